@@ -1,0 +1,144 @@
+-- How a run of device calls goes on.
+use Rattle.std.proofs.Common.{◌≢◌, inl, inr, ⊎_elim, ℕ, ◌+◌, ◌<◌, ◌≤◌, Some, None, List, refl, sym, ◌∙◌, subst, arith, length-set, get_or-set_other}
+use Rattle.std.specs.Prelude.{slice_set}
+use Rattle.lfs_model.specs.Device.{Cell, DeviceState, put, lose, MayWrite, left_old, left_new, left_bad, Only, AllLeft, Carries, Elapses, IsUntouched, CrashWrites, IsLawful, LeavesOnly, ComesFrom, SameOutside, SameWhere}
+
+abbrev Set : Type 1
+Set = List Cell → Type 0
+
+pub carries_none : (d : DeviceState) → Carries d d
+carries_none d = record {
+  size = refl;
+  kept_before = λ k. k;
+  failures = omega arith;
+  later = omega arith;
+  remembers = λ t c le left. left;
+}
+
+pub carries_then : (a b c : DeviceState) → Carries a b → Carries b c → Carries a c
+carries_then a b c one two = record {
+  size = two.size ∙ one.size;
+  kept_before = λ k. one.kept_before (two.kept_before k);
+  failures = omega (arith, one.failures, two.failures);
+  later = omega (arith, one.later, two.later);
+  remembers = λ t x le left. two.remembers t x (omega (arith, le, one.later)) (one.remembers t x le left);
+}
+
+-- before the first call
+pub started : (d : DeviceState) (P : Set) → IsLawful d → AllLeft d P → LeavesOnly d d P
+started d P lawful here = record {
+  later = omega arith;
+  each = λ c left. here c (lawful.only_now c left);
+  before = λ t c le left. inl left;
+}
+
+-- one call more, after which a stop leaves what has P
+pub goes_on : (old mid new : DeviceState) (P : Set) → LeavesOnly old mid P → Carries mid new → Elapses mid new → AllLeft new P → LeavesOnly old new P
+goes_on old mid new P so_far carries time here = record {
+  later = omega (arith, so_far.later, carries.later);
+  each = λ c left. ⊎_elim (so_far.each c) (here c) (time old.moment c so_far.later left);
+  before = λ t c le left. ⊎_elim (so_far.before t c le) (λ now. inr (here c now)) (time t c (omega (arith, le, so_far.later)) left);
+}
+
+-- two runs, one after the other
+pub joined : (a b c : DeviceState) (P Q R : Set) → LeavesOnly a b P → LeavesOnly b c Q → ((x : List Cell) → P x → R x) → ((x : List Cell) → Q x → R x) → LeavesOnly a c R
+joined a b c P Q R one two p q = record {
+  later = omega (arith, one.later, two.later);
+  each = λ x left. ⊎_elim (λ was. p x (one.each x was)) (q x) (two.before a.moment x one.later left);
+  before = λ t x le left. ⊎_elim (λ was. ⊎_elim (λ first. inl first) (λ mid. inr (p x mid)) (one.before t x le was)) (λ now. inr (q x now)) (two.before t x (omega (arith, le, one.later)) left);
+}
+
+pub weaker : (old new : DeviceState) (P Q : Set) → ((x : List Cell) → P x → Q x) → LeavesOnly old new P → LeavesOnly old new Q
+weaker old new P Q to leaves = record {
+  later = leaves.later;
+  each = λ x left. to x (leaves.each x left);
+  before = λ t x le left. ⊎_elim (λ was. inl was) (λ has. inr (to x has)) (leaves.before t x le left);
+}
+
+-- A run of calls: a stop at any moment since its start leaves what has P, and so does a stop now.
+pub record Run (old new : DeviceState) (P : Set) : Type 0 where
+  pub carries : Carries old new
+  pub leaves : LeavesOnly old new P
+  pub now : AllLeft new P
+
+pub run_none : (d : DeviceState) (P : Set) → IsLawful d → AllLeft d P → Run d d P
+run_none d P lawful here = record { carries = carries_none d; leaves = started d P lawful here; now = here }
+
+pub run_call : (old mid new : DeviceState) (P : Set) → Run old mid P → Carries mid new → Elapses mid new → AllLeft new P → Run old new P
+run_call old mid new P run carries time here = record {
+  carries = carries_then old mid new run.carries carries;
+  leaves = goes_on old mid new P run.leaves carries time here;
+  now = here;
+}
+
+-- a read or a sync
+pub run_untouched : (old mid new : DeviceState) (P : Set) → Run old mid P → IsUntouched mid new → Carries mid new → Elapses mid new → Run old new P
+run_untouched old mid new P run same carries time = run_call old mid new P run carries time (λ c left. run.now c (same.crash c left))
+
+-- what a write makes of what a stop may leave
+pub all_left_write : (old new : DeviceState) (P Q : Set) (sector : ℕ) (bytes : List ℕ) → AllLeft old P → CrashWrites sector bytes old new
+    → ((d c : List Cell) → P d → MayWrite sector bytes d c → Q c) → AllLeft new Q
+all_left_write old new P Q sector bytes before crash goes c left = let from = crash c left in goes from.0 c (before from.0 from.1) from.2
+
+-- P stays true where these bytes come into the sector, and where it becomes unreadable
+pub record Survives (sector : ℕ) (bytes : List ℕ) (P : Set) : Type 0 where
+  pub written : (c : List Cell) → P c → P (put c sector bytes)
+  pub lost : (c : List Cell) → P c → P (lose c sector)
+
+pub survives : (sector : ℕ) (bytes : List ℕ) (P : Set) → Survives sector bytes P → (d c : List Cell) → P d → MayWrite sector bytes d c → P c
+survives sector bytes P s d c has (left_old is) = subst P (sym is) has
+survives sector bytes P s d c has (left_new is) = subst P (sym is) (s.written d has)
+survives sector bytes P s d c has (left_bad is) = subst P (sym is) (s.lost d has)
+
+-- a write that P survives
+pub run_write : (old mid new : DeviceState) (P : Set) (sector : ℕ) (bytes : List ℕ) → Run old mid P → Survives sector bytes P
+    → CrashWrites sector bytes mid new → Carries mid new → Elapses mid new → Run old new P
+run_write old mid new P sector bytes run s crash carries time =
+    run_call old mid new P run carries time (all_left_write mid new P P sector bytes run.now crash (survives sector bytes P s))
+
+-- a write where one content alone might be left
+pub all_left_first_write : (old new : DeviceState) (content : List Cell) (sector : ℕ) (bytes : List ℕ) → Only content old → CrashWrites sector bytes old new
+    → AllLeft new (MayWrite sector bytes content)
+all_left_first_write old new content sector bytes only crash c left =
+    let from = crash c left in subst (λ d. MayWrite sector bytes d c) (only from.0 from.1) from.2
+
+-- A run whose writes change contents in a way that goes on: what a stop leaves comes by it from what a stop at the start might have left.
+pub run_from : (d : DeviceState) (R : List Cell → List Cell → Type 0) → IsLawful d → ((c : List Cell) → R c c) → Run d d (ComesFrom d R)
+run_from d R lawful same = run_none d (ComesFrom d R) lawful (λ c left. (c, left, same c))
+
+pub run_from_write : (old mid new : DeviceState) (R : List Cell → List Cell → Type 0) (sector : ℕ) (bytes : List ℕ) → Run old mid (ComesFrom old R)
+    → ((d c e : List Cell) → R d c → MayWrite sector bytes c e → R d e) → CrashWrites sector bytes mid new → Carries mid new → Elapses mid new → Run old new (ComesFrom old R)
+run_from_write old mid new R sector bytes run goes crash carries time =
+    run_call old mid new (ComesFrom old R) run carries time
+    (all_left_write mid new (ComesFrom old R) (ComesFrom old R) sector bytes run.now crash (λ c e from write. (from.0, from.1, goes from.0 c e from.2 write)))
+
+-- a write inside the range
+pub same_outside_none : (first n : ℕ) (c : List Cell) → SameOutside first n c c
+same_outside_none first n c = record { size = refl; before = λ k le. refl; after = λ k le. refl }
+
+set_outside : (first n s : ℕ) (d c : List Cell) (x : Cell) → first ≤ s → s < first + n → SameOutside first n d c → SameOutside first n d (slice_set c s x)
+set_outside first n s d c x low high same = record {
+  size = length-set c s x ∙ same.size;
+  before = λ k lt. let other : k ≢ s = omega arith in get_or-set_other c s k x None other ∙ same.before k lt;
+  after = λ k le. let other : k ≢ s = omega arith in get_or-set_other c s k x None other ∙ same.after k le;
+}
+
+pub write_outside : (first n s : ℕ) (bytes : List ℕ) → first ≤ s → s < first + n → (d c e : List Cell) → SameOutside first n d c → MayWrite s bytes c e → SameOutside first n d e
+write_outside first n s bytes low high d c e same (left_old is) = subst (SameOutside first n d) (sym is) same
+write_outside first n s bytes low high d c e same (left_new is) = subst (SameOutside first n d) (sym is) (set_outside first n s d c (Some bytes) low high same)
+write_outside first n s bytes low high d c e same (left_bad is) = subst (SameOutside first n d) (sym is) (set_outside first n s d c None low high same)
+
+-- a write to a sector that isn't among those
+pub same_where_none : (Keeps : ℕ → Type 0) (c : List Cell) → SameWhere Keeps c c
+same_where_none Keeps c = record { size = refl; cells = λ k keeps. refl }
+
+set_where : (Keeps : ℕ → Type 0) (s : ℕ) (d c : List Cell) (x : Cell) → ¬ (Keeps s) → SameWhere Keeps d c → SameWhere Keeps d (slice_set c s x)
+set_where Keeps s d c x free same = record {
+  size = length-set c s x ∙ same.size;
+  cells = λ k keeps. let other : k ≢ s = λ is. free (subst Keeps is keeps) in get_or-set_other c s k x None other ∙ same.cells k keeps;
+}
+
+pub write_where : (Keeps : ℕ → Type 0) (s : ℕ) (bytes : List ℕ) → ¬ (Keeps s) → (d c e : List Cell) → SameWhere Keeps d c → MayWrite s bytes c e → SameWhere Keeps d e
+write_where Keeps s bytes free d c e same (left_old is) = subst (SameWhere Keeps d) (sym is) same
+write_where Keeps s bytes free d c e same (left_new is) = subst (SameWhere Keeps d) (sym is) (set_where Keeps s d c (Some bytes) free same)
+write_where Keeps s bytes free d c e same (left_bad is) = subst (SameWhere Keeps d) (sym is) (set_where Keeps s d c None free same)

@@ -1,0 +1,123 @@
+-- A name of a file or a link taken out of a directory.
+use Rattle.std.proofs.Common.{◌≡◌, ◌≢◌, sym, ap, subst, ◌∙◌, ℕ, suc, ◌≤◌, Bool, true, false, List, [], ◌∷◌, Some, None, arith, cond, length}
+use Rattle.std.specs.Prelude.{T, unwrap_or, not, filter}
+use Rattle.std.specs.List.{AllByRecursion}
+use Rattle.std.specs.Ordering.{nat_cmp, eq_by_cmp}
+use Rattle.std.specs.FinMap.{find, is_sorted}
+use Rattle.std.specs.FinMap.Entries.{is_sorted-where_key}
+use Rattle.lfs_model.specs.Tree.{Tree, Names, Node, File, Dir, State, node, with_node, without, names_of, form_of, without_name, is_dir, name_len, entry, byte_cmp, names}
+use Rattle.lfs_model.specs.Need.{cost, cost_at, need}
+use Rattle.lfs_model.specs.Sound.{Sound, IsGoodName, IsWithinLimits, IsOfVersion, IsFile}
+use Rattle.lfs_model.specs.Step.{with_tree}
+use Rattle.lfs_model.proofs.Walks.{Some-injective}
+use Rattle.lfs_model.proofs.Needs.{need-with_node}
+use Rattle.lfs_model.proofs.DirCosts.{dir_cost}
+use Rattle.lfs_model.proofs.Growing.{same_or_not}
+use Rattle.lfs_model.proofs.Dropping.{SoundBut}
+use Rattle.lfs_model.proofs.Shrinking.{other, after_order, at_dir, at_other, dirs, names_kept, entry_after, links_less, reached_kept}
+
+pub all_filter : {K X : Type 0} (P : K → Type 0) (p : K × X → Bool) (es : List (K × X)) → AllByRecursion (λ e. P e.0) es → AllByRecursion (λ e. P e.0) (filter p es)
+all_filter P p [] h = tt
+all_filter P p (e ∷ es) h = elim (p e) as (λ b. AllByRecursion (λ e. P e.0) (cond b (e ∷ filter p es) (filter p es))) [ true ↦ (h.0, all_filter P p es h.1) | false ↦ all_filter P p es h.1 ]
+
+filter_short : {A : Type 0} (p : A → Bool) (xs : List A) → length (filter p xs) ≤ length xs
+filter_short p [] = omega arith
+filter_short p (x ∷ xs) = let rest = filter_short p xs in elim (p x) as (λ b. length (cond b (x ∷ filter p xs) (filter p xs)) ≤ suc (length xs)) [ true ↦ omega arith | false ↦ omega arith ]
+
+pub name_less : (t : Tree) (d form : ℕ) (m : Names) (nm : List ℕ) → T (is_sorted nat_cmp t) → node t d ≡ Some (Dir form m) → need (without_name t d nm) ≤ need t
+name_less t d form m nm order is =
+    let change = need-with_node t d (Dir form (without byte_cmp nm m)) order in
+    let was : cost_at (node t d) ≡ cost (Dir form m) = ap cost_at is in
+    let less = dir_cost form (without byte_cmp nm m) m (filter_short (λ (e : List ℕ × ℕ). not (eq_by_cmp byte_cmp nm e.0)) m) in
+    let same : without_name t d nm ≡ with_node t d (Dir form (without byte_cmp nm m)) = ap (λ o. with_node t d (Dir (form_of o) (without byte_cmp nm (names_of (unwrap_or o (File [])))))) is in
+    let small : need (with_node t d (Dir form (without byte_cmp nm m))) ≤ need t = omega (arith, change, was, less) in
+    subst (λ (u : Tree). need u ≤ need t) (sym same) small
+
+module _ (N : ℕ) (s : State) (sound : Sound N s) (d n form : ℕ) (m : Names) (nm : List ℕ)
+    (is : node s.tree d ≡ Some (Dir form m)) (found : find byte_cmp nm m ≡ Some n) (plain : is_dir (node s.tree n) ≡ false) where
+  abbrev pub t : Tree
+  t = s.tree
+
+  abbrev pub t1 : Tree
+  t1 = with_node t d (Dir form (without byte_cmp nm m))
+
+  limits_dir : IsWithinLimits (Dir form m)
+  limits_dir = sound.limits d (Dir form m) is
+
+  kept : (q : ℕ) → q ≢ d → node t1 q ≡ node t q
+  kept = at_other t d n form m nm sound.in_order is limits_dir.0 found plain
+
+  dir_now : node t1 d ≡ Some (Dir form (without byte_cmp nm m))
+  dir_now = at_dir t d n form m nm sound.in_order is limits_dir.0 found plain
+
+  dirs_same : (q : ℕ) → is_dir (node t1 q) ≡ is_dir (node t q)
+  dirs_same = dirs t d n form m nm sound.in_order is limits_dir.0 found plain
+
+  apart : n ≢ d
+  apart = other t d n form m nm sound.in_order is limits_dir.0 found plain
+
+  there : (q : ℕ) → node t1 q ≢ None → node t q ≢ None
+  there q some none = same_or_not q d
+      (λ e. let at : node t d ≡ None = subst (λ x. node t x ≡ None) e none in let b = is in cc)
+      (λ b. some (kept q b ∙ none))
+
+  here : (q : ℕ) → node t q ≢ None → node t1 q ≢ None
+  here q some none = same_or_not q d
+      (λ e. let at : node t1 d ≡ None = subst (λ x. node t1 x ≡ None) e none in let b = dir_now in cc)
+      (λ b. some (sym (kept q b) ∙ none))
+
+  file_kept : (q : ℕ) → IsFile (node t q) → IsFile (node t1 q)
+  file_kept q f = same_or_not q d
+      (λ e. absurd (let dir : node t q ≡ Some (Dir form m) = subst (λ x. node t x ≡ Some (Dir form m)) (sym e) is in let file = f.1 in cc))
+      (λ b. (f.0, kept q b ∙ f.1))
+
+  shrunk_limits : IsWithinLimits (Dir form (without byte_cmp nm m))
+  shrunk_limits = (
+    is_sorted-where_key byte_cmp (λ x. not (eq_by_cmp byte_cmp nm x)) m limits_dir.0,
+    (let short = filter_short (λ (e : List ℕ × ℕ). not (eq_by_cmp byte_cmp nm e.0)) m in let few = limits_dir.1 in omega arith),
+    all_filter (IsGoodName (name_len form)) (λ e. not (eq_by_cmp byte_cmp nm e.0)) m limits_dir.2,
+  )
+
+  each_kept : (P : Node → Type 0) → ((q : ℕ) (x : Node) → node t q ≡ Some x → P x) → P (Dir form (without byte_cmp nm m)) → (q : ℕ) (x : Node) → node t1 q ≡ Some x → P x
+  each_kept P was dir q x h = same_or_not q d
+      (λ e. subst P (Some-injective _ _ (sym dir_now ∙ subst (λ y. node t1 y ≡ Some x) e h)) dir)
+      (λ b. was q x (sym (kept q b) ∙ h))
+
+  was_entry : (q : ℕ) (x : List ℕ) (k : ℕ) → entry t1 q x ≡ Some k → entry t q x ≡ Some k
+  was_entry = entry_after t d n form m nm sound.in_order is limits_dir.0 found plain
+
+  same_names : (q : ℕ) → q ≢ n → names t1 q ≡ names t q
+  same_names = names_kept t d n form m nm sound.in_order is limits_dir.0 found plain
+
+  dir_not_n : (q : ℕ) → is_dir (node t q) ≡ true → q ≢ n
+  dir_not_n q dir e = let no : is_dir (node t q) ≡ false = subst (λ x. is_dir (node t x) ≡ false) (sym e) plain in cc
+
+  less_need : need t1 ≤ need t
+  less_need =
+      let change = need-with_node t d (Dir form (without byte_cmp nm m)) sound.in_order in
+      let was : cost_at (node t d) ≡ cost (Dir form m) = ap cost_at is in
+      let less = dir_cost form (without byte_cmp nm m) m (filter_short (λ (e : List ℕ × ℕ). not (eq_by_cmp byte_cmp nm e.0)) m) in
+      omega (arith, change, was, less)
+
+  -- the node that the name gave may have lost its last name
+  pub lost_sound : SoundBut N (with_tree s t1) n
+  lost_sound = record {
+    in_order = after_order t d n form m nm sound.in_order is limits_dir.0 found plain;
+    handles_in_order = sound.handles_in_order;
+    version = sound.version;
+    forms = each_kept (IsOfVersion s.version) sound.forms (sound.forms d (Dir form m) is);
+    root = dirs_same 1 ∙ sound.root;
+    numbers = λ q some. sound.numbers q (there q some);
+    limits = each_kept IsWithinLimits sound.limits shrunk_limits;
+    few_links = λ q some. (let less = links_less t d n form m nm sound.in_order is limits_dir.0 found plain q in let few = sound.few_links q (there q some) in omega arith);
+    named = λ q x k e. here k (sound.named q x k (was_entry q x k e));
+    root_unnamed = same_names 1 (dir_not_n 1 sound.root) ∙ sound.root_unnamed;
+    one_name = λ q ne dir. (let was = sym (dirs_same q) ∙ dir in same_names q (dir_not_n q was) ∙ sound.one_name q ne was);
+    reached = λ q dir. (let was = sym (dirs_same q) ∙ dir in reached_kept t d n form m nm sound.in_order is limits_dir.0 found plain (sound.reached q was) was);
+    held = λ q a ne some none. (let was = sound.held q ne (there q some) (sym (same_names q a) ∙ none) in record { file = file_kept q was.file; handle = was.handle });
+    handles = λ h q e. ((sound.handles h q e).0, file_kept q (sound.handles h q e).1);
+    room = let less = less_need in let fits = sound.room in omega arith;
+  }
+
+  pub still_plain : is_dir (node t1 n) ≡ false
+  still_plain = dirs_same n ∙ plain

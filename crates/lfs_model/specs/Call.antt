@@ -1,0 +1,147 @@
+-- The calls of a volume and their answers (POSIX.1-2017: open, close, pread, pwrite, ftruncate, mkdir, link, symlink, readlink,
+-- unlink, rmdir, rename, stat, lstat, readdir, fsync, sync). A path is a list of bytes; clean, space and tree are own choices.
+use Rattle.std.specs.Prelude.{ℕ, ◌<◌, ◌^◌, Bool, true, false, List}
+use Rattle.lfs_model.specs.Bytes.{AreBytes}
+use Rattle.lfs_model.specs.Refusal.{Refusal}
+use Rattle.lfs_model.specs.declared.Kind.{Kind}
+
+pub data Call : Type 0 where
+  -- the path
+  Open : List ℕ → Call
+  Create : List ℕ → Call
+  -- the handle
+  Close : ℕ → Call
+  -- the handle, the offset and the length
+  Pread : ℕ → ℕ → ℕ → Call
+  -- the handle, the offset and the bytes
+  Pwrite : ℕ → ℕ → List ℕ → Call
+  -- the handle and the length
+  Truncate : ℕ → ℕ → Call
+  Mkdir : List ℕ → Call
+  -- the path that is there and the new one
+  LinkTo : List ℕ → List ℕ → Call
+  -- the link's text and its path
+  Symlink : List ℕ → List ℕ → Call
+  Readlink : List ℕ → Call
+  Unlink : List ℕ → Call
+  Rmdir : List ℕ → Call
+  -- the path that is there and the new one
+  Rename : List ℕ → List ℕ → Call
+  StatOf : List ℕ → Call
+  LstatOf : List ℕ → Call
+  Readdir : List ℕ → Call
+  Fsync : ℕ → Call
+  Sync : Call
+  Clean : Call
+  Space : Call
+  ListTree : Call
+
+-- What the arguments of a call can be: handles and lengths of pread are numbers of 32 bits, offsets and lengths of truncate of 64,
+-- and texts are bytes.
+abbrev pub AreArguments : Call → Type 0
+AreArguments (Open p) = AreBytes p
+AreArguments (Create p) = AreBytes p
+AreArguments (Close h) = h < 2 ^ 32
+AreArguments (Pread h off n) = (h < 2 ^ 32) × (off < 2 ^ 64) × (n < 2 ^ 32)
+AreArguments (Pwrite h off w) = (h < 2 ^ 32) × (off < 2 ^ 64) × AreBytes w
+AreArguments (Truncate h n) = (h < 2 ^ 32) × (n < 2 ^ 64)
+AreArguments (Mkdir p) = AreBytes p
+AreArguments (LinkTo p q) = AreBytes p × AreBytes q
+AreArguments (Symlink text p) = AreBytes text × AreBytes p
+AreArguments (Readlink p) = AreBytes p
+AreArguments (Unlink p) = AreBytes p
+AreArguments (Rmdir p) = AreBytes p
+AreArguments (Rename p q) = AreBytes p × AreBytes q
+AreArguments (StatOf p) = AreBytes p
+AreArguments (LstatOf p) = AreBytes p
+AreArguments (Readdir p) = AreBytes p
+AreArguments (Fsync h) = h < 2 ^ 32
+AreArguments _ = Unit {0}
+
+-- the calls that may change the tree
+abbrev pub changes : Call → Bool
+changes (Create p) = true
+changes (Pwrite h off w) = true
+changes (Truncate h n) = true
+changes (Mkdir p) = true
+changes (LinkTo p q) = true
+changes (Symlink text p) = true
+changes (Unlink p) = true
+changes (Rmdir p) = true
+changes (Rename p q) = true
+changes _ = false
+
+-- the calls that leave the state as it is
+abbrev pub reads : Call → Bool
+reads (Pread h off n) = true
+reads (Readlink p) = true
+reads (StatOf p) = true
+reads (LstatOf p) = true
+reads (Readdir p) = true
+reads (Fsync h) = true
+reads Sync = true
+reads Clean = true
+reads Space = true
+reads ListTree = true
+reads _ = false
+
+-- the calls that commit: after their Ok a stop loses nothing of what was before (POSIX.1-2017: fsync, sync)
+abbrev pub commits : Call → Bool
+commits (Fsync h) = true
+commits Sync = true
+commits _ = false
+
+-- the call that cleans (the 1992 LFS paper: segment cleaning)
+abbrev pub cleans : Call → Bool
+cleans Clean = true
+cleans _ = false
+
+-- the calls that are never refused for memory
+abbrev pub takes_no_memory : Call → Bool
+takes_no_memory (Close h) = true
+takes_no_memory (Fsync h) = true
+takes_no_memory Sync = true
+takes_no_memory Space = true
+takes_no_memory _ = false
+
+-- what stat tells (POSIX.1-2017, stat: st_ino, the file type, st_nlink, st_size)
+pub record Stat : Type 0 where
+  pub number : ℕ
+  pub kind : Kind
+  pub links : ℕ
+  pub size : ℕ
+
+-- what readdir tells of an entry (POSIX.1-2017, readdir: d_name, d_ino)
+pub record Entry : Type 0 where
+  pub name : List ℕ
+  pub number : ℕ
+  pub kind : Kind
+
+-- what tree tells of an entry, with the beginning of what it gives
+pub record TreeRow : Type 0 where
+  pub directory : ℕ
+  pub name : List ℕ
+  pub stat : Stat
+  pub head : List ℕ
+
+pub data Answer : Type 0 where
+  Refuse : Refusal → Answer
+  Done : Answer
+  -- a new handle
+  Handle : ℕ → Answer
+  -- how many bytes were written
+  Count : ℕ → Answer
+  -- the bytes that were read
+  Data : List ℕ → Answer
+  -- a link's text
+  Text : List ℕ → Answer
+  Status : Stat → Answer
+  Entries : List Entry → Answer
+  -- data blocks, meta blocks, need and limit
+  Room : ℕ → ℕ → ℕ → ℕ → Answer
+  Rows : List TreeRow → Answer
+
+-- it isn't refused
+abbrev pub is_ok : Answer → Bool
+is_ok (Refuse r) = false
+is_ok _ = true

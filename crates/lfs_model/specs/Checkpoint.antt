@@ -1,0 +1,57 @@
+-- The checkpoint, which is one sector.
+use Rattle.std.specs.Prelude.{◌≡◌, ◌<◌, ◌≤◌, ◌^◌, ◌%◌, ◌&&◌, ◌==◌, Bool, nat_le, ℕ, Option, List, [], ◌∷◌, length, codes}
+use Rattle.lfs_model.specs.Fields.{le32, le64, words, zeros, join, Are32, read32, read64, numbers, value_in}
+
+pub record CheckpointValue : Type 0 where
+  pub number : ℕ
+  pub segments : ℕ
+  pub map : List ℕ
+  pub usage : List ℕ
+
+-- The text that a checkpoint begins with.
+unfoldable pub checkpoint_text : List ℕ
+checkpoint_text = codes "SLFSCKP1"
+
+-- the sector of a checkpoint, field by field
+unfoldable pub checkpoint_sector : CheckpointValue → List ℕ
+checkpoint_sector c = join (
+    checkpoint_text ∷
+    le64 c.number ∷
+    le32 c.segments ∷
+    le32 1 ∷
+    zeros 8 ∷
+    words c.map ∷
+    words c.usage ∷
+    zeros 288 ∷ []
+    )
+
+-- what stands at the places of a checkpoint
+abbrev pub checkpoint_of : List ℕ → CheckpointValue
+checkpoint_of s = record { number = read64 8 s; segments = read32 16 s; map = numbers 32 32 s; usage = numbers 16 160 s }
+
+-- how many segments a volume may have: a multiple of 8 in 64..=1,024
+pub record IsSegmentCount (n : ℕ) : Type 0 where
+  pub least : 64 ≤ n
+  pub most : n ≤ 1024
+  pub eighths : n % 8 ≡ 0
+
+-- what a checkpoint may be
+pub record FitsCheckpoint (c : CheckpointValue) : Type 0 where
+  pub number : 1 ≤ c.number
+  pub number_fits : c.number < 2 ^ 64
+  pub segments : IsSegmentCount c.segments
+  pub map_length : length c.map ≡ 32
+  pub map_fits : Are32 c.map
+  pub usage_length : length c.usage ≡ 16
+  pub usage_fits : Are32 c.usage
+
+-- the same, as tests
+abbrev pub is_segment_count : ℕ → Bool
+is_segment_count n = nat_le 64 n && (nat_le n 1024 && (n % 8 == 0))
+
+abbrev pub may_be_checkpoint : CheckpointValue → Bool
+may_be_checkpoint c = nat_le 1 c.number && is_segment_count c.segments
+
+-- the checkpoint that a sector spells, if it spells one
+unfoldable pub checkpoint_in : List ℕ → Option CheckpointValue
+checkpoint_in s = value_in checkpoint_of may_be_checkpoint checkpoint_sector s

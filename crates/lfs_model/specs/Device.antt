@@ -1,0 +1,121 @@
+-- What contracts see of a sector device, what its calls do, and what a stop leaves.
+use Rattle.std.specs.Prelude.{◌≡◌, ◌⊎◌, ℕ, ◌+◌, ◌^◌, ◌<◌, ◌≤◌, Option, Some, None, List, length, slice_set, slice_index, slice_index_or}
+use Rattle.std.specs.List.{AllByRecursion}
+
+-- what a sector holds: its 512 bytes, or None where it can't be read
+abbrev pub Cell : Type 0
+Cell = Option (List ℕ)
+
+-- a sector's bytes: 512 numbers below 256
+pub record AreSectorBytes (bytes : List ℕ) : Type 0 where
+  pub size : length bytes ≡ 512
+  pub each : (i : ℕ) → slice_index bytes i < 256
+
+-- what a sector may hold
+abbrev pub IsSector : Cell → Type 0
+IsSector None = Unit {0}
+IsSector (Some bytes) = AreSectorBytes bytes
+
+-- what contracts see of a device
+pub record DeviceState : Type 1 where
+  -- the number of sectors
+  pub size : ℕ
+  -- the present content, a cell a sector
+  pub content : List Cell
+  -- the contents that a stop now may leave
+  pub may_leave : List Cell → Type 0
+  -- the clock: a number that doesn't fall
+  pub moment : ℕ
+  -- the contents that a stop at some moment since that one might have left
+  pub left_since : ℕ → List Cell → Type 0
+  -- how many calls have failed
+  pub failures : ℕ
+  -- that the calls so far were those of a device that keeps the device model: the clauses on contents rest on it
+  pub keeps_model : Type 0
+
+abbrev pub cell_at : List Cell → ℕ → Cell
+cell_at content sector = slice_index_or content sector None
+
+-- the content with these bytes in the sector
+abbrev pub put : List Cell → ℕ → List ℕ → List Cell
+put content sector bytes = slice_set content sector (Some bytes)
+
+-- the content with the sector unreadable
+abbrev pub lose : List Cell → ℕ → List Cell
+lose content sector = slice_set content sector None
+
+-- what a stop, or a write that fails, makes of a content in which the bytes are written: the sector as it was, with the bytes, or unreadable
+pub data MayWrite (sector : ℕ) (bytes : List ℕ) (old new : List Cell) : Type 0 where
+  left_old : new ≡ old → MayWrite sector bytes old new
+  left_new : new ≡ put old sector bytes → MayWrite sector bytes old new
+  left_bad : new ≡ lose old sector → MayWrite sector bytes old new
+
+-- a stop leaves this content and nothing else
+abbrev pub Only : List Cell → DeviceState → Type 0
+Only content d = (c : List Cell) → d.may_leave c → c ≡ content
+
+-- each content that a stop now may leave has P
+abbrev pub AllLeft : DeviceState → (List Cell → Type 0) → Type 0
+AllLeft d P = (c : List Cell) → d.may_leave c → P c
+
+-- What holds of each call, and of any run of calls: no sector comes or goes, a device that keeps the model after it kept
+-- it before, no failure and no moment is forgotten.
+pub record Carries (old new : DeviceState) : Type 0 where
+  pub size : new.size ≡ old.size
+  pub kept_before : new.keeps_model → old.keeps_model
+  pub failures : old.failures ≤ new.failures
+  pub later : old.moment ≤ new.moment
+  pub remembers : (t : ℕ) (c : List Cell) → t ≤ old.moment → old.left_since t c → new.left_since t c
+
+-- What holds of one call: a stop since an earlier moment might have left what it might have left before the call, or what it may leave after it.
+abbrev pub Elapses : DeviceState → DeviceState → Type 0
+Elapses old new = (t : ℕ) (c : List Cell) → t ≤ old.moment → new.left_since t c → old.left_since t c ⊎ new.may_leave c
+
+-- the content is the same, and a stop leaves nothing that it couldn't leave before
+pub record IsUntouched (old new : DeviceState) : Type 0 where
+  pub content : new.content ≡ old.content
+  pub crash : (c : List Cell) → new.may_leave c → old.may_leave c
+
+-- after a write, done or failed, each content that a stop may leave comes from one that it could leave before
+abbrev pub CrashWrites : ℕ → List ℕ → DeviceState → DeviceState → Type 0
+CrashWrites sector bytes old new = (c : List Cell) → new.may_leave c → (d : List Cell) × old.may_leave d × MayWrite sector bytes d c
+
+-- and each that comes so from one that it could leave before, it may leave then
+abbrev pub CrashSpreads : ℕ → List ℕ → DeviceState → DeviceState → Type 0
+CrashSpreads sector bytes old new = (d c : List Cell) → old.may_leave d → MayWrite sector bytes d c → new.may_leave c
+
+-- what holds of each device at each moment
+pub record IsLawful (d : DeviceState) : Type 0 where
+  pub fits : d.size < 2 ^ 32
+  pub size : length d.content ≡ d.size
+  pub sizes : (c : List Cell) → d.may_leave c → length c ≡ d.size
+  pub now : AllByRecursion IsSector d.content
+  pub cells : (c : List Cell) → d.may_leave c → AllByRecursion IsSector c
+  -- the present content is one of those that a stop may leave
+  pub present : d.keeps_model → d.may_leave d.content
+  -- this moment is one of those since an earlier one
+  pub counts_now : (t : ℕ) (c : List Cell) → t ≤ d.moment → d.may_leave c → d.left_since t c
+  -- since this moment there is no other
+  pub only_now : (c : List Cell) → d.left_since d.moment c → d.may_leave c
+
+-- A stop at any moment since old leaves a content that has P.
+pub record LeavesOnly (old new : DeviceState) (P : List Cell → Type 0) : Type 0 where
+  pub later : old.moment ≤ new.moment
+  pub each : (c : List Cell) → new.left_since old.moment c → P c
+  -- for a run that began earlier
+  pub before : (t : ℕ) (c : List Cell) → t ≤ old.moment → new.left_since t c → old.left_since t c ⊎ P c
+
+-- a content that comes, by such a change, from one that a stop might have left then
+abbrev pub ComesFrom : DeviceState → (List Cell → List Cell → Type 0) → List Cell → Type 0
+ComesFrom old Changes c = (d : List Cell) × old.may_leave d × Changes d c
+
+-- the same, where such sectors are concerned
+pub record SameWhere (Keeps : ℕ → Type 0) (old new : List Cell) : Type 0 where
+  pub size : length new ≡ length old
+  pub cells : (k : ℕ) → Keeps k → cell_at new k ≡ cell_at old k
+
+-- the same, but for the n sectors from first on
+pub record SameOutside (first n : ℕ) (old new : List Cell) : Type 0 where
+  pub size : length new ≡ length old
+  pub before : (k : ℕ) → k < first → cell_at new k ≡ cell_at old k
+  pub after : (k : ℕ) → first + n ≤ k → cell_at new k ≡ cell_at old k

@@ -1,0 +1,81 @@
+-- The same from the writer's side: an assignment of addresses to the blocks that a log map stores.
+use Rattle.std.specs.Prelude.{◌≡◌, ◌<◌, ◌≤◌, ◌⊎◌, ◌+◌, ◌*◌, ◌/◌, ℕ, suc, List, length, get_or, Some, slice_index}
+use Rattle.lfs_model.specs.declared.Kind.TheVariants.{Directory}
+use Rattle.lfs_model.specs.Entry.{Entry, Data, Leaf, Double, Inode, Map, Usage, Header, IsInode, header, word}
+use Rattle.lfs_model.specs.Checkpoint.{CheckpointValue}
+use Rattle.lfs_model.specs.Content.{Content, block}
+use Rattle.lfs_model.specs.Reach.{view_by}
+use Rattle.lfs_model.specs.Stands.{LogMap, StandsAt, IsRows, AreNamed, AreCounted, EnoughClean, used_in, live_in, age_in}
+
+module _ (m : LogMap) where
+  abbrev pub HasData : ℕ → ℕ → Type 0
+  HasData n i = 0 < length (m.block n i)
+
+  abbrev pub HasLeaf : ℕ → ℕ → Type 0
+  HasLeaf n q = (i : ℕ) × (i < 128) × HasData n (112 + 128 * q + i)
+
+  abbrev pub HasDouble : ℕ → Type 0
+  HasDouble n = (q : ℕ) × (q < 128) × HasLeaf n (suc q)
+
+  abbrev pub HasInode : ℕ → Type 0
+  HasInode n = (h : Header) × (m.header n ≡ Some h)
+
+  abbrev pub HasMap : ℕ → Type 0
+  HasMap j = (i : ℕ) × (i < 128) × HasInode (128 * j + i)
+
+  -- the blocks that are stored for the log map, on a volume of so many segments
+  abbrev pub Has : ℕ → Entry → Type 0
+  Has segments (Data n i) = HasData n i
+  Has segments (Leaf n q) = HasLeaf n q
+  Has segments (Double n) = HasDouble n
+  Has segments (Inode n) = HasInode n
+  Has segments (Map j) = HasMap j
+  Has segments (Usage j) = j < (segments + 63) / 64
+
+  -- what a volume's log map keeps
+  pub record IsLogMap : Type 0 where
+    pub none : (h : Header) → m.header 0 ≡ Some h → ⊥
+    pub root : (h : Header) × (m.header 1 ≡ Some h) × (h.kind ≡ Directory)
+    pub within : (n i : ℕ) → HasData n i → (h : Header) × (m.header n ≡ Some h) × (512 * i < h.size)
+    pub small : (n i : ℕ) → HasData n i → i < 16624
+    pub nonzero : (n i : ℕ) → HasData n i → (o : ℕ) × (0 < slice_index (m.block n i) o)
+    pub past : (n i o : ℕ) (h : Header) → m.header n ≡ Some h → h.size ≤ 512 * i + o → slice_index (m.block n i) o ≡ 0
+
+  module _ (A : Entry → ℕ) where
+    pub record SpellsInode (n : ℕ) (bytes : List ℕ) : Type 0 where
+      pub formed : IsInode n bytes
+      pub header : m.header n ≡ Some (header bytes)
+      pub direct : (i : ℕ) → i < 112 → word bytes (8 + i) ≡ A (Data n i)
+      pub single : word bytes 120 ≡ A (Leaf n 0)
+      pub double : word bytes 121 ≡ A (Double n)
+
+    -- the bytes are the block of an entry, each pointer being the address of what it points to
+    abbrev pub Spells : List ℕ → Entry → Type 0
+    Spells bytes (Data n i) = bytes ≡ m.block n i
+    Spells bytes (Leaf n q) = (i : ℕ) → i < 128 → word bytes i ≡ A (Data n (112 + 128 * q + i))
+    Spells bytes (Double n) = (q : ℕ) → q < 128 → word bytes q ≡ A (Leaf n (suc q))
+    Spells bytes (Inode n) = SpellsInode n bytes
+    Spells bytes (Map j) = (i : ℕ) → i < 128 → word bytes i ≡ A (Inode (128 * j + i))
+    Spells bytes (Usage j) = Unit {0}
+
+-- each stored block has an address, and what stands there spells it; nothing else has one
+pub record Encodes (c : Content) (k : CheckpointValue) (A : Entry → ℕ) (m : LogMap) : Type 0 where
+  pub size : 2 + 64 * k.segments ≤ length c
+  pub map : (j : ℕ) → A (Map j) ≡ get_or k.map j 0
+  pub usage : (j : ℕ) → A (Usage j) ≡ get_or k.usage j 0
+  pub stored : (e : Entry) → Has m k.segments e → 0 < A e
+  pub only : (e : Entry) → 0 < A e → Has m k.segments e
+  pub within : (e : Entry) → 0 < A e → (2 ≤ A e) × (A e < 2 + 64 * k.segments)
+  pub long : (e : Entry) → 0 < A e → length (block c (A e)) ≡ 512
+  pub spells : (e : Entry) → 0 < A e → Spells m A (block c (A e)) e
+  pub rows : IsRows (view_by c k A)
+  pub named : AreNamed (view_by c k A)
+  pub fit : (s : ℕ) → used_in (view_by c k A) s ≤ 64
+  pub less : (s : ℕ) → (used_in (view_by c k A) s ≡ 0) ⊎ ((0 < live_in (view_by c k A) s) × (live_in (view_by c k A) s < used_in (view_by c k A) s))
+  pub both : (s : ℕ) → used_in (view_by c k A) s ≡ 0 → live_in (view_by c k A) s ≡ 0
+  pub past : (s : ℕ) → k.segments ≤ s → (used_in (view_by c k A) s ≡ 0) × (age_in (view_by c k A) s ≡ 0)
+  pub counted : AreCounted (view_by c k A)
+  pub clean : EnoughClean (view_by c k A)
+
+abbrev pub Encoding : Type 0
+Encoding = (c : Content) (k : CheckpointValue) (A : Entry → ℕ) (m : LogMap) → IsLogMap m → Encodes c k A m → StandsAt c k m

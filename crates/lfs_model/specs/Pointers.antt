@@ -1,0 +1,15 @@
+-- The block of addresses: a pointer leaf, a double root or a block of the inode map.
+use Rattle.std.specs.Prelude.{◌≡◌, ℕ, List, length}
+use Rattle.lfs_model.specs.Fields.{words, Are32, numbers}
+
+unfoldable pub pointer_sector : List ℕ → List ℕ
+pointer_sector addresses = words addresses
+
+-- the addresses that a sector holds
+abbrev pub pointers_of : List ℕ → List ℕ
+pointers_of s = numbers 128 0 s
+
+-- what a block of addresses may be
+pub record FitsPointers (addresses : List ℕ) : Type 0 where
+  pub count : length addresses ≡ 128
+  pub fits : Are32 addresses

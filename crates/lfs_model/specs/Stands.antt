@@ -1,0 +1,155 @@
+-- What it is for a content to stand for a log map: the stages of a walk, each by itself.
+-- The conditions are an own choice; the segment usage table that they speak of is that of the Sprite LFS paper (1992, section 3.6).
+use Rattle.std.specs.Prelude.{◌≡◌, ◌<◌, ◌≤◌, ◌⊎◌, ◌↔◌, ◌+◌, ◌*◌, ◌-◌, ◌/◌, ◌%◌, ◌==◌, nat_lt, ℕ, zero, suc, Bool, true, false, cond, List, length, count_by, Option, Some, None, slice_index}
+use Rattle.std.specs.List.{range_with_len}
+use Rattle.lfs_model.specs.declared.Kind.TheVariants.{Directory}
+use Rattle.lfs_model.specs.Entry.{Entry, Data, Leaf, Double, Inode, Map, Usage, Header, IsInode, header, word, half}
+use Rattle.lfs_model.specs.Checkpoint.{CheckpointValue}
+use Rattle.lfs_model.specs.Content.{Content, newest}
+use Rattle.lfs_model.specs.Reach.{View, view, Row, place_in}
+
+-- each file number's header, and each file's nonzero blocks; a block that isn't stored is empty
+pub record LogMap : Type 0 where
+  pub header : ℕ → Option Header
+  pub block : ℕ → ℕ → List ℕ
+
+-- the stage that reaches an entry
+abbrev pub stage_of : Entry → ℕ
+stage_of (Usage j) = 1
+stage_of (Map j) = 3
+stage_of (Inode n) = 4
+stage_of (Double n) = 5
+stage_of (Leaf n zero) = 5
+stage_of (Leaf n (suc q)) = 6
+stage_of (Data n i) = 7
+
+-- how many of the first n numbers pass a test
+unfoldable pub count_up : (ℕ → Bool) → ℕ → ℕ
+count_up is n = count_by is (range_with_len 0 n)
+
+module _ (v : View) where
+  abbrev pub used_in : ℕ → ℕ
+  used_in s = half (v.block (Usage (s / 64))) (4 * (s % 64))
+
+  abbrev pub live_in : ℕ → ℕ
+  live_in s = half (v.block (Usage (s / 64))) (4 * (s % 64) + 1)
+
+  abbrev pub age_in : ℕ → ℕ
+  age_in s = word (v.block (Usage (s / 64))) (2 * (s % 64) + 1)
+
+  abbrev pub Reached : Entry → Type 0
+  Reached e = 0 < v.address e
+
+  -- each address of the stage is in a segment, and differs from every other of it and of the stages before
+  abbrev pub Fresh : ℕ → Type 0
+  Fresh stage = (e : Entry) → stage_of e ≡ stage → Reached e →
+      (2 ≤ v.address e) × (v.address e < 2 + 64 * v.checkpoint.segments)
+      × ((f : Entry) → stage_of f ≤ stage → v.address f ≡ v.address e → f ≡ e)
+
+  abbrev pub HasWord : Entry → Type 0
+  HasWord e = (i : ℕ) × (i < 128) × (0 < word (v.block e) i)
+
+  -- the entry that the summary of its chunk gives a sector
+  abbrev pub label_at : ℕ → Option Entry
+  label_at at = place_in (v.row ((at - 2) / 64)) ((at - 2) % 64)
+
+  -- the sector at a place of segment s is reached as the entry that its summary gives it
+  abbrev pub is_live : ℕ → ℕ → Bool
+  is_live s at = elim (place_in (v.row s) at) [ None ↦ false | Some e ↦ v.address e == 2 + 64 * s + at ]
+
+  abbrev pub is_clean : ℕ → Bool
+  is_clean s = used_in s == 0
+
+  pub record Usages : Type 0 where
+    pub addresses : (j : ℕ) → Reached (Usage j) ↔ (j < (v.checkpoint.segments + 63) / 64)
+    pub fresh : Fresh 1
+    pub readable : (j : ℕ) → Reached (Usage j) → length (v.block (Usage j)) ≡ 512
+    pub fit : (s : ℕ) → used_in s ≤ 64
+    pub less : (s : ℕ) → (used_in s ≡ 0) ⊎ ((0 < live_in s) × (live_in s < used_in s))
+    pub both : (s : ℕ) → used_in s ≡ 0 → live_in s ≡ 0
+    pub past : (s : ℕ) → v.checkpoint.segments ≤ s → (used_in s ≡ 0) × (age_in s ≡ 0)
+
+  pub record Maps : Type 0 where
+    pub fresh : Fresh 3
+    pub nonempty : (j : ℕ) → Reached (Map j) → HasWord (Map j)
+    pub none : v.address (Inode 0) ≡ 0
+    pub root : Reached (Inode 1)
+
+  pub record Inodes : Type 0 where
+    pub fresh : Fresh 4
+    pub formed : (n : ℕ) → Reached (Inode n) → IsInode n (v.block (Inode n))
+    pub root : (header (v.block (Inode 1))).kind ≡ Directory
+
+  pub record Roots : Type 0 where
+    pub fresh : Fresh 5
+    pub single : (n : ℕ) → Reached (Leaf n 0) → HasWord (Leaf n 0)
+    pub double : (n : ℕ) → Reached (Double n) → HasWord (Double n)
+
+  pub record Leaves : Type 0 where
+    pub fresh : Fresh 6
+    pub nonempty : (n q : ℕ) → Reached (Leaf n (suc q)) → HasWord (Leaf n (suc q))
+
+  pub record Blocks : Type 0 where
+    pub fresh : Fresh 7
+    pub nonzero : (n i : ℕ) → Reached (Data n i) → (o : ℕ) × (0 < slice_index (v.block (Data n i)) o)
+    pub within : (n i : ℕ) → Reached (Data n i) → 512 * i < (header (v.block (Inode n))).size
+    pub past : (n i : ℕ) → Reached (Data n i) → (o : ℕ) → (header (v.block (Inode n))).size ≤ 512 * i + o → slice_index (v.block (Data n i)) o ≡ 0
+
+  -- the stages that speak of whole segments
+  abbrev pub IsRows : Type 0
+  IsRows = (s : ℕ) → 0 < used_in s → (r : Row) × (v.row s ≡ Some r)
+
+  abbrev pub AreNamed : Type 0
+  AreNamed = (e : Entry) → Reached e → label_at (v.address e) ≡ Some e
+
+  -- some entry's block stands at a sector
+  abbrev pub IsHeld : ℕ → Type 0
+  IsHeld at = (e : Entry) × (v.address e ≡ at)
+
+  -- n of a segment's sectors are reached
+  pub record HoldsCount (s n : ℕ) : Type 0 where
+    pub is_held : ℕ → Bool
+    pub exact : (at : ℕ) → at < 64 → (is_held at ≡ true) ↔ IsHeld (2 + 64 * s + at)
+    pub count : n ≡ count_up is_held 64
+
+  abbrev pub AreCounted : Type 0
+  AreCounted = (s : ℕ) → s < v.checkpoint.segments → HoldsCount s (live_in s)
+
+  abbrev pub EnoughClean : Type 0
+  EnoughClean = v.checkpoint.segments ≤ 8 * count_up is_clean v.checkpoint.segments
+
+  pub record Stages : Type 0 where
+    pub usages : Usages
+    pub rows : IsRows
+    pub maps : Maps
+    pub inodes : Inodes
+    pub roots : Roots
+    pub leaves : Leaves
+    pub blocks : Blocks
+    pub named : AreNamed
+    pub counted : AreCounted
+    pub clean : EnoughClean
+
+  -- the header of a file that is there
+  abbrev pub header_in : ℕ → Option Header
+  header_in n = cond (nat_lt 0 (v.address (Inode n))) (Some (header (v.block (Inode n)))) None
+
+  abbrev pub log_in : LogMap
+  log_in = record { header = header_in; block = λ n i. v.block (Data n i) }
+
+-- the content stands for the log map, at this checkpoint
+pub record StandsAt (content : Content) (k : CheckpointValue) (m : LogMap) : Type 0 where
+  pub size : 2 + 64 * k.segments ≤ length content
+  pub stages : Stages (view content k)
+  pub header : (n : ℕ) → m.header n ≡ header_in (view content k) n
+  pub block : (n i : ℕ) → m.block n i ≡ (view content k).block (Data n i)
+
+pub record StandsLog (content : Content) (m : LogMap) : Type 0 where
+  pub checkpoint : CheckpointValue
+  pub newest : newest content ≡ Some checkpoint
+  pub stands : StandsAt content checkpoint m
+
+-- the sectors that a checkpoint needs
+pub data Protected (v : View) : ℕ → Type 0 where
+  reached : (e : Entry) → 0 < v.address e → Protected v (v.address e)
+  summary : (s at : ℕ) → at < used_in v s → place_in (v.row s) at ≡ None → Protected v (2 + 64 * s + at)
