@@ -1,0 +1,15 @@
+use Rattle.lfs_device.proofs.Stops.{only_after_sync, present_after_sync, crash_after_sync, were_whole}
+use Rattle.lfs_device.proofs.Whole.{whole_after_sync}
+use Rattle.lfs_device.proofs.memory.MemDeviceSectorDevice.sync.Goals as goal
+
+pub returns-clause-durable : goal.returns-clause-durable
+returns-clause-durable c = λ kept. only_after_sync _ _ _ c.settle.ensures
+
+pub returns-clause-untouched : goal.returns-clause-untouched
+returns-clause-untouched c = record { content = present_after_sync _ _ c.settle.ensures; crash = crash_after_sync _ _ _ _ c.settle.ensures }
+
+pub invariant_of-self-2-clause-whole : goal.invariant_of-self-2-clause-whole
+invariant_of-self-2-clause-whole c = whole_after_sync _ _ c.settle.ensures c.args.self.now.whole
+
+pub invariant_of-self-2-clause-were_whole : goal.invariant_of-self-2-clause-were_whole
+invariant_of-self-2-clause-were_whole c = were_whole _ _ _ c.note.ensures c.args.self.now.whole c.args.self.now.were_whole

@@ -1,0 +1,45 @@
+-- What nobody can know of a file as it is opened.
+use Rattle.std.specs.Prelude.{◌≡◌, ℕ, Some, List, length, replicate, refl}
+use Rattle.std.specs.List.{AllByRecursion}
+use Rattle.std.specs.declared.fs.attrs.Metadata.{Metadata}
+use Rattle.std.proofs.Common.{sym, ◌∙◌, ap, subst}
+use Rattle.std.proofs.lemmas.List.{length-replicate}
+use Rattle.lfs_model.specs.Device.{Cell, IsSector}
+use Rattle.lfs_model.proofs.Cells.{all_same, zeros_are_bytes}
+use Rattle.lfs_device.specs.declared.rows.Left.{Left}
+use Rattle.lfs_device.specs.declared.rows.Left.TheVariants.{Old}
+
+-- the content and the future of a file of n sectors
+pub record Fate (n : ℕ) : Type 1 where
+  -- what it holds
+  pub content : List Cell
+  -- what a stop would leave of it
+  pub left : List Cell → Type 0
+  -- what each call, counted from 0, makes of its sector if it is a write that fails
+  pub outcome : ℕ → Left
+  pub size : length content ≡ n
+  pub sizes : (c : List Cell) → left c → length c ≡ n
+  pub now : AllByRecursion IsSector content
+  pub cells : (c : List Cell) → left c → AllByRecursion IsSector c
+  pub present : left content
+
+zero_sector : Cell
+zero_sector = Some (replicate 512 0)
+
+zero_is_sector : IsSector zero_sector
+unfolding zero_sector
+zero_is_sector = zeros_are_bytes
+
+-- The fate of a file with n sectors of which the system told this as it was opened. No proof uses what stands to the right
+-- of the sign here, so what is proved of files holds for each other such function as well.
+pub fate_of : Metadata → (n : ℕ) → Fate n
+fate_of opened n = record {
+  content = replicate n zero_sector;
+  left = λ c. c ≡ replicate n zero_sector;
+  outcome = λ call. Old;
+  size = length-replicate n zero_sector;
+  sizes = λ c is. ap (λ (l : List Cell). length l) is ∙ length-replicate n zero_sector;
+  now = all_same IsSector n zero_sector zero_is_sector;
+  cells = λ c is. subst (AllByRecursion IsSector) (sym is) (all_same IsSector n zero_sector zero_is_sector);
+  present = refl;
+}

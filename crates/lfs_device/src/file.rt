@@ -1,0 +1,132 @@
+// A device over a file. What is proved of its contents holds where the file's answers were those of a device of the model.
+ghost use Rattle.std.specs.Prelude.{◌^◌, ◌<◌};
+ghost use Rattle.lfs_device.specs.Fate.{fate_of};
+ghost use Rattle.lfs_device.specs.File.{AreWhole, AreWhole-prop, file_lawful};
+ghost use Rattle.lfs_device.specs.History.{calls_of};
+
+use crate::history::{Call, History, note};
+use crate::{DeviceFault, ReadFault, SectorDevice};
+use std::fs::{File, Metadata};
+use std::os::unix::fs::FileExt;
+use std::snapshot::Snapshot;
+
+/// A file as a device, sector after sector. Its calls are positional reads and writes, and syncs that reach the medium.
+/// It never answers `Unreadable`.
+///
+/// It keeps the device model as far as each read that succeeded gave what such a device would hold by then. What it held
+/// as it was opened, what a stop would have left of that, and what each failed write made of its sector is a part of this
+/// premise: nothing is known of it, and the contract of each call holds for whatever it is.
+#[derive(Drop)]
+pub struct FileDevice {
+    file: File,
+    sectors: u32,
+    ghost fits: { sectors < 2 ^ 32 },
+    opened: Snapshot<Metadata>,
+    history: Snapshot<History>,
+    ghost whole: { AreWhole (calls_of history.value) } by { AreWhole-prop (calls_of history.value) },
+}
+
+impl FileDevice {
+    ghost use Rattle.std.specs.Prelude.{◌≡◌, IfOk};
+    ghost use Rattle.lfs_device.specs.FileDevice.{state_of_file};
+
+    /// The file's whole sectors, as many as it has now, at most `u32::MAX`.
+    ///
+    /// # Errors
+    ///
+    /// The fault where the file's length can't be had.
+    pub fn new(file: File) -> Result<FileDevice, DeviceFault>
+        ensures failures { IfOk result (λ d. (state_of_file d).failures ≡ 0) }
+        ensures keeps { IfOk result (λ d. (state_of_file d).keeps_model) }
+    {
+        let Ok(metadata) = file.metadata() else {
+            return Err(DeviceFault);
+        };
+        Ok(FileDevice {
+            file,
+            sectors: u32::try_from(metadata.len() / 512).unwrap_or(u32::MAX),
+            opened: Snapshot::of(&metadata),
+            history: Snapshot::of(&History::Opened),
+        })
+    }
+
+    fn offset(sector: u32) -> u64 {
+        u64::from(sector) * 512
+    }
+}
+
+impl SectorDevice for FileDevice {
+    ghost use Rattle.std.specs.Prelude.{◌≡◌, Some, None, OnOk, OnErr, IsErrOf};
+    ghost use Rattle.lfs_model.specs.Device.{cell_at, put, MayWrite, Carries, Elapses, IsUntouched, CrashWrites, CrashSpreads};
+    ghost use Rattle.lfs_device.specs.FileDevice.{state_of_file};
+
+    ghost state = { state_of_file };
+
+    ghost lawful = { λ d. file_lawful d.sectors (fate_of d.opened.value d.sectors) (calls_of d.history.value) d.fits d.whole };
+
+    fn sectors(&self) -> u32 {
+        self.sectors
+    }
+
+    fn read(&mut self, sector: u32, out: &mut [u8; 512]) -> Result<(), ReadFault>
+        requires { sector < (state_of_file self.old).size }
+        ensures value { OnOk result ((state_of_file self.new).keeps_model → cell_at (state_of_file self.old).content sector ≡ Some out.new) }
+        ensures unreadable { IsErrOf result ReadFault.Unreadable → (state_of_file self.new).keeps_model → cell_at (state_of_file self.old).content sector ≡ None }
+        ensures failed { IsErrOf result ReadFault.Failed → (state_of_file self.old).failures < (state_of_file self.new).failures }
+        ensures no_failure { OnOk result ((state_of_file self.new).failures ≡ (state_of_file self.old).failures) }
+        ensures no_failure_unreadable { IsErrOf result ReadFault.Unreadable → (state_of_file self.new).failures ≡ (state_of_file self.old).failures }
+        ensures untouched { IsUntouched (state_of_file self.old) (state_of_file self.new) }
+        ensures carries { Carries (state_of_file self.old) (state_of_file self.new) }
+        ensures time { Elapses (state_of_file self.old) (state_of_file self.new) }
+        ensures never_unreadable { ¬ (IsErrOf result ReadFault.Unreadable) }
+    {
+        if self
+            .file
+            .read_exact_at(out, FileDevice::offset(sector))
+            .is_err()
+        {
+            note(Call::Failed, &mut self.history);
+            return Err(ReadFault::Failed);
+        }
+        note(Call::Given(sector, Snapshot::of(out)), &mut self.history);
+        Ok(())
+    }
+
+    fn write(&mut self, sector: u32, bytes: &[u8; 512]) -> Result<(), DeviceFault>
+        requires { sector < (state_of_file self.old).size }
+        ensures written { OnOk result ((state_of_file self.new).keeps_model → (state_of_file self.new).content ≡ put (state_of_file self.old).content sector bytes.now) }
+        ensures failed_write { OnErr result ((state_of_file self.new).keeps_model → MayWrite sector bytes.now (state_of_file self.old).content (state_of_file self.new).content) }
+        ensures crash { CrashWrites sector bytes.now (state_of_file self.old) (state_of_file self.new) }
+        ensures failed { OnErr result ((state_of_file self.old).failures < (state_of_file self.new).failures) }
+        ensures no_failure { OnOk result ((state_of_file self.new).failures ≡ (state_of_file self.old).failures) }
+        ensures carries { Carries (state_of_file self.old) (state_of_file self.new) }
+        ensures time { Elapses (state_of_file self.old) (state_of_file self.new) }
+        ensures spreads { CrashSpreads sector bytes.now (state_of_file self.old) (state_of_file self.new) }
+    {
+        if self
+            .file
+            .write_all_at(bytes, FileDevice::offset(sector))
+            .is_err()
+        {
+            note(
+                Call::Refused(sector, Snapshot::of(bytes)),
+                &mut self.history,
+            );
+            return Err(DeviceFault);
+        }
+        note(
+            Call::Written(sector, Snapshot::of(bytes)),
+            &mut self.history,
+        );
+        Ok(())
+    }
+
+    fn sync(&mut self) -> Result<(), DeviceFault> {
+        if self.file.sync_all().is_err() {
+            note(Call::Failed, &mut self.history);
+            return Err(DeviceFault);
+        }
+        note(Call::Synced, &mut self.history);
+        Ok(())
+    }
+}
