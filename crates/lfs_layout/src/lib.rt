@@ -1,0 +1,27 @@
+//! Sectors as values and back.
+#![tactic(auto)]
+
+mod checkpoint;
+mod fields;
+mod inode;
+mod patch;
+mod pointers;
+mod slot;
+mod summary;
+mod usage;
+mod writer;
+mod zero;
+
+pub use checkpoint::{Checkpoint, is_segment_count, one_checkpoint_spelling};
+pub use inode::{Inode, InodeView, is_size, one_inode_spelling};
+pub use patch::{set_header, set_word, word};
+pub use pointers::{PointerView, encode_pointers, one_pointer_spelling};
+pub use slot::{SlotView, encode_slot, is_name, nth_slot, one_slot_spelling};
+pub use summary::{
+    BlockName, SummaryView, encode_summary, is_placed, is_summary, one_summary_spelling,
+};
+pub use usage::{SegmentUsage, UsageView, encode_usage, one_usage_spelling};
+pub use zero::is_zero;
+
+#[cfg(test)]
+mod tests;
