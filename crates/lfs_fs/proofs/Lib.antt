@@ -1,0 +1,2 @@
+mod Overlays
+mod Summaries

@@ -1,0 +1,118 @@
+//! Why a call is refused.
+use lfs_log::LogFault;
+use std::alloc::AllocError;
+
+/// Why a call of a mounted volume is refused. After all but `Halted` the tree and the handles are as before.
+#[derive(Clone, Copy, Debug, PartialEq, Eq)]
+pub enum FsError {
+    /// A name isn't there, or a path is empty.
+    NoEntry,
+    /// A directory is needed here.
+    NotDir,
+    /// A directory isn't taken here.
+    IsDir,
+    /// The entry is there already.
+    Exist,
+    /// The directory has entries.
+    NotEmpty,
+    /// An argument isn't taken.
+    Inval,
+    /// A name, path or link text is too long.
+    NameTooLong,
+    /// More than 40 links were to be followed.
+    Loop,
+    /// A directory isn't linked or unlinked.
+    Perm,
+    /// The root can't be removed or renamed.
+    Busy,
+    /// No such open handle.
+    BadHandle,
+    /// 64 handles are open.
+    TooManyOpen,
+    /// The object has 1,000 links.
+    TooManyLinks,
+    /// Past the greatest file size.
+    FileTooBig,
+    /// The need of the tree after the call exceeds the limit.
+    NoSpace,
+    /// All 4,095 numbers are taken.
+    NoNumber,
+    /// The directory has no room for another entry.
+    DirFull,
+    /// Memory was refused.
+    NoMemory,
+    /// A device call failed outside a commit.
+    Device,
+    /// A write, a sync or a commit failed: the volume answers this until it is mounted again.
+    Halted,
+    /// Too few segments are clean.
+    Stuck,
+    /// The checkpoint's number is 2^62 or above.
+    Worn,
+}
+
+impl FsError {
+    pub fn name(self) -> &'static str {
+        match self {
+            FsError::NoEntry => "NoEntry",
+            FsError::NotDir => "NotDir",
+            FsError::IsDir => "IsDir",
+            FsError::Exist => "Exist",
+            FsError::NotEmpty => "NotEmpty",
+            FsError::Inval => "Inval",
+            FsError::NameTooLong => "NameTooLong",
+            FsError::Loop => "Loop",
+            FsError::Perm => "Perm",
+            FsError::Busy => "Busy",
+            FsError::BadHandle => "BadHandle",
+            FsError::TooManyOpen => "TooManyOpen",
+            FsError::TooManyLinks => "TooManyLinks",
+            FsError::FileTooBig => "FileTooBig",
+            FsError::NoSpace => "NoSpace",
+            FsError::NoNumber => "NoNumber",
+            FsError::DirFull => "DirFull",
+            FsError::NoMemory => "NoMemory",
+            FsError::Device => "Device",
+            FsError::Halted => "Halted",
+            FsError::Stuck => "Stuck",
+            FsError::Worn => "Worn",
+        }
+    }
+}
+
+impl From<AllocError> for FsError {
+    fn from(_: AllocError) -> FsError {
+        FsError::NoMemory
+    }
+}
+
+impl From<LogFault> for FsError {
+    fn from(fault: LogFault) -> FsError {
+        match fault {
+            LogFault::Device => FsError::Device,
+            LogFault::Halted => FsError::Halted,
+            LogFault::Full => FsError::Stuck,
+        }
+    }
+}
+
+/// Why a device isn't formatted.
+#[derive(Clone, Copy, Debug, PartialEq, Eq)]
+pub enum FormatFault {
+    /// No volume has so many segments.
+    Inval,
+    /// The device has too few sectors.
+    TooSmall,
+    /// A device call failed. Nothing is promised of the device's content then.
+    Device,
+}
+
+impl FormatFault {
+    pub fn name(self) -> &'static str {
+        match self {
+            FormatFault::Inval => "Inval",
+            FormatFault::TooSmall => "TooSmall",
+            FormatFault::Device => "Device",
+        }
+    }
+}

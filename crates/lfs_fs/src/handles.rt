@@ -1,0 +1,59 @@
+//! The open handles.
+ghost use Rattle.std.specs.Prelude.{◌≡◌, ◌≢◌, ◌<◌, ◌≤◌, ℕ, IfSome, IfNone, Some, slice_get, slice_index, slice_set};
+ghost use Rattle.arrayvec.specs.ArrayVec.{array_vec_len};
+
+use arrayvec::ArrayVec;
+
+/// Handles 0 to 63, each with the number of its file; 0 where the handle is free.
+#[derive(Drop)]
+pub struct Handles {
+    numbers: ArrayVec<u16, 64>,
+    ghost whole: { array_vec_len numbers ≡ 64 },
+}
+
+impl Handles {
+    /// No handle is open.
+    pub fn new() -> Handles {
+        let mut numbers = ArrayVec::new();
+        for _ in 0..64usize {
+            numbers.push(0);
+        }
+        Handles { numbers }
+    }
+
+    /// The file of a handle, if it is open.
+    pub fn get(&self, handle: u32) -> Option<u16>
+        ensures open { IfSome result (λ number. (handle < 64) × (number ≢ 0) × (slice_index self.now.numbers.items handle ≡ number)) }
+        ensures closed { IfNone result (handle < 64 → slice_index self.now.numbers.items handle ≡ 0) }
+    {
+        if handle >= 64 {
+            return None;
+        }
+        match self.numbers[handle as usize] {
+            0 => None,
+            number => Some(number),
+        }
+    }
+
+    /// The least handle that is free.
+    pub fn least_free(&self) -> Option<u32>
+        ensures found { IfSome result (λ handle. (handle < 64) × (slice_index self.now.numbers.items handle ≡ 0)) }
+        ensures least { IfSome result (λ handle. (k : ℕ) → k < handle → slice_index self.now.numbers.items k ≢ 0) }
+        ensures none { IfNone result ((k : ℕ) → k < 64 → slice_index self.now.numbers.items k ≢ 0) }
+    {
+        for handle in 0..64u32 {
+            if self.numbers[handle as usize] == 0 {
+                return Some(handle);
+            }
+        }
+        None
+    }
+
+    /// Opens a handle on a file.
+    pub fn open(&mut self, handle: u32, number: u16)
+        requires { handle < 64 }
+        ensures { self.new.numbers.items ≡ slice_set self.old.numbers.items handle number }
+    {
+        self.numbers[handle as usize] = number;
+    }
+}

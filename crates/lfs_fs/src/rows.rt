@@ -1,0 +1,30 @@
+//! What a volume tells of itself.
+use lfs_model::Kind;
+
+/// What the tree needs of the volume, in blocks.
+#[derive(Clone, Copy, Debug, PartialEq, Eq)]
+pub struct Space {
+    /// Blocks of 512 bytes, of all files, links and directories, that have a nonzero byte.
+    pub data_blocks: u64,
+    /// Inodes and pointer blocks.
+    pub meta_blocks: u64,
+    /// `data_blocks + 7 * meta_blocks + 720`.
+    pub need: u64,
+    /// The most that the need may be: 47 for each segment.
+    pub limit: u64,
+}
+
+/// An entry of a directory.
+#[derive(Debug, Drop)]
+pub struct TreeRow {
+    /// The number of the directory that has the entry.
+    pub directory: u32,
+    pub name: Vec<u8>,
+    pub kind: Kind,
+    pub number: u32,
+    pub links: u32,
+    /// In bytes.
+    pub size: u64,
+    /// The first bytes of a file, at most 16.
+    pub head: Vec<u8>,
+}
