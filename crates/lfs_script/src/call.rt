@@ -1,0 +1,135 @@
+// The call that a line is.
+ghost use Rattle.std.specs.Prelude.{◌≡◌, ◌≢◌, ◌<◌, ◌^◌, ℕ, List, [], ◌∷◌, Err, IfOk, IfErr, OnErr, IsErrOf, codes, decimal, option_copied};
+ghost use Rattle.hex.specs.Hex.{IsBytes};
+ghost use Rattle.lfs_script.specs.Words.{hex_word, escaped_word};
+ghost use Rattle.lfs_script.specs.Lines.{Line, FitsLine, line_text, words_of, words_left, IsBad};
+ghost use Rattle.lfs_script.specs.Calls.{line_of};
+ghost use Rattle.lfs_script.specs.Command.{command_word};
+
+use crate::command::Command;
+use crate::escape::read_escaped;
+use crate::hexadecimal::read_hex;
+use crate::number::{read_u32, read_u64};
+use crate::word::{WordFault, Words};
+use std::alloc::Global;
+
+/// A call with its arguments.
+#[derive(Debug, Drop, PartialEq, Eq)]
+pub enum Call {
+    Create(Vec<u8>),
+    Open(Vec<u8>),
+    Pread {
+        handle: u32,
+        offset: u64,
+        len: u32,
+    },
+    Pwrite {
+        handle: u32,
+        offset: u64,
+        bytes: Vec<u8>,
+    },
+    Sync,
+    Space,
+    Tree,
+}
+
+fn as_u32(word: &[u8]) -> Result<u32, WordFault>
+    ensures ok { IfOk result (λ n. decimal n ≡ word.now) }
+    ensures err { OnErr result ((n : ℕ) → n < 2 ^ 32 → decimal n ≢ word.now) }
+    ensures fault { OnErr result (IsErrOf result WordFault.Spelling) }
+{
+    match read_u32(word) {
+        Some(n) => Ok(n),
+        None => Err(WordFault::Spelling),
+    }
+}
+
+fn as_u64(word: &[u8]) -> Result<u64, WordFault>
+    ensures ok { IfOk result (λ n. decimal n ≡ word.now) }
+    ensures err { OnErr result ((n : ℕ) → n < 2 ^ 64 → decimal n ≢ word.now) }
+    ensures fault { OnErr result (IsErrOf result WordFault.Spelling) }
+{
+    match read_u64(word) {
+        Some(n) => Ok(n),
+        None => Err(WordFault::Spelling),
+    }
+}
+
+// The one path that is left.
+fn path(alloc: Global, words: Words<'_>) -> Result<Vec<u8>, WordFault>
+    ensures ok { IfOk result (λ path. escaped_word path.items ∷ [] ≡ words_left (option_copied words.entry.rest)) }
+    ensures spelling { result ≡ Err WordFault.Spelling → (path : List ℕ) → IsBytes path → escaped_word path ∷ [] ≢ words_left (option_copied words.entry.rest) }
+    ensures memory { result ≡ Err WordFault.Memory → (path : List ℕ) × IsBytes path × (escaped_word path ∷ [] ≡ words_left (option_copied words.entry.rest)) }
+{
+    read_escaped(alloc, words.one()?)
+}
+
+fn pread(words: Words<'_>) -> Result<(u32, u64, u32), WordFault>
+    ensures ok { IfOk result (λ r. decimal r.0 ∷ decimal r.1 ∷ decimal r.2 ∷ [] ≡ words_left (option_copied words.entry.rest)) }
+    ensures err { OnErr result ((h o n : ℕ) → h < 2 ^ 32 → o < 2 ^ 64 → n < 2 ^ 32 → decimal h ∷ decimal o ∷ decimal n ∷ [] ≢ words_left (option_copied words.entry.rest)) }
+    ensures fault { OnErr result (IsErrOf result WordFault.Spelling) }
+{
+    let (handle, offset, len) = words.three()?;
+    let handle = as_u32(handle)?;
+    let offset = as_u64(offset)?;
+    let len = as_u32(len)?;
+    Ok((handle, offset, len))
+}
+
+fn pwrite(alloc: Global, words: Words<'_>) -> Result<(u32, u64, Vec<u8>), WordFault>
+    ensures ok { IfOk result (λ r. decimal r.0 ∷ decimal r.1 ∷ hex_word r.2.items ∷ [] ≡ words_left (option_copied words.entry.rest)) }
+    ensures spelling { result ≡ Err WordFault.Spelling → (h o : ℕ) (bytes : List ℕ) → h < 2 ^ 32 → o < 2 ^ 64 → IsBytes bytes
+        → decimal h ∷ decimal o ∷ hex_word bytes ∷ [] ≢ words_left (option_copied words.entry.rest) }
+    ensures memory { result ≡ Err WordFault.Memory → (h : ℕ) × (o : ℕ) × (bytes : List ℕ) × (h < 2 ^ 32) × (o < 2 ^ 64) × IsBytes bytes
+        × (decimal h ∷ decimal o ∷ hex_word bytes ∷ [] ≡ words_left (option_copied words.entry.rest)) }
+{
+    let (handle, offset, bytes) = words.three()?;
+    let handle = as_u32(handle)?;
+    let offset = as_u64(offset)?;
+    let bytes = read_hex(alloc, bytes)?;
+    Ok((handle, offset, bytes))
+}
+
+// The call of a command whose arguments are left.
+fn call_of(alloc: Global, command: Command, words: Words<'_>) -> Result<Call, WordFault>
+    ensures ok { IfOk result (λ call. words_of (line_of call) ≡ command_word command ∷ words_left (option_copied words.entry.rest)) }
+    ensures spelling { result ≡ Err WordFault.Spelling → (line : Line) → FitsLine line → words_of line ≢ command_word command ∷ words_left (option_copied words.entry.rest) }
+    ensures memory { result ≡ Err WordFault.Memory → (line : Line) × FitsLine line × (words_of line ≡ command_word command ∷ words_left (option_copied words.entry.rest)) }
+{
+    match command {
+        Command::Create => Ok(Call::Create(path(alloc, words)?)),
+        Command::Open => Ok(Call::Open(path(alloc, words)?)),
+        Command::Pread => {
+            let (handle, offset, len) = pread(words)?;
+            Ok(Call::Pread {
+                handle,
+                offset,
+                len,
+            })
+        }
+        Command::Pwrite => {
+            let (handle, offset, bytes) = pwrite(alloc, words)?;
+            Ok(Call::Pwrite {
+                handle,
+                offset,
+                bytes,
+            })
+        }
+        Command::Sync => words.none().map(|()| Call::Sync),
+        Command::Space => words.none().map(|()| Call::Space),
+        Command::Tree => words.none().map(|()| Call::Tree),
+    }
+}
+
+/// Reads a line without its newline. A word takes memory only where the whole line is spelt well.
+pub fn parse(alloc: Global, line: &[u8]) -> Result<Call, WordFault>
+    ensures ok { IfOk result (λ call. line_text (line_of call) ≡ line.now) }
+    ensures spelling { result ≡ Err WordFault.Spelling → IsBad line.now }
+    ensures memory { result ≡ Err WordFault.Memory → (asked : Line) × FitsLine asked × (line_text asked ≡ line.now) }
+{
+    let mut words = Words::of(line);
+    let Some(command) = Command::of(words.next()?) else {
+        return Err(WordFault::Spelling);
+    };
+    call_of(alloc, command, words)
+}

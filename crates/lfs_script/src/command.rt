@@ -1,0 +1,56 @@
+// The first word of a line.
+ghost use Rattle.std.specs.Prelude.{◌≡◌, ◌≢◌, None, IfSome};
+ghost use Rattle.lfs_script.specs.declared.command.Command.{Command};
+
+/// What a line asks for, without its arguments.
+#[derive(Clone, Copy, Debug, PartialEq, Eq)]
+pub enum Command {
+    Create,
+    Open,
+    Pread,
+    Pwrite,
+    Sync,
+    Space,
+    Tree,
+}
+
+impl Command {
+    const ALL: [Command; 7] = [
+        Command::Create,
+        Command::Open,
+        Command::Pread,
+        Command::Pwrite,
+        Command::Sync,
+        Command::Space,
+        Command::Tree,
+    ];
+
+    ghost use Rattle.lfs_script.specs.Command.{command_word};
+
+    fn word(self) -> &'static [u8]
+        ensures { result.now ≡ command_word self }
+    {
+        match self {
+            Command::Create => b"create",
+            Command::Open => b"open",
+            Command::Pread => b"pread",
+            Command::Pwrite => b"pwrite",
+            Command::Sync => b"sync",
+            Command::Space => b"space",
+            Command::Tree => b"tree",
+        }
+    }
+
+    /// The command that has this word.
+    pub fn of(word: &[u8]) -> Option<Command>
+        ensures found { IfSome result (λ c. command_word c ≡ word.now) }
+        ensures none { result ≡ None → (c : Command) → command_word c ≢ word.now }
+    {
+        for command in Command::ALL {
+            if command.word() == word {
+                return Some(command);
+            }
+        }
+        None
+    }
+}

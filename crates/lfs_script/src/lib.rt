@@ -1,0 +1,28 @@
+//! The script language of the file system: lines in, replies out.
+#![tactic(auto)]
+
+mod answer;
+mod call;
+mod command;
+mod escape;
+mod hexadecimal;
+mod line;
+mod number;
+mod piece;
+mod reply;
+mod script;
+mod sink;
+mod source;
+mod word;
+
+pub use answer::Answer;
+pub use escape::{put_escaped, read_escaped};
+pub use hexadecimal::{put_hex, read_hex};
+pub use number::{put_number, read_u32, read_u64};
+pub use reply::put_reply;
+pub use script::{ScriptEnd, run};
+pub use sink::Stopped;
+pub use word::WordFault;
+
+#[cfg(test)]
+mod tests;

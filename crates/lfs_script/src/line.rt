@@ -1,0 +1,50 @@
+// Lines of a reader.
+ghost use Rattle.std.specs.Prelude.{◌≡◌, ◌≢◌, ◌≤◌, ◌∷◌, ◌++◌, [], All, Ok, vec_capacity, vec_len, IfOk, slice_range};
+ghost use Rattle.std.specs.Io.KnownBytes.{Consumes, IsAtEnd, prepend_known};
+ghost use Rattle.lfs_script.specs.LineEnd.{consumed_by_line, OnTooLong};
+
+use crate::source::{ReadError, Source};
+use std::io::Read;
+
+/// The bytes of the longest line, its newline left out.
+pub const LONGEST: usize = 140_000;
+
+/// How a line ended.
+#[derive(Clone, Copy, Debug, PartialEq, Eq)]
+pub enum LineEnd {
+    Newline,
+    /// The input ended.
+    Input,
+    /// This byte came after the longest line.
+    TooLong(u8),
+}
+
+/// Reads a line into the buffer, which has the room.
+pub fn next_line<R: Read>(
+    source: &mut Source,
+    reader: &mut R,
+    line: &mut Vec<u8>,
+) -> Result<LineEnd, ReadError>
+    requires { 140000 ≤ vec_capacity line.old }
+    ensures room { 140000 ≤ vec_capacity line.new }
+    ensures len { vec_len line.new ≤ 140000 }
+    ensures bytes { Consumes (prepend_known (slice_range source.old.chunk.items source.old.start source.old.end) (R.remaining reader.old))
+        (prepend_known (slice_range source.new.chunk.items source.new.start source.new.end) (R.remaining reader.new)) (line.new.items ++ consumed_by_line result) }
+    ensures plain { All (λ b. b ≢ 10) line.new.items }
+    ensures long { OnTooLong result (λ b. (b ≢ 10) × (vec_len line.new ≡ 140000)) }
+    ensures end { result ≡ Ok LineEnd.Input → IsAtEnd (prepend_known (slice_range source.new.chunk.items source.new.start source.new.end) (R.remaining reader.new)) }
+{
+    line.clear();
+    loop {
+        match source.next(reader)? {
+            None => return Ok(LineEnd::Input),
+            Some(b'\n') => return Ok(LineEnd::Newline),
+            Some(byte) => {
+                if line.len() >= LONGEST {
+                    return Ok(LineEnd::TooLong(byte));
+                }
+                line.push(byte).unwrap();
+            }
+        }
+    }
+}

@@ -1,0 +1,71 @@
+// Numbers as words: decimal, without leading zeros.
+ghost use Rattle.std.specs.Prelude.{◌≡◌, ◌≢◌, ◌↔◌, ◌<◌, ◌≤◌, ◌^◌, ℕ, None, IsTrue, IfSome, OnOk, OnErr, decimal, drop};
+ghost use Rattle.std.specs.Io.KnownBytes.{Appends};
+ghost use Rattle.lfs_script.specs.Bytes.{AppendsSome};
+ghost use Rattle.lfs_script.specs.Words.{IsBare};
+
+use crate::sink::{Stopped, put};
+use std::io::Write;
+
+// Whether the word has no sign and no leading zero, both of which `parse` takes.
+fn is_bare(word: &[u8]) -> bool
+    ensures { IsTrue result ↔ IsBare word.now }
+{
+    match word.first() {
+        None => false,
+        Some(b'+') => false,
+        Some(b'0') => word.len() == 1,
+        Some(_) => true,
+    }
+}
+
+/// The number that the word spells, if it is below 2^64.
+pub fn read_u64(word: &[u8]) -> Option<u64>
+    ensures found { IfSome result (λ n. decimal n ≡ word.now) }
+    ensures none { result ≡ None → (n : ℕ) → n < 2 ^ 64 → decimal n ≢ word.now }
+{
+    if !is_bare(word) {
+        return None;
+    }
+    let Ok(text) = str::from_utf8(word) else {
+        return None;
+    };
+    text.parse().ok()
+}
+
+/// The number that the word spells, if it is below 2^32.
+pub fn read_u32(word: &[u8]) -> Option<u32>
+    ensures found { IfSome result (λ n. decimal n ≡ word.now) }
+    ensures none { result ≡ None → (n : ℕ) → n < 2 ^ 32 → decimal n ≢ word.now }
+{
+    let Some(number) = read_u64(word) else {
+        return None;
+    };
+    u32::try_from(number).ok()
+}
+
+// Puts the number's digits at the end of the buffer and answers where they start.
+fn fill_digits(digits: &mut [u8; 20], number: u64) -> usize
+    ensures start { result ≤ 19 }
+    ensures digits { drop result digits.new ≡ decimal number }
+{
+    let mut start = 19;
+    let mut front = number;
+    while front >= 10 {
+        digits[start] = b'0' + (front % 10) as u8;
+        front /= 10;
+        start -= 1;
+    }
+    digits[start] = b'0' + front as u8;
+    start
+}
+
+/// Writes the number's word. It takes no memory.
+pub fn put_number<W: Write>(writer: &mut W, number: u64) -> Result<(), Stopped>
+    ensures ok { OnOk result (Appends (W.contents writer.old) (W.contents writer.new) (decimal number)) }
+    ensures err { OnErr result (AppendsSome (W.contents writer.old) (W.contents writer.new) (decimal number)) }
+{
+    let mut digits = [0; 20];
+    let start = fill_digits(&mut digits, number);
+    put(writer, &digits[start..])
+}

@@ -1,0 +1,46 @@
+// Texts of several pieces.
+ghost use Rattle.std.specs.Prelude.{◌≡◌, OnOk, OnErr, flat_map};
+ghost use Rattle.std.specs.Io.KnownBytes.{Appends};
+ghost use Rattle.lfs_script.specs.Bytes.{AppendsSome};
+ghost use Rattle.lfs_script.specs.Pieces.{piece_text};
+
+use crate::escape::put_escaped;
+use crate::hexadecimal::put_hex;
+use crate::number::put_number;
+use crate::sink::{Stopped, put};
+use std::io::Write;
+
+/// A piece of a text.
+#[derive(Clone, Copy)]
+pub enum Piece<'a> {
+    /// The bytes as they are.
+    Text(&'a [u8]),
+    Number(u64),
+    /// The bytes as a word of digits.
+    Hex(&'a [u8]),
+    /// The bytes as an escaped word.
+    Escaped(&'a [u8]),
+}
+
+fn put_piece<W: Write>(writer: &mut W, piece: Piece<'_>) -> Result<(), Stopped>
+    ensures ok { OnOk result (Appends (W.contents writer.old) (W.contents writer.new) (piece_text piece.entry)) }
+    ensures err { OnErr result (AppendsSome (W.contents writer.old) (W.contents writer.new) (piece_text piece.entry)) }
+{
+    match piece {
+        Piece::Text(text) => put(writer, text),
+        Piece::Number(number) => put_number(writer, number),
+        Piece::Hex(bytes) => put_hex(writer, bytes),
+        Piece::Escaped(bytes) => put_escaped(writer, bytes),
+    }
+}
+
+/// Writes the pieces one after the other. After an error a beginning of them went out.
+pub fn put_all<W: Write>(writer: &mut W, pieces: &[Piece<'_>]) -> Result<(), Stopped>
+    ensures ok { OnOk result (Appends (W.contents writer.old) (W.contents writer.new) (flat_map piece_text pieces.now)) }
+    ensures err { OnErr result (AppendsSome (W.contents writer.old) (W.contents writer.new) (flat_map piece_text pieces.now)) }
+{
+    for piece in pieces {
+        put_piece(writer, *piece)?;
+    }
+    Ok(())
+}

@@ -1,0 +1,146 @@
+// The reply to a line.
+ghost use Rattle.std.specs.Prelude.{◌≡◌, [], ◌∷◌, ◌++◌, length, IfOk, OnOk, OnErr, codes, decimal, flat_map};
+ghost use Rattle.std.specs.Io.KnownBytes.{Appends};
+ghost use Rattle.lfs_script.specs.Bytes.{AppendsSome};
+ghost use Rattle.lfs_script.specs.Pieces.{piece_text};
+ghost use Rattle.lfs_script.specs.Answers.{reply_text};
+ghost use Rattle.lfs_script.specs.Replies.{reply_line, kind_word, head_word, row_line, space_words};
+
+use crate::answer::Answer;
+use crate::piece::{Piece, put_all};
+use crate::sink::Stopped;
+use lfs_fs::{FsError, Space, TreeRow};
+use lfs_model::Kind;
+use std::io::Write;
+
+const SPACE: Piece<'static> = Piece::Text(b" ");
+
+const END: Piece<'static> = Piece::Text(b"\n");
+
+fn kind_name(kind: Kind) -> &'static [u8]
+    ensures { result.now ≡ kind_word kind }
+{
+    match kind {
+        Kind::File => b"file",
+        Kind::Directory => b"dir",
+        Kind::Link => b"link",
+    }
+}
+
+// What is shown of an object's beginning.
+fn head_of(row: &TreeRow) -> Piece<'_>
+    ensures { piece_text result ≡ head_word row.now.kind row.now.head.items }
+{
+    match row.kind {
+        Kind::File => Piece::Hex(row.head.as_slice()),
+        Kind::Directory => Piece::Text(b"-"),
+        Kind::Link => Piece::Escaped(row.head.as_slice()),
+    }
+}
+
+fn put_row<W: Write>(writer: &mut W, row: &TreeRow) -> Result<(), Stopped>
+    ensures ok { OnOk result (Appends (W.contents writer.old) (W.contents writer.new) (row_line row.now)) }
+    ensures err { OnErr result (AppendsSome (W.contents writer.old) (W.contents writer.new) (row_line row.now)) }
+{
+    put_all(
+        writer,
+        &[
+            Piece::Number(u64::from(row.directory)),
+            SPACE,
+            Piece::Escaped(row.name.as_slice()),
+            SPACE,
+            Piece::Text(kind_name(row.kind)),
+            SPACE,
+            Piece::Number(u64::from(row.number)),
+            SPACE,
+            Piece::Number(u64::from(row.links)),
+            SPACE,
+            Piece::Number(row.size),
+            SPACE,
+            head_of(row),
+            END,
+        ],
+    )
+}
+
+fn put_tree<W: Write>(writer: &mut W, rows: &[TreeRow]) -> Result<(), Stopped>
+    ensures ok { OnOk result (Appends (W.contents writer.old) (W.contents writer.new) (reply_line (codes "ok" ∷ decimal (length rows.now) ∷ []) ++ flat_map row_line rows.now)) }
+    ensures err { OnErr result (AppendsSome (W.contents writer.old) (W.contents writer.new) (reply_line (codes "ok" ∷ decimal (length rows.now) ∷ []) ++ flat_map row_line rows.now)) }
+{
+    put_number_line(writer, rows.len() as u64)?;
+    for row in rows {
+        put_row(writer, row)?;
+    }
+    Ok(())
+}
+
+fn put_number_line<W: Write>(writer: &mut W, number: u64) -> Result<(), Stopped>
+    ensures ok { OnOk result (Appends (W.contents writer.old) (W.contents writer.new) (reply_line (codes "ok" ∷ decimal number ∷ []))) }
+    ensures err { OnErr result (AppendsSome (W.contents writer.old) (W.contents writer.new) (reply_line (codes "ok" ∷ decimal number ∷ []))) }
+{
+    put_all(writer, &[Piece::Text(b"ok "), Piece::Number(number), END])
+}
+
+fn put_space<W: Write>(writer: &mut W, space: Space) -> Result<(), Stopped>
+    ensures ok { OnOk result (Appends (W.contents writer.old) (W.contents writer.new) (reply_line (space_words space))) }
+    ensures err { OnErr result (AppendsSome (W.contents writer.old) (W.contents writer.new) (reply_line (space_words space))) }
+{
+    put_all(
+        writer,
+        &[
+            Piece::Text(b"ok "),
+            Piece::Number(space.data_blocks),
+            SPACE,
+            Piece::Number(space.meta_blocks),
+            SPACE,
+            Piece::Number(space.need),
+            SPACE,
+            Piece::Number(space.limit),
+            END,
+        ],
+    )
+}
+
+/// Writes the reply to a bad line of this number.
+pub fn put_bad<W: Write>(writer: &mut W, line: u64) -> Result<(), Stopped>
+    ensures ok { OnOk result (Appends (W.contents writer.old) (W.contents writer.new) (reply_line (codes "bad" ∷ decimal line ∷ []))) }
+    ensures err { OnErr result (AppendsSome (W.contents writer.old) (W.contents writer.new) (reply_line (codes "bad" ∷ decimal line ∷ []))) }
+{
+    put_all(writer, &[Piece::Text(b"bad "), Piece::Number(line), END])
+}
+
+// Writes the reply to a call that isn't refused.
+fn put_answer<W: Write>(writer: &mut W, answer: &Answer) -> Result<(), Stopped>
+    ensures ok { OnOk result (Appends (W.contents writer.old) (W.contents writer.new) (reply_text answer.now)) }
+    ensures err { OnErr result (AppendsSome (W.contents writer.old) (W.contents writer.new) (reply_text answer.now)) }
+{
+    match answer {
+        Answer::Done => put_all(writer, &[Piece::Text(b"ok"), END]),
+        Answer::Handle(handle) => put_number_line(writer, u64::from(*handle)),
+        Answer::Count(count) => put_number_line(writer, u64::from(*count)),
+        Answer::Bytes(bytes) => put_all(
+            writer,
+            &[Piece::Text(b"ok "), Piece::Hex(bytes.as_slice()), END],
+        ),
+        Answer::Space(space) => put_space(writer, *space),
+        Answer::Tree(rows) => put_tree(writer, rows.as_slice()),
+    }
+}
+
+/// Writes the reply, piece by piece. It takes no memory. After an error a beginning of it went out.
+pub fn put_reply<W: Write>(writer: &mut W, answer: &Result<Answer, FsError>) -> Result<(), Stopped>
+    ensures ok { OnOk result (IfOk answer.now (λ a. Appends (W.contents writer.old) (W.contents writer.new) (reply_text a))) }
+    ensures err { OnErr result (IfOk answer.now (λ a. AppendsSome (W.contents writer.old) (W.contents writer.new) (reply_text a))) }
+{
+    match answer {
+        Ok(answer) => put_answer(writer, answer),
+        Err(refusal) => put_all(
+            writer,
+            &[
+                Piece::Text(b"err "),
+                Piece::Text(refusal.name().as_bytes()),
+                END,
+            ],
+        ),
+    }
+}

@@ -1,0 +1,26 @@
+// Bytes out.
+ghost use Rattle.std.specs.Prelude.{◌≡◌, ℕ, ◌<◌, ◌++◌, take, length, OnOk, OnErr};
+ghost use Rattle.std.specs.Io.KnownBytes.{Appends};
+ghost use Rattle.lfs_script.specs.Bytes.{AppendsSome};
+
+use std::io::Write;
+
+/// A write failed, or took nothing.
+#[derive(Clone, Copy, Debug, PartialEq, Eq)]
+pub struct Stopped;
+
+/// Writes all the bytes, in as many calls as it takes. After an error a beginning of them went out.
+pub fn put<W: Write>(writer: &mut W, bytes: &[u8]) -> Result<(), Stopped>
+    ensures ok { OnOk result (Appends (W.contents writer.old) (W.contents writer.new) bytes.now) }
+    ensures err { OnErr result (AppendsSome (W.contents writer.old) (W.contents writer.new) bytes.now) }
+{
+    let mut at = 0;
+    while at < bytes.len() {
+        match writer.write(&bytes[at..]) {
+            Ok(0) => return Err(Stopped),
+            Ok(n) => at += n,
+            Err(_) => return Err(Stopped),
+        }
+    }
+    Ok(())
+}

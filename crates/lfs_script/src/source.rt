@@ -1,0 +1,93 @@
+// Bytes of a reader, one at a time.
+ghost use Rattle.std.specs.Prelude.{◌≡◌, ◌-◌, ◌<◌, ◌≤◌, ◌∷◌, [], List, None, take, drop, length, OnErr, IfOk, vec_len, slice_range};
+ghost use Rattle.std.specs.Io.KnownBytes.{Consumes, IsAtEnd, Keeps, prepend_known};
+ghost use Rattle.lfs_script.specs.Bytes.{taken};
+
+use std::alloc::{AllocError, Global};
+use std::io::Read;
+
+const CHUNK: usize = 4096;
+
+/// The reader failed, or gave 2^64 - 1 bytes with no end.
+#[derive(Clone, Copy, Debug, PartialEq, Eq)]
+pub struct ReadError;
+
+/// What was read and not yet taken.
+#[derive(Drop)]
+pub struct Source {
+    chunk: Vec<u8>,
+    start: usize,
+    end: usize,
+    budget: u64,
+    ghost order: { start ≤ end },
+    ghost within: { end ≤ vec_len chunk },
+}
+
+// Reads once over the chunk.
+fn read_chunk<R: Read>(reader: &mut R, chunk: &mut Vec<u8>) -> Result<usize, ReadError>
+    requires { 0 < vec_len chunk.old }
+    ensures len { vec_len chunk.new ≡ vec_len chunk.old }
+    ensures within { IfOk result (λ n. n ≤ vec_len chunk.new) }
+    ensures bytes { IfOk result (λ n. Consumes (R.remaining reader.old) (R.remaining reader.new) (take n chunk.new.items)) }
+    ensures end { IfOk result (λ n. n ≡ 0 → IsAtEnd (R.remaining reader.new)) }
+    ensures err { OnErr result (Keeps (R.remaining reader.old) (R.remaining reader.new)) }
+{
+    match reader.read(chunk.as_mut_slice()) {
+        Ok(n) => Ok(n),
+        Err(_) => Err(ReadError),
+    }
+}
+
+impl Source {
+    pub fn new(alloc: Global) -> Result<Source, AllocError>
+        ensures { IfOk result (λ s. slice_range s.chunk.items s.start s.end ≡ []) }
+    {
+        let chunk = vec![in alloc; 0; CHUNK]?;
+        Ok(Source {
+            chunk,
+            start: 0,
+            end: 0,
+            budget: u64::MAX,
+        })
+    }
+
+    /// Takes the next byte; `None` is the end of the input.
+    pub fn next<R: Read>(&mut self, reader: &mut R) -> Result<Option<u8>, ReadError>
+        ensures bytes { Consumes (prepend_known (slice_range self.old.chunk.items self.old.start self.old.end) (R.remaining reader.old))
+            (prepend_known (slice_range self.new.chunk.items self.new.start self.new.end) (R.remaining reader.new)) (taken result) }
+        ensures end { IfOk result (λ byte. byte ≡ None → IsAtEnd (prepend_known (slice_range self.new.chunk.items self.new.start self.new.end) (R.remaining reader.new))) }
+    {
+        if self.start == self.end {
+            return self.refill(reader);
+        }
+        let byte = self.chunk[self.start];
+        self.start += 1;
+        Ok(Some(byte))
+    }
+
+    // The same, where nothing is left.
+    fn refill<R: Read>(&mut self, reader: &mut R) -> Result<Option<u8>, ReadError>
+        requires { self.old.start ≡ self.old.end }
+        ensures bytes { Consumes (R.remaining reader.old)
+            (prepend_known (slice_range self.new.chunk.items self.new.start self.new.end) (R.remaining reader.new)) (taken result) }
+        ensures end { IfOk result (λ byte. byte ≡ None → IsAtEnd (prepend_known (slice_range self.new.chunk.items self.new.start self.new.end) (R.remaining reader.new))) }
+    {
+        self.start = 0;
+        self.end = 0;
+        if self.budget < 4096 {
+            self.chunk.truncate(self.budget as usize);
+        }
+        if self.chunk.is_empty() {
+            return Err(ReadError);
+        }
+        let n = read_chunk(reader, &mut self.chunk)?;
+        if n == 0 {
+            return Ok(None);
+        }
+        let byte = self.chunk[0];
+        self.start = 1;
+        self.end = n;
+        self.budget = self.budget.saturating_sub(n as u64);
+        Ok(Some(byte))
+    }
+}

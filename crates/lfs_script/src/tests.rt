@@ -1,0 +1,221 @@
+use super::*;
+use lfs_device::MemDevice;
+use lfs_fs::{Fs, format};
+use std::io;
+use std::io::{Read, Write};
+use std::test::Fail;
+
+const SECTORS: u32 = 2 + 64 * 64;
+
+fn volume(rt: &HostRuntime) -> Result<Fs<MemDevice>, Fail> {
+    let mut device = MemDevice::new(rt.alloc(), SECTORS)?;
+    format(&mut device, 64)?;
+    Ok(Fs::mount(rt.alloc(), device).ok().ok_or("not mounted")?)
+}
+
+// Runs a script on a fresh volume of 64 segments.
+fn answered(rt: &HostRuntime, script: &str) -> Result<(ScriptEnd, Vec<u8>), Fail> {
+    let alloc = rt.alloc();
+    let mut fs = volume(rt)?;
+    let mut input = script.as_bytes();
+    let mut output = Vec::new(alloc);
+    let end = run(alloc, &mut input, &mut output, &mut fs);
+    drop(fs.into_device());
+    Ok((end, output))
+}
+
+#[test]
+fn scripts(rt: HostRuntime) -> Result<(), Fail> {
+    for (script, end, replies) in [
+        ("", ScriptEnd::Done, ""),
+        ("space\n", ScriptEnd::Done, "ok 0 1 727 3008\n"),
+        ("space", ScriptEnd::Done, "ok 0 1 727 3008\n"),
+        (
+            "create /f\npwrite 0 0 61\nsync\nspace\npread 0 0 9\n",
+            ScriptEnd::Done,
+            "ok 0\nok 1\nok\nok 2 2 736 3008\nok 61\n",
+        ),
+        (
+            "create /f\npwrite 0 0 616263\npread 0 3 5\npread 0 0 0\npread 0 1 65536\npread 0 0 65537\npwrite 0 99999999 -\n",
+            ScriptEnd::Done,
+            "ok 0\nok 3\nok -\nok -\nok 6263\nerr Inval\nok 0\n",
+        ),
+        (
+            "space\npread 00 0 1\nspace\n",
+            ScriptEnd::BadLine(2),
+            "ok 0 1 727 3008\nbad 2\n",
+        ),
+        (
+            "space\n\n",
+            ScriptEnd::BadLine(2),
+            "ok 0 1 727 3008\nbad 2\n",
+        ),
+        ("space\r\n", ScriptEnd::BadLine(1), "bad 1\n"),
+        (
+            "create /a\npwrite 0 0 6A\n",
+            ScriptEnd::BadLine(2),
+            "ok 0\nbad 2\n",
+        ),
+        (
+            "create /a\\20c\ncreate /b\ntree\n",
+            ScriptEnd::Done,
+            "ok 0\nok 1\nok 2\n1 a\\20c file 2 1 0 -\n1 b file 3 1 0 -\n",
+        ),
+    ] {
+        let (found, output) = answered(&rt, script)?;
+        assert_eq!(rt; found, end, "{script}");
+        assert_eq!(rt; output.as_slice(), replies.as_bytes(), "{script}");
+    }
+    Ok(())
+}
+
+// Wants that the first line of a script is bad.
+fn want_bad(rt: &HostRuntime, line: &str) -> Result<bool, Fail> {
+    let (end, output) = answered(rt, line)?;
+    Ok(end == ScriptEnd::BadLine(1) && output.as_slice() == b"bad 1\n".as_slice())
+}
+
+#[test]
+fn lines_with_wrong_words_are_bad(rt: HostRuntime) -> Result<(), Fail> {
+    for line in [
+        " space",
+        "space ",
+        "Space",
+        "spaces",
+        "space 0",
+        "sync ",
+        "tree 1",
+        "create",
+        "create ",
+        "create /a /b",
+        "create  /a",
+        "create /a ",
+        "open",
+    ] {
+        assert!(rt; want_bad(&rt, line)?, "{line}");
+    }
+    Ok(())
+}
+
+#[test]
+fn paths_of_other_spelling_are_bad(rt: HostRuntime) -> Result<(), Fail> {
+    for word in [
+        "/\\2F", "/\\61", "/\\2f", "/\\0", "/\\", "\\\\", "/\t", "/\u{7f}",
+    ] {
+        let line = format!(in rt.alloc(); "create {word}")?;
+        assert!(rt; want_bad(&rt, line.as_str())?, "{word}");
+    }
+    let (end, output) = answered(&rt, "create /\\5c\\20\\00~\ncreate \\\n")?;
+    assert_eq!(rt; end, ScriptEnd::Done);
+    assert_eq!(rt; output.as_slice(), b"err Inval\nerr NoEntry\n".as_slice());
+    Ok(())
+}
+
+#[test]
+fn numbers_of_other_spelling_are_bad(rt: HostRuntime) -> Result<(), Fail> {
+    for words in [
+        "0 0",
+        "0 0 1 1",
+        " 0 0 1",
+        "0 0 1 ",
+        "0 00 1",
+        "+0 0 1",
+        "-0 0 1",
+        "0x0 0 1",
+        "4294967296 0 1",
+        "0 18446744073709551616 1",
+        "0 0 4294967296",
+    ] {
+        let line = format!(in rt.alloc(); "pread {words}")?;
+        assert!(rt; want_bad(&rt, line.as_str())?, "{words}");
+    }
+    let script = "pread 4294967295 18446744073709551615 4294967295";
+    let (end, output) = answered(&rt, script)?;
+    assert_eq!(rt; end, ScriptEnd::Done);
+    assert_eq!(rt; output.as_slice(), b"err BadHandle\n".as_slice());
+    Ok(())
+}
+
+#[test]
+fn bytes_of_other_spelling_are_bad(rt: HostRuntime) -> Result<(), Fail> {
+    for word in [
+        "", "6", "616", "6A", "--", "-61", "61-", "61 61", "6g", "6/", "6:",
+    ] {
+        let line = format!(in rt.alloc(); "pwrite 0 0 {word}")?;
+        assert!(rt; want_bad(&rt, line.as_str())?, "{word}");
+    }
+    Ok(())
+}
+
+// Gives its bytes, and then fails.
+#[derive(Drop)]
+struct FailsAfter<'a>(&'a [u8]);
+
+impl Read for FailsAfter<'_> {
+    fn read(&mut self, buf: &mut [u8]) -> io::Result<usize> {
+        match (self.0.split_first(), buf.first_mut()) {
+            (Some((byte, rest)), Some(place)) => {
+                *place = *byte;
+                self.0 = rest;
+                Ok(1)
+            }
+            _ => Err(io::Error::from(io::ErrorKind::BrokenPipe)),
+        }
+    }
+}
+
+// Takes so many bytes, and then none.
+#[derive(Drop)]
+struct Full(usize);
+
+impl Write for Full {
+    fn write(&mut self, buf: &[u8]) -> io::Result<usize> {
+        let taken = buf.len().min(self.0);
+        self.0 -= taken;
+        Ok(taken)
+    }
+
+    fn flush(&mut self) -> io::Result<()> {
+        Ok(())
+    }
+}
+
+#[test]
+fn readers_and_writers_that_fail(rt: HostRuntime) -> Result<(), Fail> {
+    let alloc = rt.alloc();
+    let mut fs = volume(&rt)?;
+    let mut input = FailsAfter(b"space\nspace");
+    let mut output = Vec::new(alloc);
+    let end = run(alloc, &mut input, &mut output, &mut fs);
+    assert_eq!(rt; end, ScriptEnd::Read);
+    assert_eq!(rt; output.as_slice(), b"ok 0 1 727 3008\n".as_slice());
+    for room in [0, 1, 15, 16, 31] {
+        let mut input = b"space\nspace\n".as_slice();
+        let end = run(alloc, &mut input, &mut Full(room), &mut fs);
+        assert_eq!(rt; end, ScriptEnd::Write, "{room}");
+    }
+    let mut input = b"space\nspace\n".as_slice();
+    let end = run(alloc, &mut input, &mut Full(32), &mut fs);
+    assert_eq!(rt; end, ScriptEnd::Done);
+    drop(fs.into_device());
+    Ok(())
+}
+
+#[test]
+fn the_longest_line(rt: HostRuntime) -> Result<(), Fail> {
+    let alloc = rt.alloc();
+    for (zeros, newline, reply) in [
+        (139_988, "", "err Inval\n"),
+        (139_988, "\n", "err Inval\n"),
+        (139_989, "\n", "bad 2\n"),
+        (139_990, "\n", "bad 2\n"),
+    ] {
+        let mut script = "create /a\npwrite 0 10 ".to_string(alloc)?;
+        script.push_str("0".repeat(alloc, zeros)?.as_str())?;
+        script.push_str(newline)?;
+        let (_, output) = answered(&rt, script.as_str())?;
+        let replies = format!(in alloc; "ok 0\n{reply}")?;
+        assert!(rt; output.as_slice() == replies.as_bytes(), "{zeros}");
+    }
+    Ok(())
+}
