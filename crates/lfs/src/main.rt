@@ -1,0 +1,44 @@
+//! A log-structured file system in an image file, from the command line.
+#![tactic(auto)]
+
+mod command;
+mod fault;
+mod image;
+mod request;
+#[cfg(test)]
+mod tests;
+
+use std::io::ErrorKind;
+use std::process::ExitCode;
+use std::{env, io};
+
+const NO_MEMORY: u8 = 1;
+
+const WRONG_LINE: u8 = 2;
+
+fn words(rt: &HostRuntime) -> io::Result<Vec<String>> {
+    let words = env::args(rt)?.collect(rt.alloc())?;
+    Ok(words)
+}
+
+fn main(rt: HostRuntime) -> ExitCode {
+    let status = match words(&rt) {
+        Ok(words) => command::command(
+            &rt,
+            rt.alloc(),
+            words.as_slice(),
+            &mut rt.reader(),
+            &mut rt.stdout(),
+            &mut rt.stderr(),
+        ),
+        Err(error) => {
+            let _ = rt.eprintln("lfs: the words of the command line can't be read");
+            if error.kind() == ErrorKind::OutOfMemory {
+                NO_MEMORY
+            } else {
+                WRONG_LINE
+            }
+        }
+    };
+    ExitCode::from(status)
+}
