@@ -1,9 +1,11 @@
 //! Changing a block in place.
-ghost use Rattle.std.specs.Prelude.{◌≡◌, ◌<◌, ◌+◌, ◌*◌, ◌++◌, take, drop};
-ghost use Rattle.lfs_model.specs.Fields.{le32, read32};
+ghost use Rattle.std.specs.Prelude.{◌≡◌, ◌<◌, ◌+◌, ◌*◌, [], ◌∷◌, ◌++◌, take, drop};
+ghost use Rattle.lfs_model.specs.Inode.{kind_byte};
+ghost use Rattle.lfs_model.specs.Fields.{le32, read32, zeros};
 
 use crate::fields::number32_at;
 use crate::inode::byte_of;
+use crate::writer::Writer;
 use byteorder::{ByteOrder, LittleEndian};
 use lfs_model::Kind;
 
@@ -26,9 +28,22 @@ pub fn set_word(block: &mut [u8; 512], place: usize, number: u32)
 }
 
 /// Makes a block the inode of this number with this kind, links and size in bytes. The addresses stay.
-pub fn set_header(block: &mut [u8; 512], number: u32, kind: Kind, links: u32, size: u32) {
-    set_word(block, 0, u32::from(byte_of(kind)));
-    set_word(block, 1, number);
-    set_word(block, 2, links);
-    set_word(block, 3, size);
+pub fn set_header(block: &mut [u8; 512], number: u32, kind: Kind, links: u32, size: u32)
+    ensures { block.new ≡ (kind_byte kind ∷ []) ++ zeros 3 ++ le32 number ++ le32 links ++ le32 size ++ drop 16 block.old }
+{
+    let header = header_bytes(number, kind, links, size);
+    block[..16].copy_from_slice(&header);
+}
+
+/// The bytes of an inode before its addresses, the padding left out.
+fn header_bytes(number: u32, kind: Kind, links: u32, size: u32) -> [u8; 16]
+    ensures { result ≡ (kind_byte kind ∷ []) ++ zeros 3 ++ le32 number ++ le32 links ++ le32 size }
+{
+    let mut header = Writer::new();
+    header.bytes(&[byte_of(kind)]);
+    header.zeros(3);
+    header.number32(number);
+    header.number32(links);
+    header.number32(size);
+    header.finish()
 }
