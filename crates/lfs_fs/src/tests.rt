@@ -302,3 +302,33 @@ fn segments_run_out_without_a_cleaner(rt: HostRuntime) -> Result<(), Fail> {
     assert_eq!(rt; pairs(rt.alloc(), 64)?, 49);
     Ok(())
 }
+
+/// Makes a file of this name, which is open as this handle, with 112 blocks that have nonzero bytes.
+fn fill_file(fs: &mut Fs<MemDevice>, name: u8, handle: u32) -> Result<u32, FsError> {
+    fs.create(&[name])?;
+    fs.pwrite(handle, 0, &[255; 57_344])
+}
+
+#[test]
+fn space_runs_out_exactly(rt: HostRuntime) -> Result<(), Fail> {
+    let mut fs = new_volume(rt.alloc())?;
+    for handle in 0..19u8 {
+        assert_eq!(rt;
+            fill_file(&mut fs, b'a' + handle, u32::from(handle)),
+            Ok(57_344)
+        );
+    }
+    assert_eq!(rt; fs.create(b"z")?, 19);
+    // 19 files of 112 blocks and 3 blocks of the root; 21 inodes: 2131 + 7 * 21 + 720.
+    assert_eq!(rt; fs.space()?.need, 2_998);
+    for (bytes, want) in [
+        ([7; 5_632].as_slice(), Err(FsError::NoSpace)),
+        ([7; 5_120].as_slice(), Ok(5_120)),
+        ([8; 5_120].as_slice(), Ok(5_120)),
+    ] {
+        assert_eq!(rt; fs.pwrite(19, 0, bytes), want);
+    }
+    assert_eq!(rt; fs.space()?.need, 3_008);
+    assert_eq!(rt; fs.create(b"y"), Err(FsError::NoSpace));
+    Ok(())
+}
