@@ -49,7 +49,7 @@ address_of_block : (c : Content) (a : ℕ) → 0 < length (block c a) → 0 < a
 address_of_block c zero lt = absurd (omega arith)
 address_of_block c (suc a) lt = omega arith
 
-address_of_word : (c : Content) (a i : ℕ) → 0 < word (block c a) i → 0 < a
+pub address_of_word : (c : Content) (a i : ℕ) → 0 < word (block c a) i → 0 < a
 address_of_word c a i lt = address_of_block c a (nonempty_word (block c a) i lt)
 
 -- what an inode may have, as bytes: 16,624 blocks

@@ -19,7 +19,7 @@ one_more : (x y : Bool) → (x ≡ true → y ≡ true) → (if x then 1 else 0)
 one_more true y h = rw (h refl) (omega arith)
 one_more false y h = omega arith
 
-counts_more : {X : Type 0} (p q : X → Bool) → ((x : X) → p x ≡ true → q x ≡ true) → (xs : List X) → count_by p xs ≤ count_by q xs
+pub counts_more : {X : Type 0} (p q : X → Bool) → ((x : X) → p x ≡ true → q x ≡ true) → (xs : List X) → count_by p xs ≤ count_by q xs
 counts_more p q h [] = omega arith
 counts_more {X} p q h (x ∷ xs) = omega (arith, sum_by-cons (λ (x : X). cond (p x) 1 0) x xs, sum_by-cons (λ (x : X). cond (q x) 1 0) x xs, one_more (p x) (q x) (h x), counts_more p q h xs)
 

@@ -18,17 +18,17 @@ use Rattle.lfs_model.proofs.Growing.{gives}
 use Rattle.lfs_model.proofs.Shrinking.{named_counts}
 
 module _ (N : ℕ) (s : State) (sound : Sound N s) where
-  abbrev t : Tree
+  abbrev pub t : Tree
   t = s.tree
 
   -- the numbers that stay
-  abbrev stays : ℕ → Bool
+  abbrev pub stays : ℕ → Bool
   stays n = n == 1 || not (names t n == 0)
 
-  abbrev t' : Tree
+  abbrev pub t' : Tree
   t' = filter (λ e. stays e.0) t
 
-  now : (q : ℕ) → node t' q ≡ cond (stays q) (node t q) None
+  pub now : (q : ℕ) → node t' q ≡ cond (stays q) (node t q) None
   now q = find-where_key nat_cmp stays q (λ x e. ap stays (sym (ranked q x Equal (sym e)))) t
 
   kept : (q : ℕ) → stays q ≡ true → node t' q ≡ node t q
@@ -70,7 +70,7 @@ module _ (N : ℕ) (s : State) (sound : Sound N s) where
   entries : (q : ℕ) (x : List ℕ) → entry t' q x ≡ entry t q x
   entries q x = ap (find byte_cmp x) (unseen names_at (λ b. refl) q)
 
-  same_names : (q : ℕ) → names t' q ≡ names t q
+  pub same_names : (q : ℕ) → names t' q ≡ names t q
   same_names q = total_filter nat_cmp_total (gives q) stays t sound.in_order (λ k x is h. elim (goes_file k h) as (λ _. gives q x ≡ 0) [
     | inl none ↦ let a = is in cc
     | inr file ↦ let same : x ≡ File file.0 = some_is (sym is ∙ file.1) in ap (gives q) same
@@ -82,13 +82,13 @@ module _ (N : ℕ) (s : State) (sound : Sound N s) where
   subdirs : (ms : Names) → count_by (λ x. is_dir (node t' x.1)) ms ≡ count_by (λ x. is_dir (node t x.1)) ms
   subdirs ms = let f : (λ (q : ℕ). is_dir (node t' q)) ≡ (λ (q : ℕ). is_dir (node t q)) = fun_ext dirs in ap (λ (f : ℕ → Bool). count_by (λ (x : List ℕ × ℕ). f x.1) ms) f
 
-  there : (q : ℕ) → node t' q ≢ None → stays q ≡ true
+  pub there : (q : ℕ) → node t' q ≢ None → stays q ≡ true
   there q some = either q (λ h. h) (λ h. absurd (some (gone q h)))
 
   was_there : (q : ℕ) → node t' q ≢ None → node t q ≢ None
   was_there q some none = some (kept q (there q some) ∙ none)
 
-  same_links : (q : ℕ) → stays q ≡ true → links t' q ≡ links t q
+  pub same_links : (q : ℕ) → stays q ≡ true → links t' q ≡ links t q
   same_links q h = ap (links_at t' q) (kept q h) ∙ by (node t q)
     where
       by : (o : Option Node) → links_at t' q o ≡ links_at t q o

@@ -29,7 +29,7 @@ use Rattle.lfs_model.proofs.Closes.{shut_sound}
 use Rattle.lfs_model.proofs.Writes.{written_sound}
 
 -- a refused call leaves the state
-checked_sound : (N : ℕ) (s : State) (cs : List (Bool × Answer)) (r : Answer × State) → Sound N s → (NonePass cs → Sound N r.1) → Sound N (checked s cs r).1
+pub checked_sound : (N : ℕ) (s : State) (cs : List (Bool × Answer)) (r : Answer × State) → Sound N s → (NonePass cs → Sound N r.1) → Sound N (checked s cs r).1
 checked_sound N s cs r sound done = elim (checked_cases s cs r) as (λ _. Sound N (checked s cs r).1) [
   | inl same ↦ subst (Sound N) (sym same) sound
   | inr ok ↦ subst (Sound N) (sym ok.1) (done ok.0)

@@ -42,7 +42,7 @@ dir_at (Some (File b)) e = cc
 dir_at (Some (Dir form m)) e = refl
 dir_at (Some (Link text)) e = cc
 
-not_some : {A : Type 0} (o : Option A) → is_some o ≡ false → o ≡ None
+pub not_some : {A : Type 0} (o : Option A) → is_some o ≡ false → o ≡ None
 not_some None e = refl
 not_some (Some x) e = cc
 

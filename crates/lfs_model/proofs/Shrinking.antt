@@ -33,15 +33,15 @@ named_counts t q x k e = by (node t q) refl e
         omega (arith, inner, outer, is)
 
 module _ (t : Tree) (d n form : ℕ) (m : Names) (nm : List ℕ)
-    (in_order : T (is_sorted nat_cmp t)) (is : node t d ≡ Some (Dir form m)) (dir_order : T (is_sorted byte_cmp m)) (found : find byte_cmp nm m ≡ Some n) (plain : is_dir (node t n) ≡ false) where
+    (in_order : T (is_sorted nat_cmp t)) (is : node t d ≡ Some (Dir form m)) (dir_order : T (is_sorted byte_cmp m)) (found : find byte_cmp nm m ≡ Some n) where
   abbrev pub shrunk : Node
   shrunk = Dir form (without byte_cmp nm m)
 
   abbrev pub after : Tree
   after = with_node t d shrunk
 
-  pub other : n ≢ d
-  other e = let a : is_dir (node t n) ≡ true = subst (λ x. is_dir (node t x) ≡ true) (sym e) (ap is_dir is) in let b = plain in cc
+  pub other : is_dir (node t n) ≡ false → n ≢ d
+  other plain e = let a : is_dir (node t n) ≡ true = subst (λ x. is_dir (node t x) ≡ true) (sym e) (ap is_dir is) in let b = plain in cc
 
   pub after_order : T (is_sorted nat_cmp after)
   after_order = is_sorted-put nat_cmp nat_cmp_total d shrunk t in_order
@@ -138,10 +138,19 @@ module _ (t : Tree) (d n form : ℕ) (m : Names) (nm : List ℕ)
       by (Some (Link text)) = names_less q
       by (Some (Dir f ms)) = let e = subdirs_same ms in omega (arith, e)
 
+  -- a directory less
+  pub links_lost : is_dir (node t n) ≡ true → links after d + 1 ≡ links t d
+  links_lost dir =
+      let fewer = counted (λ q. is_dir (node t q)) in
+      let one : ◌≡◌ {A = ℕ} (if is_dir (node t n) then 1 else 0) 1 = ap (λ (b : Bool). if b then 1 else 0) dir in
+      let now : links after d ≡ 2 + count_by (λ x. is_dir (node t x.1)) (without byte_cmp nm m) = ap (links_at after d) at_dir ∙ ap (λ c. 2 + c) (subdirs_same (without byte_cmp nm m)) in
+      let was : links t d ≡ 2 + count_by (λ x. is_dir (node t x.1)) m = ap (links_at t d) is in
+      omega (arith, fewer, one, now, was)
+
   -- a directory that was reached still is
-  pub reached_kept : {q : ℕ} → Reached t q → is_dir (node t q) ≡ true → Reached after q
-  reached_kept root dir = root
-  reached_kept (below {d = e} {n = k} x r at) dir = below x (reached_kept r (holder e x k at)) (entry_kept e x k (λ same. let no : is_dir (node t k) ≡ false = subst (λ y. is_dir (node t y) ≡ false) (sym same) plain in cc) at)
+  pub reached_kept : is_dir (node t n) ≡ false → {q : ℕ} → Reached t q → is_dir (node t q) ≡ true → Reached after q
+  reached_kept plain root dir = root
+  reached_kept plain (below {d = e} {n = k} x r at) dir = below x (reached_kept plain r (holder e x k at)) (entry_kept e x k (λ same. let no : is_dir (node t k) ≡ false = subst (λ y. is_dir (node t y) ≡ false) (sym same) plain in cc) at)
     where
       holder : (e : ℕ) (x : List ℕ) (k : ℕ) → entry t e x ≡ Some k → is_dir (node t e) ≡ true
       holder e x k at = by (node t e) at

@@ -78,6 +78,15 @@ module _ {K X : Type 0} {R : K → K → Ordering} (o : IsTotalOrder R) (g : X �
       let rest : total es ≡ 0 = total_zero es (T_right (below_all R e.0 es) (is_sorted R es) h) (λ k x is. zeros k x (find_after k e es x h is)) in
       omega (arith, total_cons e es, first, rest)
 
+  -- two weights that agree on what is found have one sum
+  pub total_same : (h : X → ℕ) (es : List (K × X)) → T (is_sorted R es) → ((k : K) (x : X) → find R k es ≡ Some x → g x ≡ h x) → total es ≡ sum_by (λ e. h e.1) es
+  total_same h [] order same = refl
+  total_same h (e ∷ es) order same =
+      let first : g e.1 ≡ h e.1 = same e.0 e.1 (find_first e es) in
+      let rest = total_same h es (T_right (below_all R e.0 es) (is_sorted R es) order) (λ k x is. same k x (find_after k e es x order is)) in
+      let other = sum_by-cons (λ (e : K × X). h e.1) e es in
+      omega (arith, total_cons e es, first, rest, other)
+
   -- the first entry that passes a test is found at its key
   pub first_found : (p : K × X → Bool) (es : List (K × X)) (e : K × X) → T (is_sorted R es) → first_that p es ≡ Some e → (p e ≡ true) × (find R e.0 es ≡ Some e.1)
   first_found p [] e h is = cc

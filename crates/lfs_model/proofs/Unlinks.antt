@@ -1,20 +1,22 @@
--- A name of a file or a link taken out of a directory.
-use Rattle.std.proofs.Common.{◌≡◌, ◌≢◌, sym, ap, subst, ◌∙◌, ℕ, suc, ◌≤◌, Bool, true, false, List, [], ◌∷◌, Some, None, arith, cond, length}
-use Rattle.std.specs.Prelude.{T, unwrap_or, not, filter}
+-- A name taken out of a directory.
+use Rattle.std.proofs.Common.{◌≡◌, ◌≢◌, refl, sym, ap, subst, ◌∙◌, ℕ, suc, ◌≤◌, Bool, true, false, List, [], ◌∷◌, Some, None, arith, cond, length, inl, inr, ◌⊎◌, eqb}
+use Rattle.std.proofs.lemmas.Bool.Decides.{nat_tests}
+use Rattle.std.specs.Prelude.{T, unwrap_or, not, filter, if◌then◌else◌, ◌==◌}
 use Rattle.std.specs.List.{AllByRecursion}
 use Rattle.std.specs.Ordering.{nat_cmp, eq_by_cmp}
 use Rattle.std.specs.FinMap.{find, is_sorted}
 use Rattle.std.specs.FinMap.Entries.{is_sorted-where_key}
 use Rattle.lfs_model.specs.Tree.{Tree, Names, Node, File, Dir, State, node, with_node, without, names_of, form_of, without_name, is_dir, name_len, entry, byte_cmp, names}
 use Rattle.lfs_model.specs.Need.{cost, cost_at, need}
-use Rattle.lfs_model.specs.Sound.{Sound, IsGoodName, IsWithinLimits, IsOfVersion, IsFile}
+use Rattle.lfs_model.specs.Sound.{Sound, Reached, root, below, IsGoodName, IsWithinLimits, IsOfVersion, IsFile}
 use Rattle.lfs_model.specs.Step.{with_tree}
 use Rattle.lfs_model.proofs.Walks.{Some-injective}
 use Rattle.lfs_model.proofs.Needs.{need-with_node}
 use Rattle.lfs_model.proofs.DirCosts.{dir_cost}
 use Rattle.lfs_model.proofs.Growing.{same_or_not}
 use Rattle.lfs_model.proofs.Dropping.{SoundBut}
-use Rattle.lfs_model.proofs.Shrinking.{other, after_order, at_dir, at_other, dirs, names_kept, entry_after, links_less, reached_kept}
+use Rattle.lfs_model.proofs.Detached.{IsDetached, Under, itself, inside, holder}
+use Rattle.lfs_model.proofs.Shrinking.{after_order, at_dir, at_other, dirs, names_after, names_kept, named_counts, entry_after, entry_kept, links_less, reached_kept}
 
 pub all_filter : {K X : Type 0} (P : K → Type 0) (p : K × X → Bool) (es : List (K × X)) → AllByRecursion (λ e. P e.0) es → AllByRecursion (λ e. P e.0) (filter p es)
 all_filter P p [] h = tt
@@ -34,7 +36,7 @@ name_less t d form m nm order is =
     subst (λ (u : Tree). need u ≤ need t) (sym same) small
 
 module _ (N : ℕ) (s : State) (sound : Sound N s) (d n form : ℕ) (m : Names) (nm : List ℕ)
-    (is : node s.tree d ≡ Some (Dir form m)) (found : find byte_cmp nm m ≡ Some n) (plain : is_dir (node s.tree n) ≡ false) where
+    (is : node s.tree d ≡ Some (Dir form m)) (found : find byte_cmp nm m ≡ Some n) where
   abbrev pub t : Tree
   t = s.tree
 
@@ -44,24 +46,21 @@ module _ (N : ℕ) (s : State) (sound : Sound N s) (d n form : ℕ) (m : Names) 
   limits_dir : IsWithinLimits (Dir form m)
   limits_dir = sound.limits d (Dir form m) is
 
-  kept : (q : ℕ) → q ≢ d → node t1 q ≡ node t q
-  kept = at_other t d n form m nm sound.in_order is limits_dir.0 found plain
+  pub kept : (q : ℕ) → q ≢ d → node t1 q ≡ node t q
+  kept = at_other t d n form m nm sound.in_order is limits_dir.0 found
 
-  dir_now : node t1 d ≡ Some (Dir form (without byte_cmp nm m))
-  dir_now = at_dir t d n form m nm sound.in_order is limits_dir.0 found plain
+  pub dir_now : node t1 d ≡ Some (Dir form (without byte_cmp nm m))
+  dir_now = at_dir t d n form m nm sound.in_order is limits_dir.0 found
 
-  dirs_same : (q : ℕ) → is_dir (node t1 q) ≡ is_dir (node t q)
-  dirs_same = dirs t d n form m nm sound.in_order is limits_dir.0 found plain
+  pub dirs_same : (q : ℕ) → is_dir (node t1 q) ≡ is_dir (node t q)
+  dirs_same = dirs t d n form m nm sound.in_order is limits_dir.0 found
 
-  apart : n ≢ d
-  apart = other t d n form m nm sound.in_order is limits_dir.0 found plain
-
-  there : (q : ℕ) → node t1 q ≢ None → node t q ≢ None
+  pub there : (q : ℕ) → node t1 q ≢ None → node t q ≢ None
   there q some none = same_or_not q d
       (λ e. let at : node t d ≡ None = subst (λ x. node t x ≡ None) e none in let b = is in cc)
       (λ b. some (kept q b ∙ none))
 
-  here : (q : ℕ) → node t q ≢ None → node t1 q ≢ None
+  pub here : (q : ℕ) → node t q ≢ None → node t1 q ≢ None
   here q some none = same_or_not q d
       (λ e. let at : node t1 d ≡ None = subst (λ x. node t1 x ≡ None) e none in let b = dir_now in cc)
       (λ b. some (sym (kept q b) ∙ none))
@@ -83,16 +82,16 @@ module _ (N : ℕ) (s : State) (sound : Sound N s) (d n form : ℕ) (m : Names) 
       (λ e. subst P (Some-injective _ _ (sym dir_now ∙ subst (λ y. node t1 y ≡ Some x) e h)) dir)
       (λ b. was q x (sym (kept q b) ∙ h))
 
-  was_entry : (q : ℕ) (x : List ℕ) (k : ℕ) → entry t1 q x ≡ Some k → entry t q x ≡ Some k
-  was_entry = entry_after t d n form m nm sound.in_order is limits_dir.0 found plain
+  pub was_entry : (q : ℕ) (x : List ℕ) (k : ℕ) → entry t1 q x ≡ Some k → entry t q x ≡ Some k
+  was_entry = entry_after t d n form m nm sound.in_order is limits_dir.0 found
 
   same_names : (q : ℕ) → q ≢ n → names t1 q ≡ names t q
-  same_names = names_kept t d n form m nm sound.in_order is limits_dir.0 found plain
+  same_names = names_kept t d n form m nm sound.in_order is limits_dir.0 found
 
-  dir_not_n : (q : ℕ) → is_dir (node t q) ≡ true → q ≢ n
-  dir_not_n q dir e = let no : is_dir (node t q) ≡ false = subst (λ x. is_dir (node t x) ≡ false) (sym e) plain in cc
+  dir_not_n : is_dir (node t n) ≡ false → (q : ℕ) → is_dir (node t q) ≡ true → q ≢ n
+  dir_not_n plain q dir e = let no : is_dir (node t q) ≡ false = subst (λ x. is_dir (node t x) ≡ false) (sym e) plain in cc
 
-  less_need : need t1 ≤ need t
+  pub less_need : need t1 ≤ need t
   less_need =
       let change = need-with_node t d (Dir form (without byte_cmp nm m)) sound.in_order in
       let was : cost_at (node t d) ≡ cost (Dir form m) = ap cost_at is in
@@ -100,24 +99,71 @@ module _ (N : ℕ) (s : State) (sound : Sound N s) (d n form : ℕ) (m : Names) 
       omega (arith, change, was, less)
 
   -- the node that the name gave may have lost its last name
-  pub lost_sound : SoundBut N (with_tree s t1) n
-  lost_sound = record {
-    in_order = after_order t d n form m nm sound.in_order is limits_dir.0 found plain;
+  pub lost_sound : is_dir (node t n) ≡ false → SoundBut N (with_tree s t1) n
+  lost_sound plain = record {
+    in_order = after_order t d n form m nm sound.in_order is limits_dir.0 found;
     handles_in_order = sound.handles_in_order;
     version = sound.version;
     forms = each_kept (IsOfVersion s.version) sound.forms (sound.forms d (Dir form m) is);
     root = dirs_same 1 ∙ sound.root;
     numbers = λ q some. sound.numbers q (there q some);
     limits = each_kept IsWithinLimits sound.limits shrunk_limits;
-    few_links = λ q some. (let less = links_less t d n form m nm sound.in_order is limits_dir.0 found plain q in let few = sound.few_links q (there q some) in omega arith);
+    few_links = λ q some. (let less = links_less t d n form m nm sound.in_order is limits_dir.0 found q in let few = sound.few_links q (there q some) in omega arith);
     named = λ q x k e. here k (sound.named q x k (was_entry q x k e));
-    root_unnamed = same_names 1 (dir_not_n 1 sound.root) ∙ sound.root_unnamed;
-    one_name = λ q ne dir. (let was = sym (dirs_same q) ∙ dir in same_names q (dir_not_n q was) ∙ sound.one_name q ne was);
+    root_unnamed = same_names 1 (dir_not_n plain 1 sound.root) ∙ sound.root_unnamed;
+    one_name = λ q ne dir. (let was = sym (dirs_same q) ∙ dir in same_names q (dir_not_n plain q was) ∙ sound.one_name q ne was);
     reached = λ q dir. (let was = sym (dirs_same q) ∙ dir in reached_kept t d n form m nm sound.in_order is limits_dir.0 found plain (sound.reached q was) was);
     held = λ q a ne some none. (let was = sound.held q ne (there q some) (sym (same_names q a) ∙ none) in record { file = file_kept q was.file; handle = was.handle });
     handles = λ h q e. ((sound.handles h q e).0, file_kept q (sound.handles h q e).1);
     room = let less = less_need in let fits = sound.room in omega arith;
   }
 
-  pub still_plain : is_dir (node t1 n) ≡ false
-  still_plain = dirs_same n ∙ plain
+  pub still_plain : is_dir (node t n) ≡ false → is_dir (node t1 n) ≡ false
+  still_plain plain = dirs_same n ∙ plain
+
+  -- ---- a directory's name
+
+  module _ (dir : is_dir (node t n) ≡ true) where
+    counts : 1 ≤ names t n
+    counts = named_counts t d nm n (ap (λ o. find byte_cmp nm (names_of (unwrap_or o (File [])))) is ∙ found)
+
+    inner : n ≢ 1
+    inner e = let z : names t n ≡ 0 = subst (λ x. names t x ≡ 0) (sym e) sound.root_unnamed in absurd (let c = counts in omega arith)
+
+    no_name : names t1 n ≡ 0
+    no_name =
+        let one = sound.one_name n inner dir in
+        let less = names_after t d n form m nm sound.in_order is limits_dir.0 found n in
+        let itself_is : eqb n n ≡ true = grind (arith, nat_tests) in
+        let step : ◌≡◌ {A = ℕ} (if n == n then 1 else 0) 1 = rw itself_is refl in
+        omega (arith, one, less, step)
+
+    parted : {q : ℕ} → Reached t q → is_dir (node t q) ≡ true → Reached t1 q ⊎ Under t1 n q
+    parted root h = inl root
+    parted (below {d = e} {n = k} x r at) h = same_or_not k n
+        (λ same. inr (subst (λ y. Under t1 n y) (sym same) itself))
+        (λ ne. elim (parted r (holder (node t e) x k at)) as (λ _. Reached t1 k ⊎ Under t1 n k) [
+          | inl r ↦ inl (below x r (entry_kept t d n form m nm sound.in_order is limits_dir.0 found e x k ne at))
+          | inr u ↦ inr (inside x u (entry_kept t d n form m nm sound.in_order is limits_dir.0 found e x k ne at))
+        ])
+
+    pub detached : IsDetached N (with_tree s t1) n
+    detached = record {
+      in_order = after_order t d n form m nm sound.in_order is limits_dir.0 found;
+      handles_in_order = sound.handles_in_order;
+      version = sound.version;
+      forms = each_kept (IsOfVersion s.version) sound.forms (sound.forms d (Dir form m) is);
+      root = dirs_same 1 ∙ sound.root;
+      numbers = λ q some. sound.numbers q (there q some);
+      limits = each_kept IsWithinLimits sound.limits shrunk_limits;
+      few_links = λ q some. (let less = links_less t d n form m nm sound.in_order is limits_dir.0 found q in let few = sound.few_links q (there q some) in omega arith);
+      named = λ q x k e. here k (sound.named q x k (was_entry q x k e));
+      root_unnamed = same_names 1 (λ e. inner (sym e)) ∙ sound.root_unnamed;
+      dir = dirs_same n ∙ dir;
+      not_root = inner;
+      unnamed = no_name;
+      one_name = λ q ne a is_one. same_names q ne ∙ sound.one_name q a (sym (dirs_same q) ∙ is_one);
+      reached = λ q is_one. (let was = sym (dirs_same q) ∙ is_one in parted (sound.reached q was) was);
+      held = λ q a ne some none. (let was = sound.held q ne (there q some) (sym (same_names q a) ∙ none) in record { file = file_kept q was.file; handle = was.handle });
+      handles = λ h q e. ((sound.handles h q e).0, file_kept q (sound.handles h q e).1);
+    }

@@ -11,7 +11,7 @@ use Rattle.lfs_model.specs.Stands.{Fresh, Reached, Usages, age_in, live_in, used
 use Rattle.lfs_model.proofs.Encodes.{word_nil}
 use Rattle.lfs_model.proofs.Words.{IsUsageBlock}
 
-half_nil : (k : ℕ) → half [] k ≡ 0
+pub half_nil : (k : ℕ) → half [] k ≡ 0
 unfolding half read16 part
 half_nil k = ap (λ (b : List ℕ). number_of (take 2 b)) (drop_all (2 * k) [] (omega arith))
 

@@ -11,7 +11,7 @@ use Rattle.lfs_model.specs.Crash.{IsReady, Keeps}
 use Rattle.lfs_model.specs.Damage.{IsDamaged}
 use Rattle.lfs_model.specs.Device.{MayWrite, left_old, left_new, left_bad, lose, put}
 use Rattle.lfs_model.specs.Entry.{Header}
-use Rattle.lfs_model.specs.Image.{empty_directory, empty_root, image}
+use Rattle.lfs_model.specs.Image.{empty_directory, empty_root, first_checkpoint}
 use Rattle.lfs_model.specs.Reach.{view}
 use Rattle.lfs_model.specs.Need.{need, data_of, meta_of}
 use Rattle.lfs_model.specs.Slot.{slot_in}
@@ -237,12 +237,13 @@ empty_tree N some = record {
 }
 
 pub new_volume : NewVolume
-new_volume = record {
-  checkpoint = formatted.checkpoint;
-  log = empty_root;
-  found = formatted.newest;
-  stands = formatted.stands;
-  tree = record { is = sym root_alone; tree = empty_tree formatted.checkpoint.segments (least_segments image formatted.checkpoint formatted.newest) };
-  version = refl;
-  closed = refl;
-}
+new_volume N c new =
+    let both = formatted N c new in record {
+      checkpoint = first_checkpoint N;
+      log = empty_root;
+      found = both.0;
+      stands = both.1;
+      tree = record { is = sym root_alone; tree = empty_tree N new.count.least };
+      version = refl;
+      closed = refl;
+    }

@@ -1,15 +1,86 @@
--- A volume of 64 segments as it is made: an empty root. The layout is this project's own.
-use Rattle.std.specs.Prelude.{◌==◌, ℕ, cond, List, [], ◌∷◌, ◌++◌, replicate, Some, None}
+-- A new volume: an empty root. The layout is this project's own.
+use Rattle.std.specs.Prelude.{◌≡◌, ◌<◌, ◌≤◌, ◌+◌, ◌-◌, ◌*◌, ◌/◌, ◌==◌, nat_lt, ℕ, zero, suc, cond, List, [], ◌∷◌, ◌++◌, map, length, replicate, Some, None}
+use Rattle.std.specs.List.{range_with_len}
 use Rattle.lfs_model.specs.declared.Kind.TheVariants.{Directory}
-use Rattle.lfs_model.specs.Checkpoint.{CheckpointValue}
-use Rattle.lfs_model.specs.Content.{Content}
+use Rattle.lfs_model.specs.declared.BlockKind.TheVariants as kind
+use Rattle.lfs_model.specs.Checkpoint.{CheckpointValue, IsSegmentCount, checkpoint_sector}
+use Rattle.lfs_model.specs.Content.{Content, newest}
+use Rattle.lfs_model.specs.Device.{cell_at}
 use Rattle.lfs_model.specs.Entry.{Header}
-use Rattle.lfs_model.specs.Stands.{LogMap, StandsLog}
+use Rattle.lfs_model.specs.Inode.{InodeValue, inode_sector}
+use Rattle.lfs_model.specs.Pointers.{pointer_sector}
+use Rattle.lfs_model.specs.Stands.{LogMap, StandsAt}
+use Rattle.lfs_model.specs.Summary.{BlockNameValue, summary_sector}
+use Rattle.lfs_model.specs.Usage.{SegmentUse, no_use, usage_sector}
 
 -- bytes that are 0
 abbrev pub blank : ℕ → List ℕ
 blank n = replicate n 0
 
+-- ---- what stands in a new volume of N segments
+
+-- a usage block has 64 segments
+abbrev pub usage_blocks : ℕ → ℕ
+usage_blocks N = (N + 63) / 64
+
+-- inode map block 0 stands at sector 4, the usage blocks from sector 5 on
+abbrev pub first_usage_address : ℕ → ℕ → ℕ
+first_usage_address N j = cond (nat_lt j (usage_blocks N)) (5 + j) 0
+
+abbrev pub first_checkpoint : ℕ → CheckpointValue
+first_checkpoint N = record { number = 1; segments = N; map = 4 ∷ blank 31; usage = map (first_usage_address N) (range_with_len 0 16) }
+
+-- what the blocks of the first chunk are, one after the other: the root's inode, the inode map block, the usage blocks
+abbrev pub first_name : ℕ → BlockNameValue
+first_name zero = record { file = 1; kind = kind.Inode; index = 0 }
+first_name (suc zero) = record { file = 0; kind = kind.Map; index = 0 }
+first_name (suc (suc j)) = record { file = 0; kind = kind.Usage; index = j }
+
+abbrev pub first_names : ℕ → List BlockNameValue
+first_names N = map first_name (range_with_len 0 (2 + usage_blocks N))
+
+-- the root, without entries
+abbrev pub root_inode : InodeValue
+root_inode = record { kind = Directory; number = 1; links = 2; size = 0; direct = blank 112; single = 0; double = 0 }
+
+-- number 1 has its inode at sector 3
+abbrev pub first_pointers : List ℕ
+first_pointers = 0 ∷ 3 ∷ blank 126
+
+-- usage block j: the first chunk alone is in use, its summary and its blocks
+abbrev pub first_uses : ℕ → ℕ → List SegmentUse
+first_uses N zero = record { used = 3 + usage_blocks N; live = 2 + usage_blocks N; age = 1 } ∷ replicate 63 no_use
+first_uses N (suc j) = replicate 64 no_use
+
+-- A content on which a new volume of N segments stands. Of the other sectors it says nothing.
+pub record IsNew (N : ℕ) (c : Content) : Type 0 where
+  pub count : IsSegmentCount N
+  pub size : 2 + 64 * N ≤ length c
+  pub empty_slot : cell_at c 0 ≡ Some (blank 512)
+  pub checkpoint : cell_at c 1 ≡ Some (checkpoint_sector (first_checkpoint N))
+  pub summary : cell_at c 2 ≡ Some (summary_sector (first_names N))
+  pub inode : cell_at c 3 ≡ Some (inode_sector root_inode)
+  pub pointers : cell_at c 4 ≡ Some (pointer_sector first_pointers)
+  pub uses : (j : ℕ) → j < usage_blocks N → cell_at c (5 + j) ≡ Some (usage_sector (first_uses N j))
+
+abbrev pub empty_directory : Header
+empty_directory = record { kind = Directory; form = 0; links = 2; size = 0 }
+
+abbrev pub empty_root : LogMap
+empty_root = record { header = λ n. cond (n == 1) (Some empty_directory) None; block = λ n i. [] }
+
+-- It stands for a directory without names.
+abbrev pub Formatted : Type 0
+Formatted = (N : ℕ) (c : Content) → IsNew N c → (newest c ≡ Some (first_checkpoint N)) × StandsAt c (first_checkpoint N) empty_root
+
+-- ---- such contents, of zeros but for these sectors
+
+abbrev pub new_image : ℕ → Content
+new_image N =
+    Some (blank 512) ∷ Some (checkpoint_sector (first_checkpoint N)) ∷ Some (summary_sector (first_names N)) ∷ Some (inode_sector root_inode) ∷ Some (pointer_sector first_pointers)
+    ∷ map (λ j. Some (usage_sector (first_uses N j))) (range_with_len 0 (usage_blocks N)) ++ replicate (64 * N - 3 - usage_blocks N) (Some (blank 512))
+
+-- of 64 segments, byte by byte
 abbrev pub checkpoint_bytes : List ℕ
 checkpoint_bytes = 83 ∷ 76 ∷ 70 ∷ 83 ∷ 67 ∷ 75 ∷ 80 ∷ 49 ∷ 1 ∷ 0 ∷ 0 ∷ 0 ∷ 0 ∷ 0 ∷ 0 ∷ 0 ∷ 64 ∷ 0 ∷ 0 ∷ 0 ∷ 1 ∷ blank 11 ++ 4 ∷ blank 127 ++ 5 ∷ blank 351
 
@@ -29,15 +100,6 @@ usage_bytes = 4 ∷ 0 ∷ 3 ∷ 0 ∷ 1 ∷ 0 ∷ 0 ∷ 0 ∷ blank 504
 abbrev pub image : Content
 image = Some (blank 512) ∷ Some checkpoint_bytes ∷ Some summary_bytes ∷ Some inode_bytes ∷ Some map_bytes ∷ Some usage_bytes ∷ replicate 4092 (Some (blank 512))
 
-abbrev pub first_checkpoint : CheckpointValue
-first_checkpoint = record { number = 1; segments = 64; map = 4 ∷ blank 31; usage = 5 ∷ blank 15 }
-
-abbrev pub empty_directory : Header
-empty_directory = record { kind = Directory; form = 0; links = 2; size = 0 }
-
-abbrev pub empty_root : LogMap
-empty_root = record { header = λ n. cond (n == 1) (Some empty_directory) None; block = λ n i. [] }
-
--- It stands for a directory without names.
-abbrev pub Formatted : Type 0
-Formatted = StandsLog image empty_root
+-- There is such a content for each count of segments, and for 64 it is this one.
+abbrev pub NewImages : Type 0
+NewImages = ((N : ℕ) → IsSegmentCount N → IsNew N (new_image N)) × IsNew 64 image

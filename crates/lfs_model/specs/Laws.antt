@@ -1,5 +1,6 @@
 -- The laws of the model that the crates above rest on. They follow from the definitions; no function runs for them.
-use Rattle.std.specs.Prelude.{ℕ, ◌+◌, ◌<◌, ◌≤◌, ◌≡◌, ◌≢◌, Bool, true, List, ◌∷◌, Some, None}
+use Rattle.std.specs.Prelude.{ℕ, ◌+◌, ◌<◌, ◌≤◌, ◌≡◌, ◌≢◌, All, Bool, true, List, [], ◌∷◌, ◌++◌, length, Some, None}
+use Rattle.std.specs.List.{AllByRecursion}
 use Rattle.std.specs.Ordering.{nat_cmp}
 use Rattle.std.specs.FinMap.{find}
 use Rattle.lfs_model.specs.Bytes.{cut}
@@ -7,10 +8,11 @@ use Rattle.lfs_model.specs.Tree.{State, File, Dir, Node, Names, node, with_node,
 use Rattle.lfs_model.specs.Walk.{Walk, End}
 use Rattle.lfs_model.specs.Need.{cost, cost_at, need}
 use Rattle.lfs_model.specs.Sound.{Sound}
-use Rattle.lfs_model.specs.Call.{Call, LinkTo, Open, Create, Close, Pwrite, Truncate, Symlink, Unlink, Answer, AreArguments, reads}
+use Rattle.lfs_model.specs.Call.{Call, Answer, AreArguments, reads}
 use Rattle.lfs_model.specs.Step.{Step, Steps}
 use Rattle.lfs_model.specs.Plain.{run_to, fresh}
-use Rattle.lfs_model.specs.Run.{Point, Run, final, IsPending}
+use Rattle.lfs_model.specs.Script.{InRange, Line, Spells, lines}
+use Rattle.lfs_model.specs.Run.{Point, LineRun, Run, final, IsPending}
 
 -- in a sound state a walk has exactly one end
 abbrev pub OneEnd : Type 0
@@ -33,13 +35,28 @@ ProgramSteps = (N : ℕ) (s : State) (calls : List Call) (r : List Answer × Sta
 abbrev pub NewIsSound : Type 0
 NewIsSound = (N : ℕ) → 64 ≤ N → Sound N fresh
 
--- such a call keeps a state sound
+-- the call keeps a state sound, whatever it answers
 abbrev pub Keeps : Call → Type 0
 Keeps call = (N : ℕ) (s s' : State) (a : Answer) → Sound N s → AreArguments call → Step N s call a s' → Sound N s'
 
--- the calls that are known to
+-- every call does
 abbrev pub CallsKeep : Type 0
-CallsKeep = (p q : List ℕ) (h off : ℕ) → Keeps (Create p) × Keeps (Symlink p q) × Keeps (LinkTo p q) × Keeps (Unlink p) × Keeps (Open p) × Keeps (Close h) × Keeps (Pwrite h off p) × Keeps (Truncate h off)
+CallsKeep = (call : Call) → Keeps call
+
+-- so every state that a run of calls comes to is sound, refused calls included
+abbrev pub RunsKeep : Type 0
+RunsKeep = (N : ℕ) (p : Point) (calls : List Call) (answers : List Answer) (points : List Point) → Sound N p.state → AllByRecursion AreArguments calls → Run N p calls answers points
+    → AllByRecursion (λ q. Sound N q.state) points
+
+-- and every state that the lines of a script come to
+abbrev pub LineRunsKeep : Type 0
+LineRunsKeep = (N : ℕ) (p : Point) (asked : List Line) (answers : List Answer) (points : List Point) → Sound N p.state → AllByRecursion InRange asked → LineRun N p asked answers points
+    → AllByRecursion (λ q. Sound N q.state) points
+
+-- and what a mount finds after a stop in it is sound too
+abbrev pub PendingIsSound : Type 0
+PendingIsSound = (N : ℕ) (p : Point) (calls : List Call) (answers : List Answer) (points : List Point) (s : State) → Sound N p.state → AllByRecursion AreArguments calls → Run N p calls answers points
+    → IsPending (p ∷ points) calls answers s → Sound N (drop_nameless s)
 
 -- a call that only reads, or commits, or cleans, leaves the state
 abbrev pub ReadsLeave : Type 0
@@ -82,3 +99,11 @@ NeedOfRename = (N : ℕ) (s : State) → Sound N s → (d n form : ℕ) (m : Nam
 abbrev pub LastIsPending : Type 0
 LastIsPending = (N : ℕ) (p : Point) (calls : List Call) (answers : List Answer) (points : List Point) → Run N p calls answers points
     → IsPending (p ∷ points) calls answers (final p points).state
+
+-- a text spells at most one line
+abbrev pub OneLine : Type 0
+OneLine = (bytes : List ℕ) (a b : Line) → Spells bytes a → Spells bytes b → a ≡ b
+
+-- the lines of a script, one after the other: each up to its end, and the last one with an end or without
+abbrev pub LinesInTurn : Type 0
+LinesInTurn = (line : List ℕ) → All (λ c. c ≢ 10) line → ((rest : List ℕ) → lines (line ++ 10 ∷ rest) ≡ line ∷ lines rest) × (0 < length line → lines line ≡ line ∷ [])

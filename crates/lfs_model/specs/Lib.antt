@@ -32,3 +32,14 @@ pub mod Run
 pub mod Laws
 pub mod TreeOf
 pub mod Volume
+pub mod Memory
+pub mod Laid
+pub mod Placing
+pub mod Lifting
+pub mod Changing
+pub mod Finishing
+pub mod Counting
+pub mod Settled
+pub mod Running
+pub mod Committing
+pub mod Staging

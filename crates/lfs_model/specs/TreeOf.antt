@@ -1,12 +1,12 @@
 -- The tree of a log map, and what it is for a content to stand for it.
-use Rattle.std.specs.Prelude.{◌≡◌, ◌≢◌, ◌<◌, ◌≤◌, ◌+◌, ◌*◌, ◌/◌, ◌%◌, ◌==◌, nat_lt, ℕ, zero, suc, true, cond, List, [], ◌∷◌, length, map, take, drop, Option, Some, None, MatchBool, slice_index}
-use Rattle.std.specs.List.{AllByRecursion, range_with_len}
+use Rattle.std.specs.Prelude.{◌≡◌, ◌≢◌, ◌⊎◌, ◌<◌, ◌≤◌, ◌+◌, ◌*◌, ◌/◌, ◌%◌, ◌==◌, nat_lt, ℕ, zero, suc, true, cond, List, [], ◌∷◌, length, map, take, drop, Option, Some, None, MatchBool, slice_index}
+use Rattle.std.specs.List.{AllByRecursion, Contains, range_with_len}
 use Rattle.std.specs.FinMap.{put}
 use Rattle.lfs_model.specs.declared.Kind.{Kind}
 use Rattle.lfs_model.specs.declared.Kind.TheVariants as kind
 use Rattle.lfs_model.specs.Checkpoint.{CheckpointValue}
 use Rattle.lfs_model.specs.Content.{Content, newest}
-use Rattle.lfs_model.specs.Device.{DeviceState}
+use Rattle.lfs_model.specs.Device.{DeviceState, AllLeft, LeavesOnly}
 use Rattle.lfs_model.specs.Entry.{Header}
 use Rattle.lfs_model.specs.Need.{need}
 use Rattle.lfs_model.specs.Slot.{SlotValue, slot_in}
@@ -54,11 +54,14 @@ module _ (m : LogMap) where
   unfoldable pub tree_in : Tree
   tree_in = nodes_from 4095 1
 
+  -- each slot of a directory is well-formed, and no two have one name
+  abbrev pub AreFormed : Type 0
+  AreFormed = (n : ℕ) (h : Header) → m.header n ≡ Some h → h.kind ≡ kind.Directory
+      → AllByRecursion (λ b. slot_in b ≢ None) (slots n h) × (length (map_of (slots n h)) ≡ length (slots n h))
+
   -- the stages that speak of the tree, each by itself
   pub record AreSlots : Type 0 where
-    -- each slot is well-formed, and no two have one name
-    pub formed : (n : ℕ) (h : Header) → m.header n ≡ Some h → h.kind ≡ kind.Directory
-        → AllByRecursion (λ b. slot_in b ≢ None) (slots n h) × (length (map_of (slots n h)) ≡ length (slots n h))
+    pub formed : AreFormed
     pub there : NamesGive tree_in
 
   abbrev pub AreTexts : Type 0
@@ -114,6 +117,14 @@ pub record Left (d : DeviceState) (s : State) : Type 0 where
   pub content : Content
   pub may_leave : d.may_leave content
   pub stands : Stands content s
+
+-- it may leave no other
+abbrev pub LeavesOne : DeviceState → State → Type 0
+LeavesOne d s = AllLeft d (λ c. Stands c s)
+
+-- A stop at any moment since `old` leaves a content that stands for one of these states, or for one that a stop at `old` might leave.
+abbrev pub LeavesStates : DeviceState → DeviceState → List State → Type 0
+LeavesStates old new states = LeavesOnly old new (λ c. (s : State) × Stands c s × (Left old s ⊎ Contains states s))
 
 -- without files that have no link
 abbrev pub kept : {X : Type 0} → Option Header → X → X → X

@@ -5,13 +5,16 @@ use Rattle.lfs_model.specs.Checkpoint.{CheckpointValue}
 use Rattle.lfs_model.specs.Content.{Content, newest}
 use Rattle.lfs_model.specs.Crash.{IsReady, Keeps}
 use Rattle.lfs_model.specs.Damage.{IsDamaged, stage}
-use Rattle.lfs_model.specs.Device.{IsSector, MayWrite}
-use Rattle.lfs_model.specs.Image.{image}
+use Rattle.lfs_model.specs.Device.{AllLeft, DeviceState, IsSector, MayWrite}
+use Rattle.lfs_model.specs.Image.{IsNew}
+use Rattle.lfs_model.specs.Call.{Call, Answer}
 use Rattle.lfs_model.specs.Reach.{view}
+use Rattle.lfs_model.specs.Run.{Point, StandsForPending}
 use Rattle.lfs_model.specs.Sound.{Sound}
-use Rattle.lfs_model.specs.Stands.{LogMap, log_in}
-use Rattle.lfs_model.specs.Tree.{State, Tree, Dir}
-use Rattle.lfs_model.specs.TreeOf.{Stands, TreeOf, tree_in}
+use Rattle.lfs_model.specs.Encodes.{IsLogMap}
+use Rattle.lfs_model.specs.Stands.{LogMap, StandsAt, log_in}
+use Rattle.lfs_model.specs.Tree.{State, Tree, Dir, drop_nameless}
+use Rattle.lfs_model.specs.TreeOf.{AreFormed, AreLinks, Stands, TreeOf, dropped, tree_in}
 
 -- the state that a mount finds: a tree, and no handles
 abbrev pub mounted : Tree → State
@@ -52,10 +55,50 @@ FoundStands = (c : Content) (k : CheckpointValue) → newest c ≡ Some k → 2 
 abbrev pub NotRefused : Type 0
 NotRefused = (c : Content) (s : State) → Stands c s → ¬ (IsTooSmall c) × ¬ (IsWithoutCheckpoint c) × ((code : ℕ) → ¬ (IsDamagedBy c code))
 
--- A new volume of 64 segments has an empty root.
+-- A new volume has an empty root.
 abbrev pub NewVolume : Type 0
-NewVolume = Stands image (mounted ((1, Dir 0 []) ∷ []))
+NewVolume = (N : ℕ) (c : Content) → IsNew N c → Stands c (mounted ((1, Dir 0 []) ∷ []))
+
+-- The log map of a running volume of N segments in this state. A file without a name is in it, and its header has links 0.
+pub record IsLogOf (N : ℕ) (m : LogMap) (s : State) : Type 0 where
+  pub sound : Sound N s
+  pub is : s.tree ≡ tree_in m
+  pub formed : AreFormed m
+  pub links : AreLinks m
+
+-- A mount comes to such a one.
+abbrev pub MountedLog : Type 0
+MountedLog = (c : Content) → AllByRecursion IsSector c → (s : State) (is : Stands c s) → IsLogOf is.checkpoint.segments is.log s
+
+-- The log map without its files of no links is that of the tree without the nodes of no name.
+abbrev pub DroppedTree : Type 0
+DroppedTree = (N : ℕ) (m : LogMap) (s : State) → IsLogOf N m s → TreeOf N (dropped m) (drop_nameless s).tree
+
+-- It keeps what a volume's log map keeps, so it can be laid out.
+abbrev pub DroppedLog : Type 0
+DroppedLog = (N : ℕ) (m : LogMap) (s : State) → IsLogOf N m s → IsLogMap m → IsLogMap (dropped m)
+
+-- So what a commit leaves, a content that stands for that log map, stands for the state without its nodes of no name.
+abbrev pub DroppedStands : Type 0
+DroppedStands = (c : Content) (k : CheckpointValue) (m : LogMap) (s : State) → newest c ≡ Some k → StandsAt c k (dropped m) → IsLogOf k.segments m s → s.version ≡ 1 → Stands c (drop_nameless s)
+
+-- With that state it is the log map of a running volume again.
+abbrev pub DroppedAgain : Type 0
+DroppedAgain = (N : ℕ) (m : LogMap) (s : State) → IsLogOf N m s → IsLogOf N (dropped m) (drop_nameless s)
+
+-- And what a content stands for has no more to be dropped.
+abbrev pub NothingDropped : Type 0
+NothingDropped = (c : Content) (s : State) → Stands c s → drop_nameless s ≡ s
 
 -- What a device's content stands for is a sound state.
 abbrev pub StandingIsSound : Type 0
 StandingIsSound = (c : Content) → AllByRecursion IsSector c → (s : State) (is : Stands c s) → Sound is.checkpoint.segments s
+
+-- The content stands for a state of the run that is pending, without its nodes of no name: for what some beginning of the calls,
+-- which holds every call up to the last acknowledged one, has left.
+abbrev pub StandsForPrefix : Content → List Point → List Call → List Answer → Type 0
+StandsForPrefix c points calls answers = StandsForPending (λ s. Stands c (drop_nameless s)) points calls answers
+
+-- So does each content that a stop may leave now. `leaves_more` of proofs/CrashRuns takes it over a further call.
+abbrev pub LeavesPrefix : DeviceState → List Point → List Call → List Answer → Type 0
+LeavesPrefix d points calls answers = AllLeft d (λ c. StandsForPrefix c points calls answers)

@@ -1,6 +1,6 @@
 //! The laws of the model, each the contract of a function that does nothing: whoever stands on the model may use them.
 
-ghost use Rattle.lfs_model.specs.Laws.{OneEnd, OneOutcome, SomeOutcome, ProgramSteps, NewIsSound, CallsKeep, ReadsLeave, LeastNumber, LeastHandle, NeedOfChange, NeedOfLoss, NeedOfNameLess, NeedOfCut, NeedOfRename, DropKeeps, LastIsPending};
+ghost use Rattle.lfs_model.specs.Laws.{OneEnd, OneOutcome, SomeOutcome, ProgramSteps, NewIsSound, CallsKeep, RunsKeep, LineRunsKeep, PendingIsSound, ReadsLeave, LeastNumber, LeastHandle, NeedOfChange, NeedOfLoss, NeedOfNameLess, NeedOfCut, NeedOfRename, DropKeeps, LastIsPending, OneLine, LinesInTurn};
 
 /// In a sound state a walk has exactly one end.
 pub fn walks_have_one_end()
@@ -27,9 +27,24 @@ pub fn new_volumes_are_sound()
     ensures { NewIsSound }
 {}
 
-/// `create`, `symlink`, `link`, `unlink`, `open`, `close`, `pwrite` and `truncate` keep a state sound.
+/// Every call keeps a state sound, whatever it answers.
 pub fn calls_keep_states_sound()
     ensures { CallsKeep }
+{}
+
+/// Every state that a run of calls comes to is sound.
+pub fn runs_keep_states_sound()
+    ensures { RunsKeep }
+{}
+
+/// Every state that the lines of a script come to is sound.
+pub fn scripts_keep_states_sound()
+    ensures { LineRunsKeep }
+{}
+
+/// What a mount finds after a stop in a run is sound.
+pub fn pending_states_are_sound()
+    ensures { PendingIsSound }
 {}
 
 /// A call that only reads, or commits, or cleans, leaves the state.
@@ -80,4 +95,14 @@ pub fn need_of_a_rename()
 /// The last state of a run is pending, so there is always one that a stop may leave.
 pub fn the_last_state_is_pending()
     ensures { LastIsPending }
+{}
+
+/// A text of a script spells at most one line, so a line makes one call.
+pub fn texts_have_one_line()
+    ensures { OneLine }
+{}
+
+/// The lines of a script come one after the other.
+pub fn lines_in_turn()
+    ensures { LinesInTurn }
 {}

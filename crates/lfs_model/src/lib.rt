@@ -2,6 +2,7 @@
 #![tactic(auto)]
 
 pub mod laws;
+pub mod log;
 pub mod stands;
 
 /// What an object is.

@@ -5,8 +5,8 @@ ghost use Rattle.lfs_model.specs.Encodes.{Encoding};
 ghost use Rattle.lfs_model.specs.Decodes.{Decoding};
 ghost use Rattle.lfs_model.specs.Damage.{StagesByNumber, NotDamaged, OneDamage, DamageCodes};
 ghost use Rattle.lfs_model.specs.Live.{LiveSectors, NamedCounts, OneMoreLive, SameLive, PlacedCounts, LiveLess, ChunkRead};
-ghost use Rattle.lfs_model.specs.Image.{Formatted};
-ghost use Rattle.lfs_model.specs.Volume.{SingleState, StateLocality, StateSlotWrite, FoundStands, NotRefused, StandingIsSound, NewVolume};
+ghost use Rattle.lfs_model.specs.Image.{Formatted, NewImages};
+ghost use Rattle.lfs_model.specs.Volume.{SingleState, StateLocality, StateSlotWrite, FoundStands, NotRefused, StandingIsSound, NewVolume, MountedLog, DroppedTree, DroppedLog, DroppedStands, DroppedAgain, NothingDropped};
 
 /// The newest checkpoint, as a function, is the one that the slots' contents determine.
 pub fn newest_fits()
@@ -98,9 +98,14 @@ pub fn chunk_read()
     ensures { ChunkRead }
 {}
 
-/// A volume of 64 segments as it is made stands for an empty root.
+/// A volume as it is made stands for the log map of an empty root, at its first checkpoint.
 pub fn formatted()
     ensures { Formatted }
+{}
+
+/// There is such a volume of each count of segments, and of 64 it has these bytes.
+pub fn new_images()
+    ensures { NewImages }
 {}
 
 /// A content stands for at most one tree.
@@ -133,7 +138,37 @@ pub fn standing_is_sound()
     ensures { StandingIsSound }
 {}
 
-/// A new volume of 64 segments has an empty root.
+/// A new volume has an empty root.
 pub fn new_volume()
     ensures { NewVolume }
+{}
+
+/// What a mount finds is a running volume's log map: its state is sound, and the headers' links are the tree's.
+pub fn mounted_log()
+    ensures { MountedLog }
+{}
+
+/// The log map of a running volume without its files of no links is that of the tree without the nodes of no name.
+pub fn dropped_tree()
+    ensures { DroppedTree }
+{}
+
+/// It keeps what a volume's log map keeps.
+pub fn dropped_log()
+    ensures { DroppedLog }
+{}
+
+/// A content that stands for it stands for the state without its nodes of no name.
+pub fn dropped_stands()
+    ensures { DroppedStands }
+{}
+
+/// With that state it is the log map of a running volume again.
+pub fn dropped_again()
+    ensures { DroppedAgain }
+{}
+
+/// What a content stands for has no node of no name.
+pub fn nothing_dropped()
+    ensures { NothingDropped }
 {}

@@ -1,0 +1,293 @@
+-- The other steps of a commit: segments opened and sealed, blocks of the tables that leave their places or are written.
+use Rattle.std.proofs.Common.{◌≡◌, ◌<◌, ◌≤◌, ⊎_elim, ◌+◌, ◌*◌, ◌-◌, ◌%◌, ◌==◌, cond, eq-eqb, true, ℕ, List, [], ◌∷◌, length, Option, Some, None, refl, sym, ◌∙◌, ap, ap₂, subst, arith}
+use Rattle.std.proofs.lemmas.Bool.{cases_eq, cond-true}
+use Rattle.lfs_model.specs.Entry.{Entry, Inode, Map, Usage}
+use Rattle.lfs_model.specs.Checkpoint.{CheckpointValue}
+use Rattle.lfs_model.specs.Content.{Content}
+use Rattle.lfs_model.specs.Crash.{IsFree}
+use Rattle.lfs_model.specs.Device.{DeviceState, put, left_new}
+use Rattle.lfs_model.specs.Reach.{Row, view}
+use Rattle.lfs_model.specs.Stands.{LogMap, used_in}
+use Rattle.lfs_model.specs.Memory.{Memory, IsOfFile, is_shown, is_held, memory_view}
+use Rattle.lfs_model.specs.Laid.{IsLaid}
+use Rattle.lfs_model.specs.Placing.{IsFilling, IsOpening}
+use Rattle.lfs_model.specs.Lifting.{IsTaken}
+use Rattle.lfs_model.specs.Counting.{segment_of}
+use Rattle.lfs_model.specs.Settled.{IsSettled, IsUnusedBy}
+use Rattle.lfs_model.specs.Running.{Dirty, Tables, IsCached, SpellsUsage, IsOpenAt, Running, IsLifted, IsTakenFrom, IsFresh}
+use Rattle.lfs_model.specs.Committing.{IsWritten, Beginning, MapDropping, UsageLeaving, UsageFilling, Closing, Staying}
+use Rattle.lfs_model.proofs.Entries.{same_entry}
+use Rattle.lfs_model.proofs.Counting.{unplaced_counts}
+use Rattle.lfs_model.proofs.Outgoing.{map_leaving, usage_lifting, filling}
+use Rattle.lfs_model.proofs.Segments.{opening, sealing, no_row_live}
+use Rattle.lfs_model.proofs.Tables.{map_table, usage_table}
+use Rattle.lfs_model.proofs.Settled.{settled_write, settled_still}
+use Rattle.lfs_model.proofs.Running.{pick, pick_yes, pick_no, taken_memory, is_taken, addressed, lifted_tables, lifted_fresh, usage_kept}
+
+-- ---- a clean segment is opened
+module _ (d : DeviceState) (dirty : Dirty) (t t' : Tables) (k : CheckpointValue) (m0 m : LogMap) (none s : ℕ) (w : Running d dirty t k m0 m none None) (inside : s < k.segments) (go : IsTakenFrom t t' s) where
+  opened_memory : Memory
+  opened_memory = record { segments = w.memory.segments; at = w.memory.at; bytes = w.memory.bytes; rows = λ i. pick (cases_eq i s) (None ∷ []) (w.memory.rows i) }
+
+  nothing : (r : Row) → length r ≡ 0 → r ≡ []
+  nothing [] z = refl
+  nothing (x ∷ r) z = absurd (omega arith)
+
+  is_opening : IsOpening w.memory s opened_memory
+  unfolding opened_memory
+  is_opening = record {
+    segments = refl;
+    inside = let n = w.segments in omega arith;
+    at = refl;
+    bytes = refl;
+    none = nothing (w.memory.rows s) (sym (w.tables.used s) ∙ go.clean);
+    row = pick_yes (cases_eq s s) (None ∷ []) (w.memory.rows s) refl;
+    rows = λ i ne. pick_no (cases_eq i s) (None ∷ []) (w.memory.rows i) ne;
+  }
+
+  begun : Running d dirty t' k m0 m s (Some [])
+  unfolding opened_memory
+  begun =
+      let o = opening d.content m w.memory none s opened_memory w.laid w.opened is_opening in
+      record {
+        memory = opened_memory;
+        laid = o.0;
+        segments = w.segments;
+        settled = w.settled;
+        cached = record { cached = w.cached.cached; found = w.cached.found };
+        tables = record {
+          at = λ x top. w.tables.at x top ∙ sym (go.at x);
+          used = λ i. ⊎_elim
+              (λ (here : i ≡ s). ap t'.used here ∙ go.used.own ∙ sym (ap length is_opening.row) ∙ ap (λ (i : ℕ). length (opened_memory.rows i)) (sym here))
+              (λ (away : i ≡ s → ⊥). go.used.others i away ∙ w.tables.used i ∙ sym (ap length (is_opening.rows i away)))
+              (cases_eq i s);
+          live = λ i. go.live i ∙ w.tables.live i ∙ sym (o.1 (is_shown m) i);
+          held = λ i. go.held i ∙ w.tables.held i ∙ sym (o.1 (is_held m) i);
+        };
+        fresh = λ j off low. usage_taken j (w.memory.bytes (Usage j)) (w.fresh j (sym (go.stale j) ∙ off) low);
+        clean = λ i low z. ⊎_elim
+            (λ (here : i ≡ s). let u = go.used.own in let v = ap t'.used here in absurd (omega arith))
+            (λ (away : i ≡ s → ⊥). w.clean i low (sym (go.used.others i away) ∙ z))
+            (cases_eq i s);
+        taken = λ i on. ⊎_elim
+            (λ (here : i ≡ s). (subst (λ (i : ℕ). i < k.segments) (sym here) inside, subst (IsUnusedBy d.content k) (sym here) (w.clean s inside go.clean)))
+            (λ (away : i ≡ s → ⊥). w.taken i (sym (go.taken.others i away) ∙ on))
+            (cases_eq i s);
+        opened = (is_opening.inside, is_opening.row, go.taken.own);
+      }
+    where
+      -- nothing lives in s, so what is saved of it stays 0
+      nothing_lives : t.live s ≡ 0
+      nothing_lives = w.tables.live s ∙ no_row_live (memory_view (is_shown m) w.memory) s (ap Some is_opening.none)
+
+      usage_taken : (j : ℕ) (b : List ℕ) → SpellsUsage t j b → SpellsUsage t' j b
+      usage_taken j b is = record {
+        long = is.long;
+        used = λ i low. is.used i low ∙ saved t.used t'.used (λ i ne. sym (go.used.others i ne)) (64 * j + i);
+        live = λ i low. is.live i low ∙ sym (go.live (64 * j + i));
+        age = λ i low. is.age i low ∙ saved t.age t'.age (λ i ne. sym (go.age i ne)) (64 * j + i);
+      }
+        where
+          saved : (f g : ℕ → ℕ) → ((i : ℕ) → (i ≡ s → ⊥) → f i ≡ g i) → (i : ℕ) → cond (t.live i == 0) 0 (f i) ≡ cond (t'.live i == 0) 0 (g i)
+          saved f g same i = ⊎_elim
+              (λ (here : i ≡ s).
+              let z : t.live i ≡ 0 = ap t.live here ∙ nothing_lives in
+              cond-true (t.live i == 0) 0 (f i) (eq-eqb (t.live i) 0 z) ∙ sym (cond-true (t'.live i == 0) 0 (g i) (eq-eqb (t'.live i) 0 (go.live i ∙ z))))
+              (λ (away : i ≡ s → ⊥). ap₂ (λ (l u : ℕ). cond (l == 0) 0 u) (sym (go.live i)) (same i away))
+              (cases_eq i s)
+
+pub beginning : Beginning
+beginning d dirty t t' k m0 m none s w inside go = begun d dirty t t' k m0 m none s w inside go
+
+-- ---- blocks of the tables leave their places
+module _ (d : DeviceState) (dirty : Dirty) (t t' : Tables) (k : CheckpointValue) (m0 m : LogMap) (seg : ℕ) (chunk : Option (List Entry)) (w : Running d dirty t k m0 m seg chunk)
+    (x : Entry) (table : IsOfFile x → ⊥) (v : ℕ) (least : v ≤ 1) where
+  unfoldable pub left_memory : Memory
+  left_memory = taken_memory w.memory x v w.memory.bytes
+
+  pub left_taken : IsTaken w.memory x v left_memory
+  unfolding left_memory
+  left_taken = is_taken w.memory x v w.memory.bytes least
+
+  pub left_cached : IsCached dirty left_memory
+  unfolding left_memory taken_memory
+  left_cached = record {
+    cached = λ y b is. let c = w.cached.cached y b is in (c.0, left_taken.others y (other y c.0) ∙ c.1, c.2);
+    found = λ y f one. w.cached.found y f (sym (left_taken.others y (other y f)) ∙ one);
+  }
+    where
+      other : (y : Entry) → IsOfFile y → y ≡ x → ⊥
+      other y f h = table (subst IsOfFile h f)
+
+  pub still_open : (c : Option (List Entry)) → IsOpenAt w.memory t seg c → ((s : ℕ) → t'.taken s ≡ t.taken s) → IsOpenAt left_memory t' seg c
+  unfolding left_memory taken_memory
+  still_open None is same = is
+  still_open (Some es) is same = (is.0, is.1, same seg ∙ is.2)
+
+pub map_dropping : MapDropping
+unfolding left_memory taken_memory
+map_dropping d dirty t t' k m0 m seg chunk j w one none go =
+    let M' = left_memory d dirty t t' k m0 m seg chunk w (Map j) (map_table j) 0 (omega arith) in
+    let p = left_taken d dirty t t' k m0 m seg chunk w (Map j) (map_table j) 0 (omega arith) in
+    let was : w.memory.at (Map j) ≡ 1 = w.tables.at (Map j) refl ∙ one in
+    let counts = unplaced_counts d.content m w.memory seg (Map j) 0 (left_memory d dirty t t' k m0 m seg chunk w (Map j) (map_table j) 0 (omega arith)) w.laid (omega (arith, was)) p in
+    record {
+      memory = left_memory d dirty t t' k m0 m seg chunk w (Map j) (map_table j) 0 (omega arith);
+      laid = map_leaving d.content m w.memory seg j (left_memory d dirty t t' k m0 m seg chunk w (Map j) (map_table j) 0 (omega arith)) w.laid
+          (record {
+            was = was;
+            none = λ i low. ap (λ (a : ℕ). cond (is_shown m (Inode (128 * j + i))) a 0) (w.tables.at (Inode (128 * j + i)) refl) ∙ none i low;
+            segments = refl;
+            at = p.at;
+            others = p.others;
+            bytes = refl;
+            rows = refl;
+          });
+      segments = w.segments;
+      settled = w.settled;
+      cached = left_cached d dirty t t' k m0 m seg chunk w (Map j) (map_table j) 0 (omega arith);
+      tables = record {
+        at = addressed t t' (Map j) 0 w.memory (left_memory d dirty t t' k m0 m seg chunk w (Map j) (map_table j) 0 (omega arith)) go.at p.at p.others w.tables.at;
+        used = λ s. go.used s ∙ w.tables.used s;
+        live = λ s. go.live s ∙ w.tables.live s ∙ sym (counts (is_shown m) s);
+        held = λ s. go.held s ∙ w.tables.held s ∙ sym (counts (is_held m) s);
+      };
+      fresh = λ i off low. usage_kept t t' i (w.memory.bytes (Usage i)) (λ q lt. (go.used (64 * i + q), go.live (64 * i + q), go.age (64 * i + q))) (w.fresh i (sym (go.stale i) ∙ off) low);
+      clean = λ s low z. w.clean s low (sym (go.used s) ∙ z);
+      taken = λ s on. w.taken s (sym (go.taken s) ∙ on);
+      opened = still_open d dirty t t' k m0 m seg chunk w (Map j) (map_table j) 0 (omega arith) chunk w.opened go.taken;
+    }
+
+pub usage_leaving : UsageLeaving
+unfolding left_memory taken_memory
+usage_leaving d dirty t t' k m0 m seg chunk j w above old go =
+    let p = left_taken d dirty t t' k m0 m seg chunk w (Usage j) (usage_table j) 1 (omega arith) in
+    let same : w.memory.at (Usage j) ≡ t.at (Usage j) = w.tables.at (Usage j) refl in
+    let was : 2 ≤ w.memory.at (Usage j) = omega arith in
+    record {
+      memory = left_memory d dirty t t' k m0 m seg chunk w (Usage j) (usage_table j) 1 (omega arith);
+      laid = usage_lifting d.content m w.memory seg j (left_memory d dirty t t' k m0 m seg chunk w (Usage j) (usage_table j) 1 (omega arith)) w.laid (record { taken = p; was = was; bytes = refl });
+      segments = w.segments;
+      settled = w.settled;
+      cached = left_cached d dirty t t' k m0 m seg chunk w (Usage j) (usage_table j) 1 (omega arith);
+      tables = lifted_tables d.content m w.memory seg (Usage j) 1 (left_memory d dirty t t' k m0 m seg chunk w (Usage j) (usage_table j) 1 (omega arith)) t t' w.laid was p w.tables
+          (subst (λ (a : ℕ). IsLifted m t t' (Usage j) 1 (segment_of a)) (sym same) go);
+      fresh = λ i off low. let no = lifted_fresh m t t' (Usage j) 1 (segment_of (t.at (Usage j))) go i off in no.1 (w.memory.bytes (Usage i)) (w.fresh i no.0 low);
+      clean = λ s low z. w.clean s low (sym (go.used s) ∙ z);
+      taken = λ s on. w.taken s (sym (go.taken s) ∙ on);
+      opened = still_open d dirty t t' k m0 m seg chunk w (Usage j) (usage_table j) 1 (omega arith) chunk w.opened go.taken;
+    }
+
+-- ---- the content changes where k has no use for it
+module _ (d d' : DeviceState) (dirty : Dirty) (t : Tables) (k : CheckpointValue) (m0 m : LogMap) (seg : ℕ) (chunk : Option (List Entry)) (w : Running d dirty t k m0 m seg chunk)
+    (s o : ℕ) (on : t.taken s ≡ true) (within : o < 64) (bytes : List ℕ) (is : IsWritten d d' (2 + 64 * s + o) bytes) where
+  taken_free : IsFree d.content k (2 + 64 * s + o)
+  taken_free = let u = w.taken s on in record { segment = s; place = o; is = refl; within = within; below = u.0; unused = let z = u.1 in omega arith }
+
+  taken_settled : IsSettled d' k m0 × ((s : ℕ) → used_in (view d'.content k) s ≡ used_in (view d.content k) s)
+  taken_settled = settled_write d d' k m0 (2 + 64 * s + o) bytes w.settled taken_free (left_new is.content) is.crash
+
+module _ (d d' : DeviceState) (dirty : Dirty) (t t' : Tables) (k : CheckpointValue) (m0 m : LogMap) (seg : ℕ) (chunk : Option (List Entry)) (j : ℕ) (bytes : List ℕ)
+    (w : Running d dirty t k m0 m seg chunk) (above : 2 ≤ t.at (Usage j)) (on : t.taken (segment_of (t.at (Usage j))) ≡ true) (spells : SpellsUsage t j bytes)
+    (is : IsWritten d d' (t.at (Usage j)) bytes) (go : IsFresh t t' j) where
+  fill_bytes : Entry → List ℕ
+  fill_bytes y = pick (same_entry y (Usage j)) bytes (w.memory.bytes y)
+
+  fill_memory : Memory
+  fill_memory = record { segments = w.memory.segments; at = w.memory.at; bytes = fill_bytes; rows = w.memory.rows }
+
+  fill_own : fill_bytes (Usage j) ≡ bytes
+  unfolding fill_bytes
+  fill_own = pick_yes (same_entry (Usage j) (Usage j)) bytes (w.memory.bytes (Usage j)) refl
+
+  fill_kept : (y : Entry) → (y ≡ Usage j → ⊥) → fill_bytes y ≡ w.memory.bytes y
+  unfolding fill_bytes
+  fill_kept y ne = pick_no (same_entry y (Usage j)) bytes (w.memory.bytes y) ne
+
+  same_at : w.memory.at (Usage j) ≡ t.at (Usage j)
+  same_at = w.tables.at (Usage j) refl
+
+  is_filling : IsFilling w.memory j bytes fill_memory
+  unfolding fill_memory
+  is_filling = record { was = let s = same_at in omega arith; segments = refl; at = refl; own = fill_own; kept = fill_kept; rows = refl }
+
+  split : t.at (Usage j) ≡ 2 + 64 * segment_of (t.at (Usage j)) + (t.at (Usage j) - 2) % 64
+  split = omega arith
+
+  filled_settled : IsSettled d' k m0 × ((s : ℕ) → used_in (view d'.content k) s ≡ used_in (view d.content k) s)
+  filled_settled = taken_settled d d' dirty t k m0 m seg chunk w (segment_of (t.at (Usage j))) ((t.at (Usage j) - 2) % 64) on (omega arith) bytes (subst (λ (a : ℕ). IsWritten d d' a bytes) split is)
+
+  fill_open : (c : Option (List Entry)) → IsOpenAt w.memory t seg c → IsOpenAt fill_memory t' seg c
+  unfolding fill_memory
+  fill_open None is = is
+  fill_open (Some es) is = (is.0, is.1, go.taken seg ∙ is.2)
+
+  file_other : (y : Entry) → IsOfFile y → y ≡ Usage j → ⊥
+  file_other y f h = usage_table j (subst IsOfFile h f)
+
+  numbers : (i : ℕ) (b : List ℕ) → SpellsUsage t i b → SpellsUsage t' i b
+  numbers i b = usage_kept t t' i b (λ q lt. (go.used (64 * i + q), go.live (64 * i + q), go.age (64 * i + q)))
+
+  filled_now : Running d' dirty t' k m0 m seg chunk
+  unfolding fill_memory
+  filled_now = record {
+    memory = fill_memory;
+    laid = subst (λ (c : Content). IsLaid c m fill_memory seg) (sym (is.content ∙ ap (λ (a : ℕ). put d.content a bytes) (sym same_at))) (filling d.content m w.memory seg j bytes fill_memory w.laid is_filling);
+    segments = w.segments;
+    settled = filled_settled.0;
+    cached = record {
+      cached = λ y b held. let c = w.cached.cached y b held in (c.0, c.1, fill_kept y (file_other y c.0) ∙ c.2);
+      found = w.cached.found;
+    };
+    tables = record {
+      at = λ x top. w.tables.at x top ∙ sym (go.at x);
+      used = λ s. go.used s ∙ w.tables.used s;
+      live = λ s. go.live s ∙ w.tables.live s;
+      held = λ s. go.held s ∙ w.tables.held s;
+    };
+    fresh = λ i off low. ⊎_elim
+        (λ (here : i ≡ j). subst (λ (i : ℕ). SpellsUsage t' i (fill_bytes (Usage i))) (sym here) (subst (SpellsUsage t' j) (sym fill_own) (numbers j bytes spells)))
+        (λ (away : i ≡ j → ⊥).
+        let ne : Usage i ≡ Usage j → ⊥ = λ h. away (cc) in
+        subst (SpellsUsage t' i) (sym (fill_kept (Usage i) ne)) (numbers i (w.memory.bytes (Usage i)) (w.fresh i (sym (go.stale.others i away) ∙ off) low)))
+        (cases_eq i j);
+    clean = λ s low z. filled_settled.1 s ∙ w.clean s low (sym (go.used s) ∙ z);
+    taken = λ s yes. let u = w.taken s (sym (go.taken s) ∙ yes) in (u.0, filled_settled.1 s ∙ u.1);
+    opened = fill_open chunk w.opened;
+  }
+
+pub usage_filling : UsageFilling
+usage_filling d d' dirty t t' k m0 m seg chunk j bytes w above on spells is go = filled_now d d' dirty t t' k m0 m seg chunk j bytes w above on spells is go
+
+pub closing : Closing
+closing d d' dirty t k m0 m seg es bytes none w spelt is past =
+    let inside : seg < w.memory.segments = w.opened.0 in
+    let e : 2 + 64 * seg ≡ 2 + 64 * seg + 0 = omega arith in
+    let n = w.segments in
+    let s = taken_settled d d' dirty t k m0 m seg (Some es) w seg 0 w.opened.2 (omega arith) bytes (subst (λ (a : ℕ). IsWritten d d' a bytes) e is) in
+    record {
+      memory = w.memory;
+      laid = subst (λ (c : Content). IsLaid c m w.memory none) (sym is.content) (sealing d.content m w.memory seg bytes es w.laid inside w.opened.1 spelt none (omega arith));
+      segments = w.segments;
+      settled = s.0;
+      cached = w.cached;
+      tables = w.tables;
+      fresh = w.fresh;
+      clean = λ i low z. s.1 i ∙ w.clean i low z;
+      taken = λ i on. let u = w.taken i on in (u.0, s.1 i ∙ u.1);
+      opened = omega arith;
+    }
+
+pub staying : Staying
+staying d d' dirty t k m0 m seg chunk w same = record {
+  memory = w.memory;
+  laid = subst (λ (c : Content). IsLaid c m w.memory seg) (sym same.content) w.laid;
+  segments = w.segments;
+  settled = settled_still d d' k m0 w.settled same;
+  cached = w.cached;
+  tables = w.tables;
+  fresh = w.fresh;
+  clean = λ i low z. subst (λ (c : Content). IsUnusedBy c k i) (sym same.content) (w.clean i low z);
+  taken = λ i on. let u = w.taken i on in (u.0, subst (λ (c : Content). IsUnusedBy c k i) (sym same.content) u.1);
+  opened = w.opened;
+}

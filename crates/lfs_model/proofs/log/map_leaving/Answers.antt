@@ -1,0 +1,5 @@
+use Rattle.lfs_model.proofs.Outgoing
+use Rattle.lfs_model.proofs.log.map_leaving.Goals as goal
+
+pub returns : goal.returns
+returns c = Outgoing.map_leaving

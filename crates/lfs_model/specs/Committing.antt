@@ -1,0 +1,148 @@
+-- A commit, one step at a time: blocks of files, of the inode map and of the usage table go to the open segment, which is sealed as it is
+-- full and followed by another; and then the checkpoint.
+use Rattle.std.specs.Prelude.{◌≡◌, ◌<◌, ◌≤◌, ◌⊎◌, ◌+◌, ◌*◌, ◌/◌, ◌%◌, ◌==◌, ℕ, suc, true, false, List, [], ◌∷◌, ◌++◌, length, get_or, Option, Some, None}
+use Rattle.lfs_model.specs.Entry.{Entry, Inode, Map, Usage, entries_in, word}
+use Rattle.lfs_model.specs.Checkpoint.{CheckpointValue, checkpoint_in}
+use Rattle.lfs_model.specs.Device.{DeviceState, CrashWrites, IsUntouched, put}
+use Rattle.lfs_model.specs.Content.{Content}
+use Rattle.lfs_model.specs.Decodes.{IsSized}
+use Rattle.lfs_model.specs.Reach.{address, view}
+use Rattle.lfs_model.specs.Stands.{LogMap, used_in, live_in, age_in, count_up}
+use Rattle.lfs_model.specs.Encodes.{IsLogMap}
+use Rattle.lfs_model.specs.TreeOf.{dropped}
+use Rattle.lfs_model.specs.Memory.{parent, IsPointers, HasPointer, shown}
+use Rattle.lfs_model.specs.Counting.{segment_of}
+use Rattle.lfs_model.specs.Settled.{IsSettled, IsPlanned}
+use Rattle.lfs_model.specs.Running.{Dirty, IsTight, Tables, SpellsUsage, Running, IsLowest, Moves, IsNoted, IsLifted, IsTakenFrom, IsFresh, IsReaddressed, used_saved}
+
+-- the sector behind the blocks of the open chunk
+abbrev pub place_of : ℕ → List Entry → ℕ
+place_of seg es = 2 + 64 * seg + suc (length es)
+
+-- the device has these bytes at a sector from now on
+pub record IsWritten (d d' : DeviceState) (at : ℕ) (bytes : List ℕ) : Type 0 where
+  pub content : d'.content ≡ put d.content at bytes
+  pub crash : CrashWrites at bytes d d'
+
+-- A clean segment is opened.
+abbrev pub Beginning : Type 1
+Beginning = (d : DeviceState) (dirty : Dirty) (t t' : Tables) (k : CheckpointValue) (m0 m : LogMap) (none s : ℕ)
+    → Running d dirty t k m0 m none None → s < k.segments → IsTakenFrom t t' s → Running d dirty t' k m0 m s (Some [])
+
+-- A block of a file goes out.
+abbrev pub Stepping : Type 1
+Stepping = (d d' : DeviceState) (dirty dirty' : Dirty) (t t' : Tables) (k : CheckpointValue) (m0 m : LogMap) (seg : ℕ) (es : List Entry) (x : Entry) (bytes : List ℕ)
+    → Running d dirty t k m0 m seg (Some es) → length es < 63 → IsLowest dirty x → dirty x ≡ Some bytes → (IsPointers x → HasPointer bytes)
+    → IsWritten d d' (place_of seg es) bytes → Moves dirty dirty' x (place_of seg es) → IsNoted m t t' x (place_of seg es) seg
+    → Running d' dirty' t' k m0 m seg (Some (es ++ x ∷ []))
+
+-- No block of pointers that is left becomes empty by that.
+abbrev pub SteppingTight : Type 1
+SteppingTight = (d : DeviceState) (dirty dirty' : Dirty) (t : Tables) (k : CheckpointValue) (m0 m : LogMap) (seg : ℕ) (es : List Entry) (x : Entry) (bytes : List ℕ)
+    → Running d dirty t k m0 m seg (Some es) → length es < 63 → dirty x ≡ Some bytes → Moves dirty dirty' x (place_of seg es) → IsTight dirty → IsTight dirty'
+
+-- the bytes are inode map block j
+pub record SpellsMap (m : LogMap) (t : Tables) (j : ℕ) (bytes : List ℕ) : Type 0 where
+  pub settled : (i : ℕ) → i < 128 → shown m t.at (Inode (128 * j + i)) ≡ 1 → ⊥
+  pub long : length bytes ≡ 512
+  pub spells : (i : ℕ) → i < 128 → word bytes i ≡ shown m t.at (Inode (128 * j + i))
+  pub some : HasPointer bytes
+
+-- An inode map block goes out.
+abbrev pub MapStepping : Type 1
+MapStepping = (d d' : DeviceState) (dirty : Dirty) (t t' : Tables) (k : CheckpointValue) (m0 m : LogMap) (seg : ℕ) (es : List Entry) (j : ℕ) (bytes : List ℕ)
+    → Running d dirty t k m0 m seg (Some es) → length es < 63 → t.at (Map j) ≡ 1 → SpellsMap m t j bytes
+    → IsWritten d d' (place_of seg es) bytes → IsNoted m t t' (Map j) (place_of seg es) seg
+    → Running d' dirty t' k m0 m seg (Some (es ++ Map j ∷ []))
+
+-- One that shows no inode isn't stored.
+abbrev pub MapDropping : Type 1
+MapDropping = (d : DeviceState) (dirty : Dirty) (t t' : Tables) (k : CheckpointValue) (m0 m : LogMap) (seg : ℕ) (chunk : Option (List Entry)) (j : ℕ)
+    → Running d dirty t k m0 m seg chunk → t.at (Map j) ≡ 1 → ((i : ℕ) → i < 128 → shown m t.at (Inode (128 * j + i)) ≡ 0)
+    → IsReaddressed t t' (Map j) 0 → Running d dirty t' k m0 m seg chunk
+
+-- A usage block that is stale is to be written, so it lives no more where it was.
+abbrev pub UsageLeaving : Type 1
+UsageLeaving = (d : DeviceState) (dirty : Dirty) (t t' : Tables) (k : CheckpointValue) (m0 m : LogMap) (seg : ℕ) (chunk : Option (List Entry)) (j : ℕ)
+    → Running d dirty t k m0 m seg chunk → 2 ≤ t.at (Usage j) → t.stale j ≡ true → IsLifted m t t' (Usage j) 1 (segment_of (t.at (Usage j)))
+    → Running d dirty t' k m0 m seg chunk
+
+-- It gets its place before its bytes are known, for it may count itself.
+abbrev pub UsageSettling : Type 1
+UsageSettling = (d : DeviceState) (dirty : Dirty) (t t' : Tables) (k : CheckpointValue) (m0 m : LogMap) (seg : ℕ) (es : List Entry) (j : ℕ)
+    → Running d dirty t k m0 m seg (Some es) → length es < 63 → t.at (Usage j) ≡ 1 → t.stale j ≡ true → IsNoted m t t' (Usage j) (place_of seg es) seg
+    → Running d dirty t' k m0 m seg (Some (es ++ Usage j ∷ []))
+
+-- And it is written there, once all counts are final.
+abbrev pub UsageFilling : Type 1
+UsageFilling = (d d' : DeviceState) (dirty : Dirty) (t t' : Tables) (k : CheckpointValue) (m0 m : LogMap) (seg : ℕ) (chunk : Option (List Entry)) (j : ℕ) (bytes : List ℕ)
+    → Running d dirty t k m0 m seg chunk → 2 ≤ t.at (Usage j) → t.taken (segment_of (t.at (Usage j))) ≡ true → SpellsUsage t j bytes
+    → IsWritten d d' (t.at (Usage j)) bytes → IsFresh t t' j → Running d' dirty t' k m0 m seg chunk
+
+-- The open chunk's summary is written.
+abbrev pub Closing : Type 1
+Closing = (d d' : DeviceState) (dirty : Dirty) (t : Tables) (k : CheckpointValue) (m0 m : LogMap) (seg : ℕ) (es : List Entry) (bytes : List ℕ) (none : ℕ)
+    → Running d dirty t k m0 m seg (Some es) → entries_in bytes ≡ Some es → IsWritten d d' (2 + 64 * seg) bytes → k.segments ≤ none
+    → Running d' dirty t k m0 m none None
+
+-- All is out: nothing is left in memory, and the usage table is on the device.
+pub record IsOut (dirty : Dirty) (t : Tables) (segments : ℕ) : Type 0 where
+  pub empty : (x : Entry) → dirty x ≡ None
+  pub maps : (j : ℕ) → t.at (Map j) ≡ 1 → ⊥
+  pub usages : (j : ℕ) → t.at (Usage j) ≡ 1 → ⊥
+  pub fresh : (j : ℕ) → j < (segments + 63) / 64 → t.stale j ≡ false
+
+-- an eighth of the segments have no use by the usage table
+abbrev pub ManyClean : Tables → ℕ → Type 0
+ManyClean t segments = segments ≤ 8 * count_up (λ s. used_saved t s == 0) segments
+
+-- the checkpoint that leads to all of it
+pub record LeadsTo (t : Tables) (k next : CheckpointValue) : Type 0 where
+  pub number : next.number ≡ k.number + 1
+  pub segments : next.segments ≡ k.segments
+  pub map : (j : ℕ) → get_or next.map j 0 ≡ t.at (Map j)
+  pub usage : (j : ℕ) → get_or next.usage j 0 ≡ t.at (Usage j)
+
+-- So its slot may be written.
+abbrev pub Planning : Type 1
+Planning = (d : DeviceState) (dirty : Dirty) (t : Tables) (k next : CheckpointValue) (m0 m : LogMap) (none slot : ℕ) (bytes : List ℕ)
+    → Running d dirty t k m0 m none None → IsLogMap (dropped m) → IsOut dirty t k.segments → ManyClean t k.segments → LeadsTo t k next
+    → checkpoint_in bytes ≡ Some next → slot ≡ next.number % 2 → IsPlanned k d.content slot bytes next (dropped m)
+
+-- the segments where nothing lives and that nothing holds are clean, and none counts as taken
+pub record IsReleased (t t' : Tables) : Type 0 where
+  pub at : (y : Entry) → t'.at y ≡ t.at y
+  pub gone : (s : ℕ) → t.live s ≡ 0 → t.held s ≡ 0 → t'.used s ≡ 0
+  pub used : (s : ℕ) → (0 < t.live s) ⊎ (0 < t.held s) → t'.used s ≡ t.used s
+  pub live : (i : ℕ) → t'.live i ≡ t.live i
+  pub held : (i : ℕ) → t'.held i ≡ t.held i
+  pub age : (i : ℕ) → 0 < t.live i → t'.age i ≡ t.age i
+  pub taken : (i : ℕ) → t'.taken i ≡ false
+  pub stale : (j : ℕ) → t'.stale j ≡ t.stale j
+
+-- And once it is acknowledged, the log runs on from there.
+abbrev pub Resting : Type 1
+Resting = (d d' : DeviceState) (dirty : Dirty) (t t' : Tables) (k next : CheckpointValue) (m0 m : LogMap) (none slot : ℕ) (bytes : List ℕ)
+    → Running d dirty t k m0 m none None → IsOut dirty t k.segments → ManyClean t k.segments → LeadsTo t k next → slot < 2 → d'.content ≡ put d.content slot bytes
+    → IsSettled d' next (dropped m) → IsReleased t t' → Running d' dirty t' next (dropped m) m none None
+
+-- A call that leaves the content, and leaves no more to a stop, changes nothing of it.
+abbrev pub Staying : Type 1
+Staying = (d d' : DeviceState) (dirty : Dirty) (t : Tables) (k : CheckpointValue) (m0 m : LogMap) (seg : ℕ) (chunk : Option (List Entry))
+    → Running d dirty t k m0 m seg chunk → IsUntouched d d' → Running d' dirty t k m0 m seg chunk
+
+-- What a mount puts into the tables: what the usage table and the inode map of the content say. A usage block in which a segment where nothing
+-- lives has an age isn't as a commit would write it, so it is stale.
+pub record IsMountedTables (c : Content) (k : CheckpointValue) (t : Tables) : Type 0 where
+  pub at : (x : Entry) → parent x ≡ x → t.at x ≡ address c k x
+  pub used : (s : ℕ) → t.used s ≡ used_in (view c k) s
+  pub live : (s : ℕ) → t.live s ≡ live_in (view c k) s
+  pub held : (s : ℕ) → t.held s ≡ 0
+  pub age : (s : ℕ) → t.age s ≡ age_in (view c k) s
+  pub taken : (s : ℕ) → t.taken s ≡ false
+  pub stale : (j i : ℕ) → t.stale j ≡ false → i < 64 → live_in (view c k) (64 * j + i) ≡ 0 → age_in (view c k) (64 * j + i) ≡ 0
+
+-- With nothing in memory, and once all that it found is durable, the log runs.
+abbrev pub Starting : Type 1
+Starting = (d : DeviceState) (t : Tables) (k : CheckpointValue) (m : LogMap) (none : ℕ) → k.segments ≤ 1024 → IsSized d.content → IsSettled d k m → IsMountedTables d.content k t → k.segments ≤ none
+    → Running d (λ x. None) t k m m none None

@@ -1,0 +1,49 @@
+-- A device whose acknowledged checkpoint stands for a log map, whatever a stop leaves, and the checkpoint that a commit puts in its place.
+-- Checkpoints written in turn, each once all that it leads to is on the device: the Sprite LFS paper (1992, section 4.1).
+use Rattle.std.specs.Prelude.{◌≡◌, ◌%◌, ℕ, List, Some}
+use Rattle.lfs_model.specs.Checkpoint.{CheckpointValue}
+use Rattle.lfs_model.specs.Content.{Content, newest}
+use Rattle.lfs_model.specs.Stands.{LogMap, StandsAt, StandsLog}
+use Rattle.lfs_model.specs.Crash.{Keeps, IsFree, IsReady, StandsFor}
+use Rattle.lfs_model.specs.Device.{DeviceState, MayWrite, CrashWrites, IsUntouched, Only, put}
+use Rattle.lfs_model.specs.Reach.{view}
+use Rattle.lfs_model.specs.Stands.{used_in}
+
+-- What is there stands for the log map by the acknowledged checkpoint k, and what a stop now leaves has what k needs.
+pub record IsSettled (d : DeviceState) (k : CheckpointValue) (m : LogMap) : Type 0 where
+  pub newest : newest d.content ≡ Some k
+  pub stands : StandsAt d.content k m
+  pub each : (c : Content) → d.may_leave c → Keeps d.content k c
+
+-- a segment that the acknowledged checkpoint has no use for
+abbrev pub IsUnusedBy : Content → CheckpointValue → ℕ → Type 0
+IsUnusedBy c k s = used_in (view c k) s ≡ 0
+
+-- What is there is laid out for the next checkpoint, which is to be written to this slot.
+pub record IsPlanned (k : CheckpointValue) (e : Content) (slot : ℕ) (bytes : List ℕ) (next : CheckpointValue) (m' : LogMap) : Type 0 where
+  pub place : slot ≡ next.number % 2
+  pub ready : IsReady e k next bytes m'
+
+-- All that a stop may leave stands for the log map.
+abbrev pub SettledStands : Type 1
+SettledStands = (d : DeviceState) (k : CheckpointValue) (m : LogMap) → IsSettled d k m → (c : Content) → d.may_leave c → StandsLog c m
+
+-- A write to a free sector, done or failed, keeps it so, and the segments that k doesn't use are the same.
+abbrev pub SettledWrite : Type 1
+SettledWrite = (d d' : DeviceState) (k : CheckpointValue) (m : LogMap) (at : ℕ) (bytes : List ℕ) → IsSettled d k m → IsFree d.content k at
+    → MayWrite at bytes d.content d'.content → CrashWrites at bytes d d'
+    → IsSettled d' k m × ((s : ℕ) → used_in (view d'.content k) s ≡ used_in (view d.content k) s)
+
+-- So does a call that leaves the content, and leaves no more to a stop.
+abbrev pub SettledStill : Type 1
+SettledStill = (d d' : DeviceState) (k : CheckpointValue) (m : LogMap) → IsSettled d k m → IsUntouched d d' → IsSettled d' k m
+
+-- Once all is durable, the write of the next checkpoint's slot leaves, at each stop, the one log map or the other.
+abbrev pub SlotTorn : Type 1
+SlotTorn = (d d' : DeviceState) (k next : CheckpointValue) (m m' : LogMap) (slot : ℕ) (bytes : List ℕ) → IsSettled d k m → IsPlanned k d.content slot bytes next m'
+    → Only d.content d → CrashWrites slot bytes d d' → (c : Content) → d'.may_leave c → StandsFor m m' c
+
+-- And once that is durable, the other.
+abbrev pub Acknowledged : Type 1
+Acknowledged = (d d' : DeviceState) (k next : CheckpointValue) (m m' : LogMap) (slot : ℕ) (bytes : List ℕ) → IsSettled d k m → IsPlanned k d.content slot bytes next m'
+    → d'.content ≡ put d.content slot bytes → Only d'.content d' → IsSettled d' next m'

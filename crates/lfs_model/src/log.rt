@@ -1,0 +1,141 @@
+//! The log in memory and on its device: the laws of its one invariant, each the contract of a function that does nothing.
+ghost use Rattle.lfs_model.specs.Placing.{Placing, MapPlacing, MapLeaving, Settling, Filling, Opening, Sealing};
+ghost use Rattle.lfs_model.specs.Lifting.{Lifting, MapLifting, UsageLifting};
+ghost use Rattle.lfs_model.specs.Changing.{Rewriting, Adding, Removing, Growing, Shrinking, Relabeling, Creating, Forgetting, Reading};
+ghost use Rattle.lfs_model.specs.Counting.{MovedCounts, TakenCounts, UnplacedCounts, OneMoreCounted};
+ghost use Rattle.lfs_model.specs.Finishing.{Finishing, Releasing, ReleasedFree, Mounting};
+
+/// A block of a file goes to the next sector of the open segment, and the block above it points there: memory and device are laid out as before.
+pub fn placing()
+    ensures { Placing }
+{}
+
+/// An inode map block goes out, once the inodes that it shows are out.
+pub fn map_placing()
+    ensures { MapPlacing }
+{}
+
+/// An inode map block that shows no inode isn't stored.
+pub fn map_leaving()
+    ensures { MapLeaving }
+{}
+
+/// A usage block gets its place before it is written.
+pub fn settling()
+    ensures { Settling }
+{}
+
+/// A usage block is written where it has its place.
+pub fn filling()
+    ensures { Filling }
+{}
+
+/// A clean segment is opened, and all counts stay.
+pub fn opening()
+    ensures { Opening }
+{}
+
+/// The summary of the open segment is written, and no segment is open.
+pub fn sealing()
+    ensures { Sealing }
+{}
+
+/// A block of a file comes into memory as it is.
+pub fn lifting()
+    ensures { Lifting }
+{}
+
+/// An inode map block will be written.
+pub fn map_lifting()
+    ensures { MapLifting }
+{}
+
+/// A usage block will be written.
+pub fn usage_lifting()
+    ensures { UsageLifting }
+{}
+
+/// A data block in memory is another, and so is the log map's.
+pub fn rewriting()
+    ensures { Rewriting }
+{}
+
+/// A data block comes where none was.
+pub fn adding()
+    ensures { Adding }
+{}
+
+/// A data block goes.
+pub fn removing()
+    ensures { Removing }
+{}
+
+/// An empty block of pointers comes where none was.
+pub fn growing()
+    ensures { Growing }
+{}
+
+/// A block of pointers that has become empty goes.
+pub fn shrinking()
+    ensures { Shrinking }
+{}
+
+/// A file's header is another.
+pub fn relabeling()
+    ensures { Relabeling }
+{}
+
+/// A file comes, without blocks.
+pub fn creating()
+    ensures { Creating }
+{}
+
+/// A file goes, with all its blocks.
+pub fn forgetting()
+    ensures { Forgetting }
+{}
+
+/// What memory and its addresses lead to is the log map's.
+pub fn reading()
+    ensures { Reading }
+{}
+
+/// A block that goes to the log raises the count of its segment by one, if it is counted.
+pub fn moved_counts()
+    ensures { MovedCounts }
+{}
+
+/// A block that leaves its address lowers the count of its segment by one, if it is counted.
+pub fn taken_counts()
+    ensures { TakenCounts }
+{}
+
+/// A block without an address changes no count.
+pub fn unplaced_counts()
+    ensures { UnplacedCounts }
+{}
+
+/// One entry more is counted where its block stands.
+pub fn one_more_counted()
+    ensures { OneMoreCounted }
+{}
+
+/// What a commit leaves stands, by its checkpoint, for the log map without its files of no links.
+pub fn finishing()
+    ensures { Finishing }
+{}
+
+/// Segments where nothing lives, and which nothing holds, are clean again.
+pub fn releasing()
+    ensures { Releasing }
+{}
+
+/// The sectors of a segment where nothing lives are free for the checkpoint.
+pub fn released_free()
+    ensures { ReleasedFree }
+{}
+
+/// What a mount finds is laid out for its log map.
+pub fn mounting()
+    ensures { Mounting }
+{}
