@@ -1,13 +1,14 @@
 -- What the walk's values stand for.
-use Rattle.std.specs.Prelude.{ℕ, List, map, Option, Some, None, Vec}
+use Rattle.std.specs.Prelude.{ℕ, List, map, Option, Some, None, Result, Ok, Err, Vec}
 use Rattle.std.specs.declared.alloc.Global.{Global}
 use Rattle.lfs_model.specs.Walk as model
-use Rattle.lfs_model.specs.Refusal as refusals
 use Rattle.lfs_model.specs.Plain as plain
 use Rattle.lfs_plain.specs.declared.walk.Seen.{Seen}
 use Rattle.lfs_plain.specs.declared.walk.Seen.TheVariants.{Here, Above, TooLong, Absent, Dir, File, Link, Nowhere as Lost}
 use Rattle.lfs_plain.specs.declared.walk.End.{End}
-use Rattle.lfs_plain.specs.declared.walk.End.TheVariants.{At, NoEntry, NotDir, NameTooLong, Loop, Nowhere}
+use Rattle.lfs_plain.specs.declared.walk.End.TheVariants.{At, Refused, Nowhere}
+use Rattle.lfs_plain.specs.declared.refusal.Refusal.{Refusal}
+use Rattle.lfs_plain.specs.Refused.{refusal_of}
 
 -- the bytes of pieces
 abbrev pub texts : List (Vec ℕ Global) → List (List ℕ)
@@ -27,8 +28,10 @@ seen_of Lost = plain.Nowhere
 -- where the walk ends; None where a name gives no node
 abbrev pub end_of : End → Option model.End
 end_of (At n) = Some (model.At n)
-end_of NoEntry = Some (model.Refused refusals.NoEntry)
-end_of NotDir = Some (model.Refused refusals.NotDir)
-end_of NameTooLong = Some (model.Refused refusals.NameTooLong)
-end_of Loop = Some (model.Refused refusals.Loop)
+end_of (Refused r) = Some (model.Refused (refusal_of r))
 end_of Nowhere = None
+
+-- where a path ends, at a node or refused
+abbrev pub reached_of : Result ℕ Refusal → model.End
+reached_of (Ok n) = model.At n
+reached_of (Err r) = model.Refused (refusal_of r)

@@ -1,9 +1,24 @@
-//! A plain, slow file tree that runs: the bytes of files, nodes in lists, and the walk over them. It shows that the model can be met.
+//! A plain, slow volume that runs: the bytes of files, nodes in lists, the walk over them, and one step of each call. It shows that the
+//! model can be met, and answers what the calls of a volume on a device have to.
 #![tactic(auto)]
 
 ghost use Rattle.std.specs.Prelude.{◌≡◌, IfOk};
 ghost use Rattle.lfs_model.specs.Bytes as bytes;
 
+pub mod call;
+mod changes;
+mod counts;
+mod edits;
+mod entries;
+mod handles;
+mod last;
+mod looks;
+mod need;
+pub mod path;
+pub mod refusal;
+pub mod state;
+#[cfg(test)]
+mod tests;
 pub mod tree;
 pub mod walk;
 

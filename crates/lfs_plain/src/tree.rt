@@ -1,15 +1,22 @@
 //! A tree as a list of nodes, which contracts see as the model's tree.
-ghost use Rattle.std.specs.Prelude.{◌≡◌, Option, Some, None, MatchOption, unwrap_or, option_map, ◌==◌, find as first_that};
+ghost use Rattle.std.specs.Prelude.{◌≡◌, Option, Some, None, MatchOption, IfOk, length, unwrap_or, option_map, ◌==◌, find as first_that};
 ghost use Rattle.std.specs.List.{list_any};
 ghost use Rattle.lfs_model.specs.Tree as model;
 ghost use Rattle.lfs_model.specs.Plain as plain;
+ghost use Rattle.lfs_model.specs.Step as step;
+ghost use Rattle.lfs_model.specs.Need as need;
 ghost use Rattle.lfs_model.specs.Walk.{dot, dot_dot};
 ghost use Rattle.lfs_plain.specs.Pieces.{seen_of};
 ghost use Rattle.lfs_model.specs.Tree.{node, entry, names_in, byte_cmp};
 ghost use Rattle.std.specs.FinMap.{find};
+ghost use Rattle.std.specs.Ordering.{nat_cmp};
 ghost use Rattle.lfs_plain.specs.Meaning.{node_of, tree_of, names_of};
 
+use crate::counts::names_giving;
+use crate::edits::{append_nodes, names_with, names_without, nodes_with, nodes_without};
+use crate::need::{Blocks, blocks_of_nodes};
 use crate::walk::Seen;
+use std::alloc::{AllocError, Global};
 use std::marker::Model;
 
 /// One name of a directory, and the number that it gives.
@@ -37,8 +44,8 @@ pub enum Node {
 /// A node with its number.
 #[derive(Drop)]
 pub struct Numbered {
-    number: u32,
-    node: Node,
+    pub number: u32,
+    pub node: Node,
 }
 
 /// A tree: its nodes in the order of their numbers.
@@ -57,6 +64,58 @@ impl Model for PlainTree {
 }
 
 impl PlainTree {
+    /// An empty root, number 1.
+    pub fn new(alloc: Global) -> Result<PlainTree, AllocError>
+        ensures { IfOk result (λ t. t ≡ plain.fresh.tree) }
+    {
+        let mut nodes = Vec::new(alloc);
+        let names = Vec::new(alloc);
+        let node = Node::Dir(Directory { form: 0, names });
+        nodes.push(Numbered { number: 1, node })?;
+        Ok(PlainTree { nodes })
+    }
+
+    /// The tree once more.
+    pub fn copy(&self, alloc: Global) -> Result<PlainTree, AllocError>
+        ensures { IfOk result (λ t. t ≡ self.now) }
+    {
+        let mut nodes = Vec::new(alloc);
+        append_nodes(alloc, &mut nodes, self.nodes.as_slice())?;
+        Ok(PlainTree { nodes })
+    }
+
+    /// How many nodes there are.
+    pub fn len(&self) -> usize
+        ensures { result ≡ length self.now }
+    {
+        self.nodes.len()
+    }
+
+    /// The nodes, in the order of their numbers.
+    pub fn nodes(&self) -> &[Numbered]
+        ensures { tree_of result.now ≡ self.now }
+    {
+        self.nodes.as_slice()
+    }
+
+    /// A file's bytes; none of another node.
+    pub fn file_bytes(&self, n: u32) -> &[u8]
+        ensures { result.now ≡ step.file_bytes (step.the_node self.now n) }
+    {
+        match self.node(n) {
+            Some(Node::File(bytes)) => bytes.as_slice(),
+            _ => &[],
+        }
+    }
+
+    /// The blocks that the tree needs.
+    pub fn blocks(&self, alloc: Global) -> Result<Blocks, AllocError>
+        ensures data_blocks { IfOk result (λ b. b.data_blocks ≡ need.data_blocks self.now) }
+        ensures meta_blocks { IfOk result (λ b. b.meta_blocks ≡ need.meta_blocks self.now) }
+    {
+        blocks_of_nodes(alloc, self.nodes.as_slice())
+    }
+
     /// Node `number`, where there is one.
     pub fn node(&self, number: u32) -> Option<&Node>
         ensures { MatchOption result (node self.now number ≡ None) (λ x. node self.now number ≡ Some (node_of x.now)) }
@@ -98,6 +157,20 @@ impl PlainTree {
         }
     }
 
+    /// Whether node `n` is a directory.
+    pub fn is_dir(&self, n: u32) -> bool
+        ensures { result ≡ model.is_dir (node self.now n) }
+    {
+        matches!(self.node(n), Some(Node::Dir(_)))
+    }
+
+    /// How many pairs of a directory and a name give `n`.
+    pub fn names(&self, n: u32) -> u128
+        ensures { result ≡ model.names self.now n }
+    {
+        names_giving(self.nodes.as_slice(), n)
+    }
+
     /// The longest name that directory `d` takes, in bytes.
     pub fn name_limit(&self, d: u32) -> usize
         ensures { result ≡ model.name_limit self.now d }
@@ -113,6 +186,66 @@ impl PlainTree {
         ensures { result ≡ model.least self.now }
     {
         least_in(self.nodes.as_slice())
+    }
+
+    /// The tree with this as node `number`.
+    pub fn with_node(&self, alloc: Global, number: u32, node: Node) -> Result<PlainTree, AllocError>
+        ensures { IfOk result (λ t. t ≡ model.with_node self.now number (node_of node)) }
+    {
+        let nodes = nodes_with(alloc, self.nodes.as_slice(), number, node)?;
+        Ok(PlainTree { nodes })
+    }
+
+    /// The tree without node `number`.
+    pub fn without(&self, alloc: Global, number: u32) -> Result<PlainTree, AllocError>
+        ensures { IfOk result (λ t. t ≡ model.without nat_cmp number self.now) }
+    {
+        let nodes = nodes_without(alloc, self.nodes.as_slice(), number)?;
+        Ok(PlainTree { nodes })
+    }
+
+    /// The names in directory `d`.
+    pub fn names_in(&self, d: u32) -> &[Name]
+        ensures { names_of result.now ≡ names_in self.now d }
+    {
+        match self.node(d) {
+            Some(Node::Dir(dir)) => dir.names.as_slice(),
+            _ => &[],
+        }
+    }
+
+    /// The form of directory `d`.
+    pub fn form(&self, d: u32) -> u8
+        ensures { result ≡ model.form_of (node self.now d) }
+    {
+        match self.node(d) {
+            Some(Node::Dir(dir)) => dir.form,
+            _ => 0,
+        }
+    }
+
+    /// The tree with the name giving `number` in directory `d`.
+    pub fn with_name(
+        &self,
+        alloc: Global,
+        d: u32,
+        name: &[u8],
+        number: u32,
+    ) -> Result<PlainTree, AllocError>
+        ensures { IfOk result (λ t. t ≡ model.with_name self.now d name.now number) }
+    {
+        let names = names_with(alloc, self.names_in(d), name, number)?;
+        let form = self.form(d);
+        self.with_node(alloc, d, Node::Dir(Directory { form, names }))
+    }
+
+    /// The tree without the name in directory `d`.
+    pub fn without_name(&self, alloc: Global, d: u32, name: &[u8]) -> Result<PlainTree, AllocError>
+        ensures { IfOk result (λ t. t ≡ model.without_name self.now d name.now) }
+    {
+        let names = names_without(alloc, self.names_in(d), name)?;
+        let form = self.form(d);
+        self.with_node(alloc, d, Node::Dir(Directory { form, names }))
     }
 
     /// The directory that names `n`.
@@ -133,13 +266,13 @@ fn name_len(form: u8) -> usize
     if form == 0 { 59 } else { 123 }
 }
 
-fn is_dot(piece: &[u8]) -> bool
+pub fn is_dot(piece: &[u8]) -> bool
     ensures { result ≡ model.same_name piece.now dot }
 {
     piece == b".".as_slice()
 }
 
-fn is_dot_dot(piece: &[u8]) -> bool
+pub fn is_dot_dot(piece: &[u8]) -> bool
     ensures { result ≡ model.same_name piece.now dot_dot }
 {
     piece == b"..".as_slice()

@@ -6,7 +6,9 @@ ghost use Rattle.lfs_model.specs.PathText as path_text;
 ghost use Rattle.lfs_model.specs.Walk as model;
 ghost use Rattle.lfs_model.specs.Plain as plain;
 ghost use Rattle.lfs_plain.specs.Pieces.{texts, seen_of, end_of};
+ghost use Rattle.lfs_plain.specs.Ends.{walk_end};
 
+use crate::refusal::Refusal;
 use crate::tree::PlainTree;
 use std::alloc::{AllocError, Global};
 
@@ -27,10 +29,7 @@ pub enum Seen<'a> {
 #[derive(Clone, Copy)]
 pub enum End {
     At(u32),
-    NoEntry,
-    NotDir,
-    NameTooLong,
-    Loop,
+    Refused(Refusal),
     Nowhere,
 }
 
@@ -52,12 +51,16 @@ fn walk(
         match tree.look(d, piece.as_slice()) {
             Seen::Here => {}
             Seen::Above => d = tree.up(d),
-            Seen::TooLong => return Ok(End::NameTooLong),
-            Seen::Absent => return Ok(End::NoEntry),
+            Seen::TooLong => return Ok(End::Refused(Refusal::NameTooLong)),
+            Seen::Absent => return Ok(End::Refused(Refusal::NoEntry)),
             Seen::Dir(n) => d = n,
             Seen::File(n) => {
                 let more = is_more(&pieces[i + 1..], slash);
-                return Ok(if more { End::NotDir } else { End::At(n) });
+                return Ok(if more {
+                    End::Refused(Refusal::NotDir)
+                } else {
+                    End::At(n)
+                });
             }
             Seen::Link(n, text) => {
                 let rest = &pieces[i + 1..];
@@ -66,7 +69,7 @@ fn walk(
                     return Ok(End::At(n));
                 }
                 if links == 40 {
-                    return Ok(End::Loop);
+                    return Ok(End::Refused(Refusal::Loop));
                 }
                 let all = followed_by(alloc, text, rest)?;
                 let ends = slash_with(text, rest, slash);
@@ -95,7 +98,8 @@ pub fn walk_from(
     pieces: &[Vec<u8>],
     slash: bool,
 ) -> Result<End, AllocError>
-    ensures { NamesGive tree.now → IfOk result (λ e. IsSomeAnd (end_of e) (λ x. model.Walk tree.now follow from (texts pieces.now) slash 0 x)) }
+    ensures exact { IfOk result (λ e. walk_end tree.now follow from (texts pieces.now) slash ≡ end_of e) }
+    ensures walks { NamesGive tree.now → IfOk result (λ e. IsSomeAnd (end_of e) (λ x. model.Walk tree.now follow from (texts pieces.now) slash 0 x)) }
 {
     let e = walk(alloc, tree, follow, from, pieces, slash, 0)?;
     Ok(e)
@@ -134,7 +138,8 @@ fn start(text: &[u8], d: u32) -> u32
     if text.first() == Some(&b'/') { 1 } else { d }
 }
 
-fn ends_in_slash(text: &[u8]) -> bool
+/// Whether the last byte is a slash.
+pub fn ends_in_slash(text: &[u8]) -> bool
     ensures { result ≡ path_text.slash text.now }
 {
     let mut ends = false;
@@ -145,7 +150,7 @@ fn ends_in_slash(text: &[u8]) -> bool
 }
 
 /// The pieces of a text.
-fn comps(alloc: Global, text: &[u8]) -> Result<Vec<Vec<u8>>, AllocError>
+pub fn comps(alloc: Global, text: &[u8]) -> Result<Vec<Vec<u8>>, AllocError>
     ensures { IfOk result (λ v. texts v.items ≡ path_text.comps text.now) }
 {
     let mut all = Vec::new(alloc);
