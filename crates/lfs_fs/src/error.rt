@@ -1,4 +1,8 @@
 //! Why a call is refused.
+ghost use Rattle.std.specs.Prelude.{◌≡◌};
+ghost use Rattle.lfs_model.specs.Script.{refusal_name};
+ghost use Rattle.lfs_fs.specs.Refusals.{refusal_of};
+
 use lfs_log::LogFault;
 use std::alloc::AllocError;
 
@@ -52,7 +56,9 @@ pub enum FsError {
 }
 
 impl FsError {
-    pub fn name(self) -> &'static str {
+    pub fn name(self) -> &'static str
+        ensures { result.now ≡ refusal_name (refusal_of self) }
+    {
         match self {
             FsError::NoEntry => "NoEntry",
             FsError::NotDir => "NotDir",

@@ -1,31 +1,20 @@
 -- A text is cut at its spaces, and words that have none are found again.
-use Rattle.std.proofs.Common.{◌≡◌, ◌≢◌, ℕ, suc, ◌+◌, ◌<◌, ◌≤◌, ◌^◌, Bool, true, false, not, ◌&&◌, ◌==◌, List, [], ◌∷◌, ◌++◌, Option, Some, None, IfSome, Result, Ok, Err, IfOk, is_some, option_copied, Bor, length, take, drop, decimal, refl, sym, ap, ◌∙◌, inl, inr, arith}
-use Rattle.std.specs.List.{position, position_or_len, list_all}
-use Rattle.std.specs.Str.Parse.{AllDigits}
+use Rattle.std.proofs.Common.{◌≡◌, ◌≢◌, ℕ, suc, ◌+◌, ◌<◌, ◌≤◌, true, false, not, ◌==◌, List, [], ◌∷◌, ◌++◌, Option, Some, None, IfSome, Result, Ok, Err, IfOk, is_some, option_copied, Bor, length, take, drop, refl, sym, ap, ◌∙◌, inl, inr, arith}
+use Rattle.std.specs.List.{position, position_or_len}
 use Rattle.std.proofs.lemmas.Bool.{and_parts, cases_eq, cases_lt, eq-eqb, false≢true, lt-ltb, le-ltb}
 use Rattle.std.proofs.lemmas.Bool.Decides.{nat_tests}
-use Rattle.std.proofs.lemmas.Str.Parse.{digit_from_value}
-use Rattle.std.proofs.lemmas.Fmt.{decimal_is_IsNumeral}
-use Rattle.hex.specs.Hex.{IsBytes, encode_lower}
-use Rattle.lfs_script.specs.Words.{hex_word, escaped_word, escaped_bytes, escaped_byte, is_lower_digit, is_plain}
-use Rattle.lfs_script.specs.Lines.{Line, CreateAt, OpenAt, ReadAt, WriteAt, SyncAll, TellSpace, TellTree, FitsLine, words_of, spaced, line_text, onto, cut, words_left, IsBad}
-use Rattle.lfs_script.specs.Calls.{line_of}
+use Rattle.lfs_model.specs.Call as call
+use Rattle.lfs_model.specs.Script.{Line, Plain, InRange, text_of, word}
+use Rattle.lfs_script.specs.Lines.{IsBuilt, IsUnknown, words_of, spaced, onto, cut, words_left}
+use Rattle.lfs_script.specs.Calls.{line_for}
 use Rattle.lfs_script.specs.Command.{command_word}
 use Rattle.lfs_script.specs.declared.call.Call.{Call}
+use Rattle.lfs_script.specs.declared.call.Call.TheVariants as made
 use Rattle.lfs_script.specs.declared.command.Command.{Command}
 use Rattle.lfs_script.specs.declared.command.Command.TheVariants.{Create, Open, Pread, Pwrite, Sync, Space, Tree}
-use Rattle.lfs_script.proofs.Digits.{lower-spelt, one}
-use Rattle.lfs_script.proofs.Escapes.{plain, other, sort, plain_byte, other_byte}
+use Rattle.lfs_model.proofs.WordTexts.{is_solid, all_solid, solid-decimal, solid-hex, solid-word}
 
 -- ---- words without spaces
-
-abbrev pub is_solid : List ℕ → Bool
-is_solid [] = true
-is_solid (c ∷ word) = not (c == 32) && is_solid word
-
-abbrev pub all_solid : List (List ℕ) → Bool
-all_solid [] = true
-all_solid (word ∷ words) = is_solid word && all_solid words
 
 not_space : (c : ℕ) → not (c == 32) ≡ true → (c == 32) ≡ false
 not_space c h = grind (arith, nat_tests)
@@ -150,104 +139,77 @@ cut_some text i e = (at_some text (Some i) e).1
 
 -- ---- the words of a line have no spaces
 
-digits_solid : (word : List ℕ) → AllDigits 10 word → is_solid word ≡ true
-digits_solid [] h = refl
-digits_solid (c ∷ word) h =
-    let digit = digit_from_value c h.0 in
-    let apart : (c == 32) ≡ false = solid_byte c (λ e. omega (arith, digit.0)) in
-    rw apart (digits_solid word h.1)
+solid-line : (line : Line) → IsBuilt line → InRange line → all_solid (words_of line) ≡ true
+solid-line (Plain (call.Create path)) built fits = rw (solid-word path) refl
+solid-line (Plain (call.Open path)) built fits = rw (solid-word path) refl
+solid-line (Plain (call.Pread handle offset len)) built fits = rw (solid-decimal handle (omega (arith, fits.0)), solid-decimal offset fits.1, solid-decimal len (omega (arith, fits.2))) refl
+solid-line (Plain (call.Pwrite handle offset bytes)) built fits = rw (solid-decimal handle (omega (arith, fits.0)), solid-decimal offset fits.1, solid-hex bytes) refl
+solid-line (Plain call.Sync) built fits = refl
+solid-line (Plain call.Space) built fits = refl
+solid-line (Plain call.ListTree) built fits = refl
+solid-line _ built fits = absurd built
 
-solid-decimal : (n : ℕ) → n < 2 ^ 64 → is_solid (decimal n) ≡ true
-solid-decimal n fits = digits_solid (decimal n) (decimal_is_IsNumeral n fits).0.1
+-- its text is its words'
+text_is : (line : Line) → IsBuilt line → text_of line ≡ spaced (words_of line)
+text_is (Plain (call.Create path)) built = refl
+text_is (Plain (call.Open path)) built = refl
+text_is (Plain (call.Pread handle offset len)) built = refl
+text_is (Plain (call.Pwrite handle offset bytes)) built = refl
+text_is (Plain call.Sync) built = refl
+text_is (Plain call.Space) built = refl
+text_is (Plain call.ListTree) built = refl
+text_is _ built = absurd built
 
-lower_apart : (c : ℕ) → is_lower_digit c ≡ true → (c == 32) ≡ false
-lower_apart c h = grind (arith, nat_tests)
+-- it begins with a command's word
+command_of_line : (line : Line) → IsBuilt line → (command : Command) × (words : List (List ℕ)) × (words_of line ≡ command_word command ∷ words)
+command_of_line (Plain (call.Create path)) built = (Create, _, refl)
+command_of_line (Plain (call.Open path)) built = (Open, _, refl)
+command_of_line (Plain (call.Pread handle offset len)) built = (Pread, _, refl)
+command_of_line (Plain (call.Pwrite handle offset bytes)) built = (Pwrite, _, refl)
+command_of_line (Plain call.Sync) built = (Sync, _, refl)
+command_of_line (Plain call.Space) built = (Space, _, refl)
+command_of_line (Plain call.ListTree) built = (Tree, _, refl)
+command_of_line _ built = absurd built
 
-plain_apart : (c : ℕ) → is_plain c ≡ true → (c == 32) ≡ false
-plain_apart c h = grind (arith, nat_tests)
-
-lower_solid : (word : List ℕ) → list_all is_lower_digit word ≡ true → is_solid word ≡ true
-lower_solid [] h = refl
-lower_solid (c ∷ word) h =
-    let parts = and_parts (is_lower_digit c) (list_all is_lower_digit word) h in
-    let apart : (c == 32) ≡ false = lower_apart c parts.0 in
-    rw apart (lower_solid word parts.1)
-
-solid-hex_word : (bytes : List ℕ) → IsBytes bytes → is_solid (hex_word bytes) ≡ true
-solid-hex_word [] fits = refl
-solid-hex_word (b ∷ bytes) fits = lower_solid (encode_lower (b ∷ bytes)) (lower-spelt (b ∷ bytes) fits)
-
-solid-append : (xs ys : List ℕ) → is_solid xs ≡ true → is_solid ys ≡ true → is_solid (xs ++ ys) ≡ true
-solid-append [] ys hx hy = hy
-solid-append (x ∷ xs) ys hx hy =
-    let parts = and_parts (not (x == 32)) (is_solid xs) hx in
-    rw parts.0 (solid-append xs ys parts.1 hy)
-
-solid-escaped_byte : (b : ℕ) → b < 256 → is_solid (escaped_byte b) ≡ true
-solid-escaped_byte b fits = elim (sort b) [
-  | plain p ↦ let apart : (b == 32) ≡ false = plain_apart b p in rw (plain_byte b p, apart) refl
-  | other p ↦ rw (other_byte b p) (lower_solid (encode_lower (b ∷ [])) (lower-spelt (b ∷ []) (one b fits)))
-]
-
-solid-escaped_bytes : (bytes : List ℕ) → IsBytes bytes → is_solid (escaped_bytes bytes) ≡ true
-unfolding escaped_bytes
-solid-escaped_bytes [] fits = refl
-solid-escaped_bytes (b ∷ bytes) fits = solid-append (escaped_byte b) (escaped_bytes bytes) (solid-escaped_byte b (fits 0)) (solid-escaped_bytes bytes (λ i. fits (suc i)))
-
-solid-escaped_word : (bytes : List ℕ) → IsBytes bytes → is_solid (escaped_word bytes) ≡ true
-solid-escaped_word [] fits = refl
-solid-escaped_word (b ∷ bytes) fits = solid-escaped_bytes (b ∷ bytes) fits
-
-solid-line : (line : Line) → FitsLine line → all_solid (words_of line) ≡ true
-solid-line (CreateAt path) fits = rw (solid-escaped_word path fits) refl
-solid-line (OpenAt path) fits = rw (solid-escaped_word path fits) refl
-solid-line (ReadAt handle offset len) fits = rw (solid-decimal handle (omega (arith, fits.0)), solid-decimal offset fits.1, solid-decimal len (omega (arith, fits.2))) refl
-solid-line (WriteAt handle offset bytes) fits = rw (solid-decimal handle (omega (arith, fits.0)), solid-decimal offset fits.1, solid-hex_word bytes fits.2) refl
-solid-line SyncAll fits = refl
-solid-line TellSpace fits = refl
-solid-line TellTree fits = refl
-
-line-cut : (line : Line) → FitsLine line → cut (line_text line) ≡ words_of line
-line-cut (CreateAt path) fits = cut-spaced _ _ (solid-line (CreateAt path) fits)
-line-cut (OpenAt path) fits = cut-spaced _ _ (solid-line (OpenAt path) fits)
-line-cut (ReadAt handle offset len) fits = cut-spaced _ _ (solid-line (ReadAt handle offset len) fits)
-line-cut (WriteAt handle offset bytes) fits = cut-spaced _ _ (solid-line (WriteAt handle offset bytes) fits)
-line-cut SyncAll fits = refl
-line-cut TellSpace fits = refl
-line-cut TellTree fits = refl
+line-cut : (line : Line) → IsBuilt line → InRange line → cut (text_of line) ≡ words_of line
+line-cut line built fits =
+    let has = command_of_line line built in
+    let solid : all_solid (command_word has.0 ∷ has.1) ≡ true = ap all_solid (sym has.2) ∙ solid-line line built fits in
+    ap cut (text_is line built ∙ ap spaced has.2) ∙ cut-spaced (command_word has.0) has.1 solid ∙ sym has.2
 
 -- a text is a line's exactly where its words are
-pub same_text : (line : Line) (text : List ℕ) → words_of line ≡ cut text → line_text line ≡ text
-same_text line text e = ap spaced e ∙ spaced-cut text
+same_text : (line : Line) (text : List ℕ) → IsBuilt line → words_of line ≡ cut text → text_of line ≡ text
+same_text line text built e = text_is line built ∙ ap spaced e ∙ spaced-cut text
 
-pub same_words : (line : Line) (text : List ℕ) → FitsLine line → line_text line ≡ text → words_of line ≡ cut text
-same_words line text fits e = sym (line-cut line fits) ∙ ap cut e
+same_words : (line : Line) (text : List ℕ) → IsBuilt line → InRange line → text_of line ≡ text → words_of line ≡ cut text
+same_words line text built fits e = sym (line-cut line built fits) ∙ ap cut e
 
 -- ---- the words of a text that begin with a command's
 
-pub ok_text : {E : Type 0} (r : Result Call E) (text : List ℕ) (words : List (List ℕ)) → cut text ≡ words → IfOk r (λ call. words_of (line_of call) ≡ words)
-    → IfOk r (λ call. line_text (line_of call) ≡ text)
-ok_text (Ok call) text words e h = same_text (line_of call) text (h ∙ sym e)
+built_for : (c : Call) → IsBuilt (line_for c)
+built_for (made.Create path) = tt
+built_for (made.Open path) = tt
+built_for (made.Pread handle offset len) = tt
+built_for (made.Pwrite handle offset bytes) = tt
+built_for made.Sync = tt
+built_for made.Space = tt
+built_for made.Tree = tt
+
+pub ok_text : {E : Type 0} (r : Result Call E) (text : List ℕ) (words : List (List ℕ)) → cut text ≡ words → IfOk r (λ call. words_of (line_for call) ≡ words)
+    → IfOk r (λ call. text_of (line_for call) ≡ text)
+ok_text (Ok c) text words e h = same_text (line_for c) text (built_for c) (h ∙ sym e)
 ok_text (Err f) text words e h = tt
 
-pub bad_text : (text : List ℕ) (words : List (List ℕ)) → cut text ≡ words → ((line : Line) → FitsLine line → words_of line ≢ words) → IsBad text
-bad_text text words e h line fits same = h line fits (same_words line text fits same ∙ e)
+pub bad_text : (text : List ℕ) (words : List (List ℕ)) → cut text ≡ words → ((line : Line) → IsBuilt line → InRange line → words_of line ≢ words) → IsUnknown text
+bad_text text words e h line built fits same = h line built fits (same_words line text built fits same ∙ e)
 
-pub found_text : (text : List ℕ) (words : List (List ℕ)) → cut text ≡ words → (line : Line) × FitsLine line × (words_of line ≡ words) → (line : Line) × FitsLine line × (line_text line ≡ text)
-found_text text words e h = (h.0, h.1, same_text h.0 text (h.2 ∙ sym e))
+pub found_text : (text : List ℕ) (words : List (List ℕ)) → cut text ≡ words → (line : Line) × IsBuilt line × InRange line × (words_of line ≡ words)
+    → (line : Line) × IsBuilt line × InRange line × (text_of line ≡ text)
+found_text text words e h = (h.0, h.1, h.2, same_text h.0 text h.1 (h.3 ∙ sym e))
 
 -- a text whose first word is no command's
-command_of_line : (line : Line) → (command : Command) × (words : List (List ℕ)) × (words_of line ≡ command_word command ∷ words)
-command_of_line (CreateAt path) = (Create, _, refl)
-command_of_line (OpenAt path) = (Open, _, refl)
-command_of_line (ReadAt handle offset len) = (Pread, _, refl)
-command_of_line (WriteAt handle offset bytes) = (Pwrite, _, refl)
-command_of_line SyncAll = (Sync, _, refl)
-command_of_line TellSpace = (Space, _, refl)
-command_of_line TellTree = (Tree, _, refl)
-
-pub no_command : (word : List ℕ) (rest : List (List ℕ)) → ((command : Command) → command_word command ≢ word) → (line : Line) → FitsLine line → words_of line ≢ word ∷ rest
-no_command word rest h line fits e =
-    let has = command_of_line line in
+pub no_command : (word : List ℕ) (rest : List (List ℕ)) → ((command : Command) → command_word command ≢ word) → (line : Line) → IsBuilt line → InRange line → words_of line ≢ word ∷ rest
+no_command word rest h line built fits e =
+    let has = command_of_line line built in
     let both : command_word has.0 ∷ has.1 ≡ word ∷ rest = sym has.2 ∙ e in
     h has.0 (cc)

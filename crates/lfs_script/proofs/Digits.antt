@@ -1,5 +1,5 @@
 -- Bytes have one spelling in lower case digits.
-use Rattle.std.proofs.Common.{◌≡◌, ◌≢◌, ℕ, zero, suc, ◌+◌, ◌*◌, ◌/◌, ◌%◌, ◌<◌, ◌≤◌, ◌-◌, ◌==◌, Bool, true, false, ◌&&◌, not, List, [], ◌∷◌, ◌++◌, length, slice_index, take, drop, Option, Ok, Err, Result, refl, sym, ap, ◌∙◌, subst, inl, inr, arith}
+use Rattle.std.proofs.Common.{◌≡◌, ◌≢◌, ℕ, zero, suc, ◌+◌, ◌*◌, ◌/◌, ◌%◌, ◌<◌, ◌≤◌, ◌-◌, ◌==◌, Bool, true, false, ◌&&◌, not, List, [], ◌∷◌, ◌++◌, length, slice_index, take, drop, Option, Ok, Err, Result, nat_lt, refl, sym, ap, ◌∙◌, subst, inl, inr, arith}
 use Rattle.std.specs.List.{list_all}
 use Rattle.std.specs.Result.{MatchResult}
 use Rattle.std.proofs.lemmas.Bool.{and_parts, cases_lt, eqb-true, eq-eqb, false≢true}
@@ -13,6 +13,7 @@ use Rattle.std.proofs.lemmas.Bool.Decides.{nat_tests}
 use Rattle.hex.specs.Hex.{IsBytes, encode_lower, encode_with, lower_digits, decode_of, decode_sized}
 use Rattle.hex.specs.declared.error.FromHexError.{FromHexError}
 use Rattle.hex.proofs.HexLemmas.{decode_of-encode_lower, decode_of-same, decode_sized-encode_lower, length-encode_with}
+use Rattle.lfs_model.specs.Script.{hex_digit}
 use Rattle.lfs_script.specs.Words.{is_lower_digit, is_pairs, hex_word}
 
 -- ---- the sixteen digits
@@ -43,6 +44,21 @@ digit_value c h = elim (cases_lt c 58) [
       let high : c ≤ 102 = grind (arith, nat_tests) in
       let found : slice_index lower_digits (10 + (c - 97)) ≡ 97 + (c - 97) = run_is-at 10 97 6 (c - 97) refl (omega arith) in
       (10 + (c - 97), omega arith, found ∙ omega arith)
+]
+
+-- a digit is the model's
+pub digit_is : (v : ℕ) → v < 16 → slice_index lower_digits v ≡ hex_digit v
+digit_is v lt = elim (cases_lt v 10) [
+  | inl number ↦
+      let found : slice_index lower_digits (0 + v) ≡ 48 + v = run_is-at 0 48 10 v refl number in
+      let here : 0 + v ≡ v = omega arith in
+      let low : nat_lt v 10 ≡ true = grind (arith, nat_tests) in
+      rw low (ap (slice_index lower_digits) (sym here) ∙ found)
+  | inr letter ↦
+      let found : slice_index lower_digits (10 + (v - 10)) ≡ 97 + (v - 10) = run_is-at 10 97 6 (v - 10) refl (omega arith) in
+      let here : 10 + (v - 10) ≡ v = omega arith in
+      let high : nat_lt v 10 ≡ false = grind (arith, nat_tests) in
+      rw high (ap (slice_index lower_digits) (sym here) ∙ found ∙ omega arith)
 ]
 
 -- the first n digits are lower case
@@ -164,12 +180,12 @@ pairs-bytes word h =
     let found = spelt-pairs word p.even p.lower in
     (found.0, found.1, spelt-some found.0 word found.2 p.some)
 
-pub decoded : (word found : List ℕ) → is_pairs word ≡ true → decode_of word ≡ Ok found → hex_word found ≡ word
+pub decoded : (word found : List ℕ) → is_pairs word ≡ true → decode_of word ≡ Ok found → IsBytes found × (hex_word found ≡ word)
 decoded word found h read =
     let p = pairs word h in
     let is = spelt-pairs word p.even p.lower in
     let same : is.0 ≡ found = decode_of-same word is.0 found (subst (λ w. decode_of w ≡ Ok is.0) is.2 (decode_of-encode_lower is.0 is.1)) read in
-    subst (λ f. hex_word f ≡ word) same (spelt-some is.0 word is.2 p.some)
+    subst (λ f. IsBytes f × (hex_word f ≡ word)) same (is.1, spelt-some is.0 word is.2 p.some)
 
 -- ---- writing
 

@@ -1,15 +1,10 @@
 -- Each byte has one escaped spelling, and none is the beginning of another's.
-use Rattle.std.proofs.Common.{◌≡◌, ◌≢◌, ℕ, suc, ◌+◌, ◌-◌, ◌<◌, ◌≤◌, true, false, List, [], ◌∷◌, ◌++◌, length, slice_index, take, drop, get_or, refl, sym, ap, ◌∙◌, subst, arith, append_assoc, append-nil, length-append, length-drop, Option, Result, Ok, Err, IfOk, Vec}
+use Rattle.std.proofs.Common.{◌≡◌, ◌≢◌, ℕ, suc, ◌+◌, ◌-◌, ◌<◌, ◌≤◌, true, false, List, [], ◌∷◌, ◌++◌, length, slice_index, take, drop, get_or, refl, sym, ap, ◌∙◌, subst, arith, append_assoc, append-nil, length-append, length-drop}
 use Rattle.std.proofs.lemmas.Bool.{false≢true}
 use Rattle.std.proofs.lemmas.List.{take-append-drop, take_rest}
 use Rattle.std.proofs.Math.Seq.{take-add}
 use Rattle.hex.specs.Hex.{IsBytes, encode_lower, encode_with}
 use Rattle.lfs_script.specs.Words.{is_plain, escaped_byte, escaped_bytes, escaped_word}
-use Rattle.std.specs.Io.KnownBytes.{Appends}
-use Rattle.std.proofs.KnownBytes.{Appends-trans}
-use Rattle.std.proofs.lemmas.List.{take_more}
-use Rattle.lfs_script.specs.Bytes.{AppendsSome}
-use Rattle.lfs_script.proofs.Pieces.{some_front, some_then, Appends-none}
 use Rattle.lfs_script.proofs.Digits.{same_bytes, bytes-cons, one}
 
 pub data Sort (b : ℕ) : Type 0 where
@@ -186,42 +181,9 @@ word_some [] word e = omega (arith, ap length e)
 word_some (b ∷ bytes) [] e = absurd (some_bytes b (escaped_bytes bytes) e)
 word_some (b ∷ bytes) (x ∷ word) e = omega arith
 
-pub IfOk-word : {A E : Type 0} (r : Result (Vec ℕ A) E) (word : List ℕ) → IfOk r (λ bytes. escaped_bytes bytes.items ≡ word) → 0 < length word → IfOk r (λ bytes. escaped_word bytes.items ≡ word)
-IfOk-word (Ok v) word h some = word_of_bytes v.items word h some
-IfOk-word (Err e) word h some = tt
-
 -- ---- writing
 
 -- a backslash and the two digits
 pub other_text : (b : ℕ) (digits : List ℕ) → digits ≡ encode_lower (b ∷ []) → 92 ∷ get_or digits 0 0 ∷ get_or digits 1 0 ∷ [] ≡ 92 ∷ encode_lower (b ∷ [])
 unfolding encode_with
 other_text b digits e = rw e refl
-
-escaped_bytes-append : (xs ys : List ℕ) → escaped_bytes (xs ++ ys) ≡ escaped_bytes xs ++ escaped_bytes ys
-unfolding escaped_bytes
-escaped_bytes-append [] ys = refl
-escaped_bytes-append (x ∷ xs) ys = ap (λ t. escaped_byte x ++ t) (escaped_bytes-append xs ys) ∙ sym (append_assoc (escaped_byte x) (escaped_bytes xs) (escaped_bytes ys))
-
--- one more byte is written
-pub written-none : (a : Option (List ℕ)) (bytes : List ℕ) → Appends a a (escaped_bytes (take 0 bytes))
-unfolding escaped_bytes
-written-none a bytes = Appends-none a
-
-pub written-more : (a b c : Option (List ℕ)) (bytes : List ℕ) (i : ℕ) → i < length bytes → Appends a b (escaped_bytes (take i bytes)) → Appends b c (escaped_byte (get_or bytes i 0))
-    → Appends a c (escaped_bytes (take (i + 1) bytes))
-written-more a b c bytes i lt before next =
-    let more : escaped_bytes (take (i + 1) bytes) ≡ escaped_bytes (take i bytes) ++ escaped_byte (get_or bytes i 0) = ap escaped_bytes (take_more bytes i 0 lt) ∙ escaped_bytes-push (take i bytes) (get_or bytes i 0) in
-    subst (Appends a c) (sym more) (Appends-trans a b c _ _ before next)
-
-pub word_of_some : (bytes : List ℕ) → 0 < length bytes → escaped_word bytes ≡ escaped_bytes bytes
-word_of_some [] some = absurd (omega arith)
-word_of_some (b ∷ bytes) some = refl
-
--- some of one more byte is written
-pub written-some : (a b c : Option (List ℕ)) (bytes : List ℕ) (i : ℕ) → i < length bytes → Appends a b (escaped_bytes (take i bytes)) → AppendsSome b c (escaped_byte (get_or bytes i 0))
-    → AppendsSome a c (escaped_word bytes)
-written-some a b c bytes i lt before next =
-    let more : escaped_bytes (take (i + 1) bytes) ≡ escaped_bytes (take i bytes) ++ escaped_byte (get_or bytes i 0) = ap escaped_bytes (take_more bytes i 0 lt) ∙ escaped_bytes-push (take i bytes) (get_or bytes i 0) in
-    let whole : (escaped_bytes (take i bytes) ++ escaped_byte (get_or bytes i 0)) ++ escaped_bytes (drop (i + 1) bytes) ≡ escaped_bytes bytes =
-    ap (λ t. t ++ escaped_bytes (drop (i + 1) bytes)) (sym more) ∙ sym (escaped_bytes-append (take (i + 1) bytes) (drop (i + 1) bytes)) ∙ ap escaped_bytes (take-append-drop (i + 1) bytes) in
-    subst (AppendsSome a c) (whole ∙ sym (word_of_some bytes (omega arith))) (some_front a c _ (escaped_bytes (drop (i + 1) bytes)) (some_then a b c _ _ before next))

@@ -3,6 +3,8 @@ pub mod Sent
 pub mod Pieces
 pub mod Digits
 pub mod Escapes
+pub mod PieceTexts
+pub mod Spellings
+pub mod Replies
 pub mod Cuts
 pub mod Commands
-pub mod PieceTexts

@@ -1,14 +1,23 @@
--- The reply to the answer of a call that isn't refused.
-use Rattle.std.specs.Prelude.{ℕ, List, [], ◌∷◌, ◌++◌, length, codes, decimal, flat_map}
+-- The model's answer that a reply is written of.
+use Rattle.std.specs.Prelude.{map, Result, Ok, Err}
+use Rattle.lfs_model.specs.Call as call
+use Rattle.lfs_fs.specs.declared.error.FsError.{FsError}
+use Rattle.lfs_fs.specs.declared.rows.TreeRow.{TreeRow}
+use Rattle.lfs_fs.specs.Refusals.{refusal_of}
 use Rattle.lfs_script.specs.declared.answer.Answer.{Answer}
 use Rattle.lfs_script.specs.declared.answer.Answer.TheVariants.{Done, Handle, Count, Bytes, Space, Tree}
-use Rattle.lfs_script.specs.Words.{hex_word}
-use Rattle.lfs_script.specs.Replies.{reply_line, row_line, space_words}
 
-abbrev pub reply_text : Answer → List ℕ
-reply_text Done = reply_line (codes "ok" ∷ [])
-reply_text (Handle handle) = reply_line (codes "ok" ∷ decimal handle ∷ [])
-reply_text (Count count) = reply_line (codes "ok" ∷ decimal count ∷ [])
-reply_text (Bytes bytes) = reply_line (codes "ok" ∷ hex_word bytes.items ∷ [])
-reply_text (Space space) = reply_line (space_words space)
-reply_text (Tree rows) = reply_line (codes "ok" ∷ decimal (length rows.items) ∷ []) ++ flat_map row_line rows.items
+abbrev pub row_of : TreeRow → call.TreeRow
+row_of row = record { directory = row.directory; name = row.name.items; stat = record { number = row.number; kind = row.kind; links = row.links; size = row.size }; head = row.head.items }
+
+abbrev pub answer_of : Answer → call.Answer
+answer_of Done = call.Done
+answer_of (Handle handle) = call.Handle handle
+answer_of (Count count) = call.Count count
+answer_of (Bytes bytes) = call.Data bytes.items
+answer_of (Space space) = call.Room space.data_blocks space.meta_blocks space.need space.limit
+answer_of (Tree rows) = call.Rows (map row_of rows.items)
+
+abbrev pub result_of : Result Answer FsError → call.Answer
+result_of (Ok answer) = answer_of answer
+result_of (Err error) = call.Refuse (refusal_of error)

@@ -5,5 +5,4 @@ pub mod Lines
 pub mod Calls
 pub mod Command
 pub mod Pieces
-pub mod Replies
 pub mod Answers

@@ -1,51 +1,38 @@
--- The lines of a script: what each asks for, and its one text.
-use Rattle.std.specs.Prelude.{◌≢◌, ℕ, ◌<◌, ◌^◌, ◌==◌, if◌then◌else◌, List, [], ◌∷◌, ◌++◌, Option, Some, None, codes, decimal}
-use Rattle.hex.specs.Hex.{IsBytes}
-use Rattle.lfs_script.specs.Words.{hex_word, escaped_word}
+-- The lines that a script may have so far, and how they are cut into words. What a line is, and its one text, is the model's.
+use Rattle.std.specs.Prelude.{◌≢◌, ℕ, ◌==◌, if◌then◌else◌, List, [], ◌∷◌, Option, Some, None, codes, decimal}
+use Rattle.lfs_model.specs.Call.{Create, Open, Pread, Pwrite, Sync, Space, ListTree}
+use Rattle.lfs_model.specs.Script.{Line, Plain, InRange, hex, line_of, text_of, word}
 
--- what a line asks for
-pub data Line : Type 0 where
-  CreateAt : List ℕ → Line
-  OpenAt : List ℕ → Line
-  ReadAt : ℕ → ℕ → ℕ → Line
-  WriteAt : ℕ → ℕ → List ℕ → Line
-  SyncAll : Line
-  TellSpace : Line
-  TellTree : Line
+-- the lines whose calls are built
+abbrev pub IsBuilt : Line → Type 0
+IsBuilt (Plain (Create path)) = Unit {0}
+IsBuilt (Plain (Open path)) = Unit {0}
+IsBuilt (Plain (Pread handle offset len)) = Unit {0}
+IsBuilt (Plain (Pwrite handle offset bytes)) = Unit {0}
+IsBuilt (Plain Sync) = Unit {0}
+IsBuilt (Plain Space) = Unit {0}
+IsBuilt (Plain ListTree) = Unit {0}
+IsBuilt _ = ⊥
 
--- the limits of a line's arguments
-abbrev pub FitsLine : Line → Type 0
-FitsLine (CreateAt path) = IsBytes path
-FitsLine (OpenAt path) = IsBytes path
-FitsLine (ReadAt handle offset len) = (handle < 2 ^ 32) × (offset < 2 ^ 64) × (len < 2 ^ 32)
-FitsLine (WriteAt handle offset bytes) = (handle < 2 ^ 32) × (offset < 2 ^ 64) × IsBytes bytes
-FitsLine SyncAll = Unit {0}
-FitsLine TellSpace = Unit {0}
-FitsLine TellTree = Unit {0}
+-- no such line has this text
+abbrev pub IsUnknown : List ℕ → Type 0
+IsUnknown text = (line : Line) → IsBuilt line → InRange line → text_of line ≢ text
 
--- the words of a line
+-- such a line's words
 abbrev pub words_of : Line → List (List ℕ)
-words_of (CreateAt path) = codes "create" ∷ escaped_word path ∷ []
-words_of (OpenAt path) = codes "open" ∷ escaped_word path ∷ []
-words_of (ReadAt handle offset len) = codes "pread" ∷ decimal handle ∷ decimal offset ∷ decimal len ∷ []
-words_of (WriteAt handle offset bytes) = codes "pwrite" ∷ decimal handle ∷ decimal offset ∷ hex_word bytes ∷ []
-words_of SyncAll = codes "sync" ∷ []
-words_of TellSpace = codes "space" ∷ []
-words_of TellTree = codes "tree" ∷ []
+words_of (Plain (Create path)) = codes "create" ∷ word path ∷ []
+words_of (Plain (Open path)) = codes "open" ∷ word path ∷ []
+words_of (Plain (Pread handle offset len)) = codes "pread" ∷ decimal handle ∷ decimal offset ∷ decimal len ∷ []
+words_of (Plain (Pwrite handle offset bytes)) = codes "pwrite" ∷ decimal handle ∷ decimal offset ∷ hex bytes ∷ []
+words_of (Plain Sync) = codes "sync" ∷ []
+words_of (Plain Space) = codes "space" ∷ []
+words_of (Plain ListTree) = codes "tree" ∷ []
+words_of _ = []
 
 -- words with one space between two
 abbrev pub spaced : List (List ℕ) → List ℕ
 spaced [] = []
-spaced (word ∷ []) = word
-spaced (word ∷ next ∷ words) = word ++ 32 ∷ spaced (next ∷ words)
-
--- a line's one text
-abbrev pub line_text : Line → List ℕ
-line_text line = spaced (words_of line)
-
--- no line within the limits has this text
-abbrev pub IsBad : List ℕ → Type 0
-IsBad text = (line : Line) → FitsLine line → line_text line ≢ text
+spaced (first ∷ rest) = line_of first rest
 
 -- a text cut at each space
 abbrev pub onto : ℕ → List (List ℕ) → List (List ℕ)

@@ -1,9 +1,9 @@
 // The call that a line is.
 ghost use Rattle.std.specs.Prelude.{◌≡◌, ◌≢◌, ◌<◌, ◌^◌, ℕ, List, [], ◌∷◌, Err, IfOk, IfErr, OnErr, IsErrOf, codes, decimal, option_copied};
-ghost use Rattle.hex.specs.Hex.{IsBytes};
-ghost use Rattle.lfs_script.specs.Words.{hex_word, escaped_word};
-ghost use Rattle.lfs_script.specs.Lines.{Line, FitsLine, line_text, words_of, words_left, IsBad};
-ghost use Rattle.lfs_script.specs.Calls.{line_of};
+ghost use Rattle.lfs_model.specs.Bytes.{AreBytes};
+ghost use Rattle.lfs_model.specs.Script.{Line, InRange, hex, text_of, word};
+ghost use Rattle.lfs_script.specs.Lines.{IsBuilt, IsUnknown, words_of, words_left};
+ghost use Rattle.lfs_script.specs.Calls.{line_for};
 ghost use Rattle.lfs_script.specs.Command.{command_word};
 
 use crate::command::Command;
@@ -57,9 +57,10 @@ fn as_u64(word: &[u8]) -> Result<u64, WordFault>
 
 // The one path that is left.
 fn path(alloc: Global, words: Words<'_>) -> Result<Vec<u8>, WordFault>
-    ensures ok { IfOk result (λ path. escaped_word path.items ∷ [] ≡ words_left (option_copied words.entry.rest)) }
-    ensures spelling { result ≡ Err WordFault.Spelling → (path : List ℕ) → IsBytes path → escaped_word path ∷ [] ≢ words_left (option_copied words.entry.rest) }
-    ensures memory { result ≡ Err WordFault.Memory → (path : List ℕ) × IsBytes path × (escaped_word path ∷ [] ≡ words_left (option_copied words.entry.rest)) }
+    ensures ok { IfOk result (λ path. word path.items ∷ [] ≡ words_left (option_copied words.entry.rest)) }
+    ensures bytes { IfOk result (λ path. AreBytes path.items) }
+    ensures spelling { result ≡ Err WordFault.Spelling → (path : List ℕ) → AreBytes path → word path ∷ [] ≢ words_left (option_copied words.entry.rest) }
+    ensures memory { result ≡ Err WordFault.Memory → (path : List ℕ) × AreBytes path × (word path ∷ [] ≡ words_left (option_copied words.entry.rest)) }
 {
     read_escaped(alloc, words.one()?)
 }
@@ -77,11 +78,12 @@ fn pread(words: Words<'_>) -> Result<(u32, u64, u32), WordFault>
 }
 
 fn pwrite(alloc: Global, words: Words<'_>) -> Result<(u32, u64, Vec<u8>), WordFault>
-    ensures ok { IfOk result (λ r. decimal r.0 ∷ decimal r.1 ∷ hex_word r.2.items ∷ [] ≡ words_left (option_copied words.entry.rest)) }
-    ensures spelling { result ≡ Err WordFault.Spelling → (h o : ℕ) (bytes : List ℕ) → h < 2 ^ 32 → o < 2 ^ 64 → IsBytes bytes
-        → decimal h ∷ decimal o ∷ hex_word bytes ∷ [] ≢ words_left (option_copied words.entry.rest) }
-    ensures memory { result ≡ Err WordFault.Memory → (h : ℕ) × (o : ℕ) × (bytes : List ℕ) × (h < 2 ^ 32) × (o < 2 ^ 64) × IsBytes bytes
-        × (decimal h ∷ decimal o ∷ hex_word bytes ∷ [] ≡ words_left (option_copied words.entry.rest)) }
+    ensures ok { IfOk result (λ r. decimal r.0 ∷ decimal r.1 ∷ hex r.2.items ∷ [] ≡ words_left (option_copied words.entry.rest)) }
+    ensures bytes { IfOk result (λ r. AreBytes r.2.items) }
+    ensures spelling { result ≡ Err WordFault.Spelling → (h o : ℕ) (bytes : List ℕ) → h < 2 ^ 32 → o < 2 ^ 64 → AreBytes bytes
+        → decimal h ∷ decimal o ∷ hex bytes ∷ [] ≢ words_left (option_copied words.entry.rest) }
+    ensures memory { result ≡ Err WordFault.Memory → (h : ℕ) × (o : ℕ) × (bytes : List ℕ) × (h < 2 ^ 32) × (o < 2 ^ 64) × AreBytes bytes
+        × (decimal h ∷ decimal o ∷ hex bytes ∷ [] ≡ words_left (option_copied words.entry.rest)) }
 {
     let (handle, offset, bytes) = words.three()?;
     let handle = as_u32(handle)?;
@@ -92,9 +94,10 @@ fn pwrite(alloc: Global, words: Words<'_>) -> Result<(u32, u64, Vec<u8>), WordFa
 
 // The call of a command whose arguments are left.
 fn call_of(alloc: Global, command: Command, words: Words<'_>) -> Result<Call, WordFault>
-    ensures ok { IfOk result (λ call. words_of (line_of call) ≡ command_word command ∷ words_left (option_copied words.entry.rest)) }
-    ensures spelling { result ≡ Err WordFault.Spelling → (line : Line) → FitsLine line → words_of line ≢ command_word command ∷ words_left (option_copied words.entry.rest) }
-    ensures memory { result ≡ Err WordFault.Memory → (line : Line) × FitsLine line × (words_of line ≡ command_word command ∷ words_left (option_copied words.entry.rest)) }
+    ensures ok { IfOk result (λ call. words_of (line_for call) ≡ command_word command ∷ words_left (option_copied words.entry.rest)) }
+    ensures in_range { IfOk result (λ call. InRange (line_for call)) }
+    ensures spelling { result ≡ Err WordFault.Spelling → (line : Line) → IsBuilt line → InRange line → words_of line ≢ command_word command ∷ words_left (option_copied words.entry.rest) }
+    ensures memory { result ≡ Err WordFault.Memory → (line : Line) × IsBuilt line × InRange line × (words_of line ≡ command_word command ∷ words_left (option_copied words.entry.rest)) }
 {
     match command {
         Command::Create => Ok(Call::Create(path(alloc, words)?)),
@@ -123,9 +126,10 @@ fn call_of(alloc: Global, command: Command, words: Words<'_>) -> Result<Call, Wo
 
 /// Reads a line without its newline. A word takes memory only where the whole line is spelt well.
 pub fn parse(alloc: Global, line: &[u8]) -> Result<Call, WordFault>
-    ensures ok { IfOk result (λ call. line_text (line_of call) ≡ line.now) }
-    ensures spelling { result ≡ Err WordFault.Spelling → IsBad line.now }
-    ensures memory { result ≡ Err WordFault.Memory → (asked : Line) × FitsLine asked × (line_text asked ≡ line.now) }
+    ensures ok { IfOk result (λ call. text_of (line_for call) ≡ line.now) }
+    ensures in_range { IfOk result (λ call. InRange (line_for call)) }
+    ensures spelling { result ≡ Err WordFault.Spelling → IsUnknown line.now }
+    ensures memory { result ≡ Err WordFault.Memory → (asked : Line) × IsBuilt asked × InRange asked × (text_of asked ≡ line.now) }
 {
     let mut words = Words::of(line);
     let Some(command) = Command::of(words.next()?) else {

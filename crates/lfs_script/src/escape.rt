@@ -3,7 +3,9 @@ ghost use Rattle.std.specs.Prelude.{◌≡◌, ◌≢◌, ◌<◌, ◌≤◌, �
 ghost use Rattle.std.specs.Io.KnownBytes.{Appends};
 ghost use Rattle.hex.specs.Hex.{IsBytes, encode_lower};
 ghost use Rattle.lfs_script.specs.Bytes.{AppendsSome};
-ghost use Rattle.lfs_script.specs.Words.{escaped_byte, escaped_bytes, escaped_word, is_plain};
+ghost use Rattle.lfs_model.specs.Bytes.{AreBytes};
+ghost use Rattle.lfs_model.specs.Script as script;
+ghost use Rattle.lfs_script.specs.Words.{escaped_byte, escaped_bytes, is_plain};
 
 use crate::sink::{Stopped, put};
 use crate::word::WordFault;
@@ -103,7 +105,7 @@ fn refused(word: &[u8]) -> WordFault
 
 // The bytes that the word spells byte for byte.
 fn unescape(alloc: Global, word: &[u8]) -> Result<Vec<u8>, WordFault>
-    ensures ok { IfOk result (λ bytes. escaped_bytes bytes.items ≡ word.now) }
+    ensures ok { IfOk result (λ bytes. IsBytes bytes.items × (escaped_bytes bytes.items ≡ word.now)) }
     ensures spelling { result ≡ Err WordFault.Spelling → (bytes : List ℕ) → IsBytes bytes → escaped_bytes bytes ≢ word.now }
     ensures memory { result ≡ Err WordFault.Memory → (bytes : List ℕ) × IsBytes bytes × (escaped_bytes bytes ≡ word.now) }
 {
@@ -124,9 +126,10 @@ fn unescape(alloc: Global, word: &[u8]) -> Result<Vec<u8>, WordFault>
 /// The bytes that the word spells: a printing byte but the backslash for itself, a backslash and two digits for
 /// another, a backslash alone for no bytes.
 pub fn read_escaped(alloc: Global, word: &[u8]) -> Result<Vec<u8>, WordFault>
-    ensures ok { IfOk result (λ bytes. escaped_word bytes.items ≡ word.now) }
-    ensures spelling { result ≡ Err WordFault.Spelling → (bytes : List ℕ) → IsBytes bytes → escaped_word bytes ≢ word.now }
-    ensures memory { result ≡ Err WordFault.Memory → (bytes : List ℕ) × IsBytes bytes × (escaped_word bytes ≡ word.now) }
+    ensures ok { IfOk result (λ bytes. script.word bytes.items ≡ word.now) }
+    ensures bytes { IfOk result (λ bytes. AreBytes bytes.items) }
+    ensures spelling { result ≡ Err WordFault.Spelling → (bytes : List ℕ) → AreBytes bytes → script.word bytes ≢ word.now }
+    ensures memory { result ≡ Err WordFault.Memory → (bytes : List ℕ) × AreBytes bytes × (script.word bytes ≡ word.now) }
 {
     if word == b"\\".as_slice() {
         return Ok(Vec::new(alloc));
@@ -138,8 +141,8 @@ pub fn read_escaped(alloc: Global, word: &[u8]) -> Result<Vec<u8>, WordFault>
 }
 
 fn put_byte<W: Write>(writer: &mut W, byte: u8) -> Result<(), Stopped>
-    ensures ok { OnOk result (Appends (W.contents writer.old) (W.contents writer.new) (escaped_byte byte)) }
-    ensures err { OnErr result (AppendsSome (W.contents writer.old) (W.contents writer.new) (escaped_byte byte)) }
+    ensures ok { OnOk result (Appends (W.contents writer.old) (W.contents writer.new) (script.word_byte byte)) }
+    ensures err { OnErr result (AppendsSome (W.contents writer.old) (W.contents writer.new) (script.word_byte byte)) }
 {
     if is_plain(byte) {
         return put(writer, &[byte]);
@@ -150,8 +153,8 @@ fn put_byte<W: Write>(writer: &mut W, byte: u8) -> Result<(), Stopped>
 
 /// Writes the word of the bytes. It takes no memory.
 pub fn put_escaped<W: Write>(writer: &mut W, bytes: &[u8]) -> Result<(), Stopped>
-    ensures ok { OnOk result (Appends (W.contents writer.old) (W.contents writer.new) (escaped_word bytes.now)) }
-    ensures err { OnErr result (AppendsSome (W.contents writer.old) (W.contents writer.new) (escaped_word bytes.now)) }
+    ensures ok { OnOk result (Appends (W.contents writer.old) (W.contents writer.new) (script.word bytes.now)) }
+    ensures err { OnErr result (AppendsSome (W.contents writer.old) (W.contents writer.new) (script.word bytes.now)) }
 {
     if bytes.is_empty() {
         return put(writer, b"\\");

@@ -3,8 +3,10 @@ ghost use Rattle.std.specs.Prelude.{◌≡◌, ◌≢◌, ◌≤◌, List, ℕ, 
 ghost use Rattle.std.specs.List.{list_all};
 ghost use Rattle.std.specs.Io.KnownBytes.{Appends};
 ghost use Rattle.hex.specs.Hex.{IsBytes, encode_lower};
+ghost use Rattle.lfs_model.specs.Bytes.{AreBytes};
+ghost use Rattle.lfs_model.specs.Script as script;
 ghost use Rattle.lfs_script.specs.Bytes.{AppendsSome};
-ghost use Rattle.lfs_script.specs.Words.{hex_word, is_lower_digit, is_pairs};
+ghost use Rattle.lfs_script.specs.Words.{is_lower_digit, is_pairs};
 
 use crate::sink::{Stopped, put};
 use crate::word::WordFault;
@@ -32,9 +34,10 @@ fn is_pairs(word: &[u8]) -> bool
 
 /// The bytes that the word spells: lower case digits, or a dash for no bytes.
 pub fn read_hex(alloc: Global, word: &[u8]) -> Result<Vec<u8>, WordFault>
-    ensures ok { IfOk result (λ bytes. hex_word bytes.items ≡ word.now) }
-    ensures spelling { result ≡ Err WordFault.Spelling → (bytes : List ℕ) → IsBytes bytes → hex_word bytes ≢ word.now }
-    ensures memory { result ≡ Err WordFault.Memory → (bytes : List ℕ) × IsBytes bytes × (hex_word bytes ≡ word.now) }
+    ensures ok { IfOk result (λ bytes. script.hex bytes.items ≡ word.now) }
+    ensures bytes { IfOk result (λ bytes. AreBytes bytes.items) }
+    ensures spelling { result ≡ Err WordFault.Spelling → (bytes : List ℕ) → AreBytes bytes → script.hex bytes ≢ word.now }
+    ensures memory { result ≡ Err WordFault.Memory → (bytes : List ℕ) × AreBytes bytes × (script.hex bytes ≡ word.now) }
 {
     if word == b"-".as_slice() {
         return Ok(Vec::new(alloc));
@@ -47,6 +50,11 @@ pub fn read_hex(alloc: Global, word: &[u8]) -> Result<Vec<u8>, WordFault>
         Err(_) => Err(WordFault::Memory),
     }
 }
+
+// Says that each number of the slice is a byte.
+fn bytes_fit(bytes: &[u8])
+    ensures { IsBytes bytes.now }
+{}
 
 // Writes the digits of at most 256 bytes.
 fn put_digits<W: Write>(writer: &mut W, piece: &[u8]) -> Result<(), Stopped>
@@ -62,12 +70,13 @@ fn put_digits<W: Write>(writer: &mut W, piece: &[u8]) -> Result<(), Stopped>
 
 /// Writes the word of the bytes. It takes no memory.
 pub fn put_hex<W: Write>(writer: &mut W, bytes: &[u8]) -> Result<(), Stopped>
-    ensures ok { OnOk result (Appends (W.contents writer.old) (W.contents writer.new) (hex_word bytes.now)) }
-    ensures err { OnErr result (AppendsSome (W.contents writer.old) (W.contents writer.new) (hex_word bytes.now)) }
+    ensures ok { OnOk result (Appends (W.contents writer.old) (W.contents writer.new) (script.hex bytes.now)) }
+    ensures err { OnErr result (AppendsSome (W.contents writer.old) (W.contents writer.new) (script.hex bytes.now)) }
 {
     if bytes.is_empty() {
         return put(writer, b"-");
     }
+    bytes_fit(bytes);
     let mut at = 0;
     while at < bytes.len() {
         let n = (bytes.len() - at).min(256);

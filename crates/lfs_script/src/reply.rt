@@ -3,8 +3,8 @@ ghost use Rattle.std.specs.Prelude.{◌≡◌, [], ◌∷◌, ◌++◌, length, 
 ghost use Rattle.std.specs.Io.KnownBytes.{Appends};
 ghost use Rattle.lfs_script.specs.Bytes.{AppendsSome};
 ghost use Rattle.lfs_script.specs.Pieces.{piece_text};
-ghost use Rattle.lfs_script.specs.Answers.{reply_text};
-ghost use Rattle.lfs_script.specs.Replies.{reply_line, kind_word, head_word, row_line, space_words};
+ghost use Rattle.lfs_model.specs.Script.{bad, head_text, kind_name, ok, reply, row_line};
+ghost use Rattle.lfs_script.specs.Answers.{answer_of, result_of, row_of};
 
 use crate::answer::Answer;
 use crate::piece::{Piece, put_all};
@@ -18,7 +18,7 @@ const SPACE: Piece<'static> = Piece::Text(b" ");
 const END: Piece<'static> = Piece::Text(b"\n");
 
 fn kind_name(kind: Kind) -> &'static [u8]
-    ensures { result.now ≡ kind_word kind }
+    ensures { result.now ≡ kind_name kind }
 {
     match kind {
         Kind::File => b"file",
@@ -29,7 +29,7 @@ fn kind_name(kind: Kind) -> &'static [u8]
 
 // What is shown of an object's beginning.
 fn head_of(row: &TreeRow) -> Piece<'_>
-    ensures { piece_text result ≡ head_word row.now.kind row.now.head.items }
+    ensures { piece_text result ≡ head_text row.now.kind row.now.head.items }
 {
     match row.kind {
         Kind::File => Piece::Hex(row.head.as_slice()),
@@ -39,8 +39,8 @@ fn head_of(row: &TreeRow) -> Piece<'_>
 }
 
 fn put_row<W: Write>(writer: &mut W, row: &TreeRow) -> Result<(), Stopped>
-    ensures ok { OnOk result (Appends (W.contents writer.old) (W.contents writer.new) (row_line row.now)) }
-    ensures err { OnErr result (AppendsSome (W.contents writer.old) (W.contents writer.new) (row_line row.now)) }
+    ensures ok { OnOk result (Appends (W.contents writer.old) (W.contents writer.new) (row_line (row_of row.now))) }
+    ensures err { OnErr result (AppendsSome (W.contents writer.old) (W.contents writer.new) (row_line (row_of row.now))) }
 {
     put_all(
         writer,
@@ -64,8 +64,8 @@ fn put_row<W: Write>(writer: &mut W, row: &TreeRow) -> Result<(), Stopped>
 }
 
 fn put_tree<W: Write>(writer: &mut W, rows: &[TreeRow]) -> Result<(), Stopped>
-    ensures ok { OnOk result (Appends (W.contents writer.old) (W.contents writer.new) (reply_line (codes "ok" ∷ decimal (length rows.now) ∷ []) ++ flat_map row_line rows.now)) }
-    ensures err { OnErr result (AppendsSome (W.contents writer.old) (W.contents writer.new) (reply_line (codes "ok" ∷ decimal (length rows.now) ∷ []) ++ flat_map row_line rows.now)) }
+    ensures ok { OnOk result (Appends (W.contents writer.old) (W.contents writer.new) (ok (decimal (length rows.now) ∷ []) ++ flat_map (λ row. row_line (row_of row)) rows.now)) }
+    ensures err { OnErr result (AppendsSome (W.contents writer.old) (W.contents writer.new) (ok (decimal (length rows.now) ∷ []) ++ flat_map (λ row. row_line (row_of row)) rows.now)) }
 {
     put_number_line(writer, rows.len() as u64)?;
     for row in rows {
@@ -75,15 +75,15 @@ fn put_tree<W: Write>(writer: &mut W, rows: &[TreeRow]) -> Result<(), Stopped>
 }
 
 fn put_number_line<W: Write>(writer: &mut W, number: u64) -> Result<(), Stopped>
-    ensures ok { OnOk result (Appends (W.contents writer.old) (W.contents writer.new) (reply_line (codes "ok" ∷ decimal number ∷ []))) }
-    ensures err { OnErr result (AppendsSome (W.contents writer.old) (W.contents writer.new) (reply_line (codes "ok" ∷ decimal number ∷ []))) }
+    ensures ok { OnOk result (Appends (W.contents writer.old) (W.contents writer.new) (ok (decimal number ∷ []))) }
+    ensures err { OnErr result (AppendsSome (W.contents writer.old) (W.contents writer.new) (ok (decimal number ∷ []))) }
 {
     put_all(writer, &[Piece::Text(b"ok "), Piece::Number(number), END])
 }
 
 fn put_space<W: Write>(writer: &mut W, space: Space) -> Result<(), Stopped>
-    ensures ok { OnOk result (Appends (W.contents writer.old) (W.contents writer.new) (reply_line (space_words space))) }
-    ensures err { OnErr result (AppendsSome (W.contents writer.old) (W.contents writer.new) (reply_line (space_words space))) }
+    ensures ok { OnOk result (Appends (W.contents writer.old) (W.contents writer.new) (ok (decimal space.data_blocks ∷ decimal space.meta_blocks ∷ decimal space.need ∷ decimal space.limit ∷ []))) }
+    ensures err { OnErr result (AppendsSome (W.contents writer.old) (W.contents writer.new) (ok (decimal space.data_blocks ∷ decimal space.meta_blocks ∷ decimal space.need ∷ decimal space.limit ∷ []))) }
 {
     put_all(
         writer,
@@ -103,16 +103,16 @@ fn put_space<W: Write>(writer: &mut W, space: Space) -> Result<(), Stopped>
 
 /// Writes the reply to a bad line of this number.
 pub fn put_bad<W: Write>(writer: &mut W, line: u64) -> Result<(), Stopped>
-    ensures ok { OnOk result (Appends (W.contents writer.old) (W.contents writer.new) (reply_line (codes "bad" ∷ decimal line ∷ []))) }
-    ensures err { OnErr result (AppendsSome (W.contents writer.old) (W.contents writer.new) (reply_line (codes "bad" ∷ decimal line ∷ []))) }
+    ensures ok { OnOk result (Appends (W.contents writer.old) (W.contents writer.new) (bad line)) }
+    ensures err { OnErr result (AppendsSome (W.contents writer.old) (W.contents writer.new) (bad line)) }
 {
     put_all(writer, &[Piece::Text(b"bad "), Piece::Number(line), END])
 }
 
 // Writes the reply to a call that isn't refused.
 fn put_answer<W: Write>(writer: &mut W, answer: &Answer) -> Result<(), Stopped>
-    ensures ok { OnOk result (Appends (W.contents writer.old) (W.contents writer.new) (reply_text answer.now)) }
-    ensures err { OnErr result (AppendsSome (W.contents writer.old) (W.contents writer.new) (reply_text answer.now)) }
+    ensures ok { OnOk result (Appends (W.contents writer.old) (W.contents writer.new) (reply (answer_of answer.now))) }
+    ensures err { OnErr result (AppendsSome (W.contents writer.old) (W.contents writer.new) (reply (answer_of answer.now))) }
 {
     match answer {
         Answer::Done => put_all(writer, &[Piece::Text(b"ok"), END]),
@@ -129,8 +129,8 @@ fn put_answer<W: Write>(writer: &mut W, answer: &Answer) -> Result<(), Stopped>
 
 /// Writes the reply, piece by piece. It takes no memory. After an error a beginning of it went out.
 pub fn put_reply<W: Write>(writer: &mut W, answer: &Result<Answer, FsError>) -> Result<(), Stopped>
-    ensures ok { OnOk result (IfOk answer.now (λ a. Appends (W.contents writer.old) (W.contents writer.new) (reply_text a))) }
-    ensures err { OnErr result (IfOk answer.now (λ a. AppendsSome (W.contents writer.old) (W.contents writer.new) (reply_text a))) }
+    ensures ok { OnOk result (Appends (W.contents writer.old) (W.contents writer.new) (reply (result_of answer.now))) }
+    ensures err { OnErr result (AppendsSome (W.contents writer.old) (W.contents writer.new) (reply (result_of answer.now))) }
 {
     match answer {
         Ok(answer) => put_answer(writer, answer),

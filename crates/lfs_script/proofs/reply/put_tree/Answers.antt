@@ -1,5 +1,6 @@
-use Rattle.std.proofs.Common.{rules, ◌≡◌, ◌∷◌, [], codes, decimal, length, get_or}
-use Rattle.lfs_script.specs.Replies.{reply_line, row_line}
+use Rattle.std.proofs.Common.{rules, ◌≡◌, ◌∷◌, [], decimal, length, get_or}
+use Rattle.lfs_model.specs.Script.{ok, row_line}
+use Rattle.lfs_script.specs.Answers.{row_of}
 use Rattle.lfs_script.proofs.Pieces.{on_err, some_front}
 use Rattle.lfs_script.proofs.PieceTexts.{after-more, after-some}
 use Rattle.lfs_script.proofs.reply.put_tree.Goals as goal
@@ -10,9 +11,9 @@ returns-in_err-put_number_line-clause-err g c = on_err _ _ (some_front _ _ _ _ c
 pub returns-in_err-put_row-clause-err : goal.returns-in_err-put_row-clause-err
 returns-in_err-put_row-clause-err g c =
     let is : get_or c.args.rows.now c.loop-row.row-index c.row-item.result ≡ c.row-item.result = search rules in
-    on_err _ _ (after-some row_line (reply_line (codes "ok" ∷ decimal (length c.args.rows.now) ∷ [])) _ _ _ c.args.rows.now c.loop-row.row-index c.row-item.result c.loop-row-test.true is c.loop-row.invariant c.in_err-put_row.ensures.err)
+    on_err _ _ (after-some (λ row. row_line (row_of row)) (ok (decimal (length c.args.rows.now) ∷ [])) _ _ _ c.args.rows.now c.loop-row.row-index c.row-item.result c.loop-row-test.true is c.loop-row.invariant c.in_err-put_row.ensures.err)
 
 pub loop-row-preserved : goal.loop-row-preserved
 loop-row-preserved g c =
     let is : get_or c.args.rows.now c.loop-row.row-index c.row-item.result ≡ c.row-item.result = search rules in
-    after-more row_line (reply_line (codes "ok" ∷ decimal (length c.args.rows.now) ∷ [])) _ _ _ c.args.rows.now c.loop-row.row-index c.row-item.result c.loop-row-test.true is c.loop-row.invariant c.in_ok-put_row.ensures.ok
+    after-more (λ row. row_line (row_of row)) (ok (decimal (length c.args.rows.now) ∷ [])) _ _ _ c.args.rows.now c.loop-row.row-index c.row-item.result c.loop-row-test.true is c.loop-row.invariant c.in_ok-put_row.ensures.ok
