@@ -211,3 +211,16 @@ pub fn encode_summary(blocks: &[BlockName]) -> [u8; 512]
 pub fn one_summary_spelling()
     ensures { (a b : List BlockNameValue) → FitsSummary a → FitsSummary b → summary_sector a ≡ summary_sector b → a ≡ b }
 {}
+
+impl Default for BlockName {
+    /// A name that no block has.
+    fn default() -> BlockName
+        ensures { result ≡ no_block }
+    {
+        BlockName {
+            file: 0,
+            kind: BlockKind::Data,
+            index: 0,
+        }
+    }
+}

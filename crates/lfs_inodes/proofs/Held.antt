@@ -1,0 +1,313 @@
+-- An index over an arena of blocks: what a change of one leaves of the list of blocks.
+use Rattle.std.proofs.Common.{◌≡◌, ◌<◌, ◌≤◌, ◌+◌, ◌==◌, cond, ℕ, zero, suc, List, [], ◌∷◌, ◌++◌, map, length, get_or, set, refl, sym, ◌∙◌, ap, ap₂, subst, arith, Some, None, length-set, length-append, get_or-set_other, get_or-set_same}
+use Rattle.std.specs.Prelude.{T}
+use Rattle.std.specs.List.{insert, remove}
+use Rattle.std.specs.Ordering.{nat_cmp}
+use Rattle.std.specs.FinMap.{find, put, is_sorted}
+use Rattle.std.proofs.lemmas.Bool.{cond-true, lt-ltb}
+use Rattle.std.proofs.lemmas.Bool.Decides.{nat_tests}
+use Rattle.std.proofs.lemmas.List.Edits.{length-insert, length-remove}
+use Rattle.lfs_model.specs.Tree.{without}
+use Rattle.lfs_inodes.specs.declared.table.Place.{Place}
+use Rattle.lfs_inodes.specs.Blocks.{Blocks, TableValue, number_at, altered_as, altered, IsAt, IsGapFor}
+use Rattle.lfs_inodes.specs.Held.{entry_in, entries_in, spots, times, one_below, IsHeld}
+use Rattle.lfs_inodes.proofs.Blocks.{put_at, put_gap, without_at, sorted_put, sorted_without, find_at, find_gap}
+
+-- ---- how often a number stands in a list
+abbrev mark : ℕ → ℕ → ℕ
+mark x n = cond (x == n) 1 0
+
+hit : (x n : ℕ) → x ≡ n → mark x n ≡ 1
+hit x n e = grind (arith, nat_tests)
+
+miss : (x n : ℕ) → (x ≡ n → ⊥) → mark x n ≡ 0
+miss x n ne = grind (arith, nat_tests)
+
+missed : (x n : ℕ) → mark x n ≡ 0 → x ≡ n → ⊥
+missed x n z e = let h = hit x n e in omega arith
+
+pub times-append : (n : ℕ) (xs ys : List ℕ) → times n (xs ++ ys) ≡ times n xs + times n ys
+times-append n [] ys = omega arith
+times-append n (x ∷ xs) ys = let r = times-append n xs ys in omega arith
+
+times-insert : (n x : ℕ) (xs : List ℕ) (i : ℕ) → times n (insert xs i x) ≡ cond (x == n) 1 0 + times n xs
+times-insert n x xs zero = refl
+times-insert n x [] (suc i) = refl
+times-insert n x (y ∷ xs) (suc i) = let r = times-insert n x xs i in omega arith
+
+map-insert : {X Y : Type 0} (f : X → Y) (xs : List X) (i : ℕ) (x : X) → map f (insert xs i x) ≡ insert (map f xs) i (f x)
+map-insert f xs zero x = refl
+map-insert f [] (suc i) x = refl
+map-insert f (y ∷ xs) (suc i) x = ap (λ ys. f y ∷ ys) (map-insert f xs i x)
+
+map-remove : {X Y : Type 0} (f : X → Y) (xs : List X) (i : ℕ) → map f (remove xs i) ≡ remove (map f xs) i
+map-remove f [] zero = refl
+map-remove f [] (suc i) = refl
+map-remove f (y ∷ xs) zero = refl
+map-remove f (y ∷ xs) (suc i) = ap (λ ys. f y ∷ ys) (map-remove f xs i)
+
+pub length-entries : (ps : List Place) (bs : List (List ℕ)) → length (entries_in ps bs) ≡ length ps
+length-entries [] bs = refl
+length-entries (p ∷ ps) bs = ap suc (length-entries ps bs)
+
+times_here : (ps : List Place) (i : ℕ) (p : Place) → i < length ps → p ≡ get_or ps i p → 1 ≤ times p.spot (spots ps)
+times_here [] i p lt is = absurd (omega arith)
+times_here (q ∷ ps) zero p lt is = let h = hit q.spot p.spot (ap (λ (x : Place). x.spot) (sym is)) in omega arith
+times_here (q ∷ ps) (suc i) p lt is = let r = times_here ps i p (omega arith) is in omega arith
+
+times_left : (n : ℕ) (ps : List Place) (i : ℕ) (p : Place) → i < length ps → p ≡ get_or ps i p → times n (spots ps) ≡ cond (p.spot == n) 1 0 + times n (spots (remove ps i))
+times_left n [] i p lt is = absurd (omega arith)
+times_left n (q ∷ ps) zero p lt is = ap (λ (x : Place). cond (x.spot == n) 1 0 + times n (spots ps)) (sym is)
+times_left n (q ∷ ps) (suc i) p lt is = let r = times_left n ps i p (omega arith) is in omega arith
+
+-- ---- a block of the arena is written
+same_value : (bs : List (List ℕ)) (s : ℕ) (v : List ℕ) (q : Place) → (q.spot ≡ s → ⊥) → entry_in (set bs s v) q ≡ entry_in bs q
+same_value bs s v q ne = ap (λ (b : List ℕ). (q.key.code, b)) (get_or-set_other bs s q.spot v [] ne)
+
+kept : (ps : List Place) (bs : List (List ℕ)) (s : ℕ) (v : List ℕ) → times s (spots ps) ≡ 0 → entries_in ps (set bs s v) ≡ entries_in ps bs
+kept [] bs s v none = refl
+kept (q ∷ ps) bs s v none = ap₂ (λ (e : ℕ × List ℕ) (es : Blocks). e ∷ es) (same_value bs s v q (missed q.spot s (omega arith))) (kept ps bs s v (omega arith))
+
+written : (ps : List Place) (bs : List (List ℕ)) (i : ℕ) (p : Place) (v : List ℕ) → i < length ps → p ≡ get_or ps i p → times p.spot (spots ps) ≤ 1 → p.spot < length bs
+    → entries_in ps (set bs p.spot v) ≡ set (entries_in ps bs) i (p.key.code, v)
+written [] bs i p v lt is once low = absurd (omega arith)
+written (q ∷ ps) bs zero p v lt is once low =
+    let h = hit q.spot p.spot (ap (λ (x : Place). x.spot) (sym is)) in
+    ap₂ (λ (e : ℕ × List ℕ) (es : Blocks). e ∷ es)
+    (ap (λ (x : Place). entry_in (set bs p.spot v) x) (sym is) ∙ ap (λ (b : List ℕ). (p.key.code, b)) (get_or-set_same bs p.spot v [] low))
+    (kept ps bs p.spot v (omega arith))
+written (q ∷ ps) bs (suc i) p v lt is once low =
+    let there = times_here ps i p (omega arith) is in
+    ap₂ (λ (e : ℕ × List ℕ) (es : Blocks). e ∷ es)
+    (same_value bs p.spot v q (λ e. let h = hit q.spot p.spot e in omega arith))
+    (written ps bs i p v (omega arith) is (omega arith) low)
+
+number_is : (ps : List Place) (bs : List (List ℕ)) (i : ℕ) (p : Place) → i < length ps → p ≡ get_or ps i p → get_or (entries_in ps bs) i (0, []) ≡ entry_in bs p
+number_is [] bs i p lt is = absurd (omega arith)
+number_is (q ∷ ps) bs zero p lt is = ap (entry_in bs) (sym is)
+number_is (q ∷ ps) bs (suc i) p lt is = number_is ps bs i p (omega arith) is
+
+low_if : (n s : ℕ) → 1 ≤ one_below n s → s < n
+low_if n s some = grind (arith, nat_tests)
+
+module _ (ps : List Place) (bs : List (List ℕ)) (spare : List ℕ) (a b : ℕ) (h : IsHeld ps bs spare a b) where
+  pub few : length (entries_in ps bs) ≤ length bs
+  few = let l = length-entries ps bs in let s = h.shared in omega arith
+
+  -- ---- at a place that has a block
+  module _ (i : ℕ) (p : Place) (lt : i < length ps) (is : p ≡ get_or ps i p) where
+    pub spot_low : p.spot < length bs
+    spot_low = let t = times_here ps i p lt is in let o = h.once p.spot in low_if (length bs) p.spot (omega arith)
+
+    pub place_is : get_or (entries_in ps bs) i (0, []) ≡ entry_in bs p
+    place_is = number_is ps bs i p lt is
+
+    once_here : times p.spot (spots ps) ≤ 1
+    once_here = let o = h.once p.spot in let c = cond_le p.spot (length bs) in omega arith
+      where
+        cond_le : (s n : ℕ) → one_below n s ≤ 1
+        cond_le s n = grind (arith, nat_tests)
+
+    module _ (c : ℕ) (at : IsAt (entries_in ps bs) c i) where
+      key_is : p.key.code ≡ c
+      key_is = ap (λ (e : ℕ × List ℕ). e.0) (sym place_is) ∙ at.number
+
+      -- it is written
+      pub written_is : (v : List ℕ) → entries_in ps (set bs p.spot v) ≡ put nat_cmp c v (entries_in ps bs)
+      written_is v =
+          written ps bs i p v lt is once_here spot_low
+          ∙ ap (λ (k : ℕ). set (entries_in ps bs) i (k, v)) key_is
+          ∙ sym (put_at (entries_in ps bs) h.sorted c v i at)
+
+      pub held_written : (v : List ℕ) → IsHeld ps (set bs p.spot v) spare a b
+      held_written v =
+          let l = length-set bs p.spot v in
+          record {
+            sorted = subst (λ (es : Blocks). T (is_sorted nat_cmp es)) (sym (written_is v)) (sorted_put (entries_in ps bs) c v h.sorted);
+            once = λ s. h.once s ∙ ap (λ (n : ℕ). one_below n s) (sym l);
+            shared = h.shared ∙ sym l;
+            small = subst (λ (n : ℕ). n < 4294967296) (sym l) h.small;
+            room = subst (λ (n : ℕ). n ≤ a) (sym l) h.room;
+            room_for_spare = subst (λ (n : ℕ). n ≤ b) (sym l) h.room_for_spare;
+          }
+
+      -- it goes, and its spot is spare
+      pub removed_is : entries_in (remove ps i) bs ≡ without nat_cmp c (entries_in ps bs)
+      removed_is = map-remove (entry_in bs) ps i ∙ sym (without_at (entries_in ps bs) h.sorted c i at)
+
+      pub held_removed : (spare' : List ℕ) → spare' ≡ spare ++ p.spot ∷ [] → IsHeld (remove ps i) bs spare' a b
+      held_removed spare' now =
+          let lr = length-remove ps i lt in
+          let ls = ap length now ∙ length-append spare (p.spot ∷ []) in
+          let s = h.shared in
+          record {
+            sorted = subst (λ (es : Blocks). T (is_sorted nat_cmp es)) (sym removed_is) (sorted_without (entries_in ps bs) c h.sorted);
+            once = λ n.
+                let o = h.once n in
+                let t = times_left n ps i p lt is in
+                let u = ap (times n) now ∙ times-append n spare (p.spot ∷ []) in
+                omega arith;
+            shared = omega arith;
+            small = h.small;
+            room = h.room;
+            room_for_spare = h.room_for_spare;
+          }
+
+  -- ---- a spare block gets a place
+  module _ (spare' : List ℕ) (p : Place) (was : spare ≡ spare' ++ p.spot ∷ []) where
+    spare_here : (n : ℕ) → times n spare ≡ times n spare' + (cond (p.spot == n) 1 0 + 0)
+    spare_here n = ap (times n) was ∙ times-append n spare' (p.spot ∷ [])
+
+    pub spare_low : p.spot < length bs
+    spare_low =
+        let o = h.once p.spot in
+        let t = spare_here p.spot in
+        let m = hit p.spot p.spot refl in
+        low_if (length bs) p.spot (omega arith)
+
+    unused : times p.spot (spots ps) ≡ 0
+    unused =
+        let o = h.once p.spot in
+        let t = spare_here p.spot in
+        let m = hit p.spot p.spot refl in
+        let k : one_below (length bs) p.spot ≡ 1 = cond-true _ 1 0 (lt-ltb p.spot (length bs) spare_low) in
+        omega arith
+
+    module _ (i : ℕ) (gap : IsGapFor (entries_in ps bs) p.key.code i) (v : List ℕ) where
+      pub inserted_is : entries_in (insert ps i p) (set bs p.spot v) ≡ put nat_cmp p.key.code v (entries_in ps bs)
+      inserted_is =
+          map-insert (entry_in (set bs p.spot v)) ps i p
+          ∙ ap₂ (λ (es : Blocks) (x : List ℕ). insert es i (p.key.code, x)) (kept ps bs p.spot v unused) (get_or-set_same bs p.spot v [] spare_low)
+          ∙ sym (put_gap (entries_in ps bs) p.key.code v i gap)
+
+      pub held_inserted : IsHeld (insert ps i p) (set bs p.spot v) spare' a b
+      held_inserted =
+          let l = length-set bs p.spot v in
+          let le = length-entries ps bs in
+          let g = gap.within in
+          let li = length-insert ps i p (omega arith) in
+          let ls = ap length was ∙ length-append spare' (p.spot ∷ []) in
+          let s = h.shared in
+          record {
+            sorted = subst (λ (es : Blocks). T (is_sorted nat_cmp es)) (sym inserted_is) (sorted_put (entries_in ps bs) p.key.code v h.sorted);
+            once = λ n.
+                let o = h.once n in
+                let t = ap (times n) (map-insert (λ (q : Place). q.spot) ps i p) ∙ times-insert n p.spot (spots ps) i in
+                let u = spare_here n in
+                let same : one_below (length bs) n ≡ one_below (length (set bs p.spot v)) n = ap (λ (k : ℕ). one_below k n) (sym l) in
+                omega arith;
+            shared = omega arith;
+            small = subst (λ (n : ℕ). n < 4294967296) (sym l) h.small;
+            room = subst (λ (n : ℕ). n ≤ a) (sym l) h.room;
+            room_for_spare = subst (λ (n : ℕ). n ≤ b) (sym l) h.room_for_spare;
+          }
+
+pub wider : (ps : List Place) (bs : List (List ℕ)) (spare : List ℕ) (a b a' b' : ℕ) → IsHeld ps bs spare a b → a ≤ a' → b ≤ b' → IsHeld ps bs spare a' b'
+wider ps bs spare a b a' b' h more more_spare =
+    let r = h.room in
+    let s = h.room_for_spare in
+    record { sorted = h.sorted; once = h.once; shared = h.shared; small = h.small; room = omega arith; room_for_spare = omega arith }
+
+-- ---- numbers of keys are small
+pub numbers_small : (ps : List Place) (bs : List (List ℕ)) (j : ℕ) → j < length (entries_in ps bs) → number_at (entries_in ps bs) j < 4294967296
+numbers_small [] bs j lt = absurd (omega arith)
+numbers_small (p ∷ ps) bs zero lt = let k = p.key.formed in let s = k.small in omega arith
+numbers_small (p ∷ ps) bs (suc j) lt = numbers_small ps bs j (omega arith)
+
+-- ---- the same of the table's value
+abbrev pub value_of : List Place → List (List ℕ) → TableValue
+value_of ps bs = record { blocks = entries_in ps bs; capacity = length bs }
+
+pub small_value : (ps : List Place) (bs : List (List ℕ)) (t : TableValue) → value_of ps bs ≡ t → (j : ℕ) → j < length t.blocks → number_at t.blocks j < 4294967296
+small_value ps bs t view = subst (λ (u : TableValue). (j : ℕ) → j < length u.blocks → number_at u.blocks j < 4294967296) view (numbers_small ps bs)
+
+pub at_value : (ps : List Place) (bs : List (List ℕ)) (t : TableValue) → value_of ps bs ≡ t → (i : ℕ) (p : Place) → i < length ps → p ≡ get_or ps i p → IsAt t.blocks p.key.code i
+at_value ps bs t view i p lt is =
+    let l = length-entries ps bs in
+    subst (λ (u : TableValue). IsAt u.blocks p.key.code i) view
+    (record { within = omega arith; number = ap (λ (e : ℕ × List ℕ). e.0) (number_is ps bs i p lt is) })
+
+module _ (ps : List Place) (bs : List (List ℕ)) (spare : List ℕ) (a b : ℕ) (h : IsHeld ps bs spare a b) (t : TableValue) (view : value_of ps bs ≡ t) where
+  pub sorted_value : T (is_sorted nat_cmp t.blocks)
+  sorted_value = subst (λ (u : TableValue). T (is_sorted nat_cmp u.blocks)) view h.sorted
+
+  module _ (c i : ℕ) (at : IsAt t.blocks c i) (p : Place) (is : p ≡ get_or ps i p) where
+    here : IsAt (entries_in ps bs) c i
+    here = subst (λ (u : TableValue). IsAt u.blocks c i) (sym view) at
+
+    inside : i < length ps
+    inside = let l = length-entries ps bs in let w = here.within in omega arith
+
+    pub low_at : p.spot < length bs
+    low_at = spot_low ps bs spare a b h i p inside is
+
+    pub found_at : find nat_cmp c t.blocks ≡ Some (get_or bs p.spot [])
+    found_at =
+        subst (λ (u : TableValue). find nat_cmp c u.blocks ≡ Some (get_or bs p.spot [])) view
+        (find_at (entries_in ps bs) h.sorted c i here ∙ ap (λ (e : ℕ × List ℕ). Some e.1) (place_is ps bs spare a b h i p inside is))
+
+    pub held_at : (v : List ℕ) → IsHeld ps (set bs p.spot v) spare a b
+    held_at v = held_written ps bs spare a b h i p inside is c here v
+
+    pub put_value : (v : List ℕ) → value_of ps (set bs p.spot v) ≡ record t { blocks = put nat_cmp c v t.blocks }
+    put_value v =
+        subst (λ (u : TableValue). value_of ps (set bs p.spot v) ≡ record u { blocks = put nat_cmp c v u.blocks }) view
+        (λ k. record { blocks = written_is ps bs spare a b h i p inside is c here v k; capacity = length-set bs p.spot v k })
+
+    pub altered_value : (f : List ℕ → List ℕ) (v : List ℕ) → v ≡ f (get_or bs p.spot []) → value_of ps (set bs p.spot v) ≡ record t { blocks = altered f c t.blocks }
+    altered_value f v now =
+        put_value v
+        ∙ ap (λ (w : List ℕ). record t { blocks = put nat_cmp c w t.blocks }) now
+        ∙ ap (λ o. record t { blocks = altered_as o f c t.blocks }) (sym found_at)
+
+    pub held_left : (spare' : List ℕ) → spare' ≡ spare ++ p.spot ∷ [] → IsHeld (remove ps i) bs spare' a b
+    held_left = held_removed ps bs spare a b h i p inside is c here
+
+    pub removed_value : value_of (remove ps i) bs ≡ record t { blocks = without nat_cmp c t.blocks }
+    removed_value =
+        subst (λ (u : TableValue). value_of (remove ps i) bs ≡ record u { blocks = without nat_cmp c u.blocks }) view
+        (λ k. record { blocks = removed_is ps bs spare a b h i p inside is c here k; capacity = length bs })
+
+  module _ (c i : ℕ) (gap : IsGapFor t.blocks c i) where
+    gap_here : IsGapFor (entries_in ps bs) c i
+    gap_here = subst (λ (u : TableValue). IsGapFor u.blocks c i) (sym view) gap
+
+    pub spare_some : (find nat_cmp c t.blocks ≡ None → length t.blocks < t.capacity) → 0 < length spare
+    spare_some room =
+        let r : length (entries_in ps bs) < length bs = subst (λ (u : TableValue). length u.blocks < u.capacity) (sym view) (room (find_gap t.blocks c i gap)) in
+        let l = length-entries ps bs in
+        let s = h.shared in
+        omega arith
+
+    module _ (p : Place) (key : p.key.code ≡ c) (spare' : List ℕ) (was : spare ≡ spare' ++ p.spot ∷ []) where
+      gap_key : IsGapFor (entries_in ps bs) p.key.code i
+      gap_key = subst (λ (n : ℕ). IsGapFor (entries_in ps bs) n i) (sym key) gap_here
+
+      pub low_spare : p.spot < length bs
+      low_spare = spare_low ps bs spare a b h spare' p was
+
+      pub held_put : (v : List ℕ) → IsHeld (insert ps i p) (set bs p.spot v) spare' a b
+      held_put = held_inserted ps bs spare a b h spare' p was i gap_key
+
+      pub inserted_value : (v : List ℕ) → value_of (insert ps i p) (set bs p.spot v) ≡ record t { blocks = put nat_cmp c v t.blocks }
+      inserted_value v =
+          subst (λ (u : TableValue). value_of (insert ps i p) (set bs p.spot v) ≡ record u { blocks = put nat_cmp c v u.blocks }) view
+          (λ k. record { blocks = (inserted_is ps bs spare a b h spare' p was i gap_key v ∙ ap (λ (n : ℕ). put nat_cmp n v (entries_in ps bs)) key) k; capacity = length-set bs p.spot v k })
+
+-- ---- an empty table
+pub once_more : (xs : List ℕ) (n : ℕ) → ((s : ℕ) → times s xs ≡ one_below n s) → (s : ℕ) → times s (xs ++ n ∷ []) ≡ one_below (n + 1) s
+once_more xs n once s =
+    let o = once s in
+    let t = times-append s xs (n ∷ []) in
+    let m : one_below (n + 1) s ≡ one_below n s + mark n s = grind (arith, nat_tests) in
+    omega arith
+
+pub held_empty : (bs : List (List ℕ)) (spare : List ℕ) (a b : ℕ) → length spare ≡ length bs → length bs < 4294967296 → ((s : ℕ) → times s spare ≡ one_below (length bs) s) → length bs ≤ a → length bs ≤ b → IsHeld [] bs spare a b
+held_empty bs spare a b same few once room room_for_spare = record {
+  sorted = tt;
+  once = λ s. let o = once s in omega arith;
+  shared = omega arith;
+  small = few;
+  room = room;
+  room_for_spare = room_for_spare;
+}

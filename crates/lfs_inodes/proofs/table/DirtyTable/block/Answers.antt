@@ -1,0 +1,26 @@
+use Rattle.std.proofs.Common.{◌∙◌, ap, sym, Some, List, [], ℕ, arith}
+use Rattle.std.proofs.lemmas.List.{get_or_default}
+use Rattle.lfs_inodes.proofs.Blocks.{find_gap, entry_found}
+use Rattle.lfs_inodes.proofs.Held.{low_at, found_at}
+use Rattle.lfs_inodes.proofs.table.DirtyTable.block.Goals as goal
+
+pub returns-in_default-clause-block : goal.returns-in_default-clause-block
+returns-in_default-clause-block c = find_gap c.args.self.now.blocks c.args.key.code c.in_default.field-0 c.in_default.ensures.missing
+
+pub returns-in_default-clause-entry : goal.returns-in_default-clause-entry
+returns-in_default-clause-entry c = entry_found c.args.self.now.blocks c.args.key.code c.args.key.formed ∙ returns-in_default-clause-block c
+
+pub index-requires-2 : goal.index-requires-2
+index-requires-2 c =
+    let l = low_at c.self.inside.places.items c.self.inside.arena.items c.self.inside.spare.items _ _ c.self.invariant c.args.self.now c.self.view_is c.args.key.code c.in-Ok.at c.in-Ok.ensures.found c.index.result.now c.index.ensures in
+    let o = c.self.inside.arena.ok in
+    omega (arith, l, o.0)
+
+pub returns-clause-block : goal.returns-clause-block
+returns-clause-block c =
+    let l = low_at c.self.inside.places.items c.self.inside.arena.items c.self.inside.spare.items _ _ c.self.invariant c.args.self.now c.self.view_is c.args.key.code c.in-Ok.at c.in-Ok.ensures.found c.index.result.now c.index.ensures in
+    found_at c.self.inside.places.items c.self.inside.arena.items c.self.inside.spare.items _ _ c.self.invariant c.args.self.now c.self.view_is c.args.key.code c.in-Ok.at c.in-Ok.ensures.found c.index.result.now c.index.ensures
+    ∙ ap (λ (b : List ℕ). Some b) (get_or_default c.self.inside.arena.items c.index.result.now.spot [] c.index-2.result.now l ∙ sym c.index-2.ensures)
+
+pub returns-clause-entry : goal.returns-clause-entry
+returns-clause-entry c = entry_found c.args.self.now.blocks c.args.key.code c.args.key.formed ∙ returns-clause-block c

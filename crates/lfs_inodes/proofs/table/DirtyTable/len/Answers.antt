@@ -1,0 +1,6 @@
+use Rattle.lfs_inodes.proofs.Held.{small_value}
+use Rattle.lfs_inodes.proofs.Moving.{are_of_files}
+use Rattle.lfs_inodes.proofs.table.DirtyTable.len.Goals as goal
+
+pub returns-clause-files : goal.returns-clause-files
+returns-clause-files c = are_of_files c.args.self.now.blocks (small_value c.self.inside.places.items c.self.inside.arena.items c.args.self.now c.self.view_is)

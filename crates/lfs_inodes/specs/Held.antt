@@ -1,0 +1,35 @@
+-- How the table holds its blocks: an index in the order of keys over an arena of blocks.
+use Rattle.std.specs.Prelude.{◌≡◌, ◌<◌, ◌≤◌, ◌+◌, ◌==◌, nat_lt, cond, ℕ, T, List, [], ◌∷◌, map, length, get_or}
+use Rattle.std.specs.Ordering.{nat_cmp}
+use Rattle.std.specs.FinMap.{is_sorted}
+use Rattle.lfs_inodes.specs.declared.table.Place.{Place}
+use Rattle.lfs_inodes.specs.Blocks.{Blocks}
+
+-- a place of the index, and the block there
+abbrev pub entry_in : List (List ℕ) → Place → ℕ × List ℕ
+entry_in arena p = (p.key.code, get_or arena p.spot [])
+
+abbrev pub entries_in : List Place → List (List ℕ) → Blocks
+entries_in places arena = map (entry_in arena) places
+
+abbrev pub spots : List Place → List ℕ
+spots places = map (λ p. p.spot) places
+
+-- how often a number stands in a list
+abbrev pub times : ℕ → List ℕ → ℕ
+times n [] = 0
+times n (x ∷ xs) = cond (x == n) 1 0 + times n xs
+
+-- 1 where a number is below n, else 0
+abbrev pub one_below : ℕ → ℕ → ℕ
+one_below n s = cond (nat_lt s n) 1 0
+
+pub record IsHeld (places : List Place) (arena : List (List ℕ)) (spare : List ℕ) (capacity capacity_for_spare : ℕ) : Type 0 where
+  pub sorted : T (is_sorted nat_cmp (entries_in places arena))
+  -- each block of the arena is a place's, or spare, and no more than one of these
+  pub once : (s : ℕ) → times s (spots places) + times s spare ≡ one_below (length arena) s
+  pub shared : length places + length spare ≡ length arena
+  pub small : length arena < 4294967296
+  -- memory is reserved for the whole of it
+  pub room : length arena ≤ capacity
+  pub room_for_spare : length arena ≤ capacity_for_spare

@@ -1,0 +1,7 @@
+pub mod Blocks
+pub mod Code
+pub mod Held
+pub mod Key
+pub mod MapValue
+pub mod Pointed
+pub mod Present

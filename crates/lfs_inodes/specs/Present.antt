@@ -1,0 +1,35 @@
+-- The same, where blocks in memory stand in for what the device has: a pointer to a block in memory is 1.
+use Rattle.std.specs.Prelude.{◌≡◌, ◌<◌, ◌≤◌, ◌⊎◌, ◌+◌, ◌-◌, ◌/◌, ◌%◌, ◌==◌, ℕ, zero, suc, nat_lt, cond, List}
+use Rattle.lfs_model.specs.Content.{Content, bytes_of, block}
+use Rattle.lfs_model.specs.Entry.{Entry, Data, Leaf, Double, Inode, word}
+use Rattle.lfs_model.specs.Stands.{LogMap}
+use Rattle.lfs_model.specs.Memory.{Memory}
+use Rattle.lfs_model.specs.Laid.{IsLaid}
+use Rattle.lfs_model.specs.Running.{Dirty, IsCached}
+use Rattle.lfs_inodes.specs.Pointed.{IsLost}
+
+-- the block of an entry whose pointer is this
+abbrev pub present : Content → Dirty → Entry → ℕ → List ℕ
+present content dirty x address = cond (address == 1) (bytes_of (dirty x)) (block content address)
+
+-- the pointer to a leaf, and to a data block, of the file n of this inode
+abbrev pub leaf_now : Content → Dirty → ℕ → List ℕ → ℕ → ℕ
+leaf_now content dirty n inode zero = word inode 120
+leaf_now content dirty n inode (suc q) = word (present content dirty (Double n) (word inode 121)) q
+
+abbrev pub data_now : Content → Dirty → ℕ → List ℕ → ℕ → ℕ
+data_now content dirty n inode i =
+    cond (nat_lt i 112) (word inode (8 + i))
+    (word (present content dirty (Leaf n ((i - 112) / 128)) (leaf_now content dirty n inode ((i - 112) / 128))) ((i - 112) % 128))
+
+-- a block of pointers on the way, which isn't in memory, is lost
+abbrev pub IsLeafAway : Content → List ℕ → ℕ → Type 0
+IsLeafAway content inode q = (1 ≤ q) × IsLost content (word inode 121)
+
+abbrev pub IsDataAway : Content → Dirty → ℕ → List ℕ → ℕ → Type 0
+IsDataAway content dirty n inode i = (112 ≤ i) × (IsLeafAway content inode ((i - 112) / 128) ⊎ IsLost content (leaf_now content dirty n inode ((i - 112) / 128)))
+
+-- Where memory and device are laid out for a log map, this is what memory has for the block: 0 for none, 1 for one in memory, else its address.
+abbrev pub PresentIsLaid : Type 0
+PresentIsLaid = (content : Content) (m : LogMap) (M : Memory) (open_segment : ℕ) (dirty : Dirty) → IsLaid content m M open_segment → IsCached dirty M
+    → (n i : ℕ) → 0 < M.at (Inode n) → i < 16624 → data_now content dirty n (M.bytes (Inode n)) i ≡ M.at (Data n i)

@@ -1,0 +1,185 @@
+//! Names of blocks of files, in one word each.
+ghost use Rattle.std.specs.Prelude.{◌≡◌, ◌<◌, ◌≤◌, ◌/◌, ◌%◌, ℕ, IfSome, IfNone};
+ghost use Rattle.lfs_model.specs.Entry.{Data, Leaf, Double, Inode, entry_by, entry_of};
+ghost use Rattle.lfs_model.specs.Memory.{parent, pointer};
+ghost use Rattle.lfs_model.specs.Summary.{IsPlaced};
+ghost use Rattle.lfs_inodes.specs.Code.{IsCode, kind_by, entry_at};
+
+use lfs_layout::BlockName;
+use lfs_model::BlockKind;
+
+/// The pointer to a block that is in memory. It is a checkpoint slot, and no block's address.
+pub const IN_MEMORY: u32 = 1;
+
+/// How many blocks an inode points to by itself.
+pub const DIRECT: u32 = 112;
+
+/// How many pointers a leaf or a double root has.
+pub const POINTERS: u32 = 128;
+
+/// The places of 4 bytes of an inode at which its pointers stand: the first to a data block, and those to the single leaf and to
+/// the double root.
+pub const FIRST: u32 = 8;
+
+pub const SINGLE: usize = 120;
+
+pub const DOUBLE: usize = 121;
+
+const KIND: u32 = 134_217_728;
+
+const FILE: u32 = 32_768;
+
+/// The name of a block of a file: its kind, its file from 1 to 4,095, and its index. The order is that of kinds first, in
+/// which a block comes before the block that points to it.
+#[derive(Clone, Copy, Debug, PartialEq, Eq, PartialOrd, Ord)]
+pub struct BlockKey {
+    code: u32,
+    ghost formed: { IsCode code },
+}
+
+impl BlockKey {
+    /// The data block of a file at this index, at most 16,623.
+    pub fn data(file: u16, index: u32) -> BlockKey
+        requires some { 1 ≤ file }
+        requires file { file ≤ 4095 }
+        requires index { index ≤ 16623 }
+        ensures { entry_at result.code ≡ Data file index }
+    {
+        BlockKey {
+            code: FILE * u32::from(file) + index,
+        }
+    }
+
+    /// The leaf of pointers of a file at this index: 0 for the single leaf, else 1 and its place under the double root.
+    pub fn leaf(file: u16, index: u32) -> BlockKey
+        requires some { 1 ≤ file }
+        requires file { file ≤ 4095 }
+        requires index { index ≤ 128 }
+        ensures { entry_at result.code ≡ Leaf file index }
+    {
+        BlockKey {
+            code: KIND + FILE * u32::from(file) + index,
+        }
+    }
+
+    /// The double root of a file.
+    pub fn double(file: u16) -> BlockKey
+        requires some { 1 ≤ file }
+        requires file { file ≤ 4095 }
+        ensures { entry_at result.code ≡ Double file }
+    {
+        BlockKey {
+            code: 2 * KIND + FILE * u32::from(file),
+        }
+    }
+
+    /// The inode of a file.
+    pub fn inode(file: u16) -> BlockKey
+        requires some { 1 ≤ file }
+        requires file { file ≤ 4095 }
+        ensures { entry_at result.code ≡ Inode file }
+    {
+        BlockKey {
+            code: 3 * KIND + FILE * u32::from(file),
+        }
+    }
+
+    pub fn kind(self) -> BlockKind
+        ensures { result ≡ kind_by (self.code / 134217728) }
+    {
+        match self.code / KIND {
+            0 => BlockKind::Data,
+            1 => BlockKind::Leaf,
+            2 => BlockKind::Double,
+            _ => BlockKind::Inode,
+        }
+    }
+
+    /// The key as a number, in the order of keys.
+    pub fn number(self) -> u32
+        ensures { result ≡ self.code }
+    {
+        self.code
+    }
+
+    /// The file of the block.
+    pub fn file(self) -> u16
+        ensures file { result ≡ self.code / 32768 % 4096 }
+        ensures some { 1 ≤ result }
+        ensures few { result ≤ 4095 }
+    {
+        (self.code / FILE % 4_096) as u16
+    }
+
+    pub fn index(self) -> u32
+        ensures { result ≡ self.code % 32768 }
+    {
+        self.code % FILE
+    }
+
+    /// How the summary of a chunk names the block.
+    pub fn name(self) -> BlockName
+        ensures entry { entry_of result ≡ entry_at self.code }
+        ensures placed { IsPlaced result.kind result.file result.index }
+    {
+        BlockName {
+            file: self.file(),
+            kind: self.kind(),
+            index: self.index(),
+        }
+    }
+
+    /// The block that points to this one, if it isn't an inode.
+    pub fn parent(self) -> Option<BlockKey>
+        ensures some { IfSome result (λ above. (entry_at above.code ≡ parent (entry_at self.code)) × (self.code < above.code)) }
+        ensures none { IfNone result (parent (entry_at self.code) ≡ entry_at self.code) }
+    {
+        let file = self.file();
+        let index = self.index();
+        match self.kind() {
+            BlockKind::Data => {
+                if index < DIRECT {
+                    Some(BlockKey::inode(file))
+                } else {
+                    Some(BlockKey::leaf(file, (index - DIRECT) / POINTERS))
+                }
+            }
+            BlockKind::Leaf => {
+                if index == 0 {
+                    Some(BlockKey::inode(file))
+                } else {
+                    Some(BlockKey::double(file))
+                }
+            }
+            BlockKind::Double => Some(BlockKey::inode(file)),
+            _ => None,
+        }
+    }
+
+    /// The place of 4 bytes there at which this block's address stands; 0 for an inode.
+    pub fn pointer(self) -> usize
+        ensures pointer { result ≡ pointer (entry_at self.code) }
+        ensures low { result < 128 }
+    {
+        let index = self.index();
+        match self.kind() {
+            BlockKind::Data => {
+                let place = if index < DIRECT {
+                    FIRST + index
+                } else {
+                    (index - DIRECT) % POINTERS
+                };
+                place as usize
+            }
+            BlockKind::Leaf => {
+                if index == 0 {
+                    SINGLE
+                } else {
+                    (index - 1) as usize
+                }
+            }
+            BlockKind::Double => DOUBLE,
+            _ => 0,
+        }
+    }
+}

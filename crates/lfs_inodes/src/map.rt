@@ -1,0 +1,179 @@
+//! The inode map in memory.
+ghost use Rattle.std.specs.Prelude.{◌≡◌, ◌<◌, ◌≤◌, ◌+◌, ◌*◌, ℕ, List, length, get_or, slice_set, IfOk, IfSome, IfNone, IsTrue, IsFalse};
+ghost use Rattle.lfs_model.specs.Stands.{LogMap};
+ghost use Rattle.lfs_model.specs.Running.{Tables, IsSet};
+ghost use Rattle.lfs_model.specs.Committing.{SpellsMap};
+ghost use Rattle.lfs_model.specs.Memory.{shown};
+ghost use Rattle.lfs_model.specs.Entry.{Inode};
+ghost use Rattle.lfs_inodes.specs.MapValue.{MapValue, IsMap, IsEmptyMap, IsFree, IsLoaded, IsMapOf, AreSettled, ShowsNone, SpellsShown, address_in, is_hidden_in, block_in, shown_in};
+
+use lfs_layout::{PointerView, encode_pointers};
+use std::alloc::{AllocError, Global};
+use std::marker::Model;
+
+/// How many numbers there are; number 0 is nobody's.
+const NUMBERS: usize = 4_096;
+
+/// For each number the address of its inode, 0 where there is none and 1 where it is in memory, and whether its file is
+/// without a name. For each block of the map its address, 0 where there is none and 1 where it is to be written.
+#[derive(Drop)]
+pub struct InodeMap {
+    addresses: Vec<u32>,
+    hidden: Vec<bool>,
+    blocks: [u32; 32],
+}
+
+impl Model for InodeMap {
+    ghost use Rattle.lfs_inodes.specs.MapValue.{MapValue, IsMap};
+
+    ghost Value = { MapValue };
+
+    ghost view = { λ m. record { addresses = m.addresses.items; hidden = m.hidden.items; blocks = m.blocks } };
+
+    ghost invariant = { λ m. IsMap (record { addresses = m.addresses.items; hidden = m.hidden.items; blocks = m.blocks }) };
+}
+
+impl InodeMap {
+    /// A map without inodes.
+    ///
+    /// # Errors
+    ///
+    /// Where memory runs out.
+    pub fn new(alloc: Global) -> Result<InodeMap, AllocError>
+        ensures { IfOk result IsEmptyMap }
+    {
+        let addresses = Vec::from_elem(alloc, 0, NUMBERS)?;
+        let hidden = Vec::from_elem(alloc, false, NUMBERS)?;
+        Ok(InodeMap {
+            addresses,
+            hidden,
+            blocks: [0; 32],
+        })
+    }
+
+    /// The address of an inode.
+    pub fn address(&self, number: u16) -> u32
+        requires { number < 4096 }
+        ensures { result ≡ address_in self.now number }
+    {
+        self.addresses[number as usize]
+    }
+
+    /// The inode has this address.
+    pub fn set_address(&mut self, number: u16, address: u32)
+        requires { number < 4096 }
+        ensures set { self.new ≡ record self.old { addresses = slice_set self.old.addresses number address } }
+        ensures changed { IsSet (address_in self.old) (address_in self.new) number address }
+    {
+        self.addresses[number as usize] = address;
+    }
+
+    /// Whether the file is without a name.
+    pub fn is_hidden(&self, number: u16) -> bool
+        requires { number < 4096 }
+        ensures { result ≡ is_hidden_in self.now number }
+    {
+        self.hidden[number as usize]
+    }
+
+    /// The file is without a name, or has one.
+    pub fn set_hidden(&mut self, number: u16, hidden: bool)
+        requires { number < 4096 }
+        ensures set { self.new ≡ record self.old { hidden = slice_set self.old.hidden number hidden } }
+        ensures changed { IsSet (is_hidden_in self.old) (is_hidden_in self.new) number hidden }
+    {
+        self.hidden[number as usize] = hidden;
+    }
+
+    /// The address of a block of the map.
+    pub fn block_address(&self, index: usize) -> u32
+        requires { index < 32 }
+        ensures { result ≡ block_in self.now index }
+    {
+        self.blocks[index]
+    }
+
+    /// The block of the map has this address.
+    pub fn set_block_address(&mut self, index: usize, address: u32)
+        requires { index < 32 }
+        ensures set { self.new ≡ record self.old { blocks = slice_set self.old.blocks index address } }
+        ensures changed { IsSet (block_in self.old) (block_in self.new) index address }
+    {
+        self.blocks[index] = address;
+    }
+
+    /// Takes the addresses of 128 inodes from a block of the map.
+    pub fn load(&mut self, index: usize, block: &PointerView<'_>)
+        requires { index < 32 }
+        ensures { IsLoaded self.old self.new index block.now }
+    {
+        for place in 0..128usize {
+            self.addresses[128 * index + place] = block.get(place);
+        }
+    }
+
+    /// The least number from 1 on that has no inode.
+    pub fn least_free(&self) -> Option<u16>
+        ensures some { IfSome result (IsFree self.now) }
+        ensures none { IfNone result ((k : ℕ) → 1 ≤ k → k < 4096 → 0 < address_in self.now k) }
+    {
+        for number in 1..4_096u16 {
+            if self.addresses[number as usize] == 0 {
+                return Some(number);
+            }
+        }
+        None
+    }
+
+    /// The address of an inode that a block of the map shows: none for a file without a name.
+    fn shown_address(&self, number: usize) -> u32
+        requires { number < 4096 }
+        ensures { result ≡ shown_in self.now number }
+    {
+        if self.hidden[number] {
+            0
+        } else {
+            self.addresses[number]
+        }
+    }
+
+    /// The addresses that a block of the map shows.
+    fn shown_block(&self, index: usize) -> [u32; 128]
+        requires { index < 32 }
+        ensures { (i : ℕ) → i < 128 → get_or result i 0 ≡ shown_in self.now (128 * index + i) }
+    {
+        let mut shown = [0; 128];
+        for place in 0..128usize {
+            shown[place] = self.shown_address(128 * index + place);
+        }
+        shown
+    }
+
+    /// A block of the map as it is written, or `None` where it would show no inode.
+    pub fn encode(&self, index: usize) -> Option<[u8; 512]>
+        requires { index < 32 }
+        ensures some { IfSome result (SpellsShown self.now index) }
+        ensures none { IfNone result (ShowsNone self.now index) }
+        ensures written { (m : LogMap) (t : Tables) → IsMapOf self.now m t → AreSettled m t index → IfSome result (SpellsMap m t index) }
+        ensures dropped { (m : LogMap) (t : Tables) → IsMapOf self.now m t → IfNone result ((i : ℕ) → i < 128 → shown m t.at (Inode (128 * index + i)) ≡ 0) }
+    {
+        let shown = self.shown_block(index);
+        if is_empty(&shown) {
+            return None;
+        }
+        Some(encode_pointers(&shown))
+    }
+}
+
+/// Whether all addresses are 0.
+fn is_empty(addresses: &[u32; 128]) -> bool
+    ensures empty { IsTrue result → (i : ℕ) → get_or addresses.now i 0 ≡ 0 }
+    ensures some { IsFalse result → (i : ℕ) × (i < 128) × (0 < get_or addresses.now i 0) }
+{
+    for address in addresses {
+        if *address != 0 {
+            return false;
+        }
+    }
+    true
+}

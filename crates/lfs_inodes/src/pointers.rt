@@ -1,0 +1,140 @@
+//! The way from an inode to the blocks of its file.
+ghost use Rattle.std.specs.Prelude.{◌≡◌, ◌<◌, ◌≤◌, ◌↔◌, IsTrue, IfOk, OnOk, IsErrOf};
+ghost use Rattle.lfs_model.specs.Device.{Carries, Elapses, IsUntouched};
+ghost use Rattle.lfs_model.specs.Content.{block};
+ghost use Rattle.lfs_model.specs.Entry.{word};
+ghost use Rattle.lfs_inodes.specs.Key.{entry_of};
+ghost use Rattle.lfs_inodes.specs.Pointed.{leaf_in, data_in, pointed, IsLost, IsLeafLost, IsDataLost, IsWayLost};
+
+use crate::key::{BlockKey, DIRECT, DOUBLE, FIRST, POINTERS, SINGLE};
+use lfs_device::{ReadFault, SectorDevice};
+use lfs_layout::word;
+use lfs_model::BlockKind;
+
+/// The number at a place of 4 bytes of the block at an address; 0 where the address is 0, or the place past the block.
+#[tactic(auto, unfolding(lfs_model::specs::Entry::word), using(crate::proofs::Places::places))]
+pub(crate) fn pointer_at<D: SectorDevice>(
+    device: &mut D,
+    address: u32,
+    place: u32,
+) -> Result<u32, ReadFault>
+    ensures value { IfOk result (λ found. (D.state device.new).keeps_model → found ≡ word (block (D.state device.old).content address) place) }
+    ensures unreadable { IsErrOf result ReadFault.Unreadable → (D.state device.new).keeps_model → IsLost (D.state device.old).content address }
+    ensures failed { IsErrOf result ReadFault.Failed → (D.state device.old).failures < (D.state device.new).failures }
+    ensures no_failure { OnOk result ((D.state device.new).failures ≡ (D.state device.old).failures) }
+    ensures no_failure_unreadable { IsErrOf result ReadFault.Unreadable → (D.state device.new).failures ≡ (D.state device.old).failures }
+    ensures untouched { IsUntouched (D.state device.old) (D.state device.new) }
+    ensures carries { Carries (D.state device.old) (D.state device.new) }
+    ensures time { Elapses (D.state device.old) (D.state device.new) }
+{
+    if address == 0 {
+        return Ok(0);
+    }
+    if address >= device.sectors() {
+        return Err(ReadFault::Unreadable);
+    }
+    let mut block = [0; 512];
+    device.read(address, &mut block)?;
+    if place >= POINTERS {
+        return Ok(0);
+    }
+    Ok(word(&block, place as usize))
+}
+
+/// The address of a leaf of pointers: the single one at 0, those under the double root from 1 on.
+#[tactic(auto, unfolding(lfs_model::specs::Entry::word))]
+fn locate_leaf<D: SectorDevice>(
+    device: &mut D,
+    inode: &[u8; 512],
+    index: u32,
+) -> Result<u32, ReadFault>
+    ensures value { IfOk result (λ address. (D.state device.new).keeps_model → address ≡ leaf_in (D.state device.old).content inode.now index) }
+    ensures unreadable { IsErrOf result ReadFault.Unreadable → (D.state device.new).keeps_model → IsLeafLost (D.state device.old).content inode.now index }
+    ensures failed { IsErrOf result ReadFault.Failed → (D.state device.old).failures < (D.state device.new).failures }
+    ensures no_failure { OnOk result ((D.state device.new).failures ≡ (D.state device.old).failures) }
+    ensures no_failure_unreadable { IsErrOf result ReadFault.Unreadable → (D.state device.new).failures ≡ (D.state device.old).failures }
+    ensures untouched { IsUntouched (D.state device.old) (D.state device.new) }
+    ensures carries { Carries (D.state device.old) (D.state device.new) }
+    ensures time { Elapses (D.state device.old) (D.state device.new) }
+{
+    if index == 0 {
+        return Ok(word(inode, SINGLE));
+    }
+    pointer_at(device, word(inode, DOUBLE), index - 1)
+}
+
+/// The address of a data block of the file of an inode, or 0 where none is stored. It reads two blocks of pointers at most.
+///
+/// # Errors
+///
+/// `Unreadable` where a block of pointers on the way can't be read or isn't on the device, `Failed` where a call of the device failed.
+#[tactic(auto, unfolding(lfs_model::specs::Entry::word))]
+pub fn locate<D: SectorDevice>(
+    device: &mut D,
+    inode: &[u8; 512],
+    index: u32,
+) -> Result<u32, ReadFault>
+    ensures value { IfOk result (λ address. (D.state device.new).keeps_model → address ≡ data_in (D.state device.old).content inode.now index) }
+    ensures unreadable { IsErrOf result ReadFault.Unreadable → (D.state device.new).keeps_model → IsDataLost (D.state device.old).content inode.now index }
+    ensures failed { IsErrOf result ReadFault.Failed → (D.state device.old).failures < (D.state device.new).failures }
+    ensures no_failure { OnOk result ((D.state device.new).failures ≡ (D.state device.old).failures) }
+    ensures no_failure_unreadable { IsErrOf result ReadFault.Unreadable → (D.state device.new).failures ≡ (D.state device.old).failures }
+    ensures untouched { IsUntouched (D.state device.old) (D.state device.new) }
+    ensures carries { Carries (D.state device.old) (D.state device.new) }
+    ensures time { Elapses (D.state device.old) (D.state device.new) }
+{
+    if index < DIRECT {
+        return Ok(word(inode, (FIRST + index) as usize));
+    }
+    let place = index - DIRECT;
+    let leaf = locate_leaf(device, inode, place / POINTERS)?;
+    pointer_at(device, leaf, place % POINTERS)
+}
+
+/// The address of any block of the file of an inode.
+#[tactic(auto, unfolding(lfs_model::specs::Entry::word))]
+fn locate_block<D: SectorDevice>(
+    device: &mut D,
+    inode: &[u8; 512],
+    key: BlockKey,
+) -> Result<u32, ReadFault>
+    ensures value { IfOk result (λ address. (D.state device.new).keeps_model → address ≡ pointed (D.state device.old).content inode.now (entry_of key)) }
+    ensures unreadable { IsErrOf result ReadFault.Unreadable → (D.state device.new).keeps_model → IsWayLost (D.state device.old).content inode.now (entry_of key) }
+    ensures failed { IsErrOf result ReadFault.Failed → (D.state device.old).failures < (D.state device.new).failures }
+    ensures no_failure { OnOk result ((D.state device.new).failures ≡ (D.state device.old).failures) }
+    ensures no_failure_unreadable { IsErrOf result ReadFault.Unreadable → (D.state device.new).failures ≡ (D.state device.old).failures }
+    ensures untouched { IsUntouched (D.state device.old) (D.state device.new) }
+    ensures carries { Carries (D.state device.old) (D.state device.new) }
+    ensures time { Elapses (D.state device.old) (D.state device.new) }
+{
+    match key.kind() {
+        BlockKind::Data => locate(device, inode, key.index()),
+        BlockKind::Leaf => locate_leaf(device, inode, key.index()),
+        BlockKind::Double => Ok(word(inode, DOUBLE)),
+        _ => Ok(0),
+    }
+}
+
+/// Whether the pointers from an inode lead to a block of its file at this address. They lead to no inode.
+///
+/// # Errors
+///
+/// As those of `locate`.
+pub fn owner_points<D: SectorDevice>(
+    device: &mut D,
+    inode: &[u8; 512],
+    key: BlockKey,
+    address: u32,
+) -> Result<bool, ReadFault>
+    ensures value { IfOk result (λ leads. (D.state device.new).keeps_model → (IsTrue leads ↔ (0 < address) × (pointed (D.state device.old).content inode.now (entry_of key) ≡ address))) }
+    ensures unreadable { IsErrOf result ReadFault.Unreadable → (D.state device.new).keeps_model → IsWayLost (D.state device.old).content inode.now (entry_of key) }
+    ensures failed { IsErrOf result ReadFault.Failed → (D.state device.old).failures < (D.state device.new).failures }
+    ensures no_failure { OnOk result ((D.state device.new).failures ≡ (D.state device.old).failures) }
+    ensures no_failure_unreadable { IsErrOf result ReadFault.Unreadable → (D.state device.new).failures ≡ (D.state device.old).failures }
+    ensures untouched { IsUntouched (D.state device.old) (D.state device.new) }
+    ensures carries { Carries (D.state device.old) (D.state device.new) }
+    ensures time { Elapses (D.state device.old) (D.state device.new) }
+{
+    let found = locate_block(device, inode, key)?;
+    Ok(address != 0 && found == address)
+}

@@ -1,0 +1,105 @@
+//! The way from an inode to the blocks of its file, where some of them are in memory.
+ghost use Rattle.std.specs.Prelude.{◌≡◌, ◌<◌, ◌≤◌, ◌==◌, cond, IfOk, OnOk, IsErrOf};
+ghost use Rattle.lfs_model.specs.Device.{Carries, Elapses, IsUntouched};
+ghost use Rattle.lfs_model.specs.Entry.{word};
+ghost use Rattle.lfs_inodes.specs.Key.{entry_of};
+ghost use Rattle.lfs_inodes.specs.Blocks.{blocks_of};
+ghost use Rattle.lfs_inodes.specs.Pointed.{IsLost};
+ghost use Rattle.lfs_inodes.specs.Present.{present, leaf_now, data_now, IsLeafAway, IsDataAway};
+
+use crate::key::{BlockKey, DIRECT, DOUBLE, FIRST, IN_MEMORY, POINTERS, SINGLE};
+use crate::pointers::pointer_at;
+use crate::table::DirtyTable;
+use lfs_device::{ReadFault, SectorDevice};
+use lfs_layout::word;
+
+/// The number at a place of 4 bytes of the block of this key, whose pointer is known; 0 where there is none.
+#[tactic(auto, unfolding(lfs_model::specs::Entry::word), using(crate::proofs::Places::places))]
+fn present_pointer<D: SectorDevice>(
+    device: &mut D,
+    table: &DirtyTable,
+    key: BlockKey,
+    address: u32,
+    place: u32,
+) -> Result<u32, ReadFault>
+    requires { place < 128 }
+    ensures value { IfOk result (λ found. (D.state device.new).keeps_model → found ≡ word (present (D.state device.old).content (blocks_of table.now) (entry_of key) address) place) }
+    ensures unreadable { IsErrOf result ReadFault.Unreadable → (D.state device.new).keeps_model → IsLost (D.state device.old).content address }
+    ensures failed { IsErrOf result ReadFault.Failed → (D.state device.old).failures < (D.state device.new).failures }
+    ensures no_failure { OnOk result ((D.state device.new).failures ≡ (D.state device.old).failures) }
+    ensures no_failure_unreadable { IsErrOf result ReadFault.Unreadable → (D.state device.new).failures ≡ (D.state device.old).failures }
+    ensures untouched { IsUntouched (D.state device.old) (D.state device.new) }
+    ensures carries { Carries (D.state device.old) (D.state device.new) }
+    ensures time { Elapses (D.state device.old) (D.state device.new) }
+{
+    if address != IN_MEMORY {
+        return pointer_at(device, address, place);
+    }
+    match table.block(key) {
+        Some(block) => Ok(word(block, place as usize)),
+        None => Ok(0),
+    }
+}
+
+/// The pointer to a leaf of pointers: the single one at 0, those under the double root from 1 on.
+#[tactic(auto, unfolding(lfs_model::specs::Entry::word))]
+fn present_leaf<D: SectorDevice>(
+    device: &mut D,
+    table: &DirtyTable,
+    file: u16,
+    inode: &[u8; 512],
+    index: u32,
+) -> Result<u32, ReadFault>
+    requires some { 1 ≤ file }
+    requires file { file ≤ 4095 }
+    requires index { index ≤ 128 }
+    ensures value { IfOk result (λ pointer. (D.state device.new).keeps_model → pointer ≡ leaf_now (D.state device.old).content (blocks_of table.now) file inode.now index) }
+    ensures unreadable { IsErrOf result ReadFault.Unreadable → (D.state device.new).keeps_model → IsLeafAway (D.state device.old).content inode.now index }
+    ensures failed { IsErrOf result ReadFault.Failed → (D.state device.old).failures < (D.state device.new).failures }
+    ensures no_failure { OnOk result ((D.state device.new).failures ≡ (D.state device.old).failures) }
+    ensures no_failure_unreadable { IsErrOf result ReadFault.Unreadable → (D.state device.new).failures ≡ (D.state device.old).failures }
+    ensures untouched { IsUntouched (D.state device.old) (D.state device.new) }
+    ensures carries { Carries (D.state device.old) (D.state device.new) }
+    ensures time { Elapses (D.state device.old) (D.state device.new) }
+{
+    if index == 0 {
+        return Ok(word(inode, SINGLE));
+    }
+    let root = BlockKey::double(file);
+    present_pointer(device, table, root, word(inode, DOUBLE), index - 1)
+}
+
+/// The pointer to a data block of a file: 0 where none is stored, `IN_MEMORY` for one in the table, else its address. Blocks of
+/// pointers that the table has are read there, others on the device, two at most.
+///
+/// # Errors
+///
+/// As those of `locate`.
+#[tactic(auto, unfolding(lfs_model::specs::Entry::word))]
+pub fn locate_present<D: SectorDevice>(
+    device: &mut D,
+    table: &DirtyTable,
+    file: u16,
+    inode: &[u8; 512],
+    index: u32,
+) -> Result<u32, ReadFault>
+    requires some { 1 ≤ file }
+    requires file { file ≤ 4095 }
+    requires index { index ≤ 16623 }
+    ensures value { IfOk result (λ pointer. (D.state device.new).keeps_model → pointer ≡ data_now (D.state device.old).content (blocks_of table.now) file inode.now index) }
+    ensures unreadable { IsErrOf result ReadFault.Unreadable → (D.state device.new).keeps_model → IsDataAway (D.state device.old).content (blocks_of table.now) file inode.now index }
+    ensures failed { IsErrOf result ReadFault.Failed → (D.state device.old).failures < (D.state device.new).failures }
+    ensures no_failure { OnOk result ((D.state device.new).failures ≡ (D.state device.old).failures) }
+    ensures no_failure_unreadable { IsErrOf result ReadFault.Unreadable → (D.state device.new).failures ≡ (D.state device.old).failures }
+    ensures untouched { IsUntouched (D.state device.old) (D.state device.new) }
+    ensures carries { Carries (D.state device.old) (D.state device.new) }
+    ensures time { Elapses (D.state device.old) (D.state device.new) }
+{
+    if index < DIRECT {
+        return Ok(word(inode, (FIRST + index) as usize));
+    }
+    let place = index - DIRECT;
+    let pointer = present_leaf(device, table, file, inode, place / POINTERS)?;
+    let leaf = BlockKey::leaf(file, place / POINTERS);
+    present_pointer(device, table, leaf, pointer, place % POINTERS)
+}

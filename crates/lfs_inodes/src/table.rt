@@ -1,0 +1,212 @@
+//! The blocks of files that are in memory.
+ghost use Rattle.std.specs.Prelude.{◌≡◌, ◌<◌, ◌≤◌, ◌+◌, cond, ℕ, T, List, [], length, is_some, Some, None, IfOk, IfErr, IfSome, IfNone, IsSome, MatchOption, vec_len, vec_capacity};
+ghost use Rattle.std.specs.Ordering.{nat_cmp};
+ghost use Rattle.std.specs.Option.{option_map};
+ghost use Rattle.std.specs.FinMap.{find, put, is_sorted};
+ghost use Rattle.lfs_model.specs.Entry.{Entry};
+ghost use Rattle.lfs_model.specs.Tree.{without};
+ghost use Rattle.lfs_model.specs.Memory.{patched, parent, pointer, IsOfFile};
+ghost use Rattle.lfs_model.specs.Running.{IsLowest, Moves};
+ghost use Rattle.lfs_model.specs.Staging.{ChangesTo, Fetches};
+ghost use Rattle.lfs_inodes.specs.Key.{entry_of};
+ghost use Rattle.lfs_inodes.specs.Blocks.{blocks_of, altered, IsAt, IsGapFor};
+ghost use Rattle.lfs_inodes.specs.Held.{times, one_below};
+
+use crate::key::{BlockKey, IN_MEMORY};
+use lfs_layout::set_word;
+use std::alloc::{AllocError, Global};
+use std::marker::Model;
+
+/// Where the block of a key stands in memory.
+#[derive(Clone, Copy)]
+struct Place {
+    key: BlockKey,
+    spot: u32,
+}
+
+/// The blocks of files in memory, by their keys. All memory is taken as the table is made. Contracts see the list of the keys'
+/// numbers and the blocks, and how many blocks there may be.
+#[derive(Drop)]
+pub struct DirtyTable {
+    places: Vec<Place>,
+    arena: Vec<[u8; 512]>,
+    spare: Vec<u32>,
+}
+
+impl Model for DirtyTable {
+    ghost use Rattle.std.specs.Prelude.{length, vec_capacity};
+    ghost use Rattle.lfs_inodes.specs.Blocks.{TableValue};
+
+    ghost Value = { TableValue };
+
+    ghost use Rattle.lfs_inodes.specs.Held.{entries_in, IsHeld};
+
+    ghost view = { λ t. record { blocks = entries_in t.places.items t.arena.items; capacity = length t.arena.items } };
+
+    ghost invariant = { λ t. IsHeld t.places.items t.arena.items t.spare.items (vec_capacity t.places) (vec_capacity t.spare) };
+}
+
+impl DirtyTable {
+    /// An empty table with room for this many blocks.
+    ///
+    /// # Errors
+    ///
+    /// Where memory runs out.
+    pub fn new(alloc: Global, capacity: u32) -> Result<DirtyTable, AllocError>
+        ensures empty { IfOk result (λ t. t.blocks ≡ []) }
+        ensures capacity { IfOk result (λ t. t.capacity ≡ capacity) }
+    {
+        let places = Vec::with_capacity(alloc, capacity as usize)?;
+        let arena = Vec::from_elem(alloc, [0; 512], capacity as usize)?;
+        let mut spare = Vec::with_capacity(alloc, capacity as usize)?;
+        fill(&mut spare, capacity);
+        Ok(DirtyTable {
+            places,
+            arena,
+            spare,
+        })
+    }
+
+    /// How many blocks there are.
+    pub fn len(&self) -> usize
+        ensures length { result ≡ length self.now.blocks }
+        ensures room { length self.now.blocks ≤ self.now.capacity }
+        ensures sorted { T (is_sorted nat_cmp self.now.blocks) }
+        ensures files { (x : Entry) (bytes : List ℕ) → blocks_of self.now x ≡ Some bytes → IsOfFile x }
+    {
+        self.places.len()
+    }
+
+    /// How many blocks there may be.
+    pub fn capacity(&self) -> usize
+        ensures { result ≡ self.now.capacity }
+    {
+        self.arena.len()
+    }
+
+    /// The block with the least key: none of the blocks that it points to is in memory.
+    pub fn next(&self) -> Option<BlockKey>
+        ensures first { IfSome result (λ key. IsAt self.now.blocks key.code 0) }
+        ensures none { IfNone result (self.now.blocks ≡ []) }
+        ensures lowest { IfSome result (λ key. IsLowest (blocks_of self.now) (entry_of key)) }
+        ensures empty { IfNone result ((x : Entry) → blocks_of self.now x ≡ None) }
+    {
+        let place = self.places.first()?;
+        Some(place.key)
+    }
+
+    /// Where a key stands in the index, or where it would go.
+    fn search(&self, key: BlockKey) -> Result<usize, usize>
+        ensures found { IfOk result (IsAt self.now.blocks key.code) }
+        ensures missing { IfErr result (IsGapFor self.now.blocks key.code) }
+    {
+        self.places
+            .binary_search_by_key(&key.number(), |place| place.key.number())
+    }
+
+    /// The block of a key, if it is here.
+    pub fn block(&self, key: BlockKey) -> Option<&[u8; 512]>
+        ensures block { MatchOption result (find nat_cmp key.code self.now.blocks ≡ None) (λ bytes. find nat_cmp key.code self.now.blocks ≡ Some bytes.now) }
+        ensures entry { MatchOption result (blocks_of self.now (entry_of key) ≡ None) (λ bytes. blocks_of self.now (entry_of key) ≡ Some bytes.now) }
+    {
+        let Ok(at) = self.search(key) else {
+            return None;
+        };
+        Some(&self.arena[self.places[at].spot as usize])
+    }
+
+    /// Puts a block in, in the place of what it was.
+    pub fn put(&mut self, key: BlockKey, bytes: &[u8; 512])
+        requires { find nat_cmp key.code self.old.blocks ≡ None → length self.old.blocks < self.old.capacity }
+        ensures put { self.new ≡ record self.old { blocks = put nat_cmp key.code bytes.now self.old.blocks } }
+        ensures changed { ChangesTo (blocks_of self.old) (blocks_of self.new) (entry_of key) (Some bytes.now) }
+        ensures length { length self.new.blocks ≡ cond (is_some (find nat_cmp key.code self.old.blocks)) (length self.old.blocks) (length self.old.blocks + 1) }
+    {
+        match self.search(key) {
+            Ok(at) => {
+                let spot = self.places[at].spot;
+                self.arena[spot as usize] = *bytes;
+            }
+            Err(at) => {
+                let spot = self.spare.pop().unwrap();
+                self.arena[spot as usize] = *bytes;
+                self.places.insert(at, Place { key, spot }).unwrap();
+            }
+        }
+    }
+
+    /// Puts a number at a place of 4 bytes of a block, if the block is here.
+    pub fn patch(&mut self, key: BlockKey, place: usize, number: u32)
+        requires { place < 128 }
+        ensures patched { self.new ≡ record self.old { blocks = altered (patched place number) key.code self.old.blocks } }
+        ensures changed { ChangesTo (blocks_of self.old) (blocks_of self.new) (entry_of key) (option_map (patched place number) (blocks_of self.old (entry_of key))) }
+        ensures length { length self.new.blocks ≡ length self.old.blocks }
+    {
+        let Ok(at) = self.search(key) else {
+            return;
+        };
+        let spot = self.places[at].spot as usize;
+        set_word(&mut self.arena[spot], place, number);
+    }
+
+    /// Takes a block out, if it is here.
+    pub fn remove(&mut self, key: BlockKey)
+        ensures removed { self.new ≡ record self.old { blocks = without nat_cmp key.code self.old.blocks } }
+        ensures changed { ChangesTo (blocks_of self.old) (blocks_of self.new) (entry_of key) None }
+        ensures length { cond (is_some (find nat_cmp key.code self.old.blocks)) 1 0 + length self.new.blocks ≡ length self.old.blocks }
+    {
+        let Ok(at) = self.search(key) else {
+            return;
+        };
+        let place = self.places.remove(at);
+        self.spare.push(place.spot).unwrap();
+    }
+
+    /// A block comes into memory, in the place of what was there, and its parent points to it there.
+    pub fn fetch(&mut self, key: BlockKey, bytes: &[u8; 512])
+        requires { find nat_cmp key.code self.old.blocks ≡ None → length self.old.blocks < self.old.capacity }
+        ensures fetches { Fetches (blocks_of self.old) (blocks_of self.new) (entry_of key) bytes.now }
+        ensures length { length self.new.blocks ≡ cond (is_some (find nat_cmp key.code self.old.blocks)) (length self.old.blocks) (length self.old.blocks + 1) }
+        ensures capacity { self.new.capacity ≡ self.old.capacity }
+    {
+        if let Some(above) = key.parent() {
+            self.patch(above, key.pointer(), IN_MEMORY);
+        }
+        self.put(key, bytes);
+    }
+
+    /// The block of this key leaves memory for an address on the device, or for good at 0, and its parent points there.
+    pub fn moved(&mut self, key: BlockKey, address: u32)
+        ensures moves { Moves (blocks_of self.old) (blocks_of self.new) (entry_of key) address }
+        ensures length { (bytes : List ℕ) → blocks_of self.old (entry_of key) ≡ Some bytes → length self.new.blocks + 1 ≡ length self.old.blocks }
+        ensures capacity { self.new.capacity ≡ self.old.capacity }
+    {
+        if let Some(above) = key.parent() {
+            self.patch(above, key.pointer(), address);
+        }
+        self.remove(key);
+    }
+
+    /// Takes every block out.
+    pub fn clear(&mut self)
+        ensures empty { self.new ≡ record self.old { blocks = [] } }
+        ensures entries { (x : Entry) → blocks_of self.new x ≡ None }
+    {
+        self.places.clear();
+        self.spare.clear();
+        fill(&mut self.spare, self.arena.len() as u32);
+    }
+}
+
+/// Puts the numbers below this one into an empty list.
+fn fill(spots: &mut Vec<u32>, capacity: u32)
+    requires empty { vec_len spots.old ≡ 0 }
+    requires room { capacity ≤ vec_capacity spots.old }
+    ensures once { (s : ℕ) → times s spots.new.items ≡ one_below capacity s }
+    ensures len { vec_len spots.new ≡ capacity }
+    ensures room { vec_capacity spots.old ≤ vec_capacity spots.new }
+{
+    for spot in 0..capacity {
+        spots.push(spot).unwrap();
+    }
+}

@@ -1,0 +1,4 @@
+pub mod Numbers
+pub mod Steps
+pub mod Saving
+pub mod Entries

@@ -1,0 +1,219 @@
+-- The calls on a usage table, from what they write.
+use Rattle.std.proofs.Common.{◌≡◌, ◌≢◌, ◌<◌, ◌≤◌, ⊎_elim, ◌+◌, ◌*◌, ◌-◌, ◌/◌, ◌==◌, ◌&&◌, cond, not, ℕ, zero, suc, Bool, true, false, List, length, get_or, refl, sym, ◌∙◌, ap, subst, arith, length-set, get_or-set_other, get_or-set_same, eqb-true, eq-eqb}
+use Rattle.std.specs.Prelude.{slice_set}
+use Rattle.std.proofs.lemmas.Bool.{cases_eq, cases_lt, cases_Bool, cond-true, cond-false, false_from_ne_true}
+use Rattle.std.proofs.lemmas.List.{get_or_past}
+use Rattle.lfs_model.specs.Running.{IsSet, CountsUp, CountsDown}
+use Rattle.lfs_segments.specs.Table.{SegmentNumbers, BlockPlace, UsageTable, FitsSegment, FitsTable, no_segment, no_place, used_of, live_of, held_of, age_of, taken_of, address_of, stale_of, clean_in}
+use Rattle.lfs_segments.specs.Steps.{Stales, Notes, Lifts, Takes, Puts, Releases, released, is_empty}
+use Rattle.lfs_segments.proofs.Numbers.{set_own, set_other, one_taken, still_clean, clean_change}
+
+module _ {X : Type 0} (f : SegmentNumbers → X) (segments : List SegmentNumbers) (s : ℕ) (x : SegmentNumbers) (lt : s < length segments) where
+  -- a number of the one that changes
+  pub is_set : IsSet (λ i. f (get_or segments i no_segment)) (λ i. f (get_or (slice_set segments s x) i no_segment)) s (f x)
+  is_set = record { own = ap f (set_own segments s x lt); others = λ i ne. ap f (set_other segments s x i ne) }
+
+  -- and one that doesn't
+  pub is_same : f x ≡ f (get_or segments s no_segment) → (i : ℕ) → f (get_or (slice_set segments s x) i no_segment) ≡ f (get_or segments i no_segment)
+  is_same same i = ⊎_elim
+      (λ (here : i ≡ s). ap (λ (i : ℕ). f (get_or (slice_set segments s x) i no_segment)) here ∙ ap f (set_own segments s x lt) ∙ same ∙ ap (λ (i : ℕ). f (get_or segments i no_segment)) (sym here))
+      (λ (away : i ≡ s → ⊥). ap f (set_other segments s x i away))
+      (cases_eq i s)
+
+more : Bool → ℕ → ℕ
+more true n = suc n
+more false n = n
+
+set_to : {X : Type 0} (old new : ℕ → X) (i : ℕ) (x y : X) → x ≡ y → IsSet old new i x → IsSet old new i y
+set_to old new i x y same is = record { own = is.own ∙ same; others = is.others }
+
+module _ (f : SegmentNumbers → ℕ) (segments : List SegmentNumbers) (s : ℕ) (x : SegmentNumbers) (lt : s < length segments) where
+  counts_up : (b : Bool) → f x ≡ cond b 1 0 + f (get_or segments s no_segment) → CountsUp b (λ i. f (get_or segments i no_segment)) (λ i. f (get_or (slice_set segments s x) i no_segment)) s
+  counts_up true is = set_to _ _ s (f x) _ (omega arith) (is_set f segments s x lt)
+  counts_up false is = is_same f segments s x lt (omega arith)
+
+  counts_down : (b : Bool) → cond b 1 0 + f x ≡ f (get_or segments s no_segment) → CountsDown b (λ i. f (get_or segments i no_segment)) (λ i. f (get_or (slice_set segments s x) i no_segment)) s
+  counts_down true is = let e = is_set f segments s x lt in let own = e.own in record { own = omega arith; others = λ i ne. sym (e.others i ne) }
+  counts_down false is = is_same f segments s x lt (omega arith)
+
+-- the blocks of the table
+module _ (blocks : List BlockPlace) (j : ℕ) (x : BlockPlace) (lt : j < length blocks) where
+  place_own : get_or (slice_set blocks j x) j no_place ≡ x
+  place_own = get_or-set_same blocks j x no_place lt
+
+  place_other : (i : ℕ) → (i ≡ j → ⊥) → get_or (slice_set blocks j x) i no_place ≡ get_or blocks i no_place
+  place_other i ne = get_or-set_other blocks j i x no_place ne
+
+  pub place_set : {X : Type 0} (f : BlockPlace → X) → IsSet (λ i. f (get_or blocks i no_place)) (λ i. f (get_or (slice_set blocks j x) i no_place)) j (f x)
+  place_set f = record { own = ap f place_own; others = λ i ne. ap f (place_other i ne) }
+
+  pub place_same : {X : Type 0} (f : BlockPlace → X) → f x ≡ f (get_or blocks j no_place) → (i : ℕ) → f (get_or (slice_set blocks j x) i no_place) ≡ f (get_or blocks i no_place)
+  place_same f same i = ⊎_elim
+      (λ (here : i ≡ j). ap (λ (i : ℕ). f (get_or (slice_set blocks j x) i no_place)) here ∙ ap f place_own ∙ same ∙ ap (λ (i : ℕ). f (get_or blocks i no_place)) (sym here))
+      (λ (away : i ≡ j → ⊥). ap f (place_other i away))
+      (cases_eq i j)
+
+made_stale : (segments more : List SegmentNumbers) (blocks : List BlockPlace) (j : ℕ) → j < length blocks
+    → Stales (record { segments = segments; blocks = blocks }) (record { segments = more; blocks = slice_set blocks j (record { address = (get_or blocks j no_place).address; stale = true }) }) j
+made_stale segments more blocks j lt = record {
+  stale = place_set blocks j _ lt (λ b. b.stale);
+  address = place_same blocks j _ lt (λ b. b.address) refl;
+}
+
+both_in_use : (a b : ℕ) → a ≢ 0 → b ≢ 0 → (a == 0) ≡ (b == 0)
+both_in_use a b na nb = false_from_ne_true _ (λ h. na (eqb-true a 0 h)) ∙ sym (false_from_ne_true _ (λ h. nb (eqb-true b 0 h)))
+
+pub notes : (segments : List SegmentNumbers) (blocks : List BlockPlace) (s : ℕ) (x : SegmentNumbers) (lives : Bool) → s < length segments → s / 64 < length blocks
+    → (get_or segments s no_segment).used ≢ 0 → x.used ≡ suc (get_or segments s no_segment).used
+    → x.live ≡ cond lives 1 0 + (get_or segments s no_segment).live → x.held ≡ cond (not lives) 1 0 + (get_or segments s no_segment).held
+    → x.age ≡ (get_or segments s no_segment).age → x.taken ≡ (get_or segments s no_segment).taken
+    → Notes (record { segments = segments; blocks = blocks }) (record { segments = slice_set segments s x; blocks = slice_set blocks (s / 64) (record { address = (get_or blocks (s / 64) no_place).address; stale = true }) }) s lives
+notes segments blocks s x lives lt low some used live held age taken = record {
+  used = set_to _ _ s x.used _ used (is_set (λ n. n.used) segments s x lt);
+  live = counts_up (λ n. n.live) segments s x lt lives live;
+  held = counts_up (λ n. n.held) segments s x lt (not lives) held;
+  age = is_same (λ n. n.age) segments s x lt age;
+  taken = is_same (λ n. n.taken) segments s x lt taken;
+  blocks = made_stale segments (slice_set segments s x) blocks (s / 64) low;
+  size = length-set segments s x;
+  clean = still_clean segments s x lt (both_in_use _ x.used some (λ z. omega arith));
+}
+
+pub lifts : (segments : List SegmentNumbers) (blocks : List BlockPlace) (s : ℕ) (x : SegmentNumbers) (lives : Bool) → s < length segments → s / 64 < length blocks
+    → x.used ≡ (get_or segments s no_segment).used
+    → cond lives 1 0 + x.live ≡ (get_or segments s no_segment).live → cond (not lives) 1 0 + x.held ≡ (get_or segments s no_segment).held
+    → x.age ≡ (get_or segments s no_segment).age → x.taken ≡ (get_or segments s no_segment).taken
+    → Lifts (record { segments = segments; blocks = blocks }) (record { segments = slice_set segments s x; blocks = slice_set blocks (s / 64) (record { address = (get_or blocks (s / 64) no_place).address; stale = true }) }) s lives
+lifts segments blocks s x lives lt low used live held age taken = record {
+  used = is_same (λ n. n.used) segments s x lt used;
+  live = counts_down (λ n. n.live) segments s x lt lives live;
+  held = counts_down (λ n. n.held) segments s x lt (not lives) held;
+  age = is_same (λ n. n.age) segments s x lt age;
+  taken = is_same (λ n. n.taken) segments s x lt taken;
+  blocks = made_stale segments (slice_set segments s x) blocks (s / 64) low;
+  size = length-set segments s x;
+  clean = still_clean segments s x lt (ap (λ (u : ℕ). u == 0) (sym used));
+}
+
+-- a clean segment is taken: nothing lives in it, and nothing holds it
+pub takes : (segments : List SegmentNumbers) (blocks : List BlockPlace) (s age : ℕ) → s < length segments → (get_or segments s no_segment).used ≡ 0 → FitsSegment (get_or segments s no_segment)
+    → Takes (record { segments = segments; blocks = blocks }) (record { segments = slice_set segments s (record { used = 1; live = 0; held = 0; age = age; taken = true }); blocks = blocks }) s age
+takes segments blocks s age lt clean fits =
+    let few = fits.fewer in
+    record {
+      inside = lt;
+      clean = clean;
+      used = is_set (λ n. n.used) segments s (record { used = 1; live = 0; held = 0; age = age; taken = true }) lt;
+      live = is_same (λ n. n.live) segments s (record { used = 1; live = 0; held = 0; age = age; taken = true }) lt (omega arith);
+      held = is_same (λ n. n.held) segments s (record { used = 1; live = 0; held = 0; age = age; taken = true }) lt (omega arith);
+      age = is_set (λ n. n.age) segments s (record { used = 1; live = 0; held = 0; age = age; taken = true }) lt;
+      taken = is_set (λ n. n.taken) segments s (record { used = 1; live = 0; held = 0; age = age; taken = true }) lt;
+      blocks = λ i. (refl, refl);
+      size = length-set segments s (record { used = 1; live = 0; held = 0; age = age; taken = true });
+      count = one_taken segments s (record { used = 1; live = 0; held = 0; age = age; taken = true }) lt clean (λ h. omega arith);
+    }
+
+pub puts : (segments : List SegmentNumbers) (blocks : List BlockPlace) (j a : ℕ) (stale : Bool) → j < length blocks
+    → Puts (record { segments = segments; blocks = blocks }) (record { segments = segments; blocks = slice_set blocks j (record { address = a; stale = stale }) }) j a stale
+puts segments blocks j a stale lt = record {
+  segments = refl;
+  address = place_set blocks j (record { address = a; stale = stale }) lt (λ b. b.address);
+  stale = place_set blocks j (record { address = a; stale = stale }) lt (λ b. b.stale);
+}
+
+-- ---- the same, of whole tables
+same_table : (t u : UsageTable) → u.segments ≡ t.segments → u.blocks ≡ t.blocks → u ≡ t
+same_table t u segments blocks = λ i. record { segments = segments i; blocks = blocks i }
+
+pub notes_of : (old new : UsageTable) (s : ℕ) (x : SegmentNumbers) (lives : Bool) → FitsTable old → s < length old.segments
+    → 0 < used_of old s → x.used ≡ suc (used_of old s) → x.live ≡ cond lives 1 0 + live_of old s → x.held ≡ cond (not lives) 1 0 + held_of old s
+    → x.age ≡ age_of old s → x.taken ≡ taken_of old s → new.segments ≡ slice_set old.segments s x
+    → new.blocks ≡ slice_set old.blocks (s / 64) (record { address = (get_or old.blocks (s / 64) no_place).address; stale = true }) → Notes old new s lives
+notes_of old new s x lives fits lt some used live held age taken segments blocks =
+    let few = fits.few in
+    let whole = fits.blocks in
+    subst (λ (t : UsageTable). Notes old t s lives)
+    (sym (same_table (record { segments = slice_set old.segments s x; blocks = slice_set old.blocks (s / 64) (record { address = (get_or old.blocks (s / 64) no_place).address; stale = true }) }) new segments blocks))
+    (notes old.segments old.blocks s x lives lt (omega arith) (λ z. omega arith) used live held age taken)
+
+pub lifts_of : (old new : UsageTable) (s : ℕ) (x : SegmentNumbers) (lives : Bool) → FitsTable old → s < length old.segments
+    → x.used ≡ used_of old s → cond lives 1 0 + x.live ≡ live_of old s → cond (not lives) 1 0 + x.held ≡ held_of old s
+    → x.age ≡ age_of old s → x.taken ≡ taken_of old s → new.segments ≡ slice_set old.segments s x
+    → new.blocks ≡ slice_set old.blocks (s / 64) (record { address = (get_or old.blocks (s / 64) no_place).address; stale = true }) → Lifts old new s lives
+lifts_of old new s x lives fits lt used live held age taken segments blocks =
+    let few = fits.few in
+    let whole = fits.blocks in
+    subst (λ (t : UsageTable). Lifts old t s lives)
+    (sym (same_table (record { segments = slice_set old.segments s x; blocks = slice_set old.blocks (s / 64) (record { address = (get_or old.blocks (s / 64) no_place).address; stale = true }) }) new segments blocks))
+    (lifts old.segments old.blocks s x lives lt (omega arith) used live held age taken)
+
+pub takes_of : (old new : UsageTable) (s age : ℕ) → FitsTable old → s < length old.segments → used_of old s ≡ 0
+    → new.segments ≡ slice_set old.segments s (record { used = 1; live = 0; held = 0; age = age; taken = true }) → new.blocks ≡ old.blocks → Takes old new s age
+takes_of old new s age fits lt clean segments blocks =
+    subst (λ (t : UsageTable). Takes old t s age) (sym (same_table (record { segments = slice_set old.segments s (record { used = 1; live = 0; held = 0; age = age; taken = true }); blocks = old.blocks }) new segments blocks))
+    (takes old.segments old.blocks s age lt clean (fits.each s))
+
+-- ---- releasing, one segment after the other
+pub record ReleasedTo (old now : UsageTable) (k : ℕ) : Type 0 where
+  pub size : length now.segments ≡ length old.segments
+  pub blocks : now.blocks ≡ old.blocks
+  pub before : (s : ℕ) → s < k → get_or now.segments s no_segment ≡ released (get_or old.segments s no_segment)
+  pub after : (s : ℕ) → k ≤ s → get_or now.segments s no_segment ≡ get_or old.segments s no_segment
+  pub clean : clean_in old.segments ≤ clean_in now.segments
+
+pub release_begins : (old : UsageTable) → ReleasedTo old old 0
+release_begins old = record {
+  size = refl;
+  blocks = refl;
+  before = λ s lt. absurd (omega arith);
+  after = λ s le. refl;
+  clean = omega arith;
+}
+
+pub release_goes_on : (old now new : UsageTable) (k : ℕ) → ReleasedTo old now k → k < length now.segments → new.segments ≡ slice_set now.segments k (released (get_or now.segments k no_segment)) → new.blocks ≡ now.blocks
+    → ReleasedTo old new (k + 1)
+release_goes_on old now new k so lt segments blocks = record {
+  size = ap length segments ∙ length-set now.segments k (released (get_or now.segments k no_segment)) ∙ so.size;
+  blocks = blocks ∙ so.blocks;
+  before = λ s low. ap (λ (l : List SegmentNumbers). get_or l s no_segment) segments ∙ ⊎_elim
+      (λ (here : s ≡ k).
+      ap (λ (s : ℕ). get_or (slice_set now.segments k (released (get_or now.segments k no_segment))) s no_segment) here
+      ∙ set_own now.segments k (released (get_or now.segments k no_segment)) lt ∙ ap released (so.after k (omega arith)) ∙ ap (λ (s : ℕ). released (get_or old.segments s no_segment)) (sym here))
+      (λ (away : s ≡ k → ⊥). set_other now.segments k (released (get_or now.segments k no_segment)) s away ∙ so.before s (omega arith))
+      (cases_eq s k);
+  after = λ s high. ap (λ (l : List SegmentNumbers). get_or l s no_segment) segments ∙ set_other now.segments k (released (get_or now.segments k no_segment)) s (λ h. omega arith) ∙ so.after s (omega arith);
+  clean =
+      let change = clean_change now.segments k (released (get_or now.segments k no_segment)) lt in
+      let was = so.clean in
+      let same = ap clean_in segments in
+      let more = never_less (get_or now.segments k no_segment) in
+      omega arith;
+}
+  where
+    never_less : (n : SegmentNumbers) → cond (n.used == 0) 1 0 ≤ cond ((released n).used == 0) 1 0
+    never_less n = ⊎_elim
+        (λ (e : is_empty n ≡ true).
+        let z = ap (λ (u : ℕ). cond {A = ℕ} (u == 0) 1 0) (cond-true (is_empty n) 0 n.used e) in
+        let one = ap {B = ℕ} (λ (b : Bool). cond {A = ℕ} b 1 0) (eq-eqb 0 0 refl) in
+        let most = at_most (n.used == 0) in
+        omega arith)
+        (λ (o : is_empty n ≡ false). let same = ap (λ (u : ℕ). cond {A = ℕ} (u == 0) 1 0) (cond-false (is_empty n) 0 n.used o) in omega arith)
+        (cases_Bool (is_empty n))
+      where
+        at_most : (b : Bool) → cond b 1 0 ≤ 1
+        at_most true = omega arith
+        at_most false = omega arith
+
+pub release_ends : (old now : UsageTable) (k : ℕ) → ReleasedTo old now k → length old.segments ≤ k → Releases old now
+release_ends old now k so le = record {
+  each = λ s. ⊎_elim
+      (λ (low : s < k). so.before s low)
+      (λ (high : k ≤ s). so.after s high ∙ past s (omega arith) ∙ sym (ap released (past s (omega arith))))
+      (cases_lt s k);
+  size = so.size;
+  blocks = so.blocks;
+  clean = so.clean;
+}
+  where
+    past : (s : ℕ) → length old.segments ≤ s → get_or old.segments s no_segment ≡ no_segment
+    past s le = get_or_past old.segments s no_segment le

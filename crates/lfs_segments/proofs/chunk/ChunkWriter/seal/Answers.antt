@@ -1,0 +1,14 @@
+use Rattle.std.proofs.Common.{rules, ◌≡◌, ◌<◌, length}
+use Rattle.lfs_segments.specs.Chunk.{IsChunk}
+use Rattle.lfs_segments.proofs.Entries.{chunk_entries}
+use Rattle.lfs_segments.proofs.chunk.ChunkWriter.seal.Goals as goal
+
+pub returns-in_err-write-clause-entries : goal.returns-in_err-write-clause-entries
+returns-in_err-write-clause-entries g c =
+    let chunk : IsChunk c.args.self.now.names = search rules in
+    chunk_entries c.args.self.now.names chunk c.requires.some
+
+pub returns-clause-entries : goal.returns-clause-entries
+returns-clause-entries g c =
+    let chunk : IsChunk c.args.self.now.names = search rules in
+    chunk_entries c.args.self.now.names chunk c.requires.some

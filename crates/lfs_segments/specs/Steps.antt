@@ -1,0 +1,76 @@
+-- What the calls on a usage table do, number by number.
+use Rattle.std.specs.Prelude.{◌≡◌, ◌<◌, ◌≤◌, ◌+◌, ◌*◌, ◌/◌, ◌==◌, ◌&&◌, cond, not, ℕ, suc, Bool, true, false, List, length, get_or}
+use Rattle.lfs_model.specs.Entry.{half, word}
+use Rattle.lfs_model.specs.Running.{IsSet, CountsUp, CountsDown}
+use Rattle.lfs_model.specs.Usage.{SegmentUse}
+use Rattle.lfs_segments.specs.Table.{SegmentNumbers, UsageTable, no_segment, used_of, live_of, held_of, age_of, taken_of, address_of, stale_of, clean_in}
+
+-- where usage blocks stand, and which differ from what the device has, is as it was but for one, which differs
+pub record Stales (old new : UsageTable) (j : ℕ) : Type 0 where
+  pub stale : IsSet (stale_of old) (stale_of new) j true
+  pub address : (i : ℕ) → address_of new i ≡ address_of old i
+
+-- a sector more of segment s is in use, for a block that lives there or holds it
+pub record Notes (old new : UsageTable) (s : ℕ) (lives : Bool) : Type 0 where
+  pub used : IsSet (used_of old) (used_of new) s (suc (used_of old s))
+  pub live : CountsUp lives (live_of old) (live_of new) s
+  pub held : CountsUp (not lives) (held_of old) (held_of new) s
+  pub age : (i : ℕ) → age_of new i ≡ age_of old i
+  pub taken : (i : ℕ) → taken_of new i ≡ taken_of old i
+  pub blocks : Stales old new (s / 64)
+  pub size : length new.segments ≡ length old.segments
+  pub clean : clean_in new.segments ≡ clean_in old.segments
+
+-- a block that lives in s, or holds it, is there no more
+pub record Lifts (old new : UsageTable) (s : ℕ) (lives : Bool) : Type 0 where
+  pub used : (i : ℕ) → used_of new i ≡ used_of old i
+  pub live : CountsDown lives (live_of old) (live_of new) s
+  pub held : CountsDown (not lives) (held_of old) (held_of new) s
+  pub age : (i : ℕ) → age_of new i ≡ age_of old i
+  pub taken : (i : ℕ) → taken_of new i ≡ taken_of old i
+  pub blocks : Stales old new (s / 64)
+  pub size : length new.segments ≡ length old.segments
+  pub clean : clean_in new.segments ≡ clean_in old.segments
+
+-- a clean segment is taken
+pub record Takes (old new : UsageTable) (s number : ℕ) : Type 0 where
+  pub inside : s < length old.segments
+  pub clean : used_of old s ≡ 0
+  pub used : IsSet (used_of old) (used_of new) s 1
+  pub live : (i : ℕ) → live_of new i ≡ live_of old i
+  pub held : (i : ℕ) → held_of new i ≡ held_of old i
+  pub age : IsSet (age_of old) (age_of new) s number
+  pub taken : IsSet (taken_of old) (taken_of new) s true
+  pub blocks : (i : ℕ) → (stale_of new i ≡ stale_of old i) × (address_of new i ≡ address_of old i)
+  pub size : length new.segments ≡ length old.segments
+  pub count : clean_in old.segments ≡ suc (clean_in new.segments)
+
+-- usage block j has this address, and is stale or not; all else is as it was
+pub record Puts (old new : UsageTable) (j at : ℕ) (differs : Bool) : Type 0 where
+  pub segments : new.segments ≡ old.segments
+  pub address : IsSet (address_of old) (address_of new) j at
+  pub stale : IsSet (stale_of old) (stale_of new) j differs
+
+-- the numbers of a segment after a checkpoint is acknowledged: clean where nothing lives and nothing holds it
+abbrev pub is_empty : SegmentNumbers → Bool
+is_empty n = (n.live == 0) && (n.held == 0)
+
+abbrev pub released : SegmentNumbers → SegmentNumbers
+released n = record { used = cond (is_empty n) 0 n.used; live = n.live; held = n.held; age = n.age; taken = false }
+
+pub record Releases (old new : UsageTable) : Type 0 where
+  pub each : (s : ℕ) → get_or new.segments s no_segment ≡ released (get_or old.segments s no_segment)
+  pub size : length new.segments ≡ length old.segments
+  pub blocks : new.blocks ≡ old.blocks
+  pub clean : clean_in old.segments ≤ clean_in new.segments
+
+-- what a usage block says of a segment: nothing where nothing lives
+abbrev pub saved : SegmentNumbers → SegmentUse
+saved n = record { used = cond (n.live == 0) 0 n.used; live = n.live; age = cond (n.live == 0) 0 n.age }
+
+-- the bytes are usage block j
+pub record SpellsBlock (t : UsageTable) (j : ℕ) (bytes : List ℕ) : Type 0 where
+  pub long : length bytes ≡ 512
+  pub used : (i : ℕ) → i < 64 → half bytes (4 * i) ≡ (saved (get_or t.segments (64 * j + i) no_segment)).used
+  pub live : (i : ℕ) → i < 64 → half bytes (4 * i + 1) ≡ (saved (get_or t.segments (64 * j + i) no_segment)).live
+  pub age : (i : ℕ) → i < 64 → word bytes (2 * i + 1) ≡ (saved (get_or t.segments (64 * j + i) no_segment)).age

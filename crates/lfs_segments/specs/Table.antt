@@ -1,0 +1,65 @@
+-- What is known of each segment of a volume, and where the blocks of its usage table stand.
+-- The segment usage table is that of the Sprite LFS paper (1992, section 3.6).
+use Rattle.std.specs.Prelude.{◌≡◌, ◌<◌, ◌≤◌, ◌+◌, ◌-◌, ◌==◌, ℕ, Bool, false, List, length, get_or}
+use Rattle.lfs_model.specs.Stands.{count_up}
+
+pub record SegmentNumbers : Type 0 where
+  pub used : ℕ
+  pub live : ℕ
+  pub held : ℕ
+  pub age : ℕ
+  pub taken : Bool
+
+abbrev pub no_segment : SegmentNumbers
+no_segment = record { used = 0; live = 0; held = 0; age = 0; taken = false }
+
+pub record BlockPlace : Type 0 where
+  pub address : ℕ
+  pub stale : Bool
+
+abbrev pub no_place : BlockPlace
+no_place = record { address = 0; stale = false }
+
+pub record UsageTable : Type 0 where
+  pub segments : List SegmentNumbers
+  pub blocks : List BlockPlace
+
+-- the numbers of a segment, none past the last
+abbrev pub used_of : UsageTable → ℕ → ℕ
+used_of t s = (get_or t.segments s no_segment).used
+
+abbrev pub live_of : UsageTable → ℕ → ℕ
+live_of t s = (get_or t.segments s no_segment).live
+
+abbrev pub held_of : UsageTable → ℕ → ℕ
+held_of t s = (get_or t.segments s no_segment).held
+
+abbrev pub age_of : UsageTable → ℕ → ℕ
+age_of t s = (get_or t.segments s no_segment).age
+
+abbrev pub taken_of : UsageTable → ℕ → Bool
+taken_of t s = (get_or t.segments s no_segment).taken
+
+-- where usage block j stands, and whether it differs from what the device has
+abbrev pub address_of : UsageTable → ℕ → ℕ
+address_of t j = (get_or t.blocks j no_place).address
+
+abbrev pub stale_of : UsageTable → ℕ → Bool
+stale_of t j = (get_or t.blocks j no_place).stale
+
+-- how many segments are clean
+abbrev pub is_clean_in : List SegmentNumbers → ℕ → Bool
+is_clean_in segments s = (get_or segments s no_segment).used == 0
+
+unfoldable pub clean_in : List SegmentNumbers → ℕ
+clean_in segments = count_up (is_clean_in segments) (length segments)
+
+-- what the numbers of a segment may be: beside its blocks it has a summary
+pub record FitsSegment (n : SegmentNumbers) : Type 0 where
+  pub used : n.used ≤ 64
+  pub fewer : n.live + n.held ≤ n.used - 1
+
+pub record FitsTable (t : UsageTable) : Type 0 where
+  pub few : length t.segments ≤ 1024
+  pub blocks : length t.blocks ≡ 16
+  pub each : (s : ℕ) → FitsSegment (get_or t.segments s no_segment)

@@ -1,0 +1,155 @@
+//! Chunks: a summary and the blocks behind it, in a segment that was taken from the clean ones.
+ghost use Rattle.std.specs.Prelude.{◌≡◌, ◌≢◌, ◌<◌, ◌≤◌, ◌+◌, ◌-◌, ◌*◌, ◌/◌, ◌++◌, [], ◌∷◌, ℕ, suc, Some, true, length, IfSome, IfNone, OnOk, OnErr};
+ghost use Rattle.lfs_model.specs.Device.{put, MayWrite, CrashWrites, Carries, Elapses};
+ghost use Rattle.lfs_model.specs.Entry.{entries_in};
+ghost use Rattle.lfs_model.specs.Summary.{IsPlaced, summary_sector};
+ghost use Rattle.lfs_segments.specs.Table.{used_of, taken_of};
+ghost use Rattle.lfs_segments.specs.Steps.{Takes, Notes};
+ghost use Rattle.lfs_segments.specs.Chunk.{IsOpen, entries_of};
+
+use crate::usage::Usage;
+use arrayvec::ArrayVec;
+use lfs_device::{DeviceFault, SectorDevice};
+use lfs_layout::{BlockName, encode_summary};
+use std::marker::Model;
+
+/// The chunk that is being filled, if there is one: its segment, and the names of the blocks that have a place in it.
+#[derive(Drop)]
+pub struct ChunkWriter {
+    segment: u32,
+    names: ArrayVec<BlockName, 63>,
+}
+
+impl Model for ChunkWriter {
+    ghost use Rattle.std.specs.Prelude.{◌<◌};
+    ghost use Rattle.lfs_segments.specs.Chunk.{Chunk, IsChunk};
+
+    ghost Value = { Chunk };
+
+    ghost view = { λ c. record { segment = c.segment; names = c.names.items } };
+
+    ghost invariant = { λ c. (c.segment < 1024) × IsChunk c.names.items };
+}
+
+impl ChunkWriter {
+    /// No chunk.
+    pub fn new() -> ChunkWriter
+        ensures { result.names ≡ [] }
+    {
+        ChunkWriter {
+            segment: 0,
+            names: ArrayVec::new(),
+        }
+    }
+
+    /// How many blocks have a place in the chunk.
+    pub fn len(&self) -> usize
+        ensures value { result ≡ length self.now.names }
+        ensures most { result ≤ 63 }
+    {
+        self.names.len()
+    }
+
+    /// Whether no block has a place.
+    pub fn is_empty(&self) -> bool
+        ensures yes { result ≡ true → self.now.names ≡ [] }
+        ensures no { result ≢ true → 0 < length self.now.names }
+    {
+        self.names.len() == 0
+    }
+
+    /// The segment that the chunk is written to.
+    pub fn segment(&self) -> u32
+        ensures value { result ≡ self.now.segment }
+        ensures fits { result < 1024 }
+    {
+        self.segment
+    }
+
+    /// Begins a chunk: each in a clean segment, which is taken, if there is one.
+    pub fn begin(&mut self, usage: &mut Usage, age: u32) -> Option<u32>
+        requires { self.old.names ≡ [] }
+        ensures taken { IfSome result (λ s. Takes usage.old usage.new s age) }
+        ensures segment { IfSome result (λ s. self.new.segment ≡ s) }
+        ensures names { self.new.names ≡ [] }
+        ensures opened { IfSome result (λ s. IsOpen self.new usage.new) }
+        ensures none { IfNone result ((s : ℕ) → s < length usage.old.segments → used_of usage.old s ≢ 0) }
+        ensures same { IfNone result (usage.new ≡ usage.old) }
+    {
+        let segment = usage.take_clean(age)?;
+        self.segment = segment;
+        Some(segment)
+    }
+
+    /// The address of the next block of the chunk, which is named so, and lives there or holds the segment: the first
+    /// sector behind the used part.
+    pub fn place(&mut self, usage: &mut Usage, name: BlockName, lives: bool) -> u32
+        requires opened { IsOpen self.old usage.old }
+        requires room { length self.old.names < 63 }
+        requires placed { IsPlaced name.kind name.file name.index }
+        ensures address { result ≡ 2 + 64 * self.old.segment + used_of usage.old self.old.segment }
+        ensures names { self.new.names ≡ self.old.names ++ name ∷ [] }
+        ensures segment { self.new.segment ≡ self.old.segment }
+        ensures noted { Notes usage.old usage.new self.old.segment lives }
+        ensures opened { IsOpen self.new usage.new }
+    {
+        self.names.push(name);
+        usage.note(self.segment, lives);
+        2 + 64 * self.segment + self.names.len() as u32
+    }
+
+    /// Writes the summary of the chunk, and ends it.
+    ///
+    /// # Errors
+    ///
+    /// The device's fault: the chunk is as it was.
+    pub fn seal<D: SectorDevice>(
+        &mut self,
+        device: &mut D,
+        usage: &Usage,
+    ) -> Result<(), DeviceFault>
+        requires opened { IsOpen self.old usage.now }
+        requires some { 0 < length self.old.names }
+        requires inside { 2 + 64 * self.old.segment < (D.state device.old).size }
+        ensures entries { entries_in (summary_sector self.old.names) ≡ Some (entries_of self.old) }
+        ensures written { OnOk result ((D.state device.new).keeps_model → (D.state device.new).content ≡ put (D.state device.old).content (2 + 64 * self.old.segment) (summary_sector self.old.names)) }
+        ensures failed_write { OnErr result ((D.state device.new).keeps_model → MayWrite (2 + 64 * self.old.segment) (summary_sector self.old.names) (D.state device.old).content (D.state device.new).content) }
+        ensures crash { CrashWrites (2 + 64 * self.old.segment) (summary_sector self.old.names) (D.state device.old) (D.state device.new) }
+        ensures ended { OnOk result (self.new.names ≡ []) }
+        ensures failed { OnErr result ((D.state device.old).failures < (D.state device.new).failures) }
+        ensures no_failure { OnOk result ((D.state device.new).failures ≡ (D.state device.old).failures) }
+        ensures carries { Carries (D.state device.old) (D.state device.new) }
+        ensures time { Elapses (D.state device.old) (D.state device.new) }
+    {
+        let summary = encode_summary(self.names.as_slice());
+        write(device, usage, 2 + 64 * self.segment, &summary)?;
+        self.names.clear();
+        Ok(())
+    }
+}
+
+/// Writes a block or a summary to a sector of a segment that was taken from the clean ones since the acknowledged
+/// checkpoint, and to no other.
+///
+/// # Errors
+///
+/// The device's fault.
+pub fn write<D: SectorDevice>(
+    device: &mut D,
+    usage: &Usage,
+    address: u32,
+    bytes: &[u8; 512],
+) -> Result<(), DeviceFault>
+    requires taken { taken_of usage.now ((address - 2) / 64) ≡ true }
+    requires above { 2 ≤ address }
+    requires inside { address < (D.state device.old).size }
+    ensures written { OnOk result ((D.state device.new).keeps_model → (D.state device.new).content ≡ put (D.state device.old).content address bytes.now) }
+    ensures failed_write { OnErr result ((D.state device.new).keeps_model → MayWrite address bytes.now (D.state device.old).content (D.state device.new).content) }
+    ensures crash { CrashWrites address bytes.now (D.state device.old) (D.state device.new) }
+    ensures failed { OnErr result ((D.state device.old).failures < (D.state device.new).failures) }
+    ensures no_failure { OnOk result ((D.state device.new).failures ≡ (D.state device.old).failures) }
+    ensures carries { Carries (D.state device.old) (D.state device.new) }
+    ensures time { Elapses (D.state device.old) (D.state device.new) }
+{
+    device.write(address, bytes)
+}

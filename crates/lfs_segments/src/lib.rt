@@ -1,0 +1,13 @@
+//! The segments of a volume: what lives in each, and chunks of blocks that are written to clean ones.
+#![tactic(auto)]
+
+mod chunk;
+mod state;
+mod usage;
+
+pub use chunk::{ChunkWriter, write};
+pub use state::{SegmentState, UsageBlock};
+pub use usage::Usage;
+
+#[cfg(test)]
+mod tests;

@@ -1,0 +1,319 @@
+//! What is known of each segment, after the segment usage table of the Sprite LFS paper (1992, section 3.6).
+ghost use Rattle.std.specs.Prelude.{◌≡◌, ◌≢◌, ◌<◌, ◌≤◌, ◌+◌, ◌-◌, ◌*◌, ◌/◌, ◌==◌, ℕ, suc, Bool, true, false, cond, not, length, get_or, replicate, slice_set, IfOk, IfSome, IfNone};
+ghost use Rattle.lfs_segments.specs.Steps.{Notes, Lifts, Takes, Puts, Releases, SpellsBlock, saved};
+ghost use Rattle.lfs_segments.specs.Steps as steps;
+ghost use Rattle.lfs_model.specs.Usage.{IsUse, no_use};
+ghost use Rattle.lfs_segments.specs.Table.{SegmentNumbers, BlockPlace, no_segment, no_place, used_of, live_of, held_of, age_of, taken_of, address_of, stale_of, clean_in, FitsSegment, FitsTable};
+
+use crate::state::{SegmentState, UsageBlock};
+use lfs_layout::{SegmentUsage, encode_usage};
+use std::alloc::{AllocError, Global};
+use std::marker::Model;
+
+const CLEAN: SegmentState = SegmentState {
+    used: 0,
+    live: 0,
+    held: 0,
+    age: 0,
+    taken: false,
+};
+
+const NO_BLOCK: UsageBlock = UsageBlock {
+    address: 0,
+    stale: false,
+};
+
+const UNUSED: SegmentUsage = SegmentUsage {
+    used: 0,
+    live: 0,
+    age: 0,
+};
+
+/// What is known of each segment of a volume, and of the blocks of its usage table.
+/// All of its memory is taken as it is made.
+#[derive(Drop)]
+pub struct Usage {
+    states: Vec<SegmentState>,
+    blocks: Vec<UsageBlock>,
+    clean: u32,
+}
+
+impl Model for Usage {
+    ghost use Rattle.std.specs.Prelude.{◌≡◌};
+    ghost use Rattle.lfs_segments.specs.Table.{UsageTable, FitsTable, clean_in};
+
+    ghost Value = { UsageTable };
+
+    ghost view = { λ u. record { segments = u.states.items; blocks = u.blocks.items } };
+
+    ghost invariant = { λ u. FitsTable (record { segments = u.states.items; blocks = u.blocks.items }) × (u.clean ≡ clean_in u.states.items) };
+}
+
+impl Usage {
+    /// So many clean segments, and usage blocks that have no address.
+    pub fn new(alloc: Global, segments: u32) -> Result<Usage, AllocError>
+        requires { segments ≤ 1024 }
+        ensures clean { IfOk result (λ u. u.segments ≡ replicate segments no_segment) }
+        ensures blocks { IfOk result (λ u. u.blocks ≡ replicate 16 no_place) }
+    {
+        let states = Vec::from_elem(alloc, CLEAN, segments as usize)?;
+        let blocks = Vec::from_elem(alloc, NO_BLOCK, 16)?;
+        Ok(Usage {
+            states,
+            blocks,
+            clean: segments,
+        })
+    }
+
+    /// How many segments there are.
+    pub fn segments(&self) -> u32
+        ensures value { result ≡ length self.now.segments }
+        ensures few { result ≤ 1024 }
+    {
+        self.states.len() as u32
+    }
+
+    /// How many segments are clean.
+    pub fn clean(&self) -> u32
+        ensures { result ≡ clean_in self.now.segments }
+    {
+        self.clean
+    }
+
+    /// What is known of a segment.
+    pub fn state(&self, segment: u32) -> SegmentState
+        requires { segment < length self.now.segments }
+        ensures value { result ≡ get_or self.now.segments segment no_segment }
+        ensures fits { FitsSegment result }
+        ensures table { FitsTable self.now }
+    {
+        self.states[segment as usize]
+    }
+
+    /// Takes a clean segment, if there is one: its first sector is in use from then on, for a summary, and it has this age.
+    pub fn take_clean(&mut self, age: u32) -> Option<u32>
+        ensures taken { IfSome result (λ s. Takes self.old self.new s age) }
+        ensures fits { IfSome result (λ s. s < 1024) }
+        ensures none { IfNone result ((s : ℕ) → s < length self.old.segments → used_of self.old s ≢ 0) }
+        ensures same { IfNone result (self.new ≡ self.old) }
+    {
+        let segment = first_clean(self.states.as_slice())? as u32;
+        self.take(segment, age);
+        Some(segment)
+    }
+
+    fn take(&mut self, segment: u32, age: u32)
+        requires inside { segment < length self.old.segments }
+        requires clean { used_of self.old segment ≡ 0 }
+        ensures { Takes self.old self.new segment age }
+    {
+        let state = SegmentState {
+            used: 1,
+            live: 0,
+            held: 0,
+            age,
+            taken: true,
+        };
+        self.put(segment, state);
+    }
+
+    /// The numbers of a segment become others.
+    fn put(&mut self, segment: u32, state: SegmentState)
+        requires inside { segment < length self.old.segments }
+        requires fits { FitsSegment state }
+        ensures segments { self.new.segments ≡ slice_set self.old.segments segment state }
+        ensures blocks { self.new.blocks ≡ self.old.blocks }
+        ensures table { FitsTable self.old }
+    {
+        let was = one_if_clean(self.state(segment));
+        self.clean = self.clean + one_if_clean(state) - was;
+        self.states[segment as usize] = state;
+    }
+
+    /// One sector more of a segment is in use, for a block that lives there, or one of a file without a name that holds it.
+    pub fn note(&mut self, segment: u32, lives: bool)
+        requires inside { segment < length self.old.segments }
+        requires begun { 0 < used_of self.old segment }
+        requires room { used_of self.old segment < 64 }
+        ensures { Notes self.old self.new segment lives }
+    {
+        let state = noted(self.state(segment), lives);
+        self.put(segment, state);
+        self.make_stale(segment / 64);
+    }
+
+    /// A block that lives in a segment, or holds it, is there no more.
+    pub fn lift(&mut self, segment: u32, lives: bool)
+        requires inside { segment < length self.old.segments }
+        requires live { lives ≡ true → 0 < live_of self.old segment }
+        requires held { lives ≡ false → 0 < held_of self.old segment }
+        ensures { Lifts self.old self.new segment lives }
+    {
+        let state = lifted(self.state(segment), lives);
+        self.put(segment, state);
+        self.make_stale(segment / 64);
+    }
+
+    /// A segment has these numbers on the device.
+    pub fn load(&mut self, segment: u32, saved: SegmentUsage)
+        requires inside { segment < length self.old.segments }
+        requires fits { IsUse saved }
+        ensures segments { self.new.segments ≡ slice_set self.old.segments segment (record { used = saved.used; live = saved.live; held = 0; age = saved.age; taken = false }) }
+        ensures blocks { self.new.blocks ≡ self.old.blocks }
+    {
+        let SegmentUsage { used, live, age } = saved;
+        let state = SegmentState {
+            used,
+            live,
+            held: 0,
+            age,
+            taken: false,
+        };
+        self.put(segment, state);
+    }
+
+    /// Once a checkpoint is acknowledged: a segment where nothing lives and that nothing holds is clean, and none counts as taken.
+    pub fn release(&mut self)
+        ensures { Releases self.old self.new }
+    {
+        for segment in 0..self.segments() {
+            let state = released(self.state(segment));
+            self.put(segment, state);
+        }
+    }
+
+    /// The usage block of this index, as a checkpoint has it: a segment where nothing lives has used 0 and age 0.
+    pub fn encode(&self, index: u32) -> [u8; 512]
+        requires { index < 16 }
+        ensures { SpellsBlock self.now index result }
+    {
+        let mut block = [UNUSED; 64];
+        self.fill(index, &mut block);
+        encode_usage(&block)
+    }
+
+    fn fill(&self, index: u32, block: &mut [SegmentUsage; 64])
+        requires { index < 16 }
+        ensures each { (i : ℕ) → i < 64 → get_or block.new i no_use ≡ saved (get_or self.now.segments (64 * index + i) no_segment) }
+        ensures fits { (i : ℕ) → i < 64 → IsUse (get_or block.new i no_use) }
+        ensures length { length block.new ≡ 64 }
+    {
+        for i in 0..64u32 {
+            block[i as usize] = self.saved(64 * index + i);
+        }
+    }
+
+    fn saved(&self, segment: u32) -> SegmentUsage
+        ensures value { result ≡ saved (get_or self.now.segments segment no_segment) }
+        ensures fits { IsUse result }
+    {
+        if segment >= self.segments() {
+            return UNUSED;
+        }
+        let state = self.state(segment);
+        if state.live == 0 {
+            return UNUSED;
+        }
+        SegmentUsage {
+            used: state.used,
+            live: state.live,
+            age: state.age,
+        }
+    }
+
+    fn make_stale(&mut self, index: u32)
+        requires { index < 16 }
+        ensures segments { self.new.segments ≡ self.old.segments }
+        ensures blocks { self.new.blocks ≡ slice_set self.old.blocks index (record { address = (get_or self.old.blocks index no_place).address; stale = true }) }
+    {
+        let mut block = self.block(index);
+        block.stale = true;
+        self.blocks[index as usize] = block;
+    }
+
+    /// Where a usage block stands, and whether it differs from what the device has.
+    pub fn block(&self, index: u32) -> UsageBlock
+        requires { index < 16 }
+        ensures { result ≡ get_or self.now.blocks index no_place }
+    {
+        self.blocks[index as usize]
+    }
+
+    /// A usage block stands at the address, and differs from what the device has, or doesn't.
+    pub fn set_block(&mut self, index: u32, address: u32, stale: bool)
+        requires { index < 16 }
+        ensures { Puts self.old self.new index address stale }
+    {
+        self.blocks[index as usize] = UsageBlock { address, stale };
+    }
+}
+
+fn noted(mut state: SegmentState, lives: bool) -> SegmentState
+    requires room { state.used < 64 }
+    requires fits { FitsSegment state }
+    ensures used { result.used ≡ suc state.used }
+    ensures live { result.live ≡ cond lives 1 0 + state.live }
+    ensures held { result.held ≡ cond (not lives) 1 0 + state.held }
+    ensures age { result.age ≡ state.age }
+    ensures taken { result.taken ≡ state.taken }
+{
+    state.used += 1;
+    if lives {
+        state.live += 1;
+    } else {
+        state.held += 1;
+    }
+    state
+}
+
+fn lifted(mut state: SegmentState, lives: bool) -> SegmentState
+    requires live { lives ≡ true → 0 < state.live }
+    requires held { lives ≡ false → 0 < state.held }
+    ensures used { result.used ≡ state.used }
+    ensures live { cond lives 1 0 + result.live ≡ state.live }
+    ensures held { cond (not lives) 1 0 + result.held ≡ state.held }
+    ensures age { result.age ≡ state.age }
+    ensures taken { result.taken ≡ state.taken }
+{
+    if lives {
+        state.live -= 1;
+    } else {
+        state.held -= 1;
+    }
+    state
+}
+
+/// The numbers after a checkpoint is acknowledged.
+fn released(state: SegmentState) -> SegmentState
+    requires { FitsSegment state }
+    ensures value { result ≡ steps.released state }
+    ensures fits { FitsSegment result }
+{
+    let empty = state.live == 0 && state.held == 0;
+    SegmentState {
+        used: if empty { 0 } else { state.used },
+        taken: false,
+        ..state
+    }
+}
+
+fn one_if_clean(state: SegmentState) -> u32
+    ensures value { result ≡ cond (state.used == 0) 1 0 }
+    ensures most { result ≤ 1 }
+{
+    if state.used == 0 { 1 } else { 0 }
+}
+
+/// The first segment that is clean.
+fn first_clean(states: &[SegmentState]) -> Option<usize>
+    ensures inside { IfSome result (λ s. s < length states.now) }
+    ensures clean { IfSome result (λ s. (get_or states.now s no_segment).used ≡ 0) }
+    ensures none { IfNone result ((s : ℕ) → s < length states.now → (get_or states.now s no_segment).used ≢ 0) }
+{
+    for (segment, state) in states.iter().enumerate() {
+        if state.used == 0 {
+            return Some(segment);
+        }
+    }
+    None
+}
