@@ -116,6 +116,8 @@ impl ChunkWriter {
         ensures failed_write { OnErr result ((D.state device.new).keeps_model → MayWrite (2 + 64 * self.old.segment) (summary_sector self.old.names) (D.state device.old).content (D.state device.new).content) }
         ensures crash { CrashWrites (2 + 64 * self.old.segment) (summary_sector self.old.names) (D.state device.old) (D.state device.new) }
         ensures ended { OnOk result (self.new.names ≡ []) }
+        ensures kept { OnErr result (self.new ≡ self.old) }
+        ensures segment { self.new.segment ≡ self.old.segment }
         ensures failed { OnErr result ((D.state device.old).failures < (D.state device.new).failures) }
         ensures no_failure { OnOk result ((D.state device.new).failures ≡ (D.state device.old).failures) }
         ensures carries { Carries (D.state device.old) (D.state device.new) }
