@@ -23,11 +23,11 @@ impl<'a> Model for InodeView<'a> {
     ghost view = { λ v. inode_of v.sector.now };
 }
 
-/// Whether an inode of the kind may have so many bytes: a file up to 8,511,488, a directory a multiple of 64 up to 65,536,
+/// Whether an inode of the kind may have so many bytes: a file up to 8,511,488, a directory of form 0 a multiple of 64 up to 65,536,
 /// a link 1 to 1,023.
 #[tactic(auto, unfolding(lfs_model::specs::Inode::IsSize))]
 pub fn is_size(kind: Kind, size: u32) -> bool
-    ensures { IsTrue result ↔ IsSize kind size }
+    ensures { IsTrue result ↔ IsSize 0 kind size }
 {
     match kind {
         Kind::File => size <= 8_511_488,
@@ -244,7 +244,7 @@ impl Inode {
     ) -> Inode
         requires number { (1 ≤ number) × (number ≤ 4095) }
         requires links { (1 ≤ links) × (links ≤ 1000) }
-        requires size { IsSize kind size }
+        requires size { IsSize 0 kind size }
         ensures fits { FitsInode result }
         ensures value { result ≡ record { kind = kind; number = number; links = links; size = size; direct = direct; single = single; double = double } }
     {

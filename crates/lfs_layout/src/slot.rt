@@ -1,7 +1,8 @@
-//! The slots of a directory, read in place.
+//! The slots of a directory of form 0, read in place.
 ghost use Rattle.std.specs.Prelude.{◌≡◌, ◌<◌, ◌≤◌, ◌+◌, ◌*◌, ◌↔◌, ℕ, length, slice_index, IfSome, IfNone, IsTrue};
 ghost use Rattle.lfs_model.specs.Fields.{part, read32};
 ghost use Rattle.lfs_model.specs.Slot.{SlotValue, IsName, FitsSlot, slot_bytes, slot_in};
+ghost use Rattle.lfs_model.specs.Tree.{name_len};
 
 use crate::inode::is_within;
 use crate::writer::Writer;
@@ -27,7 +28,7 @@ impl<'a> Model for SlotView<'a> {
 
 /// Whether the bytes may be a name: 1 to 59 of them, none 0 or a slash, and neither dot nor dot-dot.
 pub fn is_name(name: &[u8]) -> bool
-    ensures { IsTrue result ↔ IsName name.now }
+    ensures { IsTrue result ↔ IsName (name_len 0) name.now }
 {
     if name.is_empty() {
         return false;
@@ -91,9 +92,9 @@ fn is_zero_after(slot: &[u8; 64], at: usize) -> bool
 impl<'a> SlotView<'a> {
     /// The slot that these bytes are, if they are one.
     pub fn decode(slot: &'a [u8; 64]) -> Option<SlotView<'a>>
-        ensures found { IfSome result (λ s. FitsSlot s × (slot.now ≡ slot_bytes s)) }
-        ensures none { IfNone result ((s : SlotValue) → FitsSlot s → ¬ (slot.now ≡ slot_bytes s)) }
-        ensures exact { result ≡ slot_in slot.now }
+        ensures found { IfSome result (λ s. FitsSlot 0 s × (slot.now ≡ slot_bytes 0 s)) }
+        ensures none { IfNone result ((s : SlotValue) → FitsSlot 0 s → ¬ (slot.now ≡ slot_bytes 0 s)) }
+        ensures exact { result ≡ slot_in 0 slot.now }
     {
         let number = number_of(slot);
         if !is_within(number, 4_095) {
@@ -129,8 +130,8 @@ impl<'a> SlotView<'a> {
 
 /// The 64 bytes by which a directory names an object, whose number is 1 to 4,095; `is_name` tells what a name may be.
 pub fn encode_slot(number: u32, name: &[u8]) -> [u8; 64]
-    requires { FitsSlot record { number = number; name = name.now } }
-    ensures { result ≡ slot_bytes record { number = number; name = name.now } }
+    requires { FitsSlot 0 record { number = number; name = name.now } }
+    ensures { result ≡ slot_bytes 0 record { number = number; name = name.now } }
 {
     let mut slot = Writer::new();
     slot.number32(number);
@@ -142,5 +143,5 @@ pub fn encode_slot(number: u32, name: &[u8]) -> [u8; 64]
 
 /// Two slots that are spelled alike are one.
 pub fn one_slot_spelling()
-    ensures { (a b : SlotValue) → FitsSlot a → FitsSlot b → slot_bytes a ≡ slot_bytes b → a ≡ b }
+    ensures { (a b : SlotValue) → FitsSlot 0 a → FitsSlot 0 b → slot_bytes 0 a ≡ slot_bytes 0 b → a ≡ b }
 {}

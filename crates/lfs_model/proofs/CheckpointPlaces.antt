@@ -1,21 +1,21 @@
 -- The checkpoint, place by place.
 use Rattle.std.proofs.Common.{◌≡◌, ◌≤◌, ◌*◌, ℕ, List, [], ◌∷◌, length, refl, sym, ap, ◌∙◌, arith}
 use Rattle.lfs_model.specs.Fields.{le32, le64, words, zeros, part, read32, read64, numbers}
-use Rattle.lfs_model.specs.Checkpoint.{CheckpointValue, FitsCheckpoint, checkpoint_of, checkpoint_sector, checkpoint_text}
+use Rattle.lfs_model.specs.Checkpoint.{CheckpointValue, FitsCheckpoint, checkpoint_of, checkpoint_sector, checkpoint_text, layout_version}
 use Rattle.lfs_model.proofs.Numbers.{length-le32, length-le64, length-words, length-zeros}
 use Rattle.lfs_model.proofs.Parts.{read32_is, read64_is}
 use Rattle.lfs_model.proofs.Runs.{numbers_is}
 use Rattle.lfs_model.proofs.Laid.{Field, Sized, Laid, laid_from, laid_to, length-fields}
 
 fields : CheckpointValue → List Field
-fields c = (8, checkpoint_text) ∷ (8, le64 c.number) ∷ (4, le32 c.segments) ∷ (4, le32 1) ∷ (8, zeros 8) ∷ (128, words c.map) ∷ (64, words c.usage) ∷ (288, zeros 288) ∷ []
+fields c = (8, checkpoint_text) ∷ (8, le64 c.number) ∷ (4, le32 c.segments) ∷ (4, le32 (layout_version c)) ∷ (8, zeros 8) ∷ (128, words c.map) ∷ (64, words c.usage) ∷ (288, zeros 288) ∷ []
 
 -- what stands at each place of the sector
 pub record ReadsAs (s : List ℕ) (c : CheckpointValue) : Type 0 where
   pub text : part 0 8 s ≡ checkpoint_text
   pub number : part 8 8 s ≡ le64 c.number
   pub segments : part 16 4 s ≡ le32 c.segments
-  pub version : part 20 4 s ≡ le32 1
+  pub version : part 20 4 s ≡ le32 (layout_version c)
   pub gap : part 24 8 s ≡ zeros 8
   pub map : part 32 128 s ≡ words c.map
   pub usage : part 160 64 s ≡ words c.usage
@@ -30,7 +30,7 @@ unfolding fields
 sized c fits =
     let map : length (words c.map) ≡ 128 = length-words c.map ∙ ap (λ (n : ℕ). 4 * n) fits.map_length in
     let usage : length (words c.usage) ≡ 64 = length-words c.usage ∙ ap (λ (n : ℕ). 4 * n) fits.usage_length in
-    (length-text, (length-le64 c.number, (length-le32 c.segments, (length-le32 1, (length-zeros 8, (map, (usage, (length-zeros 288, tt))))))))
+    (length-text, (length-le64 c.number, (length-le32 c.segments, (length-le32 (layout_version c), (length-zeros 8, (map, (usage, (length-zeros 288, tt))))))))
 
 pub length-checkpoint : (c : CheckpointValue) → FitsCheckpoint c → length (checkpoint_sector c) ≡ 512
 unfolding fields checkpoint_sector

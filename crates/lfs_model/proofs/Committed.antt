@@ -38,7 +38,7 @@ same_slots a b n h same = ap (λ (bytes : List ℕ). map (λ j. take (slot_len h
 
 same_node : (a b : LogMap) (kd : Kind) (n : ℕ) (h : Header) → ((i : ℕ) → a.block n i ≡ b.block n i) → node_by a kd n h ≡ node_by b kd n h
 same_node a b kind.File n h same = ap File (same_object a b n h same)
-same_node a b kind.Directory n h same = ap (λ (l : List (List ℕ)). Dir h.form (map_of l)) (same_slots a b n h same)
+same_node a b kind.Directory n h same = ap (λ (l : List (List ℕ)). Dir h.form (map_of h.form l)) (same_slots a b n h same)
 same_node a b kind.Link n h same = ap Link (same_object a b n h same)
 
 -- ---- what is dropped of a log map
@@ -207,7 +207,7 @@ module _ (N : ℕ) (m : LogMap) (handles : Handles) (version : ℕ) where
       slots = record {
         formed = λ n h is dir. (
             let old = header_was m n h is in
-            subst (λ (l : List (List ℕ)). AllByRecursion (λ b. slot_in b ≢ None) l × (length (map_of l) ≡ length l))
+            subst (λ (l : List (List ℕ)). AllByRecursion (λ b. slot_in h.form b ≢ None) l × (length (map_of h.form l) ≡ length l))
             (sym (same_slots (dropped m) m n h (λ i. block_kept m n i h old.0 old.1))) (formed n h old.0 dir));
         there = subst NamesGive (sym same_tree) after.named;
       };

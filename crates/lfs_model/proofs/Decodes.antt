@@ -14,11 +14,13 @@ use Rattle.lfs_model.proofs.Cells.{sector_at}
 use Rattle.std.specs.List.{AllByRecursion}
 use Rattle.lfs_model.specs.Reach.{address, View, view}
 use Rattle.lfs_model.specs.Stands.{LogMap, StandsAt, Stages, HasWord}
+use Rattle.lfs_model.specs.Tree.{slot_len}
 use Rattle.lfs_model.specs.Encodes.{Has, HasData, HasLeaf, HasInode, IsLogMap, Spells, Encodes}
 use Rattle.lfs_model.specs.Decodes.{IsSized, Decoding}
 use Rattle.lfs_model.proofs.Reach.{address_linked}
 use Rattle.lfs_model.proofs.Encodes.{word_nil}
 use Rattle.lfs_model.proofs.Decoding.{value_found}
+use Rattle.lfs_model.proofs.InodePlaces.{widest}
 
 pub reached_within : (v : View) → Stages v → (e : Entry) → 0 < v.address e → (2 ≤ v.address e) × (v.address e < 2 + 64 * v.checkpoint.segments)
 reached_within v s (Usage j) lt = let f = s.usages.fresh (Usage j) refl lt in (f.0, f.1)
@@ -53,17 +55,17 @@ pub address_of_word : (c : Content) (a i : ℕ) → 0 < word (block c a) i → 0
 address_of_word c a i lt = address_of_block c a (nonempty_word (block c a) i lt)
 
 -- what an inode may have, as bytes: 16,624 blocks
-kind_size : (k : Kind) (n : ℕ) → is_size k n ≡ true → n ≤ 8511488
+kind_size : (form : ℕ) (k : Kind) (n : ℕ) → is_size form k n ≡ true → n ≤ 8511488
 unfolding is_size
-kind_size File n e = leb-true n 8511488 e
-kind_size Directory n e = let parts = and_parts (n % 64 == 0) (nat_le n 65536) e in let le : n ≤ 65536 = leb-true n 65536 parts.1 in omega arith
-kind_size Link n e = let parts = and_parts (nat_le 1 n) (nat_le n 1023) e in let le : n ≤ 1023 = leb-true n 1023 parts.1 in omega arith
+kind_size form File n e = leb-true n 8511488 e
+kind_size form Directory n e = let parts = and_parts (n % slot_len form == 0) (nat_le n (1024 * slot_len form)) e in let le = leb-true n (1024 * slot_len form) parts.1 in let most = widest form in omega arith
+kind_size form Link n e = let parts = and_parts (nat_le 1 n) (nat_le n 1023) e in let le : n ≤ 1023 = leb-true n 1023 parts.1 in omega arith
 
 small_size : (n : ℕ) (b : List ℕ) → IsInode n b → (header b).size ≤ 8511488
 unfolding inode_in header
 small_size n b i =
     let found = value_found inode_of may_be_inode inode_sector b i.value i.spelt in
-    kind_size _ _ (and_parts _ _ (and_parts _ _ found.1).1).1
+    kind_size _ _ _ (and_parts _ _ (and_parts _ _ found.1).1).1
 
 -- no inode is spelled by no bytes
 no_inode : inode_in [] ≡ None

@@ -11,9 +11,10 @@ use Rattle.lfs_model.specs.declared.BlockKind.{BlockKind}
 use Rattle.lfs_model.specs.declared.BlockKind.TheVariants.{Data, Leaf, Double, Inode, Map, Usage}
 use Rattle.lfs_model.specs.Fields.{value_in, read32}
 use Rattle.lfs_model.specs.Checkpoint.{CheckpointValue, FitsCheckpoint, IsSegmentCount, checkpoint_in, checkpoint_of, checkpoint_sector, is_segment_count, may_be_checkpoint}
-use Rattle.lfs_model.specs.Inode.{InodeValue, FitsInode, IsSize, inode_in, inode_of, inode_sector, is_size, may_be_inode}
+use Rattle.lfs_model.specs.Inode.{InodeValue, FitsInode, IsSize, inode_form, inode_in, inode_of, inode_sector, is_size, may_be_inode}
 use Rattle.lfs_model.specs.Summary.{BlockNameValue, FitsSummary, IsPlaced, blocks_of, is_placed, may_be_summary, no_block, summary_in, summary_sector}
 use Rattle.lfs_model.specs.Slot.{SlotValue, FitsSlot, IsName, is_name, may_be_slot, slot_bytes, slot_in, slot_of}
+use Rattle.lfs_model.specs.Tree.{name_len, slot_len}
 use Rattle.lfs_model.specs.Usage.{SegmentUse, FitsUsage, IsUse, IsUnused, is_use, is_unused, may_be_usage, no_use, usage_in, usage_of, usage_sector, use_at}
 use Rattle.lfs_model.proofs.Numbers.{IsBytes}
 use Rattle.lfs_model.proofs.Parts.{read32-lt, read64-lt}
@@ -101,17 +102,17 @@ checkpoint_is s bytes long (Some c) found none = sym (checkpoint_some s c found.
 checkpoint_is s bytes long None found none = value_is checkpoint_of may_be_checkpoint checkpoint_sector s None tt (λ fits e. none (checkpoint_of s) (checkpoint_from s bytes long fits) e)
 
 -- ---- inodes
-size_test : (k : Kind) (n : ℕ) → IsSize k n → is_size k n ≡ true
+size_test : (form : ℕ) (k : Kind) (n : ℕ) → IsSize form k n → is_size form k n ≡ true
 unfolding IsSize is_size
-size_test File n p = le-leb n 8511488 p
-size_test Directory n p = and_from _ _ (eq-eqb _ 0 p.0) (le-leb n 65536 p.1)
-size_test Link n p = and_from _ _ (le-leb 1 n p.0) (le-leb n 1023 p.1)
+size_test form File n p = le-leb n 8511488 p
+size_test form Directory n p = and_from _ _ (eq-eqb _ 0 p.0) (le-leb n (1024 * slot_len form) p.1)
+size_test form Link n p = and_from _ _ (le-leb 1 n p.0) (le-leb n 1023 p.1)
 
-size_from : (k : Kind) (n : ℕ) → is_size k n ≡ true → IsSize k n
+size_from : (form : ℕ) (k : Kind) (n : ℕ) → is_size form k n ≡ true → IsSize form k n
 unfolding IsSize is_size
-size_from File n e = leb-true n 8511488 e
-size_from Directory n e = let a = and_parts _ _ e in (eqb-true _ 0 a.0, leb-true n 65536 a.1)
-size_from Link n e = let a = and_parts _ _ e in (leb-true 1 n a.0, leb-true n 1023 a.1)
+size_from form File n e = leb-true n 8511488 e
+size_from form Directory n e = let a = and_parts _ _ e in (eqb-true _ 0 a.0, leb-true n (1024 * slot_len form) a.1)
+size_from form Link n e = let a = and_parts _ _ e in (leb-true 1 n a.0, leb-true n 1023 a.1)
 
 within_test : (n most : ℕ) → (1 ≤ n) × (n ≤ most) → (nat_le 1 n && nat_le n most) ≡ true
 within_test n most p = and_from _ _ (le-leb 1 n p.0) (le-leb n most p.1)
@@ -120,7 +121,7 @@ within_from : (n most : ℕ) → (nat_le 1 n && nat_le n most) ≡ true → (1 �
 within_from n most e = let a = and_parts _ _ e in (leb-true 1 n a.0, leb-true n most a.1)
 
 inode_test : (i : InodeValue) → FitsInode i → may_be_inode i ≡ true
-inode_test i p = and_from _ _ (within_test i.number 4095 p.number) (and_from _ _ (within_test i.links 1000 p.links) (size_test i.kind i.size p.size))
+inode_test i p = and_from _ _ (within_test i.number 4095 p.number) (and_from _ _ (within_test i.links 1000 p.links) (size_test (inode_form i) i.kind i.size p.size))
 
 inode_from : (s : List ℕ) → IsBytes s → length s ≡ 512 → may_be_inode (inode_of s) ≡ true → FitsInode (inode_of s)
 inode_from s bytes long e =
@@ -128,7 +129,7 @@ inode_from s bytes long e =
     let b = and_parts _ _ a.1 in record {
       number = within_from _ 4095 a.0;
       links = within_from _ 1000 b.0;
-      size = size_from _ _ b.1;
+      size = size_from _ _ _ b.1;
       direct_length = length-run read32 4 112 32 s;
       direct_fits = numbers_fit 112 32 s bytes (omega arith);
       single_fits = read32-lt 480 s bytes (omega arith);
@@ -222,21 +223,21 @@ not_so : (b : Bool) → not b ≡ true → b ≡ true → ⊥
 not_so true e p = cc
 not_so false e p = cc
 
-name_test : (name : List ℕ) → IsName name → is_name name ≡ true
-name_test name p =
+name_test : (limit : ℕ) (name : List ℕ) → IsName limit name → is_name limit name ≡ true
+name_test limit name p =
     let dot : not (bytes_eq name (46 ∷ [])) ≡ true = not_from _ (λ e. p.dot ((bytes_eq-Decides name (46 ∷ [])).0 e)) in
     let dotdot : not (bytes_eq name (46 ∷ 46 ∷ [])) ≡ true = not_from _ (λ e. p.dotdot ((bytes_eq-Decides name (46 ∷ 46 ∷ [])).0 e)) in
     let each = all_from_each (λ b. not (b == 0) && not (b == 47)) 0 name (λ i lt. and_from _ _ (not_from _ (λ e. (p.bytes i lt).0 (eqb-true _ 0 e))) (not_from _ (λ e. (p.bytes i lt).1 (eqb-true _ 47 e)))) in
-    and_from _ _ (le-leb 1 (length name) p.long) (and_from _ _ (le-leb (length name) 59 p.short) (and_from _ _ each (and_from _ _ dot dotdot)))
+    and_from _ _ (le-leb 1 (length name) p.long) (and_from _ _ (le-leb (length name) limit p.short) (and_from _ _ each (and_from _ _ dot dotdot)))
 
-name_from : (name : List ℕ) → is_name name ≡ true → IsName name
-name_from name e =
+name_from : (limit : ℕ) (name : List ℕ) → is_name limit name ≡ true → IsName limit name
+name_from limit name e =
     let a = and_parts _ _ e in
     let b = and_parts _ _ a.1 in
     let c = and_parts _ _ b.1 in
     let d = and_parts _ _ c.1 in record {
       long = leb-true 1 (length name) a.0;
-      short = leb-true (length name) 59 b.0;
+      short = leb-true (length name) limit b.0;
       bytes = λ i lt.
           let f = and_parts _ _ (each_from_all (λ b. not (b == 0) && not (b == 47)) 0 name c.0 i lt) in
           ((λ z. not_so _ f.0 (eq-eqb _ 0 z)), (λ z. not_so _ f.1 (eq-eqb _ 47 z)));
@@ -244,27 +245,27 @@ name_from name e =
       dotdot = λ z. not_so _ d.1 ((bytes_eq-Decides name (46 ∷ 46 ∷ [])).1 z);
     }
 
-slot_test : (v : SlotValue) → FitsSlot v → may_be_slot v ≡ true
-slot_test v p = and_from _ _ (within_test v.number 4095 p.number) (name_test v.name p.name)
+slot_test : (form : ℕ) (v : SlotValue) → FitsSlot form v → may_be_slot form v ≡ true
+slot_test form v p = and_from _ _ (within_test v.number 4095 p.number) (name_test (name_len form) v.name p.name)
 
-slot_from : (v : SlotValue) → may_be_slot v ≡ true → FitsSlot v
-slot_from v e = let a = and_parts _ _ e in record { number = within_from _ 4095 a.0; name = name_from v.name a.1 }
+slot_from : (form : ℕ) (v : SlotValue) → may_be_slot form v ≡ true → FitsSlot form v
+slot_from form v e = let a = and_parts _ _ e in record { number = within_from _ 4095 a.0; name = name_from (name_len form) v.name a.1 }
 
-pub slot_some : (b : List ℕ) (v : SlotValue) → FitsSlot v → b ≡ slot_bytes v → slot_in b ≡ Some v
+pub slot_some : (form : ℕ) (b : List ℕ) (v : SlotValue) → FitsSlot form v → b ≡ slot_bytes form v → slot_in form b ≡ Some v
 unfolding slot_in
-slot_some b v p e = value_some slot_of may_be_slot slot_bytes b v (ap (λ (x : List ℕ). slot_of x) e ∙ slot_back v p) (slot_test v p) e
+slot_some form b v p e = value_some slot_of (may_be_slot form) (slot_bytes form) b v (ap (λ (x : List ℕ). slot_of x) e ∙ slot_back form v p) (slot_test form v p) e
 
-pub slot_found : (b : List ℕ) (v : SlotValue) → slot_in b ≡ Some v → FitsSlot v × (b ≡ slot_bytes v)
+pub slot_found : (form : ℕ) (b : List ℕ) (v : SlotValue) → slot_in form b ≡ Some v → FitsSlot form v × (b ≡ slot_bytes form v)
 unfolding slot_in
-slot_found b v e =
-    let f = value_found slot_of may_be_slot slot_bytes b v e in
-    (subst FitsSlot f.0 (slot_from (slot_of b) f.1), f.2)
+slot_found form b v e =
+    let f = value_found slot_of (may_be_slot form) (slot_bytes form) b v e in
+    (subst (FitsSlot form) f.0 (slot_from form (slot_of b) f.1), f.2)
 
-pub slot_is : (b : List ℕ) (r : Option SlotValue)
-    → IfSome r (λ v. FitsSlot v × (b ≡ slot_bytes v)) → IfNone r ((v : SlotValue) → FitsSlot v → ¬ (b ≡ slot_bytes v)) → r ≡ slot_in b
+pub slot_is : (form : ℕ) (b : List ℕ) (r : Option SlotValue)
+    → IfSome r (λ v. FitsSlot form v × (b ≡ slot_bytes form v)) → IfNone r ((v : SlotValue) → FitsSlot form v → ¬ (b ≡ slot_bytes form v)) → r ≡ slot_in form b
 unfolding slot_in
-slot_is b (Some v) found none = sym (slot_some b v found.0 found.1)
-slot_is b None found none = value_is slot_of may_be_slot slot_bytes b None tt (λ fits e. none (slot_of b) (slot_from (slot_of b) fits) e)
+slot_is form b (Some v) found none = sym (slot_some form b v found.0 found.1)
+slot_is form b None found none = value_is slot_of (may_be_slot form) (slot_bytes form) b None tt (λ fits e. none (slot_of b) (slot_from form (slot_of b) fits) e)
 
 -- ---- usage blocks
 -- what the counts of an entry say of each other

@@ -1,21 +1,27 @@
 -- The inode, place by place.
-use Rattle.std.proofs.Common.{◌≡◌, ◌<◌, ◌≤◌, ◌*◌, ◌^◌, ℕ, List, [], ◌∷◌, length, get_or, refl, sym, ap, ◌∙◌, arith}
+use Rattle.std.proofs.Common.{◌≡◌, ◌<◌, ◌≤◌, ◌*◌, ◌^◌, ℕ, zero, suc, List, [], ◌∷◌, length, get_or, refl, sym, ap, ◌∙◌, arith}
 use Rattle.lfs_model.specs.declared.Kind.{Kind}
 use Rattle.lfs_model.specs.declared.Kind.TheVariants.{File, Directory, Link}
 use Rattle.lfs_model.specs.Fields.{le32, words, zeros, part, read32, numbers}
-use Rattle.lfs_model.specs.Inode.{InodeValue, FitsInode, IsSize, inode_of, inode_sector, kind_byte, kind_of}
+use Rattle.lfs_model.specs.Inode.{InodeValue, FitsInode, IsSize, inode_form, inode_of, inode_sector, kind_byte, kind_of}
+use Rattle.lfs_model.specs.Tree.{slot_len}
 use Rattle.lfs_model.proofs.Numbers.{length-le32, length-words, length-zeros}
 use Rattle.lfs_model.proofs.Parts.{one_byte, read32_is}
 use Rattle.lfs_model.proofs.Runs.{numbers_is}
 use Rattle.lfs_model.proofs.Laid.{Field, Sized, Laid, laid_from, laid_to, length-fields}
 
 unfoldable pub fields : InodeValue → List Field
-fields i = (1, kind_byte i.kind ∷ []) ∷ (3, zeros 3) ∷ (4, le32 i.number) ∷ (4, le32 i.links) ∷ (4, le32 i.size) ∷ (16, zeros 16) ∷ (448, words i.direct) ∷ (4, le32 i.single) ∷ (4, le32 i.double) ∷ (24, zeros 24) ∷ []
+fields i = (1, kind_byte i.kind ∷ []) ∷ (3, inode_form i ∷ zeros 2) ∷ (4, le32 i.number) ∷ (4, le32 i.links) ∷ (4, le32 i.size) ∷ (16, zeros 16) ∷ (448, words i.direct) ∷ (4, le32 i.single) ∷ (4, le32 i.double) ∷ (24, zeros 24) ∷ []
+
+-- the form is 0, so that it and the zeros past it are three zeros
+pub first_form : (i : InodeValue) → zeros 3 ≡ inode_form i ∷ zeros 2
+unfolding zeros
+first_form i = refl
 
 -- what stands at each place of the sector
 pub record ReadsAs (s : List ℕ) (i : InodeValue) : Type 0 where
   pub kind : part 0 1 s ≡ kind_byte i.kind ∷ []
-  pub gap : part 1 3 s ≡ zeros 3
+  pub form : part 1 3 s ≡ inode_form i ∷ zeros 2
   pub number : part 4 4 s ≡ le32 i.number
   pub links : part 8 4 s ≡ le32 i.links
   pub size : part 12 4 s ≡ le32 i.size
@@ -29,7 +35,7 @@ sized : (i : InodeValue) → FitsInode i → Sized (fields i)
 unfolding fields
 sized i fits =
     let direct : length (words i.direct) ≡ 448 = length-words i.direct ∙ ap (λ (n : ℕ). 4 * n) fits.direct_length in
-    (refl, (length-zeros 3, (length-le32 i.number, (length-le32 i.links, (length-le32 i.size, (length-zeros 16, (direct, (length-le32 i.single, (length-le32 i.double, (length-zeros 24, tt))))))))))
+    (refl, (ap suc (length-zeros 2), (length-le32 i.number, (length-le32 i.links, (length-le32 i.size, (length-zeros 16, (direct, (length-le32 i.single, (length-le32 i.double, (length-zeros 24, tt))))))))))
 
 pub length-inode : (i : InodeValue) → FitsInode i → length (inode_sector i) ≡ 512
 unfolding fields inode_sector
@@ -40,7 +46,7 @@ unfolding fields inode_sector
 reads_from s i fits e =
     let laid : Laid s 0 (fields i) = laid_from s 0 (fields i) (sized i fits) e in record {
       kind = laid.0;
-      gap = laid.1.0;
+      form = laid.1.0;
       number = laid.1.1.0;
       links = laid.1.1.1.0;
       size = laid.1.1.1.1.0;
@@ -54,7 +60,7 @@ reads_from s i fits e =
 pub reads_to : (s : List ℕ) (i : InodeValue) → length s ≡ 512 → ReadsAs s i → s ≡ inode_sector i
 unfolding fields inode_sector
 reads_to s i long r =
-    laid_to s 0 (fields i) (sym long) (r.kind, (r.gap, (r.number, (r.links, (r.size, (r.gap2, (r.direct, (r.single, (r.double, (r.rest, tt))))))))))
+    laid_to s 0 (fields i) (sym long) (r.kind, (r.form, (r.number, (r.links, (r.size, (r.gap2, (r.direct, (r.single, (r.double, (r.rest, tt))))))))))
 
 pub kind_of_byte : (k : Kind) → kind_of (kind_byte k) ≡ k
 unfolding kind_byte
@@ -81,15 +87,19 @@ not_a_kind b Link x y z e = z e
 abbrev built : Kind → ℕ → ℕ → ℕ → List ℕ → ℕ → ℕ → InodeValue
 built k n l s d x y = record { kind = k; number = n; links = l; size = s; direct = d; single = x; double = y }
 
-size_below : (k : Kind) (n : ℕ) → IsSize k n → n < 2 ^ 32
+pub widest : (form : ℕ) → slot_len form ≤ 128
+widest zero = omega arith
+widest (suc form) = omega arith
+
+size_below : (form : ℕ) (k : Kind) (n : ℕ) → IsSize form k n → n < 2 ^ 32
 unfolding IsSize
-size_below File n h = omega arith
-size_below Directory n h = omega (arith, h.1)
-size_below Link n h = omega (arith, h.1)
+size_below form File n h = omega arith
+size_below form Directory n h = omega (arith, widest form, h.1)
+size_below form Link n h = omega (arith, h.1)
 
 -- an inode's size fits 32 bits
 pub size_fits : (i : InodeValue) → FitsInode i → i.size < 2 ^ 32
-size_fits i fits = size_below i.kind i.size fits.size
+size_fits i fits = size_below (inode_form i) i.kind i.size fits.size
 
 -- the places of an inode's sector hold the inode
 pub inode_back : (i : InodeValue) → FitsInode i → inode_of (inode_sector i) ≡ i

@@ -1,7 +1,7 @@
 -- Every call keeps a state sound, and so does every run of calls.
 use Rattle.std.proofs.Common.{◌≡◌, ◌<◌, replicate, refl, sym, subst, ℕ, zero, suc, Some, slice_get, true, List, [], ◌∷◌, inl, inr}
 use Rattle.std.specs.List.{AllByRecursion}
-use Rattle.lfs_model.specs.Call.{Call, Open, Create, Close, Pread, Pwrite, Truncate, Mkdir, LinkTo, Symlink, Readlink, Unlink, Rmdir, Rename, StatOf, LstatOf, Readdir, Fsync, Sync, Clean, Space, ListTree, Answer, AreArguments, reads}
+use Rattle.lfs_model.specs.Call.{Call, Open, Create, Close, Pread, Pwrite, Truncate, Mkdir, LinkTo, Symlink, Readlink, Unlink, Rmdir, Rename, StatOf, LstatOf, Readdir, Fsync, Sync, Clean, Space, ListTree, Answer, AreArguments, leaves_state}
 use Rattle.lfs_model.specs.Tree.{State, drop_nameless}
 use Rattle.lfs_model.specs.Sound.{Sound}
 use Rattle.lfs_model.specs.Laws.{Keeps}
@@ -14,7 +14,7 @@ use Rattle.lfs_model.proofs.Pendings.{reads_leave}
 use Rattle.lfs_model.proofs.Forgetting.{dropped_sound}
 use Rattle.lfs_model.proofs.Walks.{Some-injective}
 
-read_keeps : (call : Call) → reads call ≡ true → Keeps call
+read_keeps : (call : Call) → leaves_state call ≡ true → Keeps call
 read_keeps call is N s s' a sound args st = subst (Sound N) (sym (reads_leave N s s' call a is st)) sound
 
 pub call_keeps : (call : Call) → Keeps call

@@ -49,6 +49,7 @@ pub mod Writes
 pub mod Closes
 pub mod Renames
 pub mod Rows
+pub mod SameParent
 pub mod ScriptRows
 pub mod WordTexts
 pub mod LineTexts
@@ -93,3 +94,11 @@ pub mod Staging
 pub mod Changed
 pub mod Files
 pub mod Headers
+pub mod Replacing
+pub mod Detaching
+pub mod DetachedCounts
+pub mod Cutting
+pub mod Losing
+pub mod CutSets
+pub mod Tight
+pub mod CountFacts

@@ -12,7 +12,7 @@ use Rattle.lfs_model.specs.Decodes.{IsSized}
 use Rattle.lfs_model.specs.Live.{live_count}
 use Rattle.lfs_model.specs.Memory.{parent, IsPointers, HasPointer, is_unlinked, is_nameless, is_shown, shown, those, settled_at, memory_view, live_of, used_of}
 use Rattle.lfs_model.specs.Laid.{IsLaid, IsMapped, SpellsBlock}
-use Rattle.lfs_model.specs.Finishing.{row_or_none, mounted, IsDone, Mounting}
+use Rattle.lfs_model.specs.Finishing.{row_or_none, mounted_memory, IsDone, Mounting}
 use Rattle.lfs_model.specs.Reach
 use Rattle.lfs_model.proofs.Segments.{no_row_live}
 use Rattle.lfs_model.proofs.Reach.{opened_inv, address_linked}
@@ -165,7 +165,7 @@ module _ (c : Content) (k : CheckpointValue) (m : LogMap) (few : k.segments ≤ 
   spells (Map j) lt = tt
   spells (Usage j) lt = tt
 
-  mapped : (j : ℕ) → IsMapped m (mounted c k) j
+  mapped : (j : ℕ) → IsMapped m (mounted_memory c k) j
   mapped j = record {
     settled = λ i low one. never_one (Inode (128 * j + i)) (sym (all_shown (Inode (128 * j + i))) ∙ one);
     none = λ z i low. all_shown (Inode (128 * j + i)) ∙ none i low z;
@@ -188,7 +188,7 @@ module _ (c : Content) (k : CheckpointValue) (m : LogMap) (few : k.segments ≤ 
   row_named : Named (address c k) (λ s. row_or_none (row c k s))
   row_named x le = sym (place_is (row c k ((address c k x - 2) / 64)) ((address c k x - 2) % 64)) ∙ en.named x (omega arith)
 
-  begins : IsLaid c m (mounted c k) k.segments
+  begins : IsLaid c m (mounted_memory c k) k.segments
   begins = record {
     size = en.size;
     few = few;
@@ -219,36 +219,36 @@ module _ (c : Content) (k : CheckpointValue) (m : LogMap) (few : k.segments ≤ 
       (λ (ne : address c k x ≡ 0 → ⊥). settled_above (address c k x) (en.within x (omega arith)).0)
       (cases_eq (address c k x) 0)
 
-  held_same : (s at : ℕ) → at < 64 → IsHeld (view c k) (2 + 64 * s + at) ↔ IsHeld (memory_view (is_shown m) (mounted c k)) (2 + 64 * s + at)
+  held_same : (s at : ℕ) → at < 64 → IsHeld (view c k) (2 + 64 * s + at) ↔ IsHeld (memory_view (is_shown m) (mounted_memory c k)) (2 + 64 * s + at)
   held_same s at low = (λ h. (h.0, view_address h.0 ∙ h.1), λ h. (h.0, sym (view_address h.0) ∙ h.1))
 
-  live_is : (s : ℕ) → live_of m (mounted c k) s ≡ live_count (view c k) s
-  live_is s = same_live (view c k) (memory_view (is_shown m) (mounted c k)) en.named (view_named (is_shown m) (mounted c k) row_named) s (held_same s)
+  live_is : (s : ℕ) → live_of m (mounted_memory c k) s ≡ live_count (view c k) s
+  live_is s = same_live (view c k) (memory_view (is_shown m) (mounted_memory c k)) en.named (view_named (is_shown m) (mounted_memory c k) row_named) s (held_same s)
 
-  live_counted : (s : ℕ) → live_in (view c k) s ≡ live_of m (mounted c k) s
+  live_counted : (s : ℕ) → live_in (view c k) s ≡ live_of m (mounted_memory c k) s
   live_counted s = ⊎_elim
       (λ (low : s < k.segments). (named_counts (view c k) en.named s (live_in (view c k) s)).0 (st.stages.counted s low) ∙ sym (live_is s))
       (λ (high : k.segments ≤ s).
       st.stages.usages.both s (st.stages.usages.past s high).0
-      ∙ sym (no_row_live (memory_view (is_shown m) (mounted c k)) s (ap Some (rows_past s high))))
+      ∙ sym (no_row_live (memory_view (is_shown m) (mounted_memory c k)) s (ap Some (rows_past s high))))
       (cases_lt s k.segments)
 
-  used_counted : (s : ℕ) → used_in (view c k) s ≡ used_of m (mounted c k) s
+  used_counted : (s : ℕ) → used_in (view c k) s ≡ used_of m (mounted_memory c k) s
   unfolding address
   used_counted s =
       let live = live_counted s in
       let row = row_length s in
       ⊎_elim
-      (λ (z : live_of m (mounted c k) s ≡ 0).
-      none s (omega arith) ∙ sym (cond-true (live_of m (mounted c k) s == 0) 0 (length (row_or_none (Reach.row c k s))) (eq-eqb (live_of m (mounted c k) s) 0 z)))
-      (λ (ne : live_of m (mounted c k) s ≡ 0 → ⊥).
-      sym row ∙ sym (cond-false (live_of m (mounted c k) s == 0) 0 (length (row_or_none (Reach.row c k s))) (false_from_ne_true _ (λ h. ne (eqb-true (live_of m (mounted c k) s) 0 h)))))
-      (cases_eq (live_of m (mounted c k) s) 0)
+      (λ (z : live_of m (mounted_memory c k) s ≡ 0).
+      none s (omega arith) ∙ sym (cond-true (live_of m (mounted_memory c k) s == 0) 0 (length (row_or_none (Reach.row c k s))) (eq-eqb (live_of m (mounted_memory c k) s) 0 z)))
+      (λ (ne : live_of m (mounted_memory c k) s ≡ 0 → ⊥).
+      sym row ∙ sym (cond-false (live_of m (mounted_memory c k) s == 0) 0 (length (row_or_none (Reach.row c k s))) (false_from_ne_true _ (λ h. ne (eqb-true (live_of m (mounted_memory c k) s) 0 h)))))
+      (cases_eq (live_of m (mounted_memory c k) s) 0)
     where
       none : (s : ℕ) → live_in (view c k) s ≡ 0 → used_in (view c k) s ≡ 0
       none s z = ⊎_elim (λ (u : used_in (view c k) s ≡ 0). u) (λ some. absurd (omega (arith, z, some.0))) (st.stages.usages.less s)
 
-  is_done : IsDone c m (mounted c k) k.segments k
+  is_done : IsDone c m (mounted_memory c k) k.segments k
   unfolding address
   is_done = record {
     none = never_one;

@@ -4,14 +4,14 @@ use Rattle.std.proofs.lemmas.List.{append_assoc, same_lists, get_or_append_left,
 use Rattle.std.proofs.lemmas.Bool.{cases_eq, cases_lt}
 use Rattle.lfs_model.specs.declared.Kind.{Kind}
 use Rattle.lfs_model.specs.declared.Kind.TheVariants.{File, Directory, Link}
-use Rattle.lfs_model.specs.Fields.{le32, words, zeros, part, read32, number_of, Are32}
-use Rattle.lfs_model.specs.Inode.{InodeValue, FitsInode, inode_in, inode_of, inode_sector, may_be_inode, kind_byte, kind_of}
+use Rattle.lfs_model.specs.Fields.{le32, words, zeros, join, part, read32, number_of, Are32}
+use Rattle.lfs_model.specs.Inode.{InodeValue, FitsInode, inode_form, inode_in, inode_of, inode_sector, may_be_inode, kind_byte, kind_of}
 use Rattle.lfs_model.specs.Entry.{Header, IsInode, header, header_of, word}
 use Rattle.lfs_model.specs.Memory.{patched}
 use Rattle.lfs_model.specs.Laid.{HoldsInode}
 use Rattle.lfs_model.proofs.Numbers.{IsBytes, length-le32, length-words, length-zeros}
 use Rattle.lfs_model.proofs.Parts.{length-part, get_or-part, part_add, read32_is}
-use Rattle.lfs_model.proofs.InodePlaces.{ReadsAs, fields, kind_at, reads_to, size_fits}
+use Rattle.lfs_model.proofs.InodePlaces.{ReadsAs, fields, kind_at, reads_to, size_fits, first_form}
 use Rattle.lfs_model.proofs.Runs.{length-run, piece_at}
 use Rattle.lfs_model.proofs.Decoding.{value_found, inode_found, inode_some}
 use Rattle.lfs_model.proofs.Laid.{Laid, Sized, laid_from, length-fields}
@@ -112,7 +112,7 @@ sized : (i : InodeValue) → length i.direct ≡ 112 → Sized (fields i)
 unfolding fields
 sized i count =
     let direct : length (words i.direct) ≡ 448 = length-words i.direct ∙ ap (λ (n : ℕ). 4 * n) count in
-    (refl, (length-zeros 3, (length-le32 i.number, (length-le32 i.links, (length-le32 i.size, (length-zeros 16, (direct, (length-le32 i.single, (length-le32 i.double, (length-zeros 24, tt))))))))))
+    (refl, (ap suc (length-zeros 2), (length-le32 i.number, (length-le32 i.links, (length-le32 i.size, (length-zeros 16, (direct, (length-le32 i.single, (length-le32 i.double, (length-zeros 24, tt))))))))))
 
 long_value : (i : InodeValue) → length i.direct ≡ 112 → length (inode_sector i) ≡ 512
 unfolding fields inode_sector
@@ -123,7 +123,7 @@ unfolding fields inode_sector
 reads_value s i count e =
     let laid : Laid s 0 (fields i) = laid_from s 0 (fields i) (sized i count) e in record {
       kind = laid.0;
-      gap = laid.1.0;
+      form = laid.1.0;
       number = laid.1.1.0;
       links = laid.1.1.1.0;
       size = laid.1.1.1.1.0;
@@ -212,11 +212,15 @@ kind_bytes Directory (suc i) = omega arith
 kind_bytes Link zero = omega arith
 kind_bytes Link (suc i) = omega arith
 
+-- what follows the kind and the form
+abbrev after_form : InodeValue → List ℕ
+after_form i = join (le32 i.number ∷ le32 i.links ∷ le32 i.size ∷ zeros 16 ∷ words i.direct ∷ le32 i.single ∷ le32 i.double ∷ zeros 24 ∷ [])
+
 inode_bytes : (i : InodeValue) → IsBytes (inode_sector i)
 unfolding inode_sector
 inode_bytes i =
-    append_bytes (kind_byte i.kind ∷ []) _ (kind_bytes i.kind)
-    (append_bytes (zeros 3) _ (zeros_bytes 3)
+    append_bytes (kind_byte i.kind ∷ []) ((inode_form i ∷ zeros 2) ++ after_form i) (kind_bytes i.kind)
+    (append_bytes (inode_form i ∷ zeros 2) (after_form i) (subst IsBytes (first_form i) (zeros_bytes 3))
     (append_bytes (le32 i.number) _ (le32_bytes i.number)
     (append_bytes (le32 i.links) _ (le32_bytes i.links)
     (append_bytes (le32 i.size) _ (le32_bytes i.size)
@@ -280,7 +284,7 @@ module _ (n w v : ℕ) (b : List ℕ) (holds : HoldsInode n b) (above : 8 ≤ w)
       let r = reads_inode n b holds in
       let reads : ReadsAs (patched w v b) (other_value ns s d) = record {
         kind = before 0 1 (omega arith) ∙ r.kind;
-        gap = before 1 3 (omega arith) ∙ r.gap;
+        form = before 1 3 (omega arith) ∙ r.form;
         number = before 4 4 (omega arith) ∙ r.number;
         links = before 8 4 (omega arith) ∙ r.links;
         size = before 12 4 (omega arith) ∙ r.size;

@@ -6,7 +6,7 @@ use Rattle.lfs_model.specs.Tree.{State, node, is_dir, names_in}
 use Rattle.lfs_model.specs.Bytes as bytes
 use Rattle.lfs_model.specs.Refusal.{Inval, NotDir}
 use Rattle.lfs_model.specs.Walk.{End, At, Refused}
-use Rattle.lfs_model.specs.Call.{Call, Open, Create, Close, Pread, Pwrite, Truncate, Mkdir, LinkTo, Symlink, Readlink, Unlink, Rmdir, Rename, StatOf, LstatOf, Readdir, Fsync, Sync, Clean, Space, ListTree, Answer, Done, Data, Text, Status, Entries, reads}
+use Rattle.lfs_model.specs.Call.{Call, Open, Create, Close, Pread, Pwrite, Truncate, Mkdir, LinkTo, Symlink, Readlink, Unlink, Rmdir, Rename, StatOf, LstatOf, Readdir, Fsync, Sync, Clean, Space, ListTree, Answer, Done, Data, Text, Status, Entries, leaves_state}
 use Rattle.lfs_model.specs.Step.{Step, checked, reached, outcome, when, bad_handle, file_bytes, the_node, file_at, is_link, head_of, stat_of, entry_of, reads_link, lists}
 use Rattle.lfs_model.specs.Run.{Point, Run, final, IsPending}
 
@@ -43,7 +43,7 @@ same_reached : (s : State) (e : End) (f : ℕ → Answer × State) → ((n : ℕ
 same_reached s (At n) f h = h n
 same_reached s (Refused r) f h = refl
 
-reads_same : (N : ℕ) (s : State) (call : Call) (e f : End) → reads call ≡ true → (outcome N s call e f).1 ≡ s
+reads_same : (N : ℕ) (s : State) (call : Call) (e f : End) → leaves_state call ≡ true → (outcome N s call e f).1 ≡ s
 reads_same N s (Pread h off n) e f is = same_checked s (bad_handle s h ∷ when (nat_lt 65536 n) Inval ∷ []) (Data (bytes.part (file_bytes (the_node s.tree (file_at s h))) off n))
 reads_same N s (Readlink p) e f is = same_reached s e (reads_link s) (λ n. same_checked s (when (not (is_link (the_node s.tree n))) Inval ∷ []) (Text (head_of (the_node s.tree n))))
 reads_same N s (StatOf p) e f is = same_reached s e (λ n. (Status (stat_of s.tree n), s)) (λ n. refl)
@@ -66,5 +66,5 @@ reads_same N s (Unlink p) e f is = absurd (cc is)
 reads_same N s (Rmdir p) e f is = absurd (cc is)
 reads_same N s (Rename p q) e f is = absurd (cc is)
 
-pub reads_leave : (N : ℕ) (s s' : State) (call : Call) (a : Answer) → reads call ≡ true → Step N s call a s' → s' ≡ s
+pub reads_leave : (N : ℕ) (s s' : State) (call : Call) (a : Answer) → leaves_state call ≡ true → Step N s call a s' → s' ≡ s
 reads_leave N s s' call a is st = sym st.state ∙ reads_same N s call st.first_end st.second_end is

@@ -1,7 +1,7 @@
 -- Worked examples: the model computes what the calls answer on a new volume of 64 segments. Examples with files of many kilobytes,
 -- with a thousand names, or with writes far into a file are too dear to compute here; they are tests of the calls.
 use Rattle.std.proofs.Common.{◌≡◌, refl, ℕ, List, [], ◌∷◌, ◌++◌, ◌+◌, Some, Option, replicate}
-use Rattle.std.specs.Prelude.{codes, option_and_then, option_map, map, drop, decimal}
+use Rattle.std.specs.Prelude.{codes, option_and_then, map, decimal}
 use Rattle.std.specs.List.{range_with_len}
 use Rattle.std.specs.Fmt.{digits}
 use Rattle.lfs_model.specs.Tree.{drop_nameless}
@@ -144,9 +144,9 @@ numbered : List ℕ → ℕ → List ℕ
 unfolding digits
 numbered p i = p ++ decimal i
 
-forty_links : option_map (drop 42) (answers (Create (codes "/t") ∷ Symlink (codes "/t") (codes "/l1") ∷ map (λ i. Symlink (numbered (codes "/l") i) (numbered (codes "/l") (i + 1))) (range_with_len 1 40)
-    ++ (StatOf (codes "/l40") ∷ StatOf (codes "/l41") ∷ StatOf (codes "/..") ∷ StatOf (codes "/t/") ∷ Readlink (codes "/l1") ∷ Readlink (codes "/t") ∷ [])))
-    ≡ Some (file 2 1 0 ∷ Refuse Loop ∷ dir 1 2 2688 ∷ Refuse NotDir ∷ Text (codes "/t") ∷ Refuse Inval ∷ [])
+forty_links : answers (Create (codes "/t") ∷ Symlink (codes "/t") (codes "/l1") ∷ map (λ i. Symlink (numbered (codes "/l") i) (numbered (codes "/l") (i + 1))) (range_with_len 1 40)
+    ++ (StatOf (codes "/l40") ∷ StatOf (codes "/l41") ∷ StatOf (codes "/..") ∷ StatOf [] ∷ StatOf (codes "/t/") ∷ Readlink (codes "/l1") ∷ Readlink (codes "/t") ∷ []))
+    ≡ Some (Handle 0 ∷ replicate 41 Done ++ (file 2 1 0 ∷ Refuse Loop ∷ dir 1 2 2688 ∷ Refuse NoEntry ∷ Refuse NotDir ∷ Text (codes "/t") ∷ Refuse Inval ∷ []))
 unfolding answers file dir data_of meta_of numbered digits
 forty_links = refl
 
@@ -164,8 +164,8 @@ slash_after_a_link = refl
 
 -- ---- handles
 
-all_open : option_map (drop 64) (answers (Create (codes "/f") ∷ replicate 63 (Open (codes "/f")) ++ (Open (codes "/f") ∷ Open (codes "/") ∷ Create (codes "/f") ∷ Create (codes "/g") ∷ Close 5 ∷ Open (codes "/f") ∷ [])))
-    ≡ Some (Refuse TooManyOpen ∷ Refuse IsDir ∷ Refuse Exist ∷ Refuse TooManyOpen ∷ Done ∷ Handle 5 ∷ [])
+all_open : answers (Create (codes "/f") ∷ replicate 63 (Open (codes "/f")) ++ (Open (codes "/f") ∷ Open (codes "/") ∷ Create (codes "/f") ∷ Create (codes "/g") ∷ Close 5 ∷ Open (codes "/f") ∷ []))
+    ≡ Some (map Handle (range_with_len 0 64) ++ (Refuse TooManyOpen ∷ Refuse IsDir ∷ Refuse Exist ∷ Refuse TooManyOpen ∷ Done ∷ Handle 5 ∷ []))
 unfolding answers data_of meta_of
 all_open = refl
 

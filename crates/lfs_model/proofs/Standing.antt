@@ -12,7 +12,7 @@ use Rattle.std.proofs.lemmas.List.FromFn.{length-map-range_with_len}
 use Rattle.lfs_model.specs.declared.Kind.{Kind}
 use Rattle.lfs_model.specs.declared.Kind.TheVariants as kind
 use Rattle.lfs_model.specs.Bytes.{AreBytes}
-use Rattle.lfs_model.specs.Checkpoint.{CheckpointValue}
+use Rattle.lfs_model.specs.Checkpoint.{CheckpointValue, layout_version}
 use Rattle.lfs_model.specs.Content.{Content, block, bytes_of}
 use Rattle.lfs_model.specs.Device.{Cell, IsSector, cell_at}
 use Rattle.lfs_model.specs.Entry.{Header, Data, Inode, IsInode, header}
@@ -61,8 +61,8 @@ are_bytes : (xs : List ℕ) → IsBytes xs → AreBytes xs
 are_bytes xs small = all_each (λ b. b < 256) xs (λ i lt. small i)
 
 -- ---- names
-good_name : (s : SlotValue) → FitsSlot s → IsBytes s.name → IsGoodName 59 s.name
-good_name s fits small = record {
+good_name : (form : ℕ) (s : SlotValue) → FitsSlot form s → IsBytes s.name → IsGoodName (name_len form) s.name
+good_name form s fits small = record {
   some = fits.name.long;
   short = fits.name.short;
   clean = all_each (λ c. (c ≢ 0) × (c ≢ 47)) s.name fits.name.bytes;
@@ -71,24 +71,24 @@ good_name s fits small = record {
   not_dot_dot = fits.name.dotdot;
 }
 
-slot_bytes_small : (b : List ℕ) (s : SlotValue) → IsBytes b → slot_in b ≡ Some s → IsBytes s.name
+slot_bytes_small : (form : ℕ) (b : List ℕ) (s : SlotValue) → IsBytes b → slot_in form b ≡ Some s → IsBytes s.name
 unfolding slot_in
-slot_bytes_small b s small is =
-    let found = value_found slot_of may_be_slot slot_bytes b s is in
+slot_bytes_small form b s small is =
+    let found = value_found slot_of (may_be_slot form) (slot_bytes form) b s is in
     subst (λ (v : SlotValue). IsBytes v.name) found.0 (part_fits 5 (get_or b 4 0) b small)
 
-AreGood : Names → Type 0
-AreGood m = AllByRecursion (λ e. IsGoodName 59 e.0) m
+AreGood : ℕ → Names → Type 0
+AreGood form m = AllByRecursion (λ e. IsGoodName (name_len form) e.0) m
 
-good_slot : (b : List ℕ) (m : Names) (o : Option SlotValue) → slot_in b ≡ o → IsBytes b → AreGood m → AreGood (with_slot o m)
+good_slot : (form : ℕ) (b : List ℕ) (m : Names) (o : Option SlotValue) → slot_in form b ≡ o → IsBytes b → AreGood form m → AreGood form (with_slot o m)
 unfolding AreGood
-good_slot b m None is small good = good
-good_slot b m (Some s) is small good = all_put byte_cmp (IsGoodName 59) s.name s.number m (good_name s (slot_found b s is).0 (slot_bytes_small b s small is)) good
+good_slot form b m None is small good = good
+good_slot form b m (Some s) is small good = all_put byte_cmp (IsGoodName (name_len form)) s.name s.number m (good_name form s (slot_found form b s is).0 (slot_bytes_small form b s small is)) good
 
-good_names : (bs : List (List ℕ)) → AllByRecursion IsBytes bs → AreGood (map_of bs)
+good_names : (form : ℕ) (bs : List (List ℕ)) → AllByRecursion IsBytes bs → AreGood form (map_of form bs)
 unfolding AreGood
-good_names [] small = tt
-good_names (b ∷ bs) small = good_slot b (map_of bs) (slot_in b) refl small.0 (good_names bs small.1)
+good_names form [] small = tt
+good_names form (b ∷ bs) small = good_slot form b (map_of form bs) (slot_in form b) refl small.0 (good_names form bs small.1)
 
 each_slot : (f : ℕ → List ℕ) → ((x : ℕ) → IsBytes (f x)) → (n a : ℕ) → AllByRecursion IsBytes (map f (range_with_len a n))
 each_slot f small zero a = tt
@@ -110,7 +110,7 @@ pub record IsHeader (n : ℕ) (h : Header) : Type 0 where
   pub number : (1 ≤ n) × (n ≤ 4095)
   pub links : (1 ≤ h.links) × (h.links ≤ 1000)
   pub form : h.form ≡ 0
-  pub size : is_size h.kind h.size ≡ true
+  pub size : is_size h.form h.kind h.size ≡ true
 
 within : (n most : ℕ) → (nat_le 1 n && nat_le n most) ≡ true → (1 ≤ n) × (n ≤ most)
 within n most e = let a = and_parts (nat_le 1 n) (nat_le n most) e in (leb-true 1 n a.0, leb-true n most a.1)
@@ -196,26 +196,27 @@ sorted_slot : (m : Names) (o : Option SlotValue) → T (is_sorted byte_cmp m) �
 sorted_slot m None h = h
 sorted_slot m (Some s) h = is_sorted-put byte_cmp nat_list_cmp_total s.name s.number m h
 
-sorted_names : (bs : List (List ℕ)) → T (is_sorted byte_cmp (map_of bs))
-sorted_names [] = tt
-sorted_names (b ∷ bs) = sorted_slot (map_of bs) (slot_in b) (sorted_names bs)
+sorted_names : (form : ℕ) (bs : List (List ℕ)) → T (is_sorted byte_cmp (map_of form bs))
+sorted_names form [] = tt
+sorted_names form (b ∷ bs) = sorted_slot (map_of form bs) (slot_in form b) (sorted_names form bs)
 
-few_slots : (w size : ℕ) → w ≡ 64 → size ≤ 65536 → size / w ≤ 1024
-few_slots w size e le = subst (λ (x : ℕ). size / x ≤ 1024) (sym e) (omega arith)
+few_slots : (form size : ℕ) → size ≤ 1024 * slot_len form → size / slot_len form ≤ 1024
+few_slots zero size le = omega arith
+few_slots (suc form) size le = omega arith
 
-limit_of : (m : LogMap) → ((n i o : ℕ) → slice_index (m.block n i) o < 256) → (kd : Kind) (n : ℕ) (h : Header) → h.form ≡ 0 → is_size kd h.size ≡ true
-    → (kd ≡ kind.Directory → length (map_of (slots m n h)) ≡ length (slots m n h)) → (kd ≡ kind.Link → AllByRecursion (λ c. c ≢ 0) (object m n h)) → IsWithinLimits (node_by m kd n h)
+limit_of : (m : LogMap) → ((n i o : ℕ) → slice_index (m.block n i) o < 256) → (kd : Kind) (n : ℕ) (h : Header) → is_size h.form kd h.size ≡ true
+    → (kd ≡ kind.Directory → length (map_of h.form (slots m n h)) ≡ length (slots m n h)) → (kd ≡ kind.Link → AllByRecursion (λ c. c ≢ 0) (object m n h)) → IsWithinLimits (node_by m kd n h)
 unfolding is_size AreGood
-limit_of m small kind.File n h form size dir link = let le = leb-true h.size 8511488 size in (omega (arith, object_length m n h, le), are_bytes (object m n h) (object_bytes m small n h))
-limit_of m small kind.Directory n h form size dir link =
-    let parts = and_parts (h.size % 64 == 0) (nat_le h.size 65536) size in
-    let le = leb-true h.size 65536 parts.1 in
-    let few = few_slots (slot_len h.form) h.size (ap slot_len form) le in (
-      sorted_names (slots m n h),
+limit_of m small kind.File n h size dir link = let le = leb-true h.size 8511488 size in (omega (arith, object_length m n h, le), are_bytes (object m n h) (object_bytes m small n h))
+limit_of m small kind.Directory n h size dir link =
+    let parts = and_parts (h.size % slot_len h.form == 0) (nat_le h.size (1024 * slot_len h.form)) size in
+    let le = leb-true h.size (1024 * slot_len h.form) parts.1 in
+    let few = few_slots h.form h.size le in (
+      sorted_names h.form (slots m n h),
       omega (arith, dir refl, slots_length m n h, few),
-      subst (λ (f : ℕ). AllByRecursion (λ e. IsGoodName (name_len f) e.0) (map_of (slots m n h))) (sym form) (good_names (slots m n h) (slots_small m small n h)),
+      good_names h.form (slots m n h) (slots_small m small n h),
     )
-limit_of m small kind.Link n h form size dir link =
+limit_of m small kind.Link n h size dir link =
     let parts = and_parts (nat_le 1 h.size) (nat_le h.size 1023) size in
     let low = leb-true 1 h.size parts.0 in
     let high = leb-true h.size 1023 parts.1 in
@@ -244,12 +245,12 @@ module _ (c : Content) (all : AllByRecursion IsSector c) (k : CheckpointValue) (
   limits_hold n x at =
       let i = node_is m n x at in
       let f = headers_are c k m st n i.0 i.1 in
-      subst IsWithinLimits (sym i.2) (limit_of m small_blocks i.0.kind n i.0 f.form f.size
+      subst IsWithinLimits (sym i.2) (limit_of m small_blocks i.0.kind n i.0 f.size
       (λ dir. (tree.slots.formed n i.0 i.1 dir).1)
       (λ link. tree.texts n (object m n i.0) (at ∙ ap Some i.2 ∙ ap (λ (kd : Kind). Some (node_by m kd n i.0)) link)))
 
-  forms_hold : (n : ℕ) (x : Node) → node (tree_in m) n ≡ Some x → IsOfVersion 1 x
-  forms_hold n x at = let i = node_is m n x at in subst (IsOfVersion 1) (sym i.2) (version_of m i.0.kind n i.0 (headers_are c k m st n i.0 i.1).form)
+  forms_hold : (n : ℕ) (x : Node) → node (tree_in m) n ≡ Some x → IsOfVersion (layout_version k) x
+  forms_hold n x at = let i = node_is m n x at in subst (IsOfVersion (layout_version k)) (sym i.2) (version_of m i.0.kind n i.0 (headers_are c k m st n i.0 i.1).form)
 
   header_there : (n : ℕ) → node (tree_in m) n ≢ None → (h : Header) × (m.header n ≡ Some h)
   header_there n there = go (node (tree_in m) n) refl
@@ -265,7 +266,7 @@ module _ (c : Content) (all : AllByRecursion IsSector c) (k : CheckpointValue) (
       let e = tree.links n i.0 i.1 in
       omega arith
 
-  pub tree_sound : Sound k.segments (mounted (tree_in m))
+  pub tree_sound : Sound k.segments (mounted (layout_version k) (tree_in m))
   tree_sound = record {
     in_order = in_order m;
     handles_in_order = tt;
@@ -286,5 +287,5 @@ module _ (c : Content) (all : AllByRecursion IsSector c) (k : CheckpointValue) (
 
 pub standing_is_sound : StandingIsSound
 standing_is_sound c all s is =
-    subst (Sound is.checkpoint.segments) (sym (same_state s (mounted (tree_in is.log)) is.tree.is is.closed is.version))
+    subst (Sound is.checkpoint.segments) (sym (same_state s (mounted (layout_version is.checkpoint) (tree_in is.log)) is.tree.is is.closed is.version))
     (tree_sound c all is.checkpoint is.log is.stands is.tree.tree)

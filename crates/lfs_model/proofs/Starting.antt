@@ -7,7 +7,7 @@ use Rattle.lfs_model.specs.Checkpoint.{CheckpointValue}
 use Rattle.lfs_model.specs.Content.{block}
 use Rattle.lfs_model.specs.Decodes.{IsSized}
 use Rattle.lfs_model.specs.Device.{DeviceState}
-use Rattle.lfs_model.specs.Finishing.{IsDone, mounted}
+use Rattle.lfs_model.specs.Finishing.{IsDone, mounted_memory}
 use Rattle.lfs_model.specs.Laid.{IsLaid}
 use Rattle.lfs_model.specs.Memory.{Memory, is_held, memory_view, those, settled_at, held_of, live_of}
 use Rattle.lfs_model.specs.Reach.{address, view, place_in}
@@ -35,22 +35,22 @@ module _ (d : DeviceState) (t : Tables) (k : CheckpointValue) (m : LogMap) (none
   st = settled.stands
 
   M : Memory
-  M = mounted d.content k
+  M = mounted_memory d.content k
 
-  laid : IsLaid d.content m (mounted d.content k) k.segments
+  laid : IsLaid d.content m (mounted_memory d.content k) k.segments
   laid = (mounting d.content k m few sized st).0
 
-  done : IsDone d.content m (mounted d.content k) k.segments k
+  done : IsDone d.content m (mounted_memory d.content k) k.segments k
   done = (mounting d.content k m few sized st).1
 
-  nothing_held : (s : ℕ) → held_of m (mounted d.content k) s ≡ 0
-  nothing_held s = count_off (is_held m) (mounted d.content k) (λ x. ap not (shown_is d.content k m few sized st x)) s
+  nothing_held : (s : ℕ) → held_of m (mounted_memory d.content k) s ≡ 0
+  nothing_held s = count_off (is_held m) (mounted_memory d.content k) (λ x. ap not (shown_is d.content k m few sized st x)) s
 
-  used_rows : (s : ℕ) → t.used s ≡ length ((mounted d.content k).rows s)
+  used_rows : (s : ℕ) → t.used s ≡ length ((mounted_memory d.content k).rows s)
   unfolding address
   used_rows s = is.used s ∙ sym (row_length d.content k m few sized st s)
 
-  live_rows : (s : ℕ) → t.live s ≡ live_of m (mounted d.content k) s
+  live_rows : (s : ℕ) → t.live s ≡ live_of m (mounted_memory d.content k) s
   unfolding address
   live_rows s = is.live s ∙ done.live s
 
@@ -98,8 +98,8 @@ module _ (d : DeviceState) (t : Tables) (k : CheckpointValue) (m : LogMap) (none
 
   started : Running d (λ x. None) t k m m none None
   started = record {
-    memory = mounted d.content k;
-    laid = closed_at d.content m (mounted d.content k) k.segments none laid (omega arith) past;
+    memory = mounted_memory d.content k;
+    laid = closed_at d.content m (mounted_memory d.content k) k.segments none laid (omega arith) past;
     segments = refl;
     settled = settled;
     cached = record {

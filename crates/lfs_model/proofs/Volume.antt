@@ -5,7 +5,7 @@ use Rattle.std.specs.Ordering.{nat_cmp}
 use Rattle.std.specs.FinMap.{find}
 use Rattle.std.specs.List.{AllByRecursion}
 use Rattle.std.proofs.lemmas.Bool.{cases_eq, cond-false}
-use Rattle.lfs_model.specs.Checkpoint.{CheckpointValue}
+use Rattle.lfs_model.specs.Checkpoint.{CheckpointValue, layout_version}
 use Rattle.lfs_model.specs.Content.{Content, newest}
 use Rattle.lfs_model.specs.Crash.{IsReady, Keeps}
 use Rattle.lfs_model.specs.Damage.{IsDamaged}
@@ -97,7 +97,7 @@ state_locality c d s is keeps = record {
 
 module _ (c : Content) (s : State) (is : Stands c s) (e : Content) (keeps : Keeps c is.checkpoint e)
     (next : CheckpointValue) (bytes : List ℕ) (m : LogMap) (t : Tree) (ready : IsReady e is.checkpoint next bytes m) (of : TreeOf next.segments m t) where
-  at_written : Stands (put e (next.number % 2) bytes) (mounted t)
+  at_written : Stands (put e (next.number % 2) bytes) (mounted (layout_version next) t)
   at_written =
       let w = slot_write c is.log (log_of c s is) e keeps next bytes m ready in record {
         checkpoint = next;
@@ -112,9 +112,9 @@ module _ (c : Content) (s : State) (is : Stands c s) (e : Content) (keeps : Keep
   at_lost : Stands (lose e (next.number % 2)) s
   at_lost = state_locality c (lose e (next.number % 2)) s is (keeps_lost c is.log (log_of c s is) e keeps next bytes m ready)
 
-  at_each : (d : Content) → MayWrite (next.number % 2) bytes e d → Stands d s ⊎ Stands d (mounted t)
+  at_each : (d : Content) → MayWrite (next.number % 2) bytes e d → Stands d s ⊎ Stands d (mounted (layout_version next) t)
   at_each d (left_old same) = inl (subst (λ (x : Content). Stands x s) (sym same) (state_locality c e s is keeps))
-  at_each d (left_new same) = inr (subst (λ (x : Content). Stands x (mounted t)) (sym same) at_written)
+  at_each d (left_new same) = inr (subst (λ (x : Content). Stands x (mounted (layout_version next) t)) (sym same) at_written)
   at_each d (left_bad same) = inl (subst (λ (x : Content). Stands x s) (sym same) at_lost)
 
 pub state_slot_write : StateSlotWrite
@@ -176,8 +176,8 @@ alone = (1, Dir 0 []) ∷ []
 root_alone : tree_in empty_root ≡ alone
 unfolding tree_in nodes_from
 root_alone =
-    ap (λ (t : Tree). (1, Dir 0 (map_of (slots empty_root 1 empty_directory))) ∷ t) (no_nodes 4094 2 (omega arith))
-    ∙ ap (λ (l : List (List ℕ)). (1, Dir 0 (map_of l)) ∷ []) no_slots
+    ap (λ (t : Tree). (1, Dir 0 (map_of 0 (slots empty_root 1 empty_directory))) ∷ t) (no_nodes 4094 2 (omega arith))
+    ∙ ap (λ (l : List (List ℕ)). (1, Dir 0 (map_of 0 l)) ∷ []) no_slots
 
 header_root : (n : ℕ) (h : Header) → empty_root.header n ≡ Some h → (n ≡ 1) × (h ≡ empty_directory)
 header_root n h is =
@@ -218,7 +218,7 @@ empty_slots : AreSlots empty_root
 empty_slots = record {
   formed = λ n h is kind.
       let at = header_root n h is in
-      subst (λ (l : List (List ℕ)). AllByRecursion (λ b. slot_in b ≢ None) l × (length (map_of l) ≡ length l))
+      subst (λ (l : List (List ℕ)). AllByRecursion (λ b. slot_in h.form b ≢ None) l × (length (map_of h.form l) ≡ length l))
       (sym (ap₂ (λ (x : ℕ) (y : Header). slots empty_root x y) at.0 at.1 ∙ no_slots)) (tt, refl);
   there = subst NamesGive (sym root_alone) (λ d name n is. let e : None ≡ Some n = sym (no_entry d name) ∙ is in absurd (cc));
 }

@@ -72,18 +72,18 @@ changes (Rename p q) = true
 changes _ = false
 
 -- the calls that leave the state as it is
-abbrev pub reads : Call → Bool
-reads (Pread h off n) = true
-reads (Readlink p) = true
-reads (StatOf p) = true
-reads (LstatOf p) = true
-reads (Readdir p) = true
-reads (Fsync h) = true
-reads Sync = true
-reads Clean = true
-reads Space = true
-reads ListTree = true
-reads _ = false
+abbrev pub leaves_state : Call → Bool
+leaves_state (Pread h off n) = true
+leaves_state (Readlink p) = true
+leaves_state (StatOf p) = true
+leaves_state (LstatOf p) = true
+leaves_state (Readdir p) = true
+leaves_state (Fsync h) = true
+leaves_state Sync = true
+leaves_state Clean = true
+leaves_state Space = true
+leaves_state ListTree = true
+leaves_state _ = false
 
 -- the calls that commit: after their Ok a stop loses nothing of what was before (POSIX.1-2017: fsync, sync)
 abbrev pub commits : Call → Bool

@@ -1,5 +1,6 @@
 -- Changes of a log map in memory, one block or header at a time; a call's changes are some of these, one after the other.
 -- What changes is in memory, and so are the blocks above it.
+-- All of it is an own choice: changes are told apart as finely as the proofs of the calls take them.
 use Rattle.std.specs.Prelude.{◌≡◌, ◌<◌, ◌≤◌, ◌/◌, ℕ, false, List, [], length, Option, Some, None}
 use Rattle.lfs_model.specs.Entry.{Entry, Data, Leaf, Inode, Map, Header, header, word}
 use Rattle.lfs_model.specs.Content.{Content}

@@ -1,4 +1,5 @@
 -- The checkpoint, which is one sector.
+-- Checkpoint regions are those of the Sprite LFS paper (1992, section 4.1); the bytes are an own choice.
 use Rattle.std.specs.Prelude.{◌≡◌, ◌<◌, ◌≤◌, ◌^◌, ◌%◌, ◌&&◌, ◌==◌, Bool, nat_le, ℕ, Option, List, [], ◌∷◌, length, codes}
 use Rattle.lfs_model.specs.Fields.{le32, le64, words, zeros, join, Are32, read32, read64, numbers, value_in}
 
@@ -12,13 +13,17 @@ pub record CheckpointValue : Type 0 where
 unfoldable pub checkpoint_text : List ℕ
 checkpoint_text = codes "SLFSCKP1"
 
+-- the version of the layout: every volume has the first one
+abbrev pub layout_version : CheckpointValue → ℕ
+layout_version c = 1
+
 -- the sector of a checkpoint, field by field
 unfoldable pub checkpoint_sector : CheckpointValue → List ℕ
 checkpoint_sector c = join (
     checkpoint_text ∷
     le64 c.number ∷
     le32 c.segments ∷
-    le32 1 ∷
+    le32 (layout_version c) ∷
     zeros 8 ∷
     words c.map ∷
     words c.usage ∷

@@ -1,5 +1,6 @@
 -- A commit, one step at a time: blocks of files, of the inode map and of the usage table go to the open segment, which is sealed as it is
 -- full and followed by another; and then the checkpoint.
+-- That what changed goes to the log first, and the checkpoint last, is the Sprite LFS paper's (1992, section 4.1); the steps are an own choice.
 use Rattle.std.specs.Prelude.{◌≡◌, ◌<◌, ◌≤◌, ◌⊎◌, ◌+◌, ◌*◌, ◌/◌, ◌%◌, ◌==◌, ℕ, suc, true, false, List, [], ◌∷◌, ◌++◌, length, get_or, Option, Some, None}
 use Rattle.lfs_model.specs.Entry.{Entry, Inode, Map, Usage, entries_in, word}
 use Rattle.lfs_model.specs.Checkpoint.{CheckpointValue, checkpoint_in}

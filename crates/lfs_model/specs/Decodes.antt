@@ -1,4 +1,5 @@
 -- What a content that stands for a log map tells a writer.
+-- All of it is an own choice: it joins what a reader follows to what a writer lays out.
 use Rattle.std.specs.Prelude.{◌≡◌, ℕ, List, length, Some}
 use Rattle.lfs_model.specs.Checkpoint.{CheckpointValue}
 use Rattle.lfs_model.specs.Content.{Content}

@@ -1,4 +1,5 @@
 -- What contracts see of a sector device, what its calls do, and what a stop leaves.
+-- All of it is an own choice: it is what is assumed of a disk.
 use Rattle.std.specs.Prelude.{◌≡◌, ◌⊎◌, ℕ, ◌+◌, ◌^◌, ◌<◌, ◌≤◌, Option, Some, None, List, length, slice_set, slice_index, slice_index_or}
 use Rattle.std.specs.List.{AllByRecursion}
 

@@ -1,4 +1,5 @@
 -- The same from the writer's side: an assignment of addresses to the blocks that a log map stores.
+-- All of it is an own choice: a writer chooses addresses, where a reader follows pointers.
 use Rattle.std.specs.Prelude.{◌≡◌, ◌<◌, ◌≤◌, ◌⊎◌, ◌+◌, ◌*◌, ◌/◌, ℕ, suc, List, length, get_or, Some, slice_index}
 use Rattle.lfs_model.specs.declared.Kind.TheVariants.{Directory}
 use Rattle.lfs_model.specs.Entry.{Entry, Data, Leaf, Double, Inode, Map, Usage, Header, IsInode, header, word}

@@ -57,10 +57,10 @@ abbrev pub row_or_none : Option Row → Row
 row_or_none None = []
 row_or_none (Some r) = r
 
-abbrev pub mounted : Content → CheckpointValue → Memory
-mounted c k = record { segments = k.segments; at = address c k; bytes = λ x. block c (address c k x); rows = λ s. row_or_none (row c k s) }
+abbrev pub mounted_memory : Content → CheckpointValue → Memory
+mounted_memory c k = record { segments = k.segments; at = address c k; bytes = λ x. block c (address c k x); rows = λ s. row_or_none (row c k s) }
 
 -- A mount begins with what is there: so there is such a memory wherever a content stands for a log map, and it is at the end of a commit.
 abbrev pub Mounting : Type 0
 Mounting = (c : Content) (k : CheckpointValue) (m : LogMap) → k.segments ≤ 1024 → IsSized c → StandsAt c k m
-    → IsLaid c m (mounted c k) k.segments × IsDone c m (mounted c k) k.segments k × ((n : ℕ) → is_nameless m n ≡ false)
+    → IsLaid c m (mounted_memory c k) k.segments × IsDone c m (mounted_memory c k) k.segments k × ((n : ℕ) → is_nameless m n ≡ false)

@@ -1,19 +1,21 @@
 -- The inode of a file, a directory or a link, which is one sector.
-use Rattle.std.specs.Prelude.{◌≡◌, ◌<◌, ◌≤◌, ◌^◌, ◌%◌, ◌&&◌, ◌==◌, Bool, nat_le, ℕ, Option, List, [], ◌∷◌, length, get_or, nat_eq, if◌then◌else◌}
+-- Inodes with addresses of blocks and of blocks of addresses are those of the Sprite LFS paper (1992, section 3.1); the bytes and limits are an own choice.
+use Rattle.std.specs.Prelude.{◌≡◌, ◌<◌, ◌≤◌, ◌^◌, ◌%◌, ◌*◌, ◌&&◌, ◌==◌, Bool, nat_le, ℕ, Option, List, [], ◌∷◌, length, get_or, nat_eq, if◌then◌else◌}
 use Rattle.lfs_model.specs.declared.Kind.{Kind}
 use Rattle.lfs_model.specs.declared.Kind.TheVariants.{File, Directory, Link}
 use Rattle.lfs_model.specs.Fields.{le32, words, zeros, join, Are32, read32, numbers, value_in}
+use Rattle.lfs_model.specs.Tree.{slot_len}
 
 unfoldable pub kind_byte : Kind → ℕ
 kind_byte File = 1
 kind_byte Directory = 2
 kind_byte Link = 3
 
--- how many bytes an inode of the kind may have
-unfoldable pub IsSize : Kind → ℕ → Type 0
-IsSize File size = size ≤ 8511488
-IsSize Directory size = (size % 64 ≡ 0) × (size ≤ 65536)
-IsSize Link size = (1 ≤ size) × (size ≤ 1023)
+-- how many bytes an object of the form and the kind may have: a directory whole slots, at most 1,024
+unfoldable pub IsSize : ℕ → Kind → ℕ → Type 0
+IsSize form File size = size ≤ 8511488
+IsSize form Directory size = (size % slot_len form ≡ 0) × (size ≤ 1024 * slot_len form)
+IsSize form Link size = (1 ≤ size) × (size ≤ 1023)
 
 pub record InodeValue : Type 0 where
   pub kind : Kind
@@ -24,11 +26,15 @@ pub record InodeValue : Type 0 where
   pub single : ℕ
   pub double : ℕ
 
+-- the form of a directory's slots: 0 in the first version of the layout, which has no other
+abbrev pub inode_form : InodeValue → ℕ
+inode_form i = 0
+
 -- the sector of an inode, field by field
 unfoldable pub inode_sector : InodeValue → List ℕ
 inode_sector i = join (
     (kind_byte i.kind ∷ []) ∷
-    zeros 3 ∷
+    (inode_form i ∷ zeros 2) ∷
     le32 i.number ∷
     le32 i.links ∷
     le32 i.size ∷
@@ -58,20 +64,20 @@ inode_of s = record {
 pub record FitsInode (i : InodeValue) : Type 0 where
   pub number : (1 ≤ i.number) × (i.number ≤ 4095)
   pub links : (1 ≤ i.links) × (i.links ≤ 1000)
-  pub size : IsSize i.kind i.size
+  pub size : IsSize (inode_form i) i.kind i.size
   pub direct_length : length i.direct ≡ 112
   pub direct_fits : Are32 i.direct
   pub single_fits : i.single < 2 ^ 32
   pub double_fits : i.double < 2 ^ 32
 
 -- the same, as tests
-unfoldable pub is_size : Kind → ℕ → Bool
-is_size File size = nat_le size 8511488
-is_size Directory size = (size % 64 == 0) && nat_le size 65536
-is_size Link size = nat_le 1 size && nat_le size 1023
+unfoldable pub is_size : ℕ → Kind → ℕ → Bool
+is_size form File size = nat_le size 8511488
+is_size form Directory size = (size % slot_len form == 0) && nat_le size (1024 * slot_len form)
+is_size form Link size = nat_le 1 size && nat_le size 1023
 
 abbrev pub may_be_inode : InodeValue → Bool
-may_be_inode i = (nat_le 1 i.number && nat_le i.number 4095) && ((nat_le 1 i.links && nat_le i.links 1000) && is_size i.kind i.size)
+may_be_inode i = (nat_le 1 i.number && nat_le i.number 4095) && ((nat_le 1 i.links && nat_le i.links 1000) && is_size (inode_form i) i.kind i.size)
 
 -- the inode that a sector spells, if it spells one
 unfoldable pub inode_in : List ℕ → Option InodeValue

@@ -1,4 +1,5 @@
 -- The one invariant of the log: what memory holds, and what stands on the device, is laid out for a log map.
+-- All of it is an own choice: a single fact, so that every step of the log has one thing to keep.
 use Rattle.std.specs.Prelude.{◌≡◌, ◌<◌, ◌≤◌, ◌↔◌, ◌+◌, ◌*◌, ◌-◌, ◌/◌, ◌%◌, ℕ, suc, List, [], length, get_or, Some, None}
 use Rattle.lfs_model.specs.Entry.{Entry, Data, Leaf, Double, Inode, Map, Usage, header, word}
 use Rattle.lfs_model.specs.Inode.{InodeValue, FitsInode, inode_sector}

@@ -1,15 +1,17 @@
 -- The laws of the model that the crates above rest on. They follow from the definitions; no function runs for them.
+-- Which laws are stated is an own choice; what their words mean has its source where they are defined.
 use Rattle.std.specs.Prelude.{ℕ, ◌+◌, ◌<◌, ◌≤◌, ◌≡◌, ◌≢◌, All, Bool, true, List, [], ◌∷◌, ◌++◌, length, Some, None}
 use Rattle.std.specs.List.{AllByRecursion}
 use Rattle.std.specs.Ordering.{nat_cmp}
 use Rattle.std.specs.FinMap.{find}
 use Rattle.lfs_model.specs.Bytes.{cut}
 use Rattle.lfs_model.specs.Tree.{State, File, Dir, Node, Names, node, with_node, without, without_name, least, least_handle, drop_nameless, entry, with_name}
-use Rattle.lfs_model.specs.Walk.{Walk, End}
+use Rattle.lfs_model.specs.Refusal.{NoSpace}
+use Rattle.lfs_model.specs.Walk.{Walk, End, At, Parent}
 use Rattle.lfs_model.specs.Need.{cost, cost_at, need}
 use Rattle.lfs_model.specs.Sound.{Sound}
-use Rattle.lfs_model.specs.Call.{Call, Answer, AreArguments, reads}
-use Rattle.lfs_model.specs.Step.{Step, Steps}
+use Rattle.lfs_model.specs.Call.{Call, Rename, Answer, Refuse, AreArguments, leaves_state}
+use Rattle.lfs_model.specs.Step.{Step, Steps, let_go}
 use Rattle.lfs_model.specs.Plain.{run_to, fresh}
 use Rattle.lfs_model.specs.Script.{InRange, Line, Spells, lines}
 use Rattle.lfs_model.specs.Run.{Point, LineRun, Run, final, IsPending}
@@ -60,7 +62,7 @@ PendingIsSound = (N : ℕ) (p : Point) (calls : List Call) (answers : List Answe
 
 -- a call that only reads, or commits, or cleans, leaves the state
 abbrev pub ReadsLeave : Type 0
-ReadsLeave = (N : ℕ) (s s' : State) (call : Call) (a : Answer) → reads call ≡ true → Step N s call a s' → s' ≡ s
+ReadsLeave = (N : ℕ) (s s' : State) (call : Call) (a : Answer) → leaves_state call ≡ true → Step N s call a s' → s' ≡ s
 
 -- what a mount finds after a stop is sound
 abbrev pub DropKeeps : Type 0
@@ -90,10 +92,19 @@ NeedOfCut = (b : List ℕ) (n : ℕ) → cost (File (cut b n)) ≤ cost (File b)
 abbrev pub NeedOfNameLess : Type 0
 NeedOfNameLess = (N : ℕ) (s : State) → Sound N s → (d form : ℕ) (m : Names) → node s.tree d ≡ Some (Dir form m) → (name : List ℕ) → need (without_name s.tree d name) ≤ need s.tree
 
--- A rename of a name to a free one in the same directory leaves the need as it is, so it is never refused for space.
+-- A rename of a name to a free one in the same directory leaves the need as it is.
 abbrev pub NeedOfRename : Type 0
 NeedOfRename = (N : ℕ) (s : State) → Sound N s → (d n form : ℕ) (m : Names) (a b : List ℕ) → node s.tree d ≡ Some (Dir form m) → entry s.tree d a ≡ Some n → entry s.tree d b ≡ None
     → need (with_name (without_name s.tree d a) d b n) ≡ need s.tree
+
+-- One onto a name that is there adds nothing to it: no more names are left, and what the name gave may go.
+abbrev pub NeedOfRenameOver : Type 0
+NeedOfRenameOver = (N : ℕ) (s : State) → Sound N s → (d n old form : ℕ) (m : Names) (a b : List ℕ) → node s.tree d ≡ Some (Dir form m) → entry s.tree d a ≡ Some n → entry s.tree d b ≡ Some old
+    → need (let_go (with_name (without_name s.tree d a) d b n) s.handles old) ≤ need s.tree
+
+-- So a rename whose two paths have one parent is never refused for space.
+abbrev pub RenameHasRoom : Type 0
+RenameHasRoom = (N : ℕ) (s s' : State) → Sound N s → (a b : List ℕ) (d : ℕ) → Parent s.tree a (At d) → Parent s.tree b (At d) → ¬ (Step N s (Rename a b) (Refuse NoSpace) s')
 
 -- the last state of a run is pending, so there is always one that a stop may leave
 abbrev pub LastIsPending : Type 0

@@ -43,3 +43,7 @@ pub mod Settled
 pub mod Running
 pub mod Committing
 pub mod Staging
+pub mod Replacing
+pub mod Detaching
+pub mod Cutting
+pub mod Tight

@@ -1,4 +1,5 @@
 -- Blocks that come into memory as they are: the start of each change of a file, of a segment's cleaning and of a table block's way out.
+-- That live blocks are read and written again elsewhere is cleaning in the Sprite LFS paper (1992, section 3.3); the steps are an own choice.
 use Rattle.std.specs.Prelude.{◌≡◌, ◌≤◌, ◌/◌, ℕ, true}
 use Rattle.lfs_model.specs.Entry.{Entry, Inode, Map, Usage}
 use Rattle.lfs_model.specs.Content.{Content}

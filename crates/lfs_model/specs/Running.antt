@@ -1,4 +1,5 @@
 -- The log as it runs: what its tables and its table of blocks in memory have to do with the log's memory and the device.
+-- All of it is an own choice: it says of the code's tables what the laws about memory need.
 use Rattle.std.specs.Prelude.{◌≡◌, ◌<◌, ◌≤◌, ◌+◌, ◌*◌, ◌/◌, ◌==◌, cond, ℕ, suc, Bool, true, false, List, ◌∷◌, map, length, Option, Some, None, option_map}
 use Rattle.lfs_model.specs.Entry.{Entry, Usage, half, word}
 use Rattle.lfs_model.specs.Checkpoint.{CheckpointValue}

@@ -1,4 +1,5 @@
 -- Changes of files, as the log runs: the blocks that will change come into memory as they are, from the inode down, and then change.
+-- All of it is an own choice: blocks come into memory first, so that a read that fails leaves what there was.
 use Rattle.std.specs.Prelude.{◌≡◌, ◌<◌, ◌≤◌, ◌/◌, ℕ, true, false, List, [], length, Option, Some, option_map}
 use Rattle.lfs_model.specs.Entry.{Entry, Data, Leaf, Inode, Map, header, word}
 use Rattle.lfs_model.specs.Changing.{IsWithBlock, IsWithHeader}

@@ -1,4 +1,5 @@
 -- The summary of a chunk, which is one sector.
+-- Segment summaries are those of the Sprite LFS paper (1992, section 3.3); the bytes are an own choice.
 use Rattle.std.specs.Prelude.{◌≡◌, ◌<◌, ◌≤◌, ◌+◌, ◌*◌, ◌-◌, ◌&&◌, ◌==◌, Bool, nat_le, ℕ, Option, List, [], ◌∷◌, ◌++◌, length, get_or, nat_eq, if◌then◌else◌}
 use Rattle.std.specs.List.{flat_map, list_all}
 use Rattle.lfs_model.specs.declared.BlockKind.{BlockKind}

@@ -1,10 +1,11 @@
 -- The tree of a log map, and what it is for a content to stand for it.
+-- All of it is an own choice: it joins this layout to the tree of the calls.
 use Rattle.std.specs.Prelude.{◌≡◌, ◌≢◌, ◌⊎◌, ◌<◌, ◌≤◌, ◌+◌, ◌*◌, ◌/◌, ◌%◌, ◌==◌, nat_lt, ℕ, zero, suc, true, cond, List, [], ◌∷◌, length, map, take, drop, Option, Some, None, MatchBool, slice_index}
 use Rattle.std.specs.List.{AllByRecursion, Contains, range_with_len}
 use Rattle.std.specs.FinMap.{put}
 use Rattle.lfs_model.specs.declared.Kind.{Kind}
 use Rattle.lfs_model.specs.declared.Kind.TheVariants as kind
-use Rattle.lfs_model.specs.Checkpoint.{CheckpointValue}
+use Rattle.lfs_model.specs.Checkpoint.{CheckpointValue, layout_version}
 use Rattle.lfs_model.specs.Content.{Content, newest}
 use Rattle.lfs_model.specs.Device.{DeviceState, AllLeft, LeavesOnly}
 use Rattle.lfs_model.specs.Entry.{Header}
@@ -14,14 +15,14 @@ use Rattle.lfs_model.specs.Sound.{NamesGive, Reached}
 use Rattle.lfs_model.specs.Stands.{LogMap, StandsAt}
 use Rattle.lfs_model.specs.Tree.{Names, Node, File, Dir, Link, Tree, State, byte_cmp, is_dir, links, names, node, slot_len}
 
--- the map of a directory's slots
+-- the map of the slots of a directory of this form
 abbrev pub with_slot : Option SlotValue → Names → Names
 with_slot None m = m
 with_slot (Some s) m = put byte_cmp s.name s.number m
 
-abbrev pub map_of : List (List ℕ) → Names
-map_of [] = []
-map_of (slot ∷ slots) = with_slot (slot_in slot) (map_of slots)
+abbrev pub map_of : ℕ → List (List ℕ) → Names
+map_of form [] = []
+map_of form (slot ∷ slots) = with_slot (slot_in form slot) (map_of form slots)
 
 -- what stands at a number
 abbrev pub with_object : ℕ → Option Node → Tree → Tree
@@ -39,7 +40,7 @@ module _ (m : LogMap) where
 
   abbrev pub node_by : Kind → ℕ → Header → Node
   node_by kind.File n h = File (object n h)
-  node_by kind.Directory n h = Dir h.form (map_of (slots n h))
+  node_by kind.Directory n h = Dir h.form (map_of h.form (slots n h))
   node_by kind.Link n h = Link (object n h)
 
   abbrev pub node_of : ℕ → Option Header → Option Node
@@ -57,7 +58,7 @@ module _ (m : LogMap) where
   -- each slot of a directory is well-formed, and no two have one name
   abbrev pub AreFormed : Type 0
   AreFormed = (n : ℕ) (h : Header) → m.header n ≡ Some h → h.kind ≡ kind.Directory
-      → AllByRecursion (λ b. slot_in b ≢ None) (slots n h) × (length (map_of (slots n h)) ≡ length (slots n h))
+      → AllByRecursion (λ b. slot_in h.form b ≢ None) (slots n h) × (length (map_of h.form (slots n h)) ≡ length (slots n h))
 
   -- the stages that speak of the tree, each by itself
   pub record AreSlots : Type 0 where
@@ -108,8 +109,7 @@ pub record Stands (c : Content) (s : State) : Type 0 where
   pub found : newest c ≡ Some checkpoint
   pub stands : StandsAt c checkpoint log
   pub tree : TreeOf checkpoint.segments log s.tree
-  -- every volume has the first version of the layout
-  pub version : s.version ≡ 1
+  pub version : s.version ≡ layout_version checkpoint
   pub closed : s.handles ≡ []
 
 -- a stop now may leave the state

@@ -1,7 +1,8 @@
 -- What contents and the trees they stand for have to do with each other, and how a mount refuses.
+-- All of it is an own choice: POSIX.1-2017 says neither how a mount is refused nor what a stop leaves.
 use Rattle.std.specs.Prelude.{◌≡◌, ◌<◌, ◌≤◌, ◌⊎◌, ◌+◌, ◌*◌, ◌%◌, ℕ, List, [], ◌∷◌, length, Some, None}
 use Rattle.std.specs.List.{AllByRecursion}
-use Rattle.lfs_model.specs.Checkpoint.{CheckpointValue}
+use Rattle.lfs_model.specs.Checkpoint.{CheckpointValue, layout_version}
 use Rattle.lfs_model.specs.Content.{Content, newest}
 use Rattle.lfs_model.specs.Crash.{IsReady, Keeps}
 use Rattle.lfs_model.specs.Damage.{IsDamaged, stage}
@@ -16,9 +17,9 @@ use Rattle.lfs_model.specs.Stands.{LogMap, StandsAt, log_in}
 use Rattle.lfs_model.specs.Tree.{State, Tree, Dir, drop_nameless}
 use Rattle.lfs_model.specs.TreeOf.{AreFormed, AreLinks, Stands, TreeOf, dropped, tree_in}
 
--- the state that a mount finds: a tree, and no handles
-abbrev pub mounted : Tree → State
-mounted t = record { tree = t; handles = []; version = 1 }
+-- the state that a mount finds: a tree in this version of the layout, and no handles
+abbrev pub mounted : ℕ → Tree → State
+mounted version t = record { tree = t; handles = []; version = version }
 
 -- The refusals of a mount, the first of these that holds.
 -- too few sectors for a volume, or for the one that is there
@@ -44,12 +45,12 @@ StateLocality = (c d : Content) (s : State) (is : Stands c s) → Keeps c is.che
 abbrev pub StateSlotWrite : Type 0
 StateSlotWrite = (c : Content) (s : State) (is : Stands c s) (e : Content) → Keeps c is.checkpoint e
     → (next : CheckpointValue) (bytes : List ℕ) (m : LogMap) (t : Tree) → IsReady e is.checkpoint next bytes m → TreeOf next.segments m t
-    → (d : Content) → MayWrite (next.number % 2) bytes e d → Stands d s ⊎ Stands d (mounted t)
+    → (d : Content) → MayWrite (next.number % 2) bytes e d → Stands d s ⊎ Stands d (mounted (layout_version next) t)
 
 -- Where all stages hold of a volume that is large enough, the content stands for the tree that is read from it.
 abbrev pub FoundStands : Type 0
 FoundStands = (c : Content) (k : CheckpointValue) → newest c ≡ Some k → 2 + 64 * k.segments ≤ length c → ((code : ℕ) → stage (view c k) code)
-    → Stands c (mounted (tree_in (log_in (view c k))))
+    → Stands c (mounted (layout_version k) (tree_in (log_in (view c k))))
 
 -- What stands for a state is refused for none of these.
 abbrev pub NotRefused : Type 0
@@ -57,7 +58,7 @@ NotRefused = (c : Content) (s : State) → Stands c s → ¬ (IsTooSmall c) × �
 
 -- A new volume has an empty root.
 abbrev pub NewVolume : Type 0
-NewVolume = (N : ℕ) (c : Content) → IsNew N c → Stands c (mounted ((1, Dir 0 []) ∷ []))
+NewVolume = (N : ℕ) (c : Content) → IsNew N c → Stands c (mounted 1 ((1, Dir 0 []) ∷ []))
 
 -- The log map of a running volume of N segments in this state. A file without a name is in it, and its header has links 0.
 pub record IsLogOf (N : ℕ) (m : LogMap) (s : State) : Type 0 where

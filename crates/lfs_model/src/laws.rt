@@ -1,6 +1,6 @@
 //! The laws of the model, each the contract of a function that does nothing: whoever stands on the model may use them.
 
-ghost use Rattle.lfs_model.specs.Laws.{OneEnd, OneOutcome, SomeOutcome, ProgramSteps, NewIsSound, CallsKeep, RunsKeep, LineRunsKeep, PendingIsSound, ReadsLeave, LeastNumber, LeastHandle, NeedOfChange, NeedOfLoss, NeedOfNameLess, NeedOfCut, NeedOfRename, DropKeeps, LastIsPending, OneLine, LinesInTurn};
+ghost use Rattle.lfs_model.specs.Laws.{OneEnd, OneOutcome, SomeOutcome, ProgramSteps, NewIsSound, CallsKeep, RunsKeep, LineRunsKeep, PendingIsSound, ReadsLeave, LeastNumber, LeastHandle, NeedOfChange, NeedOfLoss, NeedOfNameLess, NeedOfCut, NeedOfRename, NeedOfRenameOver, RenameHasRoom, DropKeeps, LastIsPending, OneLine, LinesInTurn};
 
 /// In a sound state a walk has exactly one end.
 pub fn walks_have_one_end()
@@ -87,9 +87,15 @@ pub fn need_of_a_cut()
     ensures { NeedOfCut }
 {}
 
-/// A rename to a free name in the same directory leaves the need as it is.
+/// A rename to a free name in the same directory leaves the need as it is, and one onto a name that is there adds nothing to it.
 pub fn need_of_a_rename()
-    ensures { NeedOfRename }
+    ensures free { NeedOfRename }
+    ensures over { NeedOfRenameOver }
+{}
+
+/// A rename within one directory is never refused for space, whether its new name is there or not.
+pub fn renames_in_one_directory_have_room()
+    ensures { RenameHasRoom }
 {}
 
 /// The last state of a run is pending, so there is always one that a stop may leave.

@@ -2,6 +2,7 @@
 ghost use Rattle.lfs_model.specs.Placing.{Placing, MapPlacing, MapLeaving, Settling, Filling, Opening, Sealing};
 ghost use Rattle.lfs_model.specs.Lifting.{Lifting, MapLifting, UsageLifting};
 ghost use Rattle.lfs_model.specs.Changing.{Rewriting, Adding, Removing, Growing, Shrinking, Relabeling, Creating, Forgetting, Reading};
+ghost use Rattle.lfs_model.specs.Detaching.{Detaching, DetachedCounts, DetachedLive};
 ghost use Rattle.lfs_model.specs.Counting.{MovedCounts, TakenCounts, UnplacedCounts, OneMoreCounted};
 ghost use Rattle.lfs_model.specs.Finishing.{Finishing, Releasing, ReleasedFree, Mounting};
 
@@ -95,6 +96,11 @@ pub fn forgetting()
     ensures { Forgetting }
 {}
 
+/// Entries of a file go, with all that is below them.
+pub fn detaching()
+    ensures { Detaching }
+{}
+
 /// What memory and its addresses lead to is the log map's.
 pub fn reading()
     ensures { Reading }
@@ -118,6 +124,16 @@ pub fn unplaced_counts()
 /// One entry more is counted where its block stands.
 pub fn one_more_counted()
     ensures { OneMoreCounted }
+{}
+
+/// Entries of a file that go lower each count by those of them that it counted.
+pub fn detached_counts()
+    ensures { DetachedCounts }
+{}
+
+/// Of a file with a name they lower the live counts, of one without the held counts.
+pub fn detached_live()
+    ensures { DetachedLive }
 {}
 
 /// What a commit leaves stands, by its checkpoint, for the log map without its files of no links.

@@ -8,4 +8,4 @@ pub returns : goal.returns
 unfolding slot_bytes fields
 returns c =
     rw (c.finish.ensures, c.zeros.ensures.written, c.bytes-2.ensures.written, c.bytes.ensures.written, c.number32.ensures.written, c.new-slot.ensures)
-    (appended_join [] (fields_of (fields record { number = c.args.number; name = c.args.name.now })))
+    (appended_join [] (fields_of (fields 0 record { number = c.args.number; name = c.args.name.now })))

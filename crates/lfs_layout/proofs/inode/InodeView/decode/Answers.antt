@@ -6,7 +6,7 @@ use Rattle.lfs_model.proofs.Numbers.{le32_inj}
 use Rattle.lfs_model.specs.Fields.{read32}
 use Rattle.lfs_model.proofs.Parts.{le32_of_read, read32-lt}
 use Rattle.lfs_model.proofs.Runs.{length-run, numbers_fit, words_of_numbers}
-use Rattle.lfs_model.proofs.InodePlaces.{reads_from, reads_to, kind_at, same_kind, size_fits}
+use Rattle.lfs_model.proofs.InodePlaces.{first_form, reads_from, reads_to, kind_at, same_kind, size_fits}
 use Rattle.lfs_model.proofs.Decoding.{inode_is, inode_some}
 use Rattle.lfs_layout.proofs.inode.InodeView.decode.Goals as goal
 
@@ -15,7 +15,7 @@ returns-in_default-clause-none c v fits is = c.in_default.ensures.none v.kind (r
 
 pub returns-then-not-is_zero_at-clause-none : goal.returns-then-not-is_zero_at-clause-none
 returns-then-not-is_zero_at-clause-none c v fits is =
-    let yes = c.is_zero_at.ensures.1 (reads_from c.args.sector.now v fits is).gap in
+    let yes = c.is_zero_at.ensures.1 ((reads_from c.args.sector.now v fits is).form ∙ sym (first_form v)) in
     cc
 
 pub returns-then-not-is_within-clause-none : goal.returns-then-not-is_within-clause-none
@@ -72,7 +72,7 @@ returns-clause-found c =
       },
       reads_to s (inode_of s) c.told-sector record {
         kind = c.in-Some.ensures.found ∙ ap (λ (k : Kind). kind_byte k ∷ []) (sym kind);
-        gap = c.is_zero_at.ensures.0 c.if-not-is_zero_at.false;
+        form = c.is_zero_at.ensures.0 c.if-not-is_zero_at.false ∙ first_form (inode_of s);
         number = sym (le32_of_read 4 s bytes (omega arith));
         links = sym (le32_of_read 8 s bytes (omega arith));
         size = sym (le32_of_read 12 s bytes (omega arith));

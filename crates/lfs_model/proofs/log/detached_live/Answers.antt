@@ -1,0 +1,5 @@
+use Rattle.lfs_model.proofs.DetachedCounts
+use Rattle.lfs_model.proofs.log.detached_live.Goals as goal
+
+pub returns : goal.returns
+returns c = DetachedCounts.detached_live
