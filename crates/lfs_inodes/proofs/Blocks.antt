@@ -52,7 +52,7 @@ rises (e ∷ es) h zero (suc j) lt room = below_number e.0 es (T_left _ _ h) j (
 rises (e ∷ es) h (suc i) (suc j) lt room = rises es (T_right (below_all nat_cmp e.0 es) _ h) i j (omega arith) (omega arith)
 
 -- ---- what stands at a place
-find_more : (e : ℕ × List ℕ) (es : Blocks) (c : ℕ) → (e.0 ≡ c → ⊥) → find nat_cmp c (e ∷ es) ≡ find nat_cmp c es
+pub find_more : (e : ℕ × List ℕ) (es : Blocks) (c : ℕ) → (e.0 ≡ c → ⊥) → find nat_cmp c (e ∷ es) ≡ find nat_cmp c es
 find_more e es c ne = ap (λ b. cond b (Some e.1) (find nat_cmp c es)) (cmp_other c e.0 (λ h. ne (sym h)))
 
 find_first : (e : ℕ × List ℕ) (es : Blocks) (c : ℕ) → e.0 ≡ c → find nat_cmp c (e ∷ es) ≡ Some e.1

@@ -6,3 +6,5 @@ pub mod Held
 pub mod Moving
 pub mod Searching
 pub mod PresentPointers
+pub mod Empties
+pub mod Leaving

@@ -26,7 +26,7 @@ on_device content dirty x a ne = cond-false _ _ _ (not_one a ne)
 
 module _ (content : Content) (m : LogMap) (M : Memory) (o : ℕ) (dirty : Dirty) (laid : IsLaid content m M o) (cached : IsCached dirty M) where
   -- the block of an entry of a file is what memory has
-  present_is : (x : Entry) → IsOfFile x → 0 < M.at x → present content dirty x (M.at x) ≡ M.bytes x
+  pub present_is : (x : Entry) → IsOfFile x → 0 < M.at x → present content dirty x (M.at x) ≡ M.bytes x
   present_is x file some =
       ⊎_elim
       (λ (one : M.at x ≡ 1).
@@ -44,7 +44,7 @@ module _ (content : Content) (m : LogMap) (M : Memory) (o : ℕ) (dirty : Dirty)
     spelt : SpellsFile m M.at n (M.bytes (Inode n))
     spelt = laid.spells (Inode n) some
 
-    leaf_is : (q : ℕ) → q ≤ 128 → leaf_now content dirty n (M.bytes (Inode n)) q ≡ M.at (Leaf n q)
+    pub leaf_is : (q : ℕ) → q ≤ 128 → leaf_now content dirty n (M.bytes (Inode n)) q ≡ M.at (Leaf n q)
     leaf_is zero low = spelt.single
     leaf_is (suc q) low =
         ap (λ (a : ℕ). word (present content dirty (Double n) a) q) spelt.double

@@ -1,5 +1,6 @@
 pub mod Blocks
 pub mod Code
+pub mod Empty
 pub mod Held
 pub mod Key
 pub mod MapValue

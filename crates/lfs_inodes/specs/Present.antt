@@ -23,11 +23,15 @@ data_now content dirty n inode i =
     (word (present content dirty (Leaf n ((i - 112) / 128)) (leaf_now content dirty n inode ((i - 112) / 128))) ((i - 112) % 128))
 
 -- a block of pointers on the way, which isn't in memory, is lost
+pub record IsAway (content : Content) (address : ℕ) : Type 0 where
+  pub outside : address ≡ 1 → ⊥
+  pub lost : IsLost content address
+
 abbrev pub IsLeafAway : Content → List ℕ → ℕ → Type 0
-IsLeafAway content inode q = (1 ≤ q) × IsLost content (word inode 121)
+IsLeafAway content inode q = (1 ≤ q) × IsAway content (word inode 121)
 
 abbrev pub IsDataAway : Content → Dirty → ℕ → List ℕ → ℕ → Type 0
-IsDataAway content dirty n inode i = (112 ≤ i) × (IsLeafAway content inode ((i - 112) / 128) ⊎ IsLost content (leaf_now content dirty n inode ((i - 112) / 128)))
+IsDataAway content dirty n inode i = (112 ≤ i) × (IsLeafAway content inode ((i - 112) / 128) ⊎ IsAway content (leaf_now content dirty n inode ((i - 112) / 128)))
 
 -- Where memory and device are laid out for a log map, this is what memory has for the block: 0 for none, 1 for one in memory, else its address.
 abbrev pub PresentIsLaid : Type 0

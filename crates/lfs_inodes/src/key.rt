@@ -1,7 +1,7 @@
 //! Names of blocks of files, in one word each.
-ghost use Rattle.std.specs.Prelude.{◌≡◌, ◌<◌, ◌≤◌, ◌/◌, ◌%◌, ℕ, IfSome, IfNone};
+ghost use Rattle.std.specs.Prelude.{◌≡◌, ◌≢◌, true, ◌<◌, ◌≤◌, ◌/◌, ◌%◌, ℕ, IfSome, IfNone};
 ghost use Rattle.lfs_model.specs.Entry.{Data, Leaf, Double, Inode, entry_by, entry_of};
-ghost use Rattle.lfs_model.specs.Memory.{parent, pointer};
+ghost use Rattle.lfs_model.specs.Memory.{parent, pointer, IsPointers};
 ghost use Rattle.lfs_model.specs.Summary.{IsPlaced};
 ghost use Rattle.lfs_inodes.specs.Code.{IsCode, kind_by, entry_at};
 
@@ -92,6 +92,17 @@ impl BlockKey {
             1 => BlockKind::Leaf,
             2 => BlockKind::Double,
             _ => BlockKind::Inode,
+        }
+    }
+
+    /// Whether the block is one of pointers.
+    pub fn is_pointers(self) -> bool
+        ensures yes { result ≡ true → IsPointers (entry_at self.code) }
+        ensures no { result ≢ true → IsPointers (entry_at self.code) → ⊥ }
+    {
+        match self.kind() {
+            BlockKind::Leaf | BlockKind::Double => true,
+            _ => false,
         }
     }
 

@@ -8,7 +8,7 @@ mod pointers;
 mod present;
 mod table;
 
-pub use key::{BlockKey, IN_MEMORY};
+pub use key::{BlockKey, DIRECT, IN_MEMORY, POINTERS};
 pub use map::InodeMap;
 pub use pointers::{locate, owner_points};
 pub use present::locate_present;

@@ -88,7 +88,8 @@ impl InodeMap {
     /// The address of a block of the map.
     pub fn block_address(&self, index: usize) -> u32
         requires { index < 32 }
-        ensures { result ≡ block_in self.now index }
+        ensures value { result ≡ block_in self.now index }
+        ensures size { IsMap self.now }
     {
         self.blocks[index]
     }
@@ -98,6 +99,7 @@ impl InodeMap {
         requires { index < 32 }
         ensures set { self.new ≡ record self.old { blocks = slice_set self.old.blocks index address } }
         ensures changed { IsSet (block_in self.old) (block_in self.new) index address }
+        ensures size { IsMap self.new }
     {
         self.blocks[index] = address;
     }

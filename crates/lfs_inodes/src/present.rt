@@ -4,8 +4,7 @@ ghost use Rattle.lfs_model.specs.Device.{Carries, Elapses, IsUntouched};
 ghost use Rattle.lfs_model.specs.Entry.{word};
 ghost use Rattle.lfs_inodes.specs.Key.{entry_of};
 ghost use Rattle.lfs_inodes.specs.Blocks.{blocks_of};
-ghost use Rattle.lfs_inodes.specs.Pointed.{IsLost};
-ghost use Rattle.lfs_inodes.specs.Present.{present, leaf_now, data_now, IsLeafAway, IsDataAway};
+ghost use Rattle.lfs_inodes.specs.Present.{present, leaf_now, data_now, IsAway, IsLeafAway, IsDataAway};
 
 use crate::key::{BlockKey, DIRECT, DOUBLE, FIRST, IN_MEMORY, POINTERS, SINGLE};
 use crate::pointers::pointer_at;
@@ -24,7 +23,7 @@ fn present_pointer<D: SectorDevice>(
 ) -> Result<u32, ReadFault>
     requires { place < 128 }
     ensures value { IfOk result (λ found. (D.state device.new).keeps_model → found ≡ word (present (D.state device.old).content (blocks_of table.now) (entry_of key) address) place) }
-    ensures unreadable { IsErrOf result ReadFault.Unreadable → (D.state device.new).keeps_model → IsLost (D.state device.old).content address }
+    ensures unreadable { IsErrOf result ReadFault.Unreadable → (D.state device.new).keeps_model → IsAway (D.state device.old).content address }
     ensures failed { IsErrOf result ReadFault.Failed → (D.state device.old).failures < (D.state device.new).failures }
     ensures no_failure { OnOk result ((D.state device.new).failures ≡ (D.state device.old).failures) }
     ensures no_failure_unreadable { IsErrOf result ReadFault.Unreadable → (D.state device.new).failures ≡ (D.state device.old).failures }

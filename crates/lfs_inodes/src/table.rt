@@ -1,19 +1,21 @@
 //! The blocks of files that are in memory.
-ghost use Rattle.std.specs.Prelude.{◌≡◌, ◌<◌, ◌≤◌, ◌+◌, cond, ℕ, T, List, [], length, is_some, Some, None, IfOk, IfErr, IfSome, IfNone, IsSome, MatchOption, vec_len, vec_capacity};
+ghost use Rattle.std.specs.Prelude.{◌≡◌, ◌≢◌, true, ◌<◌, ◌≤◌, ◌+◌, cond, ℕ, T, List, [], length, is_some, Some, None, IfOk, IfErr, IfSome, IfNone, IsSome, MatchOption, vec_len, vec_capacity};
 ghost use Rattle.std.specs.Ordering.{nat_cmp};
 ghost use Rattle.std.specs.Option.{option_map};
 ghost use Rattle.std.specs.FinMap.{find, put, is_sorted};
-ghost use Rattle.lfs_model.specs.Entry.{Entry};
+ghost use Rattle.lfs_model.specs.Entry.{Entry, word};
 ghost use Rattle.lfs_model.specs.Tree.{without};
-ghost use Rattle.lfs_model.specs.Memory.{patched, parent, pointer, IsOfFile};
-ghost use Rattle.lfs_model.specs.Running.{IsLowest, Moves};
+ghost use Rattle.lfs_model.specs.Memory.{patched, parent, pointer, file_of, IsOfFile, IsPointers, HasPointer};
+ghost use Rattle.lfs_model.specs.Cutting.{LeavesOut};
+ghost use Rattle.lfs_model.specs.Running.{IsLowest, IsTight, Moves};
 ghost use Rattle.lfs_model.specs.Staging.{ChangesTo, Fetches};
 ghost use Rattle.lfs_inodes.specs.Key.{entry_of};
+ghost use Rattle.lfs_inodes.specs.Empty.{IsEmptyBlock};
 ghost use Rattle.lfs_inodes.specs.Blocks.{blocks_of, altered, IsAt, IsGapFor};
 ghost use Rattle.lfs_inodes.specs.Held.{times, one_below};
 
 use crate::key::{BlockKey, IN_MEMORY};
-use lfs_layout::set_word;
+use lfs_layout::{set_word, word};
 use std::alloc::{AllocError, Global};
 use std::marker::Model;
 
@@ -95,6 +97,42 @@ impl DirtyTable {
         Some(place.key)
     }
 
+    /// The key at a place of the index.
+    fn key_at(&self, at: usize) -> BlockKey
+        requires { at < length self.now.blocks }
+        ensures { IsAt self.now.blocks result.code at }
+    {
+        self.places[at].key
+    }
+
+    /// Whether this block of pointers is here, and none of its pointers leads anywhere.
+    fn is_empty(&self, key: BlockKey) -> bool
+        ensures yes { result ≡ true → IsEmptyBlock (blocks_of self.now) (entry_of key) }
+        ensures no { result ≢ true → (bytes : List ℕ) → blocks_of self.now (entry_of key) ≡ Some bytes → IsPointers (entry_of key) → HasPointer bytes }
+    {
+        if !key.is_pointers() {
+            return false;
+        }
+        let Some(block) = self.block(key) else {
+            return false;
+        };
+        has_no_pointer(block)
+    }
+
+    /// The first block of pointers that leads nowhere.
+    pub fn first_empty(&self) -> Option<BlockKey>
+        ensures empty { IfSome result (λ key. IsEmptyBlock (blocks_of self.now) (entry_of key)) }
+        ensures none { IfNone result (IsTight (blocks_of self.now)) }
+    {
+        for at in 0..self.len() {
+            let key = self.key_at(at);
+            if self.is_empty(key) {
+                return Some(key);
+            }
+        }
+        None
+    }
+
     /// Where a key stands in the index, or where it would go.
     fn search(&self, key: BlockKey) -> Result<usize, usize>
         ensures found { IfOk result (IsAt self.now.blocks key.code) }
@@ -162,6 +200,34 @@ impl DirtyTable {
         self.spare.push(place.spot).unwrap();
     }
 
+    /// A block of a file, if there is one.
+    fn any_of(&self, file: u16) -> Option<BlockKey>
+        ensures some { IfSome result (λ key. (file_of (entry_of key) ≡ Some file) × (is_some (find nat_cmp key.code self.now.blocks) ≡ true)) }
+        ensures none { IfNone result ((x : Entry) → file_of x ≡ Some file → blocks_of self.now x ≡ None) }
+    {
+        for at in 0..self.places.len() {
+            let key = self.places[at].key;
+            if key.file() == file {
+                return Some(key);
+            }
+        }
+        None
+    }
+
+    /// Takes every block of a file out.
+    pub fn forget(&mut self, file: u16)
+        ensures leaves { LeavesOut (blocks_of self.old) (blocks_of self.new) file }
+        ensures few { length self.new.blocks ≤ length self.old.blocks }
+        ensures capacity { self.new.capacity ≡ self.old.capacity }
+    {
+        for _ in 0..self.len() {
+            match self.any_of(file) {
+                Some(key) => self.remove(key),
+                None => return,
+            }
+        }
+    }
+
     /// A block comes into memory, in the place of what was there, and its parent points to it there.
     pub fn fetch(&mut self, key: BlockKey, bytes: &[u8; 512])
         requires { find nat_cmp key.code self.old.blocks ≡ None → length self.old.blocks < self.old.capacity }
@@ -179,6 +245,7 @@ impl DirtyTable {
     pub fn moved(&mut self, key: BlockKey, address: u32)
         ensures moves { Moves (blocks_of self.old) (blocks_of self.new) (entry_of key) address }
         ensures length { (bytes : List ℕ) → blocks_of self.old (entry_of key) ≡ Some bytes → length self.new.blocks + 1 ≡ length self.old.blocks }
+        ensures no_more { length self.new.blocks ≤ length self.old.blocks }
         ensures capacity { self.new.capacity ≡ self.old.capacity }
     {
         if let Some(above) = key.parent() {
@@ -196,6 +263,20 @@ impl DirtyTable {
         self.spare.clear();
         fill(&mut self.spare, self.arena.len() as u32);
     }
+}
+
+/// Whether all pointers of a block of pointers are 0.
+#[tactic(auto, unfolding(lfs_model::specs::Entry::word))]
+fn has_no_pointer(block: &[u8; 512]) -> bool
+    ensures yes { result ≡ true → (w : ℕ) → w < 128 → word block.now w ≡ 0 }
+    ensures no { result ≢ true → HasPointer block.now }
+{
+    for place in 0..128usize {
+        if word(block, place) != 0 {
+            return false;
+        }
+    }
+    true
 }
 
 /// Puts the numbers below this one into an empty list.

@@ -1,5 +1,5 @@
 -- What the summary of a chunk names.
-use Rattle.std.proofs.Common.{◌≡◌, ◌<◌, ◌≤◌, List, map, length, Some, refl, ap, arith}
+use Rattle.std.proofs.Common.{◌≡◌, ◌<◌, List, map, length, Some, refl, ap, arith}
 use Rattle.std.specs.Option.{option_map}
 use Rattle.lfs_model.specs.Entry.{entry_of, entries_in}
 use Rattle.lfs_model.specs.Summary.{BlockNameValue, FitsSummary, summary_sector}

@@ -1,6 +1,6 @@
 -- A usage block says what the table knows.
-use Rattle.std.proofs.Common.{◌≡◌, ◌<◌, ◌≤◌, ◌+◌, ◌*◌, ℕ, List, length, get_or, sym, ◌∙◌, ap, subst, arith}
-use Rattle.lfs_model.specs.Usage.{SegmentUse, IsUse, IsUnused, FitsUsage, no_use, usage_sector, use_at}
+use Rattle.std.proofs.Common.{◌≡◌, ◌<◌, ◌+◌, ◌*◌, ℕ, List, length, get_or, sym, ◌∙◌, ap, subst, arith}
+use Rattle.lfs_model.specs.Usage.{SegmentUse, IsUse, FitsUsage, no_use, usage_sector}
 use Rattle.lfs_model.proofs.UsagePlaces.{length-usage, use_of}
 use Rattle.lfs_model.proofs.Words.{UseWords, use_words}
 use Rattle.lfs_segments.specs.Table.{UsageTable, no_segment}

@@ -1,5 +1,5 @@
 -- The chunk that is being filled. Chunks of blocks behind a summary are those of the Sprite LFS paper (1992, section 3.3), called partial segments there.
-use Rattle.std.specs.Prelude.{◌≡◌, ◌<◌, ◌≤◌, ◌+◌, ◌*◌, ℕ, suc, true, List, map, length, get_or}
+use Rattle.std.specs.Prelude.{◌≡◌, ◌<◌, ◌≤◌, ℕ, suc, true, List, map, length, get_or}
 use Rattle.lfs_model.specs.Entry.{Entry, entry_of}
 use Rattle.lfs_model.specs.Summary.{BlockNameValue, IsPlaced, no_block}
 use Rattle.lfs_segments.specs.Table.{UsageTable, used_of, taken_of}

@@ -1,5 +1,5 @@
 -- What the calls on a usage table do, number by number.
-use Rattle.std.specs.Prelude.{◌≡◌, ◌<◌, ◌≤◌, ◌+◌, ◌*◌, ◌/◌, ◌==◌, ◌&&◌, cond, not, ℕ, suc, Bool, true, false, List, length, get_or}
+use Rattle.std.specs.Prelude.{◌≡◌, ◌<◌, ◌≤◌, ◌+◌, ◌*◌, ◌-◌, ◌/◌, ◌==◌, ◌&&◌, cond, not, ℕ, suc, Bool, true, false, List, length, get_or}
 use Rattle.lfs_model.specs.Entry.{half, word}
 use Rattle.lfs_model.specs.Running.{IsSet, CountsUp, CountsDown}
 use Rattle.lfs_model.specs.Usage.{SegmentUse}
@@ -26,6 +26,17 @@ pub record Lifts (old new : UsageTable) (s : ℕ) (lives : Bool) : Type 0 where
   pub used : (i : ℕ) → used_of new i ≡ used_of old i
   pub live : CountsDown lives (live_of old) (live_of new) s
   pub held : CountsDown (not lives) (held_of old) (held_of new) s
+  pub age : (i : ℕ) → age_of new i ≡ age_of old i
+  pub taken : (i : ℕ) → taken_of new i ≡ taken_of old i
+  pub blocks : Stales old new (s / 64)
+  pub size : length new.segments ≡ length old.segments
+  pub clean : clean_in new.segments ≡ clean_in old.segments
+
+-- so many blocks that live in s, or hold it, are there no more
+pub record TakesAway (old new : UsageTable) (s count : ℕ) (lives : Bool) : Type 0 where
+  pub used : (i : ℕ) → used_of new i ≡ used_of old i
+  pub live : IsSet (live_of old) (live_of new) s (live_of old s - cond lives count 0)
+  pub held : IsSet (held_of old) (held_of new) s (held_of old s - cond (not lives) count 0)
   pub age : (i : ℕ) → age_of new i ≡ age_of old i
   pub taken : (i : ℕ) → taken_of new i ≡ taken_of old i
   pub blocks : Stales old new (s / 64)

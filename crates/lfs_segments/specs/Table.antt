@@ -1,6 +1,6 @@
 -- What is known of each segment of a volume, and where the blocks of its usage table stand.
 -- The segment usage table is that of the Sprite LFS paper (1992, section 3.6).
-use Rattle.std.specs.Prelude.{◌≡◌, ◌<◌, ◌≤◌, ◌+◌, ◌-◌, ◌==◌, ℕ, Bool, false, List, length, get_or}
+use Rattle.std.specs.Prelude.{◌≡◌, ◌≤◌, ◌+◌, ◌-◌, ◌==◌, ℕ, Bool, false, List, length, get_or}
 use Rattle.lfs_model.specs.Stands.{count_up}
 
 pub record SegmentNumbers : Type 0 where

@@ -1,6 +1,6 @@
 //! What is known of each segment, after the segment usage table of the Sprite LFS paper (1992, section 3.6).
 ghost use Rattle.std.specs.Prelude.{◌≡◌, ◌≢◌, ◌<◌, ◌≤◌, ◌+◌, ◌-◌, ◌*◌, ◌/◌, ◌==◌, ℕ, suc, Bool, true, false, cond, not, length, get_or, replicate, slice_set, IfOk, IfSome, IfNone};
-ghost use Rattle.lfs_segments.specs.Steps.{Notes, Lifts, Takes, Puts, Releases, SpellsBlock, saved};
+ghost use Rattle.lfs_segments.specs.Steps.{Notes, Lifts, TakesAway, Takes, Puts, Releases, SpellsBlock, saved};
 ghost use Rattle.lfs_segments.specs.Steps as steps;
 ghost use Rattle.lfs_model.specs.Usage.{IsUse, no_use};
 ghost use Rattle.lfs_segments.specs.Table.{SegmentNumbers, BlockPlace, no_segment, no_place, used_of, live_of, held_of, age_of, taken_of, address_of, stale_of, clean_in, FitsSegment, FitsTable};
@@ -154,6 +154,18 @@ impl Usage {
         self.make_stale(segment / 64);
     }
 
+    /// So many blocks that live in a segment, or hold it, are there no more.
+    pub fn take_away(&mut self, segment: u32, count: u16, lives: bool)
+        requires inside { segment < length self.old.segments }
+        requires live { lives ≡ true → count ≤ live_of self.old segment }
+        requires held { lives ≡ false → count ≤ held_of self.old segment }
+        ensures { TakesAway self.old self.new segment count lives }
+    {
+        let state = taken_away(self.state(segment), count, lives);
+        self.put(segment, state);
+        self.make_stale(segment / 64);
+    }
+
     /// A segment has these numbers on the device.
     pub fn load(&mut self, segment: u32, saved: SegmentUsage)
         requires inside { segment < length self.old.segments }
@@ -279,6 +291,23 @@ fn lifted(mut state: SegmentState, lives: bool) -> SegmentState
         state.live -= 1;
     } else {
         state.held -= 1;
+    }
+    state
+}
+
+fn taken_away(mut state: SegmentState, count: u16, lives: bool) -> SegmentState
+    requires live { lives ≡ true → count ≤ state.live }
+    requires held { lives ≡ false → count ≤ state.held }
+    ensures used { result.used ≡ state.used }
+    ensures live { result.live ≡ state.live - cond lives count 0 }
+    ensures held { result.held ≡ state.held - cond (not lives) count 0 }
+    ensures age { result.age ≡ state.age }
+    ensures taken { result.taken ≡ state.taken }
+{
+    if lives {
+        state.live -= count;
+    } else {
+        state.held -= count;
     }
     state
 }

@@ -1,4 +1,4 @@
-use Rattle.std.proofs.Common.{◌≢◌, ◌<◌, ◌≤◌, ◌≡◌, ℕ, length, get_or}
+use Rattle.std.proofs.Common.{◌≢◌, ◌<◌, ℕ, get_or}
 use Rattle.lfs_segments.specs.Table.{no_segment}
 use Rattle.lfs_segments.proofs.usage.first_clean.Given as goal
 

@@ -1,4 +1,4 @@
-use Rattle.std.proofs.Common.{rules, ◌≡◌, ◌<◌, length}
+use Rattle.std.proofs.Common.{rules}
 use Rattle.lfs_segments.specs.Chunk.{IsChunk}
 use Rattle.lfs_segments.proofs.Entries.{chunk_entries}
 use Rattle.lfs_segments.proofs.chunk.ChunkWriter.seal.Goals as goal

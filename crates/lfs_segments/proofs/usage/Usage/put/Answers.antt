@@ -1,5 +1,5 @@
-use Rattle.std.proofs.Common.{rules, ◌≡◌, ◌<◌, ◌≤◌, ◌+◌, ◌-◌, ◌^◌, ◌==◌, cond, arith, length, get_or, slice_set}
-use Rattle.lfs_segments.specs.Table.{no_segment, clean_in}
+use Rattle.std.proofs.Common.{rules, ◌≡◌, ◌<◌, ◌==◌, cond, arith, length, get_or}
+use Rattle.lfs_segments.specs.Table.{no_segment}
 use Rattle.lfs_segments.proofs.Numbers.{set_fits, clean_change, clean_most}
 use Rattle.lfs_segments.proofs.usage.Usage.put.Goals as goal
 
