@@ -1,0 +1,197 @@
+-- A mount: what it took in is a log that runs.
+use Rattle.std.specs.Prelude.{Result, Ok, Err, IfErr}
+use Rattle.std.proofs.Common.{◌≡◌, ◌<◌, ◌≤◌, ⊎_elim, ◌⊎◌, inl, inr, ◌+◌, ◌*◌, ◌/◌, ◌%◌, ℕ, zero, suc, false, [], length, get_or, Some, None, refl, sym, ◌∙◌, ap, subst, arith}
+use Rattle.std.proofs.lemmas.Bool.{cases_lt}
+use Rattle.std.proofs.lemmas.List.{get_or_past}
+use Rattle.lfs_model.specs.Checkpoint.{CheckpointValue, FitsCheckpoint}
+use Rattle.lfs_model.specs.Content.{Content, block, newest}
+use Rattle.lfs_model.specs.Committing.{IsMountedTables}
+use Rattle.lfs_model.specs.Crash.{Keeps}
+use Rattle.lfs_model.specs.Device.{DeviceState, IsLawful, IsUntouched, Carries, Only}
+use Rattle.lfs_model.specs.Entry.{Entry, Data, Leaf, Double, Inode, Map, Usage, word}
+use Rattle.lfs_model.specs.Memory.{parent}
+use Rattle.lfs_model.specs.Reach.{address, view, map_block, inode_address}
+use Rattle.lfs_model.specs.Running.{Running}
+use Rattle.lfs_model.specs.Settled.{IsSettled}
+use Rattle.lfs_model.specs.Slots.{IsNewest, HasNoCheckpoint}
+use Rattle.lfs_model.specs.Stands.{LogMap, StandsAt, StandsLog, used_in, live_in, age_in}
+use Rattle.lfs_model.proofs.Decodes.{are_sized}
+use Rattle.lfs_model.proofs.Encodes.{word_nil}
+use Rattle.lfs_model.proofs.Entries.{data_below, leaf_below, double_below}
+use Rattle.lfs_model.proofs.Mounting.{mounting}
+use Rattle.lfs_model.proofs.Newest.{newest_fits}
+use Rattle.lfs_model.proofs.Settled.{keeps_itself}
+use Rattle.lfs_model.proofs.Starting.{starting}
+use Rattle.lfs_inodes.specs.Blocks.{Blocks, blocks_of, blocks_in}
+use Rattle.lfs_inodes.specs.MapValue.{MapValue, address_in, block_in}
+use Rattle.lfs_segments.specs.Table.{SegmentNumbers, UsageTable, no_segment, address_of, stale_of}
+use Rattle.lfs_log.specs.declared.memory.LogMemory.{LogMemory}
+use Rattle.lfs_log.specs.Memory.{IsLog, tables_by, tables_of, segment_in, chunk_in}
+use Rattle.lfs_log.specs.Present.{Looks}
+use Rattle.lfs_log.specs.Opening.{IsFault, IsOpenFault, IsUsageUpTo, SaysUsage, IsMapUpTo, SaysMap, Opens, numbers_in}
+use Rattle.lfs_log.proofs.Opened.{closed_segment, closed_chunk, as_chunk}
+
+-- ---- the newest checkpoint
+module _ (d : DeviceState) (lawful : IsLawful d) where
+  pub newest_is : (k : CheckpointValue) → IsNewest d.content k → newest d.content ≡ Some k
+  newest_is k is = ((newest_fits d.content lawful.now).0 k).1 is
+
+  pub is_newest : (k : CheckpointValue) → newest d.content ≡ Some k → IsNewest d.content k
+  is_newest k is = ((newest_fits d.content lawful.now).0 k).0 is
+
+  pub no_newest : HasNoCheckpoint d.content → newest d.content ≡ None
+  no_newest none = (newest_fits d.content lawful.now).1.1 none
+
+  pub not_small : (m : LogMap) → StandsLog d.content m → d.size < 4098 → ⊥
+  not_small m is small =
+      let fits = (is_newest is.checkpoint is.newest).held.fits in
+      let least = fits.segments.least in
+      let size = is.stands.size in
+      let long = lawful.size in
+      omega (arith, least, size, long, small)
+
+  pub has_checkpoint : (m : LogMap) → StandsLog d.content m → HasNoCheckpoint d.content → ⊥
+  has_checkpoint m is none = let some = is.newest in let no = no_newest none in absurd (cc)
+
+  pub one_checkpoint : (m : LogMap) (k : CheckpointValue) → (is : StandsLog d.content m) → newest d.content ≡ Some k → is.checkpoint ≡ k
+  one_checkpoint m k is newest = some_is is.checkpoint k (sym is.newest ∙ newest)
+    where
+      some_is : (a b : CheckpointValue) → Some a ≡ Some b → a ≡ b
+      some_is a b e = cc
+
+  pub has_segments : (m : LogMap) (k : CheckpointValue) → StandsLog d.content m → IsNewest d.content k → d.size < 2 + 64 * k.segments → ⊥
+  has_segments m k is newest small =
+      let same = ap (λ (x : CheckpointValue). x.segments) (one_checkpoint m k is (newest_is k newest)) in
+      let size = is.stands.size in
+      let long = lawful.size in
+      omega (arith, same, size, long, small)
+
+-- ---- the tables
+abbrev by_numbers : ℕ → ℕ → ℕ → SegmentNumbers
+by_numbers used live age = record { used = used; live = live; held = 0; age = age; taken = false }
+
+module _ (c : Content) (k : CheckpointValue) (fits : FitsCheckpoint k) (m : LogMap) (st : StandsAt c k m) (map : MapValue) (usage : UsageTable)
+    (usages : IsUsageUpTo ((k.segments + 63) / 64) k.segments usage) (says : SaysUsage c k ((k.segments + 63) / 64) usage) (maps : IsMapUpTo 32 map) (tells : SaysMap c k 32 map) where
+  no_map : (j : ℕ) → 32 ≤ j → get_or k.map j 0 ≡ 0
+  no_map j high = get_or_past k.map j 0 (let long = fits.map_length in omega (arith, long, high))
+
+  inode_there : (n : ℕ) → address_in map n ≡ inode_address c k n
+  inode_there n = ⊎_elim
+      (λ (low : n < 4096).
+      let here : 128 * (n / 128) + n % 128 ≡ n = omega arith in
+      subst (λ (x : ℕ). address_in map x ≡ word (map_block c k (n / 128)) (n % 128)) here (tells.addresses (n / 128) (n % 128) (omega (arith, low)) (omega arith)))
+      (λ (high : 4096 ≤ n).
+      maps.past n (omega (arith, high)) ∙ sym (ap (λ (a : ℕ). word (block c a) (n % 128)) (no_map (n / 128) (omega (arith, high))) ∙ word_nil (n % 128)))
+      (cases_lt n 4096)
+
+  map_there : (j : ℕ) → block_in map j ≡ get_or k.map j 0
+  map_there j = ⊎_elim (λ (low : j < 32). tells.blocks j low) (λ (high : 32 ≤ j). maps.none j high ∙ sym (no_map j high)) (cases_lt j 32)
+
+  usage_there : (j : ℕ) → address_of usage j ≡ get_or k.usage j 0
+  unfolding address
+  usage_there j = ⊎_elim
+      (λ (low : j < (k.segments + 63) / 64). says.address j low)
+      (λ (high : (k.segments + 63) / 64 ≤ j).
+      usages.none j high ∙ sym (⊎_elim (λ (z : get_or k.usage j 0 ≡ 0). z) (λ (some : 0 < get_or k.usage j 0). absurd (let low = (st.stages.usages.addresses j).0 some in omega (arith, low, high))) (zero_or_more (get_or k.usage j 0))))
+      (cases_lt j ((k.segments + 63) / 64))
+    where
+      zero_or_more : (n : ℕ) → (n ≡ 0) ⊎ (0 < n)
+      zero_or_more zero = inl refl
+      zero_or_more (suc n) = inr (omega arith)
+
+  at_there : (x : Entry) → parent x ≡ x → (tables_by map usage).at x ≡ address c k x
+  unfolding address
+  at_there (Data n i) up = absurd (data_below n i up)
+  at_there (Leaf n q) up = absurd (leaf_below n q up)
+  at_there (Double n) up = absurd (double_below n up)
+  at_there (Inode n) up = inode_there n
+  at_there (Map j) up = map_there j
+  at_there (Usage j) up = usage_there j
+
+  numbers_there : (s : ℕ) → get_or usage.segments s no_segment ≡ numbers_in c k s
+  numbers_there s = ⊎_elim
+      (λ (low : s < k.segments). says.numbers s (omega (arith, low)) (let size = usages.size in omega (arith, size, low)))
+      (λ (high : k.segments ≤ s).
+      let past = st.stages.usages.past s high in
+      get_or_past usage.segments s no_segment (let size = usages.size in omega (arith, size, high))
+      ∙ sym (nothing (used_in (view c k) s) (live_in (view c k) s) (age_in (view c k) s) past.0 (st.stages.usages.both s past.0) past.1))
+      (cases_lt s k.segments)
+    where
+      nothing : (u l a : ℕ) → u ≡ 0 → l ≡ 0 → a ≡ 0 → by_numbers u l a ≡ no_segment
+      nothing u l a e f g = ap (λ (x : ℕ). by_numbers x l a) e ∙ ap (λ (x : ℕ). by_numbers 0 x a) f ∙ ap (λ (x : ℕ). by_numbers 0 0 x) g
+
+  fresh_ages : (j i : ℕ) → stale_of usage j ≡ false → i < 64 → live_in (view c k) (64 * j + i) ≡ 0 → age_in (view c k) (64 * j + i) ≡ 0
+  fresh_ages j i off low none = ⊎_elim
+      (λ (inside : j < (k.segments + 63) / 64). says.stale j inside off i low none)
+      (λ (past : (k.segments + 63) / 64 ≤ j). (st.stages.usages.past (64 * j + i) (omega (arith, past))).1)
+      (cases_lt j ((k.segments + 63) / 64))
+
+  pub mounted_tables : IsMountedTables c k (tables_by map usage)
+  mounted_tables = record {
+    at = at_there;
+    used = λ s. ap (λ (n : SegmentNumbers). n.used) (numbers_there s);
+    live = λ s. ap (λ (n : SegmentNumbers). n.live) (numbers_there s);
+    held = λ s. ap (λ (n : SegmentNumbers). n.held) (numbers_there s);
+    age = λ s. ap (λ (n : SegmentNumbers). n.age) (numbers_there s);
+    taken = λ s. ap (λ (n : SegmentNumbers). n.taken) (numbers_there s);
+    stale = fresh_ages;
+  }
+
+-- ---- the log
+module _ (d mid d' : DeviceState) (k : CheckpointValue) (fits : FitsCheckpoint k) (lawful : IsLawful d') (lawful_first : IsLawful d) (newest_at : mid.keeps_model → newest d.content ≡ Some k) (durable : mid.keeps_model → Only d.content mid) (same : IsUntouched d mid) (looks : Looks mid d')
+    (v : LogMemory) (chunk : v.chunk.names ≡ []) (dirty : v.dirty.blocks ≡ [])
+    (usages : IsUsageUpTo ((k.segments + 63) / 64) k.segments v.usage) (says : d'.keeps_model → SaysUsage mid.content k ((k.segments + 63) / 64) v.usage)
+    (maps : IsMapUpTo 32 v.map) (tells : d'.keeps_model → SaysMap mid.content k 32 v.map) where
+  content_same : d'.content ≡ d.content
+  content_same = looks.untouched.content ∙ same.content
+
+  settled : (m : LogMap) → d'.keeps_model → StandsAt d.content k m → IsSettled d' k m
+  settled m keeps st =
+      let was = looks.carries.kept_before keeps in
+      let now : newest d'.content ≡ Some k = ap newest content_same ∙ newest_at was in
+      record {
+        newest = now;
+        stands = subst (λ (c : Content). StandsAt c k m) (sym content_same) st;
+        each = λ c left. subst (λ (x : Content). Keeps d'.content k x) (content_same ∙ sym (durable was c (looks.untouched.crash c left))) (keeps_itself d'.content k now);
+      }
+
+  running : (m : LogMap) → d'.keeps_model → StandsAt d.content k m → Running d' (λ x. None) (tables_of v) k m m 1024 None
+  running m keeps st =
+      let most : k.segments ≤ 1024 = fits.segments.most in
+      let to_mid : mid.content ≡ d'.content = sym looks.untouched.content in
+      starting d' (tables_of v) k m 1024 most (are_sized d'.content lawful.now) (settled m keeps st)
+      (mounted_tables d'.content k fits m (subst (λ (c : Content). StandsAt c k m) (sym content_same) st) v.map v.usage
+      usages (subst (λ (c : Content). SaysUsage c k ((k.segments + 63) / 64) v.usage) to_mid (says keeps))
+      maps (subst (λ (c : Content). SaysMap c k 32 v.map) to_mid (tells keeps)))
+      most
+
+  log_at : (m : LogMap) → d'.keeps_model → StandsAt d.content k m → IsLog d' v k m m
+  log_at m keeps st =
+      let none : length v.chunk.names ≡ 0 = ap length chunk in
+      let w = subst (λ (bs : Blocks). Running d' (blocks_in bs) (tables_of v) k m m 1024 None) (sym dirty) (running m keeps st) in
+      record {
+        running = as_chunk d' (blocks_of v.dirty) (tables_of v) k m m 1024 (segment_in v.chunk) None (chunk_in v.chunk) (sym (closed_segment v.chunk none)) (sym (closed_chunk v.chunk none)) w;
+        hidden = λ n low. (mounting d.content k m (let most = fits.segments.most in omega (arith, most)) (are_sized d.content lawful_first.now) st).2 n ∙ sym (maps.hidden n);
+        segments = usages.size;
+        tight = λ x b there. absurd (let none = empty x in cc);
+      }
+    where
+      empty : (x : Entry) → blocks_of v.dirty x ≡ None
+      empty x = ap (λ (bs : Blocks). blocks_in bs x) dirty
+
+  pub opens : Opens d d' v k.number
+  opens m keeps is =
+      let one = one_checkpoint d lawful_first m k is (newest_at (looks.carries.kept_before keeps)) in
+      (subst (λ (x : CheckpointValue). IsLog d' v x m m) (sym one) (log_at m keeps (subst (λ (x : CheckpointValue). StandsAt d.content x m) one is.stands)), ap (λ (x : CheckpointValue). x.number) one)
+
+pub open_fault : (a b c : DeviceState) (k : CheckpointValue) → IsLawful a → (b.keeps_model → newest a.content ≡ Some k) → IsUntouched a b → Carries a b → Looks b c → IsFault b c k → IsOpenFault a c
+open_fault a b c k lawful newest_at same carries looks fault m keeps is =
+    let one = one_checkpoint a lawful m k is (newest_at (looks.carries.kept_before keeps)) in
+    let st = subst (λ (x : CheckpointValue). StandsAt a.content x m) one is.stands in
+    let worse = fault m keeps (subst (λ (x : Content). StandsAt x k m) (sym same.content) st) in
+    let before = carries.failures in
+    omega (arith, worse, before)
+
+pub if_err : {T E : Type 0} (r : Result T E) (P : E → Type 0) → ((e : E) → P e) → IfErr r P
+if_err (Ok x) P all = tt
+if_err (Err e) P all = all e

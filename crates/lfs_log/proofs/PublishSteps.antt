@@ -1,0 +1,237 @@
+-- The end of a commit: what its device calls leave of the log.
+use Rattle.std.proofs.Common.{◌≡◌, ◌<◌, ◌≤◌, ◌⊎◌, inl, ⊎_elim, ◌+◌, ◌*◌, ◌/◌, ◌%◌, ◌==◌, ◌&&◌, cond, eq-eqb, eqb-true, Bool, true, false, ℕ, zero, suc, List, [], length, get_or, None, refl, sym, ◌∙◌, ap, subst, arith}
+use Rattle.std.proofs.lemmas.Bool.{cases_eq, cases_lt, cond-true, cond-false, false_from_ne_true}
+use Rattle.std.proofs.lemmas.List.{get_or_past}
+use Rattle.lfs_model.specs.Entry.{Inode, Map, Usage}
+use Rattle.lfs_model.specs.Checkpoint.{CheckpointValue, IsSegmentCount, checkpoint_sector}
+use Rattle.lfs_model.specs.Content.{Content}
+use Rattle.lfs_model.specs.Crash.{StandsFor}
+use Rattle.lfs_model.specs.Device.{DeviceState, IsLawful, IsUntouched, MayWrite, Carries, Elapses, Only, AllLeft, LeavesOnly, ComesFrom, put}
+use Rattle.lfs_model.specs.Stands.{LogMap, count_up}
+use Rattle.lfs_model.specs.TreeOf.{dropped}
+use Rattle.lfs_model.specs.Memory.{Memory, is_shown}
+use Rattle.lfs_model.specs.Laid.{IsLaid}
+use Rattle.lfs_model.specs.Settled.{IsPlanned}
+use Rattle.lfs_model.specs.Running.{Running}
+use Rattle.lfs_model.specs.Committing.{IsOut, ManyClean, LeadsTo, IsReleased}
+use Rattle.lfs_model.proofs.Decoding.{checkpoint_some}
+use Rattle.lfs_model.proofs.Leaving.{staying}
+use Rattle.lfs_model.proofs.Live.{count_up_none, count_up_more}
+use Rattle.lfs_model.proofs.Moments.{carries_then, started, goes_on, joined}
+use Rattle.lfs_model.proofs.Publishing.{planning, resting}
+use Rattle.lfs_model.proofs.Settled.{settled_stands, settled_still, slot_torn, acknowledged}
+use Rattle.lfs_segments.specs.Table.{SegmentNumbers, BlockPlace, UsageTable, no_segment, no_place, used_of, live_of, held_of, address_of, is_clean_in, clean_in}
+use Rattle.lfs_segments.specs.Steps.{Releases, is_empty}
+use Rattle.lfs_inodes.specs.Blocks.{Blocks, blocks_in, blocks_of}
+use Rattle.lfs_inodes.specs.MapValue.{block_in}
+use Rattle.lfs_log.specs.declared.memory.LogMemory.{LogMemory}
+use Rattle.lfs_log.specs.Memory.{tables_of, segment_in, chunk_in, IsMemory, IsLog}
+use Rattle.lfs_log.specs.Publishing.{IsAllOut, IsNext, IsAcknowledged, Publishes, PublishFails}
+use Rattle.lfs_log.proofs.Opened.{closed_segment, closed_chunk, as_chunk}
+use Rattle.lfs_log.proofs.UsageWrites.{table_same}
+
+-- ---- counts
+count_monotone : (p q : ℕ → Bool) (n : ℕ) → ((x : ℕ) → p x ≡ true → q x ≡ true) → count_up p n ≤ count_up q n
+count_monotone p q zero so = omega (arith, count_up_none p)
+count_monotone p q (suc n) so =
+    let rest = count_monotone p q n so in
+    let last = one_more (p n) (q n) (so n) in
+    omega (arith, rest, last, count_up_more p n, count_up_more q n)
+  where
+    one_more : (a b : Bool) → (a ≡ true → b ≡ true) → cond {A = ℕ} a 1 0 ≤ cond {A = ℕ} b 1 0
+    one_more true true f = omega arith
+    one_more true false f = let bad : false ≡ true = f refl in absurd (cc)
+    one_more false b f = omega arith
+
+saved_none : (l u : ℕ) → (u == 0) ≡ true → (cond (l == 0) 0 u == 0) ≡ true
+saved_none l u z = eq-eqb (cond (l == 0) 0 u) 0 (either (l == 0) (eqb-true u 0 z))
+  where
+    either : (b : Bool) → u ≡ 0 → cond b 0 u ≡ 0
+    either true e = refl
+    either false e = e
+
+many_clean : (t : UsageTable) (n : ℕ) → length t.segments ≡ n → n ≤ 8 * clean_in t.segments → n ≤ 8 * count_up (λ s. cond (live_of t s == 0) 0 (used_of t s) == 0) n
+unfolding clean_in
+many_clean t n same many =
+    let more = count_monotone (is_clean_in t.segments) (λ s. cond (live_of t s == 0) 0 (used_of t s) == 0) n (λ s. saved_none (live_of t s) (used_of t s)) in
+    let e = ap (count_up (is_clean_in t.segments)) same in
+    omega arith
+
+-- ---- what a release does
+both_zero : (l h : ℕ) → l ≡ 0 → h ≡ 0 → ((l == 0) && (h == 0)) ≡ true
+both_zero l h a b = and_true (l == 0) (h == 0) (eq-eqb l 0 a) (eq-eqb h 0 b)
+  where
+    and_true : (a b : Bool) → a ≡ true → b ≡ true → (a && b) ≡ true
+    and_true true true p q = refl
+    and_true true false p q = q
+    and_true false b p q = p
+
+some_left : (l h : ℕ) → (0 < l) ⊎ (0 < h) → ((l == 0) && (h == 0)) ≡ false
+some_left l h some = false_from_ne_true ((l == 0) && (h == 0)) (λ both. let z = and_both (l == 0) (h == 0) both in let a = eqb-true l 0 z.0 in let b = eqb-true h 0 z.1 in ⊎_elim (λ (lt : 0 < l). absurd (omega arith)) (λ (lt : 0 < h). absurd (omega arith)) some)
+  where
+    and_both : (a b : Bool) → (a && b) ≡ true → (a ≡ true) × (b ≡ true)
+    and_both true true e = (refl, refl)
+    and_both true false e = (refl, e)
+    and_both false b e = let bad : false ≡ true = e in absurd (cc)
+
+module _ (v : LogMemory) (u : UsageTable) (go : Releases v.usage u) where
+  places_same : {X : Type 0} (f : BlockPlace → X) (i : ℕ) → f (get_or u.blocks i no_place) ≡ f (get_or v.usage.blocks i no_place)
+  places_same f i = ap (λ (x : List BlockPlace). f (get_or x i no_place)) go.blocks
+
+  pub is_released : IsReleased (tables_of v) (tables_of (record v { usage = u }))
+  is_released = record {
+    at = table_same v.map v.usage u (places_same (λ b. b.address));
+    gone = λ s l h. ap (λ (n : SegmentNumbers). n.used) (go.each s) ∙ cond-true (is_empty (get_or v.usage.segments s no_segment)) 0 (used_of v.usage s) (both_zero (live_of v.usage s) (held_of v.usage s) l h);
+    used = λ s some. ap (λ (n : SegmentNumbers). n.used) (go.each s) ∙ cond-false (is_empty (get_or v.usage.segments s no_segment)) 0 (used_of v.usage s) (some_left (live_of v.usage s) (held_of v.usage s) some);
+    live = λ s. ap (λ (n : SegmentNumbers). n.live) (go.each s);
+    held = λ s. ap (λ (n : SegmentNumbers). n.held) (go.each s);
+    age = λ s some. ap (λ (n : SegmentNumbers). n.age) (go.each s);
+    taken = λ s. ap (λ (n : SegmentNumbers). n.taken) (go.each s);
+    stale = places_same (λ b. b.stale);
+  }
+
+  pub released_memory : IsMemory v → v.chunk.names ≡ [] → IsMemory (record v { usage = u })
+  released_memory good none = record {
+    count = subst IsSegmentCount (sym go.size) good.count;
+    opened = λ some. let e = ap length none in absurd (omega arith);
+    short = good.short;
+    usages = λ j one. good.usages j (sym (places_same (λ b. b.address) j) ∙ one);
+    few = good.few;
+  }
+
+-- ---- addresses past the last block of a table
+least_shown : (b : Bool) (a : ℕ) → 0 < cond b a 0 → 0 < a
+least_shown true a lt = lt
+least_shown false a lt = absurd (omega arith)
+
+map_past : (e : Content) (m : LogMap) (M : Memory) (o j : ℕ) → IsLaid e m M o → (M.at (Map j) ≡ 1 → ⊥) → 32 ≤ j → M.at (Map j) ≡ 0
+map_past e m M o j laid settled ge = ⊎_elim
+    (λ (low : M.at (Map j) < 2). omega arith)
+    (λ (high : 2 ≤ M.at (Map j)).
+    let b = laid.mapped j settled in
+    let p = b.some high in
+    let word = b.spells high p.0 p.1 in
+    let lt = p.2 in
+    let there : 0 < M.at (Inode (128 * j + p.0)) = least_shown (is_shown m (Inode (128 * j + p.0))) (M.at (Inode (128 * j + p.0))) (omega arith) in
+    let file = (laid.spells (Inode (128 * j + p.0)) there).formed in
+    let own = file.own in
+    let most = file.fits.number.1 in
+    absurd (omega arith))
+    (cases_lt (M.at (Map j)) 2)
+
+usage_past : (e : Content) (m : LogMap) (M : Memory) (o j : ℕ) → IsLaid e m M o → 16 ≤ j → M.at (Usage j) ≡ 0
+usage_past e m M o j laid ge = ⊎_elim
+    (λ (none : M.at (Usage j) ≡ 0). none)
+    (λ (some : M.at (Usage j) ≡ 0 → ⊥).
+    let low = (laid.usages j).1 (omega arith) in
+    let few = laid.few in
+    absurd (omega arith))
+    (cases_eq (M.at (Usage j)) 0)
+
+-- an array of addresses, which has all that there are
+array_is : (xs : List ℕ) (n : ℕ) (f : ℕ → ℕ) → length xs ≡ n → ((j : ℕ) → j < n → get_or xs j 0 ≡ f j) → ((j : ℕ) → n ≤ j → f j ≡ 0) → (j : ℕ) → get_or xs j 0 ≡ f j
+array_is xs n f long inside past j = ⊎_elim
+    (λ (lt : j < n). inside j lt)
+    (λ (ge : n ≤ j). get_or_past xs j 0 (omega arith) ∙ sym (past j ge))
+    (cases_lt j n)
+
+-- ---- the sync
+module _ (d d1 : DeviceState) (v : LogMemory) (number : ℕ) (lawful : IsLawful d) (same : IsUntouched d d1) (carries : Carries d d1) (time : Elapses d d1) where
+  synced : (k : CheckpointValue) (m0 m : LogMap) → IsLog d v k m0 m → IsLog d1 v k m0 m
+  synced k m0 m log = record {
+    running = staying d d1 _ (tables_of v) k m0 m (segment_in v.chunk) (chunk_in v.chunk) log.running same;
+    hidden = log.hidden;
+    segments = log.segments;
+    tight = log.tight;
+  }
+
+  sync_left : (k : CheckpointValue) (m0 m : LogMap) → IsLog d v k m0 m → AllLeft d1 (StandsFor m0 (dropped m))
+  sync_left k m0 m log c left = inl (settled_stands d1 k m0 (settled_still d d1 k m0 log.running.settled same) c left)
+
+  sync_moment : (k : CheckpointValue) (m0 m : LogMap) → IsLog d v k m0 m → LeavesOnly d d1 (StandsFor m0 (dropped m))
+  sync_moment k m0 m log =
+      goes_on d d d1 (StandsFor m0 (dropped m)) (started d (StandsFor m0 (dropped m)) lawful (λ c left. inl (settled_stands d k m0 log.running.settled c left))) carries time (sync_left k m0 m log)
+
+  pub sync_fails : d.failures < d1.failures → PublishFails d d1 v number
+  sync_fails failed = record {
+    carries = carries;
+    failed = failed;
+    left = λ k m0 m keeps is. sync_left k m0 m is.log;
+    moment = λ k m0 m keeps is. sync_moment k m0 m is.log;
+  }
+
+  -- ---- the next checkpoint
+  module _ (d2 : DeviceState) (next : CheckpointValue) (good : IsMemory v) (out : IsAllOut v) (is : IsNext v number next) (only : d1.keeps_model → Only d1.content d1) (unfailed : d1.failures ≡ d.failures)
+      (moment : LeavesOnly d1 d2 (ComesFrom d1 (MayWrite (next.number % 2) (checkpoint_sector next)))) (left : AllLeft d2 (ComesFrom d1 (MayWrite (next.number % 2) (checkpoint_sector next)))) (more : Carries d1 d2) where
+    no_chunk : length v.chunk.names ≡ 0
+    no_chunk = ap length out.chunk
+
+    module _ (k : CheckpointValue) (m0 m : LogMap) (held : IsAcknowledged d v number k m0 m) where
+      running : Running d1 (blocks_of v.dirty) (tables_of v) k m0 m 1024 None
+      running = as_chunk d1 (blocks_of v.dirty) (tables_of v) k m0 m (segment_in v.chunk) 1024 (chunk_in v.chunk) None (closed_segment v.chunk no_chunk) (closed_chunk v.chunk no_chunk) (synced k m0 m held.log).running
+
+      all_out : IsOut (blocks_of v.dirty) (tables_of v) k.segments
+      all_out = record {
+        empty = λ x. ap (λ (es : Blocks). blocks_in es x) out.dirty;
+        maps = out.maps;
+        usages = good.usages;
+        fresh = λ j lt. out.fresh j (subst (λ (n : ℕ). j < (n + 63) / 64) (sym held.log.segments) lt);
+      }
+
+      many : ManyClean (tables_of v) k.segments
+      many = many_clean v.usage k.segments held.log.segments (subst (λ (n : ℕ). n ≤ 8 * clean_in v.usage.segments) held.log.segments out.many)
+
+      leads : LeadsTo (tables_of v) k next
+      leads = record {
+        number = is.number ∙ ap (λ (n : ℕ). n + 1) (sym held.same);
+        segments = is.segments ∙ held.log.segments;
+        map = array_is next.map 32 (block_in v.map) is.fits.map_length is.map
+            (λ j ge. let at = running.tables.at (Map j) refl in sym at ∙ map_past d1.content m running.memory 1024 j running.laid (λ one. out.maps j (sym at ∙ one)) ge);
+        usage = array_is next.usage 16 (address_of v.usage) is.fits.usage_length is.usage
+            (λ j ge. sym (running.tables.at (Usage j) refl) ∙ usage_past d1.content m running.memory 1024 j running.laid ge);
+      }
+
+      planned : IsPlanned k d1.content (next.number % 2) (checkpoint_sector next) next (dropped m)
+      planned = planning d1 (blocks_of v.dirty) (tables_of v) k next m0 m 1024 (next.number % 2) (checkpoint_sector next) running held.map all_out many leads (checkpoint_some (checkpoint_sector next) next is.fits refl) refl
+
+      torn : d2.keeps_model → (c : Content) → ComesFrom d1 (MayWrite (next.number % 2) (checkpoint_sector next)) c → StandsFor m0 (dropped m) c
+      torn keeps c from =
+          slot_torn d1 (record d1 { may_leave = ComesFrom d1 (MayWrite (next.number % 2) (checkpoint_sector next)) }) k next m0 (dropped m) (next.number % 2) (checkpoint_sector next) running.settled planned
+          (only (more.kept_before keeps)) (λ c f. f) c from
+
+      either : d2.keeps_model → LeavesOnly d d2 (StandsFor m0 (dropped m))
+      either keeps = joined d d1 d2 (StandsFor m0 (dropped m)) (ComesFrom d1 (MayWrite (next.number % 2) (checkpoint_sector next))) (StandsFor m0 (dropped m)) (sync_moment k m0 m held.log) moment (λ c s. s) (torn keeps)
+
+    pub replace_fails : d1.failures < d2.failures → PublishFails d d2 v number
+    replace_fails failed = record {
+      carries = carries_then d d1 d2 carries more;
+      failed = omega arith;
+      left = λ k m0 m keeps held c l. torn k m0 m held keeps c (left c l);
+      moment = λ k m0 m keeps held. either k m0 m held keeps;
+    }
+
+    module _ (u : UsageTable) (go : Releases v.usage u) (content : d2.keeps_model → d2.content ≡ put d1.content (next.number % 2) (checkpoint_sector next)) (durable : d2.keeps_model → Only d2.content d2)
+        (same_failures : d2.failures ≡ d1.failures) where
+      rested : (k : CheckpointValue) (m0 m : LogMap) → d2.keeps_model → IsAcknowledged d v number k m0 m → IsLog d2 (record v { usage = u }) next (dropped m) m
+      rested k m0 m keeps held =
+          let settled = acknowledged d1 d2 k next m0 (dropped m) (next.number % 2) (checkpoint_sector next) (running k m0 m held).settled (planned k m0 m held) (content keeps) (durable keeps) in
+          let r = resting d1 d2 (blocks_of v.dirty) (tables_of v) (tables_of (record v { usage = u })) k next m0 m 1024 (next.number % 2) (checkpoint_sector next) (running k m0 m held) (all_out k m0 m held) (many k m0 m held) (leads k m0 m held)
+          (omega arith) (content keeps) settled (is_released v u go) in
+          record {
+            running = as_chunk d2 (blocks_of v.dirty) (tables_of (record v { usage = u })) next (dropped m) m 1024 (segment_in v.chunk) None (chunk_in v.chunk)
+                (sym (closed_segment v.chunk no_chunk)) (sym (closed_chunk v.chunk no_chunk)) r;
+            hidden = held.log.hidden;
+            segments = go.size ∙ sym is.segments;
+            tight = held.log.tight;
+          }
+
+      pub published : Publishes d d2 v (record v { usage = u }) number
+      published = record {
+        carries = carries_then d d1 d2 carries more;
+        memory = released_memory v u go good out.chunk;
+        segments = go.size;
+        clean = go.clean;
+        no_failure = same_failures ∙ unfailed;
+        log = λ k m0 m keeps held. (next, is.number, rested k m0 m keeps held);
+        moment = λ k m0 m keeps held. either k m0 m held keeps;
+      }

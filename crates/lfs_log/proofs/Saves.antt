@@ -1,0 +1,67 @@
+-- A commit, from its two halves.
+use Rattle.std.proofs.Common.{◌≡◌, ◌<◌, ◌≤◌, ⊎_elim, inl, ◌+◌, ℕ, [], length, ◌∙◌, ap, arith}
+use Rattle.lfs_model.specs.Checkpoint.{CheckpointValue}
+use Rattle.lfs_model.specs.Content.{Content}
+use Rattle.lfs_model.specs.Crash.{StandsFor}
+use Rattle.lfs_model.specs.Device.{DeviceState}
+use Rattle.lfs_model.specs.Stands.{LogMap, StandsLog}
+use Rattle.lfs_model.specs.TreeOf.{dropped}
+use Rattle.lfs_model.proofs.Moments.{carries_then, joined, weaker}
+use Rattle.lfs_model.proofs.Settled.{settled_stands}
+use Rattle.lfs_segments.specs.Table.{clean_in}
+use Rattle.lfs_log.specs.declared.memory.LogMemory.{LogMemory}
+use Rattle.lfs_log.specs.Memory.{IsMemory, Goes, Stops, room_of, room_in}
+use Rattle.lfs_log.specs.Publishing.{IsAcknowledged, Publishes, PublishFails, LeavesEither}
+use Rattle.lfs_log.specs.Saving.{Commits, CommitFails}
+use Rattle.lfs_log.proofs.Begun.{zero_or_more}
+use Rattle.lfs_log.proofs.Rooms.{room_none, room_some}
+
+-- no more than eight segments were taken for 504 blocks
+pub eight_taken : (v v' : LogMemory) → v.chunk.names ≡ [] → IsMemory v' → room_of v ≤ room_of v' + 504 → clean_in v.usage.segments ≤ clean_in v'.usage.segments + 8
+eight_taken v v' closed memory room =
+    let none = room_none v.chunk.names (ap length closed) in
+    let few : room_in v'.chunk.names ≤ 62 = ⊎_elim
+    (λ (z : length v'.chunk.names ≡ 0). let r = room_none v'.chunk.names z in omega (arith, r))
+    (λ (some : 0 < length v'.chunk.names). let r = room_some v'.chunk.names some in omega (arith, r, some))
+    (zero_or_more (length v'.chunk.names)) in
+    omega (arith, none, few, room)
+
+acknowledged_on : (a b : DeviceState) (v v' : LogMemory) (n number : ℕ) → Goes a b v v' n → b.keeps_model → (k : CheckpointValue) (m0 m : LogMap) → IsAcknowledged a v number k m0 m → IsAcknowledged b v' number k m0 m
+acknowledged_on a b v v' n number goes keeps k m0 m is = record { log = goes.log k m0 m keeps is.log; map = is.map; same = is.same }
+
+either_then : (a b c : DeviceState) (v v' : LogMemory) (n number : ℕ) → Goes a b v v' n → (c.keeps_model → b.keeps_model) → LeavesEither b c v' number → LeavesEither a c v number
+either_then a b c v v' n number goes back moment k m0 m keeps is =
+    let P : Content → Type 0 = λ x. StandsLog x m0 in
+    let Q : Content → Type 0 = StandsFor m0 (dropped m) in
+    joined a b c P Q Q (goes.quiet k m0 m (back keeps) is.log) (moment k m0 m keeps (acknowledged_on a b v v' n number goes (back keeps) k m0 m is)) (λ x h. inl h) (λ x h. h)
+
+pub out_stops : (d d' : DeviceState) (v : LogMemory) (number : ℕ) → Stops d d' v → CommitFails d d' v number
+out_stops d d' v number stops = record {
+  carries = stops.carries;
+  cause = stops.cause;
+  left = λ k m0 m keeps is c left. inl (settled_stands d' k m0 (stops.settled k m0 m keeps is.log) c left);
+  moment = λ k m0 m keeps is. weaker d d' (λ x. StandsLog x m0) (StandsFor m0 (dropped m)) (λ x h. inl h) (stops.quiet k m0 m keeps is.log);
+}
+
+pub publish_fails : (a b c : DeviceState) (v v' : LogMemory) (n number : ℕ) → Goes a b v v' n → PublishFails b c v' number → CommitFails a c v number
+publish_fails a b c v v' n number goes fails = record {
+  carries = carries_then a b c goes.carries fails.carries;
+  cause = λ k m0 m keeps is. (let worse = fails.failed in let same = goes.no_failure in omega (arith, worse, same));
+  left = λ k m0 m keeps is. fails.left k m0 m keeps (acknowledged_on a b v v' n number goes (fails.carries.kept_before keeps) k m0 m is);
+  moment = either_then a b c v v' n number goes fails.carries.kept_before fails.moment;
+}
+
+pub commits : (a b c : DeviceState) (v v' v'' : LogMemory) (n number : ℕ) → Goes a b v v' n → Publishes b c v' v'' number
+    → clean_in v.usage.segments ≤ clean_in v'.usage.segments + 8 → v''.chunk.names ≡ [] → v''.dirty.blocks ≡ [] → v''.dirty.capacity ≡ v.dirty.capacity → Commits a c v v'' number
+commits a b c v v' v'' n number goes done few chunk dirty capacity = record {
+  carries = carries_then a b c goes.carries done.carries;
+  memory = done.memory;
+  chunk = chunk;
+  dirty = dirty;
+  capacity = capacity;
+  segments = done.segments ∙ goes.segments;
+  clean = let more = done.clean in omega (arith, few, more);
+  no_failure = done.no_failure ∙ goes.no_failure;
+  log = λ k m0 m keeps is. done.log k m0 m keeps (acknowledged_on a b v v' n number goes (done.carries.kept_before keeps) k m0 m is);
+  moment = either_then a b c v v' n number goes done.carries.kept_before done.moment;
+}

@@ -1,0 +1,89 @@
+-- The summary of a chunk is written.
+use Rattle.std.proofs.Common.{◌≡◌, ◌<◌, ◌≤◌, ◌+◌, ◌*◌, ℕ, [], length, Some, None, refl, sym, ap, subst, arith}
+use Rattle.lfs_model.specs.Checkpoint.{CheckpointValue}
+use Rattle.lfs_model.specs.Crash.{IsFree}
+use Rattle.lfs_model.specs.Device.{DeviceState, MayWrite, CrashWrites, Carries, Elapses, IsLawful, put, left_new}
+use Rattle.lfs_model.specs.Entry.{entries_in}
+use Rattle.lfs_model.specs.Stands.{LogMap}
+use Rattle.lfs_model.specs.Summary.{summary_sector}
+use Rattle.lfs_model.specs.Settled.{IsSettled}
+use Rattle.lfs_model.proofs.Leaving.{closing}
+use Rattle.lfs_segments.specs.Chunk.{Chunk, entries_of}
+use Rattle.lfs_inodes.specs.Blocks.{blocks_of}
+use Rattle.lfs_log.specs.declared.memory.LogMemory.{LogMemory}
+use Rattle.lfs_log.specs.Memory.{IsMemory, IsMemoryUpTo, IsLog, Goes, Stops, Quiet, tables_of, segment_in, chunk_in, room_in}
+use Rattle.lfs_log.proofs.Opened.{closed_segment, closed_chunk, as_chunk, is_open, stays_settled, stays_quiet, taken_free}
+use Rattle.lfs_log.proofs.Rooms.{room_none}
+
+module _ (d d' : DeviceState) (v : LogMemory) (memory : IsMemoryUpTo 63 v) (some : 0 < length v.chunk.names) (lawful : IsLawful d)
+    (spelt : entries_in (summary_sector v.chunk.names) ≡ Some (entries_of v.chunk))
+    (crash : CrashWrites (2 + 64 * v.chunk.segment) (summary_sector v.chunk.names) d d') (carries : Carries d d') (time : Elapses d d') where
+  abbrev at : ℕ
+  at = 2 + 64 * v.chunk.segment
+
+  free : (k : CheckpointValue) (m0 m : LogMap) → IsLog d v k m0 m → IsFree d.content k at
+  free k m0 m is =
+      let w = is_open d v k m0 m is some in
+      let f = taken_free d (blocks_of v.dirty) (tables_of v) k m0 m v.chunk.segment (Some (entries_of v.chunk)) w v.chunk.segment 0 ((memory.opened some).taken) (omega arith) in
+      subst (λ (n : ℕ). IsFree d.content k n) (omega arith) f
+
+  module _ (may : d'.keeps_model → MayWrite at (summary_sector v.chunk.names) d.content d'.content) where
+    pub settled_sealed : (k : CheckpointValue) (m0 m : LogMap) → d'.keeps_model → IsLog d v k m0 m → IsSettled d' k m0
+    settled_sealed k m0 m keeps is = stays_settled d d' k m0 at (summary_sector v.chunk.names) is.running.settled (free k m0 m is) (may keeps) crash
+
+    pub quiet_sealed : Quiet d d' v
+    quiet_sealed k m0 m keeps is = stays_quiet d d' k m0 at (summary_sector v.chunk.names) is.running.settled (free k m0 m is) (may keeps) crash lawful carries time
+
+  pub seal_stops : (d'.keeps_model → MayWrite at (summary_sector v.chunk.names) d.content d'.content) → d.failures < d'.failures → Stops d d' v
+  seal_stops may failed = record {
+    carries = carries;
+    cause = λ k m0 m keeps is. failed;
+    settled = settled_sealed may;
+    quiet = quiet_sealed may;
+  }
+
+  module _ (c : Chunk) (ended : c.names ≡ []) (no_failure : d'.failures ≡ d.failures) (is_put : d'.keeps_model → d'.content ≡ put d.content at (summary_sector v.chunk.names)) where
+    abbrev v' : LogMemory
+    v' = record { map = v.map; usage = v.usage; dirty = v.dirty; chunk = c }
+
+    none : length c.names ≡ 0
+    none = ap length ended
+
+    log : (k : CheckpointValue) (m0 m : LogMap) → d'.keeps_model → IsLog d v k m0 m → IsLog d' v' k m0 m
+    log k m0 m keeps is =
+        let few : k.segments ≤ 1024 = let e = is.segments in let most = memory.count.most in omega (arith, e, most) in
+        let w = closing d d' (blocks_of v.dirty) (tables_of v) k m0 m v.chunk.segment (entries_of v.chunk) (summary_sector v.chunk.names) 1024
+        (is_open d v k m0 m is some) spelt (record { content = is_put keeps; crash = crash }) few in
+        record {
+          running = as_chunk d' (blocks_of v.dirty) (tables_of v) k m0 m 1024 (segment_in c) None (chunk_in c) (sym (closed_segment c none)) (sym (closed_chunk c none)) w;
+          hidden = is.hidden;
+          segments = is.segments;
+          tight = is.tight;
+        }
+
+    pub seal_goes : Goes d d' v v' (room_in v.chunk.names)
+    seal_goes = record {
+      carries = carries;
+      memory = record {
+        count = memory.count;
+        opened = λ begun. absurd (let z = none in omega (arith, z, begun));
+        short = let z = none in omega (arith, z);
+        usages = memory.usages;
+        few = memory.few;
+      };
+      segments = refl;
+      room = let z = room_none c.names none in omega (arith, z);
+      no_failure = no_failure;
+      log = log;
+      quiet = quiet_sealed (λ keeps. left_new (is_put keeps));
+    }
+
+-- a chunk that isn't full
+pub not_full : (v : LogMemory) → IsMemoryUpTo 63 v → (length v.chunk.names ≡ 63 → ⊥) → IsMemory v
+not_full v memory room = record {
+  count = memory.count;
+  opened = memory.opened;
+  short = let s = memory.short in let ne = room in omega (arith, s, ne);
+  usages = memory.usages;
+  few = memory.few;
+}

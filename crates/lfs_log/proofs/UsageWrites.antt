@@ -1,0 +1,141 @@
+-- A usage block is written where it stands: what that leaves of the log.
+use Rattle.std.proofs.Common.{◌≡◌, ◌<◌, ◌≤◌, ⊎_elim, ◌+◌, ◌-◌, ◌/◌, ◌%◌, true, false, ℕ, List, length, get_or, refl, sym, ◌∙◌, ap, subst, arith}
+use Rattle.std.proofs.lemmas.Bool.{cases_eq}
+use Rattle.lfs_model.specs.Entry.{Entry, Data, Leaf, Double, Inode, Map, Usage}
+use Rattle.lfs_model.specs.Checkpoint.{CheckpointValue, IsSegmentCount}
+use Rattle.lfs_model.specs.Crash.{IsFree}
+use Rattle.lfs_model.specs.Device.{DeviceState, IsLawful, MayWrite, CrashWrites, Carries, Elapses, put, left_new}
+use Rattle.lfs_model.specs.Stands.{LogMap}
+use Rattle.lfs_model.specs.Counting.{segment_of}
+use Rattle.lfs_model.specs.Running.{SpellsUsage, IsFresh}
+use Rattle.lfs_model.proofs.Leaving.{usage_filling}
+use Rattle.lfs_segments.specs.Table.{SegmentNumbers, UsageTable, no_segment, taken_of, address_of, stale_of, clean_in}
+use Rattle.lfs_segments.specs.Steps.{Puts, SpellsBlock}
+use Rattle.lfs_inodes.specs.Blocks.{blocks_of}
+use Rattle.lfs_inodes.specs.MapValue.{MapValue}
+use Rattle.lfs_log.specs.declared.memory.LogMemory.{LogMemory}
+use Rattle.lfs_log.specs.Memory.{table_at, tables_of, segment_in, chunk_in, IsMemory, IsLog, Goes, Stops}
+use Rattle.lfs_log.proofs.Opened.{stays_settled, stays_quiet, taken_free}
+use Rattle.lfs_log.specs.Settling.{IsAnew, AreAnew, IsFilled}
+
+-- a sector of a segment that was taken is free
+place_free : (d : DeviceState) (v : LogMemory) (k : CheckpointValue) (m0 m : LogMap) (at : ℕ) → IsLog d v k m0 m → 2 ≤ at → taken_of v.usage (segment_of at) ≡ true → IsFree d.content k at
+place_free d v k m0 m at log above on =
+    subst (λ (a : ℕ). IsFree d.content k a) (omega arith)
+    (taken_free d (blocks_of v.dirty) (tables_of v) k m0 m (segment_in v.chunk) (chunk_in v.chunk) log.running (segment_of at) ((at - 2) % 64) on (omega arith))
+
+pub table_same : (map : MapValue) (u u' : UsageTable) → ((i : ℕ) → address_of u' i ≡ address_of u i) → (y : Entry) → table_at map u' y ≡ table_at map u y
+table_same map u u' same (Data n i) = refl
+table_same map u u' same (Leaf n q) = refl
+table_same map u u' same (Double n) = refl
+table_same map u u' same (Inode n) = refl
+table_same map u u' same (Map i) = refl
+table_same map u u' same (Usage i) = same i
+
+module _ (v : LogMemory) (j : ℕ) (u : UsageTable) (good : IsMemory v) (is : IsAnew v.usage j) (puts : Puts v.usage u j (address_of v.usage j) false) where
+  abbrev after : LogMemory
+  after = record v { usage = u }
+
+  pub put_address : (i : ℕ) → address_of u i ≡ address_of v.usage i
+  put_address i = ⊎_elim
+      (λ (here : i ≡ j). ap (address_of u) here ∙ puts.address.own ∙ ap (address_of v.usage) (sym here))
+      (λ (ne : i ≡ j → ⊥). puts.address.others i ne)
+      (cases_eq i j)
+
+  same_numbers : {X : Type 0} (f : SegmentNumbers → X) (i : ℕ) → f (get_or u.segments i no_segment) ≡ f (get_or v.usage.segments i no_segment)
+  same_numbers f i = ap (λ (x : List SegmentNumbers). f (get_or x i no_segment)) puts.segments
+
+  fresh_now : IsFresh (tables_of v) (tables_of (record v { usage = u })) j
+  fresh_now = record {
+    at = table_same v.map v.usage u put_address;
+    used = same_numbers (λ n. n.used);
+    live = same_numbers (λ n. n.live);
+    held = same_numbers (λ n. n.held);
+    age = same_numbers (λ n. n.age);
+    taken = same_numbers (λ n. n.taken);
+    stale = puts.stale;
+  }
+
+  memory_now : IsMemory (record v { usage = u })
+  memory_now = record {
+    count = subst (λ (x : List SegmentNumbers). IsSegmentCount (length x)) (sym puts.segments) good.count;
+    opened = λ some.
+        let o = good.opened some in
+        record {
+          inside = subst (λ (x : List SegmentNumbers). v.chunk.segment < length x) (sym puts.segments) o.inside;
+          used = same_numbers (λ n. n.used) v.chunk.segment ∙ o.used;
+          taken = same_numbers (λ n. n.taken) v.chunk.segment ∙ o.taken;
+        };
+    short = good.short;
+    usages = λ i one. good.usages i (sym (put_address i) ∙ one);
+    few = good.few;
+  }
+
+  module _ (d d' : DeviceState) (bytes : List ℕ) (spells : SpellsBlock v.usage j bytes) (lawful : IsLawful d)
+      (written : d'.keeps_model → d'.content ≡ put d.content (address_of v.usage j) bytes) (crash : CrashWrites (address_of v.usage j) bytes d d') (same : d'.failures ≡ d.failures)
+      (carries : Carries d d') (time : Elapses d d') where
+    spells_now : SpellsUsage (tables_of v) j bytes
+    spells_now = record { long = spells.long; used = spells.used; live = spells.live; age = spells.age }
+
+    log_now : (k : CheckpointValue) (m0 m : LogMap) → d'.keeps_model → IsLog d v k m0 m → IsLog d' (record v { usage = u }) k m0 m
+    log_now k m0 m keeps log = record {
+      running = usage_filling d d' (blocks_of v.dirty) (tables_of v) (tables_of (record v { usage = u })) k m0 m (segment_in v.chunk) (chunk_in v.chunk) j bytes log.running is.0 is.1 spells_now
+          (record { content = written keeps; crash = crash }) fresh_now;
+      hidden = log.hidden;
+      segments = ap length puts.segments ∙ log.segments;
+      tight = log.tight;
+    }
+
+    pub fill_goes : Goes d d' v (record v { usage = u }) 0
+    fill_goes = record {
+      carries = carries;
+      memory = memory_now;
+      segments = ap length puts.segments;
+      room = let e = ap clean_in puts.segments in omega arith;
+      no_failure = same;
+      log = log_now;
+      quiet = λ k m0 m keeps log. stays_quiet d d' k m0 (address_of v.usage j) bytes log.running.settled (place_free d v k m0 m (address_of v.usage j) log is.0 is.1) (left_new (written keeps)) crash lawful carries time;
+    }
+
+pub write_stops : (d d' : DeviceState) (v : LogMemory) (at : ℕ) (bytes : List ℕ) → IsLawful d → 2 ≤ at → taken_of v.usage (segment_of at) ≡ true
+    → (d'.keeps_model → MayWrite at bytes d.content d'.content) → CrashWrites at bytes d d' → d.failures < d'.failures → Carries d d' → Elapses d d' → Stops d d' v
+write_stops d d' v at bytes lawful above on may crash failed carries time = record {
+  carries = carries;
+  cause = λ k m0 m keeps log. failed;
+  settled = λ k m0 m keeps log. stays_settled d d' k m0 at bytes log.running.settled (place_free d v k m0 m at log above on) (may keeps) crash;
+  quiet = λ k m0 m keeps log. stays_quiet d d' k m0 at bytes log.running.settled (place_free d v k m0 m at log above on) (may keeps) crash lawful carries time;
+}
+
+-- the same with the address by another name
+pub fill_goes_at : (v : LogMemory) (j at : ℕ) (u : UsageTable) → IsMemory v → IsAnew v.usage j → address_of v.usage j ≡ at → Puts v.usage u j at false
+    → (d d' : DeviceState) (bytes : List ℕ) → SpellsBlock v.usage j bytes → IsLawful d
+    → (d'.keeps_model → d'.content ≡ put d.content at bytes) → CrashWrites at bytes d d' → d'.failures ≡ d.failures → Carries d d' → Elapses d d' → Goes d d' v (record v { usage = u }) 0
+fill_goes_at v j at u good is e =
+    subst
+    (λ (at : ℕ). Puts v.usage u j at false → (d d' : DeviceState) (bytes : List ℕ) → SpellsBlock v.usage j bytes → IsLawful d → (d'.keeps_model → d'.content ≡ put d.content at bytes)
+    → CrashWrites at bytes d d' → d'.failures ≡ d.failures → Carries d d' → Elapses d d' → Goes d d' v (record v { usage = u }) 0)
+    e
+    (λ puts d d' bytes spells lawful written crash same carries time. fill_goes v j u good is puts d d' bytes spells lawful written crash same carries time)
+
+pub write_stops_at : (d d' : DeviceState) (v : LogMemory) (j at : ℕ) (bytes : List ℕ) → IsLawful d → IsAnew v.usage j → address_of v.usage j ≡ at
+    → (d'.keeps_model → MayWrite at bytes d.content d'.content) → CrashWrites at bytes d d' → d.failures < d'.failures → Carries d d' → Elapses d d' → Stops d d' v
+write_stops_at d d' v j at bytes lawful is e may crash failed carries time =
+    write_stops d d' v at bytes lawful (subst (λ (a : ℕ). 2 ≤ a) e is.0) (subst (λ (a : ℕ). taken_of v.usage (segment_of a) ≡ true) e is.1) may crash failed carries time
+
+-- block j isn't stale any more
+module _ (old new : UsageTable) (j : ℕ) (is : IsFilled old new j) where
+  pub filled_fresh : ((i : ℕ) → i < j → stale_of old i ≡ false) → (i : ℕ) → i < j + 1 → stale_of new i ≡ false
+  filled_fresh fresh i lt = ⊎_elim
+      (λ (here : i ≡ j). ap (stale_of new) here ∙ is.stale.own)
+      (λ (ne : i ≡ j → ⊥). is.stale.others i ne ∙ fresh i (omega arith))
+      (cases_eq i j)
+
+  pub filled_anew : AreAnew old → AreAnew new
+  filled_anew anew i low stale = ⊎_elim
+      (λ (here : i ≡ j). let bad : false ≡ true = sym is.stale.own ∙ ap (stale_of new) (sym here) ∙ stale in absurd (cc))
+      (λ (ne : i ≡ j → ⊥).
+      let was = anew i (subst (λ (x : List SegmentNumbers). i < (length x + 63) / 64) is.segments low) (sym (is.stale.others i ne) ∙ stale) in
+      let e = is.address i in
+      let le = was.0 in
+      (omega arith, ap (λ (x : List SegmentNumbers). (get_or x (segment_of (address_of new i)) no_segment).taken) is.segments ∙ ap (λ (a : ℕ). taken_of old (segment_of a)) e ∙ was.1))
+      (cases_eq i j)

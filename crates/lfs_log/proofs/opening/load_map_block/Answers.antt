@@ -1,0 +1,33 @@
+use Rattle.std.proofs.Common.{◌≡◌, ◌<◌, ◌≤◌, ◌+◌, ◌*◌, ◌∙◌, ℕ, length, subst, ap}
+use Rattle.lfs_model.specs.Content.{block}
+use Rattle.lfs_inodes.specs.MapValue.{MapValue}
+use Rattle.lfs_log.specs.Opening.{IsFault}
+use Rattle.lfs_log.proofs.opening.load_map_block.Goals as goal
+use Rattle.lfs_log.proofs.Going.{on_err}
+use Rattle.lfs_log.proofs.MapLoads.{says_skipped, map_more, says_map_more, map_fault}
+
+pub returns-in_err-read_table-clause-cause : goal.returns-in_err-read_table-clause-cause
+returns-in_err-read_table-clause-cause g c =
+    on_err c.from_residual.result
+    (IsFault (g.D.SectorDevice.state c.args.device.now) (g.D.SectorDevice.state c.read_table.new.device) c.args.checkpoint.now)
+    (map_fault (g.D.SectorDevice.state c.args.device.now) (g.D.SectorDevice.state c.read_table.new.device) c.args.checkpoint.now c.args.index
+    c.map_address-address.result (g.met.D.SectorDevice.lawful c.args.device.now).now c.map_address-address.ensures c.if-address-eq0.false
+    (subst (λ (n : ℕ). (g.D.SectorDevice.state c.read_table.new.device).keeps_model → 2 ≤ c.map_address-address.result → c.map_address-address.result < 2 + 64 * n
+    → length (block (g.D.SectorDevice.state c.args.device.now).content c.map_address-address.result) ≡ 512
+    → (g.D.SectorDevice.state c.args.device.now).failures < (g.D.SectorDevice.state c.read_table.new.device).failures) c.segments_of-segments.ensures c.in_err-read_table.ensures.cause))
+
+pub returns-clause-after : goal.returns-clause-after
+returns-clause-after g c =
+    map_more c.args.index c.map_address-address.result c.args.map.now c.load.new.self c.set_block_address.new.self c.new.result c.requires.before c.load.ensures c.set_block_address.ensures.changed
+    (ap (λ (a : MapValue). a.addresses) c.set_block_address.ensures.set) (ap (λ (a : MapValue). a.hidden) c.set_block_address.ensures.set)
+
+pub returns-clause-says : goal.returns-clause-says
+returns-clause-says g c keeps says =
+    says_map_more c.args.index c.map_address-address.result c.args.map.now c.load.new.self c.set_block_address.new.self c.new.result c.requires.before c.load.ensures c.set_block_address.ensures.changed
+    (ap (λ (a : MapValue). a.addresses) c.set_block_address.ensures.set) (ap (λ (a : MapValue). a.hidden) c.set_block_address.ensures.set)
+    (g.D.SectorDevice.state c.args.device.now).content c.args.checkpoint.now c.read_table.new.out (c.in_ok-read_table.ensures.block keeps) c.map_address-address.ensures c.new.ensures.fits c.new.ensures.spelled says
+
+-- src/opening.rt:189:9
+pub returns-then-address-eq0-clause-says : goal.returns-then-address-eq0-clause-says
+returns-then-address-eq0-clause-says g c keeps says =
+    says_skipped c.args.index c.args.map.now c.requires.before (g.D.SectorDevice.state c.args.device.now).content c.args.checkpoint.now (c.map_address-address.ensures ∙ c.if-address-eq0.true) says

@@ -1,0 +1,34 @@
+use Rattle.std.proofs.Common.{◌≡◌, ◌<◌, ◌≤◌, ◌+◌, ◌*◌, ◌-◌, ◌∙◌, sym, ℕ, length, subst, ap}
+use Rattle.lfs_model.specs.Content.{block}
+use Rattle.lfs_log.specs.Opening.{IsFault}
+use Rattle.lfs_log.proofs.opening.load_usage_block.Goals as goal
+use Rattle.lfs_log.proofs.Going.{on_err}
+use Rattle.lfs_log.proofs.UsageLoads.{usage_fault, usage_undecoded, says_more}
+
+-- src/opening.rt:112:5
+pub returns-in_err-read_table-clause-cause : goal.returns-in_err-read_table-clause-cause
+returns-in_err-read_table-clause-cause g c =
+    on_err c.from_residual.result
+    (IsFault (g.D.SectorDevice.state c.args.device.now) (g.D.SectorDevice.state c.read_table.new.device) c.args.checkpoint.now)
+    (usage_fault (g.D.SectorDevice.state c.args.device.now) (g.D.SectorDevice.state c.read_table.new.device) c.args.checkpoint.now c.args.index
+    c.usage_address-address.result c.requires.index c.usage_address-address.ensures
+    (subst (λ (n : ℕ). (g.D.SectorDevice.state c.read_table.new.device).keeps_model → 2 ≤ c.usage_address-address.result → c.usage_address-address.result < 2 + 64 * n
+    → length (block (g.D.SectorDevice.state c.args.device.now).content c.usage_address-address.result) ≡ 512
+    → (g.D.SectorDevice.state c.args.device.now).failures < (g.D.SectorDevice.state c.read_table.new.device).failures) c.segments_of-segments.ensures c.in_err-read_table.ensures.cause))
+
+-- src/opening.rt:115:9
+pub returns-in_default-clause-cause : goal.returns-in_default-clause-cause
+returns-in_default-clause-cause g c =
+    usage_undecoded (g.D.SectorDevice.state c.args.device.now) (g.D.SectorDevice.state c.read_table.new.device) c.args.checkpoint.now c.args.index
+    c.usage_address-address.result c.read_table.new.out c.requires.index c.usage_address-address.ensures c.in_ok-read_table.ensures.block
+    (g.met.D.SectorDevice.lawful c.args.device.now).now c.read_table.array_long (c.segments_of-segments.result - 64 * c.args.index)
+    (ap (λ (n : ℕ). n - 64 * c.args.index) c.segments_of-segments.ensures) (sym c.decode.ensures.exact ∙ c.in_default.is)
+
+-- src/opening.rt:92:1
+pub returns-clause-says : goal.returns-clause-says
+returns-clause-says g c keeps says =
+    says_more c.args.usage.now c.take_entries.new.usage c.set_block.new.self c.in-Some.block c.args.index c.args.checkpoint.now.segments c.usage_address-address.result c.has_dead_age.result
+    c.requires.before c.take_entries.ensures c.set_block.ensures (g.D.SectorDevice.state c.args.device.now).content c.args.checkpoint.now says c.read_table.new.out
+    (c.segments_of-segments.result - 64 * c.args.index)
+    (c.in_ok-read_table.ensures.block keeps) c.usage_address-address.ensures (g.met.D.SectorDevice.lawful c.args.device.now).now c.read_table.array_long
+    (sym c.decode.ensures.exact ∙ c.in-Some.is) c.has_dead_age.ensures

@@ -1,0 +1,29 @@
+use Rattle.std.proofs.Common.{◌≡◌, ◌∙◌, ap, sym, subst, ℕ}
+use Rattle.lfs_inodes.specs.Blocks.{TableValue}
+use Rattle.lfs_segments.specs.Chunk.{Chunk}
+use Rattle.lfs_log.specs.declared.load.MountFault.TheVariants as fault
+use Rattle.lfs_log.specs.Opening.{IsOpenFault, Opens}
+use Rattle.lfs_log.proofs.opening.open_memory.Goals as goal
+use Rattle.lfs_log.proofs.Opens.{opens, open_fault, if_err}
+
+-- src/opening.rt:318:5
+pub returns-in_err-load_tables-clause-cause : goal.returns-in_err-load_tables-clause-cause
+returns-in_err-load_tables-clause-cause g c =
+    if_err c.from_residual-in_err-load_tables.result
+    (λ e. (e ≡ fault.NoMemory → ⊥) → IsOpenFault (g.D.SectorDevice.state c.args.device.now) (g.D.SectorDevice.state c.load_tables.new.device))
+    (λ e ne. open_fault (g.D.SectorDevice.state c.args.device.now) (g.D.SectorDevice.state c.find_checkpoint.new.device) (g.D.SectorDevice.state c.load_tables.new.device) c.in_ok-checkpoint.checkpoint
+    (g.met.D.SectorDevice.lawful c.args.device.now) c.in_ok-checkpoint.ensures.found c.find_checkpoint.ensures.untouched c.find_checkpoint.ensures.carries
+    c.in_err-load_tables.ensures.looks c.in_err-load_tables.ensures.cause)
+
+-- src/opening.rt:300:1
+pub returns-clause-log : goal.returns-clause-log
+returns-clause-log g c =
+    let new = c.load_tables.new.memory in
+    let dirty = c.load_tables.ensures.dirty in
+    let chunk = c.load_tables.ensures.chunk in
+    subst (λ (n : ℕ). Opens (g.D.SectorDevice.state c.args.device.now) (g.D.SectorDevice.state c.load_tables.new.device) new n) (sym c.number_of.ensures)
+    (opens (g.D.SectorDevice.state c.args.device.now) (g.D.SectorDevice.state c.find_checkpoint.new.device) (g.D.SectorDevice.state c.load_tables.new.device)
+    c.in_ok-checkpoint.checkpoint c.in_ok-checkpoint.ensures.fits (g.met.D.SectorDevice.lawful c.load_tables.new.device) (g.met.D.SectorDevice.lawful c.args.device.now)
+    c.in_ok-checkpoint.ensures.found c.in_ok-checkpoint.ensures.durable c.find_checkpoint.ensures.untouched c.in_ok-load_tables.ensures.looks new
+    (ap (λ (x : Chunk). x.names) chunk ∙ c.in-Ok.ensures.chunk) (ap (λ (t : TableValue). t.blocks) dirty ∙ c.in-Ok.ensures.dirty)
+    c.in_ok-load_tables.ensures.usage c.in_ok-load_tables.ensures.says c.in_ok-load_tables.ensures.map c.in_ok-load_tables.ensures.tells)

@@ -1,0 +1,172 @@
+-- What contracts see of a log: its device, what memory holds, the number of the acknowledged checkpoint, and whether a commit failed.
+use Rattle.std.specs.Prelude.{◌≡◌, ◌⊎◌, ◌<◌, ◌≤◌, ◌+◌, ◌-◌, ◌*◌, ◌^◌, ℕ, zero, suc, Bool, true, false, List, [], length, refl, Option}
+use Rattle.std.specs.Coded.{Coded, code_by, coded×, coded_ℕ, coded_bool, coded_list}
+use Rattle.lfs_model.specs.declared.BlockKind.{BlockKind}
+use Rattle.lfs_model.specs.declared.BlockKind.TheVariants as kind
+use Rattle.lfs_model.specs.Checkpoint.{CheckpointValue}
+use Rattle.lfs_model.specs.Content.{Content}
+use Rattle.lfs_model.specs.Crash.{StandsFor}
+use Rattle.lfs_model.specs.Device.{DeviceState, Carries, LeavesOnly, AllLeft}
+use Rattle.lfs_model.specs.Encodes.{IsLogMap}
+use Rattle.lfs_log.specs.declared.changes.Header.{Header}
+use Rattle.lfs_model.specs.TreeOf.{dropped}
+use Rattle.lfs_model.specs.Stands.{LogMap, StandsLog}
+use Rattle.lfs_model.specs.Summary.{BlockNameValue}
+use Rattle.lfs_segments.specs.Table.{SegmentNumbers, BlockPlace, UsageTable, clean_in}
+use Rattle.lfs_segments.specs.Chunk.{Chunk}
+use Rattle.lfs_inodes.specs.Blocks.{TableValue}
+use Rattle.lfs_inodes.specs.MapValue.{MapValue}
+use Rattle.lfs_log.specs.declared.memory.LogMemory.{LogMemory}
+use Rattle.lfs_log.specs.Memory.{IsMemory, HasRoom, IsLog}
+use Rattle.lfs_log.specs.Present.{Looks, HeaderAnswer, BlockAnswer}
+
+pub record Held (D : Type 0) : Type 0 where
+  pub device : D
+  pub memory : LogMemory
+  pub number : ℕ
+  pub halted : Bool
+
+-- ---- these records by numbers and lists
+abbrev pub segment_code : Coded SegmentNumbers
+segment_code =
+    code_by (ℕ × (ℕ × (ℕ × (ℕ × Bool)))) (coded× coded_ℕ (coded× coded_ℕ (coded× coded_ℕ (coded× coded_ℕ coded_bool))))
+    (λ n. (n.used, (n.live, (n.held, (n.age, n.taken)))))
+    (λ p. record { used = p.0; live = p.1.0; held = p.1.1.0; age = p.1.1.1.0; taken = p.1.1.1.1 })
+    (λ _. refl)
+
+abbrev pub place_code : Coded BlockPlace
+place_code = code_by (ℕ × Bool) (coded× coded_ℕ coded_bool) (λ p. (p.address, p.stale)) (λ p. record { address = p.0; stale = p.1 }) (λ _. refl)
+
+abbrev pub usage_code : Coded UsageTable
+usage_code =
+    code_by (List SegmentNumbers × List BlockPlace) (coded× (coded_list segment_code) (coded_list place_code))
+    (λ t. (t.segments, t.blocks)) (λ p. record { segments = p.0; blocks = p.1 }) (λ _. refl)
+
+abbrev pub map_code : Coded MapValue
+map_code =
+    code_by (List ℕ × (List Bool × List ℕ)) (coded× (coded_list coded_ℕ) (coded× (coded_list coded_bool) (coded_list coded_ℕ)))
+    (λ m. (m.addresses, (m.hidden, m.blocks))) (λ p. record { addresses = p.0; hidden = p.1.0; blocks = p.1.1 }) (λ _. refl)
+
+abbrev pub table_code : Coded TableValue
+table_code =
+    code_by (List (ℕ × List ℕ) × ℕ) (coded× (coded_list (coded× coded_ℕ (coded_list coded_ℕ))) coded_ℕ)
+    (λ t. (t.blocks, t.capacity)) (λ p. record { blocks = p.0; capacity = p.1 }) (λ _. refl)
+
+abbrev pub kind_number : BlockKind → ℕ
+kind_number kind.Data = 0
+kind_number kind.Leaf = 1
+kind_number kind.Double = 2
+kind_number kind.Inode = 3
+kind_number kind.Map = 4
+kind_number kind.Usage = 5
+
+abbrev pub kind_from : ℕ → BlockKind
+kind_from zero = kind.Data
+kind_from (suc zero) = kind.Leaf
+kind_from (suc (suc zero)) = kind.Double
+kind_from (suc (suc (suc zero))) = kind.Inode
+kind_from (suc (suc (suc (suc zero)))) = kind.Map
+kind_from (suc (suc (suc (suc (suc n))))) = kind.Usage
+
+pub kind_back : (k : BlockKind) → kind_from (kind_number k) ≡ k
+kind_back kind.Data = refl
+kind_back kind.Leaf = refl
+kind_back kind.Double = refl
+kind_back kind.Inode = refl
+kind_back kind.Map = refl
+kind_back kind.Usage = refl
+
+abbrev pub kind_code : Coded BlockKind
+kind_code = code_by ℕ coded_ℕ kind_number kind_from kind_back
+
+abbrev pub name_code : Coded BlockNameValue
+name_code =
+    code_by (ℕ × (BlockKind × ℕ)) (coded× coded_ℕ (coded× kind_code coded_ℕ))
+    (λ n. (n.file, (n.kind, n.index))) (λ p. record { file = p.0; kind = p.1.0; index = p.1.1 }) (λ _. refl)
+
+abbrev pub chunk_code : Coded Chunk
+chunk_code = code_by (ℕ × List BlockNameValue) (coded× coded_ℕ (coded_list name_code)) (λ c. (c.segment, c.names)) (λ p. record { segment = p.0; names = p.1 }) (λ _. refl)
+
+abbrev pub memory_code : Coded LogMemory
+memory_code =
+    code_by (MapValue × (UsageTable × (TableValue × Chunk))) (coded× map_code (coded× usage_code (coded× table_code chunk_code)))
+    (λ v. (v.map, (v.usage, (v.dirty, v.chunk)))) (λ p. record { map = p.0; usage = p.1.0; dirty = p.1.1.0; chunk = p.1.1.1 }) (λ _. refl)
+
+abbrev pub held_code : {D : Type 0} → Coded D → Coded (Held D)
+held_code {D} device =
+    code_by (D × (LogMemory × (ℕ × Bool))) (coded× device (coded× memory_code (coded× coded_ℕ coded_bool)))
+    (λ h. (h.device, (h.memory, (h.number, h.halted))))
+    (λ p. record { device = p.0; memory = p.1.0; number = p.1.1.0; halted = p.1.1.1 })
+    (λ _. refl)
+
+-- What a log keeps true over any device, until a commit failed.
+pub record IsRunning (d : DeviceState) (v : LogMemory) : Type 0 where
+  pub memory : IsMemory v
+  pub room : HasRoom d v
+  pub closed : v.chunk.names ≡ []
+  pub few : length v.dirty.blocks ≤ 456
+
+abbrev pub IsHeld : DeviceState → LogMemory → Bool → Type 0
+IsHeld d v halted = halted ≡ false → IsRunning d v
+
+module _ {D : Type 0} (state : D → DeviceState) where
+  -- The log holds log map m, and the acknowledged checkpoint k, whose number it knows, stands for m0.
+  pub record Holds (h : Held D) (k : CheckpointValue) (m0 m : LogMap) : Type 0 where
+    pub log : IsLog (state h.device) h.memory k m0 m
+    pub number : k.number ≡ h.number
+    pub running : h.halted ≡ false
+
+  -- a mount gives the log map that the device stands for, all of it durable
+  abbrev pub Mounts : D → Held D → Type 0
+  Mounts d h = (m : LogMap) → (state h.device).keeps_model → (is : StandsLog (state d).content m) → Holds h is.checkpoint m m
+
+  -- the acknowledged map, or the present one without its files of no links
+  abbrev pub IsSaved : LogMap → LogMap → Content → Type 0
+  IsSaved m0 m c = StandsFor m0 (dropped m) c
+
+  -- a stop at any moment leaves one of these
+  abbrev pub LeavesSaved : Held D → Held D → Type 0
+  LeavesSaved h h' = (k : CheckpointValue) (m0 m : LogMap) → (state h'.device).keeps_model → Holds h k m0 m → IsLogMap (dropped m) → LeavesOnly (state h.device) (state h'.device) (IsSaved m0 m)
+
+  -- A commit: the present map, without its files of no links, is what is acknowledged.
+  pub record Saves (h h' : Held D) : Type 0 where
+    pub carries : Carries (state h.device) (state h'.device)
+    pub running : h'.halted ≡ false
+    pub number : h'.number ≡ h.number + 1
+    pub segments : length h'.memory.usage.segments ≡ length h.memory.usage.segments
+    pub clean : clean_in h.memory.usage.segments ≤ clean_in h'.memory.usage.segments + 8
+    pub empty : h'.memory.dirty.blocks ≡ []
+    pub no_failure : (state h'.device).failures ≡ (state h.device).failures
+    pub holds : (k : CheckpointValue) (m0 m : LogMap) → (state h'.device).keeps_model → Holds h k m0 m → IsLogMap (dropped m) → (next : CheckpointValue) × Holds h' next (dropped m) m
+    pub left : (k : CheckpointValue) (m0 m : LogMap) → (state h'.device).keeps_model → Holds h k m0 m → IsLogMap (dropped m) → AllLeft (state h'.device) (λ c. StandsLog c (dropped m))
+    pub moment : LeavesSaved h h'
+
+  -- One that a failure of the device ended.
+  pub record Halts (h h' : Held D) : Type 0 where
+    pub carries : Carries (state h.device) (state h'.device)
+    pub halted : h'.halted ≡ true
+    pub cause : (k : CheckpointValue) (m0 m : LogMap) → (state h'.device).keeps_model → Holds h k m0 m → (state h.device).failures < (state h'.device).failures
+    pub left : (k : CheckpointValue) (m0 m : LogMap) → (state h'.device).keeps_model → Holds h k m0 m → IsLogMap (dropped m) → AllLeft (state h'.device) (IsSaved m0 m)
+    pub moment : LeavesSaved h h'
+
+  -- A call that only reads: memory is as it was.
+  pub record Reads (h h' : Held D) : Type 0 where
+    pub looks : Looks (state h.device) (state h'.device)
+    pub memory : h'.memory ≡ h.memory
+    pub number : h'.number ≡ h.number
+    pub halted : h'.halted ≡ h.halted
+
+  -- a call of the device failed, where the log holds a map
+  abbrev pub IsReadFault : Held D → Held D → Type 0
+  IsReadFault h h' = (k : CheckpointValue) (m0 m : LogMap) → (state h'.device).keeps_model → Holds h k m0 m → (state h.device).failures < (state h'.device).failures
+
+  -- what is read is the log map's
+  abbrev pub ReadsHeader : Held D → Held D → ℕ → Option Header → Type 0
+  ReadsHeader h h' n found = (k : CheckpointValue) (m0 m : LogMap) → (state h'.device).keeps_model → Holds h k m0 m → HeaderAnswer m n found
+
+  abbrev pub ReadsBlock : Held D → Held D → ℕ → ℕ → List ℕ → Bool → Type 0
+  ReadsBlock h h' n i out stored = (k : CheckpointValue) (m0 m : LogMap) → (state h'.device).keeps_model → Holds h k m0 m → BlockAnswer m n i out stored
+
+-- so few segments are clean that a commit might leave too few, or no number is left for its checkpoint
+abbrev pub IsFull : {D : Type 0} → Held D → Type 0
+IsFull h = (8 * clean_in h.memory.usage.segments < length h.memory.usage.segments + 64) ⊎ (2 ^ 64 - 1 ≤ h.number)

@@ -1,0 +1,56 @@
+-- What the end of a commit does: the checkpoint that leads to all that is out.
+use Rattle.std.specs.Prelude.{◌≡◌, ◌<◌, ◌≤◌, ◌+◌, ◌*◌, ℕ, false, [], length, get_or}
+use Rattle.lfs_model.specs.Checkpoint.{CheckpointValue, FitsCheckpoint}
+use Rattle.lfs_model.specs.Crash.{StandsFor}
+use Rattle.lfs_model.specs.Device.{DeviceState, Carries, LeavesOnly, AllLeft}
+use Rattle.lfs_model.specs.Encodes.{IsLogMap}
+use Rattle.lfs_model.specs.Stands.{LogMap}
+use Rattle.lfs_model.specs.TreeOf.{dropped}
+use Rattle.lfs_segments.specs.Table.{address_of, stale_of, clean_in}
+use Rattle.lfs_inodes.specs.MapValue.{block_in}
+use Rattle.lfs_log.specs.declared.memory.LogMemory.{LogMemory}
+use Rattle.lfs_log.specs.Memory.{IsMemory, IsLog}
+use Rattle.lfs_log.specs.Settling.{blocks_in}
+
+-- all blocks are out, and many segments are clean
+pub record IsAllOut (v : LogMemory) : Type 0 where
+  pub chunk : v.chunk.names ≡ []
+  pub dirty : v.dirty.blocks ≡ []
+  pub maps : (j : ℕ) → block_in v.map j ≡ 1 → ⊥
+  pub fresh : (j : ℕ) → j < blocks_in v.usage → stale_of v.usage j ≡ false
+  pub many : length v.usage.segments ≤ 8 * clean_in v.usage.segments
+
+-- the checkpoint after this number
+pub record IsNext (v : LogMemory) (old : ℕ) (next : CheckpointValue) : Type 0 where
+  pub fits : FitsCheckpoint next
+  pub number : next.number ≡ old + 1
+  pub segments : next.segments ≡ length v.usage.segments
+  pub map : (j : ℕ) → j < 32 → get_or next.map j 0 ≡ block_in v.map j
+  pub usage : (j : ℕ) → j < 16 → get_or next.usage j 0 ≡ address_of v.usage j
+
+-- memory and device hold log map m, and the acknowledged checkpoint, of this number, stands for m0
+pub record IsAcknowledged (d : DeviceState) (v : LogMemory) (number : ℕ) (k : CheckpointValue) (m0 m : LogMap) : Type 0 where
+  pub log : IsLog d v k m0 m
+  pub map : IsLogMap (dropped m)
+  pub same : k.number ≡ number
+
+-- a stop at any moment leaves what was acknowledged, or all that is out
+abbrev pub LeavesEither : DeviceState → DeviceState → LogMemory → ℕ → Type 0
+LeavesEither d d' v number = (k : CheckpointValue) (m0 m : LogMap) → d'.keeps_model → IsAcknowledged d v number k m0 m → LeavesOnly d d' (StandsFor m0 (dropped m))
+
+-- The next checkpoint is acknowledged.
+pub record Publishes (d d' : DeviceState) (v v' : LogMemory) (number : ℕ) : Type 0 where
+  pub carries : Carries d d'
+  pub memory : IsMemory v'
+  pub segments : length v'.usage.segments ≡ length v.usage.segments
+  pub clean : clean_in v.usage.segments ≤ clean_in v'.usage.segments
+  pub no_failure : d'.failures ≡ d.failures
+  pub log : (k : CheckpointValue) (m0 m : LogMap) → d'.keeps_model → IsAcknowledged d v number k m0 m → (next : CheckpointValue) × (next.number ≡ number + 1) × IsLog d' v' next (dropped m) m
+  pub moment : LeavesEither d d' v number
+
+-- A failure of the device ended it: a stop from now on leaves the one or the other.
+pub record PublishFails (d d' : DeviceState) (v : LogMemory) (number : ℕ) : Type 0 where
+  pub carries : Carries d d'
+  pub failed : d.failures < d'.failures
+  pub left : (k : CheckpointValue) (m0 m : LogMap) → d'.keeps_model → IsAcknowledged d v number k m0 m → AllLeft d' (StandsFor m0 (dropped m))
+  pub moment : LeavesEither d d' v number

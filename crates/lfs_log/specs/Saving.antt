@@ -1,0 +1,31 @@
+-- What a commit does.
+use Rattle.std.specs.Prelude.{◌≡◌, ◌<◌, ◌≤◌, ◌+◌, ℕ, [], length}
+use Rattle.lfs_model.specs.Checkpoint.{CheckpointValue}
+use Rattle.lfs_model.specs.Crash.{StandsFor}
+use Rattle.lfs_model.specs.Device.{DeviceState, Carries, AllLeft}
+use Rattle.lfs_model.specs.Stands.{LogMap}
+use Rattle.lfs_model.specs.TreeOf.{dropped}
+use Rattle.lfs_segments.specs.Table.{clean_in}
+use Rattle.lfs_log.specs.declared.memory.LogMemory.{LogMemory}
+use Rattle.lfs_log.specs.Memory.{IsMemory, IsLog}
+use Rattle.lfs_log.specs.Publishing.{IsAcknowledged, LeavesEither}
+
+-- All that memory holds is saved, but for files without a name; at most eight segments were taken for it.
+pub record Commits (d d' : DeviceState) (v v' : LogMemory) (number : ℕ) : Type 0 where
+  pub carries : Carries d d'
+  pub memory : IsMemory v'
+  pub chunk : v'.chunk.names ≡ []
+  pub dirty : v'.dirty.blocks ≡ []
+  pub capacity : v'.dirty.capacity ≡ v.dirty.capacity
+  pub segments : length v'.usage.segments ≡ length v.usage.segments
+  pub clean : clean_in v.usage.segments ≤ clean_in v'.usage.segments + 8
+  pub no_failure : d'.failures ≡ d.failures
+  pub log : (k : CheckpointValue) (m0 m : LogMap) → d'.keeps_model → IsAcknowledged d v number k m0 m → (next : CheckpointValue) × (next.number ≡ number + 1) × IsLog d' v' next (dropped m) m
+  pub moment : LeavesEither d d' v number
+
+-- A failure of the device ended it: a stop from now on leaves what was acknowledged, or what was to be saved.
+pub record CommitFails (d d' : DeviceState) (v : LogMemory) (number : ℕ) : Type 0 where
+  pub carries : Carries d d'
+  pub cause : (k : CheckpointValue) (m0 m : LogMap) → d'.keeps_model → IsLog d v k m0 m → d.failures < d'.failures
+  pub left : (k : CheckpointValue) (m0 m : LogMap) → d'.keeps_model → IsAcknowledged d v number k m0 m → AllLeft d' (StandsFor m0 (dropped m))
+  pub moment : LeavesEither d d' v number

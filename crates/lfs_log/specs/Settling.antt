@@ -1,0 +1,60 @@
+-- What the steps do by which the usage blocks that changed get new places.
+use Rattle.std.specs.Prelude.{◌≡◌, ◌<◌, ◌≤◌, ◌+◌, ◌/◌, ℕ, true, false, length}
+use Rattle.lfs_model.specs.declared.BlockKind.TheVariants as kind
+use Rattle.lfs_model.specs.Counting.{segment_of}
+use Rattle.lfs_model.specs.Summary.{BlockNameValue}
+use Rattle.lfs_model.specs.Running.{IsSet}
+use Rattle.lfs_segments.specs.Table.{UsageTable, live_of, taken_of, address_of, stale_of}
+use Rattle.lfs_segments.specs.Steps.{Lifts, Puts}
+use Rattle.lfs_log.specs.declared.memory.LogMemory.{LogMemory}
+use Rattle.lfs_log.specs.Memory.{Places}
+
+-- usage block j lives on the device
+pub record IsThere (t : UsageTable) (j : ℕ) : Type 0 where
+  pub above : 2 ≤ address_of t j
+  pub inside : segment_of (address_of t j) < length t.segments
+  pub live : 0 < live_of t (segment_of (address_of t j))
+
+-- it lives no more at its address
+pub record Leaves (old new : UsageTable) (j : ℕ) : Type 0 where
+  pub above : 2 ≤ address_of old j
+  pub lifts : Lifts old new (segment_of (address_of old j)) true
+
+abbrev pub usage_name : ℕ → BlockNameValue
+usage_name j = record { file = 0; kind = kind.Usage; index = j }
+
+-- Usage block j leaves its address, and gets the next place.
+pub record Resettles (v v' : LogMemory) (j number : ℕ) : Type 0 where
+  pub lifted : UsageTable
+  pub leaves : Leaves v.usage lifted j
+  pub placed : LogMemory
+  pub place : ℕ
+  pub places : Places (record v { usage = lifted }) placed (usage_name j) true number place
+  pub puts : Puts placed.usage v'.usage j place true
+  pub map : v'.map ≡ placed.map
+  pub dirty : v'.dirty ≡ placed.dirty
+  pub chunk : v'.chunk ≡ placed.chunk
+
+-- usage block j stands in a segment that was taken since the acknowledged checkpoint
+abbrev pub IsAnew : UsageTable → ℕ → Type 0
+IsAnew t j = (2 ≤ address_of t j) × (taken_of t (segment_of (address_of t j)) ≡ true)
+
+-- usage block j stands there now, the others as before
+pub record IsResettled (old new : UsageTable) (j : ℕ) : Type 0 where
+  pub own : IsAnew new j
+  pub others : (i : ℕ) → (i ≡ j → ⊥) → address_of new i ≡ address_of old i
+  pub taken : (s : ℕ) → taken_of old s ≡ true → taken_of new s ≡ true
+
+-- how many usage blocks there are
+abbrev pub blocks_in : UsageTable → ℕ
+blocks_in t = (length t.segments + 63) / 64
+
+-- all usage blocks that changed stand there
+abbrev pub AreAnew : UsageTable → Type 0
+AreAnew t = (j : ℕ) → j < blocks_in t → stale_of t j ≡ true → IsAnew t j
+
+-- usage block j isn't stale any more, and all else is as before
+pub record IsFilled (old new : UsageTable) (j : ℕ) : Type 0 where
+  pub segments : new.segments ≡ old.segments
+  pub address : (i : ℕ) → address_of new i ≡ address_of old i
+  pub stale : IsSet (stale_of old) (stale_of new) j false

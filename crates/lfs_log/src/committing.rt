@@ -1,0 +1,104 @@
+//! A commit: all that changed goes to clean segments, and then the next checkpoint to its slot.
+//! After the checkpoints of the Sprite LFS paper (1992, section 4.1).
+ghost use Rattle.std.specs.Prelude.{◌≡◌, ◌<◌, ◌≤◌, ◌+◌, ◌*◌, ◌^◌, ◌-◌, [], length, OnOk, OnErr};
+ghost use Rattle.lfs_segments.specs.Table.{clean_in};
+ghost use Rattle.lfs_log.specs.Settling.{AreAnew};
+ghost use Rattle.lfs_log.specs.Memory.{IsMemory, AreMapsOut, HasRoom, Goes, Stops, room_of};
+ghost use Rattle.lfs_log.specs.Publishing.{IsAllOut};
+ghost use Rattle.lfs_log.specs.Saving.{Commits, CommitFails};
+
+use crate::mapping::save_map;
+use crate::memory::LogMemory;
+use crate::placing::{save_files, seal};
+use crate::publishing::publish;
+use crate::settling::{fill_usage, settle_usage};
+use lfs_device::{DeviceFault, SectorDevice};
+
+/// All that is to be saved gets its place, each block before those that point to it.
+fn place_all<D: SectorDevice>(
+    device: &mut D,
+    memory: &mut LogMemory,
+    age: u32,
+) -> Result<(), DeviceFault>
+    requires memory { IsMemory memory.old }
+    requires size { HasRoom (D.state device.old) memory.old }
+    requires few { length memory.old.dirty.blocks ≤ 456 }
+    requires room { 504 ≤ room_of memory.old }
+    ensures done { OnOk result (Goes (D.state device.old) (D.state device.new) memory.old memory.new 504) }
+    ensures stopped { OnErr result (Stops (D.state device.old) (D.state device.new) memory.old) }
+    ensures dirty { OnOk result (memory.new.dirty.blocks ≡ []) }
+    ensures capacity { OnOk result (memory.new.dirty.capacity ≡ memory.old.dirty.capacity) }
+    ensures maps { OnOk result (AreMapsOut memory.new.map) }
+    ensures anew { OnOk result (AreAnew memory.new.usage) }
+{
+    save_files(device, memory, age)?;
+    save_map(device, memory, age)?;
+    settle_usage(device, memory, age)?;
+    Ok(())
+}
+
+/// Ends the chunk that is being written, if there is one.
+fn seal_rest<D: SectorDevice>(device: &mut D, memory: &mut LogMemory) -> Result<(), DeviceFault>
+    requires memory { IsMemory memory.old }
+    requires size { HasRoom (D.state device.old) memory.old }
+    ensures done { OnOk result (Goes (D.state device.old) (D.state device.new) memory.old memory.new 62) }
+    ensures stopped { OnErr result (Stops (D.state device.old) (D.state device.new) memory.old) }
+    ensures map { memory.new.map ≡ memory.old.map }
+    ensures dirty { memory.new.dirty ≡ memory.old.dirty }
+    ensures usage { memory.new.usage ≡ memory.old.usage }
+    ensures ended { OnOk result (memory.new.chunk.names ≡ []) }
+{
+    if !memory.chunk.is_empty() {
+        seal(device, memory)?;
+    }
+    Ok(())
+}
+
+/// Writes all that changed to segments that were clean.
+fn write_out<D: SectorDevice>(
+    device: &mut D,
+    memory: &mut LogMemory,
+    age: u32,
+) -> Result<(), DeviceFault>
+    requires memory { IsMemory memory.old }
+    requires size { HasRoom (D.state device.old) memory.old }
+    requires closed { memory.old.chunk.names ≡ [] }
+    requires few { length memory.old.dirty.blocks ≤ 456 }
+    requires clean { length memory.old.usage.segments + 64 ≤ 8 * clean_in memory.old.usage.segments }
+    ensures done { OnOk result (Goes (D.state device.old) (D.state device.new) memory.old memory.new 566) }
+    ensures stopped { OnErr result (Stops (D.state device.old) (D.state device.new) memory.old) }
+    ensures capacity { OnOk result (memory.new.dirty.capacity ≡ memory.old.dirty.capacity) }
+    ensures out { OnOk result (IsAllOut memory.new) }
+    ensures used { OnOk result (clean_in memory.old.usage.segments ≤ clean_in memory.new.usage.segments + 8) }
+{
+    place_all(device, memory, age)?;
+    seal_rest(device, memory)?;
+    fill_usage(device, memory)?;
+    Ok(())
+}
+
+/// Saves all that memory holds, but for files without a name: blocks to clean segments, a sync, the next checkpoint after
+/// the one of this number to its slot, a sync. At most eight segments are taken for it.
+///
+/// # Errors
+///
+/// The device's fault: a stop leaves what was acknowledged or what was to be saved.
+pub fn save<D: SectorDevice>(
+    device: &mut D,
+    memory: &mut LogMemory,
+    number: u64,
+) -> Result<(), DeviceFault>
+    requires memory { IsMemory memory.old }
+    requires size { HasRoom (D.state device.old) memory.old }
+    requires number { number < 2 ^ 64 - 1 }
+    requires closed { memory.old.chunk.names ≡ [] }
+    requires few { length memory.old.dirty.blocks ≤ 456 }
+    requires clean { length memory.old.usage.segments + 64 ≤ 8 * clean_in memory.old.usage.segments }
+    ensures done { OnOk result (Commits (D.state device.old) (D.state device.new) memory.old memory.new number) }
+    ensures stopped { OnErr result (CommitFails (D.state device.old) (D.state device.new) memory.old number) }
+{
+    let age = u32::try_from(number + 1).unwrap_or(u32::MAX);
+    write_out(device, memory, age)?;
+    publish(device, memory, number)?;
+    Ok(())
+}

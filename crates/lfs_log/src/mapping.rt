@@ -1,0 +1,101 @@
+//! How blocks of the inode map go to the log.
+ghost use Rattle.std.specs.Prelude.{◌≡◌, ◌≢◌, ◌<◌, ◌≤◌, ◌+◌, ◌*◌, ℕ, None, OnOk, OnErr};
+ghost use Rattle.lfs_model.specs.Committing.{SpellsMap};
+ghost use Rattle.lfs_model.specs.Entry.{Entry};
+ghost use Rattle.lfs_model.specs.Running.{Tables};
+ghost use Rattle.lfs_model.specs.Stands.{LogMap};
+ghost use Rattle.lfs_inodes.specs.Blocks.{blocks_of};
+ghost use Rattle.lfs_inodes.specs.MapValue.{IsMap, IsMapOf, AreSettled, block_in};
+ghost use Rattle.lfs_log.specs.Memory.{IsMemory, AreMapsOut, HasRoom, Goes, GoesUpTo, IsBlockAt, Stops, room_of};
+
+use crate::memory::LogMemory;
+use crate::placing::seal_full;
+use lfs_device::{DeviceFault, SectorDevice};
+use lfs_layout::BlockName;
+use lfs_model::BlockKind;
+use lfs_segments::write;
+
+/// Writes a block of the inode map to the next place.
+fn write_map_block<D: SectorDevice>(
+    device: &mut D,
+    memory: &mut LogMemory,
+    index: u32,
+    bytes: &[u8; 512],
+    age: u32,
+) -> Result<(), DeviceFault>
+    requires memory { IsMemory memory.old }
+    requires size { HasRoom (D.state device.old) memory.old }
+    requires room { 0 < room_of memory.old }
+    requires index { index < 32 }
+    requires wanted { block_in memory.old.map index ≡ 1 }
+    requires empty { (x : Entry) → blocks_of memory.old.dirty x ≡ None }
+    requires spelt { (m : LogMap) (t : Tables) → IsMapOf memory.old.map m t → AreSettled m t index → SpellsMap m t index bytes.now }
+    ensures done { OnOk result (GoesUpTo 63 (D.state device.old) (D.state device.new) memory.old memory.new 1) }
+    ensures stopped { OnErr result (Stops (D.state device.old) (D.state device.new) memory.old) }
+    ensures placed { OnOk result (IsBlockAt memory.old.map memory.new.map index (block_in memory.new.map index)) }
+    ensures known { OnOk result (2 ≤ block_in memory.new.map index) }
+    ensures long { OnOk result (IsMap memory.new.map) }
+    ensures dirty { memory.new.dirty ≡ memory.old.dirty }
+{
+    let name = BlockName {
+        file: 0,
+        kind: BlockKind::Map,
+        index,
+    };
+    let address = memory.next_place(name, true, age);
+    write(device, &memory.usage, address, bytes)?;
+    memory.map.set_block_address(index as usize, address);
+    Ok(())
+}
+
+/// Saves a block of the inode map, if it is to be written. One that would show no inode isn't stored.
+fn save_map_block<D: SectorDevice>(
+    device: &mut D,
+    memory: &mut LogMemory,
+    index: u32,
+    age: u32,
+) -> Result<(), DeviceFault>
+    requires memory { IsMemory memory.old }
+    requires size { HasRoom (D.state device.old) memory.old }
+    requires room { 0 < room_of memory.old }
+    requires index { index < 32 }
+    requires empty { (x : Entry) → blocks_of memory.old.dirty x ≡ None }
+    ensures done { OnOk result (Goes (D.state device.old) (D.state device.new) memory.old memory.new 1) }
+    ensures stopped { OnErr result (Stops (D.state device.old) (D.state device.new) memory.old) }
+    ensures others { OnOk result ((j : ℕ) → (j ≡ index → ⊥) → block_in memory.new.map j ≡ block_in memory.old.map j) }
+    ensures known { OnOk result (block_in memory.new.map index ≢ 1) }
+    ensures long { OnOk result (IsMap memory.new.map) }
+    ensures dirty { memory.new.dirty ≡ memory.old.dirty }
+{
+    if memory.map.block_address(index as usize) != 1 {
+        return Ok(());
+    }
+    let Some(bytes) = memory.map.encode(index as usize) else {
+        memory.map.set_block_address(index as usize, 0);
+        return Ok(());
+    };
+    write_map_block(device, memory, index, &bytes, age)?;
+    seal_full(device, memory)?;
+    Ok(())
+}
+
+/// Saves the blocks of the inode map that are to be written.
+pub fn save_map<D: SectorDevice>(
+    device: &mut D,
+    memory: &mut LogMemory,
+    age: u32,
+) -> Result<(), DeviceFault>
+    requires memory { IsMemory memory.old }
+    requires size { HasRoom (D.state device.old) memory.old }
+    requires room { 32 ≤ room_of memory.old }
+    requires empty { (x : Entry) → blocks_of memory.old.dirty x ≡ None }
+    ensures done { OnOk result (Goes (D.state device.old) (D.state device.new) memory.old memory.new 32) }
+    ensures stopped { OnErr result (Stops (D.state device.old) (D.state device.new) memory.old) }
+    ensures known { OnOk result (AreMapsOut memory.new.map) }
+    ensures dirty { memory.new.dirty ≡ memory.old.dirty }
+{
+    for index in 0..32u32 {
+        save_map_block(device, memory, index, age)?;
+    }
+    Ok(())
+}

@@ -1,0 +1,111 @@
+//! How blocks of files and of the inode map go to the log.
+ghost use Rattle.std.specs.Prelude.{◌≡◌, ◌≢◌, ◌<◌, ◌≤◌, ◌+◌, ◌*◌, [], length, None, OnOk, OnErr};
+ghost use Rattle.lfs_model.specs.Entry.{Entry};
+ghost use Rattle.lfs_model.specs.Running.{IsLowest};
+ghost use Rattle.lfs_inodes.specs.Blocks.{blocks_of};
+ghost use Rattle.lfs_inodes.specs.Key.{entry_of};
+ghost use Rattle.lfs_log.specs.Memory.{IsMemory, IsMemoryUpTo, HasRoom, Goes, GoesUpTo, Stops, room_of, room_in};
+
+use crate::memory::LogMemory;
+use lfs_device::{DeviceFault, SectorDevice};
+use lfs_inodes::BlockKey;
+use lfs_segments::write;
+
+/// Writes the summary of the chunk, which ends it.
+pub fn seal<D: SectorDevice>(device: &mut D, memory: &mut LogMemory) -> Result<(), DeviceFault>
+    requires memory { IsMemoryUpTo 63 memory.old }
+    requires begun { 0 < length memory.old.chunk.names }
+    requires size { HasRoom (D.state device.old) memory.old }
+    ensures done { OnOk result (Goes (D.state device.old) (D.state device.new) memory.old memory.new (room_in memory.old.chunk.names)) }
+    ensures stopped { OnErr result (Stops (D.state device.old) (D.state device.new) memory.old) }
+    ensures map { memory.new.map ≡ memory.old.map }
+    ensures dirty { memory.new.dirty ≡ memory.old.dirty }
+    ensures usage { memory.new.usage ≡ memory.old.usage }
+    ensures ended { OnOk result (memory.new.chunk.names ≡ []) }
+{
+    memory.chunk.seal(device, &memory.usage)?;
+    Ok(())
+}
+
+/// Writes the summary of a chunk that is full.
+pub fn seal_full<D: SectorDevice>(device: &mut D, memory: &mut LogMemory) -> Result<(), DeviceFault>
+    requires memory { IsMemoryUpTo 63 memory.old }
+    requires size { HasRoom (D.state device.old) memory.old }
+    ensures done { OnOk result (Goes (D.state device.old) (D.state device.new) memory.old memory.new 0) }
+    ensures stopped { OnErr result (Stops (D.state device.old) (D.state device.new) memory.old) }
+    ensures map { memory.new.map ≡ memory.old.map }
+    ensures dirty { memory.new.dirty ≡ memory.old.dirty }
+    ensures usage { memory.new.usage ≡ memory.old.usage }
+{
+    if memory.chunk.len() == 63 {
+        seal(device, memory)?;
+    }
+    Ok(())
+}
+
+/// Writes a block of a file to the next place. What points to it, its parent in memory or the inode map, points there from then on.
+fn write_block<D: SectorDevice>(
+    device: &mut D,
+    memory: &mut LogMemory,
+    key: BlockKey,
+    age: u32,
+) -> Result<(), DeviceFault>
+    requires memory { IsMemory memory.old }
+    requires size { HasRoom (D.state device.old) memory.old }
+    requires room { 0 < room_of memory.old }
+    requires lowest { IsLowest (blocks_of memory.old.dirty) (entry_of key) }
+    ensures done { OnOk result (GoesUpTo 63 (D.state device.old) (D.state device.new) memory.old memory.new 1) }
+    ensures stopped { OnErr result (Stops (D.state device.old) (D.state device.new) memory.old) }
+    ensures fewer { OnOk result (length memory.new.dirty.blocks + 1 ≡ length memory.old.dirty.blocks) }
+    ensures capacity { OnOk result (memory.new.dirty.capacity ≡ memory.old.dirty.capacity) }
+{
+    let bytes = *memory.dirty.block(key).unwrap();
+    let lives = !memory.map.is_hidden(key.file());
+    let address = memory.next_place(key.name(), lives, age);
+    write(device, &memory.usage, address, &bytes)?;
+    memory.dirty.moved(key, address);
+    memory.point(key, address);
+    Ok(())
+}
+
+/// Saves a block of a file: it goes to the next place, and a chunk that is full with it is sealed.
+fn save_block<D: SectorDevice>(
+    device: &mut D,
+    memory: &mut LogMemory,
+    key: BlockKey,
+    age: u32,
+) -> Result<(), DeviceFault>
+    requires memory { IsMemory memory.old }
+    requires size { HasRoom (D.state device.old) memory.old }
+    requires room { 0 < room_of memory.old }
+    requires lowest { IsLowest (blocks_of memory.old.dirty) (entry_of key) }
+    ensures done { OnOk result (Goes (D.state device.old) (D.state device.new) memory.old memory.new 1) }
+    ensures stopped { OnErr result (Stops (D.state device.old) (D.state device.new) memory.old) }
+    ensures fewer { OnOk result (length memory.new.dirty.blocks + 1 ≡ length memory.old.dirty.blocks) }
+    ensures capacity { OnOk result (memory.new.dirty.capacity ≡ memory.old.dirty.capacity) }
+{
+    write_block(device, memory, key, age)?;
+    seal_full(device, memory)?;
+    Ok(())
+}
+
+/// Saves all blocks of files that are in memory, each before the blocks that point to it.
+pub fn save_files<D: SectorDevice>(
+    device: &mut D,
+    memory: &mut LogMemory,
+    age: u32,
+) -> Result<(), DeviceFault>
+    requires memory { IsMemory memory.old }
+    requires size { HasRoom (D.state device.old) memory.old }
+    requires room { length memory.old.dirty.blocks ≤ room_of memory.old }
+    ensures done { OnOk result (Goes (D.state device.old) (D.state device.new) memory.old memory.new (length memory.old.dirty.blocks)) }
+    ensures stopped { OnErr result (Stops (D.state device.old) (D.state device.new) memory.old) }
+    ensures empty { OnOk result ((x : Entry) → blocks_of memory.new.dirty x ≡ None) }
+    ensures blocks { OnOk result (memory.new.dirty.blocks ≡ []) }
+    ensures capacity { OnOk result (memory.new.dirty.capacity ≡ memory.old.dirty.capacity) }
+{
+    while let Some(key) = memory.dirty.next() {
+        save_block(device, memory, key, age)?;
+    }
+    Ok(())
+}

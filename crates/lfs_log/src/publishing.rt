@@ -1,0 +1,78 @@
+//! The end of a commit: the checkpoint that leads to all that was written.
+ghost use Rattle.std.specs.Prelude.{◌≡◌, ◌<◌, ◌≤◌, ◌+◌, ◌^◌, ◌-◌, ℕ, get_or, OnOk, OnErr};
+ghost use Rattle.lfs_segments.specs.Table.{address_of};
+ghost use Rattle.lfs_inodes.specs.MapValue.{block_in};
+ghost use Rattle.lfs_log.specs.Memory.{IsMemory, HasRoom};
+ghost use Rattle.lfs_log.specs.Publishing.{IsAllOut, IsNext, Publishes, PublishFails};
+
+use crate::memory::LogMemory;
+use lfs_device::{DeviceFault, SectorDevice};
+use lfs_inodes::InodeMap;
+use lfs_layout::Checkpoint;
+use lfs_root::replace;
+use lfs_segments::Usage;
+
+/// The addresses of the blocks of the inode map.
+fn map_blocks(map: &InodeMap) -> [u32; 32]
+    ensures { (j : ℕ) → j < 32 → get_or result j 0 ≡ block_in map.now j }
+{
+    let mut blocks = [0; 32];
+    for index in 0..32usize {
+        blocks[index] = map.block_address(index);
+    }
+    blocks
+}
+
+/// The addresses of the blocks of the usage table.
+fn usage_blocks(usage: &Usage) -> [u32; 16]
+    ensures { (j : ℕ) → j < 16 → get_or result j 0 ≡ address_of usage.now j }
+{
+    let mut blocks = [0; 16];
+    for index in 0..16u32 {
+        blocks[index as usize] = usage.block(index).address;
+    }
+    blocks
+}
+
+/// The checkpoint after the one of this number.
+fn next_checkpoint(memory: &LogMemory, number: u64) -> Checkpoint
+    requires memory { IsMemory memory.now }
+    requires number { number < 2 ^ 64 - 1 }
+    ensures { IsNext memory.now number result }
+{
+    Checkpoint::new(
+        number + 1,
+        memory.usage.segments(),
+        map_blocks(&memory.map),
+        usage_blocks(&memory.usage),
+    )
+}
+
+/// Once all blocks are out: syncs, writes the checkpoint that leads to them, after the acknowledged one of this number,
+/// and takes the segments where nothing lives as clean. A stop at any moment leaves what was acknowledged or all that
+/// is out, and after `Ok` the latter alone.
+///
+/// # Errors
+///
+/// The device's fault: a stop leaves the one or the other.
+pub fn publish<D: SectorDevice>(
+    device: &mut D,
+    memory: &mut LogMemory,
+    number: u64,
+) -> Result<(), DeviceFault>
+    requires memory { IsMemory memory.old }
+    requires size { HasRoom (D.state device.old) memory.old }
+    requires number { number < 2 ^ 64 - 1 }
+    requires out { IsAllOut memory.old }
+    ensures done { OnOk result (Publishes (D.state device.old) (D.state device.new) memory.old memory.new number) }
+    ensures stopped { OnErr result (PublishFails (D.state device.old) (D.state device.new) memory.old number) }
+    ensures map { memory.new.map ≡ memory.old.map }
+    ensures dirty { memory.new.dirty ≡ memory.old.dirty }
+    ensures chunk { memory.new.chunk ≡ memory.old.chunk }
+{
+    device.sync()?;
+    let next = next_checkpoint(memory, number);
+    replace(device, &next)?;
+    memory.usage.release();
+    Ok(())
+}

@@ -1,0 +1,193 @@
+//! How the usage blocks that changed get new places, and are written there once all counts are final.
+ghost use Rattle.std.specs.Prelude.{◌≡◌, ◌≢◌, ◌<◌, ◌≤◌, ◌+◌, ◌/◌, ℕ, true, false, length, IfSome, IfNone, OnOk, OnErr};
+ghost use Rattle.lfs_segments.specs.Table.{address_of, stale_of};
+ghost use Rattle.lfs_log.specs.Memory.{IsMemory, IsMemoryUpTo, HasRoom, Goes, Stops, room_of};
+ghost use Rattle.lfs_log.specs.Settling.{IsThere, Leaves, Resettles, IsResettled, IsAnew, AreAnew, IsFilled, blocks_in};
+
+use crate::memory::LogMemory;
+use crate::placing::seal_full;
+use lfs_device::{DeviceFault, SectorDevice};
+use lfs_layout::BlockName;
+use lfs_model::BlockKind;
+use lfs_segments::{Usage, write};
+
+/// The usage block lives no more at its address. Only under a device that broke its word it doesn't live there.
+fn leave(usage: &mut Usage, index: u32) -> Result<(), DeviceFault>
+    requires { index < 16 }
+    ensures left { OnOk result (Leaves usage.old usage.new index) }
+    ensures nowhere { OnErr result (IsThere usage.old index → ⊥) }
+{
+    let address = usage.block(index).address;
+    if address < 2 {
+        return Err(DeviceFault);
+    }
+    let segment = (address - 2) / 64;
+    if segment >= usage.segments() {
+        return Err(DeviceFault);
+    }
+    if usage.state(segment).live == 0 {
+        return Err(DeviceFault);
+    }
+    usage.lift(segment, true);
+    Ok(())
+}
+
+/// The usage block leaves its address and gets the next place.
+fn resettle(memory: &mut LogMemory, index: u32, age: u32) -> Result<(), DeviceFault>
+    requires memory { IsMemory memory.old }
+    requires room { 0 < room_of memory.old }
+    requires index { index < blocks_in memory.old.usage }
+    ensures done { OnOk result (Resettles memory.old memory.new index age) }
+    ensures nowhere { OnErr result (IsThere memory.old.usage index → ⊥) }
+    ensures map { memory.new.map ≡ memory.old.map }
+    ensures dirty { memory.new.dirty ≡ memory.old.dirty }
+{
+    leave(&mut memory.usage, index)?;
+    let name = BlockName {
+        file: 0,
+        kind: BlockKind::Usage,
+        index,
+    };
+    let place = memory.next_place(name, true, age);
+    memory.usage.set_block(index, place, true);
+    Ok(())
+}
+
+/// A usage block that changed gets the next place, and a chunk that is full by that is sealed.
+///
+/// # Errors
+///
+/// The device's fault.
+pub fn settle_block<D: SectorDevice>(
+    device: &mut D,
+    memory: &mut LogMemory,
+    index: u32,
+    age: u32,
+) -> Result<(), DeviceFault>
+    requires memory { IsMemory memory.old }
+    requires size { HasRoom (D.state device.old) memory.old }
+    requires room { 0 < room_of memory.old }
+    requires index { index < blocks_in memory.old.usage }
+    requires stale { stale_of memory.old.usage index ≡ true }
+    ensures done { OnOk result (Goes (D.state device.old) (D.state device.new) memory.old memory.new 1) }
+    ensures stopped { OnErr result (Stops (D.state device.old) (D.state device.new) memory.old) }
+    ensures moved { OnOk result (IsResettled memory.old.usage memory.new.usage index) }
+    ensures map { memory.new.map ≡ memory.old.map }
+    ensures dirty { memory.new.dirty ≡ memory.old.dirty }
+{
+    resettle(memory, index, age)?;
+    seal_full(device, memory)
+}
+
+/// Whether the usage block stands in a segment that was taken since the acknowledged checkpoint.
+fn is_anew(usage: &Usage, index: u32) -> bool
+    requires { index < 16 }
+    ensures yes { result ≡ true → IsAnew usage.now index }
+    ensures no { result ≢ true → IsAnew usage.now index → ⊥ }
+{
+    let address = usage.block(index).address;
+    if address < 2 {
+        return false;
+    }
+    let segment = (address - 2) / 64;
+    if segment >= usage.segments() {
+        return false;
+    }
+    usage.state(segment).taken
+}
+
+/// The first usage block that changed and doesn't stand in such a segment.
+fn next_out(usage: &Usage) -> Option<u32>
+    ensures some { IfSome result (λ j. (j < blocks_in usage.now) × (stale_of usage.now j ≡ true) × (IsAnew usage.now j → ⊥)) }
+    ensures none { IfNone result (AreAnew usage.now) }
+{
+    for index in 0..(usage.segments() + 63) / 64 {
+        if usage.block(index).stale && !is_anew(usage, index) {
+            return Some(index);
+        }
+    }
+    None
+}
+
+/// All usage blocks that changed get places in segments that were taken since the acknowledged checkpoint. As one gets its
+/// place others may change, so it goes on until all stand there.
+///
+/// # Errors
+///
+/// The device's fault.
+pub fn settle_usage<D: SectorDevice>(
+    device: &mut D,
+    memory: &mut LogMemory,
+    age: u32,
+) -> Result<(), DeviceFault>
+    requires memory { IsMemory memory.old }
+    requires size { HasRoom (D.state device.old) memory.old }
+    requires room { 16 ≤ room_of memory.old }
+    ensures done { OnOk result (Goes (D.state device.old) (D.state device.new) memory.old memory.new 16) }
+    ensures stopped { OnErr result (Stops (D.state device.old) (D.state device.new) memory.old) }
+    ensures anew { OnOk result (AreAnew memory.new.usage) }
+    ensures map { memory.new.map ≡ memory.old.map }
+    ensures dirty { memory.new.dirty ≡ memory.old.dirty }
+{
+    for round in 0..16u32 {
+        let Some(index) = next_out(&memory.usage) else {
+            return Ok(());
+        };
+        settle_block(device, memory, index, age)?;
+    }
+    Ok(())
+}
+
+/// A usage block is written where it stands, if it changed.
+fn fill_block<D: SectorDevice>(
+    device: &mut D,
+    memory: &mut LogMemory,
+    index: u32,
+) -> Result<(), DeviceFault>
+    requires memory { IsMemory memory.old }
+    requires size { HasRoom (D.state device.old) memory.old }
+    requires index { index < blocks_in memory.old.usage }
+    requires anew { AreAnew memory.old.usage }
+    ensures done { OnOk result (Goes (D.state device.old) (D.state device.new) memory.old memory.new 0) }
+    ensures stopped { OnErr result (Stops (D.state device.old) (D.state device.new) memory.old) }
+    ensures filled { OnOk result (IsFilled memory.old.usage memory.new.usage index) }
+    ensures map { memory.new.map ≡ memory.old.map }
+    ensures dirty { memory.new.dirty ≡ memory.old.dirty }
+    ensures chunk { memory.new.chunk ≡ memory.old.chunk }
+{
+    let place = memory.usage.block(index);
+    if !place.stale {
+        return Ok(());
+    }
+    let bytes = memory.usage.encode(index);
+    write(device, &memory.usage, place.address, &bytes)?;
+    memory.usage.set_block(index, place.address, false);
+    Ok(())
+}
+
+/// The usage blocks that changed are written where they stand.
+///
+/// # Errors
+///
+/// The device's fault.
+pub fn fill_usage<D: SectorDevice>(
+    device: &mut D,
+    memory: &mut LogMemory,
+) -> Result<(), DeviceFault>
+    requires memory { IsMemory memory.old }
+    requires size { HasRoom (D.state device.old) memory.old }
+    requires anew { AreAnew memory.old.usage }
+    ensures done { OnOk result (Goes (D.state device.old) (D.state device.new) memory.old memory.new 0) }
+    ensures stopped { OnErr result (Stops (D.state device.old) (D.state device.new) memory.old) }
+    ensures fresh { OnOk result ((j : ℕ) → j < blocks_in memory.new.usage → stale_of memory.new.usage j ≡ false) }
+    ensures segments { OnOk result (memory.new.usage.segments ≡ memory.old.usage.segments) }
+    ensures address { OnOk result ((j : ℕ) → address_of memory.new.usage j ≡ address_of memory.old.usage j) }
+    ensures map { memory.new.map ≡ memory.old.map }
+    ensures dirty { memory.new.dirty ≡ memory.old.dirty }
+    ensures chunk { memory.new.chunk ≡ memory.old.chunk }
+{
+    for index in 0..(memory.usage.segments() + 63) / 64 {
+        fill_block(device, memory, index)?;
+    }
+    Ok(())
+}

@@ -1,0 +1,192 @@
+//! The log of a volume, over its device.
+ghost use Rattle.std.specs.Prelude.{◌≡◌, ◌≢◌, ◌<◌, ◌≤◌, ◌+◌, ◌-◌, ◌*◌, ◌^◌, true, length, IfOk, IfErr, OnOk, OnErr, IsErrOf, MatchResult, IsTrue, IsFalse};
+ghost use Rattle.lfs_model.specs.Device.{Only, IsUntouched, Carries, LeavesOnly};
+ghost use Rattle.lfs_model.specs.Fields.{zeros};
+ghost use Rattle.lfs_segments.specs.Table.{clean_in};
+ghost use Rattle.lfs_log.specs.Opening.{IsOpenFault};
+
+use crate::changes::Header;
+use crate::committing::save;
+use crate::load::MountFault;
+use crate::log::LogFault;
+use crate::memory::LogMemory;
+use crate::opening::open_memory;
+use crate::present::{read_block, read_header};
+use lfs_device::SectorDevice;
+use std::alloc::Global;
+use std::marker::Model;
+
+/// The inodes and blocks of a volume: in memory where they changed since the acknowledged checkpoint, else on the device.
+#[derive(Drop)]
+pub struct VolumeLog<D: SectorDevice> {
+    device: D,
+    memory: LogMemory,
+    number: u64,
+    halted: bool,
+}
+
+impl<D: SectorDevice> Model for VolumeLog<D> {
+    ghost use Rattle.lfs_log.specs.Held.{Held, held_code, IsHeld};
+
+    ghost Value = { Held D };
+
+    ghost coded = { held_code D.code };
+
+    ghost view = { λ l. record { device = l.device; memory = l.memory; number = l.number; halted = l.halted } };
+
+    ghost invariant = { λ l. IsHeld (D.SectorDevice.state l.device) l.memory l.halted };
+}
+
+impl<D: SectorDevice> VolumeLog<D> {
+    ghost use Rattle.lfs_log.specs.Held.{Mounts, Saves, Halts, Reads, ReadsHeader, ReadsBlock, IsReadFault, IsFull};
+
+    /// The volume that the newest checkpoint of the device leads to; else why there is none, and the device. It writes nothing, and
+    /// takes the memory that later calls need.
+    ///
+    /// # Errors
+    ///
+    /// `NoMemory` where memory is refused, `Device` where a call of the device failed; else the device holds no log map.
+    pub fn open(alloc: Global, device: D) -> Result<VolumeLog<D>, (MountFault, D)>
+        ensures holds { IfOk result (λ l. Mounts D.SectorDevice.state device l) }
+        ensures durable { IfOk result (λ l. (D.state l.device).keeps_model → Only (D.state device).content (D.state l.device)) }
+        ensures cause { IfErr result (λ e. (e.0 ≡ MountFault.NoMemory → ⊥) → IsOpenFault (D.state device) (D.state e.1)) }
+        ensures failed { IfErr result (λ e. e.0 ≡ MountFault.Device → (D.state device).failures < (D.state e.1).failures) }
+        ensures untouched { MatchResult result (λ l. IsUntouched (D.state device) (D.state l.device)) (λ e. IsUntouched (D.state device) (D.state e.1)) }
+        ensures carries { MatchResult result (λ l. Carries (D.state device) (D.state l.device)) (λ e. Carries (D.state device) (D.state e.1)) }
+        ensures any_moment { MatchResult result (λ l. LeavesOnly (D.state device) (D.state l.device) (D.state device).may_leave) (λ e. LeavesOnly (D.state device) (D.state e.1) (D.state device).may_leave) }
+    {
+        let mut device = device;
+        match open_memory(alloc, &mut device) {
+            Ok((memory, number)) => Ok(VolumeLog {
+                device,
+                memory,
+                number,
+                halted: false,
+            }),
+            Err(fault) => Err((fault, device)),
+        }
+    }
+
+    /// The device as it is; what wasn't saved is gone.
+    pub fn into_device(self) -> D
+        ensures { result ≡ self.device }
+    {
+        self.device
+    }
+
+    /// Whether a commit failed.
+    pub fn is_halted(&self) -> bool
+        ensures { result ≡ self.now.halted }
+    {
+        self.halted
+    }
+
+    /// The acknowledged checkpoint's number.
+    pub fn number(&self) -> u64
+        ensures { result ≡ self.now.number }
+    {
+        self.number
+    }
+
+    /// How many segments are clean.
+    pub fn clean_segments(&self) -> u32
+        ensures { result ≡ clean_in self.now.memory.usage.segments }
+    {
+        self.memory.usage.clean()
+    }
+
+    /// How many blocks of files are in memory, changed since the acknowledged checkpoint.
+    pub fn unsaved(&self) -> usize
+        ensures { result ≡ length self.now.memory.dirty.blocks }
+    {
+        self.memory.dirty.len()
+    }
+
+    /// What the inode of a file says of it, if the file is there.
+    ///
+    /// # Errors
+    ///
+    /// `Halted` once a commit failed, `Device` where a call of the device failed.
+    pub fn header(&mut self, number: u16) -> Result<Option<Header>, LogFault>
+        requires { number < 4096 }
+        ensures reads { Reads D.SectorDevice.state self.old self.new }
+        ensures answer { IfOk result (ReadsHeader D.SectorDevice.state self.old self.new number) }
+        ensures failed { OnErr result (IsReadFault D.SectorDevice.state self.old self.new) }
+    {
+        if self.halted {
+            return Err(LogFault::Halted);
+        }
+        let Ok(header) = read_header(&mut self.device, &self.memory, number) else {
+            return Err(LogFault::Device);
+        };
+        Ok(header)
+    }
+
+    /// Whether a block of a file is stored, and its bytes; zeros where it isn't.
+    ///
+    /// # Errors
+    ///
+    /// As those of `header`.
+    pub fn block(&mut self, number: u16, index: u32, out: &mut [u8; 512]) -> Result<bool, LogFault>
+        requires { number < 4096 }
+        ensures reads { Reads D.SectorDevice.state self.old self.new }
+        ensures answer { IfOk result (ReadsBlock D.SectorDevice.state self.old self.new number index out.new) }
+        ensures zeros { IfOk result (λ found. IsFalse found → out.new ≡ zeros 512) }
+        ensures failed { OnErr result (IsReadFault D.SectorDevice.state self.old self.new) }
+    {
+        if self.halted {
+            return Err(LogFault::Halted);
+        }
+        let Ok(stored) = read_block(&mut self.device, &self.memory, number, index, out) else {
+            return Err(LogFault::Device);
+        };
+        Ok(stored)
+    }
+
+    /// Whether so few segments are clean that a commit might leave fewer than an eighth of them, or no number is left.
+    fn is_full(&self) -> bool
+        ensures full { IsTrue result → IsFull self.now }
+        ensures room { IsFalse result → length self.now.memory.usage.segments + 64 ≤ 8 * clean_in self.now.memory.usage.segments }
+        ensures number { IsFalse result → self.now.number < 2 ^ 64 - 1 }
+    {
+        let clean = u64::from(self.memory.usage.clean());
+        let segments = u64::from(self.memory.usage.segments());
+        self.number == u64::MAX || 8 * clean < segments + 64
+    }
+
+    /// Saves all that changed, but for files without a name: blocks to segments that are clean, at most eight of them, a sync, the
+    /// next checkpoint, a sync. It takes no memory.
+    ///
+    /// # Errors
+    ///
+    /// `Full` where too few segments are clean: nothing changed. `Halted` where a call of the device failed, here or in a commit before.
+    pub fn commit(&mut self) -> Result<(), LogFault>
+        ensures done { OnOk result (Saves D.SectorDevice.state self.old self.new) }
+        ensures full { IsErrOf result LogFault.Full → (self.new ≡ self.old) × IsFull self.old }
+        ensures halted { IsErrOf result LogFault.Halted → self.old.halted ≢ true → Halts D.SectorDevice.state self.old self.new }
+        ensures still { self.old.halted ≡ true → (self.new ≡ self.old) × IsErrOf result LogFault.Halted }
+        ensures other { IsErrOf result LogFault.Device → ⊥ }
+    {
+        if self.halted {
+            return Err(LogFault::Halted);
+        }
+        if self.is_full() {
+            return Err(LogFault::Full);
+        }
+        match save(&mut self.device, &mut self.memory, self.number) {
+            Ok(()) => {
+                self.number += 1;
+                Ok(())
+            }
+            Err(_) => {
+                self.halted = true;
+                Err(LogFault::Halted)
+            }
+        }
+    }
+}
+
+#[cfg(test)]
+mod edits;
+#[cfg(test)]
+mod tests;
