@@ -36,7 +36,7 @@ same_slots : (a b : LogMap) (n : ℕ) (h : Header) → ((i : ℕ) → a.block n 
 unfolding slots
 same_slots a b n h same = ap (λ (bytes : List ℕ). map (λ j. take (slot_len h.form) (drop (slot_len h.form * j) bytes)) (range_with_len 0 (h.size / slot_len h.form))) (same_object a b n h same)
 
-same_node : (a b : LogMap) (kd : Kind) (n : ℕ) (h : Header) → ((i : ℕ) → a.block n i ≡ b.block n i) → node_by a kd n h ≡ node_by b kd n h
+pub same_node : (a b : LogMap) (kd : Kind) (n : ℕ) (h : Header) → ((i : ℕ) → a.block n i ≡ b.block n i) → node_by a kd n h ≡ node_by b kd n h
 same_node a b kind.File n h same = ap File (same_object a b n h same)
 same_node a b kind.Directory n h same = ap (λ (l : List (List ℕ)). Dir h.form (map_of h.form l)) (same_slots a b n h same)
 same_node a b kind.Link n h same = ap Link (same_object a b n h same)

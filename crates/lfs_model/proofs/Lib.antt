@@ -102,3 +102,8 @@ pub mod Losing
 pub mod CutSets
 pub mod Tight
 pub mod CountFacts
+pub mod ObjectBytes
+pub mod ObjectTrees
+pub mod ObjectNeeds
+pub mod ObjectMaps
+pub mod ObjectPointers

@@ -18,7 +18,7 @@ count_same p q a zero same = refl
 count_same p q a (suc n) same =
     counts p a n ∙ ap₂ (λ (b : Bool) (c : ℕ). cond b 1 0 + c) (same a (omega arith) (omega arith)) (count_same p q (a + 1) n (λ x le lt. same x (omega arith) (omega arith))) ∙ sym (counts q a n)
 
-count_one_more : (p q : ℕ → Bool) (a n o : ℕ) → a ≤ o → o < a + n → ((x : ℕ) → a ≤ x → x < a + n → (x ≡ o → ⊥) → p x ≡ q x) → p o ≡ false → q o ≡ true
+pub count_one_more : (p q : ℕ → Bool) (a n o : ℕ) → a ≤ o → o < a + n → ((x : ℕ) → a ≤ x → x < a + n → (x ≡ o → ⊥) → p x ≡ q x) → p o ≡ false → q o ≡ true
     → count_by q (range_with_len a n) ≡ suc (count_by p (range_with_len a n))
 count_one_more p q a zero o le lt same off on = absurd (omega arith)
 count_one_more p q a (suc n) o le lt same off on =

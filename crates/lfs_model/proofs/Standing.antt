@@ -53,7 +53,7 @@ object_bytes : (m : LogMap) → ((n i o : ℕ) → slice_index (m.block n i) o <
 unfolding object
 object_bytes m small n h = each_mapped (λ o. slice_index (m.block n (o / 512)) (o % 512)) (λ x. small n (x / 512) (x % 512)) h.size 0
 
-object_length : (m : LogMap) (n : ℕ) (h : Header) → length (object m n h) ≡ h.size
+pub object_length : (m : LogMap) (n : ℕ) (h : Header) → length (object m n h) ≡ h.size
 unfolding object
 object_length m n h = length-map-range_with_len (λ o. slice_index (m.block n (o / 512)) (o % 512)) 0 h.size
 
@@ -101,7 +101,7 @@ slots_small m small n h =
     (λ j. taken_fits (slot_len h.form) _ (dropped_fits (slot_len h.form * j) (object m n h) (object_bytes m small n h)))
     (h.size / slot_len h.form) 0
 
-slots_length : (m : LogMap) (n : ℕ) (h : Header) → length (slots m n h) ≡ h.size / slot_len h.form
+pub slots_length : (m : LogMap) (n : ℕ) (h : Header) → length (slots m n h) ≡ h.size / slot_len h.form
 unfolding slots
 slots_length m n h = length-map-range_with_len (λ j. take (slot_len h.form) (drop (slot_len h.form * j) (object m n h))) 0 (h.size / slot_len h.form)
 

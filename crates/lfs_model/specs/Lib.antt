@@ -47,3 +47,4 @@ pub mod Replacing
 pub mod Detaching
 pub mod Cutting
 pub mod Tight
+pub mod Objects

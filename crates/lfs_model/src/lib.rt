@@ -3,6 +3,7 @@
 
 pub mod laws;
 pub mod log;
+pub mod objects;
 pub mod stands;
 
 /// What an object is.
