@@ -65,7 +65,7 @@ leaves_next old mid new n steps c was file at change less capacity = record {
   capacity = capacity ∙ was.capacity;
 }
 
-no_blocks : (es : Blocks) → length es ≡ 0 → (x : Entry) → blocks_in es x ≡ None
+pub no_blocks : (es : Blocks) → length es ≡ 0 → (x : Entry) → blocks_in es x ≡ None
 no_blocks es none x = find_none es (code x) (λ j lt same. omega (arith, lt, none))
 
 pub leaves_done : (old new : TableValue) (n steps : ℕ) → LeavesSome old new n steps → ((x : Entry) → file_of x ≡ Some n → blocks_of new x ≡ None) → LeavesOut (blocks_of old) (blocks_of new) n

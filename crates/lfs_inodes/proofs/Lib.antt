@@ -8,3 +8,5 @@ pub mod Searching
 pub mod PresentPointers
 pub mod Empties
 pub mod Leaving
+pub mod Zeroed
+pub mod Past

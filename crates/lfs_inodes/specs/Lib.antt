@@ -1,4 +1,5 @@
 pub mod Blocks
+pub mod Clearing
 pub mod Code
 pub mod Empty
 pub mod Held

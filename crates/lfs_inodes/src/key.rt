@@ -1,6 +1,7 @@
 //! Names of blocks of files, in one word each.
 ghost use Rattle.std.specs.Prelude.{◌≡◌, ◌≢◌, true, ◌<◌, ◌≤◌, ◌/◌, ◌%◌, ℕ, IfSome, IfNone};
 ghost use Rattle.lfs_model.specs.Entry.{Data, Leaf, Double, Inode, entry_by, entry_of};
+ghost use Rattle.lfs_model.specs.Cutting.{is_past};
 ghost use Rattle.lfs_model.specs.Memory.{parent, pointer, IsPointers};
 ghost use Rattle.lfs_model.specs.Summary.{IsPlaced};
 ghost use Rattle.lfs_inodes.specs.Code.{IsCode, kind_by, entry_at};
@@ -126,6 +127,22 @@ impl BlockKey {
         ensures { result ≡ self.code % 32768 }
     {
         self.code % FILE
+    }
+
+    /// Whether the block is a data block of a file from block `first` on, or a block of pointers with only those below it.
+    pub fn is_past(self, file: u16, first: u32) -> bool
+        ensures { result ≡ is_past file first (entry_at self.code) }
+    {
+        if self.file() != file {
+            return false;
+        }
+        let index = self.index();
+        match self.kind() {
+            BlockKind::Data => first <= index,
+            BlockKind::Leaf => first <= DIRECT + POINTERS * index,
+            BlockKind::Double => first <= DIRECT + POINTERS,
+            _ => false,
+        }
     }
 
     /// How the summary of a chunk names the block.

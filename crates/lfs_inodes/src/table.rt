@@ -6,12 +6,13 @@ ghost use Rattle.std.specs.FinMap.{find, put, is_sorted};
 ghost use Rattle.lfs_model.specs.Entry.{Entry, word};
 ghost use Rattle.lfs_model.specs.Tree.{without};
 ghost use Rattle.lfs_model.specs.Memory.{patched, parent, pointer, file_of, IsOfFile, IsPointers, HasPointer};
-ghost use Rattle.lfs_model.specs.Cutting.{LeavesOut};
+ghost use Rattle.lfs_model.specs.Cutting.{LeavesOut, is_past};
 ghost use Rattle.lfs_model.specs.Running.{IsLowest, IsTight, Moves};
 ghost use Rattle.lfs_model.specs.Staging.{ChangesTo, Fetches};
 ghost use Rattle.lfs_inodes.specs.Key.{entry_of};
 ghost use Rattle.lfs_inodes.specs.Empty.{IsEmptyBlock};
 ghost use Rattle.lfs_inodes.specs.Blocks.{blocks_of, altered, IsAt, IsGapFor};
+ghost use Rattle.lfs_inodes.specs.Clearing.{LeavesPast, zeroed};
 ghost use Rattle.lfs_inodes.specs.Held.{times, one_below};
 
 use crate::key::{BlockKey, IN_MEMORY};
@@ -225,6 +226,46 @@ impl DirtyTable {
                 Some(key) => self.remove(key),
                 None => return,
             }
+        }
+    }
+
+    /// A data block of a file from block `first` on, or a block of pointers with only those below it, if there is one.
+    fn any_past(&self, file: u16, first: u32) -> Option<BlockKey>
+        ensures some { IfSome result (λ key. (is_past file first (entry_of key) ≡ true) × (is_some (find nat_cmp key.code self.now.blocks) ≡ true)) }
+        ensures none { IfNone result ((x : Entry) → is_past file first x ≡ true → blocks_of self.now x ≡ None) }
+    {
+        for at in 0..self.places.len() {
+            let key = self.places[at].key;
+            if key.is_past(file, first) {
+                return Some(key);
+            }
+        }
+        None
+    }
+
+    /// Takes every data block of a file from block `first` on out, and the blocks of pointers with only those below them.
+    pub fn forget_past(&mut self, file: u16, first: u32)
+        ensures leaves { LeavesPast (blocks_of self.old) (blocks_of self.new) file first }
+        ensures few { length self.new.blocks ≤ length self.old.blocks }
+        ensures capacity { self.new.capacity ≡ self.old.capacity }
+    {
+        for _ in 0..self.len() {
+            match self.any_past(file, first) {
+                Some(key) => self.remove(key),
+                None => return,
+            }
+        }
+    }
+
+    /// Puts 0 at so many places of 4 bytes of a block from one on, if the block is here.
+    pub fn clear_words(&mut self, key: BlockKey, first: usize, number: usize)
+        requires { first + number ≤ 128 }
+        ensures changed { ChangesTo (blocks_of self.old) (blocks_of self.new) (entry_of key) (option_map (zeroed first number) (blocks_of self.old (entry_of key))) }
+        ensures length { length self.new.blocks ≡ length self.old.blocks }
+        ensures capacity { self.new.capacity ≡ self.old.capacity }
+    {
+        for i in 0..number {
+            self.patch(key, first + i, 0);
         }
     }
 

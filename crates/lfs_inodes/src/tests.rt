@@ -207,6 +207,34 @@ fn a_full_table(rt: HostRuntime) -> Result<(), Fail> {
 }
 
 /// Writes a sector of the device, if there is one.
+#[test]
+fn blocks_of_a_file_from_one_on(rt: HostRuntime) -> Result<(), Fail> {
+    let mut table = DirtyTable::new(rt.alloc(), 22)?;
+    let full = block(&[(1, 7), (2, 8), (3, 9)]);
+    for n in 0..11 {
+        for last in [false, true] {
+            if table.len() < table.capacity() {
+                table.put(nth_key(n, last), &full);
+            }
+        }
+    }
+    table.forget_past(1, 240);
+    let stay = [
+        true, true, true, true, false, false, true, false, false, false, true,
+    ];
+    for n in 0..11u32 {
+        let left = if stay[n as usize] { Some(&full) } else { None };
+        assert_eq!(rt; table.block(nth_key(n, false)), left, "{n}");
+        assert_eq!(rt; table.block(nth_key(n, true)), Some(&full));
+    }
+    let leaf = BlockKey::leaf(1, 0);
+    table.clear_words(leaf, 2, 126);
+    assert_eq!(rt; table.block(leaf), Some(&block(&[(1, 7)])));
+    table.clear_words(BlockKey::leaf(1, 1), 0, 128);
+    assert_eq!(rt; table.len(), 17);
+    Ok(())
+}
+
 fn write(device: &mut MemDevice, sector: u32, bytes: &[u8; 512]) {
     if sector < device.sectors() {
         let _ = device.write(sector, bytes);

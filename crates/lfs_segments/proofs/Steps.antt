@@ -5,7 +5,7 @@ use Rattle.std.proofs.lemmas.Bool.{cases_eq, cases_lt, cases_Bool, cond-true, co
 use Rattle.std.proofs.lemmas.List.{get_or_past}
 use Rattle.lfs_model.specs.Running.{IsSet, CountsUp, CountsDown}
 use Rattle.lfs_segments.specs.Table.{SegmentNumbers, BlockPlace, UsageTable, FitsSegment, FitsTable, no_segment, no_place, used_of, live_of, held_of, age_of, taken_of, clean_in}
-use Rattle.lfs_segments.specs.Steps.{Stales, Notes, Lifts, TakesAway, Takes, Puts, Releases, released, is_empty}
+use Rattle.lfs_segments.specs.Steps.{Stales, Notes, Lifts, TakesAway, HidesBlocks, Takes, Puts, Releases, released, is_empty}
 use Rattle.lfs_segments.proofs.Numbers.{set_own, set_other, one_taken, still_clean, clean_change}
 
 module _ {X : Type 0} (f : SegmentNumbers → X) (segments : List SegmentNumbers) (s : ℕ) (x : SegmentNumbers) (lt : s < length segments) where
@@ -173,6 +173,33 @@ takes_away_of old new s count x lives fits lt used live held age taken segments 
     subst (λ (t : UsageTable). TakesAway old t s count lives)
     (sym (same_table (record { segments = slice_set old.segments s x; blocks = slice_set old.blocks (s / 64) (record { address = (get_or old.blocks (s / 64) no_place).address; stale = true }) }) new segments blocks))
     (takes_away old.segments old.blocks s count x lives lt (omega arith) used live held age taken)
+
+pub hides : (segments : List SegmentNumbers) (blocks : List BlockPlace) (s count : ℕ) (x : SegmentNumbers) → s < length segments → s / 64 < length blocks
+    → x.used ≡ (get_or segments s no_segment).used
+    → x.live + count ≡ (get_or segments s no_segment).live → x.held ≡ (get_or segments s no_segment).held + count
+    → x.age ≡ (get_or segments s no_segment).age → x.taken ≡ (get_or segments s no_segment).taken
+    → HidesBlocks (record { segments = segments; blocks = blocks }) (record { segments = slice_set segments s x; blocks = slice_set blocks (s / 64) (record { address = (get_or blocks (s / 64) no_place).address; stale = true }) }) s count
+hides segments blocks s count x lt low used live held age taken = record {
+  used = is_same (λ n. n.used) segments s x lt used;
+  live = set_to _ _ s x.live _ (omega (arith, live)) (is_set (λ n. n.live) segments s x lt);
+  held = set_to _ _ s x.held _ held (is_set (λ n. n.held) segments s x lt);
+  age = is_same (λ n. n.age) segments s x lt age;
+  taken = is_same (λ n. n.taken) segments s x lt taken;
+  blocks = made_stale segments (slice_set segments s x) blocks (s / 64) low;
+  size = length-set segments s x;
+  clean = still_clean segments s x lt (ap (λ (u : ℕ). u == 0) (sym used));
+}
+
+pub hides_of : (old new : UsageTable) (s count : ℕ) (x : SegmentNumbers) → FitsTable old → s < length old.segments
+    → x.used ≡ used_of old s → x.live + count ≡ live_of old s → x.held ≡ held_of old s + count
+    → x.age ≡ age_of old s → x.taken ≡ taken_of old s → new.segments ≡ slice_set old.segments s x
+    → new.blocks ≡ slice_set old.blocks (s / 64) (record { address = (get_or old.blocks (s / 64) no_place).address; stale = true }) → HidesBlocks old new s count
+hides_of old new s count x fits lt used live held age taken segments blocks =
+    let few = fits.few in
+    let whole = fits.blocks in
+    subst (λ (t : UsageTable). HidesBlocks old t s count)
+    (sym (same_table (record { segments = slice_set old.segments s x; blocks = slice_set old.blocks (s / 64) (record { address = (get_or old.blocks (s / 64) no_place).address; stale = true }) }) new segments blocks))
+    (hides old.segments old.blocks s count x lt (omega arith) used live held age taken)
 
 pub takes_of : (old new : UsageTable) (s age : ℕ) → FitsTable old → s < length old.segments → used_of old s ≡ 0
     → new.segments ≡ slice_set old.segments s (record { used = 1; live = 0; held = 0; age = age; taken = true }) → new.blocks ≡ old.blocks → Takes old new s age

@@ -43,6 +43,17 @@ pub record TakesAway (old new : UsageTable) (s count : ℕ) (lives : Bool) : Typ
   pub size : length new.segments ≡ length old.segments
   pub clean : clean_in new.segments ≡ clean_in old.segments
 
+-- so many blocks that live in s hold it from now on
+pub record HidesBlocks (old new : UsageTable) (s count : ℕ) : Type 0 where
+  pub used : (i : ℕ) → used_of new i ≡ used_of old i
+  pub live : IsSet (live_of old) (live_of new) s (live_of old s - count)
+  pub held : IsSet (held_of old) (held_of new) s (held_of old s + count)
+  pub age : (i : ℕ) → age_of new i ≡ age_of old i
+  pub taken : (i : ℕ) → taken_of new i ≡ taken_of old i
+  pub blocks : Stales old new (s / 64)
+  pub size : length new.segments ≡ length old.segments
+  pub clean : clean_in new.segments ≡ clean_in old.segments
+
 -- a clean segment is taken
 pub record Takes (old new : UsageTable) (s number : ℕ) : Type 0 where
   pub inside : s < length old.segments

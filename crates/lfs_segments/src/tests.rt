@@ -152,6 +152,26 @@ fn changed(kept: Plain, comes: bool, lives: bool) -> Option<Plain> {
     })
 }
 
+/// So many blocks that live in a segment hold it from now on, where it has them.
+fn hide(usage: &mut Usage, segment: u32, count: u16) -> bool {
+    if segment >= usage.segments() || usage.state(segment).live < count {
+        return false;
+    }
+    usage.hide(segment, count);
+    true
+}
+
+/// The same beside it.
+fn hidden(kept: Plain, count: u16) -> Option<Plain> {
+    let (used, live, held, taken) = kept;
+    Some((
+        used,
+        live.checked_sub(count)?,
+        held.checked_add(count)?,
+        taken,
+    ))
+}
+
 fn released(kept: Plain) -> Plain {
     let (used, live, held, _) = kept;
     if live == 0 && held == 0 {
@@ -159,6 +179,20 @@ fn released(kept: Plain) -> Plain {
     } else {
         (used, live, held, false)
     }
+}
+
+/// A block comes or leaves, or two hold their segment from now on; whether both agree on it.
+fn move_blocks(usage: &mut Usage, place: &mut Plain, segment: u32, what: u32) -> bool {
+    let comes = what >= 8;
+    let lives = what % 2 == 0;
+    let (next, done) = if what == 3 {
+        (hidden(*place, 2), hide(usage, segment, 2))
+    } else {
+        let next = changed(*place, comes, lives);
+        (next, change(usage, segment, comes, lives))
+    };
+    *place = next.unwrap_or(*place);
+    done == next.is_some()
 }
 
 /// One step on both, chosen by a number; whether they agree on it.
@@ -180,17 +214,10 @@ fn step(usage: &mut Usage, kept: &mut [Plain], dice: u32) -> bool {
             }
             taken.map(|segment| segment as usize) == first
         }
-        what => {
-            let comes = what >= 8;
-            let lives = what % 2 == 0;
-            let Some(place) = kept.get_mut(segment as usize) else {
-                return false;
-            };
-            let next = changed(*place, comes, lives);
-            let done = change(usage, segment, comes, lives);
-            *place = next.unwrap_or(*place);
-            done == next.is_some()
-        }
+        what => match kept.get_mut(segment as usize) {
+            Some(place) => move_blocks(usage, place, segment, what),
+            None => false,
+        },
     }
 }
 

@@ -1,6 +1,6 @@
 //! What is known of each segment, after the segment usage table of the Sprite LFS paper (1992, section 3.6).
 ghost use Rattle.std.specs.Prelude.{◌≡◌, ◌≢◌, ◌<◌, ◌≤◌, ◌+◌, ◌-◌, ◌*◌, ◌/◌, ◌==◌, ℕ, suc, Bool, true, false, cond, not, length, get_or, replicate, slice_set, IfOk, IfSome, IfNone};
-ghost use Rattle.lfs_segments.specs.Steps.{Notes, Lifts, TakesAway, Takes, Puts, Releases, SpellsBlock, saved};
+ghost use Rattle.lfs_segments.specs.Steps.{Notes, Lifts, TakesAway, HidesBlocks, Takes, Puts, Releases, SpellsBlock, saved};
 ghost use Rattle.lfs_segments.specs.Steps as steps;
 ghost use Rattle.lfs_model.specs.Usage.{IsUse, no_use};
 ghost use Rattle.lfs_segments.specs.Table.{SegmentNumbers, BlockPlace, no_segment, no_place, used_of, live_of, held_of, age_of, taken_of, address_of, stale_of, clean_in, FitsSegment, FitsTable};
@@ -166,6 +166,17 @@ impl Usage {
         self.make_stale(segment / 64);
     }
 
+    /// So many blocks that live in a segment hold it from now on: they are those of files that lost their last name.
+    pub fn hide(&mut self, segment: u32, count: u16)
+        requires inside { segment < length self.old.segments }
+        requires live { count ≤ live_of self.old segment }
+        ensures { HidesBlocks self.old self.new segment count }
+    {
+        let state = hidden(self.state(segment), count);
+        self.put(segment, state);
+        self.make_stale(segment / 64);
+    }
+
     /// A segment has these numbers on the device.
     pub fn load(&mut self, segment: u32, saved: SegmentUsage)
         requires inside { segment < length self.old.segments }
@@ -309,6 +320,20 @@ fn taken_away(mut state: SegmentState, count: u16, lives: bool) -> SegmentState
     } else {
         state.held -= count;
     }
+    state
+}
+
+fn hidden(mut state: SegmentState, count: u16) -> SegmentState
+    requires live { count ≤ state.live }
+    requires fits { FitsSegment state }
+    ensures used { result.used ≡ state.used }
+    ensures live { result.live + count ≡ state.live }
+    ensures held { result.held ≡ state.held + count }
+    ensures age { result.age ≡ state.age }
+    ensures taken { result.taken ≡ state.taken }
+{
+    state.live -= count;
+    state.held += count;
     state
 }
 
