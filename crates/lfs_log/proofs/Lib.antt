@@ -1,12 +1,5 @@
-mod Chunks
-pub mod Rooms
-pub mod Opened
 pub mod Sealed
-pub mod Going
-pub mod Begun
-pub mod FileSteps
 pub mod MapSteps
-pub mod Presents
 pub mod UsageCounts
 pub mod UsageMoves
 pub mod UsageWrites
@@ -15,17 +8,4 @@ pub mod Saves
 pub mod UsageLoads
 pub mod MapLoads
 pub mod Opens
-pub mod Lifted
-pub mod LiftedKeys
-pub mod LiftedWays
 pub mod Volumes
-pub mod LogMaps
-pub mod Keys
-pub mod Looses
-pub mod BlockSteps
-pub mod Heads
-pub mod HeaderSteps
-pub mod Counted
-pub mod CountedFiles
-pub mod Aboves
-pub mod Removed

@@ -20,12 +20,12 @@ use Rattle.lfs_segments.specs.Chunk.{entries_of}
 use Rattle.lfs_segments.specs.Table.{UsageTable}
 use Rattle.lfs_inodes.specs.Blocks.{blocks_of}
 use Rattle.lfs_inodes.specs.MapValue.{MapValue, IsMap, IsMapOf, AreSettled, block_in}
-use Rattle.lfs_log.specs.declared.memory.LogMemory.{LogMemory}
-use Rattle.lfs_log.specs.Memory.{IsMemory, AreMapsOut, IsLog, IsBlockAt, AreHidden, Places, Goes, GoesUpTo, tables_by, tables_of, segment_in, chunk_in}
-use Rattle.lfs_log.proofs.Begun.{before, begun, noted, place_is, few_entries, opened_after, segment_after, segments_same, memory_after}
-use Rattle.lfs_log.proofs.FileSteps.{quiet_step}
-use Rattle.lfs_log.proofs.Opened.{as_chunk}
-use Rattle.lfs_log.proofs.Rooms.{takes_place}
+use Rattle.lfs_memory.specs.declared.memory.LogMemory.{LogMemory}
+use Rattle.lfs_memory.specs.Memory.{IsMemory, AreMapsOut, IsLog, IsBlockAt, AreHidden, Places, Goes, GoesUpTo, tables_by, tables_of, segment_in, chunk_in}
+use Rattle.lfs_memory.proofs.Begun.{before, begun, noted, place_is, few_entries, opened_after, segment_after, segments_same, memory_after}
+use Rattle.lfs_memory.proofs.FileSteps.{quiet_step}
+use Rattle.lfs_memory.proofs.Opened.{as_chunk}
+use Rattle.lfs_memory.proofs.Rooms.{takes_place}
 
 pub placed_map : (j : ℕ) → j < 32 → IsPlaced kind.Map 0 j
 unfolding IsPlaced

@@ -25,11 +25,11 @@ use Rattle.lfs_model.proofs.Starting.{starting}
 use Rattle.lfs_inodes.specs.Blocks.{Blocks, blocks_of, blocks_in}
 use Rattle.lfs_inodes.specs.MapValue.{MapValue, address_in, block_in}
 use Rattle.lfs_segments.specs.Table.{SegmentNumbers, UsageTable, no_segment, address_of, stale_of}
-use Rattle.lfs_log.specs.declared.memory.LogMemory.{LogMemory}
-use Rattle.lfs_log.specs.Memory.{IsLog, tables_by, tables_of, segment_in, chunk_in}
-use Rattle.lfs_log.specs.Present.{Looks}
+use Rattle.lfs_memory.specs.declared.memory.LogMemory.{LogMemory}
+use Rattle.lfs_memory.specs.Memory.{IsLog, tables_by, tables_of, segment_in, chunk_in}
+use Rattle.lfs_memory.specs.Present.{Looks}
 use Rattle.lfs_log.specs.Opening.{IsFault, IsOpenFault, IsUsageUpTo, SaysUsage, IsMapUpTo, SaysMap, Opens, numbers_in}
-use Rattle.lfs_log.proofs.Opened.{closed_segment, closed_chunk, as_chunk}
+use Rattle.lfs_memory.proofs.Opened.{closed_segment, closed_chunk, as_chunk}
 
 -- ---- the newest checkpoint
 module _ (d : DeviceState) (lawful : IsLawful d) where

@@ -24,10 +24,10 @@ use Rattle.lfs_segments.specs.Table.{SegmentNumbers, BlockPlace, UsageTable, no_
 use Rattle.lfs_segments.specs.Steps.{Releases, is_empty}
 use Rattle.lfs_inodes.specs.Blocks.{Blocks, blocks_in, blocks_of}
 use Rattle.lfs_inodes.specs.MapValue.{block_in}
-use Rattle.lfs_log.specs.declared.memory.LogMemory.{LogMemory}
-use Rattle.lfs_log.specs.Memory.{tables_of, segment_in, chunk_in, IsMemory, IsLog}
+use Rattle.lfs_memory.specs.declared.memory.LogMemory.{LogMemory}
+use Rattle.lfs_memory.specs.Memory.{tables_of, segment_in, chunk_in, IsMemory, IsLog}
 use Rattle.lfs_log.specs.Publishing.{IsAllOut, IsNext, IsAcknowledged, Publishes, PublishFails}
-use Rattle.lfs_log.proofs.Opened.{closed_segment, closed_chunk, as_chunk}
+use Rattle.lfs_memory.proofs.Opened.{closed_segment, closed_chunk, as_chunk}
 use Rattle.lfs_log.proofs.UsageWrites.{table_same}
 
 -- ---- counts

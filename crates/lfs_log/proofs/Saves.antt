@@ -9,12 +9,12 @@ use Rattle.lfs_model.specs.TreeOf.{dropped}
 use Rattle.lfs_model.proofs.Moments.{carries_then, joined, weaker}
 use Rattle.lfs_model.proofs.Settled.{settled_stands}
 use Rattle.lfs_segments.specs.Table.{clean_in}
-use Rattle.lfs_log.specs.declared.memory.LogMemory.{LogMemory}
-use Rattle.lfs_log.specs.Memory.{IsMemory, Goes, Stops, room_of, room_in}
+use Rattle.lfs_memory.specs.declared.memory.LogMemory.{LogMemory}
+use Rattle.lfs_memory.specs.Memory.{IsMemory, Goes, Stops, room_of, room_in}
 use Rattle.lfs_log.specs.Publishing.{IsAcknowledged, Publishes, PublishFails, LeavesEither}
 use Rattle.lfs_log.specs.Saving.{Commits, CommitFails}
-use Rattle.lfs_log.proofs.Begun.{zero_or_more}
-use Rattle.lfs_log.proofs.Rooms.{room_none, room_some}
+use Rattle.lfs_memory.proofs.Begun.{zero_or_more}
+use Rattle.lfs_memory.proofs.Rooms.{room_none, room_some}
 
 -- no more than eight segments were taken for 504 blocks
 pub eight_taken : (v v' : LogMemory) → v.chunk.names ≡ [] → IsMemory v' → room_of v ≤ room_of v' + 504 → clean_in v.usage.segments ≤ clean_in v'.usage.segments + 8

@@ -10,10 +10,10 @@ use Rattle.lfs_model.specs.Settled.{IsSettled}
 use Rattle.lfs_model.proofs.Leaving.{closing}
 use Rattle.lfs_segments.specs.Chunk.{Chunk, entries_of}
 use Rattle.lfs_inodes.specs.Blocks.{blocks_of}
-use Rattle.lfs_log.specs.declared.memory.LogMemory.{LogMemory}
-use Rattle.lfs_log.specs.Memory.{IsMemory, IsMemoryUpTo, IsLog, Goes, Stops, Quiet, tables_of, segment_in, chunk_in, room_in}
-use Rattle.lfs_log.proofs.Opened.{closed_segment, closed_chunk, as_chunk, is_open, stays_settled, stays_quiet, taken_free}
-use Rattle.lfs_log.proofs.Rooms.{room_none}
+use Rattle.lfs_memory.specs.declared.memory.LogMemory.{LogMemory}
+use Rattle.lfs_memory.specs.Memory.{IsMemory, IsMemoryUpTo, IsLog, Goes, Stops, Quiet, tables_of, segment_in, chunk_in, room_in}
+use Rattle.lfs_memory.proofs.Opened.{closed_segment, closed_chunk, as_chunk, is_open, stays_settled, stays_quiet, taken_free}
+use Rattle.lfs_memory.proofs.Rooms.{room_none}
 
 module _ (d d' : DeviceState) (v : LogMemory) (memory : IsMemoryUpTo 63 v) (some : 0 < length v.chunk.names) (lawful : IsLawful d)
     (spelt : entries_in (summary_sector v.chunk.names) ≡ Some (entries_of v.chunk))

@@ -22,21 +22,13 @@ use Rattle.lfs_segments.specs.Chunk.{Chunk, IsOpen, entries_of}
 use Rattle.lfs_segments.specs.Steps.{Takes}
 use Rattle.lfs_inodes.specs.Blocks.{TableValue, blocks_of}
 use Rattle.lfs_inodes.specs.MapValue.{MapValue, address_in, block_in}
-use Rattle.lfs_log.specs.declared.memory.LogMemory.{LogMemory}
-use Rattle.lfs_log.specs.Memory.{table_at, tables_of, segment_in, chunk_in, room_of, IsMemoryUpTo, IsMemory, AreHidden, IsLog, Goes, Stops}
-use Rattle.lfs_log.proofs.Opened.{open_segment, open_chunk, closed_segment, closed_chunk, as_chunk}
-use Rattle.lfs_log.proofs.Rooms.{room_none, room_some}
+use Rattle.lfs_memory.specs.declared.memory.LogMemory.{LogMemory}
+use Rattle.lfs_memory.specs.Memory.{table_at, tables_of, segment_in, chunk_in, room_of, IsMemoryUpTo, IsMemory, AreHidden, IsLog, Goes, Stops}
+use Rattle.lfs_memory.proofs.Opened.{open_segment, open_chunk, closed_segment, closed_chunk, as_chunk}
+use Rattle.lfs_memory.proofs.Rooms.{room_none, room_some}
 use Rattle.lfs_log.specs.Settling.{IsThere, Resettles, IsResettled, usage_name}
 
 -- ---- facts of a result
-pub on_ok : {A E : Type 0} (r : Result A E) (P Q : Type 0) → (P → Q) → OnOk r P → OnOk r Q
-on_ok (Ok x) P Q gives p = gives p
-on_ok (Err e) P Q gives p = tt
-
-pub on_fault : {A E : Type 0} (r : Result A E) (P Q : Type 0) → (P → Q) → OnErr r P → OnErr r Q
-on_fault (Ok x) P Q gives p = tt
-on_fault (Err e) P Q gives p = gives p
-
 pub all_ok : {A E : Type 0} (r : Result A E) (P : Type 0) → P → OnOk r P
 all_ok (Ok x) P p = p
 all_ok (Err e) P p = tt

@@ -13,9 +13,9 @@ use Rattle.lfs_segments.specs.Table.{SegmentNumbers, UsageTable, no_segment, tak
 use Rattle.lfs_segments.specs.Steps.{Puts, SpellsBlock}
 use Rattle.lfs_inodes.specs.Blocks.{blocks_of}
 use Rattle.lfs_inodes.specs.MapValue.{MapValue}
-use Rattle.lfs_log.specs.declared.memory.LogMemory.{LogMemory}
-use Rattle.lfs_log.specs.Memory.{table_at, tables_of, segment_in, chunk_in, IsMemory, IsLog, Goes, Stops}
-use Rattle.lfs_log.proofs.Opened.{stays_settled, stays_quiet, taken_free}
+use Rattle.lfs_memory.specs.declared.memory.LogMemory.{LogMemory}
+use Rattle.lfs_memory.specs.Memory.{table_at, tables_of, segment_in, chunk_in, IsMemory, IsLog, Goes, Stops}
+use Rattle.lfs_memory.proofs.Opened.{stays_settled, stays_quiet, taken_free}
 use Rattle.lfs_log.specs.Settling.{IsAnew, AreAnew, IsFilled}
 
 -- a sector of a segment that was taken is free

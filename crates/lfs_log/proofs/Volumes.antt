@@ -1,17 +1,32 @@
 -- The log over its device: what its calls do, from what is done to device and memory.
-use Rattle.std.proofs.Common.{◌≡◌, ◌+◌, ℕ, Bool, true, false, List, Option, sym, ◌∙◌}
+use Rattle.std.proofs.Common.{◌≡◌, ◌<◌, ◌≤◌, ◌+◌, ℕ, Bool, true, false, List, Option, refl, sym, ◌∙◌, arith}
 use Rattle.lfs_model.specs.Checkpoint.{CheckpointValue}
 use Rattle.lfs_model.specs.Device.{DeviceState}
 use Rattle.lfs_model.specs.Encodes.{IsLogMap}
-use Rattle.lfs_model.specs.Stands.{LogMap}
+use Rattle.lfs_model.specs.Stands.{LogMap, StandsLog}
+use Rattle.lfs_model.proofs.Crash.{single_log}
 use Rattle.lfs_model.specs.TreeOf.{dropped}
 use Rattle.lfs_model.proofs.Settled.{settled_stands}
-use Rattle.lfs_log.specs.declared.changes.Header.{Header}
+use Rattle.lfs_memory.specs.declared.header.Header.{Header}
 use Rattle.lfs_log.specs.Opening.{Opens}
-use Rattle.lfs_log.specs.Present.{AnswersHeader, AnswersBlock, IsExcused}
+use Rattle.lfs_memory.specs.Present.{AnswersHeader, AnswersBlock, IsExcused}
 use Rattle.lfs_log.specs.Publishing.{IsAcknowledged}
 use Rattle.lfs_log.specs.Saving.{Commits, CommitFails}
-use Rattle.lfs_log.specs.Held.{Held, Holds, Mounts, Saves, Halts, ReadsHeader, ReadsBlock, IsReadFault}
+use Rattle.lfs_memory.proofs.Looses.{loose}
+use Rattle.lfs_memory.specs.declared.changes.Changes.{Changes}
+use Rattle.lfs_memory.specs.declared.memory.LogMemory.{LogMemory}
+use Rattle.lfs_inodes.specs.MapValue.{IsFree, address_in}
+use Rattle.lfs_model.specs.Encodes.{HasInode}
+use Rattle.lfs_memory.specs.Memory.{IsLoose}
+use Rattle.lfs_memory.specs.Lifting.{Prepares}
+use Rattle.lfs_memory.specs.Changing.{Tightens}
+use Rattle.lfs_memory.specs.Removing.{Removes}
+use Rattle.lfs_memory.specs.Batch.{room_for}
+use Rattle.lfs_memory.specs.Staging.{Stands, Stages, Refuses, IsBatchExcused}
+use Rattle.lfs_memory.proofs.Applied.{has_inode}
+use Rattle.lfs_memory.proofs.BlockSteps.{tightened_log}
+use Rattle.lfs_memory.proofs.Presents.{looks_none, no_inode, same_map}
+use Rattle.lfs_log.specs.Held.{Held, Holds, Mounts, Saves, Halts, ReadsHeader, ReadsBlock, IsReadFault, Alters, IsStaged, IsRefused, IsStageFault, IsRemoved, IsKept, IsVacant, HasAll, HoldsOne}
 
 module _ {D : Type 0} (state : D → DeviceState) where
   acknowledged : (h : Held D) (k : CheckpointValue) (m0 m : LogMap) → Holds state h k m0 m → IsLogMap (dropped m) → IsAcknowledged (state h.device) h.memory h.number k m0 m
@@ -49,10 +64,95 @@ module _ {D : Type 0} (state : D → DeviceState) where
   mounts d h opens running m keeps is = let o = opens m keeps is in record { log = o.0; number = o.1; running = running }
 
   pub reads_header : (h h' : Held D) (n : ℕ) (found : Option Header) → AnswersHeader (state h.device) (state h'.device) h.memory n found → ReadsHeader state h h' n found
-  reads_header h h' n found answers k m0 m keeps is = answers k m0 m keeps is.log
+  reads_header h h' n found answers k m0 m keeps is = answers k m0 m keeps (loose (state h.device) h.memory k m0 m is.log)
 
   pub reads_block : (h h' : Held D) (n i : ℕ) (out : List ℕ) (stored : Bool) → AnswersBlock (state h.device) (state h'.device) h.memory n i out stored → ReadsBlock state h h' n i out stored
-  reads_block h h' n i out stored answers k m0 m keeps is = answers k m0 m keeps is.log
+  reads_block h h' n i out stored answers k m0 m keeps is = answers k m0 m keeps (loose (state h.device) h.memory k m0 m is.log)
 
   pub read_fault : (h h' : Held D) → IsExcused (state h.device) (state h'.device) h.memory → IsReadFault state h h'
-  read_fault h h' excused k m0 m keeps is = excused k m0 m keeps is.log
+  read_fault h h' excused k m0 m keeps is = excused k m0 m keeps (loose (state h.device) h.memory k m0 m is.log)
+
+  -- ---- memory changes, and then blocks of pointers that lead nowhere leave it
+  held_tight : (h h' : Held D) (v : LogMemory) (k : CheckpointValue) (m0 m w : LogMap) → Holds state h k m0 m → h'.number ≡ h.number → h'.halted ≡ h.halted → Tightens v h'.memory
+      → IsLoose (state h'.device) v k m0 w → Holds state h' k m0 w
+  held_tight h h' v k m0 m w is number halted tight loose = record { log = tightened_log (state h'.device) v h'.memory k m0 w tight loose; number = is.number ∙ sym number; running = halted ∙ is.running }
+
+  module _ (h h' : Held D) (v : LogMemory) (number : h'.number ≡ h.number) (halted : h'.halted ≡ h.halted) (tight : Tightens v h'.memory) where
+    module _ (c : Changes) where
+      stood : Stands (state h.device) (state h'.device) h.memory v c.headers.items c.blocks.items → Alters state h h' (room_for c)
+      stood s = record {
+        looks = s.looks;
+        number = number;
+        halted = halted;
+        segments = tight.stays.segments ∙ s.segments;
+        clean = tight.stays.clean ∙ s.clean;
+        capacity = tight.stays.capacity ∙ s.capacity;
+        few = let x = s.few in let y = tight.stays.blocks in omega (arith, x, y);
+      }
+
+      pub is_staged : Stages (state h.device) (state h'.device) h.memory v c.loss c.headers.items c.blocks.items → IsStaged state h h' c
+      is_staged s = record { alters = stood s.stands; holds = λ k m0 m keeps is fits. held_tight h h' v k m0 m _ is number halted tight (s.log k m0 m keeps (loose (state h.device) h.memory k m0 m is.log) fits) }
+
+      pub is_refused : Refuses (state h.device) (state h'.device) h.memory v c.loss c.headers.items c.blocks.items → IsRefused state h h' c
+      is_refused s = record { alters = stood s.stands; holds = λ k m0 m keeps is fits. held_tight h h' v k m0 m m is number halted tight (s.log k m0 m keeps (loose (state h.device) h.memory k m0 m is.log) fits) }
+
+    pub is_removed : (n : ℕ) → Removes (state h.device) (state h'.device) h.memory v n → IsRemoved state h h' n
+    is_removed n s = record {
+      alters = record {
+        looks = s.looks;
+        number = number;
+        halted = halted;
+        segments = tight.stays.segments ∙ s.segments;
+        clean = tight.stays.clean ∙ s.clean;
+        capacity = tight.stays.capacity ∙ s.capacity;
+        few = let x = s.few in let y = tight.stays.blocks in omega (arith, x, y);
+      };
+      holds = λ k m0 m keeps is. held_tight h h' v k m0 m _ is number halted tight (s.log k m0 m keeps (loose (state h.device) h.memory k m0 m is.log));
+    }
+
+    pub is_kept : Prepares (state h.device) (state h'.device) h.memory v 0 → IsKept state h h'
+    is_kept s = record {
+      alters = record {
+        looks = s.looks;
+        number = number;
+        halted = halted;
+        segments = tight.stays.segments ∙ s.segments;
+        clean = tight.stays.clean ∙ s.clean;
+        capacity = tight.stays.capacity ∙ s.capacity;
+        few = let x = s.few in let y = tight.stays.blocks in omega (arith, x, y);
+      };
+      holds = λ k m0 m keeps is. held_tight h h' v k m0 m m is number halted tight (s.log k m0 m keeps (loose (state h.device) h.memory k m0 m is.log));
+    }
+
+  pub is_stage_fault : (h h' : Held D) (c : Changes) → IsBatchExcused (state h.device) (state h'.device) h.memory c.loss c.headers.items c.blocks.items → IsStageFault state h h' c
+  is_stage_fault h h' c failed k m0 m keeps is fits = failed k m0 m keeps (loose (state h.device) h.memory k m0 m is.log) fits
+
+  -- nothing happened
+  pub alters_none : (h : Held D) (more : ℕ) → Alters state h h more
+  alters_none h more = record { looks = looks_none (state h.device); number = refl; halted = refl; segments = refl; clean = refl; capacity = refl; few = omega arith }
+
+  -- ---- numbers that no file has
+  has_there : (h : Held D) (k : CheckpointValue) (m0 m : LogMap) → Holds state h k m0 m → (l : ℕ) → 0 < address_in h.memory.map l → HasInode m l
+  has_there h k m0 m is l some = has_inode (state h.device) h.memory k m0 m (loose (state h.device) h.memory k m0 m is.log) l some
+
+  pub is_vacant : (h : Held D) (n : ℕ) → IsFree h.memory.map n → IsVacant state h n
+  is_vacant h n f = record {
+    some = f.some;
+    few = f.few;
+    free = λ k m0 m is. no_inode (state h.device) h.memory k m0 m (loose (state h.device) h.memory k m0 m is.log) n f.free;
+    least = λ k m0 m is l low below. has_there h k m0 m is l (f.least l low below);
+  }
+
+  pub has_all : (h : Held D) → ((l : ℕ) → 1 ≤ l → l < 4096 → 0 < address_in h.memory.map l) → HasAll state h
+  has_all h all k m0 m is l low few = has_there h k m0 m is l (all l low few)
+
+  -- ---- the log holds one log map
+  pub holds_one : (h : Held D) → HoldsOne state h
+  holds_one h = record {
+    present = λ k k' m0 m m0' m' is is'.
+        same_map (state h.device) h.memory k k' m0 m m0' m' (loose (state h.device) h.memory k m0 m is.log) (loose (state h.device) h.memory k' m0' m' is'.log);
+    acknowledged = λ k k' m0 m m0' m' is is'. single_log (state h.device).content m0 m0' (stands_for h k m0 m is) (stands_for h k' m0' m' is');
+  }
+    where
+      stands_for : (h : Held D) (k : CheckpointValue) (m0 m : LogMap) → Holds state h k m0 m → StandsLog (state h.device).content m0
+      stands_for h k m0 m is = let s = is.log.running.settled in record { checkpoint = k; newest = s.newest; stands = s.stands }

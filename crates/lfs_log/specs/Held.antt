@@ -1,5 +1,5 @@
 -- What contracts see of a log: its device, what memory holds, the number of the acknowledged checkpoint, and whether a commit failed.
-use Rattle.std.specs.Prelude.{◌≡◌, ◌⊎◌, ◌<◌, ◌≤◌, ◌+◌, ◌-◌, ◌*◌, ◌^◌, ℕ, zero, suc, Bool, true, false, List, [], length, refl, Option}
+use Rattle.std.specs.Prelude.{◌≡◌, ◌⊎◌, ◌<◌, ◌≤◌, ◌+◌, ◌-◌, ◌*◌, ◌^◌, ℕ, zero, suc, Bool, true, false, List, [], length, refl, Option, None}
 use Rattle.std.specs.Coded.{Coded, code_by, coded×, coded_ℕ, coded_bool, coded_list}
 use Rattle.lfs_model.specs.declared.BlockKind.{BlockKind}
 use Rattle.lfs_model.specs.declared.BlockKind.TheVariants as kind
@@ -7,8 +7,9 @@ use Rattle.lfs_model.specs.Checkpoint.{CheckpointValue}
 use Rattle.lfs_model.specs.Content.{Content}
 use Rattle.lfs_model.specs.Crash.{StandsFor}
 use Rattle.lfs_model.specs.Device.{DeviceState, Carries, LeavesOnly, AllLeft}
-use Rattle.lfs_model.specs.Encodes.{IsLogMap}
-use Rattle.lfs_log.specs.declared.changes.Header.{Header}
+use Rattle.lfs_model.specs.Encodes.{IsLogMap, HasInode}
+use Rattle.lfs_memory.specs.declared.changes.Changes.{Changes}
+use Rattle.lfs_memory.specs.declared.header.Header.{Header}
 use Rattle.lfs_model.specs.TreeOf.{dropped}
 use Rattle.lfs_model.specs.Stands.{LogMap, StandsLog}
 use Rattle.lfs_model.specs.Summary.{BlockNameValue}
@@ -16,9 +17,11 @@ use Rattle.lfs_segments.specs.Table.{SegmentNumbers, BlockPlace, UsageTable, cle
 use Rattle.lfs_segments.specs.Chunk.{Chunk}
 use Rattle.lfs_inodes.specs.Blocks.{TableValue}
 use Rattle.lfs_inodes.specs.MapValue.{MapValue}
-use Rattle.lfs_log.specs.declared.memory.LogMemory.{LogMemory}
-use Rattle.lfs_log.specs.Memory.{IsMemory, HasRoom, IsLog}
-use Rattle.lfs_log.specs.Present.{Looks, HeaderAnswer, BlockAnswer}
+use Rattle.lfs_memory.specs.declared.memory.LogMemory.{LogMemory}
+use Rattle.lfs_memory.specs.Memory.{IsMemory, HasRoom, IsLog}
+use Rattle.lfs_memory.specs.Present.{Looks, HeaderAnswer, BlockAnswer}
+use Rattle.lfs_memory.specs.Removing.{without_file}
+use Rattle.lfs_memory.specs.Batch.{room_for, staged, FitsBatch}
 
 pub record Held (D : Type 0) : Type 0 where
   pub device : D
@@ -166,6 +169,56 @@ module _ {D : Type 0} (state : D → DeviceState) where
 
   abbrev pub ReadsBlock : Held D → Held D → ℕ → ℕ → List ℕ → Bool → Type 0
   ReadsBlock h h' n i out stored = (k : CheckpointValue) (m0 m : LogMap) → (state h'.device).keeps_model → Holds h k m0 m → BlockAnswer m n i out stored
+
+  -- A call that changes no more than memory, where so many blocks may come.
+  pub record Alters (h h' : Held D) (more : ℕ) : Type 0 where
+    pub looks : Looks (state h.device) (state h'.device)
+    pub number : h'.number ≡ h.number
+    pub halted : h'.halted ≡ h.halted
+    pub segments : length h'.memory.usage.segments ≡ length h.memory.usage.segments
+    pub clean : clean_in h'.memory.usage.segments ≡ clean_in h.memory.usage.segments
+    pub capacity : h'.memory.dirty.capacity ≡ h.memory.dirty.capacity
+    pub few : length h'.memory.dirty.blocks ≤ length h.memory.dirty.blocks + more
+
+  -- A batch of changes is staged: the present log map is the one with all of them.
+  pub record IsStaged (h h' : Held D) (c : Changes) : Type 0 where
+    pub alters : Alters h h' (room_for c)
+    pub holds : (k : CheckpointValue) (m0 m : LogMap) → (state h'.device).keeps_model → Holds h k m0 m → FitsBatch m c → Holds h' k m0 (staged c m)
+
+  -- Or none is made.
+  pub record IsRefused (h h' : Held D) (c : Changes) : Type 0 where
+    pub alters : Alters h h' (room_for c)
+    pub holds : (k : CheckpointValue) (m0 m : LogMap) → (state h'.device).keeps_model → Holds h k m0 m → FitsBatch m c → Holds h' k m0 m
+
+  -- a call of the device failed, where the log holds a map that the batch fits
+  abbrev pub IsStageFault : Held D → Held D → Changes → Type 0
+  IsStageFault h h' c = (k : CheckpointValue) (m0 m : LogMap) → (state h'.device).keeps_model → Holds h k m0 m → FitsBatch m c → (state h.device).failures < (state h'.device).failures
+
+  -- A file is gone.
+  pub record IsRemoved (h h' : Held D) (n : ℕ) : Type 0 where
+    pub alters : Alters h h' 0
+    pub holds : (k : CheckpointValue) (m0 m : LogMap) → (state h'.device).keeps_model → Holds h k m0 m → Holds h' k m0 (without_file n m)
+
+  -- Or nothing is.
+  pub record IsKept (h h' : Held D) : Type 0 where
+    pub alters : Alters h h' 0
+    pub holds : (k : CheckpointValue) (m0 m : LogMap) → (state h'.device).keeps_model → Holds h k m0 m → Holds h' k m0 m
+
+  -- n is the least number that no file has
+  pub record IsVacant (h : Held D) (n : ℕ) : Type 0 where
+    pub some : 1 ≤ n
+    pub few : n < 4096
+    pub free : (k : CheckpointValue) (m0 m : LogMap) → Holds h k m0 m → m.header n ≡ None
+    pub least : (k : CheckpointValue) (m0 m : LogMap) → Holds h k m0 m → (l : ℕ) → 1 ≤ l → l < n → HasInode m l
+
+  -- each number has a file
+  abbrev pub HasAll : Held D → Type 0
+  HasAll h = (k : CheckpointValue) (m0 m : LogMap) → Holds h k m0 m → (l : ℕ) → 1 ≤ l → l < 4096 → HasInode m l
+
+  -- all log maps that the log holds are one, and so are those that it acknowledged
+  pub record HoldsOne (h : Held D) : Type 0 where
+    pub present : (k k' : CheckpointValue) (m0 m m0' m' : LogMap) → Holds h k m0 m → Holds h k' m0' m' → m ≡ m'
+    pub acknowledged : (k k' : CheckpointValue) (m0 m m0' m' : LogMap) → Holds h k m0 m → Holds h k' m0' m' → m0 ≡ m0'
 
 -- so few segments are clean that a commit might leave too few, or no number is left for its checkpoint
 abbrev pub IsFull : {D : Type 0} → Held D → Type 0

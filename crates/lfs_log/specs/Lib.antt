@@ -1,12 +1,5 @@
-pub mod Chunk
-pub mod Memory
-pub mod Present
 pub mod Settling
 pub mod Publishing
 pub mod Saving
 pub mod Opening
-pub mod Lifting
 pub mod Held
-pub mod Changing
-pub mod Counting
-pub mod Removing

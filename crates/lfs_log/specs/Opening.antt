@@ -9,8 +9,8 @@ use Rattle.lfs_model.specs.Stands.{LogMap, StandsAt, StandsLog, used_in, live_in
 use Rattle.lfs_model.specs.Usage.{SegmentUse, no_use}
 use Rattle.lfs_segments.specs.Table.{SegmentNumbers, UsageTable, no_segment, address_of, stale_of}
 use Rattle.lfs_inodes.specs.MapValue.{MapValue, address_in, is_hidden_in, block_in}
-use Rattle.lfs_log.specs.declared.memory.LogMemory.{LogMemory}
-use Rattle.lfs_log.specs.Memory.{IsMemory, IsLog}
+use Rattle.lfs_memory.specs.declared.memory.LogMemory.{LogMemory}
+use Rattle.lfs_memory.specs.Memory.{IsMemory, IsLog}
 
 -- a call of the device failed, where the content stands for a log map
 abbrev pub IsFault : DeviceState → DeviceState → CheckpointValue → Type 0

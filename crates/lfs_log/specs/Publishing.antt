@@ -8,8 +8,8 @@ use Rattle.lfs_model.specs.Stands.{LogMap}
 use Rattle.lfs_model.specs.TreeOf.{dropped}
 use Rattle.lfs_segments.specs.Table.{address_of, stale_of, clean_in}
 use Rattle.lfs_inodes.specs.MapValue.{block_in}
-use Rattle.lfs_log.specs.declared.memory.LogMemory.{LogMemory}
-use Rattle.lfs_log.specs.Memory.{IsMemory, IsLog}
+use Rattle.lfs_memory.specs.declared.memory.LogMemory.{LogMemory}
+use Rattle.lfs_memory.specs.Memory.{IsMemory, IsLog}
 use Rattle.lfs_log.specs.Settling.{blocks_in}
 
 -- all blocks are out, and many segments are clean

@@ -6,8 +6,8 @@ use Rattle.lfs_model.specs.Device.{DeviceState, Carries, AllLeft}
 use Rattle.lfs_model.specs.Stands.{LogMap}
 use Rattle.lfs_model.specs.TreeOf.{dropped}
 use Rattle.lfs_segments.specs.Table.{clean_in}
-use Rattle.lfs_log.specs.declared.memory.LogMemory.{LogMemory}
-use Rattle.lfs_log.specs.Memory.{IsMemory, IsLog}
+use Rattle.lfs_memory.specs.declared.memory.LogMemory.{LogMemory}
+use Rattle.lfs_memory.specs.Memory.{IsMemory, IsLog}
 use Rattle.lfs_log.specs.Publishing.{IsAcknowledged, LeavesEither}
 
 -- All that memory holds is saved, but for files without a name; at most eight segments were taken for it.

@@ -6,8 +6,8 @@ use Rattle.lfs_model.specs.Summary.{BlockNameValue}
 use Rattle.lfs_model.specs.Running.{IsSet}
 use Rattle.lfs_segments.specs.Table.{UsageTable, live_of, taken_of, address_of, stale_of}
 use Rattle.lfs_segments.specs.Steps.{Lifts, Puts}
-use Rattle.lfs_log.specs.declared.memory.LogMemory.{LogMemory}
-use Rattle.lfs_log.specs.Memory.{Places}
+use Rattle.lfs_memory.specs.declared.memory.LogMemory.{LogMemory}
+use Rattle.lfs_memory.specs.Memory.{Places}
 
 -- usage block j lives on the device
 pub record IsThere (t : UsageTable) (j : ℕ) : Type 0 where

@@ -3,16 +3,16 @@
 ghost use Rattle.std.specs.Prelude.{◌≡◌, ◌<◌, ◌≤◌, ◌+◌, ◌*◌, ◌^◌, ◌-◌, [], length, OnOk, OnErr};
 ghost use Rattle.lfs_segments.specs.Table.{clean_in};
 ghost use Rattle.lfs_log.specs.Settling.{AreAnew};
-ghost use Rattle.lfs_log.specs.Memory.{IsMemory, AreMapsOut, HasRoom, Goes, Stops, room_of};
+ghost use Rattle.lfs_memory.specs.Memory.{IsMemory, AreMapsOut, HasRoom, Goes, Stops, room_of};
 ghost use Rattle.lfs_log.specs.Publishing.{IsAllOut};
 ghost use Rattle.lfs_log.specs.Saving.{Commits, CommitFails};
 
 use crate::mapping::save_map;
-use crate::memory::LogMemory;
 use crate::placing::{save_files, seal};
 use crate::publishing::publish;
 use crate::settling::{fill_usage, settle_usage};
 use lfs_device::{DeviceFault, SectorDevice};
+use lfs_memory::LogMemory;
 
 /// All that is to be saved gets its place, each block before those that point to it.
 fn place_all<D: SectorDevice>(

@@ -1,202 +1,289 @@
-//! A volume's log: reading, staging and committing.
-ghost use Rattle.std.specs.Prelude.{◌≡◌, ◌≤◌, ◌<◌, ◌+◌, ◌*◌, vec_len};
+//! The log of a volume, over its device.
+ghost use Rattle.std.specs.Prelude.{◌≡◌, ◌≢◌, ◌<◌, ◌≤◌, ◌+◌, ◌-◌, ◌*◌, ◌^◌, true, false, length, IfSome, IfNone, IfOk, IfErr, OnOk, OnErr, IsErrOf, MatchResult, IsTrue, IsFalse};
+ghost use Rattle.lfs_model.specs.Device.{Only, IsUntouched, Carries, LeavesOnly};
+ghost use Rattle.lfs_model.specs.Fields.{zeros};
+ghost use Rattle.lfs_segments.specs.Table.{clean_in};
+ghost use Rattle.lfs_log.specs.Opening.{IsOpenFault};
+ghost use Rattle.lfs_memory.specs.Preparing.{LacksRoom};
+ghost use Rattle.lfs_memory.specs.Batch.{room_for};
 
-use crate::changes::{Changes, Header};
-use crate::chunk::ChunkWriter;
-use crate::dirty::{DirtyTable, MOST_UNSAVED};
-use crate::entry::Entry;
-use crate::load::{MountFault, Tables, load};
-use crate::reading::{read_entry, read_inode};
-use crate::saving::save;
-use crate::staging::{DIRECT, FIRST_DIRECT, change_block, change_header, lift};
+use crate::committing::save;
+use crate::fault::MountFault;
+use crate::opening::open_memory;
 use lfs_device::SectorDevice;
-use lfs_layout::{InodeView, word};
+use lfs_memory::counting::SegmentCounts;
+use lfs_memory::present::{read_block, read_header};
+use lfs_memory::staging::{has_room, remove_tight, stage_tight};
+use lfs_memory::{Changes, Header, LogFault, LogMemory};
+use lfs_segments::Usage;
 use std::alloc::Global;
-
-/// Why a call of the log isn't done.
-#[derive(Clone, Copy, Debug, PartialEq, Eq)]
-pub enum LogFault {
-    /// A read failed, or gave what no volume holds. Nothing changed.
-    Device,
-    /// A commit failed, in this call or before.
-    Halted,
-    /// The changes need more room than there is before the next commit. Nothing changed.
-    Full,
-}
+use std::marker::Model;
 
 /// The inodes and blocks of a volume: in memory where they changed since the acknowledged checkpoint, else on the device.
 #[derive(Drop)]
 pub struct Log<D: SectorDevice> {
     device: D,
-    tables: Tables,
-    dirty: DirtyTable,
-    chunk: ChunkWriter,
+    memory: LogMemory,
+    number: u64,
     halted: bool,
+    /// What a file loses is counted here.
+    counts: SegmentCounts,
+}
+
+impl<D: SectorDevice> Model for Log<D> {
+    ghost use Rattle.lfs_log.specs.Held.{Held, held_code, IsHeld};
+
+    ghost Value = { Held D };
+
+    ghost coded = { held_code D.code };
+
+    ghost view = { λ l. record { device = l.device; memory = l.memory; number = l.number; halted = l.halted } };
+
+    ghost invariant = { λ l. IsHeld (D.SectorDevice.state l.device) l.memory l.halted };
 }
 
 impl<D: SectorDevice> Log<D> {
-    /// The volume that the newest checkpoint of the device leads to; else why there is none, and the device.
-    /// The memory that later calls need is taken here.
-    pub fn open(alloc: Global, device: D) -> Result<Log<D>, (MountFault, D)> {
+    ghost use Rattle.lfs_log.specs.Held.{Mounts, Saves, Halts, Reads, ReadsHeader, ReadsBlock, IsReadFault, IsFull, IsVacant, HasAll, IsStaged, IsRefused, IsStageFault, IsRemoved, IsKept, HoldsOne};
+
+    /// The volume that the newest checkpoint of the device leads to; else why there is none, and the device. It writes nothing, and
+    /// takes the memory that later calls need.
+    ///
+    /// # Errors
+    ///
+    /// `NoMemory` where memory is refused, `Device` where a call of the device failed; else the device holds no log map.
+    pub fn open(alloc: Global, device: D) -> Result<Log<D>, (MountFault, D)>
+        ensures holds { IfOk result (λ l. Mounts D.SectorDevice.state device l) }
+        ensures durable { IfOk result (λ l. (D.state l.device).keeps_model → Only (D.state device).content (D.state l.device)) }
+        ensures cause { IfErr result (λ e. (e.0 ≡ MountFault.NoMemory → ⊥) → IsOpenFault (D.state device) (D.state e.1)) }
+        ensures failed { IfErr result (λ e. e.0 ≡ MountFault.Device → (D.state device).failures < (D.state e.1).failures) }
+        ensures untouched { MatchResult result (λ l. IsUntouched (D.state device) (D.state l.device)) (λ e. IsUntouched (D.state device) (D.state e.1)) }
+        ensures carries { MatchResult result (λ l. Carries (D.state device) (D.state l.device)) (λ e. Carries (D.state device) (D.state e.1)) }
+        ensures any_moment { MatchResult result (λ l. LeavesOnly (D.state device) (D.state l.device) (D.state device).may_leave) (λ e. LeavesOnly (D.state device) (D.state e.1) (D.state device).may_leave) }
+    {
+        let Ok(counts) = SegmentCounts::new(alloc) else {
+            return Err((MountFault::NoMemory, device));
+        };
         let mut device = device;
-        match prepare(alloc, &mut device) {
-            Ok((tables, dirty, chunk)) => Ok(Log {
+        match open_memory(alloc, &mut device) {
+            Ok((memory, number)) => Ok(Log {
                 device,
-                tables,
-                dirty,
-                chunk,
+                memory,
+                number,
                 halted: false,
+                counts,
             }),
             Err(fault) => Err((fault, device)),
         }
     }
 
-    /// The device as it is; what wasn't committed is gone.
-    pub fn into_device(self) -> D {
+    /// The log holds one log map, and one that it acknowledged: a law of what `Holds` says.
+    pub fn holds_one_map(&self)
+        ensures { HoldsOne D.SectorDevice.state self.now }
+    {}
+
+    /// The device as it is; what wasn't saved is gone.
+    pub fn into_device(self) -> D
+        ensures { result ≡ self.device }
+    {
         self.device
     }
 
     /// Whether a commit failed.
-    pub fn is_halted(&self) -> bool {
+    pub fn is_halted(&self) -> bool
+        ensures { result ≡ self.now.halted }
+    {
         self.halted
     }
 
     /// The acknowledged checkpoint's number.
-    pub fn number(&self) -> u64 {
-        self.tables.number
+    pub fn number(&self) -> u64
+        ensures { result ≡ self.now.number }
+    {
+        self.number
     }
 
     /// How many segments the volume has.
     pub fn segments(&self) -> u32
-        ensures least { 64 ≤ result }
-        ensures most { result ≤ 1024 }
+        ensures { result ≡ length self.now.memory.usage.segments }
     {
-        self.tables.segments
+        self.memory.usage.segments()
     }
 
     /// How many segments are clean.
-    pub fn clean_segments(&self) -> u32 {
-        self.tables.usage.clean()
+    pub fn clean_segments(&self) -> u32
+        ensures { result ≡ clean_in self.now.memory.usage.segments }
+    {
+        self.memory.usage.clean()
     }
 
-    /// How many blocks changed since the acknowledged checkpoint.
-    pub fn unsaved(&self) -> usize {
-        self.dirty.len()
+    /// How many blocks of files are in memory, changed since the acknowledged checkpoint.
+    pub fn unsaved(&self) -> usize
+        ensures { result ≡ length self.now.memory.dirty.blocks }
+    {
+        self.memory.dirty.len()
     }
 
-    /// How many data blocks the volume has.
-    pub fn data_blocks(&self) -> u32 {
-        self.tables.data_blocks
+    /// How many blocks live in each segment, and hold it.
+    pub fn usage(&self) -> &Usage
+        ensures { result.now ≡ self.now.memory.usage }
+    {
+        &self.memory.usage
     }
 
-    /// How many inodes and pointer blocks the volume has.
-    pub fn meta_blocks(&self) -> u32 {
-        self.tables.meta_blocks
+    /// The least number that no file has.
+    pub fn least_free(&self) -> Option<u16>
+        ensures some { IfSome result (IsVacant D.SectorDevice.state self.now) }
+        ensures none { IfNone result (HasAll D.SectorDevice.state self.now) }
+    {
+        self.memory.map.least_free()
     }
 
-    /// The least number without an object.
-    pub fn least_free(&self) -> Option<u16> {
-        self.tables.map.least_free()
+    /// Whether memory has room for a batch of changes. After a commit it has for one of 139 blocks.
+    pub fn has_room(&self, changes: &Changes) -> bool
+        ensures room { IsTrue result → length self.now.memory.dirty.blocks + room_for changes.now ≤ self.now.memory.dirty.capacity }
+        ensures lacks { IsFalse result → self.now.halted ≡ false → LacksRoom self.now.memory (room_for changes.now) }
+    {
+        !self.halted && has_room(&self.memory, changes)
     }
 
-    /// Kind, links and size of an object, if it is there.
-    pub fn header(&mut self, number: u16) -> Result<Option<Header>, LogFault> {
-        let mut bytes = [0; 512];
-        if !read_inode(
-            &mut self.device,
-            &self.tables,
-            &self.dirty,
-            number,
-            &mut bytes,
-        )? {
-            return Ok(None);
+    /// What the inode of a file says of it, if the file is there.
+    ///
+    /// # Errors
+    ///
+    /// `Halted` once a commit failed, `Device` where a call of the device failed.
+    pub fn header(&mut self, number: u16) -> Result<Option<Header>, LogFault>
+        requires { number < 4096 }
+        ensures reads { Reads D.SectorDevice.state self.old self.new }
+        ensures answer { IfOk result (ReadsHeader D.SectorDevice.state self.old self.new number) }
+        ensures halted { IsErrOf result LogFault.Halted → self.old.halted ≡ true }
+        ensures other { IsErrOf result LogFault.Full → ⊥ }
+        ensures failed { OnErr result (IsReadFault D.SectorDevice.state self.old self.new) }
+    {
+        if self.halted {
+            return Err(LogFault::Halted);
         }
-        let Some(inode) = InodeView::decode(&bytes) else {
+        let Ok(header) = read_header(&mut self.device, &self.memory, number) else {
             return Err(LogFault::Device);
         };
-        Ok(Some(Header {
-            kind: inode.kind(),
-            links: inode.links(),
-            size: inode.size(),
-        }))
+        Ok(header)
     }
 
-    /// The bytes of a block of an object: zeros where none is stored.
-    pub fn block(&mut self, number: u16, index: u32, out: &mut [u8; 512]) -> Result<(), LogFault> {
-        *out = [0; 512];
-        let mut inode = [0; 512];
-        if index >= DIRECT
-            || !read_inode(
-                &mut self.device,
-                &self.tables,
-                &self.dirty,
-                number,
-                &mut inode,
-            )?
-        {
-            return Ok(());
+    /// Whether a block of a file is stored, and its bytes; zeros where it isn't.
+    ///
+    /// # Errors
+    ///
+    /// As those of `header`.
+    pub fn block(&mut self, number: u16, index: u32, out: &mut [u8; 512]) -> Result<bool, LogFault>
+        requires { number < 4096 }
+        ensures reads { Reads D.SectorDevice.state self.old self.new }
+        ensures answer { IfOk result (ReadsBlock D.SectorDevice.state self.old self.new number index out.new) }
+        ensures zeros { IfOk result (λ found. IsFalse found → out.new ≡ zeros 512) }
+        ensures halted { IsErrOf result LogFault.Halted → self.old.halted ≡ true }
+        ensures other { IsErrOf result LogFault.Full → ⊥ }
+        ensures failed { OnErr result (IsReadFault D.SectorDevice.state self.old self.new) }
+    {
+        if self.halted {
+            return Err(LogFault::Halted);
         }
-        let address = word(&inode, FIRST_DIRECT + index as usize);
-        read_entry(
+        let Ok(stored) = read_block(&mut self.device, &self.memory, number, index, out) else {
+            return Err(LogFault::Device);
+        };
+        Ok(stored)
+    }
+
+    /// Changes files in memory, whole or not at all: first what is lost, then headers, then blocks.
+    ///
+    /// # Errors
+    ///
+    /// With the files as they were: `Full` where memory has no room, `Device` where a call of the device failed. `Halted` once a
+    /// commit failed.
+    pub fn stage(&mut self, changes: &Changes) -> Result<(), LogFault>
+        ensures done { OnOk result (IsStaged D.SectorDevice.state self.old self.new changes.now) }
+        ensures refused { OnErr result (IsRefused D.SectorDevice.state self.old self.new changes.now) }
+        ensures full { IsErrOf result LogFault.Full → LacksRoom self.old.memory (room_for changes.now) }
+        ensures failed { IsErrOf result LogFault.Device → IsStageFault D.SectorDevice.state self.old self.new changes.now }
+        ensures halted { IsErrOf result LogFault.Halted → (self.new ≡ self.old) × (self.old.halted ≡ true) }
+    {
+        if self.halted {
+            return Err(LogFault::Halted);
+        }
+        stage_tight(
             &mut self.device,
-            &self.tables,
-            &self.dirty,
-            Entry::Data(number, index),
-            address,
-            out,
+            &mut self.memory,
+            changes,
+            &mut self.counts,
         )
     }
 
-    /// Makes the changes, all or none. The caller has seen to the room: `unsaved` plus the changes is at most `MOST_UNSAVED`.
-    pub fn stage(&mut self, changes: &Changes) -> Result<(), LogFault> {
+    /// Removes a file with all its blocks. It takes no memory.
+    ///
+    /// # Errors
+    ///
+    /// With the files as they were: `Device` where a call of the device failed. `Halted` once a commit failed.
+    pub fn remove(&mut self, number: u16) -> Result<(), LogFault>
+        requires { number < 4096 }
+        ensures done { OnOk result (IsRemoved D.SectorDevice.state self.old self.new number) }
+        ensures kept { OnErr result (IsKept D.SectorDevice.state self.old self.new) }
+        ensures halted { IsErrOf result LogFault.Halted → self.old.halted ≡ true }
+        ensures other { IsErrOf result LogFault.Full → ⊥ }
+        ensures failed { OnErr result (IsReadFault D.SectorDevice.state self.old self.new) }
+    {
         if self.halted {
             return Err(LogFault::Halted);
         }
-        if changes.len() > MOST_UNSAVED.saturating_sub(self.dirty.len()) {
-            return Err(LogFault::Full);
-        }
-        for change in changes.headers() {
-            lift(
-                &mut self.device,
-                &mut self.tables,
-                &mut self.dirty,
-                change.number,
-            )?;
-        }
-        for change in changes.headers() {
-            change_header(&mut self.tables, &mut self.dirty, change)?;
-        }
-        for change in changes.blocks() {
-            change_block(&mut self.tables, &mut self.dirty, change)?;
-        }
+        let Ok(()) = remove_tight(&mut self.device, &mut self.memory, number, &mut self.counts)
+        else {
+            return Err(LogFault::Device);
+        };
         Ok(())
     }
 
-    /// Saves what changed: blocks, a sync, the next checkpoint, a sync. After a failure the log is halted.
-    pub fn commit(&mut self) -> Result<(), LogFault> {
+    /// Whether so few segments are clean that a commit might leave fewer than an eighth of them, or no number is left.
+    fn is_full(&self) -> bool
+        ensures full { IsTrue result → IsFull self.now }
+        ensures room { IsFalse result → length self.now.memory.usage.segments + 64 ≤ 8 * clean_in self.now.memory.usage.segments }
+        ensures number { IsFalse result → self.now.number < 2 ^ 64 - 1 }
+    {
+        let clean = u64::from(self.memory.usage.clean());
+        let segments = u64::from(self.memory.usage.segments());
+        self.number == u64::MAX || 8 * clean < segments + 64
+    }
+
+    /// Saves all that changed, but for files without a name: blocks to segments that are clean, at most eight of them, a sync, the
+    /// next checkpoint, a sync. It takes no memory.
+    ///
+    /// # Errors
+    ///
+    /// `Full` where too few segments are clean: nothing changed. `Halted` where a call of the device failed, here or in a commit before.
+    pub fn commit(&mut self) -> Result<(), LogFault>
+        ensures done { OnOk result (Saves D.SectorDevice.state self.old self.new) }
+        ensures full { IsErrOf result LogFault.Full → (self.new ≡ self.old) × IsFull self.old }
+        ensures halted { IsErrOf result LogFault.Halted → self.old.halted ≢ true → Halts D.SectorDevice.state self.old self.new }
+        ensures still { self.old.halted ≡ true → (self.new ≡ self.old) × IsErrOf result LogFault.Halted }
+        ensures other { IsErrOf result LogFault.Device → ⊥ }
+    {
         if self.halted {
             return Err(LogFault::Halted);
         }
-        if self.dirty.len() == 0 {
-            return Ok(());
+        if self.is_full() {
+            return Err(LogFault::Full);
         }
-        let saved = save(
-            &mut self.device,
-            &mut self.tables,
-            &mut self.dirty,
-            &mut self.chunk,
-        );
-        self.halted = saved.is_err();
-        saved
+        match save(&mut self.device, &mut self.memory, self.number) {
+            Ok(()) => {
+                self.number += 1;
+                Ok(())
+            }
+            Err(_) => {
+                self.halted = true;
+                Err(LogFault::Halted)
+            }
+        }
     }
 }
 
-fn prepare<D: SectorDevice>(
-    alloc: Global,
-    device: &mut D,
-) -> Result<(Tables, DirtyTable, ChunkWriter), MountFault> {
-    let tables = load(alloc, device)?;
-    let dirty = DirtyTable::new(alloc)?;
-    let chunk = ChunkWriter::new(alloc)?;
-    Ok((tables, dirty, chunk))
-}
+#[cfg(test)]
+mod edits;
+#[cfg(test)]
+mod random;
+#[cfg(test)]
+mod tests;

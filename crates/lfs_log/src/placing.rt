@@ -4,11 +4,11 @@ ghost use Rattle.lfs_model.specs.Entry.{Entry};
 ghost use Rattle.lfs_model.specs.Running.{IsLowest};
 ghost use Rattle.lfs_inodes.specs.Blocks.{blocks_of};
 ghost use Rattle.lfs_inodes.specs.Key.{entry_of};
-ghost use Rattle.lfs_log.specs.Memory.{IsMemory, IsMemoryUpTo, HasRoom, Goes, GoesUpTo, Stops, room_of, room_in};
+ghost use Rattle.lfs_memory.specs.Memory.{IsMemory, IsMemoryUpTo, HasRoom, Goes, GoesUpTo, Stops, room_of, room_in};
 
-use crate::memory::LogMemory;
 use lfs_device::{DeviceFault, SectorDevice};
 use lfs_inodes::BlockKey;
+use lfs_memory::LogMemory;
 use lfs_segments::write;
 
 /// Writes the summary of the chunk, which ends it.

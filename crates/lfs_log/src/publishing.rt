@@ -1,14 +1,16 @@
 //! The end of a commit: the checkpoint that leads to all that was written.
 ghost use Rattle.std.specs.Prelude.{◌≡◌, ◌<◌, ◌≤◌, ◌+◌, ◌^◌, ◌-◌, ℕ, get_or, OnOk, OnErr};
+ghost use Rattle.lfs_model.specs.Device.{Only};
 ghost use Rattle.lfs_segments.specs.Table.{address_of};
 ghost use Rattle.lfs_inodes.specs.MapValue.{block_in};
-ghost use Rattle.lfs_log.specs.Memory.{IsMemory, HasRoom};
+ghost use Rattle.lfs_memory.specs.Memory.{IsMemory, HasRoom};
+ghost use Rattle.lfs_memory.specs.Present.{Looks};
 ghost use Rattle.lfs_log.specs.Publishing.{IsAllOut, IsNext, Publishes, PublishFails};
 
-use crate::memory::LogMemory;
 use lfs_device::{DeviceFault, SectorDevice};
 use lfs_inodes::InodeMap;
 use lfs_layout::Checkpoint;
+use lfs_memory::LogMemory;
 use lfs_root::replace;
 use lfs_segments::Usage;
 
@@ -48,6 +50,17 @@ fn next_checkpoint(memory: &LogMemory, number: u64) -> Checkpoint
     )
 }
 
+/// Makes all that was written durable.
+fn make_durable<D: SectorDevice>(device: &mut D) -> Result<(), DeviceFault>
+    ensures looks { Looks (D.state device.old) (D.state device.new) }
+    ensures durable { OnOk result ((D.state device.new).keeps_model → Only (D.state device.new).content (D.state device.new)) }
+    ensures no_failure { OnOk result ((D.state device.new).failures ≡ (D.state device.old).failures) }
+    ensures failed { OnErr result ((D.state device.old).failures < (D.state device.new).failures) }
+{
+    device.sync()?;
+    Ok(())
+}
+
 /// Once all blocks are out: syncs, writes the checkpoint that leads to them, after the acknowledged one of this number,
 /// and takes the segments where nothing lives as clean. A stop at any moment leaves what was acknowledged or all that
 /// is out, and after `Ok` the latter alone.
@@ -70,7 +83,7 @@ pub fn publish<D: SectorDevice>(
     ensures dirty { memory.new.dirty ≡ memory.old.dirty }
     ensures chunk { memory.new.chunk ≡ memory.old.chunk }
 {
-    device.sync()?;
+    make_durable(device)?;
     let next = next_checkpoint(memory, number);
     replace(device, &next)?;
     memory.usage.release();

@@ -1,7 +1,7 @@
 use Rattle.std.proofs.Common.{length, arith}
-use Rattle.lfs_log.specs.Memory.{Stops}
+use Rattle.lfs_memory.specs.Memory.{Stops}
 use Rattle.lfs_log.proofs.committing.place_all.Goals as goal
-use Rattle.lfs_log.proofs.Going.{on_err, goes_then, goes_at_most, stops_then}
+use Rattle.lfs_memory.proofs.Going.{on_err, goes_then, goes_at_most, stops_then}
 
 -- src/committing.rt:35:5
 pub returns-in_err-save_map-clause-stopped : goal.returns-in_err-save_map-clause-stopped

@@ -3,7 +3,7 @@ use Rattle.lfs_segments.specs.Chunk.{Chunk}
 use Rattle.lfs_inodes.specs.Blocks.{TableValue}
 use Rattle.lfs_log.specs.Saving.{CommitFails}
 use Rattle.lfs_log.proofs.committing.save.Goals as goal
-use Rattle.lfs_log.proofs.Going.{on_err}
+use Rattle.lfs_memory.proofs.Going.{on_err}
 use Rattle.lfs_log.proofs.Saves.{out_stops, publish_fails, commits}
 
 -- src/committing.rt:101:5

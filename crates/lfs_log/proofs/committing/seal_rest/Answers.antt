@@ -1,6 +1,6 @@
 use Rattle.std.proofs.Common.{arith}
 use Rattle.lfs_log.proofs.committing.seal_rest.Goals as goal
-use Rattle.lfs_log.proofs.Going.{goes_none, goes_at_most}
+use Rattle.lfs_memory.proofs.Going.{goes_none, goes_at_most}
 
 -- src/committing.rt:41:1
 pub returns-else-not-is_empty-clause-done : goal.returns-else-not-is_empty-clause-done

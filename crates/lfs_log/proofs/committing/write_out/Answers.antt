@@ -1,6 +1,6 @@
-use Rattle.lfs_log.specs.Memory.{Stops}
+use Rattle.lfs_memory.specs.Memory.{Stops}
 use Rattle.lfs_log.proofs.committing.write_out.Goals as goal
-use Rattle.lfs_log.proofs.Going.{on_err, goes_then, stops_then}
+use Rattle.lfs_memory.proofs.Going.{on_err, goes_then, stops_then}
 
 -- src/committing.rt:75:5
 pub returns-in_err-seal_rest-clause-stopped : goal.returns-in_err-seal_rest-clause-stopped

@@ -1,9 +1,9 @@
 use Rattle.std.proofs.Common.{◌≡◌, ◌∙◌, ℕ, ⊎_elim, refl, sym, subst, arith}
 use Rattle.lfs_inodes.specs.MapValue.{block_in}
-use Rattle.lfs_log.specs.Memory.{Stops}
+use Rattle.lfs_memory.specs.Memory.{Stops}
 use Rattle.lfs_log.proofs.mapping.save_map.Goals as goal
 use Rattle.lfs_log.proofs.MapSteps.{maps_out}
-use Rattle.lfs_log.proofs.Going.{on_err, goes_none, goes_then, stops_then}
+use Rattle.lfs_memory.proofs.Going.{on_err, goes_none, goes_then, stops_then}
 use Rattle.std.proofs.lemmas.Bool.{cases_eq}
 
 -- src/mapping.rt:95:5

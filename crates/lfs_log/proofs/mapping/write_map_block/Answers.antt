@@ -1,10 +1,10 @@
 use Rattle.std.proofs.Common.{true, refl, sym, ap, subst}
 use Rattle.lfs_inodes.specs.Blocks.{TableValue}
 use Rattle.lfs_inodes.specs.MapValue.{MapValue}
-use Rattle.lfs_log.specs.Memory.{GoesUpTo, IsBlockAt, Stops}
+use Rattle.lfs_memory.specs.Memory.{GoesUpTo, IsBlockAt, Stops}
 use Rattle.lfs_log.proofs.mapping.write_map_block.Goals as goal
-use Rattle.lfs_log.proofs.Going.{on_err}
-use Rattle.lfs_log.proofs.FileSteps.{place_stops}
+use Rattle.lfs_memory.proofs.Going.{on_err}
+use Rattle.lfs_memory.proofs.FileSteps.{place_stops}
 use Rattle.lfs_log.proofs.MapSteps.{map_goes, placed_map}
 
 -- src/mapping.rt:44:9

@@ -1,5 +1,5 @@
 use Rattle.std.proofs.Common.{◌≡◌}
-use Rattle.lfs_log.specs.Present.{Looks}
+use Rattle.lfs_memory.specs.Present.{Looks}
 use Rattle.lfs_log.specs.Opening.{IsMapUpTo, SaysMap}
 use Rattle.lfs_log.proofs.opening.load_map.Given as goal
 

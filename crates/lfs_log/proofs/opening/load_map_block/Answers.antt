@@ -3,7 +3,7 @@ use Rattle.lfs_model.specs.Content.{block}
 use Rattle.lfs_inodes.specs.MapValue.{MapValue}
 use Rattle.lfs_log.specs.Opening.{IsFault}
 use Rattle.lfs_log.proofs.opening.load_map_block.Goals as goal
-use Rattle.lfs_log.proofs.Going.{on_err}
+use Rattle.lfs_memory.proofs.Going.{on_err}
 use Rattle.lfs_log.proofs.MapLoads.{says_skipped, map_more, says_map_more, map_fault}
 
 pub returns-in_err-read_table-clause-cause : goal.returns-in_err-read_table-clause-cause

@@ -1,6 +1,6 @@
 use Rattle.lfs_log.specs.Opening.{IsFault}
 use Rattle.lfs_log.proofs.opening.load_tables.Goals as goal
-use Rattle.lfs_log.proofs.Going.{on_err}
+use Rattle.lfs_memory.proofs.Going.{on_err}
 use Rattle.lfs_log.proofs.UsageLoads.{fault_then}
 
 -- src/opening.rt:290:5

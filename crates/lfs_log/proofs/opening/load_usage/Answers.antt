@@ -1,8 +1,8 @@
 use Rattle.std.proofs.Common.{◌+◌, ◌∙◌, refl}
 use Rattle.lfs_log.specs.Opening.{IsFault}
 use Rattle.lfs_log.proofs.opening.load_usage.Goals as goal
-use Rattle.lfs_log.proofs.Going.{on_err}
-use Rattle.lfs_log.proofs.Presents.{looks_none, looks_then}
+use Rattle.lfs_memory.proofs.Going.{on_err}
+use Rattle.lfs_memory.proofs.Presents.{looks_none, looks_then}
 use Rattle.lfs_log.proofs.UsageLoads.{says_nothing, fault_then, says_then}
 
 pub loop-index-init : goal.loop-index-init

@@ -2,7 +2,7 @@ use Rattle.std.proofs.Common.{◌≡◌, ◌<◌, ◌≤◌, ◌+◌, ◌*◌, �
 use Rattle.lfs_model.specs.Content.{block}
 use Rattle.lfs_log.specs.Opening.{IsFault}
 use Rattle.lfs_log.proofs.opening.load_usage_block.Goals as goal
-use Rattle.lfs_log.proofs.Going.{on_err}
+use Rattle.lfs_memory.proofs.Going.{on_err}
 use Rattle.lfs_log.proofs.UsageLoads.{usage_fault, usage_undecoded, says_more}
 
 -- src/opening.rt:112:5

@@ -1,7 +1,7 @@
 use Rattle.std.proofs.Common.{◌≡◌, ◌∙◌, ap, sym, subst, ℕ}
 use Rattle.lfs_inodes.specs.Blocks.{TableValue}
 use Rattle.lfs_segments.specs.Chunk.{Chunk}
-use Rattle.lfs_log.specs.declared.load.MountFault.TheVariants as fault
+use Rattle.lfs_log.specs.declared.fault.MountFault.TheVariants as fault
 use Rattle.lfs_log.specs.Opening.{IsOpenFault, Opens}
 use Rattle.lfs_log.proofs.opening.open_memory.Goals as goal
 use Rattle.lfs_log.proofs.Opens.{opens, open_fault, if_err}

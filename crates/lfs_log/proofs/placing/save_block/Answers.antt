@@ -1,6 +1,6 @@
-use Rattle.lfs_log.specs.Memory.{Stops}
+use Rattle.lfs_memory.specs.Memory.{Stops}
 use Rattle.lfs_log.proofs.placing.save_block.Goals as goal
-use Rattle.lfs_log.proofs.Going.{on_err, goes_then, stops_then}
+use Rattle.lfs_memory.proofs.Going.{on_err, goes_then, stops_then}
 
 -- src/placing.rt:86:5
 pub returns-in_err-seal_full-clause-stopped : goal.returns-in_err-seal_full-clause-stopped

@@ -1,7 +1,7 @@
 use Rattle.std.proofs.Common.{refl, ◌∙◌, arith}
-use Rattle.lfs_log.specs.Memory.{Stops}
+use Rattle.lfs_memory.specs.Memory.{Stops}
 use Rattle.lfs_log.proofs.placing.save_files.Goals as goal
-use Rattle.lfs_log.proofs.Going.{on_err, goes_none, goes_then, goes_at_most, stops_then, has_room_still}
+use Rattle.lfs_memory.proofs.Going.{on_err, goes_none, goes_then, goes_at_most, stops_then, has_room_still}
 
 -- src/placing.rt:103:5
 pub loop-key-init : goal.loop-key-init

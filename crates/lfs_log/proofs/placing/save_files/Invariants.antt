@@ -1,5 +1,5 @@
 use Rattle.std.proofs.Common.{◌≡◌, ◌≤◌, length, ◌-◌}
-use Rattle.lfs_log.specs.Memory.{Goes}
+use Rattle.lfs_memory.specs.Memory.{Goes}
 use Rattle.lfs_log.proofs.placing.save_files.Given as goal
 
 abbrev pub invariant-loop-key : goal.invariant-loop-key

@@ -1,6 +1,6 @@
-use Rattle.lfs_log.specs.Memory.{Stops}
+use Rattle.lfs_memory.specs.Memory.{Stops}
 use Rattle.lfs_log.proofs.placing.seal.Goals as goal
-use Rattle.lfs_log.proofs.Going.{on_err}
+use Rattle.lfs_memory.proofs.Going.{on_err}
 use Rattle.lfs_log.proofs.Sealed.{seal_goes, seal_stops}
 
 -- src/placing.rt:20:5

@@ -1,6 +1,6 @@
 use Rattle.std.proofs.Common.{◌∙◌}
 use Rattle.lfs_log.proofs.placing.seal_full.Goals as goal
-use Rattle.lfs_log.proofs.Going.{goes_none}
+use Rattle.lfs_memory.proofs.Going.{goes_none}
 use Rattle.lfs_log.proofs.Sealed.{not_full}
 
 -- src/placing.rt:24:1

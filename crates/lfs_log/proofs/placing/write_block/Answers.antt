@@ -4,10 +4,10 @@ use Rattle.lfs_model.specs.Running.{Moves}
 use Rattle.lfs_inodes.specs.MapValue.{MapValue}
 use Rattle.lfs_inodes.specs.Blocks.{TableValue, blocks_of}
 use Rattle.lfs_inodes.specs.Key.{entry_of}
-use Rattle.lfs_log.specs.Memory.{IsPointedAt, Stops}
+use Rattle.lfs_memory.specs.Memory.{IsPointedAt, Stops}
 use Rattle.lfs_log.proofs.placing.write_block.Goals as goal
-use Rattle.lfs_log.proofs.Going.{on_err}
-use Rattle.lfs_log.proofs.FileSteps.{place_stops, file_goes, file_by, goes_to}
+use Rattle.lfs_memory.proofs.Going.{on_err}
+use Rattle.lfs_memory.proofs.FileSteps.{place_stops, file_goes, file_by, goes_to}
 
 -- src/placing.rt:63:5
 pub returns-in_err-write-clause-stopped : goal.returns-in_err-write-clause-stopped

@@ -1,5 +1,5 @@
 use Rattle.std.proofs.Common.{◌+◌, ◌/◌, ◌∙◌, ap, refl, ℕ, arith}
-use Rattle.lfs_log.proofs.Going.{goes_none, goes_then, stops_then, on_err}
+use Rattle.lfs_memory.proofs.Going.{goes_none, goes_then, stops_then, on_err}
 use Rattle.lfs_log.proofs.UsageWrites.{filled_fresh, filled_anew}
 use Rattle.lfs_log.proofs.settling.fill_usage.Goals as goal
 

@@ -2,8 +2,9 @@ use Rattle.std.proofs.Common.{subst, sym}
 use Rattle.lfs_segments.specs.Table.{UsageTable}
 use Rattle.lfs_model.proofs.Moments.{carries_none}
 use Rattle.lfs_log.specs.Settling.{IsResettled}
-use Rattle.lfs_log.proofs.Going.{on_err}
-use Rattle.lfs_log.proofs.UsageMoves.{on_ok, on_fault, all_ok, not_there, resettled_memory, resettled_goes, resettled_stops, resettled_usage}
+use Rattle.lfs_memory.proofs.Going.{on_err}
+use Rattle.lfs_memory.proofs.Going.{ok_then, err_then}
+use Rattle.lfs_log.proofs.UsageMoves.{all_ok, not_there, resettled_memory, resettled_goes, resettled_stops, resettled_usage}
 use Rattle.lfs_log.proofs.settling.settle_block.Goals as goal
 
 pub returns-in_err-resettle-clause-stopped : goal.returns-in_err-resettle-clause-stopped
@@ -16,12 +17,12 @@ seal_full-requires-clause-memory g c = resettled_memory c.args.memory.now c.rese
 
 pub returns-clause-done : goal.returns-clause-done
 returns-clause-done g c =
-    on_ok _ _ _ (resettled_goes c.args.memory.now c.resettle.new.memory c.args.index c.args.age c.requires.memory c.requires.stale c.in_ok-resettle.ensures.done
+    ok_then _ _ _ (resettled_goes c.args.memory.now c.resettle.new.memory c.args.index c.args.age c.requires.memory c.requires.stale c.in_ok-resettle.ensures.done
     (g.D.SectorDevice.state c.args.device.now) (g.D.SectorDevice.state c.seal_full.new.device) c.seal_full.new.memory) c.seal_full.ensures.done
 
 pub returns-clause-stopped : goal.returns-clause-stopped
 returns-clause-stopped g c =
-    on_fault _ _ _ (resettled_stops c.args.memory.now c.resettle.new.memory c.args.index c.args.age c.requires.memory c.requires.stale c.in_ok-resettle.ensures.done
+    err_then _ _ _ (resettled_stops c.args.memory.now c.resettle.new.memory c.args.index c.args.age c.requires.memory c.requires.stale c.in_ok-resettle.ensures.done
     (g.D.SectorDevice.state c.args.device.now) (g.D.SectorDevice.state c.seal_full.new.device)) c.seal_full.ensures.stopped
 
 pub returns-clause-moved : goal.returns-clause-moved

@@ -1,5 +1,5 @@
 use Rattle.std.proofs.Common.{◌∙◌, refl, arith}
-use Rattle.lfs_log.proofs.Going.{goes_none, goes_then, stops_then, on_err}
+use Rattle.lfs_memory.proofs.Going.{goes_none, goes_then, stops_then, on_err}
 use Rattle.lfs_log.proofs.UsageCounts.{out_most, out_none, out_less}
 use Rattle.lfs_log.proofs.settling.settle_usage.Goals as goal
 

@@ -1,5 +1,5 @@
 use Rattle.std.proofs.Common.{◌≡◌, ◌≤◌, ◌+◌}
-use Rattle.lfs_log.specs.Memory.{Goes}
+use Rattle.lfs_memory.specs.Memory.{Goes}
 use Rattle.lfs_log.proofs.UsageCounts.{out_count}
 use Rattle.lfs_log.proofs.settling.settle_usage.Given as goal
 

@@ -1,5 +1,0 @@
-use Rattle.lfs_log.specs.Counting.{CountsWords}
-use Rattle.lfs_log.proofs.counting.count_words.Given as goal
-
-abbrev pub invariant-loop-i : goal.invariant-loop-i
-invariant-loop-i l = record { counts : CountsWords l.block l.first l.i l.initial.counts l.counts }

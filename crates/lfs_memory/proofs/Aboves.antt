@@ -1,0 +1,97 @@
+-- What is in memory stays there as files change, so one change comes after another.
+use Rattle.std.proofs.Common.{◌≡◌, ⊎_elim, ◌+◌, ℕ, List, length, Option, Some, sym, ◌∙◌, ap, subst, arith}
+use Rattle.std.specs.Prelude.{option_map}
+use Rattle.std.proofs.lemmas.Bool.{cases_eq}
+use Rattle.lfs_model.specs.declared.Kind.{Kind}
+use Rattle.lfs_model.specs.Entry.{Entry, Data, Inode}
+use Rattle.lfs_model.specs.Fields.{zeros}
+use Rattle.lfs_model.specs.Memory.{parent, pointer, patched}
+use Rattle.lfs_model.specs.Running.{Dirty, Moves}
+use Rattle.lfs_model.specs.Staging.{Fetches, ChangesTo}
+use Rattle.lfs_model.proofs.Entries.{same_entry, no_data_parent}
+use Rattle.lfs_inodes.specs.Blocks.{TableValue, blocks_of}
+use Rattle.lfs_memory.specs.declared.memory.LogMemory.{LogMemory}
+use Rattle.lfs_memory.specs.Changing.{HasAbove, Stays, Stores, Drops, ChangesBlock, Grows, ChangesHeader, Creates}
+use Rattle.lfs_memory.specs.Lifting.{IsInMemory}
+use Rattle.lfs_memory.proofs.LogMaps.{blank_or}
+
+pub stays_then : (a b : ℕ) (u v w : LogMemory) → Stays a u v → Stays b v w → Stays (a + b) u w
+stays_then a b u v w one two = record {
+  memory = λ memory. two.memory (one.memory memory);
+  chunk = two.chunk ∙ one.chunk;
+  segments = two.segments ∙ one.segments;
+  clean = two.clean ∙ one.clean;
+  capacity = two.capacity ∙ one.capacity;
+  blocks = let x = one.blocks in let y = two.blocks in omega (arith, x, y);
+}
+
+abbrev Holds : Dirty → Entry → Type 0
+Holds dirty z = (b : List ℕ) × (dirty z ≡ Some b)
+
+holds_patched : (f : List ℕ → List ℕ) (o : Option (List ℕ)) (b : List ℕ) → o ≡ Some b → (c : List ℕ) × (option_map f o ≡ Some c)
+holds_patched f o b is = (f b, ap (option_map f) is)
+
+holds_fetched : (old new : Dirty) (x : Entry) (bytes : List ℕ) → Fetches old new x bytes → (z : Entry) → Holds old z → Holds new z
+holds_fetched old new x bytes go z has = ⊎_elim
+    (λ (here : z ≡ x). (bytes, ap new here ∙ go.own))
+    (λ (ne : z ≡ x → ⊥). ⊎_elim
+    (λ (up : z ≡ parent x).
+    let p = holds_patched (patched (pointer x) 1) (old (parent x)) has.0 (ap old (sym up) ∙ has.1) in
+    (p.0, ap new up ∙ go.patched (λ own. ne (up ∙ own)) ∙ p.1))
+    (λ (np : z ≡ parent x → ⊥). (has.0, go.kept z ne np ∙ has.1))
+    (same_entry z (parent x)))
+    (same_entry z x)
+
+holds_moved : (old new : Dirty) (x : Entry) (a : ℕ) → Moves old new x a → (z : Entry) → (z ≡ x → ⊥) → Holds old z → Holds new z
+holds_moved old new x a go z ne has = ⊎_elim
+    (λ (up : z ≡ parent x).
+    let p = holds_patched (patched (pointer x) a) (old (parent x)) has.0 (ap old (sym up) ∙ has.1) in
+    (p.0, ap new up ∙ go.patched (λ own. ne (up ∙ own)) ∙ p.1))
+    (λ (np : z ≡ parent x → ⊥). (has.0, go.kept z ne np ∙ has.1))
+    (same_entry z (parent x))
+
+holds_changed : (old new : Dirty) (x : Entry) (bytes : List ℕ) → ChangesTo old new x (Some bytes) → (z : Entry) → Holds old z → Holds new z
+holds_changed old new x bytes go z has = ⊎_elim
+    (λ (here : z ≡ x). (bytes, ap new here ∙ go.own))
+    (λ (ne : z ≡ x → ⊥). (has.0, go.others z ne ∙ has.1))
+    (same_entry z x)
+
+-- ---- as a data block changes, all but that block
+stored_memory : (v v' : LogMemory) (n i a : ℕ) (bytes : List ℕ) → Stores v v' n (Data n i) a bytes → (z : Entry) → IsInMemory v z → IsInMemory v' z
+stored_memory v v' n i a bytes go z has = ⊎_elim
+    (λ (one : a ≡ 1). holds_changed (blocks_of v.dirty) (blocks_of v'.dirty) (Data n i) bytes (go.changes one) z has)
+    (λ (ne : a ≡ 1 → ⊥). holds_fetched (blocks_of v.dirty) (blocks_of v'.dirty) (Data n i) bytes (go.comes ne) z has)
+    (cases_eq a 1)
+
+dropped_memory : (v v' : LogMemory) (n i a : ℕ) → Drops v v' n (Data n i) a → (z : Entry) → (z ≡ Data n i → ⊥) → IsInMemory v z → IsInMemory v' z
+dropped_memory v v' n i a go z ne has = ⊎_elim
+    (λ (none : a ≡ 0). subst (λ (t : TableValue). Holds (blocks_of t) z) (sym (go.none none)) has)
+    (λ (some : a ≡ 0 → ⊥). holds_moved (blocks_of v.dirty) (blocks_of v'.dirty) (Data n i) 0 (go.leaves (omega (arith, some))) z ne has)
+    (cases_eq a 0)
+
+pub changed_memory : (v v' : LogMemory) (n i : ℕ) (bytes : List ℕ) → length bytes ≡ 512 → ChangesBlock v v' n i bytes → (z : Entry) → (z ≡ Data n i → ⊥) → IsInMemory v z → IsInMemory v' z
+changed_memory v v' n i bytes long go z ne has = ⊎_elim
+    (λ (none : bytes ≡ zeros 512). dropped_memory v v' n i go.address (go.puts.drops none) z ne has)
+    (λ (some : bytes ≡ zeros 512 → ⊥). stored_memory v v' n i go.address bytes (go.puts.stores some) z has)
+    (blank_or bytes long)
+
+-- so the block above any other
+pub above_changed : (v v' : LogMemory) (n i : ℕ) (bytes : List ℕ) → length bytes ≡ 512 → ChangesBlock v v' n i bytes → (y : Entry) → HasAbove (blocks_of v.dirty) y → HasAbove (blocks_of v'.dirty) y
+above_changed v v' n i bytes long go y has = changed_memory v v' n i bytes long go (parent y) (no_data_parent n i y) has
+
+-- ---- as a block of pointers grows, which is above its own blocks then
+pub grown_memory : (v v' : LogMemory) (x : Entry) → Grows v v' x → (z : Entry) → IsInMemory v z → IsInMemory v' z
+grown_memory v v' x go z has = holds_fetched (blocks_of v.dirty) (blocks_of v'.dirty) x (zeros 512) go.comes z has
+
+pub below_grown : (v v' : LogMemory) (x : Entry) → Grows v v' x → (y : Entry) → parent y ≡ x → HasAbove (blocks_of v'.dirty) y
+below_grown v v' x go y up = (zeros 512, ap (blocks_of v'.dirty) up ∙ go.comes.own)
+
+-- ---- as a header changes, or a file is made
+pub headed_memory : (v v' : LogMemory) (n : ℕ) (kind : Kind) (links size : ℕ) → ChangesHeader v v' n kind links size → (z : Entry) → IsInMemory v z → IsInMemory v' z
+headed_memory v v' n kind links size go z has = holds_changed (blocks_of v.dirty) (blocks_of v'.dirty) (Inode n) _ go.changes z has
+
+pub created_memory : (v v' : LogMemory) (n : ℕ) (kind : Kind) (links size : ℕ) → Creates v v' n kind links size → (z : Entry) → IsInMemory v z → IsInMemory v' z
+created_memory v v' n kind links size go z has = holds_changed (blocks_of v.dirty) (blocks_of v'.dirty) (Inode n) _ go.changes z has
+
+pub below_created : (v v' : LogMemory) (n : ℕ) (kind : Kind) (links size : ℕ) → Creates v v' n kind links size → (y : Entry) → parent y ≡ Inode n → HasAbove (blocks_of v'.dirty) y
+below_created v v' n kind links size go y up = (_, ap (blocks_of v'.dirty) up ∙ go.changes.own)

@@ -1,0 +1,242 @@
+-- A batch of changes in memory: where all is ready it doesn't fail, and the log map after it is the one that was asked for.
+use Rattle.std.proofs.Common.{◌≡◌, ◌<◌, ◌⊎◌, ⊎_elim, inl, inr, ◌+◌, ◌/◌, ◌==◌, ℕ, zero, suc, false, List, [], ◌∷◌, length, get_or, drop, None, Some, refl, sym, ◌∙◌, ap, subst, arith}
+use Rattle.std.proofs.lemmas.Bool.{cases_eq}
+use Rattle.std.proofs.lemmas.List.{drop_more}
+use Rattle.lfs_model.specs.Checkpoint.{CheckpointValue}
+use Rattle.lfs_model.specs.Device.{DeviceState}
+use Rattle.lfs_model.specs.Encodes.{HasInode}
+use Rattle.lfs_model.specs.Entry.{Entry, Data, Inode}
+use Rattle.lfs_model.specs.Memory.{parent}
+use Rattle.lfs_model.specs.Stands.{LogMap}
+use Rattle.lfs_model.proofs.Entries.{data_parent_low}
+use Rattle.lfs_inodes.specs.Blocks.{blocks_of}
+use Rattle.lfs_inodes.specs.MapValue.{MapValue, address_in, block_in}
+use Rattle.lfs_memory.specs.declared.batch.BlockEdit.{BlockEdit}
+use Rattle.lfs_memory.specs.declared.batch.HeaderEdit.{HeaderEdit}
+use Rattle.lfs_memory.specs.declared.memory.LogMemory.{LogMemory}
+use Rattle.lfs_memory.specs.Memory.{IsLoose}
+use Rattle.lfs_memory.specs.Changing.{ChangesBlock, HasAbove, IsBlockMiscounted, Stays}
+use Rattle.lfs_memory.specs.Lifting.{IsInMemory}
+use Rattle.lfs_memory.specs.Preparing.{IsReady, IsHeaderReady, AreBlocksReady, AreHeadersReady}
+use Rattle.lfs_memory.specs.Applying.{Applies, FailsToApply, after_batch, AppliesHeader, AppliesHeaders, AppliesBlocks, FailsHeaders, FailsBlocks, FitsFile, AreHeadersFit, AreBlocksFit, IsInodeAway, IsBlockAway, after_block, after_blocks, after_header, after_headers}
+use Rattle.lfs_memory.proofs.Aboves.{above_changed, created_memory, headed_memory, stays_then}
+use Rattle.lfs_memory.proofs.BlockSteps.{block_changed, block_counted, block_stays}
+use Rattle.lfs_memory.proofs.HeaderSteps.{file_created, header_changed}
+use Rattle.lfs_memory.proofs.Looses.{stays_more}
+
+zero_or : (a : ℕ) (P : Type 0) → (a ≡ 0 → P) → (0 < a → P) → P
+zero_or zero P none some = none refl
+zero_or (suc a) P none some = some (omega arith)
+
+some_link : (n : ℕ) → (n == 0) ≡ false → 0 < n
+some_link zero off = absurd cc
+some_link (suc n) off = omega arith
+
+nothing_in_none : (v : LogMemory) (x : Entry) → IsInMemory v x → blocks_of v.dirty x ≡ None → ⊥
+nothing_in_none v x has none = let e : Some has.0 ≡ None = sym has.1 ∙ none in absurd cc
+
+-- ---- the inodes that are there
+module _ (d : DeviceState) (v : LogMemory) (k : CheckpointValue) (m0 m : LogMap) (is : IsLoose d v k m0 m) (n : ℕ) where
+  inode_at : is.running.memory.at (Inode n) ≡ address_in v.map n
+  inode_at = is.running.tables.at (Inode n) refl
+
+  pub has_inode : 0 < address_in v.map n → HasInode m n
+  has_inode some = let at = inode_at in (is.running.laid.inodes n).1 (omega (arith, at, some))
+
+  inode_some : HasInode m n → address_in v.map n ≡ 0 → ⊥
+  inode_some has none = let at = inode_at in let some = (is.running.laid.inodes n).0 has in omega (arith, at, some, none)
+
+-- ---- a header
+-- what stays as a file gets one
+record KeepsFiles (v v' : LogMemory) (n : ℕ) : Type 0 where
+  stay : (z : Entry) → IsInMemory v z → IsInMemory v' z
+  own : address_in v.map n ≡ 0 → IsInMemory v' (Inode n)
+  others : (l : ℕ) → (l ≡ n → ⊥) → address_in v'.map l ≡ address_in v.map l
+  same : 0 < address_in v.map n → address_in v'.map n ≡ address_in v.map n
+  blocks : (j : ℕ) → block_in v'.map j ≡ block_in v.map j
+
+keeps_files : (v v' : LogMemory) (e : HeaderEdit) → AppliesHeader v v' e → KeepsFiles v v' e.number
+keeps_files v v' e go = zero_or (address_in v.map e.number) (KeepsFiles v v' e.number)
+    (λ none.
+    let c = go.creates none in
+    record {
+      stay = created_memory v v' e.number e.header.kind e.header.links e.header.size c;
+      own = λ at. (_, c.changes.own);
+      others = c.address.others;
+      same = λ some. absurd (omega (arith, some, none));
+      blocks = λ j. ap (λ (l : List ℕ). get_or l j 0) c.blocks;
+    })
+    (λ some.
+    let c = go.changes some in
+    record {
+      stay = headed_memory v v' e.number e.header.kind e.header.links e.header.size c;
+      own = λ at. absurd (omega (arith, some, at));
+      others = λ l ne. ap (λ (a : MapValue). address_in a l) c.map;
+      same = λ at. ap (λ (a : MapValue). address_in a e.number) c.map;
+      blocks = λ j. ap (λ (a : MapValue). block_in a j) c.map;
+    })
+
+-- so what is ready stays so
+inside_then : (v v' : LogMemory) (n l : ℕ) → KeepsFiles v v' n → IsInMemory v (Inode l) ⊎ (address_in v.map l ≡ 0) → IsInMemory v' (Inode l) ⊎ (address_in v'.map l ≡ 0)
+inside_then v v' n l keeps was = ⊎_elim
+    (λ (has : IsInMemory v (Inode l)). inl (keeps.stay (Inode l) has))
+    (λ (none : address_in v.map l ≡ 0). ⊎_elim
+    (λ (here : l ≡ n). inl (subst (λ (f : ℕ). IsInMemory v' (Inode f)) (sym here) (keeps.own (ap (address_in v.map) (sym here) ∙ none))))
+    (λ (ne : l ≡ n → ⊥). inr (keeps.others l ne ∙ none))
+    (cases_eq l n))
+    was
+
+header_ready_then : (v v' : LogMemory) (n l links : ℕ) → KeepsFiles v v' n → IsHeaderReady v l links → IsHeaderReady v' l links
+header_ready_then v v' n l links keeps was = record {
+  inside = inside_then v v' n l keeps was.inside;
+  mapped = λ some. keeps.blocks (l / 128) ∙ was.mapped some;
+}
+
+headers_ready_then : (v v' : LogMemory) (n : ℕ) → KeepsFiles v v' n → (edits : List HeaderEdit) → AreHeadersReady v edits → AreHeadersReady v' edits
+headers_ready_then v v' n keeps [] was = was
+headers_ready_then v v' n keeps (e ∷ edits) was = (header_ready_then v v' n e.number e.header.links keeps was.0, headers_ready_then v v' n keeps edits was.1)
+
+ready_then : (v v' : LogMemory) (n l i : ℕ) → KeepsFiles v v' n → IsReady v l i → IsReady v' l i
+ready_then v v' n l i keeps was = ⊎_elim
+    (λ (has : HasAbove (blocks_of v.dirty) (Data l i)). inl (keeps.stay (parent (Data l i)) has))
+    (λ (made : (address_in v.map l ≡ 0) × (i < 112)). ⊎_elim
+    (λ (has : IsInMemory v' (Inode l)). inl (subst (IsInMemory v') (sym (data_parent_low l i made.1)) has))
+    (λ (none : address_in v'.map l ≡ 0). inr (none, made.1))
+    (inside_then v v' n l keeps (inr made.0)))
+    was
+
+blocks_ready_then : (v v' : LogMemory) (n : ℕ) → KeepsFiles v v' n → (edits : List BlockEdit) → AreBlocksReady v edits → AreBlocksReady v' edits
+blocks_ready_then v v' n keeps [] was = was
+blocks_ready_then v v' n keeps (e ∷ edits) was = (ready_then v v' n e.number e.index keeps was.0, blocks_ready_then v v' n keeps edits was.1)
+
+module _ (d : DeviceState) (v v' : LogMemory) (k : CheckpointValue) (m0 m : LogMap) (is : IsLoose d v k m0 m) (e : HeaderEdit) where
+  in_range : e.number < 4096
+  in_range = let few = e.few in omega (arith, few)
+
+  header_applied : IsHeaderReady v e.number e.header.links → FitsFile m e → AppliesHeader v v' e → IsLoose d v' k m0 (after_header e m)
+  header_applied ready fits go = zero_or (address_in v.map e.number) (IsLoose d v' k m0 (after_header e m))
+      (λ none. file_created d v v' k m0 m is e.number e.some in_range none e.header.kind e.header.links e.header.size fits.header (λ named. ready.mapped (some_link e.header.links named)) (go.creates none))
+      (λ some. header_changed d v v' k m0 m is e.number in_range e.header.kind e.header.links e.header.size fits.header (fits.name (has_inode d v k m0 m is e.number some) ∙ is.hidden e.number in_range)
+      (λ named. ready.mapped (some_link e.header.links named)) (go.changes some))
+
+not_away : (v : LogMemory) (n links : ℕ) → IsHeaderReady v n links → IsInodeAway v n → ⊥
+not_away v n links ready away = ⊎_elim
+    (λ (has : IsInMemory v (Inode n)). nothing_in_none v (Inode n) has away.1)
+    (λ (none : address_in v.map n ≡ 0). let some = away.0 in omega (arith, none, some))
+    ready.inside
+
+-- ---- headers, one after the other
+pub headers_applied : (d : DeviceState) (k : CheckpointValue) (m0 : LogMap) (edits : List HeaderEdit) (v w : LogMemory) (m : LogMap) → IsLoose d v k m0 m → AreHeadersReady v edits → AreHeadersFit m edits
+    → AppliesHeaders v edits w → IsLoose d w k m0 (after_headers edits m)
+headers_applied d k m0 [] v w m is ready fit same = subst (λ (u : LogMemory). IsLoose d u k m0 m) (sym same) is
+headers_applied d k m0 (e ∷ edits) v w m is ready fit go =
+    headers_applied d k m0 edits go.0 w (after_header e m) (header_applied d v go.0 k m0 m is e ready.0 fit.0 go.1)
+    (headers_ready_then v go.0 e.number (keeps_files v go.0 e go.1) edits ready.1) fit.1 go.2
+
+pub headers_never_fail : (edits : List HeaderEdit) (v : LogMemory) → AreHeadersReady v edits → FailsHeaders v edits → ⊥
+headers_never_fail [] v ready bad = bad
+headers_never_fail (e ∷ edits) v ready bad = ⊎_elim
+    (λ (away : IsInodeAway v e.number). not_away v e.number e.header.links ready.0 away)
+    (λ (later : (v' : LogMemory) × AppliesHeader v v' e × FailsHeaders v' edits). headers_never_fail edits later.0 (headers_ready_then v later.0 e.number (keeps_files v later.0 e later.1) edits ready.1) later.2)
+    bad
+
+pub blocks_ready_after : (edits : List HeaderEdit) (v w : LogMemory) → AppliesHeaders v edits w → (bs : List BlockEdit) → AreBlocksReady v bs → AreBlocksReady w bs
+blocks_ready_after [] v w same bs ready = subst (λ (u : LogMemory). AreBlocksReady u bs) (sym same) ready
+blocks_ready_after (e ∷ edits) v w go bs ready = blocks_ready_after edits go.0 w go.2 bs (blocks_ready_then v go.0 e.number (keeps_files v go.0 e go.1) bs ready)
+
+-- ---- blocks
+block_ready_then : (v v' : LogMemory) (e : BlockEdit) → ChangesBlock v v' e.number e.index e.bytes → (l i : ℕ) → IsReady v l i → IsReady v' l i
+block_ready_then v v' e go l i was = ⊎_elim
+    (λ (has : HasAbove (blocks_of v.dirty) (Data l i)). inl (above_changed v v' e.number e.index e.bytes e.long go (Data l i) has))
+    (λ (made : (address_in v.map l ≡ 0) × (i < 112)). inr (ap (λ (a : MapValue). address_in a l) (block_stays v v' e.number e.index e.bytes e.long go).1 ∙ made.0, made.1))
+    was
+
+still_ready : (v v' : LogMemory) (e : BlockEdit) → ChangesBlock v v' e.number e.index e.bytes → (edits : List BlockEdit) → AreBlocksReady v edits → AreBlocksReady v' edits
+still_ready v v' e go [] was = was
+still_ready v v' e go (f ∷ edits) was = (block_ready_then v v' e go f.number f.index was.0, still_ready v v' e go edits was.1)
+
+module _ (d : DeviceState) (v : LogMemory) (k : CheckpointValue) (m0 m : LogMap) (is : IsLoose d v k m0 m) (e : BlockEdit) where
+  below_all : e.number < 4096
+  below_all = let few = e.few in omega (arith, few)
+
+  block_applied : (v' : LogMemory) → ChangesBlock v v' e.number e.index e.bytes → IsLoose d v' k m0 (after_block e m)
+  block_applied v' go = block_changed d v v' k m0 m is e.number e.index below_all e.bytes e.long go
+
+  -- the block above one of a file that is there
+  has_above : IsReady v e.number e.index → HasInode m e.number → HasAbove (blocks_of v.dirty) (Data e.number e.index)
+  has_above ready there = ⊎_elim
+      (λ (has : HasAbove (blocks_of v.dirty) (Data e.number e.index)). has)
+      (λ (made : (address_in v.map e.number ≡ 0) × (e.index < 112)). absurd (inode_some d v k m0 m is e.number there made.0))
+      ready
+
+  block_not_away : IsReady v e.number e.index → HasInode m e.number → IsBlockAway v e.number e.index → ⊥
+  block_not_away ready there away = ⊎_elim
+      (λ (none : blocks_of v.dirty (parent (Data e.number e.index)) ≡ None). nothing_in_none v (parent (Data e.number e.index)) (has_above ready there) none)
+      (λ (bad : IsBlockMiscounted v e.number e.index). block_counted d v k m0 m is e.number e.index below_all bad)
+      away
+
+-- ---- blocks, one after the other
+pub blocks_applied : (d : DeviceState) (k : CheckpointValue) (m0 : LogMap) (edits : List BlockEdit) (v w : LogMemory) (m : LogMap) → IsLoose d v k m0 m → AppliesBlocks v edits w
+    → IsLoose d w k m0 (after_blocks edits m)
+blocks_applied d k m0 [] v w m is same = subst (λ (u : LogMemory). IsLoose d u k m0 m) (sym same) is
+blocks_applied d k m0 (e ∷ edits) v w m is go = blocks_applied d k m0 edits go.0 w (after_block e m) (block_applied d v k m0 m is e go.0 go.1) go.2
+
+pub blocks_never_fail : (d : DeviceState) (k : CheckpointValue) (m0 : LogMap) (edits : List BlockEdit) (v : LogMemory) (m : LogMap) → IsLoose d v k m0 m → AreBlocksReady v edits → AreBlocksFit m edits
+    → FailsBlocks v edits → ⊥
+blocks_never_fail d k m0 [] v m is ready fit bad = bad
+blocks_never_fail d k m0 (e ∷ edits) v m is ready fit bad = ⊎_elim
+    (λ (away : IsBlockAway v e.number e.index). block_not_away d v k m0 m is e ready.0 fit.0 away)
+    (λ (later : (v' : LogMemory) × ChangesBlock v v' e.number e.index e.bytes × FailsBlocks v' edits).
+    blocks_never_fail d k m0 edits later.0 (after_block e m) (block_applied d v k m0 m is e later.0 later.1) (still_ready v later.0 e later.1 edits ready.1) fit.1 later.2)
+    bad
+
+-- ---- the whole batch
+module _ (d : DeviceState) (k : CheckpointValue) (m0 m : LogMap) (headers : List HeaderEdit) (blocks : List BlockEdit) (v : LogMemory) (is : IsLoose d v k m0 m)
+    (headers_ready : AreHeadersReady v headers) (headers_fit : AreHeadersFit m headers) where
+  pub batch_applied : (w : LogMemory) → Applies v headers blocks w → IsLoose d w k m0 (after_batch headers blocks m)
+  batch_applied w go = blocks_applied d k m0 blocks go.0 w (after_headers headers m) (headers_applied d k m0 headers v go.0 m is headers_ready headers_fit go.1) go.2
+
+  pub batch_never_fails : AreBlocksReady v blocks → AreBlocksFit (after_headers headers m) blocks → FailsToApply v headers blocks → ⊥
+  batch_never_fails blocks_ready blocks_fit bad = ⊎_elim
+      (λ (first : FailsHeaders v headers). headers_never_fail headers v headers_ready first)
+      (λ (then : (u : LogMemory) × AppliesHeaders v headers u × FailsBlocks u blocks).
+      blocks_never_fail d k m0 blocks then.0 (after_headers headers m) (headers_applied d k m0 headers v then.0 m is headers_ready headers_fit then.1)
+      (blocks_ready_after headers v then.0 then.1 blocks blocks_ready) blocks_fit then.2)
+      bad
+
+-- ---- loops
+-- the headers up to here are done, and the rest is still to come
+pub record HeadersSoFar (old now : LogMemory) (edits rest : List HeaderEdit) (most : ℕ) : Type 0 where
+  pub done : (w : LogMemory) → AppliesHeaders now rest w → AppliesHeaders old edits w
+  pub failed : FailsHeaders now rest → FailsHeaders old edits
+  pub stays : Stays most old now
+
+pub record BlocksSoFar (old now : LogMemory) (edits rest : List BlockEdit) (most : ℕ) : Type 0 where
+  pub done : (w : LogMemory) → AppliesBlocks now rest w → AppliesBlocks old edits w
+  pub failed : FailsBlocks now rest → FailsBlocks old edits
+  pub stays : Stays most old now
+
+header_stays : (v v' : LogMemory) (e : HeaderEdit) → AppliesHeader v v' e → Stays 1 v v'
+header_stays v v' e go = zero_or (address_in v.map e.number) (Stays 1 v v') (λ none. (go.creates none).stays) (λ some. stays_more v v' (go.changes some).stays)
+
+module _ (old now : LogMemory) (edits : List HeaderEdit) (i : ℕ) (e : HeaderEdit) (within : i < length edits) (own : get_or edits i e ≡ e) (was : HeadersSoFar old now edits (drop i edits) i) where
+  first_header : drop i edits ≡ e ∷ drop (i + 1) edits
+  first_header = drop_more edits i e within ∙ ap (λ (f : HeaderEdit). f ∷ drop (i + 1) edits) own
+
+  pub headers_then : (next : LogMemory) → AppliesHeader now next e → HeadersSoFar old next edits (drop (i + 1) edits) (i + 1)
+  headers_then next go = record {
+    done = λ w rest. was.done w (subst (λ (es : List HeaderEdit). AppliesHeaders now es w) (sym first_header) (next, go, rest));
+    failed = λ bad. was.failed (subst (λ (es : List HeaderEdit). FailsHeaders now es) (sym first_header) (inr (next, go, bad)));
+    stays = stays_then i 1 old now next was.stays (header_stays now next e go);
+  }
+
+module _ (old now : LogMemory) (edits : List BlockEdit) (i : ℕ) (e : BlockEdit) (within : i < length edits) (own : get_or edits i e ≡ e) (was : BlocksSoFar old now edits (drop i edits) i) where
+  first_block : drop i edits ≡ e ∷ drop (i + 1) edits
+  first_block = drop_more edits i e within ∙ ap (λ (f : BlockEdit). f ∷ drop (i + 1) edits) own
+
+  pub blocks_then : (next : LogMemory) → ChangesBlock now next e.number e.index e.bytes → BlocksSoFar old next edits (drop (i + 1) edits) (i + 1)
+  blocks_then next go = record {
+    done = λ w rest. was.done w (subst (λ (es : List BlockEdit). AppliesBlocks now es w) (sym first_block) (next, go, rest));
+    failed = λ bad. was.failed (subst (λ (es : List BlockEdit). FailsBlocks now es) (sym first_block) (inr (next, go, bad)));
+    stays = stays_then i 1 old now next was.stays (block_stays now next e.number e.index e.bytes e.long go).0;
+  }

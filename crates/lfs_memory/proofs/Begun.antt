@@ -1,0 +1,130 @@
+-- A block that gets the next place: the chunk that it goes to, as the log runs.
+use Rattle.std.proofs.Common.{◌≡◌, ◌<◌, ⊎_elim, ◌⊎◌, inl, inr, ◌+◌, ◌*◌, ℕ, zero, suc, Bool, not, List, [], ◌∷◌, ◌++◌, length, Some, refl, sym, ◌∙◌, ap, subst, arith}
+use Rattle.std.specs.Prelude.{map}
+use Rattle.std.proofs.lemmas.List.{length-append, length-map, map-append}
+use Rattle.lfs_model.specs.Checkpoint.{CheckpointValue, IsSegmentCount}
+use Rattle.lfs_model.specs.Crash.{IsFree}
+use Rattle.lfs_model.specs.Device.{DeviceState}
+use Rattle.lfs_model.specs.Entry.{Entry, Data, Leaf, Double, Inode, Map, Usage, entry_of}
+use Rattle.lfs_model.specs.Stands.{LogMap}
+use Rattle.lfs_model.specs.Summary.{BlockNameValue}
+use Rattle.lfs_model.specs.Memory.{is_shown}
+use Rattle.lfs_model.specs.Running.{Tables, Running, IsAddressed, IsNoted, IsTakenFrom, CountsUp}
+use Rattle.lfs_model.specs.Committing.{place_of}
+use Rattle.lfs_model.proofs.Leaving.{beginning}
+use Rattle.lfs_segments.specs.Table.{UsageTable, live_of, held_of}
+use Rattle.lfs_segments.specs.Chunk.{entries_of}
+use Rattle.lfs_segments.specs.Steps.{Takes}
+use Rattle.lfs_inodes.specs.Blocks.{TableValue, blocks_of}
+use Rattle.lfs_inodes.specs.MapValue.{MapValue}
+use Rattle.lfs_memory.specs.declared.memory.LogMemory.{LogMemory}
+use Rattle.lfs_memory.specs.Memory.{IsMemory, IsMemoryUpTo, IsLog, Places, tables_by, tables_of, segment_in, chunk_in}
+use Rattle.lfs_memory.proofs.Opened.{is_open, is_closed, as_chunk, open_segment, open_chunk, taken_free}
+
+pub zero_or_more : (n : ℕ) → (n ≡ 0) ⊎ (0 < n)
+zero_or_more zero = inl refl
+zero_or_more (suc n) = inr (omega arith)
+
+no_entries : (names : List BlockNameValue) → length names ≡ 0 → map entry_of names ≡ []
+no_entries [] none = refl
+no_entries (x ∷ xs) none = absurd (omega (arith, none))
+
+-- a segment taken from the clean ones, as the tables see it
+pub taken_tables : (map : MapValue) (old new : UsageTable) (s age : ℕ) → Takes old new s age → IsTakenFrom (tables_by map old) (tables_by map new) s
+taken_tables map old new s age t = record {
+  clean = t.clean;
+  at = at;
+  used = t.used;
+  live = t.live;
+  held = t.held;
+  age = t.age.others;
+  taken = t.taken;
+  stale = λ j. (t.blocks j).0;
+}
+  where
+    at : (y : Entry) → (tables_by map new).at y ≡ (tables_by map old).at y
+    at (Data n i) = refl
+    at (Leaf n q) = refl
+    at (Double n) = refl
+    at (Inode n) = refl
+    at (Map j) = refl
+    at (Usage j) = (t.blocks j).1
+
+module _ (v v' : LogMemory) (name : BlockNameValue) (lives : Bool) (age place : ℕ) (memory : IsMemory v) (p : Places v v' name lives age place) where
+  abbrev pub before : Tables
+  before = tables_by v.map p.middle
+
+  pub place_is : place ≡ place_of v'.chunk.segment (entries_of v.chunk)
+  place_is = p.address ∙ ap (λ (n : ℕ). 2 + 64 * v'.chunk.segment + suc n) (sym (length-map v.chunk.names entry_of))
+
+  pub few_entries : length (entries_of v.chunk) < 63
+  few_entries = let short = memory.short in let same = length-map v.chunk.names entry_of in omega (arith, short, same)
+
+  pub segments_same : length v'.usage.segments ≡ length v.usage.segments
+  segments_same = ⊎_elim
+      (λ (none : length v.chunk.names ≡ 0). p.noted.size ∙ (p.begun none).size)
+      (λ (some : 0 < length v.chunk.names). p.noted.size ∙ ap (λ (u : UsageTable). length u.segments) (p.went_on some).0)
+      (zero_or_more (length v.chunk.names))
+
+  pub addresses_same : (j : ℕ) → (tables_by v.map v'.usage).at (Usage j) ≡ (tables_by v.map v.usage).at (Usage j)
+  addresses_same j = ⊎_elim
+      (λ (none : length v.chunk.names ≡ 0). p.noted.blocks.address j ∙ ((p.begun none).blocks j).1)
+      (λ (some : 0 < length v.chunk.names). p.noted.blocks.address j ∙ ap (λ (u : UsageTable). (tables_by v.map u).at (Usage j)) (p.went_on some).0)
+      (zero_or_more (length v.chunk.names))
+
+  pub long_names : length v'.chunk.names ≡ suc (length v.chunk.names)
+  long_names = ap length p.names ∙ length-append v.chunk.names (name ∷ []) ∙ omega arith
+
+  pub more_entries : entries_of v'.chunk ≡ entries_of v.chunk ++ entry_of name ∷ []
+  more_entries = ap (map entry_of) p.names ∙ map-append entry_of v.chunk.names (name ∷ [])
+
+  pub opened_after : chunk_in v'.chunk ≡ Some (entries_of v.chunk ++ entry_of name ∷ [])
+  opened_after = let long = long_names in open_chunk v'.chunk (omega (arith, long)) ∙ ap Some more_entries
+
+  pub segment_after : segment_in v'.chunk ≡ v'.chunk.segment
+  segment_after = let long = long_names in open_segment v'.chunk (omega (arith, long))
+
+  pub memory_after : (map : MapValue) (dirty : TableValue) → dirty.capacity ≡ v.dirty.capacity → IsMemoryUpTo 63 (record { map = map; usage = v'.usage; dirty = dirty; chunk = v'.chunk })
+  memory_after map dirty same = record {
+    count = subst (λ (n : ℕ). IsSegmentCount n) (sym segments_same) memory.count;
+    opened = λ some. p.opened;
+    short = let long = long_names in let short = memory.short in omega (arith, long, short);
+    usages = λ j one. memory.usages j (sym (addresses_same j) ∙ one);
+    few = let few = memory.few in omega (arith, few, same);
+  }
+
+  module _ (d : DeviceState) (k : CheckpointValue) (m0 m : LogMap) (is : IsLog d v k m0 m) where
+    pub begun : Running d (blocks_of v.dirty) before k m0 m v'.chunk.segment (Some (entries_of v.chunk))
+    begun = ⊎_elim first more (zero_or_more (length v.chunk.names))
+      where
+        first : length v.chunk.names ≡ 0 → Running d (blocks_of v.dirty) before k m0 m v'.chunk.segment (Some (entries_of v.chunk))
+        first none =
+            let t = p.begun none in
+            let inside : v'.chunk.segment < k.segments = let i = t.inside in let e = is.segments in omega (arith, i, e) in
+            as_chunk d (blocks_of v.dirty) before k m0 m v'.chunk.segment v'.chunk.segment (Some []) (Some (entries_of v.chunk)) refl (ap Some (sym (no_entries v.chunk.names none)))
+            (beginning d (blocks_of v.dirty) (tables_of v) before k m0 m 1024 v'.chunk.segment (is_closed d v k m0 m is none) inside (taken_tables v.map v.usage p.middle v'.chunk.segment age t))
+
+        more : 0 < length v.chunk.names → Running d (blocks_of v.dirty) before k m0 m v'.chunk.segment (Some (entries_of v.chunk))
+        more some =
+            let w = p.went_on some in
+            subst (λ (u : UsageTable). Running d (blocks_of v.dirty) (tables_by v.map u) k m0 m v'.chunk.segment (Some (entries_of v.chunk))) (sym w.0)
+            (as_chunk d (blocks_of v.dirty) (tables_of v) k m0 m v.chunk.segment v'.chunk.segment (Some (entries_of v.chunk)) (Some (entries_of v.chunk)) (sym w.1) refl (is_open d v k m0 m is some))
+
+    -- the place may be written
+    pub free_place : IsFree d.content k place
+    free_place =
+        let low = memory.short in
+        subst (λ (n : ℕ). IsFree d.content k n) (sym p.address)
+        (taken_free d (blocks_of v.dirty) before k m0 m v'.chunk.segment (Some (entries_of v.chunk)) begun v'.chunk.segment (suc (length v.chunk.names)) (sym (p.noted.taken v'.chunk.segment) ∙ p.opened.taken) (omega (arith, low)))
+
+    pub noted : (x : Entry) (map' : MapValue) → lives ≡ is_shown m x → IsAddressed before (tables_by map' v'.usage) x place
+        → IsNoted m before (tables_by map' v'.usage) x (place_of v'.chunk.segment (entries_of v.chunk)) v'.chunk.segment
+    noted x map' shows at = record {
+      at = subst (λ (n : ℕ). IsAddressed before (tables_by map' v'.usage) x n) place_is at;
+      used = p.noted.used;
+      live = subst (λ (b : Bool). CountsUp b (live_of p.middle) (live_of v'.usage) v'.chunk.segment) shows p.noted.live;
+      held = subst (λ (b : Bool). CountsUp (not b) (held_of p.middle) (held_of v'.usage) v'.chunk.segment) shows p.noted.held;
+      age = λ i ne. p.noted.age i;
+      taken = p.noted.taken;
+      stale = p.noted.blocks.stale;
+    }

@@ -1,0 +1,105 @@
+-- Headers of files change in memory, and files are made there: what that leaves of the log.
+use Rattle.std.proofs.Common.{◌≡◌, ◌<◌, ◌≤◌, ⊎_elim, ◌/◌, ◌==◌, ℕ, false, List, get_or, Some, refl, sym, ◌∙◌, ap, subst, arith}
+use Rattle.std.proofs.lemmas.Bool.{cases_eq}
+use Rattle.lfs_model.specs.declared.Kind.{Kind}
+use Rattle.lfs_model.specs.Changing.{IsWithHeader}
+use Rattle.lfs_model.specs.Checkpoint.{CheckpointValue}
+use Rattle.lfs_model.specs.Device.{DeviceState}
+use Rattle.lfs_model.specs.Entry.{Entry, Data, Leaf, Double, Inode, Map, Usage, Header, header}
+use Rattle.lfs_model.specs.Fields.{zeros}
+use Rattle.lfs_model.specs.Laid.{HoldsInode}
+use Rattle.lfs_model.specs.Memory.{is_unlinked, is_nameless}
+use Rattle.lfs_model.specs.Running.{IsReaddressed}
+use Rattle.lfs_model.specs.Stands.{LogMap}
+use Rattle.lfs_model.proofs.Headers.{header_changing, file_creating}
+use Rattle.lfs_inodes.specs.Blocks.{blocks_of}
+use Rattle.lfs_inodes.specs.MapValue.{MapValue, address_in, block_in, is_hidden_in}
+use Rattle.lfs_segments.specs.Table.{UsageTable, used_of, live_of, held_of, age_of, taken_of, stale_of}
+use Rattle.lfs_memory.specs.declared.memory.LogMemory.{LogMemory}
+use Rattle.lfs_memory.specs.Memory.{IsLoose, AreHidden, table_at, tables_of, segment_in, chunk_in}
+use Rattle.lfs_memory.specs.Changing.{FitsHeader, ChangesHeader, Creates, headed, header_with, with_header}
+use Rattle.lfs_memory.proofs.Heads.{holds_headed, headed_words, header_headed, holds_new, header_new, new_words}
+use Rattle.lfs_memory.proofs.LogMaps.{is_with_header}
+use Rattle.lfs_memory.proofs.Looses.{as_memory, tables_same}
+
+-- an inode in memory is one
+pub inode_held : (d : DeviceState) (v : LogMemory) (k : CheckpointValue) (m0 m : LogMap) → IsLoose d v k m0 m → (n : ℕ) (old : List ℕ) → blocks_of v.dirty (Inode n) ≡ Some old → HoldsInode n old
+inode_held d v k m0 m is n old there =
+    let w = is.running in
+    let c = w.cached.cached (Inode n) old there in
+    let one = c.1 in
+    subst (HoldsInode n) c.2 (w.laid.spells (Inode n) (omega (arith, one))).formed
+
+-- the files that are hidden stay so where the one that changes is as nameless as it is hidden
+pub hidden_with : (map map' : MapValue) (m : LogMap) (n : ℕ) (h : Header) → AreHidden map m → (h.links == 0) ≡ is_hidden_in map' n → ((l : ℕ) → (l ≡ n → ⊥) → is_hidden_in map' l ≡ is_hidden_in map l)
+    → AreHidden map' (with_header m n (Some h))
+hidden_with map map' m n h hidden own others l lt = ⊎_elim
+    (λ (here : l ≡ n). ap (is_nameless (with_header m n (Some h))) here ∙ ap is_unlinked (is_with_header m n (Some h)).own ∙ own ∙ ap (is_hidden_in map') (sym here))
+    (λ (ne : l ≡ n → ⊥). ap is_unlinked ((is_with_header m n (Some h)).others l ne) ∙ hidden l lt ∙ sym (others l ne))
+    (cases_eq l n)
+
+pub nameless_with : (m : LogMap) (n : ℕ) (h : Header) → is_nameless (with_header m n (Some h)) n ≡ (h.links == 0)
+nameless_with m n h = ap is_unlinked (is_with_header m n (Some h)).own
+
+-- An inode in memory has another header; the file has a name after it where it had one, and its inode map block is to be written then.
+pub header_changed : (d : DeviceState) (v v' : LogMemory) (k : CheckpointValue) (m0 m : LogMap) → IsLoose d v k m0 m → (n : ℕ) → n < 4096 → (kind : Kind) (links size : ℕ) → FitsHeader kind links size
+    → (links == 0) ≡ is_hidden_in v.map n → ((links == 0) ≡ false → block_in v.map (n / 128) ≡ 1)
+    → ChangesHeader v v' n kind links size → IsLoose d v' k m0 (with_header m n (Some (header_with kind links size)))
+header_changed d v v' k m0 m is n few kind links size fits same mapped go =
+    let h = header_with kind links size in
+    let m' = with_header m n (Some h) in
+    let holds = inode_held d v k m0 m is n go.old go.there in
+    let says : header (headed kind n links size go.old) ≡ h = header_headed n go.old holds kind links size fits in
+    record {
+      running = as_memory d (blocks_of v'.dirty) k m0 m' v v' (tables_of v) go.stays.chunk (tables_same v v' go.map go.usage)
+          (header_changing d (blocks_of v.dirty) (blocks_of v'.dirty) (tables_of v) k m0 m m' (segment_in v.chunk) (chunk_in v.chunk) n go.old (headed kind n links size go.old) is.running go.there
+          (holds_headed n go.old holds kind links size fits) (λ w high low. headed_words kind n links size go.old w (omega (arith, high)))
+          (subst (λ (g : Header). IsWithHeader m n (Some g) m') (sym says) (is_with_header m n (Some h)))
+          (nameless_with m n h ∙ same ∙ sym (is.hidden n few))
+          (λ named. mapped (sym (nameless_with m n h) ∙ named))
+          go.changes);
+      hidden = hidden_with v.map v'.map m n h is.hidden (same ∙ ap (λ (a : MapValue). is_hidden_in a n) (sym go.map)) (λ l ne. ap (λ (a : MapValue). is_hidden_in a l) go.map);
+      segments = go.stays.segments ∙ is.segments;
+    }
+
+-- ---- a new file
+module _ (v v' : LogMemory) (n : ℕ) (kind : Kind) (links size : ℕ) (go : Creates v v' n kind links size) where
+  other_tops : (y : Entry) → (y ≡ Inode n → ⊥) → table_at v'.map v'.usage y ≡ table_at v.map v.usage y
+  other_tops (Data l i) ne = refl
+  other_tops (Leaf l q) ne = refl
+  other_tops (Double l) ne = refl
+  other_tops (Inode l) ne = go.address.others l (λ here. ne (ap Inode here))
+  other_tops (Map j) ne = ap (λ (l : List ℕ). get_or l j 0) go.blocks
+  other_tops (Usage j) ne = ap (λ (u : UsageTable). table_at v.map u (Usage j)) go.usage
+
+  readdressed : IsReaddressed (tables_of v) (tables_of v') (Inode n) 1
+  readdressed = record {
+    at = record { own = λ top. go.address.own; others = λ y top ne. other_tops y ne };
+    used = λ i. ap (λ (u : UsageTable). used_of u i) go.usage;
+    live = λ i. ap (λ (u : UsageTable). live_of u i) go.usage;
+    held = λ i. ap (λ (u : UsageTable). held_of u i) go.usage;
+    age = λ i. ap (λ (u : UsageTable). age_of u i) go.usage;
+    taken = λ i. ap (λ (u : UsageTable). taken_of u i) go.usage;
+    stale = λ i. ap (λ (u : UsageTable). stale_of u i) go.usage;
+  }
+
+-- A file is made under a number that had none; its inode map block is to be written, if it has a name.
+pub file_created : (d : DeviceState) (v v' : LogMemory) (k : CheckpointValue) (m0 m : LogMap) → IsLoose d v k m0 m → (n : ℕ) → 1 ≤ n → n < 4096 → address_in v.map n ≡ 0
+    → (kind : Kind) (links size : ℕ) → FitsHeader kind links size → ((links == 0) ≡ false → block_in v.map (n / 128) ≡ 1)
+    → Creates v v' n kind links size → IsLoose d v' k m0 (with_header m n (Some (header_with kind links size)))
+file_created d v v' k m0 m is n some few none kind links size fits mapped go =
+    let h = header_with kind links size in
+    let m' = with_header m n (Some h) in
+    let bytes = headed kind n links size (zeros 512) in
+    let high : n ≤ 4095 = omega (arith, few) in
+    let says : header bytes ≡ h = header_new n some high kind links size fits in
+    record {
+      running = as_memory d (blocks_of v'.dirty) k m0 m' v v' (tables_of v') go.stays.chunk refl
+          (file_creating d (blocks_of v.dirty) (blocks_of v'.dirty) (tables_of v) (tables_of v') k m0 m m' (segment_in v.chunk) (chunk_in v.chunk) n bytes is.running none
+          (holds_new n some high kind links size fits) (λ w low up. new_words kind n links size w (omega (arith, low)))
+          (subst (λ (g : Header). IsWithHeader m n (Some g) m') (sym says) (is_with_header m n (Some h)))
+          (λ named. mapped (sym (nameless_with m n h) ∙ named))
+          go.changes (readdressed v v' n kind links size go));
+      hidden = hidden_with v.map v'.map m n h is.hidden (sym go.hidden.own) go.hidden.others;
+      segments = go.stays.segments ∙ is.segments;
+    }

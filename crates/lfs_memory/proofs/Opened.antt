@@ -1,0 +1,60 @@
+-- What a call of the device leaves of the log, and the chunk that is being written.
+use Rattle.std.proofs.Common.{◌≡◌, ◌<◌, ◌+◌, ◌*◌, ◌==◌, cond, ℕ, Bool, true, List, length, Option, Some, None, refl, ap, subst, arith}
+use Rattle.lfs_model.specs.Checkpoint.{CheckpointValue}
+use Rattle.lfs_model.specs.Content.{Content}
+use Rattle.lfs_model.specs.Crash.{IsFree}
+use Rattle.lfs_model.specs.Device.{DeviceState, MayWrite, CrashWrites, Carries, Elapses, IsLawful, LeavesOnly}
+use Rattle.lfs_model.specs.Entry.{Entry}
+use Rattle.lfs_model.specs.Stands.{LogMap, StandsLog}
+use Rattle.lfs_model.specs.Running.{Dirty, Tables, Running}
+use Rattle.lfs_model.specs.Settled.{IsSettled}
+use Rattle.lfs_model.proofs.Moments.{started, goes_on}
+use Rattle.lfs_model.proofs.Settled.{settled_stands, settled_write}
+use Rattle.lfs_segments.specs.Chunk.{Chunk, entries_of}
+use Rattle.lfs_inodes.specs.Blocks.{blocks_of}
+use Rattle.lfs_memory.specs.declared.memory.LogMemory.{LogMemory}
+use Rattle.lfs_memory.proofs.Rooms.{not_zero}
+use Rattle.lfs_memory.specs.Memory.{IsLog, tables_of, segment_in, chunk_in}
+
+pub open_segment : (c : Chunk) → 0 < length c.names → segment_in c ≡ c.segment
+open_segment c some = ap (λ (b : Bool). cond b 1024 c.segment) (not_zero (length c.names) some)
+
+pub open_chunk : (c : Chunk) → 0 < length c.names → chunk_in c ≡ Some (entries_of c)
+open_chunk c some = ap (λ (b : Bool). cond {A = Option (List Entry)} b None (Some (entries_of c))) (not_zero (length c.names) some)
+
+pub closed_segment : (c : Chunk) → length c.names ≡ 0 → segment_in c ≡ 1024
+closed_segment c none = ap (λ (n : ℕ). cond (n == 0) 1024 c.segment) none
+
+pub closed_chunk : (c : Chunk) → length c.names ≡ 0 → chunk_in c ≡ None
+closed_chunk c none = ap (λ (n : ℕ). cond {A = Option (List Entry)} (n == 0) None (Some (entries_of c))) none
+
+-- the segment and the entries of a running log by other words
+pub as_chunk : (d : DeviceState) (dirty : Dirty) (t : Tables) (k : CheckpointValue) (m0 m : LogMap) (a b : ℕ) (x y : Option (List Entry))
+    → a ≡ b → x ≡ y → Running d dirty t k m0 m a x → Running d dirty t k m0 m b y
+as_chunk d dirty t k m0 m a b x y s c w = subst (λ (o : Option (List Entry)). Running d dirty t k m0 m b o) c (subst (λ (n : ℕ). Running d dirty t k m0 m n x) s w)
+
+module _ (d : DeviceState) (v : LogMemory) (k : CheckpointValue) (m0 m : LogMap) (is : IsLog d v k m0 m) where
+  pub is_open : 0 < length v.chunk.names → Running d (blocks_of v.dirty) (tables_of v) k m0 m v.chunk.segment (Some (entries_of v.chunk))
+  is_open some = as_chunk d (blocks_of v.dirty) (tables_of v) k m0 m (segment_in v.chunk) v.chunk.segment (chunk_in v.chunk) (Some (entries_of v.chunk))
+      (open_segment v.chunk some) (open_chunk v.chunk some) is.running
+
+  pub is_closed : length v.chunk.names ≡ 0 → Running d (blocks_of v.dirty) (tables_of v) k m0 m 1024 None
+  is_closed none = as_chunk d (blocks_of v.dirty) (tables_of v) k m0 m (segment_in v.chunk) 1024 (chunk_in v.chunk) None
+      (closed_segment v.chunk none) (closed_chunk v.chunk none) is.running
+
+-- a write to a free sector, done or failed
+module _ (d d' : DeviceState) (k : CheckpointValue) (m0 : LogMap) (at : ℕ) (bytes : List ℕ) (settled : IsSettled d k m0) (free : IsFree d.content k at)
+    (may : MayWrite at bytes d.content d'.content) (crash : CrashWrites at bytes d d') where
+  pub stays_settled : IsSettled d' k m0
+  stays_settled = (settled_write d d' k m0 at bytes settled free may crash).0
+
+  pub stays_quiet : IsLawful d → Carries d d' → Elapses d d' → LeavesOnly d d' (λ c. StandsLog c m0)
+  stays_quiet lawful carries time =
+      let P : Content → Type 0 = λ c. StandsLog c m0 in
+      goes_on d d d' P (started d P lawful (settled_stands d k m0 settled)) carries time (settled_stands d' k m0 stays_settled)
+
+-- a sector of a segment that was taken
+pub taken_free : (d : DeviceState) (dirty : Dirty) (t : Tables) (k : CheckpointValue) (m0 m : LogMap) (seg : ℕ) (chunk : Option (List Entry)) → Running d dirty t k m0 m seg chunk
+    → (s place : ℕ) → t.taken s ≡ true → place < 64 → IsFree d.content k (2 + 64 * s + place)
+taken_free d dirty t k m0 m seg chunk w s place taken low =
+    let u = w.taken s taken in record { segment = s; place = place; is = refl; within = low; below = u.0; unused = let z = u.1 in omega (arith, z) }

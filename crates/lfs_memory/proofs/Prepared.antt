@@ -1,0 +1,257 @@
+-- What a batch of changes needs comes into memory: what is ready stays so, and how many blocks came.
+use Rattle.std.proofs.Common.{◌≡◌, ◌<◌, ◌≤◌, ◌⊎◌, ⊎_elim, inl, inr, ◌+◌, ◌-◌, ◌/◌, ◌==◌, cond, nat_lt, ℕ, Bool, true, false, List, [], ◌∷◌, length, get_or, drop, Option, None, Some, refl, sym, ◌∙◌, ap, subst, arith}
+use Rattle.std.proofs.lemmas.Bool.{cases_lt, cases_Bool, lt-ltb, le-ltb, cond-true, cond-false}
+use Rattle.std.proofs.lemmas.List.{drop_more}
+use Rattle.lfs_model.specs.Device.{DeviceState, IsLawful}
+use Rattle.lfs_model.specs.Entry.{Entry, Data, Leaf, Inode}
+use Rattle.lfs_model.specs.Memory.{parent, IsPointers}
+use Rattle.lfs_model.specs.Staging.{IsAt}
+use Rattle.lfs_model.specs.Stands.{LogMap}
+use Rattle.lfs_model.proofs.Entries.{data_parent_low, data_parent_high, pointers_below}
+use Rattle.lfs_inodes.specs.Blocks.{blocks_of}
+use Rattle.lfs_inodes.specs.MapValue.{MapValue, address_in, block_in}
+use Rattle.lfs_memory.specs.declared.batch.BlockEdit.{BlockEdit}
+use Rattle.lfs_memory.specs.declared.batch.HeaderEdit.{HeaderEdit}
+use Rattle.lfs_memory.specs.declared.memory.LogMemory.{LogMemory}
+use Rattle.lfs_memory.specs.Memory.{IsMemory, tables_of}
+use Rattle.lfs_memory.specs.Present.{Looks, IsExcused}
+use Rattle.lfs_memory.specs.Changing.{Grows, HasAbove}
+use Rattle.lfs_memory.specs.Lifting.{IsAbsent, IsInMemory, MapLifts, Prepares}
+use Rattle.lfs_memory.specs.Preparing.{IsReady, AreBlocksReady, IsHeaderReady, AreHeadersReady, LacksRoom, AreWithin, IsExcusedWithin, AreExcusedWithin, is_beside, row_of, way_from, ways, ways_from}
+use Rattle.lfs_memory.proofs.Aboves.{grown_memory}
+use Rattle.lfs_memory.proofs.BlockSteps.{grown_log}
+use Rattle.lfs_memory.proofs.Lifted.{map_of_prepares, prepares_at_most, prepares_excused, prepares_looks, prepares_then}
+use Rattle.lfs_memory.proofs.LogMaps.{both_yes, equal_is}
+use Rattle.lfs_memory.proofs.Presents.{looks_none}
+
+-- ---- an empty block of pointers
+grow_prepares : (d : DeviceState) (v v' : LogMemory) (x : Entry) → IsMemory v → IsPointers x → IsAt (blocks_of v.dirty) (tables_of v) x 0 → Grows v v' x → Prepares d d v v' 1
+grow_prepares d v v' x memory pointers at go = record {
+  looks = looks_none d;
+  memory = go.stays.memory memory;
+  segments = go.stays.segments;
+  clean = go.stays.clean;
+  chunk = go.stays.chunk;
+  capacity = go.stays.capacity;
+  few = go.stays.blocks;
+  stay = grown_memory v v' x go;
+  hidden = ap (λ (a : MapValue). a.hidden) go.map;
+  mapped = λ j one. ap (λ (a : MapValue). block_in a j) go.map ∙ one;
+  absent = λ l none. ap (λ (a : MapValue). address_in a l) go.map ∙ none;
+  log = λ k m0 m keeps is. grown_log d v v' k m0 m is x pointers (at.pointed (pointers_below x pointers)) go;
+}
+
+-- after a call that only looked
+prepares_same : (d d' : DeviceState) (v v' : LogMemory) (n l : ℕ) → IsLawful d → IsMemory v → v' ≡ v → Prepares d d' v v' n → Prepares d d' v v' l
+prepares_same d d' v v' n l lawful memory same one =
+    subst (λ (w : LogMemory). Prepares d d' v w l) (sym same) (prepares_at_most d d' v v 0 l (omega arith) (prepares_looks d d' v lawful memory one.looks))
+
+pub grown_after : (d d' : DeviceState) (v v' v'' : LogMemory) (x : Entry) → IsLawful d → IsMemory v → v' ≡ v → IsPointers x → IsAt (blocks_of v'.dirty) (tables_of v') x 0 → Grows v' v'' x
+    → Prepares d d' v v' 1 → Prepares d d' v v'' 1
+grown_after d d' v v' v'' x lawful memory same pointers at go one =
+    prepares_then d d' d' v v' v'' 0 1 lawful (prepares_same d d' v v' 1 0 lawful memory same one) (grow_prepares d' v' v'' x one.memory pointers at go)
+
+-- ---- room
+lacks_more : (v : LogMemory) (a b : ℕ) → a ≤ b → LacksRoom v a → LacksRoom v b
+lacks_more v a b le lacks = omega (arith, le, lacks)
+
+lacks_then : (d d' : DeviceState) (v v' : LogMemory) (a b : ℕ) → Prepares d d' v v' a → LacksRoom v' b → LacksRoom v (a + b)
+lacks_then d d' v v' a b one lacks = let few = one.few in let capacity = one.capacity in omega (arith, few, capacity, lacks)
+
+-- ---- what stays
+pub record Keeps (v w : LogMemory) : Type 0 where
+  pub stay : (x : Entry) → IsInMemory v x → IsInMemory w x
+  pub absent : (l : ℕ) → address_in v.map l ≡ 0 → address_in w.map l ≡ 0
+  pub mapped : (j : ℕ) → block_in v.map j ≡ 1 → block_in w.map j ≡ 1
+
+keeps_none : (v : LogMemory) → Keeps v v
+keeps_none v = record { stay = λ x is. is; absent = λ l is. is; mapped = λ j is. is }
+
+pub keeps_prepared : (d d' : DeviceState) (v v' w : LogMemory) (n : ℕ) → Prepares d d' v v' n → Keeps v' w → Keeps v w
+keeps_prepared d d' v v' w n one two = record {
+  stay = λ x is. two.stay x (one.stay x is);
+  absent = λ l is. two.absent l (one.absent l is);
+  mapped = λ j is. two.mapped j (one.mapped j is);
+}
+
+ready_kept : (v w : LogMemory) (n i : ℕ) → Keeps v w → IsReady v n i → IsReady w n i
+ready_kept v w n i keeps was = ⊎_elim
+    (λ (has : HasAbove (blocks_of v.dirty) (Data n i)). inl (keeps.stay (parent (Data n i)) has))
+    (λ (made : (address_in v.map n ≡ 0) × (i < 112)). inr (keeps.absent n made.0, made.1))
+    was
+
+header_ready_kept : (v w : LogMemory) (n links : ℕ) → Keeps v w → IsHeaderReady v n links → IsHeaderReady w n links
+header_ready_kept v w n links keeps was = record {
+  inside = ⊎_elim
+      (λ (has : IsInMemory v (Inode n)). inl (keeps.stay (Inode n) has))
+      (λ (none : address_in v.map n ≡ 0). inr (keeps.absent n none))
+      was.inside;
+  mapped = λ some. keeps.mapped (n / 128) (was.mapped some);
+}
+
+pub headers_ready_kept : (v w : LogMemory) (edits : List HeaderEdit) → Keeps v w → AreHeadersReady v edits → AreHeadersReady w edits
+headers_ready_kept v w [] keeps was = was
+headers_ready_kept v w (e ∷ edits) keeps was = (header_ready_kept v w e.number e.header.links keeps was.0, headers_ready_kept v w edits keeps was.1)
+
+-- ---- a data block
+pub way_high : (v : LogMemory) (n i : ℕ) → 112 ≤ i → IsInMemory v (Leaf n ((i - 112) / 128)) → IsReady v n i
+way_high v n i high has = inl (subst (IsInMemory v) (sym (data_parent_high n i high)) has)
+
+-- faults
+pub absent_within : (d d' : DeviceState) (v : LogMemory) (n i : ℕ) → 112 ≤ i → IsAbsent d d' v n → IsExcusedWithin d d' v n i
+absent_within d d' v n i high absent k m0 m keeps is within = let low = within (absent k m0 m keeps is) in absurd (omega (arith, low, high))
+
+pub excused_within : (d d' : DeviceState) (v : LogMemory) (n i : ℕ) → IsExcused d d' v → IsExcusedWithin d d' v n i
+excused_within d d' v n i failed k m0 m keeps is within = failed k m0 m keeps is
+
+-- ---- a header
+-- after the inode map's block
+module _ (d d' : DeviceState) (v v' v'' : LogMemory) (j : ℕ) (lawful : IsLawful d) (memory : IsMemory v) (named : (v' ≡ v) ⊎ MapLifts v v' j) (one : Prepares d d' v' v'' 1) where
+  pub named_prepares : Prepares d d' v v'' 1
+  named_prepares = prepares_then d d d' v v' v'' 0 1 lawful (map_of_prepares d v v' j lawful memory named) one
+
+  pub named_excused : IsExcused d d' v' → IsExcused d d' v
+  named_excused failed = prepares_excused d d d' v v' 0 (map_of_prepares d v v' j lawful memory named) one.looks failed
+
+-- ---- headers, one after the other
+pub record HeadersPrepared (d0 d : DeviceState) (v0 v : LogMemory) (edits rest : List HeaderEdit) (i : ℕ) : Type 0 where
+  pub prepares : Prepares d0 d v0 v i
+  pub ready : (w : LogMemory) → Keeps v w → AreHeadersReady w rest → AreHeadersReady w edits
+  pub no_failure : d.failures ≡ d0.failures
+
+module _ (d0 d : DeviceState) (v0 v : LogMemory) (edits : List HeaderEdit) (i : ℕ) (e : HeaderEdit) (lawful : IsLawful d0) (within : i < length edits) (own : get_or edits i e ≡ e)
+    (was : HeadersPrepared d0 d v0 v edits (drop i edits) i) (d' : DeviceState) (v' : LogMemory) (one : Prepares d d' v v' 1) where
+  first_header : drop i edits ≡ e ∷ drop (i + 1) edits
+  first_header = drop_more edits i e within ∙ ap (λ (f : HeaderEdit). f ∷ drop (i + 1) edits) own
+
+  pub headers_next : IsHeaderReady v' e.number e.header.links → d'.failures ≡ d.failures → HeadersPrepared d0 d' v0 v' edits (drop (i + 1) edits) (i + 1)
+  headers_next ready no_failure = record {
+    prepares = prepares_then d0 d d' v0 v v' i 1 lawful was.prepares one;
+    ready = λ w keeps rest. was.ready w (keeps_prepared d d' v v' w 1 one keeps)
+        (subst (AreHeadersReady w) (sym first_header) (header_ready_kept v' w e.number e.header.links keeps ready, rest));
+    no_failure = no_failure ∙ was.no_failure;
+  }
+
+  pub headers_fault : Prepares d0 d' v0 v' (length edits)
+  headers_fault = prepares_at_most d0 d' v0 v' (i + 1) (length edits) (omega (arith, within)) (prepares_then d0 d d' v0 v v' i 1 lawful was.prepares one)
+
+  pub headers_excused : IsExcused d d' v → IsExcused d0 d' v0
+  headers_excused failed = prepares_excused d0 d d' v0 v i was.prepares one.looks failed
+
+-- ---- blocks that stand beside each other
+row_low : (i : ℕ) → i < 112 → row_of i ≡ 0
+row_low i low = cond-true (nat_lt i 112) 0 (1 + (i - 112) / 128) (lt-ltb i 112 low)
+
+row_high : (i : ℕ) → 112 ≤ i → row_of i ≡ 1 + (i - 112) / 128
+row_high i high = cond-false (nat_lt i 112) 0 (1 + (i - 112) / 128) (le-ltb i 112 high)
+
+row_still_low : (i j : ℕ) → row_of i ≡ row_of j → i < 112 → j < 112
+row_still_low i j same low = ⊎_elim
+    (λ (l : j < 112). l)
+    (λ (high : 112 ≤ j). let a = row_low i low in let b = row_high j high in absurd (omega (arith, a, b, same)))
+    (cases_lt j 112)
+
+row_parent : (n i j : ℕ) → row_of i ≡ row_of j → parent (Data n i) ≡ parent (Data n j)
+row_parent n i j same = ⊎_elim
+    (λ (low : i < 112). data_parent_low n i low ∙ sym (data_parent_low n j (row_still_low i j same low)))
+    (λ (high : 112 ≤ i). ⊎_elim
+    (λ (low : j < 112). let l = row_still_low j i (sym same) low in absurd (omega (arith, l, high)))
+    (λ (h : 112 ≤ j).
+    let a = row_high i high in
+    let b = row_high j h in
+    let rows : (i - 112) / 128 ≡ (j - 112) / 128 = omega (arith, a, b, same) in
+    data_parent_high n i high ∙ ap (Leaf n) rows ∙ sym (data_parent_high n j h))
+    (cases_lt j 112))
+    (cases_lt i 112)
+
+beside_ready : (v : LogMemory) (a b : BlockEdit) → is_beside a b ≡ true → IsReady v a.number a.index → IsReady v b.number b.index
+beside_ready v a b beside was =
+    let both = both_yes (a.number == b.number) (row_of a.index == row_of b.index) beside in
+    let file = equal_is a.number b.number both.0 in
+    let rows = equal_is (row_of a.index) (row_of b.index) both.1 in
+    ⊎_elim
+    (λ (has : HasAbove (blocks_of v.dirty) (Data a.number a.index)).
+    inl (subst (IsInMemory v) (row_parent a.number a.index b.index rows ∙ ap (λ (n : ℕ). parent (Data n b.index)) file) has))
+    (λ (made : (address_in v.map a.number ≡ 0) × (a.index < 112)). inr (ap (address_in v.map) (sym file) ∙ made.0, row_still_low a.index b.index rows made.1))
+    was
+
+-- ---- blocks, one after the other
+pub record BlocksPrepared (d0 d : DeviceState) (v0 v : LogMemory) (edits rest : List BlockEdit) : Type 0 where
+  pub before : Option BlockEdit
+  pub last : (b : BlockEdit) → before ≡ Some b → IsReady v b.number b.index
+  pub most : ℕ
+  pub all : most + ways_from before rest ≡ ways edits
+  pub prepares : Prepares d0 d v0 v most
+  pub ready : (w : LogMemory) → Keeps v w → AreBlocksReady w rest → AreBlocksReady w edits
+  pub within : (m : LogMap) → AreWithin m edits → AreWithin m rest
+  pub no_failure : d.failures ≡ d0.failures
+
+way_cases : (v : LogMemory) (before : Option BlockEdit) (e : BlockEdit) → ((b : BlockEdit) → before ≡ Some b → IsReady v b.number b.index) → (way_from before e ≡ 3) ⊎ ((way_from before e ≡ 0) × IsReady v e.number e.index)
+way_cases v None e last = inl refl
+way_cases v (Some b) e last = ⊎_elim
+    (λ (on : is_beside b e ≡ true). inr (ap (λ (t : Bool). cond {A = ℕ} t 0 3) on, beside_ready v b e on (last b refl)))
+    (λ (off : is_beside b e ≡ false). inl (ap (λ (t : Bool). cond {A = ℕ} t 0 3) off))
+    (cases_Bool (is_beside b e))
+
+module _ (d0 d : DeviceState) (v0 v : LogMemory) (edits : List BlockEdit) (i : ℕ) (e : BlockEdit) (lawful0 : IsLawful d0) (lawful : IsLawful d) (within : i < length edits) (own : get_or edits i e ≡ e)
+    (was : BlocksPrepared d0 d v0 v edits (drop i edits)) (d' : DeviceState) (v' : LogMemory) (one : Prepares d d' v v' 3) where
+  first_block : drop i edits ≡ e ∷ drop (i + 1) edits
+  first_block = drop_more edits i e within ∙ ap (λ (f : BlockEdit). f ∷ drop (i + 1) edits) own
+
+  sum_is : was.most + (way_from was.before e + ways_from (Some e) (drop (i + 1) edits)) ≡ ways edits
+  sum_is = ap (λ (rest : List BlockEdit). was.most + ways_from was.before rest) (sym first_block) ∙ was.all
+
+  sharp : (IsReady v e.number e.index → v' ≡ v) → Prepares d d' v v' (way_from was.before e)
+  sharp same = ⊎_elim
+      (λ (three : way_from was.before e ≡ 3). subst (Prepares d d' v v') (sym three) one)
+      (λ (none : (way_from was.before e ≡ 0) × IsReady v e.number e.index). prepares_same d d' v v' 3 (way_from was.before e) lawful was.prepares.memory (same none.1) one)
+      (way_cases v was.before e was.last)
+
+  pub blocks_next : (IsReady v e.number e.index → v' ≡ v) → IsReady v' e.number e.index → d'.failures ≡ d.failures → BlocksPrepared d0 d' v0 v' edits (drop (i + 1) edits)
+  blocks_next same ready no_failure = record {
+    before = Some e;
+    last = λ b is. let own : e ≡ b = some_is e b is in subst (λ (f : BlockEdit). IsReady v' f.number f.index) own ready;
+    most = was.most + way_from was.before e;
+    all = let sum = sum_is in omega (arith, sum);
+    prepares = prepares_then d0 d d' v0 v v' was.most (way_from was.before e) lawful0 was.prepares (sharp same);
+    ready = λ w keeps rest. was.ready w (keeps_prepared d d' v v' w 3 one keeps) (subst (AreBlocksReady w) (sym first_block) (ready_kept v' w e.number e.index keeps ready, rest));
+    within = λ m all. (subst (AreWithin m) first_block (was.within m all)).1;
+    no_failure = no_failure ∙ was.no_failure;
+  }
+    where
+      some_is : (a b : BlockEdit) → Some a ≡ Some b → a ≡ b
+      some_is a b is = cc
+
+  module _ (away : IsReady v e.number e.index → ⊥) where
+    three_more : was.most + 3 ≤ ways edits
+    three_more = let sum = sum_is in ⊎_elim
+        (λ (three : way_from was.before e ≡ 3). omega (arith, sum, three))
+        (λ (none : (way_from was.before e ≡ 0) × IsReady v e.number e.index). absurd (away none.1))
+        (way_cases v was.before e was.last)
+
+    pub blocks_fault : Prepares d0 d' v0 v' (ways edits)
+    blocks_fault = prepares_at_most d0 d' v0 v' (was.most + 3) (ways edits) three_more (prepares_then d0 d d' v0 v v' was.most 3 lawful0 was.prepares one)
+
+    pub blocks_short : LacksRoom v 3 → LacksRoom v0 (ways edits)
+    blocks_short lacks = lacks_more v0 (was.most + 3) (ways edits) three_more (lacks_then d0 d v0 v was.most 3 was.prepares lacks)
+
+  pub blocks_excused : IsExcusedWithin d d' v e.number e.index → AreExcusedWithin d0 d' v0 edits
+  blocks_excused failed k m0 m keeps is all =
+      let back = one.looks.carries.kept_before keeps in
+      let rose = failed k m0 m keeps (was.prepares.log k m0 m back is) (subst (AreWithin m) first_block (was.within m all)).0 in
+      let before = was.no_failure in
+      omega (arith, rose, before)
+
+-- ---- blocks after headers
+pub headers_ready_after : (d d' : DeviceState) (v w : LogMemory) (n : ℕ) (edits : List HeaderEdit) → Prepares d d' v w n → AreHeadersReady v edits → AreHeadersReady w edits
+headers_ready_after d d' v w n edits one was = headers_ready_kept v w edits (keeps_prepared d d' v w w n one (keeps_none w)) was
+
+pub all_excused : (d d' : DeviceState) (v : LogMemory) (edits : List BlockEdit) → IsExcused d d' v → AreExcusedWithin d d' v edits
+all_excused d d' v edits failed k m0 m keeps is all = failed k m0 m keeps is
+
+pub excused_then : (a b c : DeviceState) (v w : LogMemory) (n : ℕ) (edits : List BlockEdit) → Prepares a b v w n → Looks b c → AreExcusedWithin b c w edits → AreExcusedWithin a c v edits
+excused_then a b c v w n edits one two failed k m0 m keeps is all =
+    let back = two.carries.kept_before keeps in
+    let rose = failed k m0 m keeps (one.log k m0 m back is) all in
+    let before = one.looks.carries.failures in
+    omega (arith, rose, before)

@@ -1,0 +1,12 @@
+pub mod Memory
+pub mod Present
+pub mod Lifting
+pub mod Changing
+pub mod Counting
+pub mod Removing
+pub mod Preparing
+pub mod Applying
+pub mod Cutting
+pub mod Hiding
+pub mod Batch
+pub mod Staging

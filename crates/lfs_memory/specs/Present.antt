@@ -1,0 +1,60 @@
+-- What the log answers to reads, and what a call that only reads leaves.
+use Rattle.std.specs.Prelude.{◌≡◌, ◌<◌, ℕ, Bool, true, false, List, [], Option, Some, None}
+use Rattle.lfs_model.specs.Checkpoint.{CheckpointValue}
+use Rattle.lfs_model.specs.Content.{Content}
+use Rattle.lfs_model.specs.Device.{DeviceState, IsUntouched, Carries, Elapses, cell_at}
+use Rattle.lfs_model.specs.Entry as entry
+use Rattle.lfs_model.specs.Entry.{Entry, header}
+use Rattle.lfs_model.specs.Laid.{HoldsInode}
+use Rattle.lfs_model.specs.Running.{Dirty}
+use Rattle.lfs_model.specs.Stands.{LogMap}
+use Rattle.lfs_memory.specs.declared.header.Header.{Header}
+use Rattle.lfs_memory.specs.declared.memory.LogMemory.{LogMemory}
+use Rattle.lfs_memory.specs.Memory.{IsLoose}
+
+-- A call that only reads leaves the device as it is.
+pub record Looks (d d' : DeviceState) : Type 0 where
+  pub untouched : IsUntouched d d'
+  pub carries : Carries d d'
+  pub time : Elapses d d'
+
+-- Where memory and device hold a log map, a call of the device failed.
+abbrev pub IsExcused : DeviceState → DeviceState → LogMemory → Type 0
+IsExcused d d' v = (k : CheckpointValue) (m0 m : LogMap) → d'.keeps_model → IsLoose d v k m0 m → d.failures < d'.failures
+
+-- neither memory nor the device has the block of this pointer
+pub record IsMissing (content : Content) (dirty : Dirty) (x : Entry) (address : ℕ) : Type 0 where
+  pub inside : address ≡ 1 → dirty x ≡ None
+  pub outside : (address ≡ 1 → ⊥) → cell_at content address ≡ None
+
+-- whether a file is there, and its inode
+abbrev pub InodeAnswer : LogMap → ℕ → List ℕ → Bool → Type 0
+InodeAnswer m n out false = m.header n ≡ None
+InodeAnswer m n out true = HoldsInode n out × (m.header n ≡ Some (header out))
+
+-- what its inode says of it
+abbrev pub as_header : Header → entry.Header
+as_header h = record { kind = h.kind; form = 0; links = h.links; size = h.size }
+
+abbrev pub HeaderAnswer : LogMap → ℕ → Option Header → Type 0
+HeaderAnswer m n None = m.header n ≡ None
+HeaderAnswer m n (Some h) = m.header n ≡ Some (as_header h)
+
+-- whether a block of a file is stored, and its bytes
+abbrev pub BlockAnswer : LogMap → ℕ → ℕ → List ℕ → Bool → Type 0
+BlockAnswer m n i out false = m.block n i ≡ []
+BlockAnswer m n i out true = m.block n i ≡ out
+
+-- where memory and device hold a log map, the answer is that one's
+abbrev pub AnswersInode : DeviceState → DeviceState → LogMemory → ℕ → List ℕ → Bool → Type 0
+AnswersInode d d' v n out found = (k : CheckpointValue) (m0 m : LogMap) → d'.keeps_model → IsLoose d v k m0 m → InodeAnswer m n out found
+
+abbrev pub AnswersHeader : DeviceState → DeviceState → LogMemory → ℕ → Option Header → Type 0
+AnswersHeader d d' v n h = (k : CheckpointValue) (m0 m : LogMap) → d'.keeps_model → IsLoose d v k m0 m → HeaderAnswer m n h
+
+abbrev pub AnswersBlock : DeviceState → DeviceState → LogMemory → ℕ → ℕ → List ℕ → Bool → Type 0
+AnswersBlock d d' v n i out found = (k : CheckpointValue) (m0 m : LogMap) → d'.keeps_model → IsLoose d v k m0 m → BlockAnswer m n i out found
+
+-- and the address: 0 for no block, 1 for one in memory
+abbrev pub AnswersAddress : DeviceState → DeviceState → LogMemory → Entry → ℕ → Type 0
+AnswersAddress d d' v x address = (k : CheckpointValue) (m0 m : LogMap) → d'.keeps_model → (is : IsLoose d v k m0 m) → is.running.memory.at x ≡ address

@@ -1,0 +1,62 @@
+//! Changes of files that are asked for together.
+ghost use Rattle.std.specs.Prelude.{◌≡◌, ◌≤◌, length};
+
+use crate::header::Header;
+use lfs_model::Kind;
+
+/// The header of a file, which is made where it isn't there.
+#[derive(Clone, Copy)]
+pub struct HeaderEdit {
+    pub number: u16,
+    pub header: Header,
+    ghost some: { 1 ≤ number },
+    ghost few: { number ≤ 4095 },
+}
+
+/// A data block of a file. One of zeros alone isn't stored.
+#[derive(Clone, Copy)]
+pub struct BlockEdit {
+    pub number: u16,
+    pub index: u32,
+    pub bytes: [u8; 512],
+    ghost some: { 1 ≤ number },
+    ghost few: { number ≤ 4095 },
+    ghost low: { index ≤ 16623 },
+    ghost long: { length bytes ≡ 512 },
+}
+
+/// A file loses its blocks from this one on. Its header stays.
+#[derive(Clone, Copy)]
+pub struct Cut {
+    pub number: u16,
+    pub first: u32,
+    ghost few: { number ≤ 4095 },
+    ghost low: { first ≤ 16624 },
+}
+
+/// A file that has a name loses it, and is in memory alone from then on.
+#[derive(Clone, Copy)]
+pub struct LastLink {
+    pub number: u16,
+    pub kind: Kind,
+    /// In bytes.
+    pub size: u32,
+    ghost some: { 1 ≤ number },
+    ghost few: { number ≤ 4095 },
+}
+
+/// A file goes with all its blocks.
+#[derive(Clone, Copy)]
+pub struct Removal {
+    pub number: u16,
+    ghost few: { number ≤ 4095 },
+}
+
+/// What a file loses in a batch, before headers and blocks change.
+#[derive(Clone, Copy)]
+pub enum Loss {
+    Nothing,
+    Blocks(Cut),
+    Link(LastLink),
+    File(Removal),
+}

@@ -1,0 +1,308 @@
+//! How many blocks of a file each segment holds.
+ghost use Rattle.std.specs.Prelude.{◌≡◌, ◌<◌, ◌≤◌, ◌+◌, IfOk, OnOk, OnErr, IsTrue, IsFalse, true, get_or, length};
+ghost use Rattle.lfs_memory.specs.Present.{Looks, IsExcused};
+ghost use Rattle.lfs_memory.specs.Counting.{IsBefore, CountsOne, IsOver, CountsWhere, IsNothing, CountsWords, AreNoWords, CountsLeaf, FailsLeaf, CountsLeaves, FailsLeaves, CountsDouble, FailsDouble, CountsInode, FailsInode, CountsPast, CountsFile};
+
+use crate::memory::LogMemory;
+use crate::present::{read_inode, read_present};
+use lfs_device::{DeviceFault, SectorDevice};
+use lfs_inodes::{BlockKey, DIRECT, POINTERS};
+use lfs_layout::word;
+use std::alloc::{AllocError, Global};
+use std::marker::Model;
+
+/// The most segments that a volume has.
+const SEGMENTS: usize = 1_024;
+
+/// How many sectors a segment has.
+const SECTORS: u16 = 64;
+
+/// The places of 4 bytes of an inode at which its pointers stand.
+pub(crate) const FIRST: usize = 8;
+
+const SINGLE: usize = 120;
+
+const DOUBLE: usize = 121;
+
+/// A number for each segment. Contracts see the list.
+#[derive(Drop)]
+pub struct SegmentCounts {
+    counts: Vec<u16>,
+}
+
+impl Model for SegmentCounts {
+    ghost use Rattle.std.specs.Prelude.{◌≡◌, ℕ, List, length};
+
+    ghost Value = { List ℕ };
+
+    ghost view = { λ c. c.counts.items };
+
+    ghost invariant = { λ c. length c.counts.items ≡ 1024 };
+}
+
+impl SegmentCounts {
+    /// All numbers 0.
+    ///
+    /// # Errors
+    ///
+    /// Where memory runs out.
+    pub fn new(alloc: Global) -> Result<SegmentCounts, AllocError>
+        ensures { IfOk result IsNothing }
+    {
+        let counts = Vec::from_elem(alloc, 0, SEGMENTS)?;
+        Ok(SegmentCounts { counts })
+    }
+
+    /// All numbers are 0 from now on.
+    pub fn clear(&mut self)
+        ensures { IsNothing self.new }
+    {
+        for segment in 0..SEGMENTS {
+            self.counts[segment] = 0;
+        }
+    }
+
+    /// How many numbers there are.
+    pub fn segments(&self) -> u32
+        ensures value { result ≡ length self.now }
+        ensures most { result ≡ 1024 }
+    {
+        self.counts.len() as u32
+    }
+
+    /// The number of a segment.
+    pub fn count(&self, segment: u32) -> u16
+        requires { segment < 1024 }
+        ensures { result ≡ get_or self.now segment 0 }
+    {
+        self.counts[segment as usize]
+    }
+
+    /// Counts a block at this address, if that is one on the device; not where no volume has one more there.
+    pub fn add(&mut self, address: u32) -> bool
+        ensures done { IsTrue result → CountsOne self.old self.new address }
+        ensures over { IsFalse result → IsOver self.old address }
+    {
+        if address < 2 {
+            return true;
+        }
+        let segment = ((address - 2) / 64) as usize;
+        if segment >= SEGMENTS {
+            return false;
+        }
+        if self.counts[segment] >= SECTORS {
+            return false;
+        }
+        self.counts[segment] += 1;
+        true
+    }
+}
+
+/// How many of so many pointers, the first of which is to block `lowest` of a file, are to blocks before block `first`.
+fn pointers_before(first: u32, lowest: u32, pointers: u32) -> u32
+    ensures { IsBefore first lowest pointers result }
+{
+    first.saturating_sub(lowest).min(pointers)
+}
+
+/// Counts a block at this address where it is one of those to be counted; not where no volume has one more there.
+fn count_one(counts: &mut SegmentCounts, address: u32, counted: bool) -> bool
+    ensures done { IsTrue result → CountsWhere counts.old counts.new address counted }
+    ensures wanted { IsFalse result → counted ≡ true }
+    ensures over { IsFalse result → IsOver counts.old address }
+{
+    if !counted {
+        return true;
+    }
+    counts.add(address)
+}
+
+/// Counts the blocks whose addresses stand at so many places of 4 bytes.
+fn count_words(
+    counts: &mut SegmentCounts,
+    block: &[u8; 512],
+    start: usize,
+    number: usize,
+) -> Result<(), DeviceFault>
+    requires { start + number ≤ 128 }
+    ensures done { OnOk result (CountsWords block.now start number counts.old counts.new) }
+    ensures failed { OnErr result (AreNoWords block.now start number counts.old) }
+{
+    for i in 0..number {
+        if !counts.add(word(block, start + i)) {
+            return Err(DeviceFault);
+        }
+    }
+    Ok(())
+}
+
+/// Counts a leaf of pointers and the blocks below it, from block `first` of the file on. A leaf that lies before isn't read.
+fn count_leaf<D: SectorDevice>(
+    device: &mut D,
+    memory: &LogMemory,
+    number: u16,
+    index: u32,
+    address: u32,
+    first: u32,
+    counts: &mut SegmentCounts,
+) -> Result<(), DeviceFault>
+    requires some { 1 ≤ number }
+    requires number { number ≤ 4095 }
+    requires index { index ≤ 128 }
+    ensures done { OnOk result (CountsLeaf (D.state device.old) (D.state device.new) memory.now number index address first counts.old counts.new) }
+    ensures failed { OnErr result (FailsLeaf (D.state device.old) (D.state device.new) memory.now number index address first counts.old) }
+    ensures no_failure { OnOk result ((D.state device.new).failures ≡ (D.state device.old).failures) }
+    ensures looks { Looks (D.state device.old) (D.state device.new) }
+{
+    let start = pointers_before(first, DIRECT + POINTERS * index, POINTERS);
+    if start == POINTERS {
+        return Ok(());
+    }
+    if address == 0 {
+        return Ok(());
+    }
+    if !count_one(counts, address, start == 0) {
+        return Err(DeviceFault);
+    }
+    let mut leaf = [0; 512];
+    let key = BlockKey::leaf(number, index);
+    match read_present(device, memory, key, address, &mut leaf) {
+        Ok(()) => count_words(counts, &leaf, start as usize, (POINTERS - start) as usize),
+        Err(fault) => Err(fault),
+    }
+}
+
+/// Counts the leaves below a double root, and the blocks below them, from block `first` of the file on.
+fn count_leaves<D: SectorDevice>(
+    device: &mut D,
+    memory: &LogMemory,
+    number: u16,
+    root: &[u8; 512],
+    first: u32,
+    counts: &mut SegmentCounts,
+) -> Result<(), DeviceFault>
+    requires some { 1 ≤ number }
+    requires number { number ≤ 4095 }
+    ensures done { OnOk result (CountsLeaves (D.state device.old) (D.state device.new) memory.now number root.now 128 first counts.old counts.new) }
+    ensures failed { OnErr result (FailsLeaves (D.state device.old) (D.state device.new) memory.now number root.now 128 first counts.old) }
+    ensures no_failure { OnOk result ((D.state device.new).failures ≡ (D.state device.old).failures) }
+    ensures looks { Looks (D.state device.old) (D.state device.new) }
+{
+    for index in 0..POINTERS {
+        let address = word(root, index as usize);
+        count_leaf(device, memory, number, index + 1, address, first, counts)?;
+    }
+    Ok(())
+}
+
+/// Counts all that is below the double root of a file, from block `first` on.
+fn count_double<D: SectorDevice>(
+    device: &mut D,
+    memory: &LogMemory,
+    number: u16,
+    address: u32,
+    first: u32,
+    counts: &mut SegmentCounts,
+) -> Result<(), DeviceFault>
+    requires some { 1 ≤ number }
+    requires number { number ≤ 4095 }
+    ensures done { OnOk result (CountsDouble (D.state device.old) (D.state device.new) memory.now number address first counts.old counts.new) }
+    ensures failed { OnErr result (FailsDouble (D.state device.old) (D.state device.new) memory.now number address first counts.old) }
+    ensures no_failure { OnOk result ((D.state device.new).failures ≡ (D.state device.old).failures) }
+    ensures looks { Looks (D.state device.old) (D.state device.new) }
+{
+    if address == 0 {
+        return Ok(());
+    }
+    let mut root = [0; 512];
+    let key = BlockKey::double(number);
+    match read_present(device, memory, key, address, &mut root) {
+        Ok(()) => count_leaves(device, memory, number, &root, first, counts),
+        Err(fault) => Err(fault),
+    }
+}
+
+/// Counts the blocks below an inode, from block `first` of the file on.
+fn count_inode<D: SectorDevice>(
+    device: &mut D,
+    memory: &LogMemory,
+    number: u16,
+    inode: &[u8; 512],
+    first: u32,
+    counts: &mut SegmentCounts,
+) -> Result<(), DeviceFault>
+    requires some { 1 ≤ number }
+    requires number { number ≤ 4095 }
+    ensures done { OnOk result (CountsInode (D.state device.old) (D.state device.new) memory.now number inode.now first counts.old counts.new) }
+    ensures failed { OnErr result (FailsInode (D.state device.old) (D.state device.new) memory.now number inode.now first counts.old) }
+    ensures no_failure { OnOk result ((D.state device.new).failures ≡ (D.state device.old).failures) }
+    ensures looks { Looks (D.state device.old) (D.state device.new) }
+{
+    let direct = pointers_before(first, 0, DIRECT) as usize;
+    let double = word(inode, DOUBLE);
+    count_words(counts, inode, FIRST + direct, DIRECT as usize - direct)?;
+    if !count_one(counts, double, first <= DIRECT + POINTERS) {
+        return Err(DeviceFault);
+    }
+    count_leaf(
+        device,
+        memory,
+        number,
+        0,
+        word(inode, SINGLE),
+        first,
+        counts,
+    )?;
+    count_double(device, memory, number, double, first, counts)
+}
+
+/// Counts the blocks of a file that have an address on the device, from block `first` on: data, and blocks of pointers with no
+/// block before it. It reads each block of pointers once at most.
+///
+/// # Errors
+///
+/// Where a block of pointers can't be read, or the addresses are those of no volume.
+pub fn count_past<D: SectorDevice>(
+    device: &mut D,
+    memory: &LogMemory,
+    number: u16,
+    first: u32,
+    counts: &mut SegmentCounts,
+) -> Result<(), DeviceFault>
+    requires number { number < 4096 }
+    ensures counted { OnOk result (CountsPast (D.state device.old) (D.state device.new) memory.now number first counts.new) }
+    ensures failed { OnErr result (IsExcused (D.state device.old) (D.state device.new) memory.now) }
+    ensures no_failure { OnOk result ((D.state device.new).failures ≡ (D.state device.old).failures) }
+    ensures looks { Looks (D.state device.old) (D.state device.new) }
+{
+    counts.clear();
+    let mut inode = [0; 512];
+    if !read_inode(device, memory, number, &mut inode)? {
+        return Ok(());
+    }
+    count_inode(device, memory, number, &inode, first, counts)
+}
+
+/// Counts all blocks of a file that have an address on the device.
+///
+/// # Errors
+///
+/// As those of `count_past`.
+pub fn count_file<D: SectorDevice>(
+    device: &mut D,
+    memory: &LogMemory,
+    number: u16,
+    counts: &mut SegmentCounts,
+) -> Result<(), DeviceFault>
+    requires number { number < 4096 }
+    ensures counted { OnOk result (CountsFile (D.state device.old) (D.state device.new) memory.now number counts.new) }
+    ensures failed { OnErr result (IsExcused (D.state device.old) (D.state device.new) memory.now) }
+    ensures no_failure { OnOk result ((D.state device.new).failures ≡ (D.state device.old).failures) }
+    ensures looks { Looks (D.state device.old) (D.state device.new) }
+{
+    count_past(device, memory, number, 0, counts)?;
+    if !counts.add(memory.map.address(number)) {
+        return Err(DeviceFault);
+    }
+    Ok(())
+}

@@ -1,0 +1,24 @@
+//! What a log holds in memory: inodes and blocks of files, how they come there, are read, and change.
+#![tactic(auto)]
+
+pub mod applying;
+pub mod batch;
+pub mod changes;
+pub mod changing;
+pub mod counting;
+pub mod cutting;
+mod fault;
+mod header;
+pub mod hiding;
+pub mod lifting;
+pub mod memory;
+pub mod preparing;
+pub mod present;
+pub mod removing;
+pub mod staging;
+
+pub use batch::{BlockEdit, Cut, HeaderEdit, LastLink, Loss, Removal};
+pub use changes::Changes;
+pub use fault::LogFault;
+pub use header::Header;
+pub use memory::LogMemory;

@@ -1,0 +1,46 @@
+//! What the log holds in memory.
+ghost use Rattle.std.specs.Prelude.{◌≡◌, ◌<◌, ◌≤◌, ◌+◌, length, Bool};
+ghost use Rattle.lfs_model.specs.Summary.{IsPlaced};
+ghost use Rattle.lfs_inodes.specs.Key.{entry_of};
+ghost use Rattle.lfs_memory.specs.Memory.{IsMemory, IsPointedAt, Places, room_of};
+
+use lfs_inodes::{BlockKey, DirtyTable, InodeMap};
+use lfs_layout::BlockName;
+use lfs_model::BlockKind;
+use lfs_segments::{ChunkWriter, Usage};
+
+/// The inode map, the segment usage table, the blocks of files that changed, and the chunk that is being written.
+#[derive(Drop)]
+pub struct LogMemory {
+    pub map: InodeMap,
+    pub usage: Usage,
+    pub dirty: DirtyTable,
+    pub chunk: ChunkWriter,
+}
+
+impl LogMemory {
+    /// The next address for a block: in the chunk that is being written, or in one that begins in a clean segment of this age.
+    pub fn next_place(&mut self, name: BlockName, lives: bool, age: u32) -> u32
+        requires memory { IsMemory self.old }
+        requires room { 0 < room_of self.old }
+        requires placed { IsPlaced name.kind name.file name.index }
+        ensures { Places self.old self.new name lives age result }
+    {
+        if self.chunk.is_empty() {
+            self.chunk.begin(&mut self.usage, age).unwrap();
+        }
+        self.chunk.place(&mut self.usage, name, lives)
+    }
+
+    /// The block of this key is at the address from now on, if the inode map points to it.
+    pub fn point(&mut self, key: BlockKey, address: u32)
+        ensures points { IsPointedAt self.old.map self.new.map (entry_of key) address }
+        ensures usage { self.new.usage ≡ self.old.usage }
+        ensures dirty { self.new.dirty ≡ self.old.dirty }
+        ensures chunk { self.new.chunk ≡ self.old.chunk }
+    {
+        if key.kind() == BlockKind::Inode {
+            self.map.set_address(key.file(), address);
+        }
+    }
+}
