@@ -1,0 +1,15 @@
+pub mod Drafts
+pub mod DraftedBlocks
+pub mod Readings
+pub mod Mounted
+pub mod Acceptings
+pub mod PiecesLaid
+pub mod PiecesRead
+pub mod PiecesStored
+pub mod PiecesWritten
+pub mod PiecesCut
+pub mod ReadParts
+pub mod Fitting
+pub mod LogReads
+pub mod Writings
+pub mod Cuttings

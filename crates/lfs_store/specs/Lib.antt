@@ -1,0 +1,5 @@
+pub mod Drafting
+pub mod Reading
+pub mod Pieces
+pub mod Writing
+pub mod Accepting
