@@ -1,9 +1,10 @@
 //! The bytes of a file, block by block.
 ghost use Rattle.std.specs.Prelude.{◌≡◌, ◌≤◌, ◌<◌, ◌+◌, ◌-◌, ◌*◌, ℕ, length, slice_index};
 
+use crate::draft::Draft;
 use crate::error::FsError;
 use lfs_device::SectorDevice;
-use lfs_log::{Changes, Header, Log};
+use lfs_log::{Header, Log};
 use std::alloc::Global;
 
 /// The bytes of a file from one place to another, both at most the file's size.
@@ -14,7 +15,8 @@ pub fn read_bytes<D: SectorDevice>(
     from: u32,
     to: u32,
 ) -> Result<Vec<u8>, FsError>
-    requires { from ≤ to }
+    requires number { number ≤ 4095 }
+    requires order { from ≤ to }
 {
     let mut bytes = Vec::with_capacity(alloc, (to - from) as usize)?;
     let mut block = [0; 512];
@@ -39,13 +41,15 @@ fn place_in(at: u32, index: u32) -> usize
 /// Drafts bytes at a place of a file.
 pub fn write_bytes<D: SectorDevice>(
     log: &mut Log<D>,
-    changes: &mut Changes,
+    draft: &mut Draft,
     number: u16,
     header: Header,
     at: u32,
     bytes: &[u8],
 ) -> Result<(), FsError>
-    requires { at + length bytes.now ≤ 57344 }
+    requires some { 1 ≤ number }
+    requires number { number ≤ 4095 }
+    requires low { at + length bytes.now ≤ 57344 }
 {
     let end = at + bytes.len() as u32;
     for index in at / 512..end.div_ceil(512) {
@@ -53,9 +57,9 @@ pub fn write_bytes<D: SectorDevice>(
         log.block(number, index, &mut before)?;
         let mut block = before;
         overlay(&mut block, index, at, bytes);
-        changes.put_block(number, index, &before, block)?;
+        draft.put_block(number, index, &before, &block)?;
     }
-    changes.put_header(
+    draft.put_header(
         number,
         Header {
             kind: header.kind,

@@ -1,10 +1,11 @@
 //! The names in the root.
 ghost use Rattle.std.specs.Prelude.{◌≡◌, ◌≤◌, ◌<◌, ◌+◌, ◌*◌};
 
+use crate::draft::Draft;
 use crate::error::FsError;
 use lfs_device::SectorDevice;
 use lfs_layout::{SlotView, encode_slot, is_name, nth_slot};
-use lfs_log::{Changes, Header, Log};
+use lfs_log::{Header, Log};
 
 /// The root's number.
 pub const ROOT: u16 = 1;
@@ -13,6 +14,9 @@ pub const ROOT: u16 = 1;
 pub const SLOT: u32 = 64;
 
 const SLOTS_IN_BLOCK: u32 = 8;
+
+/// The most entries of the root, until pointer blocks are built.
+pub const MOST_ENTRIES: u32 = 896;
 
 /// The root's header.
 pub fn root_header<D: SectorDevice>(log: &mut Log<D>) -> Result<Header, FsError> {
@@ -65,7 +69,7 @@ pub fn slot_at<D: SectorDevice>(log: &mut Log<D>, place: u32) -> Result<[u8; 64]
 /// Drafts a slot behind the root's last one.
 pub fn add<D: SectorDevice>(
     log: &mut Log<D>,
-    changes: &mut Changes,
+    draft: &mut Draft,
     root: Header,
     number: u16,
     name: &[u8],
@@ -74,14 +78,17 @@ pub fn add<D: SectorDevice>(
         return Err(FsError::Inval);
     }
     let place = root.size / SLOT;
+    if place >= MOST_ENTRIES {
+        return Err(FsError::DirFull);
+    }
     let index = place / SLOTS_IN_BLOCK;
     let at = 64 * (place % SLOTS_IN_BLOCK) as usize;
     let mut before = [0; 512];
     log.block(ROOT, index, &mut before)?;
     let mut block = before;
     block[at..at + 64].copy_from_slice(&encode_slot(u32::from(number), name));
-    changes.put_block(ROOT, index, &before, block)?;
-    changes.put_header(
+    draft.put_block(ROOT, index, &before, &block)?;
+    draft.put_header(
         ROOT,
         Header {
             kind: root.kind,

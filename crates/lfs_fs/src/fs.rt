@@ -1,15 +1,17 @@
 //! A mounted volume.
-ghost use Rattle.std.specs.Prelude.{◌≡◌, ◌≤◌, ◌<◌, ◌+◌, ◌*◌};
+ghost use Rattle.std.specs.Prelude.{◌≡◌, ◌≤◌, ◌<◌, ◌+◌, ◌*◌, IfOk};
 
 use crate::content::{read_bytes, write_bytes};
-use crate::directory::{ROOT, SLOT, add, find, root_header, slot_at};
+use crate::directory::{MOST_ENTRIES, ROOT, SLOT, add, find, root_header, slot_at};
+use crate::draft::Draft;
 use crate::error::FsError;
 use crate::handles::Handles;
 use crate::path::{Last, check_length, is_dots, parent, resolve};
 use crate::rows::{Space, TreeRow};
+use crate::totals::{Totals, count};
 use lfs_device::SectorDevice;
 use lfs_layout::SlotView;
-use lfs_log::{Changes, Header, Log, MOST_UNSAVED, MountFault};
+use lfs_log::{Header, Log, LogFault, MountFault};
 use lfs_model::Kind;
 use std::alloc::{AllocError, Global};
 
@@ -18,9 +20,6 @@ const LONGEST_TRANSFER: usize = 65_536;
 
 /// The most bytes of a file: 112 blocks, until pointer blocks are built.
 const LARGEST_FILE: u64 = 57_344;
-
-/// The most entries of the root, until pointer blocks are built.
-const MOST_ENTRIES: u32 = 896;
 
 /// From this checkpoint number on nothing is changed.
 const WORN: u64 = 1 << 62;
@@ -34,7 +33,10 @@ pub struct Fs<D: SectorDevice> {
     alloc: Global,
     log: Log<D>,
     handles: Handles,
-    changes: Changes,
+    draft: Draft,
+    totals: Totals,
+    /// Whether nothing changed since the acknowledged checkpoint.
+    saved: bool,
 }
 
 impl<D: SectorDevice> Fs<D> {
@@ -46,17 +48,16 @@ impl<D: SectorDevice> Fs<D> {
     /// the device, `Damaged` where what the checkpoint leads to is no volume; `NoMemory` and `Device` for their causes.
     pub fn mount(alloc: Global, device: D) -> Result<Fs<D>, (MountFault, D)> {
         let mut log = Log::open(alloc, device)?;
-        if let Err(fault) = check_root(&mut log) {
-            return Err((fault, log.into_device()));
-        }
-        match Changes::new(alloc, 2, MOST_CHANGES) {
-            Ok(changes) => Ok(Fs {
+        match prepare(alloc, &mut log) {
+            Ok((totals, draft)) => Ok(Fs {
                 alloc,
                 log,
                 handles: Handles::new(),
-                changes,
+                draft,
+                totals,
+                saved: true,
             }),
-            Err(AllocError) => Err((MountFault::NoMemory, log.into_device())),
+            Err(fault) => Err((fault, log.into_device())),
         }
     }
 
@@ -83,9 +84,9 @@ impl<D: SectorDevice> Fs<D> {
             links: 1,
             size: 0,
         };
-        self.changes.clear();
-        self.changes.make(number, file)?;
-        add(&mut self.log, &mut self.changes, root, number, last.name)?;
+        self.draft.clear();
+        self.draft.make(number, file)?;
+        add(&mut self.log, &mut self.draft, root, number, last.name)?;
         self.accept()?;
         self.handles.open(handle, number);
         Ok(handle)
@@ -134,10 +135,10 @@ impl<D: SectorDevice> Fs<D> {
             return Err(FsError::FileTooBig);
         }
         let header = self.header(number)?;
-        self.changes.clear();
+        self.draft.clear();
         write_bytes(
             &mut self.log,
-            &mut self.changes,
+            &mut self.draft,
             number,
             header,
             offset as u32,
@@ -149,14 +150,23 @@ impl<D: SectorDevice> Fs<D> {
 
     /// Saves the whole volume: after Ok every call before this one survives a stop.
     pub fn sync(&mut self) -> Result<(), FsError> {
+        self.check_running()?;
+        if self.saved {
+            return Ok(());
+        }
+        self.commit()
+    }
+
+    fn commit(&mut self) -> Result<(), FsError> {
         self.log.commit()?;
+        self.saved = true;
         Ok(())
     }
 
     /// What the tree needs, and the most that it may need.
     pub fn space(&mut self) -> Result<Space, FsError> {
         self.check_running()?;
-        Ok(self.space_of(self.log.data_blocks(), self.log.meta_blocks()))
+        Ok(self.space_of(self.totals))
     }
 
     /// Each entry of each directory, ordered by the directory's number and then by the name's bytes.
@@ -207,24 +217,33 @@ impl<D: SectorDevice> Fs<D> {
     }
 
     /// The file of a handle.
-    fn file(&self, handle: u32) -> Result<u16, FsError> {
+    fn file(&self, handle: u32) -> Result<u16, FsError>
+        ensures some { IfOk result (λ number. 1 ≤ number) }
+        ensures few { IfOk result (λ number. number ≤ 4095) }
+    {
         match self.handles.get(handle) {
-            Some(number) => Ok(number),
+            Some(number) => {
+                // No volume has a file of a greater number.
+                if number > 4_095 {
+                    return Err(FsError::Device);
+                }
+                Ok(number)
+            }
             None => Err(FsError::BadHandle),
         }
     }
 
     /// The header of an object that is there.
     fn header(&mut self, number: u16) -> Result<Header, FsError> {
-        match self.log.header(number)? {
+        match header_of(&mut self.log, number)? {
             Some(header) => Ok(header),
             None => Err(FsError::Device),
         }
     }
 
-    fn space_of(&self, data_blocks: u32, meta_blocks: u32) -> Space {
-        let data_blocks = u64::from(data_blocks);
-        let meta_blocks = u64::from(meta_blocks);
+    fn space_of(&self, totals: Totals) -> Space {
+        let data_blocks = u64::from(totals.data_blocks);
+        let meta_blocks = u64::from(totals.meta_blocks);
         Space {
             data_blocks,
             meta_blocks,
@@ -235,31 +254,46 @@ impl<D: SectorDevice> Fs<D> {
 
     /// Stages the drafted changes whole, where the volume has the space. Commits come before the changes, never within.
     fn accept(&mut self) -> Result<(), FsError> {
-        let data_blocks = self.changes.data_after(self.log.data_blocks());
-        let meta_blocks = self.changes.meta_after(self.log.meta_blocks());
-        let space = self.space_of(data_blocks, meta_blocks);
+        let totals = self.draft.totals_after(self.totals);
+        let space = self.space_of(totals);
         if space.need > space.limit {
             return Err(FsError::NoSpace);
         }
         self.check_worn()?;
         self.make_room()?;
-        self.log.stage(&self.changes)?;
+        // A stage that fails may leave blocks in memory: the next commit makes room of them.
+        self.saved = false;
+        self.log.stage(self.draft.changes())?;
+        self.totals = totals;
         Ok(())
     }
 
     /// Commits where the drafted changes could bring the next commit over 8 segments, or where too few segments are clean.
     fn make_room(&mut self) -> Result<(), FsError> {
         let spare = self.log.segments() / 8 + 8;
-        if self.changes.len() > MOST_UNSAVED.saturating_sub(self.log.unsaved())
-            || self.log.clean_segments() < spare
-        {
-            self.log.commit()?;
+        let is_tight = !self.log.has_room(self.draft.changes())
+            || self.log.clean_segments() < spare;
+        if is_tight && !self.saved {
+            self.commit()?;
         }
         if self.log.clean_segments() < spare {
             return Err(FsError::Stuck);
         }
         Ok(())
     }
+}
+
+/// What a mount makes besides the log: the totals, and room for the changes of one call.
+fn prepare<D: SectorDevice>(
+    alloc: Global,
+    log: &mut Log<D>,
+) -> Result<(Totals, Draft), MountFault> {
+    check_root(log)?;
+    let Ok(totals) = count(log) else {
+        return Err(MountFault::Device);
+    };
+    let draft = Draft::new(alloc, 2, MOST_CHANGES)?;
+    Ok((totals, draft))
 }
 
 /// The rule of a new entry in the root, whose header it gives.
@@ -294,11 +328,19 @@ fn check_root<D: SectorDevice>(log: &mut Log<D>) -> Result<(), MountFault> {
         let Some(view) = SlotView::decode(&slot) else {
             return Err(MountFault::Damaged(10));
         };
-        match log.header(view.number() as u16) {
+        match header_of(log, view.number() as u16) {
             Ok(Some(header)) if header.kind == Kind::File => {}
             Ok(_) => return Err(MountFault::Damaged(10)),
             Err(_) => return Err(MountFault::Device),
         }
     }
     Ok(())
+}
+
+/// The header of a file, if it is there.
+fn header_of<D: SectorDevice>(log: &mut Log<D>, number: u16) -> Result<Option<Header>, LogFault> {
+    if number > 4_095 {
+        return Ok(None);
+    }
+    log.header(number)
 }

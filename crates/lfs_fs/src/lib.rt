@@ -3,12 +3,14 @@
 
 mod content;
 mod directory;
+mod draft;
 mod error;
 mod fs;
 mod handles;
 mod making;
 mod path;
 mod rows;
+mod totals;
 
 pub use error::{FormatFault, FsError};
 pub use fs::Fs;
