@@ -261,9 +261,8 @@ impl<D: SectorDevice> Fs<D> {
         }
         self.check_worn()?;
         self.make_room()?;
-        // A stage that fails may leave blocks in memory: the next commit makes room of them.
-        self.saved = false;
         self.log.stage(self.draft.changes())?;
+        self.saved = false;
         self.totals = totals;
         Ok(())
     }

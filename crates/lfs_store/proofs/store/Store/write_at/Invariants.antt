@@ -1,5 +1,0 @@
-use Rattle.lfs_store.proofs.Writings.{WrittenUpTo}
-use Rattle.lfs_store.proofs.store.Store.write_at.Given as goal
-
-abbrev pub invariant-loop-index : goal.invariant-loop-index
-invariant-loop-index g l = WrittenUpTo g.D.SectorDevice.state l.initial.self.log l.self.log l.initial.self.draft.changes l.self.draft.changes l.number l.at l.bytes l.index
