@@ -9,3 +9,4 @@ pub mod UsageLoads
 pub mod MapLoads
 pub mod Opens
 pub mod Volumes
+pub mod StoredBlocks

@@ -4,9 +4,10 @@ use Rattle.std.proofs.lemmas.Bool.{cases_lt}
 use Rattle.std.proofs.lemmas.List.{get_or_past}
 use Rattle.std.specs.Prelude.{get_or}
 use Rattle.lfs_model.specs.Checkpoint.{CheckpointValue}
+use Rattle.lfs_model.specs.Crash.{StandsOn}
 use Rattle.lfs_model.specs.Device.{DeviceState, CrashWrites, Carries, Elapses, IsLawful, put, left_new}
 use Rattle.lfs_model.specs.Entry.{Entry, Data, Leaf, Double, Inode, Map, Usage, entry_of}
-use Rattle.lfs_model.specs.Stands.{LogMap, StandsLog}
+use Rattle.lfs_model.specs.Stands.{LogMap}
 use Rattle.lfs_model.specs.Summary.{BlockNameValue, IsPlaced}
 use Rattle.lfs_model.specs.declared.BlockKind.TheVariants as kind
 use Rattle.lfs_model.specs.Memory.{parent, shown, is_shown}
@@ -88,7 +89,7 @@ module _ (d : DeviceState) (v : LogMemory) (j : ℕ) (map' : MapValue) (sets : I
     room = omega arith;
     no_failure = refl;
     log = λ k m0 m keeps is. dropped_log k m0 m is;
-    quiet = λ k m0 m keeps is. started d (λ c. StandsLog c m0) lawful (settled_stands d k m0 is.running.settled);
+    quiet = λ k m0 m keeps is. started d (λ c. StandsOn k.segments c m0) lawful (settled_stands d k m0 is.running.settled);
   }
 
 -- one that is written

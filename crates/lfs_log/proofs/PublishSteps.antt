@@ -5,7 +5,7 @@ use Rattle.std.proofs.lemmas.List.{get_or_past}
 use Rattle.lfs_model.specs.Entry.{Inode, Map, Usage}
 use Rattle.lfs_model.specs.Checkpoint.{CheckpointValue, IsSegmentCount, checkpoint_sector}
 use Rattle.lfs_model.specs.Content.{Content}
-use Rattle.lfs_model.specs.Crash.{StandsFor}
+use Rattle.lfs_model.specs.Crash.{StandsForOn}
 use Rattle.lfs_model.specs.Device.{DeviceState, IsLawful, IsUntouched, MayWrite, Carries, Elapses, Only, AllLeft, LeavesOnly, ComesFrom, put}
 use Rattle.lfs_model.specs.Stands.{LogMap, count_up}
 use Rattle.lfs_model.specs.TreeOf.{dropped}
@@ -145,12 +145,12 @@ module _ (d d1 : DeviceState) (v : LogMemory) (number : ℕ) (lawful : IsLawful 
     tight = log.tight;
   }
 
-  sync_left : (k : CheckpointValue) (m0 m : LogMap) → IsLog d v k m0 m → AllLeft d1 (StandsFor m0 (dropped m))
+  sync_left : (k : CheckpointValue) (m0 m : LogMap) → IsLog d v k m0 m → AllLeft d1 (StandsForOn k.segments m0 (dropped m))
   sync_left k m0 m log c left = inl (settled_stands d1 k m0 (settled_still d d1 k m0 log.running.settled same) c left)
 
-  sync_moment : (k : CheckpointValue) (m0 m : LogMap) → IsLog d v k m0 m → LeavesOnly d d1 (StandsFor m0 (dropped m))
+  sync_moment : (k : CheckpointValue) (m0 m : LogMap) → IsLog d v k m0 m → LeavesOnly d d1 (StandsForOn k.segments m0 (dropped m))
   sync_moment k m0 m log =
-      goes_on d d d1 (StandsFor m0 (dropped m)) (started d (StandsFor m0 (dropped m)) lawful (λ c left. inl (settled_stands d k m0 log.running.settled c left))) carries time (sync_left k m0 m log)
+      goes_on d d d1 (StandsForOn k.segments m0 (dropped m)) (started d (StandsForOn k.segments m0 (dropped m)) lawful (λ c left. inl (settled_stands d k m0 log.running.settled c left))) carries time (sync_left k m0 m log)
 
   pub sync_fails : d.failures < d1.failures → PublishFails d d1 v number
   sync_fails failed = record {
@@ -194,13 +194,13 @@ module _ (d d1 : DeviceState) (v : LogMemory) (number : ℕ) (lawful : IsLawful 
       planned : IsPlanned k d1.content (next.number % 2) (checkpoint_sector next) next (dropped m)
       planned = planning d1 (blocks_of v.dirty) (tables_of v) k next m0 m 1024 (next.number % 2) (checkpoint_sector next) running held.map all_out many leads (checkpoint_some (checkpoint_sector next) next is.fits refl) refl
 
-      torn : d2.keeps_model → (c : Content) → ComesFrom d1 (MayWrite (next.number % 2) (checkpoint_sector next)) c → StandsFor m0 (dropped m) c
+      torn : d2.keeps_model → (c : Content) → ComesFrom d1 (MayWrite (next.number % 2) (checkpoint_sector next)) c → StandsForOn k.segments m0 (dropped m) c
       torn keeps c from =
           slot_torn d1 (record d1 { may_leave = ComesFrom d1 (MayWrite (next.number % 2) (checkpoint_sector next)) }) k next m0 (dropped m) (next.number % 2) (checkpoint_sector next) running.settled planned
-          (only (more.kept_before keeps)) (λ c f. f) c from
+          leads.segments (only (more.kept_before keeps)) (λ c f. f) c from
 
-      either : d2.keeps_model → LeavesOnly d d2 (StandsFor m0 (dropped m))
-      either keeps = joined d d1 d2 (StandsFor m0 (dropped m)) (ComesFrom d1 (MayWrite (next.number % 2) (checkpoint_sector next))) (StandsFor m0 (dropped m)) (sync_moment k m0 m held.log) moment (λ c s. s) (torn keeps)
+      either : d2.keeps_model → LeavesOnly d d2 (StandsForOn k.segments m0 (dropped m))
+      either keeps = joined d d1 d2 (StandsForOn k.segments m0 (dropped m)) (ComesFrom d1 (MayWrite (next.number % 2) (checkpoint_sector next))) (StandsForOn k.segments m0 (dropped m)) (sync_moment k m0 m held.log) moment (λ c s. s) (torn keeps)
 
     pub replace_fails : d1.failures < d2.failures → PublishFails d d2 v number
     replace_fails failed = record {

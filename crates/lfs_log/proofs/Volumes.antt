@@ -1,7 +1,8 @@
 -- The log over its device: what its calls do, from what is done to device and memory.
-use Rattle.std.proofs.Common.{◌≡◌, ◌<◌, ◌≤◌, ◌+◌, ℕ, Bool, true, false, List, Option, refl, sym, ◌∙◌, arith}
+use Rattle.std.proofs.Common.{◌≡◌, ◌<◌, ◌≤◌, ◌+◌, ℕ, Bool, true, false, List, Option, length, refl, sym, ◌∙◌, subst, arith}
 use Rattle.lfs_model.specs.Checkpoint.{CheckpointValue}
-use Rattle.lfs_model.specs.Device.{DeviceState}
+use Rattle.lfs_model.specs.Crash.{StandsOn}
+use Rattle.lfs_model.specs.Device.{DeviceState, AllLeft}
 use Rattle.lfs_model.specs.Encodes.{IsLogMap}
 use Rattle.lfs_model.specs.Stands.{LogMap, StandsLog}
 use Rattle.lfs_model.proofs.Crash.{single_log}
@@ -32,6 +33,11 @@ module _ {D : Type 0} (state : D → DeviceState) where
   acknowledged : (h : Held D) (k : CheckpointValue) (m0 m : LogMap) → Holds state h k m0 m → IsLogMap (dropped m) → IsAcknowledged (state h.device) h.memory h.number k m0 m
   acknowledged h k m0 m holds map = record { log = holds.log; map = map; same = holds.number }
 
+  -- checkpoints over as many numbers in memory have as many segments
+  pub same_segments : (h h' : Held D) (k next : CheckpointValue) (m0 m m0' m' : LogMap) → length h'.memory.usage.segments ≡ length h.memory.usage.segments
+      → Holds state h k m0 m → Holds state h' next m0' m' → next.segments ≡ k.segments
+  same_segments h h' k next m0 m m0' m' same is is' = sym is'.log.segments ∙ same ∙ is.log.segments
+
   pub saves : (h h' : Held D) → Commits (state h.device) (state h'.device) h.memory h'.memory h.number → h'.number ≡ h.number + 1 → h'.halted ≡ false → Saves state h h'
   saves h h' c number running = record {
     carries = c.carries;
@@ -42,7 +48,10 @@ module _ {D : Type 0} (state : D → DeviceState) where
     empty = c.dirty;
     no_failure = c.no_failure;
     holds = holds;
-    left = λ k m0 m keeps is map. (let n = holds k m0 m keeps is map in settled_stands (state h'.device) n.0 (dropped m) n.1.log.running.settled);
+    left = λ k m0 m keeps is map. (
+        let n = holds k m0 m keeps is map in
+        subst (λ (s : ℕ). AllLeft (state h'.device) (λ c. StandsOn s c (dropped m))) (same_segments h h' k n.0 m0 m (dropped m) m c.segments is n.1)
+        (settled_stands (state h'.device) n.0 (dropped m) n.1.log.running.settled));
     moment = λ k m0 m keeps is map. c.moment k m0 m keeps (acknowledged h k m0 m is map);
   }
     where
@@ -51,10 +60,11 @@ module _ {D : Type 0} (state : D → DeviceState) where
           let n = c.log k m0 m keeps (acknowledged h k m0 m is map) in
           (n.0, record { log = n.2; number = n.1 ∙ sym number; running = running })
 
-  pub halts : (h h' : Held D) → CommitFails (state h.device) (state h'.device) h.memory h.number → h'.halted ≡ true → Halts state h h'
-  halts h h' c halted = record {
+  pub halts : (h h' : Held D) → CommitFails (state h.device) (state h'.device) h.memory h.number → h'.halted ≡ true → h'.number ≡ h.number → Halts state h h'
+  halts h h' c halted number = record {
     carries = c.carries;
     halted = halted;
+    number = number;
     cause = λ k m0 m keeps is. c.cause k m0 m keeps is.log;
     left = λ k m0 m keeps is map. c.left k m0 m keeps (acknowledged h k m0 m is map);
     moment = λ k m0 m keeps is map. c.moment k m0 m keeps (acknowledged h k m0 m is map);

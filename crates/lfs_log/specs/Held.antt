@@ -5,9 +5,10 @@ use Rattle.lfs_model.specs.declared.BlockKind.{BlockKind}
 use Rattle.lfs_model.specs.declared.BlockKind.TheVariants as kind
 use Rattle.lfs_model.specs.Checkpoint.{CheckpointValue}
 use Rattle.lfs_model.specs.Content.{Content}
-use Rattle.lfs_model.specs.Crash.{StandsFor}
+use Rattle.lfs_model.specs.Crash.{StandsOn, StandsForOn}
 use Rattle.lfs_model.specs.Device.{DeviceState, Carries, LeavesOnly, AllLeft}
 use Rattle.lfs_model.specs.Encodes.{IsLogMap, HasInode}
+use Rattle.lfs_model.specs.Objects.{is_stored, has_leaf}
 use Rattle.lfs_memory.specs.declared.changes.Changes.{Changes}
 use Rattle.lfs_memory.specs.declared.header.Header.{Header}
 use Rattle.lfs_model.specs.TreeOf.{dropped}
@@ -123,13 +124,13 @@ module _ {D : Type 0} (state : D → DeviceState) where
   abbrev pub Mounts : D → Held D → Type 0
   Mounts d h = (m : LogMap) → (state h.device).keeps_model → (is : StandsLog (state d).content m) → Holds h is.checkpoint m m
 
-  -- the acknowledged map, or the present one without its files of no links
-  abbrev pub IsSaved : LogMap → LogMap → Content → Type 0
-  IsSaved m0 m c = StandsFor m0 (dropped m) c
+  -- the acknowledged map, or the present one without its files of no links, on N segments
+  abbrev pub IsSaved : ℕ → LogMap → LogMap → Content → Type 0
+  IsSaved N m0 m c = StandsForOn N m0 (dropped m) c
 
   -- a stop at any moment leaves one of these
   abbrev pub LeavesSaved : Held D → Held D → Type 0
-  LeavesSaved h h' = (k : CheckpointValue) (m0 m : LogMap) → (state h'.device).keeps_model → Holds h k m0 m → IsLogMap (dropped m) → LeavesOnly (state h.device) (state h'.device) (IsSaved m0 m)
+  LeavesSaved h h' = (k : CheckpointValue) (m0 m : LogMap) → (state h'.device).keeps_model → Holds h k m0 m → IsLogMap (dropped m) → LeavesOnly (state h.device) (state h'.device) (IsSaved k.segments m0 m)
 
   -- A commit: the present map, without its files of no links, is what is acknowledged.
   pub record Saves (h h' : Held D) : Type 0 where
@@ -141,15 +142,16 @@ module _ {D : Type 0} (state : D → DeviceState) where
     pub empty : h'.memory.dirty.blocks ≡ []
     pub no_failure : (state h'.device).failures ≡ (state h.device).failures
     pub holds : (k : CheckpointValue) (m0 m : LogMap) → (state h'.device).keeps_model → Holds h k m0 m → IsLogMap (dropped m) → (next : CheckpointValue) × Holds h' next (dropped m) m
-    pub left : (k : CheckpointValue) (m0 m : LogMap) → (state h'.device).keeps_model → Holds h k m0 m → IsLogMap (dropped m) → AllLeft (state h'.device) (λ c. StandsLog c (dropped m))
+    pub left : (k : CheckpointValue) (m0 m : LogMap) → (state h'.device).keeps_model → Holds h k m0 m → IsLogMap (dropped m) → AllLeft (state h'.device) (λ c. StandsOn k.segments c (dropped m))
     pub moment : LeavesSaved h h'
 
   -- One that a failure of the device ended.
   pub record Halts (h h' : Held D) : Type 0 where
     pub carries : Carries (state h.device) (state h'.device)
     pub halted : h'.halted ≡ true
+    pub number : h'.number ≡ h.number
     pub cause : (k : CheckpointValue) (m0 m : LogMap) → (state h'.device).keeps_model → Holds h k m0 m → (state h.device).failures < (state h'.device).failures
-    pub left : (k : CheckpointValue) (m0 m : LogMap) → (state h'.device).keeps_model → Holds h k m0 m → IsLogMap (dropped m) → AllLeft (state h'.device) (IsSaved m0 m)
+    pub left : (k : CheckpointValue) (m0 m : LogMap) → (state h'.device).keeps_model → Holds h k m0 m → IsLogMap (dropped m) → AllLeft (state h'.device) (IsSaved k.segments m0 m)
     pub moment : LeavesSaved h h'
 
   -- A call that only reads: memory is as it was.
@@ -169,6 +171,13 @@ module _ {D : Type 0} (state : D → DeviceState) where
 
   abbrev pub ReadsBlock : Held D → Held D → ℕ → ℕ → List ℕ → Bool → Type 0
   ReadsBlock h h' n i out stored = (k : CheckpointValue) (m0 m : LogMap) → (state h'.device).keeps_model → Holds h k m0 m → BlockAnswer m n i out stored
+
+  -- whether block i of file n is stored, and whether one is below its leaf q of pointers
+  abbrev pub TellsBlock : Held D → Held D → ℕ → ℕ → Bool → Type 0
+  TellsBlock h h' n i found = (k : CheckpointValue) (m0 m : LogMap) → (state h'.device).keeps_model → Holds h k m0 m → is_stored m n i ≡ found
+
+  abbrev pub TellsLeaf : Held D → Held D → ℕ → ℕ → Bool → Type 0
+  TellsLeaf h h' n q found = (k : CheckpointValue) (m0 m : LogMap) → (state h'.device).keeps_model → Holds h k m0 m → has_leaf m n q ≡ found
 
   -- A call that changes no more than memory, where so many blocks may come.
   pub record Alters (h h' : Held D) (more : ℕ) : Type 0 where

@@ -12,7 +12,7 @@ use crate::fault::MountFault;
 use crate::opening::open_memory;
 use lfs_device::SectorDevice;
 use lfs_memory::counting::SegmentCounts;
-use lfs_memory::present::{read_block, read_header};
+use lfs_memory::present::{locate_block, locate_leaf, read_block, read_header};
 use lfs_memory::staging::{has_room, remove_tight, stage_tight};
 use lfs_memory::{Changes, Header, LogFault, LogMemory};
 use lfs_segments::Usage;
@@ -43,7 +43,7 @@ impl<D: SectorDevice> Model for Log<D> {
 }
 
 impl<D: SectorDevice> Log<D> {
-    ghost use Rattle.lfs_log.specs.Held.{Mounts, Saves, Halts, Reads, ReadsHeader, ReadsBlock, IsReadFault, IsFull, IsVacant, HasAll, IsStaged, IsRefused, IsStageFault, IsRemoved, IsKept, HoldsOne};
+    ghost use Rattle.lfs_log.specs.Held.{Mounts, Saves, Halts, Reads, ReadsHeader, ReadsBlock, TellsBlock, TellsLeaf, IsReadFault, IsFull, IsVacant, HasAll, IsStaged, IsRefused, IsStageFault, IsRemoved, IsKept, HoldsOne};
 
     /// The volume that the newest checkpoint of the device leads to; else why there is none, and the device. It writes nothing, and
     /// takes the memory that later calls need.
@@ -189,6 +189,51 @@ impl<D: SectorDevice> Log<D> {
             return Err(LogFault::Device);
         };
         Ok(stored)
+    }
+
+    /// Whether a block of a file is stored. It reads blocks of pointers at most, and none of data.
+    ///
+    /// # Errors
+    ///
+    /// As those of `header`.
+    pub fn has_block(&mut self, number: u16, index: u32) -> Result<bool, LogFault>
+        requires { number < 4096 }
+        ensures reads { Reads D.SectorDevice.state self.old self.new }
+        ensures answer { IfOk result (TellsBlock D.SectorDevice.state self.old self.new number index) }
+        ensures halted { IsErrOf result LogFault.Halted → self.old.halted ≡ true }
+        ensures other { IsErrOf result LogFault.Full → ⊥ }
+        ensures failed { OnErr result (IsReadFault D.SectorDevice.state self.old self.new) }
+    {
+        if self.halted {
+            return Err(LogFault::Halted);
+        }
+        let Ok(address) = locate_block(&mut self.device, &self.memory, number, index) else {
+            return Err(LogFault::Device);
+        };
+        Ok(address != 0)
+    }
+
+    /// Whether a block is stored below a leaf of pointers of a file: those from 112 on at leaf 0, 128 each.
+    ///
+    /// # Errors
+    ///
+    /// As those of `header`.
+    pub fn has_leaf(&mut self, number: u16, leaf: u32) -> Result<bool, LogFault>
+        requires number { number < 4096 }
+        requires leaf { leaf ≤ 128 }
+        ensures reads { Reads D.SectorDevice.state self.old self.new }
+        ensures answer { IfOk result (TellsLeaf D.SectorDevice.state self.old self.new number leaf) }
+        ensures halted { IsErrOf result LogFault.Halted → self.old.halted ≡ true }
+        ensures other { IsErrOf result LogFault.Full → ⊥ }
+        ensures failed { OnErr result (IsReadFault D.SectorDevice.state self.old self.new) }
+    {
+        if self.halted {
+            return Err(LogFault::Halted);
+        }
+        let Ok(address) = locate_leaf(&mut self.device, &self.memory, number, leaf) else {
+            return Err(LogFault::Device);
+        };
+        Ok(address != 0)
     }
 
     /// Changes files in memory, whole or not at all: first what is lost, then headers, then blocks.

@@ -4,6 +4,7 @@ pub mod Going
 pub mod Begun
 pub mod FileSteps
 pub mod Presents
+pub mod LeafPresents
 pub mod Lifted
 pub mod LiftedKeys
 pub mod LiftedWays

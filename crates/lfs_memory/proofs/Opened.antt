@@ -2,10 +2,10 @@
 use Rattle.std.proofs.Common.{◌≡◌, ◌<◌, ◌+◌, ◌*◌, ◌==◌, cond, ℕ, Bool, true, List, length, Option, Some, None, refl, ap, subst, arith}
 use Rattle.lfs_model.specs.Checkpoint.{CheckpointValue}
 use Rattle.lfs_model.specs.Content.{Content}
-use Rattle.lfs_model.specs.Crash.{IsFree}
+use Rattle.lfs_model.specs.Crash.{IsFree, StandsOn}
 use Rattle.lfs_model.specs.Device.{DeviceState, MayWrite, CrashWrites, Carries, Elapses, IsLawful, LeavesOnly}
 use Rattle.lfs_model.specs.Entry.{Entry}
-use Rattle.lfs_model.specs.Stands.{LogMap, StandsLog}
+use Rattle.lfs_model.specs.Stands.{LogMap}
 use Rattle.lfs_model.specs.Running.{Dirty, Tables, Running}
 use Rattle.lfs_model.specs.Settled.{IsSettled}
 use Rattle.lfs_model.proofs.Moments.{started, goes_on}
@@ -48,9 +48,9 @@ module _ (d d' : DeviceState) (k : CheckpointValue) (m0 : LogMap) (at : ℕ) (by
   pub stays_settled : IsSettled d' k m0
   stays_settled = (settled_write d d' k m0 at bytes settled free may crash).0
 
-  pub stays_quiet : IsLawful d → Carries d d' → Elapses d d' → LeavesOnly d d' (λ c. StandsLog c m0)
+  pub stays_quiet : IsLawful d → Carries d d' → Elapses d d' → LeavesOnly d d' (λ c. StandsOn k.segments c m0)
   stays_quiet lawful carries time =
-      let P : Content → Type 0 = λ c. StandsLog c m0 in
+      let P : Content → Type 0 = λ c. StandsOn k.segments c m0 in
       goes_on d d d' P (started d P lawful (settled_stands d k m0 settled)) carries time (settled_stands d' k m0 stays_settled)
 
 -- a sector of a segment that was taken

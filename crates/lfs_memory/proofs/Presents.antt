@@ -4,13 +4,14 @@ use Rattle.std.proofs.Math.Path.{fun_ext}
 use Rattle.std.proofs.lemmas.Bool.{cases_eq, cases_lt}
 use Rattle.lfs_model.specs.Checkpoint.{CheckpointValue}
 use Rattle.lfs_model.specs.Content.{Content, block, bytes_of}
+use Rattle.lfs_model.specs.Crash.{StandsOn}
 use Rattle.lfs_model.specs.Device.{DeviceState, IsLawful, LeavesOnly}
 use Rattle.lfs_model.specs.Entry as entry
 use Rattle.lfs_model.specs.Entry.{Entry, Data, Leaf, Double, Inode, header, word}
 use Rattle.lfs_model.specs.Laid.{HoldsInode, IsLaid}
 use Rattle.lfs_model.specs.Memory.{Memory, parent, IsOfFile}
 use Rattle.lfs_model.specs.Running.{Dirty}
-use Rattle.lfs_model.specs.Stands.{LogMap, StandsLog}
+use Rattle.lfs_model.specs.Stands.{LogMap}
 use Rattle.lfs_model.proofs.Entries.{data_parent_low, data_parent_high}
 use Rattle.lfs_model.proofs.Leaving.{staying}
 use Rattle.lfs_model.proofs.Moments.{carries_none, carries_then, started, goes_on}
@@ -57,9 +58,9 @@ still_log d d' v k m0 m looks is = record {
 }
 
 -- a stop meanwhile leaves what is acknowledged
-pub looks_quiet : (d d' : DeviceState) (v : LogMemory) (k : CheckpointValue) (m0 m : LogMap) → IsLawful d → Looks d d' → IsLoose d v k m0 m → LeavesOnly d d' (λ c. StandsLog c m0)
+pub looks_quiet : (d d' : DeviceState) (v : LogMemory) (k : CheckpointValue) (m0 m : LogMap) → IsLawful d → Looks d d' → IsLoose d v k m0 m → LeavesOnly d d' (λ c. StandsOn k.segments c m0)
 looks_quiet d d' v k m0 m lawful looks is =
-    let P : Content → Type 0 = λ c. StandsLog c m0 in
+    let P : Content → Type 0 = λ c. StandsOn k.segments c m0 in
     goes_on d d d' P (started d P lawful (settled_stands d k m0 is.running.settled)) looks.carries looks.time
     (settled_stands d' k m0 (settled_still d d' k m0 is.running.settled looks.untouched))
 

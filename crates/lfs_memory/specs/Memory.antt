@@ -2,8 +2,9 @@
 use Rattle.std.specs.Prelude.{◌≡◌, ◌<◌, ◌≤◌, ◌+◌, ◌*◌, ◌-◌, ◌==◌, cond, ℕ, suc, Bool, List, [], ◌∷◌, ◌++◌, length, Option, Some, None}
 use Rattle.lfs_model.specs.Entry.{Entry, Data, Leaf, Double, Inode, Map, Usage}
 use Rattle.lfs_model.specs.Checkpoint.{CheckpointValue, IsSegmentCount}
+use Rattle.lfs_model.specs.Crash.{StandsOn}
 use Rattle.lfs_model.specs.Device.{DeviceState, Carries, LeavesOnly}
-use Rattle.lfs_model.specs.Stands.{LogMap, StandsLog}
+use Rattle.lfs_model.specs.Stands.{LogMap}
 use Rattle.lfs_model.specs.Summary.{BlockNameValue}
 use Rattle.lfs_model.specs.Memory.{is_nameless}
 use Rattle.lfs_model.specs.Running.{IsTight, Tables, Running, IsSet}
@@ -87,9 +88,9 @@ pub record IsLog (d : DeviceState) (v : LogMemory) (k : CheckpointValue) (m0 m :
 
 -- ---- what parts of a commit do
 
--- the contents that a stop meanwhile leaves stand for what is acknowledged
+-- the contents that a stop meanwhile leaves stand for what is acknowledged, on the same segments
 abbrev pub Quiet : DeviceState → DeviceState → LogMemory → Type 0
-Quiet d d' v = (k : CheckpointValue) (m0 m : LogMap) → d'.keeps_model → IsLog d v k m0 m → LeavesOnly d d' (λ c. StandsLog c m0)
+Quiet d d' v = (k : CheckpointValue) (m0 m : LogMap) → d'.keeps_model → IsLog d v k m0 m → LeavesOnly d d' (λ c. StandsOn k.segments c m0)
 
 -- A part of a commit that is done, and placed at most so many blocks.
 pub record GoesUpTo (most : ℕ) (d d' : DeviceState) (v v' : LogMemory) (placed : ℕ) : Type 0 where

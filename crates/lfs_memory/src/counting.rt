@@ -20,9 +20,9 @@ const SECTORS: u16 = 64;
 /// The places of 4 bytes of an inode at which its pointers stand.
 pub(crate) const FIRST: usize = 8;
 
-const SINGLE: usize = 120;
+pub(crate) const SINGLE: usize = 120;
 
-const DOUBLE: usize = 121;
+pub(crate) const DOUBLE: usize = 121;
 
 /// A number for each segment. Contracts see the list.
 #[derive(Drop)]

@@ -1,6 +1,6 @@
 //! What the log answers to reads.
 ghost use Rattle.std.specs.Prelude.{◌≡◌, ◌<◌, ◌≤◌, ◌⊎◌, OnOk, OnErr, IfOk, IsTrue, IsFalse};
-ghost use Rattle.lfs_model.specs.Entry.{Inode, Data, header};
+ghost use Rattle.lfs_model.specs.Entry.{Inode, Data, Leaf, header};
 ghost use Rattle.lfs_model.specs.Inode.{kind_of};
 ghost use Rattle.lfs_model.specs.Fields.{zeros};
 ghost use Rattle.lfs_inodes.specs.Key.{entry_of};
@@ -10,6 +10,7 @@ ghost use Rattle.lfs_inodes.specs.Present.{present};
 ghost use Rattle.lfs_memory.specs.Memory.{IsMemory};
 ghost use Rattle.lfs_memory.specs.Present.{Looks, IsExcused, IsMissing, AnswersInode, AnswersHeader, AnswersBlock, as_header, AnswersAddress};
 
+use crate::counting::{DOUBLE, SINGLE};
 use crate::header::Header;
 use crate::memory::LogMemory;
 use lfs_device::{DeviceFault, SectorDevice};
@@ -162,6 +163,44 @@ pub fn locate_block<D: SectorDevice>(
     match locate_present(device, &memory.dirty, number, &inode, index) {
         Ok(address) => Ok(address),
         Err(_) => Err(DeviceFault),
+    }
+}
+
+/// The pointer to a leaf of pointers of a file, the single one at 0, those below the double root from 1 on: 0 where none is
+/// stored, `IN_MEMORY` for one in memory, else its address.
+///
+/// # Errors
+///
+/// Where the inode or the double root can't be read.
+pub fn locate_leaf<D: SectorDevice>(
+    device: &mut D,
+    memory: &LogMemory,
+    number: u16,
+    leaf: u32,
+) -> Result<u32, DeviceFault>
+    requires number { number < 4096 }
+    requires leaf { leaf ≤ 128 }
+    ensures answer { IfOk result (AnswersAddress (D.state device.old) (D.state device.new) memory.now (Leaf number leaf)) }
+    ensures failed { OnErr result (IsExcused (D.state device.old) (D.state device.new) memory.now) }
+    ensures no_failure { OnOk result ((D.state device.new).failures ≡ (D.state device.old).failures) }
+    ensures looks { Looks (D.state device.old) (D.state device.new) }
+{
+    let mut inode = [0; 512];
+    if !read_inode(device, memory, number, &mut inode)? {
+        return Ok(0);
+    }
+    if leaf == 0 {
+        return Ok(word(&inode, SINGLE));
+    }
+    let address = word(&inode, DOUBLE);
+    if address == 0 {
+        return Ok(0);
+    }
+    let mut root = [0; 512];
+    let key = BlockKey::double(number);
+    match read_present(device, memory, key, address, &mut root) {
+        Ok(()) => Ok(word(&root, leaf as usize - 1)),
+        Err(fault) => Err(fault),
     }
 }
 

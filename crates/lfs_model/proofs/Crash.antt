@@ -1,5 +1,5 @@
 -- What a crash leaves in the course of a commit.
-use Rattle.std.proofs.Common.{◌≡◌, ◌<◌, ◌≤◌, inl, inr, ◌+◌, ◌*◌, ◌-◌, ◌/◌, ◌%◌, ◌==◌, ℕ, zero, suc, List, [], ◌∷◌, length, set, take, drop, Option, Some, None, refl, sym, ◌∙◌, ap, ap₂, subst, arith, length-take, length-set, get_or-set_same}
+use Rattle.std.proofs.Common.{◌≡◌, ◌<◌, ◌≤◌, ◌⊎◌, inl, inr, ◌+◌, ◌*◌, ◌-◌, ◌/◌, ◌%◌, ◌==◌, ℕ, zero, suc, List, [], ◌∷◌, length, set, take, drop, Option, Some, None, refl, sym, ◌∙◌, ap, ap₂, subst, arith, length-take, length-set, get_or-set_same}
 use Rattle.std.proofs.Math.Path.{fun_ext}
 use Rattle.std.proofs.lemmas.List.{get_or_past}
 use Rattle.std.proofs.lemmas.Bool.{eq-eqb, cond-true}
@@ -10,7 +10,7 @@ use Rattle.lfs_model.specs.Device.{MayWrite, left_old, left_new, left_bad, cell_
 use Rattle.lfs_model.specs.Reach.{address, used, Row, chunks, row, row_by, place_in, View, view}
 use Rattle.lfs_model.specs.Stands.{Protected, Stages, used_in, LogMap, StandsAt, StandsLog, header_in, label_at}
 use Rattle.lfs_model.specs.Stands.Protected.{reached, summary}
-use Rattle.lfs_model.specs.Crash.{Keeps, IsFree, IsReady, StandsFor, Locality, SingleLog, FreeWrites, SlotWrite}
+use Rattle.lfs_model.specs.Crash.{Keeps, IsFree, IsReady, StandsOn, Locality, SingleLog, FreeWrites, SlotWrite}
 use Rattle.lfs_model.proofs.Newest.{none_spelt, sector_other, slot_other, newest_other, slot_newest, newest_alone, newest_next}
 use Rattle.lfs_model.proofs.Reach.{view_same, after_inv, opened_inv}
 
@@ -27,6 +27,11 @@ stands_at_same c d k m s long same =
 
 pub locality : Locality
 locality c d m s keeps = record { checkpoint = s.checkpoint; newest = keeps.newest; stands = stands_at_same c d s.checkpoint m s.stands keeps.size keeps.same }
+
+-- and it has the segments of the same checkpoint
+pub locality_on : (c d : Content) (m : LogMap) (s : StandsLog c m) → Keeps c s.checkpoint d → StandsOn s.checkpoint.segments d m
+unfolding locality
+locality_on c d m s keeps = record { is = locality c d m s keeps; segments = refl }
 
 same_checkpoint : (c : Content) (m m' : LogMap) (s : StandsLog c m) (t : StandsLog c m') → s.checkpoint ≡ t.checkpoint
 same_checkpoint c m m' s t =
@@ -137,8 +142,8 @@ module _ (c : Content) (m : LogMap) (s : StandsLog c m) (e : Content) (keeps : K
     same = λ at protected. sector_other e (next.number % 2) None at (λ h. let above = protected_above (view c s.checkpoint) s.stands.stages at protected in omega (arith, low)) ∙ keeps.same at protected;
   }
 
-  at_lost : StandsLog (set e (next.number % 2) None) m
-  at_lost = locality c (set e (next.number % 2) None) m s keeps_lost
+  at_lost : StandsOn s.checkpoint.segments (set e (next.number % 2) None) m
+  at_lost = locality_on c (set e (next.number % 2) None) m s keeps_lost
 
   -- written: the next one is
   at_written : StandsLog (set e (next.number % 2) (Some bytes)) m'
@@ -149,10 +154,14 @@ module _ (c : Content) (m : LogMap) (s : StandsLog c m) (e : Content) (keeps : K
         (λ at protected. sector_other e (next.number % 2) (Some bytes) at (λ h. let above = protected_above (view e next) ready.stands.stages at protected in omega (arith, low)));
   }
 
-  at_each : (d : Content) → MayWrite (next.number % 2) bytes e d → StandsFor m m' d
-  at_each d (left_old is) = subst (StandsFor m m') (sym is) (inl (locality c e m s keeps))
-  at_each d (left_new is) = subst (StandsFor m m') (sym is) (inr at_written)
-  at_each d (left_bad is) = subst (StandsFor m m') (sym is) (inl at_lost)
+  abbrev Either : Content → Type 0
+  Either d = StandsOn s.checkpoint.segments d m ⊎ StandsOn next.segments d m'
+
+  at_each : (d : Content) → MayWrite (next.number % 2) bytes e d → Either d
+  unfolding at_written
+  at_each d (left_old is) = subst Either (sym is) (inl (locality_on c e m s keeps))
+  at_each d (left_new is) = subst Either (sym is) (inr (record { is = at_written; segments = refl }))
+  at_each d (left_bad is) = subst Either (sym is) (inl at_lost)
 
 pub slot_write : SlotWrite
 unfolding at_written

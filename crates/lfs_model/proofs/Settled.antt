@@ -1,13 +1,13 @@
 -- The device calls of a commit: what each leaves of what the acknowledged checkpoint needs.
-use Rattle.std.proofs.Common.{◌≡◌, ◌%◌, ℕ, List, Some, refl, sym, ◌∙◌, ap, subst}
+use Rattle.std.proofs.Common.{◌≡◌, ◌⊎◌, ◌%◌, ℕ, List, Some, refl, sym, ◌∙◌, ap, subst}
 use Rattle.lfs_model.specs.Checkpoint.{CheckpointValue}
 use Rattle.lfs_model.specs.Content.{Content, newest}
 use Rattle.lfs_model.specs.Reach.{View, view}
 use Rattle.lfs_model.specs.Stands.{LogMap, StandsAt, StandsLog, Protected, used_in}
-use Rattle.lfs_model.specs.Crash.{Keeps, IsFree}
+use Rattle.lfs_model.specs.Crash.{Keeps, IsFree, StandsOn}
 use Rattle.lfs_model.specs.Device.{DeviceState, MayWrite, CrashWrites, put}
 use Rattle.lfs_model.specs.Settled.{IsSettled, SettledStands, SettledWrite, SettledStill, SlotTorn, Acknowledged}
-use Rattle.lfs_model.proofs.Crash.{locality, free_writes, slot_write, stands_at_same}
+use Rattle.lfs_model.proofs.Crash.{locality_on, free_writes, slot_write, stands_at_same}
 use Rattle.lfs_model.proofs.Reach.{view_same}
 
 pub keeps_itself : (c : Content) (k : CheckpointValue) → newest c ≡ Some k → Keeps c k c
@@ -53,7 +53,7 @@ module _ (k : CheckpointValue) (m : LogMap) where
     same_use s = ap (λ (v : View). used_in v s) (view_kept old.content k m settled.stands new.content write_keeps)
 
 pub settled_stands : SettledStands
-settled_stands d k m settled c left = locality d.content c m (log_at k m d settled) (settled.each c left)
+settled_stands d k m settled c left = locality_on d.content c m (log_at k m d settled) (settled.each c left)
 
 pub settled_write : SettledWrite
 settled_write d d' k m at bytes settled free may crash = (written k m d d' settled at bytes free may crash, same_use k m d d' settled at bytes free may crash)
@@ -63,11 +63,12 @@ settled_still d d' k m settled same =
     moved k m d d' settled (subst (Keeps d.content k) (sym same.content) (keeps_itself d.content k settled.newest)) (λ c left. settled.each c (same.crash c left))
 
 pub slot_torn : SlotTorn
-slot_torn d d' k next m m' slot bytes settled planned only crash c left =
+slot_torn d d' k next m m' slot bytes settled planned same only crash c left =
     let from = crash c left in
     let may : MayWrite slot bytes d.content c = subst (λ (f : Content). MayWrite slot bytes f c) (only from.0 from.1) from.2 in
-    (slot_write d.content m (log_at k m d settled) d.content (keeps_itself d.content k settled.newest) next bytes m' planned.ready).0 c
-    (subst (λ (n : ℕ). MayWrite n bytes d.content c) planned.place may)
+    let either = (slot_write d.content m (log_at k m d settled) d.content (keeps_itself d.content k settled.newest) next bytes m' planned.ready).0 c
+    (subst (λ (n : ℕ). MayWrite n bytes d.content c) planned.place may) in
+    subst (λ (n : ℕ). StandsOn k.segments c m ⊎ StandsOn n c m') same either
 
 pub acknowledged : Acknowledged
 acknowledged d d' k next m m' slot bytes settled planned is only =

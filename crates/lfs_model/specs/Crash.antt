@@ -28,9 +28,14 @@ pub record IsReady (c : Content) (k next : CheckpointValue) (bytes : List ℕ) (
   pub spelt : checkpoint_in bytes ≡ Some next
   pub stands : StandsAt c next m
 
--- each crash content stands for the one or the other
-abbrev pub StandsFor : LogMap → LogMap → Content → Type 0
-StandsFor m m' d = StandsLog d m ⊎ StandsLog d m'
+-- the content stands for the log map, by a checkpoint of N segments
+pub record StandsOn (N : ℕ) (c : Content) (m : LogMap) : Type 0 where
+  pub is : StandsLog c m
+  pub segments : is.checkpoint.segments ≡ N
+
+-- each crash content stands for the one or the other, on so many segments
+abbrev pub StandsForOn : ℕ → LogMap → LogMap → Content → Type 0
+StandsForOn N m m' c = StandsOn N c m ⊎ StandsOn N c m'
 
 -- The promises, for a function's contract.
 
@@ -44,7 +49,7 @@ SingleLog = (c : Content) (m m' : LogMap) → StandsLog c m → StandsLog c m' �
 abbrev pub FreeWrites : Type 0
 FreeWrites = (c : Content) (m : LogMap) (s : StandsLog c m) (at : ℕ) (bytes : List ℕ) → IsFree c s.checkpoint at → (d d' : Content) → Keeps c s.checkpoint d → MayWrite at bytes d d' → Keeps c s.checkpoint d'
 
--- The write of the next checkpoint to its slot.
+-- The write of the next checkpoint to its slot. Each content is left with the segments of the checkpoint that it stands by.
 abbrev pub SlotWrite : Type 0
 SlotWrite = (c : Content) (m : LogMap) (s : StandsLog c m) (e : Content) → Keeps c s.checkpoint e → (next : CheckpointValue) (bytes : List ℕ) (m' : LogMap) → IsReady e s.checkpoint next bytes m'
-    → ((d : Content) → MayWrite (next.number % 2) bytes e d → StandsFor m m' d) × (newest (put e (next.number % 2) bytes) ≡ Some next) × StandsAt (put e (next.number % 2) bytes) next m'
+    → ((d : Content) → MayWrite (next.number % 2) bytes e d → StandsOn s.checkpoint.segments d m ⊎ StandsOn next.segments d m') × (newest (put e (next.number % 2) bytes) ≡ Some next) × StandsAt (put e (next.number % 2) bytes) next m'

@@ -3,8 +3,8 @@
 use Rattle.std.specs.Prelude.{◌≡◌, ◌%◌, ℕ, List, Some}
 use Rattle.lfs_model.specs.Checkpoint.{CheckpointValue}
 use Rattle.lfs_model.specs.Content.{Content, newest}
-use Rattle.lfs_model.specs.Stands.{LogMap, StandsAt, StandsLog}
-use Rattle.lfs_model.specs.Crash.{Keeps, IsFree, IsReady, StandsFor}
+use Rattle.lfs_model.specs.Stands.{LogMap, StandsAt}
+use Rattle.lfs_model.specs.Crash.{Keeps, IsFree, IsReady, StandsOn, StandsForOn}
 use Rattle.lfs_model.specs.Device.{DeviceState, MayWrite, CrashWrites, IsUntouched, Only, put}
 use Rattle.lfs_model.specs.Reach.{view}
 use Rattle.lfs_model.specs.Stands.{used_in}
@@ -24,9 +24,9 @@ pub record IsPlanned (k : CheckpointValue) (e : Content) (slot : ℕ) (bytes : L
   pub place : slot ≡ next.number % 2
   pub ready : IsReady e k next bytes m'
 
--- All that a stop may leave stands for the log map.
+-- All that a stop may leave stands for the log map, on the segments of k.
 abbrev pub SettledStands : Type 1
-SettledStands = (d : DeviceState) (k : CheckpointValue) (m : LogMap) → IsSettled d k m → (c : Content) → d.may_leave c → StandsLog c m
+SettledStands = (d : DeviceState) (k : CheckpointValue) (m : LogMap) → IsSettled d k m → (c : Content) → d.may_leave c → StandsOn k.segments c m
 
 -- A write to a free sector, done or failed, keeps it so, and the segments that k doesn't use are the same.
 abbrev pub SettledWrite : Type 1
@@ -38,10 +38,10 @@ SettledWrite = (d d' : DeviceState) (k : CheckpointValue) (m : LogMap) (at : ℕ
 abbrev pub SettledStill : Type 1
 SettledStill = (d d' : DeviceState) (k : CheckpointValue) (m : LogMap) → IsSettled d k m → IsUntouched d d' → IsSettled d' k m
 
--- Once all is durable, the write of the next checkpoint's slot leaves, at each stop, the one log map or the other.
+-- Once all is durable, the write of the next checkpoint's slot leaves, at each stop, the one log map or the other, on the same segments.
 abbrev pub SlotTorn : Type 1
 SlotTorn = (d d' : DeviceState) (k next : CheckpointValue) (m m' : LogMap) (slot : ℕ) (bytes : List ℕ) → IsSettled d k m → IsPlanned k d.content slot bytes next m'
-    → Only d.content d → CrashWrites slot bytes d d' → (c : Content) → d'.may_leave c → StandsFor m m' c
+    → next.segments ≡ k.segments → Only d.content d → CrashWrites slot bytes d d' → (c : Content) → d'.may_leave c → StandsForOn k.segments m m' c
 
 -- And once that is durable, the other.
 abbrev pub Acknowledged : Type 1

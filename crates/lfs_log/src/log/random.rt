@@ -121,6 +121,7 @@ impl PlainFile {
         }
     }
 
+    /// Whether it is there and has links.
     fn has_links(&self) -> bool {
         match self.header {
             Some(header) => header.links != 0,
@@ -291,6 +292,7 @@ impl Draft {
         })
     }
 
+    /// A file has this header.
     fn put_header(&mut self, file: usize, header: Header) -> Result<(), AllocError>
         requires { file < 6 }
     {
@@ -335,6 +337,7 @@ impl Draft {
         self.after.files[file].header = Some(Header { links: 0, ..header });
     }
 
+    /// A file goes, whether it is there or not.
     fn remove(&mut self, file: usize)
         requires { file < 6 }
     {
@@ -344,6 +347,7 @@ impl Draft {
         self.after.files[file] = NO_FILE;
     }
 
+    /// Whether it is what goes.
     fn is_removed(&self, number: u16) -> bool {
         match self.changes.loss {
             Loss::File(removal) => removal.number == number,
@@ -434,6 +438,7 @@ impl Draft {
         }
     }
 
+    /// A header or a block changes, if it may.
     fn roll_change(&mut self, dice: &mut Dice) -> Result<(), AllocError> {
         let file = dice.roll(6) as usize;
         if self.after.files[file].header.is_none() || dice.roll(4) == 0 {
@@ -468,13 +473,22 @@ impl Log<MemDevice> {
         way < 3
     }
 
-    /// The read after so many fails.
-    fn fail_read(&mut self, nth: u64) {
-        self.device.fail(DeviceCall::Read, nth);
+    /// Perhaps one of the next reads fails.
+    fn roll_fault(&mut self, dice: &mut Dice) -> bool {
+        let fails = dice.roll(3) == 0;
+        let read = u64::from(dice.roll(4));
+        self.device
+            .fail(DeviceCall::Read, if fails { read } else { u64::MAX });
+        fails
+    }
+
+    /// No read fails.
+    fn mend(&mut self) {
+        self.device.fail(DeviceCall::Read, u64::MAX);
     }
 }
 
-/// A batch is staged. Where a read fails, none of it is, and then it is without that failure.
+/// A batch is staged. Where a read fails, none of it is; it is once none does.
 fn stage(
     alloc: Global,
     log: &mut Log<MemDevice>,
@@ -485,30 +499,40 @@ fn stage(
     if !log.has_room(&draft.changes) {
         return Err(dice.wrong("no room"));
     }
-    let fails = dice.roll(3) == 0;
-    if fails {
-        log.fail_read(u64::from(dice.roll(4)));
-    }
+    let fails = log.roll_fault(dice);
     let staged = log.stage(&draft.changes);
-    log.fail_read(u64::MAX);
+    log.mend();
     if staged.is_err() {
         if !fails || staged != Err(LogFault::Device) {
             return Err(dice.wrong("no batch"));
         }
         check(log, plain, dice)?;
-        log.stage(&draft.changes)?;
+        if log.stage(&draft.changes).is_err() {
+            return Err(dice.wrong("no batch without a fault"));
+        }
     }
     plain.present = draft.after;
     Ok(())
 }
 
-/// A file goes, if it has no links.
+/// A file without links goes. Where a read fails, it stays; it goes once none does.
 fn remove(log: &mut Log<MemDevice>, plain: &mut Plain, dice: &mut Dice) -> Result<(), Fail> {
     let file = dice.roll(6) as usize;
     if plain.present.files[file].has_links() {
         return Ok(());
     }
-    log.remove(number_of(file))?;
+    let fails = log.roll_fault(dice);
+    let removed = log.remove(number_of(file));
+    log.mend();
+    if removed.is_err() {
+        if !fails || removed != Err(LogFault::Device) {
+            return Err(dice.wrong("no removal"));
+        }
+        check(log, plain, dice)?;
+        if log.remove(number_of(file)).is_err() {
+            return Err(dice.wrong("no removal without a fault"));
+        }
+    }
     plain.present.files[file] = NO_FILE;
     Ok(())
 }
@@ -549,6 +573,17 @@ fn live_blocks(device: &mut MemDevice, number: u64) -> Result<u32, Fail> {
     Ok(live)
 }
 
+/// The log that a stop leaves.
+fn reopened(alloc: Global, device: MemDevice, dice: &Dice) -> Result<Log<MemDevice>, Fail> {
+    let Ok(log) = Log::open(alloc, device) else {
+        return Err(dice.wrong("a device without a log"));
+    };
+    if log.unsaved() != 0 {
+        return Err(dice.wrong("a new log with blocks in memory"));
+    }
+    Ok(log)
+}
+
 /// The device stops between two calls: the acknowledged map is left.
 fn crash(
     alloc: Global,
@@ -563,10 +598,10 @@ fn crash(
     if live_blocks(&mut device, plain.number)? != plain.live_blocks(segments) {
         return Err(dice.wrong("another count of live blocks"));
     }
-    opened(alloc, device)
+    reopened(alloc, device, dice)
 }
 
-/// A stop within a commit leaves the acknowledged map or the present one.
+/// A stop within a commit leaves the acknowledged map, or the present one without its files of no links.
 fn halt(
     alloc: Global,
     log: Log<MemDevice>,
@@ -579,7 +614,7 @@ fn halt(
     }
     let mut device = log.into_device();
     device.crash_each(&rolled_lefts(dice));
-    let log = opened(alloc, device)?;
+    let log = reopened(alloc, device, dice)?;
     if log.number() != plain.number {
         plain.save();
     }
@@ -609,6 +644,7 @@ fn commit(
     }
 }
 
+/// A batch, a removal, a commit or a stop.
 fn step(
     alloc: Global,
     log: Log<MemDevice>,

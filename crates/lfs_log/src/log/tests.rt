@@ -663,3 +663,36 @@ fn a_failed_read_leaves_the_link(rt: HostRuntime) -> Result<(), Fail> {
     assert_eq!(rt; failed, 6);
     Ok(())
 }
+
+/// Whether blocks of file 2 are stored, and leaves.
+fn told(log: &mut Log<MemDevice>) -> Result<([bool; 3], [bool; 3]), LogFault> {
+    let blocks = [
+        log.has_block(2, 0)?,
+        log.has_block(2, 1)?,
+        log.has_block(2, 16_623)?,
+    ];
+    let leaves = [
+        log.has_leaf(2, 0)?,
+        log.has_leaf(2, 1)?,
+        log.has_leaf(2, 128)?,
+    ];
+    Ok((blocks, leaves))
+}
+
+#[test]
+fn blocks_and_leaves_that_are_stored(rt: HostRuntime) -> Result<(), Fail> {
+    let alloc = rt.alloc();
+    let mut log = opened(alloc, with_file(alloc, 64)?)?;
+    assert_eq!(rt;
+        told(&mut log)?,
+        ([true, true, false], [false, false, false])
+    );
+    log.make(alloc, 2, 8_511_488)?;
+    log.fill(alloc, 2, 1, 0)?;
+    log.fill(alloc, 2, 16_623, 7)?;
+    assert_eq!(rt;
+        told(&mut log)?,
+        ([true, false, true], [false, false, true])
+    );
+    Ok(())
+}

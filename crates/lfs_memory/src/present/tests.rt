@@ -142,3 +142,24 @@ fn headers_that_are_read(rt: HostRuntime) -> Result<(), Fail> {
     assert_eq!(rt; read_header(&mut device, &memory, 9), Err(DeviceFault));
     Ok(())
 }
+
+#[test]
+fn leaves_that_are_located(rt: HostRuntime) -> Result<(), Fail> {
+    let rows = [
+        (9, 0, Ok(21)),
+        (9, 1, Ok(23)),
+        (9, 2, Ok(0)),
+        (9, 128, Ok(0)),
+        (10, 0, Ok(IN_MEMORY)),
+        (10, 1, Ok(23)),
+        (11, 0, Err(DeviceFault)),
+        (0, 0, Ok(0)),
+        (14, 1, Ok(0)),
+    ];
+    let (mut device, memory) = volume(rt)?;
+    for (number, leaf, want) in rows {
+        let found = locate_leaf(&mut device, &memory, number % 4_096, leaf % 129);
+        assert_eq!(rt; found, want, "{number} {leaf}");
+    }
+    Ok(())
+}

@@ -17,4 +17,4 @@ returns-in-Err-clause-halted g c is ne =
     let before : Held g.row.D.Denot = record { device = c.self.inside.device; memory = c.self.inside.memory; number = c.self.inside.number; halted = c.self.inside.halted } in
     let after : Held g.row.D.Denot = record { device = c.save.new.device; memory = c.save.new.memory; number = c.self.inside.number; halted = true } in
     subst (λ (h : Held g.row.D.Denot). Halts g.D.SectorDevice.state h after) c.self.view_is
-    (halts g.D.SectorDevice.state before after c.in-Err.ensures.stopped refl)
+    (halts g.D.SectorDevice.state before after c.in-Err.ensures.stopped refl refl)

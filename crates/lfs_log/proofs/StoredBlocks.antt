@@ -1,0 +1,84 @@
+-- A block is stored exactly where it has an address, and so is one below a leaf of pointers, where no block of pointers is empty.
+use Rattle.std.proofs.Common.{◌≡◌, ◌<◌, ⊎_elim, ◌+◌, ◌*◌, ◌-◌, ◌/◌, ◌==◌, ℕ, true, length, refl, sym, ◌∙◌, ap, subst, arith, eq-eqb, eqb-true}
+use Rattle.std.specs.Prelude.{not}
+use Rattle.std.proofs.lemmas.Bool.{cases_eq, false_from_ne_true, lt-ltb, ltb-true}
+use Rattle.lfs_model.specs.Checkpoint.{CheckpointValue}
+use Rattle.lfs_model.specs.Device.{DeviceState}
+use Rattle.lfs_model.specs.Encodes.{HasLeaf}
+use Rattle.lfs_model.specs.Entry.{Entry, Data, Leaf}
+use Rattle.lfs_model.specs.Memory.{Memory, HasPointer, parent}
+use Rattle.lfs_model.specs.Laid.{IsLaid}
+use Rattle.lfs_model.specs.Objects.{is_stored, has_leaf}
+use Rattle.lfs_model.specs.Running.{IsTight}
+use Rattle.lfs_model.specs.Stands.{LogMap}
+use Rattle.lfs_model.proofs.Entries.{data_parent_high}
+use Rattle.lfs_model.proofs.ObjectNeeds.{same_tests}
+use Rattle.lfs_model.proofs.ObjectPointers.{leaf_tests}
+use Rattle.lfs_inodes.specs.Blocks.{blocks_of}
+use Rattle.lfs_memory.specs.declared.memory.LogMemory.{LogMemory}
+use Rattle.lfs_memory.specs.Memory.{IsLoose, segment_in}
+use Rattle.lfs_memory.specs.Present.{AnswersAddress}
+use Rattle.lfs_memory.proofs.Looses.{loose}
+use Rattle.lfs_log.specs.Held.{Held, TellsBlock, TellsLeaf}
+
+-- ---- tests of addresses
+test_some : (a : ℕ) → 0 < a → not (a == 0) ≡ true
+test_some a some = ap not (false_from_ne_true (a == 0) (λ h. let none = eqb-true a 0 h in absurd (omega (arith, none, some))))
+
+some_test : (a : ℕ) → not (a == 0) ≡ true → 0 < a
+some_test a on = ⊎_elim
+    (λ (none : a ≡ 0). let off = ap not (eq-eqb a 0 none) in absurd (cc))
+    (λ (some : a ≡ 0 → ⊥). omega (arith, some))
+    (cases_eq a 0)
+
+-- ---- where memory and device hold a log map
+module _ (d : DeviceState) (v : LogMemory) (k : CheckpointValue) (m0 m : LogMap) (is : IsLoose d v k m0 m) where
+  abbrev M : Memory
+  M = is.running.memory
+
+  laid : IsLaid d.content m M (segment_in v.chunk)
+  laid = is.running.laid
+
+  pub block_test : (n i a : ℕ) → M.at (Data n i) ≡ a → is_stored m n i ≡ not (a == 0)
+  block_test n i a at = same_tests (is_stored m n i) (not (a == 0))
+      (λ on. let has = (laid.blocks n i).0 (ltb-true 0 (length (m.block n i)) on) in test_some a (omega (arith, has, at)))
+      (λ on. let some = some_test a on in lt-ltb 0 (length (m.block n i)) ((laid.blocks n i).1 (omega (arith, some, at))))
+
+  -- a leaf that has an address has a pointer
+  leaf_full : IsTight (blocks_of v.dirty) → (n q : ℕ) → 0 < M.at (Leaf n q) → HasPointer (M.bytes (Leaf n q))
+  leaf_full tight n q some = ⊎_elim
+      (λ (one : M.at (Leaf n q) ≡ 1).
+      let f = is.running.cached.found (Leaf n q) (n, refl) one in
+      let held = is.running.cached.cached (Leaf n q) f.0 f.1 in
+      subst HasPointer (sym held.2) (tight (Leaf n q) f.0 f.1 tt))
+      (λ (away : M.at (Leaf n q) ≡ 1 → ⊥). laid.some (Leaf n q) tt (omega (arith, away, some)))
+      (cases_eq (M.at (Leaf n q)) 1)
+
+  leaf_has : IsTight (blocks_of v.dirty) → (n q : ℕ) → 0 < M.at (Leaf n q) → HasLeaf m n q
+  leaf_has tight n q some =
+      let w = leaf_full tight n q some in
+      let v = laid.spells (Leaf n q) some w.0 w.1 in
+      let lt = w.2 in
+      (w.0, w.1, (laid.blocks n (112 + 128 * q + w.0)).1 (omega (arith, lt, v)))
+
+  has_leaf_at : (n q : ℕ) → HasLeaf m n q → 0 < M.at (Leaf n q)
+  has_leaf_at n q has =
+      let lt = has.1 in
+      let same : (112 + 128 * q + has.0 - 112) / 128 ≡ q = omega (arith, lt) in
+      let up : parent (Data n (112 + 128 * q + has.0)) ≡ Leaf n q = data_parent_high n (112 + 128 * q + has.0) (omega arith) ∙ ap (Leaf n) same in
+      subst (λ (x : Entry). 0 < M.at x) up (laid.down (Data n (112 + 128 * q + has.0)) ((laid.blocks n (112 + 128 * q + has.0)).0 has.2))
+
+  pub leaf_test : IsTight (blocks_of v.dirty) → (n q a : ℕ) → M.at (Leaf n q) ≡ a → has_leaf m n q ≡ not (a == 0)
+  leaf_test tight n q a at =
+      let test = (leaf_tests m n).0 q in
+      same_tests (has_leaf m n q) (not (a == 0))
+      (λ on. let some = has_leaf_at n q (test.0 on) in test_some a (omega (arith, some, at)))
+      (λ on. let some = some_test a on in test.1 (leaf_has tight n q (omega (arith, some, at))))
+
+-- ---- what calls tell
+module _ {D : Type 0} (state : D → DeviceState) where
+  pub tells_block : (h h' : Held D) (n i address : ℕ) → AnswersAddress (state h.device) (state h'.device) h.memory (Data n i) address → TellsBlock state h h' n i (not (address == 0))
+  tells_block h h' n i address answers k m0 m keeps is = block_test (state h.device) h.memory k m0 m (loose (state h.device) h.memory k m0 m is.log) n i address (answers k m0 m keeps (loose (state h.device) h.memory k m0 m is.log))
+
+  pub tells_leaf : (h h' : Held D) (n q address : ℕ) → AnswersAddress (state h.device) (state h'.device) h.memory (Leaf n q) address → TellsLeaf state h h' n q (not (address == 0))
+  tells_leaf h h' n q address answers k m0 m keeps is = leaf_test (state h.device) h.memory k m0 m (loose (state h.device) h.memory k m0 m is.log) is.log.tight n q address (answers k m0 m keeps (loose (state h.device) h.memory k m0 m is.log))
