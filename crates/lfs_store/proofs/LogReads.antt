@@ -1,0 +1,36 @@
+-- Calls that only read a log, one after the other.
+use Rattle.std.proofs.Common.{refl, sym, ◌∙◌, subst, arith}
+use Rattle.lfs_model.specs.Checkpoint.{CheckpointValue}
+use Rattle.lfs_model.specs.Device.{DeviceState, IsLawful}
+use Rattle.lfs_model.specs.Stands.{LogMap}
+use Rattle.lfs_memory.specs.declared.memory.LogMemory.{LogMemory}
+use Rattle.lfs_memory.specs.Memory.{IsLog}
+use Rattle.lfs_memory.proofs.Looses.{loose, tight_again}
+use Rattle.lfs_memory.proofs.Presents.{looks_none, looks_then, still_log}
+use Rattle.lfs_log.specs.Held.{Held, Holds, Reads, IsReadFault}
+
+module _ {D : Type 0} (state : D → DeviceState) where
+  pub held_still : (a b : Held D) (k : CheckpointValue) (m0 m : LogMap) → Reads state a b → Holds state a k m0 m → Holds state b k m0 m
+  held_still a b k m0 m reads is = record {
+    log = subst (λ (v : LogMemory). IsLog (state b.device) v k m0 m) (sym reads.memory)
+        (let s = still_log (state a.device) (state b.device) a.memory k m0 m reads.looks (loose (state a.device) a.memory k m0 m is.log) in tight_again (state b.device) a.memory k m0 m s is.log.tight);
+    number = is.number ∙ sym reads.number;
+    running = reads.halted ∙ is.running;
+  }
+
+  pub reads_none : (a : Held D) → Reads state a a
+  reads_none a = record { looks = looks_none (state a.device); memory = refl; number = refl; halted = refl }
+
+  pub reads_more : (a b c : Held D) → IsLawful (state a.device) → Reads state a b → Reads state b c → Reads state a c
+  reads_more a b c lawful one two = record {
+    looks = looks_then (state a.device) (state b.device) (state c.device) lawful one.looks two.looks;
+    memory = two.memory ∙ one.memory;
+    number = two.number ∙ one.number;
+    halted = two.halted ∙ one.halted;
+  }
+
+  pub fault_more : (a b c : Held D) → Reads state a b → IsReadFault state b c → IsReadFault state a c
+  fault_more a b c one failed k m0 m keeps is =
+      let rose = failed k m0 m keeps (held_still a b k m0 m one is) in
+      let before = one.looks.carries.failures in
+      omega (arith, rose, before)

@@ -1,0 +1,161 @@
+-- How many blocks a file has with a draft, from what the draft says and what the log tells.
+use Rattle.std.specs.Prelude.{Result, Ok, Err, IfOk, IsTrue, ◌↔◌}
+use Rattle.std.proofs.Common.{◌≡◌, ◌<◌, ◌≤◌, ⊎_elim, ◌+◌, ◌-◌, ◌*◌, ℕ, Bool, true, false, not, List, [], ◌∷◌, length, nat_lt, refl, sym, ◌∙◌, ap, subst, arith}
+use mir.Val.{bool_byte}
+use Rattle.std.specs.List.{AllByRecursion}
+use Rattle.std.proofs.lemmas.Bool.{cases_eq, false_from_ne_true, lt-ltb, ltb-true}
+use Rattle.lfs_model.specs.Checkpoint.{CheckpointValue}
+use Rattle.lfs_model.specs.Device.{DeviceState, IsLawful}
+use Rattle.lfs_model.specs.Encodes.{HasData, HasLeaf}
+use Rattle.lfs_model.specs.Fields.{zeros}
+use Rattle.lfs_model.specs.Objects.{is_stored, has_leaf, one_if}
+use Rattle.lfs_model.specs.Stands.{LogMap}
+use Rattle.lfs_model.proofs.ObjectNeeds.{same_tests}
+use Rattle.lfs_model.proofs.ObjectPointers.{leaf_tests}
+use Rattle.lfs_memory.specs.declared.batch.BlockEdit.{BlockEdit}
+use Rattle.lfs_memory.specs.declared.changes.Changes.{Changes}
+use Rattle.lfs_memory.specs.Batch.{staged}
+use Rattle.lfs_memory.specs.Changing.{stored}
+use Rattle.lfs_memory.proofs.LogMaps.{stored_none, stored_some}
+use Rattle.lfs_log.specs.Held as held
+use Rattle.lfs_log.specs.Held.{Held, Holds, Reads}
+use Rattle.lfs_store.specs.Drafting.{NoBlock}
+use Rattle.lfs_store.specs.Measuring.{IsInLeaf, IsOffLeaf, KeepsLeaf, LeavesLeaf, TellsStored, TellsLeaf, CountsStored, CountsLeaves, leaves_in}
+use Rattle.lfs_store.specs.Totals.{stored_in}
+use Rattle.lfs_store.proofs.DraftedBlocks.{says_no_block}
+use Rattle.lfs_store.proofs.LogReads.{held_still, reads_none, reads_more}
+use Rattle.lfs_store.proofs.Ranges.{passing, passing_none, passing_more}
+
+-- ---- a draft
+
+test_same : (a b : List ℕ) → a ≡ b → nat_lt 0 (length a) ≡ nat_lt 0 (length b)
+test_same a b same = ap (λ (x : List ℕ). nat_lt 0 (length x)) same
+
+-- bytes in a draft, of which it is known whether they are zeros
+pub says_test : (m : LogMap) (n i : ℕ) (bytes : List ℕ) (blank : Bool) → length bytes ≡ 512 → (IsTrue blank ↔ bytes ≡ zeros 512) → m.block n i ≡ stored bytes → is_stored m n i ≡ not blank
+says_test m n i bytes true long test is = test_same (m.block n i) [] (is ∙ stored_none bytes 512 (test.0 refl))
+says_test m n i bytes false long test is =
+    let same = ap (λ (x : List ℕ). length x) (is ∙ stored_some bytes 512 long (λ e. let bad : false ≡ true = test.1 e in absurd (cc))) in
+    lt-ltb 0 (length (m.block n i)) (omega (arith, same, long))
+
+-- ---- calls that only read, and count what passes a test
+module _ {D : Type 0} (state : D → DeviceState) (p : LogMap → ℕ → Bool) where
+  -- a call told whether number i passes
+  abbrev pub Tells : Held D → Held D → Changes → ℕ → Bool → Type 0
+  Tells h h' c i found = (k : CheckpointValue) (m0 m : LogMap) → (state h'.device).keeps_model → Holds state h k m0 m → p (staged c m) i ≡ found
+
+  -- those from..index were counted
+  pub record CountedUpTo (h h' : Held D) (c : Changes) (from index count : ℕ) : Type 0 where
+    pub reads : Reads state h h'
+    pub few : count + from ≤ index
+    pub far : (k : CheckpointValue) (m0 m : LogMap) → (state h'.device).keeps_model → Holds state h k m0 m → passing (p (staged c m)) from (index - from) ≡ count
+
+  pub counted_none : (h : Held D) (c : Changes) (from : ℕ) → CountedUpTo h h c from from 0
+  counted_none h c from = record {
+    reads = reads_none state h;
+    few = omega arith;
+    far = λ k m0 m keeps is. (let none : from - from ≡ 0 = omega arith in ap (passing (p (staged c m)) from) none ∙ passing_none (p (staged c m)) from);
+  }
+
+  module _ (h a b : Held D) (c : Changes) (from index count : ℕ) (lawful : IsLawful (state h.device)) (was : CountedUpTo h a c from index count) (reads : Reads state a b) where
+    more : (m : LogMap) → passing (p (staged c m)) from (index + 1 - from) ≡ passing (p (staged c m)) from (index - from) + one_if (p (staged c m) index)
+    more m =
+        let few = was.few in
+        let next : index + 1 - from ≡ index - from + 1 = omega (arith, few) in
+        ap (passing (p (staged c m)) from) next ∙ passing_more (p (staged c m)) from (index - from) index (omega (arith, few))
+
+    pub counted_more : (found : Bool) (next : ℕ) → next ≡ count + bool_byte found → Tells a b c index found → CountedUpTo h b c from (index + 1) next
+    counted_more found next is_next tells = record {
+      reads = reads_more state h a b lawful was.reads reads;
+      few = let few = was.few in let one = at_most found in omega (arith, few, is_next, one);
+      far = λ k m0 m keeps is.
+          let before = was.far k m0 m (reads.looks.carries.kept_before keeps) is in
+          let own = ap one_if (tells k m0 m keeps (held_still state h a k m0 m was.reads is)) in
+          omega (arith, before, own, more m, is_next, byte found);
+    }
+      where
+        byte : (b : Bool) → bool_byte b ≡ one_if b
+        byte true = refl
+        byte false = refl
+
+        at_most : (b : Bool) → bool_byte b ≤ 1
+        at_most true = omega arith
+        at_most false = omega arith
+
+-- ---- blocks and leaves
+module _ {D : Type 0} (state : D → DeviceState) (h h' : Held D) (c : Changes) (n from to index count : ℕ) (end : index ≡ to) where
+  pub counts_stored : CountedUpTo state (λ m. is_stored m n) h h' c from index count → CountsStored state h h' c n from to count
+  unfolding stored_in
+  counts_stored was k m0 m keeps is = ap (λ (e : ℕ). passing (is_stored (staged c m) n) from (e - from)) (sym end) ∙ was.far k m0 m keeps is
+
+  pub counts_leaves : CountedUpTo state (λ m. has_leaf m n) h h' c from index count → CountsLeaves state h h' c n from to count
+  unfolding leaves_in
+  counts_leaves was k m0 m keeps is = ap (λ (e : ℕ). passing (has_leaf (staged c m) n) from (e - from)) (sym end) ∙ was.far k m0 m keeps is
+
+-- ---- what the log tells of what a draft leaves
+module _ {D : Type 0} (state : D → DeviceState) (h h' : Held D) (c : Changes) (n : ℕ) where
+  pub log_stored : {E : Type 0} (i : ℕ) (r : Result Bool E) → ((m : LogMap) → (staged c m).block n i ≡ m.block n i) → IfOk r (held.TellsBlock state h h' n i) → IfOk r (TellsStored state h h' c n i)
+  log_stored i (Ok found) left tells = λ k m0 m keeps is. test_same ((staged c m).block n i) (m.block n i) (left m) ∙ tells k m0 m keeps is
+  log_stored i (Err e) left tells = tt
+
+-- ---- a leaf of pointers
+
+-- no block from one on to another passes
+pub record SearchedUpTo {D : Type 0} (state : D → DeviceState) (n : ℕ) (h h' : Held D) (c : Changes) (from index : ℕ) : Type 0 where
+  pub reads : Reads state h h'
+  pub none : (k : CheckpointValue) (m0 m : LogMap) → (state h'.device).keeps_model → Holds state h k m0 m → (i : ℕ) → from ≤ i → i < index → is_stored (staged c m) n i ≡ false
+
+module _ {D : Type 0} (state : D → DeviceState) (n : ℕ) where
+  pub searched_none : (h : Held D) (c : Changes) (from : ℕ) → SearchedUpTo state n h h c from from
+  searched_none h c from = record { reads = reads_none state h; none = λ k m0 m keeps is i le lt. absurd (omega (arith, le, lt)) }
+
+  module _ (h a b : Held D) (c : Changes) (from index : ℕ) (lawful : IsLawful (state h.device)) (was : SearchedUpTo state n h a c from index) (reads : Reads state a b) where
+    pub searched_more : TellsStored state a b c n index false → SearchedUpTo state n h b c from (index + 1)
+    searched_more tells = record {
+      reads = reads_more state h a b lawful was.reads reads;
+      none = λ k m0 m keeps is i le lt. ⊎_elim
+          (λ (here : i ≡ index). ap (is_stored (staged c m) n) here ∙ tells k m0 m keeps (held_still state h a k m0 m was.reads is))
+          (λ (ne : i ≡ index → ⊥). was.none k m0 m (reads.looks.carries.kept_before keeps) is i le (omega (arith, lt, ne)))
+          (cases_eq i index);
+    }
+
+    pub leaf_found : (q : ℕ) → from ≡ 112 + 128 * q → from ≤ index → index < from + 128 → TellsStored state a b c n index true → TellsLeaf state h b c n q true
+    leaf_found q at le lt tells k m0 m keeps is =
+        let on = tells k m0 m keeps (held_still state h a k m0 m was.reads is) in
+        let place : index ≡ 112 + 128 * q + (index - from) = omega (arith, at, le) in
+        let has = ltb-true 0 (length ((staged c m).block n index)) on in
+        ((leaf_tests (staged c m) n).0 q).1 (index - from, omega (arith, le, lt), subst (HasData (staged c m) n) place has)
+
+  -- none of all does
+  pub leaf_empty : (h h' : Held D) (c : Changes) (from index q : ℕ) → from ≡ 112 + 128 * q → from + 128 ≤ index → SearchedUpTo state n h h' c from index → TellsLeaf state h h' c n q false
+  leaf_empty h h' c from index q at far was k m0 m keeps is = false_from_ne_true (has_leaf (staged c m) n q) (λ on.
+      let has = ((leaf_tests (staged c m) n).0 q).0 on in
+      let low = has.1 in
+      let off = was.none k m0 m keeps is (112 + 128 * q + has.0) (omega (arith, at)) (omega (arith, at, low, far)) in
+      let there = lt-ltb 0 (length ((staged c m).block n (112 + 128 * q + has.0))) has.2 in
+      let bad : true ≡ false = sym there ∙ off in
+      absurd (cc))
+
+-- the leaf of a draft that changes none of its blocks
+same_leaf_one : (m m' : LogMap) (n q : ℕ) → ((i : ℕ) → IsInLeaf q i → m'.block n i ≡ m.block n i) → HasLeaf m n q → HasLeaf m' n q
+same_leaf_one m m' n q same has =
+    let low = has.1 in
+    (has.0, low, subst (λ (b : List ℕ). 0 < length b) (sym (same (112 + 128 * q + has.0) (omega arith, omega (arith, low)))) has.2)
+
+same_leaf : (m m' : LogMap) (n q : ℕ) → ((i : ℕ) → IsInLeaf q i → m'.block n i ≡ m.block n i) → has_leaf m' n q ≡ has_leaf m n q
+same_leaf m m' n q same = same_tests (has_leaf m' n q) (has_leaf m n q)
+    (λ on. ((leaf_tests m n).0 q).1 (same_leaf_one m' m n q (λ i inside. sym (same i inside)) (((leaf_tests m' n).0 q).0 on)))
+    (λ on. ((leaf_tests m' n).0 q).1 (same_leaf_one m m' n q same (((leaf_tests m n).0 q).0 on)))
+
+module _ {D : Type 0} (state : D → DeviceState) (h h' : Held D) (c : Changes) (n : ℕ) where
+  pub log_leaf : {E : Type 0} (q : ℕ) (r : Result Bool E) → LeavesLeaf c n q → IfOk r (held.TellsLeaf state h h' n q) → IfOk r (TellsLeaf state h h' c n q)
+  log_leaf q (Ok found) left tells = λ k m0 m keeps is. same_leaf m (staged c m) n q (λ i inside. left i inside m) ∙ tells k m0 m keeps is
+  log_leaf q (Err e) left tells = tt
+
+-- edits of no block of a leaf are edits of none of its blocks
+off_leaf : (n q i : ℕ) (edits : List BlockEdit) → IsInLeaf q i → AllByRecursion (IsOffLeaf n q) edits → NoBlock n i edits
+off_leaf n q i [] inside off = tt
+off_leaf n q i (e ∷ edits) inside off = ((λ is. off.0 is.0 (subst (IsInLeaf q) (sym is.1) inside)), off_leaf n q i edits inside off.1)
+
+pub leaves_leaf : (c : Changes) (n q : ℕ) → KeepsLeaf c.loss n q → AllByRecursion (IsOffLeaf n q) c.blocks.items → LeavesLeaf c n q
+leaves_leaf c n q keeps off i inside m = (says_no_block c n i (off_leaf n q i c.blocks.items inside off)).1 m ∙ keeps i inside m

@@ -1,0 +1,151 @@
+-- The measure of a file and of a volume, from what is counted.
+use Rattle.std.specs.Prelude.{min, max}
+use Rattle.std.proofs.Common.{◌≡◌, ◌<◌, ◌≤◌, ◌⊎◌, ⊎_elim, ◌+◌, ◌-◌, ◌*◌, ℕ, suc, false, length, Option, Some, None, refl, sym, ◌∙◌, ap, ap₂, subst, arith}
+use Rattle.std.proofs.lemmas.Bool.{cases_lt, false_from_ne_true, ltb-true}
+use Rattle.lfs_model.specs.Checkpoint.{CheckpointValue}
+use Rattle.lfs_model.specs.Device.{DeviceState, IsLawful}
+use Rattle.lfs_model.specs.Encodes.{IsLogMap}
+use Rattle.lfs_model.specs.Entry as entry
+use Rattle.lfs_model.specs.Need.{pointers}
+use Rattle.lfs_model.specs.Objects.{is_stored, stored_blocks}
+use Rattle.lfs_model.specs.Stands.{LogMap}
+use Rattle.lfs_memory.specs.declared.changes.Changes.{Changes}
+use Rattle.lfs_memory.specs.declared.header.Header.{Header}
+use Rattle.lfs_memory.specs.Batch.{staged}
+use Rattle.lfs_memory.specs.Present.{as_header}
+use Rattle.lfs_log.specs.Held.{Held, Holds, Reads}
+use Rattle.lfs_store.specs.declared.totals.Measure.{Measure}
+use Rattle.lfs_store.specs.declared.totals.Totals.{Totals}
+use Rattle.lfs_store.specs.Measuring.{EndsBy, CountsStored, CountsLeaves, CountsPointers, Measures, CountsFiles}
+use Rattle.lfs_store.specs.Reading.{ReadsHeader}
+use Rattle.lfs_store.specs.Totals.{stored_in, meta_of_file, data_of_file, sum_upto}
+use Rattle.lfs_store.proofs.LogReads.{held_still, reads_none, reads_more}
+use Rattle.lfs_store.proofs.Pointers.{pointers_by_leaves}
+use Rattle.lfs_store.proofs.Ranges.{passing_nothing}
+use Rattle.lfs_store.proofs.Summing.{stored_split, stored_all}
+
+-- ---- the end of a file
+
+-- no block is stored that isn't there
+pub nothing_stored : (m : LogMap) (n : ℕ) → IsLogMap m → m.header n ≡ None → (i : ℕ) → is_stored m n i ≡ false
+nothing_stored m n is none i = false_from_ne_true (is_stored m n i) (λ on.
+    let within = is.within n i (ltb-true 0 (length (m.block n i)) on) in
+    let bad : None ≡ Some within.0 = sym none ∙ within.1 in
+    absurd (cc))
+
+pub ends_by : (m : LogMap) (n : ℕ) (h : Header) → IsLogMap m → m.header n ≡ Some (as_header h) → EndsBy m n h.size
+ends_by m n h is at i past = false_from_ne_true (is_stored m n i) (λ on.
+    let within = is.within n i (ltb-true 0 (length (m.block n i)) on) in
+    let same : within.0 ≡ as_header h = (let both : Some within.0 ≡ Some (as_header h) = sym within.1 ∙ at in cc) in
+    let low : 512 * i < h.size = subst (λ (g : entry.Header). 512 * i < g.size) same within.2 in
+    absurd (omega (arith, low, past)))
+
+pub stored_nothing : (m : LogMap) (n a b : ℕ) → ((i : ℕ) → a ≤ i → i < b → is_stored m n i ≡ false) → stored_in m n a b ≡ 0
+unfolding stored_in
+stored_nothing m n a b none = passing_nothing (is_stored m n) a (b - a) (λ i le lt. none i le (omega (arith, lt, le)))
+
+-- the blocks up to the end of a file are all
+pub stored_to_end : (m : LogMap) (n size blocks from to : ℕ) → EndsBy m n size → size ≤ 512 * blocks → from ≤ to → stored_in m n (min from (min blocks to)) (min blocks to) ≡ stored_in m n from to
+stored_to_end m n size blocks from to ends covers order = ⊎_elim
+    (λ (inside : from < min blocks to).
+    let first : min from (min blocks to) ≡ from = omega (arith, inside) in
+    let split = stored_split m n from (min blocks to) to (omega (arith, inside)) (omega arith) in
+    let rest = stored_nothing m n (min blocks to) to (λ i le lt. ends i (omega (arith, covers, le, lt))) in
+    ap (λ (a : ℕ). stored_in m n a (min blocks to)) first ∙ omega (arith, split, rest))
+    (λ (past : min blocks to ≤ from).
+    let none = stored_nothing m n (min from (min blocks to)) (min blocks to) (λ i le lt. absurd (omega (arith, past, le, lt))) in
+    let rest = stored_nothing m n from to (λ i le lt. ends i (omega (arith, covers, past, le, lt))) in
+    none ∙ sym rest)
+    (cases_lt from (min blocks to))
+
+-- ---- one file
+module _ {D : Type 0} (state : D → DeviceState) (c : Changes) (n : ℕ) where
+  pub absent : (h h' : Held D) (from to : ℕ) → ReadsHeader state h h' c n None → Measures state h h' c n from to (record { data_blocks = 0; meta_blocks = 0 })
+  absent h h' from to answer k m0 m keeps is map =
+      let none = answer k m0 m keeps is in
+      record {
+        stored = sym (stored_nothing (staged c m) n from to (λ i le lt. nothing_stored (staged c m) n map none i));
+        above = sym (ap (λ (o : Option entry.Header). elim o [ None ↦ 0 | Some h ↦ 1 + pointers (stored_blocks (staged c m) n) ]) none);
+      }
+
+  pub counts_pointers : (h a b : Held D) (size end single below : ℕ) → Reads state h a → Reads state a b → (size ≤ 512 * (112 + 128 * end)) ⊎ (129 ≤ end) → end ≤ 129
+      → CountsLeaves state h a c n 0 (min end 1) single → CountsLeaves state a b c n 1 (max end 1) below → CountsPointers state h b c n size (single + below + min below 1)
+  counts_pointers h a b size end single below one two past few first others k m0 m keeps is ends =
+      pointers_by_leaves (staged c m) n size end ends past single below few
+      (first k m0 m (two.looks.carries.kept_before keeps) is) (others k m0 m keeps (held_still state h a k m0 m one is))
+
+  pub measured : (h a b d : Held D) (head : Header) (blocks from to count above : ℕ) → Reads state h a → Reads state a b → Reads state b d → head.size ≤ 512 * blocks → from ≤ to
+      → ReadsHeader state h a c n (Some head) → CountsStored state a b c n (min from (min blocks to)) (min blocks to) count → CountsPointers state b d c n head.size above
+      → Measures state h d c n from to (record { data_blocks = count; meta_blocks = 1 + above })
+  measured h a b d head blocks from to count above one two three covers order answer counted below k m0 m keeps is map =
+      let keeps_b = three.looks.carries.kept_before keeps in
+      let keeps_a = two.looks.carries.kept_before keeps_b in
+      let at = answer k m0 m keeps_a is in
+      let held_a = held_still state h a k m0 m one is in
+      let held_b = held_still state a b k m0 m two held_a in
+      let ends = ends_by (staged c m) n head map at in
+      let up = below k m0 m keeps held_b ends in
+      record {
+        stored = sym (sym (stored_to_end (staged c m) n head.size blocks from to ends covers order) ∙ counted k m0 m keeps_b held_a);
+        above = sym (ap (λ (o : Option entry.Header). elim o [ None ↦ 0 | Some h ↦ 1 + pointers (stored_blocks (staged c m) n) ]) at ∙ ap (λ (k : ℕ). 1 + k) up);
+      }
+
+-- ---- all files
+
+-- the files below a number were counted
+pub record SummedUpTo {D : Type 0} (state : D → DeviceState) (h h' : Held D) (c : Changes) (number blocks others : ℕ) : Type 0 where
+  pub reads : Reads state h h'
+  pub few : blocks ≤ 16624 * (number - 1)
+  pub few_above : others ≤ 131 * (number - 1)
+  pub stored : (k : CheckpointValue) (m0 m : LogMap) → (state h'.device).keeps_model → Holds state h k m0 m → IsLogMap (staged c m) → blocks ≡ sum_upto (data_of_file (staged c m)) (number - 1)
+  pub above : (k : CheckpointValue) (m0 m : LogMap) → (state h'.device).keeps_model → Holds state h k m0 m → IsLogMap (staged c m) → others ≡ sum_upto (meta_of_file (staged c m)) (number - 1)
+
+pub sum_none : (f : ℕ → ℕ) → sum_upto f 0 ≡ 0
+unfolding sum_upto
+sum_none f = refl
+
+pub sum_more : (f : ℕ → ℕ) (n : ℕ) → sum_upto f (suc n) ≡ sum_upto f n + f (suc n)
+unfolding sum_upto
+sum_more f n = refl
+
+sum_next : (f : ℕ → ℕ) (number : ℕ) → 1 ≤ number → sum_upto f (number + 1 - 1) ≡ sum_upto f (number - 1) + f number
+sum_next f number some =
+    let at : number + 1 - 1 ≡ suc (number - 1) = omega (arith, some) in
+    let own : suc (number - 1) ≡ number = omega (arith, some) in
+    ap (sum_upto f) at ∙ sum_more f (number - 1) ∙ ap (λ (n : ℕ). sum_upto f (number - 1) + f n) own
+
+module _ {D : Type 0} (state : D → DeviceState) (c : Changes) where
+  pub summed_none : (h : Held D) → SummedUpTo state h h c 1 0 0
+  summed_none h = record {
+    reads = reads_none state h;
+    few = omega arith;
+    few_above = omega arith;
+    stored = λ k m0 m keeps is map. (let none : 1 - 1 ≡ 0 = omega arith in sym (ap (sum_upto (data_of_file (staged c m))) none ∙ sum_none (data_of_file (staged c m))));
+    above = λ k m0 m keeps is map. (let none : 1 - 1 ≡ 0 = omega arith in sym (ap (sum_upto (meta_of_file (staged c m))) none ∙ sum_none (meta_of_file (staged c m))));
+  }
+
+  pub summed_more : (h a b : Held D) (number blocks others : ℕ) (found : Measure) → IsLawful (state h.device) → 1 ≤ number → found.data_blocks ≤ 16624 - 0 → found.meta_blocks ≤ 131
+      → SummedUpTo state h a c number blocks others → Reads state a b → Measures state a b c number 0 16624 found → SummedUpTo state h b c (number + 1) (blocks + found.data_blocks) (others + found.meta_blocks)
+  summed_more h a b number blocks others found lawful some few few_above was reads measures = record {
+    reads = reads_more state h a b lawful was.reads reads;
+    few = let before = was.few in omega (arith, before, few, some);
+    few_above = let before = was.few_above in omega (arith, before, few_above, some);
+    stored = λ k m0 m keeps is map.
+        let before = was.stored k m0 m (reads.looks.carries.kept_before keeps) is map in
+        let own = (measures k m0 m keeps (held_still state h a k m0 m was.reads is) map).stored in
+        let all = own ∙ sym (stored_all (staged c m) number 16624) in
+        ap₂ (λ (x y : ℕ). x + y) before all ∙ sym (sum_next (data_of_file (staged c m)) number some);
+    above = λ k m0 m keeps is map.
+        let before = was.above k m0 m (reads.looks.carries.kept_before keeps) is map in
+        let own = (measures k m0 m keeps (held_still state h a k m0 m was.reads is) map).above in
+        ap₂ (λ (x y : ℕ). x + y) before own ∙ sym (sum_next (meta_of_file (staged c m)) number some);
+  }
+
+  pub counts_files : (h b : Held D) (number : ℕ) (totals : Totals) → number ≡ 4096 → SummedUpTo state h b c number totals.data_blocks totals.meta_blocks → CountsFiles state h b c totals
+  counts_files h b number totals end was k m0 m keeps is map = record {
+    stored = was.stored k m0 m keeps is map ∙ ap (sum_upto (data_of_file (staged c m))) last;
+    above = was.above k m0 m keeps is map ∙ ap (sum_upto (meta_of_file (staged c m))) last;
+  }
+    where
+      last : number - 1 ≡ 4095
+      last = omega (arith, end)

@@ -1,0 +1,102 @@
+-- A mounted log map has no file of no links.
+use Rattle.std.proofs.Common.{◌≡◌, ◌<◌, ◌≤◌, ⊎_elim, nat_lt, true, cond, ℕ, List, [], ◌∷◌, length, Option, Some, None, refl, sym, ◌∙◌, ap, ap₂, subst, arith}
+use Rattle.std.proofs.Math.Path.{fun_ext}
+use Rattle.std.proofs.lemmas.Bool.{cases_eq, lt-ltb, and_parts, leb-true, cond-true}
+use Rattle.lfs_model.specs.Checkpoint.{CheckpointValue}
+use Rattle.lfs_model.specs.Content.{Content, block}
+use Rattle.lfs_model.specs.Decodes.{IsSized}
+use Rattle.lfs_model.specs.Device.{DeviceState, IsLawful, Carries}
+use Rattle.lfs_model.specs.Encodes.{IsLogMap}
+use Rattle.lfs_model.specs.Entry.{Header, Inode, IsInode, header}
+use Rattle.lfs_model.specs.Inode.{inode_in, inode_of, inode_sector, may_be_inode}
+use Rattle.lfs_model.specs.Reach.{address}
+use Rattle.lfs_model.specs.Stands.{LogMap, StandsAt}
+use Rattle.lfs_model.specs.TreeOf.{dropped, kept}
+use Rattle.lfs_model.proofs.Decodes.{are_sized, decoding}
+use Rattle.lfs_model.proofs.Decoding.{value_found}
+use Rattle.lfs_memory.specs.declared.changes.Changes.{Changes}
+use Rattle.lfs_memory.specs.Batch.{IsNoChange}
+use Rattle.lfs_log.specs.Held.{Held, Mounts, Reads, IsReadFault}
+use Rattle.lfs_log.specs.Opening.{IsOpenFault}
+use Rattle.lfs_store.specs.declared.totals.Totals.{Totals}
+use Rattle.lfs_store.specs.Accepting.{MountsStore}
+use Rattle.lfs_store.specs.Measuring.{CountsFiles}
+use Rattle.lfs_store.specs.Recounting.{AreTotals, MountsTotals}
+use Rattle.lfs_store.proofs.Apart.{no_change}
+use Rattle.lfs_store.proofs.LogReads.{held_still}
+
+-- an inode on a device has a link
+links_some : (n : ℕ) (b : List ℕ) → IsInode n b → 1 ≤ (header b).links
+unfolding inode_in header
+links_some n b is =
+    let found = value_found inode_of may_be_inode inode_sector b is.value is.spelt in
+    leb-true 1 (inode_of b).links (and_parts _ _ (and_parts _ _ (and_parts _ _ found.1).1).0).0
+
+module _ (c : Content) (k : CheckpointValue) (m : LogMap) (sized : IsSized c) (st : StandsAt c k m) where
+  formed : IsLogMap m
+  formed = (decoding c k m sized st).0
+
+  some_links : (n : ℕ) (h : Header) → m.header n ≡ Some h → 0 < h.links
+  some_links n h is = ⊎_elim
+      (λ (none : address c k (Inode n) ≡ 0).
+      let e : None ≡ Some h = sym (st.header n ∙ ap (λ (a : ℕ). cond (nat_lt 0 a) (Some (header (block c (address c k (Inode n))))) None) none) ∙ is in
+      absurd (cc))
+      (λ (some : address c k (Inode n) ≡ 0 → ⊥).
+      let lt : 0 < address c k (Inode n) = omega (arith, some) in
+      let e : Some (header (block c (address c k (Inode n)))) ≡ Some h = sym (st.header n ∙ cond-true (nat_lt 0 (address c k (Inode n))) _ _ (lt-ltb 0 (address c k (Inode n)) lt)) ∙ is in
+      let same : header (block c (address c k (Inode n))) ≡ h = cc in
+      let one : 1 ≤ (header (block c (address c k (Inode n)))).links = links_some n (block c (address c k (Inode n))) (st.stages.inodes.formed n lt) in
+      let links = ap (λ (x : Header). x.links) same in
+      omega (arith, one, links))
+      (cases_eq (address c k (Inode n)) 0)
+
+  kept_some : {X : Type 0} (n : ℕ) (h : Header) (some none : X) → m.header n ≡ Some h → kept (m.header n) some none ≡ some
+  kept_some n h some none is = ap (λ (o : Option Header). kept o some none) is ∙ cond-true (nat_lt 0 h.links) some none (lt-ltb 0 h.links (some_links n h is))
+
+  no_data : (n i : ℕ) → m.header n ≡ None → m.block n i ≡ []
+  no_data n i none = by (m.block n i) refl
+    where
+      by : (b : List ℕ) → m.block n i ≡ b → b ≡ []
+      by [] is = refl
+      by (x ∷ b) is =
+          let long = ap length is in
+          let there = formed.within n i (omega (arith, long)) in
+          let e : None ≡ Some there.0 = sym none ∙ there.1 in
+          absurd (cc)
+
+  header_same : (n : ℕ) → m.header n ≡ (dropped m).header n
+  header_same n = by (m.header n) refl
+    where
+      by : (o : Option Header) → m.header n ≡ o → m.header n ≡ (dropped m).header n
+      by None is = is ∙ sym (ap (λ (o : Option Header). kept o o None) is)
+      by (Some h) is = sym (kept_some n h (m.header n) None is)
+
+  block_same : (n i : ℕ) → m.block n i ≡ (dropped m).block n i
+  block_same n i = by (m.header n) refl
+    where
+      by : (o : Option Header) → m.header n ≡ o → m.block n i ≡ (dropped m).block n i
+      by None is = no_data n i is ∙ sym (ap (λ (o : Option Header). kept o (m.block n i) []) is)
+      by (Some h) is = sym (kept_some n h (m.block n i) [] is)
+
+  pub all_linked : m ≡ dropped m
+  all_linked =
+      ap₂ (λ (hs : ℕ → Option Header) (bs : ℕ → ℕ → List ℕ). record { header = hs; block = bs }) (fun_ext header_same) (fun_ext (λ n. fun_ext (λ i. block_same n i)))
+
+module _ {D : Type 0} (state : D → DeviceState) (d : D) (h h' : Held D) (lawful : IsLawful (state d)) (mounts : Mounts state d h) (reads : Reads state h h') where
+  pub mounts_store : MountsStore state d h' true
+  mounts_store m keeps is = record {
+    holds = held_still state h h' is.checkpoint m m reads (mounts m (reads.looks.carries.kept_before keeps) is);
+    nothing_new = λ _. all_linked (state d).content is.checkpoint m (are_sized (state d).content lawful.now) is.stands;
+  }
+
+  pub mounts_totals : (c : Changes) (t : Totals) → IsNoChange c → CountsFiles state h h' c t → MountsTotals state d h' t
+  mounts_totals c t none counts m keeps is =
+      let same = no_change c m none in
+      let map = formed (state d).content is.checkpoint m (are_sized (state d).content lawful.now) is.stands in
+      subst (λ (x : LogMap). AreTotals x t) same (counts is.checkpoint m m keeps (mounts m (reads.looks.carries.kept_before keeps) is) (subst IsLogMap (sym same) map))
+
+pub mount_fault : {D : Type 0} (state : D → DeviceState) (d : D) (h h' : Held D) → Mounts state d h → Carries (state d) (state h.device) → Reads state h h' → IsReadFault state h h' → IsOpenFault (state d) (state h'.device)
+mount_fault state d h h' mounts carries reads failed m keeps is =
+    let rose = failed is.checkpoint m m keeps (mounts m (reads.looks.carries.kept_before keeps) is) in
+    let before = carries.failures in
+    omega (arith, rose, before)

@@ -1,0 +1,75 @@
+-- Blocks that are stored, or aren't where they are zeros alone.
+use Rattle.std.proofs.Common.{◌≡◌, ◌<◌, ⊎_elim, ◌==◌, cond, ℕ, zero, suc, Bool, true, false, List, [], ◌∷◌, length, refl, sym, ◌∙◌, ap, subst, arith, slice_index, eqb-true}
+use Rattle.std.proofs.lemmas.Bool.{cases_Bool, and_parts}
+use Rattle.lfs_model.specs.Changing.{IsWithBlock}
+use Rattle.lfs_model.specs.Entry.{Data}
+use Rattle.lfs_model.specs.Objects.{AreWhole, IsChangedAt}
+use Rattle.lfs_model.specs.Stands.{LogMap}
+use Rattle.lfs_memory.specs.Changing.{is_blank, stored}
+use Rattle.lfs_store.specs.Pieces.{HoldsBlock}
+
+blank_zero : (bytes : List ℕ) → is_blank bytes ≡ true → (k : ℕ) → slice_index bytes k ≡ 0
+unfolding is_blank
+blank_zero [] on k = refl
+blank_zero (zero ∷ bytes) on zero = refl
+blank_zero (zero ∷ bytes) on (suc k) = blank_zero bytes on k
+blank_zero (suc b ∷ bytes) on k = let z = eqb-true (suc b) 0 (and_parts (suc b == 0) (is_blank bytes) on).0 in absurd (omega (arith, z))
+
+some_byte : (bytes : List ℕ) → is_blank bytes ≡ false → (k : ℕ) × (0 < slice_index bytes k)
+unfolding is_blank
+some_byte [] off = absurd cc
+some_byte (zero ∷ bytes) off = let rest = some_byte bytes off in (suc rest.0, rest.1)
+some_byte (suc b ∷ bytes) off = (0, omega arith)
+
+-- What is stored of a block reads as the block.
+pub stored_reads : (bytes : List ℕ) (k : ℕ) → slice_index (stored bytes) k ≡ slice_index bytes k
+stored_reads bytes k = ⊎_elim
+    (λ (on : is_blank bytes ≡ true). ap (λ (b : Bool). slice_index (cond b [] bytes) k) on ∙ sym (blank_zero bytes on k))
+    (λ (off : is_blank bytes ≡ false). ap (λ (b : Bool). slice_index (cond b [] bytes) k) off)
+    (cases_Bool (is_blank bytes))
+
+-- It is none, or a sector with a byte that isn't zero.
+pub stored_whole : (bytes : List ℕ) → length bytes ≡ 512 → 0 < length (stored bytes) → (length (stored bytes) ≡ 512) × ((k : ℕ) × (0 < slice_index (stored bytes) k))
+stored_whole bytes long some = ⊎_elim
+    (λ (on : is_blank bytes ≡ true). let none : length (stored bytes) ≡ 0 = ap (λ (b : Bool). length (cond b [] bytes)) on in absurd (omega arith))
+    (λ (off : is_blank bytes ≡ false).
+    let is : stored bytes ≡ bytes = ap (λ (b : Bool). cond b [] bytes) off in
+    let one = some_byte bytes off in
+    (ap length is ∙ long, (one.0, subst (λ (b : List ℕ). 0 < slice_index b one.0) (sym is) one.1)))
+    (cases_Bool (is_blank bytes))
+
+-- ---- log maps with another block, and with another header
+module _ (m m' : LogMap) (n i : ℕ) (bytes : List ℕ) (with_it : IsWithBlock m n i bytes m') where
+  pub other_block : (l : ℕ) → (l ≡ i → ⊥) → m'.block n l ≡ m.block n l
+  other_block l ne = with_it.others n l (λ h. ne (place h))
+    where
+      place : Data n l ≡ Data n i → l ≡ i
+      place h = cc
+
+  pub block_apart : IsChangedAt m n m'
+  block_apart = record { headers = λ k ne. with_it.header k; blocks = λ k l ne. with_it.others k l (λ h. ne (file k l h)) }
+    where
+      file : (k l : ℕ) → Data k l ≡ Data n i → k ≡ n
+      file k l h = cc
+
+pub changed_twice : (m m' m'' : LogMap) (n : ℕ) → IsChangedAt m n m' → IsChangedAt m' n m'' → IsChangedAt m n m''
+changed_twice m m' m'' n first next = record { headers = λ k ne. next.headers k ne ∙ first.headers k ne; blocks = λ k i ne. next.blocks k i ne ∙ first.blocks k i ne }
+
+pub changed_none : (m : LogMap) (n : ℕ) → IsChangedAt m n m
+changed_none m n = record { headers = λ k ne. refl; blocks = λ k i ne. refl }
+
+-- A file whose blocks are the same is whole.
+pub same_whole : (m m' : LogMap) (n : ℕ) → ((i : ℕ) → m'.block n i ≡ m.block n i) → AreWhole m n → AreWhole m' n
+same_whole m m' n same was = record {
+  long = λ i has. ap length (same i) ∙ was.long i (subst (λ (b : List ℕ). 0 < length b) (same i) has);
+  nonzero = λ i has.
+      let one = was.nonzero i (subst (λ (b : List ℕ). 0 < length b) (same i) has) in
+      (one.0, subst (λ (b : List ℕ). 0 < slice_index b one.0) (sym (same i)) one.1);
+}
+
+-- ---- what is put is held, and so are the other blocks
+pub held_put : (m m' : LogMap) (n i : ℕ) (new : List ℕ) → length new ≡ 512 → IsWithBlock m n i (stored new) m' → HoldsBlock m' n i new
+held_put m m' n i new long with_it = record { long = long; bytes = λ k. sym (stored_reads new k) ∙ ap (λ (b : List ℕ). slice_index b k) (sym with_it.own) }
+
+pub held_other : (m m' : LogMap) (n l : ℕ) (block : List ℕ) → m'.block n l ≡ m.block n l → HoldsBlock m n l block → HoldsBlock m' n l block
+held_other m m' n l block same holds = record { long = holds.long; bytes = λ k. holds.bytes k ∙ ap (λ (b : List ℕ). slice_index b k) (sym same) }

@@ -1,0 +1,104 @@
+-- Bytes written to a file, block by block.
+use Rattle.std.proofs.Common.{◌≡◌, ⊎_elim, ℕ, ◌+◌, ◌-◌, ◌*◌, ◌/◌, ◌%◌, ◌<◌, ◌≤◌, List, length, drop, refl, sym, ap, ◌∙◌, arith, slice_index}
+use Rattle.std.proofs.lemmas.Bool.{cases_lt}
+use Rattle.std.proofs.lemmas.List.{get_or-take, get_or-drop}
+use Rattle.lfs_model.specs.Changing.{IsWithBlock}
+use Rattle.lfs_model.specs.Objects.{byte_in, Overlays}
+use Rattle.lfs_model.specs.Stands.{LogMap}
+use Rattle.lfs_model.proofs.ObjectBytes.{block_overlaid}
+use Rattle.lfs_model.proofs.ObjectMaps.{block_whole}
+use Rattle.lfs_memory.specs.Changing.{stored}
+use Rattle.lfs_store.specs.Pieces.{place_in_block, piece, BlockOverlays, HoldsBlock, WriteSoFar, WriteBegins, WriteGoesOn, WriteHeads, WriteIsDone}
+use Rattle.lfs_store.proofs.PiecesLaid.{length_piece}
+use Rattle.lfs_store.proofs.PiecesStored.{stored_reads, stored_whole, other_block, block_apart, changed_twice, changed_none, same_whole}
+
+pub write_begins : WriteBegins
+write_begins m n at w = record {
+  before = λ p lt. refl;
+  inside = λ j lt below. absurd (omega arith);
+  behind = λ p le. refl;
+  rest = λ i le. refl;
+  only = changed_none m n;
+  whole = λ was. was;
+}
+
+module _ (m m' m'' : LogMap) (n at index : ℕ) (w old new : List ℕ) (far : WriteSoFar m m' n at w index) (holds : HoldsBlock m' n index old) (over : BlockOverlays at w index old new)
+    (long : length new ≡ 512) (with_it : IsWithBlock m' n index (stored new) m'') where
+  abbrev place : ℕ
+  place = place_in_block at index
+
+  abbrev some : List ℕ
+  some = piece at w index
+
+  step : Overlays (512 * index + place) some (byte_in m' n) (byte_in m'' n)
+  step = block_overlaid m' m'' n index (stored new) with_it place some over.fits record {
+    before = λ k lt. stored_reads new k ∙ over.laid.before k lt ∙ holds.bytes k;
+    inside = λ j lt. stored_reads new (place + j) ∙ over.laid.inside j lt;
+    behind = λ k le. stored_reads new k ∙ over.laid.behind k le ∙ holds.bytes k;
+  }
+
+  go_before : (p : ℕ) → p < at → byte_in m'' n p ≡ byte_in m n p
+  go_before p lt =
+      let l = length_piece at w index in
+      ⊎_elim
+      (λ (low : p < 512 * index + place). step.before p low ∙ far.before p lt)
+      (λ (high : 512 * index + place ≤ p). step.behind p (omega arith) ∙ far.before p lt)
+      (cases_lt p (512 * index + place))
+
+  piece_byte : (j k : ℕ) → k < length some → j ≡ 512 * index - at + k → slice_index some k ≡ slice_index w j
+  piece_byte j k lt is =
+      let l = length_piece at w index in
+      get_or-take (512 - place) (drop (512 * index - at) w) k 0 (omega arith) ∙ get_or-drop (512 * index - at) w k 0 ∙ ap (slice_index w) (sym is)
+
+  go_inside : (j : ℕ) → j < length w → at + j < 512 * (index + 1) → byte_in m'' n (at + j) ≡ slice_index w j
+  go_inside j lt below =
+      let l = length_piece at w index in
+      ⊎_elim
+      (λ (low : at + j < 512 * index). step.before (at + j) (omega arith) ∙ far.inside j lt low)
+      (λ (high : 512 * index ≤ at + j).
+      let k : ℕ = at + j - (512 * index + place) in
+      let in_piece : k < length some = omega arith in
+      let is : at + j ≡ 512 * index + place + k = omega arith in
+      ap (byte_in m'' n) is ∙ step.inside k in_piece ∙ piece_byte j k in_piece (omega arith))
+      (cases_lt (at + j) (512 * index))
+
+  go_behind : (p : ℕ) → at + length w ≤ p → byte_in m'' n p ≡ byte_in m n p
+  go_behind p le =
+      let l = length_piece at w index in
+      ⊎_elim
+      (λ (low : p < 512 * index + place). step.before p low ∙ far.behind p le)
+      (λ (high : 512 * index + place ≤ p). step.behind p (omega arith) ∙ far.behind p le)
+      (cases_lt p (512 * index + place))
+
+  pub gone_on : WriteSoFar m m'' n at w (index + 1)
+  gone_on = record {
+    before = go_before;
+    inside = go_inside;
+    behind = go_behind;
+    rest = λ i le. other_block m' m'' n index (stored new) with_it i (λ is. absurd (omega arith)) ∙ far.rest i (omega arith);
+    only = changed_twice m m' m'' n far.only (block_apart m' m'' n index (stored new) with_it);
+    whole = λ was. block_whole m' m'' n index (stored new) with_it (far.whole was) (stored_whole new long);
+  }
+
+pub write_goes_on : WriteGoesOn
+write_goes_on m m' m'' n at index w old new far holds over long with_it = gone_on m m' m'' n at index w old new far holds over long with_it
+
+pub write_heads : WriteHeads
+write_heads m m' m'' n at index w h far with_it = record {
+  before = λ p lt. same p ∙ far.before p lt;
+  inside = λ j lt below. same (at + j) ∙ far.inside j lt below;
+  behind = λ p le. same p ∙ far.behind p le;
+  rest = λ i le. with_it.block n i ∙ far.rest i le;
+  only = changed_twice m m' m'' n far.only record { headers = with_it.others; blocks = λ k i ne. with_it.block k i };
+  whole = λ was. same_whole m' m'' n (with_it.block n) (far.whole was);
+}
+  where
+    same : (p : ℕ) → byte_in m'' n p ≡ byte_in m' n p
+    same p = ap (λ (b : List ℕ). slice_index b (p % 512)) (with_it.block n (p / 512))
+
+pub write_is_done : WriteIsDone
+write_is_done m m' n at index w h h' far all some size = record {
+  some = some;
+  size = size;
+  bytes = record { before = far.before; inside = λ j lt. far.inside j lt (omega arith); behind = far.behind };
+}

@@ -1,0 +1,100 @@
+-- The blocks of pointers of a file, by its leaves below its end.
+use Rattle.std.specs.Prelude.{min, max}
+use Rattle.std.specs.Int.{div_ceil}
+use Rattle.std.proofs.Common.{◌≡◌, ◌<◌, ◌≤◌, ◌⊎◌, ⊎_elim, ◌+◌, ◌-◌, ◌*◌, ◌||◌, ℕ, zero, suc, Bool, true, false, length, refl, sym, ◌∙◌, ap, ap₂, arith, inl, inr}
+use Rattle.std.specs.List.{list_any, range_with_len}
+use Rattle.std.proofs.lemmas.Bool.{cases_lt, false_from_ne_true, lt-ltb}
+use Rattle.std.proofs.lemmas.List.Sums.{length-filter}
+use Rattle.lfs_model.specs.Need.{pointers}
+use Rattle.lfs_model.specs.Objects.{has_double, has_leaf, one_if, stored_blocks}
+use Rattle.lfs_model.specs.Stands.{LogMap, count_up}
+use Rattle.lfs_model.proofs.ObjectPointers.{leaf_tests, pointer_count}
+use Rattle.lfs_store.specs.Measuring.{EndsBy, leaves_in}
+use Rattle.lfs_store.proofs.Ranges.{passing, passing_none, passing_first, passing_split, passing_nothing}
+
+-- ---- ranges
+any_first : (p : ℕ → Bool) (a n : ℕ) → one_if (list_any p (range_with_len a (suc n))) ≡ one_if (p a || list_any p (range_with_len (a + 1) n))
+any_first p a n = refl
+
+one_or : (b c : Bool) (k : ℕ) → one_if c ≡ min k 1 → one_if (b || c) ≡ min (one_if b + k) 1
+one_or true c k is = omega arith
+one_or false c k is = omega (arith, is)
+
+-- whether one passes, by how many do
+any_count : (p : ℕ → Bool) (a n : ℕ) → one_if (list_any p (range_with_len a n)) ≡ min (passing p a n) 1
+any_count p a zero = refl
+any_count p a (suc n) =
+    one_or (p a) (list_any p (range_with_len (a + 1) n)) (passing p (a + 1) n) (any_count p (a + 1) n)
+    ∙ ap (λ (k : ℕ). min k 1) (sym (passing_first p a n))
+
+up_count : (p : ℕ → Bool) (n : ℕ) → count_up p n ≡ passing p 0 n
+unfolding count_up
+up_count p n = sym (length-filter p (range_with_len 0 n))
+
+shifted : (p : ℕ → Bool) (a n : ℕ) → passing (λ q. p (suc q)) a n ≡ passing p (a + 1) n
+shifted p a zero = refl
+shifted p a (suc n) =
+    let rest = shifted p (a + 1) n in
+    let next : suc a ≡ a + 1 = omega arith in
+    let own = ap (λ (q : ℕ). one_if (p q)) next in
+    omega (arith, rest, own, passing_first (λ q. p (suc q)) a n, passing_first p (a + 1) n)
+
+-- ---- leaves
+module _ (m : LogMap) (n : ℕ) where
+  double_count : one_if (has_double m n) ≡ min (passing (λ q. has_leaf m n (suc q)) 0 128) 1
+  unfolding has_double
+  double_count = any_count (λ q. has_leaf m n (suc q)) 0 128
+
+  -- those below the double root, so many
+  below_count : passing (λ q. has_leaf m n (suc q)) 0 128 ≡ passing (has_leaf m n) 1 128
+  below_count = shifted (has_leaf m n) 0 128
+
+  by_leaves : (single below : ℕ) → one_if (has_leaf m n 0) ≡ single → passing (has_leaf m n) 1 128 ≡ below → pointers (stored_blocks m n) ≡ single + below + min below 1
+  by_leaves single below first others =
+      let up = up_count (λ q. has_leaf m n (suc q)) 128 ∙ below_count ∙ others in
+      let root = double_count ∙ ap (λ (k : ℕ). min k 1) (below_count ∙ others) in
+      pointer_count m n ∙ ap₂ (λ (a b : ℕ). a + b) (ap₂ (λ (a b : ℕ). a + b) first up) root
+
+  -- no leaf from an end on is stored
+  module _ (size end : ℕ) (ends : EndsBy m n size) (past : (size ≤ 512 * (112 + 128 * end)) ⊎ (129 ≤ end)) where
+    empty : (q : ℕ) → end ≤ q → q ≤ 128 → has_leaf m n q ≡ false
+    empty q le low = false_from_ne_true (has_leaf m n q) (λ on.
+        let has = ((leaf_tests m n).0 q).0 on in
+        let there = lt-ltb 0 (length (m.block n (112 + 128 * q + has.0))) has.2 in
+        let off = ends (112 + 128 * q + has.0) (⊎_elim
+        (λ (covers : size ≤ 512 * (112 + 128 * end)). omega (arith, covers, le))
+        (λ (all : 129 ≤ end). absurd (omega (arith, all, le, low)))
+        past) in
+        let bad : true ≡ false = sym there ∙ off in
+        absurd (cc))
+
+    single_count : leaves_in m n 0 (min end 1) ≡ one_if (has_leaf m n 0)
+    unfolding leaves_in
+    single_count = ⊎_elim
+        (λ (none : end < 1).
+        let e : min end 1 - 0 ≡ 0 = omega (arith, none) in
+        let off = ap one_if (empty 0 (omega (arith, none)) (omega arith)) in
+        ap (passing (has_leaf m n) 0) e ∙ passing_none (has_leaf m n) 0 ∙ sym off)
+        (λ (some : 1 ≤ end).
+        let e : min end 1 - 0 ≡ 1 = omega (arith, some) in
+        let f = passing_first (has_leaf m n) 0 0 in
+        let z = passing_none (has_leaf m n) (0 + 1) in
+        ap (passing (has_leaf m n) 0) e ∙ omega (arith, f, z))
+        (cases_lt end 1)
+
+    others_count : (many : ℕ) → many ≡ 128 → end ≤ 129 → leaves_in m n 1 (max end 1) ≡ passing (has_leaf m n) 1 many
+    unfolding leaves_in
+    others_count many all few =
+        let split = passing_split (has_leaf m n) 1 (max end 1 - 1) (129 - max end 1) (max end 1) many (omega arith) (omega (arith, all, few)) in
+        let rest = passing_nothing (has_leaf m n) (max end 1) (129 - max end 1) (λ q le lt. empty q (omega (arith, le)) (omega (arith, lt, few))) in
+        omega (arith, split, rest)
+
+    pub pointers_by_leaves : (single below : ℕ) → end ≤ 129 → leaves_in m n 0 (min end 1) ≡ single → leaves_in m n 1 (max end 1) ≡ below → pointers (stored_blocks m n) ≡ single + below + min below 1
+    pointers_by_leaves single below few first others = by_leaves single below (sym single_count ∙ first) (sym (others_count 128 refl few) ∙ others)
+
+-- as many leaves as the blocks of a size need, or all
+pub leaves_cover : (size blocks leaves end : ℕ) → blocks ≡ div_ceil size 512 → leaves ≡ div_ceil (blocks - 112) 128 → end ≡ min leaves 129 → (size ≤ 512 * (112 + 128 * end)) ⊎ (129 ≤ end)
+leaves_cover size blocks leaves end up down few = ⊎_elim
+    (λ (less : end < 129). inl (omega (arith, up, down, few, less)))
+    (λ (all : 129 ≤ end). inr all)
+    (cases_lt end 129)

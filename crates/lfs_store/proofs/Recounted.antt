@@ -1,0 +1,180 @@
+-- The totals of a draft that writes, cuts, makes or removes one file.
+use Rattle.std.specs.Int.{div_ceil}
+use Rattle.std.proofs.Common.{◌≡◌, ◌<◌, ◌≤◌, ◌⊎◌, ⊎_elim, ◌+◌, ◌/◌, nat_lt, ℕ, false, length, List, [], ◌∷◌, Option, Some, None, refl, sym, ◌∙◌, ap, subst, arith}
+use Rattle.lfs_model.specs.Device.{DeviceState, IsLawful}
+use Rattle.lfs_model.specs.Encodes.{IsLogMap}
+use Rattle.lfs_model.specs.Entry.{Header}
+use Rattle.lfs_model.specs.Need.{pointers}
+use Rattle.lfs_model.specs.Objects.{IsChangedAt, is_stored, stored_below, stored_blocks}
+use Rattle.lfs_model.specs.Stands.{LogMap}
+use Rattle.lfs_memory.specs.declared.changes.Changes.{Changes}
+use Rattle.lfs_memory.specs.declared.header.Header as headers
+use Rattle.lfs_memory.specs.Batch.{IsNoChange, staged}
+use Rattle.lfs_memory.specs.Changing.{with_header}
+use Rattle.lfs_memory.specs.Present.{as_header}
+use Rattle.lfs_memory.specs.Removing.{without_file}
+use Rattle.lfs_memory.proofs.LogMaps.{is_with_header}
+use Rattle.lfs_memory.proofs.Presents.{looks_then}
+use Rattle.lfs_segments.specs.Table.{clean_in}
+use Rattle.lfs_log.specs.Held.{Held, Reads, Alters, IsKept, IsRemoved}
+use Rattle.lfs_store.specs.declared.totals.Measure.{Measure}
+use Rattle.lfs_store.specs.declared.totals.Totals.{Totals}
+use Rattle.lfs_store.specs.Measuring.{Measures}
+use Rattle.lfs_store.specs.Making.{Makes, SetsLinks, Removes, relinked}
+use Rattle.lfs_store.specs.Recounting.{AreTotals, Recounts, Remeasures, Counts, CountsMade, CountsRelinked, CountsGone}
+use Rattle.lfs_store.specs.Totals.{HasMeasure, meta_of_file, data_in, meta_in}
+use Rattle.lfs_store.specs.Writing.{Writes, SetsLen}
+use Rattle.lfs_store.proofs.Apart.{no_change}
+use Rattle.lfs_store.proofs.LogReads.{held_still}
+use Rattle.lfs_store.proofs.Makings.{changed_header, without_header, without_changed}
+use Rattle.lfs_store.proofs.Measures.{nothing_stored, stored_nothing}
+use Rattle.lfs_store.proofs.Recountings.{counts, recounted, same_high}
+use Rattle.lfs_store.proofs.Summing.{stored_all, totals_of_change}
+
+-- ---- what has no block
+
+empty_list : {X : Type 0} (xs : List X) → length xs ≡ 0 → xs ≡ []
+empty_list [] e = refl
+empty_list (x ∷ xs) e = absurd (omega (arith, e))
+
+-- a file without blocks has an inode alone
+inode_alone : (m : LogMap) (n : ℕ) → ((i : ℕ) → is_stored m n i ≡ false) → pointers (stored_blocks m n) ≡ 0
+inode_alone m n none = ap pointers (empty_list (stored_blocks m n) (stored_all m n 16624 ∙ stored_nothing m n 0 16624 (λ i le lt. none i)))
+
+abbrev meta_by : Option Header → ℕ → ℕ
+meta_by o k = elim o [ None ↦ 0 | Some h ↦ 1 + k ]
+
+pub no_measure : (m : LogMap) (n from to : ℕ) → ((i : ℕ) → is_stored m n i ≡ false) → m.header n ≡ None → HasMeasure m n from to 0 0
+no_measure m n from to none gone = record {
+  stored = sym (stored_nothing m n from to (λ i le lt. none i));
+  above = sym (ap (λ (o : Option Header). meta_by o (pointers (stored_blocks m n))) gone);
+}
+
+-- ---- a file is made
+pub made_counts : (c c' : Changes) (n : ℕ) (head : headers.Header) (old new : Totals) → 1 ≤ n → n ≤ 4095 → Makes c c' n head
+    → Recounts old new (record { data_blocks = 0; meta_blocks = 0 }) (record { data_blocks = 0; meta_blocks = 1 }) → CountsMade c c' n old new
+made_counts c c' n head old new some few makes recounts m map gone are =
+    recounted (staged c m) (staged c' m) n 0 0 old new (record { data_blocks = 0; meta_blocks = 0 }) (record { data_blocks = 0; meta_blocks = 1 }) changed some few (omega arith) (omega arith)
+    (λ i out. same n i) (no_measure (staged c m) n 0 0 none gone) (record { stored = sym (stored_nothing (staged c' m) n 0 0 (λ i le lt. none' i)); above = above }) recounts are
+  where
+    same : (k i : ℕ) → (staged c' m).block k i ≡ (staged c m).block k i
+    same k i = ap (λ (x : LogMap). x.block k i) (makes.map m)
+
+    none : (i : ℕ) → is_stored (staged c m) n i ≡ false
+    none = nothing_stored (staged c m) n map gone
+
+    none' : (i : ℕ) → is_stored (staged c' m) n i ≡ false
+    none' i = ap (λ (b : List ℕ). nat_lt 0 (length b)) (same n i) ∙ none i
+
+    changed : IsChangedAt (staged c m) n (staged c' m)
+    changed = subst (IsChangedAt (staged c m) n) (sym (makes.map m)) (changed_header (staged c m) n (Some (as_header head)))
+
+    above : 1 ≡ meta_of_file (staged c' m) n
+    above =
+        ap (λ (k : ℕ). 1 + k) (sym (inode_alone (staged c' m) n none'))
+        ∙ ap (λ (o : Option Header). meta_by o (pointers (stored_blocks (staged c' m) n))) (sym (ap (λ (x : LogMap). x.header n) (makes.map m) ∙ (is_with_header (staged c m) n (Some (as_header head))).own))
+
+-- ---- a file has other links
+
+same_list : (m : LogMap) (n : ℕ) (h : Option Header) (end : ℕ) → stored_below (with_header m n h) n end ≡ stored_below m n end
+unfolding stored_below
+same_list m n h end = refl
+
+relinked_totals : (m : LogMap) (n : ℕ) (h h' : Header) (t : Totals) → 1 ≤ n → n ≤ 4095 → m.header n ≡ Some h → AreTotals m t → AreTotals (with_header m n (Some h')) t
+relinked_totals m n h h' t some few there are =
+    let law = totals_of_change m (with_header m n (Some h')) n 0 0 (changed_header m n (Some h')) some few (omega arith) (omega arith) (λ i out. refl) in
+    let none = stored_nothing m n 0 0 (λ i le lt. absurd (omega (arith, lt))) in
+    let none' = stored_nothing (with_header m n (Some h')) n 0 0 (λ i le lt. absurd (omega (arith, lt))) in
+    let was = ap (λ (o : Option Header). meta_by o (pointers (stored_blocks m n))) there in
+    let now = ap (λ (o : Option Header). meta_by o (pointers (stored_blocks (with_header m n (Some h')) n))) (is_with_header m n (Some h')).own in
+    let same = ap (λ (is : List ℕ). 1 + pointers is) (same_list m n (Some h') 16624) in
+    record {
+      stored = are.stored ∙ blocks (data_in m) (data_in (with_header m n (Some h'))) _ _ law.0 none none';
+      above = are.above ∙ others (meta_in m) (meta_in (with_header m n (Some h'))) (meta_of_file m n) (meta_of_file (with_header m n (Some h')) n) law.1 (was ∙ sym same ∙ sym now);
+    }
+  where
+    blocks : (a b x y : ℕ) → b + x ≡ a + y → x ≡ 0 → y ≡ 0 → a ≡ b
+    blocks a b x y e none none' = omega (arith, e, none, none')
+
+    others : (a b x y : ℕ) → b + x ≡ a + y → x ≡ y → a ≡ b
+    others a b x y e same = omega (arith, e, same)
+
+pub relinked_counts : (c c' : Changes) (n : ℕ) (head : headers.Header) (links : ℕ) (t : Totals) → 1 ≤ n → n ≤ 4095 → SetsLinks c c' n head links → CountsRelinked c c' n head t
+relinked_counts c c' n head links t some few sets m there are =
+    subst (λ (x : LogMap). AreTotals x t) (sym (sets.map m)) (relinked_totals (staged c m) n (as_header head) (as_header (relinked head links)) t some few there are)
+
+-- ---- over a log
+module _ {D : Type 0} (state : D → DeviceState) (h a b h' : Held D) (c c' : Changes) (n : ℕ) (before : Measure) (old new : Totals) (some : 1 ≤ n) (few : n ≤ 4095)
+    (first : Reads state h a) (next : Reads state a b) (last : Reads state b h') where
+  pub write_counts : (head : headers.Header) (at : ℕ) (w : List ℕ) (to : ℕ) → 0 < length w → at + length w ≤ 8511488 → to ≡ div_ceil (at + length w) 512 → Measures state h a c n (at / 512) to before
+      → Writes state a b c c' n head at w → Remeasures state b h' c' n (at / 512) to before old new → Counts state h h' c c' old new
+  write_counts head at w to long low end measured writes again =
+      counts state h a b h' c c' n (at / 512) to before old new some few (omega (arith, end, long)) (omega (arith, end, low)) first measured next last again
+      (λ k m0 m keeps is map map'. ((writes.file k m0 m keeps is).only, λ i out. writes.around m i (subst (λ (e : ℕ). (i < at / 512) ⊎ (e ≤ i)) end out)))
+
+  pub cut_counts : (head : headers.Header) (len : ℕ) → len ≤ 8511488 → IsNoChange c → Measures state h a c n (len / 512) 16624 before → SetsLen state a b c' n head len
+      → Remeasures state b h' c' n (len / 512) 16624 before old new → Counts state h h' c c' old new
+  cut_counts head len low none measured sets again =
+      counts state h a b h' c c' n (len / 512) 16624 before old new some few (omega (arith, low)) (omega arith) first measured next last again
+      (λ k m0 m keeps is map map'. (
+      let sized = sets.file k m0 m keeps is in
+      let same = no_change c m none in (
+        subst (λ (x : LogMap). IsChangedAt x n (staged c' m)) (sym same) sized.only,
+        λ i out. ⊎_elim
+            (λ (lt : i < len / 512). sized.below i lt ∙ sym (ap (λ (x : LogMap). x.block n i) same))
+            (λ (high : 16624 ≤ i). same_high (staged c m) (staged c' m) n i map map' high)
+            out,
+      )))
+
+  pub remove_counts : IsNoChange c → Measures state h a c n 0 16624 before → Removes c' n → Remeasures state b h' c' n 0 16624 before old new → Counts state h h' c c' old new
+  remove_counts none measured removes again =
+      counts state h a b h' c c' n 0 16624 before old new some few (omega arith) (omega arith) first measured next last again
+      (λ k m0 m keeps is map map'. (
+        subst (λ (x : LogMap). IsChangedAt x n (staged c' m)) (sym (no_change c m none)) (subst (IsChangedAt m n) (sym (removes.map m)) (without_changed m n)),
+        λ i out. ⊎_elim (λ (lt : i < 0). absurd (omega (arith, lt))) (λ (high : 16624 ≤ i). same_high (staged c m) (staged c' m) n i map map' high) out,
+      ))
+
+module _ {D : Type 0} (state : D → DeviceState) where
+  -- ---- a file goes at once
+  pub gone_counts : (h a h' : Held D) (c : Changes) (n : ℕ) (before : Measure) (old new : Totals) → 1 ≤ n → n ≤ 4095 → IsNoChange c → Reads state h a → Measures state h a c n 0 16624 before → Alters state a h' 0
+      → Recounts old new before (record { data_blocks = 0; meta_blocks = 0 }) → CountsGone state h h' n old new
+  gone_counts h a h' c n before old new some few none first measured alters recounts k m0 m keeps is map map' are =
+      let same = no_change c m none in
+      let was = measured k m0 m (alters.looks.carries.kept_before keeps) is (subst IsLogMap (sym same) map) in
+      let gone = without_header m n in
+      recounted m (without_file n m) n 0 16624 old new before (record { data_blocks = 0; meta_blocks = 0 }) (without_changed m n) some few (omega arith) (omega arith)
+      (λ i out. ⊎_elim (λ (lt : i < 0). absurd (omega (arith, lt))) (λ (high : 16624 ≤ i). same_high m (without_file n m) n i map map' high) out)
+      (subst (λ (x : LogMap). HasMeasure x n 0 16624 before.data_blocks before.meta_blocks) same was)
+      (no_measure (without_file n m) n 0 16624 (nothing_stored (without_file n m) n map' gone) gone) recounts are
+
+  -- a log that was only read
+  pub alters_read : (h a : Held D) → Reads state h a → Alters state h a 0
+  alters_read h a reads = record {
+    looks = reads.looks;
+    number = reads.number;
+    halted = reads.halted;
+    segments = ap (λ v. length v.usage.segments) reads.memory;
+    clean = ap (λ v. clean_in v.usage.segments) reads.memory;
+    capacity = ap (λ v. v.dirty.capacity) reads.memory;
+    few = let same = ap (λ v. length v.dirty.blocks) reads.memory in omega (arith, same);
+  }
+
+  alters_more : (h a h' : Held D) → IsLawful (state h.device) → Reads state h a → Alters state a h' 0 → Alters state h h' 0
+  alters_more h a h' lawful reads alters = record {
+    looks = looks_then (state h.device) (state a.device) (state h'.device) lawful reads.looks alters.looks;
+    number = alters.number ∙ reads.number;
+    halted = alters.halted ∙ reads.halted;
+    segments = alters.segments ∙ ap (λ v. length v.usage.segments) reads.memory;
+    clean = alters.clean ∙ ap (λ v. clean_in v.usage.segments) reads.memory;
+    capacity = alters.capacity ∙ ap (λ v. v.dirty.capacity) reads.memory;
+    few = let same = ap (λ v. length v.dirty.blocks) reads.memory in let few = alters.few in omega (arith, same, few);
+  }
+
+  pub kept_read : (h a : Held D) → Reads state h a → IsKept state h a
+  kept_read h a reads = record { alters = alters_read h a reads; holds = λ k m0 m keeps is. held_still state h a k m0 m reads is }
+
+  pub kept_more : (h a h' : Held D) → IsLawful (state h.device) → Reads state h a → IsKept state a h' → IsKept state h h'
+  kept_more h a h' lawful reads kept = record { alters = alters_more h a h' lawful reads kept.alters; holds = λ k m0 m keeps is. kept.holds k m0 m keeps (held_still state h a k m0 m reads is) }
+
+  pub removed_more : (h a h' : Held D) (n : ℕ) → IsLawful (state h.device) → Reads state h a → IsRemoved state a h' n → IsRemoved state h h' n
+  removed_more h a h' n lawful reads gone = record { alters = alters_more h a h' lawful reads gone.alters; holds = λ k m0 m keeps is. gone.holds k m0 m keeps (held_still state h a k m0 m reads is) }

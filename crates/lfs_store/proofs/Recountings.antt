@@ -1,0 +1,115 @@
+-- The totals of a log map in which one file changes, by its measure before and after.
+use Rattle.std.specs.Prelude.{count_by, if◌then◌else◌, nat_le}
+use Rattle.std.specs.List.{list_any, range_with_len}
+use Rattle.std.proofs.Common.{◌≡◌, ◌<◌, ◌≤◌, ◌⊎◌, ◌+◌, ◌-◌, ◌*◌, ◌^◌, ℕ, zero, suc, Bool, true, false, List, [], ◌∷◌, length, Option, Some, None, refl, sym, ◌∙◌, ap, arith}
+use Rattle.std.proofs.lemmas.List.Sums.{length-filter}
+use Rattle.lfs_model.specs.Checkpoint.{CheckpointValue}
+use Rattle.lfs_model.specs.Device.{DeviceState}
+use Rattle.lfs_model.specs.Encodes.{IsLogMap}
+use Rattle.lfs_model.specs.Entry.{Header}
+use Rattle.lfs_model.specs.Need.{pointers, lies_in}
+use Rattle.lfs_model.specs.Objects.{IsChangedAt, is_stored, stored_blocks, one_if}
+use Rattle.lfs_model.specs.Stands.{LogMap}
+use Rattle.lfs_memory.specs.declared.changes.Changes.{Changes}
+use Rattle.lfs_memory.specs.Batch.{staged}
+use Rattle.lfs_log.specs.Held.{Held, Holds, Reads}
+use Rattle.lfs_store.specs.declared.totals.Measure.{Measure}
+use Rattle.lfs_store.specs.declared.totals.Totals.{Totals}
+use Rattle.lfs_store.specs.Measuring.{Measures}
+use Rattle.lfs_store.specs.Recounting.{Replaces, AreTotals, Recounts, Remeasures, Counts}
+use Rattle.lfs_store.specs.Totals.{stored_in, data_of_file, meta_of_file, sum_upto, data_in, meta_in, HasMeasure}
+use Rattle.lfs_store.proofs.LogReads.{held_still}
+use Rattle.lfs_store.proofs.Ranges.{passing, passing_first, passing_none}
+use Rattle.lfs_store.proofs.Summing.{stored_all, totals_of_change}
+
+-- ---- all totals are numbers of 32 bits
+
+one_most : (b : Bool) → one_if b ≤ 1
+one_most true = omega arith
+one_most false = omega arith
+
+passing_most : (p : ℕ → Bool) (a n : ℕ) → passing p a n ≤ n
+passing_most p a zero = let e = passing_none p a in omega (arith, e)
+passing_most p a (suc n) =
+    let rest = passing_most p (a + 1) n in
+    let first = passing_first p a n in
+    let one = one_most (p a) in
+    omega (arith, rest, first, one)
+
+stored_most : (m : LogMap) (n from to : ℕ) → stored_in m n from to ≤ to - from
+unfolding stored_in
+stored_most m n from to = passing_most (is_stored m n) from (to - from)
+
+data_few : (m : LogMap) (n : ℕ) → data_of_file m n ≤ 16624
+data_few m n = let all = stored_all m n 16624 in let most = stored_most m n 0 16624 in omega (arith, all, most)
+
+either_most : (b : Bool) → (if b then 1 else 0) ≤ 1
+either_most true = omega arith
+either_most false = omega arith
+
+groups_most : (a b : Bool) (p : ℕ → Bool) (n : ℕ) → (if a then 1 else 0) + count_by p (range_with_len 0 n) + (if b then 1 else 0) ≤ n + 2
+groups_most a b p n =
+    let x = either_most a in
+    let y = either_most b in
+    let same = length-filter p (range_with_len 0 n) in
+    let most = passing_most p 0 n in
+    omega (arith, x, y, same, most)
+
+meta_few : (o : Option Header) (is : List ℕ) → elim o [ None ↦ 0 | Some h ↦ 1 + pointers is ] ≤ 16624
+meta_few None is = omega arith
+meta_few (Some h) is = let most : pointers is ≤ 130 = groups_most (list_any (lies_in 112 240) is) (list_any (nat_le 240) is) (λ g. list_any (lies_in (240 + 128 * g) (368 + 128 * g)) is) 128 in omega (arith, most)
+
+sum_most : (f : ℕ → ℕ) (k : ℕ) → ((j : ℕ) → f j ≤ 16624) → sum_upto f k ≤ 16624 * k
+unfolding sum_upto
+sum_most f zero few = omega arith
+sum_most f (suc k) few = let rest = sum_most f k few in let own = few (suc k) in omega (arith, rest, own)
+
+pub data_low : (m : LogMap) → data_in m < 2 ^ 32
+data_low m = let most = sum_most (data_of_file m) 4095 (data_few m) in omega (arith, most)
+
+pub meta_low : (m : LogMap) → meta_in m < 2 ^ 32
+meta_low m = let most = sum_most (meta_of_file m) 4095 (λ n. meta_few (m.header n) (stored_blocks m n)) in omega (arith, most)
+
+-- ---- one file changes
+
+replaced : (old before after new all was now total : ℕ) → Replaces old before after new → old ≡ total → before ≡ was → after ≡ now → all + was ≡ total + now → all < 2 ^ 32 → new ≡ all
+replaced old before after new all was now total replaces a b c law low =
+    let is = replaces (omega (arith, a, b, c, law)) (omega (arith, a, b, c, law, low)) in
+    omega (arith, is, a, b, c, law)
+
+pub recounted : (m m' : LogMap) (n from to : ℕ) (old new : Totals) (before after : Measure) → IsChangedAt m n m' → 1 ≤ n → n ≤ 4095 → from ≤ to → to ≤ 16624
+    → ((i : ℕ) → (i < from) ⊎ (to ≤ i) → m'.block n i ≡ m.block n i)
+    → HasMeasure m n from to before.data_blocks before.meta_blocks → HasMeasure m' n from to after.data_blocks after.meta_blocks → Recounts old new before after → AreTotals m old → AreTotals m' new
+recounted m m' n from to old new before after changed some few order low same was now recounts are =
+    let law = totals_of_change m m' n from to changed some few order low same in
+    record {
+      stored = replaced old.data_blocks before.data_blocks after.data_blocks new.data_blocks (data_in m') (stored_in m n from to) (stored_in m' n from to) (data_in m) recounts.stored are.stored was.stored now.stored law.0 (data_low m');
+      above = replaced old.meta_blocks before.meta_blocks after.meta_blocks new.meta_blocks (meta_in m') (meta_of_file m n) (meta_of_file m' n) (meta_in m) recounts.above are.above was.above now.above law.1 (meta_low m');
+    }
+
+-- ---- over a log
+module _ {D : Type 0} (state : D → DeviceState) where
+  pub counts : (h a b h' : Held D) (c c' : Changes) (n from to : ℕ) (before : Measure) (old new : Totals) → 1 ≤ n → n ≤ 4095 → from ≤ to → to ≤ 16624
+      → Reads state h a → Measures state h a c n from to before → Reads state a b → Reads state b h' → Remeasures state b h' c' n from to before old new
+      → ((k : CheckpointValue) (m0 m : LogMap) → (state b.device).keeps_model → Holds state a k m0 m → IsLogMap (staged c m) → IsLogMap (staged c' m)
+      → IsChangedAt (staged c m) n (staged c' m) × ((i : ℕ) → (i < from) ⊎ (to ≤ i) → (staged c' m).block n i ≡ (staged c m).block n i))
+      → Counts state h h' c c' old new
+  counts h a b h' c c' n from to before old new some few order low first measured next last again changes k m0 m keeps is map map' are =
+      let keeps_b = last.looks.carries.kept_before keeps in
+      let keeps_a = next.looks.carries.kept_before keeps_b in
+      let is_a = held_still state h a k m0 m first is in
+      let is_b = held_still state a b k m0 m next is_a in
+      let change = changes k m0 m keeps_b is_a map map' in
+      recounted (staged c m) (staged c' m) n from to old new before again.after change.0 some few order low change.1
+      (measured k m0 m keeps_a is map) (again.measures k m0 m keeps is_b map') again.recounts are
+
+-- a log map has no block from 16624 on
+pub none_high : (m : LogMap) (n i : ℕ) → IsLogMap m → 16624 ≤ i → m.block n i ≡ []
+none_high m n i is high = by (m.block n i) refl
+  where
+    by : (b : List ℕ) → m.block n i ≡ b → b ≡ []
+    by [] e = refl
+    by (x ∷ b) e = let long = ap length e in let low = is.small n i (omega (arith, long)) in absurd (omega (arith, low, high))
+
+pub same_high : (m m' : LogMap) (n i : ℕ) → IsLogMap m → IsLogMap m' → 16624 ≤ i → m'.block n i ≡ m.block n i
+same_high m m' n i is is' high = none_high m' n i is' high ∙ sym (none_high m n i is high)

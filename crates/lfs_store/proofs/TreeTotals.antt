@@ -1,0 +1,84 @@
+-- The totals of a log map are those of its tree.
+use Rattle.std.specs.Prelude.{sum_by}
+use Rattle.std.proofs.Common.{◌≡◌, ◌+◌, ℕ, zero, suc, Option, Some, None, refl, sym, ◌∙◌, ap, arith}
+use Rattle.std.proofs.lemmas.List.Sums.{sum_by-cons}
+use Rattle.lfs_model.specs.declared.Kind.TheVariants as kind
+use Rattle.lfs_model.specs.Encodes.{IsLogMap}
+use Rattle.lfs_model.specs.Entry.{Header}
+use Rattle.lfs_model.specs.Need.{data_of, meta_of, pointers}
+use Rattle.lfs_model.specs.Objects.{AreLong, HasCosts, IsDirectory, stored_blocks}
+use Rattle.lfs_model.specs.Stands.{LogMap}
+use Rattle.lfs_model.specs.Tree.{Node, Tree}
+use Rattle.lfs_model.specs.TreeOf.{node_by, node_of, nodes_from, tree_in, with_object}
+use Rattle.lfs_model.proofs.ObjectNeeds.{object_costs}
+use Rattle.lfs_store.specs.Totals.{data_of_file, meta_of_file, sum_upto, TotalsOfTree}
+use Rattle.lfs_store.proofs.Measures.{nothing_stored, stored_nothing, sum_none, sum_more}
+use Rattle.lfs_store.proofs.Summing.{stored_all}
+
+-- ---- a sum over the nodes, by their numbers
+module _ (m : LogMap) (f : Node → ℕ) (w : ℕ → ℕ) where
+  abbrev weighs : Option Node → ℕ
+  weighs o = elim o [ None ↦ 0 | Some x ↦ f x ]
+
+  abbrev total : Tree → ℕ
+  total t = sum_by (λ e. f e.1) t
+
+  one_more : (n : ℕ) (o : Option Node) (t : Tree) → total (with_object n o t) ≡ weighs o + total t
+  one_more n None t = omega arith
+  one_more n (Some x) t = sum_by-cons (λ (e : ℕ × Node). f e.1) (n, x) t
+
+  module _ (each : (n : ℕ) → weighs (node_of m n (m.header n)) ≡ w n) where
+    first : (count a : ℕ) → total (nodes_from m (suc count) a) ≡ w a + total (nodes_from m count (a + 1))
+    unfolding nodes_from
+    first count a =
+        let own = each a in
+        let one = one_more a (node_of m a (m.header a)) (nodes_from m count (a + 1)) in
+        omega (arith, own, one)
+
+    none : (a : ℕ) → total (nodes_from m 0 a) ≡ 0
+    unfolding nodes_from
+    none a = refl
+
+    nodes_sum : (count b : ℕ) → total (nodes_from m count (b + 1)) + sum_upto w b ≡ sum_upto w (b + count)
+    nodes_sum zero b =
+        let same : b ≡ b + 0 = omega arith in
+        let e = ap (sum_upto w) same in
+        omega (arith, none (b + 1), e)
+    nodes_sum (suc count) b =
+        let rest = nodes_sum count (b + 1) in
+        let next : b + 1 ≡ suc b = omega arith in
+        let last : b + 1 + count ≡ b + suc count = omega arith in
+        let up = ap (sum_upto w) next ∙ sum_more w b in
+        let own = ap w next in
+        let end = ap (sum_upto w) last in
+        omega (arith, rest, up, own, end, first count (b + 1))
+
+    all_nodes : (many : ℕ) → total (nodes_from m many 1) ≡ sum_upto w many
+    all_nodes many =
+        let all = nodes_sum many 0 in
+        let same : 0 + many ≡ many = omega arith in
+        let end = ap (sum_upto w) same in
+        omega (arith, all, end, sum_none w)
+
+    tree_sum : total (tree_in m) ≡ sum_upto w 4095
+    unfolding tree_in
+    tree_sum = all_nodes 4095
+
+-- ---- what a number adds
+module _ (m : LogMap) (is : IsLogMap m) (long : (n : ℕ) → AreLong m n) (formed : (n : ℕ) (h : Header) → m.header n ≡ Some h → h.kind ≡ kind.Directory → IsDirectory m n h) where
+  costs : (n : ℕ) (h : Header) → m.header n ≡ Some h → HasCosts (node_by m h.kind n h) (stored_blocks m n)
+  costs n h at = object_costs m n h is (long n) at (formed n h at)
+
+  data_each : (n : ℕ) (o : Option Header) → m.header n ≡ o → weighs m data_of (data_of_file m) (node_of m n o) ≡ data_of_file m n
+  data_each n None at = sym (stored_all m n 16624 ∙ stored_nothing m n 0 16624 (λ i le lt. nothing_stored m n is at i))
+  data_each n (Some h) at = (costs n h at).blocks
+
+  meta_each : (n : ℕ) (o : Option Header) → m.header n ≡ o → weighs m meta_of (meta_of_file m) (node_of m n o) ≡ meta_of_file m n
+  meta_each n None at = sym (ap (λ (o : Option Header). elim o [ None ↦ 0 | Some h ↦ 1 + pointers (stored_blocks m n) ]) at)
+  meta_each n (Some h) at = (costs n h at).above ∙ sym (ap (λ (o : Option Header). elim o [ None ↦ 0 | Some h ↦ 1 + pointers (stored_blocks m n) ]) at)
+
+pub totals_of_tree : TotalsOfTree
+totals_of_tree m is long formed = (
+  tree_sum m data_of (data_of_file m) (λ n. data_each m is long formed n (m.header n) refl),
+  tree_sum m meta_of (meta_of_file m) (λ n. meta_each m is long formed n (m.header n) refl),
+)

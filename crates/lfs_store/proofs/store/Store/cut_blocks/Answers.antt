@@ -1,0 +1,15 @@
+use Rattle.std.specs.Prelude.{IfErr}
+use Rattle.std.proofs.Common.{rules, ◌≡◌, subst}
+use Rattle.lfs_log.specs.Held.{Held, IsReadFault}
+use Rattle.lfs_store.specs.declared.fault.StoreFault.{StoreFault}
+use Rattle.lfs_store.specs.declared.fault.StoreFault.TheVariants.{NoMemory}
+use Rattle.lfs_store.proofs.Cuttings.{cuts_even}
+use Rattle.lfs_store.proofs.store.Store.cut_blocks.Goals as goal
+
+pub returns-then-len-eq0-clause-done : goal.returns-then-len-eq0-clause-done
+returns-then-len-eq0-clause-done g c =
+    cuts_even g.D.SectorDevice.state c.args.self.now.log c.lose_blocks.new.self.log c.lose_blocks.new.self.draft.changes c.args.number c.args.len (search rules) c.lose_blocks.ensures.draft
+
+pub returns-clause-failed : goal.returns-clause-failed
+returns-clause-failed g c =
+    subst (λ (log : Held _). IfErr c.cut_last.result (λ (fault : StoreFault). (fault ≡ NoMemory → ⊥) → IsReadFault g.D.SectorDevice.state log c.cut_last.new.self.log)) c.lose_blocks.ensures.log c.cut_last.ensures.failed

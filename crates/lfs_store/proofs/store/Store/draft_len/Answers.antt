@@ -1,0 +1,19 @@
+use Rattle.std.proofs.Common.{rules, subst, sym}
+use Rattle.lfs_memory.proofs.Going.{ok_then}
+use Rattle.lfs_log.specs.Held.{Held}
+use Rattle.lfs_store.specs.Writing.{SetsLen}
+use Rattle.lfs_store.proofs.Cuttings.{sets_shorter, sets_longer}
+use Rattle.lfs_store.proofs.store.Store.draft_len.Goals as goal
+
+pub returns-then-header-len-clause-done : goal.returns-then-header-len-clause-done
+returns-then-header-len-clause-done g c =
+    ok_then c.resize.result _ _
+    (λ puts. sets_longer g.D.SectorDevice.state c.args.self.now.log c.resize.new.self.log c.args.self.now.draft.changes c.resize.new.self.draft.changes c.args.number c.args.header c.args.len (search rules) c.requires.empty puts)
+    c.resize.ensures.done
+
+pub returns-clause-done : goal.returns-clause-done
+returns-clause-done g c =
+    ok_then c.resize-2.result _ _
+    (λ puts. subst (λ (log : Held _). SetsLen g.D.SectorDevice.state c.args.self.now.log log c.resize-2.new.self.draft.changes c.args.number c.args.header c.args.len) (sym c.resize-2.ensures.log)
+    (sets_shorter g.D.SectorDevice.state c.args.self.now.log c.cut_blocks.new.self.log c.cut_blocks.new.self.draft.changes c.resize-2.new.self.draft.changes c.args.number c.args.header c.args.len (search rules) c.in_ok-cut_blocks.ensures.done puts))
+    c.resize-2.ensures.done

@@ -1,0 +1,62 @@
+use Rattle.std.proofs.Common.{◌≡◌, ◌∙◌, refl, rules, ℕ, sym, subst}
+use Rattle.lfs_log.specs.Held.{Held, IsReadFault}
+use Rattle.std.specs.Prelude.{Result, Err, IfErr}
+use Rattle.lfs_store.specs.declared.fault.StoreFault.{StoreFault}
+use Rattle.lfs_store.specs.declared.fault.StoreFault.TheVariants.{NoMemory}
+use Rattle.lfs_memory.proofs.Going.{ok_then}
+use Rattle.lfs_store.specs.Drafting.{PutsHeader}
+use Rattle.lfs_store.specs.Writing.{Writes, resized}
+use Rattle.lfs_store.proofs.LogReads.{reads_none, fault_more}
+use Rattle.lfs_store.proofs.Writings.{written_none, written_more, written}
+use Rattle.lfs_store.proofs.store.Store.draft_write.Goals as goal
+
+pub loop-index-init : goal.loop-index-init
+loop-index-init g c = (
+  written_none g.D.SectorDevice.state c.args.self.now.log c.args.self.now.draft.changes c.args.number c.args.at c.args.bytes.now (reads_none g.D.SectorDevice.state c.args.self.now.log),
+  refl,
+  refl,
+  refl,
+)
+
+pub returns-in_err-write_block-clause-failed : goal.returns-in_err-write_block-clause-failed
+returns-in_err-write_block-clause-failed g c =
+    let failed : (c.in_err-write_block.field-0.0 ≡ NoMemory → ⊥) → IsReadFault g.D.SectorDevice.state c.args.self.now.log c.write_block.new.self.log =
+    λ other. fault_more g.D.SectorDevice.state c.args.self.now.log c.loop-index.self.log c.write_block.new.self.log c.loop-index.invariant.0.reads (c.in_err-write_block.ensures.failed other)
+    in
+    let is : c.from_residual.result ≡ Err c.in_err-write_block.field-0.0 = search rules in
+    subst (λ (r : Result Unit StoreFault). IfErr r (λ (fault : StoreFault). (fault ≡ NoMemory → ⊥) → IsReadFault g.D.SectorDevice.state c.args.self.now.log c.write_block.new.self.log)) (sym is) failed
+
+pub loop-index-preserved : goal.loop-index-preserved
+loop-index-preserved g c = (
+  written_more g.D.SectorDevice.state c.args.self.now.log c.loop-index.self.log c.write_block.new.self.log c.args.self.now.draft.changes c.loop-index.self.draft.changes c.write_block.new.self.draft.changes
+      c.args.number c.args.at c.args.bytes.now c.loop-index.index (g.met.D.SectorDevice.lawful c.args.self.now.log.device) (search rules) c.loop-index.invariant.0 c.write_block.ensures.reads c.in_ok-write_block.ensures.done,
+  c.write_block.ensures.saved ∙ c.loop-index.invariant.1,
+  c.write_block.ensures.totals ∙ c.loop-index.invariant.2,
+  c.write_block.ensures.drafted ∙ c.loop-index.invariant.3,
+)
+
+pub returns-clause-done : goal.returns-clause-done
+returns-clause-done g c =
+    ok_then c.resize.result _ _
+    (λ puts. subst (λ (log : Held _). Writes g.D.SectorDevice.state c.args.self.now.log log c.args.self.now.draft.changes c.resize.new.self.draft.changes c.args.number c.args.header c.args.at c.args.bytes.now) (sym c.resize.ensures.log)
+    (written g.D.SectorDevice.state c.args.self.now.log c.loop-index.self.log c.args.self.now.draft.changes c.loop-index.self.draft.changes c.resize.new.self.draft.changes
+    c.args.number c.args.header c.args.at c.args.bytes.now c.loop-index.index c.requires.bytes (search rules) (search rules) c.loop-index.invariant.0
+    (subst (λ (size : ℕ). PutsHeader c.loop-index.self.draft.changes c.resize.new.self.draft.changes c.args.number (resized c.args.header size)) (search rules) puts))) c.resize.ensures.done
+
+pub returns-in_err-write_block-clause-saved : goal.returns-in_err-write_block-clause-saved
+returns-in_err-write_block-clause-saved g c = c.write_block.ensures.saved ∙ c.loop-index.invariant.1
+
+pub returns-clause-saved : goal.returns-clause-saved
+returns-clause-saved g c = c.resize.ensures.saved ∙ c.loop-index.invariant.1
+
+pub returns-in_err-write_block-clause-totals : goal.returns-in_err-write_block-clause-totals
+returns-in_err-write_block-clause-totals g c = c.write_block.ensures.totals ∙ c.loop-index.invariant.2
+
+pub returns-clause-totals : goal.returns-clause-totals
+returns-clause-totals g c = c.resize.ensures.totals ∙ c.loop-index.invariant.2
+
+pub returns-in_err-write_block-clause-drafted : goal.returns-in_err-write_block-clause-drafted
+returns-in_err-write_block-clause-drafted g c = c.write_block.ensures.drafted ∙ c.loop-index.invariant.3
+
+pub returns-clause-drafted : goal.returns-clause-drafted
+returns-clause-drafted g c = c.resize.ensures.drafted ∙ c.loop-index.invariant.3

@@ -1,0 +1,10 @@
+use Rattle.std.proofs.Common.{◌≡◌}
+use Rattle.lfs_store.proofs.Writings.{WrittenUpTo}
+use Rattle.lfs_store.proofs.store.Store.draft_write.Given as goal
+
+abbrev pub invariant-loop-index : goal.invariant-loop-index
+invariant-loop-index g l =
+    WrittenUpTo g.D.SectorDevice.state l.initial.self.log l.self.log l.initial.self.draft.changes l.self.draft.changes l.number l.at l.bytes l.index
+    × (l.self.saved ≡ l.initial.self.saved)
+    × (l.self.totals ≡ l.initial.self.totals)
+    × (l.self.drafted ≡ l.initial.self.drafted)

@@ -1,0 +1,99 @@
+-- A store over its log: what it holds from a mount on, as drafts are staged and commits save them.
+use Rattle.std.specs.Prelude.{◌≡◌, ◌⊎◌, ◌<◌, ◌≤◌, ◌+◌, ◌/◌, ℕ, Bool, true, false, cond, length}
+use Rattle.lfs_model.specs.Checkpoint.{CheckpointValue}
+use Rattle.lfs_model.specs.Crash.{StandsOn}
+use Rattle.lfs_model.specs.Device.{DeviceState, Carries, LeavesOnly, AllLeft}
+use Rattle.lfs_model.specs.Encodes.{IsLogMap}
+use Rattle.lfs_model.specs.Memory.{is_nameless}
+use Rattle.lfs_model.specs.Stands.{LogMap, StandsLog}
+use Rattle.lfs_model.specs.TreeOf.{dropped}
+use Rattle.lfs_memory.specs.declared.changes.Changes.{Changes}
+use Rattle.lfs_memory.specs.Batch.{staged, FitsBatch}
+use Rattle.lfs_memory.specs.Removing.{without_file}
+use Rattle.lfs_segments.specs.Table.{clean_in}
+use Rattle.lfs_log.specs.Held.{Held, Holds, IsSaved}
+
+-- enough segments are clean for a commit
+abbrev pub HasClean : {D : Type 0} → Held D → Type 0
+HasClean h = length h.memory.usage.segments / 8 + 8 ≤ clean_in h.memory.usage.segments
+
+-- At most one checkpoint is written, and where there was room for what isn't saved there still is.
+pub record SavesOnce {D : Type 0} (h : Held D) (saved : Bool) (h' : Held D) (saved' : Bool) : Type 0 where
+  pub number : h.number ≤ h'.number
+  pub once : h'.number ≤ h.number + 1
+  pub ready : (saved ≡ false → HasClean h) → saved' ≡ false → HasClean h'
+
+module _ {D : Type 0} (state : D → DeviceState) where
+  -- The store has log map m over the acknowledged m0: its log holds them, and where it is saved, m0 is m without its files of no links.
+  pub record Stores (h : Held D) (saved : Bool) (k : CheckpointValue) (m0 m : LogMap) : Type 0 where
+    pub holds : Holds state h k m0 m
+    pub nothing_new : saved ≡ true → m0 ≡ dropped m
+
+  -- a mount gives the log map that the device stands for, which is saved
+  abbrev pub MountsStore : D → Held D → Bool → Type 0
+  MountsStore d h saved = (m : LogMap) → (state h.device).keeps_model → (is : StandsLog (state d).content m) → Stores h saved is.checkpoint m m
+
+  -- a stop at any moment leaves what was acknowledged, or the map of the store without its files of no links, on the same segments
+  abbrev pub LeavesEither : Held D → Bool → Held D → Type 0
+  LeavesEither h saved h' = (k : CheckpointValue) (m0 m : LogMap) → (state h'.device).keeps_model → Stores h saved k m0 m → IsLogMap (dropped m)
+      → LeavesOnly (state h.device) (state h'.device) (IsSaved state k.segments m0 m)
+
+  -- A commit: what the store has, without its files of no links, is acknowledged. Where it was saved nothing happens.
+  pub record Commits (h : Held D) (saved : Bool) (h' : Held D) : Type 0 where
+    pub carries : Carries (state h.device) (state h'.device)
+    pub was_running : h.halted ≡ false
+    pub running : h'.halted ≡ false
+    pub number : h'.number ≡ cond saved h.number (h.number + 1)
+    pub segments : length h'.memory.usage.segments ≡ length h.memory.usage.segments
+    pub clean : clean_in h.memory.usage.segments ≤ clean_in h'.memory.usage.segments + 8
+    pub no_failure : (state h'.device).failures ≡ (state h.device).failures
+    pub stores : (k : CheckpointValue) (m0 m : LogMap) → (state h'.device).keeps_model → Stores h saved k m0 m → IsLogMap (dropped m) → (next : CheckpointValue) × Stores h' true next (dropped m) m
+    pub left : (k : CheckpointValue) (m0 m : LogMap) → (state h'.device).keeps_model → Stores h saved k m0 m → IsLogMap (dropped m) → AllLeft (state h'.device) (λ c. StandsOn k.segments c (dropped m))
+    pub moment : LeavesEither h saved h'
+
+  -- The store has log map m' now: over what was acknowledged before, m0, or over m without its files of no links, if a commit came. It has N segments still.
+  pub record StoresOver (N : ℕ) (m0 m : LogMap) (h : Held D) (saved : Bool) (m' : LogMap) : Type 0 where
+    pub checkpoint : CheckpointValue
+    pub acknowledged : LogMap
+    pub either : (acknowledged ≡ m0) ⊎ (acknowledged ≡ dropped m)
+    pub segments : checkpoint.segments ≡ N
+    pub stores : Stores h saved checkpoint acknowledged m'
+
+  -- Room for a draft is made by a commit, or was there.
+  pub record MakesRoom (h : Held D) (saved : Bool) (h' : Held D) (saved' : Bool) : Type 0 where
+    pub carries : Carries (state h.device) (state h'.device)
+    pub halted : h'.halted ≡ h.halted
+    pub segments : length h'.memory.usage.segments ≡ length h.memory.usage.segments
+    pub no_failure : (state h'.device).failures ≡ (state h.device).failures
+    pub once : SavesOnce h saved h' saved'
+    pub stores : (k : CheckpointValue) (m0 m : LogMap) → (state h'.device).keeps_model → Stores h saved k m0 m → IsLogMap (dropped m) → StoresOver k.segments m0 m h' saved' m
+    pub moment : LeavesEither h saved h'
+
+  -- A draft is staged: the store has the log map with all its changes, and enough segments are clean for a commit.
+  pub record Accepts (h : Held D) (saved : Bool) (h' : Held D) (saved' : Bool) (c : Changes) : Type 0 where
+    pub carries : Carries (state h.device) (state h'.device)
+    pub halted : h'.halted ≡ h.halted
+    pub segments : length h'.memory.usage.segments ≡ length h.memory.usage.segments
+    pub enough : HasClean h'
+    pub unsaved : saved' ≡ false
+    pub once : SavesOnce h saved h' saved'
+    pub stores : (k : CheckpointValue) (m0 m : LogMap) → (state h'.device).keeps_model → Stores h saved k m0 m → FitsBatch m c → IsLogMap (dropped m) → StoresOver k.segments m0 m h' saved' (staged c m)
+    pub moment : LeavesEither h saved h'
+
+  -- Or it isn't: the store has the log map that it had.
+  pub record Declines (h : Held D) (saved : Bool) (h' : Held D) (saved' : Bool) (c : Changes) : Type 0 where
+    pub carries : Carries (state h.device) (state h'.device)
+    pub halted : h'.halted ≡ h.halted
+    pub segments : length h'.memory.usage.segments ≡ length h.memory.usage.segments
+    pub once : SavesOnce h saved h' saved'
+    pub stores : (k : CheckpointValue) (m0 m : LogMap) → (state h'.device).keeps_model → Stores h saved k m0 m → FitsBatch m c → IsLogMap (dropped m) → StoresOver k.segments m0 m h' saved' m
+    pub moment : LeavesEither h saved h'
+
+  -- a call of the device failed, where the store has a log map that the draft fits
+  abbrev pub IsAcceptFault : Held D → Bool → Held D → Changes → Type 0
+  IsAcceptFault h saved h' c = (k : CheckpointValue) (m0 m : LogMap) → (state h'.device).keeps_model → Stores h saved k m0 m → FitsBatch m c → IsLogMap (dropped m)
+      → (state h.device).failures < (state h'.device).failures
+
+  -- A file without a name goes at once: what is acknowledged is as it was.
+  abbrev pub Forgets : Held D → Bool → Held D → ℕ → Type 0
+  Forgets h saved h' n = (k : CheckpointValue) (m0 m : LogMap) → (state h'.device).keeps_model → Stores h saved k m0 m → is_nameless m n ≡ true → Stores h' saved k m0 (without_file n m)

@@ -1,0 +1,9 @@
+pub mod Drafting
+pub mod Reading
+pub mod Pieces
+pub mod Writing
+pub mod Making
+pub mod Accepting
+pub mod Totals
+pub mod Measuring
+pub mod Recounting

@@ -1,0 +1,80 @@
+-- What is counted of a draft over a log.
+use Rattle.std.specs.Prelude.{◌≡◌, ◌<◌, ◌≤◌, ◌+◌, ◌-◌, ◌*◌, ℕ, Bool, false, length, filter, Option, Some, None}
+use Rattle.std.specs.List.{range_with_len}
+use Rattle.lfs_model.specs.Checkpoint.{CheckpointValue}
+use Rattle.lfs_model.specs.Device.{DeviceState}
+use Rattle.lfs_model.specs.Encodes.{IsLogMap}
+use Rattle.lfs_model.specs.Need.{pointers}
+use Rattle.lfs_model.specs.Objects.{is_stored, has_leaf, stored_blocks}
+use Rattle.lfs_model.specs.Stands.{LogMap}
+use Rattle.lfs_memory.specs.declared.batch.BlockEdit.{BlockEdit}
+use Rattle.lfs_memory.specs.declared.batch.Loss.{Loss}
+use Rattle.lfs_memory.specs.declared.changes.Changes.{Changes}
+use Rattle.lfs_memory.specs.Batch.{staged}
+use Rattle.lfs_log.specs.Held.{Held, Holds}
+use Rattle.lfs_store.specs.declared.totals.Measure.{Measure}
+use Rattle.lfs_store.specs.declared.totals.Totals.{Totals}
+use Rattle.lfs_store.specs.Reading.{KeepsBlock}
+use Rattle.lfs_store.specs.Totals.{stored_in, HasMeasure, IsCounted}
+
+-- ---- a draft
+
+-- whether block i of file n is stored after it; None: the block stays
+abbrev pub SaysStored : Changes → ℕ → ℕ → Option Bool → Type 0
+SaysStored c n i None = (m : LogMap) → (staged c m).block n i ≡ m.block n i
+SaysStored c n i (Some found) = (m : LogMap) → is_stored (staged c m) n i ≡ found
+
+-- an index is one of leaf q: 112 to 239 are those of leaf 0, and so on
+abbrev pub IsInLeaf : ℕ → ℕ → Type 0
+IsInLeaf q i = (112 + 128 * q ≤ i) × (i < 240 + 128 * q)
+
+-- an edit is none of a block of leaf q of file n
+abbrev pub IsOffLeaf : ℕ → ℕ → BlockEdit → Type 0
+IsOffLeaf n q e = e.number ≡ n → IsInLeaf q e.index → ⊥
+
+-- a loss takes none of the blocks of leaf q of file n
+abbrev pub KeepsLeaf : Loss → ℕ → ℕ → Type 0
+KeepsLeaf x n q = (i : ℕ) → IsInLeaf q i → KeepsBlock x n i
+
+-- after a draft they are as they were
+abbrev pub LeavesLeaf : Changes → ℕ → ℕ → Type 0
+LeavesLeaf c n q = (i : ℕ) → IsInLeaf q i → (m : LogMap) → (staged c m).block n i ≡ m.block n i
+
+-- ---- over a log: what is counted is the log map that it holds, after the draft
+
+-- how many leaves of pointers of file n, from..to, are stored
+unfoldable pub leaves_in : LogMap → ℕ → ℕ → ℕ → ℕ
+leaves_in m n from to = length (filter (has_leaf m n) (range_with_len from (to - from)))
+
+-- file n has no block from a size on
+abbrev pub EndsBy : LogMap → ℕ → ℕ → Type 0
+EndsBy m n size = (i : ℕ) → size ≤ 512 * i → is_stored m n i ≡ false
+
+module _ {D : Type 0} (state : D → DeviceState) where
+  -- whether block i of file n is stored
+  abbrev pub TellsStored : Held D → Held D → Changes → ℕ → ℕ → Bool → Type 0
+  TellsStored h h' c n i found = (k : CheckpointValue) (m0 m : LogMap) → (state h'.device).keeps_model → Holds state h k m0 m → is_stored (staged c m) n i ≡ found
+
+  -- whether a block below its leaf q of pointers is
+  abbrev pub TellsLeaf : Held D → Held D → Changes → ℕ → ℕ → Bool → Type 0
+  TellsLeaf h h' c n q found = (k : CheckpointValue) (m0 m : LogMap) → (state h'.device).keeps_model → Holds state h k m0 m → has_leaf (staged c m) n q ≡ found
+
+  -- how many of its blocks from..to are
+  abbrev pub CountsStored : Held D → Held D → Changes → ℕ → ℕ → ℕ → ℕ → Type 0
+  CountsStored h h' c n from to count = (k : CheckpointValue) (m0 m : LogMap) → (state h'.device).keeps_model → Holds state h k m0 m → stored_in (staged c m) n from to ≡ count
+
+  -- how many of its leaves from..to are
+  abbrev pub CountsLeaves : Held D → Held D → Changes → ℕ → ℕ → ℕ → ℕ → Type 0
+  CountsLeaves h h' c n from to count = (k : CheckpointValue) (m0 m : LogMap) → (state h'.device).keeps_model → Holds state h k m0 m → leaves_in (staged c m) n from to ≡ count
+
+  -- its blocks of pointers, where it has no block from a size on
+  abbrev pub CountsPointers : Held D → Held D → Changes → ℕ → ℕ → ℕ → Type 0
+  CountsPointers h h' c n size count = (k : CheckpointValue) (m0 m : LogMap) → (state h'.device).keeps_model → Holds state h k m0 m → EndsBy (staged c m) n size → pointers (stored_blocks (staged c m) n) ≡ count
+
+  -- the blocks of file n: its data blocks from..to, and its inode and blocks of pointers
+  abbrev pub Measures : Held D → Held D → Changes → ℕ → ℕ → ℕ → Measure → Type 0
+  Measures h h' c n from to found = (k : CheckpointValue) (m0 m : LogMap) → (state h'.device).keeps_model → Holds state h k m0 m → IsLogMap (staged c m) → HasMeasure (staged c m) n from to found.data_blocks found.meta_blocks
+
+  -- those of all files
+  abbrev pub CountsFiles : Held D → Held D → Changes → Totals → Type 0
+  CountsFiles h h' c found = (k : CheckpointValue) (m0 m : LogMap) → (state h'.device).keeps_model → Holds state h k m0 m → IsLogMap (staged c m) → IsCounted (staged c m) found.data_blocks found.meta_blocks

@@ -1,0 +1,139 @@
+-- Bytes laid over the blocks of a file, cut off them, and read out of them, one block after the other.
+use Rattle.std.specs.Prelude.{◌≡◌, ◌<◌, ◌≤◌, ℕ, ◌+◌, ◌-◌, ◌*◌, ◌/◌, ◌%◌, max, min, List, [], ◌++◌, length, take, drop, Option, slice_index}
+use Rattle.lfs_model.specs.Bytes.{part}
+use Rattle.lfs_model.specs.Changing.{IsWithBlock, IsWithHeader}
+use Rattle.lfs_model.specs.Entry.{Header}
+use Rattle.lfs_model.specs.Objects.{byte_in, Overlays, IsChangedAt, AreWhole, WritesBytes, CutsBytes}
+use Rattle.lfs_model.specs.Stands.{LogMap}
+use Rattle.lfs_model.specs.TreeOf.{object}
+use Rattle.lfs_memory.specs.Changing.{stored}
+use Rattle.lfs_memory.specs.Cutting.{cut_from}
+
+-- ---- one block
+
+-- where a place of a file lies in its block at an index: 0 where it lies before, 512 where it lies behind
+abbrev pub place_in_block : ℕ → ℕ → ℕ
+place_in_block at index = min (at - 512 * index) 512
+
+-- those of the bytes w, which begin at a place of a file, that lie in its block at an index
+abbrev pub piece : ℕ → List ℕ → ℕ → List ℕ
+piece at w index = take (512 - place_in_block at index) (drop (512 * index - at) w)
+
+-- the bytes between two places of a file that lie in its block at an index
+abbrev pub part_of_block : ℕ → ℕ → ℕ → List ℕ → List ℕ
+part_of_block from to index block = part block (place_in_block from index) (place_in_block to index - place_in_block from index)
+
+-- a block of a file at an index, with the bytes w laid over the file from a place on
+pub record BlockOverlays (at : ℕ) (w : List ℕ) (index : ℕ) (old new : List ℕ) : Type 0 where
+  pub fits : place_in_block at index + length (piece at w index) ≤ 512
+  pub laid : Overlays (place_in_block at index) (piece at w index) (slice_index old) (slice_index new)
+
+-- a block with zeros from a place on
+pub record CutsTail (from : ℕ) (old new : List ℕ) : Type 0 where
+  pub before : (k : ℕ) → k < from → slice_index new k ≡ slice_index old k
+  pub zeros : (k : ℕ) → from ≤ k → slice_index new k ≡ 0
+
+-- the bytes are those of a file's block, zeros where it isn't stored
+pub record HoldsBlock (m : LogMap) (n index : ℕ) (block : List ℕ) : Type 0 where
+  pub long : length block ≡ 512
+  pub bytes : (k : ℕ) → slice_index block k ≡ slice_index (m.block n index) k
+
+-- ---- reading
+
+-- what is out of the bytes between two places of file n when its blocks below an index were read
+pub record PartSoFar (m : LogMap) (n from to index : ℕ) (out : List ℕ) : Type 0 where
+  pub long : length out ≡ min to (512 * index) - from
+  pub bytes : (j : ℕ) → j < length out → slice_index out j ≡ byte_in m n (from + j)
+
+-- Before the first block it is nothing.
+abbrev pub PartBegins : Type 0
+PartBegins = (m : LogMap) (n from to : ℕ) → PartSoFar m n from to (from / 512) []
+
+-- A block adds the bytes that lie in it.
+abbrev pub PartGoesOn : Type 0
+PartGoesOn = (m : LogMap) (n from to index : ℕ) (out block : List ℕ) → from ≤ to → PartSoFar m n from to index out → HoldsBlock m n index block
+    → PartSoFar m n from to (index + 1) (out ++ part_of_block from to index block)
+
+-- With the last block it is the part of the object.
+abbrev pub PartEnds : Type 0
+PartEnds = (m : LogMap) (n : ℕ) (h : Header) (from to index : ℕ) (out : List ℕ) → to ≤ h.size → to ≤ 512 * index → PartSoFar m n from to index out
+    → out ≡ part (object m n h) from (to - from)
+
+-- So it is what is read of count bytes at o, where from and to are cut to the object.
+abbrev pub PartRead : Type 0
+PartRead = (m : LogMap) (n : ℕ) (h : Header) (o count index : ℕ) (out : List ℕ) → min (o + count) h.size ≤ 512 * index
+    → PartSoFar m n (min o h.size) (min (o + count) h.size) index out → out ≡ part (object m n h) o count
+
+-- ---- writing
+
+-- file n with w laid over it from a place on, in its blocks below an index; its other blocks, and all other files, are as they were
+pub record WriteSoFar (m m' : LogMap) (n at : ℕ) (w : List ℕ) (index : ℕ) : Type 0 where
+  pub before : (p : ℕ) → p < at → byte_in m' n p ≡ byte_in m n p
+  pub inside : (j : ℕ) → j < length w → at + j < 512 * index → byte_in m' n (at + j) ≡ slice_index w j
+  pub behind : (p : ℕ) → at + length w ≤ p → byte_in m' n p ≡ byte_in m n p
+  pub rest : (i : ℕ) → index ≤ i → m'.block n i ≡ m.block n i
+  pub only : IsChangedAt m n m'
+  pub whole : AreWhole m n → AreWhole m' n
+
+-- Before the first block nothing is laid over.
+abbrev pub WriteBegins : Type 0
+WriteBegins = (m : LogMap) (n at : ℕ) (w : List ℕ) → WriteSoFar m m n at w (at / 512)
+
+-- A block with its piece laid over is stored, or isn't where it is zeros alone.
+abbrev pub WriteGoesOn : Type 0
+WriteGoesOn = (m m' m'' : LogMap) (n at index : ℕ) (w old new : List ℕ) → WriteSoFar m m' n at w index → HoldsBlock m' n index old
+    → BlockOverlays at w index old new → length new ≡ 512 → IsWithBlock m' n index (stored new) m'' → WriteSoFar m m'' n at w (index + 1)
+
+-- The file may get another header at any time.
+abbrev pub WriteHeads : Type 0
+WriteHeads = (m m' m'' : LogMap) (n at index : ℕ) (w : List ℕ) (h : Option Header) → WriteSoFar m m' n at w index → IsWithHeader m' n h m'' → WriteSoFar m m'' n at w index
+
+-- With the last block the bytes are written.
+abbrev pub WriteIsDone : Type 0
+WriteIsDone = (m m' : LogMap) (n at index : ℕ) (w : List ℕ) (h h' : Header) → WriteSoFar m m' n at w index → at + length w ≤ 512 * index → 0 < length w
+    → h'.size ≡ max h.size (at + length w) → WritesBytes m m' n h h' at w
+
+-- ---- cutting
+
+-- file n without its blocks from one on; all other files are as they were
+pub record CutSoFar (m m' : LogMap) (n first : ℕ) : Type 0 where
+  pub below : (i : ℕ) → i < first → m'.block n i ≡ m.block n i
+  pub gone : (i : ℕ) → first ≤ i → m'.block n i ≡ []
+  pub only : IsChangedAt m n m'
+  pub whole : AreWhole m n → AreWhole m' n
+
+-- file n with blocks that end at a length, whatever its header says; all other files are as they were
+pub record CutBlocks (m m' : LogMap) (n len : ℕ) : Type 0 where
+  pub below : (i : ℕ) → 512 * i + 512 ≤ len → m'.block n i ≡ m.block n i
+  pub last : (k : ℕ) → k < len % 512 → slice_index (m'.block n (len / 512)) k ≡ slice_index (m.block n (len / 512)) k
+  pub zeros : (k : ℕ) → len % 512 ≤ k → slice_index (m'.block n (len / 512)) k ≡ 0
+  pub gone : (i : ℕ) → len ≤ 512 * i → m'.block n i ≡ []
+  pub only : IsChangedAt m n m'
+  pub whole : AreWhole m n → AreWhole m' n
+
+abbrev pub CutBegins : Type 0
+CutBegins = (m : LogMap) (n first : ℕ) → CutSoFar m (cut_from n first m) n first
+
+-- The file may get another header before its last block is cut, and after.
+abbrev pub CutHeads : Type 0
+CutHeads = (m m' m'' : LogMap) (n first : ℕ) (h : Option Header) → CutSoFar m m' n first → IsWithHeader m' n h m'' → CutSoFar m m'' n first
+
+abbrev pub CutBlocksHeads : Type 0
+CutBlocksHeads = (m m' m'' : LogMap) (n len : ℕ) (h : Option Header) → CutBlocks m m' n len → IsWithHeader m' n h m'' → CutBlocks m m'' n len
+
+-- A length of whole blocks cuts none of them,
+abbrev pub CutBetween : Type 0
+CutBetween = (m m' : LogMap) (n len : ℕ) → len % 512 ≡ 0 → CutSoFar m m' n (len / 512) → CutBlocks m m' n len
+
+-- another one cuts the last,
+abbrev pub CutInside : Type 0
+CutInside = (m m' m'' : LogMap) (n len : ℕ) (old new : List ℕ) → 0 < len % 512 → CutSoFar m m' n (len / 512 + 1) → HoldsBlock m' n (len / 512) old
+    → CutsTail (len % 512) old new → length new ≡ 512 → IsWithBlock m' n (len / 512) (stored new) m'' → CutBlocks m m'' n len
+
+-- or finds that it isn't stored.
+abbrev pub CutNone : Type 0
+CutNone = (m m' : LogMap) (n len : ℕ) → 0 < len % 512 → CutSoFar m m' n (len / 512 + 1) → m'.block n (len / 512) ≡ [] → CutBlocks m m' n len
+
+-- With a header of that size the file is cut.
+abbrev pub CutIsDone : Type 0
+CutIsDone = (m m' : LogMap) (n len : ℕ) (h h' : Header) → CutBlocks m m' n len → h'.size ≡ len → CutsBytes m m' n h h' len

@@ -1,0 +1,103 @@
+-- Bytes written to a file and cut off it, in a draft over a log.
+use Rattle.std.specs.Prelude.{◌≡◌, ◌⊎◌, ◌<◌, ◌≤◌, ◌+◌, ◌-◌, ◌/◌, ℕ, max, List, [], length, Some, None}
+use Rattle.std.specs.Int.{div_ceil}
+use Rattle.lfs_model.specs.Checkpoint.{CheckpointValue}
+use Rattle.lfs_model.specs.Device.{DeviceState}
+use Rattle.lfs_model.specs.Encodes.{IsLogMap, HasInode}
+use Rattle.lfs_model.specs.Objects.{IsChangedAt, AreWhole, WritesBytes, CutsBytes}
+use Rattle.lfs_model.specs.Stands.{LogMap}
+use Rattle.lfs_memory.specs.declared.batch.Cut.{Cut}
+use Rattle.lfs_memory.specs.declared.batch.Loss.{Loss}
+use Rattle.lfs_memory.specs.declared.batch.Loss.TheVariants.{Nothing, Blocks}
+use Rattle.lfs_memory.specs.declared.changes.Changes.{Changes}
+use Rattle.lfs_memory.specs.declared.header.Header.{Header}
+use Rattle.lfs_memory.specs.Batch.{staged, FitsBatch}
+use Rattle.lfs_memory.specs.Changing.{FitsHeader}
+use Rattle.lfs_memory.specs.Present.{as_header}
+use Rattle.lfs_log.specs.Held.{Held, Holds}
+use Rattle.lfs_store.specs.Drafting.{IsApart, TakesBlock}
+use Rattle.lfs_store.specs.Pieces.{WriteSoFar, CutBlocks}
+
+-- the header of a file that has another size
+abbrev pub resized : Header → ℕ → Header
+resized h size = record { kind = h.kind; links = h.links; size = size }
+
+-- ---- writing
+
+-- File n with w laid over it from a place on, and its header; all other files are as they were.
+pub record WritesFile (m m' : LogMap) (n : ℕ) (h h' : Header) (at : ℕ) (w : List ℕ) : Type 0 where
+  pub bytes : WritesBytes m m' n (as_header h) (as_header h') at w
+  pub only : IsChangedAt m n m'
+  pub whole : AreWhole m n → AreWhole m' n
+  pub header : m'.header n ≡ Some (as_header h')
+
+-- The log map may be changed so: the file is there, and apart from what is lost; a file that the log map hasn't yet gets blocks below the 113th alone.
+pub record TakesWrite (c : Changes) (m : LogMap) (n : ℕ) (h : Header) (at : ℕ) (w : List ℕ) : Type 0 where
+  pub there : (staged c m).header n ≡ Some (as_header h)
+  pub apart : IsApart c.loss n
+  pub within : m.header n ≡ None → at + length w ≤ 57344
+  pub header : FitsHeader h.kind h.links (max h.size (at + length w))
+
+module _ {D : Type 0} (state : D → DeviceState) where
+  -- One block more has the bytes that lie in it.
+  pub record WritesBlock (h h' : Held D) (c c' : Changes) (n index at : ℕ) (w : List ℕ) : Type 0 where
+    pub few : length c'.blocks.items ≤ length c.blocks.items + 1
+    pub headers : c'.headers ≡ c.headers
+    pub loss : c'.loss ≡ c.loss
+    pub header : (m : LogMap) → (staged c' m).header n ≡ (staged c m).header n
+    pub others : (m : LogMap) (i : ℕ) → (i ≡ index → ⊥) → (staged c' m).block n i ≡ (staged c m).block n i
+    pub fits : (m : LogMap) → FitsBatch m c → TakesBlock c m n index → FitsBatch m c'
+    pub goes_on : (k : CheckpointValue) (m0 m a : LogMap) → (state h'.device).keeps_model → Holds state h k m0 m → WriteSoFar a (staged c m) n at w index → WriteSoFar a (staged c' m) n at w (index + 1)
+
+  -- All of them have.
+  pub record Writes (h h' : Held D) (c c' : Changes) (n : ℕ) (head : Header) (at : ℕ) (w : List ℕ) : Type 0 where
+    pub loss : c'.loss ≡ c.loss
+    pub headers : length c'.headers.items ≤ length c.headers.items + 1
+    pub blocks : length c'.blocks.items ≤ length c.blocks.items + (div_ceil (at + length w) 512 - at / 512)
+    pub around : (m : LogMap) (i : ℕ) → (i < at / 512) ⊎ (div_ceil (at + length w) 512 ≤ i) → (staged c' m).block n i ≡ (staged c m).block n i
+    pub fits : (m : LogMap) → FitsBatch m c → TakesWrite c m n head at w → FitsBatch m c'
+    pub file : (k : CheckpointValue) (m0 m : LogMap) → (state h'.device).keeps_model → Holds state h k m0 m
+        → WritesFile (staged c m) (staged c' m) n head (resized head (max head.size (at + length w))) at w
+
+-- ---- cutting
+
+-- the blocks of file n from one on go
+pub record LosesFrom (x : Loss) (n first : ℕ) : Type 0 where
+  pub cut : Cut
+  pub loss : x ≡ Blocks cut
+  pub number : cut.number ≡ n
+  pub start : cut.first ≡ first
+
+-- A draft that does no more than that.
+pub record DraftsCut (c : Changes) (n len : ℕ) : Type 0 where
+  pub lost : LosesFrom c.loss n (div_ceil len 512)
+  pub headers : c.headers.items ≡ []
+  pub blocks : c.blocks.items ≡ []
+
+-- File n with another size: cut, or made longer with its blocks as they were; all other files are as they were.
+pub record SizesFile (m m' : LogMap) (n : ℕ) (h h' : Header) (len : ℕ) : Type 0 where
+  pub shorter : len < h.size → CutsBytes m m' n (as_header h) (as_header h') len
+  pub longer : h.size ≤ len → IsLogMap m → m.header n ≡ Some (as_header h) → CutsBytes m m' n (as_header h) (as_header h') len
+  pub below : (i : ℕ) → i < len / 512 → m'.block n i ≡ m.block n i
+  pub only : IsChangedAt m n m'
+  pub whole : AreWhole m n → AreWhole m' n
+  pub header : m'.header n ≡ Some (as_header h')
+
+module _ {D : Type 0} (state : D → DeviceState) where
+  -- A draft that cuts the blocks of file n.
+  pub record CutsDraft (h h' : Held D) (c : Changes) (n len : ℕ) : Type 0 where
+    pub loss : LosesFrom c.loss n (div_ceil len 512)
+    pub headers : c.headers.items ≡ []
+    pub blocks : length c.blocks.items ≤ 1
+    pub header : (m : LogMap) → (staged c m).header n ≡ m.header n
+    pub fits : (m : LogMap) → HasInode m n → FitsBatch m c
+    pub file : (k : CheckpointValue) (m0 m : LogMap) → (state h'.device).keeps_model → Holds state h k m0 m → CutBlocks m (staged c m) n len
+
+  -- One that gives it another size.
+  pub record SetsLen (h h' : Held D) (c : Changes) (n : ℕ) (head : Header) (len : ℕ) : Type 0 where
+    pub lost : len < head.size → LosesFrom c.loss n (div_ceil len 512)
+    pub kept : head.size ≤ len → c.loss ≡ Nothing
+    pub headers : length c.headers.items ≤ 1
+    pub blocks : length c.blocks.items ≤ 1
+    pub fits : (m : LogMap) → m.header n ≡ Some (as_header head) → FitsHeader head.kind head.links len → FitsBatch m c
+    pub file : (k : CheckpointValue) (m0 m : LogMap) → (state h'.device).keeps_model → Holds state h k m0 m → SizesFile m (staged c m) n head (resized head len) len

@@ -1,0 +1,235 @@
+//! A store from its mount on: a draft is staged after room is made for it, and a commit saves what was staged.
+ghost use Rattle.std.specs.Prelude.{◌≡◌, ◌≢◌, ◌<◌, ◌≤◌, ◌+◌, ◌/◌, true, false, length, IfOk, IfErr, OnOk, OnErr, IsErrOf, ◌⊎◌, MatchResult, IsTrue, IsFalse};
+ghost use Rattle.lfs_model.specs.Device.{Only, IsUntouched, Carries, LeavesOnly};
+ghost use Rattle.lfs_segments.specs.Table.{clean_in};
+ghost use Rattle.lfs_log.specs.Opening.{IsOpenFault};
+ghost use Rattle.lfs_memory.specs.Batch.{IsNoChange, room_for};
+
+use crate::draft::Draft;
+use crate::store::Store;
+use crate::totals::NO_BLOCKS;
+use lfs_device::SectorDevice;
+use lfs_log::{Log, LogFault, MountFault};
+use std::alloc::Global;
+
+/// The most headers that one call changes.
+const MOST_HEADERS: usize = 4;
+
+/// The most blocks that one call changes: those of a write of 65,536 bytes, and of directories.
+const MOST_BLOCKS: usize = 140;
+
+impl<D: SectorDevice> Store<D> {
+    ghost use Rattle.lfs_log.specs.Held.{Halts, IsFull, Reads, IsReadFault};
+    ghost use Rattle.lfs_store.specs.Measuring.{CountsFiles};
+    ghost use Rattle.lfs_store.specs.Recounting.{MountsTotals};
+    ghost use Rattle.lfs_store.specs.Accepting.{MountsStore, Commits, MakesRoom, Accepts, Declines, IsAcceptFault};
+
+    /// The volume that the newest checkpoint of the device leads to, with its totals and an empty draft; else why there is none, and the
+    /// device. It writes nothing, and takes the memory that later calls need.
+    ///
+    /// # Errors
+    ///
+    /// `NoMemory` where memory is refused, `Device` where a call of the device failed; else the device holds no log map. Where it holds
+    /// none, `Device` may also say that a block can't be read.
+    pub fn open(alloc: Global, device: D) -> Result<Store<D>, (MountFault, D)>
+        ensures stores { IfOk result (λ s. MountsStore D.SectorDevice.state device s.log s.saved) }
+        ensures counts { IfOk result (λ s. MountsTotals D.SectorDevice.state device s.log s.totals) }
+        ensures drafted { IfOk result (λ s. s.drafted ≡ s.totals) }
+        ensures draft { IfOk result (λ s. IsNoChange s.draft.changes) }
+        ensures durable { IfOk result (λ s. (D.state s.log.device).keeps_model → Only (D.state device).content (D.state s.log.device)) }
+        ensures cause { IfErr result (λ e. (e.0 ≡ MountFault.NoMemory → ⊥) → IsOpenFault (D.state device) (D.state e.1)) }
+        ensures untouched { MatchResult result (λ s. IsUntouched (D.state device) (D.state s.log.device)) (λ e. IsUntouched (D.state device) (D.state e.1)) }
+        ensures carries { MatchResult result (λ s. Carries (D.state device) (D.state s.log.device)) (λ e. Carries (D.state device) (D.state e.1)) }
+        ensures any_moment { MatchResult result (λ s. LeavesOnly (D.state device) (D.state s.log.device) (D.state device).may_leave) (λ e. LeavesOnly (D.state device) (D.state e.1) (D.state device).may_leave) }
+    {
+        let Ok(draft) = Draft::new(alloc, MOST_HEADERS, MOST_BLOCKS) else {
+            return Err((MountFault::NoMemory, device));
+        };
+        let log = match Log::open(alloc, device) {
+            Ok(log) => log,
+            Err(fault) => return Err(fault),
+        };
+        let mut store = Store {
+            log,
+            draft,
+            saved: true,
+            totals: NO_BLOCKS,
+            drafted: NO_BLOCKS,
+        };
+        match store.count_all() {
+            Ok(()) => Ok(store),
+            Err(_) => Err((MountFault::Device, store.into_device())),
+        }
+    }
+
+    /// Counts all files, with the draft.
+    fn count_all(&mut self) -> Result<(), LogFault>
+        ensures reads { Reads D.SectorDevice.state self.old.log self.new.log }
+        ensures draft { self.new.draft ≡ self.old.draft }
+        ensures saved { self.new.saved ≡ self.old.saved }
+        ensures answer { OnOk result (CountsFiles D.SectorDevice.state self.old.log self.new.log self.old.draft.changes self.new.totals) }
+        ensures drafted { OnOk result (self.new.drafted ≡ self.new.totals) }
+        ensures failed { OnErr result (IsReadFault D.SectorDevice.state self.old.log self.new.log) }
+    {
+        let totals = match self.count_files() {
+            Ok(totals) => totals,
+            Err(fault) => return Err(fault),
+        };
+        self.totals = totals;
+        self.drafted = totals;
+        Ok(())
+    }
+
+    /// The device as it is; what wasn't saved is gone.
+    pub fn into_device(self) -> D
+        ensures { result ≡ self.log.device }
+    {
+        self.log.into_device()
+    }
+
+    /// Saves all that was staged, but for files without a name. The draft stays as it is.
+    ///
+    /// # Errors
+    ///
+    /// As those of `Log::commit`: `Full` where too few segments are clean: nothing changed. `Halted` where a call of the device failed,
+    /// here or in a commit before.
+    pub fn commit(&mut self) -> Result<(), LogFault>
+        ensures done { OnOk result (Commits D.SectorDevice.state self.old.log self.old.saved self.new.log) }
+        ensures saved { OnOk result (self.new.saved ≡ true) }
+        ensures same { OnErr result (self.new.saved ≡ self.old.saved) }
+        ensures draft { self.new.draft ≡ self.old.draft }
+        ensures totals { self.new.totals ≡ self.old.totals }
+        ensures drafted { self.new.drafted ≡ self.old.drafted }
+        ensures full { IsErrOf result LogFault.Full → (self.new.log ≡ self.old.log) × IsFull self.old.log }
+        ensures unsaved { IsErrOf result LogFault.Full → self.old.saved ≡ false }
+        ensures halted { IsErrOf result LogFault.Halted → self.old.log.halted ≢ true → Halts D.SectorDevice.state self.old.log self.new.log }
+        ensures still { self.old.log.halted ≡ true → (self.new.log ≡ self.old.log) × IsErrOf result LogFault.Halted }
+        ensures other { IsErrOf result LogFault.Device → ⊥ }
+    {
+        if self.log.is_halted() {
+            return Err(LogFault::Halted);
+        }
+        if self.saved {
+            return Ok(());
+        }
+        self.log.commit()?;
+        self.saved = true;
+        Ok(())
+    }
+
+    /// The draft is empty: what was drafted isn't done.
+    pub fn give_up(&mut self)
+        ensures draft { IsNoChange self.new.draft.changes }
+        ensures log { self.new.log ≡ self.old.log }
+        ensures saved { self.new.saved ≡ self.old.saved }
+        ensures totals { self.new.totals ≡ self.old.totals }
+        ensures drafted { self.new.drafted ≡ self.old.totals }
+    {
+        self.draft.changes.clear();
+        self.drafted = self.totals;
+    }
+
+    /// The draft is empty, and the totals are those with it if it is staged.
+    fn settle(&mut self, staged: bool)
+        ensures draft { IsNoChange self.new.draft.changes }
+        ensures log { self.new.log ≡ self.old.log }
+        ensures saved { self.new.saved ≡ self.old.saved }
+        ensures counted { IsTrue staged → self.new.totals ≡ self.old.drafted }
+        ensures kept { IsFalse staged → self.new.totals ≡ self.old.totals }
+        ensures drafted { self.new.drafted ≡ self.new.totals }
+    {
+        if staged {
+            self.totals = self.drafted;
+        }
+        self.give_up();
+    }
+
+    /// Whether so few segments are clean that a commit might find too few.
+    fn lacks_segments(&self) -> bool
+        ensures few { IsTrue result → IsFull self.now.log }
+        ensures enough { IsFalse result → length self.now.log.memory.usage.segments / 8 + 8 ≤ clean_in self.now.log.memory.usage.segments }
+    {
+        self.log.clean_segments() < self.log.segments() / 8 + 8
+    }
+
+    /// Whether memory has no room for the draft, or too few segments are clean.
+    fn is_tight(&self) -> bool
+        ensures room { IsFalse result → length self.now.log.memory.dirty.blocks + room_for self.now.draft.changes ≤ self.now.log.memory.dirty.capacity }
+        ensures enough { IsFalse result → length self.now.log.memory.usage.segments / 8 + 8 ≤ clean_in self.now.log.memory.usage.segments }
+    {
+        !self.log.has_room(&self.draft.changes) || self.lacks_segments()
+    }
+
+    /// Commits where there is no room for the draft.
+    fn make_room(&mut self) -> Result<(), LogFault>
+        ensures done { OnOk result (MakesRoom D.SectorDevice.state self.old.log self.old.saved self.new.log self.new.saved) }
+        ensures enough { OnOk result (length self.new.log.memory.usage.segments / 8 + 8 ≤ clean_in self.new.log.memory.usage.segments) }
+        ensures room { OnOk result (self.new.saved ≡ false → length self.new.log.memory.dirty.blocks + room_for self.new.draft.changes ≤ self.new.log.memory.dirty.capacity) }
+        ensures draft { self.new.draft ≡ self.old.draft }
+        ensures totals { self.new.totals ≡ self.old.totals }
+        ensures drafted { self.new.drafted ≡ self.old.drafted }
+        ensures full { IsErrOf result LogFault.Full → MakesRoom D.SectorDevice.state self.old.log self.old.saved self.new.log self.new.saved }
+        ensures lacks { IsErrOf result LogFault.Full → IsFull self.new.log }
+        ensures halted { IsErrOf result LogFault.Halted → self.old.log.halted ≢ true → Halts D.SectorDevice.state self.old.log self.new.log }
+        ensures other { IsErrOf result LogFault.Device → ⊥ }
+    {
+        if !self.is_tight() {
+            return Ok(());
+        }
+        self.commit()?;
+        if self.lacks_segments() {
+            return Err(LogFault::Full);
+        }
+        Ok(())
+    }
+
+    /// Stages the draft, and leaves it as it is.
+    fn stage_draft(&mut self) -> Result<(), LogFault>
+        ensures totals { self.new.totals ≡ self.old.totals }
+        ensures drafted { self.new.drafted ≡ self.old.drafted }
+        ensures done { OnOk result (Accepts D.SectorDevice.state self.old.log self.old.saved self.new.log self.new.saved self.old.draft.changes) }
+        ensures full { IsErrOf result LogFault.Full → Declines D.SectorDevice.state self.old.log self.old.saved self.new.log self.new.saved self.old.draft.changes }
+        ensures lacks { IsErrOf result LogFault.Full → IsFull self.new.log ⊎ (self.new.saved ≡ false) }
+        ensures device { IsErrOf result LogFault.Device → Declines D.SectorDevice.state self.old.log self.old.saved self.new.log self.new.saved self.old.draft.changes }
+        ensures failed { IsErrOf result LogFault.Device → IsAcceptFault D.SectorDevice.state self.old.log self.old.saved self.new.log self.old.draft.changes }
+        ensures halted { IsErrOf result LogFault.Halted → self.old.log.halted ≢ true → Halts D.SectorDevice.state self.old.log self.new.log }
+        ensures still { self.old.log.halted ≡ true → (self.new.log ≡ self.old.log) × (self.new.saved ≡ self.old.saved) × IsErrOf result LogFault.Halted }
+    {
+        if self.log.is_halted() {
+            return Err(LogFault::Halted);
+        }
+        self.make_room()?;
+        let staged = self.log.stage(&self.draft.changes);
+        // A stage that fails may have brought blocks into memory, which a commit clears.
+        self.saved = false;
+        staged
+    }
+
+    /// Stages the draft whole, or not at all; a commit comes before it where memory has no room for it, or few segments are clean. The draft
+    /// is empty afterwards.
+    ///
+    /// # Errors
+    ///
+    /// With the files as they were: `Full` where too few segments are clean, or memory has no room though all is saved (then the next
+    /// call commits first); `Device` where a call of the device failed. `Halted` once a commit failed, in this call or before.
+    pub fn accept(&mut self) -> Result<(), LogFault>
+        ensures counted { OnOk result (self.new.totals ≡ self.old.drafted) }
+        ensures kept { OnErr result (self.new.totals ≡ self.old.totals) }
+        ensures drafted { self.new.drafted ≡ self.new.totals }
+        ensures done { OnOk result (Accepts D.SectorDevice.state self.old.log self.old.saved self.new.log self.new.saved self.old.draft.changes) }
+        ensures draft { IsNoChange self.new.draft.changes }
+        ensures full { IsErrOf result LogFault.Full → Declines D.SectorDevice.state self.old.log self.old.saved self.new.log self.new.saved self.old.draft.changes }
+        ensures lacks { IsErrOf result LogFault.Full → IsFull self.new.log ⊎ (self.new.saved ≡ false) }
+        ensures device { IsErrOf result LogFault.Device → Declines D.SectorDevice.state self.old.log self.old.saved self.new.log self.new.saved self.old.draft.changes }
+        ensures failed { IsErrOf result LogFault.Device → IsAcceptFault D.SectorDevice.state self.old.log self.old.saved self.new.log self.old.draft.changes }
+        ensures halted { IsErrOf result LogFault.Halted → self.old.log.halted ≢ true → Halts D.SectorDevice.state self.old.log self.new.log }
+        ensures still { self.old.log.halted ≡ true → (self.new.log ≡ self.old.log) × (self.new.saved ≡ self.old.saved) × IsErrOf result LogFault.Halted }
+    {
+        let outcome = self.stage_draft();
+        self.settle(outcome.is_ok());
+        outcome
+    }
+}
+
+#[cfg(test)]
+mod tests;

@@ -1,0 +1,23 @@
+//! The files of a volume with one call's changes before they are staged: a draft, reads that see it, and its staging whole.
+#![tactic(auto)]
+
+mod accepting;
+mod draft;
+pub mod drafting;
+mod fault;
+mod losing;
+mod making;
+mod measuring;
+pub mod pieces;
+mod reading;
+mod recounting;
+mod store;
+pub mod totals;
+#[cfg(test)]
+mod volume;
+mod writing;
+
+pub use draft::Draft;
+pub use fault::StoreFault;
+pub use store::Store;
+pub use totals::{Measure, Totals};

@@ -1,0 +1,244 @@
+//! Files made in the draft, their links, and files that go.
+ghost use Rattle.std.specs.Prelude.{◌≡◌, ◌≤◌, IfSome, IfNone, IfErr, OnOk, OnErr};
+ghost use Rattle.lfs_memory.specs.Batch.{IsNoChange};
+ghost use Rattle.lfs_store.specs.Recounting.{CountsMade, CountsRelinked};
+ghost use Rattle.lfs_store.specs.Making.{Makes, SetsLinks, Removes, first_links, first_header};
+
+use crate::fault::StoreFault;
+use crate::measuring::BLOCKS;
+use crate::recounting::recounted;
+use crate::store::Store;
+use crate::totals::{Measure, NO_BLOCK};
+use lfs_device::SectorDevice;
+use lfs_log::{Header, LastLink, LogFault, Loss, Removal};
+use lfs_model::Kind;
+
+#[cfg(test)]
+mod tests;
+
+/// The links of a file that is made.
+fn first_links(kind: Kind) -> u32
+    ensures { result ≡ first_links kind }
+{
+    match kind {
+        Kind::Directory => 2,
+        Kind::File | Kind::Link => 1,
+    }
+}
+
+impl<D: SectorDevice> Store<D> {
+    ghost use Rattle.lfs_log.specs.Held.{Reads, IsReadFault, IsVacant, HasAll, IsRemoved, IsKept};
+    ghost use Rattle.lfs_store.specs.Accepting.{Forgets};
+    ghost use Rattle.lfs_store.specs.Recounting.{Counts, CountsGone};
+
+    /// The least number that no file has in the log.
+    pub fn least_free(&self) -> Option<u16>
+        ensures some { IfSome result (IsVacant D.SectorDevice.state self.now.log) }
+        ensures none { IfNone result (HasAll D.SectorDevice.state self.now.log) }
+    {
+        self.log.least_free()
+    }
+
+    /// Makes a file that isn't there, without a byte: a regular file or a directory.
+    ///
+    /// # Errors
+    ///
+    /// `NoMemory` where memory runs out. What the draft holds then is of no use.
+    pub fn create(&mut self, number: u16, kind: Kind) -> Result<(), StoreFault>
+        requires some { 1 ≤ number }
+        requires few { number ≤ 4095 }
+        ensures log { self.new.log ≡ self.old.log }
+        ensures saved { self.new.saved ≡ self.old.saved }
+        ensures totals { self.new.totals ≡ self.old.totals }
+        ensures done { OnOk result (Makes self.old.draft.changes self.new.draft.changes number (first_header kind 0)) }
+        ensures counted { OnOk result (CountsMade self.old.draft.changes self.new.draft.changes number self.old.drafted self.new.drafted) }
+        ensures failed { IfErr result (λ fault. fault ≡ StoreFault.NoMemory) }
+    {
+        self.make(number, kind, 0)
+    }
+
+    /// Makes a symbolic link that isn't there, of so many bytes. They are zeros until the text is written.
+    ///
+    /// # Errors
+    ///
+    /// As those of `create`.
+    pub fn create_link(&mut self, number: u16, size: u32) -> Result<(), StoreFault>
+        requires some { 1 ≤ number }
+        requires few { number ≤ 4095 }
+        requires most { size ≤ 1023 }
+        ensures log { self.new.log ≡ self.old.log }
+        ensures saved { self.new.saved ≡ self.old.saved }
+        ensures totals { self.new.totals ≡ self.old.totals }
+        ensures done { OnOk result (Makes self.old.draft.changes self.new.draft.changes number (first_header Kind.Link size)) }
+        ensures counted { OnOk result (CountsMade self.old.draft.changes self.new.draft.changes number self.old.drafted self.new.drafted) }
+        ensures failed { IfErr result (λ fault. fault ≡ StoreFault.NoMemory) }
+    {
+        self.make(number, Kind::Link, size)
+    }
+
+    /// Makes a file, and counts its inode.
+    fn make(&mut self, number: u16, kind: Kind, size: u32) -> Result<(), StoreFault>
+        requires some { 1 ≤ number }
+        requires few { number ≤ 4095 }
+        requires most { size ≤ 8511488 }
+        ensures log { self.new.log ≡ self.old.log }
+        ensures saved { self.new.saved ≡ self.old.saved }
+        ensures totals { self.new.totals ≡ self.old.totals }
+        ensures done { OnOk result (Makes self.old.draft.changes self.new.draft.changes number (first_header kind size)) }
+        ensures counted { OnOk result (CountsMade self.old.draft.changes self.new.draft.changes number self.old.drafted self.new.drafted) }
+        ensures failed { IfErr result (λ fault. fault ≡ StoreFault.NoMemory) }
+    {
+        let header = Header {
+            kind,
+            links: first_links(kind),
+            size,
+        };
+        let Ok(()) = self.draft.put_header(number, header) else {
+            return Err(StoreFault::NoMemory);
+        };
+        let made = Measure {
+            data_blocks: 0,
+            meta_blocks: 1,
+        };
+        self.drafted = recounted(self.drafted, NO_BLOCK, made);
+        Ok(())
+    }
+
+    /// Gives a file of this header other links. The last is lost in an empty draft.
+    ///
+    /// # Errors
+    ///
+    /// As those of `create`.
+    pub fn set_links(&mut self, number: u16, header: Header, links: u32) -> Result<(), StoreFault>
+        requires some { 1 ≤ number }
+        requires few { number ≤ 4095 }
+        requires last { links ≡ 0 → IsNoChange self.old.draft.changes }
+        ensures log { self.new.log ≡ self.old.log }
+        ensures saved { self.new.saved ≡ self.old.saved }
+        ensures totals { self.new.totals ≡ self.old.totals }
+        ensures drafted { self.new.drafted ≡ self.old.drafted }
+        ensures done { OnOk result (SetsLinks self.old.draft.changes self.new.draft.changes number header links) }
+        ensures counted { OnOk result (CountsRelinked self.old.draft.changes self.new.draft.changes number header self.new.drafted) }
+        ensures failed { IfErr result (λ fault. fault ≡ StoreFault.NoMemory) }
+    {
+        if links == 0 {
+            self.lose_link(number, header);
+            return Ok(());
+        }
+        self.relink(number, header, links)
+    }
+
+    /// A file of this header has no link any more.
+    fn lose_link(&mut self, number: u16, header: Header)
+        requires some { 1 ≤ number }
+        requires few { number ≤ 4095 }
+        requires empty { IsNoChange self.old.draft.changes }
+        ensures log { self.new.log ≡ self.old.log }
+        ensures saved { self.new.saved ≡ self.old.saved }
+        ensures totals { self.new.totals ≡ self.old.totals }
+        ensures drafted { self.new.drafted ≡ self.old.drafted }
+        ensures done { SetsLinks self.old.draft.changes self.new.draft.changes number header 0 }
+    {
+        self.draft.lose(Loss::Link(LastLink {
+            number,
+            kind: header.kind,
+            size: header.size,
+        }));
+    }
+
+    /// A file of this header has other links, and at least one.
+    fn relink(&mut self, number: u16, header: Header, links: u32) -> Result<(), StoreFault>
+        requires some { 1 ≤ number }
+        requires few { number ≤ 4095 }
+        requires linked { 1 ≤ links }
+        ensures log { self.new.log ≡ self.old.log }
+        ensures saved { self.new.saved ≡ self.old.saved }
+        ensures totals { self.new.totals ≡ self.old.totals }
+        ensures drafted { self.new.drafted ≡ self.old.drafted }
+        ensures done { OnOk result (SetsLinks self.old.draft.changes self.new.draft.changes number header links) }
+        ensures failed { IfErr result (λ fault. fault ≡ StoreFault.NoMemory) }
+    {
+        let header = Header {
+            kind: header.kind,
+            links,
+            size: header.size,
+        };
+        let Ok(()) = self.draft.put_header(number, header) else {
+            return Err(StoreFault::NoMemory);
+        };
+        Ok(())
+    }
+
+    /// Removes a file with all its blocks. The draft was empty.
+    ///
+    /// # Errors
+    ///
+    /// As those of `header`. What the draft holds then is of no use.
+    pub fn remove(&mut self, number: u16) -> Result<(), LogFault>
+        requires some { 1 ≤ number }
+        requires few { number ≤ 4095 }
+        requires empty { IsNoChange self.old.draft.changes }
+        ensures reads { Reads D.SectorDevice.state self.old.log self.new.log }
+        ensures saved { self.new.saved ≡ self.old.saved }
+        ensures totals { self.new.totals ≡ self.old.totals }
+        ensures done { OnOk result (Removes self.new.draft.changes number) }
+        ensures counted { OnOk result (Counts D.SectorDevice.state self.old.log self.new.log self.old.draft.changes self.new.draft.changes self.old.drafted self.new.drafted) }
+        ensures failed { OnErr result (IsReadFault D.SectorDevice.state self.old.log self.new.log) }
+    {
+        let before = match self.measure(number, 0, BLOCKS) {
+            Ok(measure) => measure,
+            Err(fault) => return Err(fault),
+        };
+        self.lose_file(number);
+        match self.recount(number, 0, BLOCKS, before) {
+            Ok(()) => Ok(()),
+            Err(fault) => Err(fault),
+        }
+    }
+
+    /// A file goes with all its blocks, in the draft.
+    fn lose_file(&mut self, number: u16)
+        requires few { number ≤ 4095 }
+        requires empty { IsNoChange self.old.draft.changes }
+        ensures log { self.new.log ≡ self.old.log }
+        ensures saved { self.new.saved ≡ self.old.saved }
+        ensures totals { self.new.totals ≡ self.old.totals }
+        ensures drafted { self.new.drafted ≡ self.old.drafted }
+        ensures done { Removes self.new.draft.changes number }
+    {
+        self.draft.lose(Loss::File(Removal { number }));
+    }
+
+    /// Removes a file with all its blocks at once, without a draft. It takes no memory.
+    ///
+    /// # Errors
+    ///
+    /// With the files as they were: `Device` where a call of the device failed. `Halted` once a commit failed.
+    pub fn forget(&mut self, number: u16) -> Result<(), LogFault>
+        requires some { 1 ≤ number }
+        requires few { number ≤ 4095 }
+        requires empty { IsNoChange self.old.draft.changes }
+        ensures done { OnOk result (IsRemoved D.SectorDevice.state self.old.log self.new.log number) }
+        ensures stores { OnOk result (Forgets D.SectorDevice.state self.old.log self.old.saved self.new.log number) }
+        ensures kept { OnErr result (IsKept D.SectorDevice.state self.old.log self.new.log) }
+        ensures draft { self.new.draft ≡ self.old.draft }
+        ensures saved { self.new.saved ≡ self.old.saved }
+        ensures counted { OnOk result (CountsGone D.SectorDevice.state self.old.log self.new.log number self.old.totals self.new.totals) }
+        ensures drafted { OnOk result (self.new.drafted ≡ self.new.totals) }
+        ensures same { OnErr result (self.new.totals ≡ self.old.totals) }
+        ensures same_drafted { OnErr result (self.new.drafted ≡ self.old.drafted) }
+        ensures failed { OnErr result (IsReadFault D.SectorDevice.state self.old.log self.new.log) }
+    {
+        let before = match self.measure(number, 0, BLOCKS) {
+            Ok(measure) => measure,
+            Err(fault) => return Err(fault),
+        };
+        match self.log.remove(number) {
+            Ok(()) => {}
+            Err(fault) => return Err(fault),
+        }
+        self.totals = recounted(self.totals, before, NO_BLOCK);
+        self.drafted = self.totals;
+        Ok(())
+    }
+}

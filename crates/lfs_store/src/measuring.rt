@@ -1,0 +1,310 @@
+//! How many blocks a file and a volume have with the draft.
+ghost use Rattle.std.specs.Prelude.{◌≡◌, ◌<◌, ◌≤◌, ◌-◌, true, IfOk, OnErr, IsErrOf, IsTrue, IsFalse};
+ghost use Rattle.std.specs.List.{AllByRecursion};
+ghost use Rattle.lfs_store.specs.Measuring.{SaysStored, IsOffLeaf, KeepsLeaf, LeavesLeaf};
+
+use crate::draft::Draft;
+use crate::losing::takes_block;
+use crate::store::Store;
+use crate::totals::{Measure, Totals};
+use lfs_device::SectorDevice;
+use lfs_inodes::{DIRECT, POINTERS};
+use lfs_layout::is_zero;
+use lfs_log::{BlockEdit, LogFault, Loss};
+
+/// How many files a volume has at most, and the number that no file has.
+const NUMBERS: u16 = 4_096;
+
+/// How many blocks a file has at most.
+pub const BLOCKS: u32 = 16_624;
+
+/// How many leaves of pointers a file has at most: the single one, and those below the double root.
+const LEAVES: u32 = 1 + POINTERS;
+
+impl<D: SectorDevice> Store<D> {
+    ghost use Rattle.lfs_log.specs.Held.{Reads, IsReadFault};
+    ghost use Rattle.lfs_store.specs.Measuring.{TellsStored, TellsLeaf, CountsStored, CountsLeaves, CountsPointers, Measures, CountsFiles};
+
+    /// Whether a block of a file is stored. It reads no block of data.
+    fn is_stored(&mut self, number: u16, index: u32) -> Result<bool, LogFault>
+        requires { number < 4096 }
+        ensures reads { Reads D.SectorDevice.state self.old.log self.new.log }
+        ensures draft { self.new.draft ≡ self.old.draft }
+        ensures saved { self.new.saved ≡ self.old.saved }
+        ensures totals { self.new.totals ≡ self.old.totals }
+        ensures drafted { self.new.drafted ≡ self.old.drafted }
+        ensures answer { IfOk result (TellsStored D.SectorDevice.state self.old.log self.new.log self.old.draft.changes number index) }
+        ensures failed { OnErr result (IsReadFault D.SectorDevice.state self.old.log self.new.log) }
+        ensures halted { IsErrOf result LogFault.Halted → self.old.log.halted ≡ true }
+        ensures other { IsErrOf result LogFault.Full → ⊥ }
+    {
+        match stored_after(&self.draft, number, index) {
+            Some(stored) => Ok(stored),
+            None => self.log.has_block(number, index),
+        }
+    }
+
+    /// Whether a leaf of pointers of a file is stored, since a block below it is.
+    fn has_leaf(&mut self, number: u16, leaf: u32) -> Result<bool, LogFault>
+        requires number { number < 4096 }
+        requires leaf { leaf ≤ 128 }
+        ensures reads { Reads D.SectorDevice.state self.old.log self.new.log }
+        ensures draft { self.new.draft ≡ self.old.draft }
+        ensures saved { self.new.saved ≡ self.old.saved }
+        ensures totals { self.new.totals ≡ self.old.totals }
+        ensures drafted { self.new.drafted ≡ self.old.drafted }
+        ensures answer { IfOk result (TellsLeaf D.SectorDevice.state self.old.log self.new.log self.old.draft.changes number leaf) }
+        ensures failed { OnErr result (IsReadFault D.SectorDevice.state self.old.log self.new.log) }
+        ensures halted { IsErrOf result LogFault.Halted → self.old.log.halted ≡ true }
+        ensures other { IsErrOf result LogFault.Full → ⊥ }
+    {
+        if changes_leaf(&self.draft, number, leaf) {
+            return self.search_leaf(number, leaf);
+        }
+        self.log.has_leaf(number, leaf)
+    }
+
+    /// Looks at each block below a leaf of pointers, until one is stored.
+    fn search_leaf(&mut self, number: u16, leaf: u32) -> Result<bool, LogFault>
+        requires number { number < 4096 }
+        requires leaf { leaf ≤ 128 }
+        ensures reads { Reads D.SectorDevice.state self.old.log self.new.log }
+        ensures draft { self.new.draft ≡ self.old.draft }
+        ensures saved { self.new.saved ≡ self.old.saved }
+        ensures totals { self.new.totals ≡ self.old.totals }
+        ensures drafted { self.new.drafted ≡ self.old.drafted }
+        ensures answer { IfOk result (TellsLeaf D.SectorDevice.state self.old.log self.new.log self.old.draft.changes number leaf) }
+        ensures failed { OnErr result (IsReadFault D.SectorDevice.state self.old.log self.new.log) }
+        ensures halted { IsErrOf result LogFault.Halted → self.old.log.halted ≡ true }
+        ensures other { IsErrOf result LogFault.Full → ⊥ }
+    {
+        let first = DIRECT + POINTERS * leaf;
+        for index in first..first + POINTERS {
+            match self.is_stored(number, index) {
+                Ok(true) => return Ok(true),
+                Ok(false) => {}
+                Err(fault) => return Err(fault),
+            }
+        }
+        Ok(false)
+    }
+
+    /// How many blocks of a file are stored at the indices from one on to another.
+    fn count_stored(&mut self, number: u16, from: u32, to: u32) -> Result<u32, LogFault>
+        requires number { number < 4096 }
+        requires order { from ≤ to }
+        ensures reads { Reads D.SectorDevice.state self.old.log self.new.log }
+        ensures draft { self.new.draft ≡ self.old.draft }
+        ensures saved { self.new.saved ≡ self.old.saved }
+        ensures totals { self.new.totals ≡ self.old.totals }
+        ensures drafted { self.new.drafted ≡ self.old.drafted }
+        ensures few { IfOk result (λ count. count ≤ to - from) }
+        ensures answer { IfOk result (CountsStored D.SectorDevice.state self.old.log self.new.log self.old.draft.changes number from to) }
+        ensures failed { OnErr result (IsReadFault D.SectorDevice.state self.old.log self.new.log) }
+        ensures halted { IsErrOf result LogFault.Halted → self.old.log.halted ≡ true }
+        ensures other { IsErrOf result LogFault.Full → ⊥ }
+    {
+        let mut count = 0;
+        for index in from..to {
+            match self.is_stored(number, index) {
+                Ok(found) => count += u32::from(found),
+                Err(fault) => return Err(fault),
+            }
+        }
+        Ok(count)
+    }
+
+    /// How many leaves of pointers of a file are stored, from one on to another.
+    fn count_leaves(&mut self, number: u16, from: u32, to: u32) -> Result<u32, LogFault>
+        requires number { number < 4096 }
+        requires order { from ≤ to }
+        requires low { to ≤ 129 }
+        ensures reads { Reads D.SectorDevice.state self.old.log self.new.log }
+        ensures draft { self.new.draft ≡ self.old.draft }
+        ensures saved { self.new.saved ≡ self.old.saved }
+        ensures totals { self.new.totals ≡ self.old.totals }
+        ensures drafted { self.new.drafted ≡ self.old.drafted }
+        ensures few { IfOk result (λ count. count ≤ to - from) }
+        ensures answer { IfOk result (CountsLeaves D.SectorDevice.state self.old.log self.new.log self.old.draft.changes number from to) }
+        ensures failed { OnErr result (IsReadFault D.SectorDevice.state self.old.log self.new.log) }
+        ensures halted { IsErrOf result LogFault.Halted → self.old.log.halted ≡ true }
+        ensures other { IsErrOf result LogFault.Full → ⊥ }
+    {
+        let mut count = 0;
+        for leaf in from..to {
+            match self.has_leaf(number, leaf) {
+                Ok(found) => count += u32::from(found),
+                Err(fault) => return Err(fault),
+            }
+        }
+        Ok(count)
+    }
+
+    /// How many blocks of pointers a file of this size has: leaves, and the double root where a leaf below it is stored.
+    fn count_pointers(&mut self, number: u16, size: u32) -> Result<u32, LogFault>
+        requires { number < 4096 }
+        ensures reads { Reads D.SectorDevice.state self.old.log self.new.log }
+        ensures draft { self.new.draft ≡ self.old.draft }
+        ensures saved { self.new.saved ≡ self.old.saved }
+        ensures totals { self.new.totals ≡ self.old.totals }
+        ensures drafted { self.new.drafted ≡ self.old.drafted }
+        ensures few { IfOk result (λ count. count ≤ 130) }
+        ensures answer { IfOk result (CountsPointers D.SectorDevice.state self.old.log self.new.log self.old.draft.changes number size) }
+        ensures failed { OnErr result (IsReadFault D.SectorDevice.state self.old.log self.new.log) }
+        ensures halted { IsErrOf result LogFault.Halted → self.old.log.halted ≡ true }
+        ensures other { IsErrOf result LogFault.Full → ⊥ }
+    {
+        let blocks = size.div_ceil(512);
+        let end = blocks.saturating_sub(DIRECT).div_ceil(POINTERS).min(LEAVES);
+        let single = match self.count_leaves(number, 0, end.min(1)) {
+            Ok(count) => count,
+            Err(fault) => return Err(fault),
+        };
+        let below = match self.count_leaves(number, 1, end.max(1)) {
+            Ok(count) => count,
+            Err(fault) => return Err(fault),
+        };
+        Ok(single + below + below.min(1))
+    }
+
+    /// How many blocks a file has: data blocks at the indices from one on to another, and its inode and all its blocks of pointers.
+    /// It reads no block of data.
+    ///
+    /// # Errors
+    ///
+    /// As those of `header`.
+    pub fn measure(&mut self, number: u16, from: u32, to: u32) -> Result<Measure, LogFault>
+        requires number { number < 4096 }
+        requires order { from ≤ to }
+        requires low { to ≤ 16624 }
+        ensures reads { Reads D.SectorDevice.state self.old.log self.new.log }
+        ensures draft { self.new.draft ≡ self.old.draft }
+        ensures saved { self.new.saved ≡ self.old.saved }
+        ensures totals { self.new.totals ≡ self.old.totals }
+        ensures drafted { self.new.drafted ≡ self.old.drafted }
+        ensures few { IfOk result (λ found. found.data_blocks ≤ to - from) }
+        ensures few_above { IfOk result (λ found. found.meta_blocks ≤ 131) }
+        ensures answer { IfOk result (Measures D.SectorDevice.state self.old.log self.new.log self.old.draft.changes number from to) }
+        ensures failed { OnErr result (IsReadFault D.SectorDevice.state self.old.log self.new.log) }
+        ensures halted { IsErrOf result LogFault.Halted → self.old.log.halted ≡ true }
+        ensures other { IsErrOf result LogFault.Full → ⊥ }
+    {
+        let size = match self.header(number) {
+            Ok(Some(header)) => header.size,
+            Ok(None) => {
+                return Ok(Measure {
+                    data_blocks: 0,
+                    meta_blocks: 0,
+                });
+            }
+            Err(fault) => return Err(fault),
+        };
+        let end = size.div_ceil(512).min(to);
+        let data_blocks = match self.count_stored(number, from.min(end), end) {
+            Ok(count) => count,
+            Err(fault) => return Err(fault),
+        };
+        let pointers = match self.count_pointers(number, size) {
+            Ok(count) => count,
+            Err(fault) => return Err(fault),
+        };
+        Ok(Measure {
+            data_blocks,
+            meta_blocks: 1 + pointers,
+        })
+    }
+
+    /// How many blocks all files have.
+    ///
+    /// # Errors
+    ///
+    /// As those of `header`.
+    pub fn count_files(&mut self) -> Result<Totals, LogFault>
+        ensures reads { Reads D.SectorDevice.state self.old.log self.new.log }
+        ensures draft { self.new.draft ≡ self.old.draft }
+        ensures saved { self.new.saved ≡ self.old.saved }
+        ensures totals { self.new.totals ≡ self.old.totals }
+        ensures drafted { self.new.drafted ≡ self.old.drafted }
+        ensures answer { IfOk result (CountsFiles D.SectorDevice.state self.old.log self.new.log self.old.draft.changes) }
+        ensures failed { OnErr result (IsReadFault D.SectorDevice.state self.old.log self.new.log) }
+        ensures halted { IsErrOf result LogFault.Halted → self.old.log.halted ≡ true }
+        ensures other { IsErrOf result LogFault.Full → ⊥ }
+    {
+        let mut totals = Totals {
+            data_blocks: 0,
+            meta_blocks: 0,
+        };
+        for number in 1..NUMBERS {
+            match self.measure(number, 0, BLOCKS) {
+                Ok(found) => {
+                    totals.data_blocks += found.data_blocks;
+                    totals.meta_blocks += found.meta_blocks;
+                }
+                Err(fault) => return Err(fault),
+            }
+        }
+        Ok(totals)
+    }
+}
+
+/// Whether a block of a file is stored after a draft; `None` where the draft leaves it as it is.
+fn stored_after(draft: &Draft, number: u16, index: u32) -> Option<bool>
+    ensures { SaysStored draft.now.changes number index result }
+{
+    if let Some(bytes) = draft.find_block(number, index) {
+        return Some(!is_zero(bytes));
+    }
+    if !takes_block(&draft.changes.loss, number, index) {
+        return None;
+    }
+    Some(false)
+}
+
+/// Whether a draft changes a block below a leaf of pointers of a file.
+fn changes_leaf(draft: &Draft, number: u16, leaf: u32) -> bool
+    requires { leaf ≤ 128 }
+    ensures { IsFalse result → LeavesLeaf draft.now.changes number leaf }
+{
+    takes_below(&draft.changes.loss, number, leaf)
+        || edits_below(&draft.changes.blocks, number, leaf)
+}
+
+/// Whether a loss takes a block below a leaf of pointers of a file.
+fn takes_below(loss: &Loss, number: u16, leaf: u32) -> bool
+    requires { leaf ≤ 128 }
+    ensures { IsFalse result → KeepsLeaf loss.now number leaf }
+{
+    match loss {
+        Loss::Nothing => false,
+        Loss::Blocks(cut) => cut.number == number && cut.first < DIRECT + POINTERS * (leaf + 1),
+        Loss::Link(_) => false,
+        Loss::File(removal) => removal.number == number,
+    }
+}
+
+/// Whether one of these blocks is below a leaf of pointers of a file.
+fn edits_below(edits: &[BlockEdit], number: u16, leaf: u32) -> bool
+    requires { leaf ≤ 128 }
+    ensures { IsFalse result → AllByRecursion (IsOffLeaf number leaf) edits.now }
+{
+    let mut place = edits.len();
+    while place > 0 {
+        place -= 1;
+        if is_below(&edits[place], number, leaf) {
+            return true;
+        }
+    }
+    false
+}
+
+/// Whether this is a block below a leaf of pointers of a file.
+fn is_below(edit: &BlockEdit, number: u16, leaf: u32) -> bool
+    requires { leaf ≤ 128 }
+    ensures { IsFalse result → IsOffLeaf number leaf edit.now }
+{
+    let first = DIRECT + POINTERS * leaf;
+    edit.number == number && first <= edit.index && edit.index < first + POINTERS
+}
+
+#[cfg(test)]
+mod tests;

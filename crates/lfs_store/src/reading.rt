@@ -1,0 +1,85 @@
+//! Bytes of a file as it is with the draft.
+ghost use Rattle.std.specs.Prelude.{◌≡◌, ◌<◌, ◌≤◌, ◌+◌, ◌%◌, true, IfOk, IfErr, OnOk, IsErrOf, length};
+
+use crate::fault::StoreFault;
+use crate::store::Store;
+use lfs_device::SectorDevice;
+use lfs_log::LogFault;
+use std::alloc::Global;
+
+impl<D: SectorDevice> Store<D> {
+    ghost use Rattle.lfs_log.specs.Held.{Reads, IsReadFault};
+    ghost use Rattle.lfs_store.specs.Reading.{ReadsPart, Appends};
+
+    /// The bytes of a file between two places, both at most its size.
+    ///
+    /// # Errors
+    ///
+    /// `NoMemory` where memory runs out; else as those of `block`.
+    pub fn read_at(
+        &mut self,
+        alloc: Global,
+        number: u16,
+        from: u32,
+        to: u32,
+    ) -> Result<Vec<u8>, StoreFault>
+        requires number { number < 4096 }
+        requires order { from ≤ to }
+        ensures reads { Reads D.SectorDevice.state self.old.log self.new.log }
+        ensures draft { self.new.draft ≡ self.old.draft }
+        ensures saved { self.new.saved ≡ self.old.saved }
+        ensures totals { self.new.totals ≡ self.old.totals }
+        ensures drafted { self.new.drafted ≡ self.old.drafted }
+        ensures long { IfOk result (λ bytes. from + length bytes.items ≡ to) }
+        ensures answer { IfOk result (λ bytes. ReadsPart D.SectorDevice.state self.old.log self.new.log self.old.draft.changes number from to bytes.items) }
+        ensures failed { IfErr result (λ fault. (fault ≡ StoreFault.NoMemory → ⊥) → IsReadFault D.SectorDevice.state self.old.log self.new.log) }
+        ensures halted { IsErrOf result (StoreFault.Log LogFault.Halted) → self.old.log.halted ≡ true }
+        ensures other { IsErrOf result (StoreFault.Log LogFault.Full) → ⊥ }
+    {
+        let Ok(mut bytes) = Vec::with_capacity(alloc, (to - from) as usize) else {
+            return Err(StoreFault::NoMemory);
+        };
+        let mut at = from;
+        while at < to {
+            let len = (to - at).min(512 - at % 512);
+            match self.append(number, at, len, &mut bytes) {
+                Ok(()) => {}
+                Err(fault) => return Err(fault),
+            }
+            at += len;
+        }
+        Ok(bytes)
+    }
+
+    /// Reads bytes of one block of a file, behind those that are there.
+    fn append(
+        &mut self,
+        number: u16,
+        at: u32,
+        len: u32,
+        bytes: &mut Vec<u8>,
+    ) -> Result<(), StoreFault>
+        requires number { number < 4096 }
+        requires inside { at % 512 + len ≤ 512 }
+        ensures reads { Reads D.SectorDevice.state self.old.log self.new.log }
+        ensures draft { self.new.draft ≡ self.old.draft }
+        ensures saved { self.new.saved ≡ self.old.saved }
+        ensures totals { self.new.totals ≡ self.old.totals }
+        ensures drafted { self.new.drafted ≡ self.old.drafted }
+        ensures done { OnOk result (Appends D.SectorDevice.state self.old.log self.new.log self.old.draft.changes number at len bytes.old.items bytes.new.items) }
+        ensures failed { IfErr result (λ fault. (fault ≡ StoreFault.NoMemory → ⊥) → IsReadFault D.SectorDevice.state self.old.log self.new.log) }
+        ensures halted { IsErrOf result (StoreFault.Log LogFault.Halted) → self.old.log.halted ≡ true }
+        ensures other { IsErrOf result (StoreFault.Log LogFault.Full) → ⊥ }
+    {
+        let mut block = [0; 512];
+        match self.block(number, at / 512, &mut block) {
+            Ok(_) => {}
+            Err(fault) => return Err(StoreFault::Log(fault)),
+        }
+        let start = (at % 512) as usize;
+        match bytes.extend_from_slice(&block[start..start + len as usize]) {
+            Ok(()) => Ok(()),
+            Err(_) => Err(StoreFault::NoMemory),
+        }
+    }
+}

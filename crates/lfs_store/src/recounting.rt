@@ -1,0 +1,72 @@
+//! The totals of the draft as one file changes.
+ghost use Rattle.std.specs.Prelude.{◌≡◌, ◌<◌, ◌≤◌, OnOk, OnErr};
+ghost use Rattle.lfs_store.specs.Recounting.{Replaces, Recounts};
+
+use crate::store::Store;
+use crate::totals::{Measure, Totals};
+use lfs_device::SectorDevice;
+use lfs_log::LogFault;
+
+#[cfg(test)]
+mod tests;
+
+/// A total with one share in place of another.
+fn replaced(total: u32, before: u32, after: u32) -> u32
+    ensures { Replaces total before after result }
+{
+    let sum = u64::from(total) + u64::from(after);
+    sum.saturating_sub(u64::from(before))
+        .min(u64::from(u32::MAX)) as u32
+}
+
+/// The totals with one measure of a file in place of another.
+pub fn recounted(totals: Totals, before: Measure, after: Measure) -> Totals
+    ensures { Recounts totals result before after }
+{
+    Totals {
+        data_blocks: replaced(totals.data_blocks, before.data_blocks, after.data_blocks),
+        meta_blocks: replaced(totals.meta_blocks, before.meta_blocks, after.meta_blocks),
+    }
+}
+
+impl<D: SectorDevice> Store<D> {
+    ghost use Rattle.lfs_log.specs.Held.{Reads, IsReadFault};
+    ghost use Rattle.lfs_store.specs.Recounting.{Remeasures};
+
+    /// The data blocks, inodes and blocks of pointers of all files, with the draft.
+    pub fn space(&self) -> Totals
+        ensures { result ≡ self.now.drafted }
+    {
+        self.drafted
+    }
+
+    /// Puts the measure of a file in the place of what it was before.
+    ///
+    /// # Errors
+    ///
+    /// As those of `measure`.
+    pub fn recount(
+        &mut self,
+        number: u16,
+        from: u32,
+        to: u32,
+        before: Measure,
+    ) -> Result<(), LogFault>
+        requires number { number < 4096 }
+        requires order { from ≤ to }
+        requires low { to ≤ 16624 }
+        ensures reads { Reads D.SectorDevice.state self.old.log self.new.log }
+        ensures draft { self.new.draft ≡ self.old.draft }
+        ensures saved { self.new.saved ≡ self.old.saved }
+        ensures totals { self.new.totals ≡ self.old.totals }
+        ensures done { OnOk result (Remeasures D.SectorDevice.state self.old.log self.new.log self.old.draft.changes number from to before self.old.drafted self.new.drafted) }
+        ensures failed { OnErr result (IsReadFault D.SectorDevice.state self.old.log self.new.log) }
+    {
+        let after = match self.measure(number, from, to) {
+            Ok(measure) => measure,
+            Err(fault) => return Err(fault),
+        };
+        self.drafted = recounted(self.drafted, before, after);
+        Ok(())
+    }
+}

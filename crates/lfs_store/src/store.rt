@@ -1,0 +1,76 @@
+//! The files of a volume as they are with a draft of changes.
+ghost use Rattle.std.specs.Prelude.{◌≡◌, ◌<◌, true, IfOk, OnErr, IsErrOf, IsFalse};
+ghost use Rattle.lfs_model.specs.Fields.{zeros};
+
+use crate::draft::Draft;
+use crate::totals::Totals;
+use lfs_device::SectorDevice;
+use lfs_log::{Header, Log, LogFault};
+
+/// A log, and the changes of the present call, which reads see.
+#[derive(Drop)]
+pub struct Store<D: SectorDevice> {
+    pub log: Log<D>,
+    pub draft: Draft,
+    /// Whether nothing changed since the acknowledged checkpoint.
+    pub saved: bool,
+    /// The blocks of all files, as they are staged.
+    pub totals: Totals,
+    /// And with the draft.
+    pub drafted: Totals,
+}
+
+impl<D: SectorDevice> Store<D> {
+    ghost use Rattle.lfs_log.specs.Held.{Reads, IsReadFault};
+    ghost use Rattle.lfs_store.specs.Reading.{ReadsHeader, ReadsBlock};
+
+    /// What the inode of a file says of it, if the file is there.
+    ///
+    /// # Errors
+    ///
+    /// `Halted` once a commit failed, `Device` where a call of the device failed.
+    pub fn header(&mut self, number: u16) -> Result<Option<Header>, LogFault>
+        requires { number < 4096 }
+        ensures reads { Reads D.SectorDevice.state self.old.log self.new.log }
+        ensures draft { self.new.draft ≡ self.old.draft }
+        ensures saved { self.new.saved ≡ self.old.saved }
+        ensures totals { self.new.totals ≡ self.old.totals }
+        ensures drafted { self.new.drafted ≡ self.old.drafted }
+        ensures answer { IfOk result (ReadsHeader D.SectorDevice.state self.old.log self.new.log self.old.draft.changes number) }
+        ensures failed { OnErr result (IsReadFault D.SectorDevice.state self.old.log self.new.log) }
+        ensures halted { IsErrOf result LogFault.Halted → self.old.log.halted ≡ true }
+        ensures other { IsErrOf result LogFault.Full → ⊥ }
+    {
+        match self.draft.header(number) {
+            Some(header) => Ok(header),
+            None => self.log.header(number),
+        }
+    }
+
+    /// Whether a block of a file is stored, and its bytes; zeros where it isn't.
+    ///
+    /// # Errors
+    ///
+    /// As those of `header`.
+    pub fn block(&mut self, number: u16, index: u32, out: &mut [u8; 512]) -> Result<bool, LogFault>
+        requires { number < 4096 }
+        ensures reads { Reads D.SectorDevice.state self.old.log self.new.log }
+        ensures draft { self.new.draft ≡ self.old.draft }
+        ensures saved { self.new.saved ≡ self.old.saved }
+        ensures totals { self.new.totals ≡ self.old.totals }
+        ensures drafted { self.new.drafted ≡ self.old.drafted }
+        ensures answer { IfOk result (ReadsBlock D.SectorDevice.state self.old.log self.new.log self.old.draft.changes number index out.new) }
+        ensures zeros { IfOk result (λ found. IsFalse found → out.new ≡ zeros 512) }
+        ensures failed { OnErr result (IsReadFault D.SectorDevice.state self.old.log self.new.log) }
+        ensures halted { IsErrOf result LogFault.Halted → self.old.log.halted ≡ true }
+        ensures other { IsErrOf result LogFault.Full → ⊥ }
+    {
+        match self.draft.block(number, index, out) {
+            Some(stored) => Ok(stored),
+            None => self.log.block(number, index, out),
+        }
+    }
+}
+
+#[cfg(test)]
+mod tests;

@@ -1,0 +1,255 @@
+//! Bytes written to a file and cut off it, into the draft.
+ghost use Rattle.std.specs.Prelude.{◌≡◌, ◌<◌, ◌≤◌, ◌+◌, ◌%◌, length, IfErr, OnOk};
+ghost use Rattle.lfs_memory.specs.Batch.{IsNoChange};
+ghost use Rattle.lfs_store.specs.Drafting.{PutsHeader};
+
+use crate::fault::StoreFault;
+use crate::measuring::BLOCKS;
+use crate::pieces::{cut_tail, overlay};
+use crate::store::Store;
+use lfs_device::SectorDevice;
+use lfs_log::{Cut, Header, Loss};
+
+#[cfg(test)]
+mod tests;
+
+impl<D: SectorDevice> Store<D> {
+    ghost use Rattle.lfs_log.specs.Held.{Reads, IsReadFault};
+    ghost use Rattle.lfs_store.specs.Recounting.{Counts};
+    ghost use Rattle.lfs_store.specs.Writing.{Writes, WritesBlock, DraftsCut, CutsDraft, SetsLen, resized};
+
+    /// Lays bytes over a file of this header, from a place on. Where they end behind its size, it is as long as that needs.
+    ///
+    /// # Errors
+    ///
+    /// `NoMemory` where memory runs out; else as those of `block`. What the draft holds then is of no use.
+    pub fn write_at(
+        &mut self,
+        number: u16,
+        header: Header,
+        at: u32,
+        bytes: &[u8],
+    ) -> Result<(), StoreFault>
+        requires some { 1 ≤ number }
+        requires few { number ≤ 4095 }
+        requires bytes { 0 < length bytes.now }
+        requires end { at + length bytes.now ≤ 8511488 }
+        ensures reads { Reads D.SectorDevice.state self.old.log self.new.log }
+        ensures saved { self.new.saved ≡ self.old.saved }
+        ensures totals { self.new.totals ≡ self.old.totals }
+        ensures done { OnOk result (Writes D.SectorDevice.state self.old.log self.new.log self.old.draft.changes self.new.draft.changes number header at bytes.now) }
+        ensures counted { OnOk result (Counts D.SectorDevice.state self.old.log self.new.log self.old.draft.changes self.new.draft.changes self.old.drafted self.new.drafted) }
+        ensures failed { IfErr result (λ fault. (fault ≡ StoreFault.NoMemory → ⊥) → IsReadFault D.SectorDevice.state self.old.log self.new.log) }
+    {
+        let from = at / 512;
+        let to = (at + bytes.len() as u32).div_ceil(512);
+        let before = match self.measure(number, from, to) {
+            Ok(measure) => measure,
+            Err(fault) => return Err(StoreFault::Log(fault)),
+        };
+        match self.draft_write(number, header, at, bytes) {
+            Ok(()) => {}
+            Err(fault) => return Err(fault),
+        }
+        match self.recount(number, from, to, before) {
+            Ok(()) => Ok(()),
+            Err(fault) => Err(StoreFault::Log(fault)),
+        }
+    }
+
+    /// Lays bytes over a file, into the draft.
+    fn draft_write(
+        &mut self,
+        number: u16,
+        header: Header,
+        at: u32,
+        bytes: &[u8],
+    ) -> Result<(), StoreFault>
+        requires some { 1 ≤ number }
+        requires few { number ≤ 4095 }
+        requires bytes { 0 < length bytes.now }
+        requires end { at + length bytes.now ≤ 8511488 }
+        ensures reads { Reads D.SectorDevice.state self.old.log self.new.log }
+        ensures saved { self.new.saved ≡ self.old.saved }
+        ensures totals { self.new.totals ≡ self.old.totals }
+        ensures drafted { self.new.drafted ≡ self.old.drafted }
+        ensures done { OnOk result (Writes D.SectorDevice.state self.old.log self.new.log self.old.draft.changes self.new.draft.changes number header at bytes.now) }
+        ensures failed { IfErr result (λ fault. (fault ≡ StoreFault.NoMemory → ⊥) → IsReadFault D.SectorDevice.state self.old.log self.new.log) }
+    {
+        let end = at + bytes.len() as u32;
+        for index in at / 512..end.div_ceil(512) {
+            self.write_block(number, index, at, bytes)?;
+        }
+        self.resize(number, header, header.size.max(end))
+    }
+
+    /// Lays those of the bytes that lie in one block over it.
+    fn write_block(
+        &mut self,
+        number: u16,
+        index: u32,
+        at: u32,
+        bytes: &[u8],
+    ) -> Result<(), StoreFault>
+        requires some { 1 ≤ number }
+        requires few { number ≤ 4095 }
+        requires low { index ≤ 16623 }
+        requires end { at + length bytes.now ≤ 8511488 }
+        ensures reads { Reads D.SectorDevice.state self.old.log self.new.log }
+        ensures saved { self.new.saved ≡ self.old.saved }
+        ensures totals { self.new.totals ≡ self.old.totals }
+        ensures drafted { self.new.drafted ≡ self.old.drafted }
+        ensures done { OnOk result (WritesBlock D.SectorDevice.state self.old.log self.new.log self.old.draft.changes self.new.draft.changes number index at bytes.now) }
+        ensures failed { IfErr result (λ fault. (fault ≡ StoreFault.NoMemory → ⊥) → IsReadFault D.SectorDevice.state self.old.log self.new.log) }
+    {
+        let mut block = [0; 512];
+        match self.block(number, index, &mut block) {
+            Ok(_) => {}
+            Err(fault) => return Err(StoreFault::Log(fault)),
+        }
+        overlay(&mut block, index, at, bytes);
+        let Ok(()) = self.draft.put_block(number, index, &block) else {
+            return Err(StoreFault::NoMemory);
+        };
+        Ok(())
+    }
+
+    /// Cuts a file of this header, or makes it longer with zeros.
+    ///
+    /// # Errors
+    ///
+    /// As those of `write_at`.
+    pub fn set_len(&mut self, number: u16, header: Header, len: u32) -> Result<(), StoreFault>
+        requires some { 1 ≤ number }
+        requires few { number ≤ 4095 }
+        requires most { len ≤ 8511488 }
+        requires empty { IsNoChange self.old.draft.changes }
+        ensures reads { Reads D.SectorDevice.state self.old.log self.new.log }
+        ensures saved { self.new.saved ≡ self.old.saved }
+        ensures totals { self.new.totals ≡ self.old.totals }
+        ensures done { OnOk result (SetsLen D.SectorDevice.state self.old.log self.new.log self.new.draft.changes number header len) }
+        ensures counted { OnOk result (Counts D.SectorDevice.state self.old.log self.new.log self.old.draft.changes self.new.draft.changes self.old.drafted self.new.drafted) }
+        ensures failed { IfErr result (λ fault. (fault ≡ StoreFault.NoMemory → ⊥) → IsReadFault D.SectorDevice.state self.old.log self.new.log) }
+    {
+        let before = match self.measure(number, len / 512, BLOCKS) {
+            Ok(measure) => measure,
+            Err(fault) => return Err(StoreFault::Log(fault)),
+        };
+        match self.draft_len(number, header, len) {
+            Ok(()) => {}
+            Err(fault) => return Err(fault),
+        }
+        match self.recount(number, len / 512, BLOCKS, before) {
+            Ok(()) => Ok(()),
+            Err(fault) => Err(StoreFault::Log(fault)),
+        }
+    }
+
+    /// Cuts a file, or makes it longer, in the draft.
+    fn draft_len(&mut self, number: u16, header: Header, len: u32) -> Result<(), StoreFault>
+        requires some { 1 ≤ number }
+        requires few { number ≤ 4095 }
+        requires most { len ≤ 8511488 }
+        requires empty { IsNoChange self.old.draft.changes }
+        ensures reads { Reads D.SectorDevice.state self.old.log self.new.log }
+        ensures saved { self.new.saved ≡ self.old.saved }
+        ensures totals { self.new.totals ≡ self.old.totals }
+        ensures drafted { self.new.drafted ≡ self.old.drafted }
+        ensures done { OnOk result (SetsLen D.SectorDevice.state self.old.log self.new.log self.new.draft.changes number header len) }
+        ensures failed { IfErr result (λ fault. (fault ≡ StoreFault.NoMemory → ⊥) → IsReadFault D.SectorDevice.state self.old.log self.new.log) }
+    {
+        if header.size <= len {
+            return self.resize(number, header, len);
+        }
+        self.cut_blocks(number, len)?;
+        self.resize(number, header, len)
+    }
+
+    /// The blocks of a file end at a length.
+    fn cut_blocks(&mut self, number: u16, len: u32) -> Result<(), StoreFault>
+        requires some { 1 ≤ number }
+        requires few { number ≤ 4095 }
+        requires most { len ≤ 8511488 }
+        requires empty { IsNoChange self.old.draft.changes }
+        ensures reads { Reads D.SectorDevice.state self.old.log self.new.log }
+        ensures saved { self.new.saved ≡ self.old.saved }
+        ensures totals { self.new.totals ≡ self.old.totals }
+        ensures drafted { self.new.drafted ≡ self.old.drafted }
+        ensures done { OnOk result (CutsDraft D.SectorDevice.state self.old.log self.new.log self.new.draft.changes number len) }
+        ensures failed { IfErr result (λ fault. (fault ≡ StoreFault.NoMemory → ⊥) → IsReadFault D.SectorDevice.state self.old.log self.new.log) }
+    {
+        self.lose_blocks(number, len);
+        if len % 512 == 0 {
+            return Ok(());
+        }
+        self.cut_last(number, len)
+    }
+
+    /// A file loses its blocks from a length on.
+    fn lose_blocks(&mut self, number: u16, len: u32)
+        requires few { number ≤ 4095 }
+        requires most { len ≤ 8511488 }
+        requires empty { IsNoChange self.old.draft.changes }
+        ensures log { self.new.log ≡ self.old.log }
+        ensures saved { self.new.saved ≡ self.old.saved }
+        ensures totals { self.new.totals ≡ self.old.totals }
+        ensures drafted { self.new.drafted ≡ self.old.drafted }
+        ensures draft { DraftsCut self.new.draft.changes number len }
+    {
+        self.draft.changes.loss = Loss::Blocks(Cut {
+            number,
+            first: len.div_ceil(512),
+        });
+    }
+
+    /// Cuts off the tail of the last block of a file that has lost those behind it.
+    fn cut_last(&mut self, number: u16, len: u32) -> Result<(), StoreFault>
+        requires some { 1 ≤ number }
+        requires few { number ≤ 4095 }
+        requires most { len ≤ 8511488 }
+        requires inside { 0 < len % 512 }
+        requires lost { DraftsCut self.old.draft.changes number len }
+        ensures reads { Reads D.SectorDevice.state self.old.log self.new.log }
+        ensures saved { self.new.saved ≡ self.old.saved }
+        ensures totals { self.new.totals ≡ self.old.totals }
+        ensures drafted { self.new.drafted ≡ self.old.drafted }
+        ensures done { OnOk result (CutsDraft D.SectorDevice.state self.old.log self.new.log self.new.draft.changes number len) }
+        ensures failed { IfErr result (λ fault. (fault ≡ StoreFault.NoMemory → ⊥) → IsReadFault D.SectorDevice.state self.old.log self.new.log) }
+    {
+        let mut block = [0; 512];
+        let stored = match self.block(number, len / 512, &mut block) {
+            Ok(stored) => stored,
+            Err(fault) => return Err(StoreFault::Log(fault)),
+        };
+        if !stored {
+            return Ok(());
+        }
+        cut_tail(&mut block, (len % 512) as usize);
+        let Ok(()) = self.draft.put_block(number, len / 512, &block) else {
+            return Err(StoreFault::NoMemory);
+        };
+        Ok(())
+    }
+
+    /// A file of this header has another size.
+    fn resize(&mut self, number: u16, header: Header, size: u32) -> Result<(), StoreFault>
+        requires some { 1 ≤ number }
+        requires few { number ≤ 4095 }
+        ensures log { self.new.log ≡ self.old.log }
+        ensures saved { self.new.saved ≡ self.old.saved }
+        ensures totals { self.new.totals ≡ self.old.totals }
+        ensures drafted { self.new.drafted ≡ self.old.drafted }
+        ensures done { OnOk result (PutsHeader self.old.draft.changes self.new.draft.changes number (resized header size)) }
+        ensures failed { IfErr result (λ fault. fault ≡ StoreFault.NoMemory) }
+    {
+        let header = Header {
+            kind: header.kind,
+            links: header.links,
+            size,
+        };
+        let Ok(()) = self.draft.put_header(number, header) else {
+            return Err(StoreFault::NoMemory);
+        };
+        Ok(())
+    }
+}
