@@ -1,0 +1,13 @@
+pub mod SlotNames
+pub mod SlotPlaces
+pub mod Scans
+pub mod Searches
+pub mod SlotsAdded
+pub mod SlotsApart
+pub mod SlotsReplaced
+pub mod SlotsGive
+pub mod SlotsKept
+pub mod SlotsTaken
+pub mod Takings
+pub mod PlacesOfNames
+pub mod Lists

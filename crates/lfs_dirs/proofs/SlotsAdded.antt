@@ -1,0 +1,92 @@
+-- A slot written behind those of a directory.
+use Rattle.std.specs.Prelude.{max}
+use Rattle.std.proofs.Common.{◌≡◌, ◌≢◌, ◌<◌, ◌≤◌, ⊎_elim, ◌+◌, ◌*◌, ◌/◌, ℕ, List, [], ◌∷◌, ◌++◌, length, get_or, None, sym, ◌∙◌, ap, subst, arith}
+use Rattle.std.proofs.lemmas.Bool.{cases_lt}
+use Rattle.std.proofs.lemmas.List.{ext_get_or, get_or_append_left, get_or_push, length_push}
+use Rattle.std.specs.FinMap.{find}
+use Rattle.std.specs.List.{AllByRecursion}
+use Rattle.lfs_model.specs.Checkpoint.{CheckpointValue}
+use Rattle.lfs_model.specs.Device.{DeviceState}
+use Rattle.lfs_model.specs.Objects.{IsDirectory, WritesBytes, byte_in}
+use Rattle.lfs_model.specs.Slot.{FitsSlot, IsName, SlotValue, slot_in}
+use Rattle.lfs_model.specs.Stands.{LogMap}
+use Rattle.lfs_model.specs.Tree.{byte_cmp}
+use Rattle.lfs_model.specs.TreeOf.{map_of}
+use Rattle.lfs_memory.specs.declared.changes.Changes.{Changes}
+use Rattle.lfs_memory.specs.declared.header.Header.{Header}
+use Rattle.lfs_memory.specs.Batch.{staged}
+use Rattle.lfs_memory.specs.Present.{as_header}
+use Rattle.lfs_log.specs.Held.{Held, Holds}
+use Rattle.lfs_store.specs.Writing.{Writes, WritesFile, resized}
+use Rattle.lfs_dirs.specs.Adding.{Adds, AddsName, SlotWritten, grown, slot_for}
+use Rattle.lfs_dirs.specs.Directory.{names_at, slots_at}
+use Rattle.lfs_dirs.proofs.SlotNames.{appended, appended_apart, appended_formed}
+use Rattle.lfs_dirs.proofs.SlotPlaces.{slot_byte, slot_is, slot_long, slots_many}
+
+-- ---- the slots
+module _ (m m' : LogMap) (d : ℕ) (head : Header) (slot : List ℕ) (dir : IsDirectory m d (as_header head)) (long : length slot ≡ 64) (writes : WritesBytes m m' d (as_header head) (as_header (grown head)) head.size slot) where
+  old_slot : (j : ℕ) → j < head.size / 64 → get_or (slots_at m' d (grown head)) j [] ≡ get_or (slots_at m d head) j []
+  old_slot j low =
+      slot_is m' d (grown head) j (get_or (slots_at m d head) j []) (omega (arith, low)) (slot_long m d head j low)
+      (λ b inside. slot_byte m d head j b low inside ∙ sym (writes.bytes.before (64 * j + b) (omega (arith, low, inside))))
+
+  new_slot : get_or (slots_at m' d (grown head)) (head.size / 64) [] ≡ slot
+  new_slot =
+      let whole = dir.whole in
+      slot_is m' d (grown head) (head.size / 64) slot (omega arith) long
+      (λ b inside.
+      let place : head.size + b ≡ 64 * (head.size / 64) + b = omega (arith, whole) in
+      sym (writes.bytes.inside b (omega (arith, inside, long))) ∙ ap (λ (p : ℕ). byte_in m' d p) place)
+
+  pub slots_grown : slots_at m' d (grown head) ≡ slots_at m d head ++ slot ∷ []
+  slots_grown =
+      let many = slots_many m d head in
+      let more = slots_many m' d (grown head) in
+      let pushed = length_push (slots_at m d head) slot in
+      let same : length (slots_at m' d (grown head)) ≡ length (slots_at m d head ++ slot ∷ []) = omega (arith, many, more, pushed) in
+      ext_get_or [] (slots_at m' d (grown head)) (slots_at m d head ++ slot ∷ []) same
+      (λ j inside. ⊎_elim
+      (λ (low : j < head.size / 64). old_slot j low ∙ sym (get_or_append_left (slots_at m d head) (slot ∷ []) [] j (omega (arith, low, many))))
+      (λ (high : head.size / 64 ≤ j).
+      let last : head.size / 64 ≡ j = omega (arith, high, inside, more) in
+      ap (λ (i : ℕ). get_or (slots_at m' d (grown head)) i []) (sym last) ∙ new_slot ∙ sym (get_or_push (slots_at m d head) slot [] j (many ∙ last)))
+      (cases_lt j (head.size / 64)))
+
+pub slot_written : SlotWritten
+slot_written m m' d head slot dir long writes = slots_grown m m' d head slot dir long writes
+
+-- ---- the names
+pub adds_name : (m m' : LogMap) (d : ℕ) (head : Header) (n : ℕ) (name : List ℕ) → FitsSlot 0 record { number = n; name = name } → length (slot_for n name) ≡ 64 → IsDirectory m d (as_header head)
+    → find byte_cmp name (names_at m d head) ≡ None → WritesBytes m m' d (as_header head) (as_header (grown head)) head.size (slot_for n name) → AddsName m m' d head n name
+adds_name m m' d head n name fits long dir new writes = record {
+  directory = record {
+    whole = let w = dir.whole in omega (arith, w);
+    formed = subst (λ (a : List (List ℕ)). AllByRecursion (λ b. slot_in 0 b ≢ None) a) (sym grows) (appended_formed s fits (slots_at m d head) dir.formed);
+    apart = subst (λ (a : List (List ℕ)). length (map_of 0 a) ≡ length a) (sym grows) (appended_apart s fits (slots_at m d head) new dir.apart);
+  };
+  names = ap (map_of 0) grows ∙ appended s fits (slots_at m d head) new;
+}
+  where
+    s : SlotValue
+    s = record { number = n; name = name }
+
+    grows : slots_at m' d (grown head) ≡ slots_at m d head ++ slot_for n name ∷ []
+    grows = slots_grown m m' d head (slot_for n name) dir long writes
+
+pub fits_slot : (n : ℕ) (name : List ℕ) → 1 ≤ n → n ≤ 4095 → IsName 59 name → FitsSlot 0 record { number = n; name = name }
+fits_slot n name some few good = record { number = (some, few); name = good }
+
+-- ---- the draft
+module _ {D : Type 0} (state : D → DeviceState) (h h' : Held D) (c c' : Changes) (d : ℕ) (head : Header) (n : ℕ) (name : List ℕ) where
+  pub adds : FitsSlot 0 record { number = n; name = name } → length (slot_for n name) ≡ 64 → Writes state h h' c c' d head head.size (slot_for n name) → Adds state h h' c c' d head n name
+  adds fits long writes = record {
+    writes = writes;
+    file = file;
+    more = λ k m0 m keeps holds dir new. adds_name (staged c m) (staged c' m) d head n name fits long dir new (file k m0 m keeps holds).bytes;
+  }
+    where
+      size : max head.size (head.size + length (slot_for n name)) ≡ head.size + 64
+      size = omega (arith, long)
+
+      file : (k : CheckpointValue) (m0 m : LogMap) → (state h'.device).keeps_model → Holds state h k m0 m → WritesFile (staged c m) (staged c' m) d head (grown head) head.size (slot_for n name)
+      file k m0 m keeps holds = subst (λ (z : ℕ). WritesFile (staged c m) (staged c' m) d head (resized head z) head.size (slot_for n name)) size (writes.file k m0 m keeps holds)

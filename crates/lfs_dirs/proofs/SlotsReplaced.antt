@@ -1,0 +1,138 @@
+-- A slot of a directory written anew.
+use Rattle.std.specs.Prelude.{max, set}
+use Rattle.std.proofs.Common.{◌≡◌, ◌≢◌, ◌<◌, ◌≤◌, ⊎_elim, ◌+◌, ◌*◌, ◌/◌, ℕ, suc, List, [], ◌∷◌, ◌++◌, length, take, drop, get_or, Some, None, refl, sym, ◌∙◌, ap, subst, arith}
+use Rattle.std.proofs.lemmas.Bool.{cases_eq, cases_lt}
+use Rattle.std.proofs.lemmas.List.{drop_more, ext_get_or, get_or-set_same, get_or-set_other, length-set, set_split, take-append-drop}
+use Rattle.std.specs.FinMap.{put}
+use Rattle.lfs_model.specs.Checkpoint.{CheckpointValue}
+use Rattle.lfs_model.specs.Device.{DeviceState}
+use Rattle.lfs_model.specs.Objects.{IsDirectory, WritesBytes, byte_in}
+use Rattle.lfs_model.specs.Slot.{FitsSlot, SlotValue, slot_in}
+use Rattle.lfs_model.specs.Stands.{LogMap}
+use Rattle.lfs_model.specs.Tree.{byte_cmp}
+use Rattle.lfs_model.specs.TreeOf.{map_of}
+use Rattle.lfs_model.proofs.Decoding.{slot_some}
+use Rattle.lfs_memory.specs.declared.changes.Changes.{Changes}
+use Rattle.lfs_memory.specs.declared.header.Header.{Header}
+use Rattle.lfs_memory.specs.Batch.{staged}
+use Rattle.lfs_memory.specs.Present.{as_header}
+use Rattle.lfs_log.specs.Held.{Held, Holds, Reads, IsReadFault}
+use Rattle.lfs_store.specs.Writing.{Writes, WritesFile, resized}
+use Rattle.lfs_store.proofs.LogReads.{held_still}
+use Rattle.lfs_dirs.specs.declared.searching.Found.{Found}
+use Rattle.lfs_dirs.specs.Adding.{slot_for}
+use Rattle.lfs_dirs.specs.Directory.{slots_at}
+use Rattle.lfs_dirs.specs.Finding.{IsDirectoryFault}
+use Rattle.lfs_dirs.specs.Repointing.{Repoints, RepointsName}
+use Rattle.lfs_dirs.specs.Searching.{FindsSlot, IsSlotOf}
+use Rattle.lfs_dirs.proofs.SlotPlaces.{slot_byte, slot_is, slot_long, slots_many}
+use Rattle.lfs_dirs.proofs.SlotsApart.{AreApart, AreFormed, replaced, replaced_apart, replaced_formed}
+
+-- ---- lists
+-- the list about one of its elements
+pub parts_at : (a : List (List ℕ)) (j : ℕ) → j < length a → a ≡ take j a ++ get_or a j [] ∷ drop (j + 1) a
+parts_at a j inside = sym (take-append-drop j a) ∙ ap (λ (b : List (List ℕ)). take j a ++ b) (drop_more a j [] inside)
+
+pub parts_set : (a : List (List ℕ)) (j : ℕ) (y : List ℕ) → j < length a → set a j y ≡ take j a ++ y ∷ drop (j + 1) a
+parts_set a j y inside = let next : suc j ≡ j + 1 = omega arith in set_split a j y inside ∙ ap (λ (k : ℕ). take j a ++ y ∷ drop k a) next
+
+-- ---- the slots
+module _ (m m' : LogMap) (d : ℕ) (head : Header) (place : ℕ) (slot : List ℕ) (inside : place < head.size / 64) (long : length slot ≡ 64) (writes : WritesBytes m m' d (as_header head) (as_header head) (64 * place) slot) where
+  apart_bytes : (j b : ℕ) → j ≢ place → b < 64 → byte_in m' d (64 * j + b) ≡ byte_in m d (64 * j + b)
+  apart_bytes j b other low = ⊎_elim
+      (λ (before : j < place). writes.bytes.before (64 * j + b) (omega (arith, before, low)))
+      (λ (le : place ≤ j). writes.bytes.behind (64 * j + b) (omega (arith, le, other, low, long)))
+      (cases_lt j place)
+
+  pub slots_set : slots_at m' d head ≡ set (slots_at m d head) place slot
+  slots_set =
+      let many = slots_many m d head in
+      let many' = slots_many m' d head in
+      let kept = length-set (slots_at m d head) place slot in
+      ext_get_or [] (slots_at m' d head) (set (slots_at m d head) place slot) (omega (arith, many, many', kept))
+      (λ j low.
+      let within : j < head.size / 64 = omega (arith, low, many') in
+      ⊎_elim
+      (λ (here : j ≡ place).
+      slot_is m' d head j slot within long
+      (λ b small. sym (writes.bytes.inside b (omega (arith, small, long))) ∙ ap (λ (k : ℕ). byte_in m' d (64 * k + b)) (sym here))
+      ∙ sym (ap (λ (k : ℕ). get_or (set (slots_at m d head) place slot) k []) here ∙ get_or-set_same (slots_at m d head) place slot [] (omega (arith, inside, many))))
+      (λ (other : j ≢ place).
+      slot_is m' d head j (get_or (slots_at m d head) j []) within (slot_long m d head j within)
+      (λ b small. slot_byte m d head j b within small ∙ sym (apart_bytes j b other small))
+      ∙ sym (get_or-set_other (slots_at m d head) place j slot [] other))
+      (cases_eq j place))
+
+-- ---- the names
+abbrev slot_value : ℕ → List ℕ → SlotValue
+slot_value n name = record { number = n; name = name }
+
+module _ (m m' : LogMap) (d : ℕ) (head : Header) (n : ℕ) (name : List ℕ) (fits : FitsSlot 0 record { number = n; name = name }) (long : length (slot_for n name) ≡ 64) (found : Found)
+    (is : IsSlotOf (slots_at m d head) name found) (dir : IsDirectory m d (as_header head)) (writes : WritesBytes m m' d (as_header head) (as_header head) (64 * found.place) (slot_for n name)) where
+  abbrev old : List (List ℕ)
+  old = slots_at m d head
+
+  abbrev before : List (List ℕ)
+  before = take found.place old
+
+  abbrev behind : List (List ℕ)
+  behind = drop (found.place + 1) old
+
+  was : old ≡ before ++ get_or old found.place [] ∷ behind
+  was = parts_at old found.place is.inside
+
+  now : slots_at m' d head ≡ before ++ slot_for n name ∷ behind
+  now = let inside = is.inside in let many = slots_many m d head in
+      slots_set m m' d head found.place (slot_for n name) (omega (arith, inside, many)) long writes ∙ parts_set old found.place (slot_for n name) is.inside
+
+  spelt : slot_in 0 (slot_for n name) ≡ Some record { number = n; name = name }
+  spelt = slot_some 0 (slot_for n name) record { number = n; name = name } fits refl
+
+  is_slot : slot_in 0 (slot_for n name) ≢ None
+  is_slot none = let bad : Some (slot_value n name) ≡ None = sym spelt ∙ none in absurd (cc)
+
+  were_apart : AreApart (before ++ get_or old found.place [] ∷ behind)
+  were_apart = subst AreApart was dir.apart
+
+  pub repoints_name : RepointsName m m' d head n name
+  repoints_name = record {
+    there = λ none. let bad : Some found.number ≡ None = sym is.gives ∙ none in absurd (cc);
+    directory = record {
+      whole = dir.whole;
+      formed = subst AreFormed (sym now) (replaced_formed before behind (get_or old found.place []) (slot_for n name) is_slot (subst AreFormed was dir.formed));
+      apart = subst AreApart (sym now) (replaced_apart before behind (get_or old found.place []) record { number = found.number; name = name } is.slot were_apart (slot_for n name) record { number = n; name = name } spelt refl);
+    };
+    names =
+        ap (map_of 0) now
+        ∙ replaced before behind (get_or old found.place []) record { number = found.number; name = name } is.slot were_apart (slot_for n name) record { number = n; name = name } spelt refl
+        ∙ ap (λ (a : List (List ℕ)). put byte_cmp name n (map_of 0 a)) (sym was);
+  }
+
+-- ---- the draft
+module _ {D : Type 0} (state : D → DeviceState) (h s h' : Held D) (c c' : Changes) (d : ℕ) (head : Header) (n : ℕ) (name : List ℕ) (found : Found) where
+  pub repoints : FitsSlot 0 record { number = n; name = name } → length (slot_for n name) ≡ 64 → found.place < head.size / 64 → Reads state h s → Reads state s h' → FindsSlot state h s c d head name (Some found)
+      → Writes state s h' c c' d head (64 * found.place) (slot_for n name) → Repoints state h h' c c' d head n name
+  repoints fits long inside reads more finds writes = record {
+    searched = s;
+    reads = reads;
+    place = found.place;
+    writes = writes;
+    file = file;
+    names = λ k m0 m keeps holds dir.
+        repoints_name (staged c m) (staged c' m) d head n name fits long found (finds k m0 m (more.looks.carries.kept_before keeps) holds) dir (file k m0 m keeps holds).bytes;
+  }
+    where
+      size : max head.size (64 * found.place + length (slot_for n name)) ≡ head.size
+      size = omega (arith, long, inside)
+
+      file : (k : CheckpointValue) (m0 m : LogMap) → (state h'.device).keeps_model → Holds state h k m0 m → WritesFile (staged c m) (staged c' m) d head head (64 * found.place) (slot_for n name)
+      file k m0 m keeps holds =
+          subst (λ (z : ℕ). WritesFile (staged c m) (staged c' m) d head (resized head z) (64 * found.place) (slot_for n name)) size
+          (writes.file k m0 m keeps (held_still state h s k m0 m reads holds))
+
+-- what fails after the search
+pub fails_behind : {D : Type 0} (state : D → DeviceState) (h s h' : Held D) (c : Changes) (d : ℕ) (head : Header) → Reads state h s → IsReadFault state s h' → IsDirectoryFault state h h' c d head
+fails_behind state h s h' c d head reads failed k m0 m keeps holds dir =
+    let rose = failed k m0 m keeps (held_still state h s k m0 m reads holds) in
+    let before = reads.looks.carries.failures in
+    omega (arith, rose, before)

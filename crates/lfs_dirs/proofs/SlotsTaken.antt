@@ -1,0 +1,160 @@
+-- The last slot of a directory cut off, and written into another's place.
+use Rattle.std.specs.Prelude.{set, slice_index}
+use Rattle.std.proofs.Common.{◌≡◌, ◌<◌, ◌≤◌, ⊎_elim, ◌+◌, ◌*◌, ◌-◌, ◌/◌, ◌%◌, ℕ, zero, suc, List, [], ◌∷◌, ◌++◌, length, take, drop, get_or, Some, None, refl, sym, ◌∙◌, ap, subst, arith}
+use Rattle.std.proofs.lemmas.Bool.{cases_eq, cases_lt}
+use Rattle.std.proofs.lemmas.List.{append_assoc, drop_all, ext_get_or, get_or-take, length-take, set_past}
+use Rattle.std.specs.List.{swap_remove}
+use Rattle.lfs_model.specs.Objects.{CutsBytes, IsDirectory, WritesBytes, byte_in}
+use Rattle.lfs_model.specs.Slot.{SlotValue, slot_in}
+use Rattle.lfs_model.specs.Stands.{LogMap}
+use Rattle.lfs_model.specs.Tree.{byte_cmp, without}
+use Rattle.lfs_model.specs.TreeOf.{map_of}
+use Rattle.lfs_model.proofs.ObjectBytes.{cut_ends}
+use Rattle.lfs_memory.specs.declared.header.Header.{Header}
+use Rattle.lfs_memory.specs.Present.{as_header}
+use Rattle.lfs_store.specs.Writing.{SizesFile, WritesFile}
+use Rattle.lfs_dirs.specs.declared.searching.Found.{Found}
+use Rattle.lfs_dirs.specs.Directory.{slots_at}
+use Rattle.lfs_dirs.specs.Searching.{IsSlotOf}
+use Rattle.lfs_dirs.specs.Taking.{CutsSlot, TakesName, shrunk}
+use Rattle.lfs_dirs.proofs.SlotPlaces.{slot_byte, slot_is, slot_long, slots_many}
+use Rattle.lfs_dirs.proofs.SlotsApart.{AreApart, AreFormed, last_formed, last_taken, moved, moved_formed}
+use Rattle.lfs_dirs.proofs.SlotsReplaced.{parts_at, parts_set, slots_set}
+
+-- ---- bytes before a cut
+cut_byte : (m m' : LogMap) (d len p : ℕ) (head head' : Header) → CutsBytes m m' d (as_header head) (as_header head') len → p < len → byte_in m' d p ≡ byte_in m d p
+cut_byte m m' d len p head head' cuts low = ⊎_elim
+    (λ (at : p / 512 ≡ len / 512).
+    ap (λ (q : ℕ). slice_index (m'.block d q) (p % 512)) at ∙ cuts.last (p % 512) (omega (arith, at, low)) ∙ ap (λ (q : ℕ). slice_index (m.block d q) (p % 512)) (sym at))
+    (λ (ne : p / 512 ≡ len / 512 → ⊥). ap (λ (b : List ℕ). slice_index b (p % 512)) (cuts.whole (p / 512) (omega (arith, ne, low))))
+    (cases_eq (p / 512) (len / 512))
+
+-- ---- slots that are left
+slots_cut : (m m' : LogMap) (d : ℕ) (head : Header) → 64 ≤ head.size → CutsBytes m m' d (as_header head) (as_header (shrunk head)) (head.size - 64) → slots_at m' d (shrunk head) ≡ take (length (slots_at m d head) - 1) (slots_at m d head)
+slots_cut m m' d head some cuts =
+    let many = slots_many m d head in
+    let many' = slots_many m' d (shrunk head) in
+    let left = length-take (length (slots_at m d head) - 1) (slots_at m d head) in
+    ext_get_or [] (slots_at m' d (shrunk head)) (take (length (slots_at m d head) - 1) (slots_at m d head)) (omega (arith, many, many', left, some))
+    (λ j low.
+    let within : j < (head.size - 64) / 64 = omega (arith, low, many') in
+    let inside : j < head.size / 64 = omega (arith, within) in
+    slot_is m' d (shrunk head) j (get_or (slots_at m d head) j []) within (slot_long m d head j inside)
+    (λ b small. slot_byte m d head j b inside small ∙ sym (cut_byte m m' d (head.size - 64) (64 * j + b) head (shrunk head) cuts (omega (arith, within, small))))
+    ∙ sym (get_or-take (length (slots_at m d head) - 1) (slots_at m d head) j [] (omega (arith, within, many))))
+
+set_take : (a : List (List ℕ)) (k i : ℕ) (y : List ℕ) → set (take k a) i y ≡ take k (set a i y)
+set_take [] zero i y = refl
+set_take [] (suc k) i y = refl
+set_take (x ∷ a) zero i y = refl
+set_take (x ∷ a) (suc k) zero y = refl
+set_take (x ∷ a) (suc k) (suc i) y = ap (λ (b : List (List ℕ)). x ∷ b) (set_take a k i y)
+
+removed : (a : List (List ℕ)) (place : ℕ) → swap_remove a place [] ≡ set (take (length a - 1) a) place (get_or a (length a - 1) [])
+removed a place = sym (set_take a (length a - 1) place (get_or a (length a - 1) []))
+
+removed_last : (a : List (List ℕ)) (place : ℕ) → place + 1 ≡ length a → swap_remove a place [] ≡ take (length a - 1) a
+removed_last a place last =
+    let left = length-take (length a - 1) a in
+    removed a place ∙ set_past (take (length a - 1) a) place (get_or a (length a - 1) []) (omega (arith, last, left))
+
+pub slots_dropped : (m m' : LogMap) (d : ℕ) (head : Header) (place : ℕ) → place + 1 ≡ head.size / 64 → CutsBytes m m' d (as_header head) (as_header (shrunk head)) (head.size - 64)
+    → slots_at m' d (shrunk head) ≡ swap_remove (slots_at m d head) place []
+slots_dropped m m' d head place last cuts =
+    let many = slots_many m d head in
+    slots_cut m m' d head (omega (arith, last)) cuts ∙ sym (removed_last (slots_at m d head) place (omega (arith, last, many)))
+
+pub slots_moved : (m l m' : LogMap) (d : ℕ) (head : Header) (place : ℕ) (slot : List ℕ) → place + 1 < head.size / 64 → length slot ≡ 64 → get_or (slots_at m d head) (length (slots_at m d head) - 1) [] ≡ slot
+    → CutsBytes m l d (as_header head) (as_header (shrunk head)) (head.size - 64) → WritesBytes l m' d (as_header (shrunk head)) (as_header (shrunk head)) (64 * place) slot
+    → slots_at m' d (shrunk head) ≡ swap_remove (slots_at m d head) place []
+slots_moved m l m' d head place slot inside long last cuts writes =
+    slots_set l m' d (shrunk head) place slot (omega (arith, inside)) long writes
+    ∙ ap (λ (a : List (List ℕ)). set a place slot) (slots_cut m l d head (omega (arith, inside)) cuts)
+    ∙ ap (λ (s : List ℕ). set (take (length (slots_at m d head) - 1) (slots_at m d head)) place s) (sym last)
+    ∙ sym (removed (slots_at m d head) place)
+
+-- ---- the file
+pub file_cut : (m m' : LogMap) (d : ℕ) (head : Header) → 64 ≤ head.size → SizesFile m m' d head (shrunk head) (head.size - 64) → CutsSlot m m' d head
+file_cut m m' d head some sizes = record {
+  header = sizes.header;
+  only = sizes.only;
+  whole = sizes.whole;
+  ends = cut_ends m m' d (as_header head) (as_header (shrunk head)) (head.size - 64) (sizes.shorter (omega (arith, some)));
+}
+
+pub file_moved : (m l m' : LogMap) (d : ℕ) (head : Header) (place : ℕ) (slot : List ℕ) → place + 1 < head.size / 64 → length slot ≡ 64 → SizesFile m l d head (shrunk head) (head.size - 64)
+    → WritesFile l m' d (shrunk head) (shrunk head) (64 * place) slot → CutsSlot m m' d head
+file_moved m l m' d head place slot inside long sizes writes =
+    let cut = file_cut m l d head (omega (arith, inside)) sizes in
+    record {
+      header = writes.header;
+      only = record {
+        headers = λ k other. writes.only.headers k other ∙ cut.only.headers k other;
+        blocks = λ k i other. writes.only.blocks k i other ∙ cut.only.blocks k i other;
+      };
+      whole = λ was. writes.whole (cut.whole was);
+      ends = λ p past. writes.bytes.bytes.behind p (omega (arith, past, inside, long)) ∙ cut.ends p past;
+    }
+
+-- ---- the names
+last_at : (a : List (List ℕ)) (j : ℕ) → j + 1 ≡ length a → a ≡ take j a ++ get_or a j [] ∷ []
+last_at a j last = parts_at a j (omega (arith, last)) ∙ ap (λ (b : List (List ℕ)). take j a ++ get_or a j [] ∷ b) (drop_all (j + 1) a (omega (arith, last)))
+
+module _ (a : List (List ℕ)) (place : ℕ) (s : SlotValue) (inside : place < length a) (is : slot_in 0 (get_or a place []) ≡ Some s) (distinct : AreApart a) (formed : AreFormed a) where
+  pub record Removes : Type 0 where
+    pub names : map_of 0 (swap_remove a place []) ≡ without byte_cmp s.name (map_of 0 a)
+    pub apart : AreApart (swap_remove a place [])
+    pub formed_still : AreFormed (swap_remove a place [])
+
+  by_parts : (b c : List (List ℕ)) → swap_remove a place [] ≡ c → a ≡ b → (map_of 0 c ≡ without byte_cmp s.name (map_of 0 b)) × AreApart c → AreFormed c → Removes
+  by_parts b c at parts both each = record {
+    names = ap (map_of 0) at ∙ both.0 ∙ ap (λ (l : List (List ℕ)). without byte_cmp s.name (map_of 0 l)) (sym parts);
+    apart = subst AreApart (sym at) both.1;
+    formed_still = subst AreFormed (sym at) each;
+  }
+
+  removes_last : place + 1 ≡ length a → Removes
+  removes_last last =
+      let parts = last_at a place last in
+      let here : length a - 1 ≡ place = omega (arith, last) in
+      by_parts (take place a ++ get_or a place [] ∷ []) (take place a) (removed_last a place last ∙ ap (λ (k : ℕ). take k a) here) parts
+      (last_taken (take place a) (get_or a place []) s is (subst AreApart parts distinct)) (last_formed (take place a) (get_or a place []) (subst AreFormed parts formed))
+
+  removes_other : place + 1 < length a → Removes
+  removes_other other =
+      let front = take (length a - 1) a in
+      let y = get_or a (length a - 1) [] in
+      let left = length-take (length a - 1) a in
+      let within : place < length front = omega (arith, other, left) in
+      let x = get_or front place [] in
+      let before = take place front in
+      let behind = drop (place + 1) front in
+      let same : x ≡ get_or a place [] = get_or-take (length a - 1) a place [] (omega (arith, other)) in
+      let parts : a ≡ before ++ x ∷ (behind ++ y ∷ []) =
+      last_at a (length a - 1) (omega (arith, inside))
+      ∙ ap (λ (b : List (List ℕ)). b ++ y ∷ []) (parts_at front place within)
+      ∙ append_assoc before (x ∷ behind) (y ∷ [])
+      in
+      by_parts (before ++ x ∷ (behind ++ y ∷ [])) (before ++ y ∷ behind) (removed a place ∙ parts_set front place y within) parts
+      (moved before behind x y s (ap (slot_in 0) same ∙ is) (subst AreApart parts distinct)) (moved_formed before behind x y (subst AreFormed parts formed))
+
+  pub removes : Removes
+  removes = ⊎_elim removes_other (λ (last : length a ≤ place + 1). removes_last (omega (arith, last, inside))) (cases_lt (place + 1) (length a))
+
+pub takes_name : (m m' : LogMap) (d : ℕ) (head : Header) (name : List ℕ) (found : Found) → IsSlotOf (slots_at m d head) name found → IsDirectory m d (as_header head)
+    → slots_at m' d (shrunk head) ≡ swap_remove (slots_at m d head) found.place [] → TakesName m m' d head name
+takes_name m m' d head name found is dir slots =
+    let s : SlotValue = record { number = found.number; name = name } in
+    let gone = removes (slots_at m d head) found.place s is.inside is.slot dir.apart dir.formed in
+    let whole = dir.whole in
+    let many = slots_many m d head in
+    let inside = is.inside in
+    record {
+      there = λ none. let bad : Some found.number ≡ None = sym is.gives ∙ none in absurd (cc);
+      directory = record {
+        whole = omega (arith, whole, many, inside);
+        formed = subst AreFormed (sym slots) gone.formed_still;
+        apart = subst AreApart (sym slots) gone.apart;
+      };
+      names = ap (map_of 0) slots ∙ gone.names;
+    }

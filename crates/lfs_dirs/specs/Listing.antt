@@ -1,0 +1,43 @@
+-- The names of a directory, listed in the order of their bytes.
+use Rattle.std.specs.Prelude.{◌≡◌, ◌<◌, ◌≤◌, ◌+◌, ◌*◌, ◌/◌, ℕ, List, ◌++◌, ◌∷◌, length, map, take, drop, get_or, Result, Ok, Err}
+use Rattle.std.specs.FinMap.{put}
+use Rattle.lfs_model.specs.Checkpoint.{CheckpointValue}
+use Rattle.lfs_model.specs.Device.{DeviceState}
+use Rattle.lfs_model.specs.Stands.{LogMap}
+use Rattle.lfs_model.specs.Tree.{Names, byte_cmp}
+use Rattle.lfs_model.specs.TreeOf.{map_of}
+use Rattle.lfs_memory.specs.declared.changes.Changes.{Changes}
+use Rattle.lfs_memory.specs.declared.header.Header.{Header}
+use Rattle.lfs_memory.specs.Batch.{staged}
+use Rattle.lfs_log.specs.Held.{Held, Holds}
+use Rattle.lfs_dirs.specs.declared.entry.Entry.{Entry}
+use Rattle.lfs_dirs.specs.Directory.{names_at, slots_at}
+
+-- ---- entries
+
+-- an entry as a name with the number that it gives
+abbrev pub pair : Entry → List ℕ × ℕ
+pair e = (e.name.items, e.number)
+
+abbrev pub pairs : List Entry → Names
+pairs es = map pair es
+
+-- where a name is among entries, or else the place at which it comes in
+abbrev pub IsPlace : List Entry → List ℕ → Result ℕ ℕ → Type 0
+IsPlace es name (Ok i) = (i < length es) × ((n : ℕ) (e : Entry) → e ≡ get_or es i e → put byte_cmp name n (pairs es) ≡ take i (pairs es) ++ (e.name.items, n) ∷ drop (i + 1) (pairs es))
+IsPlace es name (Err i) = (i ≤ length es) × ((n : ℕ) → put byte_cmp name n (pairs es) ≡ take i (pairs es) ++ (name, n) ∷ drop i (pairs es))
+
+-- The names of slots become those of more slots, which stand before them.
+abbrev pub PutsSlots : List (List ℕ) → List Entry → List Entry → Type 0
+PutsSlots more es es' = (behind : List (List ℕ)) → pairs es ≡ map_of 0 behind → pairs es' ≡ map_of 0 (more ++ behind)
+
+-- ---- a directory
+module _ {D : Type 0} (state : D → DeviceState) where
+  -- its names, with those of one block more
+  abbrev pub ListsBlock : Held D → Held D → Changes → ℕ → ℕ → ℕ → List Entry → List Entry → Type 0
+  ListsBlock h h' c d index count es es' = (k : CheckpointValue) (m0 m : LogMap) → (state h'.device).keeps_model → Holds state h k m0 m → (head : Header) → 8 * index + count ≤ head.size / 64
+      → PutsSlots (take count (drop (8 * index) (slots_at (staged c m) d head))) es es'
+
+  -- all of them
+  abbrev pub Lists : Held D → Held D → Changes → ℕ → Header → List Entry → Type 0
+  Lists h h' c d head es = (k : CheckpointValue) (m0 m : LogMap) → (state h'.device).keeps_model → Holds state h k m0 m → pairs es ≡ names_at (staged c m) d head

@@ -1,0 +1,36 @@
+//! A name added to a directory.
+ghost use Rattle.std.specs.Prelude.{◌≡◌, ◌≤◌, IfErr, OnOk};
+ghost use Rattle.lfs_model.specs.Slot.{IsName};
+ghost use Rattle.lfs_log.specs.Held.{Reads, IsReadFault};
+ghost use Rattle.lfs_dirs.specs.Adding.{Adds};
+
+use lfs_device::SectorDevice;
+use lfs_layout::encode_slot;
+use lfs_log::Header;
+use lfs_store::{Store, StoreFault};
+
+/// Drafts a slot behind those of a directory of this header, which has at most 1,023. Its names aren't looked at: `find` tells whether it has this one.
+///
+/// # Errors
+///
+/// As those of `Store::write_at`.
+pub fn add<D: SectorDevice>(
+    store: &mut Store<D>,
+    directory: u16,
+    header: Header,
+    number: u16,
+    name: &[u8],
+) -> Result<(), StoreFault>
+    requires some { 1 ≤ directory }
+    requires few { directory ≤ 4095 }
+    requires room { header.size ≤ 65472 }
+    requires first { 1 ≤ number }
+    requires last { number ≤ 4095 }
+    requires name { IsName 59 name.now }
+    ensures reads { Reads D.SectorDevice.state store.old.log store.new.log }
+    ensures done { OnOk result (Adds D.SectorDevice.state store.old.log store.new.log store.old.draft.changes store.new.draft.changes directory header number name.now) }
+    ensures failed { IfErr result (λ fault. (fault ≡ StoreFault.NoMemory → ⊥) → IsReadFault D.SectorDevice.state store.old.log store.new.log) }
+{
+    let slot = encode_slot(u32::from(number), name);
+    store.write_at(directory, header, header.size, &slot)
+}

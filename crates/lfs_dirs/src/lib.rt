@@ -1,0 +1,22 @@
+//! Directories: the names that the slots of a file of kind Directory give, searched, listed and changed in place.
+#![tactic(auto)]
+
+mod adding;
+mod entry;
+mod finding;
+pub mod laws;
+mod listing;
+mod repointing;
+mod searching;
+mod slots;
+mod taking;
+
+pub use adding::add;
+pub use entry::Entry;
+pub use finding::find;
+pub use listing::list;
+pub use repointing::repoint;
+pub use taking::take;
+
+#[cfg(test)]
+mod tests;

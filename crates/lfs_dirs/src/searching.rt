@@ -1,0 +1,117 @@
+//! The slot of a name, searched in a directory.
+ghost use Rattle.std.specs.Prelude.{◌≡◌, ◌<◌, ◌≤◌, ◌/◌, true, IfOk, IfSome, OnErr, IsErrOf};
+ghost use Rattle.lfs_log.specs.Held.{Reads};
+ghost use Rattle.lfs_dirs.specs.Directory.{first_slots};
+ghost use Rattle.lfs_dirs.specs.Finding.{HasNoSlot, IsDirectoryFault, IsBlockFault};
+ghost use Rattle.lfs_dirs.specs.Searching.{FindsIn, FindsInBlock, FindsSlot};
+
+use crate::slots::{SLOT, SLOTS_IN_BLOCK};
+use lfs_device::SectorDevice;
+use lfs_layout::{SlotView, nth_slot};
+use lfs_log::{Header, LogFault};
+use lfs_store::Store;
+
+/// A slot that has the name looked for.
+#[derive(Clone, Copy)]
+pub struct Found {
+    /// The slots before it.
+    pub place: u32,
+    pub number: u16,
+}
+
+/// The first slot of this name in a directory of this header, if there is one.
+///
+/// # Errors
+///
+/// As those of `Store::block`; `Device` also where a slot can't be read as one, as none of a directory is.
+pub fn search<D: SectorDevice>(
+    store: &mut Store<D>,
+    directory: u16,
+    header: Header,
+    name: &[u8],
+) -> Result<Option<Found>, LogFault>
+    requires { directory < 4096 }
+    ensures reads { Reads D.SectorDevice.state store.old.log store.new.log }
+    ensures draft { store.new.draft ≡ store.old.draft }
+    ensures saved { store.new.saved ≡ store.old.saved }
+    ensures totals { store.new.totals ≡ store.old.totals }
+    ensures drafted { store.new.drafted ≡ store.old.drafted }
+    ensures answer { IfOk result (FindsSlot D.SectorDevice.state store.old.log store.new.log store.old.draft.changes directory header name.now) }
+    ensures inside { IfOk result (λ found. IfSome found (λ slot. slot.place < header.size / 64)) }
+    ensures failed { OnErr result (IsDirectoryFault D.SectorDevice.state store.old.log store.new.log store.old.draft.changes directory header) }
+    ensures halted { IsErrOf result LogFault.Halted → store.old.log.halted ≡ true }
+    ensures other { IsErrOf result LogFault.Full → ⊥ }
+{
+    let slots = header.size / SLOT;
+    for index in 0..slots.div_ceil(SLOTS_IN_BLOCK) {
+        let first = SLOTS_IN_BLOCK * index;
+        let count = (slots - first).min(SLOTS_IN_BLOCK);
+        match search_block(store, directory, index, count, name) {
+            Ok(Some(found)) => {
+                return Ok(Some(Found {
+                    place: first + found.place,
+                    number: found.number,
+                }));
+            }
+            Ok(None) => {}
+            Err(fault) => return Err(fault),
+        }
+    }
+    Ok(None)
+}
+
+/// The same in one block of a directory, whose first slots are the directory's.
+fn search_block<D: SectorDevice>(
+    store: &mut Store<D>,
+    directory: u16,
+    index: u32,
+    count: u32,
+    name: &[u8],
+) -> Result<Option<Found>, LogFault>
+    requires number { directory < 4096 }
+    requires few { count ≤ 8 }
+    ensures reads { Reads D.SectorDevice.state store.old.log store.new.log }
+    ensures draft { store.new.draft ≡ store.old.draft }
+    ensures saved { store.new.saved ≡ store.old.saved }
+    ensures totals { store.new.totals ≡ store.old.totals }
+    ensures drafted { store.new.drafted ≡ store.old.drafted }
+    ensures answer { IfOk result (FindsInBlock D.SectorDevice.state store.old.log store.new.log store.old.draft.changes directory index count name.now) }
+    ensures inside { IfOk result (λ found. IfSome found (λ slot. slot.place < count)) }
+    ensures failed { OnErr result (IsBlockFault D.SectorDevice.state store.old.log store.new.log store.old.draft.changes directory index count) }
+    ensures halted { IsErrOf result LogFault.Halted → store.old.log.halted ≡ true }
+    ensures other { IsErrOf result LogFault.Full → ⊥ }
+{
+    let mut block = [0; 512];
+    match store.block(directory, index, &mut block) {
+        Ok(_) => {}
+        Err(fault) => return Err(fault),
+    }
+    match search_slots(&block, count, name) {
+        Ok(found) => Ok(found),
+        Err(NoSlot) => Err(LogFault::Device),
+    }
+}
+
+/// Bytes of a directory that are no slot.
+struct NoSlot;
+
+/// The same in the first slots of a block.
+fn search_slots(block: &[u8; 512], count: u32, name: &[u8]) -> Result<Option<Found>, NoSlot>
+    requires { count ≤ 8 }
+    ensures found { IfOk result (FindsIn (first_slots block.now count) name.now) }
+    ensures inside { IfOk result (λ found. IfSome found (λ slot. slot.place < count)) }
+    ensures broken { OnErr result (HasNoSlot block.now count) }
+{
+    for place in 0..count {
+        let Some(view) = SlotView::decode(nth_slot(block, place as usize)) else {
+            return Err(NoSlot);
+        };
+        if view.name() == name {
+            return Ok(Some(Found {
+                place,
+                number: view.number() as u16,
+            }));
+        }
+    }
+    Ok(None)
+}
