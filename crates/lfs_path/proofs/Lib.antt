@@ -1,0 +1,6 @@
+pub mod FlatTrees
+pub mod FlatWalks
+pub mod Lasts
+pub mod Lookups
+pub mod PathEnds
+pub mod Texts

@@ -1,0 +1,5 @@
+use Rattle.lfs_path.proofs.FlatTrees.{last_says}
+use Rattle.lfs_path.proofs.laws.last_pieces_are_told.Goals as goal
+
+pub returns : goal.returns
+returns c = last_says

@@ -1,0 +1,5 @@
+pub mod Lasts
+pub mod Laws
+pub mod Pieces
+pub mod Refusals
+pub mod Walking

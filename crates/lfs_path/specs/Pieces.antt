@@ -1,0 +1,32 @@
+-- The pieces of a path, one after the other.
+use Rattle.std.specs.Prelude.{ℕ, ◌≡◌, ◌<◌, ◌==◌, ◌||◌, Bool, false, nat_lt, List, [], ◌∷◌, length, if◌then◌else◌}
+use Rattle.lfs_model.specs.PathText.{comps, slash}
+use Rattle.lfs_model.specs.Tree.{same_name}
+use Rattle.lfs_model.specs.Walk.{dot, dot_dot, more}
+
+-- a byte of a slash
+abbrev pub is_slash : ℕ → Bool
+is_slash c = c == 47
+
+-- dot or dot-dot: in the root both stay there
+abbrev pub is_dots : List ℕ → Bool
+is_dots piece = same_name piece dot || same_name piece dot_dot
+
+-- the pieces from the first on that is a name
+abbrev pub from_name : List (List ℕ) → List (List ℕ)
+from_name [] = []
+from_name (p ∷ ps) = if is_dots p then from_name ps else p ∷ ps
+
+-- The first piece of a path, and the text behind it.
+pub record IsNextPiece (path piece rest : List ℕ) : Type 0 where
+  pub pieces : comps path ≡ piece ∷ comps rest
+  pub slash_end : slash path ≡ slash rest
+  -- a piece or a slash end is left where any text is
+  pub goes_on : more (comps rest) (slash rest) ≡ nat_lt 0 (length rest)
+  pub shorter : length rest < length path
+
+-- The first piece that is a name, and the text behind it.
+pub record IsFirstName (path name rest : List ℕ) : Type 0 where
+  pub pieces : from_name (comps path) ≡ name ∷ comps rest
+  pub plain : is_dots name ≡ false
+  pub goes_on : more (comps rest) (slash path) ≡ nat_lt 0 (length rest)
