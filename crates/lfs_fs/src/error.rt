@@ -2,8 +2,11 @@
 ghost use Rattle.std.specs.Prelude.{◌≡◌};
 ghost use Rattle.lfs_model.specs.Script.{refusal_name};
 ghost use Rattle.lfs_fs.specs.Refusals.{refusal_of};
+ghost use Rattle.lfs_fs.specs.Faults.{error_of_log, error_of_store, error_of_path};
 
 use lfs_log::LogFault;
+use lfs_path::PathFault;
+use lfs_store::StoreFault;
 use std::alloc::AllocError;
 
 /// Why a call of a mounted volume is refused. After all but `Halted` the tree and the handles are as before.
@@ -87,17 +90,46 @@ impl FsError {
 }
 
 impl From<AllocError> for FsError {
-    fn from(_: AllocError) -> FsError {
+    fn from(_: AllocError) -> FsError
+        ensures { result ≡ FsError.NoMemory }
+    {
         FsError::NoMemory
     }
 }
 
 impl From<LogFault> for FsError {
-    fn from(fault: LogFault) -> FsError {
+    fn from(fault: LogFault) -> FsError
+        ensures { result ≡ error_of_log fault }
+    {
         match fault {
             LogFault::Device => FsError::Device,
             LogFault::Halted => FsError::Halted,
             LogFault::Full => FsError::Stuck,
+        }
+    }
+}
+
+impl From<StoreFault> for FsError {
+    fn from(fault: StoreFault) -> FsError
+        ensures { result ≡ error_of_store fault }
+    {
+        match fault {
+            StoreFault::NoMemory => FsError::NoMemory,
+            StoreFault::Log(fault) => FsError::from(fault),
+        }
+    }
+}
+
+impl From<PathFault> for FsError {
+    fn from(fault: PathFault) -> FsError
+        ensures { result ≡ error_of_path fault }
+    {
+        match fault {
+            PathFault::NoEntry => FsError::NoEntry,
+            PathFault::NotDir => FsError::NotDir,
+            PathFault::NameTooLong => FsError::NameTooLong,
+            PathFault::Inval => FsError::Inval,
+            PathFault::Log(fault) => FsError::from(fault),
         }
     }
 }
@@ -109,7 +141,8 @@ pub enum FormatFault {
     Inval,
     /// The device has too few sectors.
     TooSmall,
-    /// A device call failed. Nothing is promised of the device's content then.
+    /// A device call failed: the device holds what stood there, with slots that may be cleared, or no checkpoint, or the
+    /// empty volume.
     Device,
 }
 

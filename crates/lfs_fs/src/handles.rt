@@ -1,6 +1,10 @@
 //! The open handles.
-ghost use Rattle.std.specs.Prelude.{◌≡◌, ◌≢◌, ◌<◌, ◌≤◌, ℕ, IfSome, IfNone, Some, slice_get, slice_index, slice_set};
+ghost use Rattle.std.specs.Prelude.{◌≡◌, ◌≢◌, ◌<◌, ◌≤◌, ℕ, List, [], IfSome, IfNone, Some, slice_get, slice_index, slice_set};
+ghost use Rattle.std.specs.Ordering.{nat_cmp};
+ghost use Rattle.std.specs.FinMap.{find, put};
 ghost use Rattle.arrayvec.specs.ArrayVec.{array_vec_len};
+ghost use Rattle.lfs_model.specs.Tree.{least_handle};
+ghost use Rattle.lfs_fs.specs.Handles.{handles_of, AreHandles};
 
 use arrayvec::ArrayVec;
 
@@ -13,7 +17,9 @@ pub struct Handles {
 
 impl Handles {
     /// No handle is open.
-    pub fn new() -> Handles {
+    pub fn new() -> Handles
+        ensures { handles_of result.numbers.items ≡ [] }
+    {
         let mut numbers = ArrayVec::new();
         for _ in 0..64usize {
             numbers.push(0);
@@ -25,6 +31,7 @@ impl Handles {
     pub fn get(&self, handle: u32) -> Option<u16>
         ensures open { IfSome result (λ number. (handle < 64) × (number ≢ 0) × (slice_index self.now.numbers.items handle ≡ number)) }
         ensures closed { IfNone result (handle < 64 → slice_index self.now.numbers.items handle ≡ 0) }
+        ensures file { result ≡ find nat_cmp handle (handles_of self.now.numbers.items) }
     {
         if handle >= 64 {
             return None;
@@ -40,6 +47,8 @@ impl Handles {
         ensures found { IfSome result (λ handle. (handle < 64) × (slice_index self.now.numbers.items handle ≡ 0)) }
         ensures least { IfSome result (λ handle. (k : ℕ) → k < handle → slice_index self.now.numbers.items k ≢ 0) }
         ensures none { IfNone result ((k : ℕ) → k < 64 → slice_index self.now.numbers.items k ≢ 0) }
+        ensures first { IfSome result (λ handle. least_handle (handles_of self.now.numbers.items) ≡ handle) }
+        ensures full { IfNone result (64 ≤ least_handle (handles_of self.now.numbers.items)) }
     {
         for handle in 0..64u32 {
             if self.numbers[handle as usize] == 0 {
@@ -52,8 +61,14 @@ impl Handles {
     /// Opens a handle on a file.
     pub fn open(&mut self, handle: u32, number: u16)
         requires { handle < 64 }
-        ensures { self.new.numbers.items ≡ slice_set self.old.numbers.items handle number }
+        ensures at { self.new.numbers.items ≡ slice_set self.old.numbers.items handle number }
+        ensures opened { number ≢ 0 → handles_of self.new.numbers.items ≡ put nat_cmp handle number (handles_of self.old.numbers.items) }
     {
         self.numbers[handle as usize] = number;
     }
 }
+
+/// The open handles of a table are in order, each is a place of it, and none has the number 0.
+pub fn tables_hold_handles()
+    ensures { (numbers : List ℕ) → AreHandles numbers }
+{}

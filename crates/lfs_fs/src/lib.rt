@@ -1,22 +1,23 @@
 //! The calls of a volume.
 #![tactic(auto)]
 
-mod content;
-mod directory;
-mod draft;
 mod error;
 mod fs;
 mod handles;
+mod image;
 mod making;
-mod path;
+mod mounting;
+mod naming;
+mod reading;
 mod rows;
-mod totals;
+mod saving;
+mod writing;
 
 pub use error::{FormatFault, FsError};
 pub use fs::Fs;
 pub use lfs_log::MountFault;
 pub use making::format;
-pub use rows::{Space, TreeRow};
+pub use rows::{Space, Stat, TreeRow};
 
 #[cfg(test)]
 mod tests;

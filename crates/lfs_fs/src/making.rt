@@ -1,32 +1,44 @@
 //! Making an empty volume.
-ghost use Rattle.std.specs.Prelude.{◌≡◌, ◌≤◌, ◌<◌, ◌+◌, ◌*◌, ◌/◌};
-ghost use Rattle.lfs_model.specs.Checkpoint.{FitsCheckpoint, IsSegmentCount};
-ghost use Rattle.lfs_model.specs.Summary.{IsPlaced};
+ghost use Rattle.std.specs.Prelude.{◌≡◌, ◌≤◌, ◌<◌, ◌+◌, ◌*◌, ◌↔◌, ◌⊎◌, [], ◌∷◌, Some, OnOk, OnErr, IsErrOf};
+ghost use Rattle.lfs_model.specs.Checkpoint.{IsSegmentCount};
+ghost use Rattle.lfs_model.specs.Content.{Content, newest};
+ghost use Rattle.lfs_model.specs.Device.{Only, AllLeft, Carries, LeavesOnly, ComesFrom, SameOutside};
+ghost use Rattle.lfs_model.specs.Image.{first_checkpoint, usage_blocks, IsNew};
+ghost use Rattle.lfs_model.specs.Tree.{Dir};
+ghost use Rattle.lfs_model.specs.TreeOf.{Stands};
+ghost use Rattle.lfs_model.specs.Volume.{mounted};
+ghost use Rattle.lfs_fs.specs.Making.{AreClear, HasChunk, MayClearSlots, MayStand};
 
 use crate::error::FormatFault;
-use lfs_device::{DeviceFault, SectorDevice};
-use lfs_layout::{
-    BlockName, Checkpoint, Inode, SegmentUsage, encode_pointers, encode_summary, encode_usage,
-    is_segment_count,
+use crate::image::{
+    INODE, MAP, USAGE, checkpoint, map_block, root_block, summary_block, usage_block, usage_count,
 };
-use lfs_model::{BlockKind, Kind};
+use lfs_device::{DeviceFault, SectorDevice};
+use lfs_layout::is_segment_count;
 use lfs_root::replace;
 
-/// Where the first chunk puts the root's inode, the inode map block and the usage blocks.
-const INODE: u32 = 3;
-
-const MAP: u32 = 4;
-
-const USAGE: u32 = 5;
-
 /// Makes the device an empty volume of so many segments. It takes no memory and writes the two checkpoint slots and the
-/// first chunk alone.
+/// first chunk alone. A stop at any moment leaves what stood there, with slots that may be cleared, or no checkpoint, or
+/// the empty volume, and after `Ok` this alone.
 ///
 /// # Errors
 ///
 /// In this order: `Inval` where the count is no multiple of 8 in 64..=1,024, `TooSmall` where the device has fewer than
-/// 2 + 64 sectors a segment, `Device` where a call of the device failed.
-pub fn format<D: SectorDevice>(device: &mut D, segments: u32) -> Result<(), FormatFault> {
+/// 2 + 64 sectors a segment, both with the device as it was, `Device` where a call of the device failed.
+pub fn format<D: SectorDevice>(device: &mut D, segments: u32) -> Result<(), FormatFault>
+    ensures inval { IsErrOf result FormatFault.Inval ↔ ¬ (IsSegmentCount segments) }
+    ensures too_small { IsErrOf result FormatFault.TooSmall ↔ IsSegmentCount segments × ((D.state device.old).size < 2 + 64 * segments) }
+    ensures refused { IsErrOf result FormatFault.Inval ⊎ IsErrOf result FormatFault.TooSmall → device.new ≡ device.old }
+    ensures failed { IsErrOf result FormatFault.Device → (D.state device.old).failures < (D.state device.new).failures }
+    ensures no_failure { OnOk result ((D.state device.new).failures ≡ (D.state device.old).failures) }
+    ensures volume { OnOk result ((D.state device.new).keeps_model → Stands (D.state device.new).content (mounted 1 ((1, Dir 0 []) ∷ []))) }
+    ensures checkpoint { OnOk result ((D.state device.new).keeps_model → newest (D.state device.new).content ≡ Some (first_checkpoint segments)) }
+    ensures durable { OnOk result ((D.state device.new).keeps_model → Only (D.state device.new).content (D.state device.new)) }
+    ensures others { OnOk result ((D.state device.new).keeps_model → SameOutside 0 (5 + usage_blocks segments) (D.state device.old).content (D.state device.new).content) }
+    ensures any_moment { (D.state device.new).keeps_model → LeavesOnly (D.state device.old) (D.state device.new) (MayStand segments (D.state device.old)) }
+    ensures touched { LeavesOnly (D.state device.old) (D.state device.new) (ComesFrom (D.state device.old) (SameOutside 0 (5 + usage_blocks segments))) }
+    ensures carries { Carries (D.state device.old) (D.state device.new) }
+{
     if !is_segment_count(segments) {
         return Err(FormatFault::Inval);
     }
@@ -39,107 +51,94 @@ pub fn format<D: SectorDevice>(device: &mut D, segments: u32) -> Result<(), Form
     }
 }
 
+/// Clears the slots, writes the first chunk and then its checkpoint, each synced before the next.
 fn write_volume<D: SectorDevice>(device: &mut D, segments: u32) -> Result<(), DeviceFault>
     requires count { IsSegmentCount segments }
     requires size { 2 + 64 * segments ≤ (D.state device.old).size }
+    ensures any_moment { (D.state device.new).keeps_model → LeavesOnly (D.state device.old) (D.state device.new) (MayStand segments (D.state device.old)) }
+    ensures volume { OnOk result ((D.state device.new).keeps_model → IsNew segments (D.state device.new).content) }
+    ensures others { OnOk result ((D.state device.new).keeps_model → SameOutside 0 (5 + usage_blocks segments) (D.state device.old).content (D.state device.new).content) }
+    ensures durable { OnOk result ((D.state device.new).keeps_model → Only (D.state device.new).content (D.state device.new)) }
+    ensures failed { OnErr result ((D.state device.old).failures < (D.state device.new).failures) }
+    ensures no_failure { OnOk result ((D.state device.new).failures ≡ (D.state device.old).failures) }
+    ensures touched { LeavesOnly (D.state device.old) (D.state device.new) (ComesFrom (D.state device.old) (SameOutside 0 (5 + usage_blocks segments))) }
+    ensures carries { Carries (D.state device.old) (D.state device.new) }
+{
+    clear_slots(device)?;
+    write_chunk(device, segments)?;
+    device.sync()?;
+    replace(device, &checkpoint(segments))?;
+    Ok(())
+}
+
+/// Clears both slots and syncs.
+fn clear_slots<D: SectorDevice>(device: &mut D) -> Result<(), DeviceFault>
+    requires { 2 ≤ (D.state device.old).size }
+    ensures any_moment { LeavesOnly (D.state device.old) (D.state device.new) (ComesFrom (D.state device.old) MayClearSlots) }
+    ensures clear { OnOk result ((D.state device.new).keeps_model → AreClear (D.state device.new).content) }
+    ensures others { OnOk result ((D.state device.new).keeps_model → SameOutside 0 2 (D.state device.old).content (D.state device.new).content) }
+    ensures durable { OnOk result ((D.state device.new).keeps_model → Only (D.state device.new).content (D.state device.new)) }
+    ensures failed { OnErr result ((D.state device.old).failures < (D.state device.new).failures) }
+    ensures no_failure { OnOk result ((D.state device.new).failures ≡ (D.state device.old).failures) }
+    ensures carries { Carries (D.state device.old) (D.state device.new) }
 {
     device.write(0, &[0; 512])?;
     device.write(1, &[0; 512])?;
     device.sync()?;
-    write_chunk(device, segments)?;
-    device.sync()?;
-    replace(device, &first_checkpoint(segments))
-}
-
-fn write_chunk<D: SectorDevice>(device: &mut D, segments: u32) -> Result<(), DeviceFault>
-    requires count { IsSegmentCount segments }
-    requires size { 2 + 64 * segments ≤ (D.state device.old).size }
-    ensures { (D.state device.new).size ≡ (D.state device.old).size }
-{
-    let usage_blocks = segments.div_ceil(64);
-    device.write(2, &first_summary(usage_blocks))?;
-    device.write(INODE, &root_inode())?;
-    device.write(MAP, &first_map())?;
-    device.write(USAGE, &first_usage(usage_blocks as u16))?;
-    for index in 1..usage_blocks {
-        device.write(USAGE + index, &[0; 512])?;
-    }
     Ok(())
 }
 
-/// What block `index` of the first chunk is.
-#[tactic(auto, unfolding(lfs_model::specs::Summary::IsPlaced))]
-fn name_of(index: u32) -> BlockName
-    requires { index < 18 }
-    ensures { IsPlaced result.kind result.file result.index }
+/// Writes the first chunk, which isn't synced then. Where the slots are clear they stay so.
+fn write_chunk<D: SectorDevice>(device: &mut D, segments: u32) -> Result<(), DeviceFault>
+    requires count { IsSegmentCount segments }
+    requires size { 2 + 64 * segments ≤ (D.state device.old).size }
+    ensures any_moment { AllLeft (D.state device.old) AreClear → LeavesOnly (D.state device.old) (D.state device.new) AreClear }
+    ensures left { AllLeft (D.state device.old) AreClear → AllLeft (D.state device.new) AreClear }
+    ensures chunk { OnOk result ((D.state device.new).keeps_model → HasChunk segments (usage_blocks segments) (D.state device.old).content (D.state device.new).content) }
+    ensures failed { OnErr result ((D.state device.old).failures < (D.state device.new).failures) }
+    ensures no_failure { OnOk result ((D.state device.new).failures ≡ (D.state device.old).failures) }
+    ensures touched { LeavesOnly (D.state device.old) (D.state device.new) (ComesFrom (D.state device.old) (SameOutside 0 (5 + usage_blocks segments))) }
+    ensures carries { Carries (D.state device.old) (D.state device.new) }
 {
-    match index {
-        0 => BlockName {
-            file: 1,
-            kind: BlockKind::Inode,
-            index: 0,
-        },
-        1 => BlockName {
-            file: 0,
-            kind: BlockKind::Map,
-            index: 0,
-        },
-        _ => BlockName {
-            file: 0,
-            kind: BlockKind::Usage,
-            index: index - 2,
-        },
+    write_first_blocks(device, segments)?;
+    write_later_usage(device, segments)?;
+    Ok(())
+}
+
+/// Writes the first chunk as far as its first usage block.
+fn write_first_blocks<D: SectorDevice>(device: &mut D, segments: u32) -> Result<(), DeviceFault>
+    requires count { IsSegmentCount segments }
+    requires size { 2 + 64 * segments ≤ (D.state device.old).size }
+    ensures any_moment { AllLeft (D.state device.old) AreClear → LeavesOnly (D.state device.old) (D.state device.new) AreClear }
+    ensures left { AllLeft (D.state device.old) AreClear → AllLeft (D.state device.new) AreClear }
+    ensures chunk { OnOk result ((D.state device.new).keeps_model → HasChunk segments 1 (D.state device.old).content (D.state device.new).content) }
+    ensures failed { OnErr result ((D.state device.old).failures < (D.state device.new).failures) }
+    ensures no_failure { OnOk result ((D.state device.new).failures ≡ (D.state device.old).failures) }
+    ensures touched { LeavesOnly (D.state device.old) (D.state device.new) (ComesFrom (D.state device.old) (SameOutside 0 (5 + usage_blocks segments))) }
+    ensures carries { Carries (D.state device.old) (D.state device.new) }
+{
+    device.write(2, &summary_block(segments))?;
+    device.write(INODE, &root_block())?;
+    device.write(MAP, &map_block())?;
+    device.write(USAGE, &usage_block(segments))?;
+    Ok(())
+}
+
+/// Writes the other usage blocks: none of their segments is in use.
+fn write_later_usage<D: SectorDevice>(device: &mut D, segments: u32) -> Result<(), DeviceFault>
+    requires count { IsSegmentCount segments }
+    requires size { 2 + 64 * segments ≤ (D.state device.old).size }
+    ensures any_moment { AllLeft (D.state device.old) AreClear → LeavesOnly (D.state device.old) (D.state device.new) AreClear }
+    ensures left { AllLeft (D.state device.old) AreClear → AllLeft (D.state device.new) AreClear }
+    ensures chunk { OnOk result ((D.state device.new).keeps_model → (before : Content) → HasChunk segments 1 before (D.state device.old).content
+        → HasChunk segments (usage_blocks segments) before (D.state device.new).content) }
+    ensures failed { OnErr result ((D.state device.old).failures < (D.state device.new).failures) }
+    ensures no_failure { OnOk result ((D.state device.new).failures ≡ (D.state device.old).failures) }
+    ensures touched { LeavesOnly (D.state device.old) (D.state device.new) (ComesFrom (D.state device.old) (SameOutside 0 (5 + usage_blocks segments))) }
+    ensures carries { Carries (D.state device.old) (D.state device.new) }
+{
+    for index in 1..usage_count(segments) {
+        device.write(USAGE + index, &[0; 512])?;
     }
-}
-
-fn first_summary(usage_blocks: u32) -> [u8; 512]
-    requires { usage_blocks ≤ 16 }
-{
-    let mut names = [name_of(0); 18];
-    for index in 0..18u32 {
-        names[index as usize] = name_of(index);
-    }
-    encode_summary(&names[..2 + usage_blocks as usize])
-}
-
-#[tactic(auto, unfolding(lfs_model::specs::Inode::IsSize))]
-fn root_inode() -> [u8; 512] {
-    Inode::new(Kind::Directory, 1, 2, 0, [0; 112], 0, 0).encode()
-}
-
-fn first_map() -> [u8; 512] {
-    let mut map = [0; 128];
-    map[1] = INODE;
-    encode_pointers(&map)
-}
-
-/// Usage block 0: the chunk in segment 0, whose blocks are the inode, the map block and the usage blocks.
-fn first_usage(usage_blocks: u16) -> [u8; 512]
-    requires { usage_blocks ≤ 16 }
-{
-    let unused = SegmentUsage {
-        used: 0,
-        live: 0,
-        age: 0,
-    };
-    let mut entries = [unused; 64];
-    entries[0] = SegmentUsage {
-        used: 3 + usage_blocks,
-        live: 2 + usage_blocks,
-        age: 1,
-    };
-    encode_usage(&entries)
-}
-
-fn first_checkpoint(segments: u32) -> Checkpoint
-    requires { IsSegmentCount segments }
-    ensures { FitsCheckpoint result }
-{
-    let mut map = [0; 32];
-    map[0] = MAP;
-    let mut usage = [0; 16];
-    for index in 0..segments.div_ceil(64) {
-        usage[index as usize] = USAGE + index;
-    }
-    Checkpoint::new(1, segments, map, usage)
+    Ok(())
 }

@@ -14,6 +14,16 @@ pub struct Space {
     pub limit: u64,
 }
 
+/// What is told of an object (POSIX.1-2017, stat: st_ino, the file type, st_nlink, st_size).
+#[derive(Clone, Copy, Debug, PartialEq, Eq)]
+pub struct Stat {
+    pub number: u32,
+    pub kind: Kind,
+    pub links: u32,
+    /// In bytes.
+    pub size: u64,
+}
+
 /// An entry of a directory.
 #[derive(Debug, Drop)]
 pub struct TreeRow {

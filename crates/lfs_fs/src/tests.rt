@@ -113,10 +113,10 @@ fn writes_are_bounded(rt: HostRuntime) -> Result<(), Fail> {
     let mut fs = volume_with(rt.alloc(), b"abc")?;
     for (handle, offset, bytes, want) in [
         (0, 99_999_999, b"".as_slice(), Ok(0)),
-        (0, 57_344, b"a".as_slice(), Err(FsError::FileTooBig)),
-        (0, 57_343, b"ab".as_slice(), Err(FsError::FileTooBig)),
+        (0, 8_511_488, b"a".as_slice(), Err(FsError::FileTooBig)),
+        (0, 8_511_487, b"ab".as_slice(), Err(FsError::FileTooBig)),
         (0, u64::MAX, b"a".as_slice(), Err(FsError::FileTooBig)),
-        (0, 57_343, b"a".as_slice(), Ok(1)),
+        (0, 8_511_487, b"a".as_slice(), Ok(1)),
         (1, u64::MAX, b"".as_slice(), Err(FsError::BadHandle)),
     ] {
         assert_eq!(rt; fs.pwrite(handle, offset, bytes), want);

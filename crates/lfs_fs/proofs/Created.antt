@@ -1,0 +1,296 @@
+-- A new file with a name in the root, from the headers and blocks of the log map to the state after the call.
+use Rattle.std.proofs.Common.{◌≡◌, ◌≢◌, ◌<◌, ◌≤◌, ◌+◌, ◌*◌, ◌/◌, ◌%◌, ◌||◌, ℕ, false, List, [], length, Option, Some, None, refl, sym, ◌∙◌, ap, subst, ⊎_elim, arith, slice_index}
+use Rattle.std.specs.Prelude.{T, unwrap_or}
+use Rattle.std.proofs.lemmas.Bool.{cases_eq, cases_lt}
+use Rattle.std.proofs.lemmas.List.{nil_from_length}
+use Rattle.std.specs.FinMap.{find, is_sorted, put}
+use Rattle.lfs_model.specs.declared.Kind.{Kind}
+use Rattle.lfs_model.specs.declared.Kind.TheVariants as kind
+use Rattle.lfs_model.specs.Bytes.{AreBytes}
+use Rattle.lfs_model.specs.Call.{Handle}
+use Rattle.lfs_model.specs.Changing.{IsWithHeader}
+use Rattle.lfs_model.specs.Encodes.{HasData, IsLogMap}
+use Rattle.lfs_model.specs.Entry as entry
+use Rattle.lfs_model.specs.Need.{need}
+use Rattle.lfs_model.specs.Objects.{AreLong, IsChangedAt, IsDirectory, IsObject}
+use Rattle.lfs_model.specs.PathText.{slash}
+use Rattle.lfs_model.specs.Sound.{Sound}
+use Rattle.lfs_model.specs.Stands.{LogMap}
+use Rattle.lfs_model.specs.Step.{is_full, is_long, is_there, last_dots, name, no_last, with_new}
+use Rattle.lfs_model.specs.Tree.{Dir, File, Names, Node, State, Tree, byte_cmp, entry as entry_in, form_of, is_dir, least, least_handle, links, names_in, names_of, node}
+use Rattle.lfs_model.specs.TreeOf.{AreFormed, map_of, node_by, node_of, object, slots, tree_in}
+use Rattle.lfs_model.specs.Walk.{At, Parent}
+use Rattle.lfs_model.proofs.Growing.{after_order, at_dir, at_new, at_other, links_dir, links_new, links_other}
+use Rattle.lfs_model.proofs.Keeps.{create_keeps}
+use Rattle.lfs_model.proofs.Leasts.{least_free}
+use Rattle.lfs_model.proofs.Makes.{dir_at, not_some, starts_one, unnamed}
+use Rattle.lfs_model.proofs.ObjectBytes.{write_ends}
+use Rattle.lfs_model.proofs.ObjectMaps.{object_fits, object_kept}
+use Rattle.lfs_model.proofs.ObjectTrees.{node_elsewhere, same_trees, with_header_at}
+use Rattle.lfs_model.proofs.Standing.{in_order}
+use Rattle.lfs_model.proofs.Volume.{node_in}
+use Rattle.lfs_memory.specs.declared.header.Header.{Header}
+use Rattle.lfs_memory.specs.Present.{as_header}
+use Rattle.lfs_store.specs.Totals.{IsCounted, TotalsOfTree}
+use Rattle.lfs_store.specs.Writing.{WritesFile, resized}
+use Rattle.lfs_fs.specs.Volume.{IsPlain}
+use Rattle.lfs_fs.proofs.Changed.{IsFormed, formed_same, long_kept, not_directory, shape_kept}
+use Rattle.lfs_fs.proofs.Files.{IsMapOf, IsShaped, need_shaped, node_by_header, none_no_header}
+use Rattle.lfs_fs.proofs.PathSteps.{create_done, with_file}
+
+-- the header of a new file
+abbrev pub new_file : Header
+new_file = record { kind = kind.File; links = 1; size = 0 }
+
+no_bytes : (m : LogMap) (n : ℕ) → object m n (as_header new_file) ≡ []
+unfolding object
+no_bytes m n = refl
+
+-- ---- the file is made, without a name
+
+module _ (N : ℕ) (m m1 : LogMap) (s : State) (is : IsMapOf N m s) (n : ℕ) (in_range : (1 ≤ n) × (n ≤ 4095)) (free : node s.tree n ≡ None) (made : IsWithHeader m n (Some (as_header new_file)) m1) where
+  changed : IsChangedAt m n m1
+  changed = with_header_at m m1 n (Some (as_header new_file)) made
+
+  pub no_header : m.header n ≡ None
+  no_header = none_no_header N m s is.log n in_range free
+
+  pub not_root : n ≢ 1
+  not_root root = let dir = is.plain.root in let none : node s.tree 1 ≡ None = ap (node s.tree) (sym root) ∙ free in cc
+
+  -- what has no header has no block
+  no_data : (i : ℕ) → HasData m n i → ⊥
+  no_data i has = let there = is.map.within n i has in let both : None ≡ Some there.0 = sym no_header ∙ there.1 in absurd (cc)
+
+  no_block : (i : ℕ) → m1.block n i ≡ []
+  no_block i = made.block n i ∙ nil_from_length (m.block n i) (⊎_elim (λ (some : 0 < length (m.block n i)). absurd (no_data i some)) (λ (none : length (m.block n i) ≤ 0). omega arith) (cases_lt 0 (length (m.block n i))))
+
+  new_data : (i : ℕ) → HasData m1 n i → ⊥
+  new_data i has = let none = ap length (no_block i) in omega arith
+
+  new_fits : IsObject m1 n (as_header new_file)
+  new_fits = record {
+    number = in_range.0;
+    root = λ e. absurd (not_root e);
+    size = omega arith;
+    whole = record { long = λ i has. absurd (new_data i has); nonzero = λ i has. absurd (new_data i has) };
+    ends = λ p le. ap (λ (b : List ℕ). slice_index b (p % 512)) (no_block (p / 512));
+  }
+
+  pub made_map : IsLogMap m1
+  made_map = object_kept m m1 n (as_header new_file) is.map changed made.own new_fits
+
+  pub made_long : (k : ℕ) → AreLong m1 k
+  made_long = long_kept m m1 n changed is.long new_fits.whole.long
+
+  pub made_formed : AreFormed m1
+  made_formed k h at dir = ⊎_elim
+      (λ (here : k ≡ n). absurd (not_directory m1 n (as_header new_file) made.own refl h (sym (ap m1.header here) ∙ at) dir))
+      (λ (ne : k ≡ n → ⊥). formed_same m m1 n changed is.log.formed k h ne at dir)
+      (cases_eq k n)
+
+  pub made_shape : IsShaped m → IsShaped m1
+  made_shape shaped = shape_kept m m1 n changed shaped made_map new_fits.whole.long (λ g here dir. absurd (not_directory m1 n (as_header new_file) made.own refl g here dir))
+
+  pub made_node : node (tree_in m1) n ≡ Some (File [])
+  made_node = node_in m1 n in_range.0 in_range.1 ∙ ap (node_of m1 n) made.own ∙ ap (λ (b : List ℕ). Some (File b)) (no_bytes m1 n)
+
+  pub made_elsewhere : (q : ℕ) → (q ≡ n → ⊥) → node (tree_in m1) q ≡ node s.tree q
+  made_elsewhere q ne = node_elsewhere m m1 n q changed ne ∙ ap (λ (t : Tree). node t q) (sym is.log.is)
+
+-- ---- its name is written into the root
+
+-- The root's bytes with one more slot, which gives the new file this name.
+pub record NamesFile (m m1 m' : LogMap) (n : ℕ) (head : Header) (size at : ℕ) (w nm : List ℕ) : Type 0 where
+  pub there : m.header 1 ≡ Some (as_header head)
+  pub made : IsWithHeader m n (Some (as_header new_file)) m1
+  pub writes : WritesFile m1 m' 1 head (resized head size) at w
+  pub small : size ≤ 8511488
+  pub directory : IsDirectory m' 1 (as_header (resized head size))
+  pub names : map_of 0 (slots m' 1 (as_header (resized head size))) ≡ put byte_cmp nm n (map_of 0 (slots m 1 (as_header head)))
+
+module _ (N : ℕ) (m m1 m' : LogMap) (s : State) (is : IsMapOf N m s) (p : List ℕ) (walk : Parent s.tree p (At 1)) (n : ℕ) (first : least s.tree ≡ n) (top : n ≤ 4095)
+    (new : is_there s.tree 1 p ≡ false) (head : Header) (size at : ℕ) (w : List ℕ) (does : NamesFile m m1 m' n head size at w (name p)) where
+  least_is : (1 ≤ least s.tree) × (node s.tree (least s.tree) ≡ None)
+  least_is = least_free 1 s.tree is.log.sound.in_order (starts_one s.tree is.log.sound.numbers)
+
+  in_range : (1 ≤ n) × (n ≤ 4095)
+  in_range = (let low = least_is.0 in omega (arith, low, first), top)
+
+  free : node s.tree n ≡ None
+  free = ap (node s.tree) (sym first) ∙ least_is.1
+
+  other : n ≢ 1
+  other = not_root N m m1 s is n in_range free does.made
+
+  -- the root before
+  there_1 : m1.header 1 ≡ Some (as_header head)
+  there_1 = does.made.others 1 (λ e. other (sym e)) ∙ does.there
+
+  is_directory : head.kind ≡ kind.Directory
+  is_directory = let root = is.map.root in let both : Some root.0 ≡ Some (as_header head) = sym root.1 ∙ does.there in let same : root.0 ≡ as_header head = cc in sym (ap (λ (x : entry.Header). x.kind) same) ∙ root.2
+
+  abbrev old_names : Names
+  old_names = map_of 0 (slots m 1 (as_header head))
+
+  root_was : node s.tree 1 ≡ Some (Dir 0 old_names)
+  root_was = node_by_header N m s is.log 1 (as_header head) (omega arith, omega arith) does.there ∙ ap (λ (k : Kind). Some (node_by m k 1 (as_header head))) is_directory
+
+  form_is : form_of (node s.tree 1) ≡ 0
+  form_is = ap form_of root_was
+
+  names_are : names_in s.tree 1 ≡ old_names
+  names_are = ap (λ (o : Option Node). names_of (unwrap_or o (File []))) root_was
+
+  -- the tree after the call, node by node
+  root_is : node s.tree 1 ≡ Some (Dir (form_of (node s.tree 1)) (names_in s.tree 1))
+  root_is = dir_at (node s.tree 1) (ap is_dir root_was)
+
+  root_order : T (is_sorted byte_cmp (names_in s.tree 1))
+  root_order = (is.log.sound.limits 1 (Dir (form_of (node s.tree 1)) (names_in s.tree 1)) root_is).0
+
+  absent : find byte_cmp (name p) (names_in s.tree 1) ≡ None
+  absent = not_some (entry_in s.tree 1 (name p)) new
+
+  abbrev t' : Tree
+  t' = with_new s.tree 1 p (File [])
+
+  after_new : node t' (least s.tree) ≡ Some (File [])
+  after_new = at_new s.tree 1 (least s.tree) (form_of (node s.tree 1)) (names_in s.tree 1) (name p) (File []) refl is.log.sound.in_order root_is root_order least_is.1 absent
+
+  after_root : node t' 1 ≡ Some (Dir (form_of (node s.tree 1)) (put byte_cmp (name p) (least s.tree) (names_in s.tree 1)))
+  after_root = at_dir s.tree 1 (least s.tree) (form_of (node s.tree 1)) (names_in s.tree 1) (name p) (File []) refl is.log.sound.in_order root_is root_order least_is.1 absent
+
+  after_others : (q : ℕ) → q ≢ least s.tree → q ≢ 1 → node t' q ≡ node s.tree q
+  after_others = at_other s.tree 1 (least s.tree) (form_of (node s.tree 1)) (names_in s.tree 1) (name p) (File []) refl is.log.sound.in_order root_is root_order least_is.1 absent
+
+  -- and that of the log map
+  now_new : node (tree_in m') n ≡ Some (File [])
+  now_new = node_elsewhere m1 m' 1 n does.writes.only other ∙ made_node N m m1 s is n in_range free does.made
+
+  now_root : node (tree_in m') 1 ≡ Some (Dir 0 (put byte_cmp (name p) n old_names))
+  now_root =
+      node_in m' 1 (omega arith) (omega arith) ∙ ap (node_of m' 1) does.writes.header
+      ∙ ap (λ (k : Kind). Some (node_by m' k 1 (as_header (resized head size)))) is_directory
+      ∙ ap (λ (ms : Names). Some (Dir 0 ms)) does.names
+
+  now_others : (q : ℕ) → q ≢ n → q ≢ 1 → node (tree_in m') q ≡ node s.tree q
+  now_others q a b = node_elsewhere m1 m' 1 q does.writes.only b ∙ made_elsewhere N m m1 s is n in_range free does.made q a
+
+  root_same : Some (Dir 0 (put byte_cmp (name p) n old_names)) ≡ Some (Dir (form_of (node s.tree 1)) (put byte_cmp (name p) (least s.tree) (names_in s.tree 1)))
+  root_same = λ i. Some (Dir (sym form_is i) (put byte_cmp (name p) (sym first i) (sym names_are i)))
+
+  same_nodes : (q : ℕ) → node (tree_in m') q ≡ node t' q
+  same_nodes q = ⊎_elim
+      (λ (here : q ≡ n). ap (node (tree_in m')) here ∙ now_new ∙ sym after_new ∙ ap (node t') (first ∙ sym here))
+      (λ (a : q ≡ n → ⊥). ⊎_elim
+      (λ (root : q ≡ 1). ap (node (tree_in m')) root ∙ now_root ∙ root_same ∙ sym after_root ∙ ap (node t') (sym root))
+      (λ (b : q ≡ 1 → ⊥). now_others q a b ∙ sym (after_others q (λ e. a (e ∙ first)) b))
+      (cases_eq q 1))
+      (cases_eq q n)
+
+  -- the tree after the call
+  pub created_tree : tree_in m' ≡ with_new s.tree 1 p (File [])
+  created_tree = same_trees (tree_in m') t' (in_order m')
+      (after_order s.tree 1 (least s.tree) (form_of (node s.tree 1)) (names_in s.tree 1) (name p) (File []) refl is.log.sound.in_order root_is root_order least_is.1 absent) same_nodes
+
+  -- ---- the log map after it
+  map_1 : IsLogMap m1
+  map_1 = made_map N m m1 s is n in_range free does.made
+
+  long_1 : (k : ℕ) → AreLong m1 k
+  long_1 = made_long N m m1 s is n in_range free does.made
+
+  root_fits_1 : IsObject m1 1 (as_header head)
+  root_fits_1 = object_fits m1 1 (as_header head) map_1 (long_1 1) there_1 (let grows = does.writes.bytes.size in let most = does.small in omega arith)
+
+  root_fits : IsObject m' 1 (as_header (resized head size))
+  root_fits = record {
+    number = omega arith;
+    root = λ e. is_directory;
+    size = does.small;
+    whole = does.writes.whole root_fits_1.whole;
+    ends = write_ends m1 m' 1 (as_header head) (as_header (resized head size)) map_1 there_1 at w does.writes.bytes;
+  }
+
+  header_root : (h : entry.Header) → m'.header 1 ≡ Some h → as_header (resized head size) ≡ h
+  header_root h there = let both : Some (as_header (resized head size)) ≡ Some h = sym does.writes.header ∙ there in cc
+
+  -- whether it has room or not
+  pub created_log : IsLogMap m'
+  created_log = object_kept m1 m' 1 (as_header (resized head size)) map_1 does.writes.only does.writes.header root_fits
+
+  pub created_shape : IsShaped m → IsShaped m'
+  created_shape shaped = shape_kept m1 m' 1 does.writes.only (made_shape N m m1 s is n in_range free does.made shaped) created_log root_fits.whole.long
+      (λ h there dir. subst (IsDirectory m' 1) (header_root h there) does.directory)
+
+  -- and what its tree needs
+  pub created_need : TotalsOfTree → IsShaped m → (blocks others : ℕ) → IsCounted m' blocks others → need (with_new s.tree 1 p (File [])) ≡ blocks + 7 * others + 720
+  created_need totals shaped blocks others counted = ap need (sym created_tree) ∙ (need_shaped totals m' (created_shape shaped) blocks others counted).0
+
+  formed_after : AreFormed m'
+  formed_after k h there dir = ⊎_elim
+      (λ (here : k ≡ 1).
+      subst (λ (x : entry.Header). IsFormed m' k x) (header_root h (ap m'.header (sym here) ∙ there)) (subst (λ (q : ℕ). IsFormed m' q (as_header (resized head size))) (sym here) (does.directory.formed, does.directory.apart)))
+      (λ (ne : k ≡ 1 → ⊥). formed_same m1 m' 1 does.writes.only (made_formed N m m1 s is n in_range free does.made) k h ne there dir)
+      (cases_eq k 1)
+
+  -- links
+  links_root : links t' 1 ≡ links s.tree 1
+  links_root = links_dir s.tree 1 (least s.tree) (form_of (node s.tree 1)) (names_in s.tree 1) (name p) (File []) refl is.log.sound.in_order root_is root_order least_is.1 absent
+
+  links_others : (q : ℕ) → q ≢ least s.tree → q ≢ 1 → links t' q ≡ links s.tree q
+  links_others = links_other s.tree 1 (least s.tree) (form_of (node s.tree 1)) (names_in s.tree 1) (name p) (File []) refl is.log.sound.in_order root_is root_order least_is.1 absent
+
+  links_one : links t' n ≡ 1
+  links_one =
+      let one = links_new s.tree 1 (least s.tree) (form_of (node s.tree 1)) (names_in s.tree 1) (name p) (File []) refl is.log.sound.in_order root_is root_order least_is.1 absent in
+      let none = unnamed s.tree (least s.tree) is.log.sound.in_order is.log.sound.limits is.log.sound.named least_is.1 in
+      ap (links t') (sym first) ∙ omega (arith, one, none)
+
+  header_new : (h : entry.Header) → m'.header n ≡ Some h → as_header new_file ≡ h
+  header_new h there = let both : Some (as_header new_file) ≡ Some h = sym (does.writes.only.headers n other ∙ does.made.own) ∙ there in cc
+
+  links_at : (k : ℕ) (h : entry.Header) → m'.header k ≡ Some h → h.links ≡ links t' k
+  links_at k h there = ⊎_elim
+      (λ (here : k ≡ n). sym (ap (λ (x : entry.Header). x.links) (header_new h (ap m'.header (sym here) ∙ there))) ∙ sym links_one ∙ ap (links t') (sym here))
+      (λ (a : k ≡ n → ⊥). ⊎_elim
+      (λ (root : k ≡ 1).
+      sym (ap (λ (x : entry.Header). x.links) (header_root h (ap m'.header (sym root) ∙ there))) ∙ is.log.links 1 (as_header head) does.there
+      ∙ ap (λ (t : Tree). links t 1) (sym is.log.is) ∙ sym links_root ∙ ap (links t') (sym root))
+      (λ (b : k ≡ 1 → ⊥).
+      is.log.links k h (sym (does.writes.only.headers k b ∙ does.made.others k a) ∙ there) ∙ ap (λ (t : Tree). links t k) (sym is.log.is) ∙ sym (links_others k (λ e. a (e ∙ first)) b))
+      (cases_eq k 1))
+      (cases_eq k n)
+
+  plain_after : IsPlain t'
+  plain_after = record {
+    names = put byte_cmp (name p) (least s.tree) (names_in s.tree 1);
+    root = after_root ∙ ap (λ (f : ℕ). Some (Dir f (put byte_cmp (name p) (least s.tree) (names_in s.tree 1)))) form_is;
+    files = λ q x there ne. ⊎_elim
+        (λ (here : q ≡ least s.tree). ([], (let both : Some x ≡ Some (File []) = sym there ∙ ap (node t') here ∙ after_new in cc)))
+        (λ (a : q ≡ least s.tree → ⊥). is.plain.files q x (sym (after_others q a ne) ∙ there) ne)
+        (cases_eq q (least s.tree));
+  }
+
+  -- the volume's log map after the call
+  module _ (bytes : AreBytes p) (named : (no_last p || last_dots p) ≡ false) (short : is_long s.tree 1 p ≡ false) (plain : slash p ≡ false) (space : is_full s.tree 1 ≡ false)
+      (some : least_handle s.handles < 64) (room : need (with_new s.tree 1 p (File [])) ≤ 47 * N) where
+    number : least s.tree ≤ 4095
+    number = omega (arith, first, top)
+
+    sound_after : Sound N (with_file N s p 1 walk)
+    sound_after = create_keeps N s (with_file N s p 1 walk) p (Handle (least_handle s.handles)) is.log.sound bytes (create_done N s p 1 walk named short new plain space some number room)
+
+    pub created_map : IsMapOf N m' (with_file N s p 1 walk)
+    created_map = record {
+      map = created_log;
+      long = long_kept m1 m' 1 does.writes.only long_1 root_fits.whole.long;
+      log = record {
+        sound = sound_after;
+        is = sym created_tree;
+        formed = formed_after;
+        links = λ k h there. links_at k h there ∙ ap (λ (t : Tree). links t k) (sym created_tree);
+      };
+      plain = plain_after;
+    }

@@ -1,0 +1,136 @@
+-- What the calls that make an empty volume do to its content.
+use Rattle.std.proofs.Common.{◌≡◌, ◌≢◌, ⊎_elim, ℕ, zero, suc, ◌+◌, ◌<◌, ◌≤◌, List, length, Some, None, refl, sym, ◌∙◌, ap, subst, arith, length-set, get_or-set_other, get_or-set_same}
+use Rattle.std.proofs.lemmas.Bool.{cases_eq, cases_lt}
+use Rattle.std.specs.Prelude.{slice_set}
+use Rattle.lfs_model.specs.Content.{Content}
+use Rattle.lfs_model.specs.Device.{Cell, cell_at, put, MayWrite, left_old, left_new, left_bad, DeviceState, IsLawful, AllLeft, Carries, Elapses, CrashWrites, ComesFrom, SameOutside}
+use Rattle.lfs_model.specs.Image.{blank, first_names, first_pointers, first_uses, root_inode}
+use Rattle.lfs_model.specs.Inode.{inode_sector}
+use Rattle.lfs_model.specs.Pointers.{pointer_sector}
+use Rattle.lfs_model.specs.Summary.{summary_sector}
+use Rattle.lfs_model.specs.Usage.{usage_sector}
+use Rattle.lfs_model.proofs.Image.{unused_spelled}
+use Rattle.lfs_model.proofs.Moments.{Run, run_none, run_call, run_write, all_left_write, Survives, same_outside_none, write_outside}
+use Rattle.lfs_fs.specs.Making.{MayClear, left_as_was, left_clear, left_unreadable, MayClearSlots, AreClear, HasChunk}
+
+-- ---- the slots
+
+pub slots_none : (c : Content) → MayClearSlots c c
+slots_none c = record { others = same_outside_none 0 2 c; slots = λ p lt. left_as_was refl }
+
+slot_set : (d c : Content) (s : ℕ) (x : Cell) → s < 2 → 2 ≤ length c → MayClearSlots d c → SameOutside 0 2 d (slice_set c s x) → ((old : Cell) → MayClear old x) → MayClearSlots d (slice_set c s x)
+slot_set d c s x low long may outside gives = record {
+  others = outside;
+  slots = λ p lt. ⊎_elim
+      (λ (is : p ≡ s). subst (MayClear (cell_at d p)) (sym (ap (λ (q : ℕ). cell_at (slice_set c s x) q) is ∙ get_or-set_same c s x None (omega (arith, low, long)))) (gives (cell_at d p)))
+      (λ (other : p ≢ s). subst (MayClear (cell_at d p)) (sym (get_or-set_other c s p x None other)) (may.slots p lt))
+      (cases_eq p s);
+}
+
+pub slots_written : (s : ℕ) → s < 2 → (d c e : Content) → 2 ≤ length d → MayClearSlots d c → MayWrite s (blank 512) c e → MayClearSlots d e
+slots_written s low d c e long may write = go write
+  where
+    outside : SameOutside 0 2 d e
+    outside = write_outside 0 2 s (blank 512) (omega arith) (omega (arith, low)) d c e may.others write
+
+    room : 2 ≤ length c
+    room = let same = may.others.size in omega (arith, same, long)
+
+    go : MayWrite s (blank 512) c e → MayClearSlots d e
+    go (left_old is) = subst (MayClearSlots d) (sym is) may
+    go (left_new is) = subst (MayClearSlots d) (sym is) (slot_set d c s (Some (blank 512)) low room may (subst (SameOutside 0 2 d) is outside) (λ old. left_clear refl))
+    go (left_bad is) = subst (MayClearSlots d) (sym is) (slot_set d c s None low room may (subst (SameOutside 0 2 d) is outside) (λ old. left_unreadable refl))
+
+abbrev pub Slots : DeviceState → DeviceState → Type 0
+Slots old new = Run old new (ComesFrom old MayClearSlots)
+
+pub slots_start : (d : DeviceState) → IsLawful d → Slots d d
+slots_start d lawful = run_none d (ComesFrom d MayClearSlots) lawful (λ c left. (c, left, slots_none c))
+
+pub slots_write : (old mid new : DeviceState) (s : ℕ) → s < 2 → IsLawful old → 2 ≤ old.size → Slots old mid → CrashWrites s (blank 512) mid new → Carries mid new → Elapses mid new → Slots old new
+slots_write old mid new s low lawful room run crash carries time =
+    run_call old mid new (ComesFrom old MayClearSlots) run carries time
+    (all_left_write mid new (ComesFrom old MayClearSlots) (ComesFrom old MayClearSlots) s (blank 512) run.now crash (λ c e from write.
+    let long : 2 ≤ length from.0 = omega (arith, room, lawful.sizes from.0 from.1) in
+    (from.0, from.1, slots_written s low from.0 c e long from.2 write)))
+
+-- ---- the first chunk
+
+here : (c e : Content) (s : ℕ) (b : List ℕ) → e ≡ put c s b → s < length c → cell_at e s ≡ Some b
+here c e s b is low = ap (λ (x : Content). cell_at x s) is ∙ get_or-set_same c s (Some b) None low
+
+there : (c e : Content) (s : ℕ) (b : List ℕ) → e ≡ put c s b → (k : ℕ) → k ≢ s → cell_at e k ≡ cell_at c k
+there c e s b is k other = ap (λ (x : Content). cell_at x k) is ∙ get_or-set_other c s k (Some b) None other
+
+put_size : (c e : Content) (s : ℕ) (b : List ℕ) → e ≡ put c s b → length e ≡ length c
+put_size c e s b is = ap length is ∙ length-set c s (Some b)
+
+-- its first four writes
+pub chunk_first : (N : ℕ) (c0 c1 c2 c3 c4 : Content) (two three four five : List ℕ) → 6 ≤ length c0
+    → c1 ≡ put c0 2 two → c2 ≡ put c1 3 three → c3 ≡ put c2 4 four → c4 ≡ put c3 5 five
+    → two ≡ summary_sector (first_names N) → three ≡ inode_sector root_inode → four ≡ pointer_sector first_pointers → five ≡ usage_sector (first_uses N 0)
+    → HasChunk N 1 c0 c4
+chunk_first N c0 c1 c2 c3 c4 two three four five long is1 is2 is3 is4 summary inode pointers uses =
+    let size1 = put_size c0 c1 2 two is1 in
+    let size2 = put_size c1 c2 3 three is2 in
+    let size3 = put_size c2 c3 4 four is3 in
+    record {
+      others =
+          write_outside 2 4 5 five (omega arith) (omega arith) c0 c3 c4
+          (write_outside 2 4 4 four (omega arith) (omega arith) c0 c2 c3
+          (write_outside 2 4 3 three (omega arith) (omega arith) c0 c1 c2
+          (write_outside 2 4 2 two (omega arith) (omega arith) c0 c0 c1 (same_outside_none 2 4 c0) (left_new is1)) (left_new is2)) (left_new is3)) (left_new is4);
+      summary =
+          there c3 c4 5 five is4 2 (λ e. omega arith) ∙ there c2 c3 4 four is3 2 (λ e. omega arith) ∙ there c1 c2 3 three is2 2 (λ e. omega arith)
+          ∙ here c0 c1 2 two is1 (omega (arith, long)) ∙ ap (λ (b : List ℕ). Some b) summary;
+      inode =
+          there c3 c4 5 five is4 3 (λ e. omega arith) ∙ there c2 c3 4 four is3 3 (λ e. omega arith) ∙ here c1 c2 3 three is2 (omega (arith, long, size1))
+          ∙ ap (λ (b : List ℕ). Some b) inode;
+      pointers = there c3 c4 5 five is4 4 (λ e. omega arith) ∙ here c2 c3 4 four is3 (omega (arith, long, size1, size2)) ∙ ap (λ (b : List ℕ). Some b) pointers;
+      uses = uses_first (here c3 c4 5 five is4 (omega (arith, long, size1, size2, size3)) ∙ ap (λ (b : List ℕ). Some b) uses);
+    }
+  where
+    uses_first : cell_at c4 5 ≡ Some (usage_sector (first_uses N 0)) → (j : ℕ) → j < 1 → cell_at c4 (5 + j) ≡ Some (usage_sector (first_uses N j))
+    uses_first is zero lt = is
+    uses_first is (suc j) lt = absurd (omega (arith, lt))
+
+wider : (first n m : ℕ) (d c : Content) → n ≤ m → SameOutside first n d c → SameOutside first m d c
+wider first n m d c le same = record { size = same.size; before = λ k lt. same.before k lt; after = λ k past. same.after k (omega (arith, le, past)) }
+
+-- a later usage block is zeros
+later_uses : (N n : ℕ) → 1 ≤ n → blank 512 ≡ usage_sector (first_uses N n)
+later_uses N zero some = absurd (omega (arith, some))
+later_uses N (suc n) some = sym (unused_spelled N n)
+
+-- and one usage block more
+pub chunk_more : (N n : ℕ) (c0 c e : Content) → 1 ≤ n → 5 + n < length c0 → HasChunk N n c0 c → e ≡ put c (5 + n) (blank 512) → HasChunk N (n + 1) c0 e
+chunk_more N n c0 c e some room so_far is = record {
+  others = write_outside 2 (3 + (n + 1)) (5 + n) (blank 512) (omega arith) (omega arith) c0 c e (wider 2 (3 + n) (3 + (n + 1)) c0 c (omega arith) so_far.others) (left_new is);
+  summary = there c e (5 + n) (blank 512) is 2 (λ w. omega (arith, w)) ∙ so_far.summary;
+  inode = there c e (5 + n) (blank 512) is 3 (λ w. omega (arith, w)) ∙ so_far.inode;
+  pointers = there c e (5 + n) (blank 512) is 4 (λ w. omega (arith, w)) ∙ so_far.pointers;
+  uses = λ j lt. ⊎_elim
+      (λ (at : j ≡ n). ap (λ (k : ℕ). cell_at e (5 + k)) at ∙ here c e (5 + n) (blank 512) is (let same = so_far.others.size in omega (arith, room, same)) ∙ ap (λ (b : List ℕ). Some b) (later_uses N n some)
+      ∙ ap (λ (k : ℕ). Some (usage_sector (first_uses N k))) (sym at))
+      (λ (other : j ≢ n). there c e (5 + n) (blank 512) is (5 + j) (λ w. other (omega (arith, w))) ∙ so_far.uses j (⊎_elim (λ (low : j < n). low) (λ (high : n ≤ j). absurd (other (omega (arith, lt, high)))) (cases_lt j n)))
+      (cases_eq j n);
+}
+
+-- the slots stay clear under writes behind them
+pub clear_survives : (s : ℕ) (b : List ℕ) → 2 ≤ s → Survives s b AreClear
+clear_survives s b past = record { written = λ c clear. kept c (Some b) clear; lost = λ c clear. kept c None clear }
+  where
+    kept : (c : Content) (x : Cell) → AreClear c → AreClear (slice_set c s x)
+    kept c x clear = record {
+      first = get_or-set_other c s 0 x None (λ e. omega (arith, past, e)) ∙ clear.first;
+      second = get_or-set_other c s 1 x None (λ e. omega (arith, past, e)) ∙ clear.second;
+    }
+
+abbrev pub Chunk : DeviceState → DeviceState → Type 0
+Chunk old new = AllLeft old AreClear → Run old new AreClear
+
+pub chunk_start : (d : DeviceState) → IsLawful d → Chunk d d
+chunk_start d lawful clear = run_none d AreClear lawful clear
+
+pub chunk_write : (old mid new : DeviceState) (s : ℕ) (b : List ℕ) → 2 ≤ s → Chunk old mid → CrashWrites s b mid new → Carries mid new → Elapses mid new → Chunk old new
+chunk_write old mid new s b past run crash carries time clear = run_write old mid new AreClear s b (run clear) (clear_survives s b past) crash carries time

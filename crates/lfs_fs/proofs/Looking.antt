@@ -1,0 +1,29 @@
+-- What a call reads of the store, and why it gets no answer.
+use Rattle.std.proofs.Common.{◌≡◌, ◌⊎◌, ◌<◌, ℕ, Bool, true, Option, Some, None, refl, sym, ◌∙◌, subst, ap, inl, inr}
+use Rattle.lfs_model.specs.Checkpoint.{CheckpointValue}
+use Rattle.lfs_model.specs.Device.{DeviceState}
+use Rattle.lfs_model.specs.Stands.{LogMap}
+use Rattle.lfs_memory.specs.declared.fault.LogFault.{LogFault}
+use Rattle.lfs_memory.specs.declared.fault.LogFault.TheVariants as log
+use Rattle.lfs_memory.specs.declared.header.Header.{Header}
+use Rattle.lfs_memory.specs.Batch.{staged}
+use Rattle.lfs_memory.specs.Present.{HeaderAnswer}
+use Rattle.lfs_log.specs.Held.{IsReadFault}
+use Rattle.lfs_store.specs.Reading.{ReadsHeader}
+use Rattle.lfs_fs.specs.declared.error.FsError.{FsError}
+use Rattle.lfs_fs.specs.declared.error.FsError.TheVariants as error
+use Rattle.lfs_fs.specs.declared.fs.Fs.{Fs}
+use Rattle.lfs_fs.specs.Faults.{error_of_log}
+use Rattle.lfs_fs.specs.Seen.{HasHeader, LacksHeader}
+
+module _ {D : Type 0} (state : D → DeviceState) (old new : Fs D) (n : ℕ) where
+  pub has_header : (found : Option Header) (h : Header) → found ≡ Some h → ReadsHeader state old.store.log new.store.log old.store.draft.changes n found → HasHeader state old new n h
+  has_header found h is answer k m0 m keeps holds = subst (λ (o : Option Header). HeaderAnswer (staged old.store.draft.changes m) n o) is (answer k m0 m keeps holds)
+
+  pub has_none : (found : Option Header) → found ≡ None → ReadsHeader state old.store.log new.store.log old.store.draft.changes n found → LacksHeader state old new n error.Device
+  has_none found is answer = inr (refl, λ k m0 m keeps holds. inr (subst (λ (o : Option Header). HeaderAnswer (staged old.store.draft.changes m) n o) is (answer k m0 m keeps holds)))
+
+  pub has_fault : (fault : LogFault) (e : FsError) → e ≡ error_of_log fault → (fault ≡ log.Halted → old.store.log.halted ≡ true) → (fault ≡ log.Full → ⊥) → IsReadFault state old.store.log new.store.log → LacksHeader state old new n e
+  has_fault log.Device e is halted other failed = inr (is, λ k m0 m keeps holds. inl (failed k m0 m keeps holds))
+  has_fault log.Halted e is halted other failed = inl (is, halted refl)
+  has_fault log.Full e is halted other failed = absurd (other refl)

@@ -1,0 +1,7 @@
+use Rattle.std.proofs.Common.{◌∙◌, ap}
+use Rattle.lfs_fs.specs.Handles.{handles_of}
+use Rattle.lfs_fs.proofs.HandleTables.{none_open}
+use Rattle.lfs_fs.proofs.handles.Handles.new.Goals as goal
+
+pub returns : goal.returns
+returns c = ap handles_of c.loop.invariant ∙ none_open c.loop.counter

@@ -1,0 +1,9 @@
+use Rattle.std.proofs.Common.{◌≡◌, length, arith}
+use Rattle.lfs_fs.proofs.HandleTables.{put_back}
+use Rattle.lfs_fs.proofs.handles.Handles.open.Goals as goal
+
+pub returns-clause-opened : goal.returns-clause-opened
+returns-clause-opened c some =
+    let whole : length c.args.self.now.numbers.items ≡ 64 = search in
+    let low = c.requires in
+    put_back c.args.self.now.numbers.items c.deref_mut.result.now c.args.handle c.args.number some (omega arith) c.deref_mut.ensures.value

@@ -1,0 +1,20 @@
+use Rattle.std.proofs.Common.{◌≡◌, ◌+◌}
+use Rattle.lfs_model.specs.Content.{Content}
+use Rattle.lfs_model.specs.Device.{Carries}
+use Rattle.lfs_model.specs.Image.{usage_blocks}
+use Rattle.lfs_fs.specs.Making.{HasChunk}
+use Rattle.lfs_fs.proofs.FirstMoments.{Touches}
+use Rattle.lfs_fs.proofs.FirstWrites.{Chunk}
+use Rattle.lfs_fs.proofs.making.write_later_usage.Given as goal
+
+abbrev pub invariant-loop-index : goal.invariant-loop-index
+invariant-loop-index g l =
+    let old = g.D.SectorDevice.state l.initial.device in
+    let now = g.D.SectorDevice.state l.device in
+    record {
+      run : Chunk old now;
+      chunk : now.keeps_model → (before : Content) → HasChunk l.segments 1 before old.content → HasChunk l.segments l.index before now.content;
+      touched : Touches (5 + usage_blocks l.segments) old now;
+      failures : now.failures ≡ old.failures;
+      carries : Carries old now;
+    }

@@ -1,0 +1,25 @@
+-- The errors of a call by the faults of the layers below.
+use Rattle.lfs_memory.specs.declared.fault.LogFault.{LogFault}
+use Rattle.lfs_memory.specs.declared.fault.LogFault.TheVariants as log
+use Rattle.lfs_store.specs.declared.fault.StoreFault.{StoreFault}
+use Rattle.lfs_store.specs.declared.fault.StoreFault.TheVariants as store
+use Rattle.lfs_path.specs.declared.fault.PathFault.{PathFault}
+use Rattle.lfs_path.specs.declared.fault.PathFault.TheVariants as path
+use Rattle.lfs_fs.specs.declared.error.FsError.{FsError}
+use Rattle.lfs_fs.specs.declared.error.FsError.TheVariants as error
+
+abbrev pub error_of_log : LogFault → FsError
+error_of_log log.Device = error.Device
+error_of_log log.Halted = error.Halted
+error_of_log log.Full = error.Stuck
+
+abbrev pub error_of_store : StoreFault → FsError
+error_of_store store.NoMemory = error.NoMemory
+error_of_store (store.Log fault) = error_of_log fault
+
+abbrev pub error_of_path : PathFault → FsError
+error_of_path path.NoEntry = error.NoEntry
+error_of_path path.NotDir = error.NotDir
+error_of_path path.NameTooLong = error.NameTooLong
+error_of_path path.Inval = error.Inval
+error_of_path (path.Log fault) = error_of_log fault

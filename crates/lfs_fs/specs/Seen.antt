@@ -1,0 +1,55 @@
+-- What contracts see of a volume's value, and the answers of its calls.
+use Rattle.std.specs.Prelude.{◌≡◌, ◌⊎◌, ◌<◌, ℕ, true, false, List, Option, Some, None, Result, Ok, Err, option_map}
+use Rattle.std.specs.Ordering.{nat_cmp}
+use Rattle.std.specs.FinMap.{find}
+use Rattle.lfs_model.specs.Call.{Answer, Refuse}
+use Rattle.lfs_model.specs.Device.{DeviceState}
+use Rattle.lfs_log.specs.Held.{Holds}
+use Rattle.lfs_model.specs.Checkpoint.{CheckpointValue}
+use Rattle.lfs_model.specs.Stands.{LogMap}
+use Rattle.lfs_memory.specs.declared.header.Header.{Header}
+use Rattle.lfs_memory.specs.Batch.{staged}
+use Rattle.lfs_memory.specs.Present.{as_header}
+use Rattle.lfs_fs.specs.declared.error.FsError.{FsError}
+use Rattle.lfs_fs.specs.declared.error.FsError.TheVariants as error
+use Rattle.lfs_fs.specs.declared.fs.Fs.{Fs}
+use Rattle.lfs_fs.specs.Handles.{handles_of}
+use Rattle.lfs_fs.specs.Refusals.{refusal_of}
+use Rattle.lfs_fs.specs.Volume.{IsStill, Mounted}
+use Rattle.lfs_memory.specs.Batch.{IsNoChange}
+
+abbrev pub seen : {D : Type 0} → Fs D → Mounted D
+seen f = record { log = f.store.log; saved = f.store.saved; blocks = f.store.totals.data_blocks; others = f.store.totals.meta_blocks; table = f.handles.numbers.items }
+
+-- the answer of a call by its result
+abbrev pub answer_by : {X : Type 0} → (X → Answer) → Result X FsError → Answer
+answer_by f (Ok x) = f x
+answer_by f (Err e) = Refuse (refusal_of e)
+
+-- A volume whose log was only read, for a call's draft, which is as it was.
+pub record OnlyReads {D : Type 0} (state : D → DeviceState) (old new : Fs D) : Type 0 where
+  pub still : IsStill state (seen old) (seen new)
+  pub draft : new.store.draft ≡ old.store.draft
+  pub drafted : new.store.drafted ≡ old.store.drafted
+
+-- A call begins: the volume isn't halted, and nothing is drafted.
+pub record Begins {D : Type 0} (old new : Fs D) : Type 0 where
+  pub running : old.store.log.halted ≡ false
+  pub same : seen new ≡ seen old
+  pub empty : IsNoChange new.store.draft.changes
+  pub drafted : new.store.drafted ≡ new.store.totals
+
+-- why a handle gives no file: it isn't open, or gives a number that no file has
+abbrev pub GivesNone : List ℕ → ℕ → FsError → Type 0
+GivesNone table handle fault = ((fault ≡ error.BadHandle) × (find nat_cmp handle (handles_of table) ≡ None)) ⊎ ((fault ≡ error.Device) × ((n : ℕ) × (find nat_cmp handle (handles_of table) ≡ Some n) × (4095 < n)))
+
+module _ {D : Type 0} (state : D → DeviceState) where
+  -- the header of an object, where the log holds a log map
+  abbrev pub HasHeader : Fs D → Fs D → ℕ → Header → Type 0
+  HasHeader old new n header = (k : CheckpointValue) (m0 m : LogMap) → (state new.store.log.device).keeps_model → Holds state old.store.log k m0 m → (staged old.store.draft.changes m).header n ≡ Some (as_header header)
+
+  -- why there is none: a commit failed; or a call of the device did, or no object has the number
+  abbrev pub LacksHeader : Fs D → Fs D → ℕ → FsError → Type 0
+  LacksHeader old new n fault = ((fault ≡ error.Halted) × (old.store.log.halted ≡ true))
+      ⊎ ((fault ≡ error.Device) × ((k : CheckpointValue) (m0 m : LogMap) → (state new.store.log.device).keeps_model → Holds state old.store.log k m0 m
+      → ((state old.store.log.device).failures < (state new.store.log.device).failures) ⊎ ((staged old.store.draft.changes m).header n ≡ None)))

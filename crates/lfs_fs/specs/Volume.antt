@@ -1,0 +1,95 @@
+-- What contracts see of a mounted volume, the state that it is in, and what its calls do.
+-- The calls are those of POSIX.1-2017; which refusals are excused and what a stop leaves is an own choice.
+use Rattle.std.specs.Prelude.{◌≡◌, ◌≢◌, ◌≤◌, ◌^◌, ◌+◌, ◌*◌, ℕ, Bool, true, false, List, [], ◌∷◌, length, Some}
+use Rattle.lfs_model.specs.Call.{Call, Answer, Refuse}
+use Rattle.lfs_model.specs.Checkpoint.{CheckpointValue}
+use Rattle.lfs_model.specs.Content.{Content, newest}
+use Rattle.lfs_model.specs.Device.{DeviceState, Carries, AllLeft}
+use Rattle.lfs_model.specs.Encodes.{IsLogMap}
+use Rattle.lfs_model.specs.Refusal.{Halted}
+use Rattle.lfs_model.specs.Run.{Point, Answers, acknowledges}
+use Rattle.lfs_model.specs.Stands.{LogMap, StandsAt}
+use Rattle.lfs_model.specs.Tree.{Tree, Node, File, Dir, Names, State, node, drop_nameless}
+use Rattle.lfs_model.specs.TreeOf.{IsTree, LeavesOne, LeavesStates, Stands}
+use Rattle.lfs_model.specs.Volume.{IsLogOf}
+use Rattle.lfs_log.specs.Held.{Held, Reads}
+use Rattle.lfs_store.specs.Accepting.{Stores, HasClean}
+use Rattle.lfs_store.specs.Totals.{IsCounted}
+use Rattle.lfs_fs.specs.Handles.{handles_of}
+
+-- a volume between two calls: its log, whether all of it is saved, its data blocks and its other blocks, and the table of open files
+pub record Mounted (D : Type 0) : Type 0 where
+  pub log : Held D
+  pub saved : Bool
+  pub blocks : ℕ
+  pub others : ℕ
+  pub table : List ℕ
+
+-- the number of its segments
+abbrev pub segments_of : {D : Type 0} → Mounted D → ℕ
+segments_of v = length v.log.memory.usage.segments
+
+-- The tree is the root and files in it: what the calls that are built make.
+pub record IsPlain (t : Tree) : Type 0 where
+  pub names : Names
+  pub root : node t 1 ≡ Some (Dir 0 names)
+  pub files : (n : ℕ) (x : Node) → node t n ≡ Some x → n ≢ 1 → (b : List ℕ) × (x ≡ File b)
+
+module _ {D : Type 0} (state : D → DeviceState) where
+  -- The volume is in state s: its log has the log map of s, over one that is a tree's, which the acknowledged checkpoint stands for.
+  pub record IsIn (v : Mounted D) (k : CheckpointValue) (m0 m : LogMap) (s : State) : Type 0 where
+    pub stores : Stores state v.log v.saved k m0 m
+    pub map : IsLogMap m
+    pub log : IsLogOf (segments_of v) m s
+    pub plain : IsPlain s.tree
+    pub version : s.version ≡ 1
+    pub handles : s.handles ≡ handles_of v.table
+    pub counted : IsCounted m v.blocks v.others
+    pub acknowledged : IsTree (segments_of v) m0
+    -- what isn't saved can be saved
+    pub ready : v.saved ≡ false → HasClean v.log × (v.log.number ≤ 2 ^ 62)
+
+  -- there are such log maps
+  pub record Runs (v : Mounted D) (s : State) : Type 0 where
+    pub checkpoint : CheckpointValue
+    pub saved : LogMap
+    pub present : LogMap
+    pub is : IsIn v checkpoint saved present s
+
+  -- each content that a stop may leave stands for some state
+  abbrev pub LeavesSome : DeviceState → Type 0
+  LeavesSome d = AllLeft d (λ c. (s : State) × Stands c s)
+
+  -- what is seen of the volume between two calls
+  pub record IsAt (v : Mounted D) (p : Point) : Type 0 where
+    pub halted : p.halted ≡ v.log.halted
+    pub number : p.number ≡ v.log.number
+    pub failures : p.failures ≡ (state v.log.device).failures
+    pub running : v.log.halted ≡ false → Runs v p.state
+    pub leaves : LeavesSome (state v.log.device)
+
+  -- A volume whose log was only read.
+  pub record IsStill (old new : Mounted D) : Type 0 where
+    pub reads : Reads state old.log new.log
+    pub saved : new.saved ≡ old.saved
+    pub blocks : new.blocks ≡ old.blocks
+    pub others : new.others ≡ old.others
+    pub table : new.table ≡ old.table
+
+  -- A call of a volume at a point: its answer is the model's, or an excused refusal; a stop at any moment leaves what it might have left
+  -- before, or the state before or after the call, without files of no name; where the call saves, what is left is the state after it.
+  pub record ServesAt (old new : Mounted D) (call : Call) (answer : Answer) (p : Point) : Type 0 where
+    pub next : Point
+    pub at : IsAt new next
+    pub answers : Answers (segments_of old) call p answer next
+    pub leaves : LeavesStates (state old.log.device) (state new.log.device) (drop_nameless p.state ∷ drop_nameless next.state ∷ [])
+    pub saves : acknowledges call answer ≡ true → LeavesOne (state new.log.device) (drop_nameless next.state)
+
+  -- A call: what holds over any device, and what holds at each point where the device keeps the model.
+  pub record Serves (old new : Mounted D) (call : Call) (answer : Answer) : Type 0 where
+    pub carries : Carries (state old.log.device) (state new.log.device)
+    pub segments : segments_of new ≡ segments_of old
+    -- once a commit failed each call answers Halted, and does nothing
+    pub orderly : old.log.halted ≡ true → (answer ≡ Refuse Halted) × (new ≡ old)
+    pub halts : answer ≡ Refuse Halted → new.log.halted ≡ true
+    pub model : (p : Point) → (state new.log.device).keeps_model → IsAt old p → ServesAt old new call answer p
