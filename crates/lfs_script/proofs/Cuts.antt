@@ -4,14 +4,14 @@ use Rattle.std.specs.List.{position, position_or_len}
 use Rattle.std.proofs.lemmas.Bool.{and_parts, cases_eq, cases_lt, eq-eqb, false≢true, lt-ltb, le-ltb}
 use Rattle.std.proofs.lemmas.Bool.Decides.{nat_tests}
 use Rattle.lfs_model.specs.Call as call
-use Rattle.lfs_model.specs.Script.{Line, Plain, InRange, text_of, word}
+use Rattle.lfs_model.specs.Script.{Line, Plain, Fill, InRange, text_of, word}
 use Rattle.lfs_script.specs.Lines.{IsBuilt, IsUnknown, words_of, spaced, onto, cut, words_left}
 use Rattle.lfs_script.specs.Calls.{line_for}
 use Rattle.lfs_script.specs.Command.{command_word}
 use Rattle.lfs_script.specs.declared.call.Call.{Call}
 use Rattle.lfs_script.specs.declared.call.Call.TheVariants as made
 use Rattle.lfs_script.specs.declared.command.Command.{Command}
-use Rattle.lfs_script.specs.declared.command.Command.TheVariants.{Create, Open, Pread, Pwrite, Sync, Space, Tree}
+use Rattle.lfs_script.specs.declared.command.Command.TheVariants as commands
 use Rattle.lfs_model.proofs.WordTexts.{is_solid, all_solid, solid-decimal, solid-hex, solid-word}
 
 -- ---- words without spaces
@@ -144,6 +144,9 @@ solid-line (Plain (call.Create path)) built fits = rw (solid-word path) refl
 solid-line (Plain (call.Open path)) built fits = rw (solid-word path) refl
 solid-line (Plain (call.Pread handle offset len)) built fits = rw (solid-decimal handle (omega (arith, fits.0)), solid-decimal offset fits.1, solid-decimal len (omega (arith, fits.2))) refl
 solid-line (Plain (call.Pwrite handle offset bytes)) built fits = rw (solid-decimal handle (omega (arith, fits.0)), solid-decimal offset fits.1, solid-hex bytes) refl
+solid-line (Fill handle offset len byte) built fits = rw (solid-decimal handle (omega (arith, fits.0)), solid-decimal offset fits.1, solid-decimal len (omega (arith, fits.2)), solid-decimal byte (omega (arith, fits.3))) refl
+solid-line (Plain (call.Truncate handle len)) built fits = rw (solid-decimal handle (omega (arith, fits.0)), solid-decimal len fits.1) refl
+solid-line (Plain (call.StatOf path)) built fits = rw (solid-word path) refl
 solid-line (Plain call.Sync) built fits = refl
 solid-line (Plain call.Space) built fits = refl
 solid-line (Plain call.ListTree) built fits = refl
@@ -155,6 +158,9 @@ text_is (Plain (call.Create path)) built = refl
 text_is (Plain (call.Open path)) built = refl
 text_is (Plain (call.Pread handle offset len)) built = refl
 text_is (Plain (call.Pwrite handle offset bytes)) built = refl
+text_is (Fill handle offset len byte) built = refl
+text_is (Plain (call.Truncate handle len)) built = refl
+text_is (Plain (call.StatOf path)) built = refl
 text_is (Plain call.Sync) built = refl
 text_is (Plain call.Space) built = refl
 text_is (Plain call.ListTree) built = refl
@@ -162,13 +168,16 @@ text_is _ built = absurd built
 
 -- it begins with a command's word
 command_of_line : (line : Line) → IsBuilt line → (command : Command) × (words : List (List ℕ)) × (words_of line ≡ command_word command ∷ words)
-command_of_line (Plain (call.Create path)) built = (Create, _, refl)
-command_of_line (Plain (call.Open path)) built = (Open, _, refl)
-command_of_line (Plain (call.Pread handle offset len)) built = (Pread, _, refl)
-command_of_line (Plain (call.Pwrite handle offset bytes)) built = (Pwrite, _, refl)
-command_of_line (Plain call.Sync) built = (Sync, _, refl)
-command_of_line (Plain call.Space) built = (Space, _, refl)
-command_of_line (Plain call.ListTree) built = (Tree, _, refl)
+command_of_line (Plain (call.Create path)) built = (commands.Create, _, refl)
+command_of_line (Plain (call.Open path)) built = (commands.Open, _, refl)
+command_of_line (Plain (call.Pread handle offset len)) built = (commands.Pread, _, refl)
+command_of_line (Plain (call.Pwrite handle offset bytes)) built = (commands.Pwrite, _, refl)
+command_of_line (Fill handle offset len byte) built = (commands.Fill, _, refl)
+command_of_line (Plain (call.Truncate handle len)) built = (commands.Truncate, _, refl)
+command_of_line (Plain (call.StatOf path)) built = (commands.Stat, _, refl)
+command_of_line (Plain call.Sync) built = (commands.Sync, _, refl)
+command_of_line (Plain call.Space) built = (commands.Space, _, refl)
+command_of_line (Plain call.ListTree) built = (commands.Tree, _, refl)
 command_of_line _ built = absurd built
 
 line-cut : (line : Line) → IsBuilt line → InRange line → cut (text_of line) ≡ words_of line
@@ -191,6 +200,9 @@ built_for (made.Create path) = tt
 built_for (made.Open path) = tt
 built_for (made.Pread handle offset len) = tt
 built_for (made.Pwrite handle offset bytes) = tt
+built_for (made.Fill handle offset len byte) = tt
+built_for (made.Truncate handle len) = tt
+built_for (made.Stat path) = tt
 built_for made.Sync = tt
 built_for made.Space = tt
 built_for made.Tree = tt

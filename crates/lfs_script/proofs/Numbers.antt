@@ -92,11 +92,11 @@ fills-end number front start digits size small before =
     let text : (48 + front) ∷ drop (start + 1) digits ≡ decimal number = rw (decimal_digit front small) at before.text in
     drop-set digits start (48 + front) (omega (arith, size, before.within)) ∙ text
 
--- ---- numbers below 2^32
+-- ---- numbers below a bound
 
-pub small-none : {E : Type 0} (word : List ℕ) (m : ℕ) (r : Result ℕ E) → m < 2 ^ 64 → decimal m ≡ word → OkIff r (m < 2 ^ 32) m → result_ok r ≡ None
-    → (n : ℕ) → n < 2 ^ 32 → decimal n ≢ word
-small-none word m (Ok k) wide is h none n fits e = cc
-small-none word m (Err f) wide is h none n fits e =
-    let same : m ≡ n = decimal_injective m n wide (omega arith) (is ∙ sym e) in
+pub small-none : {E : Type 0} (bound : ℕ) (word : List ℕ) (m : ℕ) (r : Result ℕ E) → bound ≤ 2 ^ 64 → m < 2 ^ 64 → decimal m ≡ word → OkIff r (m < bound) m → result_ok r ≡ None
+    → (n : ℕ) → n < bound → decimal n ≢ word
+small-none bound word m (Ok k) small wide is h none n fits e = cc
+small-none bound word m (Err f) small wide is h none n fits e =
+    let same : m ≡ n = decimal_injective m n wide (omega (arith, small, fits)) (is ∙ sym e) in
     h (rw same fits)

@@ -1,7 +1,10 @@
 // The answer of a call.
+ghost use Rattle.std.specs.Prelude.{◌≡◌, IfOk, min, replicate};
+
 use crate::call::Call;
 use lfs_device::SectorDevice;
-use lfs_fs::{Fs, FsError, Space, TreeRow};
+use lfs_fs::{Fs, FsError, Space, Stat, TreeRow};
+use std::alloc::{AllocError, Global};
 
 /// What a call gives where it isn't refused.
 #[derive(Debug, Drop)]
@@ -10,12 +13,44 @@ pub enum Answer {
     Handle(u32),
     Count(u32),
     Bytes(Vec<u8>),
+    Stat(Stat),
     Space(Space),
     Tree(Vec<TreeRow>),
 }
 
+// One more than the bytes that a write takes.
+const TOO_MANY: u32 = 65_537;
+
+// So many bytes of a value, or as many as a write refuses.
+fn filled(alloc: Global, len: u32, byte: u8) -> Result<Vec<u8>, AllocError>
+    ensures { IfOk result (λ bytes. bytes.items ≡ replicate (min len 65537) byte) }
+{
+    vec![in alloc; byte; len.min(TOO_MANY) as usize]
+}
+
+// Puts so many bytes of a value into a file. A halted volume says so, also where memory for them is refused.
+fn fill<D: SectorDevice>(
+    alloc: Global,
+    fs: &mut Fs<D>,
+    handle: u32,
+    offset: u64,
+    len: u32,
+    byte: u8,
+) -> Result<u32, FsError> {
+    let Ok(bytes) = filled(alloc, len, byte) else {
+        // Halted is all that this is refused for.
+        fs.space()?;
+        return Err(FsError::NoMemory);
+    };
+    fs.pwrite(handle, offset, bytes.as_slice())
+}
+
 /// Makes the call.
-pub fn make<D: SectorDevice>(fs: &mut Fs<D>, call: &Call) -> Result<Answer, FsError> {
+pub fn make<D: SectorDevice>(
+    alloc: Global,
+    fs: &mut Fs<D>,
+    call: &Call,
+) -> Result<Answer, FsError> {
     match call {
         Call::Create(path) => fs.create(path.as_slice()).map(Answer::Handle),
         Call::Open(path) => fs.open(path.as_slice()).map(Answer::Handle),
@@ -31,6 +66,14 @@ pub fn make<D: SectorDevice>(fs: &mut Fs<D>, call: &Call) -> Result<Answer, FsEr
         } => fs
             .pwrite(*handle, *offset, bytes.as_slice())
             .map(Answer::Count),
+        Call::Fill {
+            handle,
+            offset,
+            len,
+            byte,
+        } => fill(alloc, fs, *handle, *offset, *len, *byte).map(Answer::Count),
+        Call::Truncate { handle, len } => fs.truncate(*handle, *len).map(|()| Answer::Done),
+        Call::Stat(path) => fs.stat(path.as_slice()).map(Answer::Stat),
         Call::Sync => fs.sync().map(|()| Answer::Done),
         Call::Space => fs.space().map(Answer::Space),
         Call::Tree => fs.tree().map(Answer::Tree),

@@ -9,7 +9,7 @@ ghost use Rattle.lfs_script.specs.Command.{command_word};
 use crate::command::Command;
 use crate::escape::read_escaped;
 use crate::hexadecimal::read_hex;
-use crate::number::{read_u32, read_u64};
+use crate::number::{read_u8, read_u32, read_u64};
 use crate::word::{WordFault, Words};
 use std::alloc::Global;
 
@@ -28,9 +28,32 @@ pub enum Call {
         offset: u64,
         bytes: Vec<u8>,
     },
+    /// Puts `len` bytes of this value, as `Pwrite` does.
+    Fill {
+        handle: u32,
+        offset: u64,
+        len: u32,
+        byte: u8,
+    },
+    Truncate {
+        handle: u32,
+        len: u64,
+    },
+    Stat(Vec<u8>),
     Sync,
     Space,
     Tree,
+}
+
+fn as_u8(word: &[u8]) -> Result<u8, WordFault>
+    ensures ok { IfOk result (λ n. decimal n ≡ word.now) }
+    ensures err { OnErr result ((n : ℕ) → n < 256 → decimal n ≢ word.now) }
+    ensures fault { OnErr result (IsErrOf result WordFault.Spelling) }
+{
+    match read_u8(word) {
+        Some(n) => Ok(n),
+        None => Err(WordFault::Spelling),
+    }
 }
 
 fn as_u32(word: &[u8]) -> Result<u32, WordFault>
@@ -92,6 +115,30 @@ fn pwrite(alloc: Global, words: Words<'_>) -> Result<(u32, u64, Vec<u8>), WordFa
     Ok((handle, offset, bytes))
 }
 
+fn fill(words: Words<'_>) -> Result<(u32, u64, u32, u8), WordFault>
+    ensures ok { IfOk result (λ r. decimal r.0 ∷ decimal r.1 ∷ decimal r.2 ∷ decimal r.3 ∷ [] ≡ words_left (option_copied words.entry.rest)) }
+    ensures err { OnErr result ((h o n b : ℕ) → h < 2 ^ 32 → o < 2 ^ 64 → n < 2 ^ 32 → b < 256 → decimal h ∷ decimal o ∷ decimal n ∷ decimal b ∷ [] ≢ words_left (option_copied words.entry.rest)) }
+    ensures fault { OnErr result (IsErrOf result WordFault.Spelling) }
+{
+    let (handle, offset, len, byte) = words.four()?;
+    let handle = as_u32(handle)?;
+    let offset = as_u64(offset)?;
+    let len = as_u32(len)?;
+    let byte = as_u8(byte)?;
+    Ok((handle, offset, len, byte))
+}
+
+fn truncate(words: Words<'_>) -> Result<(u32, u64), WordFault>
+    ensures ok { IfOk result (λ r. decimal r.0 ∷ decimal r.1 ∷ [] ≡ words_left (option_copied words.entry.rest)) }
+    ensures err { OnErr result ((h n : ℕ) → h < 2 ^ 32 → n < 2 ^ 64 → decimal h ∷ decimal n ∷ [] ≢ words_left (option_copied words.entry.rest)) }
+    ensures fault { OnErr result (IsErrOf result WordFault.Spelling) }
+{
+    let (handle, len) = words.two()?;
+    let handle = as_u32(handle)?;
+    let len = as_u64(len)?;
+    Ok((handle, len))
+}
+
 // The call of a command whose arguments are left.
 fn call_of(alloc: Global, command: Command, words: Words<'_>) -> Result<Call, WordFault>
     ensures ok { IfOk result (λ call. words_of (line_for call) ≡ command_word command ∷ words_left (option_copied words.entry.rest)) }
@@ -118,6 +165,20 @@ fn call_of(alloc: Global, command: Command, words: Words<'_>) -> Result<Call, Wo
                 bytes,
             })
         }
+        Command::Fill => {
+            let (handle, offset, len, byte) = fill(words)?;
+            Ok(Call::Fill {
+                handle,
+                offset,
+                len,
+                byte,
+            })
+        }
+        Command::Truncate => {
+            let (handle, len) = truncate(words)?;
+            Ok(Call::Truncate { handle, len })
+        }
+        Command::Stat => Ok(Call::Stat(path(alloc, words)?)),
         Command::Sync => words.none().map(|()| Call::Sync),
         Command::Space => words.none().map(|()| Call::Space),
         Command::Tree => words.none().map(|()| Call::Tree),

@@ -9,17 +9,23 @@ pub enum Command {
     Open,
     Pread,
     Pwrite,
+    Fill,
+    Truncate,
+    Stat,
     Sync,
     Space,
     Tree,
 }
 
 impl Command {
-    const ALL: [Command; 7] = [
+    const ALL: [Command; 10] = [
         Command::Create,
         Command::Open,
         Command::Pread,
         Command::Pwrite,
+        Command::Fill,
+        Command::Truncate,
+        Command::Stat,
         Command::Sync,
         Command::Space,
         Command::Tree,
@@ -35,6 +41,9 @@ impl Command {
             Command::Open => b"open",
             Command::Pread => b"pread",
             Command::Pwrite => b"pwrite",
+            Command::Fill => b"fill",
+            Command::Truncate => b"truncate",
+            Command::Stat => b"stat",
             Command::Sync => b"sync",
             Command::Space => b"space",
             Command::Tree => b"tree",

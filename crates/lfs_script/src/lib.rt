@@ -18,7 +18,7 @@ mod word;
 pub use answer::Answer;
 pub use escape::{put_escaped, read_escaped};
 pub use hexadecimal::{put_hex, read_hex};
-pub use number::{put_number, read_u32, read_u64};
+pub use number::{put_number, read_u8, read_u32, read_u64};
 pub use reply::put_reply;
 pub use script::{ScriptEnd, run};
 pub use sink::Stopped;

@@ -44,6 +44,17 @@ pub fn read_u32(word: &[u8]) -> Option<u32>
     u32::try_from(number).ok()
 }
 
+/// The number that the word spells, if it is below 256.
+pub fn read_u8(word: &[u8]) -> Option<u8>
+    ensures found { IfSome result (λ n. decimal n ≡ word.now) }
+    ensures none { result ≡ None → (n : ℕ) → n < 256 → decimal n ≢ word.now }
+{
+    let Some(number) = read_u64(word) else {
+        return None;
+    };
+    u8::try_from(number).ok()
+}
+
 // Puts the number's digits at the end of the buffer and answers where they start.
 fn fill_digits(digits: &mut [u8; 20], number: u64) -> usize
     ensures start { result ≤ 19 }

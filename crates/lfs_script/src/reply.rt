@@ -9,7 +9,7 @@ ghost use Rattle.lfs_script.specs.Answers.{answer_of, result_of, row_of};
 use crate::answer::Answer;
 use crate::piece::{Piece, put_all};
 use crate::sink::Stopped;
-use lfs_fs::{FsError, Space, TreeRow};
+use lfs_fs::{FsError, Space, Stat, TreeRow};
 use lfs_model::Kind;
 use std::io::Write;
 
@@ -81,6 +81,26 @@ fn put_number_line<W: Write>(writer: &mut W, number: u64) -> Result<(), Stopped>
     put_all(writer, &[Piece::Text(b"ok "), Piece::Number(number), END])
 }
 
+fn put_stat<W: Write>(writer: &mut W, stat: Stat) -> Result<(), Stopped>
+    ensures ok { OnOk result (Appends (W.contents writer.old) (W.contents writer.new) (ok (decimal stat.number ∷ kind_name stat.kind ∷ decimal stat.links ∷ decimal stat.size ∷ []))) }
+    ensures err { OnErr result (AppendsSome (W.contents writer.old) (W.contents writer.new) (ok (decimal stat.number ∷ kind_name stat.kind ∷ decimal stat.links ∷ decimal stat.size ∷ []))) }
+{
+    put_all(
+        writer,
+        &[
+            Piece::Text(b"ok "),
+            Piece::Number(u64::from(stat.number)),
+            SPACE,
+            Piece::Text(kind_name(stat.kind)),
+            SPACE,
+            Piece::Number(u64::from(stat.links)),
+            SPACE,
+            Piece::Number(stat.size),
+            END,
+        ],
+    )
+}
+
 fn put_space<W: Write>(writer: &mut W, space: Space) -> Result<(), Stopped>
     ensures ok { OnOk result (Appends (W.contents writer.old) (W.contents writer.new) (ok (decimal space.data_blocks ∷ decimal space.meta_blocks ∷ decimal space.need ∷ decimal space.limit ∷ []))) }
     ensures err { OnErr result (AppendsSome (W.contents writer.old) (W.contents writer.new) (ok (decimal space.data_blocks ∷ decimal space.meta_blocks ∷ decimal space.need ∷ decimal space.limit ∷ []))) }
@@ -122,6 +142,7 @@ fn put_answer<W: Write>(writer: &mut W, answer: &Answer) -> Result<(), Stopped>
             writer,
             &[Piece::Text(b"ok "), Piece::Hex(bytes.as_slice()), END],
         ),
+        Answer::Stat(stat) => put_stat(writer, *stat),
         Answer::Space(space) => put_space(writer, *space),
         Answer::Tree(rows) => put_tree(writer, rows.as_slice()),
     }

@@ -42,7 +42,7 @@ fn turn<W: Write, D: SectorDevice>(
     count: u64,
 ) -> Option<ScriptEnd> {
     let answer = match parse(alloc, line) {
-        Ok(call) => make(fs, &call),
+        Ok(call) => make(alloc, fs, &call),
         Err(WordFault::Memory) => Err(FsError::NoMemory),
         Err(WordFault::Spelling) => return Some(refuse(writer, count)),
     };

@@ -69,6 +69,55 @@ fn scripts(rt: HostRuntime) -> Result<(), Fail> {
     Ok(())
 }
 
+#[test]
+fn bytes_of_one_value(rt: HostRuntime) -> Result<(), Fail> {
+    let (end, output) = answered(
+        &rt,
+        "create /z\nfill 0 0 512 0\nspace\nfill 0 100 1 9\nspace\nfill 0 100 1 0\nspace\nstat /z\n",
+    )?;
+    let replies =
+        b"ok 0\nok 512\nok 1 2 735 3008\nok 1\nok 2 2 736 3008\nok 1\nok 1 2 735 3008\nok 2 file 1 512\n";
+    assert_eq!(rt; end, ScriptEnd::Done);
+    assert_eq!(rt; output.as_slice(), replies.as_slice());
+    Ok(())
+}
+
+#[test]
+fn the_end_of_the_longest_file(rt: HostRuntime) -> Result<(), Fail> {
+    let (end, output) = answered(
+        &rt,
+        "create /f\nfill 0 8511487 1 7\nfill 0 8511488 1 7\npread 0 8511486 5\nspace\n",
+    )?;
+    let replies = b"ok 0\nok 1\nerr FileTooBig\nok 0007\nok 2 4 750 3008\n";
+    assert_eq!(rt; end, ScriptEnd::Done);
+    assert_eq!(rt; output.as_slice(), replies.as_slice());
+    Ok(())
+}
+
+#[test]
+fn files_cut_and_made_longer(rt: HostRuntime) -> Result<(), Fail> {
+    let (end, output) = answered(
+        &rt,
+        "create /g\npwrite 0 0 616263\ntruncate 0 1\npwrite 0 4 7a\npread 0 0 9\n",
+    )?;
+    let replies = b"ok 0\nok 3\nok\nok 1\nok 610000007a\n";
+    assert_eq!(rt; end, ScriptEnd::Done);
+    assert_eq!(rt; output.as_slice(), replies.as_slice());
+    Ok(())
+}
+
+#[test]
+fn the_most_bytes_of_one_value(rt: HostRuntime) -> Result<(), Fail> {
+    let (end, output) = answered(
+        &rt,
+        "create /f\nfill 0 0 65536 1\nfill 0 0 65537 1\nfill 0 0 4294967295 1\nfill 1 0 4294967295 1\nfill 0 9 0 1\n",
+    )?;
+    let replies = b"ok 0\nok 65536\nerr Inval\nerr Inval\nerr BadHandle\nok 0\n";
+    assert_eq!(rt; end, ScriptEnd::Done);
+    assert_eq!(rt; output.as_slice(), replies.as_slice());
+    Ok(())
+}
+
 // Wants that the first line of a script is bad.
 fn want_bad(rt: &HostRuntime, line: &str) -> Result<bool, Fail> {
     let (end, output) = answered(rt, line)?;
@@ -91,6 +140,16 @@ fn lines_with_wrong_words_are_bad(rt: HostRuntime) -> Result<(), Fail> {
         "create  /a",
         "create /a ",
         "open",
+        "stat",
+        "stat /a /b",
+        "fill 0 0 1",
+        "fill 0 0 1 256",
+        "fill 0 0 1 09",
+        "fill 0 0 1 9 9",
+        "fill 0 0 4294967296 9",
+        "truncate 0",
+        "truncate 0 1 2",
+        "truncate 0 18446744073709551616",
     ] {
         assert!(rt; want_bad(&rt, line)?, "{line}");
     }

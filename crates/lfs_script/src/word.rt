@@ -78,6 +78,17 @@ impl<'a> Words<'a> {
         Ok(word)
     }
 
+    /// The only two words that are left.
+    pub fn two(mut self) -> Result<(&'a [u8], &'a [u8]), WordFault>
+        ensures ok { IfOk result (λ r. words_left (option_copied self.entry.rest) ≡ r.0.now ∷ r.1.now ∷ []) }
+        ensures err { OnErr result ((a b : List ℕ) → words_left (option_copied self.entry.rest) ≢ a ∷ b ∷ []) }
+        ensures fault { OnErr result (IsErrOf result WordFault.Spelling) }
+    {
+        let first = self.next()?;
+        let second = self.one()?;
+        Ok((first, second))
+    }
+
     /// The only three words that are left.
     pub fn three(mut self) -> Result<(&'a [u8], &'a [u8], &'a [u8]), WordFault>
         ensures ok { IfOk result (λ r. words_left (option_copied self.entry.rest) ≡ r.0.now ∷ r.1.now ∷ r.2.now ∷ []) }
@@ -88,5 +99,16 @@ impl<'a> Words<'a> {
         let second = self.next()?;
         let third = self.one()?;
         Ok((first, second, third))
+    }
+
+    /// The only four words that are left.
+    pub fn four(mut self) -> Result<(&'a [u8], &'a [u8], &'a [u8], &'a [u8]), WordFault>
+        ensures ok { IfOk result (λ r. words_left (option_copied self.entry.rest) ≡ r.0.now ∷ r.1.now ∷ r.2.now ∷ r.3.now ∷ []) }
+        ensures err { OnErr result ((a b c d : List ℕ) → words_left (option_copied self.entry.rest) ≢ a ∷ b ∷ c ∷ d ∷ []) }
+        ensures fault { OnErr result (IsErrOf result WordFault.Spelling) }
+    {
+        let first = self.next()?;
+        let (second, third, fourth) = self.three()?;
+        Ok((first, second, third, fourth))
     }
 }
