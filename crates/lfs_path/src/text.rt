@@ -1,5 +1,5 @@
 //! The text of paths: their pieces, one after the other.
-ghost use Rattle.std.specs.Prelude.{◌≡◌, ◌≤◌, ◌<◌, not, [], IfSome, IfNone, IfErr, OnOk, None, length, nat_lt};
+ghost use Rattle.std.specs.Prelude.{◌≡◌, ◌≤◌, ◌<◌, ◌+◌, not, [], IfSome, IfNone, IfErr, OnOk, None, length, nat_lt};
 ghost use Rattle.std.specs.List.{list_any, prefix_len};
 ghost use Rattle.lfs_model.specs.PathText as model;
 ghost use Rattle.lfs_path.specs.Pieces.{is_slash, is_dots as are_dots, from_name, IsNextPiece, IsFirstName};
@@ -68,6 +68,7 @@ fn piece_length(text: &[u8]) -> usize
 pub fn next_piece(path: &[u8]) -> Option<(&[u8], &[u8])>
     ensures piece { IfSome result (λ next. IsNextPiece path.now next.0.now next.1.now) }
     ensures none { IfNone result (model.comps path.now ≡ []) }
+    ensures within { IfSome result (λ next. 0 < length next.0.now × length next.0.now + length next.1.now ≤ length path.now) }
 {
     let path = &path[leading_slashes(path)..];
     if path.is_empty() {
