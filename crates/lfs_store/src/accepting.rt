@@ -35,6 +35,7 @@ impl<D: SectorDevice> Store<D> {
         ensures stores { IfOk result (λ s. MountsStore D.SectorDevice.state device s.log s.saved) }
         ensures counts { IfOk result (λ s. MountsTotals D.SectorDevice.state device s.log s.totals) }
         ensures drafted { IfOk result (λ s. s.drafted ≡ s.totals) }
+        ensures saved { IfOk result (λ s. s.saved ≡ true) }
         ensures draft { IfOk result (λ s. IsNoChange s.draft.changes) }
         ensures durable { IfOk result (λ s. (D.state s.log.device).keeps_model → Only (D.state device).content (D.state s.log.device)) }
         ensures cause { IfErr result (λ e. (e.0 ≡ MountFault.NoMemory → ⊥) → IsOpenFault (D.state device) (D.state e.1)) }

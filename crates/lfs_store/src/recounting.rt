@@ -1,5 +1,5 @@
 //! The totals of the draft as one file changes.
-ghost use Rattle.std.specs.Prelude.{◌≡◌, ◌<◌, ◌≤◌, OnOk, OnErr};
+ghost use Rattle.std.specs.Prelude.{◌≡◌, ◌<◌, ◌≤◌, true, OnOk, OnErr, IsErrOf};
 ghost use Rattle.lfs_store.specs.Recounting.{Replaces, Recounts};
 
 use crate::store::Store;
@@ -61,6 +61,8 @@ impl<D: SectorDevice> Store<D> {
         ensures totals { self.new.totals ≡ self.old.totals }
         ensures done { OnOk result (Remeasures D.SectorDevice.state self.old.log self.new.log self.old.draft.changes number from to before self.old.drafted self.new.drafted) }
         ensures failed { OnErr result (IsReadFault D.SectorDevice.state self.old.log self.new.log) }
+        ensures halted { IsErrOf result LogFault.Halted → self.old.log.halted ≡ true }
+        ensures other { IsErrOf result LogFault.Full → ⊥ }
     {
         let after = match self.measure(number, from, to) {
             Ok(measure) => measure,

@@ -1,5 +1,5 @@
 //! Bytes written to a file and cut off it, into the draft.
-ghost use Rattle.std.specs.Prelude.{◌≡◌, ◌<◌, ◌≤◌, ◌+◌, ◌%◌, length, IfErr, OnOk};
+ghost use Rattle.std.specs.Prelude.{◌≡◌, ◌<◌, ◌≤◌, ◌+◌, ◌%◌, true, length, IfErr, OnOk, IsErrOf};
 ghost use Rattle.lfs_memory.specs.Batch.{IsNoChange};
 ghost use Rattle.lfs_store.specs.Drafting.{PutsHeader};
 
@@ -8,7 +8,7 @@ use crate::measuring::BLOCKS;
 use crate::pieces::{cut_tail, overlay};
 use crate::store::Store;
 use lfs_device::SectorDevice;
-use lfs_log::{Cut, Header, Loss};
+use lfs_log::{Cut, Header, LogFault, Loss};
 
 #[cfg(test)]
 mod tests;
@@ -40,6 +40,8 @@ impl<D: SectorDevice> Store<D> {
         ensures done { OnOk result (Writes D.SectorDevice.state self.old.log self.new.log self.old.draft.changes self.new.draft.changes number header at bytes.now) }
         ensures counted { OnOk result (Counts D.SectorDevice.state self.old.log self.new.log self.old.draft.changes self.new.draft.changes self.old.drafted self.new.drafted) }
         ensures failed { IfErr result (λ fault. (fault ≡ StoreFault.NoMemory → ⊥) → IsReadFault D.SectorDevice.state self.old.log self.new.log) }
+        ensures halted { IsErrOf result (StoreFault.Log LogFault.Halted) → self.old.log.halted ≡ true }
+        ensures other { IsErrOf result (StoreFault.Log LogFault.Full) → ⊥ }
     {
         let from = at / 512;
         let to = (at + bytes.len() as u32).div_ceil(512);
@@ -75,6 +77,8 @@ impl<D: SectorDevice> Store<D> {
         ensures drafted { self.new.drafted ≡ self.old.drafted }
         ensures done { OnOk result (Writes D.SectorDevice.state self.old.log self.new.log self.old.draft.changes self.new.draft.changes number header at bytes.now) }
         ensures failed { IfErr result (λ fault. (fault ≡ StoreFault.NoMemory → ⊥) → IsReadFault D.SectorDevice.state self.old.log self.new.log) }
+        ensures halted { IsErrOf result (StoreFault.Log LogFault.Halted) → self.old.log.halted ≡ true }
+        ensures other { IsErrOf result (StoreFault.Log LogFault.Full) → ⊥ }
     {
         let end = at + bytes.len() as u32;
         for index in at / 512..end.div_ceil(512) {
@@ -101,6 +105,8 @@ impl<D: SectorDevice> Store<D> {
         ensures drafted { self.new.drafted ≡ self.old.drafted }
         ensures done { OnOk result (WritesBlock D.SectorDevice.state self.old.log self.new.log self.old.draft.changes self.new.draft.changes number index at bytes.now) }
         ensures failed { IfErr result (λ fault. (fault ≡ StoreFault.NoMemory → ⊥) → IsReadFault D.SectorDevice.state self.old.log self.new.log) }
+        ensures halted { IsErrOf result (StoreFault.Log LogFault.Halted) → self.old.log.halted ≡ true }
+        ensures other { IsErrOf result (StoreFault.Log LogFault.Full) → ⊥ }
     {
         let mut block = [0; 512];
         match self.block(number, index, &mut block) {
@@ -130,6 +136,8 @@ impl<D: SectorDevice> Store<D> {
         ensures done { OnOk result (SetsLen D.SectorDevice.state self.old.log self.new.log self.new.draft.changes number header len) }
         ensures counted { OnOk result (Counts D.SectorDevice.state self.old.log self.new.log self.old.draft.changes self.new.draft.changes self.old.drafted self.new.drafted) }
         ensures failed { IfErr result (λ fault. (fault ≡ StoreFault.NoMemory → ⊥) → IsReadFault D.SectorDevice.state self.old.log self.new.log) }
+        ensures halted { IsErrOf result (StoreFault.Log LogFault.Halted) → self.old.log.halted ≡ true }
+        ensures other { IsErrOf result (StoreFault.Log LogFault.Full) → ⊥ }
     {
         let before = match self.measure(number, len / 512, BLOCKS) {
             Ok(measure) => measure,
@@ -157,6 +165,8 @@ impl<D: SectorDevice> Store<D> {
         ensures drafted { self.new.drafted ≡ self.old.drafted }
         ensures done { OnOk result (SetsLen D.SectorDevice.state self.old.log self.new.log self.new.draft.changes number header len) }
         ensures failed { IfErr result (λ fault. (fault ≡ StoreFault.NoMemory → ⊥) → IsReadFault D.SectorDevice.state self.old.log self.new.log) }
+        ensures halted { IsErrOf result (StoreFault.Log LogFault.Halted) → self.old.log.halted ≡ true }
+        ensures other { IsErrOf result (StoreFault.Log LogFault.Full) → ⊥ }
     {
         if header.size <= len {
             return self.resize(number, header, len);
@@ -177,6 +187,8 @@ impl<D: SectorDevice> Store<D> {
         ensures drafted { self.new.drafted ≡ self.old.drafted }
         ensures done { OnOk result (CutsDraft D.SectorDevice.state self.old.log self.new.log self.new.draft.changes number len) }
         ensures failed { IfErr result (λ fault. (fault ≡ StoreFault.NoMemory → ⊥) → IsReadFault D.SectorDevice.state self.old.log self.new.log) }
+        ensures halted { IsErrOf result (StoreFault.Log LogFault.Halted) → self.old.log.halted ≡ true }
+        ensures other { IsErrOf result (StoreFault.Log LogFault.Full) → ⊥ }
     {
         self.lose_blocks(number, len);
         if len % 512 == 0 {
@@ -215,6 +227,8 @@ impl<D: SectorDevice> Store<D> {
         ensures drafted { self.new.drafted ≡ self.old.drafted }
         ensures done { OnOk result (CutsDraft D.SectorDevice.state self.old.log self.new.log self.new.draft.changes number len) }
         ensures failed { IfErr result (λ fault. (fault ≡ StoreFault.NoMemory → ⊥) → IsReadFault D.SectorDevice.state self.old.log self.new.log) }
+        ensures halted { IsErrOf result (StoreFault.Log LogFault.Halted) → self.old.log.halted ≡ true }
+        ensures other { IsErrOf result (StoreFault.Log LogFault.Full) → ⊥ }
     {
         let mut block = [0; 512];
         let stored = match self.block(number, len / 512, &mut block) {
