@@ -1,14 +1,14 @@
 -- The calls of open files, exit by exit.
-use Rattle.std.proofs.Common.{◌≡◌, ◌≢◌, ◌<◌, ◌≤◌, ◌+◌, ◌*◌, ◌==◌, ℕ, Bool, true, false, List, [], ◌∷◌, length, Option, Some, None, refl, sym, ◌∙◌, ap, arith, nat_lt}
+use Rattle.std.proofs.Common.{◌≡◌, ◌<◌, ◌≤◌, ◌+◌, ◌*◌, ◌==◌, ℕ, Bool, true, false, List, [], ◌∷◌, length, Option, Some, None, refl, ◌∙◌, ap, arith, nat_lt}
 use Rattle.std.specs.Prelude.{unwrap_or, is_none}
 use Rattle.std.specs.Ordering.{nat_cmp}
 use Rattle.std.specs.FinMap.{find}
 use Rattle.std.proofs.lemmas.Bool.Decides.{nat_tests}
 use Rattle.lfs_model.specs.Bytes as bytes
-use Rattle.lfs_model.specs.Call.{Call, Pread, Pwrite, Truncate, Answer, Refuse, Count, Data, Done}
+use Rattle.lfs_model.specs.Call.{Pread, Pwrite, Truncate, Answer, Refuse, Count, Data, Done}
 use Rattle.lfs_model.specs.Need.{need}
 use Rattle.lfs_model.specs.Refusal.{BadHandle, Inval, FileTooBig, NoSpace}
-use Rattle.lfs_model.specs.Step.{Step, outcome, checked, when, bad_handle, file_at, file_bytes, the_node, no_space, with_tree, reads, writes, truncates}
+use Rattle.lfs_model.specs.Step.{Step, checked, when, file_at, file_bytes, the_node, no_space, with_tree, reads, writes, truncates}
 use Rattle.lfs_model.specs.Tree.{State, Tree, File, with_node}
 use Rattle.lfs_model.specs.Walk.{At}
 use Rattle.lfs_fs.proofs.Checks.{refuses, passes, is_some, is_missing, below, not_below}

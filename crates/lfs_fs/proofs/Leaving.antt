@@ -1,16 +1,15 @@
 -- What a stop leaves of a running volume.
-use Rattle.std.proofs.Common.{◌≡◌, ◌⊎◌, ℕ, Bool, true, false, List, [], ◌∷◌, length, Some, refl, sym, ◌∙◌, subst, ap, inl, inr, ⊎_elim, arith}
+use Rattle.std.proofs.Common.{◌≡◌, ◌⊎◌, ℕ, List, ◌∷◌, refl, sym, subst, inl, inr, ⊎_elim, arith}
 use Rattle.lfs_model.specs.Checkpoint.{CheckpointValue}
-use Rattle.lfs_model.specs.Content.{Content, newest}
+use Rattle.lfs_model.specs.Content.{Content}
 use Rattle.lfs_model.specs.Crash.{StandsOn, StandsForOn}
-use Rattle.lfs_model.specs.Device.{DeviceState, IsLawful, AllLeft, LeavesOnly}
-use Rattle.lfs_model.specs.Encodes.{IsLogMap}
+use Rattle.lfs_model.specs.Device.{DeviceState, IsLawful, LeavesOnly}
 use Rattle.lfs_model.specs.Settled.{IsSettled}
-use Rattle.lfs_model.specs.Stands.{LogMap, StandsAt, StandsLog}
-use Rattle.lfs_model.specs.Tree.{State, Tree, drop_nameless}
-use Rattle.lfs_model.specs.TreeOf.{IsTree, Left, LeavesOne, LeavesStates, Stands, dropped, tree_in}
+use Rattle.lfs_model.specs.Stands.{LogMap}
+use Rattle.lfs_model.specs.Tree.{State, drop_nameless}
+use Rattle.lfs_model.specs.TreeOf.{IsTree, Left, LeavesStates, Stands, dropped, tree_in}
 use Rattle.lfs_model.specs.Volume.{IsLogOf, mounted}
-use Rattle.lfs_model.proofs.Committed.{dropped_stands, dropped_tree, dropped_log}
+use Rattle.lfs_model.proofs.Committed.{dropped_stands}
 use Rattle.lfs_model.proofs.Moments.{weaker}
 use Rattle.std.specs.List.{Contains}
 

@@ -15,3 +15,37 @@ mod Shortened
 mod Created
 mod Listed
 mod Rooted
+mod Resized
+mod Headers
+mod RowFacts
+mod Holding
+mod Ending
+mod AfterReads
+mod CallSteps
+mod Found
+mod Accepted
+mod Lacking
+mod Turning
+mod Told
+mod Declined
+mod Syncing
+mod WritingEnds
+mod WritingDrafts
+mod WritingExits
+mod SavingEnds
+mod ReadingEnds
+mod PathEnds
+mod RowEnds
+mod NamingEnds
+mod NameLooks
+mod CreateEnds
+mod CreateRefusals
+mod CreateMade
+mod CreateTurned
+mod RowLoops
+mod TreeEnds
+mod LineSteps
+pub mod ScriptRuns
+pub mod Sessions
+mod MountChecks
+mod MountEnds

@@ -1,8 +1,6 @@
 -- What a call reads of the store, and why it gets no answer.
-use Rattle.std.proofs.Common.{◌≡◌, ◌⊎◌, ◌<◌, ℕ, Bool, true, Option, Some, None, refl, sym, ◌∙◌, subst, ap, inl, inr}
-use Rattle.lfs_model.specs.Checkpoint.{CheckpointValue}
+use Rattle.std.proofs.Common.{◌≡◌, ℕ, true, Option, Some, None, refl, subst, inl, inr}
 use Rattle.lfs_model.specs.Device.{DeviceState}
-use Rattle.lfs_model.specs.Stands.{LogMap}
 use Rattle.lfs_memory.specs.declared.fault.LogFault.{LogFault}
 use Rattle.lfs_memory.specs.declared.fault.LogFault.TheVariants as log
 use Rattle.lfs_memory.specs.declared.header.Header.{Header}

@@ -1,12 +1,12 @@
 -- The calls of paths, and those without arguments, exit by exit.
-use Rattle.std.proofs.Common.{◌≡◌, ◌≢◌, ◌<◌, ◌≤◌, ◌+◌, ◌*◌, ℕ, Bool, true, false, not, ◌&&◌, ◌||◌, List, [], ◌∷◌, length, Option, Some, None, refl, sym, ◌∙◌, ap, arith, nat_lt, nat_le}
+use Rattle.std.proofs.Common.{◌≡◌, ◌<◌, ◌≤◌, ◌*◌, ℕ, Bool, true, false, not, ◌&&◌, ◌||◌, List, [], ◌∷◌, refl, ◌∙◌, ap, nat_lt, nat_le}
 use Rattle.std.specs.Ordering.{nat_cmp}
-use Rattle.std.specs.FinMap.{find, put}
-use Rattle.lfs_model.specs.Call.{Call, Open, Create, StatOf, Sync, Space, ListTree, Answer, Refuse, Handle, Status, Done, Rows}
+use Rattle.std.specs.FinMap.{put}
+use Rattle.lfs_model.specs.Call.{Open, Create, StatOf, Sync, Space, ListTree, Answer, Refuse, Handle, Status, Done, Rows}
 use Rattle.lfs_model.specs.Need.{need}
 use Rattle.lfs_model.specs.PathText.{slash}
 use Rattle.lfs_model.specs.Refusal.{Refusal, IsDir, TooManyOpen, Exist, NameTooLong, NoEntry, DirFull, NoNumber, NoSpace}
-use Rattle.lfs_model.specs.Step.{Step, outcome, checked, reached, when, opens, creates, with_new, no_last, last_dots, is_long, is_there, is_full, no_handle, no_number, no_space, stat_of, room, rows_of}
+use Rattle.lfs_model.specs.Step.{Step, checked, when, opens, creates, with_new, no_last, last_dots, is_long, is_there, is_full, no_handle, no_number, no_space, stat_of, room, rows_of}
 use Rattle.lfs_model.specs.Tree.{State, Tree, File, node, is_dir, least, least_handle}
 use Rattle.lfs_model.specs.Walk.{At, Refused, Resolve, Parent}
 use Rattle.lfs_fs.proofs.Checks.{refuses, passes, below, not_below, at_most, not_at_most}

@@ -1,15 +1,12 @@
 -- The ends of a call: what each of them makes of a volume.
-use Rattle.std.proofs.Common.{◌≡◌, ◌≢◌, ◌⊎◌, ◌≤◌, ◌<◌, ◌+◌, ◌/◌, ◌^◌, ℕ, Bool, true, false, ◌&&◌, List, [], ◌∷◌, length, Some, refl, sym, ◌∙◌, subst, ap, inl, inr, ⊎_elim, arith}
+use Rattle.std.proofs.Common.{◌≡◌, ◌⊎◌, ◌≤◌, ◌<◌, ◌+◌, ◌/◌, ◌^◌, ℕ, Bool, true, false, ◌&&◌, List, [], ◌∷◌, length, refl, sym, ◌∙◌, subst, ap, inl, inr, ⊎_elim, arith}
 use Rattle.std.specs.List.{Contains}
-use Rattle.std.specs.Prelude.{IsTrue}
-use Rattle.lfs_model.specs.Call.{Call, Answer, Refuse, commits, is_ok}
+use Rattle.lfs_model.specs.Call.{Call, Answer, Refuse, commits}
 use Rattle.lfs_model.specs.Checkpoint.{CheckpointValue}
 use Rattle.lfs_model.specs.Device.{DeviceState, IsLawful, AllLeft, Carries, LeavesOnly}
-use Rattle.lfs_model.specs.Refusal.{Refusal, NoEntry, NotDir, IsDir, Exist, NotEmpty, Inval, NameTooLong, Loop, Perm, Busy, BadHandle, TooManyOpen, TooManyLinks, FileTooBig, NoSpace, NoNumber, DirFull, NoMemory, Device, Halted, Stuck, Worn}
-use Rattle.lfs_model.specs.Run.{Point, Answers, IsExcused, IsPastLast, StepsOr, acknowledges}
-use Rattle.lfs_model.specs.Step.{Step}
+use Rattle.lfs_model.specs.Refusal.{Refusal, Halted}
+use Rattle.lfs_model.specs.Run.{Point, StepsOr, acknowledges}
 use Rattle.lfs_model.specs.Content.{Content}
-use Rattle.lfs_model.proofs.Lefts.{left_before}
 use Rattle.lfs_model.specs.Stands.{LogMap}
 use Rattle.lfs_model.specs.Tree.{State, drop_nameless}
 use Rattle.lfs_model.specs.TreeOf.{IsTree, Left, LeavesOne, LeavesStates, Stands, dropped}
@@ -18,13 +15,10 @@ use Rattle.lfs_model.proofs.Committed.{dropped_log, dropped_tree}
 use Rattle.lfs_model.specs.Crash.{StandsForOn}
 use Rattle.lfs_fs.proofs.Leaving.{leaves_states}
 use Rattle.lfs_model.specs.Volume.{IsLogOf}
-use Rattle.lfs_model.proofs.Moments.{carries_none, started, goes_on, joined}
+use Rattle.lfs_model.proofs.Moments.{carries_none, started, goes_on}
 use Rattle.lfs_memory.specs.declared.memory.LogMemory.{LogMemory}
 use Rattle.lfs_memory.specs.Present.{Looks}
 use Rattle.lfs_segments.specs.Table.{clean_in}
-use Rattle.lfs_log.specs.Held.{Held}
-use Rattle.lfs_store.specs.Accepting.{Stores}
-use Rattle.lfs_store.specs.Totals.{IsCounted}
 use Rattle.lfs_store.proofs.LogReads.{held_still}
 use Rattle.lfs_fs.specs.Handles.{handles_of}
 use Rattle.lfs_fs.specs.Volume.{IsStill, Mounted, segments_of, IsIn, Runs, IsAt, LeavesSome, ServesAt, Serves}
@@ -109,7 +103,7 @@ module _ {D : Type 0} (state : D → DeviceState) where
         → (acknowledges call a ≡ true → ⊥) → Serves state old new call a
     served_still steps none = record {
       carries = still.reads.looks.carries;
-      segments = segments_same;
+      segments = λ e. segments_same;
       orderly = λ e. absurd (cc);
       halts = λ e. absurd (fine e);
       model = λ p keeps is. (let r = is.running was in still_at p keeps is (steps p keeps is r.checkpoint r.saved r.present r.is) none);
@@ -119,7 +113,7 @@ module _ {D : Type 0} (state : D → DeviceState) where
   pub served_halted : (v : Mounted D) (call : Call) → IsLawful (state v.log.device) → v.log.halted ≡ true → Serves state v v call (Refuse Halted)
   served_halted v call lawful was = record {
     carries = carries_none (state v.log.device);
-    segments = refl;
+    segments = λ e. refl;
     orderly = λ e. (refl, refl);
     halts = λ e. was;
     model = λ p keeps is. record {
@@ -218,85 +212,4 @@ module _ {D : Type 0} (state : D → DeviceState) where
         };
         leaves = states_halted;
         saves = λ e. absurd (not_acknowledged call Halted e);
-      }
-
-  -- ---- a call whose volume was only read before its end
-  module _ (old mid new : Mounted D) (still : IsStill state old mid) (was : old.log.halted ≡ false) (lawful : IsLawful (state old.log.device)) (middle : IsLawful (state mid.log.device)) where
-    -- the point is seen after the reads
-    pub mid_at : (p : Point) → IsAt state old p → IsAt state mid (point_of mid p.state)
-    mid_at p is = record {
-      halted = refl;
-      number = refl;
-      failures = refl;
-      running = λ e. (let r = is.running was in record { checkpoint = r.checkpoint; saved = r.saved; present = r.present; is = still_in old mid r.checkpoint r.saved r.present p.state still r.is });
-      leaves = λ c left. is.leaves c (still.reads.looks.untouched.crash c left);
-    }
-
-    module _ (call : Call) (a : Answer) (p : Point) (is : IsAt state old p) (served : ServesAt state mid new call a (point_of mid p.state)) where
-      fewer : p.failures ≤ (state mid.log.device).failures
-      fewer = let f = is.failures in let more = still.reads.looks.carries.failures in omega (arith, f, more)
-
-      same_number : p.number ≡ mid.log.number
-      same_number = is.number ∙ sym still.reads.number
-
-      same_halted : p.halted ≡ mid.log.halted
-      same_halted = is.halted ∙ sym still.reads.halted
-
-      excused_before : (r : Refusal) → IsExcused (segments_of mid) call (point_of mid p.state) served.next r → IsExcused (segments_of mid) call p served.next r
-      excused_before NoMemory e = e
-      excused_before Device e = (e.0, (let less = e.1 in let f = fewer in omega (arith, less, f)))
-      excused_before Halted e = ⊎_elim (λ (h : IsTrue mid.log.halted). absurd (let a = still.reads.halted in cc)) (λ (less : (state mid.log.device).failures < served.next.failures). inr (let f = fewer in omega (arith, less, f))) e
-      excused_before Stuck e = e
-      excused_before Worn e = ((let big = e.0 in omega (arith, big, same_number)), e.1)
-      excused_before NoEntry e = absurd e
-      excused_before NotDir e = absurd e
-      excused_before IsDir e = absurd e
-      excused_before Exist e = absurd e
-      excused_before NotEmpty e = absurd e
-      excused_before Inval e = absurd e
-      excused_before NameTooLong e = absurd e
-      excused_before Loop e = absurd e
-      excused_before Perm e = absurd e
-      excused_before Busy e = absurd e
-      excused_before BadHandle e = absurd e
-      excused_before TooManyOpen e = absurd e
-      excused_before TooManyLinks e = absurd e
-      excused_before FileTooBig e = absurd e
-      excused_before NoSpace e = absurd e
-      excused_before NoNumber e = absurd e
-      excused_before DirFull e = absurd e
-
-      past_before : IsPastLast (segments_of mid) call p → IsPastLast (segments_of mid) call (point_of mid p.state)
-      past_before e = ((let big = e.0 in omega (arith, big, same_number)), e.1)
-
-      steps_before : StepsOr (segments_of mid) call (point_of mid p.state) a served.next → StepsOr (segments_of mid) call p a served.next
-      steps_before s = ⊎_elim
-          (λ (done : Step (segments_of mid) p.state call a served.next.state × ¬ (IsPastLast (segments_of mid) call (point_of mid p.state))). inl (done.0, λ e. done.1 (past_before e)))
-          (λ (out : (r : Refusal) × (a ≡ Refuse r) × IsExcused (segments_of mid) call (point_of mid p.state) served.next r × (served.next.state ≡ p.state)). inr (out.0, out.1, excused_before out.0 out.2, out.3))
-          s
-
-      answers_before : Answers (segments_of mid) call p a served.next
-      answers_before = record {
-        steps = steps_before served.answers.steps;
-        halted = λ e. absurd (let h = is.halted in cc);
-        halts = served.answers.halts;
-        goes_on = served.answers.goes_on;
-        failures = (let f = fewer in let more = served.answers.failures in omega (arith, f, more));
-        number = (let more = served.answers.number in omega (arith, same_number, more));
-      }
-
-      states_before : LeavesStates (state old.log.device) (state new.log.device) (drop_nameless p.state ∷ drop_nameless served.next.state ∷ [])
-      states_before =
-          let ss : List State = drop_nameless p.state ∷ drop_nameless served.next.state ∷ [] in
-          joined (state old.log.device) (state mid.log.device) (state new.log.device) (OneOf (state old.log.device) ss) (OneOf (state mid.log.device) ss) (OneOf (state old.log.device) ss)
-          (left_still (state old.log.device) (state mid.log.device) ss lawful is.leaves still.reads.looks) served.leaves (λ x one. one)
-          (λ x one. (one.0, one.1, ⊎_elim (λ (l : Left (state mid.log.device) one.0). inl (left_before (state old.log.device) (state mid.log.device) one.0 still.reads.looks.untouched l)) (λ (c : Contains ss one.0). inr c) one.2))
-
-      pub served_after : ServesAt state old new call a p
-      served_after = record {
-        next = served.next;
-        at = served.at;
-        answers = subst (λ (n : ℕ). Answers n call p a served.next) (ap (λ (v : LogMemory). length v.usage.segments) still.reads.memory) answers_before;
-        leaves = states_before;
-        saves = served.saves;
       }

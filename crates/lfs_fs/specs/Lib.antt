@@ -3,4 +3,10 @@ pub mod Faults
 pub mod Handles
 pub mod Volume
 pub mod Seen
+pub mod Accepting
+pub mod Answers
+pub mod Mounting
 pub mod Making
+pub mod Reading
+pub mod Naming
+pub mod Scripts

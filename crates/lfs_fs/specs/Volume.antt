@@ -1,14 +1,13 @@
 -- What contracts see of a mounted volume, the state that it is in, and what its calls do.
 -- The calls are those of POSIX.1-2017; which refusals are excused and what a stop leaves is an own choice.
-use Rattle.std.specs.Prelude.{◌≡◌, ◌≢◌, ◌≤◌, ◌^◌, ◌+◌, ◌*◌, ℕ, Bool, true, false, List, [], ◌∷◌, length, Some}
+use Rattle.std.specs.Prelude.{◌≡◌, ◌≢◌, ◌≤◌, ◌^◌, ℕ, Bool, true, false, List, [], ◌∷◌, length, Some}
 use Rattle.lfs_model.specs.Call.{Call, Answer, Refuse}
 use Rattle.lfs_model.specs.Checkpoint.{CheckpointValue}
-use Rattle.lfs_model.specs.Content.{Content, newest}
 use Rattle.lfs_model.specs.Device.{DeviceState, Carries, AllLeft}
 use Rattle.lfs_model.specs.Encodes.{IsLogMap}
 use Rattle.lfs_model.specs.Refusal.{Halted}
 use Rattle.lfs_model.specs.Run.{Point, Answers, acknowledges}
-use Rattle.lfs_model.specs.Stands.{LogMap, StandsAt}
+use Rattle.lfs_model.specs.Stands.{LogMap}
 use Rattle.lfs_model.specs.Tree.{Tree, Node, File, Dir, Names, State, node, drop_nameless}
 use Rattle.lfs_model.specs.TreeOf.{IsTree, LeavesOne, LeavesStates, Stands}
 use Rattle.lfs_model.specs.Volume.{IsLogOf}
@@ -88,7 +87,8 @@ module _ {D : Type 0} (state : D → DeviceState) where
   -- A call: what holds over any device, and what holds at each point where the device keeps the model.
   pub record Serves (old new : Mounted D) (call : Call) (answer : Answer) : Type 0 where
     pub carries : Carries (state old.log.device) (state new.log.device)
-    pub segments : segments_of new ≡ segments_of old
+    -- a failed commit leaves no table of segments to tell of
+    pub segments : new.log.halted ≡ false → segments_of new ≡ segments_of old
     -- once a commit failed each call answers Halted, and does nothing
     pub orderly : old.log.halted ≡ true → (answer ≡ Refuse Halted) × (new ≡ old)
     pub halts : answer ≡ Refuse Halted → new.log.halted ≡ true

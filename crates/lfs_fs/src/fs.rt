@@ -1,8 +1,9 @@
 //! A mounted volume, and what its calls have in common.
-ghost use Rattle.std.specs.Prelude.{◌≡◌, ◌≤◌, ◌<◌, ◌+◌, ◌*◌, true, Some, IfOk, IfErr, OnOk, OnErr};
+ghost use Rattle.std.specs.Prelude.{◌≡◌, ◌≤◌, ◌<◌, ◌^◌, ◌+◌, ◌*◌, length, true, false, Some, IfOk, IfErr, OnOk, OnErr};
 ghost use Rattle.std.specs.FinMap.{find};
 ghost use Rattle.std.specs.Ordering.{nat_cmp};
 ghost use Rattle.lfs_fs.specs.Handles.{handles_of};
+ghost use Rattle.lfs_fs.specs.Accepting.{Stages, TurnsDown};
 ghost use Rattle.lfs_fs.specs.Seen.{Begins, OnlyReads, GivesNone, HasHeader, LacksHeader};
 
 use crate::error::FsError;
@@ -76,7 +77,11 @@ impl<D: SectorDevice> Fs<D> {
     }
 
     /// Refuses a change past the last checkpoint number at which the volume is changed.
-    pub(crate) fn check_worn(&self) -> Result<(), FsError> {
+    pub(crate) fn check_worn(&self) -> Result<(), FsError>
+        ensures young { OnOk result (self.now.store.log.number < 2 ^ 62) }
+        ensures old { OnErr result (2 ^ 62 ≤ self.now.store.log.number) }
+        ensures fault { IfErr result (λ fault. fault ≡ FsError.Worn) }
+    {
         if self.store.log.number() >= WORN {
             return Err(FsError::Worn);
         }
@@ -84,7 +89,12 @@ impl<D: SectorDevice> Fs<D> {
     }
 
     /// What these totals need of the volume.
-    pub(crate) fn space_of(&self, totals: Totals) -> Space {
+    pub(crate) fn space_of(&self, totals: Totals) -> Space
+        ensures stored { result.data_blocks ≡ totals.data_blocks }
+        ensures above { result.meta_blocks ≡ totals.meta_blocks }
+        ensures need { result.need ≡ totals.data_blocks + 7 * totals.meta_blocks + 720 }
+        ensures limit { result.limit ≡ 47 * length self.now.store.log.memory.usage.segments }
+    {
         let data_blocks = u64::from(totals.data_blocks);
         let meta_blocks = u64::from(totals.meta_blocks);
         Space {
@@ -96,7 +106,12 @@ impl<D: SectorDevice> Fs<D> {
     }
 
     /// Makes the drafted changes whole, where the volume has the space for them. Commits come before the changes, never within.
-    pub(crate) fn accept(&mut self) -> Result<(), FsError> {
+    pub(crate) fn accept(&mut self) -> Result<(), FsError>
+        requires running { self.old.store.log.halted ≡ false }
+        ensures done { OnOk result (Stages D.SectorDevice.state self.old self.new) }
+        ensures refused { IfErr result (TurnsDown D.SectorDevice.state self.old self.new) }
+        ensures rest { self.new.handles ≡ self.old.handles }
+    {
         let space = self.space_of(self.store.drafted);
         if space.need > space.limit {
             self.store.give_up();

@@ -1,6 +1,10 @@
 //! Calls that find a file by its path, or make one.
-ghost use Rattle.std.specs.Prelude.{◌≡◌, ◌≤◌, ◌<◌, IfOk, OnOk};
+ghost use Rattle.std.specs.Prelude.{◌≡◌, ◌≤◌, ◌<◌, ℕ, List, false, IfOk, IfErr, OnOk};
+ghost use Rattle.lfs_model.specs.Call.{Open, Create, Handle};
 ghost use Rattle.lfs_model.specs.Slot.{IsName};
+ghost use Rattle.lfs_fs.specs.Volume.{IsStill, Mounted, Serves};
+ghost use Rattle.lfs_fs.specs.Seen.{seen, answer_by, OnlyReads};
+ghost use Rattle.lfs_fs.specs.Naming.{DraftsNew, DraftsNone, LooksNone, LooksUp, MakesFile, MakesNone, OpensNone, OpensNumber, Reaches, RefusesEntry, TakesEntry};
 
 use crate::error::FsError;
 use crate::fs::{Fs, ROOT};
@@ -24,8 +28,13 @@ impl<D: SectorDevice> Fs<D> {
     /// # Errors
     ///
     /// In this order: those of the path; `IsDir`; `TooManyOpen` where 64 handles are open.
-    pub fn open(&mut self, path: &[u8]) -> Result<u32, FsError> {
-        self.begin()?;
+    pub fn open(&mut self, path: &[u8]) -> Result<u32, FsError>
+        ensures { Serves D.SectorDevice.state (seen self.old) (seen self.new) (Open path.now) (answer_by Handle result) }
+    {
+        match self.begin() {
+            Ok(()) => {}
+            Err(fault) => return Err(fault),
+        }
         match resolve(&mut self.store, path) {
             Ok(number) => self.open_number(number),
             Err(fault) => Err(FsError::from(fault)),
@@ -33,7 +42,10 @@ impl<D: SectorDevice> Fs<D> {
     }
 
     /// A handle on the file of a number.
-    fn open_number(&mut self, number: u16) -> Result<u32, FsError> {
+    fn open_number(&mut self, number: u16) -> Result<u32, FsError>
+        ensures opened { IfOk result (OpensNumber self.old self.new number) }
+        ensures refused { IfErr result (OpensNone self.old self.new number) }
+    {
         if number == ROOT {
             return Err(FsError::IsDir);
         }
@@ -50,8 +62,13 @@ impl<D: SectorDevice> Fs<D> {
     ///
     /// In this order: those of the path; of the new name `Exist`, `NameTooLong`, `Exist`, `NoEntry` where a slash follows it, `DirFull`;
     /// `TooManyOpen`; `NoNumber`; `NoSpace`.
-    pub fn create(&mut self, path: &[u8]) -> Result<u32, FsError> {
-        self.begin()?;
+    pub fn create(&mut self, path: &[u8]) -> Result<u32, FsError>
+        ensures { Serves D.SectorDevice.state (seen self.old) (seen self.new) (Create path.now) (answer_by Handle result) }
+    {
+        match self.begin() {
+            Ok(()) => {}
+            Err(fault) => return Err(fault),
+        }
         match parent(&mut self.store, path) {
             Ok(place) => self.create_at(place),
             Err(fault) => Err(FsError::from(fault)),
@@ -62,27 +79,54 @@ impl<D: SectorDevice> Fs<D> {
     fn create_at(&mut self, place: Place<'_>) -> Result<u32, FsError>
         requires some { 1 ≤ place.directory }
         requires few { place.directory ≤ 4095 }
+        requires running { self.old.store.log.halted ≡ false }
+        ensures { (v : Mounted D) (path : List ℕ) → Reaches D.SectorDevice.state v self.old path place.entry.directory place.entry.last
+            → Serves D.SectorDevice.state v (seen self.new) (Create path) (answer_by Handle result) }
     {
         let Some(last) = place.last else {
             return Err(FsError::Exist);
         };
-        let root = self.check_new_entry(place.directory, last)?;
+        let root = match self.check_new_entry(place.directory, last) {
+            Ok(root) => root,
+            Err(fault) => return Err(fault),
+        };
         let Some(handle) = self.handles.least_free() else {
             return Err(FsError::TooManyOpen);
         };
         let Some(number) = self.store.least_free() else {
             return Err(FsError::NoNumber);
         };
-        self.make_file(place.directory, root, number, last.name)?;
+        match self.make_file(place.directory, root, number, last.name) {
+            Ok(()) => {}
+            Err(fault) => return Err(fault),
+        }
         self.handles.open(handle, number);
         Ok(handle)
+    }
+
+    /// The header of a directory, and the number that a name gives in it.
+    fn look_in(&mut self, directory: u16, name: &[u8]) -> Result<(Header, Option<u16>), FsError>
+        requires { directory ≤ 4095 }
+        ensures reads { OnlyReads D.SectorDevice.state self.old self.new }
+        ensures answer { IfOk result (λ found. LooksUp D.SectorDevice.state self.old self.new directory name.now found.0 found.1) }
+        ensures missing { IfErr result (LooksNone D.SectorDevice.state self.old self.new directory) }
+    {
+        let header = match self.header(directory) {
+            Ok(header) => header,
+            Err(fault) => return Err(fault),
+        };
+        match find(&mut self.store, directory, header, name) {
+            Ok(found) => Ok((header, found)),
+            Err(fault) => Err(FsError::from(fault)),
+        }
     }
 
     /// The rule of a new entry of a directory, whose header it gives.
     fn check_new_entry(&mut self, directory: u16, last: Last<'_>) -> Result<Header, FsError>
         requires { directory ≤ 4095 }
-        ensures room { IfOk result (λ header. header.size ≤ 65472) }
-        ensures name { OnOk result (IsName 59 last.entry.name.now) }
+        ensures reads { OnlyReads D.SectorDevice.state self.old self.new }
+        ensures taken { IfOk result (TakesEntry D.SectorDevice.state self.old self.new directory last.entry.name.now last.entry.slash) }
+        ensures refused { IfErr result (RefusesEntry D.SectorDevice.state self.old self.new directory last.entry.name.now last.entry.slash) }
     {
         if is_dots(last.name) {
             return Err(FsError::Exist);
@@ -94,11 +138,12 @@ impl<D: SectorDevice> Fs<D> {
         if !is_name(last.name) {
             return Err(FsError::Inval);
         }
-        let header = self.header(directory)?;
-        match find(&mut self.store, directory, header, last.name) {
-            Ok(None) => {}
-            Ok(Some(_)) => return Err(FsError::Exist),
-            Err(fault) => return Err(FsError::from(fault)),
+        let (header, found) = match self.look_in(directory, last.name) {
+            Ok(found) => found,
+            Err(fault) => return Err(fault),
+        };
+        if found.is_some() {
+            return Err(FsError::Exist);
         }
         if last.slash {
             return Err(FsError::NoEntry);
@@ -123,6 +168,9 @@ impl<D: SectorDevice> Fs<D> {
         requires first { 1 ≤ number }
         requires last { number ≤ 4095 }
         requires name { IsName 59 name.now }
+        requires running { self.old.store.log.halted ≡ false }
+        ensures made { OnOk result (MakesFile D.SectorDevice.state self.old self.new directory header number name.now) }
+        ensures refused { IfErr result (MakesNone D.SectorDevice.state self.old self.new directory header number name.now) }
     {
         match self.draft_file(directory, header, number, name) {
             Ok(()) => self.accept(),
@@ -147,10 +195,14 @@ impl<D: SectorDevice> Fs<D> {
         requires first { 1 ≤ number }
         requires last { number ≤ 4095 }
         requires name { IsName 59 name.now }
+        requires running { self.old.store.log.halted ≡ false }
+        ensures still { IsStill D.SectorDevice.state (seen self.old) (seen self.new) }
+        ensures drafted { OnOk result (DraftsNew D.SectorDevice.state self.old self.new directory header number name.now) }
+        ensures refused { IfErr result (DraftsNone D.SectorDevice.state self.old self.new) }
     {
         match self.store.create(number, Kind::File) {
             Ok(()) => {}
-            Err(fault) => return Err(FsError::from(fault)),
+            Err(_) => return Err(FsError::NoMemory),
         }
         match add(&mut self.store, directory, header, number, name) {
             Ok(()) => Ok(()),

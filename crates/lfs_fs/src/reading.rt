@@ -1,5 +1,11 @@
 //! Calls that read: bytes of a file, what is told of an object, of the volume, and of each entry.
-ghost use Rattle.std.specs.Prelude.{◌≡◌, ◌≤◌, ◌<◌};
+ghost use Rattle.std.specs.Prelude.{◌≡◌, ◌≤◌, ◌<◌, ◌++◌, ◌∷◌, [], map, IfOk, IfErr, OnOk};
+ghost use Rattle.lfs_model.specs.Call as call;
+ghost use Rattle.lfs_model.specs.Call.{Pread, StatOf, ListTree, Data, Status, Rows};
+ghost use Rattle.lfs_fs.specs.Volume.{Serves};
+ghost use Rattle.lfs_fs.specs.Seen.{seen, answer_by, OnlyReads};
+ghost use Rattle.lfs_fs.specs.Reading.{ReadsFile, TellsStat, TellsRow, TellsRows, LacksObject, LacksBytes, LacksRow, LacksRows};
+ghost use Rattle.lfs_fs.specs.Answers.{status_of, room_of, row_of};
 
 use crate::error::FsError;
 use crate::fs::{Fs, ROOT};
@@ -7,7 +13,6 @@ use crate::rows::{Space, Stat, TreeRow};
 use lfs_device::SectorDevice;
 use lfs_dirs::{Entry, list};
 use lfs_path::resolve;
-use std::alloc::AllocError;
 
 /// The most bytes of one read or write.
 pub const LONGEST_TRANSFER: u32 = 65_536;
@@ -21,9 +26,17 @@ impl<D: SectorDevice> Fs<D> {
     /// # Errors
     ///
     /// `BadHandle`; `Inval` where `len` is above 65,536.
-    pub fn pread(&mut self, handle: u32, offset: u64, len: u32) -> Result<Vec<u8>, FsError> {
-        self.begin()?;
-        let number = self.file(handle)?;
+    pub fn pread(&mut self, handle: u32, offset: u64, len: u32) -> Result<Vec<u8>, FsError>
+        ensures { Serves D.SectorDevice.state (seen self.old) (seen self.new) (Pread handle offset len) (answer_by (λ bytes. Data bytes.items) result) }
+    {
+        match self.begin() {
+            Ok(()) => {}
+            Err(fault) => return Err(fault),
+        }
+        let number = match self.file(handle) {
+            Ok(number) => number,
+            Err(fault) => return Err(fault),
+        };
         if len > LONGEST_TRANSFER {
             return Err(FsError::Inval);
         }
@@ -36,14 +49,25 @@ impl<D: SectorDevice> Fs<D> {
         number: u16,
         offset: u64,
         len: u32,
-    ) -> Result<Vec<u8>, FsError> {
+    ) -> Result<Vec<u8>, FsError>
+        ensures reads { OnlyReads D.SectorDevice.state self.old self.new }
+        ensures answer { IfOk result (λ bytes. ReadsFile D.SectorDevice.state self.old self.new number offset len bytes.items) }
+        ensures missing { IfErr result (λ fault. LacksBytes D.SectorDevice.state self.old self.new number fault) }
+    {
         if number > 4_095 {
             return Err(FsError::Device);
         }
-        let size = self.header(number)?.size;
-        let from = u32::try_from(offset).unwrap_or(u32::MAX).min(size);
-        let to = from.saturating_add(len).min(size);
-        match self.store.read_at(self.alloc, number, from, to) {
+        let size = match self.header(number) {
+            Ok(header) => header.size,
+            Err(fault) => return Err(fault),
+        };
+        let end = u64::from(size);
+        let start = offset.min(end);
+        let stop = (start + u64::from(len)).min(end);
+        match self
+            .store
+            .read_at(self.alloc, number, start as u32, stop as u32)
+        {
             Ok(bytes) => Ok(bytes),
             Err(fault) => Err(FsError::from(fault)),
         }
@@ -54,8 +78,13 @@ impl<D: SectorDevice> Fs<D> {
     /// # Errors
     ///
     /// Those of the path.
-    pub fn stat(&mut self, path: &[u8]) -> Result<Stat, FsError> {
-        self.begin()?;
+    pub fn stat(&mut self, path: &[u8]) -> Result<Stat, FsError>
+        ensures { Serves D.SectorDevice.state (seen self.old) (seen self.new) (StatOf path.now) (answer_by (λ stat. Status (status_of stat)) result) }
+    {
+        match self.begin() {
+            Ok(()) => {}
+            Err(fault) => return Err(fault),
+        }
         match resolve(&mut self.store, path) {
             Ok(number) => self.stat_of(number),
             Err(fault) => Err(FsError::from(fault)),
@@ -63,11 +92,18 @@ impl<D: SectorDevice> Fs<D> {
     }
 
     /// What is told of an object that is there.
-    fn stat_of(&mut self, number: u16) -> Result<Stat, FsError> {
+    fn stat_of(&mut self, number: u16) -> Result<Stat, FsError>
+        ensures reads { OnlyReads D.SectorDevice.state self.old self.new }
+        ensures answer { IfOk result (λ stat. TellsStat D.SectorDevice.state self.old self.new number stat) }
+        ensures missing { IfErr result (λ fault. LacksObject D.SectorDevice.state self.old self.new number fault) }
+    {
         if number > 4_095 {
             return Err(FsError::Device);
         }
-        let header = self.header(number)?;
+        let header = match self.header(number) {
+            Ok(header) => header,
+            Err(fault) => return Err(fault),
+        };
         Ok(Stat {
             number: u32::from(number),
             kind: header.kind,
@@ -81,8 +117,13 @@ impl<D: SectorDevice> Fs<D> {
     /// # Errors
     ///
     /// `Halted` alone.
-    pub fn space(&mut self) -> Result<Space, FsError> {
-        self.begin()?;
+    pub fn space(&mut self) -> Result<Space, FsError>
+        ensures { Serves D.SectorDevice.state (seen self.old) (seen self.new) call.Space (answer_by room_of result) }
+    {
+        match self.begin() {
+            Ok(()) => {}
+            Err(fault) => return Err(fault),
+        }
         Ok(self.space_of(self.store.drafted))
     }
 
@@ -91,9 +132,17 @@ impl<D: SectorDevice> Fs<D> {
     /// # Errors
     ///
     /// `NoMemory` and `Device` for their causes.
-    pub fn tree(&mut self) -> Result<Vec<TreeRow>, FsError> {
-        self.begin()?;
-        let root = self.header(ROOT)?;
+    pub fn tree(&mut self) -> Result<Vec<TreeRow>, FsError>
+        ensures { Serves D.SectorDevice.state (seen self.old) (seen self.new) ListTree (answer_by (λ rows. Rows (map row_of rows.items)) result) }
+    {
+        match self.begin() {
+            Ok(()) => {}
+            Err(fault) => return Err(fault),
+        }
+        let root = match self.header(ROOT) {
+            Ok(root) => root,
+            Err(fault) => return Err(fault),
+        };
         match list(self.alloc, &mut self.store, ROOT, root) {
             Ok(entries) => self.rows(entries),
             Err(fault) => Err(FsError::from(fault)),
@@ -101,19 +150,50 @@ impl<D: SectorDevice> Fs<D> {
     }
 
     /// The rows of entries of the root.
-    fn rows(&mut self, entries: Vec<Entry>) -> Result<Vec<TreeRow>, FsError> {
-        let mut rows = Vec::with_capacity(self.alloc, entries.len())?;
+    fn rows(&mut self, entries: Vec<Entry>) -> Result<Vec<TreeRow>, FsError>
+        ensures reads { OnlyReads D.SectorDevice.state self.old self.new }
+        ensures answer { IfOk result (λ rows. TellsRows D.SectorDevice.state self.old self.new entries.items rows.items) }
+        ensures missing { IfErr result (λ fault. LacksRows D.SectorDevice.state self.old self.new entries.items fault) }
+    {
+        let Ok(mut rows) = Vec::with_capacity(self.alloc, entries.len()) else {
+            return Err(FsError::NoMemory);
+        };
         for entry in entries {
-            let row = self.row(entry)?;
-            rows.push(row).map_err(AllocError::from)?;
+            match self.push_row(entry, &mut rows) {
+                Ok(()) => {}
+                Err(fault) => return Err(fault),
+            }
         }
         Ok(rows)
     }
 
+    /// Puts the row of an entry of the root behind others.
+    fn push_row(&mut self, entry: Entry, rows: &mut Vec<TreeRow>) -> Result<(), FsError>
+        ensures reads { OnlyReads D.SectorDevice.state self.old self.new }
+        ensures answer { OnOk result ((row : TreeRow) × (rows.new.items ≡ rows.old.items ++ row ∷ []) × TellsRow D.SectorDevice.state self.old self.new entry row) }
+        ensures missing { IfErr result (λ fault. LacksRow D.SectorDevice.state self.old self.new entry fault) }
+    {
+        let row = match self.row(entry) {
+            Ok(row) => row,
+            Err(fault) => return Err(fault),
+        };
+        put_row(rows, row)
+    }
+
     /// The row of an entry of the root.
-    fn row(&mut self, entry: Entry) -> Result<TreeRow, FsError> {
-        let stat = self.stat_of(entry.number)?;
-        let head = self.read_file(entry.number, 0, LONGEST_HEAD)?;
+    fn row(&mut self, entry: Entry) -> Result<TreeRow, FsError>
+        ensures reads { OnlyReads D.SectorDevice.state self.old self.new }
+        ensures answer { IfOk result (λ row. TellsRow D.SectorDevice.state self.old self.new entry row) }
+        ensures missing { IfErr result (λ fault. LacksRow D.SectorDevice.state self.old self.new entry fault) }
+    {
+        let stat = match self.stat_of(entry.number) {
+            Ok(stat) => stat,
+            Err(fault) => return Err(fault),
+        };
+        let head = match self.read_file(entry.number, 0, LONGEST_HEAD) {
+            Ok(head) => head,
+            Err(fault) => return Err(fault),
+        };
         Ok(TreeRow {
             directory: u32::from(ROOT),
             name: entry.name,
@@ -123,5 +203,16 @@ impl<D: SectorDevice> Fs<D> {
             size: stat.size,
             head,
         })
+    }
+}
+
+/// Puts a row behind others.
+fn put_row(rows: &mut Vec<TreeRow>, row: TreeRow) -> Result<(), FsError>
+    ensures done { OnOk result (rows.new.items ≡ rows.old.items ++ row ∷ []) }
+    ensures fault { IfErr result (λ fault. fault ≡ FsError.NoMemory) }
+{
+    match rows.push(row) {
+        Ok(()) => Ok(()),
+        Err(_) => Err(FsError::NoMemory),
     }
 }

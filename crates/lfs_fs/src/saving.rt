@@ -1,4 +1,8 @@
 //! The call that saves.
+ghost use Rattle.lfs_model.specs.Call.{Sync, Done};
+ghost use Rattle.lfs_fs.specs.Volume.{Serves};
+ghost use Rattle.lfs_fs.specs.Seen.{seen, answer_by};
+
 use crate::error::FsError;
 use crate::fs::Fs;
 use lfs_device::SectorDevice;
@@ -9,8 +13,13 @@ impl<D: SectorDevice> Fs<D> {
     /// # Errors
     ///
     /// `Halted` where a call of the device failed.
-    pub fn sync(&mut self) -> Result<(), FsError> {
-        self.begin()?;
+    pub fn sync(&mut self) -> Result<(), FsError>
+        ensures { Serves D.SectorDevice.state (seen self.old) (seen self.new) Sync (answer_by (λ _. Done) result) }
+    {
+        match self.begin() {
+            Ok(()) => {}
+            Err(fault) => return Err(fault),
+        }
         match self.store.commit() {
             Ok(()) => Ok(()),
             Err(fault) => Err(FsError::from(fault)),

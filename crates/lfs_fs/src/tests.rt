@@ -2,7 +2,7 @@
 ghost use Rattle.std.specs.Prelude.{◌≤◌};
 
 use super::*;
-use lfs_device::{Left, MemDevice};
+use lfs_device::{DeviceCall, Left, MemDevice, SectorDevice};
 use lfs_model::Kind;
 use std::alloc::Global;
 use std::test::Fail;
@@ -330,5 +330,113 @@ fn space_runs_out_exactly(rt: HostRuntime) -> Result<(), Fail> {
     }
     assert_eq!(rt; fs.space()?.need, 3_008);
     assert_eq!(rt; fs.create(b"y"), Err(FsError::NoSpace));
+    Ok(())
+}
+
+/// A volume of 176 segments with so many files, mounted again after each sixty.
+fn volume_of_files(alloc: Global, count: u16) -> Result<Fs<MemDevice>, Fail> {
+    let mut device = MemDevice::new(alloc, 2 + 64 * 176)?;
+    if let Err(fault) = format(&mut device, 176) {
+        return Err(Fail::from(fault));
+    }
+    let mut fs = mounted(alloc, device)?;
+    for file in 0..count {
+        let [low, high] = file.to_le_bytes();
+        fs.create(&[b'a' + high % 4, b'a' + low / 16, b'a' + low % 16])?;
+        if file % 60 == 59 {
+            fs.sync()?;
+            fs = mounted(alloc, fs.into_device())?;
+        }
+    }
+    fs.sync()?;
+    mounted(alloc, fs.into_device())
+}
+
+#[test]
+fn a_directory_of_1024_entries_is_full(rt: HostRuntime) -> Result<(), Fail> {
+    let mut fs = volume_of_files(rt.alloc(), 1_023)?;
+    assert_eq!(rt; fs.create(b"/y"), Ok(0));
+    for handle in 1..64u32 {
+        assert_eq!(rt; fs.open(b"/y")?, handle);
+    }
+    for (path, refusal) in [
+        (b"/y".as_slice(), FsError::Exist),
+        (b"/z/".as_slice(), FsError::NoEntry),
+        (b"/z".as_slice(), FsError::DirFull),
+    ] {
+        assert_eq!(rt; fs.create(path), Err(refusal));
+    }
+    assert_eq!(rt; fs.tree()?.len(), 1_024);
+    // 128 blocks of the root, 1,025 inodes and a block of pointers.
+    assert_eq!(rt; fs.space()?.need, 128 + 7 * 1_026 + 720);
+    Ok(())
+}
+
+/// Whether the root has the entry `a` alone.
+fn has_a_alone(fs: &mut Fs<MemDevice>) -> Result<bool, FsError> {
+    let rows = fs.tree()?;
+    Ok(rows.len() == 1 && rows[0].name.as_slice() == b"a".as_slice())
+}
+
+#[test]
+fn a_failed_sync_halts_until_the_next_mount(rt: HostRuntime) -> Result<(), Fail> {
+    let alloc = rt.alloc();
+    for left in [Left::Old, Left::New, Left::Bad] {
+        let mut device = new_volume(alloc)?.into_device();
+        // The mount syncs once, and a commit before and after its checkpoint.
+        device.fail(DeviceCall::Sync, 2);
+        let mut fs = mounted(alloc, device)?;
+        fs.create(b"/a")?;
+        assert_eq!(rt; fs.sync(), Err(FsError::Halted));
+        assert_eq!(rt; fs.stat(b"/a").err(), Some(FsError::Halted));
+        let mut fs = mounted(alloc, fs.into_device())?;
+        assert!(rt; has_a_alone(&mut fs)?);
+        fs.create(b"/b")?;
+        let mut device = fs.into_device();
+        device.crash(left);
+        assert!(rt; has_a_alone(&mut mounted(alloc, device)?)?);
+    }
+    Ok(())
+}
+
+#[test]
+fn a_mount_over_failing_calls(rt: HostRuntime) -> Result<(), Fail> {
+    let alloc = rt.alloc();
+    for (call, nth) in [
+        (DeviceCall::Read, 0),
+        (DeviceCall::Read, 1),
+        (DeviceCall::Sync, 0),
+    ] {
+        let mut device = new_volume(alloc)?.into_device();
+        device.fail(call, nth);
+        assert_eq!(rt; fault(alloc, device), Some(MountFault::Device));
+    }
+    Ok(())
+}
+
+#[test]
+fn a_read_that_failed_before_the_format(rt: HostRuntime) -> Result<(), Fail> {
+    let alloc = rt.alloc();
+    let mut device = MemDevice::new(alloc, SECTORS)?;
+    device.fail(DeviceCall::Read, 0);
+    if device.sectors() > 0 {
+        assert!(rt; device.read(0, &mut [0; 512]).is_err());
+    }
+    assert_eq!(rt; format(&mut device, 64), Ok(()));
+    assert!(rt; mounted(alloc, device)?.tree()?.is_empty());
+    Ok(())
+}
+
+#[test]
+fn the_other_slot_is_mounted(rt: HostRuntime) -> Result<(), Fail> {
+    let alloc = rt.alloc();
+    let mut fs = new_volume(alloc)?;
+    fs.create(b"/a")?;
+    fs.sync()?;
+    let mut device = fs.into_device();
+    if device.sectors() > 0 {
+        device.set_unreadable(0);
+    }
+    assert!(rt; mounted(alloc, device)?.tree()?.is_empty());
     Ok(())
 }

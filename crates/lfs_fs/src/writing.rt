@@ -1,6 +1,12 @@
 //! Calls that change the bytes of a file.
-ghost use Rattle.std.specs.Prelude.{◌≡◌, ◌≤◌, ◌<◌, ◌+◌, length};
+ghost use Rattle.std.specs.Prelude.{◌≡◌, ◌≤◌, ◌<◌, ◌+◌, ℕ, length, false, Some};
+ghost use Rattle.std.specs.FinMap.{find};
+ghost use Rattle.std.specs.Ordering.{nat_cmp};
+ghost use Rattle.lfs_model.specs.Call.{Pwrite, Truncate, Count, Done};
 ghost use Rattle.lfs_memory.specs.Batch.{IsNoChange};
+ghost use Rattle.lfs_fs.specs.Handles.{handles_of};
+ghost use Rattle.lfs_fs.specs.Volume.{Serves};
+ghost use Rattle.lfs_fs.specs.Seen.{seen, answer_by};
 
 use crate::error::FsError;
 use crate::fs::Fs;
@@ -16,22 +22,34 @@ impl<D: SectorDevice> Fs<D> {
     /// # Errors
     ///
     /// In this order: `BadHandle`; `Inval` above 65,536 bytes; `FileTooBig` where they would end past 8,511,488; `NoSpace`.
-    pub fn pwrite(&mut self, handle: u32, offset: u64, bytes: &[u8]) -> Result<u32, FsError> {
-        self.begin()?;
-        let number = self.file(handle)?;
+    pub fn pwrite(&mut self, handle: u32, offset: u64, bytes: &[u8]) -> Result<u32, FsError>
+        ensures { Serves D.SectorDevice.state (seen self.old) (seen self.new) (Pwrite handle offset bytes.now) (answer_by Count result) }
+    {
+        match self.begin() {
+            Ok(()) => {}
+            Err(fault) => return Err(fault),
+        }
+        let number = match self.file(handle) {
+            Ok(number) => number,
+            Err(fault) => return Err(fault),
+        };
         if bytes.len() > LONGEST_TRANSFER as usize {
             return Err(FsError::Inval);
         }
         if bytes.is_empty() {
-            self.check_worn()?;
-            return Ok(0);
+            return match self.check_worn() {
+                Ok(()) => Ok(0),
+                Err(fault) => Err(fault),
+            };
         }
         let len = bytes.len() as u64;
         if offset > LARGEST_FILE - len {
             return Err(FsError::FileTooBig);
         }
-        self.write_file(number, offset as u32, bytes)?;
-        Ok(len as u32)
+        match self.write_file(number, offset as u32, bytes) {
+            Ok(()) => Ok(len as u32),
+            Err(fault) => Err(fault),
+        }
     }
 
     /// Puts bytes into a file, where they end within the greatest size.
@@ -40,8 +58,16 @@ impl<D: SectorDevice> Fs<D> {
         requires few { number ≤ 4095 }
         requires bytes { 0 < length bytes.now }
         requires end { at + length bytes.now ≤ 8511488 }
+        requires running { self.old.store.log.halted ≡ false }
+        requires empty { IsNoChange self.old.store.draft.changes }
+        requires counted { self.old.store.drafted ≡ self.old.store.totals }
+        ensures { (handle : ℕ) → find nat_cmp handle (handles_of self.old.handles.numbers.items) ≡ Some number → length bytes.now ≤ 65536
+            → Serves D.SectorDevice.state (seen self.old) (seen self.new) (Pwrite handle at bytes.now) (answer_by (λ _. Count (length bytes.now)) result) }
     {
-        let header = self.header(number)?;
+        let header = match self.header(number) {
+            Ok(header) => header,
+            Err(fault) => return Err(fault),
+        };
         match self.store.write_at(number, header, at, bytes) {
             Ok(()) => self.accept(),
             Err(fault) => {
@@ -56,9 +82,17 @@ impl<D: SectorDevice> Fs<D> {
     /// # Errors
     ///
     /// In this order: `BadHandle`; `FileTooBig` above 8,511,488.
-    pub fn truncate(&mut self, handle: u32, len: u64) -> Result<(), FsError> {
-        self.begin()?;
-        let number = self.file(handle)?;
+    pub fn truncate(&mut self, handle: u32, len: u64) -> Result<(), FsError>
+        ensures { Serves D.SectorDevice.state (seen self.old) (seen self.new) (Truncate handle len) (answer_by (λ _. Done) result) }
+    {
+        match self.begin() {
+            Ok(()) => {}
+            Err(fault) => return Err(fault),
+        }
+        let number = match self.file(handle) {
+            Ok(number) => number,
+            Err(fault) => return Err(fault),
+        };
         if len > LARGEST_FILE {
             return Err(FsError::FileTooBig);
         }
@@ -70,9 +104,16 @@ impl<D: SectorDevice> Fs<D> {
         requires some { 1 ≤ number }
         requires few { number ≤ 4095 }
         requires most { len ≤ 8511488 }
+        requires running { self.old.store.log.halted ≡ false }
         requires empty { IsNoChange self.old.store.draft.changes }
+        requires counted { self.old.store.drafted ≡ self.old.store.totals }
+        ensures { (handle : ℕ) → find nat_cmp handle (handles_of self.old.handles.numbers.items) ≡ Some number
+            → Serves D.SectorDevice.state (seen self.old) (seen self.new) (Truncate handle len) (answer_by (λ _. Done) result) }
     {
-        let header = self.header(number)?;
+        let header = match self.header(number) {
+            Ok(header) => header,
+            Err(fault) => return Err(fault),
+        };
         match self.store.set_len(number, header, len) {
             Ok(()) => self.accept(),
             Err(fault) => {

@@ -1,4 +1,4 @@
-use Rattle.std.proofs.Common.{ℕ, ◌+◌, ◌<◌, ◌≤◌, arith}
+use Rattle.std.proofs.Common.{ℕ, ◌+◌, ◌<◌, arith}
 use Rattle.lfs_model.specs.Image.{usage_blocks}
 use Rattle.lfs_fs.proofs.FirstMoments.{touches_none, touches_write}
 use Rattle.lfs_fs.proofs.making.write_first_blocks.Goals as goal

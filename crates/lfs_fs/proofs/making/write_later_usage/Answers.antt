@@ -1,8 +1,7 @@
-use Rattle.std.proofs.Common.{◌+◌, ◌*◌, ◌<◌, ◌≤◌, ◌≡◌, length, ◌∙◌, arith}
-use Rattle.lfs_model.specs.Content.{Content}
+use Rattle.std.proofs.Common.{◌+◌, ◌<◌, length, ◌∙◌, arith}
 use Rattle.lfs_model.specs.Image.{usage_blocks}
 use Rattle.lfs_model.proofs.Moments.{carries_then}
-use Rattle.lfs_fs.proofs.FirstMoments.{touches_none, touches_write}
+use Rattle.lfs_fs.proofs.FirstMoments.{touches_write}
 use Rattle.lfs_fs.proofs.FirstWrites.{chunk_write, chunk_more}
 use Rattle.lfs_fs.proofs.making.write_later_usage.Goals as goal
 

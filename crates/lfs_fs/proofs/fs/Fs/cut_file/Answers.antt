@@ -1,7 +1,34 @@
-use Rattle.std.proofs.Common.{sym, subst}
+use Rattle.std.proofs.Common.{ap, refl, sym, subst, Err}
 use Rattle.lfs_store.specs.declared.draft.Draft.{Draft}
+use Rattle.lfs_store.specs.declared.totals.Totals.{Totals}
 use Rattle.lfs_memory.specs.Batch.{IsNoChange}
+use Rattle.lfs_fs.proofs.WritingDrafts.{cut_ends}
+use Rattle.lfs_fs.proofs.WritingEnds.{given_up_serves, headerless_serves}
 use Rattle.lfs_fs.proofs.fs.Fs.cut_file.Goals as goal
 
 pub set_len-requires-clause-empty : goal.set_len-requires-clause-empty
 set_len-requires-clause-empty g c = subst (λ (d : Draft). IsNoChange d.changes) (sym c.header.ensures.reads.draft) c.requires.empty
+
+pub returns-in-Err : goal.returns-in-Err
+returns-in-Err g c handle opens =
+    headerless_serves g.D.SectorDevice.state g.met.D.SectorDevice.lawful c.args.self.now c.header.new.self _ handle c.args.number opens c.requires.running c.requires.empty
+    c.in-Err.ensures.reads.still refl c.in-Err.fault c.in-Err.ensures.missing
+
+pub returns-in-Ok-set_len : goal.returns-in-Ok-set_len
+returns-in-Ok-set_len g c handle opens =
+    cut_ends g.D.SectorDevice.state g.met.D.SectorDevice.lawful c.args.self.now c.header.new.self record { alloc = c.header.new.self.alloc; store = c.set_len.new.self; handles = c.header.new.self.handles }
+    handle c.args.number opens c.requires.running c.requires.empty c.requires.counted c.in-Ok.ensures.reads c.in-Ok.header c.in-Ok.ensures.answer
+    record {
+      reads = c.in-Ok-set_len.ensures.reads;
+      saved = c.in-Ok-set_len.ensures.saved;
+      blocks = ap (λ (t : Totals). t.data_blocks) c.in-Ok-set_len.ensures.totals;
+      others = ap (λ (t : Totals). t.meta_blocks) c.in-Ok-set_len.ensures.totals;
+      table = refl;
+    }
+    c.accept.new.self c.accept.ensures.rest c.accept.result c.accept.ensures.done c.accept.ensures.refused c.in-Ok-set_len.ensures.counted c.args.len c.requires.most c.in-Ok-set_len.ensures.done
+
+pub returns-in-Err-set_len : goal.returns-in-Err-set_len
+returns-in-Err-set_len g c handle opens =
+    given_up_serves g.D.SectorDevice.state g.met.D.SectorDevice.lawful c.args.self.now c.header.new.self c.set_len.new.self c.give_up.new.self _ c.requires.running c.in-Ok.ensures.reads.still
+    c.in-Err-set_len.ensures.reads c.in-Err-set_len.ensures.saved c.in-Err-set_len.ensures.totals c.give_up.ensures.log c.give_up.ensures.saved c.give_up.ensures.totals
+    refl refl c.in-Err-set_len.fault c.in-Err-set_len.ensures.failed (λ on. c.in-Err-set_len.ensures.halted (ap Err on)) (λ full. c.in-Err-set_len.ensures.other (ap Err full)) c.from.result c.from.ensures

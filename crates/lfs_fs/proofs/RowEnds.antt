@@ -1,0 +1,102 @@
+-- The rows of entries of the root, from what is told and read of their files.
+use Rattle.std.proofs.Common.{◌≡◌, ◌≢◌, ◌≤◌, ◌+◌, ◌-◌, ℕ, List, [], ◌∷◌, ◌++◌, Some, None, Result, Ok, Err, sym, ◌∙◌, ap, inl, inr, ⊎_elim, arith}
+use Rattle.std.specs.Prelude.{IfErr, OnOk, min}
+use Rattle.lfs_model.specs.Bytes.{part}
+use Rattle.lfs_model.specs.Call as call
+use Rattle.lfs_model.specs.Checkpoint.{CheckpointValue}
+use Rattle.lfs_model.specs.Device.{DeviceState}
+use Rattle.lfs_model.specs.Entry as entry
+use Rattle.lfs_model.specs.Stands.{LogMap}
+use Rattle.lfs_model.specs.Tree.{State, entry as entry_in}
+use Rattle.lfs_model.specs.TreeOf.{object}
+use Rattle.lfs_memory.specs.Batch.{IsNoChange, staged}
+use Rattle.lfs_memory.specs.Present.{as_header}
+use Rattle.lfs_store.proofs.Apart.{no_change}
+use Rattle.lfs_store.proofs.LogReads.{held_still}
+use Rattle.lfs_dirs.specs.declared.entry.Entry.{Entry}
+use Rattle.lfs_dirs.specs.Listing.{pair}
+use Rattle.lfs_fs.specs.declared.error.FsError.{FsError}
+use Rattle.lfs_fs.specs.declared.error.FsError.TheVariants as error
+use Rattle.lfs_fs.specs.declared.fs.Fs.{Fs}
+use Rattle.lfs_fs.specs.declared.rows.Stat.{Stat}
+use Rattle.lfs_fs.specs.declared.rows.TreeRow.{TreeRow}
+use Rattle.lfs_fs.specs.Reading.{LacksBytes, LacksRow, ReadsFile, TellsRow, TellsStat, row_at}
+use Rattle.lfs_fs.specs.Seen.{OnlyReads, seen}
+use Rattle.lfs_fs.specs.Volume.{IsIn, segments_of}
+use Rattle.lfs_fs.proofs.Files.{no_header_none}
+use Rattle.lfs_fs.proofs.Holding.{headers_of_volume, map_of_volume}
+use Rattle.lfs_fs.proofs.RowFacts.{head_clipped, row_by}
+
+module _ {D : Type 0} (state : D → DeviceState) where
+  module _ (old mid new : Fs D) (first : OnlyReads state old mid) (next : OnlyReads state mid new) (e : Entry) (stat : Stat) (out : List ℕ) (told : TellsStat state old mid e.number stat)
+      (read : ReadsFile state mid new e.number 0 16 out) (dir : ℕ) (dir_is : dir ≡ 1) where
+    abbrev row : call.TreeRow
+    row = record { directory = dir; name = e.name.items; stat = record { number = stat.number; kind = stat.kind; links = stat.links; size = stat.size }; head = out }
+
+    module _ (empty : IsNoChange old.store.draft.changes) (k : CheckpointValue) (m0 m : LogMap) (s : State) (keeps : (state new.store.log.device).keeps_model) (is : IsIn state (seen old) k m0 m s)
+        (found : entry_in s.tree 1 e.name.items ≡ Some e.number) where
+      staged_mid : staged mid.store.draft.changes m ≡ m
+      staged_mid = ap (λ d. staged d.changes m) first.draft ∙ no_change old.store.draft.changes m empty
+
+      there : m.header e.number ≡ Some (as_header told.head)
+      there = ap (λ (x : LogMap). x.header e.number) (sym (no_change old.store.draft.changes m empty)) ∙ told.there k m0 m (next.still.reads.looks.carries.kept_before keeps) is.stores.holds
+
+      also : m.header e.number ≡ Some (as_header read.head)
+      also = ap (λ (x : LogMap). x.header e.number) (sym staged_mid) ∙ read.there k m0 m keeps (held_still state old.store.log mid.store.log k m0 m first.still.reads is.stores.holds)
+
+      same : as_header read.head ≡ as_header told.head
+      same = let both : Some (as_header read.head) ≡ Some (as_header told.head) = sym also ∙ there in cc
+
+      size : read.head.size ≡ told.head.size
+      size = ap (λ (x : entry.Header). x.size) same
+
+      from_start : min 0 read.head.size ≡ 0
+      from_start = omega arith
+
+      so_many : min (0 + 16) read.head.size - min 0 read.head.size ≡ min 16 told.head.size
+      so_many = omega (arith, size)
+
+      head_is : out ≡ part (object m e.number (as_header told.head)) 0 16
+      head_is =
+          read.bytes k m0 m keeps (held_still state old.store.log mid.store.log k m0 m first.still.reads is.stores.holds)
+          ∙ (λ i. part (object (staged_mid i) e.number (same i)) (from_start i) (so_many i))
+          ∙ head_clipped m e.number (as_header told.head)
+
+      pub row_is : row ≡ row_at s.tree (pair e)
+      row_is =
+          (λ i. record { directory = dir_is i; name = e.name.items; stat = record { number = told.number i; kind = told.kind i; links = told.links i; size = told.size i }; head = head_is i })
+          ∙ sym (row_by (segments_of (seen old)) m s (map_of_volume state (seen old) k m0 m s is) e.name.items e.number found told.head there (headers_of_volume state (seen old) k m0 m s is e.number (as_header told.head) there))
+
+  -- a name of the root gives an object
+  named_there : (v : Fs D) (k : CheckpointValue) (m0 m : LogMap) (s : State) → IsIn state (seen v) k m0 m s → (e : Entry) → entry_in s.tree 1 e.name.items ≡ Some e.number → (e.number ≤ 4095) × (m.header e.number ≢ None)
+  named_there v k m0 m s is e found =
+      let there = is.log.sound.named 1 e.name.items e.number found in
+      ((is.log.sound.numbers e.number there).1, λ none. there (no_header_none (segments_of (seen v)) m s is.log e.number none))
+
+  pub lacks_row : (old new : Fs D) (e : Entry) (fault : FsError) → LacksBytes state old new e.number fault → LacksRow state old new e fault
+  lacks_row old new e fault lacks = ⊎_elim
+      (λ memory. inl memory)
+      (λ object. ⊎_elim
+      (λ past. inr (inr (past.0, λ empty k m0 m s keeps is found. absurd (let few = (named_there old k m0 m s is e found).0 in let many = past.1 in omega (arith, few, many)))))
+      (λ header. ⊎_elim
+      (λ halted. inr (inl halted))
+      (λ failed. inr (inr (
+        failed.0,
+        λ empty k m0 m s keeps is found. ⊎_elim
+            (λ rose. rose)
+            (λ none. absurd ((named_there old k m0 m s is e found).1 (ap (λ (x : LogMap). x.header e.number) (sym (no_change old.store.draft.changes m empty)) ∙ none)))
+            (failed.1 k m0 m keeps is.stores.holds),
+      )))
+      header)
+      object)
+      lacks
+
+  -- ---- put behind others
+  pub put_tells : (old new : Fs D) (e : Entry) (row : TreeRow) (was now : List TreeRow) (r : Result (Unit {0}) FsError) → OnOk r (now ≡ was ++ row ∷ []) → TellsRow state old new e row
+      → OnOk r ((x : TreeRow) × (now ≡ was ++ x ∷ []) × TellsRow state old new e x)
+  put_tells old new e row was now (Ok u) put tells = (row, put, tells)
+  put_tells old new e row was now (Err f) put tells = tt
+
+  pub put_lacks : (old new : Fs D) (e : Entry) (r : Result (Unit {0}) FsError) → IfErr r (λ fault. fault ≡ error.NoMemory) → IfErr r (λ fault. LacksRow state old new e fault)
+  put_lacks old new e (Ok u) fault = tt
+  put_lacks old new e (Err f) fault = inl fault

@@ -1,0 +1,168 @@
+-- Lines of a script on a volume, one after the other: a run of the model, and what a stop in it leaves.
+use Rattle.std.proofs.Common.{◌≡◌, ◌⊎◌, ◌<◌, ℕ, zero, suc, List, [], ◌∷◌, ◌++◌, length, map, slice_get, slice_index_or, refl, sym, ◌∙◌, ap, subst, inl, inr, arith}
+use Rattle.std.specs.List.{Contains}
+use Rattle.std.proofs.lemmas.List.Elements.{Contains-append_left, Contains-append_right}
+use Rattle.lfs_model.specs.Call.{Answer, Call}
+use Rattle.lfs_model.specs.Content.{Content}
+use Rattle.lfs_model.specs.Device.{DeviceState, IsLawful, LeavesOnly}
+use Rattle.lfs_model.specs.Run.{LineAnswers, LineRun, Point, final}
+use Rattle.lfs_model.specs.Script.{Line, call_of}
+use Rattle.lfs_model.specs.Tree.{State, drop_nameless}
+use Rattle.lfs_model.specs.TreeOf.{Left, LeavesOne, LeavesStates, Stands}
+use Rattle.lfs_model.specs.Volume.{LeavesPrefix}
+use Rattle.lfs_model.proofs.CrashRuns.{IsRunSoFar, leaves_first, leaves_more}
+use Rattle.lfs_model.proofs.Lefts.{left_only}
+use Rattle.lfs_model.proofs.Moments.{carries_none, carries_then, joined, weaker}
+use Rattle.lfs_model.proofs.Pendings.{at_final}
+use Rattle.lfs_model.proofs.Volume.{single_state}
+use Rattle.lfs_fs.specs.Scripts.{RanAt, RunsLines, ServesLine, StandsForSome, left_states}
+use Rattle.lfs_fs.specs.Volume.{IsAt, Mounted, segments_of}
+use Rattle.lfs_fs.proofs.LineSteps.{StepsLine, left_none, line_carries, line_running, line_segments, line_steps}
+
+-- ---- the points of a run
+
+-- one line more
+run_more : (N : ℕ) (p : Point) (lines : List Line) (answers : List Answer) (points : List Point) (line : Line) (answer : Answer) (next : Point) → LineRun N p lines answers points
+    → LineAnswers N line (final p points) answer next → LineRun N p (lines ++ line ∷ []) (answers ++ answer ∷ []) (points ++ next ∷ [])
+run_more N p [] [] [] line answer next run more = (more, tt)
+run_more N p (l ∷ lines) (a ∷ answers) (q ∷ points) line answer next run more = (run.0, run_more N q lines answers points line answer next run.1 more)
+run_more N p [] [] (q ∷ points) line answer next run more = absurd run
+run_more N p [] (a ∷ answers) points line answer next run more = absurd run
+run_more N p (l ∷ lines) [] points line answer next run more = absurd run
+run_more N p (l ∷ lines) (a ∷ answers) [] line answer next run more = absurd run
+
+-- one answer and one point for each line
+line_lengths : (N : ℕ) (p : Point) (lines : List Line) (answers : List Answer) (points : List Point) → LineRun N p lines answers points
+    → (length (map call_of lines) ≡ length points) × (length answers ≡ length points)
+line_lengths N p [] [] [] run = (refl, refl)
+line_lengths N p (l ∷ lines) (a ∷ answers) (q ∷ points) run = let h = line_lengths N q lines answers points run.1 in (omega (arith, h.0), omega (arith, h.1))
+line_lengths N p [] [] (q ∷ points) run = absurd run
+line_lengths N p [] (a ∷ answers) points run = absurd run
+line_lengths N p (l ∷ lines) [] points run = absurd run
+line_lengths N p (l ∷ lines) (a ∷ answers) [] run = absurd run
+
+so_far : (N : ℕ) (p : Point) (lines : List Line) (answers : List Answer) (points : List Point) → LineRun N p lines answers points → IsRunSoFar (p ∷ points) (map call_of lines) answers (final p points)
+so_far N p lines answers points run =
+    let h = line_lengths N p lines answers points run in record {
+      points_length = omega (arith, h.0);
+      answers_length = omega (arith, h.0, h.1);
+      at = ap (slice_get (p ∷ points)) h.0 ∙ at_final p points;
+    }
+
+final_more : (p : Point) (points : List Point) (next : Point) → final p (points ++ next ∷ []) ≡ next
+final_more p [] next = refl
+final_more p (q ∷ points) next = final_more q points next
+
+calls_more : (lines : List Line) (line : Line) → map call_of (lines ++ line ∷ []) ≡ map call_of lines ++ call_of line ∷ []
+calls_more [] line = refl
+calls_more (l ∷ lines) line = ap (λ (calls : List Call). call_of l ∷ calls) (calls_more lines line)
+
+-- ---- their states
+
+states_more : (points : List Point) (next : Point) → left_states (points ++ next ∷ []) ≡ left_states points ++ drop_nameless next.state ∷ []
+states_more [] next = refl
+states_more (q ∷ points) next = ap (λ (ss : List State). drop_nameless q.state ∷ ss) (states_more points next)
+
+final_state : (p : Point) (points : List Point) → Contains (left_states (p ∷ points)) (drop_nameless (final p points).state)
+final_state p [] = (0, omega arith, refl)
+final_state p (q ∷ points) = let one = final_state q points in (suc one.0, (let low = one.1 in omega arith), one.2)
+
+was_state : (points : List Point) (next : Point) (s : State) → Contains (left_states points) s → Contains (left_states (points ++ next ∷ [])) s
+was_state points next s one = subst (λ (ss : List State). Contains ss s) (sym (states_more points next)) (Contains-append_left (left_states points) (drop_nameless next.state ∷ []) s one)
+
+next_state : (points : List Point) (next : Point) → Contains (left_states (points ++ next ∷ [])) (drop_nameless next.state)
+next_state points next = subst (λ (ss : List State). Contains ss (drop_nameless next.state)) (sym (states_more points next))
+    (Contains-append_right (left_states points) (drop_nameless next.state ∷ []) (drop_nameless next.state) (0, omega arith, refl))
+
+-- ---- what a stop leaves
+
+abbrev OneOf : DeviceState → List State → Content → Type 0
+OneOf d ss c = (s : State) × Stands c s × (Left d s ⊎ Contains ss s)
+
+-- where a stop at the start left one state alone, the states of the points are all
+moments_from : (a b : DeviceState) (p : Point) (points : List Point) → LeavesStates a b (left_states (p ∷ points)) → LeavesOne a (drop_nameless p.state) → LeavesOnly a b (StandsForSome (p ∷ points))
+moments_from a b p points leaves one = weaker a b (OneOf a (left_states (p ∷ points))) (StandsForSome (p ∷ points)) (λ c is. (is.0, each is.0 is.2, is.1)) leaves
+  where
+    each : (s : State) → Left a s ⊎ Contains (left_states (p ∷ points)) s → Contains (left_states (p ∷ points)) s
+    each s (inl left) = (0, omega arith, sym (left_only a (drop_nameless p.state) s one left))
+    each s (inr of) = of
+
+-- one step more
+module _ (a b c : DeviceState) (p : Point) (points : List Point) (next : Point) (lawful : IsLawful b) where
+  abbrev so_far_states : List State
+  so_far_states = left_states (p ∷ points)
+
+  abbrev pair : List State
+  pair = drop_nameless (final p points).state ∷ drop_nameless next.state ∷ []
+
+  abbrev all : List State
+  all = left_states (p ∷ (points ++ next ∷ []))
+
+  more : (s : State) → Left a s ⊎ Contains so_far_states s → Left a s ⊎ Contains all s
+  more s (inl left) = inl left
+  more s (inr of) = inr (was_state (p ∷ points) next s of)
+
+  at_index : (s : State) (k : ℕ) → k < 2 → slice_index_or pair k s ≡ s → Contains all s
+  at_index s zero lt is = subst (Contains all) is (was_state (p ∷ points) next (drop_nameless (final p points).state) (final_state p points))
+  at_index s (suc zero) lt is = subst (Contains all) is (next_state (p ∷ points) next)
+  at_index s (suc (suc k)) lt is = absurd (omega arith)
+
+  -- a state that a stop in between might leave is one of the first run's
+  then_one : LeavesStates a b so_far_states → (s : State) → Left b s ⊎ Contains pair s → Left a s ⊎ Contains all s
+  then_one one s (inl left) =
+      let was = one.each left.content (lawful.counts_now a.moment left.content one.later left.may_leave) in
+      let same : was.0 ≡ s = single_state left.content was.0 s was.1 left.stands in
+      subst (λ (t : State). Left a t ⊎ Contains all t) same (more was.0 was.2)
+  then_one one s (inr of) = inr (at_index s of.0 of.1 of.2)
+
+  leaves_step : LeavesStates a b so_far_states → LeavesStates b c pair → LeavesStates a c all
+  leaves_step one two = joined a b c (OneOf a so_far_states) (OneOf b pair) (OneOf a all) one two (λ x is. (is.0, is.1, more is.0 is.2)) (λ x is. (is.0, is.1, then_one one is.0 is.2))
+
+-- ---- the laws
+
+module _ {D : Type 0} (state : D → DeviceState) (lawful : (d : D) → IsLawful (state d)) where
+  none_at : (v : Mounted D) (p : Point) → IsAt state v p → RanAt state v v [] [] p
+  none_at v p at =
+      let d : _ = state v.log.device in
+      let leaves : LeavesStates d d (left_states (p ∷ [])) = left_none state d (left_states (p ∷ [])) (lawful v.log.device) at.leaves in record {
+        points = [];
+        run = tt;
+        at = at;
+        leaves = leaves;
+        moments = moments_from d d p [] leaves;
+        pending = leaves_first d p;
+      }
+
+  -- no line
+  pub ran_none : (old : Mounted D) → RunsLines state old old [] []
+  ran_none old = record {
+    carries = carries_none (state old.log.device);
+    segments = λ e. refl;
+    model = λ p keeps at. none_at old p at;
+  }
+
+  module _ (old mid new : Mounted D) (lines : List Line) (answers : List Answer) (line : Line) (answer : Answer) where
+    more_at : (p : Point) (ran : RanAt state old mid lines answers p) → StepsLine state (segments_of old) mid new line answer (final p ran.points)
+        → RanAt state old new (lines ++ line ∷ []) (answers ++ answer ∷ []) p
+    more_at p ran step =
+        let leaves = leaves_step (state old.log.device) (state mid.log.device) (state new.log.device) p ran.points step.next (lawful mid.log.device) ran.leaves step.leaves in record {
+          points = ran.points ++ step.next ∷ [];
+          run = run_more (segments_of old) p lines answers ran.points line answer step.next ran.run step.does;
+          at = subst (IsAt state new) (sym (final_more p ran.points step.next)) step.at;
+          leaves = leaves;
+          moments = moments_from (state old.log.device) (state new.log.device) p (ran.points ++ step.next ∷ []) leaves;
+          pending = λ one. subst (λ (calls : List Call). LeavesPrefix (state new.log.device) (p ∷ (ran.points ++ step.next ∷ [])) calls (answers ++ answer ∷ [])) (sym (calls_more lines line))
+              (leaves_more (state mid.log.device) (state new.log.device) (p ∷ ran.points) (map call_of lines) answers (final p ran.points) step.next (call_of line) answer
+              (so_far (segments_of old) p lines answers ran.points ran.run) (lawful new.log.device) (ran.pending one) step.leaves step.saves);
+        }
+
+    -- one line more
+    pub ran_more : RunsLines state old mid lines answers → ServesLine state mid new line answer → RunsLines state old new (lines ++ line ∷ []) (answers ++ answer ∷ [])
+    ran_more runs serves =
+        let carries = line_carries state lawful mid new line answer serves in record {
+          carries = carries_then (state old.log.device) (state mid.log.device) (state new.log.device) runs.carries carries;
+          segments = λ now. line_segments state lawful mid new line answer serves now ∙ runs.segments (line_running state lawful mid new line answer serves now);
+          model = λ p keeps at. (
+              let ran = runs.model p (carries.kept_before keeps) at in
+              more_at p ran (line_steps state lawful mid new line answer (segments_of old) (final p ran.points) runs.segments keeps ran.at serves));
+        }

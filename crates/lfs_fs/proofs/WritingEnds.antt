@@ -1,0 +1,327 @@
+-- Calls that draft a change, from what they read to what becomes of the draft, as steps of the model.
+use Rattle.std.proofs.Common.{◌≡◌, ◌<◌, ◌≤◌, ◌+◌, ◌/◌, ◌^◌, ℕ, Bool, true, false, length, Some, None, Ok, Err, refl, sym, ◌∙◌, ap, subst, inl, inr, ⊎_elim, arith}
+use Rattle.std.specs.Prelude.{Result, OnOk, IfErr}
+use Rattle.std.specs.Ordering.{nat_cmp}
+use Rattle.std.specs.FinMap.{find}
+use Rattle.lfs_model.specs.Call.{Call, Answer, Refuse, changes, commits, takes_no_memory}
+use Rattle.lfs_model.specs.Checkpoint.{CheckpointValue}
+use Rattle.lfs_model.specs.Crash.{StandsForOn}
+use Rattle.lfs_model.specs.Device.{AllLeft, Carries, DeviceState, IsLawful, LeavesOnly}
+use Rattle.lfs_model.specs.Refusal as refusal
+use Rattle.lfs_model.specs.Stands.{LogMap}
+use Rattle.lfs_model.specs.Tree.{State}
+use Rattle.lfs_model.specs.TreeOf.{dropped}
+use Rattle.lfs_model.proofs.Moments.{carries_then, goes_on, joined, started}
+use Rattle.lfs_model.proofs.Settled.{settled_stands}
+use Rattle.lfs_memory.specs.declared.changes.Changes.{Changes}
+use Rattle.lfs_memory.specs.declared.fault.LogFault.{LogFault}
+use Rattle.lfs_memory.specs.declared.fault.LogFault.TheVariants as log
+use Rattle.lfs_memory.specs.declared.memory.LogMemory.{LogMemory}
+use Rattle.lfs_memory.specs.Batch.{FitsBatch, IsNoChange}
+use Rattle.lfs_segments.specs.Table.{clean_in}
+use Rattle.lfs_log.specs.Held.{Halts, Held, Holds, IsReadFault, Reads}
+use Rattle.lfs_store.specs.declared.fault.StoreFault.{StoreFault}
+use Rattle.lfs_store.specs.declared.fault.StoreFault.TheVariants as store
+use Rattle.lfs_store.specs.declared.store.Store.{Store}
+use Rattle.lfs_store.specs.declared.totals.Totals.{Totals}
+use Rattle.lfs_store.specs.Accepting.{Accepts, Declines, HasClean, IsAcceptFault, LeavesEither, SavesOnce, Stores}
+use Rattle.lfs_store.proofs.Apart.{draft_empty}
+use Rattle.lfs_store.proofs.LogReads.{fault_more, held_still, reads_more, reads_none}
+use Rattle.lfs_fs.specs.declared.error.FsError.{FsError}
+use Rattle.lfs_fs.specs.declared.error.FsError.TheVariants as error
+use Rattle.lfs_fs.specs.declared.fs.Fs.{Fs}
+use Rattle.lfs_fs.specs.declared.handles.Handles.{Handles}
+use Rattle.lfs_fs.specs.Accepting.{IsDeclined, Stages, TurnsDown, limit_of, need_of}
+use Rattle.lfs_fs.specs.Faults.{error_of_log, error_of_store}
+use Rattle.lfs_fs.specs.Handles.{handles_of}
+use Rattle.lfs_fs.specs.Refusals.{refusal_of}
+use Rattle.lfs_fs.specs.Seen.{LacksHeader, answer_by, seen}
+use Rattle.lfs_fs.specs.Volume.{IsIn, IsStill, Mounted, Serves, segments_of}
+use Rattle.lfs_fs.proofs.Accepted.{InEach}
+use Rattle.lfs_fs.proofs.Declined.{accept_fault_serves, stuck_serves}
+use Rattle.lfs_fs.proofs.Ending.{IsRest, not_acknowledged}
+use Rattle.lfs_fs.proofs.Files.{IsFileOf, opened_file}
+use Rattle.lfs_fs.proofs.Serving.{halts_at, map_dropped, served_still}
+use Rattle.lfs_fs.proofs.Told.{fault_serves, memory_serves}
+
+-- why a draft isn't staged, by the fault of the store
+pub turned_down : {D : Type 0} (state : D → DeviceState) (old new : Fs D) (fault : LogFault) (e : FsError) → e ≡ error_of_log fault → old.store.log.halted ≡ false → old.store.log.number < 2 ^ 62 → new.store.totals ≡ old.store.totals
+    → (fault ≡ log.Full → Declines state old.store.log old.store.saved new.store.log new.store.saved old.store.draft.changes)
+    → (fault ≡ log.Device → Declines state old.store.log old.store.saved new.store.log new.store.saved old.store.draft.changes)
+    → (fault ≡ log.Device → IsAcceptFault state old.store.log old.store.saved new.store.log old.store.draft.changes)
+    → (fault ≡ log.Halted → (old.store.log.halted ≡ true → ⊥) → Halts state old.store.log new.store.log) → TurnsDown state old new e
+turned_down state old new log.Full e is was young totals full device failed halted =
+    subst (TurnsDown state old new) (sym is) record { declines = full refl; totals = totals; young = young }
+turned_down state old new log.Device e is was young totals full device failed halted =
+    subst (TurnsDown state old new) (sym is) (record { declines = device refl; totals = totals; young = young }, failed refl)
+turned_down state old new log.Halted e is was young totals full device failed halted = subst (TurnsDown state old new) (sym is) (halted refl (λ no. cc))
+
+module _ {D : Type 0} (state : D → DeviceState) (lawful : (d : D) → IsLawful (state d)) where
+  -- ---- reads come before the draft is staged
+
+  module _ (a b : Held D) (reads : Reads state a b) where
+    same_segments : length b.memory.usage.segments ≡ length a.memory.usage.segments
+    same_segments = ap (λ (v : LogMemory). length v.usage.segments) reads.memory
+
+    quiet_reads : (k : CheckpointValue) (m0 m : LogMap) → Holds state a k m0 m → LeavesOnly (state a.device) (state b.device) (StandsForOn k.segments m0 (dropped m))
+    quiet_reads k m0 m is =
+        goes_on (state a.device) (state a.device) (state b.device) (StandsForOn k.segments m0 (dropped m)) (started (state a.device) (StandsForOn k.segments m0 (dropped m)) (lawful a.device) here)
+        reads.looks.carries reads.looks.time (λ c left. here c (reads.looks.untouched.crash c left))
+      where
+        here : AllLeft (state a.device) (StandsForOn k.segments m0 (dropped m))
+        here c left = inl (settled_stands (state a.device) k m0 is.log.running.settled c left)
+
+    clean_still : HasClean a → HasClean b
+    clean_still = subst (λ (v : LogMemory). length v.usage.segments / 8 + 8 ≤ clean_in v.usage.segments) (sym reads.memory)
+
+    stores_still : (saved : Bool) (k : CheckpointValue) (m0 m : LogMap) → Stores state a saved k m0 m → Stores state b saved k m0 m
+    stores_still saved k m0 m stores = record { holds = held_still state a b k m0 m reads stores.holds; nothing_new = stores.nothing_new }
+
+    module _ (h : Held D) where
+      leaves_after : (saved : Bool) → LeavesEither state b saved h → LeavesEither state a saved h
+      leaves_after saved leaves k m0 m keeps stores log =
+          joined (state a.device) (state b.device) (state h.device) (StandsForOn k.segments m0 (dropped m)) (StandsForOn k.segments m0 (dropped m)) (StandsForOn k.segments m0 (dropped m))
+          (quiet_reads k m0 m stores.holds) (leaves k m0 m keeps (stores_still saved k m0 m stores) log) (λ c x. x) (λ c x. x)
+
+      once_after : (saved saved' : Bool) → SavesOnce b saved h saved' → SavesOnce a saved h saved'
+      once_after saved saved' once = record {
+        number = (let more = once.number in let same = reads.number in omega (arith, more, same));
+        once = (let most = once.once in let same = reads.number in omega (arith, most, same));
+        ready = λ clean now. once.ready (λ e. clean_still (clean e)) now;
+      }
+
+      pub accepts_after : (saved saved' : Bool) (c : Changes) → Accepts state b saved h saved' c → Accepts state a saved h saved' c
+      accepts_after saved saved' c done = record {
+        carries = carries_then (state a.device) (state b.device) (state h.device) reads.looks.carries done.carries;
+        halted = done.halted ∙ reads.halted;
+        segments = done.segments ∙ same_segments;
+        enough = done.enough;
+        unsaved = done.unsaved;
+        once = once_after saved saved' done.once;
+        stores = λ k m0 m keeps stores. done.stores k m0 m keeps (stores_still saved k m0 m stores);
+        moment = leaves_after saved done.moment;
+      }
+
+      pub declines_after : (saved saved' : Bool) (c : Changes) → Declines state b saved h saved' c → Declines state a saved h saved' c
+      declines_after saved saved' c done = record {
+        carries = carries_then (state a.device) (state b.device) (state h.device) reads.looks.carries done.carries;
+        halted = done.halted ∙ reads.halted;
+        segments = done.segments ∙ same_segments;
+        once = once_after saved saved' done.once;
+        stores = λ k m0 m keeps stores. done.stores k m0 m keeps (stores_still saved k m0 m stores);
+        moment = leaves_after saved done.moment;
+      }
+
+      pub fault_after : (saved : Bool) (c : Changes) → IsAcceptFault state b saved h c → IsAcceptFault state a saved h c
+      fault_after saved c fault k m0 m keeps stores fits log =
+          let rose = fault k m0 m keeps (stores_still saved k m0 m stores) fits log in
+          let before = reads.looks.carries.failures in
+          omega (arith, rose, before)
+
+      pub halts_after : Halts state b h → Halts state a h
+      halts_after halts = record {
+        carries = carries_then (state a.device) (state b.device) (state h.device) reads.looks.carries halts.carries;
+        halted = halts.halted;
+        number = halts.number ∙ reads.number;
+        cause = λ k m0 m keeps is. (
+            let rose = halts.cause k m0 m keeps (held_still state a b k m0 m reads is) in
+            let before = reads.looks.carries.failures in
+            omega (arith, rose, before));
+        left = λ k m0 m keeps is log. halts.left k m0 m keeps (held_still state a b k m0 m reads is) log;
+        moment = λ k m0 m keeps is log.
+            joined (state a.device) (state b.device) (state h.device) (StandsForOn k.segments m0 (dropped m)) (StandsForOn k.segments m0 (dropped m)) (StandsForOn k.segments m0 (dropped m))
+            (quiet_reads k m0 m is) (halts.moment k m0 m keeps (held_still state a b k m0 m reads is) log) (λ c x. x) (λ c x. x);
+      }
+
+  -- ---- volumes that were only read
+
+  pub still_none : (v : Mounted D) → IsStill state v v
+  still_none v = record { reads = reads_none state v.log; saved = refl; blocks = refl; others = refl; table = refl }
+
+  pub still_more : (v w x : Mounted D) → IsStill state v w → IsStill state w x → IsStill state v x
+  still_more v w x one two = record {
+    reads = reads_more state v.log w.log x.log (lawful v.log.device) one.reads two.reads;
+    saved = two.saved ∙ one.saved;
+    blocks = two.blocks ∙ one.blocks;
+    others = two.others ∙ one.others;
+    table = two.table ∙ one.table;
+  }
+
+  -- ---- calls of a running volume
+
+  module _ (old new : Mounted D) (call : Call) (was : old.log.halted ≡ false) where
+    -- what a call does may rest on the state that the volume is in, and on a device that keeps the model to the end
+    pub when_in : (a : Answer) → Carries (state old.log.device) (state new.log.device) → segments_of new ≡ segments_of old → (a ≡ Refuse refusal.Halted → ⊥)
+        → ((state new.log.device).keeps_model → (k : CheckpointValue) (m0 m : LogMap) (s : State) → IsIn state old k m0 m s → Serves state old new call a) → Serves state old new call a
+    when_in a carries segments fine each = record {
+      carries = carries;
+      segments = λ e. segments;
+      orderly = λ e. absurd (let is = was in cc);
+      halts = λ e. absurd (fine e);
+      model = λ p keeps at. (let r = at.running was in (each keeps r.checkpoint r.saved r.present p.state r.is).model p keeps at);
+    }
+
+    -- a commit failed
+    pub halts_serves : Halts state old.log new.log → Serves state old new call (Refuse refusal.Halted)
+    halts_serves halts = record {
+      carries = halts.carries;
+      segments = λ e. absurd (let is = halts.halted in cc);
+      orderly = λ e. absurd (let is = was in cc);
+      halts = λ e. halts.halted;
+      model = λ p keeps at. (
+          let r = at.running was in
+          halts_at state old new keeps (lawful old.log.device) (lawful new.log.device) halts.carries r.checkpoint r.saved r.present p.state r.is call p at refl was halts.halted
+          (let same = halts.number in omega (arith, same))
+          (halts.cause r.checkpoint r.saved r.present keeps r.is.stores.holds)
+          (halts.moment r.checkpoint r.saved r.present keeps r.is.stores.holds (map_dropped state old new keeps (lawful old.log.device) (lawful new.log.device) halts.carries r.checkpoint r.saved r.present p.state r.is)));
+    }
+
+    -- ---- calls of an open file
+    module _ (h n : ℕ) (opens : find nat_cmp h (handles_of old.table) ≡ Some n) where
+      pub opened_in : (k : CheckpointValue) (m0 m : LogMap) (s : State) → IsIn state old k m0 m s → IsFileOf m s.tree n
+      opened_in k m0 m s is = opened_file (segments_of old) m s is.log h n (ap (find nat_cmp h) is.handles ∙ opens)
+
+  -- no draft is made: memory was refused, or a call of the device failed
+  pub undrafted_serves : (old new : Mounted D) (call : Call) → old.log.halted ≡ false → IsStill state old new → commits call ≡ false → takes_no_memory call ≡ false
+      → (fault : StoreFault) → ((fault ≡ store.NoMemory → ⊥) → IsReadFault state old.log new.log) → (fault ≡ store.Log log.Halted → old.log.halted ≡ true) → (fault ≡ store.Log log.Full → ⊥)
+      → Serves state old new call (Refuse (refusal_of (error_of_store fault)))
+  undrafted_serves old new call was still free takes store.NoMemory failed halted other = memory_serves state old new call (lawful old.log.device) still was takes
+  undrafted_serves old new call was still free takes (store.Log log.Device) failed halted other = fault_serves state old new call (lawful old.log.device) still was free (failed (λ e. cc))
+  undrafted_serves old new call was still free takes (store.Log log.Halted) failed halted other = absurd (let on = halted refl in cc)
+  undrafted_serves old new call was still free takes (store.Log log.Full) failed halted other = absurd (other refl)
+
+  -- and the draft is given up
+  module _ (old mid : Fs D) (tried gone : Store D) (call : Call) (was : old.store.log.halted ≡ false) (still : IsStill state (seen old) (seen mid)) (reads : Reads state mid.store.log tried.log)
+      (saved : tried.saved ≡ mid.store.saved) (totals : tried.totals ≡ mid.store.totals) (same_log : gone.log ≡ tried.log) (same_saved : gone.saved ≡ tried.saved) (same_totals : gone.totals ≡ tried.totals) where
+    still_gone : IsStill state (seen mid) (seen record { alloc = mid.alloc; store = gone; handles = mid.handles })
+    still_gone = record {
+      reads = subst (λ (x : Held D). Reads state mid.store.log x) (sym same_log) reads;
+      saved = same_saved ∙ saved;
+      blocks = ap (λ (t : Totals). t.data_blocks) (same_totals ∙ totals);
+      others = ap (λ (t : Totals). t.meta_blocks) (same_totals ∙ totals);
+      table = refl;
+    }
+
+    pub given_up_serves : commits call ≡ false → takes_no_memory call ≡ false → (fault : StoreFault) → ((fault ≡ store.NoMemory → ⊥) → IsReadFault state mid.store.log tried.log)
+        → (fault ≡ store.Log log.Halted → mid.store.log.halted ≡ true) → (fault ≡ store.Log log.Full → ⊥) → (e : FsError) → e ≡ error_of_store fault
+        → Serves state (seen old) (seen record { alloc = mid.alloc; store = gone; handles = mid.handles }) call (Refuse (refusal_of e))
+    given_up_serves free takes fault failed halted other e is =
+        subst (λ (x : FsError). Serves state (seen old) (seen record { alloc = mid.alloc; store = gone; handles = mid.handles }) call (Refuse (refusal_of x))) (sym is)
+        (undrafted_serves (seen old) (seen record { alloc = mid.alloc; store = gone; handles = mid.handles }) call was
+        (still_more (seen old) (seen mid) (seen record { alloc = mid.alloc; store = gone; handles = mid.handles }) still still_gone) free takes fault
+        (λ device. subst (λ (x : Held D). IsReadFault state old.store.log x) (sym same_log) (fault_more state old.store.log mid.store.log tried.log still.reads (failed device)))
+        (λ on. sym still.reads.halted ∙ halted on) other)
+
+  -- an open file has a header, unless a call of the device failed
+  pub headerless_serves : (old mid : Fs D) (call : Call) (h n : ℕ) → find nat_cmp h (handles_of old.handles.numbers.items) ≡ Some n → old.store.log.halted ≡ false → IsNoChange old.store.draft.changes
+      → IsStill state (seen old) (seen mid) → commits call ≡ false → (fault : FsError) → LacksHeader state old mid n fault → Serves state (seen old) (seen mid) call (Refuse (refusal_of fault))
+  headerless_serves old mid call h n opens was empty still free fault lacks = ⊎_elim
+      (λ halted. absurd (let is = halted.1 in cc))
+      (λ failed. subst (λ (e : FsError). Serves state (seen old) (seen mid) call (Refuse (refusal_of e))) (sym failed.0)
+      (served_still state (seen old) (seen mid) call (Refuse refusal.Device) (lawful old.store.log.device) still was (λ e. cc) (λ p keeps here k m0 m is. (
+      let file = opened_in (seen old) (seen mid) call was h n opens k m0 m p.state is in
+      inr (
+        refusal.Device,
+        refl,
+        (
+          free,
+          ⊎_elim
+              (λ (rose : (state old.store.log.device).failures < (state mid.store.log.device).failures). (let f = here.failures in omega (arith, f, rose)))
+              (λ none. absurd (
+              let both : None ≡ Some file.head = sym none ∙ ap (λ (x : LogMap). x.header n) (draft_empty old.store.draft.changes m empty).0 ∙ file.there in cc))
+              (failed.1 k m0 m keeps is.stores.holds),
+        ),
+        refl,
+      )))
+      (not_acknowledged call refusal.Device)))
+      lacks
+
+  -- ---- what becomes of a draft
+
+  module _ (v : Mounted D) (ready new : Fs D) (call : Call) (a : Answer) (still : IsStill state v (seen ready)) (was : v.log.halted ≡ false) (rest : new.handles ≡ ready.handles) where
+    abbrev c : Changes
+    c = ready.store.draft.changes
+
+    pub table_same : new.handles.numbers.items ≡ v.table
+    table_same = ap (λ (x : Handles). x.numbers.items) rest ∙ still.table
+
+    pub accepts_old : Stages state ready new → Accepts state v.log v.saved new.store.log new.store.saved c
+    accepts_old done = accepts_after v.log ready.store.log still.reads new.store.log v.saved new.store.saved c
+        (subst (λ (b : Bool). Accepts state ready.store.log b new.store.log new.store.saved c) still.saved done.accepts)
+
+    declines_old : IsDeclined state ready new → Declines state v.log v.saved new.store.log new.store.saved c
+    declines_old done = declines_after v.log ready.store.log still.reads new.store.log v.saved new.store.saved c
+        (subst (λ (b : Bool). Declines state ready.store.log b new.store.log new.store.saved c) still.saved done.declines)
+
+    fault_old : IsAcceptFault state ready.store.log ready.store.saved new.store.log c → IsAcceptFault state v.log v.saved new.store.log c
+    fault_old fault = fault_after v.log ready.store.log still.reads new.store.log v.saved c
+        (subst (λ (b : Bool). IsAcceptFault state ready.store.log b new.store.log c) still.saved fault)
+
+    rest_old : IsDeclined state ready new → IsRest state v (seen new)
+    rest_old done = record {
+      blocks = ap (λ (t : Totals). t.data_blocks) done.totals ∙ still.blocks;
+      others = ap (λ (t : Totals). t.meta_blocks) done.totals ∙ still.others;
+      table = table_same;
+    }
+
+    pub low_old : ready.store.log.number < 2 ^ 62 → v.log.number < 2 ^ 62
+    low_old low = let same = still.reads.number in omega (arith, same, low)
+
+    still_new : seen new ≡ seen ready → IsStill state v (seen new)
+    still_new same = subst (λ (x : Mounted D). IsStill state v x) (sym same) still
+
+    -- the ends that differ from call to call
+    abbrev pub Kept : Type 0
+    Kept = (state ready.store.log.device).keeps_model
+
+    abbrev pub InState : Answer → Type 0
+    InState x = Kept → (k : CheckpointValue) (m0 m : LogMap) (s : State) → IsIn state v k m0 m s → Serves state v (seen new) call x
+
+    module _ (change : changes call ≡ true) (free : commits call ≡ false)
+        (fits : Kept → (k : CheckpointValue) (m0 m : LogMap) (s : State) → IsIn state v k m0 m s → InEach state v (λ m s. FitsBatch m c))
+        (lacks_ends : IsStill state v (seen new) → limit_of ready < need_of ready → InState (Refuse refusal.NoSpace))
+        (worn_ends : IsStill state v (seen new) → 2 ^ 62 ≤ v.log.number → need_of ready ≤ limit_of ready → InState (Refuse refusal.Worn)) where
+      -- nothing has changed
+      same_by : (x : Answer) → (x ≡ Refuse refusal.Halted → ⊥) → seen new ≡ seen ready → InState x → Serves state v (seen new) call x
+      same_by x other same each = when_in v (seen new) call was x (still_new same).reads.looks.carries (ap (λ (v : LogMemory). length v.usage.segments) (still_new same).reads.memory) other
+          (λ keeps. each (subst (λ (x : Mounted D). (state x.log.device).keeps_model) same keeps))
+
+      declined_by : (x : Answer) → (x ≡ Refuse refusal.Halted → ⊥) → (done : IsDeclined state ready new) → InState x → Serves state v (seen new) call x
+      declined_by x other done each = when_in v (seen new) call was x (declines_old done).carries (declines_old done).segments other (λ keeps. each (done.declines.carries.kept_before keeps))
+
+      pub by_fault : (e : FsError) → TurnsDown state ready new e → Serves state v (seen new) call (Refuse (refusal_of e))
+      by_fault error.NoSpace down = same_by (Refuse refusal.NoSpace) (λ e. cc) down.0 (lacks_ends (still_new down.0) down.1)
+      by_fault error.Worn down = same_by (Refuse refusal.Worn) (λ e. cc) down.0 (worn_ends (still_new down.0) (let same = still.reads.number in let high = down.1 in omega (arith, same, high)) down.2)
+      by_fault error.Stuck down = declined_by (Refuse refusal.Stuck) (λ e. cc) down (λ keeps k m0 m s is.
+          stuck_serves state v (seen new) call (lawful v.log.device) (lawful new.store.log.device) was (declines_old down).once.number c (rest_old down) (declines_old down) (low_old down.young)
+          (fits keeps k m0 m s is) change)
+      by_fault error.Device down = declined_by (Refuse refusal.Device) (λ e. cc) down.0 (λ keeps k m0 m s is.
+          accept_fault_serves state v (seen new) call (lawful v.log.device) (lawful new.store.log.device) was (declines_old down.0).once.number c (rest_old down.0) (declines_old down.0) (low_old down.0.young)
+          (fits keeps k m0 m s is) free (fault_old down.1))
+      by_fault error.Halted down = halts_serves v (seen new) call was (halts_after v.log ready.store.log still.reads new.store.log down)
+      by_fault error.NoEntry down = absurd down
+      by_fault error.NotDir down = absurd down
+      by_fault error.IsDir down = absurd down
+      by_fault error.Exist down = absurd down
+      by_fault error.NotEmpty down = absurd down
+      by_fault error.Inval down = absurd down
+      by_fault error.NameTooLong down = absurd down
+      by_fault error.Loop down = absurd down
+      by_fault error.Perm down = absurd down
+      by_fault error.Busy down = absurd down
+      by_fault error.BadHandle down = absurd down
+      by_fault error.TooManyOpen down = absurd down
+      by_fault error.TooManyLinks down = absurd down
+      by_fault error.FileTooBig down = absurd down
+      by_fault error.NoNumber down = absurd down
+      by_fault error.DirFull down = absurd down
+      by_fault error.NoMemory down = absurd down
+
+    pub ends_by : changes call ≡ true → commits call ≡ false → (a ≡ Refuse refusal.Halted → ⊥)
+        → (Kept → (k : CheckpointValue) (m0 m : LogMap) (s : State) → IsIn state v k m0 m s → InEach state v (λ m s. FitsBatch m c))
+        → (Stages state ready new → InState a)
+        → (IsStill state v (seen new) → limit_of ready < need_of ready → InState (Refuse refusal.NoSpace))
+        → (IsStill state v (seen new) → 2 ^ 62 ≤ v.log.number → need_of ready ≤ limit_of ready → InState (Refuse refusal.Worn))
+        → {X : Type 0} (r : Result X FsError) → OnOk r (Stages state ready new) → IfErr r (TurnsDown state ready new) → Serves state v (seen new) call (answer_by (λ _. a) r)
+    ends_by change free fine fits done_ends lacks_ends worn_ends (Ok x) done down = when_in v (seen new) call was a (accepts_old done).carries (accepts_old done).segments fine (λ keeps. done_ends done (done.accepts.carries.kept_before keeps))
+    ends_by change free fine fits done_ends lacks_ends worn_ends (Err e) done down = by_fault change free fits lacks_ends worn_ends e down

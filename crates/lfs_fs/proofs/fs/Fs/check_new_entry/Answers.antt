@@ -1,0 +1,51 @@
+use Rattle.std.proofs.Common.{rules, ◌≤◌, sym, ◌∙◌, inr, length}
+use Rattle.lfs_model.specs.Slot.{IsName}
+use Rattle.lfs_fs.proofs.NameLooks.{none_is, some_is}
+use Rattle.lfs_fs.proofs.fs.Fs.check_new_entry.Goals as goal
+
+pub returns-then-is_some-clause-refused : goal.returns-then-is_some-clause-refused
+returns-then-is_some-clause-refused g c =
+    let short : length c.args.last.name.now ≤ 59 = search in
+    inr (
+      sym c.is_dots.ensures ∙ c.if-is_dots.false,
+      short,
+      (
+        c.in-Ok.found.0,
+        some_is g.D.SectorDevice.state c.args.self.now c.look_in.new.self c.args.directory c.args.last.name.now c.in-Ok.found.0 c.in-Ok.found.1 (sym c.is_some.ensures ∙ c.if-is_some.true) c.in-Ok.ensures.answer,
+      ),
+    )
+
+pub returns-then-last-clause-refused : goal.returns-then-last-clause-refused
+returns-then-last-clause-refused g c =
+    let short : length c.args.last.name.now ≤ 59 = search in (
+      sym c.is_dots.ensures ∙ c.if-is_dots.false,
+      short,
+      c.if-last.true,
+      (
+        c.in-Ok.found.0,
+        none_is g.D.SectorDevice.state c.args.self.now c.look_in.new.self c.args.directory c.args.last.name.now c.in-Ok.found.0 c.in-Ok.found.1 (sym c.is_some.ensures ∙ c.if-is_some.false) c.in-Ok.ensures.answer,
+      ),
+    )
+
+pub returns-then-header-gt-MOST_SLOTS-clause-refused : goal.returns-then-header-gt-MOST_SLOTS-clause-refused
+returns-then-header-gt-MOST_SLOTS-clause-refused g c =
+    let short : length c.args.last.name.now ≤ 59 = search in (
+      sym c.is_dots.ensures ∙ c.if-is_dots.false,
+      short,
+      c.if-last.false,
+      (
+        c.in-Ok.found.0,
+        c.if-header-gt-MOST_SLOTS.true,
+        none_is g.D.SectorDevice.state c.args.self.now c.look_in.new.self c.args.directory c.args.last.name.now c.in-Ok.found.0 c.in-Ok.found.1 (sym c.is_some.ensures ∙ c.if-is_some.false) c.in-Ok.ensures.answer,
+      ),
+    )
+
+pub returns-clause-taken : goal.returns-clause-taken
+returns-clause-taken g c =
+    let named : IsName 59 c.args.last.name.now = search rules in record {
+      looks = none_is g.D.SectorDevice.state c.args.self.now c.look_in.new.self c.args.directory c.args.last.name.now c.in-Ok.found.0 c.in-Ok.found.1 (sym c.is_some.ensures ∙ c.if-is_some.false) c.in-Ok.ensures.answer;
+      named = sym c.is_dots.ensures ∙ c.if-is_dots.false;
+      is_name = named;
+      plain = c.if-last.false;
+      room = c.if-header-gt-MOST_SLOTS.false;
+    }

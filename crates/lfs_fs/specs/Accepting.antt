@@ -1,0 +1,39 @@
+-- What becomes of a call's draft: it is staged where the volume has the space for it, or it isn't.
+use Rattle.std.specs.Prelude.{◌≡◌, ◌<◌, ◌≤◌, ◌+◌, ◌*◌, ◌^◌, ℕ, length}
+use Rattle.lfs_model.specs.Device.{DeviceState}
+use Rattle.lfs_log.specs.Held.{Halts}
+use Rattle.lfs_store.specs.Accepting.{Accepts, Declines, IsAcceptFault}
+use Rattle.lfs_fs.specs.declared.error.FsError.{FsError}
+use Rattle.lfs_fs.specs.declared.error.FsError.TheVariants as error
+use Rattle.lfs_fs.specs.declared.fs.Fs.{Fs}
+use Rattle.lfs_fs.specs.Seen.{seen}
+
+-- what the tree needs with the draft, and the most that it may need
+abbrev pub need_of : {D : Type 0} → Fs D → ℕ
+need_of f = f.store.drafted.data_blocks + 7 * f.store.drafted.meta_blocks + 720
+
+abbrev pub limit_of : {D : Type 0} → Fs D → ℕ
+limit_of f = 47 * length f.store.log.memory.usage.segments
+
+module _ {D : Type 0} (state : D → DeviceState) where
+  -- The draft is staged, and the totals are those with it.
+  pub record Stages (old new : Fs D) : Type 0 where
+    pub accepts : Accepts state old.store.log old.store.saved new.store.log new.store.saved old.store.draft.changes
+    pub totals : new.store.totals ≡ old.store.drafted
+    pub young : old.store.log.number < 2 ^ 62
+    pub room : need_of old ≤ limit_of old
+
+  -- It isn't, after room was to be made for it.
+  pub record IsDeclined (old new : Fs D) : Type 0 where
+    pub declines : Declines state old.store.log old.store.saved new.store.log new.store.saved old.store.draft.changes
+    pub totals : new.store.totals ≡ old.store.totals
+    pub young : old.store.log.number < 2 ^ 62
+
+  -- Why it isn't: no other fault comes.
+  abbrev pub TurnsDown : Fs D → Fs D → FsError → Type 0
+  TurnsDown old new error.NoSpace = (seen new ≡ seen old) × (limit_of old < need_of old)
+  TurnsDown old new error.Worn = (seen new ≡ seen old) × (2 ^ 62 ≤ old.store.log.number) × (need_of old ≤ limit_of old)
+  TurnsDown old new error.Stuck = IsDeclined old new
+  TurnsDown old new error.Device = IsDeclined old new × IsAcceptFault state old.store.log old.store.saved new.store.log old.store.draft.changes
+  TurnsDown old new error.Halted = Halts state old.store.log new.store.log
+  TurnsDown old new _ = ⊥

@@ -1,0 +1,135 @@
+-- What the steps of the calls of paths do, each for itself.
+use Rattle.std.specs.Prelude.{◌≡◌, ◌≢◌, ◌⊎◌, ◌≤◌, ◌<◌, ℕ, Bool, true, false, List, length, Option, Some, None}
+use Rattle.std.specs.Ordering.{nat_cmp}
+use Rattle.std.specs.FinMap.{find, put}
+use Rattle.lfs_model.specs.declared.Kind.TheVariants as kind
+use Rattle.lfs_model.specs.Bytes.{AreBytes}
+use Rattle.lfs_model.specs.Checkpoint.{CheckpointValue}
+use Rattle.lfs_model.specs.Device.{DeviceState}
+use Rattle.lfs_model.specs.Objects.{IsDirectory}
+use Rattle.lfs_model.specs.Slot.{IsName}
+use Rattle.lfs_model.specs.Stands.{LogMap}
+use Rattle.lfs_model.specs.Tree.{State, byte_cmp, least_handle}
+use Rattle.lfs_model.specs.Walk.{At, Parent}
+use Rattle.lfs_memory.specs.declared.changes.Changes.{Changes}
+use Rattle.lfs_memory.specs.declared.header.Header.{Header}
+use Rattle.lfs_memory.specs.Batch.{IsNoChange, staged}
+use Rattle.lfs_memory.specs.Present.{as_header}
+use Rattle.lfs_log.specs.Held.{Holds, IsReadFault}
+use Rattle.lfs_store.specs.declared.totals.Totals.{Totals}
+use Rattle.lfs_store.specs.Making.{Makes, first_header}
+use Rattle.lfs_store.specs.Recounting.{Counts, CountsMade}
+use Rattle.lfs_dirs.specs.Adding.{Adds}
+use Rattle.lfs_dirs.specs.Directory.{names_at}
+use Rattle.lfs_path.specs.declared.last.Last.{Last}
+use Rattle.lfs_path.specs.Pieces.{is_dots}
+use Rattle.lfs_path.specs.Walking.{HasLast}
+use Rattle.lfs_fs.specs.declared.error.FsError.{FsError}
+use Rattle.lfs_fs.specs.declared.error.FsError.TheVariants as error
+use Rattle.lfs_fs.specs.declared.fs.Fs.{Fs}
+use Rattle.lfs_fs.specs.Accepting.{Stages, TurnsDown}
+use Rattle.lfs_fs.specs.Handles.{handles_of}
+use Rattle.lfs_fs.specs.Seen.{seen}
+use Rattle.lfs_fs.specs.Volume.{IsIn, IsStill, Mounted}
+
+module _ {D : Type 0} where
+  -- File n gets a handle, the least that is free; it isn't the root.
+  pub record OpensNumber (old new : Fs D) (n handle : ℕ) : Type 0 where
+    pub store : new.store ≡ old.store
+    pub other : n ≢ 1
+    pub few : handle < 64
+    pub first : least_handle (handles_of old.handles.numbers.items) ≡ handle
+    pub opened : n ≢ 0 → handles_of new.handles.numbers.items ≡ put nat_cmp handle n (handles_of old.handles.numbers.items)
+
+  -- It gets none: it is the root, or all handles are open.
+  abbrev pub OpensNone : Fs D → Fs D → ℕ → FsError → Type 0
+  OpensNone old new n error.IsDir = (new ≡ old) × (n ≡ 1)
+  OpensNone old new n error.TooManyOpen = (new ≡ old) × (n ≢ 1) × (64 ≤ least_handle (handles_of old.handles.numbers.items))
+  OpensNone old new n _ = ⊥
+
+module _ {D : Type 0} (state : D → DeviceState) where
+  -- ---- a name is looked up in directory d
+
+  -- d has this header, and the name gives that in it
+  abbrev pub LooksUp : Fs D → Fs D → ℕ → List ℕ → Header → Option ℕ → Type 0
+  LooksUp old new d name head found = (k : CheckpointValue) (m0 m : LogMap) → (state new.store.log.device).keeps_model → Holds state old.store.log k m0 m
+      → ((staged old.store.draft.changes m).header d ≡ Some (as_header head)) × (found ≡ find byte_cmp name (names_at (staged old.store.draft.changes m) d head))
+
+  -- where d is a directory, a call of the device failed
+  abbrev pub FailsLook : Fs D → Fs D → ℕ → Type 0
+  FailsLook old new d = (k : CheckpointValue) (m0 m : LogMap) → (state new.store.log.device).keeps_model → Holds state old.store.log k m0 m → (staged old.store.draft.changes m).header d ≢ None
+      → ((head : Header) → (staged old.store.draft.changes m).header d ≡ Some (as_header head) → IsDirectory (staged old.store.draft.changes m) d (as_header head))
+      → (state old.store.log.device).failures < (state new.store.log.device).failures
+
+  -- why there is no answer: a commit failed, or a call of the device did
+  abbrev pub LooksNone : Fs D → Fs D → ℕ → FsError → Type 0
+  LooksNone old new d fault = ((fault ≡ error.Halted) × (old.store.log.halted ≡ true)) ⊎ ((fault ≡ error.Device) × FailsLook old new d)
+
+  -- ---- a new entry of directory d
+
+  -- It takes one of this name.
+  pub record TakesEntry (old new : Fs D) (d : ℕ) (name : List ℕ) (ends : Bool) (head : Header) : Type 0 where
+    pub looks : LooksUp old new d name head None
+    pub named : is_dots name ≡ false
+    pub is_name : IsName 59 name
+    pub plain : ends ≡ false
+    pub room : head.size ≤ 65472
+
+  -- why it doesn't
+  abbrev pub RefusesEntry : Fs D → Fs D → ℕ → List ℕ → Bool → FsError → Type 0
+  RefusesEntry old new d name ends error.Exist = (is_dots name ≡ true) ⊎ ((is_dots name ≡ false) × (length name ≤ 59) × ((head : Header) × ((n : ℕ) × LooksUp old new d name head (Some n))))
+  RefusesEntry old new d name ends error.NameTooLong = (is_dots name ≡ false) × (59 < length name)
+  RefusesEntry old new d name ends error.Inval = (is_dots name ≡ false) × (length name ≤ 59) × (IsName 59 name → ⊥)
+  RefusesEntry old new d name ends error.NoEntry = (is_dots name ≡ false) × (length name ≤ 59) × (ends ≡ true) × ((head : Header) × LooksUp old new d name head None)
+  RefusesEntry old new d name ends error.DirFull = (is_dots name ≡ false) × (length name ≤ 59) × (ends ≡ false) × ((head : Header) × (65472 < head.size) × LooksUp old new d name head None)
+  RefusesEntry old new d name ends error.Halted = old.store.log.halted ≡ true
+  RefusesEntry old new d name ends error.Device = FailsLook old new d
+  RefusesEntry old new d name ends _ = ⊥
+
+  -- ---- a new file
+
+  -- An empty file n is drafted, and then its name in directory d.
+  pub record DraftsNew (old new : Fs D) (d : ℕ) (head : Header) (n : ℕ) (name : List ℕ) : Type 0 where
+    pub between : Changes
+    pub half : Totals
+    pub makes : Makes old.store.draft.changes between n (first_header kind.File 0)
+    pub counts : CountsMade old.store.draft.changes between n old.store.drafted half
+    pub adds : Adds state old.store.log new.store.log between new.store.draft.changes d head n name
+    pub recounts : Counts state old.store.log new.store.log between new.store.draft.changes half new.store.drafted
+
+  -- why it isn't: memory was refused, or a call of the device failed
+  abbrev pub DraftsNone : Fs D → Fs D → FsError → Type 0
+  DraftsNone old new fault = (fault ≡ error.NoMemory) ⊎ ((fault ≡ error.Device) × IsReadFault state old.store.log new.store.log)
+
+  -- A volume with the draft, before it is accepted.
+  pub record IsReady (old mid : Fs D) (d : ℕ) (head : Header) (n : ℕ) (name : List ℕ) : Type 0 where
+    pub still : IsStill state (seen old) (seen mid)
+    pub drafts : DraftsNew old mid d head n name
+
+  -- The file is made.
+  pub record MakesFile (old new : Fs D) (d : ℕ) (head : Header) (n : ℕ) (name : List ℕ) : Type 0 where
+    pub mid : Fs D
+    pub ready : IsReady old mid d head n name
+    pub stages : Stages state mid new
+    pub table : new.handles ≡ mid.handles
+
+  -- It isn't, where it was drafted.
+  pub record TurnsFile (old new : Fs D) (d : ℕ) (head : Header) (n : ℕ) (name : List ℕ) (fault : FsError) : Type 0 where
+    pub mid : Fs D
+    pub ready : IsReady old mid d head n name
+    pub turns : TurnsDown state mid new fault
+    pub table : new.handles ≡ mid.handles
+
+  -- or nothing was
+  abbrev pub MakesNone : Fs D → Fs D → ℕ → Header → ℕ → List ℕ → FsError → Type 0
+  MakesNone old new d head n name fault = TurnsFile old new d head n name fault ⊎ (IsStill state (seen old) (seen new) × DraftsNone old new fault)
+
+  -- A call that makes a file began at volume v, read, and came to the directory of a path's last piece, the root.
+  pub record Reaches (v : Mounted D) (old : Fs D) (path : List ℕ) (d : ℕ) (piece : Option Last) : Type 0 where
+    pub still : IsStill state v (seen old)
+    pub empty : IsNoChange old.store.draft.changes
+    pub drafted : old.store.drafted ≡ old.store.totals
+    pub bytes : AreBytes path
+    pub root : d ≡ 1
+    pub last : HasLast path piece
+    pub walk : (k : CheckpointValue) (m0 m : LogMap) (s : State) → (state old.store.log.device).keeps_model → IsIn state v k m0 m s → Parent s.tree path (At 1)
