@@ -1,9 +1,10 @@
 -- A text is cut at its spaces, and words that have none are found again.
-use Rattle.std.proofs.Common.{◌≡◌, ◌≢◌, ℕ, suc, ◌+◌, ◌<◌, ◌≤◌, true, false, not, ◌==◌, List, [], ◌∷◌, ◌++◌, Option, Some, None, IfSome, Result, Ok, Err, IfOk, is_some, option_copied, Bor, length, take, drop, refl, sym, ap, ◌∙◌, inl, inr, arith}
+use Rattle.std.proofs.Common.{◌≡◌, ◌≢◌, ℕ, suc, ◌+◌, ◌<◌, ◌≤◌, true, false, not, ◌==◌, List, [], ◌∷◌, ◌++◌, Option, Some, None, IfSome, Result, Ok, Err, IfOk, is_some, IsTrue, option_copied, Bor, length, take, drop, refl, sym, ap, ◌∙◌, inl, inr, arith}
 use Rattle.std.specs.List.{position, position_or_len}
 use Rattle.std.proofs.lemmas.Bool.{and_parts, cases_eq, cases_lt, eq-eqb, false≢true, lt-ltb, le-ltb}
 use Rattle.std.proofs.lemmas.Bool.Decides.{nat_tests}
 use Rattle.lfs_model.specs.Call as call
+use Rattle.lfs_model.specs.Run.{has_word}
 use Rattle.lfs_model.specs.Script.{Line, Plain, Fill, InRange, text_of, word}
 use Rattle.lfs_script.specs.Lines.{IsBuilt, IsUnknown, words_of, spaced, onto, cut, words_left}
 use Rattle.lfs_script.specs.Calls.{line_for}
@@ -215,9 +216,9 @@ ok_text (Err f) text words e h = tt
 pub bad_text : (text : List ℕ) (words : List (List ℕ)) → cut text ≡ words → ((line : Line) → IsBuilt line → InRange line → words_of line ≢ words) → IsUnknown text
 bad_text text words e h line built fits same = h line built fits (same_words line text built fits same ∙ e)
 
-pub found_text : (text : List ℕ) (words : List (List ℕ)) → cut text ≡ words → (line : Line) × IsBuilt line × InRange line × (words_of line ≡ words)
-    → (line : Line) × IsBuilt line × InRange line × (text_of line ≡ text)
-found_text text words e h = (h.0, h.1, h.2, same_text h.0 text h.1 (h.3 ∙ sym e))
+pub found_text : (text : List ℕ) (words : List (List ℕ)) → cut text ≡ words → (line : Line) × IsBuilt line × InRange line × IsTrue (has_word line) × (words_of line ≡ words)
+    → (line : Line) × IsBuilt line × InRange line × IsTrue (has_word line) × (text_of line ≡ text)
+found_text text words e h = (h.0, h.1, h.2, h.3, same_text h.0 text h.1 (h.4 ∙ sym e))
 
 -- a text whose first word is no command's
 pub no_command : (word : List ℕ) (rest : List (List ℕ)) → ((command : Command) → command_word command ≢ word) → (line : Line) → IsBuilt line → InRange line → words_of line ≢ word ∷ rest

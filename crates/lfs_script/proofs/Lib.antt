@@ -1,4 +1,6 @@
 pub mod Numbers
+pub mod ScriptBytes
+pub mod ScriptTurns
 pub mod Sent
 pub mod Pieces
 pub mod Digits
@@ -8,3 +10,6 @@ pub mod Spellings
 pub mod Replies
 pub mod Cuts
 pub mod Commands
+pub mod Filling
+pub mod Used
+pub mod InTurn

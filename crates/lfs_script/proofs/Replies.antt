@@ -4,7 +4,7 @@ use Rattle.std.proofs.lemmas.List.{length-map}
 use Rattle.lfs_model.specs.Call.{Rows}
 use Rattle.lfs_model.specs.Script.{ok, reply, row_line}
 use Rattle.lfs_fs.specs.declared.rows.TreeRow.{TreeRow}
-use Rattle.lfs_script.specs.Answers.{row_of}
+use Rattle.lfs_fs.specs.Answers.{row_of}
 
 rows_are : (rows : List TreeRow) → flat_map row_line (map row_of rows) ≡ flat_map (λ row. row_line (row_of row)) rows
 rows_are [] = refl

@@ -6,3 +6,5 @@ pub mod Calls
 pub mod Command
 pub mod Pieces
 pub mod Answers
+pub mod Running
+pub mod Session

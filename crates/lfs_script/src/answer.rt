@@ -1,5 +1,11 @@
 // The answer of a call.
 ghost use Rattle.std.specs.Prelude.{◌≡◌, IfOk, min, replicate};
+ghost use Rattle.lfs_model.specs.Call.{Count, Pwrite};
+ghost use Rattle.lfs_model.specs.Script.{call_of};
+ghost use Rattle.lfs_fs.specs.Seen.{answer_by, seen};
+ghost use Rattle.lfs_fs.specs.Volume.{Serves};
+ghost use Rattle.lfs_script.specs.Answers.{result_of};
+ghost use Rattle.lfs_script.specs.Calls.{line_for};
 
 use crate::call::Call;
 use lfs_device::SectorDevice;
@@ -36,21 +42,23 @@ fn fill<D: SectorDevice>(
     offset: u64,
     len: u32,
     byte: u8,
-) -> Result<u32, FsError> {
-    let Ok(bytes) = filled(alloc, len, byte) else {
-        // Halted is all that this is refused for.
-        fs.space()?;
-        return Err(FsError::NoMemory);
-    };
-    fs.pwrite(handle, offset, bytes.as_slice())
+) -> Result<u32, FsError>
+    ensures { Serves D.SectorDevice.state (seen fs.old) (seen fs.new) (Pwrite handle offset (replicate len byte)) (answer_by Count result) }
+{
+    match filled(alloc, len, byte) {
+        Ok(bytes) => fs.pwrite(handle, offset, bytes.as_slice()),
+        // Halted is all that space is refused for.
+        Err(_) => match fs.space() {
+            Ok(_) => Err(FsError::NoMemory),
+            Err(fault) => Err(fault),
+        },
+    }
 }
 
 /// Makes the call.
-pub fn make<D: SectorDevice>(
-    alloc: Global,
-    fs: &mut Fs<D>,
-    call: &Call,
-) -> Result<Answer, FsError> {
+pub fn make<D: SectorDevice>(alloc: Global, fs: &mut Fs<D>, call: &Call) -> Result<Answer, FsError>
+    ensures { Serves D.SectorDevice.state (seen fs.old) (seen fs.new) (call_of (line_for call.now)) (result_of result) }
+{
     match call {
         Call::Create(path) => fs.create(path.as_slice()).map(Answer::Handle),
         Call::Open(path) => fs.open(path.as_slice()).map(Answer::Handle),

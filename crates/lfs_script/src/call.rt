@@ -1,6 +1,7 @@
 // The call that a line is.
-ghost use Rattle.std.specs.Prelude.{◌≡◌, ◌≢◌, ◌<◌, ◌^◌, ℕ, List, [], ◌∷◌, Err, IfOk, IfErr, OnErr, IsErrOf, codes, decimal, option_copied};
+ghost use Rattle.std.specs.Prelude.{◌≡◌, ◌≢◌, ◌<◌, ◌^◌, ℕ, List, [], ◌∷◌, Err, IfOk, IfErr, OnErr, IsErrOf, IsTrue, codes, decimal, option_copied};
 ghost use Rattle.lfs_model.specs.Bytes.{AreBytes};
+ghost use Rattle.lfs_model.specs.Run.{has_word};
 ghost use Rattle.lfs_model.specs.Script.{Line, InRange, hex, text_of, word};
 ghost use Rattle.lfs_script.specs.Lines.{IsBuilt, IsUnknown, words_of, words_left};
 ghost use Rattle.lfs_script.specs.Calls.{line_for};
@@ -144,7 +145,7 @@ fn call_of(alloc: Global, command: Command, words: Words<'_>) -> Result<Call, Wo
     ensures ok { IfOk result (λ call. words_of (line_for call) ≡ command_word command ∷ words_left (option_copied words.entry.rest)) }
     ensures in_range { IfOk result (λ call. InRange (line_for call)) }
     ensures spelling { result ≡ Err WordFault.Spelling → (line : Line) → IsBuilt line → InRange line → words_of line ≢ command_word command ∷ words_left (option_copied words.entry.rest) }
-    ensures memory { result ≡ Err WordFault.Memory → (line : Line) × IsBuilt line × InRange line × (words_of line ≡ command_word command ∷ words_left (option_copied words.entry.rest)) }
+    ensures memory { result ≡ Err WordFault.Memory → (line : Line) × IsBuilt line × InRange line × IsTrue (has_word line) × (words_of line ≡ command_word command ∷ words_left (option_copied words.entry.rest)) }
 {
     match command {
         Command::Create => Ok(Call::Create(path(alloc, words)?)),
@@ -190,7 +191,7 @@ pub fn parse(alloc: Global, line: &[u8]) -> Result<Call, WordFault>
     ensures ok { IfOk result (λ call. text_of (line_for call) ≡ line.now) }
     ensures in_range { IfOk result (λ call. InRange (line_for call)) }
     ensures spelling { result ≡ Err WordFault.Spelling → IsUnknown line.now }
-    ensures memory { result ≡ Err WordFault.Memory → (asked : Line) × IsBuilt asked × InRange asked × (text_of asked ≡ line.now) }
+    ensures memory { result ≡ Err WordFault.Memory → (asked : Line) × IsBuilt asked × InRange asked × IsTrue (has_word asked) × (text_of asked ≡ line.now) }
 {
     let mut words = Words::of(line);
     let Some(command) = Command::of(words.next()?) else {

@@ -11,6 +11,7 @@ mod number;
 mod piece;
 mod reply;
 mod script;
+mod session;
 mod sink;
 mod source;
 mod word;
@@ -21,6 +22,7 @@ pub use hexadecimal::{put_hex, read_hex};
 pub use number::{put_number, read_u8, read_u32, read_u64};
 pub use reply::put_reply;
 pub use script::{ScriptEnd, run};
+pub use session::{StoppedScript, use_and_stop, use_each, use_volume};
 pub use sink::Stopped;
 pub use word::WordFault;
 

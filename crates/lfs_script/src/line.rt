@@ -1,5 +1,5 @@
 // Lines of a reader.
-ghost use Rattle.std.specs.Prelude.{◌≡◌, ◌≢◌, ◌≤◌, ◌∷◌, ◌++◌, [], All, Ok, vec_capacity, vec_len, IfOk, slice_range};
+ghost use Rattle.std.specs.Prelude.{◌≡◌, ◌≢◌, ◌≤◌, ◌∷◌, ◌++◌, [], All, Ok, vec_capacity, vec_len, OnErr, slice_range};
 ghost use Rattle.std.specs.Io.KnownBytes.{Consumes, IsAtEnd, prepend_known};
 ghost use Rattle.lfs_script.specs.LineEnd.{consumed_by_line, OnTooLong};
 
@@ -33,6 +33,7 @@ pub fn next_line<R: Read>(
     ensures plain { All (λ b. b ≢ 10) line.new.items }
     ensures long { OnTooLong result (λ b. (b ≢ 10) × (vec_len line.new ≡ 140000)) }
     ensures end { result ≡ Ok LineEnd.Input → IsAtEnd (prepend_known (slice_range source.new.chunk.items source.new.start source.new.end) (R.remaining reader.new)) }
+    ensures err { OnErr result (slice_range source.new.chunk.items source.new.start source.new.end ≡ []) }
 {
     line.clear();
     loop {

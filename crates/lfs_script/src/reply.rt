@@ -4,7 +4,8 @@ ghost use Rattle.std.specs.Io.KnownBytes.{Appends};
 ghost use Rattle.lfs_script.specs.Bytes.{AppendsSome};
 ghost use Rattle.lfs_script.specs.Pieces.{piece_text};
 ghost use Rattle.lfs_model.specs.Script.{bad, head_text, kind_name, ok, reply, row_line};
-ghost use Rattle.lfs_script.specs.Answers.{answer_of, result_of, row_of};
+ghost use Rattle.lfs_fs.specs.Answers.{row_of};
+ghost use Rattle.lfs_script.specs.Answers.{answer_of, result_of};
 
 use crate::answer::Answer;
 use crate::piece::{Piece, put_all};

@@ -1,5 +1,10 @@
 // A script from its first line to its end.
-use crate::answer::make;
+ghost use Rattle.std.specs.Prelude.{◌≤◌, length, option_map};
+ghost use Rattle.lfs_fs.specs.Seen.{seen};
+ghost use Rattle.lfs_script.specs.Answers.{result_of};
+ghost use Rattle.lfs_script.specs.Running.{AnswersText, Ends, Finishes, Refuses, Turns};
+
+use crate::answer::{Answer, make};
 use crate::call::parse;
 use crate::line::{LONGEST, LineEnd, next_line};
 use crate::reply::{put_bad, put_reply};
@@ -26,10 +31,28 @@ pub enum ScriptEnd {
 }
 
 // Says that the line is bad.
-fn refuse<W: Write>(writer: &mut W, line: u64) -> ScriptEnd {
+fn refuse<W: Write>(writer: &mut W, line: u64) -> ScriptEnd
+    ensures { Refuses result (W.contents writer.old) (W.contents writer.new) line }
+{
     match put_bad(writer, line) {
         Ok(()) => ScriptEnd::BadLine(line),
         Err(_) => ScriptEnd::Write,
+    }
+}
+
+// Makes a line's call. None where it is bad.
+fn answer_line<D: SectorDevice>(
+    alloc: Global,
+    fs: &mut Fs<D>,
+    line: &[u8],
+) -> Option<Result<Answer, FsError>>
+    requires short { length line.now ≤ 140000 }
+    ensures { AnswersText D.SectorDevice.state (option_map result_of result) (seen fs.old) (seen fs.new) line.now }
+{
+    match parse(alloc, line) {
+        Ok(call) => Some(make(alloc, fs, &call)),
+        Err(WordFault::Memory) => Some(Err(FsError::NoMemory)),
+        Err(WordFault::Spelling) => None,
     }
 }
 
@@ -40,11 +63,12 @@ fn turn<W: Write, D: SectorDevice>(
     fs: &mut Fs<D>,
     line: &[u8],
     count: u64,
-) -> Option<ScriptEnd> {
-    let answer = match parse(alloc, line) {
-        Ok(call) => make(alloc, fs, &call),
-        Err(WordFault::Memory) => Err(FsError::NoMemory),
-        Err(WordFault::Spelling) => return Some(refuse(writer, count)),
+) -> Option<ScriptEnd>
+    requires short { length line.now ≤ 140000 }
+    ensures { Turns D.SectorDevice.state result (W.contents writer.old) (W.contents writer.new) (seen fs.old) (seen fs.new) line.now count }
+{
+    let Some(answer) = answer_line(alloc, fs, line) else {
+        return Some(refuse(writer, count));
     };
     match put_reply(writer, &answer) {
         Ok(()) => None,
@@ -59,11 +83,17 @@ fn finish<W: Write, D: SectorDevice>(
     fs: &mut Fs<D>,
     line: &[u8],
     count: u64,
-) -> ScriptEnd {
+) -> ScriptEnd
+    requires short { length line.now ≤ 140000 }
+    ensures { Finishes D.SectorDevice.state result (W.contents writer.old) (W.contents writer.new) (seen fs.old) (seen fs.new) line.now count }
+{
     if line.is_empty() {
         return ScriptEnd::Done;
     }
-    turn(alloc, writer, fs, line, count).unwrap_or(ScriptEnd::Done)
+    match turn(alloc, writer, fs, line, count) {
+        Some(end) => end,
+        None => ScriptEnd::Done,
+    }
 }
 
 /// Makes the calls of the lines that the reader gives, and writes their replies.
@@ -72,7 +102,9 @@ pub fn run<R: Read, W: Write, D: SectorDevice>(
     reader: &mut R,
     writer: &mut W,
     fs: &mut Fs<D>,
-) -> ScriptEnd {
+) -> ScriptEnd
+    ensures { Ends D.SectorDevice.state result (R.remaining reader.old) (R.remaining reader.new) (W.contents writer.old) (W.contents writer.new) (seen fs.old) (seen fs.new) }
+{
     let Ok(mut line) = Vec::with_capacity(alloc, LONGEST) else {
         return ScriptEnd::Memory;
     };

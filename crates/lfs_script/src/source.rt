@@ -51,11 +51,12 @@ impl Source {
         })
     }
 
-    /// Takes the next byte; `None` is the end of the input.
+    /// Takes the next byte; `None` is the end of the input. After an error nothing that was read is left over.
     pub fn next<R: Read>(&mut self, reader: &mut R) -> Result<Option<u8>, ReadError>
         ensures bytes { Consumes (prepend_known (slice_range self.old.chunk.items self.old.start self.old.end) (R.remaining reader.old))
             (prepend_known (slice_range self.new.chunk.items self.new.start self.new.end) (R.remaining reader.new)) (taken result) }
         ensures end { IfOk result (λ byte. byte ≡ None → IsAtEnd (prepend_known (slice_range self.new.chunk.items self.new.start self.new.end) (R.remaining reader.new))) }
+        ensures err { OnErr result (slice_range self.new.chunk.items self.new.start self.new.end ≡ []) }
     {
         if self.start == self.end {
             return self.refill(reader);
@@ -71,6 +72,7 @@ impl Source {
         ensures bytes { Consumes (R.remaining reader.old)
             (prepend_known (slice_range self.new.chunk.items self.new.start self.new.end) (R.remaining reader.new)) (taken result) }
         ensures end { IfOk result (λ byte. byte ≡ None → IsAtEnd (prepend_known (slice_range self.new.chunk.items self.new.start self.new.end) (R.remaining reader.new))) }
+        ensures err { OnErr result (slice_range self.new.chunk.items self.new.start self.new.end ≡ []) }
     {
         self.start = 0;
         self.end = 0;

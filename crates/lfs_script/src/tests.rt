@@ -278,3 +278,47 @@ fn the_longest_line(rt: HostRuntime) -> Result<(), Fail> {
     }
     Ok(())
 }
+
+// A file of 2,154 blocks that aren't zero has 17 blocks of pointers. With the two inodes and a block of the root the need is
+// 2155 + 7 * 19 + 720, and the limit is 47 * 64.
+#[test]
+fn the_last_block_that_fits(rt: HostRuntime) -> Result<(), Fail> {
+    let alloc = rt.alloc();
+    let mut script = "create /f\n".to_string(alloc)?;
+    let mut replies = "ok 0\n".to_string(alloc)?;
+    for piece in 0..16u32 {
+        let line = format!(in alloc; "fill 0 {} 65536 255\n", 65_536 * piece)?;
+        script.push_str(line.as_str())?;
+        replies.push_str("ok 65536\n")?;
+    }
+    script.push_str(
+        "fill 0 1048576 54272 255\nspace\nfill 0 1102848 1 1\nstat /f\ntruncate 0 0\nspace\n",
+    )?;
+    replies.push_str(
+        "ok 54272\nok 2155 19 3008 3008\nerr NoSpace\nok 2 file 1 1102848\nok\nok 1 2 735 3008\n",
+    )?;
+    let (end, output) = answered(&rt, script.as_str())?;
+    assert_eq!(rt; end, ScriptEnd::Done);
+    assert_eq!(rt; output.as_slice(), replies.as_bytes());
+    Ok(())
+}
+
+#[test]
+fn the_least_handles_and_numbers(rt: HostRuntime) -> Result<(), Fail> {
+    let alloc = rt.alloc();
+    let mut script = "create /a\ncreate /b\ncreate /c\n".to_string(alloc)?;
+    let mut replies = "ok 0\nok 1\nok 2\n".to_string(alloc)?;
+    script.push_str("stat /a\nstat /b\nstat /c\n")?;
+    replies.push_str("ok 2 file 1 0\nok 3 file 1 0\nok 4 file 1 0\n")?;
+    for handle in 3..64u32 {
+        let line = format!(in alloc; "ok {handle}\n")?;
+        script.push_str("open /a\n")?;
+        replies.push_str(line.as_str())?;
+    }
+    script.push_str("open /a\ncreate /x\n")?;
+    replies.push_str("err TooManyOpen\nerr TooManyOpen\n")?;
+    let (end, output) = answered(&rt, script.as_str())?;
+    assert_eq!(rt; end, ScriptEnd::Done);
+    assert_eq!(rt; output.as_slice(), replies.as_bytes());
+    Ok(())
+}

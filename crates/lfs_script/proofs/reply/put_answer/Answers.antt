@@ -3,7 +3,8 @@ use Rattle.std.specs.Io.KnownBytes.{Appends}
 use Rattle.lfs_model.specs.Script.{ok, reply, row_line}
 use Rattle.lfs_fs.specs.declared.rows.TreeRow.{TreeRow}
 use Rattle.lfs_script.specs.Bytes.{AppendsSome}
-use Rattle.lfs_script.specs.Answers.{answer_of, row_of}
+use Rattle.lfs_fs.specs.Answers.{row_of}
+use Rattle.lfs_script.specs.Answers.{answer_of}
 use Rattle.lfs_script.proofs.Replies.{tree_reply}
 use Rattle.lfs_script.proofs.reply.put_answer.Goals as goal
 

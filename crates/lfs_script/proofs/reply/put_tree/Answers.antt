@@ -1,6 +1,6 @@
 use Rattle.std.proofs.Common.{rules, ◌≡◌, ◌∷◌, [], decimal, length, get_or}
 use Rattle.lfs_model.specs.Script.{ok, row_line}
-use Rattle.lfs_script.specs.Answers.{row_of}
+use Rattle.lfs_fs.specs.Answers.{row_of}
 use Rattle.lfs_script.proofs.Pieces.{on_err, some_front}
 use Rattle.lfs_script.proofs.PieceTexts.{after-more, after-some}
 use Rattle.lfs_script.proofs.reply.put_tree.Goals as goal

@@ -1,7 +1,7 @@
 use Rattle.std.proofs.Common.{take, flat_map, ◌++◌, ◌∷◌, [], length, decimal}
 use Rattle.std.specs.Io.KnownBytes.{Appends}
 use Rattle.lfs_model.specs.Script.{ok, row_line}
-use Rattle.lfs_script.specs.Answers.{row_of}
+use Rattle.lfs_fs.specs.Answers.{row_of}
 use Rattle.lfs_script.proofs.reply.put_tree.Given as goal
 
 abbrev pub invariant-loop-row : goal.invariant-loop-row

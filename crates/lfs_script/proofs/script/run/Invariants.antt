@@ -1,5 +1,9 @@
-use Rattle.std.proofs.Common.{◌≤◌, vec_capacity}
+use Rattle.std.proofs.Common.{◌≤◌, slice_range, vec_capacity}
+use Rattle.std.specs.Io.KnownBytes.{prepend_known}
+use Rattle.lfs_fs.specs.Seen.{seen}
+use Rattle.lfs_script.specs.Running.{SoFar}
 use Rattle.lfs_script.proofs.script.run.Given as goal
 
 abbrev pub invariant-loop-count : goal.invariant-loop-count
-invariant-loop-count g l = 140000 ≤ vec_capacity l.line
+invariant-loop-count g l = (140000 ≤ vec_capacity l.line) × SoFar g.D.SectorDevice.state l.count (g.R.Read.remaining l.fn.reader)
+    (prepend_known (slice_range l.source.chunk.items l.source.start l.source.end) (g.R.Read.remaining l.reader)) (g.W.Write.contents l.fn.writer) (g.W.Write.contents l.writer) (seen l.fn.fs) (seen l.fs)

@@ -1,0 +1,213 @@
+-- A fill is the write of all its bytes: what it does where there are too many of them, and where memory for them is refused.
+use Rattle.std.proofs.Common.{◌≡◌, ◌<◌, ◌≤◌, ℕ, Bool, true, List, [], ◌∷◌, length, replicate, refl, sym, ◌∙◌, ap, subst, inl, inr, ⊎_elim, nat_lt, arith, ◌+◌, ◌==◌}
+use Rattle.std.specs.Prelude.{min}
+use Rattle.std.proofs.lemmas.Bool.{cases_lt}
+use Rattle.std.proofs.lemmas.Bool.Decides.{nat_tests}
+use Rattle.std.proofs.lemmas.List.{length-replicate}
+use Rattle.lfs_model.specs.Bytes as bytes
+use Rattle.lfs_model.specs.Call.{Answer, Count, Pwrite, Refuse, Room, Space}
+use Rattle.lfs_model.specs.Device.{DeviceState}
+use Rattle.lfs_model.specs.Refusal.{Refusal, NoEntry, NotDir, IsDir, Exist, NotEmpty, Inval, NameTooLong, Loop, Perm, Busy, BadHandle, TooManyOpen, TooManyLinks, FileTooBig, NoSpace, NoNumber, DirFull, NoMemory, Device, Halted, Stuck, Worn}
+use Rattle.lfs_model.specs.Run.{IsExcused, IsPastLast, Point, StepsOr}
+use Rattle.lfs_model.specs.Step.{Step, bad_handle, checked, file_at, file_bytes, no_space, the_node, when, with_tree, writes}
+use Rattle.lfs_model.specs.Tree.{File, State, Tree, with_node}
+use Rattle.lfs_fs.specs.Volume.{Mounted, Serves}
+
+-- ---- more bytes than a write takes
+
+above : (a b : ℕ) → a < b → nat_lt a b ≡ true
+above a b lt = grind (arith, nat_tests)
+
+module _ (N : ℕ) (s : State) (h off : ℕ) where
+  -- the answer to each such write
+  abbrev refuses : Answer × State
+  refuses = checked s (bad_handle s h ∷ []) (Refuse Inval, s)
+
+  refused : (w : List ℕ) → 65536 < length w → writes N s h off w ≡ refuses
+  refused w long =
+      let t : Tree = with_node s.tree (file_at s h) (File (bytes.put (file_bytes (the_node s.tree (file_at s h))) off w)) in
+      ap (λ (b : Bool). checked s (bad_handle s h ∷ when b Inval ∷ (length w == 0, Count 0) ∷ when (nat_lt 8511488 (off + length w)) FileTooBig ∷ no_space N t ∷ []) (Count (length w), with_tree s t)) (above 65536 (length w) long)
+
+  same_step : (w v : List ℕ) → 65536 < length w → 65536 < length v → (a : Answer) (s' : State) → Step N s (Pwrite h off w) a s' → Step N s (Pwrite h off v) a s'
+  same_step w v long_w long_v a s' step =
+      let same : writes N s h off v ≡ writes N s h off w = refused v long_v ∙ sym (refused w long_w) in record {
+        first_end = step.first_end;
+        second_end = step.second_end;
+        first = step.first;
+        second = step.second;
+        answer = ap (λ (r : Answer × State). r.0) same ∙ step.answer;
+        state = ap (λ (r : Answer × State). r.1) same ∙ step.state;
+      }
+
+module _ (N h off : ℕ) where
+  past_last : (w v : List ℕ) → 65536 < length w → 65536 < length v → (p : Point) → IsPastLast N (Pwrite h off w) p → IsPastLast N (Pwrite h off v) p
+  past_last w v long_w long_v p past = (
+    past.0,
+    ⊎_elim
+        (λ cleaned. inl cleaned)
+        (λ changed. inr (changed.0, (let would = changed.1 in (would.0, would.1, same_step N p.state h off w v long_w long_v would.0 would.1 would.2, would.3))))
+        past.1,
+  )
+
+  module _ (w v : List ℕ) (long_w : 65536 < length w) (long_v : 65536 < length v) (p q : Point) where
+    excused : (r : Refusal) → IsExcused N (Pwrite h off w) p q r → IsExcused N (Pwrite h off v) p q r
+    excused NoMemory e = e
+    excused Device e = e
+    excused Halted e = e
+    excused Stuck e = e
+    excused Worn e = past_last w v long_w long_v p e
+    excused NoEntry e = absurd e
+    excused NotDir e = absurd e
+    excused IsDir e = absurd e
+    excused Exist e = absurd e
+    excused NotEmpty e = absurd e
+    excused Inval e = absurd e
+    excused NameTooLong e = absurd e
+    excused Loop e = absurd e
+    excused Perm e = absurd e
+    excused Busy e = absurd e
+    excused BadHandle e = absurd e
+    excused TooManyOpen e = absurd e
+    excused TooManyLinks e = absurd e
+    excused FileTooBig e = absurd e
+    excused NoSpace e = absurd e
+    excused NoNumber e = absurd e
+    excused DirFull e = absurd e
+
+    same_steps : (a : Answer) → StepsOr N (Pwrite h off w) p a q → StepsOr N (Pwrite h off v) p a q
+    same_steps a steps = ⊎_elim
+        (λ done. inl (same_step N p.state h off w v long_w long_v a q.state done.0, λ past. done.1 (past_last v w long_v long_w p past)))
+        (λ out. inr (out.0, out.1, excused out.0 out.2, out.3))
+        steps
+
+-- ---- where memory is refused
+
+-- a volume whose room is told isn't halted, and is as it was
+room_same : (N : ℕ) (p q : Point) (a : Answer) → StepsOr N Space p a q → q.state ≡ p.state
+room_same N p q a steps = ⊎_elim (λ done. sym done.0.state) (λ out. out.3) steps
+
+module _ (N h off : ℕ) (w : List ℕ) (p q : Point) where
+  -- what is excused where room is asked for is excused where bytes are written
+  excused_write : (r : Refusal) → IsExcused N Space p q r → IsExcused N (Pwrite h off w) p q r
+  excused_write NoMemory e = refl
+  excused_write Device e = (refl, e.1)
+  excused_write Halted e = e
+  excused_write Stuck e = ⊎_elim (λ on. absurd (cc on)) (λ on. absurd (cc on)) e
+  excused_write Worn e = ⊎_elim (λ on. absurd (cc on)) (λ on. absurd (let off = on.0 in cc)) e.1
+  excused_write NoEntry e = absurd e
+  excused_write NotDir e = absurd e
+  excused_write IsDir e = absurd e
+  excused_write Exist e = absurd e
+  excused_write NotEmpty e = absurd e
+  excused_write Inval e = absurd e
+  excused_write NameTooLong e = absurd e
+  excused_write Loop e = absurd e
+  excused_write Perm e = absurd e
+  excused_write Busy e = absurd e
+  excused_write BadHandle e = absurd e
+  excused_write TooManyOpen e = absurd e
+  excused_write TooManyLinks e = absurd e
+  excused_write FileTooBig e = absurd e
+  excused_write NoSpace e = absurd e
+  excused_write NoNumber e = absurd e
+  excused_write DirFull e = absurd e
+
+  -- the model refuses no room
+  none_refused : (r : Refusal) → Step N p.state Space (Refuse r) q.state → ⊥
+  none_refused r step = let e = step.answer in cc
+
+  refused_steps : (r : Refusal) → StepsOr N Space p (Refuse r) q → StepsOr N (Pwrite h off w) p (Refuse r) q
+  refused_steps r steps = ⊎_elim
+      (λ done. absurd (none_refused r done.0))
+      (λ out. inr (out.0, out.1, excused_write out.0 out.2, out.3))
+      steps
+
+no_halt : Refuse NoMemory ≡ Refuse Halted → ⊥
+no_halt e = cc
+
+-- ---- the calls
+
+module _ {D : Type 0} (state : D → DeviceState) (old new : Mounted D) (h off : ℕ) where
+  long_serves : (w v : List ℕ) → 65536 < length w → 65536 < length v → (a : Answer) → Serves state old new (Pwrite h off w) a → Serves state old new (Pwrite h off v) a
+  long_serves w v long_w long_v a serves = record {
+    carries = serves.carries;
+    segments = serves.segments;
+    orderly = serves.orderly;
+    halts = serves.halts;
+    model = λ p keeps at. (
+        let does = serves.model p keeps at in
+        let answers = does.answers in record {
+          next = does.next;
+          at = does.at;
+          answers = record {
+            steps = same_steps _ h off w v long_w long_v p does.next a answers.steps;
+            halted = answers.halted;
+            halts = answers.halts;
+            goes_on = answers.goes_on;
+            failures = answers.failures;
+            number = answers.number;
+          };
+          leaves = does.leaves;
+          saves = does.saves;
+        });
+  }
+
+  -- so many bytes, or as many as are refused
+  pub filled_serves : (len byte : ℕ) (w : List ℕ) → w ≡ replicate (min len 65537) byte → (a : Answer) → Serves state old new (Pwrite h off w) a → Serves state old new (Pwrite h off (replicate len byte)) a
+  filled_serves len byte w is a serves =
+      let cut = subst (λ (v : List ℕ). Serves state old new (Pwrite h off v) a) is serves in
+      ⊎_elim
+      (λ (low : len < 65537). subst (λ (n : ℕ). Serves state old new (Pwrite h off (replicate n byte)) a) (omega (arith, low)) cut)
+      (λ (high : 65537 ≤ len). long_serves (replicate (min len 65537) byte) (replicate len byte)
+      (let long = length-replicate (min len 65537) byte in omega (arith, long, high)) (let long = length-replicate len byte in omega (arith, long, high)) a cut)
+      (cases_lt len 65537)
+
+  -- memory for the bytes is refused, and room is told
+  pub memory_serves : (w : List ℕ) (blocks others need limit : ℕ) → Serves state old new Space (Room blocks others need limit) → Serves state old new (Pwrite h off w) (Refuse NoMemory)
+  memory_serves w blocks others need limit serves = record {
+    carries = serves.carries;
+    segments = serves.segments;
+    orderly = λ e. (let e = (serves.orderly e).0 in absurd (cc));
+    halts = λ e. absurd (no_halt e);
+    model = λ p keeps at. (
+        let does = serves.model p keeps at in
+        let answers = does.answers in record {
+          next = does.next;
+          at = does.at;
+          answers = record {
+            steps = inr (NoMemory, refl, refl, room_same _ p does.next (Room blocks others need limit) answers.steps);
+            halted = λ on. (let e = answers.halted on in absurd (cc));
+            halts = λ e. absurd (no_halt e);
+            goes_on = λ on. (let e = answers.goes_on on in absurd (cc));
+            failures = answers.failures;
+            number = answers.number;
+          };
+          leaves = does.leaves;
+          saves = λ e. absurd (cc);
+        });
+  }
+
+  -- nor is room told
+  pub refused_serves : (w : List ℕ) (r : Refusal) → Serves state old new Space (Refuse r) → Serves state old new (Pwrite h off w) (Refuse r)
+  refused_serves w r serves = record {
+    carries = serves.carries;
+    segments = serves.segments;
+    orderly = serves.orderly;
+    halts = serves.halts;
+    model = λ p keeps at. (
+        let does = serves.model p keeps at in
+        let answers = does.answers in record {
+          next = does.next;
+          at = does.at;
+          answers = record {
+            steps = refused_steps _ h off w p does.next r answers.steps;
+            halted = answers.halted;
+            halts = answers.halts;
+            goes_on = answers.goes_on;
+            failures = answers.failures;
+            number = answers.number;
+          };
+          leaves = does.leaves;
+          saves = does.saves;
+        });
+  }

@@ -1,0 +1,244 @@
+-- How a script goes on by a line, and how it ends.
+use Rattle.std.proofs.Common.{◌≡◌, ◌≢◌, ◌==◌, true, false, ◌+◌, ◌-◌, ◌^◌, ◌<◌, ◌≤◌, inl, inr, ℕ, Option, Some, None, Ok, List, [], ◌∷◌, ◌++◌, length, length-append, refl, sym, ◌∙◌, ap, subst, append_assoc, arith}
+use Rattle.std.specs.Prelude.{IsTrue}
+use Rattle.std.proofs.lemmas.Bool.Decides.{nat_tests}
+use Rattle.std.proofs.lemmas.List.{append-nil}
+use Rattle.std.specs.Io.KnownBytes.{Appends, Consumes, IsAtEnd, prepend_known}
+use Rattle.std.proofs.KnownBytes.{Appends-nil, Appends-trans, Consumes-trans, Keeps-refl, prepend_known-nil}
+use Rattle.lfs_model.specs.Call.{Answer, Refuse}
+use Rattle.lfs_model.specs.Device.{DeviceState}
+use Rattle.lfs_model.specs.Refusal.{NoMemory}
+use Rattle.lfs_model.specs.Run.{has_word}
+use Rattle.lfs_model.specs.Script.{InRange, Line, bad, lines, reply, text_of}
+use Rattle.lfs_fs.specs.Scripts.{RunsLines, ServesLine}
+use Rattle.lfs_fs.specs.Volume.{Mounted}
+use Rattle.lfs_script.specs.Bytes.{AppendsSome}
+use Rattle.lfs_script.specs.LineEnd.{OnTooLong, consumed_by_line}
+use Rattle.lfs_script.specs.declared.line.LineEnd.{LineEnd}
+use Rattle.lfs_script.specs.declared.line.LineEnd.TheVariants.{TooLong}
+use Rattle.lfs_script.specs.declared.source.ReadError.{ReadError}
+use Rattle.lfs_script.specs.Lines.{IsBuilt, IsUnknown}
+use Rattle.lfs_script.specs.Running.{AnswersText, Called, Ends, EndOf, Finishes, IsBadLine, IsBadText, IsText, Refuses, SoFar, Turns, ended_texts, replies}
+use Rattle.lfs_script.specs.declared.script.ScriptEnd.{ScriptEnd}
+use Rattle.lfs_script.specs.declared.script.ScriptEnd.TheVariants.{Done, BadLine, Read, Write, Memory}
+use Rattle.lfs_script.proofs.ScriptBytes.{all_more, last_read, line_read, lines_last, lines_whole, none_read, plain_more, replies_more, some_after, spelled_more, texts_more, with_left}
+
+-- ---- one line
+
+zero_length : (n : ℕ) → true ≡ (n == 0) → n ≡ 0
+zero_length n e = grind (arith, nat_tests)
+
+some_length : (n : ℕ) → false ≡ (n == 0) → 0 < n
+some_length n e = grind (arith, nat_tests)
+
+nothing : (text : List ℕ) → length text ≡ 0 → text ≡ []
+nothing [] e = refl
+nothing (c ∷ text) e = absurd (omega (arith, e))
+
+pub unknown_is_bad : (text : List ℕ) → IsUnknown text → IsBadText text
+unknown_is_bad text unknown line built spells = unknown line built spells.in_range (sym spells.text)
+
+module _ {D : Type 0} (state : D → DeviceState) where
+  -- a line's call is made
+  pub called_text : (old new : Mounted D) (text : List ℕ) (line : Line) (answer : Answer) → length text ≤ 140000 → text_of line ≡ text → InRange line → ServesLine state old new line answer
+      → AnswersText state (Some answer) old new text
+  called_text old new text line answer short is fits serves = (line, record { text = sym is; short = short; in_range = fits }, serves)
+
+  -- memory for a line's word was refused
+  pub without_memory : (old : Mounted D) (text : List ℕ) → length text ≤ 140000 → (line : Line) × IsBuilt line × InRange line × IsTrue (has_word line) × (text_of line ≡ text)
+      → AnswersText state (Some (Refuse NoMemory)) old old text
+  without_memory old text short (line, built, fits, word, is) = called_text old old text line (Refuse NoMemory) short is fits (inr (word, refl, refl))
+
+  -- the last line is none, or goes on, or ends the script
+  pub finish_none : (w : Option (List ℕ)) (v : Mounted D) (text : List ℕ) (n : ℕ) → true ≡ (length text == 0) → Finishes state Done w w v v text n
+  finish_none w v text n e = inl (nothing text (zero_length (length text) e), refl, refl, refl)
+
+  pub finish_done : (w w1 : Option (List ℕ)) (old new : Mounted D) (text : List ℕ) (n : ℕ) → false ≡ (length text == 0) → Turns state None w w1 old new text n → Finishes state Done w w1 old new text n
+  finish_done w w1 old new text n e turns = inr (some_length (length text) e, inl (refl, turns))
+
+  pub finish_end : (end : ScriptEnd) (w w1 : Option (List ℕ)) (old new : Mounted D) (text : List ℕ) (n : ℕ) → false ≡ (length text == 0) → Turns state (Some end) w w1 old new text n → Finishes state end w w1 old new text n
+  finish_end end w w1 old new text n e turns = inr (some_length (length text) e, inr turns)
+
+  -- the line as a slice
+  pub turns_of : (end : Option ScriptEnd) (w w1 : Option (List ℕ)) (old new : Mounted D) (slice text : List ℕ) (n : ℕ) → slice ≡ text → Turns state end w w1 old new slice n → Turns state end w w1 old new text n
+  turns_of end w w1 old new slice text n is turns = subst (λ (t : List ℕ). Turns state end w w1 old new t n) is turns
+
+  pub finishes_of : (end : ScriptEnd) (w w1 : Option (List ℕ)) (old new : Mounted D) (slice text : List ℕ) (n : ℕ) → slice ≡ text → Finishes state end w w1 old new slice n → Finishes state end w w1 old new text n
+  finishes_of end w w1 old new slice text n is finishes = subst (λ (t : List ℕ). Finishes state end w w1 old new t n) is finishes
+
+  pub called : (R : List ℕ → Type 0) (old new : Mounted D) (text : List ℕ) (answer : Answer) → AnswersText state (Some answer) old new text → R (reply answer) → Called state R old new text
+  called R old new text answer (line, spells, serves) replied = record { line = line; answer = answer; spells = spells; serves = serves; replied = replied }
+
+-- how a line ended
+pub line_ended : (a b : Option (List ℕ)) (text : List ℕ) (end is : LineEnd) → end ≡ is → Consumes a b (text ++ consumed_by_line {E = ReadError} (Ok end)) → Consumes a b (text ++ consumed_by_line {E = ReadError} (Ok is))
+line_ended a b text end is e consumes = subst (λ (l : LineEnd). Consumes a b (text ++ consumed_by_line {E = ReadError} (Ok l))) e consumes
+
+pub long_ended : (end : LineEnd) (b : ℕ) (P : ℕ → Type 0) → end ≡ TooLong b → OnTooLong {E = ReadError} (Ok end) P → P b
+long_ended end b P is long = subst (λ (l : LineEnd). OnTooLong {E = ReadError} (Ok l) P) is long
+
+-- ---- a line more, and the ends
+
+module _ {D : Type 0} (state : D → DeviceState) (none : (old : Mounted D) → RunsLines state old old [] [])
+    (more : (old mid new : Mounted D) (script : List Line) (answers : List Answer) (line : Line) (answer : Answer) → RunsLines state old mid script answers → ServesLine state mid new line answer → RunsLines state old new (script ++ line ∷ []) (answers ++ answer ∷ [])) where
+  pub so_far_none : (r w : Option (List ℕ)) (left : List ℕ) (old : Mounted D) → left ≡ [] → SoFar state 1 r (prepend_known left r) w w old old
+  so_far_none r w left old empty = record {
+    texts = [];
+    script = [];
+    answers = [];
+    plain = tt;
+    spelled = tt;
+    run = none old;
+    consumed = none_read r left empty;
+    appended = Appends-nil w;
+    count = refl;
+  }
+
+  pub no_room : (r w : Option (List ℕ)) (old : Mounted D) → Ends state Memory r r w w old old
+  no_room r w old = record {
+    texts = [];
+    script = [];
+    answers = [];
+    spelled = tt;
+    run = none old;
+    bytes = (Keeps-refl r, Keeps-refl w, refl);
+  }
+
+  pub so_far_more : (n : ℕ) (r mid left w w1 w2 : Option (List ℕ)) (old now new : Mounted D) (text : List ℕ) → SoFar state n r mid w w1 old now → IsText text → Consumes mid left (text ++ 10 ∷ [])
+      → Turns state None w1 w2 now new text n → SoFar state (n + 1) r left w w2 old new
+  so_far_more n r mid left w w1 w2 old now new text so plain consumes call = record {
+    texts = so.texts ++ text ∷ [];
+    script = so.script ++ call.line ∷ [];
+    answers = so.answers ++ call.answer ∷ [];
+    plain = all_more so.texts text so.plain plain;
+    spelled = spelled_more so.texts so.script text call.line so.spelled call.spells;
+    run = more old now new so.script so.answers call.line call.answer so.run call.serves;
+    consumed = subst (Consumes r left) (sym (texts_more so.texts text)) (Consumes-trans r mid left (ended_texts so.texts) (text ++ 10 ∷ []) so.consumed consumes);
+    appended = subst (Appends w w2) (sym (replies_more so.answers call.answer)) (Appends-trans w w1 w2 (replies so.answers) (reply call.answer) so.appended call.replied);
+    count = (let l = length-append so.texts (text ∷ []) in let c = so.count in omega (arith, l, c));
+  }
+
+  -- a reply that went out in part
+  reply_stops : (n : ℕ) (r mid now w w1 w2 : Option (List ℕ)) (old at new : Mounted D) (text input rest : List ℕ) (so : SoFar state n r mid w w1 old at) → Called state (AppendsSome w1 w2) at new text
+      → lines input ≡ so.texts ++ text ∷ [] → Consumes r now (input ++ rest) → Ends state Write r now w w2 old new
+  reply_stops n r mid now w w1 w2 old at new text input rest so call cut consumes = record {
+    texts = so.texts ++ text ∷ [];
+    script = so.script ++ call.line ∷ [];
+    answers = so.answers ++ call.answer ∷ [];
+    spelled = spelled_more so.texts so.script text call.line so.spelled call.spells;
+    run = more old at new so.script so.answers call.line call.answer so.run call.serves;
+    bytes = inl (record {
+      input = input;
+      more = rest;
+      before = so.answers;
+      last = call.answer;
+      cut = cut;
+      read = consumes;
+      all = refl;
+      written = some_after w w1 w2 (replies so.answers) (reply call.answer) so.appended call.replied;
+    });
+  }
+
+  -- an end at which no call is made
+  stays : (end : ScriptEnd) (n : ℕ) (r mid now w w1 w2 : Option (List ℕ)) (old at new : Mounted D) (so : SoFar state n r mid w w1 old at) → new ≡ at → EndOf end r now w w2 so.texts so.answers → Ends state end r now w w2 old new
+  stays end n r mid now w w1 w2 old at new so same bytes = record {
+    texts = so.texts;
+    script = so.script;
+    answers = so.answers;
+    spelled = so.spelled;
+    run = subst (λ (v : Mounted D). RunsLines state old v so.script so.answers) (sym same) so.run;
+    bytes = bytes;
+  }
+
+  -- a bad line
+  bad_ends : (end : ScriptEnd) (n : ℕ) (r mid now w w1 w2 : Option (List ℕ)) (old at new : Mounted D) (text rest : List ℕ) (so : SoFar state n r mid w w1 old at) → new ≡ at → IsBadLine text rest now
+      → Consumes r now (ended_texts so.texts ++ (text ++ rest)) → Refuses end w1 w2 n → Ends state end r now w w2 old new
+  bad_ends Done n r mid now w w1 w2 old at new text rest so same line consumes refuses = absurd refuses
+  bad_ends Read n r mid now w w1 w2 old at new text rest so same line consumes refuses = absurd refuses
+  bad_ends Memory n r mid now w w1 w2 old at new text rest so same line consumes refuses = absurd refuses
+  bad_ends (BadLine m) n r mid now w w1 w2 old at new text rest so same line consumes (is, appends) =
+      stays (BadLine m) n r mid now w w1 w2 old at new so same
+      (is ∙ sym so.count, text, rest, line, consumes, Appends-trans w w1 w2 (replies so.answers) (bad m) so.appended (subst (λ k. Appends w1 w2 (bad k)) (sym is) appends))
+  bad_ends Write n r mid now w w1 w2 old at new text rest so same line consumes appends =
+      stays Write n r mid now w w1 w2 old at new so same
+      (inr (record {
+        text = text;
+        more = rest;
+        line = line;
+        read = consumes;
+        written = some_after w w1 w2 (replies so.answers) (bad (length so.texts + 1)) so.appended (subst (λ k. AppendsSome w1 w2 (bad k)) (sym so.count) appends);
+      }))
+
+  -- a line with its newline, which is the last
+  pub turned_end : (end : ScriptEnd) (n : ℕ) (r mid now w w1 w2 : Option (List ℕ)) (old at new : Mounted D) (text left : List ℕ) → SoFar state n r mid w w1 old at → IsText text
+      → Consumes mid (prepend_known left now) (text ++ 10 ∷ []) → Turns state (Some end) w1 w2 at new text n → Ends state end r now w w2 old new
+  turned_end end n r mid now w w1 w2 old at new text left so plain consumes (inl (is, call)) =
+      let whole = subst (Consumes r (prepend_known left now)) (sym (texts_more so.texts text)) (Consumes-trans r mid (prepend_known left now) (ended_texts so.texts) (text ++ 10 ∷ []) so.consumed consumes) in
+      subst (λ (e : ScriptEnd). Ends state e r now w w2 old new) (sym is)
+      (reply_stops n r mid now w w1 w2 old at new text (ended_texts (so.texts ++ text ∷ [])) left so call (lines_whole (so.texts ++ text ∷ []) (all_more so.texts text so.plain plain))
+      (with_left r now left (ended_texts (so.texts ++ text ∷ [])) whole))
+  turned_end end n r mid now w w1 w2 old at new text left so plain consumes (inr (unspelled, refuses, same)) =
+      bad_ends end n r mid now w w1 w2 old at new text (10 ∷ left) so same (record { plain = plain; is_bad = inr (unspelled, inl (left, refl)) })
+      (line_read r mid now (ended_texts so.texts) text (10 ∷ []) left so.consumed consumes) refuses
+
+  -- a line that is too long
+  pub too_long : (end : ScriptEnd) (n : ℕ) (r mid now w w1 w2 : Option (List ℕ)) (old at : Mounted D) (text left : List ℕ) (b : ℕ) → SoFar state n r mid w w1 old at → IsText text → b ≢ 10 → length text ≡ 140000
+      → Consumes mid (prepend_known left now) (text ++ b ∷ []) → Refuses end w1 w2 n → Ends state end r now w w2 old at
+  too_long end n r mid now w w1 w2 old at text left b so plain apart long consumes refuses =
+      bad_ends end n r mid now w w1 w2 old at at (text ++ b ∷ []) left so refl
+      (record { plain = plain_more text b plain apart; is_bad = inl (let l = length-append text (b ∷ []) in omega (arith, l, long)) })
+      (subst (Consumes r now) (append_assoc (ended_texts so.texts) (text ++ b ∷ []) left)
+      (with_left r now left (ended_texts so.texts ++ (text ++ b ∷ [])) (Consumes-trans r mid (prepend_known left now) (ended_texts so.texts) (text ++ b ∷ []) so.consumed consumes)))
+      refuses
+
+  -- a read that failed
+  pub read_fails : (n : ℕ) (r mid now w w1 : Option (List ℕ)) (old at : Mounted D) (text left : List ℕ) → SoFar state n r mid w w1 old at → IsText text
+      → Consumes mid (prepend_known left now) (text ++ []) → left ≡ [] → Ends state Read r now w w1 old at
+  read_fails n r mid now w w1 old at text left so plain consumes empty =
+      let read : Consumes mid now text = subst (Consumes mid now) (append-nil text) (subst (λ o. Consumes mid o (text ++ [])) (ap (λ l. prepend_known l now) empty ∙ prepend_known-nil now) consumes) in
+      stays Read n r mid now w w1 w1 old at at so refl (text, inl plain, Consumes-trans r mid now (ended_texts so.texts) text so.consumed read, so.appended)
+
+  -- as many lines as have a number
+  pub numbers_end : (n : ℕ) (r now w w1 : Option (List ℕ)) (old at : Mounted D) (left : List ℕ) → SoFar state n r (prepend_known left now) w w1 old at → 2 ^ 64 - 1 ≤ n → Ends state Read r now w w1 old at
+  numbers_end n r now w w1 old at left so last =
+      stays Read n r (prepend_known left now) now w w1 w1 old at at so refl
+      (left, inr (let c = so.count in omega (arith, c, last)), with_left r now left (ended_texts so.texts) so.consumed, so.appended)
+
+  -- the end of the input
+  pub finished : (end : ScriptEnd) (n : ℕ) (r mid now w w1 w2 : Option (List ℕ)) (old at new : Mounted D) (text left : List ℕ) → SoFar state n r mid w w1 old at → IsText text
+      → Consumes mid (prepend_known left now) (text ++ []) → IsAtEnd (prepend_known left now) → Finishes state end w1 w2 at new text n → Ends state end r now w w2 old new
+  finished end n r mid now w w1 w2 old at new text left so plain consumes ended (inl (empty, is, still, same)) =
+      let read = last_read r mid now (ended_texts so.texts) text left so.consumed consumes ended in
+      subst (λ (e : ScriptEnd). Ends state e r now w w2 old new) (sym is)
+      (stays Done n r mid now w w1 w2 old at new so same (
+        ended_texts so.texts,
+        subst (Consumes r now) (ap (λ t. ended_texts so.texts ++ t) empty ∙ append-nil (ended_texts so.texts)) read.0,
+        read.1,
+        lines_whole so.texts so.plain,
+        subst (λ o. Appends w o (replies so.answers)) (sym still) so.appended,
+      ))
+  finished end n r mid now w w1 w2 old at new text left so plain consumes ended (inr (some, inl (is, call))) =
+      let read = last_read r mid now (ended_texts so.texts) text left so.consumed consumes ended in
+      subst (λ (e : ScriptEnd). Ends state e r now w w2 old new) (sym is)
+      (record {
+        texts = so.texts ++ text ∷ [];
+        script = so.script ++ call.line ∷ [];
+        answers = so.answers ++ call.answer ∷ [];
+        spelled = spelled_more so.texts so.script text call.line so.spelled call.spells;
+        run = more old at new so.script so.answers call.line call.answer so.run call.serves;
+        bytes = (
+          ended_texts so.texts ++ text,
+          read.0,
+          read.1,
+          lines_last so.texts text so.plain plain some,
+          subst (Appends w w2) (sym (replies_more so.answers call.answer)) (Appends-trans w w1 w2 (replies so.answers) (reply call.answer) so.appended call.replied),
+        );
+      })
+  finished end n r mid now w w1 w2 old at new text left so plain consumes ended (inr (some, inr (inl (is, call)))) =
+      let read = last_read r mid now (ended_texts so.texts) text left so.consumed consumes ended in
+      subst (λ (e : ScriptEnd). Ends state e r now w w2 old new) (sym is)
+      (reply_stops n r mid now w w1 w2 old at new text (ended_texts so.texts ++ text) [] so call (lines_last so.texts text so.plain plain some)
+      (subst (Consumes r now) (sym (append-nil (ended_texts so.texts ++ text))) read.0))
+  finished end n r mid now w w1 w2 old at new text left so plain consumes ended (inr (some, inr (inr (unspelled, refuses, same)))) =
+      let read = last_read r mid now (ended_texts so.texts) text left so.consumed consumes ended in
+      bad_ends end n r mid now w w1 w2 old at new text [] so same (record { plain = plain; is_bad = inr (unspelled, inr (refl, some, read.1)) })
+      (subst (λ t. Consumes r now (ended_texts so.texts ++ t)) (sym (append-nil text)) read.0) refuses

@@ -1,0 +1,103 @@
+// Whole uses of a volume.
+ghost use Rattle.std.specs.Prelude.{◌≡◌, List, IfOk, IfErr, OnOk, OnErr};
+ghost use Rattle.lfs_model.specs.Call.{Answer, Call};
+ghost use Rattle.lfs_model.specs.Device.{AllLeft, Carries, IsUntouched, LeavesOnly, Only};
+ghost use Rattle.lfs_model.specs.Run.{Point};
+ghost use Rattle.lfs_model.specs.Volume.{LeavesPrefix};
+ghost use Rattle.lfs_device.specs.MemoryDevice.{device_state};
+ghost use Rattle.lfs_fs.specs.Mounting.{IsMountFault};
+ghost use Rattle.lfs_script.specs.Session.{Session, StopsAtMount, UsesInTurn, texts_of};
+
+use crate::script::{ScriptEnd, run};
+use lfs_device::{Left, MemDevice, SectorDevice};
+use lfs_fs::{Fs, MountFault};
+use std::alloc::Global;
+use std::io::{Read, Write};
+
+/// Mounts what a stop may have left, runs a script on it, and gives the device back. What wasn't saved is gone.
+pub fn use_volume<R: Read, W: Write, D: SectorDevice>(
+    alloc: Global,
+    reader: &mut R,
+    writer: &mut W,
+    device: D,
+) -> (Result<ScriptEnd, MountFault>, D)
+    ensures ran { IfOk result.0 (λ end. (before : List Point) (calls : List Call) (given : List Answer) → (D.state result.1).keeps_model → LeavesPrefix (D.state device) before calls given
+        → Session end (R.remaining reader.old) (R.remaining reader.new) (W.contents writer.old) (W.contents writer.new) (D.state device) (D.state result.1) before calls given) }
+    ensures refused { IfErr result.0 (λ fault. (fault ≡ MountFault.NoMemory → ⊥) → IsMountFault D.SectorDevice.state device result.1) }
+    ensures untouched { OnErr result.0 (IsUntouched (D.state device) (D.state result.1)) }
+    ensures any_moment { OnErr result.0 (LeavesOnly (D.state device) (D.state result.1) (D.state device).may_leave) }
+    ensures unread { OnErr result.0 (reader.new ≡ reader.old) }
+    ensures unwritten { OnErr result.0 (writer.new ≡ writer.old) }
+    ensures carries { Carries (D.state device) (D.state result.1) }
+{
+    match Fs::mount(alloc, device) {
+        Ok(fs) => {
+            let mut fs = fs;
+            let end = run(alloc, reader, writer, &mut fs);
+            (Ok(end), fs.into_device())
+        }
+        Err((fault, device)) => (Err(fault), device),
+    }
+}
+
+/// As `use_volume` on a device in memory, which stops then: `left` is what it leaves of each sector that wasn't synced.
+pub fn use_and_stop<R: Read, W: Write>(
+    alloc: Global,
+    reader: &mut R,
+    writer: &mut W,
+    device: MemDevice,
+    left: Left,
+) -> (Result<ScriptEnd, MountFault>, MemDevice)
+    ensures ran { IfOk result.0 (λ end. (before : List Point) (calls : List Call) (given : List Answer) → LeavesPrefix (device_state device) before calls given
+        → Session end (R.remaining reader.old) (R.remaining reader.new) (W.contents writer.old) (W.contents writer.new) (device_state device) (device_state result.1) before calls given) }
+    ensures refused { IfErr result.0 (λ fault. (fault ≡ MountFault.NoMemory → ⊥) → IsMountFault device_state device result.1) }
+    ensures left_before { OnErr result.0 (AllLeft (device_state result.1) (device_state device).may_leave) }
+    ensures any_moment { OnErr result.0 (LeavesOnly (device_state device) (device_state result.1) (device_state device).may_leave) }
+    ensures unread { OnErr result.0 (reader.new ≡ reader.old) }
+    ensures unwritten { OnErr result.0 (writer.new ≡ writer.old) }
+    ensures alone { Only (device_state result.1).content (device_state result.1) }
+    ensures carries { Carries (device_state device) (device_state result.1) }
+{
+    match use_volume(alloc, reader, writer, device) {
+        (Ok(end), used) => {
+            let mut stopped = used;
+            stopped.crash(left);
+            (Ok(end), stopped)
+        }
+        (Err(fault), unused) => {
+            let mut stopped = unused;
+            stopped.crash(left);
+            (Err(fault), stopped)
+        }
+    }
+}
+
+/// A script, and what the stop at its end leaves of each sector that wasn't synced.
+#[derive(Drop)]
+pub struct StoppedScript {
+    pub script: Vec<u8>,
+    pub left: Left,
+}
+
+/// Uses a volume by each of the scripts in turn, on what the stop before it left. The first mount that fails is the last.
+pub fn use_each<W: Write>(
+    alloc: Global,
+    scripts: &[StoppedScript],
+    writer: &mut W,
+    device: MemDevice,
+) -> (Result<(), MountFault>, MemDevice)
+    ensures ran { OnOk result.0 ((before : List Point) (calls : List Call) (given : List Answer) → LeavesPrefix (device_state device) before calls given
+        → UsesInTurn device_state (texts_of scripts.now) (record { written = W.contents writer.old; device = device; points = before; calls = calls; given = given }) (W.contents writer.new) result.1) }
+    ensures stopped { IfErr result.0 (λ fault. (before : List Point) (calls : List Call) (given : List Answer) → LeavesPrefix (device_state device) before calls given
+        → StopsAtMount device_state (texts_of scripts.now) (fault ≡ MountFault.NoMemory) (record { written = W.contents writer.old; device = device; points = before; calls = calls; given = given }) (W.contents writer.new) result.1) }
+{
+    let mut current = device;
+    for script in scripts {
+        let mut reader = script.script.as_slice();
+        match use_and_stop(alloc, &mut reader, writer, current, script.left) {
+            (Ok(_), next) => current = next,
+            (Err(fault), last) => return (Err(fault), last),
+        }
+    }
+    (Ok(()), current)
+}
