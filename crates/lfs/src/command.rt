@@ -2,9 +2,12 @@
 ghost use Rattle.std.specs.Prelude.{◌≡◌, ◌≤◌, IfOk};
 
 use crate::fault::{Fault, Refusal};
-use crate::image;
 use crate::request::{Request, read_request};
-use lfs_script::{Answer, ScriptEnd, put_reply, read_u32};
+use crate::simulation::{Plan, read_plan};
+use crate::{image, simulation};
+use lfs_device::SectorDevice;
+use lfs_fs::Fs;
+use lfs_script::{Answer, ScriptEnd, put_reply, read_u32, use_and_stop, use_volume};
 use std::alloc::{AllocError, Global};
 use std::fs::File;
 use std::io::{Read, Write};
@@ -64,18 +67,10 @@ fn mkfs<R: Files<File = File>, W: Write>(
     }
 }
 
-fn mount<R: Files<File = File>, W: Write>(
-    rt: &R,
-    alloc: Global,
-    image: &str,
-    output: &mut W,
-) -> Result<u8, Fault>
+// Prints a volume's tree.
+fn show<D: SectorDevice, W: Write>(fs: &mut Fs<D>, output: &mut W) -> Result<u8, Fault>
     ensures { IfOk result (λ status. status ≤ 2) }
 {
-    let mut fs = match image::mount(rt, alloc, image) {
-        Ok(fs) => fs,
-        Err(refusal) => return refuse(output, refusal),
-    };
     match fs.tree() {
         Ok(rows) => {
             let Ok(()) = put_reply(output, &Ok(Answer::Tree(rows))) else {
@@ -88,6 +83,33 @@ fn mount<R: Files<File = File>, W: Write>(
     }
 }
 
+fn mount<R: Files<File = File>, W: Write>(
+    rt: &R,
+    alloc: Global,
+    image: &str,
+    output: &mut W,
+) -> Result<u8, Fault>
+    ensures { IfOk result (λ status. status ≤ 2) }
+{
+    match image::mount(rt, alloc, image) {
+        Ok(mut fs) => show(&mut fs, output),
+        Err(refusal) => refuse(output, refusal),
+    }
+}
+
+// The exit status of a script that ended so.
+fn status_of(end: ScriptEnd) -> Result<u8, Fault>
+    ensures { IfOk result (λ status. status ≤ 2) }
+{
+    match end {
+        ScriptEnd::Done => Ok(DONE),
+        ScriptEnd::BadLine(_) => Ok(BAD_LINE),
+        ScriptEnd::Read => Err(Fault::Input),
+        ScriptEnd::Write => Err(Fault::Output),
+        ScriptEnd::Memory => Err(Fault::Memory(AllocError)),
+    }
+}
+
 fn run<R: Files<File = File>, I: Read, W: Write>(
     rt: &R,
     alloc: Global,
@@ -97,19 +119,45 @@ fn run<R: Files<File = File>, I: Read, W: Write>(
 ) -> Result<u8, Fault>
     ensures { IfOk result (λ status. status ≤ 2) }
 {
-    let mut fs = match image::mount(rt, alloc, image) {
-        Ok(fs) => fs,
+    let device = match image::open(rt, image) {
+        Ok(device) => device,
         Err(refusal) => return refuse(output, refusal),
     };
-    let status = match lfs_script::run(alloc, input, output, &mut fs) {
-        ScriptEnd::Done => DONE,
-        ScriptEnd::BadLine(_) => BAD_LINE,
-        ScriptEnd::Read => return Err(Fault::Input),
-        ScriptEnd::Write => return Err(Fault::Output),
-        ScriptEnd::Memory => return Err(Fault::Memory(AllocError)),
+    match use_volume(alloc, input, output, device) {
+        (Ok(end), _) => {
+            let status = status_of(end)?;
+            flush(output)?;
+            Ok(status)
+        }
+        (Err(fault), _) => refuse(output, Refusal::from(fault)),
+    }
+}
+
+// Runs a script on a volume in memory, prints the number of writes, and the tree after a stop.
+fn sim<I: Read, W: Write>(
+    alloc: Global,
+    plan: Plan,
+    input: &mut I,
+    output: &mut W,
+) -> Result<u8, Fault>
+    ensures { IfOk result (λ status. status ≤ 2) }
+{
+    let device = match simulation::start(alloc, plan) {
+        Ok(device) => device,
+        Err(refusal) => return refuse(output, refusal),
     };
-    flush(output)?;
-    Ok(status)
+    let (used, device) = use_and_stop(alloc, input, output, device, plan.left);
+    let played = match used {
+        Ok(end) => status_of(end)?,
+        Err(fault) => return refuse(output, Refusal::from(fault)),
+    };
+    let writes = format!(in alloc; "writes {}\n", device.writes())?;
+    print(output, writes.as_str())?;
+    let shown = match simulation::mount(alloc, device) {
+        Ok(mut fs) => show(&mut fs, output)?,
+        Err(refusal) => refuse(output, refusal)?,
+    };
+    Ok(played.max(shown))
 }
 
 fn answer<R: Files<File = File>, I: Read, W: Write>(
@@ -129,6 +177,11 @@ fn answer<R: Files<File = File>, I: Read, W: Write>(
         Request::Mkfs { image, segments } => mkfs(rt, image, segments, output),
         Request::Mount { image } => mount(rt, alloc, image, output),
         Request::Run { image } => run(rt, alloc, image, input, output),
+        Request::Sim {
+            segments,
+            stop,
+            left,
+        } => sim(alloc, read_plan(segments, stop, left)?, input, output),
     }
 }
 

@@ -39,6 +39,10 @@ pub enum Fault {
     Line(String),
     #[error("lfs: the number of segments is no decimal number below 2^32")]
     Segments,
+    #[error("lfs: the write to stop at is no decimal number below 2^64")]
+    Stop,
+    #[error("lfs: what a stop leaves is none of old, new and bad")]
+    Left,
     #[error("lfs: standard input can't be read")]
     Input,
     #[error("lfs: standard output can't be written")]
@@ -53,7 +57,7 @@ impl Fault {
         ensures { (result ≡ 1) ⊎ (result ≡ 2) }
     {
         match self {
-            Fault::Line(_) | Fault::Segments => 2,
+            Fault::Line(_) | Fault::Segments | Fault::Stop | Fault::Left => 2,
             Fault::Input | Fault::Output | Fault::Memory(_) => 1,
         }
     }

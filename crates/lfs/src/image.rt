@@ -10,7 +10,7 @@ use std::fs::File;
 use std::rt::Files;
 
 /// Whether a volume may have this many segments.
-fn is_segment_count(segments: u32) -> bool
+pub fn is_segment_count(segments: u32) -> bool
     ensures { IsTrue result ↔ IsSegmentCount segments }
 {
     64 <= segments && segments <= 1024 && segments % 8 == 0
@@ -39,19 +39,24 @@ pub fn make<R: Files<File = File>>(rt: &R, image: &str, segments: u32) -> Result
     format(&mut device, segments).map_err(Refusal::Format)
 }
 
-/// Mounts the volume of an image.
-pub fn mount<R: Files<File = File>>(
-    rt: &R,
-    alloc: Global,
-    image: &str,
-) -> Result<Fs<FileDevice>, Refusal> {
+/// The device of an image.
+pub fn open<R: Files<File = File>>(rt: &R, image: &str) -> Result<FileDevice, Refusal> {
     let Ok(file) = File::options().read(true).write(true).open(rt, image) else {
         return Err(Refusal::Image);
     };
     let Ok(device) = FileDevice::new(file) else {
         return Err(Refusal::Image);
     };
-    match Fs::mount(alloc, device) {
+    Ok(device)
+}
+
+/// Mounts the volume of an image.
+pub fn mount<R: Files<File = File>>(
+    rt: &R,
+    alloc: Global,
+    image: &str,
+) -> Result<Fs<FileDevice>, Refusal> {
+    match Fs::mount(alloc, open(rt, image)?) {
         Ok(fs) => Ok(fs),
         Err((fault, _)) => Err(Refusal::from(fault)),
     }

@@ -5,6 +5,7 @@ mod command;
 mod fault;
 mod image;
 mod request;
+mod simulation;
 #[cfg(test)]
 mod tests;
 

@@ -8,9 +8,21 @@ use std::alloc::{AllocError, Global};
 #[derive(Debug, Drop, PartialEq, Eq)]
 pub enum Request<'a> {
     Help(String),
-    Mkfs { image: &'a str, segments: &'a str },
-    Mount { image: &'a str },
-    Run { image: &'a str },
+    Mkfs {
+        image: &'a str,
+        segments: &'a str,
+    },
+    Mount {
+        image: &'a str,
+    },
+    Run {
+        image: &'a str,
+    },
+    Sim {
+        segments: &'a str,
+        stop: &'a str,
+        left: &'a str,
+    },
 }
 
 fn image<'a>(alloc: Global) -> Arg<'a> {
@@ -19,12 +31,25 @@ fn image<'a>(alloc: Global) -> Arg<'a> {
         .action(ArgAction::Set)
 }
 
-fn mkfs<'a>(alloc: Global) -> Result<Command<'a>, AllocError> {
-    let segments = Arg::new(alloc, "segments")
-        .long("segments")
+// An option that has to be given, with a value.
+fn option<'a>(alloc: Global, name: &'a str) -> Arg<'a> {
+    Arg::new(alloc, name)
+        .long(name)
         .required(true)
-        .action(ArgAction::Set);
-    Command::new(alloc, "mkfs").arg(image(alloc))?.arg(segments)
+        .action(ArgAction::Set)
+}
+
+fn mkfs<'a>(alloc: Global) -> Result<Command<'a>, AllocError> {
+    Command::new(alloc, "mkfs")
+        .arg(image(alloc))?
+        .arg(option(alloc, "segments"))
+}
+
+fn sim<'a>(alloc: Global) -> Result<Command<'a>, AllocError> {
+    Command::new(alloc, "sim")
+        .arg(option(alloc, "segments"))?
+        .arg(option(alloc, "stop"))?
+        .arg(option(alloc, "left"))
 }
 
 // A subcommand on an image, with no option.
@@ -36,23 +61,33 @@ fn program<'a>(alloc: Global) -> Result<Command<'a>, AllocError> {
     let mkfs = mkfs(alloc)?;
     let mount = plain(alloc, "mount")?;
     let run = plain(alloc, "run")?;
+    let sim = sim(alloc)?;
     Command::new(alloc, "lfs")
         .subcommand_required(true)
         .disable_help_subcommand(true)
         .subcommand(mkfs)?
         .subcommand(mount)?
-        .subcommand(run)
+        .subcommand(run)?
+        .subcommand(sim)
 }
 
 fn asked<'a>(name: &str, found: &ArgMatches<'a>) -> Option<Request<'a>> {
-    let image = found.get_str("IMAGE")?;
     match name {
         "mkfs" => Some(Request::Mkfs {
-            image,
+            image: found.get_str("IMAGE")?,
             segments: found.get_str("segments")?,
         }),
-        "mount" => Some(Request::Mount { image }),
-        "run" => Some(Request::Run { image }),
+        "mount" => Some(Request::Mount {
+            image: found.get_str("IMAGE")?,
+        }),
+        "run" => Some(Request::Run {
+            image: found.get_str("IMAGE")?,
+        }),
+        "sim" => Some(Request::Sim {
+            segments: found.get_str("segments")?,
+            stop: found.get_str("stop")?,
+            left: found.get_str("left")?,
+        }),
         _ => None,
     }
 }

@@ -1,4 +1,5 @@
 use crate::command::command;
+use lfs_script::read_u64;
 use std::alloc::{AllocError, Global};
 use std::fs;
 use std::fs::File;
@@ -353,7 +354,13 @@ fn a_wrong_number_of_segments(rt: HostRuntime) -> Result<(), Fail> {
 
 #[test]
 fn help_is_printed(rt: HostRuntime) -> Result<(), Fail> {
-    for line in ["lfs --help", "lfs -h", "lfs mkfs --help", "lfs run -h"] {
+    for line in [
+        "lfs --help",
+        "lfs -h",
+        "lfs mkfs --help",
+        "lfs run -h",
+        "lfs sim -h",
+    ] {
         let found = execute(&rt, line, "")?;
         assert_eq!(rt; found.status, 0, "{line}");
         assert!(rt; !found.output.is_empty(), "{line}");
@@ -371,5 +378,100 @@ fn a_line_that_is_too_long(rt: HostRuntime) -> Result<(), Fail> {
     let after = fs::read(&rt, "e.img")?;
     assert!(rt; before == after);
     fs::remove_file(&rt, "e.img")?;
+    Ok(())
+}
+
+// The number in the line that tells the writes.
+fn writes_of(output: &[u8]) -> Option<u64> {
+    let text = str::from_utf8(output).ok()?;
+    for line in text.split('\n') {
+        if let Some(word) = line.strip_prefix("writes ") {
+            return read_u64(word.as_bytes());
+        }
+    }
+    None
+}
+
+const ONE_FILE: &str = "create /a\nsync\n";
+
+// Wants that a stop at this write leaves this tree.
+fn want_stop<R: Abort + Files<File = File> + AllocGlobal>(
+    rt: &R,
+    write: u64,
+    left: &str,
+    tree: &str,
+) -> Result<(), Fail> {
+    let alloc = rt.alloc();
+    let line = format!(in alloc; "lfs sim --segments 64 --stop {write} --left {left}")?;
+    let reply = format!(in alloc;
+        "ok 0\nerr Halted\nwrites {}\n{tree}",
+        write.saturating_add(1)
+    )?;
+    want(rt, line.as_str(), ONE_FILE, 0, reply.as_str())
+}
+
+#[test]
+fn a_stop_at_each_write(rt: HostRuntime) -> Result<(), Fail> {
+    let line = "lfs sim --segments 64 --stop 18446744073709551615 --left bad";
+    let whole = execute(&rt, line, ONE_FILE)?;
+    let writes = writes_of(whole.output.as_slice()).ok_or("no number of writes")?;
+    let reply = format!(in rt.alloc(); "ok 0\nok\nwrites {writes}\nok 1\n1 a file 2 1 0 -\n")?;
+    want(&rt, line, ONE_FILE, 0, reply.as_str())?;
+    let last = writes.checked_sub(1).ok_or("no write")?;
+    for left in ["old", "new", "bad"] {
+        for write in 0..last {
+            want_stop(&rt, write, left, "ok 0\n")?;
+        }
+    }
+    for (left, tree) in [
+        ("old", "ok 0\n"),
+        ("new", "ok 1\n1 a file 2 1 0 -\n"),
+        ("bad", "ok 0\n"),
+    ] {
+        want_stop(&rt, last, left, tree)?;
+    }
+    Ok(())
+}
+
+#[test]
+fn what_a_simulation_refuses(rt: HostRuntime) -> Result<(), Fail> {
+    for number in ["0", "8", "63", "65", "1032", "4294967295"] {
+        let line = format!(in rt.alloc(); "lfs sim --segments {number} --stop 0 --left old")?;
+        want(&rt, line.as_str(), ONE_FILE, 1, "err Inval\n")?;
+    }
+    for words in [
+        "--segments 64 --stop 0",
+        "--segments 64 --left old",
+        "--stop 0 --left old",
+        "x.img --segments 64 --stop 0 --left old",
+        "--segments 064 --stop 0 --left old",
+        "--segments 64 --stop 00 --left old",
+        "--segments 64 --stop +0 --left old",
+        "--segments 64 --stop 18446744073709551616 --left old",
+        "--segments 64 --stop 0 --left Old",
+        "--segments 64 --stop 0 --left other",
+        "--segments 64 --stop 0 --left=",
+        "--segments 63 --stop 0 --left other",
+    ] {
+        let line = format!(in rt.alloc(); "lfs sim {words}")?;
+        let found = execute(&rt, line.as_str(), ONE_FILE)?;
+        assert_eq!(rt; found.status, 2, "{words}");
+        assert!(rt; found.output.is_empty(), "{words}");
+        assert!(rt; !found.errors.is_empty(), "{words}");
+    }
+    Ok(())
+}
+
+#[test]
+fn a_wrong_line_of_a_simulation(rt: HostRuntime) -> Result<(), Fail> {
+    let line = "lfs sim --segments 64 --stop 0 --left old";
+    want(
+        &rt,
+        line,
+        "space\nbad\n",
+        2,
+        "ok 0 1 727 3008\nbad 2\nwrites 0\nok 0\n",
+    )?;
+    want(&rt, line, "", 0, "writes 0\nok 0\n")?;
     Ok(())
 }

@@ -1,0 +1,67 @@
+//! Volumes in memory, whose device stops at a chosen write.
+use crate::fault::{Fault, Refusal};
+use crate::image::is_segment_count;
+use lfs_device::{Left, MemDevice};
+use lfs_fs::{Fs, FsError, format};
+use lfs_script::{read_u32, read_u64};
+use std::alloc::Global;
+
+/// How a volume in memory comes to its end.
+#[derive(Clone, Copy, Debug, PartialEq, Eq)]
+pub struct Plan {
+    pub segments: u32,
+    /// The write that doesn't go through, counted from 0 behind the format, and with which the device stops.
+    pub stop: u64,
+    /// What the stop leaves of each sector that isn't synced.
+    pub left: Left,
+}
+
+fn read_left(word: &str) -> Option<Left> {
+    match word {
+        "old" => Some(Left::Old),
+        "new" => Some(Left::New),
+        "bad" => Some(Left::Bad),
+        _ => None,
+    }
+}
+
+/// Reads the words of a plan.
+pub fn read_plan(segments: &str, stop: &str, left: &str) -> Result<Plan, Fault> {
+    let Some(segments) = read_u32(segments.as_bytes()) else {
+        return Err(Fault::Segments);
+    };
+    let Some(stop) = read_u64(stop.as_bytes()) else {
+        return Err(Fault::Stop);
+    };
+    let Some(left) = read_left(left) else {
+        return Err(Fault::Left);
+    };
+    Ok(Plan {
+        segments,
+        stop,
+        left,
+    })
+}
+
+/// The device of a new volume, which is to stop.
+pub fn start(alloc: Global, plan: Plan) -> Result<MemDevice, Refusal> {
+    if !is_segment_count(plan.segments) {
+        return Err(Refusal::Inval);
+    }
+    let Ok(mut device) = MemDevice::new(alloc, 2 + 64 * plan.segments) else {
+        return Err(Refusal::Call(FsError::NoMemory));
+    };
+    if let Err(refusal) = format(&mut device, plan.segments) {
+        return Err(Refusal::Format(refusal));
+    }
+    device.stop_at(plan.stop);
+    Ok(device)
+}
+
+/// Mounts a device's volume.
+pub fn mount(alloc: Global, device: MemDevice) -> Result<Fs<MemDevice>, Refusal> {
+    match Fs::mount(alloc, device) {
+        Ok(fs) => Ok(fs),
+        Err((fault, _)) => Err(Refusal::from(fault)),
+    }
+}
