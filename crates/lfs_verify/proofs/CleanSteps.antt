@@ -1,0 +1,41 @@
+-- Clean segments, counted one by one.
+use Rattle.std.proofs.Common.{◌≡◌, ◌≤◌, ◌↔◌, ◌+◌, ◌*◌, ◌==◌, ℕ, suc, Bool, cond, List, length, get_or, ◌∙◌, ap, arith, eq-eqb, eqb-true}
+use Rattle.std.proofs.lemmas.Bool.{false_from_ne_true}
+use Rattle.lfs_model.specs.Reach.{View}
+use Rattle.lfs_model.specs.Stands.{EnoughClean, count_up, is_clean}
+use Rattle.lfs_model.proofs.Live.{count_up_none, count_up_more, count_up_same}
+use Rattle.lfs_verify.specs.Tables.{IsUsedTable, is_unused, clean_count}
+
+pub clean_none : (used : List ℕ) → clean_count used 0 ≡ 0
+unfolding clean_count
+clean_none used = count_up_none (is_unused used)
+
+clean_more : (used : List ℕ) (n m : ℕ) → m ≡ n + 1 → clean_count used m ≡ clean_count used n + cond (is_unused used n) 1 0
+unfolding clean_count
+clean_more used n m is =
+    let e : m ≡ suc n = omega arith in
+    ap (λ (x : ℕ). clean_count used x) e ∙ count_up_more (is_unused used) n
+
+-- one more segment: clean, and not
+pub clean_on : (used : List ℕ) (n m : ℕ) → m ≡ n + 1 → get_or used n 0 ≡ 0 → clean_count used m ≡ clean_count used n + 1
+clean_on used n m is none =
+    let z = ap {B = ℕ} (λ (b : Bool). cond b 1 0) (eq-eqb (get_or used n 0) 0 none) in
+    let h = clean_more used n m is in omega (arith, h, z)
+
+pub clean_off : (used : List ℕ) (n m : ℕ) → m ≡ n + 1 → (get_or used n 0 ≡ 0 → ⊥) → clean_count used m ≡ clean_count used n
+clean_off used n m is some =
+    let z = ap {B = ℕ} (λ (b : Bool). cond b 1 0) (false_from_ne_true (is_unused used n) (λ on. some (eqb-true (get_or used n 0) 0 on))) in
+    let h = clean_more used n m is in omega (arith, h, z)
+
+-- the count by the table is that of the volume
+clean_is : (v : View) (used : List ℕ) → IsUsedTable v used → clean_count used (length used) ≡ count_up (is_clean v) v.checkpoint.segments
+unfolding clean_count
+clean_is v used table =
+    ap (λ (n : ℕ). count_up (is_unused used) n) table.size
+    ∙ count_up_same (is_unused used) (is_clean v) v.checkpoint.segments (λ s lt. ap (λ (x : ℕ). x == 0) (table.each s lt))
+
+pub enough_clean : (v : View) (used : List ℕ) (n : ℕ) → IsUsedTable v used → n ≡ clean_count used (length used) → (length used ≤ 8 * n) ↔ EnoughClean v
+enough_clean v used n table is =
+    let e = clean_is v used table in
+    let s = table.size in
+    (λ le. omega (arith, le, e, s, is), λ le. omega (arith, le, e, s, is))

@@ -1,0 +1,129 @@
+-- Stages by number.
+use Rattle.std.proofs.Common.{◌≡◌, ◌<◌, ◌↔◌, ◌+◌, ◌*◌, ⊎_elim, ℕ, suc, Bool, true, false, List, length, get_or, sym, ◌∙◌, subst, arith}
+use Rattle.std.proofs.lemmas.Bool.{cases_eq}
+use Rattle.lfs_model.specs.Damage.{stage, IsDamaged}
+use Rattle.lfs_model.specs.Reach.{View}
+use Rattle.lfs_model.specs.Stands.{Usages, IsRows, Maps, Inodes, Roots, Leaves, Blocks, AreNamed, AreCounted}
+use Rattle.lfs_verify.specs.Codes.{HoldsBelow, Passed, NineStages}
+use Rattle.lfs_verify.specs.Tables.{IsUsedTable, IsLiveTable}
+use Rattle.lfs_verify.specs.Take.{Goes}
+use Rattle.lfs_verify.specs.UsageTables.{SaysAll}
+use Rattle.lfs_verify.specs.Walk.{Walked, IsBounded}
+use Rattle.lfs_verify.proofs.Steps.{walked_start}
+use Rattle.lfs_verify.proofs.SegmentTables.{used_table}
+use Rattle.lfs_verify.proofs.Takes.{goes_true, goes_false}
+
+-- one stage more
+pub below_next : (v : View) (j : ℕ) → HoldsBelow v j → stage v j → HoldsBelow v (suc j)
+below_next v j below here k lt = ⊎_elim (λ (same : k ≡ j). subst (stage v) (sym same) here) (λ (other : k ≡ j → ⊥). below k (omega arith)) (cases_eq k j)
+
+-- the stages of the pointers
+pub stage_5 : (v : View) → Roots v → stage v 5
+unfolding stage
+stage_5 v here = here
+
+pub fails_5 : (v : View) → (Roots v → ⊥) → stage v 5 → ⊥
+unfolding stage
+fails_5 v fails here = fails here
+
+pub stage_6 : (v : View) → Leaves v → stage v 6
+unfolding stage
+stage_6 v here = here
+
+pub fails_6 : (v : View) → (Leaves v → ⊥) → stage v 6 → ⊥
+unfolding stage
+fails_6 v fails here = fails here
+
+-- those of the other numbers
+pub stage_1 : (v : View) → stage v 1 ↔ Usages v
+unfolding stage
+stage_1 v = (λ here. here, λ here. here)
+
+pub stage_2 : (v : View) → stage v 2 ↔ IsRows v
+unfolding stage
+stage_2 v = (λ here. here, λ here. here)
+
+pub stage_3 : (v : View) → stage v 3 ↔ Maps v
+unfolding stage
+stage_3 v = (λ here. here, λ here. here)
+
+pub stage_4 : (v : View) → stage v 4 ↔ Inodes v
+unfolding stage
+stage_4 v = (λ here. here, λ here. here)
+
+pub stage_7 : (v : View) → stage v 7 ↔ Blocks v
+unfolding stage
+stage_7 v = (λ here. here, λ here. here)
+
+pub stage_8 : (v : View) → stage v 8 ↔ AreNamed v
+unfolding stage
+stage_8 v = (λ here. here, λ here. here)
+
+pub stage_9 : (v : View) → stage v 9 ↔ AreCounted v
+unfolding stage
+stage_9 v = (λ here. here, λ here. here)
+
+-- no stage has the number 0
+pub below_1 : (v : View) → HoldsBelow v 1
+unfolding stage
+below_1 v k lt = let e : 0 ≡ k = omega arith in subst (stage v) e tt
+
+pub nine_stages : (v : View) → HoldsBelow v 10 → NineStages v
+unfolding stage
+nine_stages v below = record {
+  usages = below 1 (omega arith);
+  rows = below 2 (omega arith);
+  maps = below 3 (omega arith);
+  inodes = below 4 (omega arith);
+  roots = below 5 (omega arith);
+  leaves = below 6 (omega arith);
+  blocks = below 7 (omega arith);
+  named = below 8 (omega arith);
+  counted = below 9 (omega arith);
+}
+
+-- a walk begins with no mark
+pub passed_none : (v : View) (marks : List ℕ) → IsBounded v → length marks ≡ 2 + 64 * v.checkpoint.segments → ((a : ℕ) → get_or marks a 0 ≡ 0) → Passed v marks 0 1
+passed_none v marks bounded size empty = record { bounded = bounded; below = below_1 v; walked = walked_start v marks size empty }
+
+-- one stage more, which may have taken blocks
+pub pass : (v : View) (old new : List ℕ) (r s code : ℕ) → Passed v old r code → stage v code → Walked v new s → Passed v new s (suc code)
+pass v old new r s code passed here w = record { bounded = passed.bounded; below = below_next v code passed.below here; walked = w }
+
+-- a stage that fails is the first
+pub damage : (v : View) (marks : List ℕ) (r code n : ℕ) → Passed v marks r code → code ≡ n → (stage v code → ⊥) → IsDamaged v n
+damage v marks r code n passed is fails = subst (IsDamaged v) is (passed.below, fails)
+
+module _ (v : View) (code : ℕ) (S : Type 0) (by : stage v code ↔ S) (old : List ℕ) (r : ℕ) (passed : Passed v old r code) where
+  -- the stage takes blocks
+  pub walk_pass : (new : List ℕ) (s : ℕ) (x : Bool) → x ≡ true → Goes v old new r s S x → (Walked v new s → IsBounded v → S) → Passed v new s (suc code)
+  walk_pass new s x is goes here =
+      let w = goes_true v old new r s S x is goes passed.walked in
+      pass v old new r s code passed (by.1 (here w passed.bounded)) w
+
+  pub walk_fails : (new : List ℕ) (s : ℕ) (x : Bool) → x ≡ false → Goes v old new r s S x → (n : ℕ) → code ≡ n → IsDamaged v n
+  walk_fails new s x is goes n number = damage v old r code n passed number (λ here. goes_false v old new r s S x is goes passed.walked (by.0 here))
+
+  -- the stage looks at what was taken
+  pub look_pass : (x : Bool) → x ≡ true → (x ≡ true) ↔ S → Passed v old r (suc code)
+  look_pass x is tells = pass v old old r r code passed (by.1 (tells.0 is)) passed.walked
+
+  pub look_fails : (x : Bool) → x ≡ false → (x ≡ true) ↔ S → (n : ℕ) → code ≡ n → IsDamaged v n
+  look_fails x is tells n number = damage v old r code n passed number (λ here. let e : true ≡ false = sym (tells.1 (by.0 here)) ∙ is in absurd (cc))
+
+-- the tables that stage 1 copied
+pub used_says : (v : View) (used live : List ℕ) → Usages v → length used ≡ v.checkpoint.segments → SaysAll v used live → IsUsedTable v used
+used_says v used live usages size says = used_table v used usages size (λ s lt. (says s lt).0)
+
+pub live_says : (v : View) (used live : List ℕ) → length live ≡ v.checkpoint.segments → SaysAll v used live → IsLiveTable v live
+live_says v used live size says = record { size = size; each = λ s lt. (says s lt).1 }
+
+-- the marks are as many as before
+pub inside_then : (map old new : List ℕ) → length new ≡ length old → ((i : ℕ) → i < 4096 → get_or map i 0 < length new) → (i : ℕ) → i < 4096 → get_or map i 0 < length old
+inside_then map old new same at i lt = let h = at i lt in omega (arith, h, same)
+
+pub passed_pointers : (v : View) (marks : List ℕ) → IsBounded v → HoldsBelow v 7 × Walked v marks 536624 → Passed v marks 536624 7
+passed_pointers v marks bounded both = record { bounded = bounded; below = both.0; walked = both.1 }
+
+pub rows_before : (v : View) (marks : List ℕ) (r : ℕ) → Passed v marks r 8 → IsRows v
+rows_before v marks r passed = (stage_2 v).0 (passed.below 2 (omega arith))

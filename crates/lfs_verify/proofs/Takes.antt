@@ -1,0 +1,85 @@
+-- One address of the walk.
+use Rattle.std.proofs.Common.{◌≡◌, ◌<◌, ◌↔◌, ⊎_elim, ℕ, zero, suc, Bool, true, false, cond, List, [], length, set, refl, sym, ◌∙◌, ap, subst, arith}
+use Rattle.lfs_model.specs.Entry.{Entry, IsInode, word}
+use Rattle.lfs_model.specs.Inode.{inode_in, inode_of, inode_sector, may_be_inode}
+use Rattle.lfs_model.specs.Content.{Content, block, bytes_of}
+use Rattle.lfs_model.specs.Device.{Cell, DeviceState, IsLawful, cell_at}
+use Rattle.lfs_model.specs.Reach.{View}
+use Rattle.lfs_model.specs.Stands.{Reached, Fresh, stage_of}
+use Rattle.lfs_verify.specs.Walk.{step_of, InBounds, IsGood, Walked, IsOpen}
+use Rattle.lfs_verify.specs.Take.{Looks, Takes, Reads, SomeWord, Goes}
+use Rattle.lfs_model.proofs.Decoding.{value_found}
+use Rattle.lfs_model.proofs.Moments.{carries_none, carries_then, started, joined}
+use Rattle.lfs_verify.proofs.Words.{word_none}
+use Rattle.lfs_verify.proofs.Steps.{skip, take_one, is_open}
+
+pub block_at : (c : Content) (at : ℕ) → 0 < at → block c at ≡ bytes_of (cell_at c at)
+block_at c zero lt = absurd (omega arith)
+block_at c (suc at) lt = refl
+
+pub unread : (c : Content) (at : ℕ) (out : List ℕ) (r : Bool) → block c at ≡ cond r out [] → r ≡ false → block c at ≡ []
+unread c at out r is fails = is ∙ ap (λ (x : Bool). cond x out []) fails
+
+pub read_in : (c : Content) (at : ℕ) (out : List ℕ) (r : Bool) → block c at ≡ cond r out [] → r ≡ true → block c at ≡ out
+read_in c at out r is holds = is ∙ ap (λ (x : Bool). cond x out []) holds
+
+pub no_word : (bytes : List ℕ) → bytes ≡ [] → SomeWord bytes → ⊥
+no_word bytes none w = let z = ap (λ (b : List ℕ). word b w.0) none ∙ word_none w.0 in let lt = w.2 in omega arith
+
+pub no_inode : (n : ℕ) (bytes : List ℕ) → bytes ≡ [] → IsInode n bytes → ⊥
+unfolding inode_in inode_sector
+no_inode n bytes none is =
+    let spelt = (value_found inode_of may_be_inode inode_sector bytes is.value is.spelt).2 in
+    let z = ap length (sym none ∙ spelt) in absurd (cc)
+
+-- what a read says of the block
+pub read_at : (d d' : DeviceState) (c : Content) (at : ℕ) (o : Cell) → 0 < at → Reads d d' c → (d'.keeps_model → cell_at d.content at ≡ o) → block c at ≡ bytes_of o
+read_at d d' c at o lt reads is = block_at c at lt ∙ ap (λ (x : Content). bytes_of (cell_at x at)) (sym reads.content) ∙ ap bytes_of (is reads.keeps)
+
+-- a run that reads a content begins with one that reads it, and goes on with one
+pub reads_first : (a b c : DeviceState) (content : Content) → Reads a c content → Looks b c → Reads a b content
+reads_first a b c content reads looks = record { content = reads.content; keeps = looks.carries.kept_before reads.keeps }
+
+pub reads_then : (a b c : DeviceState) (content : Content) → Reads a c content → Looks a b → Reads b c content
+reads_then a b c content reads looks = record { content = looks.untouched.content ∙ reads.content; keeps = reads.keeps }
+
+pub looks_none : (d : DeviceState) → IsLawful d → Looks d d
+looks_none d lawful = record {
+  carries = carries_none d;
+  untouched = record { content = refl; crash = λ c left. left };
+  any_moment = started d d.may_leave lawful (λ c left. left);
+}
+
+pub looks_then : (a b c : DeviceState) → Looks a b → Looks b c → Looks a c
+looks_then a b c one two = record {
+  carries = carries_then a b c one.carries two.carries;
+  untouched = record { content = two.untouched.content ∙ one.untouched.content; crash = λ x left. one.untouched.crash x (two.untouched.crash x left) };
+  any_moment = joined a b c a.may_leave b.may_leave a.may_leave one.any_moment two.any_moment (λ x left. left) one.untouched.crash;
+}
+
+module _ (v : View) (marks new : List ℕ) (r : ℕ) (w : Walked v marks r) (e : Entry) (here : step_of e ≡ r) (b : InBounds e)
+    (at : ℕ) (is : at ≡ v.address e) (c : Content) (P : List ℕ → Type 0) (good : P (block c at) ↔ IsGood v e) where
+  took_true : Takes P c marks new at r true → Walked v new (suc r)
+  took_true t = ⊎_elim
+      (λ (none : (at ≡ 0) × (new ≡ marks)). subst (λ (m : List ℕ). Walked v m (suc r)) (sym none.1) (skip v marks r w e here b (sym is ∙ none.0)))
+      (λ (one : IsOpen marks at × P (block c at) × (new ≡ set marks at (suc r))).
+      subst (λ (m : List ℕ). Walked v m (suc r)) (ap (λ (a : ℕ). set marks a (suc r)) (sym is) ∙ sym one.2)
+      (take_one v marks r w e here b (subst (IsOpen marks) is one.0) (good.0 one.1)))
+      t
+
+  refused_false : Takes P c marks new at r false → Fresh v (stage_of e) → (Reached v e → IsGood v e) → ⊥
+  refused_false t fresh local =
+      let reached : Reached v e = let x = t.0 in omega arith in
+      t.1 (subst (IsOpen marks) (sym is) (is_open v marks r w e here b fresh reached)) (good.1 (local reached))
+
+  pub took : (x : Bool) → x ≡ true → Takes P c marks new at r x → Walked v new (suc r)
+  took x is t = took_true (subst (Takes P c marks new at r) is t)
+
+  pub refused : (x : Bool) → x ≡ false → Takes P c marks new at r x → Fresh v (stage_of e) → (Reached v e → IsGood v e) → ⊥
+  refused x is t = refused_false (subst (Takes P c marks new at r) is t)
+
+pub goes_true : (v : View) (old new : List ℕ) (r s : ℕ) (stage : Type 0) (x : Bool) → x ≡ true → Goes v old new r s stage x → Walked v old r → Walked v new s
+goes_true v old new r s stage x is = subst (λ (y : Bool). Goes v old new r s stage y → Walked v old r → Walked v new s) (sym is) (λ h. h)
+
+pub goes_false : (v : View) (old new : List ℕ) (r s : ℕ) (stage : Type 0) (x : Bool) → x ≡ false → Goes v old new r s stage x → Walked v old r → stage → ⊥
+goes_false v old new r s stage x is = subst (λ (y : Bool). Goes v old new r s stage y → Walked v old r → stage → ⊥) (sym is) (λ h. h)

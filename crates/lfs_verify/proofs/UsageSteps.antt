@@ -1,0 +1,228 @@
+-- The usage blocks, and the tables of what they say.
+use Rattle.std.proofs.Common.{◌≡◌, ◌<◌, ◌≤◌, ◌↔◌, ◌⊎◌, ⊎_elim, inr, ◌+◌, ◌-◌, ◌*◌, ◌/◌, ◌%◌, ℕ, zero, suc, true, false, List, [], length, get_or, set, Some, None, refl, sym, ◌∙◌, ap, subst, arith}
+use Rattle.std.specs.List.{AllByRecursion}
+use Rattle.std.proofs.lemmas.Bool.{cases_eq, cases_lt}
+use Rattle.std.proofs.lemmas.List.{get_or-set_same, get_or-set_other, length-set}
+use Rattle.lfs_model.specs.Checkpoint.{CheckpointValue}
+use Rattle.lfs_model.specs.Content.{Content, block, bytes_of}
+use Rattle.lfs_model.specs.Device.{Cell, DeviceState, IsSector, cell_at}
+use Rattle.lfs_model.specs.Entry.{Usage, half, word}
+use Rattle.lfs_model.specs.Reach.{address, view}
+use Rattle.lfs_model.specs.Stands.{Usages, Reached, used_in, live_in}
+use Rattle.lfs_model.specs.Usage.{SegmentUse, no_use, usage_in}
+use Rattle.lfs_model.proofs.Cells.{sector_at}
+use Rattle.lfs_model.proofs.Numbers.{IsBytes}
+use Rattle.lfs_model.proofs.Reach.{address_linked}
+use Rattle.lfs_model.proofs.UsageStage.{usages, usage_block_of}
+use Rattle.lfs_model.proofs.Words.{IsUsageBlock, usage_block_found, usage_block_some, uses_are}
+use Rattle.lfs_verify.specs.Take.{Reads}
+use Rattle.lfs_verify.specs.UsageTables.{CopiesUses, SaysUpTo}
+use Rattle.lfs_verify.specs.Walk as walk
+use Rattle.lfs_verify.specs.Walk.{Walked, IsOpen, IsBounded}
+use Rattle.lfs_verify.proofs.Steps.{skip, fresh_of, within_1}
+use Rattle.lfs_verify.proofs.Takes.{took, refused}
+
+-- what a device holds are bytes
+block_bytes : (c : Content) → AllByRecursion IsSector c → (at : ℕ) → IsBytes (block c at)
+block_bytes c all zero = λ i. omega arith
+block_bytes c all (suc at) = go (cell_at c (suc at)) (sector_at c (suc at) all)
+  where
+    go : (x : Cell) → IsSector x → IsBytes (bytes_of x)
+    go None is = λ i. omega arith
+    go (Some bytes) is = is.each
+
+pub read_bytes : (d d' : DeviceState) (c : Content) (at : ℕ) (out : List ℕ) → AllByRecursion IsSector d.content → Reads d d' c → block c at ≡ out → IsBytes out
+read_bytes d d' c at out all reads is = subst IsBytes (ap (λ (x : Content). block x at) reads.content ∙ is) (block_bytes d.content all at)
+
+pub uses_none : (uses : List SegmentUse) (used live : List ℕ) (at : ℕ) → CopiesUses uses used live used live at 0
+uses_none uses used live at = record {
+  used_own = λ i lt inside. absurd (omega (arith, lt));
+  live_own = λ i lt inside. absurd (omega (arith, lt));
+  used_before = λ s lt. refl;
+  live_before = λ s lt. refl;
+  used_size = refl;
+  live_size = refl;
+}
+
+-- one number more at a place
+put : (mid : List ℕ) (at n x : ℕ) (f : ℕ → ℕ) (size : ℕ) → at + n < length mid → x ≡ f n → ((i : ℕ) → i < n → at + i < size → get_or mid (at + i) 0 ≡ f i)
+    → (i : ℕ) → i < n + 1 → at + i < size → get_or (set mid (at + n) x) (at + i) 0 ≡ f i
+put mid at n x f size inside is was i lt within = ⊎_elim
+    (λ (here : i ≡ n). ap (λ (a : ℕ). get_or (set mid (at + n) x) (at + a) 0) here ∙ get_or-set_same mid (at + n) x 0 inside ∙ is ∙ ap f (sym here))
+    (λ (ne : i ≡ n → ⊥). get_or-set_other mid (at + n) (at + i) x 0 (λ h. ne (omega (arith, h))) ∙ was i (omega (arith, lt, ne)) within)
+    (cases_eq i n)
+
+module _ (uses : List SegmentUse) (used live used_then live_then : List ℕ) (at n : ℕ) (was : CopiesUses uses used live used_then live_then at n) where
+  pub uses_more : (x y : ℕ) → at + n < length used_then → at + n < length live_then → x ≡ (get_or uses n no_use).used → y ≡ (get_or uses n no_use).live
+      → CopiesUses uses used live (set used_then (at + n) x) (set live_then (at + n) y) at (n + 1)
+  uses_more x y inside inside_live is is_live = record {
+    used_own = put used_then at n x (λ i. (get_or uses i no_use).used) (length used) inside is was.used_own;
+    live_own = put live_then at n y (λ i. (get_or uses i no_use).live) (length used) inside_live is_live was.live_own;
+    used_before = λ s lt. get_or-set_other used_then (at + n) s x 0 (λ h. omega (arith, h, lt)) ∙ was.used_before s lt;
+    live_before = λ s lt. get_or-set_other live_then (at + n) s y 0 (λ h. omega (arith, h, lt)) ∙ was.live_before s lt;
+    used_size = length-set used_then (at + n) x ∙ was.used_size;
+    live_size = length-set live_then (at + n) y ∙ was.live_size;
+  }
+
+  pub uses_past : length used_then ≤ at + n → CopiesUses uses used live used_then live_then at (n + 1)
+  uses_past le =
+      let size = was.used_size in
+      let low : (i : ℕ) → i < n + 1 → at + i < length used → i < n = λ i lt within.
+      ⊎_elim (λ (here : i ≡ n). absurd (omega (arith, here, within, le, size))) (λ (ne : i ≡ n → ⊥). omega (arith, lt, ne)) (cases_eq i n) in
+      record {
+        used_own = λ i lt within. was.used_own i (low i lt within) within;
+        live_own = λ i lt within. was.live_own i (low i lt within) within;
+        used_before = was.used_before;
+        live_before = was.live_before;
+        used_size = was.used_size;
+        live_size = was.live_size;
+      }
+
+-- the same for tables that are equal
+pub uses_same : (uses : List SegmentUse) (used live a b a' b' : List ℕ) (at n : ℕ) → a ≡ a' → b ≡ b' → CopiesUses uses used live a' b' at n → CopiesUses uses used live a b at n
+uses_same uses used live a b a' b' at n p q is =
+    subst (λ (x : List ℕ). CopiesUses uses used live x b at n) (sym p) (subst (λ (x : List ℕ). CopiesUses uses used live a' x at n) (sym q) is)
+
+-- a readable block, and what it says of the segments
+abbrev Says : ℕ → List ℕ → Type 0
+Says count bytes = (length bytes ≡ 512) × IsUsageBlock count bytes
+
+module _ (c : Content) (k : CheckpointValue) (j : ℕ) where
+  bytes_at : List ℕ
+  bytes_at = block c (address c k (Usage j))
+
+  at_block : (P : ℕ → ℕ → Type 0) (i : ℕ) → i < 64 → P j i → P ((64 * j + i) / 64) ((64 * j + i) % 64)
+  at_block P i lt p =
+      let a : j ≡ (64 * j + i) / 64 = omega arith in
+      let b : i ≡ (64 * j + i) % 64 = omega arith in
+      subst (λ (x : ℕ). P x ((64 * j + i) % 64)) a (subst (P j) b p)
+
+  of_block : (P : ℕ → ℕ → Type 0) (i : ℕ) → i < 64 → P ((64 * j + i) / 64) ((64 * j + i) % 64) → P j i
+  of_block P i lt p =
+      let a : (64 * j + i) / 64 ≡ j = omega arith in
+      let b : (64 * j + i) % 64 ≡ i = omega arith in
+      subst (λ (x : ℕ). P x i) a (subst (P ((64 * j + i) / 64)) b p)
+
+  abbrev used_of : ℕ → ℕ → ℕ
+  used_of a b = half (block c (address c k (Usage a))) (4 * b)
+
+  abbrev live_of : ℕ → ℕ → ℕ
+  live_of a b = half (block c (address c k (Usage a))) (4 * b + 1)
+
+  abbrev age_of : ℕ → ℕ → ℕ
+  age_of a b = word (block c (address c k (Usage a))) (2 * b + 1)
+
+  pub block_good : Says (k.segments - 64 * j) (block c (address c k (Usage j))) → walk.IsUsageBlock (view c k) j
+  block_good says = record {
+    readable = says.0;
+    each = λ i lt. record {
+      fit = at_block (λ a b. used_of a b ≤ 64) i lt (says.1.fit i lt);
+      less = at_block (λ a b. (used_of a b ≡ 0) ⊎ ((0 < live_of a b) × (live_of a b < used_of a b))) i lt (says.1.less i lt);
+      both = at_block (λ a b. used_of a b ≡ 0 → live_of a b ≡ 0) i lt (says.1.both i lt);
+      past = λ le. at_block (λ a b. (used_of a b ≡ 0) × (age_of a b ≡ 0)) i lt (says.1.past i (omega (arith, le)) lt);
+    };
+  }
+
+  pub good_block : walk.IsUsageBlock (view c k) j → Says (k.segments - 64 * j) (block c (address c k (Usage j)))
+  good_block good = (
+    good.readable,
+    record {
+      fit = λ i lt. of_block (λ a b. used_of a b ≤ 64) i lt (good.each i lt).fit;
+      less = λ i lt. of_block (λ a b. (used_of a b ≡ 0) ⊎ ((0 < live_of a b) × (live_of a b < used_of a b))) i lt (good.each i lt).less;
+      both = λ i lt. of_block (λ a b. used_of a b ≡ 0 → live_of a b ≡ 0) i lt (good.each i lt).both;
+      past = λ i le lt. of_block (λ a b. (used_of a b ≡ 0) × (age_of a b ≡ 0)) i lt ((good.each i lt).past (omega (arith, le)));
+    },
+  )
+
+module _ (c : Content) (k : CheckpointValue) (j : ℕ) (low : j < 16) (n : ℕ) (count : n ≡ k.segments) (p : ℕ) (val : p ≡ get_or k.usage j 0) where
+  usage_at : p ≡ address c k (Usage j)
+  usage_at = val ∙ sym (address_linked c k (Usage j))
+
+  -- past the last segment
+  pub usage_passed : p ≡ 0 → (m : List ℕ) → Walked (view c k) m j → Walked (view c k) m (j + 1)
+  usage_passed none m w = subst (Walked (view c k) m) (omega arith) (skip (view c k) m j w (Usage j) refl low (sym usage_at ∙ none))
+
+  pub says_passed : n ≤ 64 * j → (used live : List ℕ) → SaysUpTo (view c k) used live j → SaysUpTo (view c k) used live (j + 1)
+  says_passed past used live was s lt within = was s (omega (arith, within, past, count)) within
+
+  pub usage_extra : n ≤ 64 * j → (p ≡ 0 → ⊥) → Usages (view c k) → ⊥
+  usage_extra past some stage =
+      let reached : Reached (view c k) (Usage j) = let e = usage_at in omega arith in
+      let lt : j < (k.segments + 63) / 64 = (stage.addresses j).0 reached in
+      omega arith
+
+  pub usage_missing : 64 * j < n → p ≡ 0 → Usages (view c k) → ⊥
+  usage_missing inside none stage =
+      let lt : j < (k.segments + 63) / 64 = omega arith in
+      let reached : Reached (view c k) (Usage j) = (stage.addresses j).1 lt in
+      let e = usage_at in omega arith
+
+  there : Says (n - 64 * j) (block c p) → walk.IsUsageBlock (view c k) j
+  there says = block_good c k j (subst (λ (x : ℕ). Says (x - 64 * j) (block c (address c k (Usage j)))) count (subst (Says (n - 64 * j)) (ap (block c) usage_at) says))
+
+  back : walk.IsUsageBlock (view c k) j → Says (n - 64 * j) (block c p)
+  back good = subst (Says (n - 64 * j)) (sym (ap (block c) usage_at)) (subst (λ (x : ℕ). Says (x - 64 * j) (block c (address c k (Usage j)))) (sym count) (good_block c k j good))
+
+  good_of : Usages (view c k) → Reached (view c k) (Usage j) → walk.IsUsageBlock (view c k) j
+  good_of stage reached = block_good c k j (stage.readable j reached, usage_block_of (view c k) stage j)
+
+  -- a block that can't be taken
+  pub usage_refused : (p ≡ 0 → ⊥) → (m m1 : List ℕ) → (IsOpen m p → Says (n - 64 * j) (block c p) → ⊥) → Walked (view c k) m j → Usages (view c k) → ⊥
+  usage_refused some m m1 not w stage =
+      refused (view c k) m m1 j w (Usage j) refl low p usage_at c (Says (n - 64 * j)) (there, back) false refl (omega arith, not) stage.fresh (good_of stage)
+
+  pub usage_unread : (p ≡ 0 → ⊥) → (m m1 : List ℕ) → block c p ≡ [] → Walked (view c k) m j → Usages (view c k) → ⊥
+  usage_unread some m m1 none = usage_refused some m m1 (λ o says. let e = sym (ap length none) ∙ says.0 in absurd (cc))
+
+  module _ (out : List ℕ) (read : block c p ≡ out) (long : length out ≡ 512) (bytes : IsBytes out) where
+    pub usage_undecoded : (p ≡ 0 → ⊥) → (m m1 : List ℕ) → None ≡ usage_in (n - 64 * j) out → Walked (view c k) m j → Usages (view c k) → ⊥
+    usage_undecoded some m m1 none = usage_refused some m m1 (λ o says.
+        let e = none ∙ usage_block_some out (n - 64 * j) bytes long (subst (IsUsageBlock (n - 64 * j)) read says.1) in absurd (cc))
+
+    module _ (us : List SegmentUse) (spelt : Some us ≡ usage_in (n - 64 * j) out) where
+      pub usage_taken : (m m1 : List ℕ) → IsOpen m p → m1 ≡ set m p (suc j) → Walked (view c k) m j → Walked (view c k) m1 (j + 1)
+      usage_taken m m1 o marked w =
+          let says : Says (n - 64 * j) out = (long, usage_block_found out (n - 64 * j) us bytes long (sym spelt)) in
+          subst (Walked (view c k) m1) (omega arith)
+          (took (view c k) m m1 j w (Usage j) refl low p usage_at c (Says (n - 64 * j)) (there, back) true refl (inr (o, subst (Says (n - 64 * j)) (sym read) says, marked)))
+
+      here : block c (address c k (Usage j)) ≡ out
+      here = sym (ap (block c) usage_at) ∙ read
+
+      pub says_taken : (used live used_then live_then : List ℕ) → length used ≡ k.segments → CopiesUses us used live used_then live_then (64 * j) 64
+          → SaysUpTo (view c k) used live j → SaysUpTo (view c k) used_then live_then (j + 1)
+      says_taken used live used_then live_then size copies was s lt within = ⊎_elim
+          (λ (before : s < 64 * j). let w = was s before within in (copies.used_before s before ∙ w.0, copies.live_before s before ∙ w.1))
+          (λ (past : 64 * j ≤ s).
+          let i = s - 64 * j in
+          let e : 64 * j + i ≡ s = omega (arith, past) in
+          let few : i < 64 = omega (arith, lt, past) in
+          let inside : 64 * j + i < length used = omega (arith, e, within, size) in
+          let words = uses_are out (n - 64 * j) us bytes long (sym spelt) i few in
+          subst (λ (x : ℕ). (get_or used_then x 0 ≡ used_in (view c k) x) × (get_or live_then x 0 ≡ live_in (view c k) x)) e (
+            at_block c k j (λ a b. get_or used_then (64 * j + i) 0 ≡ used_of c k j a b) i few (copies.used_own i few inside ∙ sym words.used ∙ ap (λ (b : List ℕ). half b (4 * i)) (sym here)),
+            at_block c k j (λ a b. get_or live_then (64 * j + i) 0 ≡ live_of c k j a b) i few (copies.live_own i few inside ∙ sym words.live ∙ ap (λ (b : List ℕ). half b (4 * i + 1)) (sym here)),
+          ))
+          (cases_lt s (64 * j))
+
+pub is_extra : (j n p : ℕ) (k : CheckpointValue) → n ≡ k.segments → p ≡ get_or k.usage j 0 → n ≤ 64 * j → p ≡ 0 → (0 < get_or k.usage j 0) ↔ (j < (k.segments + 63) / 64)
+is_extra j n p k count val past none = (λ some. absurd (omega (arith, some, val, none)), λ lt. absurd (omega (arith, lt, past, count)))
+
+pub is_needed : (j n p : ℕ) (k : CheckpointValue) → n ≡ k.segments → p ≡ get_or k.usage j 0 → 64 * j < n → (p ≡ 0 → ⊥) → (0 < get_or k.usage j 0) ↔ (j < (k.segments + 63) / 64)
+is_needed j n p k count val inside some = (λ x. omega arith, λ x. omega arith)
+
+-- all usage blocks
+pub usages_of : (c : Content) (k : CheckpointValue) → k.segments ≤ 1024 → ((j : ℕ) → j < 16 → (0 < get_or k.usage j 0) ↔ (j < (k.segments + 63) / 64))
+    → (marks : List ℕ) → Walked (view c k) marks 16 → IsBounded (view c k) → Usages (view c k)
+usages_of c k few is_there marks w bounded = usages c k reached all (fresh_of (view c k) marks 16 w bounded 1 within_1)
+    (λ j some. (w.good (Usage j) (bounded (Usage j) some) (bounded (Usage j) some) some).readable)
+    (λ j lt. let some = all j lt in (good_block c k j (w.good (Usage j) (bounded (Usage j) some) (bounded (Usage j) some) some)).1)
+  where
+    at : (j : ℕ) → address c k (Usage j) ≡ get_or k.usage j 0
+    at j = address_linked c k (Usage j)
+
+    reached : (j : ℕ) → Reached (view c k) (Usage j) → j < (k.segments + 63) / 64
+    reached j some = (is_there j (bounded (Usage j) some)).0 (subst (λ (a : ℕ). 0 < a) (at j) some)
+
+    all : (j : ℕ) → j < (k.segments + 63) / 64 → Reached (view c k) (Usage j)
+    all j lt = subst (λ (a : ℕ). 0 < a) (sym (at j)) ((is_there j (omega (arith, few, lt))).1 lt)

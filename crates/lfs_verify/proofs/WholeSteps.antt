@@ -1,0 +1,29 @@
+-- The whole walk, from one run of stages to the next.
+use Rattle.std.specs.Prelude.{Result, Ok, Err, IfErr}
+use Rattle.std.proofs.Common.{◌≡◌, ◌↔◌, ◌+◌, ◌*◌, ℕ, Bool, true, List, length, get_or, subst}
+use Rattle.std.specs.List.{AllByRecursion}
+use Rattle.lfs_model.specs.Checkpoint.{CheckpointValue, FitsCheckpoint}
+use Rattle.lfs_model.specs.Content.{Content}
+use Rattle.lfs_model.specs.Device.{DeviceState, IsLawful, IsSector}
+use Rattle.lfs_model.specs.Reach.{View, view}
+use Rattle.lfs_model.specs.Stands.{EnoughClean}
+use Rattle.lfs_model.proofs.Decodes.{are_sized}
+use Rattle.lfs_verify.specs.Codes.{HoldsBelow, Passed, NineStages}
+use Rattle.lfs_verify.specs.Take.{Reads}
+use Rattle.lfs_verify.proofs.Bounds.{bounded_of}
+use Rattle.lfs_verify.proofs.CodeSteps.{nine_stages, passed_none}
+
+-- what a lawful device holds leads nowhere past the bounds, so that a walk over it can begin
+pub passed_start : (d d' : DeviceState) → IsLawful d → (c : Content) → Reads d d' c → (k : CheckpointValue) → FitsCheckpoint k
+    → (marks : List ℕ) → length marks ≡ 2 + 64 * k.segments → ((a : ℕ) → get_or marks a 0 ≡ 0) → Passed (view c k) marks 0 1
+passed_start d d' lawful c reads k fits marks size empty =
+    let all = subst (AllByRecursion IsSector) reads.content lawful.now in
+    passed_none (view c k) marks (bounded_of c (are_sized c all) k fits.map_length fits.usage_length) size empty
+
+pub if_err : {X E : Type 0} (r : Result X E) (P Q : E → Type 0) → ((e : E) → P e → Q e) → IfErr r P → IfErr r Q
+if_err (Ok x) P Q f h = tt
+if_err (Err e) P Q f h = f e h
+
+-- what the walk says at its end
+pub walk_end : (v : View) (enough : Bool) → HoldsBelow v 10 × ((enough ≡ true) ↔ EnoughClean v) → NineStages v × HoldsBelow v 10 × ((enough ≡ true) ↔ EnoughClean v)
+walk_end v enough both = (nine_stages v both.0, both.0, both.1)

@@ -1,0 +1,47 @@
+use Rattle.std.proofs.Common.{◌≡◌, ◌+◌, ◌∙◌, refl, below_more, subst, arith}
+use Rattle.lfs_model.specs.Reach.{view}
+use Rattle.lfs_verify.specs.Walk.{Walked}
+use Rattle.lfs_verify.proofs.Takes.{reads_first, reads_then, looks_none, looks_then}
+use Rattle.lfs_verify.proofs.InodeSteps.{inode_refused, inode_took, in_marks}
+use Rattle.lfs_verify.proofs.inode_stage.all_inodes.Goals as goal
+
+pub loop-file-init : goal.loop-file-init
+loop-file-init g c = record {
+  looks = looks_none (g.D.SectorDevice.state c.args.device.now) (g.met.D.SectorDevice.lawful c.args.device.now);
+  no_failure = refl;
+  len = refl;
+  at = λ i lt. absurd (omega (arith, lt));
+  walked = λ d k reads lists w. w;
+}
+
+pub returns-then-not-branch-clause-goes : goal.returns-then-not-branch-clause-goes
+returns-then-not-branch-clause-goes g c = λ d k reads lists w inodes.
+    let old = g.D.SectorDevice.state c.args.device.now in
+    let mid = g.D.SectorDevice.state c.loop-file.device in
+    let new = g.D.SectorDevice.state c.take_inode.new.device in
+    let here = c.loop-file.invariant in
+    let step = c.in_ok-take_inode.ensures in
+    inode_refused d k c.loop-file.file (omega arith) _ _ _ (lists c.loop-file.file (omega arith)) _
+    (step.takes d (reads_then old mid new d reads here.looks)) (here.walked d k (reads_first old mid new d reads step.looks) lists w) c.if-not-branch.true inodes
+
+pub loop-file-preserved : goal.loop-file-preserved
+loop-file-preserved g c =
+    let old = g.D.SectorDevice.state c.args.device.now in
+    let mid = g.D.SectorDevice.state c.loop-file.device in
+    let new = g.D.SectorDevice.state c.take_inode.new.device in
+    let here = c.loop-file.invariant in
+    let step = c.in_ok-take_inode.ensures in
+    record {
+      looks = looks_then old mid new here.looks step.looks;
+      no_failure = step.no_failure ∙ here.no_failure;
+      len = step.len ∙ here.len;
+      at = below_more _ _ here.at (in_marks _ _ _ here.len (step.at c.if-not-branch.false));
+      walked = λ d k reads lists w.
+          inode_took d k c.loop-file.file (omega arith) _ _ _ (lists c.loop-file.file (omega arith)) _
+          (step.takes d (reads_then old mid new d reads here.looks)) (here.walked d k (reads_first old mid new d reads step.looks) lists w) c.if-not-branch.false;
+    }
+
+pub returns-clause-goes : goal.returns-clause-goes
+returns-clause-goes g c = λ d k reads lists w.
+    let e : 48 + c.loop-file.file ≡ 4144 = omega arith in
+    subst (Walked (view d k) c.loop-file.marks) e (c.loop-file.invariant.walked d k reads lists w)

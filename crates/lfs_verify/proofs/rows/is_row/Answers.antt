@@ -1,0 +1,81 @@
+use Rattle.std.proofs.Common.{rules, ◌≡◌, ◌+◌, ℕ, List, refl, sym, ◌∙◌, ap, subst, arith}
+use Rattle.lfs_model.specs.Entry.{entries_in}
+use Rattle.lfs_verify.specs.Rows.{HasRow, Names, from}
+use Rattle.lfs_verify.proofs.Takes.{reads_first, reads_then, looks_none, looks_then, read_in, unread}
+use Rattle.lfs_verify.proofs.RowSteps.{no_chunk, cut_chunk, next_chunk, from_end, from_start, long_enough, no_entries}
+use Rattle.lfs_verify.proofs.rows.is_row.Goals as goal
+
+pub loop-at-init : goal.loop-at-init
+loop-at-init g c = record {
+  looks = looks_none (g.D.SectorDevice.state c.args.device.now) (g.met.D.SectorDevice.lawful c.args.device.now);
+  no_failure = refl;
+  within = omega arith;
+  rest = λ d reads. let e = from_start d c.args.used c.args.segment in (λ h. subst HasRow e h, λ h. subst HasRow (sym e) h);
+}
+
+pub returns-then-not-branch-clause-row : goal.returns-then-not-branch-clause-row
+returns-then-not-branch-clause-row g c = λ d reads.
+    let old = g.D.SectorDevice.state c.args.device.now in
+    let mid = g.D.SectorDevice.state c.loop-at.device in
+    let new = g.D.SectorDevice.state c.fetch.new.device in
+    let here = c.loop-at.invariant in
+    let step = c.in_ok-fetch.ensures in
+    let long = long_enough old new d c.args.used c.args.segment (g.met.D.SectorDevice.lawful c.args.device.now) reads c.requires.inside c.requires.used in
+    let none = unread d _ _ _ (step.block d (reads_then old mid new d reads here.looks)) c.if-not-branch.true in
+    (λ h. absurd (cc), λ h. absurd (no_chunk d c.args.used c.args.segment c.loop-at.at long (omega arith) (ap entries_in none ∙ no_entries) ((here.rest d (reads_first old mid new d reads step.looks)).1 h)))
+
+pub returns-in_default-clause-row : goal.returns-in_default-clause-row
+returns-in_default-clause-row g c = λ d reads.
+    let old = g.D.SectorDevice.state c.args.device.now in
+    let mid = g.D.SectorDevice.state c.loop-at.device in
+    let new = g.D.SectorDevice.state c.fetch.new.device in
+    let here = c.loop-at.invariant in
+    let step = c.in_ok-fetch.ensures in
+    let long = long_enough old new d c.args.used c.args.segment (g.met.D.SectorDevice.lawful c.args.device.now) reads c.requires.inside c.requires.used in
+    let there = read_in d _ _ _ (step.block d (reads_then old mid new d reads here.looks)) c.if-not-branch.false in
+    (λ h. absurd (cc), λ h. absurd (no_chunk d c.args.used c.args.segment c.loop-at.at long (omega arith) (ap entries_in there ∙ c.in_default.ensures) ((here.rest d (reads_first old mid new d reads step.looks)).1 h)))
+
+pub returns-then-count-used-clause-row : goal.returns-then-count-used-clause-row
+returns-then-count-used-clause-row g c = λ d reads.
+    let old = g.D.SectorDevice.state c.args.device.now in
+    let mid = g.D.SectorDevice.state c.loop-at.device in
+    let new = g.D.SectorDevice.state c.fetch.new.device in
+    let here = c.loop-at.invariant in
+    let step = c.in_ok-fetch.ensures in
+    let long = long_enough old new d c.args.used c.args.segment (g.met.D.SectorDevice.lawful c.args.device.now) reads c.requires.inside c.requires.used in
+    let there = read_in d _ _ _ (step.block d (reads_then old mid new d reads here.looks)) c.if-not-branch.false in
+    let names = subst (λ (b : List ℕ). Names b c.in-Some.count) (sym there) c.in-Some.ensures in
+    (λ h. absurd (cc), λ h. absurd (cut_chunk d c.args.used c.args.segment c.loop-at.at long (omega arith) c.in-Some.count names (omega arith) ((here.rest d (reads_first old mid new d reads step.looks)).1 h)))
+
+pub loop-at-preserved : goal.loop-at-preserved
+loop-at-preserved g c =
+    let old = g.D.SectorDevice.state c.args.device.now in
+    let mid = g.D.SectorDevice.state c.loop-at.device in
+    let new = g.D.SectorDevice.state c.fetch.new.device in
+    let here = c.loop-at.invariant in
+    let step = c.in_ok-fetch.ensures in
+    record {
+      looks = looks_then old mid new here.looks step.looks;
+      no_failure = step.no_failure ∙ here.no_failure;
+      within = omega arith;
+      rest = λ d reads.
+          let long = long_enough old new d c.args.used c.args.segment (g.met.D.SectorDevice.lawful c.args.device.now) reads c.requires.inside c.requires.used in
+          let there = read_in d _ _ _ (step.block d (reads_then old mid new d reads here.looks)) c.if-not-branch.false in
+          let names = subst (λ (b : List ℕ). Names b c.in-Some.count) (sym there) c.in-Some.ensures in
+          let next = next_chunk d c.args.used c.args.segment c.loop-at.at long (omega arith) c.in-Some.count names (omega arith) in
+          let so_far = here.rest d (reads_first old mid new d reads step.looks) in
+          let e : c.loop-at.at + 1 + c.in-Some.count ≡ c.loop-at.at + (1 + c.in-Some.count) = omega arith in (
+            λ h. so_far.0 (next.1 (subst (λ (x : ℕ). HasRow (from d c.args.used c.args.segment x)) (sym e) h)),
+            λ h. subst (λ (x : ℕ). HasRow (from d c.args.used c.args.segment x)) e (next.0 (so_far.1 h)),
+          );
+    }
+
+pub returns-clause-row : goal.returns-clause-row
+returns-clause-row g c = λ d reads.
+    let old = g.D.SectorDevice.state c.args.device.now in
+    let mid = g.D.SectorDevice.state c.loop-at.device in
+    let here = c.loop-at.invariant in
+    let long = long_enough old mid d c.args.used c.args.segment (g.met.D.SectorDevice.lawful c.args.device.now) reads c.requires.inside c.requires.used in
+    let e : c.loop-at.at ≡ c.args.used = omega arith in
+    let h = from_end d c.args.used c.args.segment long in
+    (λ x. (here.rest d reads).0 (subst (λ (x : ℕ). HasRow (from d c.args.used c.args.segment x)) (sym e) h), λ x. search rules)

@@ -1,0 +1,20 @@
+use Rattle.std.proofs.Common.{◌≡◌, ◌≤◌, ◌-◌, ◌↔◌}
+use Rattle.lfs_model.specs.Content.{Content}
+use Rattle.lfs_model.specs.Reach.{row_by}
+use Rattle.lfs_verify.specs.Rows.{HasRow, from}
+use Rattle.lfs_verify.specs.Take.{Looks, Reads}
+use Rattle.lfs_verify.proofs.rows.is_row.Given as goal
+
+abbrev pub invariant-loop-at : goal.invariant-loop-at
+invariant-loop-at g l =
+    let old = g.D.SectorDevice.state l.initial.device in
+    let now = g.D.SectorDevice.state l.device in
+    record {
+      looks : Looks old now;
+      no_failure : now.failures ≡ old.failures;
+      within : l.at ≤ l.used;
+      rest : (c : Content) → Reads old now c → HasRow (from c l.used l.segment l.at) ↔ HasRow (row_by c l.used l.segment);
+    }
+
+abbrev pub decreases-loop-at : goal.decreases-loop-at
+decreases-loop-at g l = l.used - l.at

@@ -1,0 +1,49 @@
+use Rattle.std.proofs.Common.{rules, true, false, ◌≤◌, ◌≡◌, ◌<◌, ℕ, get_or, ◌∙◌, refl, ⊎_elim, subst, sym, arith}
+use Rattle.std.proofs.lemmas.Bool.{cases_lt}
+use Rattle.lfs_model.specs.Reach.{view, row_by}
+use Rattle.lfs_verify.specs.Rows.{HasRow}
+use Rattle.lfs_verify.proofs.Takes.{reads_first, reads_then, looks_none, looks_then}
+use Rattle.lfs_verify.proofs.RowSteps.{rows_of, no_rows, too_many}
+use Rattle.lfs_verify.proofs.rows.stage_rows.Goals as goal
+
+pub loop-segment-init : goal.loop-segment-init
+loop-segment-init g c = record {
+  looks = looks_none (g.D.SectorDevice.state c.args.device.now) (g.met.D.SectorDevice.lawful c.args.device.now);
+  no_failure = refl;
+  rows = λ d reads s lt. absurd (omega arith);
+}
+
+pub returns-then-count-gt64-clause-rows : goal.returns-then-count-gt64-clause-rows
+returns-then-count-gt64-clause-rows g c = λ d k reads table. absurd (too_many (view d k) c.args.used.now table c.loop-segment.segment (omega arith) (omega arith))
+
+pub returns-then-not-branch-clause-rows : goal.returns-then-not-branch-clause-rows
+returns-then-not-branch-clause-rows g c = λ d k reads table.
+    let old = g.D.SectorDevice.state c.args.device.now in
+    let mid = g.D.SectorDevice.state c.loop-segment.device in
+    let new = g.D.SectorDevice.state c.is_row.new.device in
+    let here = c.loop-segment.invariant in
+    let is = c.in_ok-is_row.ensures.row d (reads_then old mid new d reads here.looks) in
+    (λ on. absurd (cc), λ rows. absurd (no_rows d k c.args.used.now table c.loop-segment.segment (omega arith) (λ row. let e : true ≡ false = sym (is.1 row) ∙ c.if-not-branch.true in absurd (cc)) rows))
+
+pub loop-segment-preserved : goal.loop-segment-preserved
+loop-segment-preserved g c =
+    let old = g.D.SectorDevice.state c.args.device.now in
+    let mid = g.D.SectorDevice.state c.loop-segment.device in
+    let new = g.D.SectorDevice.state c.is_row.new.device in
+    let here = c.loop-segment.invariant in
+    let step = c.in_ok-is_row.ensures in
+    record {
+      looks = looks_then old mid new here.looks step.looks;
+      no_failure = step.no_failure ∙ here.no_failure;
+      rows = λ d reads s lt. ⊎_elim
+          (λ (before : s < c.loop-segment.segment). here.rows d (reads_first old mid new d reads step.looks) s before)
+          (λ (now : c.loop-segment.segment ≤ s).
+          let e : c.loop-segment.segment ≡ s = omega arith in
+          subst (λ (x : ℕ). HasRow (row_by d (get_or c.args.used.now x 0) x)) e
+          ((step.row d (reads_then old mid new d reads here.looks)).0 c.if-not-branch.false))
+          (cases_lt s c.loop-segment.segment);
+    }
+
+pub returns-clause-rows : goal.returns-clause-rows
+returns-clause-rows g c = λ d k reads table.
+    (λ on. rows_of d k c.args.used.now table (λ s lt. c.loop-segment.invariant.rows d reads s (omega arith)), λ rows. search rules)

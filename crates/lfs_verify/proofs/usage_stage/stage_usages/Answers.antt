@@ -1,0 +1,65 @@
+use Rattle.std.proofs.Common.{◌≡◌, ◌∙◌, refl, below_more, subst, arith}
+use Rattle.lfs_model.specs.Reach.{view}
+use Rattle.lfs_model.specs.Stands.{Usages}
+use Rattle.lfs_verify.specs.Walk.{Walked}
+use Rattle.lfs_verify.proofs.Takes.{reads_first, reads_then, looks_none, looks_then, goes_true, goes_false}
+use Rattle.lfs_verify.proofs.UsageSteps.{usages_of}
+use Rattle.lfs_verify.proofs.usage_stage.stage_usages.Goals as goal
+
+pub loop-index-init : goal.loop-index-init
+loop-index-init g c = record {
+  looks = looks_none (g.D.SectorDevice.state c.args.device.now) (g.met.D.SectorDevice.lawful c.args.device.now);
+  no_failure = refl;
+  len = refl;
+  used = refl;
+  live = refl;
+  is_there = λ j lt. absurd (omega (arith, lt));
+  says = λ d reads s lt. absurd (omega (arith, lt));
+  walked = λ d reads w. w;
+}
+
+pub returns-then-not-branch-clause-goes : goal.returns-then-not-branch-clause-goes
+returns-then-not-branch-clause-goes g c = λ d reads w.
+    let old = g.D.SectorDevice.state c.args.device.now in
+    let mid = g.D.SectorDevice.state c.loop-index.device in
+    let new = g.D.SectorDevice.state c.take_usage.new.device in
+    let v = view d c.args.checkpoint.now in
+    let here = c.loop-index.invariant in
+    let step = c.in_ok-take_usage.ensures in
+    goes_false v _ _ _ _ (Usages v) _ c.if-not-branch.true (step.goes d (reads_then old mid new d reads here.looks)) (here.walked d (reads_first old mid new d reads step.looks) w)
+
+pub loop-index-preserved : goal.loop-index-preserved
+loop-index-preserved g c =
+    let old = g.D.SectorDevice.state c.args.device.now in
+    let mid = g.D.SectorDevice.state c.loop-index.device in
+    let new = g.D.SectorDevice.state c.take_usage.new.device in
+    let here = c.loop-index.invariant in
+    let step = c.in_ok-take_usage.ensures in
+    record {
+      looks = looks_then old mid new here.looks step.looks;
+      no_failure = step.no_failure ∙ here.no_failure;
+      len = step.len ∙ here.len;
+      used = step.used ∙ here.used;
+      live = step.live ∙ here.live;
+      is_there = below_more _ _ here.is_there (step.is_there c.if-not-branch.false);
+      says = λ d reads. step.says c.if-not-branch.false d (reads_then old mid new d reads here.looks) (here.says d (reads_first old mid new d reads step.looks));
+      walked = λ d reads w.
+          let v = view d c.args.checkpoint.now in
+          goes_true v _ _ _ _ (Usages v) _ c.if-not-branch.false (step.goes d (reads_then old mid new d reads here.looks)) (here.walked d (reads_first old mid new d reads step.looks) w);
+    }
+
+pub returns-clause-goes : goal.returns-clause-goes
+returns-clause-goes g c = λ d reads w.
+    let e : c.loop-index.index ≡ 16 = omega arith in
+    subst (Walked (view d c.args.checkpoint.now) c.loop-index.marks) e (c.loop-index.invariant.walked d reads w)
+
+pub returns-clause-says : goal.returns-clause-says
+returns-clause-says g c = λ is d reads s within.
+    let few = c.requires.few in
+    c.loop-index.invariant.says d reads s (omega (arith, within, few, c.loop-index-test.false)) within
+
+pub returns-clause-holds : goal.returns-clause-holds
+returns-clause-holds g c = λ is d reads bounded w.
+    let e : c.loop-index.index ≡ 16 = omega arith in
+    usages_of d c.args.checkpoint.now c.requires.few (λ j lt. c.loop-index.invariant.is_there j (omega (arith, lt, e))) c.loop-index.marks
+    (subst (Walked (view d c.args.checkpoint.now) c.loop-index.marks) e (c.loop-index.invariant.walked d reads w)) bounded

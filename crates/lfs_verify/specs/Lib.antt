@@ -1,0 +1,10 @@
+pub mod Walk
+pub mod Take
+pub mod Labels
+pub mod Rows
+pub mod Codes
+pub mod Tables
+pub mod Directories
+pub mod MapTables
+pub mod UsageTables
+pub mod Verified

@@ -1,0 +1,75 @@
+-- The order of the walk, and what has been seen up to a step of it.
+-- All of it is an own choice: it orders the stages that the model names.
+use Rattle.std.specs.Prelude.{◌≡◌, ◌<◌, ◌≤◌, ◌⊎◌, ◌+◌, ◌*◌, ℕ, zero, suc, List, length, get_or, slice_index}
+use Rattle.lfs_model.specs.Entry.{Entry, Data, Leaf, Double, Inode, Map, Usage, IsInode, header}
+use Rattle.lfs_model.specs.Reach.{View}
+use Rattle.lfs_model.specs.Stands.{HasWord, Reached, used_in, live_in, age_in}
+
+-- each entry's place in the order of the walk: the usage blocks, the blocks of the inode map, the inodes, each file's single leaf
+-- and double root, the leaves under double roots, the data blocks
+abbrev pub step_of : Entry → ℕ
+step_of (Usage j) = j
+step_of (Map j) = 16 + j
+step_of (Inode n) = 48 + n
+step_of (Leaf n zero) = 4144 + 2 * n
+step_of (Double n) = 4145 + 2 * n
+step_of (Leaf n (suc q)) = 12336 + 128 * n + q
+step_of (Data n i) = 536624 + 16624 * n + i
+
+-- the entries that there are
+abbrev pub InBounds : Entry → Type 0
+InBounds (Usage j) = j < 16
+InBounds (Map j) = j < 32
+InBounds (Inode n) = n < 4096
+InBounds (Leaf n zero) = n < 4096
+InBounds (Double n) = n < 4096
+InBounds (Leaf n (suc q)) = (n < 4096) × (q < 128)
+InBounds (Data n i) = (n < 4096) × (i < 16624)
+
+-- what a usage block says of one segment
+pub record IsUsage (v : View) (s : ℕ) : Type 0 where
+  pub fit : used_in v s ≤ 64
+  pub less : (used_in v s ≡ 0) ⊎ ((0 < live_in v s) × (live_in v s < used_in v s))
+  pub both : used_in v s ≡ 0 → live_in v s ≡ 0
+  pub past : v.checkpoint.segments ≤ s → (used_in v s ≡ 0) × (age_in v s ≡ 0)
+
+pub record IsUsageBlock (v : View) (j : ℕ) : Type 0 where
+  pub readable : length (v.block (Usage j)) ≡ 512
+  pub each : (o : ℕ) → o < 64 → IsUsage v (64 * j + o)
+
+-- the data block at a place of a file of this size
+pub record IsDataBytes (i size : ℕ) (bytes : List ℕ) : Type 0 where
+  pub nonzero : (o : ℕ) × (0 < slice_index bytes o)
+  pub within : 512 * i < size
+  pub past : (o : ℕ) → size ≤ 512 * i + o → slice_index bytes o ≡ 0
+
+abbrev pub IsData : View → ℕ → ℕ → Type 0
+IsData v n i = IsDataBytes i (header (v.block (Inode n))).size (v.block (Data n i))
+
+-- what a stage asks of a block that is reached
+abbrev pub IsGood : View → Entry → Type 0
+IsGood v (Usage j) = IsUsageBlock v j
+IsGood v (Map j) = HasWord v (Map j)
+IsGood v (Inode n) = IsInode n (v.block (Inode n))
+IsGood v (Leaf n q) = HasWord v (Leaf n q)
+IsGood v (Double n) = HasWord v (Double n)
+IsGood v (Data n i) = IsData v n i
+
+-- Before step r: a sector's mark is one more than the step that reached it, and 0 where none did;
+-- what was reached lies in a segment, alone at its address, and is good.
+pub record Walked (v : View) (marks : List ℕ) (r : ℕ) : Type 0 where
+  pub size : length marks ≡ 2 + 64 * v.checkpoint.segments
+  pub held : (a p : ℕ) → get_or marks a 0 ≡ suc p → (e : Entry) × (step_of e ≡ p) × (p < r) × InBounds e × Reached v e × (v.address e ≡ a)
+  pub marked : (e : Entry) → step_of e < r → InBounds e → Reached v e → get_or marks (v.address e) 0 ≡ suc (step_of e)
+  pub low : (e : Entry) → step_of e < r → InBounds e → Reached v e → 2 ≤ v.address e
+  pub good : (e : Entry) → step_of e < r → InBounds e → Reached v e → IsGood v e
+
+-- nothing lies past the bounds
+abbrev pub IsBounded : View → Type 0
+IsBounded v = (e : Entry) → Reached v e → InBounds e
+
+-- a sector that may be marked
+pub record IsOpen (marks : List ℕ) (at : ℕ) : Type 0 where
+  pub low : 2 ≤ at
+  pub within : at < length marks
+  pub unmarked : get_or marks at 0 ≡ 0

@@ -1,0 +1,206 @@
+//! The data blocks of all files.
+ghost use Rattle.std.specs.Prelude.{◌≡◌, ◌<◌, ◌≤◌, ◌+◌, ◌*◌, ℕ, length, get_or, IfOk, OnOk, OnErr};
+ghost use Rattle.lfs_model.specs.Checkpoint.{CheckpointValue};
+ghost use Rattle.lfs_model.specs.Content.{Content, block};
+ghost use Rattle.lfs_model.specs.Entry.{Double, Inode, header};
+ghost use Rattle.lfs_model.specs.Reach.{view};
+ghost use Rattle.lfs_model.specs.Stands.{Blocks};
+ghost use Rattle.lfs_verify.specs.Take.{Looks, Reads, Goes, Lists};
+
+use crate::reading::fetch;
+use crate::runs::{data_of_leaf, data_run};
+use crate::values::word_at;
+use lfs_device::{DeviceFault, SectorDevice};
+
+/// How many bytes the file of an inode has.
+#[tactic(auto, unfolding(lfs_model::specs::Entry::word, lfs_model::specs::Entry::header))]
+pub fn size_of(inode: &[u8; 512]) -> u32
+    ensures { result ≡ (header inode.now).size }
+{
+    word_at(inode, 3)
+}
+
+/// Takes the data blocks to which an inode leads by itself.
+///
+/// # Errors
+///
+/// The fault where a call of the device failed.
+pub fn data_of_inode<D: SectorDevice>(
+    device: &mut D,
+    inode: &[u8; 512],
+    file: u32,
+    marks: &mut [u32],
+    sector: &mut [u8; 512],
+) -> Result<bool, DeviceFault>
+    requires file { file < 4096 }
+    requires inside { length marks.old ≤ (D.state device.old).size }
+    ensures goes { IfOk result (λ r. (c : Content) (k : CheckpointValue) → Reads (D.state device.old) (D.state device.new) c → block c ((view c k).address (Inode file)) ≡ inode.now
+        → Goes (view c k) marks.old marks.new (536624 + 16624 * file) (536624 + 16624 * file + 112) (Blocks (view c k)) r) }
+    ensures len { length marks.new ≡ length marks.old }
+    ensures failed { OnErr result ((D.state device.old).failures < (D.state device.new).failures) }
+    ensures no_failure { OnOk result ((D.state device.new).failures ≡ (D.state device.old).failures) }
+    ensures looks { Looks (D.state device.old) (D.state device.new) }
+{
+    let size = size_of(inode);
+    if !data_run(device, inode, 8, 112, 0, file, size, marks, sector)? {
+        return Ok(false);
+    }
+    Ok(true)
+}
+
+/// Takes the data blocks of the leaves to which a double root leads.
+///
+/// # Errors
+///
+/// The fault where a call of the device failed.
+pub fn data_of_leaves<D: SectorDevice>(
+    device: &mut D,
+    root: &[u8; 512],
+    file: u32,
+    size: u32,
+    marks: &mut [u32],
+    words: &mut [u8; 512],
+    sector: &mut [u8; 512],
+) -> Result<bool, DeviceFault>
+    requires file { file < 4096 }
+    requires inside { length marks.old ≤ (D.state device.old).size }
+    ensures goes { IfOk result (λ r. (c : Content) (k : CheckpointValue) → Reads (D.state device.old) (D.state device.new) c → block c ((view c k).address (Double file)) ≡ root.now
+        → size ≡ (header (block c ((view c k).address (Inode file)))).size
+        → Goes (view c k) marks.old marks.new (536624 + 16624 * file + 240) (536624 + 16624 * file + 16624) (Blocks (view c k)) r) }
+    ensures len { length marks.new ≡ length marks.old }
+    ensures failed { OnErr result ((D.state device.old).failures < (D.state device.new).failures) }
+    ensures no_failure { OnOk result ((D.state device.new).failures ≡ (D.state device.old).failures) }
+    ensures looks { Looks (D.state device.old) (D.state device.new) }
+{
+    for place in 0..128u32 {
+        let address = word_at(root, place as usize);
+        if !data_of_leaf(device, address, place + 1, file, size, marks, words, sector)? {
+            return Ok(false);
+        }
+    }
+    Ok(true)
+}
+
+/// Takes the data blocks under a double root, which was taken before.
+///
+/// # Errors
+///
+/// The fault where a call of the device failed.
+pub fn data_of_double<D: SectorDevice>(
+    device: &mut D,
+    address: u32,
+    file: u32,
+    size: u32,
+    marks: &mut [u32],
+    root: &mut [u8; 512],
+    words: &mut [u8; 512],
+    sector: &mut [u8; 512],
+) -> Result<bool, DeviceFault>
+    requires file { file < 4096 }
+    requires inside { length marks.old ≤ (D.state device.old).size }
+    ensures goes { IfOk result (λ r. (c : Content) (k : CheckpointValue) → Reads (D.state device.old) (D.state device.new) c → address ≡ (view c k).address (Double file)
+        → size ≡ (header (block c ((view c k).address (Inode file)))).size
+        → Goes (view c k) marks.old marks.new (536624 + 16624 * file + 240) (536624 + 16624 * file + 16624) (Blocks (view c k)) r) }
+    ensures len { length marks.new ≡ length marks.old }
+    ensures failed { OnErr result ((D.state device.old).failures < (D.state device.new).failures) }
+    ensures no_failure { OnOk result ((D.state device.new).failures ≡ (D.state device.old).failures) }
+    ensures looks { Looks (D.state device.old) (D.state device.new) }
+{
+    if address == 0 {
+        return Ok(true);
+    }
+    if address as usize >= marks.len() {
+        return Ok(false);
+    }
+    if !fetch(device, address, root)? {
+        return Ok(false);
+    }
+    if !data_of_leaves(device, root, file, size, marks, words, sector)? {
+        return Ok(false);
+    }
+    Ok(true)
+}
+
+/// Takes the data blocks of a file, the inode and blocks of addresses of which were taken before.
+///
+/// # Errors
+///
+/// The fault where a call of the device failed.
+pub fn data_of_file<D: SectorDevice>(
+    device: &mut D,
+    address: u32,
+    file: u32,
+    marks: &mut [u32],
+    upper: &mut [u8; 512],
+    words: &mut [u8; 512],
+    sector: &mut [u8; 512],
+) -> Result<bool, DeviceFault>
+    requires file { file < 4096 }
+    requires at { address < length marks.old }
+    requires inside { length marks.old ≤ (D.state device.old).size }
+    ensures goes { IfOk result (λ r. (c : Content) (k : CheckpointValue) → Reads (D.state device.old) (D.state device.new) c → address ≡ (view c k).address (Inode file)
+        → Goes (view c k) marks.old marks.new (536624 + 16624 * file) (536624 + 16624 * (file + 1)) (Blocks (view c k)) r) }
+    ensures len { length marks.new ≡ length marks.old }
+    ensures failed { OnErr result ((D.state device.old).failures < (D.state device.new).failures) }
+    ensures no_failure { OnOk result ((D.state device.new).failures ≡ (D.state device.old).failures) }
+    ensures looks { Looks (D.state device.old) (D.state device.new) }
+{
+    if address == 0 {
+        return Ok(true);
+    }
+    if !fetch(device, address, upper)? {
+        return Ok(false);
+    }
+    let size = size_of(upper);
+    let single = word_at(upper, 120);
+    let double = word_at(upper, 121);
+    if !data_of_inode(device, upper, file, marks, sector)? {
+        return Ok(false);
+    }
+    if !data_of_leaf(device, single, 0, file, size, marks, words, sector)? {
+        return Ok(false);
+    }
+    if !data_of_double(device, double, file, size, marks, upper, words, sector)? {
+        return Ok(false);
+    }
+    Ok(true)
+}
+
+/// Stage 7: takes the data blocks of all files. False where the stage fails.
+///
+/// # Errors
+///
+/// The fault where a call of the device failed.
+pub fn stage_data<D: SectorDevice>(
+    device: &mut D,
+    map: &[u32],
+    marks: &mut [u32],
+    upper: &mut [u8; 512],
+    words: &mut [u8; 512],
+    sector: &mut [u8; 512],
+) -> Result<bool, DeviceFault>
+    requires files { length map.now ≡ 4096 }
+    requires at { (i : ℕ) → i < 4096 → get_or map.now i 0 < length marks.old }
+    requires inside { length marks.old ≤ (D.state device.old).size }
+    ensures goes { IfOk result (λ r. (c : Content) (k : CheckpointValue) → Reads (D.state device.old) (D.state device.new) c → Lists (view c k) map.now
+        → Goes (view c k) marks.old marks.new 536624 68628528 (Blocks (view c k)) r) }
+    ensures len { length marks.new ≡ length marks.old }
+    ensures failed { OnErr result ((D.state device.old).failures < (D.state device.new).failures) }
+    ensures no_failure { OnOk result ((D.state device.new).failures ≡ (D.state device.old).failures) }
+    ensures looks { Looks (D.state device.old) (D.state device.new) }
+{
+    for file in 0..4096u32 {
+        if !data_of_file(
+            device,
+            map[file as usize],
+            file,
+            marks,
+            upper,
+            words,
+            sector,
+        )? {
+            return Ok(false);
+        }
+    }
+    Ok(true)
+}

@@ -1,0 +1,118 @@
+//! The leaves under the double roots of all files.
+ghost use Rattle.std.specs.Prelude.{◌≡◌, ◌<◌, ◌≤◌, ◌+◌, ◌*◌, ℕ, length, get_or, IfOk, OnOk, OnErr};
+ghost use Rattle.lfs_model.specs.Checkpoint.{CheckpointValue};
+ghost use Rattle.lfs_model.specs.Content.{Content, block};
+ghost use Rattle.lfs_model.specs.Entry.{Inode, Double};
+ghost use Rattle.lfs_model.specs.Reach.{view};
+ghost use Rattle.lfs_model.specs.Stands.{Leaves};
+ghost use Rattle.lfs_verify.specs.Take.{Looks, Reads, Goes, Lists};
+
+use crate::pointers::take_pointers;
+use crate::reading::fetch;
+use crate::values::word_at;
+use lfs_device::{DeviceFault, SectorDevice};
+
+/// Takes the leaves to which a double root leads.
+///
+/// # Errors
+///
+/// The fault where a call of the device failed.
+pub fn leaf_blocks<D: SectorDevice>(
+    device: &mut D,
+    root: &[u8; 512],
+    file: u32,
+    marks: &mut [u32],
+    sector: &mut [u8; 512],
+) -> Result<bool, DeviceFault>
+    requires file { file < 4096 }
+    requires inside { length marks.old ≤ (D.state device.old).size }
+    ensures goes { IfOk result (λ r. (c : Content) (k : CheckpointValue) → Reads (D.state device.old) (D.state device.new) c → block c ((view c k).address (Double file)) ≡ root.now
+        → Goes (view c k) marks.old marks.new (12336 + 128 * file) (12336 + 128 * (file + 1)) (Leaves (view c k)) r) }
+    ensures len { length marks.new ≡ length marks.old }
+    ensures failed { OnErr result ((D.state device.old).failures < (D.state device.new).failures) }
+    ensures no_failure { OnOk result ((D.state device.new).failures ≡ (D.state device.old).failures) }
+    ensures looks { Looks (D.state device.old) (D.state device.new) }
+{
+    for leaf in 0..128u32 {
+        let address = word_at(root, leaf as usize);
+        if !take_pointers(device, marks, address, 12336 + 128 * file + leaf, sector)? {
+            return Ok(false);
+        }
+    }
+    Ok(true)
+}
+
+/// Takes the leaves under a file's double root, which was taken before.
+///
+/// # Errors
+///
+/// The fault where a call of the device failed.
+pub fn leaves_of_file<D: SectorDevice>(
+    device: &mut D,
+    address: u32,
+    file: u32,
+    marks: &mut [u32],
+    upper: &mut [u8; 512],
+    sector: &mut [u8; 512],
+) -> Result<bool, DeviceFault>
+    requires file { file < 4096 }
+    requires at { address < length marks.old }
+    requires inside { length marks.old ≤ (D.state device.old).size }
+    ensures goes { IfOk result (λ r. (c : Content) (k : CheckpointValue) → Reads (D.state device.old) (D.state device.new) c → address ≡ (view c k).address (Inode file)
+        → Goes (view c k) marks.old marks.new (12336 + 128 * file) (12336 + 128 * (file + 1)) (Leaves (view c k)) r) }
+    ensures len { length marks.new ≡ length marks.old }
+    ensures failed { OnErr result ((D.state device.old).failures < (D.state device.new).failures) }
+    ensures no_failure { OnOk result ((D.state device.new).failures ≡ (D.state device.old).failures) }
+    ensures looks { Looks (D.state device.old) (D.state device.new) }
+{
+    if address == 0 {
+        return Ok(true);
+    }
+    if !fetch(device, address, upper)? {
+        return Ok(false);
+    }
+    let double = word_at(upper, 121);
+    if double == 0 {
+        return Ok(true);
+    }
+    if double as usize >= marks.len() {
+        return Ok(false);
+    }
+    if !fetch(device, double, upper)? {
+        return Ok(false);
+    }
+    if !leaf_blocks(device, upper, file, marks, sector)? {
+        return Ok(false);
+    }
+    Ok(true)
+}
+
+/// Stage 6: takes the leaves under double roots. False where the stage fails.
+///
+/// # Errors
+///
+/// The fault where a call of the device failed.
+pub fn stage_leaves<D: SectorDevice>(
+    device: &mut D,
+    map: &[u32],
+    marks: &mut [u32],
+    upper: &mut [u8; 512],
+    sector: &mut [u8; 512],
+) -> Result<bool, DeviceFault>
+    requires files { length map.now ≡ 4096 }
+    requires at { (i : ℕ) → i < 4096 → get_or map.now i 0 < length marks.old }
+    requires inside { length marks.old ≤ (D.state device.old).size }
+    ensures goes { IfOk result (λ r. (c : Content) (k : CheckpointValue) → Reads (D.state device.old) (D.state device.new) c → Lists (view c k) map.now
+        → Goes (view c k) marks.old marks.new 12336 536624 (Leaves (view c k)) r) }
+    ensures len { length marks.new ≡ length marks.old }
+    ensures failed { OnErr result ((D.state device.old).failures < (D.state device.new).failures) }
+    ensures no_failure { OnOk result ((D.state device.new).failures ≡ (D.state device.old).failures) }
+    ensures looks { Looks (D.state device.old) (D.state device.new) }
+{
+    for file in 0..4096u32 {
+        if !leaves_of_file(device, map[file as usize], file, marks, upper, sector)? {
+            return Ok(false);
+        }
+    }
+    Ok(true)
+}

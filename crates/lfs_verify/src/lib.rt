@@ -1,0 +1,33 @@
+//! The walk over a whole volume, which finds out whether its content stands for a log map. It only reads.
+#![tactic(auto)]
+
+pub mod blocks;
+pub mod clean;
+pub mod counts;
+pub mod data;
+mod fault;
+pub mod inode_stage;
+pub mod inodes;
+pub mod labels;
+pub mod leaves;
+pub mod map_stage;
+pub mod mark_laws;
+pub mod marks;
+pub mod pointers;
+pub mod reading;
+pub mod roots;
+pub mod rows;
+pub mod runs;
+pub mod usage_stage;
+pub mod values;
+pub mod verify;
+pub mod walk;
+
+pub use fault::{VerifyFault, WalkFault};
+
+#[cfg(test)]
+mod data_tests;
+#[cfg(test)]
+mod segment_tests;
+#[cfg(test)]
+mod tests;

@@ -1,0 +1,117 @@
+//! The blocks of the inode map, and the table of inode addresses that they hold.
+ghost use Rattle.std.specs.Prelude.{◌≡◌, ◌<◌, ◌≤◌, ◌+◌, ◌*◌, ℕ, length, get_or, IsTrue, IfOk, OnOk, OnErr};
+ghost use Rattle.lfs_model.specs.Content.{Content};
+ghost use Rattle.lfs_model.specs.Reach.{view};
+ghost use Rattle.lfs_model.specs.Stands.{Maps};
+ghost use Rattle.lfs_verify.specs.MapTables.{Copies, ListsUpTo, IsEmptyFrom};
+ghost use Rattle.lfs_verify.specs.Take.{Looks, Reads, Goes, Lists};
+ghost use Rattle.lfs_verify.specs.Walk.{Walked, IsBounded};
+
+use crate::marks::claim;
+use crate::reading::fetch;
+use crate::values::{has_word, word_at};
+use lfs_device::{DeviceFault, SectorDevice};
+use lfs_layout::Checkpoint;
+
+fn map_address(checkpoint: &Checkpoint, index: u32) -> u32
+    requires { index < 32 }
+    ensures { result ≡ get_or checkpoint.now.map index 0 }
+{
+    checkpoint.map[index as usize]
+}
+
+/// Copies the addresses in a block of the inode map to their places in the table.
+fn copy_words(block: &[u8; 512], index: u32, map: &mut [u32])
+    requires index { index < 32 }
+    requires files { length map.old ≡ 4096 }
+    ensures { Copies block.now map.old map.new (128 * index) 128 }
+{
+    for place in 0..128usize {
+        map[128 * index as usize + place] = word_at(block, place);
+    }
+}
+
+/// Takes a block of the inode map, where there is one, and copies its addresses to the table.
+///
+/// # Errors
+///
+/// The fault where a call of the device failed.
+pub fn take_map<D: SectorDevice>(
+    device: &mut D,
+    checkpoint: &Checkpoint,
+    index: u32,
+    map: &mut [u32],
+    marks: &mut [u32],
+    sector: &mut [u8; 512],
+) -> Result<bool, DeviceFault>
+    requires index { index < 32 }
+    requires files { length map.old ≡ 4096 }
+    requires empty { IsEmptyFrom map.old index }
+    requires inside { length marks.old ≤ (D.state device.old).size }
+    ensures goes { IfOk result (λ r. (c : Content) → Reads (D.state device.old) (D.state device.new) c
+        → Goes (view c checkpoint.now) marks.old marks.new (16 + index) (16 + (index + 1)) (Maps (view c checkpoint.now)) r) }
+    ensures lists { IfOk result (λ r. IsTrue r → (c : Content) → Reads (D.state device.old) (D.state device.new) c
+        → ListsUpTo (view c checkpoint.now) map.old index → ListsUpTo (view c checkpoint.now) map.new (index + 1)) }
+    ensures empty { IfOk result (λ r. IsTrue r → IsEmptyFrom map.new (index + 1)) }
+    ensures files { length map.new ≡ length map.old }
+    ensures len { length marks.new ≡ length marks.old }
+    ensures failed { OnErr result ((D.state device.old).failures < (D.state device.new).failures) }
+    ensures no_failure { OnOk result ((D.state device.new).failures ≡ (D.state device.old).failures) }
+    ensures looks { Looks (D.state device.old) (D.state device.new) }
+{
+    let address = map_address(checkpoint, index);
+    if address == 0 {
+        return Ok(true);
+    }
+    if !claim(marks, address, 16 + index) {
+        return Ok(false);
+    }
+    if !fetch(device, address, sector)? {
+        return Ok(false);
+    }
+    if !has_word(sector) {
+        return Ok(false);
+    }
+    copy_words(sector, index, map);
+    Ok(true)
+}
+
+/// Stage 3: takes the blocks of the inode map, and copies their addresses to an empty table. False where the stage fails.
+///
+/// # Errors
+///
+/// The fault where a call of the device failed.
+pub fn stage_maps<D: SectorDevice>(
+    device: &mut D,
+    checkpoint: &Checkpoint,
+    map: &mut [u32],
+    marks: &mut [u32],
+    sector: &mut [u8; 512],
+) -> Result<bool, DeviceFault>
+    requires files { length map.old ≡ 4096 }
+    requires empty { (n : ℕ) → get_or map.old n 0 ≡ 0 }
+    requires inside { length marks.old ≤ (D.state device.old).size }
+    ensures goes { IfOk result (λ r. (c : Content) → Reads (D.state device.old) (D.state device.new) c
+        → Goes (view c checkpoint.now) marks.old marks.new 16 48 (Maps (view c checkpoint.now)) r) }
+    ensures holds { IfOk result (λ r. IsTrue r → (c : Content) → Reads (D.state device.old) (D.state device.new) c
+        → IsBounded (view c checkpoint.now) → Walked (view c checkpoint.now) marks.old 16 → Maps (view c checkpoint.now)) }
+    ensures lists { IfOk result (λ r. IsTrue r → (c : Content) → Reads (D.state device.old) (D.state device.new) c → Lists (view c checkpoint.now) map.new) }
+    ensures files { length map.new ≡ length map.old }
+    ensures len { length marks.new ≡ length marks.old }
+    ensures failed { OnErr result ((D.state device.old).failures < (D.state device.new).failures) }
+    ensures no_failure { OnOk result ((D.state device.new).failures ≡ (D.state device.old).failures) }
+    ensures looks { Looks (D.state device.old) (D.state device.new) }
+{
+    for index in 0..32u32 {
+        if !take_map(device, checkpoint, index, map, marks, sector)? {
+            return Ok(false);
+        }
+    }
+    if map[0] != 0 {
+        return Ok(false);
+    }
+    if map[1] == 0 {
+        return Ok(false);
+    }
+    Ok(true)
+}

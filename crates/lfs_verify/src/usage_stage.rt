@@ -1,0 +1,133 @@
+//! The usage blocks, and the tables of the sectors in use that they hold.
+ghost use Rattle.std.specs.Prelude.{◌≡◌, ◌<◌, ◌≤◌, ◌+◌, ◌*◌, ◌/◌, ◌↔◌, ℕ, length, get_or, IsTrue, IfOk, OnOk, OnErr};
+ghost use Rattle.lfs_model.specs.Content.{Content};
+ghost use Rattle.lfs_model.specs.Reach.{view};
+ghost use Rattle.lfs_model.specs.Stands.{Usages};
+ghost use Rattle.lfs_verify.specs.Take.{Looks, Reads, Goes};
+ghost use Rattle.lfs_verify.specs.UsageTables.{CopiesUses, SaysUpTo, SaysAll};
+ghost use Rattle.lfs_verify.specs.Walk.{Walked, IsBounded};
+
+use crate::marks::claim;
+use crate::reading::fetch;
+use lfs_device::{DeviceFault, SectorDevice};
+use lfs_layout::{Checkpoint, UsageView};
+
+pub(crate) fn segments_of(checkpoint: &Checkpoint) -> u32
+    ensures { result ≡ checkpoint.now.segments }
+{
+    checkpoint.segments
+}
+
+fn usage_address(checkpoint: &Checkpoint, index: u32) -> u32
+    requires { index < 16 }
+    ensures { result ≡ get_or checkpoint.now.usage index 0 }
+{
+    checkpoint.usage[index as usize]
+}
+
+/// Copies the entries of a usage block to the places of their segments, as far as the tables go.
+fn copy_uses(block: &UsageView<'_>, index: u32, used: &mut [u16], live: &mut [u16])
+    requires index { index < 16 }
+    requires same { length live.old ≡ length used.old }
+    ensures { CopiesUses block.now used.old live.old used.new live.new (64 * index) 64 }
+{
+    for place in 0..64usize {
+        let segment = 64 * index as usize + place;
+        if segment < used.len() {
+            let entry = block.get(place);
+            used[segment] = entry.used;
+            live[segment] = entry.live;
+        }
+    }
+}
+
+/// Takes a usage block, where there has to be one, and copies its entries to the tables.
+///
+/// # Errors
+///
+/// The fault where a call of the device failed.
+pub fn take_usage<D: SectorDevice>(
+    device: &mut D,
+    checkpoint: &Checkpoint,
+    index: u32,
+    used: &mut [u16],
+    live: &mut [u16],
+    marks: &mut [u32],
+    sector: &mut [u8; 512],
+) -> Result<bool, DeviceFault>
+    requires index { index < 16 }
+    requires used { length used.old ≡ checkpoint.now.segments }
+    requires live { length live.old ≡ checkpoint.now.segments }
+    requires inside { length marks.old ≤ (D.state device.old).size }
+    ensures goes { IfOk result (λ r. (c : Content) → Reads (D.state device.old) (D.state device.new) c
+        → Goes (view c checkpoint.now) marks.old marks.new index (index + 1) (Usages (view c checkpoint.now)) r) }
+    ensures is_there { IfOk result (λ r. IsTrue r → (0 < get_or checkpoint.now.usage index 0) ↔ (index < (checkpoint.now.segments + 63) / 64)) }
+    ensures says { IfOk result (λ r. IsTrue r → (c : Content) → Reads (D.state device.old) (D.state device.new) c
+        → SaysUpTo (view c checkpoint.now) used.old live.old index → SaysUpTo (view c checkpoint.now) used.new live.new (index + 1)) }
+    ensures used { length used.new ≡ length used.old }
+    ensures live { length live.new ≡ length live.old }
+    ensures len { length marks.new ≡ length marks.old }
+    ensures failed { OnErr result ((D.state device.old).failures < (D.state device.new).failures) }
+    ensures no_failure { OnOk result ((D.state device.new).failures ≡ (D.state device.old).failures) }
+    ensures looks { Looks (D.state device.old) (D.state device.new) }
+{
+    let segments = segments_of(checkpoint);
+    let address = usage_address(checkpoint, index);
+    if 64 * index >= segments {
+        if address != 0 {
+            return Ok(false);
+        }
+        return Ok(true);
+    }
+    if address == 0 {
+        return Ok(false);
+    }
+    if !claim(marks, address, index) {
+        return Ok(false);
+    }
+    if !fetch(device, address, sector)? {
+        return Ok(false);
+    }
+    let Some(block) = UsageView::decode(sector, (segments - 64 * index) as usize) else {
+        return Ok(false);
+    };
+    copy_uses(&block, index, used, live);
+    Ok(true)
+}
+
+/// Stage 1: takes the usage blocks, and copies their entries to the tables of used and of live sectors. False where the stage fails.
+///
+/// # Errors
+///
+/// The fault where a call of the device failed.
+pub fn stage_usages<D: SectorDevice>(
+    device: &mut D,
+    checkpoint: &Checkpoint,
+    used: &mut [u16],
+    live: &mut [u16],
+    marks: &mut [u32],
+    sector: &mut [u8; 512],
+) -> Result<bool, DeviceFault>
+    requires few { checkpoint.now.segments ≤ 1024 }
+    requires used { length used.old ≡ checkpoint.now.segments }
+    requires live { length live.old ≡ checkpoint.now.segments }
+    requires inside { length marks.old ≤ (D.state device.old).size }
+    ensures goes { IfOk result (λ r. (c : Content) → Reads (D.state device.old) (D.state device.new) c
+        → Goes (view c checkpoint.now) marks.old marks.new 0 16 (Usages (view c checkpoint.now)) r) }
+    ensures holds { IfOk result (λ r. IsTrue r → (c : Content) → Reads (D.state device.old) (D.state device.new) c
+        → IsBounded (view c checkpoint.now) → Walked (view c checkpoint.now) marks.old 0 → Usages (view c checkpoint.now)) }
+    ensures says { IfOk result (λ r. IsTrue r → (c : Content) → Reads (D.state device.old) (D.state device.new) c → SaysAll (view c checkpoint.now) used.new live.new) }
+    ensures used { length used.new ≡ length used.old }
+    ensures live { length live.new ≡ length live.old }
+    ensures len { length marks.new ≡ length marks.old }
+    ensures failed { OnErr result ((D.state device.old).failures < (D.state device.new).failures) }
+    ensures no_failure { OnOk result ((D.state device.new).failures ≡ (D.state device.old).failures) }
+    ensures looks { Looks (D.state device.old) (D.state device.new) }
+{
+    for index in 0..16u32 {
+        if !take_usage(device, checkpoint, index, used, live, marks, sector)? {
+            return Ok(false);
+        }
+    }
+    Ok(true)
+}

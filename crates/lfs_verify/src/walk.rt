@@ -1,0 +1,314 @@
+//! The stages in order, with the number of the first that fails.
+ghost use Rattle.std.specs.Prelude.{◌≡◌, ◌<◌, ◌≤◌, ◌↔◌, ◌+◌, ◌*◌, ℕ, length, get_or, IsTrue, OnOk, IfOk, IfErr, IsErrOf};
+ghost use Rattle.lfs_model.specs.Checkpoint.{CheckpointValue, FitsCheckpoint};
+ghost use Rattle.lfs_model.specs.Content.{Content};
+ghost use Rattle.lfs_model.specs.Damage.{IsDamaged};
+ghost use Rattle.lfs_model.specs.Reach.{view};
+ghost use Rattle.lfs_model.specs.Stands.{EnoughClean};
+ghost use Rattle.lfs_verify.specs.Codes.{HoldsBelow, FaultIs, Passed, NineStages};
+ghost use Rattle.lfs_verify.specs.Tables.{IsUsedTable, IsLiveTable};
+ghost use Rattle.lfs_verify.specs.Take.{Looks, Reads, Lists};
+ghost use Rattle.lfs_verify.specs.Walk.{Walked, IsBounded};
+
+use crate::blocks::stage_data;
+use crate::clean::stage_clean;
+use crate::counts::stage_counts;
+use crate::fault::WalkFault;
+use crate::inode_stage::stage_inodes;
+use crate::labels::stage_labels;
+use crate::leaves::stage_leaves;
+use crate::map_stage::stage_maps;
+use crate::roots::stage_roots;
+use crate::rows::stage_rows;
+use crate::usage_stage::{segments_of, stage_usages};
+use lfs_device::{DeviceFault, SectorDevice};
+use lfs_layout::Checkpoint;
+use std::alloc::{AllocError, Global};
+
+/// Stages 1 and 2.
+///
+/// # Errors
+///
+/// `Damaged` with the first stage that fails, `Device` where a call of the device failed.
+fn walk_usages<D: SectorDevice>(
+    device: &mut D,
+    checkpoint: &Checkpoint,
+    used: &mut [u16],
+    live: &mut [u16],
+    marks: &mut [u32],
+) -> Result<(), WalkFault>
+    requires few { checkpoint.now.segments ≤ 1024 }
+    requires used { length used.old ≡ checkpoint.now.segments }
+    requires live { length live.old ≡ checkpoint.now.segments }
+    requires marks { length marks.old ≡ 2 + 64 * checkpoint.now.segments }
+    requires inside { length marks.old ≤ (D.state device.old).size }
+    ensures holds { OnOk result ((c : Content) → Reads (D.state device.old) (D.state device.new) c
+        → Passed (view c checkpoint.now) marks.old 0 1 → Passed (view c checkpoint.now) marks.new 16 3) }
+    ensures damaged { IfErr result (λ e. (code : ℕ) → FaultIs e code → (c : Content) → Reads (D.state device.old) (D.state device.new) c
+        → Passed (view c checkpoint.now) marks.old 0 1 → IsDamaged (view c checkpoint.now) code) }
+    ensures low { IfErr result (λ e. (code : ℕ) → FaultIs e code → code < 10) }
+    ensures tables { OnOk result ((c : Content) → Reads (D.state device.old) (D.state device.new) c → Passed (view c checkpoint.now) marks.old 0 1 → IsUsedTable (view c checkpoint.now) used.new × IsLiveTable (view c checkpoint.now) live.new) }
+    ensures used { length used.new ≡ length used.old }
+    ensures live { length live.new ≡ length live.old }
+    ensures len { length marks.new ≡ length marks.old }
+    ensures failed { IsErrOf result WalkFault.Device → (D.state device.old).failures < (D.state device.new).failures }
+    ensures no_failure { OnOk result ((D.state device.new).failures ≡ (D.state device.old).failures) }
+    ensures looks { Looks (D.state device.old) (D.state device.new) }
+{
+    let mut sector = [0; 512];
+    match stage_usages(device, checkpoint, used, live, marks, &mut sector) {
+        Ok(true) => (),
+        Ok(false) => return Err(WalkFault::Damaged(1)),
+        Err(DeviceFault) => return Err(WalkFault::Device),
+    }
+    match stage_rows(device, used, &mut sector) {
+        Ok(true) => Ok(()),
+        Ok(false) => Err(WalkFault::Damaged(2)),
+        Err(DeviceFault) => Err(WalkFault::Device),
+    }
+}
+
+/// Stages 3 and 4, where the stages before hold.
+///
+/// # Errors
+///
+/// `Damaged` with the first stage that fails, `Device` where a call of the device failed.
+fn walk_inodes<D: SectorDevice>(
+    device: &mut D,
+    checkpoint: &Checkpoint,
+    map: &mut [u32],
+    marks: &mut [u32],
+) -> Result<(), WalkFault>
+    requires files { length map.old ≡ 4096 }
+    requires empty { (n : ℕ) → get_or map.old n 0 ≡ 0 }
+    requires inside { length marks.old ≤ (D.state device.old).size }
+    ensures holds { OnOk result ((c : Content) → Reads (D.state device.old) (D.state device.new) c
+        → Passed (view c checkpoint.now) marks.old 16 3 → Passed (view c checkpoint.now) marks.new 4144 5) }
+    ensures damaged { IfErr result (λ e. (code : ℕ) → FaultIs e code → (c : Content) → Reads (D.state device.old) (D.state device.new) c
+        → Passed (view c checkpoint.now) marks.old 16 3 → IsDamaged (view c checkpoint.now) code) }
+    ensures low { IfErr result (λ e. (code : ℕ) → FaultIs e code → code < 10) }
+    ensures lists { OnOk result ((c : Content) → Reads (D.state device.old) (D.state device.new) c → Lists (view c checkpoint.now) map.new) }
+    ensures at { OnOk result ((i : ℕ) → i < 4096 → get_or map.new i 0 < length marks.old) }
+    ensures files { length map.new ≡ length map.old }
+    ensures len { length marks.new ≡ length marks.old }
+    ensures failed { IsErrOf result WalkFault.Device → (D.state device.old).failures < (D.state device.new).failures }
+    ensures no_failure { OnOk result ((D.state device.new).failures ≡ (D.state device.old).failures) }
+    ensures looks { Looks (D.state device.old) (D.state device.new) }
+{
+    let mut sector = [0; 512];
+    match stage_maps(device, checkpoint, map, marks, &mut sector) {
+        Ok(true) => (),
+        Ok(false) => return Err(WalkFault::Damaged(3)),
+        Err(DeviceFault) => return Err(WalkFault::Device),
+    }
+    match stage_inodes(device, map, marks, &mut sector) {
+        Ok(true) => Ok(()),
+        Ok(false) => Err(WalkFault::Damaged(4)),
+        Err(DeviceFault) => Err(WalkFault::Device),
+    }
+}
+
+/// Stages 5 and 6, where the stages before hold.
+///
+/// # Errors
+///
+/// `Damaged` with the first stage that fails, `Device` where a call of the device failed.
+pub fn walk_pointers<D: SectorDevice>(
+    device: &mut D,
+    map: &[u32],
+    marks: &mut [u32],
+    upper: &mut [u8; 512],
+    sector: &mut [u8; 512],
+) -> Result<(), WalkFault>
+    requires files { length map.now ≡ 4096 }
+    requires at { (i : ℕ) → i < 4096 → get_or map.now i 0 < length marks.old }
+    requires inside { length marks.old ≤ (D.state device.old).size }
+    ensures holds { OnOk result ((c : Content) (k : CheckpointValue) → Reads (D.state device.old) (D.state device.new) c → IsBounded (view c k) → Lists (view c k) map.now
+        → HoldsBelow (view c k) 5 → Walked (view c k) marks.old 4144 → HoldsBelow (view c k) 7 × Walked (view c k) marks.new 536624) }
+    ensures damaged { IfErr result (λ e. (code : ℕ) → FaultIs e code → (c : Content) (k : CheckpointValue) → Reads (D.state device.old) (D.state device.new) c → IsBounded (view c k)
+        → Lists (view c k) map.now → HoldsBelow (view c k) 5 → Walked (view c k) marks.old 4144 → IsDamaged (view c k) code) }
+    ensures low { IfErr result (λ e. (code : ℕ) → FaultIs e code → code < 10) }
+    ensures len { length marks.new ≡ length marks.old }
+    ensures failed { IsErrOf result WalkFault.Device → (D.state device.old).failures < (D.state device.new).failures }
+    ensures no_failure { OnOk result ((D.state device.new).failures ≡ (D.state device.old).failures) }
+    ensures looks { Looks (D.state device.old) (D.state device.new) }
+{
+    match stage_roots(device, map, marks, sector) {
+        Ok(true) => (),
+        Ok(false) => return Err(WalkFault::Damaged(5)),
+        Err(DeviceFault) => return Err(WalkFault::Device),
+    }
+    match stage_leaves(device, map, marks, upper, sector) {
+        Ok(true) => Ok(()),
+        Ok(false) => Err(WalkFault::Damaged(6)),
+        Err(DeviceFault) => Err(WalkFault::Device),
+    }
+}
+
+/// Stages 5 to 7, where the stages before hold.
+///
+/// # Errors
+///
+/// `Damaged` with the first stage that fails, `Device` where a call of the device failed.
+fn walk_files<D: SectorDevice>(
+    device: &mut D,
+    map: &[u32],
+    marks: &mut [u32],
+) -> Result<(), WalkFault>
+    requires files { length map.now ≡ 4096 }
+    requires at { (i : ℕ) → i < 4096 → get_or map.now i 0 < length marks.old }
+    requires inside { length marks.old ≤ (D.state device.old).size }
+    ensures holds { OnOk result ((c : Content) (k : CheckpointValue) → Reads (D.state device.old) (D.state device.new) c → Lists (view c k) map.now
+        → Passed (view c k) marks.old 4144 5 → Passed (view c k) marks.new 68628528 8) }
+    ensures damaged { IfErr result (λ e. (code : ℕ) → FaultIs e code → (c : Content) (k : CheckpointValue) → Reads (D.state device.old) (D.state device.new) c → Lists (view c k) map.now
+        → Passed (view c k) marks.old 4144 5 → IsDamaged (view c k) code) }
+    ensures low { IfErr result (λ e. (code : ℕ) → FaultIs e code → code < 10) }
+    ensures len { length marks.new ≡ length marks.old }
+    ensures failed { IsErrOf result WalkFault.Device → (D.state device.old).failures < (D.state device.new).failures }
+    ensures no_failure { OnOk result ((D.state device.new).failures ≡ (D.state device.old).failures) }
+    ensures looks { Looks (D.state device.old) (D.state device.new) }
+{
+    let mut upper = [0; 512];
+    let mut words = [0; 512];
+    let mut sector = [0; 512];
+    match walk_pointers(device, map, marks, &mut upper, &mut sector) {
+        Ok(()) => (),
+        Err(fault) => return Err(fault),
+    }
+    match stage_data(device, map, marks, &mut upper, &mut words, &mut sector) {
+        Ok(true) => Ok(()),
+        Ok(false) => Err(WalkFault::Damaged(7)),
+        Err(DeviceFault) => Err(WalkFault::Device),
+    }
+}
+
+/// Stages 8 and 9, where the stages before hold.
+///
+/// # Errors
+///
+/// `Damaged` with the first stage that fails, `Device` where a call of the device failed.
+fn walk_segments<D: SectorDevice>(
+    device: &mut D,
+    used: &[u16],
+    live: &[u16],
+    marks: &[u32],
+) -> Result<(), WalkFault>
+    requires live { length live.now ≡ length used.now }
+    requires marks { length marks.now ≡ 2 + 64 * length used.now }
+    requires inside { length marks.now ≤ (D.state device.old).size }
+    ensures holds { OnOk result ((c : Content) (k : CheckpointValue) → Reads (D.state device.old) (D.state device.new) c → IsUsedTable (view c k) used.now → IsLiveTable (view c k) live.now
+        → Passed (view c k) marks.now 68628528 8 → Passed (view c k) marks.now 68628528 10) }
+    ensures damaged { IfErr result (λ e. (code : ℕ) → FaultIs e code → (c : Content) (k : CheckpointValue) → Reads (D.state device.old) (D.state device.new) c → IsUsedTable (view c k) used.now → IsLiveTable (view c k) live.now
+        → Passed (view c k) marks.now 68628528 8 → IsDamaged (view c k) code) }
+    ensures low { IfErr result (λ e. (code : ℕ) → FaultIs e code → code < 10) }
+    ensures failed { IsErrOf result WalkFault.Device → (D.state device.old).failures < (D.state device.new).failures }
+    ensures no_failure { OnOk result ((D.state device.new).failures ≡ (D.state device.old).failures) }
+    ensures looks { Looks (D.state device.old) (D.state device.new) }
+{
+    let mut sector = [0; 512];
+    match stage_labels(device, used, marks, &mut sector) {
+        Ok(true) => (),
+        Ok(false) => return Err(WalkFault::Damaged(8)),
+        Err(DeviceFault) => return Err(WalkFault::Device),
+    }
+    if !stage_counts(live, marks) {
+        return Err(WalkFault::Damaged(9));
+    }
+    Ok(())
+}
+
+/// All nine stages on empty tables, and then whether enough segments are clean.
+///
+/// # Errors
+///
+/// `Damaged` with the first stage that fails, `Device` where a call of the device failed.
+fn walk_all<D: SectorDevice>(
+    device: &mut D,
+    checkpoint: &Checkpoint,
+    used: &mut [u16],
+    live: &mut [u16],
+    map: &mut [u32],
+    marks: &mut [u32],
+) -> Result<bool, WalkFault>
+    requires fits { FitsCheckpoint checkpoint.now }
+    requires used { length used.old ≡ checkpoint.now.segments }
+    requires live { length live.old ≡ checkpoint.now.segments }
+    requires files { length map.old ≡ 4096 }
+    requires empty { (n : ℕ) → get_or map.old n 0 ≡ 0 }
+    requires marks { length marks.old ≡ 2 + 64 * checkpoint.now.segments }
+    requires unmarked { (a : ℕ) → get_or marks.old a 0 ≡ 0 }
+    requires inside { length marks.old ≤ (D.state device.old).size }
+    ensures holds { IfOk result (λ enough. (c : Content) → Reads (D.state device.old) (D.state device.new) c
+        → HoldsBelow (view c checkpoint.now) 10 × (IsTrue enough ↔ EnoughClean (view c checkpoint.now))) }
+    ensures damaged { IfErr result (λ e. (code : ℕ) → FaultIs e code → (c : Content) → Reads (D.state device.old) (D.state device.new) c → IsDamaged (view c checkpoint.now) code) }
+    ensures low { IfErr result (λ e. (code : ℕ) → FaultIs e code → code < 10) }
+    ensures failed { IsErrOf result WalkFault.Device → (D.state device.old).failures < (D.state device.new).failures }
+    ensures no_failure { OnOk result ((D.state device.new).failures ≡ (D.state device.old).failures) }
+    ensures looks { Looks (D.state device.old) (D.state device.new) }
+{
+    match walk_usages(device, checkpoint, used, live, marks) {
+        Ok(()) => (),
+        Err(fault) => return Err(fault),
+    }
+    match walk_inodes(device, checkpoint, map, marks) {
+        Ok(()) => (),
+        Err(fault) => return Err(fault),
+    }
+    match walk_files(device, map, marks) {
+        Ok(()) => (),
+        Err(fault) => return Err(fault),
+    }
+    match walk_segments(device, used, live, marks) {
+        Ok(()) => (),
+        Err(fault) => return Err(fault),
+    }
+    Ok(stage_clean(used))
+}
+
+/// A table of so many numbers, all 0.
+fn zeros(alloc: Global, count: usize) -> Result<Vec<u32>, AllocError>
+    ensures len { IfOk result (λ v. length v.items ≡ count) }
+    ensures empty { IfOk result (λ v. (n : ℕ) → get_or v.items n 0 ≡ 0) }
+{
+    let numbers = Vec::from_elem(alloc, 0, count)?;
+    Ok(numbers)
+}
+
+/// Walks over the whole volume to which a checkpoint leads: whether, where all that it leads to is well-formed, enough segments are
+/// clean. It only reads.
+///
+/// # Errors
+///
+/// `NoMemory` where memory is refused, `Damaged` with the first stage that fails, `Device` where a call of the device failed.
+pub fn walk<D: SectorDevice>(
+    alloc: Global,
+    device: &mut D,
+    checkpoint: &Checkpoint,
+) -> Result<bool, WalkFault>
+    requires fits { FitsCheckpoint checkpoint.now }
+    requires inside { 2 + 64 * checkpoint.now.segments ≤ (D.state device.old).size }
+    ensures holds { IfOk result (λ enough. (c : Content) → Reads (D.state device.old) (D.state device.new) c
+        → NineStages (view c checkpoint.now) × HoldsBelow (view c checkpoint.now) 10 × (IsTrue enough ↔ EnoughClean (view c checkpoint.now))) }
+    ensures damaged { IfErr result (λ e. (code : ℕ) → FaultIs e code → (c : Content) → Reads (D.state device.old) (D.state device.new) c → IsDamaged (view c checkpoint.now) code) }
+    ensures low { IfErr result (λ e. (code : ℕ) → FaultIs e code → code < 10) }
+    ensures failed { IsErrOf result WalkFault.Device → (D.state device.old).failures < (D.state device.new).failures }
+    ensures no_failure { OnOk result ((D.state device.new).failures ≡ (D.state device.old).failures) }
+    ensures looks { Looks (D.state device.old) (D.state device.new) }
+{
+    let segments = segments_of(checkpoint) as usize;
+    let Ok(mut marks) = zeros(alloc, 2 + 64 * segments) else {
+        return Err(WalkFault::NoMemory);
+    };
+    let Ok(mut map) = zeros(alloc, 4096) else {
+        return Err(WalkFault::NoMemory);
+    };
+    let Ok(mut used) = Vec::from_elem(alloc, 0u16, segments) else {
+        return Err(WalkFault::NoMemory);
+    };
+    let Ok(mut live) = Vec::from_elem(alloc, 0u16, segments) else {
+        return Err(WalkFault::NoMemory);
+    };
+    walk_all(
+        device, checkpoint, &mut used, &mut live, &mut map, &mut marks,
+    )
+}
