@@ -8,7 +8,6 @@ use Rattle.std.specs.List.{AllByRecursion}
 use Rattle.lfs_model.specs.Checkpoint.{CheckpointValue}
 use Rattle.lfs_model.specs.Device.{DeviceState, IsLawful}
 use Rattle.lfs_model.specs.Fields.{zeros}
-use Rattle.lfs_model.specs.Objects.{IsDirectory}
 use Rattle.lfs_model.specs.Slot.{slot_in}
 use Rattle.lfs_model.specs.Stands.{LogMap}
 use Rattle.lfs_model.specs.Tree.{byte_cmp}
@@ -16,7 +15,6 @@ use Rattle.lfs_model.specs.TreeOf.{map_of}
 use Rattle.lfs_memory.specs.declared.changes.Changes.{Changes}
 use Rattle.lfs_memory.specs.declared.header.Header.{Header}
 use Rattle.lfs_memory.specs.Batch.{staged}
-use Rattle.lfs_memory.specs.Present.{as_header}
 use Rattle.lfs_log.specs.Held.{Held, Holds, Reads, IsReadFault}
 use Rattle.lfs_store.specs.Pieces.{HoldsBlock}
 use Rattle.lfs_store.specs.Reading.{ReadsBlock}
@@ -25,6 +23,7 @@ use Rattle.lfs_store.proofs.Writings.{block_read}
 use Rattle.lfs_dirs.specs.Directory.{first_slots, names_at, slots_at}
 use Rattle.lfs_dirs.specs.declared.searching.Found.{Found}
 use Rattle.lfs_dirs.specs.Finding.{HasNoSlot, IsDirectoryFault, IsBlockFault}
+use Rattle.lfs_dirs.specs.Listing.{AreSlots}
 use Rattle.lfs_dirs.specs.Searching.{FindsIn, FindsInBlock, FindsSlot}
 use Rattle.lfs_dirs.proofs.SlotNames.{gives_some, gives_none}
 use Rattle.lfs_dirs.proofs.SlotPlaces.{slot_of_block, slots_many, slots_of_block}
@@ -47,13 +46,13 @@ block_and_rest a index count many long is =
         (cases_lt many (8 * index + 8))
 
 -- ---- one block
--- each slot of a directory's block is one
-pub each_is_slot : (m : LogMap) (d : ℕ) (head : Header) (i count : ℕ) (block : List ℕ) → HoldsBlock m d i block → count ≤ 8 → 8 * i + count ≤ head.size / 64 → IsDirectory m d (as_header head) → HasNoSlot block count → ⊥
-each_is_slot m d head i count block is few room dir bad =
+-- where an object's slots are, each slot of its block is one
+pub each_is_slot : (m : LogMap) (d : ℕ) (head : Header) (i count : ℕ) (block : List ℕ) → HoldsBlock m d i block → count ≤ 8 → 8 * i + count ≤ head.size / 64 → AreSlots (slots_at m d head) → HasNoSlot block count → ⊥
+each_is_slot m d head i count block is few room formed bad =
     let inside = bad.inside in
     let many = slots_many m d head in
     let low : 8 * i + bad.place < head.size / 64 = omega (arith, inside, room) in
-    all_at (λ b. slot_in 0 b ≢ None) (slots_at m d head) (8 * i + bad.place) [] dir.formed (omega (arith, low, many))
+    all_at (λ b. slot_in 0 b ≢ None) (slots_at m d head) (8 * i + bad.place) [] formed (omega (arith, low, many))
     (ap (slot_in 0) (slot_of_block m d head i bad.place block is (omega (arith, inside, few)) low) ∙ bad.none)
 
 module _ {D : Type 0} (state : D → DeviceState) where
@@ -66,7 +65,7 @@ module _ {D : Type 0} (state : D → DeviceState) where
   pub block_broken : (h h' : Held D) (c : Changes) (d index count : ℕ) (block : List ℕ) (stored : Bool) → count ≤ 8 → length block ≡ 512 → (IsFalse stored → block ≡ zeros 512)
       → ReadsBlock state h h' c d index block stored → HasNoSlot block count → IsBlockFault state h h' c d index count
   block_broken h h' c d index count block stored few long blank answer bad k m0 m keeps holds head room dir =
-      absurd (each_is_slot (staged c m) d head index count block (block_read (staged c m) d index block stored long blank (answer k m0 m keeps holds)) few room dir bad)
+      absurd (each_is_slot (staged c m) d head index count block (block_read (staged c m) d index block stored long blank (answer k m0 m keeps holds)) few room dir.formed bad)
 
   pub block_failed : (h h' : Held D) (c : Changes) (d index count : ℕ) → IsReadFault state h h' → IsBlockFault state h h' c d index count
   block_failed h h' c d index count failed k m0 m keeps holds head room dir = failed k m0 m keeps holds

@@ -1,8 +1,10 @@
 -- The names of a directory, listed in the order of their bytes.
-use Rattle.std.specs.Prelude.{◌≡◌, ◌<◌, ◌≤◌, ◌+◌, ◌*◌, ◌/◌, ℕ, List, ◌++◌, ◌∷◌, length, map, take, drop, get_or, Result, Ok, Err}
+use Rattle.std.specs.Prelude.{◌≡◌, ◌≢◌, ◌<◌, ◌≤◌, ◌+◌, ◌*◌, ◌/◌, ℕ, List, ◌++◌, ◌∷◌, length, map, take, drop, get_or, Result, Ok, Err, None}
+use Rattle.std.specs.List.{AllByRecursion}
 use Rattle.std.specs.FinMap.{put}
 use Rattle.lfs_model.specs.Checkpoint.{CheckpointValue}
 use Rattle.lfs_model.specs.Device.{DeviceState}
+use Rattle.lfs_model.specs.Slot.{slot_in}
 use Rattle.lfs_model.specs.Stands.{LogMap}
 use Rattle.lfs_model.specs.Tree.{Names, byte_cmp}
 use Rattle.lfs_model.specs.TreeOf.{map_of}
@@ -27,9 +29,18 @@ abbrev pub IsPlace : List Entry → List ℕ → Result ℕ ℕ → Type 0
 IsPlace es name (Ok i) = (i < length es) × ((n : ℕ) (e : Entry) → e ≡ get_or es i e → put byte_cmp name n (pairs es) ≡ take i (pairs es) ++ (e.name.items, n) ∷ drop (i + 1) (pairs es))
 IsPlace es name (Err i) = (i ≤ length es) × ((n : ℕ) → put byte_cmp name n (pairs es) ≡ take i (pairs es) ++ (name, n) ∷ drop i (pairs es))
 
+-- bytes that are slots, each of them
+abbrev pub AreSlots : List (List ℕ) → Type 0
+AreSlots = AllByRecursion (λ b. slot_in 0 b ≢ None)
+
+-- Entries are the names that these slots give.
+pub record IsListOf (slots : List (List ℕ)) (es : List Entry) : Type 0 where
+  pub names : pairs es ≡ map_of 0 slots
+  pub formed : AreSlots slots
+
 -- The names of slots become those of more slots, which stand before them.
 abbrev pub PutsSlots : List (List ℕ) → List Entry → List Entry → Type 0
-PutsSlots more es es' = (behind : List (List ℕ)) → pairs es ≡ map_of 0 behind → pairs es' ≡ map_of 0 (more ++ behind)
+PutsSlots more es es' = (behind : List (List ℕ)) → IsListOf behind es → IsListOf (more ++ behind) es'
 
 -- ---- a directory
 module _ {D : Type 0} (state : D → DeviceState) where
@@ -37,6 +48,19 @@ module _ {D : Type 0} (state : D → DeviceState) where
   abbrev pub ListsBlock : Held D → Held D → Changes → ℕ → ℕ → ℕ → List Entry → List Entry → Type 0
   ListsBlock h h' c d index count es es' = (k : CheckpointValue) (m0 m : LogMap) → (state h'.device).keeps_model → Holds state h k m0 m → (head : Header) → 8 * index + count ≤ head.size / 64
       → PutsSlots (take count (drop (8 * index) (slots_at (staged c m) d head))) es es'
+
+  -- all of them; each of its slots is well-formed
+  abbrev pub Inspects : Held D → Held D → Changes → ℕ → Header → List Entry → Type 0
+  Inspects h h' c d head es = (k : CheckpointValue) (m0 m : LogMap) → (state h'.device).keeps_model → Holds state h k m0 m → IsListOf (slots_at (staged c m) d head) es
+
+  -- one of its slots isn't
+  abbrev pub LacksSlot : Held D → Held D → Changes → ℕ → Header → Type 0
+  LacksSlot h h' c d head = (k : CheckpointValue) (m0 m : LogMap) → (state h'.device).keeps_model → Holds state h k m0 m → AreSlots (slots_at (staged c m) d head) → ⊥
+
+  -- the same of every object that has so many slots in this block
+  abbrev pub LacksBlockSlot : Held D → Held D → Changes → ℕ → ℕ → ℕ → Type 0
+  LacksBlockSlot h h' c d index count = (k : CheckpointValue) (m0 m : LogMap) → (state h'.device).keeps_model → Holds state h k m0 m → (head : Header) → 8 * index + count ≤ head.size / 64
+      → AreSlots (slots_at (staged c m) d head) → ⊥
 
   -- all of them
   abbrev pub Lists : Held D → Held D → Changes → ℕ → Header → List Entry → Type 0

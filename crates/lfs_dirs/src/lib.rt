@@ -14,7 +14,7 @@ mod taking;
 pub use adding::add;
 pub use entry::Entry;
 pub use finding::find;
-pub use listing::list;
+pub use listing::{ListFault, inspect, list};
 pub use repointing::repoint;
 pub use taking::take;
 

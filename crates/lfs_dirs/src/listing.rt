@@ -1,11 +1,11 @@
 //! The names of a directory, listed in order.
-ghost use Rattle.std.specs.Prelude.{◌≡◌, ◌<◌, ◌≤◌, true, IfOk, IfErr, OnOk, IsErrOf, None};
+ghost use Rattle.std.specs.Prelude.{◌≡◌, ◌≢◌, ◌<◌, ◌≤◌, true, IfOk, IfErr, OnOk, IsErrOf, None};
 ghost use Rattle.lfs_model.specs.Slot.{slot_in};
 ghost use Rattle.lfs_model.specs.TreeOf.{with_slot};
-ghost use Rattle.lfs_log.specs.Held.{Reads};
+ghost use Rattle.lfs_log.specs.Held.{IsReadFault, Reads};
 ghost use Rattle.lfs_dirs.specs.Directory.{first_slots};
 ghost use Rattle.lfs_dirs.specs.Finding.{HasNoSlot, IsDirectoryFault, IsBlockFault};
-ghost use Rattle.lfs_dirs.specs.Listing.{PutsSlots, ListsBlock, Lists, pairs};
+ghost use Rattle.lfs_dirs.specs.Listing.{PutsSlots, ListsBlock, Lists, Inspects, LacksSlot, LacksBlockSlot, pairs};
 
 use crate::entry::{Entry, put_entry};
 use crate::slots::{SLOT, SLOTS_IN_BLOCK};
@@ -37,6 +37,48 @@ pub fn list<D: SectorDevice>(
     ensures halted { IsErrOf result (StoreFault.Log LogFault.Halted) → store.old.log.halted ≡ true }
     ensures other { IsErrOf result (StoreFault.Log LogFault.Full) → ⊥ }
 {
+    match inspect(alloc, store, directory, header) {
+        Ok(entries) => Ok(entries),
+        Err(ListFault::NoMemory) => Err(StoreFault::NoMemory),
+        Err(ListFault::NoSlot) => Err(StoreFault::Log(LogFault::Device)),
+        Err(ListFault::Log(fault)) => Err(StoreFault::Log(fault)),
+    }
+}
+
+/// Why a directory isn't listed.
+pub enum ListFault {
+    /// Memory was refused.
+    NoMemory,
+    /// Bytes of it are no slot.
+    NoSlot,
+    /// The log gave no answer.
+    Log(LogFault),
+}
+
+/// The same of a directory whose slots aren't known to be well-formed: they are, where it is listed.
+///
+/// # Errors
+///
+/// `NoMemory` where memory runs out, `NoSlot` where a slot is malformed; else as those of `find`.
+pub fn inspect<D: SectorDevice>(
+    alloc: Global,
+    store: &mut Store<D>,
+    directory: u16,
+    header: Header,
+) -> Result<Vec<Entry>, ListFault>
+    requires { directory < 4096 }
+    ensures reads { Reads D.SectorDevice.state store.old.log store.new.log }
+    ensures draft { store.new.draft ≡ store.old.draft }
+    ensures saved { store.new.saved ≡ store.old.saved }
+    ensures totals { store.new.totals ≡ store.old.totals }
+    ensures drafted { store.new.drafted ≡ store.old.drafted }
+    ensures answer { IfOk result (λ entries. Inspects D.SectorDevice.state store.old.log store.new.log store.old.draft.changes directory header entries.items) }
+    ensures failed { IfErr result (λ fault. (fault ≡ ListFault.NoMemory → ⊥) → IsDirectoryFault D.SectorDevice.state store.old.log store.new.log store.old.draft.changes directory header) }
+    ensures malformed { IsErrOf result ListFault.NoSlot → LacksSlot D.SectorDevice.state store.old.log store.new.log store.old.draft.changes directory header }
+    ensures device { IsErrOf result (ListFault.Log LogFault.Device) → IsReadFault D.SectorDevice.state store.old.log store.new.log }
+    ensures halted { IsErrOf result (ListFault.Log LogFault.Halted) → store.old.log.halted ≡ true }
+    ensures other { IsErrOf result (ListFault.Log LogFault.Full) → ⊥ }
+{
     let slots = header.size / SLOT;
     let mut entries = Vec::new(alloc);
     let mut index = slots.div_ceil(SLOTS_IN_BLOCK);
@@ -59,7 +101,7 @@ fn list_block<D: SectorDevice>(
     index: u32,
     count: usize,
     entries: &mut Vec<Entry>,
-) -> Result<(), StoreFault>
+) -> Result<(), ListFault>
     requires number { directory < 4096 }
     requires few { count ≤ 8 }
     ensures reads { Reads D.SectorDevice.state store.old.log store.new.log }
@@ -68,19 +110,21 @@ fn list_block<D: SectorDevice>(
     ensures totals { store.new.totals ≡ store.old.totals }
     ensures drafted { store.new.drafted ≡ store.old.drafted }
     ensures done { OnOk result (ListsBlock D.SectorDevice.state store.old.log store.new.log store.old.draft.changes directory index count entries.old.items entries.new.items) }
-    ensures failed { IfErr result (λ fault. (fault ≡ StoreFault.NoMemory → ⊥) → IsBlockFault D.SectorDevice.state store.old.log store.new.log store.old.draft.changes directory index count) }
-    ensures halted { IsErrOf result (StoreFault.Log LogFault.Halted) → store.old.log.halted ≡ true }
-    ensures other { IsErrOf result (StoreFault.Log LogFault.Full) → ⊥ }
+    ensures failed { IfErr result (λ fault. (fault ≡ ListFault.NoMemory → ⊥) → IsBlockFault D.SectorDevice.state store.old.log store.new.log store.old.draft.changes directory index count) }
+    ensures malformed { IsErrOf result ListFault.NoSlot → LacksBlockSlot D.SectorDevice.state store.old.log store.new.log store.old.draft.changes directory index count }
+    ensures device { IsErrOf result (ListFault.Log LogFault.Device) → IsReadFault D.SectorDevice.state store.old.log store.new.log }
+    ensures halted { IsErrOf result (ListFault.Log LogFault.Halted) → store.old.log.halted ≡ true }
+    ensures other { IsErrOf result (ListFault.Log LogFault.Full) → ⊥ }
 {
     let mut block = [0; 512];
     match store.block(directory, index, &mut block) {
         Ok(_) => {}
-        Err(fault) => return Err(StoreFault::Log(fault)),
+        Err(fault) => return Err(ListFault::Log(fault)),
     }
     match put_slots(alloc, &block, count, entries) {
         Ok(()) => Ok(()),
-        Err(SlotFault::NoMemory) => Err(StoreFault::NoMemory),
-        Err(SlotFault::NoSlot) => Err(StoreFault::Log(LogFault::Device)),
+        Err(SlotFault::NoMemory) => Err(ListFault::NoMemory),
+        Err(SlotFault::NoSlot) => Err(ListFault::NoSlot),
     }
 }
 
@@ -117,6 +161,7 @@ fn put_slots(
 /// The name of a slot comes in.
 fn put_slot(alloc: Global, slot: &[u8; 64], entries: &mut Vec<Entry>) -> Result<(), SlotFault>
     ensures done { OnOk result (pairs entries.new.items ≡ with_slot (slot_in 0 slot.now) (pairs entries.old.items)) }
+    ensures formed { OnOk result (slot_in 0 slot.now ≢ None) }
     ensures broken { IfErr result (λ fault. fault ≡ SlotFault.NoSlot → slot_in 0 slot.now ≡ None) }
 {
     let Some(view) = SlotView::decode(slot) else {

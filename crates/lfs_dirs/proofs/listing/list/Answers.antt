@@ -1,54 +1,11 @@
-use Rattle.std.proofs.Common.{◌≡◌, ◌<◌, ◌*◌, ◌-◌, ◌/◌, ◌∙◌, refl, subst, arith}
-use Rattle.std.specs.Prelude.{min}
-use Rattle.lfs_store.specs.declared.draft.Draft.{Draft}
-use Rattle.lfs_dirs.specs.Finding.{IsBlockFault}
-use Rattle.lfs_dirs.specs.Listing.{ListsBlock}
-use Rattle.lfs_dirs.proofs.Lists.{list_begins, list_goes_on, list_ends, list_fails}
+use Rattle.lfs_dirs.proofs.Lists.{only_names}
 use Rattle.lfs_dirs.proofs.listing.list.Goals as goal
 
-pub loop-index-init : goal.loop-index-init
-loop-index-init g c =
-    let e = c.div_ceil-index.ensures in (
-      refl,
-      refl,
-      omega (arith, e),
-      list_begins g.D.SectorDevice.state c.args.store.now.log c.args.store.now.draft.changes c.args.directory c.args.header c.div_ceil-index.result c.new-entries.result.items c.new-entries.ensures.items (omega (arith, e)),
-      refl,
-      refl,
-    )
+pub returns-in-Ok-clause-answer : goal.returns-in-Ok-clause-answer
+returns-in-Ok-clause-answer g c = only_names g.D.SectorDevice.state c.args.store.now.log c.inspect.new.store.log c.args.store.now.draft.changes c.args.directory c.args.header c.in-Ok.entries.items c.in-Ok.ensures.answer
 
-pub loop-index-preserved : goal.loop-index-preserved
-loop-index-preserved g c =
-    let t = c.loop-index-test.true in
-    let u = c.loop-index.invariant.2 in
-    let m = c.min-count.ensures in
-    let low : 8 * (c.loop-index.index - 1) < c.args.header.size / 64 = omega (arith, t, u) in
-    let is : c.min-count.result ≡ min (c.args.header.size / 64 - 8 * (c.loop-index.index - 1)) 8 = omega (arith, m) in (
-      c.list_block.ensures.draft ∙ c.loop-index.invariant.0,
-      c.list_block.ensures.saved ∙ c.loop-index.invariant.1,
-      omega (arith, low),
-      list_goes_on g.D.SectorDevice.state c.args.store.now.log c.loop-index.store.log c.list_block.new.store.log c.args.store.now.draft.changes c.args.directory c.args.header
-          c.loop-index.index (c.loop-index.index - 1) c.min-count.result c.loop-index.entries.items c.list_block.new.entries.items (g.met.D.SectorDevice.lawful c.args.store.now.log.device) t refl is low
-          c.loop-index.invariant.3 c.list_block.ensures.reads
-          (subst (λ (d : Draft). ListsBlock g.D.SectorDevice.state c.loop-index.store.log c.list_block.new.store.log d.changes c.args.directory (c.loop-index.index - 1) c.min-count.result c.loop-index.entries.items c.list_block.new.entries.items)
-          c.loop-index.invariant.0 c.in-Ok.ensures.done),
-      c.list_block.ensures.totals ∙ c.loop-index.invariant.4,
-      c.list_block.ensures.drafted ∙ c.loop-index.invariant.5,
-    )
+pub returns-in-Err-NoSlot-clause-failed : goal.returns-in-Err-NoSlot-clause-failed
+returns-in-Err-NoSlot-clause-failed g c other = let is = c.in-Err-NoSlot.field-0-is in c.in-Err-NoSlot.ensures.failed (λ e. cc)
 
-pub returns-in-Err-clause-failed : goal.returns-in-Err-clause-failed
-returns-in-Err-clause-failed g c other =
-    let t = c.loop-index-test.true in
-    let u = c.loop-index.invariant.2 in
-    let m = c.min-count.ensures in
-    let low : 8 * (c.loop-index.index - 1) < c.args.header.size / 64 = omega (arith, t, u) in
-    let is : c.min-count.result ≡ min (c.args.header.size / 64 - 8 * (c.loop-index.index - 1)) 8 = omega (arith, m) in
-    list_fails g.D.SectorDevice.state c.args.store.now.log c.loop-index.store.log c.list_block.new.store.log c.args.store.now.draft.changes c.args.directory c.args.header
-    c.loop-index.index (c.loop-index.index - 1) c.min-count.result c.loop-index.entries.items is low c.loop-index.invariant.3
-    (subst (λ (d : Draft). IsBlockFault g.D.SectorDevice.state c.loop-index.store.log c.list_block.new.store.log d.changes c.args.directory (c.loop-index.index - 1) c.min-count.result)
-    c.loop-index.invariant.0 (c.in-Err.ensures.failed other))
-
-pub returns-clause-answer : goal.returns-clause-answer
-returns-clause-answer g c =
-    let t = c.loop-index-test.false in
-    list_ends g.D.SectorDevice.state c.args.store.now.log c.loop-index.store.log c.args.store.now.draft.changes c.args.directory c.args.header c.loop-index.index c.loop-index.entries.items (omega (arith, t)) c.loop-index.invariant.3
+pub returns-in-Err-Log-clause-failed : goal.returns-in-Err-Log-clause-failed
+returns-in-Err-Log-clause-failed g c other = let is = c.in-Err-Log.field-0-is in c.in-Err-Log.ensures.failed (λ e. cc)

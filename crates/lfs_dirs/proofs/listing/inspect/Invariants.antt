@@ -1,6 +1,6 @@
 use Rattle.std.proofs.Common.{◌≡◌, ◌<◌, ◌*◌, ◌+◌, ◌/◌}
 use Rattle.lfs_dirs.proofs.Lists.{ListedFrom}
-use Rattle.lfs_dirs.proofs.listing.list.Given as goal
+use Rattle.lfs_dirs.proofs.listing.inspect.Given as goal
 
 abbrev pub invariant-loop-index : goal.invariant-loop-index
 invariant-loop-index g l =
