@@ -47,5 +47,6 @@ mod TreeEnds
 mod LineSteps
 pub mod ScriptRuns
 pub mod Sessions
-mod MountChecks
+mod FlatRoots
+mod TreeChecks
 mod MountEnds

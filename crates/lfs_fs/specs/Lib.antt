@@ -5,6 +5,7 @@ pub mod Volume
 pub mod Seen
 pub mod Accepting
 pub mod Answers
+pub mod Checking
 pub mod Mounting
 pub mod Making
 pub mod Reading

@@ -1,6 +1,7 @@
 //! The calls of a volume.
 #![tactic(auto)]
 
+mod checking;
 mod error;
 mod fs;
 mod handles;

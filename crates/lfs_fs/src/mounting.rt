@@ -1,19 +1,18 @@
 //! A volume mounted, and its device taken back.
 ghost use Rattle.std.specs.Prelude.{◌≡◌, ◌≤◌, ◌<◌, ◌+◌, IfOk, IfErr, OnOk, OnErr, MatchResult};
 ghost use Rattle.lfs_model.specs.Device.{Only, IsUntouched, Carries, LeavesOnly};
-ghost use Rattle.lfs_log.specs.Held.{Reads};
-ghost use Rattle.lfs_fs.specs.Mounting.{AreFiles, LacksFile, MountsFs, IsMountFault};
+ghost use Rattle.lfs_verify.specs.Take.{Looks};
+ghost use Rattle.lfs_fs.specs.Mounting.{MountsFs, FindsState, HasLogMap, StandsWhereLog, IsMountFault, IsLogFault};
 
+use crate::checking::check_tree;
 use crate::fs::Fs;
 use crate::handles::Handles;
 use lfs_device::SectorDevice;
 use lfs_log::MountFault;
-use lfs_model::Kind;
 use lfs_store::Store;
+use lfs_verify::VerifyFault;
+use lfs_verify::verify::verify;
 use std::alloc::Global;
-
-/// The code of damage of a directory's entries.
-const DAMAGED_ENTRIES: u8 = 10;
 
 impl<D: SectorDevice> Fs<D> {
     /// Mounts the device's volume, without open handles. It writes nothing.
@@ -25,6 +24,28 @@ impl<D: SectorDevice> Fs<D> {
     /// for their causes.
     pub fn mount(alloc: Global, device: D) -> Result<Fs<D>, (MountFault, D)>
         ensures mounts { IfOk result (λ fs. MountsFs D.SectorDevice.state device fs) }
+        ensures only { IfOk result (λ fs. FindsState D.SectorDevice.state device fs) }
+        ensures durable { IfOk result (λ fs. (D.state fs.store.log.device).keeps_model → Only (D.state device).content (D.state fs.store.log.device)) }
+        ensures cause { IfErr result (λ e. (e.0 ≡ MountFault.NoMemory → ⊥) → IsMountFault D.SectorDevice.state device e.1) }
+        ensures untouched { MatchResult result (λ fs. IsUntouched (D.state device) (D.state fs.store.log.device)) (λ e. IsUntouched (D.state device) (D.state e.1)) }
+        ensures carries { MatchResult result (λ fs. Carries (D.state device) (D.state fs.store.log.device)) (λ e. Carries (D.state device) (D.state e.1)) }
+        ensures any_moment { MatchResult result (λ fs. LeavesOnly (D.state device) (D.state fs.store.log.device) (D.state device).may_leave) (λ e. LeavesOnly (D.state device) (D.state e.1) (D.state device).may_leave) }
+    {
+        let mut device = device;
+        match check_log(alloc, &mut device) {
+            Ok(()) => {}
+            Err(fault) => return Err((fault, device)),
+        }
+        match Fs::open_checked(alloc, device) {
+            Ok(fs) => Ok(fs),
+            Err(fault) => Err(fault),
+        }
+    }
+
+    /// Mounts a device whose log was checked, with a check of its tree.
+    fn open_checked(alloc: Global, device: D) -> Result<Fs<D>, (MountFault, D)>
+        ensures mounts { IfOk result (λ fs. MountsFs D.SectorDevice.state device fs) }
+        ensures tree { IfOk result (λ fs. StandsWhereLog D.SectorDevice.state device fs) }
         ensures durable { IfOk result (λ fs. (D.state fs.store.log.device).keeps_model → Only (D.state device).content (D.state fs.store.log.device)) }
         ensures cause { IfErr result (λ e. (e.0 ≡ MountFault.NoMemory → ⊥) → IsMountFault D.SectorDevice.state device e.1) }
         ensures untouched { MatchResult result (λ fs. IsUntouched (D.state device) (D.state fs.store.log.device)) (λ e. IsUntouched (D.state device) (D.state e.1)) }
@@ -35,7 +56,7 @@ impl<D: SectorDevice> Fs<D> {
             Ok(store) => store,
             Err(fault) => return Err(fault),
         };
-        match check_files(&mut store) {
+        match check_tree(alloc, &mut store) {
             Ok(()) => Ok(Fs {
                 alloc,
                 store,
@@ -53,42 +74,22 @@ impl<D: SectorDevice> Fs<D> {
     }
 }
 
-/// Looks at each object: all but the root are files.
-fn check_files<D: SectorDevice>(store: &mut Store<D>) -> Result<(), MountFault>
-    ensures reads { Reads D.SectorDevice.state store.old.log store.new.log }
-    ensures draft { store.new.draft ≡ store.old.draft }
-    ensures saved { store.new.saved ≡ store.old.saved }
-    ensures totals { store.new.totals ≡ store.old.totals }
-    ensures done { OnOk result (AreFiles D.SectorDevice.state store.old.log store.new.log store.old.draft.changes 2 4096) }
-    ensures failed { OnErr result (LacksFile D.SectorDevice.state store.old.log store.new.log store.old.draft.changes 2 4096) }
-{
-    for number in 2..4_096u16 {
-        match check_file(store, number) {
-            Ok(()) => {}
-            Err(fault) => return Err(fault),
-        }
-    }
-    Ok(())
-}
+/// The code of damage of a volume with too few clean segments.
+const FEW_CLEAN: u8 = 15;
 
-/// Whether a number is a file's, or free.
-fn check_file<D: SectorDevice>(store: &mut Store<D>, number: u16) -> Result<(), MountFault>
-    requires { number < 4096 }
-    ensures reads { Reads D.SectorDevice.state store.old.log store.new.log }
-    ensures draft { store.new.draft ≡ store.old.draft }
-    ensures saved { store.new.saved ≡ store.old.saved }
-    ensures totals { store.new.totals ≡ store.old.totals }
-    ensures done { OnOk result (AreFiles D.SectorDevice.state store.old.log store.new.log store.old.draft.changes number (number + 1)) }
-    ensures failed { OnErr result (LacksFile D.SectorDevice.state store.old.log store.new.log store.old.draft.changes number (number + 1)) }
+/// Checks that a device holds a log map, with enough clean segments.
+fn check_log<D: SectorDevice>(alloc: Global, device: &mut D) -> Result<(), MountFault>
+    ensures holds { OnOk result (HasLogMap (D.state device.old) (D.state device.new)) }
+    ensures cause { IfErr result (λ e. (e ≡ MountFault.NoMemory → ⊥) → IsLogFault (D.state device.old) (D.state device.new)) }
+    ensures looks { Looks (D.state device.old) (D.state device.new) }
 {
-    let header = match store.header(number) {
-        Ok(Some(header)) => header,
-        Ok(None) => return Ok(()),
-        Err(_) => return Err(MountFault::Device),
-    };
-    match header.kind {
-        Kind::File => Ok(()),
-        Kind::Directory => Err(MountFault::Damaged(DAMAGED_ENTRIES)),
-        Kind::Link => Err(MountFault::Damaged(DAMAGED_ENTRIES)),
+    match verify(alloc, device) {
+        Ok(true) => Ok(()),
+        Ok(false) => Err(MountFault::Damaged(FEW_CLEAN)),
+        Err(VerifyFault::NoMemory) => Err(MountFault::NoMemory),
+        Err(VerifyFault::Device) => Err(MountFault::Device),
+        Err(VerifyFault::TooSmall) => Err(MountFault::TooSmall),
+        Err(VerifyFault::NoCheckpoint) => Err(MountFault::NoCheckpoint),
+        Err(VerifyFault::Damaged(stage)) => Err(MountFault::Damaged(stage)),
     }
 }

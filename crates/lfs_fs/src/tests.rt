@@ -241,6 +241,107 @@ fn fault(alloc: Global, device: MemDevice) -> Option<MountFault> {
     }
 }
 
+/// Puts another byte at a place of a sector, if it starts with these bytes.
+fn damage(
+    device: &mut MemDevice,
+    sector: u32,
+    start: &[u8],
+    place: usize,
+    byte: u8,
+) -> Result<(), Fail> {
+    if sector >= device.sectors() || place >= 512 {
+        return Err(Fail::from("no such place"));
+    }
+    let mut block = [0; 512];
+    device.read(sector, &mut block)?;
+    if block.starts_with(start) {
+        block[place] = byte;
+        device.write(sector, &block)?;
+    }
+    Ok(())
+}
+
+/// The fault of a mount of a volume with the file `/f`, where the sectors that start with these bytes have another byte at a place.
+fn fault_with(
+    alloc: Global,
+    start: &[u8],
+    place: usize,
+    byte: u8,
+) -> Result<Option<MountFault>, Fail> {
+    let mut fs = volume_with(alloc, b"a")?;
+    fs.sync()?;
+    let mut device = fs.into_device();
+    for sector in 2..SECTORS {
+        damage(&mut device, sector, start, place, byte)?;
+    }
+    Ok(fault(alloc, device))
+}
+
+#[test]
+fn a_damaged_root_is_refused(rt: HostRuntime) -> Result<(), Fail> {
+    let slot = b"\x02\0\0\0\x01f".as_slice();
+    for (place, byte, want) in [
+        (5, b'g', None),
+        (5, b'/', Some(MountFault::Damaged(10))),
+        (0, 1, Some(MountFault::Damaged(10))),
+        (0, 3, Some(MountFault::Damaged(12))),
+    ] {
+        assert_eq!(rt; fault_with(rt.alloc(), slot, place, byte)?, want);
+    }
+    Ok(())
+}
+
+#[test]
+fn damaged_links_are_refused(rt: HostRuntime) -> Result<(), Fail> {
+    let root = b"\x02\0\0\0\x01\0\0\0".as_slice();
+    let file = b"\x01\0\0\0\x02\0\0\0".as_slice();
+    let want = Some(MountFault::Damaged(13));
+    assert_eq!(rt; fault_with(rt.alloc(), root, 8, 3)?, want);
+    assert_eq!(rt; fault_with(rt.alloc(), file, 8, 2)?, want);
+    Ok(())
+}
+
+#[test]
+fn a_damaged_usage_table_is_refused(rt: HostRuntime) -> Result<(), Fail> {
+    // The first segment is clean, and the next has 7 used sectors with 6 live blocks.
+    let usage = b"\0\0\0\0\0\0\0\0\x07\0\x06\0".as_slice();
+    for (place, byte, code) in [(10, 0, 1), (8, 8, 2), (10, 5, 9)] {
+        let want = Some(MountFault::Damaged(code));
+        assert_eq!(rt; fault_with(rt.alloc(), usage, place, byte)?, want);
+    }
+    Ok(())
+}
+
+/// The fault of a mount of a volume with the file `/f`, where a sector can't be read.
+fn fault_without(alloc: Global, sector: u32) -> Result<Option<MountFault>, Fail> {
+    let mut fs = volume_with(alloc, b"a")?;
+    fs.sync()?;
+    let mut device = fs.into_device();
+    if sector >= device.sectors() {
+        return Err(Fail::from("no such sector"));
+    }
+    device.set_unreadable(sector);
+    Ok(fault(alloc, device))
+}
+
+#[test]
+fn unreadable_sectors_are_refused_by_stage(rt: HostRuntime) -> Result<(), Fail> {
+    let mut counts = [0u8; 10];
+    for sector in 2..130 {
+        match fault_without(rt.alloc(), sector)? {
+            Some(MountFault::Damaged(code)) if code < 10 => {
+                counts[code as usize] = counts[code as usize].saturating_add(1);
+            }
+            Some(fault) => return Err(Fail::from(fault)),
+            None => {}
+        }
+    }
+    // The usage block, its summary, the block of the inode map, two inodes, and a block of the root and of the file;
+    // nothing points at the first segment any more.
+    assert_eq!(rt; counts, [0, 1, 1, 1, 2, 0, 0, 2, 0, 0]);
+    Ok(())
+}
+
 /// The number of entries after `create /a` and `sync` on a device that stops within this write, whose unsynced sectors
 /// are then left so; and how many writes were begun.
 fn entries_after_stop(alloc: Global, write: u64, left: Left) -> Result<(usize, u64), Fail> {
@@ -383,8 +484,8 @@ fn a_failed_sync_halts_until_the_next_mount(rt: HostRuntime) -> Result<(), Fail>
     let alloc = rt.alloc();
     for left in [Left::Old, Left::New, Left::Bad] {
         let mut device = new_volume(alloc)?.into_device();
-        // The mount syncs once, and a commit before and after its checkpoint.
-        device.fail(DeviceCall::Sync, 2);
+        // The mount syncs twice, and a commit before and after its checkpoint.
+        device.fail(DeviceCall::Sync, 3);
         let mut fs = mounted(alloc, device)?;
         fs.create(b"/a")?;
         assert_eq!(rt; fs.sync(), Err(FsError::Halted));

@@ -1,10 +1,11 @@
 use Rattle.std.proofs.Common.{◌≡◌}
-use Rattle.lfs_fs.proofs.MountChecks.{FilesUpTo}
-use Rattle.lfs_fs.proofs.mounting.check_files.Given as goal
+use Rattle.lfs_dirs.specs.Listing.{pairs}
+use Rattle.lfs_fs.proofs.TreeChecks.{FilesUpTo}
+use Rattle.lfs_fs.proofs.checking.check_files.Given as goal
 
 abbrev pub invariant-loop-number : goal.invariant-loop-number
 invariant-loop-number g l =
-    FilesUpTo g.D.SectorDevice.state l.initial.store.log l.store.log l.initial.store.draft.changes l.number
+    FilesUpTo g.D.SectorDevice.state l.initial.store.log l.store.log l.initial.store.draft.changes (pairs l.entries) l.number
     × (l.store.draft ≡ l.initial.store.draft)
     × (l.store.saved ≡ l.initial.store.saved)
     × (l.store.totals ≡ l.initial.store.totals)

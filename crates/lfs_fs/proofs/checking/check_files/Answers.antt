@@ -1,0 +1,36 @@
+use Rattle.std.proofs.Common.{◌≡◌, ◌+◌, ◌∙◌, refl, subst, ℕ, arith}
+use Rattle.lfs_store.specs.declared.draft.Draft.{Draft}
+use Rattle.lfs_dirs.specs.Listing.{pairs}
+use Rattle.lfs_fs.specs.Checking.{FindsFiles, LacksFiles}
+use Rattle.lfs_fs.proofs.TreeChecks.{files_lack, files_more, files_none}
+use Rattle.lfs_fs.proofs.checking.check_files.Goals as goal
+
+pub loop-number-init : goal.loop-number-init
+loop-number-init g c = (files_none g.D.SectorDevice.state c.args.store.now.log c.args.store.now.draft.changes (pairs c.args.entries.now), refl, refl, refl)
+
+pub loop-number-preserved : goal.loop-number-preserved
+loop-number-preserved g c =
+    let at = c.loop-number in
+    let check = c.check_file.ensures in
+    let check_done = c.in-Ok.ensures.done in (
+      files_more g.D.SectorDevice.state c.args.store.now.log at.store.log c.check_file.new.store.log c.args.store.now.draft.changes (pairs c.args.entries.now) at.number at.invariant.0 check.reads
+          (g.met.D.SectorDevice.lawful c.args.store.now.log.device)
+          (subst (λ (d : Draft). FindsFiles g.D.SectorDevice.state at.store.log c.check_file.new.store.log d.changes (pairs c.args.entries.now) at.number (at.number + 1)) at.invariant.1 check_done),
+      check.draft ∙ at.invariant.1,
+      check.saved ∙ at.invariant.2,
+      check.totals ∙ at.invariant.3,
+    )
+
+pub returns-in-Err-clause-failed : goal.returns-in-Err-clause-failed
+returns-in-Err-clause-failed g c =
+    let at = c.loop-number in
+    files_lack g.D.SectorDevice.state c.args.store.now.log at.store.log c.check_file.new.store.log c.args.store.now.draft.changes (pairs c.args.entries.now) at.number at.invariant.0 c.check_file.ensures.reads at.auto.number c.loop-number-test.true
+    (subst (λ (d : Draft). LacksFiles g.D.SectorDevice.state at.store.log c.check_file.new.store.log d.changes (pairs c.args.entries.now) at.number (at.number + 1)) at.invariant.1 c.in-Err.ensures.failed)
+
+pub returns-clause-done : goal.returns-clause-done
+returns-clause-done g c =
+    let at = c.loop-number in
+    let high = at.auto.number-end (omega arith) in
+    let ended = c.loop-number-test.false in
+    let is : at.number ≡ 4096 = omega (arith, high, ended) in
+    subst (λ (n : ℕ). FindsFiles g.D.SectorDevice.state c.args.store.now.log at.store.log c.args.store.now.draft.changes (pairs c.args.entries.now) 2 n) is at.invariant.0.files

@@ -1,0 +1,39 @@
+use Rattle.std.proofs.Common.{refl, sym, subst, ◌∙◌}
+use Rattle.lfs_fs.specs.Mounting.{IsMountFault}
+use Rattle.lfs_store.specs.Accepting.{MountsStore}
+use Rattle.lfs_store.specs.Recounting.{MountsTotals}
+use Rattle.lfs_store.specs.declared.totals.Totals.{Totals}
+use Rattle.lfs_fs.specs.Checking.{FindsTree}
+use Rattle.lfs_fs.proofs.MountEnds.{check_fault, stands_where_log, mounts_fs, open_fault}
+use Rattle.lfs_fs.proofs.fs.Fs.open_checked.Goals as goal
+
+pub returns-in-Err-clause-cause : goal.returns-in-Err-clause-cause
+returns-in-Err-clause-cause g c other = open_fault g.D.SectorDevice.state c.args.device c.in-Err.fault.1 (c.in-Err.ensures.cause other)
+
+pub returns-in-Ok-check_tree-clause-mounts : goal.returns-in-Ok-check_tree-clause-mounts
+returns-in-Ok-check_tree-clause-mounts g c =
+    let opened = c.in-Ok.ensures in
+    let check = c.in-Ok-check_tree.ensures in
+    let store = c.check_tree.new.store in
+    mounts_fs g.D.SectorDevice.state g.met.D.SectorDevice.lawful c.args.device c.in-Ok.store.log store.log check.reads record { alloc = c.args.alloc; store = store; handles = c.new.result } refl
+    (subst (MountsStore g.D.SectorDevice.state c.args.device c.in-Ok.store.log) (sym check.saved) opened.stores) (check.saved ∙ opened.saved) c.in-Ok.store.draft.changes opened.draft
+    (subst (MountsTotals g.D.SectorDevice.state c.args.device c.in-Ok.store.log) (sym check.totals) opened.counts) c.new.ensures opened.durable
+    (subst (λ (t : Totals). FindsTree g.D.SectorDevice.state c.in-Ok.store.log store.log c.in-Ok.store.draft.changes t) (sym check.totals) check.done)
+
+pub returns-in-Ok-check_tree-clause-tree : goal.returns-in-Ok-check_tree-clause-tree
+returns-in-Ok-check_tree-clause-tree g c =
+    let opened = c.in-Ok.ensures in
+    let check = c.in-Ok-check_tree.ensures in
+    let store = c.check_tree.new.store in
+    stands_where_log g.D.SectorDevice.state g.met.D.SectorDevice.lawful c.args.device c.in-Ok.store.log store.log check.reads record { alloc = c.args.alloc; store = store; handles = c.new.result } refl
+    (subst (MountsStore g.D.SectorDevice.state c.args.device c.in-Ok.store.log) (sym check.saved) opened.stores) (check.saved ∙ opened.saved) c.in-Ok.store.draft.changes opened.draft
+    (subst (MountsTotals g.D.SectorDevice.state c.args.device c.in-Ok.store.log) (sym check.totals) opened.counts) c.new.ensures opened.durable
+    (subst (λ (t : Totals). FindsTree g.D.SectorDevice.state c.in-Ok.store.log store.log c.in-Ok.store.draft.changes t) (sym check.totals) check.done)
+
+pub returns-in-Err-check_tree-clause-cause : goal.returns-in-Err-check_tree-clause-cause
+returns-in-Err-check_tree-clause-cause g c other =
+    let opened = c.in-Ok.ensures in
+    let check = c.in-Err-check_tree.ensures in
+    subst (λ (d : g.row.D.Denot). IsMountFault g.D.SectorDevice.state c.args.device d) (sym c.into_device.ensures)
+    (check_fault g.D.SectorDevice.state g.met.D.SectorDevice.lawful c.args.device c.in-Ok.store.log c.check_tree.new.store.log check.reads c.in-Ok.store.saved opened.stores c.in-Ok.store.draft.changes opened.draft
+    c.in-Ok.store.totals opened.counts opened.carries (check.failed other))

@@ -1,0 +1,95 @@
+-- What a mount finds in a log map: the tree of a root and files in it, which are named as often as their headers say, with room for all.
+use Rattle.std.specs.Prelude.{◌≡◌, ◌⊎◌, ◌<◌, ◌≤◌, ◌/◌, ◌==◌, ℕ, List, length, count_by, Option, Some, None}
+use Rattle.lfs_model.specs.declared.Kind.TheVariants as kind
+use Rattle.lfs_model.specs.Checkpoint.{CheckpointValue}
+use Rattle.lfs_model.specs.Device.{DeviceState}
+use Rattle.lfs_model.specs.Encodes.{IsLogMap}
+use Rattle.lfs_model.specs.Entry as entry
+use Rattle.lfs_model.specs.Objects.{AreLong, IsHeaderOf}
+use Rattle.lfs_model.specs.Stands.{LogMap}
+use Rattle.lfs_model.specs.Tree.{Names}
+use Rattle.lfs_model.specs.TreeOf.{IsTree, tree_in}
+use Rattle.lfs_memory.specs.declared.changes.Changes.{Changes}
+use Rattle.lfs_memory.specs.declared.header.Header.{Header}
+use Rattle.lfs_memory.specs.Batch.{staged}
+use Rattle.lfs_memory.specs.Present.{as_header}
+use Rattle.lfs_log.specs.Held.{Held, Holds}
+use Rattle.lfs_store.specs.declared.totals.Totals.{Totals}
+use Rattle.lfs_store.specs.Recounting.{AreTotals}
+use Rattle.lfs_dirs.specs.declared.entry.Entry.{Entry}
+use Rattle.lfs_dirs.specs.Directory.{slots_at}
+use Rattle.lfs_dirs.specs.Listing.{IsListOf, pairs}
+use Rattle.lfs_fs.specs.Volume.{IsPlain}
+
+-- how many names give n
+abbrev pub giving : Names → ℕ → ℕ
+giving ms n = count_by (λ x. x.1 == n) ms
+
+-- A number that no object has, no name gives; an object is a file that some names give, as many as its header says.
+abbrev pub FitsNumber : Option entry.Header → ℕ → Type 0
+FitsNumber None count = count ≡ 0
+FitsNumber (Some h) count = (h.kind ≡ kind.File) × (h.links ≡ count) × (0 < count)
+
+-- the numbers a..b do so
+abbrev pub FitNumbers : LogMap → Names → ℕ → ℕ → Type 0
+FitNumbers m ms a b = (n : ℕ) → a ≤ n → n < b → FitsNumber (m.header n) (giving ms n)
+
+-- one of them doesn't
+pub record HasOdd (m : LogMap) (ms : Names) (a b : ℕ) : Type 0 where
+  pub number : ℕ
+  pub low : a ≤ number
+  pub high : number < b
+  pub odd : FitsNumber (m.header number) (giving ms number) → ⊥
+
+-- the root's header
+pub record IsRoot (m : LogMap) (head : Header) : Type 0 where
+  pub there : m.header 1 ≡ Some (as_header head)
+  pub kind : head.kind ≡ kind.Directory
+  pub links : head.links ≡ 2
+
+-- the root's entries: one for each slot, under a name of its own, and none gives the root
+pub record AreEntries (m : LogMap) (head : Header) (es : List Entry) : Type 0 where
+  pub list : IsListOf (slots_at m 1 head) es
+  pub apart : length es ≡ head.size / 64
+  pub unnamed : giving (pairs es) 1 ≡ 0
+
+-- The log map of a volume of N segments is a tree's: a root and files in it.
+pub record IsFlat (N : ℕ) (m : LogMap) : Type 0 where
+  pub tree : IsTree N m
+  pub plain : IsPlain (tree_in m)
+
+-- A log map that can be laid out, with its totals.
+pub record IsCountedMap (m : LogMap) (totals : Totals) : Type 0 where
+  pub map : IsLogMap m
+  pub long : (n : ℕ) → AreLong m n
+  pub fits : (n : ℕ) (h : entry.Header) → m.header n ≡ Some h → IsHeaderOf n h
+  pub counted : AreTotals m totals
+
+module _ {D : Type 0} (state : D → DeviceState) where
+  abbrev pub FindsRoot : Held D → Held D → Changes → Header → Type 0
+  FindsRoot h h' c head = (k : CheckpointValue) (m0 m : LogMap) → (state h'.device).keeps_model → Holds state h k m0 m → IsRoot (staged c m) head
+
+  abbrev pub FindsEntries : Held D → Held D → Changes → Header → List Entry → Type 0
+  FindsEntries h h' c head es = (k : CheckpointValue) (m0 m : LogMap) → (state h'.device).keeps_model → Holds state h k m0 m → AreEntries (staged c m) head es
+
+  abbrev pub FindsFiles : Held D → Held D → Changes → Names → ℕ → ℕ → Type 0
+  FindsFiles h h' c ms a b = (k : CheckpointValue) (m0 m : LogMap) → (state h'.device).keeps_model → Holds state h k m0 m → FitNumbers (staged c m) ms a b
+
+  abbrev pub FindsTree : Held D → Held D → Changes → Totals → Type 0
+  FindsTree h h' c totals = (k : CheckpointValue) (m0 m : LogMap) → (state h'.device).keeps_model → Holds state h k m0 m → IsCountedMap (staged c m) totals → IsFlat k.segments (staged c m)
+
+  -- where it isn't found, a call of the device failed, or there is no such tree
+  abbrev pub LacksRoot : Held D → Held D → Changes → Type 0
+  LacksRoot h h' c = (k : CheckpointValue) (m0 m : LogMap) → (state h'.device).keeps_model → Holds state h k m0 m → IsFlat k.segments (staged c m) → (state h.device).failures < (state h'.device).failures
+
+  abbrev pub LacksEntries : Held D → Held D → Changes → Header → Type 0
+  LacksEntries h h' c head = (k : CheckpointValue) (m0 m : LogMap) → (state h'.device).keeps_model → Holds state h k m0 m → IsFlat k.segments (staged c m) → IsRoot (staged c m) head → IsHeaderOf 1 (as_header head)
+      → (state h.device).failures < (state h'.device).failures
+
+  abbrev pub LacksFiles : Held D → Held D → Changes → Names → ℕ → ℕ → Type 0
+  LacksFiles h h' c ms a b = (k : CheckpointValue) (m0 m : LogMap) → (state h'.device).keeps_model → Holds state h k m0 m
+      → ((state h.device).failures < (state h'.device).failures) ⊎ HasOdd (staged c m) ms a b
+
+  abbrev pub LacksTree : Held D → Held D → Changes → Totals → Type 0
+  LacksTree h h' c totals = (k : CheckpointValue) (m0 m : LogMap) → (state h'.device).keeps_model → Holds state h k m0 m → IsCountedMap (staged c m) totals → IsFlat k.segments (staged c m)
+      → (state h.device).failures < (state h'.device).failures

@@ -1,0 +1,204 @@
+//! What a mount checks of a volume's tree: that it is a root and files, named as often as their inodes say, with room for all.
+ghost use Rattle.std.specs.Prelude.{◌≡◌, ◌≤◌, ◌<◌, ◌+◌, ◌*◌, length, OnOk, OnErr, IfOk, IfErr};
+ghost use Rattle.std.specs.Option.{option_map};
+ghost use Rattle.lfs_memory.specs.Present.{as_header};
+ghost use Rattle.lfs_log.specs.Held.{Reads};
+ghost use Rattle.lfs_dirs.specs.Listing.{pairs};
+ghost use Rattle.lfs_fs.specs.Checking.{FitsNumber, giving, FindsRoot, FindsEntries, FindsFiles, FindsTree, LacksRoot, LacksEntries, LacksFiles, LacksTree};
+
+use crate::fs::ROOT;
+use lfs_device::SectorDevice;
+use lfs_dirs::{Entry, ListFault, inspect};
+use lfs_log::{Header, MountFault};
+use lfs_model::Kind;
+use lfs_store::Store;
+use std::alloc::Global;
+
+/// The bytes of a slot of the root.
+const SLOT: u32 = 64;
+
+/// The code of damage of the root's entries, and of what they give.
+const DAMAGED_ENTRIES: u8 = 10;
+
+/// That of a file without a name.
+const NAMELESS: u8 = 12;
+
+/// That of other links than names.
+const DAMAGED_LINKS: u8 = 13;
+
+/// That of more blocks than there may be.
+const NO_ROOM: u8 = 14;
+
+/// Checks the tree of a volume that was just opened.
+pub(crate) fn check_tree<D: SectorDevice>(
+    alloc: Global,
+    store: &mut Store<D>,
+) -> Result<(), MountFault>
+    ensures reads { Reads D.SectorDevice.state store.old.log store.new.log }
+    ensures draft { store.new.draft ≡ store.old.draft }
+    ensures saved { store.new.saved ≡ store.old.saved }
+    ensures totals { store.new.totals ≡ store.old.totals }
+    ensures done { OnOk result (FindsTree D.SectorDevice.state store.old.log store.new.log store.old.draft.changes store.old.totals) }
+    ensures failed { IfErr result (λ fault. (fault ≡ MountFault.NoMemory → ⊥) → LacksTree D.SectorDevice.state store.old.log store.new.log store.old.draft.changes store.old.totals) }
+{
+    let root = match check_root(store) {
+        Ok(root) => root,
+        Err(fault) => return Err(fault),
+    };
+    let entries = match check_entries(alloc, store, root) {
+        Ok(entries) => entries,
+        Err(fault) => return Err(fault),
+    };
+    match check_files(store, &entries) {
+        Ok(()) => {}
+        Err(fault) => return Err(fault),
+    }
+    match check_room(store) {
+        Ok(()) => Ok(()),
+        Err(fault) => Err(fault),
+    }
+}
+
+/// The root's header: it is a directory, of no other directories.
+fn check_root<D: SectorDevice>(store: &mut Store<D>) -> Result<Header, MountFault>
+    ensures reads { Reads D.SectorDevice.state store.old.log store.new.log }
+    ensures draft { store.new.draft ≡ store.old.draft }
+    ensures saved { store.new.saved ≡ store.old.saved }
+    ensures totals { store.new.totals ≡ store.old.totals }
+    ensures done { IfOk result (FindsRoot D.SectorDevice.state store.old.log store.new.log store.old.draft.changes) }
+    ensures failed { OnErr result (LacksRoot D.SectorDevice.state store.old.log store.new.log store.old.draft.changes) }
+{
+    let header = match store.header(ROOT) {
+        Ok(Some(header)) => header,
+        Ok(None) => return Err(MountFault::Damaged(DAMAGED_ENTRIES)),
+        Err(_) => return Err(MountFault::Device),
+    };
+    match header.kind {
+        Kind::Directory => {}
+        Kind::File => return Err(MountFault::Damaged(DAMAGED_ENTRIES)),
+        Kind::Link => return Err(MountFault::Damaged(DAMAGED_ENTRIES)),
+    }
+    if header.links != 2 {
+        return Err(MountFault::Damaged(DAMAGED_LINKS));
+    }
+    Ok(header)
+}
+
+/// The root's entries: one for each slot, none of them the root's.
+fn check_entries<D: SectorDevice>(
+    alloc: Global,
+    store: &mut Store<D>,
+    root: Header,
+) -> Result<Vec<Entry>, MountFault>
+    ensures reads { Reads D.SectorDevice.state store.old.log store.new.log }
+    ensures draft { store.new.draft ≡ store.old.draft }
+    ensures saved { store.new.saved ≡ store.old.saved }
+    ensures totals { store.new.totals ≡ store.old.totals }
+    ensures done { IfOk result (λ entries. FindsEntries D.SectorDevice.state store.old.log store.new.log store.old.draft.changes root entries.items) }
+    ensures failed { IfErr result (λ fault. (fault ≡ MountFault.NoMemory → ⊥) → LacksEntries D.SectorDevice.state store.old.log store.new.log store.old.draft.changes root) }
+{
+    let entries = match inspect(alloc, store, ROOT, root) {
+        Ok(entries) => entries,
+        Err(ListFault::NoMemory) => return Err(MountFault::NoMemory),
+        Err(ListFault::NoSlot) => return Err(MountFault::Damaged(DAMAGED_ENTRIES)),
+        Err(ListFault::Log(_)) => return Err(MountFault::Device),
+    };
+    if entries.len() != (root.size / SLOT) as usize {
+        return Err(MountFault::Damaged(DAMAGED_ENTRIES));
+    }
+    if count_names(&entries, ROOT) != 0 {
+        return Err(MountFault::Damaged(DAMAGED_ENTRIES));
+    }
+    Ok(entries)
+}
+
+/// How many entries give a number.
+fn count_names(entries: &[Entry], number: u16) -> usize
+    ensures { result ≡ giving (pairs entries.now) number }
+{
+    let mut count = 0;
+    for place in 0..entries.len() {
+        if entries[place].number == number {
+            count += 1;
+        }
+    }
+    count
+}
+
+/// Looks at each object: all but the root are files that the entries name as often as they say.
+fn check_files<D: SectorDevice>(store: &mut Store<D>, entries: &[Entry]) -> Result<(), MountFault>
+    ensures reads { Reads D.SectorDevice.state store.old.log store.new.log }
+    ensures draft { store.new.draft ≡ store.old.draft }
+    ensures saved { store.new.saved ≡ store.old.saved }
+    ensures totals { store.new.totals ≡ store.old.totals }
+    ensures done { OnOk result (FindsFiles D.SectorDevice.state store.old.log store.new.log store.old.draft.changes (pairs entries.now) 2 4096) }
+    ensures failed { OnErr result (LacksFiles D.SectorDevice.state store.old.log store.new.log store.old.draft.changes (pairs entries.now) 2 4096) }
+{
+    for number in 2..4_096u16 {
+        match check_file(store, entries, number) {
+            Ok(()) => {}
+            Err(fault) => return Err(fault),
+        }
+    }
+    Ok(())
+}
+
+/// Whether a number is free and not named, or a file's that is named as often as it says.
+fn check_file<D: SectorDevice>(
+    store: &mut Store<D>,
+    entries: &[Entry],
+    number: u16,
+) -> Result<(), MountFault>
+    requires { number < 4096 }
+    ensures reads { Reads D.SectorDevice.state store.old.log store.new.log }
+    ensures draft { store.new.draft ≡ store.old.draft }
+    ensures saved { store.new.saved ≡ store.old.saved }
+    ensures totals { store.new.totals ≡ store.old.totals }
+    ensures done { OnOk result (FindsFiles D.SectorDevice.state store.old.log store.new.log store.old.draft.changes (pairs entries.now) number (number + 1)) }
+    ensures failed { OnErr result (LacksFiles D.SectorDevice.state store.old.log store.new.log store.old.draft.changes (pairs entries.now) number (number + 1)) }
+{
+    match store.header(number) {
+        Ok(found) => match check_header(found, count_names(entries, number)) {
+            Ok(()) => Ok(()),
+            Err(fault) => Err(fault),
+        },
+        Err(_) => Err(MountFault::Device),
+    }
+}
+
+/// Whether so many names are those of what stands at a number.
+fn check_header(found: Option<Header>, count: usize) -> Result<(), MountFault>
+    ensures done { OnOk result (FitsNumber (option_map as_header found) count) }
+    ensures failed { OnErr result (FitsNumber (option_map as_header found) count → ⊥) }
+{
+    let Some(header) = found else {
+        if count != 0 {
+            return Err(MountFault::Damaged(DAMAGED_ENTRIES));
+        }
+        return Ok(());
+    };
+    match header.kind {
+        Kind::File => {}
+        Kind::Directory => return Err(MountFault::Damaged(DAMAGED_ENTRIES)),
+        Kind::Link => return Err(MountFault::Damaged(DAMAGED_ENTRIES)),
+    }
+    if count == 0 {
+        return Err(MountFault::Damaged(NAMELESS));
+    }
+    if header.links as usize != count {
+        return Err(MountFault::Damaged(DAMAGED_LINKS));
+    }
+    Ok(())
+}
+
+/// Whether the volume has room for its files.
+fn check_room<D: SectorDevice>(store: &Store<D>) -> Result<(), MountFault>
+    ensures done { OnOk result (store.now.totals.data_blocks + 7 * store.now.totals.meta_blocks + 720 ≤ 47 * length store.now.log.memory.usage.segments) }
+    ensures failed { OnErr result (47 * length store.now.log.memory.usage.segments < store.now.totals.data_blocks + 7 * store.now.totals.meta_blocks + 720) }
+{
+    let need = u64::from(store.totals.data_blocks) + 7 * u64::from(store.totals.meta_blocks) + 720;
+    if need > 47 * u64::from(store.log.segments()) {
+        return Err(MountFault::Damaged(NO_ROOM));
+    }
+    Ok(())
+}
