@@ -12,8 +12,8 @@ use Rattle.lfs_script.specs.declared.script.ScriptEnd.{ScriptEnd}
 use Rattle.lfs_script.specs.declared.session.StoppedScript.{StoppedScript}
 
 -- A use of a volume by a script, on a device of which a stop may have left only states that were pending in an earlier run. The volume begins with one of
--- them, and the script's replies are a run of the model from there. A stop at any moment since before the mount leaves the tree after some beginning of the
--- calls; and at the end, after one that holds every call up to the last acknowledged sync.
+-- them, without its files of no name, and the script's replies are a run of the model from there. A stop at any moment since before the mount leaves what
+-- one before it might have left, or the tree after some beginning of the calls; and at the end, after one that holds every call up to the last acknowledged sync.
 pub record Session (end : ScriptEnd) (r r' w w' : Option (List ℕ)) (d d' : DeviceState) (before : List Point) (calls : List Call) (given : List Answer) : Type 0 where
   pub texts : List (List ℕ)
   pub script : List Line

@@ -1,9 +1,12 @@
 use super::*;
-use lfs_device::MemDevice;
-use lfs_fs::{Fs, format};
+use lfs_device::{Left, MemDevice};
+use lfs_fs::{Fs, MountFault, format};
 use std::io;
 use std::io::{Read, Write};
 use std::test::Fail;
+
+mod stops;
+mod streams;
 
 const SECTORS: u32 = 2 + 64 * 64;
 
@@ -320,5 +323,39 @@ fn the_least_handles_and_numbers(rt: HostRuntime) -> Result<(), Fail> {
     let (end, output) = answered(&rt, script.as_str())?;
     assert_eq!(rt; end, ScriptEnd::Done);
     assert_eq!(rt; output.as_slice(), replies.as_bytes());
+    Ok(())
+}
+
+#[test]
+fn uses_in_turn(rt: HostRuntime) -> Result<(), Fail> {
+    let alloc = rt.alloc();
+    for left in [Left::Old, Left::New, Left::Bad] {
+        let mut device = MemDevice::new(alloc, SECTORS)?;
+        format(&mut device, 64)?;
+        let mut scripts = Vec::new(alloc);
+        for text in ["create /a\nsync\ncreate /b\n", "tree\n"] {
+            let script = Vec::from_slice(alloc, text.as_bytes())?;
+            scripts.push(StoppedScript { script, left })?;
+        }
+        let mut output = Vec::new(alloc);
+        let (end, device) = use_each(alloc, scripts.as_slice(), &mut output, device);
+        drop(device);
+        assert!(rt; end.is_ok());
+        let replies = b"ok 0\nok\nok 1\nok 1\n1 a file 2 1 0 -\n";
+        assert_eq!(rt; output.as_slice(), replies.as_slice());
+    }
+    Ok(())
+}
+
+#[test]
+fn a_use_of_no_volume(rt: HostRuntime) -> Result<(), Fail> {
+    let alloc = rt.alloc();
+    let device = MemDevice::new(alloc, SECTORS)?;
+    let mut input = b"tree\n".as_slice();
+    let mut output = Vec::new(alloc);
+    let (end, device) = use_and_stop(alloc, &mut input, &mut output, device, Left::Old);
+    drop(device);
+    assert_eq!(rt; end, Err(MountFault::NoCheckpoint));
+    assert!(rt; output.is_empty());
     Ok(())
 }
