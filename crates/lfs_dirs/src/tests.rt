@@ -1,6 +1,7 @@
 //! Names of a root over two blocks.
 ghost use Rattle.std.specs.Prelude.{◌≡◌, ◌≤◌, ◌*◌, IfOk};
 ghost use Rattle.lfs_model.specs.Checkpoint.{FitsCheckpoint};
+ghost use Rattle.lfs_memory.specs.Batch.{IsNoChange};
 
 use crate::{add, find, list, repoint, take};
 use lfs_device::{MemDevice, SectorDevice};
@@ -117,18 +118,21 @@ fn new_volume(alloc: Global, segments: u32) -> Result<MemDevice, Fail> {
     Ok(device)
 }
 
-/// It, with room for the draft of one header and two blocks.
-fn empty_store(alloc: Global) -> Result<Store<MemDevice>, Fail> {
+/// It, with room for the draft of one header and two blocks, on the heap, where each end of a test drops it by one call.
+fn empty_store(alloc: Global) -> Result<Box<Store<MemDevice>>, Fail> {
     let device = new_volume(alloc, 64)?;
     let draft = Draft::new(alloc, 1, 2)?;
     match Log::open(alloc, device) {
-        Ok(log) => Ok(Store {
-            log,
-            draft,
-            saved: true,
-            totals: NO_BLOCKS,
-            drafted: NO_BLOCKS,
-        }),
+        Ok(log) => {
+            let store = Store {
+                log,
+                draft,
+                saved: true,
+                totals: NO_BLOCKS,
+                drafted: NO_BLOCKS,
+            };
+            Ok(Box::new(alloc, store)?)
+        }
         Err((fault, _)) => Err(Fail::from(fault)),
     }
 }
@@ -217,12 +221,20 @@ fn a_name_gives_another_number(rt: HostRuntime) -> Result<(), Fail> {
     Ok(())
 }
 
+/// Stages the draft, and clears it.
+fn stage(store: &mut Store<MemDevice>) -> Result<(), Fail>
+    ensures { IfOk result (λ _. IsNoChange store.new.draft.changes) }
+{
+    store.log.stage(&store.draft.changes)?;
+    store.draft.clear();
+    Ok(())
+}
+
 #[test]
 fn the_last_slot_comes_into_the_gap(rt: HostRuntime) -> Result<(), Fail> {
     let mut store = empty_store(rt.alloc())?;
     let header = nine_names(&mut store)?;
-    store.log.stage(&store.draft.changes)?;
-    store.draft.clear();
+    stage(&mut store)?;
     assert!(rt; take(&mut store, 1, header, b"h")?);
     assert_eq!(rt; find(&mut store, 1, root(8), b"h")?, None);
     assert_eq!(rt; find(&mut store, 1, root(8), b"a")?, Some(10));

@@ -12,6 +12,8 @@ use Rattle.lfs_model.proofs.ObjectMaps.{laid_headers}
 use Rattle.lfs_model.proofs.ObjectNeeds.{laid_long}
 use Rattle.lfs_memory.specs.declared.changes.Changes.{Changes}
 use Rattle.lfs_memory.specs.Batch.{IsNoChange, staged}
+use Rattle.lfs_log.specs.declared.fault.MountFault.{MountFault}
+use Rattle.lfs_log.specs.declared.fault.MountFault.TheVariants as fault
 use Rattle.lfs_log.specs.Held.{Held, Reads}
 use Rattle.lfs_log.specs.Opening.{IsOpenFault}
 use Rattle.lfs_store.specs.declared.totals.Totals.{Totals}
@@ -20,9 +22,9 @@ use Rattle.lfs_store.specs.Recounting.{MountsTotals}
 use Rattle.lfs_store.proofs.Apart.{no_change}
 use Rattle.lfs_store.proofs.LogReads.{held_still}
 use Rattle.lfs_fs.specs.declared.fs.Fs.{Fs}
-use Rattle.lfs_fs.specs.Checking.{FindsTree, IsCountedMap, IsFlat, LacksTree}
+use Rattle.lfs_fs.specs.Checking.{FindsTree, IsCountedMap, IsFlat, IsTreeFault, LacksTree}
 use Rattle.lfs_fs.specs.Handles.{handles_of}
-use Rattle.lfs_fs.specs.Mounting.{FindsState, HasLogMap, IsLogFault, IsMountFault, MountsAt, MountsFs, StandsWhereLog}
+use Rattle.lfs_fs.specs.Mounting.{FindsState, HasLogMap, no_tree, IsLogFault, IsMountFault, IsRefused, IsRefusedFor, IsRefusedTree, MountsAt, MountsFs, StandsWhereLog}
 use Rattle.lfs_fs.specs.Seen.{seen}
 use Rattle.lfs_fs.specs.Volume.{IsPlain}
 use Rattle.lfs_verify.specs.Take.{Looks}
@@ -93,6 +95,24 @@ module _ {D : Type 0} (state : D → DeviceState) (lawful : (d : D) → IsLawful
           let before = carries.failures in
           omega (arith, rose, before)
 
+      -- why its tree is refused, where no call failed
+      pub tree_refused : Carries (state d) (state h.device) → (f : MountFault) → IsTreeFault state h h' f → ((f ≡ fault.NoMemory → ⊥) → LacksTree state h h' c totals) → IsRefusedTree (state d) (state h'.device) f
+      tree_refused carries fault.NoMemory told lacks m is keeps same = told
+      tree_refused carries fault.Device told lacks m is keeps same =
+          let rose = told is.checkpoint m m keeps (mounts m (reads.looks.carries.kept_before keeps) is).holds in
+          let before = carries.failures in
+          absurd (omega (arith, rose, before, same))
+      tree_refused carries fault.TooSmall told lacks m is keeps same = absurd told
+      tree_refused carries fault.NoCheckpoint told lacks m is keeps same = absurd told
+      tree_refused carries (fault.Damaged code) told lacks m is keeps same = no_tree told.0 told.1 record {
+        log = m;
+        stands = is;
+        no_tree = λ flat.
+            let rose = lacks (λ e. cc) is.checkpoint m m keeps (mounts m (reads.looks.carries.kept_before keeps) is).holds (counted_map m keeps is) (subst (IsFlat is.checkpoint.segments) (sym (no_change c m none)) flat) in
+            let before = carries.failures in
+            absurd (omega (arith, rose, before, same));
+      }
+
   only_after : Only (state d).content (state h.device) → Only (state d).content (state h'.device)
   only_after only c left = only c (reads.looks.untouched.crash c left)
 
@@ -128,6 +148,17 @@ module _ {D : Type 0} (state : D → DeviceState) (lawful : (d : D) → IsLawful
 pub open_fault : {D : Type 0} (state : D → DeviceState) (d d' : D) → IsOpenFault (state d) (state d') → IsMountFault state d d'
 open_fault state d d' failed s keeps is plain = failed is.log keeps (record { checkpoint = is.checkpoint; newest = is.found; stands = is.stands })
 
+-- a refusal that only memory has
+memory_alone : (c : Content) (f : MountFault) → ((f ≡ fault.NoMemory → ⊥) → ⊥) → IsRefusedFor c f
+memory_alone c fault.NoMemory never = tt
+memory_alone c fault.Device never = absurd (never (λ e. cc))
+memory_alone c fault.TooSmall never = absurd (never (λ e. cc))
+memory_alone c fault.NoCheckpoint never = absurd (never (λ e. cc))
+memory_alone c (fault.Damaged code) never = absurd (never (λ e. cc))
+
+pub open_refused : (old new : DeviceState) (f : MountFault) → ((f ≡ fault.NoMemory → ⊥) → IsOpenFault old new) → IsRefusedTree old new f
+open_refused old new f failed m is keeps same = memory_alone old.content f (λ other. let rose = failed other m keeps is in omega (arith, rose, same))
+
 -- ---- the log, which is checked before
 has_log_map : (c : Content) (enough : Bool) → IsVerified c enough → enough ≡ true → (m : LogMap) × StandsLog c m
 has_log_map c enough is all = (log_in (view c is.checkpoint), stands_where_enough c enough is all)
@@ -160,6 +191,14 @@ module _ {D : Type 0} (state : D → DeviceState) (d0 d1 : D) (one : Looks (stat
       let rose = fault s keeps (stands_still s is) plain in
       let before = one.carries.failures in
       omega (arith, rose, before)
+
+  pub refused_by : (d2 : D) (f : MountFault) → HasLogMap (state d0) (state d1) → Carries (state d1) (state d2) → IsRefusedTree (state d1) (state d2) f → IsRefused (state d0) (state d2) f
+  refused_by d2 f has carries refused keeps same =
+      let log = has (carries.kept_before keeps) in
+      let before = one.carries.failures in
+      let after = carries.failures in
+      subst (λ (c : Content). IsRefusedFor c f) one.untouched.content
+      (refused log.0 (subst (λ (c : Content). StandsLog c log.0) (sym one.untouched.content) log.1) keeps (omega (arith, same, before, after)))
 
   pub looks_on : (d2 : D) → Carries (state d1) (state d2) → IsUntouched (state d1) (state d2) → LeavesOnly (state d1) (state d2) (state d1).may_leave → Looks (state d0) (state d2)
   looks_on d2 carries untouched any_moment = looks_then (state d0) (state d1) (state d2) one (looks_by (state d1) (state d2) carries untouched any_moment)

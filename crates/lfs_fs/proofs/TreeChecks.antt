@@ -1,5 +1,5 @@
 -- What the checks of a mount find: the root, its entries, and one number after the other; and what they lack.
-use Rattle.std.proofs.Common.{◌≡◌, ◌<◌, ◌≤◌, ◌+◌, ◌*◌, ◌/◌, ℕ, List, length, Option, Some, None, sym, ◌∙◌, ap, subst, inl, inr, ⊎_elim, arith}
+use Rattle.std.proofs.Common.{◌≡◌, ◌<◌, ◌≤◌, ◌+◌, ◌*◌, ◌/◌, ℕ, List, length, true, Option, Some, None, refl, sym, ◌∙◌, ap, subst, inl, inr, ⊎_elim, arith}
 use Rattle.std.proofs.lemmas.Bool.{cases_eq}
 use Rattle.std.specs.Option.{option_map}
 use Rattle.lfs_model.specs.declared.Kind.TheVariants as kind
@@ -9,18 +9,22 @@ use Rattle.lfs_model.specs.Entry as entry
 use Rattle.lfs_model.specs.Stands.{LogMap}
 use Rattle.lfs_model.specs.Tree.{Names}
 use Rattle.lfs_memory.specs.declared.changes.Changes.{Changes}
+use Rattle.lfs_memory.specs.declared.fault.LogFault.{LogFault}
+use Rattle.lfs_memory.specs.declared.fault.LogFault.TheVariants as log
 use Rattle.lfs_memory.specs.declared.header.Header.{Header}
 use Rattle.lfs_memory.specs.declared.memory.LogMemory.{LogMemory}
 use Rattle.lfs_memory.specs.Batch.{staged}
 use Rattle.lfs_memory.specs.Present.{HeaderAnswer, as_header}
+use Rattle.lfs_log.specs.declared.fault.MountFault.{MountFault}
+use Rattle.lfs_log.specs.declared.fault.MountFault.TheVariants as fault
 use Rattle.lfs_log.specs.Held.{Held, Holds, IsReadFault, Reads}
 use Rattle.lfs_store.specs.declared.totals.Totals.{Totals}
 use Rattle.lfs_store.specs.Reading.{ReadsHeader}
-use Rattle.lfs_store.proofs.LogReads.{held_still, reads_more, reads_none}
+use Rattle.lfs_store.proofs.LogReads.{fault_more, held_still, reads_more, reads_none}
 use Rattle.lfs_dirs.specs.declared.entry.Entry.{Entry}
 use Rattle.lfs_dirs.specs.Finding.{IsDirectoryFault}
 use Rattle.lfs_dirs.specs.Listing.{Inspects, pairs}
-use Rattle.lfs_fs.specs.Checking.{AreEntries, FindsEntries, FindsFiles, FindsRoot, FindsTree, FitsNumber, HasOdd, IsRoot, LacksEntries, LacksFiles, LacksRoot, LacksTree, giving}
+use Rattle.lfs_fs.specs.Checking.{AreEntries, FindsEntries, FindsFiles, FindsRoot, FindsTree, FitsNumber, HasOdd, IsRoot, IsTreeDamage, IsTreeFault, LacksEntries, LacksFiles, LacksRoot, LacksTree, giving}
 use Rattle.lfs_fs.proofs.FlatRoots.{flat_apart, flat_directory, flat_found, flat_kind, flat_links, flat_numbers, flat_room, flat_there, flat_unnamed}
 
 -- what is read of a number
@@ -173,3 +177,28 @@ module _ {D : Type 0} (state : D → DeviceState) where
             let same = segments_are k m0 m holds in
             flat_found k.segments (staged c m) head es totals counted (root_of k m0 m keeps holds) (entries_of k m0 m keeps holds)
             (files k m0 m keeps (held_still state a d k m0 m two holds)) (omega (arith, same, room, is))
+
+-- ---- why a check refuses
+
+module _ {D : Type 0} (state : D → DeviceState) where
+  module _ (h h' : Held D) where
+    -- a list's fault of the log is a failed call's, where the log runs
+    pub log_failed : (f : LogFault) → (f ≡ log.Device → IsReadFault state h h') → (f ≡ log.Halted → h.halted ≡ true) → (f ≡ log.Full → ⊥) → IsReadFault state h h'
+    log_failed log.Device device halted other = device refl
+    log_failed log.Halted device halted other = λ k m0 m keeps holds. let stands = halted refl in let runs = holds.running in absurd (cc)
+    log_failed log.Full device halted other = absurd (other refl)
+
+    pub damage_told : (f : MountFault) → IsTreeDamage f → IsTreeFault state h h' f
+    damage_told fault.NoMemory is = absurd is
+    damage_told fault.Device is = absurd is
+    damage_told fault.TooSmall is = is
+    damage_told fault.NoCheckpoint is = is
+    damage_told (fault.Damaged code) is = is
+
+  -- the same after reads
+  pub fault_told : (a b d : Held D) → Reads state a b → (f : MountFault) → IsTreeFault state b d f → IsTreeFault state a d f
+  fault_told a b d one fault.NoMemory is = is
+  fault_told a b d one fault.Device is = fault_more state a b d one is
+  fault_told a b d one fault.TooSmall is = is
+  fault_told a b d one fault.NoCheckpoint is = is
+  fault_told a b d one (fault.Damaged code) is = is

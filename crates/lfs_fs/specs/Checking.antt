@@ -13,7 +13,9 @@ use Rattle.lfs_memory.specs.declared.changes.Changes.{Changes}
 use Rattle.lfs_memory.specs.declared.header.Header.{Header}
 use Rattle.lfs_memory.specs.Batch.{staged}
 use Rattle.lfs_memory.specs.Present.{as_header}
-use Rattle.lfs_log.specs.Held.{Held, Holds}
+use Rattle.lfs_log.specs.declared.fault.MountFault.{MountFault}
+use Rattle.lfs_log.specs.declared.fault.MountFault.TheVariants as fault
+use Rattle.lfs_log.specs.Held.{Held, Holds, IsReadFault}
 use Rattle.lfs_store.specs.declared.totals.Totals.{Totals}
 use Rattle.lfs_store.specs.Recounting.{AreTotals}
 use Rattle.lfs_dirs.specs.declared.entry.Entry.{Entry}
@@ -65,7 +67,23 @@ pub record IsCountedMap (m : LogMap) (totals : Totals) : Type 0 where
   pub fits : (n : ℕ) (h : entry.Header) → m.header n ≡ Some h → IsHeaderOf n h
   pub counted : AreTotals m totals
 
+-- damage of a tree, by its code
+abbrev pub IsTreeDamage : MountFault → Type 0
+IsTreeDamage fault.NoMemory = ⊥
+IsTreeDamage fault.Device = ⊥
+IsTreeDamage fault.TooSmall = ⊥
+IsTreeDamage fault.NoCheckpoint = ⊥
+IsTreeDamage (fault.Damaged code) = (10 ≤ code) × (code < 15)
+
 module _ {D : Type 0} (state : D → DeviceState) where
+  -- a refusal of a check: memory that is refused, a failed call, or damage of the tree
+  abbrev pub IsTreeFault : Held D → Held D → MountFault → Type 0
+  IsTreeFault h h' fault.NoMemory = Unit {0}
+  IsTreeFault h h' fault.Device = IsReadFault state h h'
+  IsTreeFault h h' fault.TooSmall = ⊥
+  IsTreeFault h h' fault.NoCheckpoint = ⊥
+  IsTreeFault h h' (fault.Damaged code) = (10 ≤ code) × (code < 15)
+
   abbrev pub FindsRoot : Held D → Held D → Changes → Header → Type 0
   FindsRoot h h' c head = (k : CheckpointValue) (m0 m : LogMap) → (state h'.device).keeps_model → Holds state h k m0 m → IsRoot (staged c m) head
 

@@ -1,11 +1,17 @@
 -- What a mount gives, and why it doesn't.
-use Rattle.std.specs.Prelude.{◌≡◌, ◌<◌, false}
+use Rattle.std.specs.Prelude.{◌≡◌, ◌<◌, ◌≤◌, ℕ, false}
+use Rattle.lfs_model.specs.Content.{Content}
 use Rattle.lfs_model.specs.Device.{DeviceState}
 use Rattle.lfs_model.specs.Run.{Point}
 use Rattle.lfs_model.specs.Stands.{LogMap, StandsLog}
 use Rattle.lfs_model.specs.Tree.{State}
 use Rattle.lfs_model.specs.TreeOf.{Stands}
+use Rattle.lfs_model.specs.Volume.{IsTooSmall, IsWithoutCheckpoint}
+use Rattle.lfs_log.specs.declared.fault.MountFault.{MountFault}
+use Rattle.lfs_log.specs.declared.fault.MountFault.TheVariants.{NoMemory, Device, TooSmall, NoCheckpoint, Damaged}
+use Rattle.lfs_verify.specs.Verified.{IsDamagedIn, IsVerified}
 use Rattle.lfs_fs.specs.declared.fs.Fs.{Fs}
+use Rattle.lfs_fs.specs.Checking.{IsFlat}
 use Rattle.lfs_fs.specs.Seen.{seen}
 use Rattle.lfs_fs.specs.Volume.{IsAt, IsPlain}
 
@@ -40,3 +46,33 @@ HasLogMap old new = new.keeps_model → (m : LogMap) × StandsLog old.content m
 -- where it stands for one, a call of the device failed
 abbrev pub IsLogFault : DeviceState → DeviceState → Type 0
 IsLogFault old new = (m : LogMap) → new.keeps_model → StandsLog old.content m → old.failures < new.failures
+
+-- ---- the refusals
+
+-- the content stands for a log map, which is no tree of the root and files
+pub record LacksPlainTree (c : Content) : Type 0 where
+  pub log : LogMap
+  pub stands : StandsLog c log
+  pub no_tree : IsFlat stands.checkpoint.segments log → ⊥
+
+-- What a code of damage says: the first of the stages 1 to 9 that fails; where these hold, that too few segments are clean; and where there are
+-- enough, that the tree is none of the root and files.
+pub data IsDamageOf (c : Content) (code : ℕ) : Type 0 where
+  stage : code < 10 → IsDamagedIn c code → IsDamageOf c code
+  few_clean : code ≡ 15 → IsVerified c false → IsDamageOf c code
+  no_tree : 10 ≤ code → code < 15 → LacksPlainTree c → IsDamageOf c code
+
+-- why a content is refused, where no call of the device failed
+abbrev pub IsRefusedFor : Content → MountFault → Type 0
+IsRefusedFor c NoMemory = Unit {0}
+IsRefusedFor c Device = ⊥
+IsRefusedFor c TooSmall = IsTooSmall c
+IsRefusedFor c NoCheckpoint = IsWithoutCheckpoint c
+IsRefusedFor c (Damaged code) = IsDamageOf c code
+
+abbrev pub IsRefused : DeviceState → DeviceState → MountFault → Type 0
+IsRefused old new fault = new.keeps_model → new.failures ≡ old.failures → IsRefusedFor old.content fault
+
+-- the same where it stands for a log map
+abbrev pub IsRefusedTree : DeviceState → DeviceState → MountFault → Type 0
+IsRefusedTree old new fault = (m : LogMap) → StandsLog old.content m → IsRefused old new fault

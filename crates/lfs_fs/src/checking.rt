@@ -4,7 +4,7 @@ ghost use Rattle.std.specs.Option.{option_map};
 ghost use Rattle.lfs_memory.specs.Present.{as_header};
 ghost use Rattle.lfs_log.specs.Held.{Reads};
 ghost use Rattle.lfs_dirs.specs.Listing.{pairs};
-ghost use Rattle.lfs_fs.specs.Checking.{FitsNumber, giving, FindsRoot, FindsEntries, FindsFiles, FindsTree, LacksRoot, LacksEntries, LacksFiles, LacksTree};
+ghost use Rattle.lfs_fs.specs.Checking.{FitsNumber, giving, FindsRoot, FindsEntries, FindsFiles, FindsTree, LacksRoot, LacksEntries, LacksFiles, LacksTree, IsTreeDamage, IsTreeFault};
 
 use crate::fs::ROOT;
 use lfs_device::SectorDevice;
@@ -40,6 +40,7 @@ pub(crate) fn check_tree<D: SectorDevice>(
     ensures totals { store.new.totals ≡ store.old.totals }
     ensures done { OnOk result (FindsTree D.SectorDevice.state store.old.log store.new.log store.old.draft.changes store.old.totals) }
     ensures failed { IfErr result (λ fault. (fault ≡ MountFault.NoMemory → ⊥) → LacksTree D.SectorDevice.state store.old.log store.new.log store.old.draft.changes store.old.totals) }
+    ensures names { IfErr result (IsTreeFault D.SectorDevice.state store.old.log store.new.log) }
 {
     let root = match check_root(store) {
         Ok(root) => root,
@@ -67,6 +68,7 @@ fn check_root<D: SectorDevice>(store: &mut Store<D>) -> Result<Header, MountFaul
     ensures totals { store.new.totals ≡ store.old.totals }
     ensures done { IfOk result (FindsRoot D.SectorDevice.state store.old.log store.new.log store.old.draft.changes) }
     ensures failed { OnErr result (LacksRoot D.SectorDevice.state store.old.log store.new.log store.old.draft.changes) }
+    ensures names { IfErr result (IsTreeFault D.SectorDevice.state store.old.log store.new.log) }
 {
     let header = match store.header(ROOT) {
         Ok(Some(header)) => header,
@@ -96,6 +98,7 @@ fn check_entries<D: SectorDevice>(
     ensures totals { store.new.totals ≡ store.old.totals }
     ensures done { IfOk result (λ entries. FindsEntries D.SectorDevice.state store.old.log store.new.log store.old.draft.changes root entries.items) }
     ensures failed { IfErr result (λ fault. (fault ≡ MountFault.NoMemory → ⊥) → LacksEntries D.SectorDevice.state store.old.log store.new.log store.old.draft.changes root) }
+    ensures names { IfErr result (IsTreeFault D.SectorDevice.state store.old.log store.new.log) }
 {
     let entries = match inspect(alloc, store, ROOT, root) {
         Ok(entries) => entries,
@@ -133,6 +136,7 @@ fn check_files<D: SectorDevice>(store: &mut Store<D>, entries: &[Entry]) -> Resu
     ensures totals { store.new.totals ≡ store.old.totals }
     ensures done { OnOk result (FindsFiles D.SectorDevice.state store.old.log store.new.log store.old.draft.changes (pairs entries.now) 2 4096) }
     ensures failed { OnErr result (LacksFiles D.SectorDevice.state store.old.log store.new.log store.old.draft.changes (pairs entries.now) 2 4096) }
+    ensures names { IfErr result (IsTreeFault D.SectorDevice.state store.old.log store.new.log) }
 {
     for number in 2..4_096u16 {
         match check_file(store, entries, number) {
@@ -156,6 +160,7 @@ fn check_file<D: SectorDevice>(
     ensures totals { store.new.totals ≡ store.old.totals }
     ensures done { OnOk result (FindsFiles D.SectorDevice.state store.old.log store.new.log store.old.draft.changes (pairs entries.now) number (number + 1)) }
     ensures failed { OnErr result (LacksFiles D.SectorDevice.state store.old.log store.new.log store.old.draft.changes (pairs entries.now) number (number + 1)) }
+    ensures names { IfErr result (IsTreeFault D.SectorDevice.state store.old.log store.new.log) }
 {
     match store.header(number) {
         Ok(found) => match check_header(found, count_names(entries, number)) {
@@ -170,6 +175,7 @@ fn check_file<D: SectorDevice>(
 fn check_header(found: Option<Header>, count: usize) -> Result<(), MountFault>
     ensures done { OnOk result (FitsNumber (option_map as_header found) count) }
     ensures failed { OnErr result (FitsNumber (option_map as_header found) count → ⊥) }
+    ensures names { IfErr result IsTreeDamage }
 {
     let Some(header) = found else {
         if count != 0 {
@@ -195,6 +201,7 @@ fn check_header(found: Option<Header>, count: usize) -> Result<(), MountFault>
 fn check_room<D: SectorDevice>(store: &Store<D>) -> Result<(), MountFault>
     ensures done { OnOk result (store.now.totals.data_blocks + 7 * store.now.totals.meta_blocks + 720 ≤ 47 * length store.now.log.memory.usage.segments) }
     ensures failed { OnErr result (47 * length store.now.log.memory.usage.segments < store.now.totals.data_blocks + 7 * store.now.totals.meta_blocks + 720) }
+    ensures names { IfErr result IsTreeDamage }
 {
     let need = u64::from(store.totals.data_blocks) + 7 * u64::from(store.totals.meta_blocks) + 720;
     if need > 47 * u64::from(store.log.segments()) {

@@ -2,7 +2,7 @@
 ghost use Rattle.std.specs.Prelude.{◌≡◌, ◌≤◌, ◌<◌, ◌+◌, IfOk, IfErr, OnOk, OnErr, MatchResult};
 ghost use Rattle.lfs_model.specs.Device.{Only, IsUntouched, Carries, LeavesOnly};
 ghost use Rattle.lfs_verify.specs.Take.{Looks};
-ghost use Rattle.lfs_fs.specs.Mounting.{MountsFs, FindsState, HasLogMap, StandsWhereLog, IsMountFault, IsLogFault};
+ghost use Rattle.lfs_fs.specs.Mounting.{MountsFs, FindsState, HasLogMap, StandsWhereLog, IsMountFault, IsLogFault, IsRefused, IsRefusedTree};
 
 use crate::checking::check_tree;
 use crate::fs::Fs;
@@ -27,6 +27,7 @@ impl<D: SectorDevice> Fs<D> {
         ensures only { IfOk result (λ fs. FindsState D.SectorDevice.state device fs) }
         ensures durable { IfOk result (λ fs. (D.state fs.store.log.device).keeps_model → Only (D.state device).content (D.state fs.store.log.device)) }
         ensures cause { IfErr result (λ e. (e.0 ≡ MountFault.NoMemory → ⊥) → IsMountFault D.SectorDevice.state device e.1) }
+        ensures reason { IfErr result (λ e. IsRefused (D.state device) (D.state e.1) e.0) }
         ensures untouched { MatchResult result (λ fs. IsUntouched (D.state device) (D.state fs.store.log.device)) (λ e. IsUntouched (D.state device) (D.state e.1)) }
         ensures carries { MatchResult result (λ fs. Carries (D.state device) (D.state fs.store.log.device)) (λ e. Carries (D.state device) (D.state e.1)) }
         ensures any_moment { MatchResult result (λ fs. LeavesOnly (D.state device) (D.state fs.store.log.device) (D.state device).may_leave) (λ e. LeavesOnly (D.state device) (D.state e.1) (D.state device).may_leave) }
@@ -48,6 +49,7 @@ impl<D: SectorDevice> Fs<D> {
         ensures tree { IfOk result (λ fs. StandsWhereLog D.SectorDevice.state device fs) }
         ensures durable { IfOk result (λ fs. (D.state fs.store.log.device).keeps_model → Only (D.state device).content (D.state fs.store.log.device)) }
         ensures cause { IfErr result (λ e. (e.0 ≡ MountFault.NoMemory → ⊥) → IsMountFault D.SectorDevice.state device e.1) }
+        ensures reason { IfErr result (λ e. IsRefusedTree (D.state device) (D.state e.1) e.0) }
         ensures untouched { MatchResult result (λ fs. IsUntouched (D.state device) (D.state fs.store.log.device)) (λ e. IsUntouched (D.state device) (D.state e.1)) }
         ensures carries { MatchResult result (λ fs. Carries (D.state device) (D.state fs.store.log.device)) (λ e. Carries (D.state device) (D.state e.1)) }
         ensures any_moment { MatchResult result (λ fs. LeavesOnly (D.state device) (D.state fs.store.log.device) (D.state device).may_leave) (λ e. LeavesOnly (D.state device) (D.state e.1) (D.state device).may_leave) }
@@ -81,6 +83,7 @@ const FEW_CLEAN: u8 = 15;
 fn check_log<D: SectorDevice>(alloc: Global, device: &mut D) -> Result<(), MountFault>
     ensures holds { OnOk result (HasLogMap (D.state device.old) (D.state device.new)) }
     ensures cause { IfErr result (λ e. (e ≡ MountFault.NoMemory → ⊥) → IsLogFault (D.state device.old) (D.state device.new)) }
+    ensures reason { IfErr result (IsRefused (D.state device.old) (D.state device.new)) }
     ensures looks { Looks (D.state device.old) (D.state device.new) }
 {
     match verify(alloc, device) {

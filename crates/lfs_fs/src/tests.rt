@@ -10,7 +10,8 @@ use std::test::Fail;
 /// The sectors of a volume of 64 segments.
 const SECTORS: u32 = 4_098;
 
-fn new_volume(alloc: Global) -> Result<Fs<MemDevice>, Fail> {
+/// An empty volume, on the heap, where each end of a test drops it by one call.
+fn new_volume(alloc: Global) -> Result<Box<Fs<MemDevice>>, Fail> {
     let mut device = MemDevice::new(alloc, SECTORS)?;
     if let Err(fault) = format(&mut device, 64) {
         return Err(Fail::from(fault));
@@ -18,11 +19,16 @@ fn new_volume(alloc: Global) -> Result<Fs<MemDevice>, Fail> {
     mounted(alloc, device)
 }
 
-fn mounted(alloc: Global, device: MemDevice) -> Result<Fs<MemDevice>, Fail> {
+fn mounted(alloc: Global, device: MemDevice) -> Result<Box<Fs<MemDevice>>, Fail> {
     match Fs::mount(alloc, device) {
-        Ok(fs) => Ok(fs),
+        Ok(fs) => Ok(Box::new(alloc, fs)?),
         Err((fault, _)) => Err(Fail::from(fault)),
     }
+}
+
+/// The device that a volume is handed back with.
+fn device_of(fs: Box<Fs<MemDevice>>) -> MemDevice {
+    Box::into_inner(fs).into_device()
 }
 
 #[test]
@@ -47,7 +53,7 @@ fn a_file_stays_after_a_sync(rt: HostRuntime) -> Result<(), Fail> {
     let mut fs = volume_with(alloc, b"a")?;
     fs.sync()?;
     assert_eq!(rt; fs.space()?.need, 736);
-    let mut device = fs.into_device();
+    let mut device = device_of(fs);
     device.crash(Left::Bad);
     let mut fs = mounted(alloc, device)?;
     let rows = fs.tree()?;
@@ -70,7 +76,7 @@ fn what_is_not_synced_is_gone(rt: HostRuntime) -> Result<(), Fail> {
     assert_eq!(rt; fs.create(b"/a")?, 0);
     fs.sync()?;
     assert_eq!(rt; fs.create(b"/b")?, 1);
-    let mut fs = mounted(alloc, fs.into_device())?;
+    let mut fs = mounted(alloc, device_of(fs))?;
     let rows = fs.tree()?;
     assert_eq!(rt; rows.len(), 1);
     assert_eq!(rt; rows[0].name.as_slice(), b"a".as_slice());
@@ -78,7 +84,7 @@ fn what_is_not_synced_is_gone(rt: HostRuntime) -> Result<(), Fail> {
 }
 
 /// Makes `/f` with these bytes, open as handle 0.
-fn volume_with(alloc: Global, bytes: &[u8]) -> Result<Fs<MemDevice>, Fail> {
+fn volume_with(alloc: Global, bytes: &[u8]) -> Result<Box<Fs<MemDevice>>, Fail> {
     let mut fs = new_volume(alloc)?;
     fs.create(b"/f")?;
     fs.pwrite(0, 0, bytes)?;
@@ -270,7 +276,7 @@ fn fault_with(
 ) -> Result<Option<MountFault>, Fail> {
     let mut fs = volume_with(alloc, b"a")?;
     fs.sync()?;
-    let mut device = fs.into_device();
+    let mut device = device_of(fs);
     for sector in 2..SECTORS {
         damage(&mut device, sector, start, place, byte)?;
     }
@@ -316,7 +322,7 @@ fn a_damaged_usage_table_is_refused(rt: HostRuntime) -> Result<(), Fail> {
 fn fault_without(alloc: Global, sector: u32) -> Result<Option<MountFault>, Fail> {
     let mut fs = volume_with(alloc, b"a")?;
     fs.sync()?;
-    let mut device = fs.into_device();
+    let mut device = device_of(fs);
     if sector >= device.sectors() {
         return Err(Fail::from("no such sector"));
     }
@@ -345,12 +351,12 @@ fn unreadable_sectors_are_refused_by_stage(rt: HostRuntime) -> Result<(), Fail> 
 /// The number of entries after `create /a` and `sync` on a device that stops within this write, whose unsynced sectors
 /// are then left so; and how many writes were begun.
 fn entries_after_stop(alloc: Global, write: u64, left: Left) -> Result<(usize, u64), Fail> {
-    let mut device = new_volume(alloc)?.into_device();
+    let mut device = device_of(new_volume(alloc)?);
     device.stop_at(write);
     let mut fs = mounted(alloc, device)?;
     fs.create(b"/a")?;
     let synced = fs.sync();
-    let mut device = fs.into_device();
+    let mut device = device_of(fs);
     let writes = device.writes();
     device.crash(left);
     let entries = mounted(alloc, device)?.tree()?.len();
@@ -392,7 +398,7 @@ fn pairs(alloc: Global, segments: u32) -> Result<u32, Fail>
             return Ok(u32::from(count));
         }
         fs.sync()?;
-        fs = mounted(alloc, fs.into_device())?;
+        fs = mounted(alloc, device_of(fs))?;
     }
     Ok(60)
 }
@@ -435,7 +441,7 @@ fn space_runs_out_exactly(rt: HostRuntime) -> Result<(), Fail> {
 }
 
 /// A volume of 176 segments with so many files, mounted again after each sixty.
-fn volume_of_files(alloc: Global, count: u16) -> Result<Fs<MemDevice>, Fail> {
+fn volume_of_files(alloc: Global, count: u16) -> Result<Box<Fs<MemDevice>>, Fail> {
     let mut device = MemDevice::new(alloc, 2 + 64 * 176)?;
     if let Err(fault) = format(&mut device, 176) {
         return Err(Fail::from(fault));
@@ -446,11 +452,11 @@ fn volume_of_files(alloc: Global, count: u16) -> Result<Fs<MemDevice>, Fail> {
         fs.create(&[b'a' + high % 4, b'a' + low / 16, b'a' + low % 16])?;
         if file % 60 == 59 {
             fs.sync()?;
-            fs = mounted(alloc, fs.into_device())?;
+            fs = mounted(alloc, device_of(fs))?;
         }
     }
     fs.sync()?;
-    mounted(alloc, fs.into_device())
+    mounted(alloc, device_of(fs))
 }
 
 #[test]
@@ -483,19 +489,20 @@ fn has_a_alone(fs: &mut Fs<MemDevice>) -> Result<bool, FsError> {
 fn a_failed_sync_halts_until_the_next_mount(rt: HostRuntime) -> Result<(), Fail> {
     let alloc = rt.alloc();
     for left in [Left::Old, Left::New, Left::Bad] {
-        let mut device = new_volume(alloc)?.into_device();
+        let mut device = device_of(new_volume(alloc)?);
         // The mount syncs twice, and a commit before and after its checkpoint.
         device.fail(DeviceCall::Sync, 3);
         let mut fs = mounted(alloc, device)?;
         fs.create(b"/a")?;
         assert_eq!(rt; fs.sync(), Err(FsError::Halted));
         assert_eq!(rt; fs.stat(b"/a").err(), Some(FsError::Halted));
-        let mut fs = mounted(alloc, fs.into_device())?;
+        let mut fs = mounted(alloc, device_of(fs))?;
         assert!(rt; has_a_alone(&mut fs)?);
         fs.create(b"/b")?;
-        let mut device = fs.into_device();
+        let mut device = device_of(fs);
         device.crash(left);
-        assert!(rt; has_a_alone(&mut mounted(alloc, device)?)?);
+        let mut fs = mounted(alloc, device)?;
+        assert!(rt; has_a_alone(&mut fs)?);
     }
     Ok(())
 }
@@ -508,7 +515,7 @@ fn a_mount_over_failing_calls(rt: HostRuntime) -> Result<(), Fail> {
         (DeviceCall::Read, 1),
         (DeviceCall::Sync, 0),
     ] {
-        let mut device = new_volume(alloc)?.into_device();
+        let mut device = device_of(new_volume(alloc)?);
         device.fail(call, nth);
         assert_eq!(rt; fault(alloc, device), Some(MountFault::Device));
     }
@@ -534,7 +541,7 @@ fn the_other_slot_is_mounted(rt: HostRuntime) -> Result<(), Fail> {
     let mut fs = new_volume(alloc)?;
     fs.create(b"/a")?;
     fs.sync()?;
-    let mut device = fs.into_device();
+    let mut device = device_of(fs);
     if device.sectors() > 0 {
         device.set_unreadable(0);
     }

@@ -10,10 +10,12 @@ mod streams;
 
 const SECTORS: u32 = 2 + 64 * 64;
 
-fn volume(rt: &HostRuntime) -> Result<Fs<MemDevice>, Fail> {
+// An empty volume, on the heap, where each end of a test drops it by one call.
+fn volume(rt: &HostRuntime) -> Result<Box<Fs<MemDevice>>, Fail> {
     let mut device = MemDevice::new(rt.alloc(), SECTORS)?;
     format(&mut device, 64)?;
-    Ok(Fs::mount(rt.alloc(), device).ok().ok_or("not mounted")?)
+    let fs = Fs::mount(rt.alloc(), device).ok().ok_or("not mounted")?;
+    Ok(Box::new(rt.alloc(), fs)?)
 }
 
 // Runs a script on a fresh volume of 64 segments.
@@ -23,7 +25,6 @@ fn answered(rt: &HostRuntime, script: &str) -> Result<(ScriptEnd, Vec<u8>), Fail
     let mut input = script.as_bytes();
     let mut output = Vec::new(alloc);
     let end = run(alloc, &mut input, &mut output, &mut fs);
-    drop(fs.into_device());
     Ok((end, output))
 }
 
@@ -259,7 +260,6 @@ fn readers_and_writers_that_fail(rt: HostRuntime) -> Result<(), Fail> {
     let mut input = b"space\nspace\n".as_slice();
     let end = run(alloc, &mut input, &mut Full(32), &mut fs);
     assert_eq!(rt; end, ScriptEnd::Done);
-    drop(fs.into_device());
     Ok(())
 }
 

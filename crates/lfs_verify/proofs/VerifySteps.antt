@@ -1,5 +1,5 @@
 -- A device that is verified: its newest checkpoint, and what the walk from it says.
-use Rattle.std.proofs.Common.{subst, ◌≡◌, ◌<◌, ◌≤◌, ◌↔◌, ◌+◌, ◌*◌, ℕ, Bool, true, false, length, Some, refl, sym, ◌∙◌, ap, arith}
+use Rattle.std.proofs.Common.{subst, ◌≡◌, ◌<◌, ◌≤◌, ◌↔◌, ◌+◌, ◌*◌, ℕ, Bool, true, false, length, Some, None, inl, inr, refl, sym, ◌∙◌, ap, arith}
 use Rattle.lfs_model.specs.Checkpoint.{CheckpointValue}
 use Rattle.lfs_model.specs.Content.{Content, newest}
 use Rattle.lfs_model.specs.Damage.{IsDamaged}
@@ -7,6 +7,7 @@ use Rattle.lfs_model.specs.Device.{DeviceState, IsLawful, IsUntouched, Carries, 
 use Rattle.lfs_model.specs.Reach.{View, view}
 use Rattle.lfs_model.specs.Slots.{IsNewest, HasNoCheckpoint}
 use Rattle.lfs_model.specs.Stands.{LogMap, StandsLog, EnoughClean, Stages}
+use Rattle.lfs_model.specs.Volume.{IsTooSmall, IsWithoutCheckpoint}
 use Rattle.lfs_model.proofs.Newest.{newest_fits}
 use Rattle.lfs_verify.specs.Codes.{HoldsBelow, NineStages}
 use Rattle.lfs_verify.specs.Take.{Looks, Reads}
@@ -21,6 +22,18 @@ module _ (d : DeviceState) (lawful : IsLawful d) where
   pub newest_is : (k : CheckpointValue) → IsNewest d.content k → newest d.content ≡ Some k
   newest_is k is = ((newest_fits d.content lawful.now).0 k).1 is
 
+  no_newest : HasNoCheckpoint d.content → newest d.content ≡ None
+  no_newest none = (newest_fits d.content lawful.now).1.1 none
+
+  pub below_all : d.size < 4098 → IsTooSmall d.content
+  below_all low = inl (let long = lawful.size in omega (arith, low, long))
+
+  pub too_few : (k : CheckpointValue) → IsNewest d.content k → d.size < 2 + 64 * k.segments → IsTooSmall d.content
+  too_few k is small = inr (k, newest_is k is, (let long = lawful.size in omega (arith, small, long)))
+
+  pub without_checkpoint : 4098 ≤ d.size → HasNoCheckpoint d.content → IsWithoutCheckpoint d.content
+  without_checkpoint least none = ((let long = lawful.size in omega (arith, least, long)), no_newest none)
+
   pub not_small : (m : LogMap) → StandsLog d.content m → d.size < 4098 → ⊥
   not_small m is small =
       let held = ((newest_fits d.content lawful.now).0 is.checkpoint).0 is.newest in
@@ -30,7 +43,7 @@ module _ (d : DeviceState) (lawful : IsLawful d) where
       omega (arith, least, size, long, small)
 
   pub has_checkpoint : (m : LogMap) → StandsLog d.content m → HasNoCheckpoint d.content → ⊥
-  has_checkpoint m is none = let some = is.newest in let no = (newest_fits d.content lawful.now).1.1 none in absurd (cc)
+  has_checkpoint m is none = let some = is.newest in let no = no_newest none in absurd (cc)
 
   pub has_segments : (m : LogMap) (k : CheckpointValue) → StandsLog d.content m → IsNewest d.content k → d.size < 2 + 64 * k.segments → ⊥
   has_segments m k is newest small =

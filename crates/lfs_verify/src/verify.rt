@@ -2,7 +2,7 @@
 ghost use Rattle.std.specs.Prelude.{◌≡◌, ◌+◌, ◌*◌, ◌<◌, ◌≤◌, ℕ, Some, OnOk, IfOk, IfErr, IsErrOf};
 ghost use Rattle.lfs_model.specs.Checkpoint.{CheckpointValue, FitsCheckpoint};
 ghost use Rattle.lfs_model.specs.Content.{newest};
-ghost use Rattle.lfs_model.specs.Stands.{LogMap, StandsLog};
+ghost use Rattle.lfs_model.specs.Volume.{IsTooSmall, IsWithoutCheckpoint};
 ghost use Rattle.lfs_verify.specs.Take.{Looks};
 ghost use Rattle.lfs_verify.specs.Verified.{IsVerified, IsDamagedIn, IsVerifyFault, LacksLogMap, StageIs, StandsWhereEnough};
 
@@ -19,8 +19,8 @@ fn find_checkpoint<D: SectorDevice>(device: &mut D) -> Result<Checkpoint, Verify
     ensures fits { IfOk result FitsCheckpoint }
     ensures size { IfOk result (λ k. 2 + 64 * k.segments ≤ (D.state device.new).size) }
     ensures found { IfOk result (λ k. (D.state device.new).keeps_model → newest (D.state device.old).content ≡ Some k) }
-    ensures small { IfErr result (λ e. e ≡ VerifyFault.TooSmall → (D.state device.new).keeps_model → (m : LogMap) → StandsLog (D.state device.old).content m → ⊥) }
-    ensures missing { IfErr result (λ e. e ≡ VerifyFault.NoCheckpoint → (D.state device.new).keeps_model → (m : LogMap) → StandsLog (D.state device.old).content m → ⊥) }
+    ensures small { IfErr result (λ e. e ≡ VerifyFault.TooSmall → (D.state device.new).keeps_model → IsTooSmall (D.state device.old).content) }
+    ensures missing { IfErr result (λ e. e ≡ VerifyFault.NoCheckpoint → (D.state device.new).keeps_model → IsWithoutCheckpoint (D.state device.old).content) }
     ensures stage { IfErr result (λ e. (code : ℕ) → StageIs e code → ⊥) }
     ensures failed { IsErrOf result VerifyFault.Device → (D.state device.old).failures < (D.state device.new).failures }
     ensures cause { IfErr result (λ e. (e ≡ VerifyFault.NoMemory → ⊥) → IsVerifyFault (D.state device.old) (D.state device.new)) }
@@ -51,8 +51,8 @@ pub fn verify<D: SectorDevice>(alloc: Global, device: &mut D) -> Result<bool, Ve
     ensures holds { IfOk result (λ enough. (D.state device.new).keeps_model → IsVerified (D.state device.old).content enough) }
     ensures damaged { IfErr result (λ e. (code : ℕ) → StageIs e code → (D.state device.new).keeps_model → IsDamagedIn (D.state device.old).content code) }
     ensures low { IfErr result (λ e. (code : ℕ) → StageIs e code → code < 10) }
-    ensures small { IfErr result (λ e. e ≡ VerifyFault.TooSmall → (D.state device.new).keeps_model → (m : LogMap) → StandsLog (D.state device.old).content m → ⊥) }
-    ensures missing { IfErr result (λ e. e ≡ VerifyFault.NoCheckpoint → (D.state device.new).keeps_model → (m : LogMap) → StandsLog (D.state device.old).content m → ⊥) }
+    ensures small { IfErr result (λ e. e ≡ VerifyFault.TooSmall → (D.state device.new).keeps_model → IsTooSmall (D.state device.old).content) }
+    ensures missing { IfErr result (λ e. e ≡ VerifyFault.NoCheckpoint → (D.state device.new).keeps_model → IsWithoutCheckpoint (D.state device.old).content) }
     ensures failed { IsErrOf result VerifyFault.Device → (D.state device.old).failures < (D.state device.new).failures }
     ensures cause { IfErr result (λ e. (e ≡ VerifyFault.NoMemory → ⊥) → IsVerifyFault (D.state device.old) (D.state device.new)) }
     ensures no_failure { OnOk result ((D.state device.new).failures ≡ (D.state device.old).failures) }

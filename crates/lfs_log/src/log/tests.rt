@@ -101,7 +101,7 @@ fn put(device: &mut MemDevice, sector: u32, bytes: &[u8; 512]) -> Result<(), Fai
 /// An empty volume. Of its usage blocks all but the first are zeros.
 pub(super) fn new_volume(alloc: Global, segments: u32) -> Result<MemDevice, Fail> {
     let checkpoint = first_checkpoint(segments)?;
-    let mut device = MemDevice::new(alloc, 2 + 64 * segments)?;
+    let mut device = Box::new(alloc, MemDevice::new(alloc, 2 + 64 * segments)?)?;
     let mut map = [0; 128];
     map[1] = 3;
     put(&mut device, 1, &checkpoint.encode())?;
@@ -110,7 +110,7 @@ pub(super) fn new_volume(alloc: Global, segments: u32) -> Result<MemDevice, Fail
     put(&mut device, 4, &encode_pointers(&map))?;
     put(&mut device, 5, &first_usage(((segments + 63) / 64) as u16))?;
     device.sync()?;
-    Ok(device)
+    Ok(Box::into_inner(device))
 }
 
 pub(super) fn opened(alloc: Global, device: MemDevice) -> Result<Log<MemDevice>, Fail> {
@@ -120,21 +120,35 @@ pub(super) fn opened(alloc: Global, device: MemDevice) -> Result<Log<MemDevice>,
     }
 }
 
-/// What is left of the log after a stop.
-fn reopened(alloc: Global, log: Log<MemDevice>, left: Left) -> Result<Log<MemDevice>, Fail> {
-    let mut device = log.into_device();
+/// The log on the heap, where each end of a test drops it by one call.
+fn mounted(alloc: Global, device: MemDevice) -> Result<Box<Log<MemDevice>>, Fail> {
+    Ok(Box::new(alloc, opened(alloc, device)?)?)
+}
+
+/// What a stop leaves of the device, on the heap.
+fn stopped(alloc: Global, log: Box<Log<MemDevice>>, left: Left) -> Result<Box<MemDevice>, Fail> {
+    let mut device = Box::into_inner(log).into_device();
     device.crash(left);
-    opened(alloc, device)
+    Ok(Box::new(alloc, device)?)
+}
+
+/// What is left of the log after a stop.
+fn reopened(
+    alloc: Global,
+    log: Box<Log<MemDevice>>,
+    left: Left,
+) -> Result<Box<Log<MemDevice>>, Fail> {
+    mounted(alloc, Box::into_inner(stopped(alloc, log, left)?))
 }
 
 /// The volume with file 2, which has two blocks of sevens.
 fn with_file(alloc: Global, segments: u32) -> Result<MemDevice, Fail> {
-    let mut log = opened(alloc, new_volume(alloc, segments)?)?;
+    let mut log = mounted(alloc, new_volume(alloc, segments)?)?;
     log.make(alloc, 2, 1_024)?;
     log.fill(alloc, 2, 0, 7)?;
     log.fill(alloc, 2, 1, 7)?;
     log.commit()?;
-    Ok(log.into_device())
+    Ok(Box::into_inner(log).into_device())
 }
 
 /// The byte that a block of a file is filled with, if it is stored.
@@ -158,7 +172,7 @@ fn file_of_size(size: u32) -> Option<Header> {
 #[test]
 fn a_new_volume_has_its_root(rt: HostRuntime) -> Result<(), Fail> {
     for (segments, clean) in [(64, 63), (72, 71), (128, 127), (1_024, 1_023)] {
-        let mut log = opened(rt.alloc(), new_volume(rt.alloc(), segments)?)?;
+        let mut log = mounted(rt.alloc(), new_volume(rt.alloc(), segments)?)?;
         let counts = (log.number(), log.clean_segments(), log.unsaved());
         assert_eq!(rt; counts, (1, clean, 0), "{segments}");
         let root = Some(Header {
@@ -178,7 +192,7 @@ fn a_new_volume_has_its_root(rt: HostRuntime) -> Result<(), Fail> {
 fn a_commit_stays(rt: HostRuntime) -> Result<(), Fail> {
     let alloc = rt.alloc();
     for left in [Left::Old, Left::New, Left::Bad] {
-        let mut log = opened(alloc, new_volume(alloc, 72)?)?;
+        let mut log = mounted(alloc, new_volume(alloc, 72)?)?;
         log.make(alloc, 2, 512)?;
         log.fill(alloc, 2, 0, 7)?;
         assert_eq!(rt; (log.number(), log.unsaved()), (1, 2));
@@ -197,7 +211,7 @@ fn a_commit_stays(rt: HostRuntime) -> Result<(), Fail> {
 #[test]
 fn what_is_not_committed_is_gone(rt: HostRuntime) -> Result<(), Fail> {
     let alloc = rt.alloc();
-    let mut log = opened(alloc, with_file(alloc, 64)?)?;
+    let mut log = mounted(alloc, with_file(alloc, 64)?)?;
     log.fill(alloc, 2, 0, 9)?;
     log.make(alloc, 3, 0)?;
     assert_eq!(rt; filled(&mut log, 2, 0)?, Some(9));
@@ -233,11 +247,11 @@ fn a_commit_of_one_block_is_short(rt: HostRuntime) -> Result<(), Fail> {
         device.stop_at(u64::MAX);
         // One sync as it is opened and two of the commit: the next one fails.
         device.fail(DeviceCall::Sync, 3);
-        let mut log = opened(alloc, device)?;
+        let mut log = mounted(alloc, device)?;
         log.fill(alloc, 2, 0, 9)?;
         assert_eq!(rt; log.unsaved(), 2);
         assert_eq!(rt; log.commit(), Ok(()));
-        let mut device = log.into_device();
+        let mut device = Box::new(alloc, Box::into_inner(log).into_device())?;
         let writes = device.writes();
         // The block, the inode, a block of the map, one of the usage table, the summary, the checkpoint.
         assert!(rt; writes <= 7, "{writes}");
@@ -248,14 +262,18 @@ fn a_commit_of_one_block_is_short(rt: HostRuntime) -> Result<(), Fail> {
 
 /// What stands in file 2 after a commit that stops within this write, and whether the commit was done. Of the sectors that
 /// weren't synced these are left.
-fn after_stop(alloc: Global, write: u64, left: &[Left]) -> Result<(bool, Log<MemDevice>), Fail> {
+fn after_stop(
+    alloc: Global,
+    write: u64,
+    left: &[Left],
+) -> Result<(bool, Box<Log<MemDevice>>), Fail> {
     let mut device = with_file(alloc, 64)?;
     device.stop_at(write);
-    let mut log = opened(alloc, device)?;
+    let mut log = mounted(alloc, device)?;
     let done = change_file(alloc, &mut log).is_ok();
-    let mut device = log.into_device();
+    let mut device = Box::into_inner(log).into_device();
     device.crash_each(left);
-    Ok((done, opened(alloc, device)?))
+    Ok((done, mounted(alloc, device)?))
 }
 
 /// One of the ways in which a stop leaves eight sectors: the first three leave all in the same way.
@@ -304,7 +322,7 @@ fn a_failed_sync_halts_the_log(rt: HostRuntime) -> Result<(), Fail> {
     ] {
         let mut device = with_file(alloc, 64)?;
         device.fail(DeviceCall::Sync, sync);
-        let mut log = opened(alloc, device)?;
+        let mut log = mounted(alloc, device)?;
         assert_eq!(rt; change_file(alloc, &mut log), Err(LogFault::Halted));
         assert!(rt; log.is_halted());
         assert_eq!(rt; log.header(1), Err(LogFault::Halted));
@@ -321,7 +339,7 @@ const PLACES: [u32; 7] = [111, 112, 239, 240, 367, 368, 16_623];
 #[test]
 fn blocks_under_all_pointers_are_saved(rt: HostRuntime) -> Result<(), Fail> {
     let alloc = rt.alloc();
-    let mut log = opened(alloc, new_volume(alloc, 64)?)?;
+    let mut log = mounted(alloc, new_volume(alloc, 64)?)?;
     log.make(alloc, 2, 8_511_488)?;
     for index in PLACES {
         log.fill(alloc, 2, index, (index % 251) as u8)?;
@@ -347,7 +365,7 @@ fn blocks_under_all_pointers_are_saved(rt: HostRuntime) -> Result<(), Fail> {
 #[test]
 fn a_block_under_pointers_changes(rt: HostRuntime) -> Result<(), Fail> {
     let alloc = rt.alloc();
-    let mut log = opened(alloc, new_volume(alloc, 64)?)?;
+    let mut log = mounted(alloc, new_volume(alloc, 64)?)?;
     log.make(alloc, 2, 8_511_488)?;
     for index in PLACES {
         log.fill(alloc, 2, index, 7)?;
@@ -414,7 +432,7 @@ fn zeros_are_not_stored(rt: HostRuntime) -> Result<(), Fail> {
         (368, 6, true, false),
         (112, 4, false, false),
     ];
-    let mut log = opened(alloc, new_volume(alloc, 64)?)?;
+    let mut log = mounted(alloc, new_volume(alloc, 64)?)?;
     log.make(alloc, 2, 8_511_488)?;
     for (index, _, _, _) in rows {
         log.fill(alloc, 2, index, 7)?;
@@ -424,8 +442,7 @@ fn zeros_are_not_stored(rt: HostRuntime) -> Result<(), Fail> {
         log.fill(alloc, 2, index, 0)?;
         log.commit()?;
         let slot = (log.number() % 2) as u32;
-        let mut device = log.into_device();
-        device.crash(Left::New);
+        let mut device = stopped(alloc, log, Left::New)?;
         let inode = stored_inode(&mut device, slot)?;
         assert_eq!(rt;
             (word(&inode, 120) != 0, word(&inode, 121) != 0),
@@ -433,7 +450,7 @@ fn zeros_are_not_stored(rt: HostRuntime) -> Result<(), Fail> {
             "{index}"
         );
         assert_eq!(rt; live(&mut device, slot)?, blocks, "{index}");
-        log = opened(alloc, device)?;
+        log = mounted(alloc, Box::into_inner(device))?;
         assert_eq!(rt; filled(&mut log, 2, index)?, None, "{index}");
     }
     Ok(())
@@ -460,14 +477,13 @@ fn is_cut(log: &mut Log<MemDevice>, first: u32) -> Result<bool, Fail> {
 #[test]
 fn a_file_is_cut(rt: HostRuntime) -> Result<(), Fail> {
     let alloc = rt.alloc();
-    let mut log = opened(alloc, new_volume(alloc, 64)?)?;
+    let mut log = mounted(alloc, new_volume(alloc, 64)?)?;
     log.make(alloc, 2, 8_511_488)?;
     for index in EDGES {
         log.fill(alloc, 2, index, (index % 251) as u8 + 1)?;
     }
     log.commit()?;
-    let mut device = log.into_device();
-    device.crash(Left::New);
+    let mut device = stopped(alloc, log, Left::New)?;
     // Where it is cut, how many blocks live after the commit, and how many are in memory before it. The two inodes, a block of
     // the map and one of the usage table are among those that live.
     for (first, blocks, unsaved) in [
@@ -484,18 +500,17 @@ fn a_file_is_cut(rt: HostRuntime) -> Result<(), Fail> {
         (0, 4, 1),
         (0, 4, 1),
     ] {
-        let mut log = opened(alloc, device)?;
+        let mut log = mounted(alloc, Box::into_inner(device))?;
         log.cut(alloc, 2, first)?;
         assert_eq!(rt; log.unsaved(), unsaved, "{first}");
         assert!(rt; is_cut(&mut log, first)?, "{first}");
         log.commit()?;
         let slot = (log.number() % 2) as u32;
-        device = log.into_device();
-        device.crash(Left::New);
+        device = stopped(alloc, log, Left::New)?;
         assert_eq!(rt; live(&mut device, slot)?, blocks, "{first}");
-        log = opened(alloc, device)?;
+        log = mounted(alloc, Box::into_inner(device))?;
         assert!(rt; is_cut(&mut log, first)?, "{first}");
-        device = log.into_device();
+        device = stopped(alloc, log, Left::Old)?;
     }
     Ok(())
 }
@@ -504,7 +519,7 @@ fn a_file_is_cut(rt: HostRuntime) -> Result<(), Fail> {
 fn a_file_in_memory_is_cut(rt: HostRuntime) -> Result<(), Fail> {
     let alloc = rt.alloc();
     for first in EDGES {
-        let mut log = opened(alloc, new_volume(alloc, 64)?)?;
+        let mut log = mounted(alloc, new_volume(alloc, 64)?)?;
         log.make(alloc, 2, 8_511_488)?;
         for index in EDGES {
             log.fill(alloc, 2, index, (index % 251) as u8 + 1)?;
@@ -523,7 +538,7 @@ fn a_file_in_memory_is_cut(rt: HostRuntime) -> Result<(), Fail> {
 #[test]
 fn segments_run_out_without_a_cleaner(rt: HostRuntime) -> Result<(), Fail> {
     let alloc = rt.alloc();
-    let mut log = opened(alloc, new_volume(alloc, 64)?)?;
+    let mut log = mounted(alloc, new_volume(alloc, 64)?)?;
     // Each file's inode stays in a segment of its own. With 16 clean segments a commit goes on, and leaves 15.
     for file in 2..50u16 {
         log.make(alloc, file, 0)?;
@@ -543,11 +558,11 @@ fn segments_run_out_without_a_cleaner(rt: HostRuntime) -> Result<(), Fail> {
 #[test]
 fn a_commit_takes_eight_segments(rt: HostRuntime) -> Result<(), Fail> {
     let alloc = rt.alloc();
-    let mut device = new_volume(alloc, 64)?;
+    let mut device = Box::new(alloc, new_volume(alloc, 64)?)?;
     let mut made = false;
     for byte in [7, 9] {
         device.stop_at(u64::MAX);
-        let mut log = opened(alloc, device)?;
+        let mut log = mounted(alloc, Box::into_inner(device))?;
         if !made {
             log.make(alloc, 2, 225_280)?;
             made = true;
@@ -565,7 +580,7 @@ fn a_commit_takes_eight_segments(rt: HostRuntime) -> Result<(), Fail> {
         for index in 0..440u32 {
             assert_eq!(rt; filled(&mut log, 2, index)?, Some(byte), "{index}");
         }
-        device = log.into_device();
+        device = Box::new(alloc, Box::into_inner(log).into_device())?;
         assert_eq!(rt; device.writes(), 456);
     }
     Ok(())
@@ -580,9 +595,9 @@ fn file_without_links(size: u32) -> Option<Header> {
 }
 
 /// How many blocks live by the acknowledged checkpoint of a log. No read fails any more.
-fn live_after(log: Log<MemDevice>) -> Result<u32, Fail> {
+fn live_after(log: Box<Log<MemDevice>>) -> Result<u32, Fail> {
     let slot = (log.number() % 2) as u32;
-    let mut device = log.into_device();
+    let mut device = Box::into_inner(log).into_device();
     device.fail(DeviceCall::Read, u64::MAX);
     device.crash(Left::New);
     live(&mut device, slot)
@@ -591,7 +606,7 @@ fn live_after(log: Log<MemDevice>) -> Result<u32, Fail> {
 #[test]
 fn a_file_without_links_stays_until_it_is_removed(rt: HostRuntime) -> Result<(), Fail> {
     let alloc = rt.alloc();
-    let mut log = opened(alloc, with_file(alloc, 64)?)?;
+    let mut log = mounted(alloc, with_file(alloc, 64)?)?;
     assert_eq!(rt; log.clean_segments(), 62);
     assert_eq!(rt; log.hide(alloc, 3, 0), Err(LogFault::Device));
     assert_eq!(rt; log.hide(alloc, 2, 1_024), Ok(()));
@@ -616,7 +631,7 @@ fn a_stop_forgets_a_file_without_links(rt: HostRuntime) -> Result<(), Fail> {
     let alloc = rt.alloc();
     let before = (2, file_of_size(1_024), Some(7), Some(7));
     for left in [Left::Old, Left::New, Left::Bad] {
-        let mut log = opened(alloc, with_file(alloc, 64)?)?;
+        let mut log = mounted(alloc, with_file(alloc, 64)?)?;
         log.hide(alloc, 2, 1_024)?;
         let mut log = reopened(alloc, log, left)?;
         assert_eq!(rt; seen(&mut log)?, before);
@@ -631,13 +646,13 @@ fn a_stop_forgets_a_file_without_links(rt: HostRuntime) -> Result<(), Fail> {
 
 /// The volume with file 2, which has blocks under all pointers.
 fn with_long_file(alloc: Global) -> Result<MemDevice, Fail> {
-    let mut log = opened(alloc, new_volume(alloc, 64)?)?;
+    let mut log = mounted(alloc, new_volume(alloc, 64)?)?;
     log.make(alloc, 2, 8_511_488)?;
     for index in PLACES {
         log.fill(alloc, 2, index, 7)?;
     }
     log.commit()?;
-    Ok(log.into_device())
+    Ok(Box::into_inner(log).into_device())
 }
 
 #[test]
@@ -647,8 +662,9 @@ fn a_failed_read_leaves_the_link(rt: HostRuntime) -> Result<(), Fail> {
     for read in 0..16u64 {
         let mut device = with_long_file(alloc)?;
         device.fail(DeviceCall::Read, read);
-        let Ok(mut log) = Log::open(alloc, device) else {
-            continue;
+        let mut log = match Log::open(alloc, device) {
+            Ok(log) => Box::new(alloc, log)?,
+            Err(_) => continue,
         };
         if log.hide(alloc, 2, 8_511_488) == Err(LogFault::Device) {
             failed = failed.saturating_add(1);
@@ -682,7 +698,7 @@ fn told(log: &mut Log<MemDevice>) -> Result<([bool; 3], [bool; 3]), LogFault> {
 #[test]
 fn blocks_and_leaves_that_are_stored(rt: HostRuntime) -> Result<(), Fail> {
     let alloc = rt.alloc();
-    let mut log = opened(alloc, with_file(alloc, 64)?)?;
+    let mut log = mounted(alloc, with_file(alloc, 64)?)?;
     assert_eq!(rt;
         told(&mut log)?,
         ([true, true, false], [false, false, false])

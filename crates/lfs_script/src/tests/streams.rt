@@ -52,7 +52,6 @@ fn read_from<R: Read>(rt: &HostRuntime, reader: &mut R) -> Result<(ScriptEnd, Ve
     let mut fs = volume(rt)?;
     let mut output = Vec::new(alloc);
     let end = run(alloc, reader, &mut output, &mut fs);
-    drop(fs.into_device());
     Ok((end, output))
 }
 
@@ -125,7 +124,6 @@ fn write_to(rt: &HostRuntime, writer: &mut Narrow) -> Result<(ScriptEnd, usize),
     let mut input = script.as_bytes();
     let end = run(alloc, &mut input, writer, &mut fs);
     let entries = fs.tree()?.len();
-    drop(fs.into_device());
     Ok((end, entries))
 }
 

@@ -6,16 +6,21 @@ use lfs_log::Header;
 use lfs_model::Kind;
 use std::test::Fail;
 
-fn opened(alloc: Global, device: MemDevice) -> Result<Store<MemDevice>, Fail> {
+/// The store is on the heap, where each end of a test drops it by one call.
+fn opened(alloc: Global, device: MemDevice) -> Result<Box<Store<MemDevice>>, Fail> {
     match Store::open(alloc, device) {
-        Ok(store) => Ok(store),
+        Ok(store) => Ok(Box::new(alloc, store)?),
         Err((fault, _)) => Err(Fail::from(fault)),
     }
 }
 
 /// What is left of the store after a stop.
-fn reopened(alloc: Global, store: Store<MemDevice>, left: Left) -> Result<Store<MemDevice>, Fail> {
-    let mut device = store.into_device();
+fn reopened(
+    alloc: Global,
+    store: Box<Store<MemDevice>>,
+    left: Left,
+) -> Result<Box<Store<MemDevice>>, Fail> {
+    let mut device = Box::into_inner(store).into_device();
     device.crash(left);
     opened(alloc, device)
 }

@@ -5,9 +5,10 @@ use lfs_device::MemDevice;
 use std::alloc::Global;
 use std::test::Fail;
 
-fn opened(alloc: Global) -> Result<Store<MemDevice>, Fail> {
+/// The store is on the heap, where each end of a test drops it by one call.
+fn opened(alloc: Global) -> Result<Box<Store<MemDevice>>, Fail> {
     match Store::open(alloc, new_volume(alloc)?) {
-        Ok(store) => Ok(store),
+        Ok(store) => Ok(Box::new(alloc, store)?),
         Err((fault, _)) => Err(Fail::from(fault)),
     }
 }
@@ -36,7 +37,7 @@ fn files_are_made(rt: HostRuntime) -> Result<(), Fail> {
 }
 
 /// A volume with file 2.
-fn with_file(alloc: Global) -> Result<Store<MemDevice>, Fail> {
+fn with_file(alloc: Global) -> Result<Box<Store<MemDevice>>, Fail> {
     let mut store = opened(alloc)?;
     store.create(2, Kind::File)?;
     store.accept()?;

@@ -7,9 +7,10 @@ use lfs_model::Kind;
 use std::alloc::Global;
 use std::test::Fail;
 
-fn opened(alloc: Global, device: MemDevice) -> Result<Store<MemDevice>, Fail> {
+/// The store is on the heap, where each end of a test drops it by one call.
+fn opened(alloc: Global, device: MemDevice) -> Result<Box<Store<MemDevice>>, Fail> {
     match Store::open(alloc, device) {
-        Ok(store) => Ok(store),
+        Ok(store) => Ok(Box::new(alloc, store)?),
         Err((fault, _)) => Err(Fail::from(fault)),
     }
 }

@@ -7,12 +7,17 @@ use lfs_model::Kind;
 use std::alloc::Global;
 use std::test::Fail;
 
+/// The store is on the heap, where each end of a test drops it by one call.
+fn opened(alloc: Global, device: MemDevice) -> Result<Box<Store<MemDevice>>, Fail> {
+    match Store::open(alloc, device) {
+        Ok(store) => Ok(Box::new(alloc, store)?),
+        Err((fault, _)) => Err(Fail::from(fault)),
+    }
+}
+
 /// A volume with file 2, which has no byte.
-fn with_file(alloc: Global) -> Result<Store<MemDevice>, Fail> {
-    let mut store = match Store::open(alloc, new_volume(alloc)?) {
-        Ok(store) => store,
-        Err((fault, _)) => return Err(Fail::from(fault)),
-    };
+fn with_file(alloc: Global) -> Result<Box<Store<MemDevice>>, Fail> {
+    let mut store = opened(alloc, new_volume(alloc)?)?;
     store.create(2, Kind::File)?;
     store.accept()?;
     Ok(store)
@@ -120,16 +125,12 @@ fn a_mount_counts_the_volume(rt: HostRuntime) -> Result<(), Fail> {
     fill(&mut store, 0, 240, 7)?;
     store.accept()?;
     store.commit()?;
-    let mut device = store.into_device();
+    let mut device = Box::into_inner(store).into_device();
     device.crash(Left::Old);
-    match Store::open(alloc, device) {
-        Ok(store) => {
-            assert_eq!(rt;
-                (counts(store.space()), counts(store.totals)),
-                ((1, 4), (1, 4))
-            );
-            Ok(())
-        }
-        Err((fault, _)) => Err(Fail::from(fault)),
-    }
+    let store = opened(alloc, device)?;
+    assert_eq!(rt;
+        (counts(store.space()), counts(store.totals)),
+        ((1, 4), (1, 4))
+    );
+    Ok(())
 }

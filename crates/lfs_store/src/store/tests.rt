@@ -8,18 +8,22 @@ use lfs_model::Kind;
 use std::alloc::Global;
 use std::test::Fail;
 
-/// An empty volume, with room for the draft of one header and two blocks.
-fn empty_store(alloc: Global) -> Result<Store<MemDevice>, Fail> {
+/// An empty volume, with room for the draft of one header and two blocks. It is on the heap, where each end of a test drops
+/// it by one call.
+fn empty_store(alloc: Global) -> Result<Box<Store<MemDevice>>, Fail> {
     let device = new_volume(alloc)?;
     let draft = Draft::new(alloc, 1, 2)?;
     match Log::open(alloc, device) {
-        Ok(log) => Ok(Store {
-            log,
-            draft,
-            saved: true,
-            totals: NO_BLOCKS,
-            drafted: NO_BLOCKS,
-        }),
+        Ok(log) => {
+            let store = Store {
+                log,
+                draft,
+                saved: true,
+                totals: NO_BLOCKS,
+                drafted: NO_BLOCKS,
+            };
+            Ok(Box::new(alloc, store)?)
+        }
         Err((fault, _)) => Err(Fail::from(fault)),
     }
 }
@@ -56,6 +60,13 @@ fn draft_file(draft: &mut Draft, bytes: [u8; 3]) -> Result<(), Fail> {
     Ok(())
 }
 
+/// Stages the draft, and clears it.
+fn stage(store: &mut Store<MemDevice>) -> Result<(), Fail> {
+    store.log.stage(&store.draft.changes)?;
+    store.draft.clear();
+    Ok(())
+}
+
 #[test]
 fn reads_see_the_draft(rt: HostRuntime) -> Result<(), Fail> {
     let mut store = empty_store(rt.alloc())?;
@@ -64,8 +75,7 @@ fn reads_see_the_draft(rt: HostRuntime) -> Result<(), Fail> {
     assert_eq!(rt; seen(&mut store)?, (Some(1), Some(8), None));
     let across = store.read_at(rt.alloc(), 2, 510, 514)?;
     assert_eq!(rt; across.as_slice(), [8, 8, 0, 0].as_slice());
-    store.log.stage(&store.draft.changes)?;
-    store.draft.clear();
+    stage(&mut store)?;
     assert_eq!(rt; seen(&mut store)?, (Some(1), Some(8), None));
     Ok(())
 }
@@ -74,8 +84,7 @@ fn reads_see_the_draft(rt: HostRuntime) -> Result<(), Fail> {
 fn reads_see_what_is_lost(rt: HostRuntime) -> Result<(), Fail> {
     let mut store = empty_store(rt.alloc())?;
     draft_file(&mut store.draft, [7, 7, 7])?;
-    store.log.stage(&store.draft.changes)?;
-    store.draft.clear();
+    stage(&mut store)?;
     store.draft.lose(Loss::Blocks(Cut {
         number: 2,
         first: 1,

@@ -9,18 +9,22 @@ use lfs_model::Kind;
 use std::alloc::Global;
 use std::test::Fail;
 
-/// An empty volume, with room for the draft of one header and four blocks.
-fn empty_store(alloc: Global) -> Result<Store<MemDevice>, Fail> {
+/// An empty volume, with room for the draft of one header and four blocks. It is on the heap, where each end of a test drops
+/// it by one call.
+fn empty_store(alloc: Global) -> Result<Box<Store<MemDevice>>, Fail> {
     let device = new_volume(alloc)?;
     let draft = Draft::new(alloc, 1, 4)?;
     match Log::open(alloc, device) {
-        Ok(log) => Ok(Store {
-            log,
-            draft,
-            saved: true,
-            totals: NO_BLOCKS,
-            drafted: NO_BLOCKS,
-        }),
+        Ok(log) => {
+            let store = Store {
+                log,
+                draft,
+                saved: true,
+                totals: NO_BLOCKS,
+                drafted: NO_BLOCKS,
+            };
+            Ok(Box::new(alloc, store)?)
+        }
         Err((fault, _)) => Err(Fail::from(fault)),
     }
 }
@@ -46,7 +50,7 @@ fn write(store: &mut Store<MemDevice>, size: u32, at: u32, bytes: &[u8]) -> Resu
 }
 
 /// A volume whose file 2 has 1,200 sevens, with the draft that cuts it.
-fn cut_at(alloc: Global, len: u32) -> Result<Store<MemDevice>, Fail> {
+fn cut_at(alloc: Global, len: u32) -> Result<Box<Store<MemDevice>>, Fail> {
     let mut store = empty_store(alloc)?;
     write(&mut store, 0, 0, &[7; 1_200])?;
     store.draft.changes.clear();

@@ -1,7 +1,8 @@
-use Rattle.std.proofs.Common.{◌≡◌, ◌/◌, length, arith}
+use Rattle.std.proofs.Common.{◌≡◌, ◌/◌, ◌∙◌, Err, ap, length, arith}
+use Rattle.lfs_dirs.specs.declared.listing.ListFault.TheVariants as list_fault
 use Rattle.lfs_dirs.specs.Listing.{pairs}
 use Rattle.lfs_fs.specs.Checking.{giving}
-use Rattle.lfs_fs.proofs.TreeChecks.{entries_failed, entries_fewer, entries_found, entries_named, same_count}
+use Rattle.lfs_fs.proofs.TreeChecks.{entries_failed, entries_fewer, entries_found, entries_named, log_failed, same_count}
 use Rattle.lfs_fs.proofs.checking.check_entries.Goals as goal
 
 pub returns-in-Err-NoSlot-clause-failed : goal.returns-in-Err-NoSlot-clause-failed
@@ -33,3 +34,11 @@ returns-clause-done g c =
     let none = c.if-count_names-ne0.false in
     let is = same_count c.deref.result.now c.in-Ok.entries.items 1 c.count_names.result c.deref.ensures.value c.count_names.ensures in
     entries_found g.D.SectorDevice.state c.args.store.now.log c.inspect.new.store.log c.args.store.now.draft.changes c.args.root c.in-Ok.entries.items c.in-Ok.ensures.answer (omega (arith, apart)) (omega (arith, none, is))
+
+pub returns-in-Err-Log-clause-names : goal.returns-in-Err-Log-clause-names
+returns-in-Err-Log-clause-names g c =
+    let is = c.in-Err-Log.field-0-is in
+    log_failed g.D.SectorDevice.state c.args.store.now.log c.inspect.new.store.log c.in-Err-Log.field-0-0
+    (λ e. c.in-Err-Log.ensures.device (ap Err (is ∙ ap list_fault.Log e)))
+    (λ e. c.in-Err-Log.ensures.halted (ap Err (is ∙ ap list_fault.Log e)))
+    (λ e. c.in-Err-Log.ensures.other (ap Err (is ∙ ap list_fault.Log e)))

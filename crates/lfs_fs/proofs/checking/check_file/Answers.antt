@@ -3,7 +3,7 @@ use Rattle.std.specs.Option.{option_map}
 use Rattle.lfs_memory.specs.Present.{as_header}
 use Rattle.lfs_dirs.specs.Listing.{pairs}
 use Rattle.lfs_fs.specs.Checking.{FitsNumber}
-use Rattle.lfs_fs.proofs.TreeChecks.{number_failed, number_fits, number_odd}
+use Rattle.lfs_fs.proofs.TreeChecks.{damage_told, number_failed, number_fits, number_odd}
 use Rattle.lfs_fs.proofs.checking.check_file.Goals as goal
 
 pub returns-in-Ok-check_header-clause-done : goal.returns-in-Ok-check_header-clause-done
@@ -19,3 +19,7 @@ returns-in-Err-check_header-clause-failed g c =
 pub returns-in-Err-clause-failed : goal.returns-in-Err-clause-failed
 returns-in-Err-clause-failed g c =
     number_failed g.D.SectorDevice.state c.args.store.now.log c.header.new.self.log c.args.store.now.draft.changes (pairs c.args.entries.now) c.args.number c.in-Err.ensures.failed
+
+pub returns-in-Err-check_header-clause-names : goal.returns-in-Err-check_header-clause-names
+returns-in-Err-check_header-clause-names g c =
+    damage_told g.D.SectorDevice.state c.args.store.now.log c.header.new.self.log c.in-Err-check_header.fault c.in-Err-check_header.ensures.names

@@ -2,7 +2,7 @@ use Rattle.std.proofs.Common.{◌≡◌, ◌+◌, ◌∙◌, refl, subst, ℕ, a
 use Rattle.lfs_store.specs.declared.draft.Draft.{Draft}
 use Rattle.lfs_dirs.specs.Listing.{pairs}
 use Rattle.lfs_fs.specs.Checking.{FindsFiles, LacksFiles}
-use Rattle.lfs_fs.proofs.TreeChecks.{files_lack, files_more, files_none}
+use Rattle.lfs_fs.proofs.TreeChecks.{fault_told, files_lack, files_more, files_none}
 use Rattle.lfs_fs.proofs.checking.check_files.Goals as goal
 
 pub loop-number-init : goal.loop-number-init
@@ -34,3 +34,8 @@ returns-clause-done g c =
     let ended = c.loop-number-test.false in
     let is : at.number ≡ 4096 = omega (arith, high, ended) in
     subst (λ (n : ℕ). FindsFiles g.D.SectorDevice.state c.args.store.now.log at.store.log c.args.store.now.draft.changes (pairs c.args.entries.now) 2 n) is at.invariant.0.files
+
+pub returns-in-Err-clause-names : goal.returns-in-Err-clause-names
+returns-in-Err-clause-names g c =
+    let at = c.loop-number in
+    fault_told g.D.SectorDevice.state c.args.store.now.log at.store.log c.check_file.new.store.log at.invariant.0.reads c.in-Err.fault c.in-Err.ensures.names

@@ -1,10 +1,11 @@
 use Rattle.std.proofs.Common.{◌+◌, ◌*◌, List, ap, subst, ◌∙◌}
 use Rattle.lfs_store.specs.declared.draft.Draft.{Draft}
 use Rattle.lfs_store.specs.declared.totals.Totals.{Totals}
+use Rattle.lfs_store.proofs.LogReads.{reads_more}
 use Rattle.lfs_dirs.specs.declared.entry.Entry.{Entry}
 use Rattle.lfs_dirs.specs.Listing.{pairs}
 use Rattle.lfs_fs.specs.Checking.{FindsEntries, FindsFiles, LacksEntries, LacksFiles}
-use Rattle.lfs_fs.proofs.TreeChecks.{entries_lack, files_lack_tree, room_lacks, root_lacks, tree_finds}
+use Rattle.lfs_fs.proofs.TreeChecks.{damage_told, entries_lack, fault_told, files_lack_tree, room_lacks, root_lacks, tree_finds}
 use Rattle.lfs_fs.proofs.checking.check_tree.Goals as goal
 
 pub returns-in-Err-clause-failed : goal.returns-in-Err-clause-failed
@@ -51,3 +52,18 @@ returns-clause-failed g c other =
     c.check_files.ensures.reads (g.met.D.SectorDevice.lawful c.args.store.now.log.device)
     (c.check_files.new.store.totals.data_blocks + 7 * c.check_files.new.store.totals.meta_blocks + 720) (ap (λ (t : Totals). t.data_blocks + 7 * t.meta_blocks + 720) same)
     c.in-Err-check_room.ensures.failed
+
+pub returns-in-Err-check_entries-clause-names : goal.returns-in-Err-check_entries-clause-names
+returns-in-Err-check_entries-clause-names g c =
+    fault_told g.D.SectorDevice.state c.args.store.now.log c.check_root.new.store.log c.check_entries.new.store.log c.check_root.ensures.reads c.in-Err-check_entries.fault c.in-Err-check_entries.ensures.names
+
+pub returns-in-Err-check_files-clause-names : goal.returns-in-Err-check_files-clause-names
+returns-in-Err-check_files-clause-names g c =
+    let state = g.D.SectorDevice.state in
+    let first = c.check_root.ensures.reads in
+    let second = c.check_entries.ensures.reads in
+    let two = reads_more state c.args.store.now.log c.check_root.new.store.log c.check_entries.new.store.log (g.met.D.SectorDevice.lawful c.args.store.now.log.device) first second in
+    fault_told state c.args.store.now.log c.check_entries.new.store.log c.check_files.new.store.log two c.in-Err-check_files.fault c.in-Err-check_files.ensures.names
+
+pub returns-clause-names : goal.returns-clause-names
+returns-clause-names g c = damage_told g.D.SectorDevice.state c.args.store.now.log c.check_files.new.store.log c.in-Err-check_room.fault c.in-Err-check_room.ensures.names

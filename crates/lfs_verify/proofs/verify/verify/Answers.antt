@@ -30,10 +30,10 @@ pub returns-in-Err-clause-damaged : goal.returns-in-Err-clause-damaged
 returns-in-Err-clause-damaged g c = λ code is keeps. absurd (c.in-Err.ensures.stage code is)
 
 pub returns-in-Err-clause-small : goal.returns-in-Err-clause-small
-returns-in-Err-clause-small g c = λ err keeps m is. c.in-Err.ensures.small err keeps m is
+returns-in-Err-clause-small g c = λ err keeps. c.in-Err.ensures.small err keeps
 
 pub returns-in-Err-clause-missing : goal.returns-in-Err-clause-missing
-returns-in-Err-clause-missing g c = λ err keeps m is. c.in-Err.ensures.missing err keeps m is
+returns-in-Err-clause-missing g c = λ err keeps. c.in-Err.ensures.missing err keeps
 
 pub returns-in-Err-Damaged-clause-low : goal.returns-in-Err-Damaged-clause-low
 returns-in-Err-Damaged-clause-low g c = λ code is. c.in-Err-Damaged.ensures.low code (subst (λ (e : WalkFault). FaultIs e code) (sym c.in-Err-Damaged.field-0-is) is)

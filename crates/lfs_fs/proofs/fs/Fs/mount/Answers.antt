@@ -1,4 +1,4 @@
-use Rattle.lfs_fs.proofs.MountEnds.{durable_by, fault_by, found_by, looks_on, mounts_by, open_fault}
+use Rattle.lfs_fs.proofs.MountEnds.{durable_by, fault_by, found_by, looks_on, mounts_by, open_fault, refused_by}
 use Rattle.lfs_fs.proofs.fs.Fs.mount.Goals as goal
 
 pub returns-in-Err-clause-cause : goal.returns-in-Err-clause-cause
@@ -49,3 +49,11 @@ returns-in-Err-open_checked-clause-carries g c = (looks_on g.D.SectorDevice.stat
 pub returns-in-Err-open_checked-clause-any_moment : goal.returns-in-Err-open_checked-clause-any_moment
 returns-in-Err-open_checked-clause-any_moment g c = (looks_on g.D.SectorDevice.state c.args.device c.check_log.new.device c.check_log.ensures.looks c.in-Err-open_checked.fault.1
     c.in-Err-open_checked.ensures.carries c.in-Err-open_checked.ensures.untouched c.in-Err-open_checked.ensures.any_moment).any_moment
+
+pub returns-in-Err-clause-reason : goal.returns-in-Err-clause-reason
+returns-in-Err-clause-reason g c = c.in-Err.ensures.reason
+
+pub returns-in-Err-open_checked-clause-reason : goal.returns-in-Err-open_checked-clause-reason
+returns-in-Err-open_checked-clause-reason g c =
+    refused_by g.D.SectorDevice.state c.args.device c.check_log.new.device c.check_log.ensures.looks c.in-Err-open_checked.fault.1 c.in-Err-open_checked.fault.0 c.in-Ok.ensures.holds c.in-Err-open_checked.ensures.carries
+    c.in-Err-open_checked.ensures.reason

@@ -1,10 +1,10 @@
 use Rattle.std.proofs.Common.{refl, sym, subst, ◌∙◌}
-use Rattle.lfs_fs.specs.Mounting.{IsMountFault}
+use Rattle.lfs_fs.specs.Mounting.{IsMountFault, IsRefusedTree}
 use Rattle.lfs_store.specs.Accepting.{MountsStore}
 use Rattle.lfs_store.specs.Recounting.{MountsTotals}
 use Rattle.lfs_store.specs.declared.totals.Totals.{Totals}
 use Rattle.lfs_fs.specs.Checking.{FindsTree}
-use Rattle.lfs_fs.proofs.MountEnds.{check_fault, stands_where_log, mounts_fs, open_fault}
+use Rattle.lfs_fs.proofs.MountEnds.{check_fault, stands_where_log, mounts_fs, open_fault, open_refused, tree_refused}
 use Rattle.lfs_fs.proofs.fs.Fs.open_checked.Goals as goal
 
 pub returns-in-Err-clause-cause : goal.returns-in-Err-clause-cause
@@ -37,3 +37,15 @@ returns-in-Err-check_tree-clause-cause g c other =
     subst (λ (d : g.row.D.Denot). IsMountFault g.D.SectorDevice.state c.args.device d) (sym c.into_device.ensures)
     (check_fault g.D.SectorDevice.state g.met.D.SectorDevice.lawful c.args.device c.in-Ok.store.log c.check_tree.new.store.log check.reads c.in-Ok.store.saved opened.stores c.in-Ok.store.draft.changes opened.draft
     c.in-Ok.store.totals opened.counts opened.carries (check.failed other))
+
+pub returns-in-Err-clause-reason : goal.returns-in-Err-clause-reason
+returns-in-Err-clause-reason g c = open_refused (g.D.SectorDevice.state c.args.device) (g.D.SectorDevice.state c.in-Err.fault.1) c.in-Err.fault.0 c.in-Err.ensures.cause
+
+pub returns-in-Err-check_tree-clause-reason : goal.returns-in-Err-check_tree-clause-reason
+returns-in-Err-check_tree-clause-reason g c =
+    let opened = c.in-Ok.ensures in
+    let check = c.in-Err-check_tree.ensures in
+    let old = g.D.SectorDevice.state c.args.device in
+    subst (λ (d : g.row.D.Denot). IsRefusedTree old (g.D.SectorDevice.state d) c.in-Err-check_tree.fault) (sym c.into_device.ensures)
+    (tree_refused g.D.SectorDevice.state g.met.D.SectorDevice.lawful c.args.device c.in-Ok.store.log c.check_tree.new.store.log check.reads c.in-Ok.store.saved opened.stores c.in-Ok.store.draft.changes opened.draft
+    c.in-Ok.store.totals opened.counts opened.carries c.in-Err-check_tree.fault check.names check.failed)
