@@ -6,7 +6,7 @@ use crate::request::{Request, read_request};
 use crate::simulation::{Plan, read_plan};
 use crate::{image, simulation};
 use lfs_device::SectorDevice;
-use lfs_fs::Fs;
+use lfs_script::fs::Fs;
 use lfs_script::{Answer, ScriptEnd, put_reply, read_u32, use_and_stop, use_volume};
 use std::alloc::{AllocError, Global};
 use std::fs::File;

@@ -1,7 +1,7 @@
 //! Why a command ends.
 ghost use Rattle.std.specs.Prelude.{◌≡◌, ◌⊎◌};
 
-use lfs_fs::{FormatFault, FsError, MountFault};
+use lfs_script::fs::{FormatFault, FsError, MountFault};
 use std::alloc::AllocError;
 use thiserror::Error;
 

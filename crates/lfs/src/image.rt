@@ -4,7 +4,7 @@ ghost use Rattle.lfs_model.specs.Checkpoint.{IsSegmentCount};
 
 use crate::fault::Refusal;
 use lfs_device::FileDevice;
-use lfs_fs::{Fs, format};
+use lfs_script::fs::{Fs, format};
 use std::alloc::Global;
 use std::fs::File;
 use std::rt::Files;

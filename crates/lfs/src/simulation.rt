@@ -2,12 +2,12 @@
 use crate::fault::{Fault, Refusal};
 use crate::image::is_segment_count;
 use lfs_device::{Left, MemDevice};
-use lfs_fs::{Fs, FsError, format};
+use lfs_script::fs::{Fs, FsError, format};
 use lfs_script::{read_u32, read_u64};
 use std::alloc::Global;
 
 /// How a volume in memory comes to its end.
-#[derive(Clone, Copy, Debug, PartialEq, Eq)]
+#[derive(Clone, Copy)]
 pub struct Plan {
     pub segments: u32,
     /// The write that doesn't go through, counted from 0 behind the format, and with which the device stops.

@@ -1,18 +1,56 @@
+// Rows of commands over image files and over volumes in memory, carried out one after another.
 use crate::command::command;
-use lfs_script::read_u64;
 use std::alloc::{AllocError, Global};
-use std::fs;
 use std::fs::File;
 use std::io::Write;
+use std::os::unix::fs::FileExt;
 use std::process::Abort;
 use std::rt::Files;
-use std::test::Fail;
+use std::{fs, io};
 
-#[derive(Drop)]
-struct Outcome {
-    status: u8,
-    output: Vec<u8>,
-    errors: Vec<u8>,
+/// What a command line has to say.
+#[derive(Clone, Copy)]
+enum Said<'a> {
+    /// These bytes on standard output alone.
+    Reply(&'a [u8]),
+    /// A text on standard output alone.
+    Help,
+    /// A text on standard error alone.
+    Fault,
+}
+
+impl Said<'_> {
+    fn is(self, output: &[u8], errors: &[u8]) -> bool {
+        match self {
+            Said::Reply(reply) => output == reply && errors.is_empty(),
+            Said::Help => !output.is_empty() && errors.is_empty(),
+            Said::Fault => output.is_empty() && !errors.is_empty(),
+        }
+    }
+}
+
+/// A sector of an image, a place in it, and the bytes from there on.
+type Piece<'a> = (u64, u64, &'a [u8]);
+
+/// What a test does next, and what has to come of it.
+#[derive(Clone, Copy)]
+enum Step<'a> {
+    /// Command lines, the standard input of each, its exit status, and what it says.
+    Says(&'a [&'a str], &'a [u8], u8, Said<'a>),
+    /// A command line that is given so many letters, its exit status, and what it says.
+    Reads(&'a str, usize, u8, Said<'a>),
+    /// Makes the files /y1, /y2, .. up to this number by a command line, each in a mount of its own.
+    Fills(&'a str, u32),
+    /// Gives a file this length and these pieces. Where it isn't there it is made; what is new in it is zero.
+    Change(&'a str, u64, &'a [Piece<'a>]),
+    /// Makes a file of so many sectors of noise.
+    Noise(&'a str, u32),
+    /// Changes a byte in a copy of `whole.img`, at a place of a sector: `mount` refuses the copy with this reply.
+    Damage(u64, u64, u8, &'a [u8]),
+    /// The files have one length, and the same bytes as far as a volume of 64 segments goes.
+    Same(&'a str, &'a str),
+    Lacks(&'a str),
+    Remove(&'a str),
 }
 
 fn words(alloc: Global, line: &str) -> Result<Vec<String>, AllocError> {
@@ -23,18 +61,21 @@ fn words(alloc: Global, line: &str) -> Result<Vec<String>, AllocError> {
     Ok(all)
 }
 
-// Runs a command line of words with one space between two.
-fn execute<R: Files<File = File> + AllocGlobal>(
+// Whether a command line, of words with one space between two, ends and speaks so.
+fn says<R: Files<File = File> + AllocGlobal>(
     rt: &R,
     line: &str,
-    script: &str,
-) -> Result<Outcome, Fail> {
+    mut input: &[u8],
+    status: u8,
+    said: Said<'_>,
+) -> bool {
     let alloc = rt.alloc();
-    let words = words(alloc, line)?;
-    let mut input = script.as_bytes();
+    let Ok(words) = words(alloc, line) else {
+        return false;
+    };
     let mut output = Vec::new(alloc);
     let mut errors = Vec::new(alloc);
-    let status = command(
+    let found = command(
         rt,
         alloc,
         words.as_slice(),
@@ -42,34 +83,133 @@ fn execute<R: Files<File = File> + AllocGlobal>(
         &mut output,
         &mut errors,
     );
-    Ok(Outcome {
-        status,
-        output,
-        errors,
-    })
+    found == status && said.is(output.as_slice(), errors.as_slice())
 }
 
-// Runs a command line that has no text on standard error, and wants its status and its output.
-fn want<R: Abort + Files<File = File> + AllocGlobal>(
+fn each_says<R: Files<File = File> + AllocGlobal>(
+    rt: &R,
+    lines: &[&str],
+    input: &[u8],
+    status: u8,
+    said: Said<'_>,
+) -> bool {
+    for line in lines {
+        if !says(rt, line, input, status, said) {
+            return false;
+        }
+    }
+    true
+}
+
+fn reads<R: Files<File = File> + AllocGlobal>(
     rt: &R,
     line: &str,
-    script: &str,
+    letters: usize,
     status: u8,
-    reply: &str,
-) -> Result<(), Fail> {
-    let found = execute(rt, line, script)?;
-    assert_eq!(rt;
-        found.output.as_slice(),
-        reply.as_bytes(),
-        "{line}: {script}"
-    );
-    assert_eq!(rt; found.status, status, "{line}: {script}");
-    assert!(rt; found.errors.is_empty(), "{line}: {script}");
+    said: Said<'_>,
+) -> bool {
+    match vec![in rt.alloc(); b'a'; letters] {
+        Ok(input) => says(rt, line, input.as_slice(), status, said),
+        Err(_) => false,
+    }
+}
+
+fn fills<R: Files<File = File> + AllocGlobal>(rt: &R, line: &str, last: u32) -> bool {
+    for number in 1..=last {
+        let Ok(script) = format!(in rt.alloc(); "create /y{number}\nsync\n") else {
+            return false;
+        };
+        if !says(rt, line, script.as_bytes(), 0, Said::Reply(b"ok 0\nok\n")) {
+            return false;
+        }
+    }
+    true
+}
+
+fn change<R: Files<File = File>>(
+    rt: &R,
+    path: &str,
+    len: u64,
+    pieces: &[Piece<'_>],
+) -> io::Result<()> {
+    let file = File::options().write(true).create(true).open(rt, path)?;
+    file.set_len(len)?;
+    for (sector, at, bytes) in pieces {
+        file.write_all_at(bytes, sector.saturating_mul(512).saturating_add(*at))?;
+    }
     Ok(())
 }
 
-// The bytes of a new image of 64 segments that aren't zero: a sector, a place in it, and the bytes from there on.
-const IMAGE: [(usize, usize, &[u8]); 12] = [
+// The next sector of a linear congruential generator.
+fn noise(state: &mut u32) -> [u8; 512] {
+    let mut sector = [0; 512];
+    for byte in &mut sector {
+        *state = state.wrapping_mul(1_664_525).wrapping_add(1_013_904_223);
+        *byte = (*state >> 24) as u8;
+    }
+    sector
+}
+
+fn write_noise<R: Files<File = File>>(rt: &R, path: &str, sectors: u32) -> io::Result<()> {
+    let mut file = File::create(rt, path)?;
+    let mut state = 1;
+    for _ in 0..sectors {
+        file.write_all(&noise(&mut state))?;
+    }
+    Ok(())
+}
+
+fn is_refused<R: Files<File = File> + AllocGlobal>(
+    rt: &R,
+    damage: Piece<'_>,
+    reply: &[u8],
+) -> bool {
+    let line = "lfs mount damaged.img";
+    fs::copy(rt, "whole.img", "damaged.img").is_ok()
+        && change(rt, "damaged.img", LEN, &[damage]).is_ok()
+        && says(rt, line, b"", 1, Said::Reply(reply))
+}
+
+// The length of an image of 64 segments.
+const LEN: u64 = 4_098 * 512;
+
+fn are_same(one: &[u8], other: &[u8]) -> bool {
+    let looked_at = one.len().min(LEN as usize);
+    one.len() == other.len() && one[..looked_at] == other[..looked_at]
+}
+
+fn same<R: Files<File = File> + AllocGlobal>(rt: &R, one: &str, other: &str) -> bool {
+    match (fs::read(rt, one), fs::read(rt, other)) {
+        (Ok(one), Ok(other)) => are_same(one.as_slice(), other.as_slice()),
+        _ => false,
+    }
+}
+
+fn is_well<R: Files<File = File> + AllocGlobal>(rt: &R, step: Step<'_>) -> bool {
+    match step {
+        Step::Says(lines, input, status, said) => each_says(rt, lines, input, status, said),
+        Step::Reads(line, letters, status, said) => reads(rt, line, letters, status, said),
+        Step::Fills(line, last) => fills(rt, line, last),
+        Step::Change(path, len, pieces) => change(rt, path, len, pieces).is_ok(),
+        Step::Noise(path, sectors) => write_noise(rt, path, sectors).is_ok(),
+        Step::Damage(sector, at, byte, reply) => is_refused(rt, (sector, at, &[byte]), reply),
+        Step::Same(one, other) => same(rt, one, other),
+        Step::Lacks(path) => matches!(fs::exists(rt, path), Ok(false)),
+        Step::Remove(path) => fs::remove_file(rt, path).is_ok(),
+    }
+}
+
+// Carries out the steps, and stops at the first that isn't well.
+fn want<R: Abort + Files<File = File> + AllocGlobal>(rt: &R, steps: &[Step<'_>]) {
+    for (place, step) in steps.iter().enumerate() {
+        assert!(rt; is_well(rt, *step), "step {place}");
+    }
+}
+
+const OK: Said = Said::Reply(b"ok\n");
+
+// The bytes of a new image of 64 segments that aren't zero.
+const NEW: &[Piece] = &[
     (1, 0, &[0x53, 0x4c, 0x46, 0x53, 0x43, 0x4b, 0x50, 0x31]),
     (1, 8, &[1, 0, 0, 0, 0, 0, 0, 0]),
     (1, 16, &[0x40, 0, 0, 0, 1, 0, 0, 0]),
@@ -84,394 +224,474 @@ const IMAGE: [(usize, usize, &[u8]); 12] = [
     (5, 0, &[4, 0, 3, 0, 1, 0, 0, 0]),
 ];
 
-fn put(sector: &mut [u8; 512], at: usize, bytes: &[u8]) {
-    for (i, byte) in bytes.iter().enumerate() {
-        if i < 512 && at < 512 - i {
-            sector[at + i] = *byte;
-        }
-    }
-}
+// What an image of 72 segments has in their place, and one of 1,024 in the place of both.
+const OF_72: &[Piece] = &[
+    (1, 16, &[72]),
+    (1, 164, &[6]),
+    (2, 0, &[4]),
+    (2, 32, &[0, 0, 6, 0, 1]),
+    (5, 0, &[5, 0, 4]),
+];
+
+const OF_1024: &[Piece] = &[
+    (1, 16, &[0, 4]),
+    (1, 164, &[6, 0, 0, 0, 7, 0, 0, 0, 8, 0, 0, 0, 9, 0, 0, 0]),
+    (1, 180, &[10, 0, 0, 0, 11, 0, 0, 0, 12, 0, 0, 0, 13]),
+    (1, 196, &[14, 0, 0, 0, 15, 0, 0, 0, 16, 0, 0, 0, 17]),
+    (1, 212, &[18, 0, 0, 0, 19, 0, 0, 0, 20]),
+    (2, 0, &[18]),
+    (2, 32, &[0, 0, 6, 0, 1, 0, 0, 0, 0, 0, 6, 0, 2]),
+    (2, 48, &[0, 0, 6, 0, 3, 0, 0, 0, 0, 0, 6, 0, 4]),
+    (2, 64, &[0, 0, 6, 0, 5, 0, 0, 0, 0, 0, 6, 0, 6]),
+    (2, 80, &[0, 0, 6, 0, 7, 0, 0, 0, 0, 0, 6, 0, 8]),
+    (2, 96, &[0, 0, 6, 0, 9, 0, 0, 0, 0, 0, 6, 0, 10]),
+    (2, 112, &[0, 0, 6, 0, 11, 0, 0, 0, 0, 0, 6, 0, 12]),
+    (2, 128, &[0, 0, 6, 0, 13, 0, 0, 0, 0, 0, 6, 0, 14]),
+    (2, 144, &[0, 0, 6, 0, 15]),
+    (5, 0, &[19, 0, 18]),
+];
+
+const NEW_IMAGES: &[Step] = &[
+    Step::Says(&["lfs mkfs a.img --segments 64"], b"", 0, OK),
+    Step::Change("a.want", 0, &[]),
+    Step::Change("a.want", LEN, NEW),
+    Step::Same("a.img", "a.want"),
+    Step::Says(&["lfs mkfs a.img --segments 72"], b"", 0, OK),
+    Step::Change("a.want", 4_610 * 512, OF_72),
+    Step::Same("a.img", "a.want"),
+    Step::Says(&["lfs mount a.img"], b"", 0, EMPTY),
+    Step::Says(&["lfs mkfs --segments 128 a.img"], b"", 0, OK),
+    Step::Change("a.want", 8_194 * 512, &[(1, 16, &[128])]),
+    Step::Same("a.img", "a.want"),
+    Step::Says(&["lfs mount a.img"], b"", 0, EMPTY),
+    Step::Says(&["lfs mkfs --segments=1024 a.img"], b"", 0, OK),
+    Step::Change("a.want", 65_538 * 512, OF_1024),
+    Step::Same("a.img", "a.want"),
+    Step::Says(&["lfs mount a.img"], b"", 0, EMPTY),
+    Step::Says(&["lfs mkfs a.img --segments 64"], b"", 0, OK),
+    Step::Change("a.want", 0, &[]),
+    Step::Change("a.want", LEN, NEW),
+    Step::Same("a.img", "a.want"),
+    Step::Says(&["lfs mount a.img"], b"", 0, EMPTY),
+    Step::Remove("a.img"),
+    Step::Remove("a.want"),
+];
 
 #[test]
-fn a_new_image_of_64_segments(rt: HostRuntime) -> Result<(), Fail> {
-    want(&rt, "lfs mkfs a.img --segments 64", "", 0, "ok\n")?;
-    let image = fs::read(&rt, "a.img")?;
-    assert_eq!(rt; image.len(), 2_098_176);
-    for (number, bytes) in image.chunks(512).enumerate() {
-        let mut sector = [0; 512];
-        for (of, at, bytes) in IMAGE {
-            if of == number {
-                put(&mut sector, at, bytes);
-            }
-        }
-        assert!(rt; bytes == sector.as_slice(), "sector {number}");
-    }
-    fs::remove_file(&rt, "a.img")?;
-    Ok(())
+fn new_images(rt: HostRuntime) {
+    want(&rt, NEW_IMAGES);
 }
 
-// The first sectors of a new image whose volume has this many segments and usage blocks.
-fn sector_of(number: usize, segments: u16, usage: u8) -> [u8; 512] {
-    let mut sector = [0; 512];
-    let [low, high] = segments.to_le_bytes();
-    match number {
-        1 => {
-            put(&mut sector, 0, b"SLFSCKP1");
-            put(&mut sector, 8, &[1]);
-            put(&mut sector, 16, &[low, high, 0, 0, 1]);
-            put(&mut sector, 32, &[4]);
-            for i in 0..usage {
-                put(&mut sector, 160 + 4 * usize::from(i), &[i.wrapping_add(5)]);
-            }
-        }
-        2 => {
-            put(&mut sector, 0, &[usage.wrapping_add(2)]);
-            put(&mut sector, 8, &[1, 0, 4]);
-            put(&mut sector, 16, &[0, 0, 5]);
-            for i in 0..usage {
-                put(&mut sector, 24 + 8 * usize::from(i), &[0, 0, 6, 0, i]);
-            }
-        }
-        3 => put(&mut sector, 0, &[2, 0, 0, 0, 1, 0, 0, 0, 2]),
-        4 => put(&mut sector, 4, &[3]),
-        5 => put(
-            &mut sector,
-            0,
-            &[usage.wrapping_add(3), 0, usage.wrapping_add(2), 0, 1],
-        ),
-        _ => {}
-    }
-    sector
-}
+// The tree of an empty volume.
+const EMPTY: Said = Said::Reply(b"ok 0\n");
 
-#[test]
-fn new_images_of_other_sizes(rt: HostRuntime) -> Result<(), Fail> {
-    for (line, segments, usage, sectors) in [
-        ("lfs mkfs b.img --segments 72", 72, 2, 4_610),
-        ("lfs mkfs --segments 128 b.img", 128, 2, 8_194),
-        ("lfs mkfs --segments=1024 b.img", 1024, 16, 65_538),
-        ("lfs mkfs b.img --segments 64", 64, 1, 4_098),
-    ] {
-        want(&rt, line, "", 0, "ok\n")?;
-        let image = fs::read(&rt, "b.img")?;
-        assert_eq!(rt; image.len(), sectors * 512);
-        for (number, bytes) in image.chunks(512).enumerate() {
-            if number < 40 {
-                let sector = sector_of(number, segments, usage);
-                assert!(rt; bytes == sector.as_slice(), "{line}: sector {number}");
-            }
-        }
-        want(&rt, "lfs mount b.img", "", 0, "ok 0\n")?;
-    }
-    fs::remove_file(&rt, "b.img")?;
-    Ok(())
-}
+const SCRIPTS: &[Step] = &[
+    Step::Says(&["lfs mkfs b.img --segments 64"], b"", 0, OK),
+    Step::Says(&["lfs run b.img"], b"", 0, Said::Reply(b"")),
+    Step::Says(&["lfs mount b.img"], b"", 0, EMPTY),
+    Step::Says(&["lfs mkfs b.img --segments 64"], b"", 0, OK),
+    Step::Says(
+        &["lfs run b.img"],
+        b"space",
+        0,
+        Said::Reply(b"ok 0 1 727 3008\n"),
+    ),
+    Step::Says(&["lfs mount b.img"], b"", 0, EMPTY),
+    Step::Says(&["lfs mkfs b.img --segments 64"], b"", 0, OK),
+    Step::Says(
+        &["lfs run b.img"],
+        b"create /f\npwrite 0 0 61\nsync\nspace\npread 0 0 9\n",
+        0,
+        Said::Reply(b"ok 0\nok 1\nok\nok 2 2 736 3008\nok 61\n"),
+    ),
+    Step::Says(
+        &["lfs mount b.img"],
+        b"",
+        0,
+        Said::Reply(b"ok 1\n1 f file 2 1 1 61\n"),
+    ),
+    Step::Says(&["lfs mkfs b.img --segments 64"], b"", 0, OK),
+    Step::Says(
+        &["lfs run b.img"],
+        b"create /f\npwrite 0 0 616263\npread 0 3 5\npread 0 0 0\npread 0 1 65536\npread 0 0 65537\npwrite 0 99999999 -\n",
+        0,
+        Said::Reply(b"ok 0\nok 3\nok -\nok -\nok 6263\nerr Inval\nok 0\n"),
+    ),
+    Step::Says(&["lfs mount b.img"], b"", 0, EMPTY),
+    Step::Says(&["lfs mkfs b.img --segments 64"], b"", 0, OK),
+    Step::Says(
+        &["lfs run b.img"],
+        b"space\npread 00 0 1\nspace\n",
+        2,
+        Said::Reply(b"ok 0 1 727 3008\nbad 2\n"),
+    ),
+    Step::Says(&["lfs mount b.img"], b"", 0, EMPTY),
+    Step::Says(&["lfs mkfs b.img --segments 64"], b"", 0, OK),
+    Step::Says(
+        &["lfs run b.img"],
+        b"create /a\\20c\npwrite 0 0 000102030405060708090a0b0c0d0e0f1011\nsync\nbad\n",
+        2,
+        Said::Reply(b"ok 0\nok 18\nok\nbad 4\n"),
+    ),
+    Step::Says(
+        &["lfs mount b.img"],
+        b"",
+        0,
+        Said::Reply(b"ok 1\n1 a\\20c file 2 1 18 000102030405060708090a0b0c0d0e0f\n"),
+    ),
+    Step::Says(&["lfs mkfs b.img --segments 64"], b"", 0, OK),
+    Step::Change("b.want", 0, &[]),
+    Step::Change("b.want", LEN, NEW),
+    Step::Reads("lfs run b.img", 140_001, 2, Said::Reply(b"bad 1\n")),
+    Step::Same("b.img", "b.want"),
+    Step::Remove("b.img"),
+    Step::Remove("b.want"),
+];
 
 #[test]
-fn scripts_over_an_image(rt: HostRuntime) -> Result<(), Fail> {
-    for (script, status, replies, tree) in [
-        ("", 0, "", "ok 0\n"),
-        ("space", 0, "ok 0 1 727 3008\n", "ok 0\n"),
-        (
-            "create /f\npwrite 0 0 61\nsync\nspace\npread 0 0 9\n",
-            0,
-            "ok 0\nok 1\nok\nok 2 2 736 3008\nok 61\n",
-            "ok 1\n1 f file 2 1 1 61\n",
-        ),
-        (
-            "create /f\npwrite 0 0 616263\npread 0 3 5\npread 0 0 0\npread 0 1 65536\npread 0 0 65537\npwrite 0 99999999 -\n",
-            0,
-            "ok 0\nok 3\nok -\nok -\nok 6263\nerr Inval\nok 0\n",
-            "ok 0\n",
-        ),
-        (
-            "space\npread 00 0 1\nspace\n",
-            2,
-            "ok 0 1 727 3008\nbad 2\n",
-            "ok 0\n",
-        ),
-        (
-            "create /a\\20c\npwrite 0 0 000102030405060708090a0b0c0d0e0f1011\nsync\nbad\n",
-            2,
-            "ok 0\nok 18\nok\nbad 4\n",
-            "ok 1\n1 a\\20c file 2 1 18 000102030405060708090a0b0c0d0e0f\n",
-        ),
-    ] {
-        want(&rt, "lfs mkfs c.img --segments 64", "", 0, "ok\n")?;
-        want(&rt, "lfs run c.img", script, status, replies)?;
-        want(&rt, "lfs mount c.img", "", 0, tree)?;
-    }
-    fs::remove_file(&rt, "c.img")?;
-    Ok(())
+fn scripts_over_an_image(rt: HostRuntime) {
+    want(&rt, SCRIPTS);
 }
 
-// Makes the files /y1, /y2, .. up to this count, each in a mount of its own.
-fn make_files<R: Abort + Files<File = File> + AllocGlobal>(
-    rt: &R,
-    image: &str,
-    count: u32,
-) -> Result<(), Fail> {
-    let alloc = rt.alloc();
-    let line = format!(in alloc; "lfs run {image}")?;
-    for i in 1..count.saturating_add(1) {
-        let script = format!(in alloc; "create /y{i}\nsync\n")?;
-        want(rt, line.as_str(), script.as_str(), 0, "ok 0\nok\n")?;
-    }
-    Ok(())
-}
-
-#[test]
-fn fifty_files_with_a_mount_between(rt: HostRuntime) -> Result<(), Fail> {
-    let alloc = rt.alloc();
-    want(&rt, "lfs mkfs d.img --segments 72", "", 0, "ok\n")?;
-    make_files(&rt, "d.img", 50)?;
-    let mut tree = "ok 50\n".to_string(alloc)?;
-    for ten in 1..10u32 {
-        let line = format!(in alloc; "1 y{ten} file {} 1 0 -\n", ten + 1)?;
-        tree.push_str(line.as_str())?;
-        for i in 10 * ten..10 * ten + 10 {
-            if i <= 50 {
-                let line = format!(in alloc; "1 y{i} file {} 1 0 -\n", i + 1)?;
-                tree.push_str(line.as_str())?;
-            }
-        }
-    }
-    want(&rt, "lfs mount d.img", "", 0, tree.as_str())?;
-    fs::remove_file(&rt, "d.img")?;
-    Ok(())
-}
+const FIFTY: &[u8] = b"ok 50\n\
+    1 y1 file 2 1 0 -\n1 y10 file 11 1 0 -\n1 y11 file 12 1 0 -\n1 y12 file 13 1 0 -\n\
+    1 y13 file 14 1 0 -\n1 y14 file 15 1 0 -\n1 y15 file 16 1 0 -\n1 y16 file 17 1 0 -\n\
+    1 y17 file 18 1 0 -\n1 y18 file 19 1 0 -\n1 y19 file 20 1 0 -\n1 y2 file 3 1 0 -\n\
+    1 y20 file 21 1 0 -\n1 y21 file 22 1 0 -\n1 y22 file 23 1 0 -\n1 y23 file 24 1 0 -\n\
+    1 y24 file 25 1 0 -\n1 y25 file 26 1 0 -\n1 y26 file 27 1 0 -\n1 y27 file 28 1 0 -\n\
+    1 y28 file 29 1 0 -\n1 y29 file 30 1 0 -\n1 y3 file 4 1 0 -\n1 y30 file 31 1 0 -\n\
+    1 y31 file 32 1 0 -\n1 y32 file 33 1 0 -\n1 y33 file 34 1 0 -\n1 y34 file 35 1 0 -\n\
+    1 y35 file 36 1 0 -\n1 y36 file 37 1 0 -\n1 y37 file 38 1 0 -\n1 y38 file 39 1 0 -\n\
+    1 y39 file 40 1 0 -\n1 y4 file 5 1 0 -\n1 y40 file 41 1 0 -\n1 y41 file 42 1 0 -\n\
+    1 y42 file 43 1 0 -\n1 y43 file 44 1 0 -\n1 y44 file 45 1 0 -\n1 y45 file 46 1 0 -\n\
+    1 y46 file 47 1 0 -\n1 y47 file 48 1 0 -\n1 y48 file 49 1 0 -\n1 y49 file 50 1 0 -\n\
+    1 y5 file 6 1 0 -\n1 y50 file 51 1 0 -\n1 y6 file 7 1 0 -\n1 y7 file 8 1 0 -\n\
+    1 y8 file 9 1 0 -\n1 y9 file 10 1 0 -\n";
 
 // Each commit leaves an inode in a segment of its own. Of 64 segments at least 16 have to be clean for a change.
-#[test]
-fn too_few_clean_segments(rt: HostRuntime) -> Result<(), Fail> {
-    want(&rt, "lfs mkfs f.img --segments 64", "", 0, "ok\n")?;
-    make_files(&rt, "f.img", 49)?;
-    want(
-        &rt,
-        "lfs run f.img",
-        "create /y50\nsync\n",
+const MANY_FILES: &[Step] = &[
+    Step::Says(&["lfs mkfs c.img --segments 72"], b"", 0, OK),
+    Step::Fills("lfs run c.img", 50),
+    Step::Says(&["lfs mount c.img"], b"", 0, Said::Reply(FIFTY)),
+    Step::Says(&["lfs mkfs c.img --segments 64"], b"", 0, OK),
+    Step::Fills("lfs run c.img", 49),
+    Step::Says(
+        &["lfs run c.img"],
+        b"create /y50\nsync\n",
         0,
-        "err Stuck\nok\n",
-    )?;
-    fs::remove_file(&rt, "f.img")?;
-    Ok(())
-}
-
-// Makes a file of pieces of 512 bytes from a linear congruential generator.
-fn write_noise<R: Files<File = File>>(rt: &R, path: &str, sectors: u32) -> Result<(), Fail> {
-    let mut file = File::create(rt, path)?;
-    let mut state = 1u32;
-    for _ in 0..sectors {
-        let mut piece = [0; 512];
-        for byte in &mut piece {
-            state = state.wrapping_mul(1_664_525).wrapping_add(1_013_904_223);
-            *byte = (state >> 24) as u8;
-        }
-        file.write_all(&piece)?;
-    }
-    Ok(())
-}
-
-fn write_zeros<R: Files<File = File>>(rt: &R, path: &str, bytes: u64) -> Result<(), Fail> {
-    let file = File::create(rt, path)?;
-    file.set_len(bytes)?;
-    Ok(())
-}
+        Said::Reply(b"err Stuck\nok\n"),
+    ),
+    Step::Remove("c.img"),
+];
 
 #[test]
-fn images_of_strangers(rt: HostRuntime) -> Result<(), Fail> {
-    write_zeros(&rt, "empty.img", 0)?;
-    write_zeros(&rt, "small.img", 4_097 * 512)?;
-    write_zeros(&rt, "zero.img", 4_098 * 512)?;
-    write_noise(&rt, "noise.img", 4_096)?;
-    write_noise(&rt, "long_noise.img", 4_098)?;
-    fs::create_dir(&rt, "folder")?;
-    for (image, reply) in [
-        ("none.img", "err Image\n"),
-        ("none/a.img", "err Image\n"),
-        ("folder", "err Image\n"),
-        ("empty.img", "err TooSmall\n"),
-        ("small.img", "err TooSmall\n"),
-        ("zero.img", "err NoCheckpoint\n"),
-        ("noise.img", "err TooSmall\n"),
-        ("long_noise.img", "err NoCheckpoint\n"),
-    ] {
-        let before = fs::read(&rt, image).ok();
-        for name in ["mount", "run"] {
-            let line = format!(in rt.alloc(); "lfs {name} {image}")?;
-            want(&rt, line.as_str(), "space\n", 1, reply)?;
-        }
-        assert!(rt; fs::read(&rt, image).ok() == before, "{image}");
-    }
-    want(&rt, "lfs mkfs folder --segments 64", "", 1, "err Image\n")?;
-    want(
-        &rt,
-        "lfs mkfs none/a.img --segments 64",
-        "",
+fn fifty_files_with_a_mount_between(rt: HostRuntime) {
+    want(&rt, MANY_FILES);
+}
+
+const TOO_SMALL: Said = Said::Reply(b"err TooSmall\n");
+
+const NO_CHECKPOINT: Said = Said::Reply(b"err NoCheckpoint\n");
+
+const READERS: &[&str] = &["lfs mount d.img", "lfs run d.img"];
+
+const STRANGERS: &[Step] = &[
+    Step::Says(
+        &[
+            "lfs mount none.img",
+            "lfs run none.img",
+            "lfs mount none/d.img",
+            "lfs run none/d.img",
+            "lfs mkfs none/d.img --segments 64",
+            "lfs mount .",
+            "lfs run .",
+            "lfs mkfs . --segments 64",
+        ],
+        b"space\n",
         1,
-        "err Image\n",
-    )?;
-    Ok(())
-}
+        Said::Reply(b"err Image\n"),
+    ),
+    Step::Lacks("none.img"),
+    Step::Lacks("none"),
+    Step::Change("d.img", 0, &[]),
+    Step::Change("d.want", 0, &[]),
+    Step::Says(READERS, b"space\n", 1, TOO_SMALL),
+    Step::Same("d.img", "d.want"),
+    Step::Change("d.img", 4_097 * 512, &[]),
+    Step::Change("d.want", 4_097 * 512, &[]),
+    Step::Says(READERS, b"space\n", 1, TOO_SMALL),
+    Step::Same("d.img", "d.want"),
+    Step::Change("d.img", 4_098 * 512, &[]),
+    Step::Change("d.want", 4_098 * 512, &[]),
+    Step::Says(READERS, b"space\n", 1, NO_CHECKPOINT),
+    Step::Same("d.img", "d.want"),
+    Step::Change("d.img", 4_097 * 512, NEW),
+    Step::Change("d.want", 4_097 * 512, NEW),
+    Step::Says(READERS, b"space\n", 1, TOO_SMALL),
+    Step::Same("d.img", "d.want"),
+    Step::Noise("d.img", 4_096),
+    Step::Noise("d.want", 4_096),
+    Step::Says(READERS, b"space\n", 1, TOO_SMALL),
+    Step::Same("d.img", "d.want"),
+    Step::Noise("d.img", 4_098),
+    Step::Noise("d.want", 4_098),
+    Step::Says(READERS, b"space\n", 1, NO_CHECKPOINT),
+    Step::Same("d.img", "d.want"),
+    Step::Remove("d.img"),
+    Step::Remove("d.want"),
+];
 
 #[test]
-fn a_wrong_number_of_segments(rt: HostRuntime) -> Result<(), Fail> {
-    fs::write(&rt, "kept.img", "kept")?;
-    for number in ["0", "8", "63", "65", "1032", "4294967295"] {
-        let line = format!(in rt.alloc(); "lfs mkfs kept.img --segments {number}")?;
-        want(&rt, line.as_str(), "", 1, "err Inval\n")?;
-        let line = format!(in rt.alloc(); "lfs mkfs new.img --segments {number}")?;
-        want(&rt, line.as_str(), "", 1, "err Inval\n")?;
-    }
-    for line in [
-        "lfs",
-        "lfs frob",
-        "lfs help",
-        "lfs mkfs kept.img",
-        "lfs mkfs --segments 64",
-        "lfs mkfs kept.img --segments 064",
-        "lfs mkfs kept.img --segments +64",
-        "lfs mkfs kept.img --segments=",
-        "lfs mkfs kept.img --segments 64x",
-        "lfs mkfs kept.img --segments 4294967296",
-        "lfs mkfs kept.img --segments 64 --segments 64",
-        "lfs mkfs kept.img new.img --segments 64",
-        "lfs mount",
-        "lfs mount kept.img --segments 64",
-        "lfs run",
-        "lfs run kept.img new.img",
-    ] {
-        let found = execute(&rt, line, "")?;
-        assert_eq!(rt; found.status, 2, "{line}");
-        assert!(rt; found.output.is_empty(), "{line}");
-        assert!(rt; !found.errors.is_empty(), "{line}");
-    }
-    assert!(rt; fs::read(&rt, "kept.img")?.as_slice() == b"kept".as_slice());
-    assert!(rt; fs::read(&rt, "new.img").is_err());
-    fs::remove_file(&rt, "kept.img")?;
-    Ok(())
+fn images_of_strangers(rt: HostRuntime) {
+    want(&rt, STRANGERS);
 }
+
+// What differs from a new image where the root has one file, `f`, whose one byte is `a`.
+const ONE_BYTE: &[Piece] = &[
+    (2, 0, &[6]),
+    (2, 32, &[1, 0, 1, 0, 0, 0, 0, 0]),
+    (2, 40, &[2, 0, 4, 0, 0, 0, 0, 0]),
+    (2, 48, &[2, 0, 1, 0, 0, 0, 0, 0]),
+    (3, 12, &[0x40]),
+    (3, 32, &[6]),
+    (4, 8, &[7]),
+    (5, 0, &[7, 0, 6, 0]),
+    (6, 0, &[2, 0, 0, 0, 1, 0x66]),
+    (7, 0, &[1, 0, 0, 0, 2, 0, 0, 0, 1, 0, 0, 0, 1, 0, 0, 0]),
+    (7, 32, &[8]),
+    (8, 0, &[0x61]),
+];
+
+const DAMAGED: &[Step] = &[
+    Step::Change("whole.img", 0, &[]),
+    Step::Change("whole.img", LEN, NEW),
+    Step::Says(&["lfs mount whole.img"], b"", 0, EMPTY),
+    Step::Damage(1, 0, 0, b"err NoCheckpoint\n"),
+    Step::Damage(5, 8, 1, b"err Damaged 1\n"),
+    Step::Damage(2, 0, 4, b"err Damaged 2\n"),
+    Step::Damage(1, 32, 5, b"err Damaged 3\n"),
+    Step::Damage(4, 4, 0, b"err Damaged 3\n"),
+    Step::Damage(3, 16, 1, b"err Damaged 4\n"),
+    Step::Damage(3, 32, 5, b"err Damaged 7\n"),
+    Step::Damage(2, 8, 2, b"err Damaged 8\n"),
+    Step::Damage(5, 2, 2, b"err Damaged 9\n"),
+    Step::Damage(3, 8, 3, b"err Damaged 13\n"),
+    Step::Change("whole.img", LEN, ONE_BYTE),
+    Step::Says(
+        &["lfs mount whole.img"],
+        b"",
+        0,
+        Said::Reply(b"ok 1\n1 f file 2 1 1 61\n"),
+    ),
+    Step::Damage(4, 12, 8, b"err Damaged 4\n"),
+    Step::Damage(4, 12, 7, b"err Damaged 4\n"),
+    Step::Damage(7, 0, 2, b"err Damaged 4\n"),
+    Step::Damage(7, 36, 8, b"err Damaged 7\n"),
+    Step::Damage(7, 12, 0, b"err Damaged 7\n"),
+    Step::Damage(8, 0, 0, b"err Damaged 7\n"),
+    Step::Damage(8, 1, 0x62, b"err Damaged 7\n"),
+    Step::Damage(2, 50, 2, b"err Damaged 8\n"),
+    Step::Damage(6, 4, 0, b"err Damaged 10\n"),
+    Step::Damage(6, 5, 0x2f, b"err Damaged 10\n"),
+    Step::Damage(7, 8, 2, b"err Damaged 13\n"),
+    Step::Remove("whole.img"),
+    Step::Remove("damaged.img"),
+];
 
 #[test]
-fn help_is_printed(rt: HostRuntime) -> Result<(), Fail> {
-    for line in [
-        "lfs --help",
-        "lfs -h",
-        "lfs mkfs --help",
-        "lfs run -h",
-        "lfs sim -h",
-    ] {
-        let found = execute(&rt, line, "")?;
-        assert_eq!(rt; found.status, 0, "{line}");
-        assert!(rt; !found.output.is_empty(), "{line}");
-        assert!(rt; found.errors.is_empty(), "{line}");
-    }
-    Ok(())
+fn damaged_images(rt: HostRuntime) {
+    want(&rt, DAMAGED);
 }
 
-#[test]
-fn a_line_that_is_too_long(rt: HostRuntime) -> Result<(), Fail> {
-    want(&rt, "lfs mkfs e.img --segments 64", "", 0, "ok\n")?;
-    let before = fs::read(&rt, "e.img")?;
-    let long = "a".repeat(rt.alloc(), 140_001)?;
-    want(&rt, "lfs run e.img", long.as_str(), 2, "bad 1\n")?;
-    let after = fs::read(&rt, "e.img")?;
-    assert!(rt; before == after);
-    fs::remove_file(&rt, "e.img")?;
-    Ok(())
-}
+const ONE_FILE: &[u8] = b"create /a\nsync\n";
 
-// The number in the line that tells the writes.
-fn writes_of(output: &[u8]) -> Option<u64> {
-    let text = str::from_utf8(output).ok()?;
-    for line in text.split('\n') {
-        if let Some(word) = line.strip_prefix("writes ") {
-            return read_u64(word.as_bytes());
-        }
-    }
-    None
-}
-
-const ONE_FILE: &str = "create /a\nsync\n";
-
-// Wants that a stop at this write leaves this tree.
-fn want_stop<R: Abort + Files<File = File> + AllocGlobal>(
-    rt: &R,
-    write: u64,
-    left: &str,
-    tree: &str,
-) -> Result<(), Fail> {
-    let alloc = rt.alloc();
-    let line = format!(in alloc; "lfs sim --segments 64 --stop {write} --left {left}")?;
-    let reply = format!(in alloc;
-        "ok 0\nerr Halted\nwrites {}\n{tree}",
-        write.saturating_add(1)
-    )?;
-    want(rt, line.as_str(), ONE_FILE, 0, reply.as_str())
-}
-
-#[test]
-fn a_stop_at_each_write(rt: HostRuntime) -> Result<(), Fail> {
-    let line = "lfs sim --segments 64 --stop 18446744073709551615 --left bad";
-    let whole = execute(&rt, line, ONE_FILE)?;
-    let writes = writes_of(whole.output.as_slice()).ok_or("no number of writes")?;
-    let reply = format!(in rt.alloc(); "ok 0\nok\nwrites {writes}\nok 1\n1 a file 2 1 0 -\n")?;
-    want(&rt, line, ONE_FILE, 0, reply.as_str())?;
-    let last = writes.checked_sub(1).ok_or("no write")?;
-    for left in ["old", "new", "bad"] {
-        for write in 0..last {
-            want_stop(&rt, write, left, "ok 0\n")?;
-        }
-    }
-    for (left, tree) in [
-        ("old", "ok 0\n"),
-        ("new", "ok 1\n1 a file 2 1 0 -\n"),
-        ("bad", "ok 0\n"),
-    ] {
-        want_stop(&rt, last, left, tree)?;
-    }
-    Ok(())
-}
-
-#[test]
-fn what_a_simulation_refuses(rt: HostRuntime) -> Result<(), Fail> {
-    for number in ["0", "8", "63", "65", "1032", "4294967295"] {
-        let line = format!(in rt.alloc(); "lfs sim --segments {number} --stop 0 --left old")?;
-        want(&rt, line.as_str(), ONE_FILE, 1, "err Inval\n")?;
-    }
-    for words in [
-        "--segments 64 --stop 0",
-        "--segments 64 --left old",
-        "--stop 0 --left old",
-        "x.img --segments 64 --stop 0 --left old",
-        "--segments 064 --stop 0 --left old",
-        "--segments 64 --stop 00 --left old",
-        "--segments 64 --stop +0 --left old",
-        "--segments 64 --stop 18446744073709551616 --left old",
-        "--segments 64 --stop 0 --left Old",
-        "--segments 64 --stop 0 --left other",
-        "--segments 64 --stop 0 --left=",
-        "--segments 63 --stop 0 --left other",
-    ] {
-        let line = format!(in rt.alloc(); "lfs sim {words}")?;
-        let found = execute(&rt, line.as_str(), ONE_FILE)?;
-        assert_eq!(rt; found.status, 2, "{words}");
-        assert!(rt; found.output.is_empty(), "{words}");
-        assert!(rt; !found.errors.is_empty(), "{words}");
-    }
-    Ok(())
-}
-
-#[test]
-fn a_wrong_line_of_a_simulation(rt: HostRuntime) -> Result<(), Fail> {
-    let line = "lfs sim --segments 64 --stop 0 --left old";
-    want(
-        &rt,
-        line,
-        "space\nbad\n",
+const LINES: &[Step] = &[
+    Step::Change("kept.img", 4, &[(0, 0, b"kept")]),
+    Step::Change("kept.want", 4, &[(0, 0, b"kept")]),
+    Step::Says(
+        &[
+            "lfs mkfs kept.img --segments 0",
+            "lfs mkfs kept.img --segments 8",
+            "lfs mkfs kept.img --segments 63",
+            "lfs mkfs kept.img --segments 65",
+            "lfs mkfs kept.img --segments 1032",
+            "lfs mkfs kept.img --segments 4294967295",
+            "lfs mkfs new.img --segments 0",
+            "lfs mkfs new.img --segments 8",
+            "lfs mkfs new.img --segments 63",
+            "lfs mkfs new.img --segments 65",
+            "lfs mkfs new.img --segments 1032",
+            "lfs mkfs new.img --segments 4294967295",
+            "lfs sim --segments 0 --stop 0 --left old",
+            "lfs sim --segments 8 --stop 0 --left old",
+            "lfs sim --segments 63 --stop 0 --left old",
+            "lfs sim --segments 65 --stop 0 --left old",
+            "lfs sim --segments 1032 --stop 0 --left old",
+            "lfs sim --segments 4294967295 --stop 0 --left old",
+        ],
+        ONE_FILE,
+        1,
+        Said::Reply(b"err Inval\n"),
+    ),
+    Step::Says(
+        &[
+            "lfs",
+            "lfs frob",
+            "lfs help",
+            "lfs mkfs kept.img",
+            "lfs mkfs --segments 64",
+            "lfs mkfs kept.img --segments 064",
+            "lfs mkfs kept.img --segments +64",
+            "lfs mkfs kept.img --segments=",
+            "lfs mkfs kept.img --segments 64x",
+            "lfs mkfs kept.img --segments 4294967296",
+            "lfs mkfs kept.img --segments 64 --segments 64",
+            "lfs mkfs kept.img new.img --segments 64",
+            "lfs mount",
+            "lfs mount kept.img --segments 64",
+            "lfs run",
+            "lfs run kept.img new.img",
+            "lfs sim --segments 64 --stop 0",
+            "lfs sim --segments 64 --left old",
+            "lfs sim --stop 0 --left old",
+            "lfs sim x.img --segments 64 --stop 0 --left old",
+            "lfs sim --segments 064 --stop 0 --left old",
+            "lfs sim --segments 64 --stop 00 --left old",
+            "lfs sim --segments 64 --stop +0 --left old",
+            "lfs sim --segments 64 --stop 18446744073709551616 --left old",
+            "lfs sim --segments 64 --stop 0 --left Old",
+            "lfs sim --segments 64 --stop 0 --left other",
+            "lfs sim --segments 64 --stop 0 --left=",
+            "lfs sim --segments 63 --stop 0 --left other",
+        ],
+        ONE_FILE,
         2,
-        "ok 0 1 727 3008\nbad 2\nwrites 0\nok 0\n",
-    )?;
-    want(&rt, line, "", 0, "writes 0\nok 0\n")?;
-    Ok(())
+        Said::Fault,
+    ),
+    Step::Same("kept.img", "kept.want"),
+    Step::Lacks("new.img"),
+    Step::Says(
+        &[
+            "lfs --help",
+            "lfs -h",
+            "lfs mkfs --help",
+            "lfs run -h",
+            "lfs sim -h",
+        ],
+        b"",
+        0,
+        Said::Help,
+    ),
+    Step::Remove("kept.img"),
+    Step::Remove("kept.want"),
+];
+
+#[test]
+fn command_lines(rt: HostRuntime) {
+    want(&rt, LINES);
+}
+
+// The sync makes seven writes: a summary, the root's slots, two inodes, a block of the inode map, one of usage, the checkpoint.
+const STOPS: &[Step] = &[
+    Step::Says(
+        &[
+            "lfs sim --segments 64 --stop 0 --left old",
+            "lfs sim --segments 64 --stop 0 --left new",
+            "lfs sim --segments 64 --stop 0 --left bad",
+        ],
+        ONE_FILE,
+        0,
+        Said::Reply(b"ok 0\nerr Halted\nwrites 1\nok 0\n"),
+    ),
+    Step::Says(
+        &[
+            "lfs sim --segments 64 --stop 1 --left old",
+            "lfs sim --segments 64 --stop 1 --left new",
+            "lfs sim --segments 64 --stop 1 --left bad",
+        ],
+        ONE_FILE,
+        0,
+        Said::Reply(b"ok 0\nerr Halted\nwrites 2\nok 0\n"),
+    ),
+    Step::Says(
+        &[
+            "lfs sim --segments 64 --stop 2 --left old",
+            "lfs sim --segments 64 --stop 2 --left new",
+            "lfs sim --segments 64 --stop 2 --left bad",
+        ],
+        ONE_FILE,
+        0,
+        Said::Reply(b"ok 0\nerr Halted\nwrites 3\nok 0\n"),
+    ),
+    Step::Says(
+        &[
+            "lfs sim --segments 64 --stop 3 --left old",
+            "lfs sim --segments 64 --stop 3 --left new",
+            "lfs sim --segments 64 --stop 3 --left bad",
+        ],
+        ONE_FILE,
+        0,
+        Said::Reply(b"ok 0\nerr Halted\nwrites 4\nok 0\n"),
+    ),
+    Step::Says(
+        &[
+            "lfs sim --segments 64 --stop 4 --left old",
+            "lfs sim --segments 64 --stop 4 --left new",
+            "lfs sim --segments 64 --stop 4 --left bad",
+        ],
+        ONE_FILE,
+        0,
+        Said::Reply(b"ok 0\nerr Halted\nwrites 5\nok 0\n"),
+    ),
+    Step::Says(
+        &[
+            "lfs sim --segments 64 --stop 5 --left old",
+            "lfs sim --segments 64 --stop 5 --left new",
+            "lfs sim --segments 64 --stop 5 --left bad",
+        ],
+        ONE_FILE,
+        0,
+        Said::Reply(b"ok 0\nerr Halted\nwrites 6\nok 0\n"),
+    ),
+    Step::Says(
+        &[
+            "lfs sim --segments 64 --stop 6 --left old",
+            "lfs sim --segments 64 --stop 6 --left bad",
+        ],
+        ONE_FILE,
+        0,
+        Said::Reply(b"ok 0\nerr Halted\nwrites 7\nok 0\n"),
+    ),
+    Step::Says(
+        &["lfs sim --segments 64 --stop 6 --left new"],
+        ONE_FILE,
+        0,
+        Said::Reply(b"ok 0\nerr Halted\nwrites 7\nok 1\n1 a file 2 1 0 -\n"),
+    ),
+    Step::Says(
+        &[
+            "lfs sim --segments 64 --stop 7 --left old",
+            "lfs sim --segments 64 --stop 18446744073709551615 --left bad",
+        ],
+        ONE_FILE,
+        0,
+        Said::Reply(b"ok 0\nok\nwrites 7\nok 1\n1 a file 2 1 0 -\n"),
+    ),
+    Step::Says(
+        &["lfs sim --segments 64 --stop 0 --left old"],
+        b"space\nbad\n",
+        2,
+        Said::Reply(b"ok 0 1 727 3008\nbad 2\nwrites 0\nok 0\n"),
+    ),
+    Step::Says(
+        &["lfs sim --segments 64 --stop 0 --left old"],
+        b"",
+        0,
+        Said::Reply(b"writes 0\nok 0\n"),
+    ),
+];
+
+#[test]
+fn a_stop_at_each_write(rt: HostRuntime) {
+    want(&rt, STOPS);
 }

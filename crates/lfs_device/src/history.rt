@@ -27,6 +27,9 @@ pub(crate) enum History {
     After(Call, Snapshot<History>),
 }
 
+// It takes no memory.
+const _: () = prove!(size_of::<Snapshot<History>>() == 0);
+
 pub(crate) fn note(call: Call, history: &mut Snapshot<History>)
     ensures { calls_of history.new.value ≡ call ∷ calls_of history.old.value }
 {

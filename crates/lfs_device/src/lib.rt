@@ -13,6 +13,3 @@ pub use device::{DeviceFault, ReadFault, SectorDevice};
 pub use file::FileDevice;
 pub use memory::{MemDevice, NoMemory};
 pub use rows::Left;
-
-#[cfg(test)]
-mod tests;

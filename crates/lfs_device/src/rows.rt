@@ -28,6 +28,13 @@ pub(crate) enum Count {
     Next(Snapshot<Count>),
 }
 
+// What only clauses see takes no memory, and what is kept of a sector takes little.
+const _: () = prove!(size_of::<Snapshot<Past>>() == 0);
+
+const _: () = prove!(size_of::<Snapshot<Count>>() == 0);
+
+const _: () = prove!(size_of::<Row>() <= 1600);
+
 pub(crate) fn note(rows: &Vec<Row>, past: &mut Snapshot<Past>)
     ensures { states_of past.new.value ≡ rows.now.items ∷ states_of past.old.value }
 {

@@ -8,10 +8,10 @@ use Rattle.lfs_model.specs.Fields.{part, zeros}
 use Rattle.lfs_model.specs.Slot.{slot_in}
 use Rattle.lfs_model.specs.Stands.{LogMap}
 use Rattle.lfs_model.specs.TreeOf.{with_slot}
-use Rattle.lfs_memory.specs.declared.changes.Changes.{Changes}
-use Rattle.lfs_memory.specs.declared.header.Header.{Header}
-use Rattle.lfs_memory.specs.Batch.{staged}
-use Rattle.lfs_log.specs.Held.{Held, Holds, IsReadFault, Reads}
+use Rattle.lfs_store.specs.memory.declared.changes.Changes.{Changes}
+use Rattle.lfs_store.specs.memory.declared.header.Header.{Header}
+use Rattle.lfs_store.specs.memory.Batch.{staged}
+use Rattle.lfs_store.specs.log.Held.{Held, Holds, IsReadFault, Reads}
 use Rattle.lfs_store.specs.Reading.{ReadsBlock}
 use Rattle.lfs_store.proofs.LogReads.{held_still, reads_more, reads_none}
 use Rattle.lfs_store.proofs.Writings.{block_read}

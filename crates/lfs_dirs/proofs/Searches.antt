@@ -12,10 +12,10 @@ use Rattle.lfs_model.specs.Slot.{slot_in}
 use Rattle.lfs_model.specs.Stands.{LogMap}
 use Rattle.lfs_model.specs.Tree.{byte_cmp}
 use Rattle.lfs_model.specs.TreeOf.{map_of}
-use Rattle.lfs_memory.specs.declared.changes.Changes.{Changes}
-use Rattle.lfs_memory.specs.declared.header.Header.{Header}
-use Rattle.lfs_memory.specs.Batch.{staged}
-use Rattle.lfs_log.specs.Held.{Held, Holds, Reads, IsReadFault}
+use Rattle.lfs_store.specs.memory.declared.changes.Changes.{Changes}
+use Rattle.lfs_store.specs.memory.declared.header.Header.{Header}
+use Rattle.lfs_store.specs.memory.Batch.{staged}
+use Rattle.lfs_store.specs.log.Held.{Held, Holds, Reads, IsReadFault}
 use Rattle.lfs_store.specs.Pieces.{HoldsBlock}
 use Rattle.lfs_store.specs.Reading.{ReadsBlock}
 use Rattle.lfs_store.proofs.LogReads.{held_still, reads_more, reads_none}

@@ -12,11 +12,11 @@ use Rattle.lfs_model.specs.Slot.{FitsSlot, IsName, SlotValue, slot_in}
 use Rattle.lfs_model.specs.Stands.{LogMap}
 use Rattle.lfs_model.specs.Tree.{byte_cmp}
 use Rattle.lfs_model.specs.TreeOf.{map_of}
-use Rattle.lfs_memory.specs.declared.changes.Changes.{Changes}
-use Rattle.lfs_memory.specs.declared.header.Header.{Header}
-use Rattle.lfs_memory.specs.Batch.{staged}
-use Rattle.lfs_memory.specs.Present.{as_header}
-use Rattle.lfs_log.specs.Held.{Held, Holds}
+use Rattle.lfs_store.specs.memory.declared.changes.Changes.{Changes}
+use Rattle.lfs_store.specs.memory.declared.header.Header.{Header}
+use Rattle.lfs_store.specs.memory.Batch.{staged}
+use Rattle.lfs_store.specs.memory.Present.{as_header}
+use Rattle.lfs_store.specs.log.Held.{Held, Holds}
 use Rattle.lfs_store.specs.Writing.{Writes, WritesFile, resized}
 use Rattle.lfs_dirs.specs.Adding.{Adds, AddsName, SlotWritten, grown, slot_for}
 use Rattle.lfs_dirs.specs.Directory.{names_at, slots_at}

@@ -5,14 +5,14 @@ use Rattle.lfs_model.specs.Checkpoint.{CheckpointValue}
 use Rattle.lfs_model.specs.Device.{DeviceState}
 use Rattle.lfs_model.specs.Fields.{part, zeros}
 use Rattle.lfs_model.specs.Stands.{LogMap}
-use Rattle.lfs_memory.specs.declared.batch.BlockEdit.{BlockEdit}
-use Rattle.lfs_memory.specs.declared.batch.HeaderEdit.{HeaderEdit}
-use Rattle.lfs_memory.specs.declared.batch.Loss.{Loss}
-use Rattle.lfs_memory.specs.declared.batch.Loss.TheVariants.{Nothing}
-use Rattle.lfs_memory.specs.declared.changes.Changes.{Changes}
-use Rattle.lfs_memory.specs.declared.header.Header.{Header}
-use Rattle.lfs_memory.specs.Batch.{IsNoChange, after_edits, staged}
-use Rattle.lfs_log.specs.Held.{Held, Holds, Reads}
+use Rattle.lfs_store.specs.memory.declared.batch.BlockEdit.{BlockEdit}
+use Rattle.lfs_store.specs.memory.declared.batch.HeaderEdit.{HeaderEdit}
+use Rattle.lfs_store.specs.memory.declared.batch.Loss.{Loss}
+use Rattle.lfs_store.specs.memory.declared.batch.Loss.TheVariants.{Nothing}
+use Rattle.lfs_store.specs.memory.declared.changes.Changes.{Changes}
+use Rattle.lfs_store.specs.memory.declared.header.Header.{Header}
+use Rattle.lfs_store.specs.memory.Batch.{IsNoChange, after_edits, staged}
+use Rattle.lfs_store.specs.log.Held.{Held, Holds, Reads}
 use Rattle.lfs_store.specs.Reading.{ReadsBlock}
 use Rattle.lfs_store.specs.Writing.{SetsLen, SizesFile, Writes, WritesFile, resized}
 use Rattle.lfs_store.proofs.LogReads.{held_still, reads_none}

@@ -8,8 +8,8 @@ use Rattle.lfs_model.specs.Slot.{SlotValue, FitsSlot, slot_bytes, slot_in}
 use Rattle.lfs_model.specs.Stands.{LogMap}
 use Rattle.lfs_model.specs.Tree.{Names, byte_cmp, without}
 use Rattle.lfs_model.specs.TreeOf.{map_of, slots}
-use Rattle.lfs_memory.specs.declared.header.Header.{Header}
-use Rattle.lfs_memory.specs.Present.{as_header}
+use Rattle.lfs_store.specs.memory.declared.header.Header.{Header}
+use Rattle.lfs_store.specs.memory.Present.{as_header}
 use Rattle.lfs_store.specs.Pieces.{HoldsBlock}
 
 -- the slots of directory d, each 64 bytes

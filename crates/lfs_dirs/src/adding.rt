@@ -1,14 +1,13 @@
 //! A name added to a directory.
 ghost use Rattle.std.specs.Prelude.{◌≡◌, ◌≤◌, true, IfErr, OnOk, IsErrOf};
 ghost use Rattle.lfs_model.specs.Slot.{IsName};
-ghost use Rattle.lfs_log.specs.Held.{Reads, IsReadFault};
+ghost use Rattle.lfs_store.specs.log.Held.{Reads, IsReadFault};
 ghost use Rattle.lfs_store.specs.Recounting.{Counts};
 ghost use Rattle.lfs_dirs.specs.Adding.{Adds};
 
 use lfs_device::SectorDevice;
 use lfs_layout::encode_slot;
-use lfs_log::{Header, LogFault};
-use lfs_store::{Store, StoreFault};
+use lfs_store::{Header, LogFault, Store, StoreFault};
 
 /// Drafts a slot behind those of a directory of this header, which has at most 1,023. Its names aren't looked at: `find` tells whether it has this one.
 ///

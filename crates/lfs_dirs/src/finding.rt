@@ -1,12 +1,11 @@
 //! A name looked up in a directory.
 ghost use Rattle.std.specs.Prelude.{◌≡◌, ◌<◌, true, IfOk, OnErr, IsErrOf};
-ghost use Rattle.lfs_log.specs.Held.{Reads};
+ghost use Rattle.lfs_store.specs.log.Held.{Reads};
 ghost use Rattle.lfs_dirs.specs.Finding.{Finds, IsDirectoryFault};
 
 use crate::searching::search;
 use lfs_device::SectorDevice;
-use lfs_log::{Header, LogFault};
-use lfs_store::Store;
+use lfs_store::{Header, LogFault, Store};
 
 /// The number that a name gives in a directory of this header, if it is there.
 ///

@@ -2,7 +2,7 @@
 ghost use Rattle.std.specs.Prelude.{◌≡◌, ◌≢◌, ◌<◌, ◌≤◌, true, IfOk, IfErr, OnOk, IsErrOf, None};
 ghost use Rattle.lfs_model.specs.Slot.{slot_in};
 ghost use Rattle.lfs_model.specs.TreeOf.{with_slot};
-ghost use Rattle.lfs_log.specs.Held.{IsReadFault, Reads};
+ghost use Rattle.lfs_store.specs.log.Held.{IsReadFault, Reads};
 ghost use Rattle.lfs_dirs.specs.Directory.{first_slots};
 ghost use Rattle.lfs_dirs.specs.Finding.{HasNoSlot, IsDirectoryFault, IsBlockFault};
 ghost use Rattle.lfs_dirs.specs.Listing.{PutsSlots, ListsBlock, Lists, Inspects, LacksSlot, LacksBlockSlot, pairs};
@@ -11,8 +11,7 @@ use crate::entry::{Entry, put_entry};
 use crate::slots::{SLOT, SLOTS_IN_BLOCK};
 use lfs_device::SectorDevice;
 use lfs_layout::{SlotView, nth_slot};
-use lfs_log::{Header, LogFault};
-use lfs_store::{Store, StoreFault};
+use lfs_store::{Header, LogFault, Store, StoreFault};
 use std::alloc::Global;
 
 /// The names in a directory of this header with the numbers that they give, in the order of the names' bytes.

@@ -1,7 +1,7 @@
 //! A name that comes to give another number.
 ghost use Rattle.std.specs.Prelude.{◌≡◌, ◌≤◌, IfOk, IfErr, IsTrue, IsFalse};
 ghost use Rattle.lfs_model.specs.Slot.{IsName};
-ghost use Rattle.lfs_log.specs.Held.{Reads};
+ghost use Rattle.lfs_store.specs.log.Held.{Reads};
 ghost use Rattle.lfs_dirs.specs.Finding.{IsDirectoryFault};
 ghost use Rattle.lfs_dirs.specs.Repointing.{Repoints, Lacks};
 
@@ -9,8 +9,7 @@ use crate::searching::search;
 use crate::slots::SLOT;
 use lfs_device::SectorDevice;
 use lfs_layout::encode_slot;
-use lfs_log::Header;
-use lfs_store::{Store, StoreFault};
+use lfs_store::{Header, Store, StoreFault};
 
 /// Drafts another number for a name of a directory of this header, if it has the name.
 ///

@@ -1,6 +1,6 @@
 //! The slot of a name, searched in a directory.
 ghost use Rattle.std.specs.Prelude.{◌≡◌, ◌<◌, ◌≤◌, ◌/◌, true, IfOk, IfSome, OnErr, IsErrOf};
-ghost use Rattle.lfs_log.specs.Held.{Reads};
+ghost use Rattle.lfs_store.specs.log.Held.{Reads};
 ghost use Rattle.lfs_dirs.specs.Directory.{first_slots};
 ghost use Rattle.lfs_dirs.specs.Finding.{HasNoSlot, IsDirectoryFault, IsBlockFault};
 ghost use Rattle.lfs_dirs.specs.Searching.{FindsIn, FindsInBlock, FindsSlot};
@@ -8,8 +8,7 @@ ghost use Rattle.lfs_dirs.specs.Searching.{FindsIn, FindsInBlock, FindsSlot};
 use crate::slots::{SLOT, SLOTS_IN_BLOCK};
 use lfs_device::SectorDevice;
 use lfs_layout::{SlotView, nth_slot};
-use lfs_log::{Header, LogFault};
-use lfs_store::Store;
+use lfs_store::{Header, LogFault, Store};
 
 /// A slot that has the name looked for.
 #[derive(Clone, Copy)]

@@ -1,7 +1,7 @@
 //! A name taken out of a directory.
 ghost use Rattle.std.specs.Prelude.{◌≡◌, ◌<◌, ◌≤◌, ◌/◌, true, IfOk, IfErr, OnOk, OnErr, IsErrOf, IsTrue, IsFalse};
-ghost use Rattle.lfs_memory.specs.Batch.{IsNoChange};
-ghost use Rattle.lfs_log.specs.Held.{Reads, IsReadFault};
+ghost use Rattle.lfs_store.specs.memory.Batch.{IsNoChange};
+ghost use Rattle.lfs_store.specs.log.Held.{Reads, IsReadFault};
 ghost use Rattle.lfs_dirs.specs.Finding.{IsDirectoryFault};
 ghost use Rattle.lfs_dirs.specs.Repointing.{Lacks};
 ghost use Rattle.lfs_dirs.specs.Taking.{ReadsSlot, Drops, Takes};
@@ -10,8 +10,7 @@ use crate::searching::search;
 use crate::slots::{SLOT, SLOTS_IN_BLOCK};
 use lfs_device::SectorDevice;
 use lfs_layout::nth_slot;
-use lfs_log::{Header, LogFault};
-use lfs_store::{Store, StoreFault};
+use lfs_store::{Header, LogFault, Store, StoreFault};
 
 /// Drafts a directory of this header without a name, if it has the name. Its last slot comes into the gap.
 ///

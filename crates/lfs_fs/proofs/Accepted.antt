@@ -14,14 +14,14 @@ use Rattle.lfs_model.specs.Stands.{LogMap}
 use Rattle.lfs_model.specs.Step.{Step, is_full, is_long, is_there, last_dots, name, no_last, with_tree}
 use Rattle.lfs_model.specs.Tree.{State, least, least_handle}
 use Rattle.lfs_model.specs.Walk.{At, Parent}
-use Rattle.lfs_memory.specs.declared.changes.Changes.{Changes}
-use Rattle.lfs_memory.specs.declared.header.Header.{Header}
-use Rattle.lfs_memory.specs.Batch.{staged, FitsBatch}
-use Rattle.lfs_memory.specs.Present.{as_header}
-use Rattle.lfs_log.specs.Held.{Holds}
-use Rattle.lfs_store.specs.Accepting.{Accepts}
-use Rattle.lfs_store.specs.Totals.{IsCounted, TotalsOfTree}
-use Rattle.lfs_store.specs.Writing.{SizesFile, WritesFile, resized}
+use Rattle.lfs_path.specs.memory.declared.changes.Changes.{Changes}
+use Rattle.lfs_path.specs.memory.declared.header.Header.{Header}
+use Rattle.lfs_path.specs.memory.Batch.{staged, FitsBatch}
+use Rattle.lfs_path.specs.memory.Present.{as_header}
+use Rattle.lfs_path.specs.log.Held.{Holds}
+use Rattle.lfs_path.specs.store.Accepting.{Accepts}
+use Rattle.lfs_path.specs.store.Totals.{IsCounted, TotalsOfTree}
+use Rattle.lfs_path.specs.store.Writing.{SizesFile, WritesFile, resized}
 use Rattle.lfs_fs.specs.Handles.{handles_of}
 use Rattle.lfs_fs.specs.Volume.{IsAt, IsIn, Mounted, Serves, segments_of}
 use Rattle.lfs_fs.proofs.CallSteps.{create_map, create_step, not_worn, pwrite_map, pwrite_step}

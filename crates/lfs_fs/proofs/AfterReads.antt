@@ -11,7 +11,7 @@ use Rattle.lfs_model.specs.Step.{Step}
 use Rattle.lfs_model.specs.Tree.{State, drop_nameless}
 use Rattle.lfs_model.specs.TreeOf.{Left, LeavesStates, Stands}
 use Rattle.lfs_model.proofs.Moments.{carries_then, goes_on, joined, started}
-use Rattle.lfs_memory.specs.declared.memory.LogMemory.{LogMemory}
+use Rattle.lfs_path.specs.memory.declared.memory.LogMemory.{LogMemory}
 use Rattle.lfs_fs.specs.Volume.{IsStill, IsAt, LeavesSome, Mounted, Serves, segments_of}
 use Rattle.lfs_fs.proofs.Serving.{point_of, still_in}
 

@@ -12,26 +12,26 @@ use Rattle.lfs_model.specs.Objects.{IsHeaderOf}
 use Rattle.lfs_model.specs.Stands.{LogMap}
 use Rattle.lfs_model.specs.Step.{is_full, is_long, is_there, last_dots, name, no_last}
 use Rattle.lfs_model.specs.Tree.{State, byte_cmp, least, least_handle}
-use Rattle.lfs_memory.specs.declared.batch.Loss.{Loss}
-use Rattle.lfs_memory.specs.declared.changes.Changes.{Changes}
-use Rattle.lfs_memory.specs.declared.header.Header.{Header}
-use Rattle.lfs_memory.specs.declared.memory.LogMemory.{LogMemory}
-use Rattle.lfs_memory.specs.Batch.{is_lost, staged, FitsBatch, IsNoChange}
-use Rattle.lfs_memory.specs.Changing.{FitsHeader, with_header}
-use Rattle.lfs_memory.specs.Present.{as_header}
-use Rattle.lfs_log.specs.Held.{Holds, IsVacant}
-use Rattle.lfs_store.specs.declared.draft.Draft.{Draft}
-use Rattle.lfs_store.specs.declared.totals.Totals.{Totals}
-use Rattle.lfs_store.specs.Drafting.{IsApart}
-use Rattle.lfs_store.specs.Recounting.{AreTotals}
-use Rattle.lfs_store.specs.Totals.{IsCounted}
-use Rattle.lfs_store.specs.Writing.{WritesFile}
-use Rattle.lfs_store.proofs.Apart.{draft_empty, nothing_apart}
-use Rattle.lfs_store.proofs.LogReads.{held_still}
-use Rattle.lfs_store.proofs.TreeTotals.{totals_of_tree}
-use Rattle.lfs_store.proofs.Writings.{header_put}
-use Rattle.lfs_dirs.specs.Adding.{AddsName, grown, slot_for}
-use Rattle.lfs_dirs.specs.Directory.{names_at}
+use Rattle.lfs_path.specs.memory.declared.batch.Loss.{Loss}
+use Rattle.lfs_path.specs.memory.declared.changes.Changes.{Changes}
+use Rattle.lfs_path.specs.memory.declared.header.Header.{Header}
+use Rattle.lfs_path.specs.memory.declared.memory.LogMemory.{LogMemory}
+use Rattle.lfs_path.specs.memory.Batch.{is_lost, staged, FitsBatch, IsNoChange}
+use Rattle.lfs_path.specs.memory.Changing.{FitsHeader, with_header}
+use Rattle.lfs_path.specs.memory.Present.{as_header}
+use Rattle.lfs_path.specs.log.Held.{Holds, IsVacant}
+use Rattle.lfs_path.specs.store.declared.draft.Draft.{Draft}
+use Rattle.lfs_path.specs.store.declared.totals.Totals.{Totals}
+use Rattle.lfs_path.specs.store.Drafting.{IsApart}
+use Rattle.lfs_path.specs.store.Recounting.{AreTotals}
+use Rattle.lfs_path.specs.store.Totals.{IsCounted}
+use Rattle.lfs_path.specs.store.Writing.{WritesFile}
+use Rattle.lfs_path.proofs.of_store.Apart.{draft_empty, nothing_apart}
+use Rattle.lfs_path.proofs.of_store.LogReads.{held_still}
+use Rattle.lfs_path.proofs.of_store.TreeTotals.{totals_of_tree}
+use Rattle.lfs_path.proofs.of_store.Writings.{header_put}
+use Rattle.lfs_path.specs.dirs.Adding.{AddsName, grown, slot_for}
+use Rattle.lfs_path.specs.dirs.Directory.{names_at}
 use Rattle.lfs_path.specs.declared.last.Last.{Last}
 use Rattle.lfs_path.specs.Laws.{SaysLast}
 use Rattle.lfs_path.proofs.FlatTrees.{last_says}

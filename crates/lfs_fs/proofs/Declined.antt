@@ -7,12 +7,12 @@ use Rattle.lfs_model.specs.Call.{Call, Done, Refuse, Sync, changes, commits}
 use Rattle.lfs_model.specs.Device.{DeviceState, IsLawful}
 use Rattle.lfs_model.specs.Refusal.{Device, Stuck}
 use Rattle.lfs_model.specs.Stands.{LogMap}
-use Rattle.lfs_memory.specs.declared.changes.Changes.{Changes}
-use Rattle.lfs_memory.specs.declared.header.Header.{Header}
-use Rattle.lfs_memory.specs.Batch.{staged, FitsBatch}
-use Rattle.lfs_memory.specs.Present.{as_header}
-use Rattle.lfs_store.specs.Accepting.{Commits, Declines, IsAcceptFault}
-use Rattle.lfs_store.specs.Writing.{SizesFile, WritesFile, resized}
+use Rattle.lfs_path.specs.memory.declared.changes.Changes.{Changes}
+use Rattle.lfs_path.specs.memory.declared.header.Header.{Header}
+use Rattle.lfs_path.specs.memory.Batch.{staged, FitsBatch}
+use Rattle.lfs_path.specs.memory.Present.{as_header}
+use Rattle.lfs_path.specs.store.Accepting.{Commits, Declines, IsAcceptFault}
+use Rattle.lfs_path.specs.store.Writing.{SizesFile, WritesFile, resized}
 use Rattle.lfs_fs.specs.Handles.{handles_of}
 use Rattle.lfs_fs.specs.Volume.{Mounted, Serves, segments_of}
 use Rattle.lfs_fs.proofs.Accepted.{DraftsFile, InEach, IsDrafted, OfEach}

@@ -27,16 +27,16 @@ use Rattle.lfs_model.proofs.Standing.{in_order, node_is, slots_length}
 use Rattle.lfs_model.proofs.Sums.{find_without, total_without, total_zero, weight, weight-le-total}
 use Rattle.lfs_model.proofs.Trees.{cmp_other}
 use Rattle.lfs_model.proofs.Volume.{node_in}
-use Rattle.lfs_memory.specs.declared.header.Header.{Header}
-use Rattle.lfs_memory.specs.Present.{as_header}
-use Rattle.lfs_store.specs.declared.totals.Totals.{Totals}
-use Rattle.lfs_store.proofs.TreeTotals.{totals_of_tree}
-use Rattle.lfs_dirs.specs.declared.entry.Entry.{Entry}
-use Rattle.lfs_dirs.specs.Directory.{slots_at}
-use Rattle.lfs_dirs.specs.Listing.{IsListOf, pairs}
-use Rattle.lfs_dirs.proofs.PlacesOfNames.{pairs_many}
-use Rattle.lfs_dirs.proofs.SlotNames.{sorted_names}
-use Rattle.lfs_dirs.proofs.SlotsGive.{slot_gives}
+use Rattle.lfs_path.specs.memory.declared.header.Header.{Header}
+use Rattle.lfs_path.specs.memory.Present.{as_header}
+use Rattle.lfs_path.specs.store.declared.totals.Totals.{Totals}
+use Rattle.lfs_path.proofs.of_store.TreeTotals.{totals_of_tree}
+use Rattle.lfs_path.specs.dirs.declared.entry.Entry.{Entry}
+use Rattle.lfs_path.specs.dirs.Directory.{slots_at}
+use Rattle.lfs_path.specs.dirs.Listing.{IsListOf, pairs}
+use Rattle.lfs_path.proofs.of_dirs.PlacesOfNames.{pairs_many}
+use Rattle.lfs_path.proofs.of_dirs.SlotNames.{sorted_names}
+use Rattle.lfs_path.proofs.of_dirs.SlotsGive.{slot_gives}
 use Rattle.lfs_fs.specs.Checking.{AreEntries, FitNumbers, FitsNumber, IsCountedMap, IsFlat, IsRoot, giving}
 use Rattle.lfs_fs.specs.Volume.{IsPlain}
 use Rattle.lfs_fs.proofs.Files.{IsShaped, need_shaped, plain_dir}

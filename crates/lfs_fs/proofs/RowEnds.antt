@@ -9,12 +9,12 @@ use Rattle.lfs_model.specs.Entry as entry
 use Rattle.lfs_model.specs.Stands.{LogMap}
 use Rattle.lfs_model.specs.Tree.{State, entry as entry_in}
 use Rattle.lfs_model.specs.TreeOf.{object}
-use Rattle.lfs_memory.specs.Batch.{IsNoChange, staged}
-use Rattle.lfs_memory.specs.Present.{as_header}
-use Rattle.lfs_store.proofs.Apart.{no_change}
-use Rattle.lfs_store.proofs.LogReads.{held_still}
-use Rattle.lfs_dirs.specs.declared.entry.Entry.{Entry}
-use Rattle.lfs_dirs.specs.Listing.{pair}
+use Rattle.lfs_path.specs.memory.Batch.{IsNoChange, staged}
+use Rattle.lfs_path.specs.memory.Present.{as_header}
+use Rattle.lfs_path.proofs.of_store.Apart.{no_change}
+use Rattle.lfs_path.proofs.of_store.LogReads.{held_still}
+use Rattle.lfs_path.specs.dirs.declared.entry.Entry.{Entry}
+use Rattle.lfs_path.specs.dirs.Listing.{pair}
 use Rattle.lfs_fs.specs.declared.error.FsError.{FsError}
 use Rattle.lfs_fs.specs.declared.error.FsError.TheVariants as error
 use Rattle.lfs_fs.specs.declared.fs.Fs.{Fs}

@@ -6,8 +6,8 @@ use Rattle.lfs_model.specs.Refusal.{Stuck}
 use Rattle.lfs_model.specs.Tree.{State}
 use Rattle.lfs_model.proofs.Moments.{carries_none}
 use Rattle.lfs_model.proofs.Newest.{newest_fits}
-use Rattle.lfs_segments.specs.Table.{clean_in}
-use Rattle.lfs_log.specs.Held.{IsFull}
+use Rattle.lfs_path.specs.segments.Table.{clean_in}
+use Rattle.lfs_path.specs.log.Held.{IsFull}
 use Rattle.lfs_fs.specs.Volume.{Mounted, Runs, Serves}
 
 module _ {D : Type 0} (state : D → DeviceState) (v : Mounted D) (lawful : IsLawful (state v.log.device)) (was : v.log.halted ≡ false) (unsaved : v.saved ≡ false) (full : IsFull v.log) where

@@ -8,22 +8,22 @@ use Rattle.lfs_model.specs.Device.{DeviceState, IsLawful}
 use Rattle.lfs_model.specs.Entry as entry
 use Rattle.lfs_model.specs.Stands.{LogMap}
 use Rattle.lfs_model.specs.Tree.{Names}
-use Rattle.lfs_memory.specs.declared.changes.Changes.{Changes}
-use Rattle.lfs_memory.specs.declared.fault.LogFault.{LogFault}
-use Rattle.lfs_memory.specs.declared.fault.LogFault.TheVariants as log
-use Rattle.lfs_memory.specs.declared.header.Header.{Header}
-use Rattle.lfs_memory.specs.declared.memory.LogMemory.{LogMemory}
-use Rattle.lfs_memory.specs.Batch.{staged}
-use Rattle.lfs_memory.specs.Present.{HeaderAnswer, as_header}
-use Rattle.lfs_log.specs.declared.fault.MountFault.{MountFault}
-use Rattle.lfs_log.specs.declared.fault.MountFault.TheVariants as fault
-use Rattle.lfs_log.specs.Held.{Held, Holds, IsReadFault, Reads}
-use Rattle.lfs_store.specs.declared.totals.Totals.{Totals}
-use Rattle.lfs_store.specs.Reading.{ReadsHeader}
-use Rattle.lfs_store.proofs.LogReads.{fault_more, held_still, reads_more, reads_none}
-use Rattle.lfs_dirs.specs.declared.entry.Entry.{Entry}
-use Rattle.lfs_dirs.specs.Finding.{IsDirectoryFault}
-use Rattle.lfs_dirs.specs.Listing.{Inspects, pairs}
+use Rattle.lfs_path.specs.memory.declared.changes.Changes.{Changes}
+use Rattle.lfs_path.specs.memory.declared.fault.LogFault.{LogFault}
+use Rattle.lfs_path.specs.memory.declared.fault.LogFault.TheVariants as log
+use Rattle.lfs_path.specs.memory.declared.header.Header.{Header}
+use Rattle.lfs_path.specs.memory.declared.memory.LogMemory.{LogMemory}
+use Rattle.lfs_path.specs.memory.Batch.{staged}
+use Rattle.lfs_path.specs.memory.Present.{HeaderAnswer, as_header}
+use Rattle.lfs_path.specs.log.declared.fault.MountFault.{MountFault}
+use Rattle.lfs_path.specs.log.declared.fault.MountFault.TheVariants as fault
+use Rattle.lfs_path.specs.log.Held.{Held, Holds, IsReadFault, Reads}
+use Rattle.lfs_path.specs.store.declared.totals.Totals.{Totals}
+use Rattle.lfs_path.specs.store.Reading.{ReadsHeader}
+use Rattle.lfs_path.proofs.of_store.LogReads.{fault_more, held_still, reads_more, reads_none}
+use Rattle.lfs_path.specs.dirs.declared.entry.Entry.{Entry}
+use Rattle.lfs_path.specs.dirs.Finding.{IsDirectoryFault}
+use Rattle.lfs_path.specs.dirs.Listing.{Inspects, pairs}
 use Rattle.lfs_fs.specs.Checking.{AreEntries, FindsEntries, FindsFiles, FindsRoot, FindsTree, FitsNumber, HasOdd, IsRoot, IsTreeDamage, IsTreeFault, LacksEntries, LacksFiles, LacksRoot, LacksTree, giving}
 use Rattle.lfs_fs.proofs.FlatRoots.{flat_apart, flat_directory, flat_found, flat_kind, flat_links, flat_numbers, flat_room, flat_there, flat_unnamed}
 

@@ -9,18 +9,18 @@ use Rattle.lfs_model.specs.Objects.{AreLong, IsHeaderOf}
 use Rattle.lfs_model.specs.Stands.{LogMap}
 use Rattle.lfs_model.specs.Tree.{Names}
 use Rattle.lfs_model.specs.TreeOf.{IsTree, tree_in}
-use Rattle.lfs_memory.specs.declared.changes.Changes.{Changes}
-use Rattle.lfs_memory.specs.declared.header.Header.{Header}
-use Rattle.lfs_memory.specs.Batch.{staged}
-use Rattle.lfs_memory.specs.Present.{as_header}
-use Rattle.lfs_log.specs.declared.fault.MountFault.{MountFault}
-use Rattle.lfs_log.specs.declared.fault.MountFault.TheVariants as fault
-use Rattle.lfs_log.specs.Held.{Held, Holds, IsReadFault}
-use Rattle.lfs_store.specs.declared.totals.Totals.{Totals}
-use Rattle.lfs_store.specs.Recounting.{AreTotals}
-use Rattle.lfs_dirs.specs.declared.entry.Entry.{Entry}
-use Rattle.lfs_dirs.specs.Directory.{slots_at}
-use Rattle.lfs_dirs.specs.Listing.{IsListOf, pairs}
+use Rattle.lfs_path.specs.memory.declared.changes.Changes.{Changes}
+use Rattle.lfs_path.specs.memory.declared.header.Header.{Header}
+use Rattle.lfs_path.specs.memory.Batch.{staged}
+use Rattle.lfs_path.specs.memory.Present.{as_header}
+use Rattle.lfs_path.specs.log.declared.fault.MountFault.{MountFault}
+use Rattle.lfs_path.specs.log.declared.fault.MountFault.TheVariants as fault
+use Rattle.lfs_path.specs.log.Held.{Held, Holds, IsReadFault}
+use Rattle.lfs_path.specs.store.declared.totals.Totals.{Totals}
+use Rattle.lfs_path.specs.store.Recounting.{AreTotals}
+use Rattle.lfs_path.specs.dirs.declared.entry.Entry.{Entry}
+use Rattle.lfs_path.specs.dirs.Directory.{slots_at}
+use Rattle.lfs_path.specs.dirs.Listing.{IsListOf, pairs}
 use Rattle.lfs_fs.specs.Volume.{IsPlain}
 
 -- how many names give n

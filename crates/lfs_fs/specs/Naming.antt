@@ -11,16 +11,16 @@ use Rattle.lfs_model.specs.Slot.{IsName}
 use Rattle.lfs_model.specs.Stands.{LogMap}
 use Rattle.lfs_model.specs.Tree.{State, byte_cmp, least_handle}
 use Rattle.lfs_model.specs.Walk.{At, Parent}
-use Rattle.lfs_memory.specs.declared.changes.Changes.{Changes}
-use Rattle.lfs_memory.specs.declared.header.Header.{Header}
-use Rattle.lfs_memory.specs.Batch.{IsNoChange, staged}
-use Rattle.lfs_memory.specs.Present.{as_header}
-use Rattle.lfs_log.specs.Held.{Holds, IsReadFault}
-use Rattle.lfs_store.specs.declared.totals.Totals.{Totals}
-use Rattle.lfs_store.specs.Making.{Makes, first_header}
-use Rattle.lfs_store.specs.Recounting.{Counts, CountsMade}
-use Rattle.lfs_dirs.specs.Adding.{Adds}
-use Rattle.lfs_dirs.specs.Directory.{names_at}
+use Rattle.lfs_path.specs.memory.declared.changes.Changes.{Changes}
+use Rattle.lfs_path.specs.memory.declared.header.Header.{Header}
+use Rattle.lfs_path.specs.memory.Batch.{IsNoChange, staged}
+use Rattle.lfs_path.specs.memory.Present.{as_header}
+use Rattle.lfs_path.specs.log.Held.{Holds, IsReadFault}
+use Rattle.lfs_path.specs.store.declared.totals.Totals.{Totals}
+use Rattle.lfs_path.specs.store.Making.{Makes, first_header}
+use Rattle.lfs_path.specs.store.Recounting.{Counts, CountsMade}
+use Rattle.lfs_path.specs.dirs.Adding.{Adds}
+use Rattle.lfs_path.specs.dirs.Directory.{names_at}
 use Rattle.lfs_path.specs.declared.last.Last.{Last}
 use Rattle.lfs_path.specs.Pieces.{is_dots}
 use Rattle.lfs_path.specs.Walking.{HasLast}

@@ -8,15 +8,15 @@ use Rattle.lfs_model.specs.Stands.{LogMap}
 use Rattle.lfs_model.specs.Step.{head_of, stat_of, the_node}
 use Rattle.lfs_model.specs.Tree.{State, Tree, entry}
 use Rattle.lfs_model.specs.TreeOf.{object}
-use Rattle.lfs_log.specs.Held.{Holds}
-use Rattle.lfs_memory.specs.declared.header.Header.{Header}
-use Rattle.lfs_memory.specs.Batch.{IsNoChange, staged}
-use Rattle.lfs_memory.specs.Present.{as_header}
+use Rattle.lfs_path.specs.log.Held.{Holds}
+use Rattle.lfs_path.specs.memory.declared.header.Header.{Header}
+use Rattle.lfs_path.specs.memory.Batch.{IsNoChange, staged}
+use Rattle.lfs_path.specs.memory.Present.{as_header}
 use Rattle.lfs_fs.specs.declared.error.FsError.{FsError}
 use Rattle.lfs_fs.specs.declared.error.FsError.TheVariants as error
 use Rattle.lfs_fs.specs.declared.fs.Fs.{Fs}
-use Rattle.lfs_dirs.specs.declared.entry.Entry.{Entry}
-use Rattle.lfs_dirs.specs.Listing.{pair, pairs}
+use Rattle.lfs_path.specs.dirs.declared.entry.Entry.{Entry}
+use Rattle.lfs_path.specs.dirs.Listing.{pair, pairs}
 use Rattle.lfs_fs.specs.declared.rows.Stat.{Stat}
 use Rattle.lfs_fs.specs.declared.rows.TreeRow.{TreeRow}
 use Rattle.lfs_fs.specs.Answers.{row_of}

@@ -1,17 +1,16 @@
 //! What a mount checks of a volume's tree: that it is a root and files, named as often as their inodes say, with room for all.
 ghost use Rattle.std.specs.Prelude.{◌≡◌, ◌≤◌, ◌<◌, ◌+◌, ◌*◌, length, OnOk, OnErr, IfOk, IfErr};
 ghost use Rattle.std.specs.Option.{option_map};
-ghost use Rattle.lfs_memory.specs.Present.{as_header};
-ghost use Rattle.lfs_log.specs.Held.{Reads};
-ghost use Rattle.lfs_dirs.specs.Listing.{pairs};
+ghost use Rattle.lfs_path.specs.memory.Present.{as_header};
+ghost use Rattle.lfs_path.specs.log.Held.{Reads};
+ghost use Rattle.lfs_path.specs.dirs.Listing.{pairs};
 ghost use Rattle.lfs_fs.specs.Checking.{FitsNumber, giving, FindsRoot, FindsEntries, FindsFiles, FindsTree, LacksRoot, LacksEntries, LacksFiles, LacksTree, IsTreeDamage, IsTreeFault};
 
 use crate::fs::ROOT;
 use lfs_device::SectorDevice;
-use lfs_dirs::{Entry, ListFault, inspect};
-use lfs_log::{Header, MountFault};
 use lfs_model::Kind;
-use lfs_store::Store;
+use lfs_path::dirs::{Entry, ListFault, inspect};
+use lfs_path::store::{Header, MountFault, Store};
 use std::alloc::Global;
 
 /// The bytes of a slot of the root.

@@ -4,9 +4,8 @@ ghost use Rattle.lfs_model.specs.Script.{refusal_name};
 ghost use Rattle.lfs_fs.specs.Refusals.{refusal_of};
 ghost use Rattle.lfs_fs.specs.Faults.{error_of_log, error_of_store, error_of_path};
 
-use lfs_log::LogFault;
 use lfs_path::PathFault;
-use lfs_store::StoreFault;
+use lfs_path::store::{LogFault, StoreFault};
 use std::alloc::AllocError;
 
 /// Why a call of a mounted volume is refused. After all but `Halted` the tree and the handles are as before.

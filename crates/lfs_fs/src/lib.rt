@@ -16,9 +16,6 @@ mod writing;
 
 pub use error::{FormatFault, FsError};
 pub use fs::Fs;
-pub use lfs_log::MountFault;
+pub use lfs_path::store::MountFault;
 pub use making::format;
 pub use rows::{Space, Stat, TreeRow};
-
-#[cfg(test)]
-mod tests;

@@ -15,7 +15,7 @@ use crate::image::{
 };
 use lfs_device::{DeviceFault, SectorDevice};
 use lfs_layout::is_segment_count;
-use lfs_root::replace;
+use lfs_verify::root::replace;
 
 /// Makes the device an empty volume of so many segments. It takes no memory and writes the two checkpoint slots and the
 /// first chunk alone. A stop at any moment leaves what stood there, with slots that may be cleared, or no checkpoint, or

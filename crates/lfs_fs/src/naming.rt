@@ -9,10 +9,10 @@ ghost use Rattle.lfs_fs.specs.Naming.{DraftsNew, DraftsNone, LooksNone, LooksUp,
 use crate::error::FsError;
 use crate::fs::{Fs, ROOT};
 use lfs_device::SectorDevice;
-use lfs_dirs::{add, find};
 use lfs_layout::is_name;
-use lfs_log::Header;
 use lfs_model::Kind;
+use lfs_path::dirs::{add, find};
+use lfs_path::store::Header;
 use lfs_path::text::is_dots;
 use lfs_path::{Last, Place, parent, resolve};
 

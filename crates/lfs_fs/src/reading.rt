@@ -11,7 +11,7 @@ use crate::error::FsError;
 use crate::fs::{Fs, ROOT};
 use crate::rows::{Space, Stat, TreeRow};
 use lfs_device::SectorDevice;
-use lfs_dirs::{Entry, list};
+use lfs_path::dirs::{Entry, list};
 use lfs_path::resolve;
 
 /// The most bytes of one read or write.

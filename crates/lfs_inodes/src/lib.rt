@@ -13,6 +13,3 @@ pub use map::InodeMap;
 pub use pointers::{locate, owner_points};
 pub use present::locate_present;
 pub use table::DirtyTable;
-
-#[cfg(test)]
-mod tests;

@@ -22,6 +22,3 @@ pub use summary::{
 };
 pub use usage::{SegmentUsage, UsageView, encode_usage, one_usage_spelling};
 pub use zero::is_zero;
-
-#[cfg(test)]
-mod tests;

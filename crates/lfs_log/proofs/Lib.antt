@@ -10,3 +10,4 @@ pub mod MapLoads
 pub mod Opens
 pub mod Volumes
 pub mod StoredBlocks
+pub use Rattle.lfs_memory.proofs as of_memory

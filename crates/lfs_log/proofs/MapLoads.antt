@@ -13,7 +13,7 @@ use Rattle.lfs_model.specs.Running.{IsSet}
 use Rattle.lfs_model.specs.Stands.{LogMap, StandsAt}
 use Rattle.lfs_model.proofs.Encodes.{word_nil}
 use Rattle.lfs_model.proofs.Words.{pointers_are}
-use Rattle.lfs_inodes.specs.MapValue.{MapValue, IsEmptyMap, IsLoaded, address_in, block_in}
+use Rattle.lfs_memory.specs.inodes.MapValue.{MapValue, IsEmptyMap, IsLoaded, address_in, block_in}
 use Rattle.lfs_memory.specs.Present.{Looks}
 use Rattle.lfs_log.specs.Opening.{IsFault, IsMapUpTo, SaysMap}
 

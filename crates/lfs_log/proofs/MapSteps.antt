@@ -17,10 +17,10 @@ use Rattle.lfs_model.proofs.Leaving.{map_dropping}
 use Rattle.lfs_model.proofs.Stepping.{map_stepping}
 use Rattle.lfs_model.proofs.Moments.{carries_none, started}
 use Rattle.lfs_model.proofs.Settled.{settled_stands}
-use Rattle.lfs_segments.specs.Chunk.{entries_of}
-use Rattle.lfs_segments.specs.Table.{UsageTable}
-use Rattle.lfs_inodes.specs.Blocks.{blocks_of}
-use Rattle.lfs_inodes.specs.MapValue.{MapValue, IsMap, IsMapOf, AreSettled, block_in}
+use Rattle.lfs_memory.specs.segments.Chunk.{entries_of}
+use Rattle.lfs_memory.specs.segments.Table.{UsageTable}
+use Rattle.lfs_memory.specs.inodes.Blocks.{blocks_of}
+use Rattle.lfs_memory.specs.inodes.MapValue.{MapValue, IsMap, IsMapOf, AreSettled, block_in}
 use Rattle.lfs_memory.specs.declared.memory.LogMemory.{LogMemory}
 use Rattle.lfs_memory.specs.Memory.{IsMemory, AreMapsOut, IsLog, IsBlockAt, AreHidden, Places, Goes, GoesUpTo, tables_by, tables_of, segment_in, chunk_in}
 use Rattle.lfs_memory.proofs.Begun.{before, begun, noted, place_is, few_entries, opened_after, segment_after, segments_same, memory_after}

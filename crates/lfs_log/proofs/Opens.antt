@@ -22,9 +22,9 @@ use Rattle.lfs_model.proofs.Mounting.{mounting}
 use Rattle.lfs_model.proofs.Newest.{newest_fits}
 use Rattle.lfs_model.proofs.Settled.{keeps_itself}
 use Rattle.lfs_model.proofs.Starting.{starting}
-use Rattle.lfs_inodes.specs.Blocks.{Blocks, blocks_of, blocks_in}
-use Rattle.lfs_inodes.specs.MapValue.{MapValue, address_in, block_in}
-use Rattle.lfs_segments.specs.Table.{SegmentNumbers, UsageTable, no_segment, address_of, stale_of}
+use Rattle.lfs_memory.specs.inodes.Blocks.{Blocks, blocks_of, blocks_in}
+use Rattle.lfs_memory.specs.inodes.MapValue.{MapValue, address_in, block_in}
+use Rattle.lfs_memory.specs.segments.Table.{SegmentNumbers, UsageTable, no_segment, address_of, stale_of}
 use Rattle.lfs_memory.specs.declared.memory.LogMemory.{LogMemory}
 use Rattle.lfs_memory.specs.Memory.{IsLog, tables_by, tables_of, segment_in, chunk_in}
 use Rattle.lfs_memory.specs.Present.{Looks}

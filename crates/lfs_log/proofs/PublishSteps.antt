@@ -20,10 +20,10 @@ use Rattle.lfs_model.proofs.Live.{count_up_none, count_up_more}
 use Rattle.lfs_model.proofs.Moments.{carries_then, started, goes_on, joined}
 use Rattle.lfs_model.proofs.Publishing.{planning, resting}
 use Rattle.lfs_model.proofs.Settled.{settled_stands, settled_still, slot_torn, acknowledged}
-use Rattle.lfs_segments.specs.Table.{SegmentNumbers, BlockPlace, UsageTable, no_segment, no_place, used_of, live_of, held_of, address_of, is_clean_in, clean_in}
-use Rattle.lfs_segments.specs.Steps.{Releases, is_empty}
-use Rattle.lfs_inodes.specs.Blocks.{Blocks, blocks_in, blocks_of}
-use Rattle.lfs_inodes.specs.MapValue.{block_in}
+use Rattle.lfs_memory.specs.segments.Table.{SegmentNumbers, BlockPlace, UsageTable, no_segment, no_place, used_of, live_of, held_of, address_of, is_clean_in, clean_in}
+use Rattle.lfs_memory.specs.segments.Steps.{Releases, is_empty}
+use Rattle.lfs_memory.specs.inodes.Blocks.{Blocks, blocks_in, blocks_of}
+use Rattle.lfs_memory.specs.inodes.MapValue.{block_in}
 use Rattle.lfs_memory.specs.declared.memory.LogMemory.{LogMemory}
 use Rattle.lfs_memory.specs.Memory.{tables_of, segment_in, chunk_in, IsMemory, IsLog}
 use Rattle.lfs_log.specs.Publishing.{IsAllOut, IsNext, IsAcknowledged, Publishes, PublishFails}

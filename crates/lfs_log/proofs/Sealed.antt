@@ -8,8 +8,8 @@ use Rattle.lfs_model.specs.Stands.{LogMap}
 use Rattle.lfs_model.specs.Summary.{summary_sector}
 use Rattle.lfs_model.specs.Settled.{IsSettled}
 use Rattle.lfs_model.proofs.Leaving.{closing}
-use Rattle.lfs_segments.specs.Chunk.{Chunk, entries_of}
-use Rattle.lfs_inodes.specs.Blocks.{blocks_of}
+use Rattle.lfs_memory.specs.segments.Chunk.{Chunk, entries_of}
+use Rattle.lfs_memory.specs.inodes.Blocks.{blocks_of}
 use Rattle.lfs_memory.specs.declared.memory.LogMemory.{LogMemory}
 use Rattle.lfs_memory.specs.Memory.{IsMemory, IsMemoryUpTo, IsLog, Goes, Stops, Quiet, tables_of, segment_in, chunk_in, room_in}
 use Rattle.lfs_memory.proofs.Opened.{closed_segment, closed_chunk, as_chunk, is_open, stays_settled, stays_quiet, taken_free}

@@ -14,7 +14,7 @@ use Rattle.lfs_model.specs.Stands.{LogMap}
 use Rattle.lfs_model.proofs.Entries.{data_parent_high}
 use Rattle.lfs_model.proofs.ObjectNeeds.{same_tests}
 use Rattle.lfs_model.proofs.ObjectPointers.{leaf_tests}
-use Rattle.lfs_inodes.specs.Blocks.{blocks_of}
+use Rattle.lfs_memory.specs.inodes.Blocks.{blocks_of}
 use Rattle.lfs_memory.specs.declared.memory.LogMemory.{LogMemory}
 use Rattle.lfs_memory.specs.Memory.{IsLoose, segment_in}
 use Rattle.lfs_memory.specs.Present.{AnswersAddress}

@@ -3,7 +3,7 @@ use Rattle.std.proofs.Common.{◌≡◌, ◌<◌, ◌≤◌, ◌⊎◌, inl, inr
 use Rattle.std.proofs.lemmas.Bool.{cases_eq, cases_lt, cases_Bool}
 use Rattle.lfs_model.specs.Counting.{segment_of}
 use Rattle.lfs_model.proofs.Running.{pick, pick_yes, pick_no}
-use Rattle.lfs_segments.specs.Table.{UsageTable, taken_of, address_of}
+use Rattle.lfs_memory.specs.segments.Table.{UsageTable, taken_of, address_of}
 use Rattle.lfs_log.specs.Settling.{IsAnew, IsResettled, AreAnew}
 
 anew_or : (t : UsageTable) (j : ℕ) → IsAnew t j ⊎ (IsAnew t j → ⊥)

@@ -14,8 +14,8 @@ use Rattle.lfs_model.proofs.Cells.{sector_at}
 use Rattle.lfs_model.proofs.Numbers.{IsBytes}
 use Rattle.lfs_model.proofs.UsageStage.{usage_block_of}
 use Rattle.lfs_model.proofs.Words.{IsUsageBlock, uses_are, usage_block_some}
-use Rattle.lfs_segments.specs.Table.{SegmentNumbers, UsageTable, BlockPlace, no_segment, no_place, address_of, stale_of}
-use Rattle.lfs_segments.specs.Steps.{Puts}
+use Rattle.lfs_memory.specs.segments.Table.{SegmentNumbers, UsageTable, BlockPlace, no_segment, no_place, address_of, stale_of}
+use Rattle.lfs_memory.specs.segments.Steps.{Puts}
 use Rattle.std.proofs.lemmas.List.{get_or-replicate, length-replicate, get_or_past}
 use Rattle.lfs_memory.specs.Present.{Looks}
 use Rattle.lfs_log.specs.Opening.{IsFault, IsTakenIn, loaded, numbers_in, HasNoDeadAge, IsUsageUpTo, SaysUsage}

@@ -17,11 +17,11 @@ use Rattle.lfs_model.proofs.Counting.{taken_counts}
 use Rattle.lfs_model.proofs.Running.{pick, pick_yes, pick_no, taken_memory, is_taken}
 use Rattle.lfs_model.proofs.Leaving.{beginning, usage_leaving}
 use Rattle.lfs_model.proofs.Stepping.{usage_settling}
-use Rattle.lfs_segments.specs.Table.{SegmentNumbers, UsageTable, no_segment, used_of, live_of, held_of, age_of, taken_of, address_of, stale_of, clean_in}
-use Rattle.lfs_segments.specs.Chunk.{Chunk, IsOpen, entries_of}
-use Rattle.lfs_segments.specs.Steps.{Takes}
-use Rattle.lfs_inodes.specs.Blocks.{TableValue, blocks_of}
-use Rattle.lfs_inodes.specs.MapValue.{MapValue, address_in, block_in}
+use Rattle.lfs_memory.specs.segments.Table.{SegmentNumbers, UsageTable, no_segment, used_of, live_of, held_of, age_of, taken_of, address_of, stale_of, clean_in}
+use Rattle.lfs_memory.specs.segments.Chunk.{Chunk, IsOpen, entries_of}
+use Rattle.lfs_memory.specs.segments.Steps.{Takes}
+use Rattle.lfs_memory.specs.inodes.Blocks.{TableValue, blocks_of}
+use Rattle.lfs_memory.specs.inodes.MapValue.{MapValue, address_in, block_in}
 use Rattle.lfs_memory.specs.declared.memory.LogMemory.{LogMemory}
 use Rattle.lfs_memory.specs.Memory.{table_at, tables_of, segment_in, chunk_in, room_of, IsMemoryUpTo, IsMemory, AreHidden, IsLog, Goes, Stops}
 use Rattle.lfs_memory.proofs.Opened.{open_segment, open_chunk, closed_segment, closed_chunk, as_chunk}

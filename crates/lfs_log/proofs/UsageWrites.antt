@@ -9,10 +9,10 @@ use Rattle.lfs_model.specs.Stands.{LogMap}
 use Rattle.lfs_model.specs.Counting.{segment_of}
 use Rattle.lfs_model.specs.Running.{SpellsUsage, IsFresh}
 use Rattle.lfs_model.proofs.Leaving.{usage_filling}
-use Rattle.lfs_segments.specs.Table.{SegmentNumbers, UsageTable, no_segment, taken_of, address_of, stale_of, clean_in}
-use Rattle.lfs_segments.specs.Steps.{Puts, SpellsBlock}
-use Rattle.lfs_inodes.specs.Blocks.{blocks_of}
-use Rattle.lfs_inodes.specs.MapValue.{MapValue}
+use Rattle.lfs_memory.specs.segments.Table.{SegmentNumbers, UsageTable, no_segment, taken_of, address_of, stale_of, clean_in}
+use Rattle.lfs_memory.specs.segments.Steps.{Puts, SpellsBlock}
+use Rattle.lfs_memory.specs.inodes.Blocks.{blocks_of}
+use Rattle.lfs_memory.specs.inodes.MapValue.{MapValue}
 use Rattle.lfs_memory.specs.declared.memory.LogMemory.{LogMemory}
 use Rattle.lfs_memory.specs.Memory.{table_at, tables_of, segment_in, chunk_in, IsMemory, IsLog, Goes, Stops}
 use Rattle.lfs_memory.proofs.Opened.{stays_settled, stays_quiet, taken_free}

@@ -16,7 +16,7 @@ use Rattle.lfs_log.specs.Saving.{Commits, CommitFails}
 use Rattle.lfs_memory.proofs.Looses.{loose}
 use Rattle.lfs_memory.specs.declared.changes.Changes.{Changes}
 use Rattle.lfs_memory.specs.declared.memory.LogMemory.{LogMemory}
-use Rattle.lfs_inodes.specs.MapValue.{IsFree, address_in}
+use Rattle.lfs_memory.specs.inodes.MapValue.{IsFree, address_in}
 use Rattle.lfs_model.specs.Encodes.{HasInode}
 use Rattle.lfs_memory.specs.Memory.{IsLoose}
 use Rattle.lfs_memory.specs.Lifting.{Prepares}

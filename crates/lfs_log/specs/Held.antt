@@ -14,10 +14,10 @@ use Rattle.lfs_memory.specs.declared.header.Header.{Header}
 use Rattle.lfs_model.specs.TreeOf.{dropped}
 use Rattle.lfs_model.specs.Stands.{LogMap, StandsLog}
 use Rattle.lfs_model.specs.Summary.{BlockNameValue}
-use Rattle.lfs_segments.specs.Table.{SegmentNumbers, BlockPlace, UsageTable, clean_in}
-use Rattle.lfs_segments.specs.Chunk.{Chunk}
-use Rattle.lfs_inodes.specs.Blocks.{TableValue}
-use Rattle.lfs_inodes.specs.MapValue.{MapValue}
+use Rattle.lfs_memory.specs.segments.Table.{SegmentNumbers, BlockPlace, UsageTable, clean_in}
+use Rattle.lfs_memory.specs.segments.Chunk.{Chunk}
+use Rattle.lfs_memory.specs.inodes.Blocks.{TableValue}
+use Rattle.lfs_memory.specs.inodes.MapValue.{MapValue}
 use Rattle.lfs_memory.specs.declared.memory.LogMemory.{LogMemory}
 use Rattle.lfs_memory.specs.Memory.{IsMemory, HasRoom, IsLog}
 use Rattle.lfs_memory.specs.Present.{Looks, HeaderAnswer, BlockAnswer}

@@ -3,3 +3,6 @@ pub mod Publishing
 pub mod Saving
 pub mod Opening
 pub mod Held
+pub use Rattle.lfs_memory.specs as memory
+pub use Rattle.lfs_memory.specs.inodes
+pub use Rattle.lfs_memory.specs.segments

@@ -7,8 +7,8 @@ use Rattle.lfs_model.specs.Entry.{word}
 use Rattle.lfs_model.specs.Reach.{view, map_block}
 use Rattle.lfs_model.specs.Stands.{LogMap, StandsAt, StandsLog, used_in, live_in, age_in}
 use Rattle.lfs_model.specs.Usage.{SegmentUse, no_use}
-use Rattle.lfs_segments.specs.Table.{SegmentNumbers, UsageTable, no_segment, address_of, stale_of}
-use Rattle.lfs_inodes.specs.MapValue.{MapValue, address_in, is_hidden_in, block_in}
+use Rattle.lfs_memory.specs.segments.Table.{SegmentNumbers, UsageTable, no_segment, address_of, stale_of}
+use Rattle.lfs_memory.specs.inodes.MapValue.{MapValue, address_in, is_hidden_in, block_in}
 use Rattle.lfs_memory.specs.declared.memory.LogMemory.{LogMemory}
 use Rattle.lfs_memory.specs.Memory.{IsMemory, IsLog}
 

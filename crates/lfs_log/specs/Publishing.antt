@@ -6,8 +6,8 @@ use Rattle.lfs_model.specs.Device.{DeviceState, Carries, LeavesOnly, AllLeft}
 use Rattle.lfs_model.specs.Encodes.{IsLogMap}
 use Rattle.lfs_model.specs.Stands.{LogMap}
 use Rattle.lfs_model.specs.TreeOf.{dropped}
-use Rattle.lfs_segments.specs.Table.{address_of, stale_of, clean_in}
-use Rattle.lfs_inodes.specs.MapValue.{block_in}
+use Rattle.lfs_memory.specs.segments.Table.{address_of, stale_of, clean_in}
+use Rattle.lfs_memory.specs.inodes.MapValue.{block_in}
 use Rattle.lfs_memory.specs.declared.memory.LogMemory.{LogMemory}
 use Rattle.lfs_memory.specs.Memory.{IsMemory, IsLog}
 use Rattle.lfs_log.specs.Settling.{blocks_in}

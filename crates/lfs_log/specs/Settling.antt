@@ -4,8 +4,8 @@ use Rattle.lfs_model.specs.declared.BlockKind.TheVariants as kind
 use Rattle.lfs_model.specs.Counting.{segment_of}
 use Rattle.lfs_model.specs.Summary.{BlockNameValue}
 use Rattle.lfs_model.specs.Running.{IsSet}
-use Rattle.lfs_segments.specs.Table.{UsageTable, live_of, taken_of, address_of, stale_of}
-use Rattle.lfs_segments.specs.Steps.{Lifts, Puts}
+use Rattle.lfs_memory.specs.segments.Table.{UsageTable, live_of, taken_of, address_of, stale_of}
+use Rattle.lfs_memory.specs.segments.Steps.{Lifts, Puts}
 use Rattle.lfs_memory.specs.declared.memory.LogMemory.{LogMemory}
 use Rattle.lfs_memory.specs.Memory.{Places}
 

@@ -1,7 +1,7 @@
 //! A commit: all that changed goes to clean segments, and then the next checkpoint to its slot.
 //! After the checkpoints of the Sprite LFS paper (1992, section 4.1).
 ghost use Rattle.std.specs.Prelude.{◌≡◌, ◌<◌, ◌≤◌, ◌+◌, ◌*◌, ◌^◌, ◌-◌, [], length, OnOk, OnErr};
-ghost use Rattle.lfs_segments.specs.Table.{clean_in};
+ghost use Rattle.lfs_memory.specs.segments.Table.{clean_in};
 ghost use Rattle.lfs_log.specs.Settling.{AreAnew};
 ghost use Rattle.lfs_memory.specs.Memory.{IsMemory, AreMapsOut, HasRoom, Goes, Stops, room_of};
 ghost use Rattle.lfs_log.specs.Publishing.{IsAllOut};

@@ -11,6 +11,7 @@ pub mod publishing;
 pub mod settling;
 
 pub use fault::MountFault;
+pub use lfs_memory as memory;
 pub use lfs_memory::{
     BlockEdit, Changes, Cut, Header, HeaderEdit, LastLink, LogFault, Loss, Removal,
 };

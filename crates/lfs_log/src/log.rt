@@ -2,7 +2,7 @@
 ghost use Rattle.std.specs.Prelude.{◌≡◌, ◌≢◌, ◌<◌, ◌≤◌, ◌+◌, ◌-◌, ◌*◌, ◌^◌, true, false, length, IfSome, IfNone, IfOk, IfErr, OnOk, OnErr, IsErrOf, MatchResult, IsTrue, IsFalse};
 ghost use Rattle.lfs_model.specs.Device.{Only, IsUntouched, Carries, LeavesOnly};
 ghost use Rattle.lfs_model.specs.Fields.{zeros};
-ghost use Rattle.lfs_segments.specs.Table.{clean_in};
+ghost use Rattle.lfs_memory.specs.segments.Table.{clean_in};
 ghost use Rattle.lfs_log.specs.Opening.{IsOpenFault};
 ghost use Rattle.lfs_memory.specs.Preparing.{LacksRoom};
 ghost use Rattle.lfs_memory.specs.Batch.{room_for};
@@ -13,9 +13,9 @@ use crate::opening::open_memory;
 use lfs_device::SectorDevice;
 use lfs_memory::counting::SegmentCounts;
 use lfs_memory::present::{locate_block, locate_leaf, read_block, read_header};
+use lfs_memory::segments::Usage;
 use lfs_memory::staging::{has_room, remove_tight, stage_tight};
 use lfs_memory::{Changes, Header, LogFault, LogMemory};
-use lfs_segments::Usage;
 use std::alloc::Global;
 use std::marker::Model;
 
@@ -325,10 +325,3 @@ impl<D: SectorDevice> Log<D> {
         }
     }
 }
-
-#[cfg(test)]
-mod edits;
-#[cfg(test)]
-mod random;
-#[cfg(test)]
-mod tests;

@@ -4,16 +4,16 @@ ghost use Rattle.lfs_model.specs.Committing.{SpellsMap};
 ghost use Rattle.lfs_model.specs.Entry.{Entry};
 ghost use Rattle.lfs_model.specs.Running.{Tables};
 ghost use Rattle.lfs_model.specs.Stands.{LogMap};
-ghost use Rattle.lfs_inodes.specs.Blocks.{blocks_of};
-ghost use Rattle.lfs_inodes.specs.MapValue.{IsMap, IsMapOf, AreSettled, block_in};
+ghost use Rattle.lfs_memory.specs.inodes.Blocks.{blocks_of};
+ghost use Rattle.lfs_memory.specs.inodes.MapValue.{IsMap, IsMapOf, AreSettled, block_in};
 ghost use Rattle.lfs_memory.specs.Memory.{IsMemory, AreMapsOut, HasRoom, Goes, GoesUpTo, IsBlockAt, Stops, room_of};
 
 use crate::placing::seal_full;
 use lfs_device::{DeviceFault, SectorDevice};
 use lfs_layout::BlockName;
 use lfs_memory::LogMemory;
+use lfs_memory::segments::write;
 use lfs_model::BlockKind;
-use lfs_segments::write;
 
 /// Writes a block of the inode map to the next place.
 fn write_map_block<D: SectorDevice>(

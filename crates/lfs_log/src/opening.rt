@@ -5,18 +5,18 @@ ghost use Rattle.lfs_model.specs.Content.{block, newest};
 ghost use Rattle.lfs_model.specs.Device.{Only, LeavesOnly, IsUntouched, Carries};
 ghost use Rattle.lfs_model.specs.Stands.{LogMap, StandsLog};
 ghost use Rattle.lfs_model.specs.Usage.{SegmentUse, FitsUsage, IsUse, no_use};
-ghost use Rattle.lfs_inodes.specs.MapValue.{IsEmptyMap};
-ghost use Rattle.lfs_segments.specs.Table.{no_segment, no_place};
+ghost use Rattle.lfs_memory.specs.inodes.MapValue.{IsEmptyMap};
+ghost use Rattle.lfs_memory.specs.segments.Table.{no_segment, no_place};
 ghost use Rattle.lfs_memory.specs.Present.{Looks};
 ghost use Rattle.lfs_log.specs.Opening.{IsFault, IsOpenFault, IsTakenIn, loaded, IsUsageUpTo, SaysUsage, IsMapUpTo, SaysMap, IsOpened, Opens};
 
 use crate::fault::MountFault;
 use lfs_device::{ReadFault, SectorDevice};
-use lfs_inodes::{DirtyTable, InodeMap};
 use lfs_layout::{Checkpoint, PointerView, UsageView};
 use lfs_memory::LogMemory;
+use lfs_memory::inodes::{DirtyTable, InodeMap};
+use lfs_memory::segments::{ChunkWriter, Usage};
 use lfs_root::{RootFault, newest};
-use lfs_segments::{ChunkWriter, Usage};
 use std::alloc::{AllocError, Global};
 
 /// How many blocks of files may be in memory: with all blocks of the tables, eight chunks of them.

@@ -2,14 +2,14 @@
 ghost use Rattle.std.specs.Prelude.{◌≡◌, ◌≢◌, ◌<◌, ◌≤◌, ◌+◌, ◌*◌, [], length, None, OnOk, OnErr};
 ghost use Rattle.lfs_model.specs.Entry.{Entry};
 ghost use Rattle.lfs_model.specs.Running.{IsLowest};
-ghost use Rattle.lfs_inodes.specs.Blocks.{blocks_of};
-ghost use Rattle.lfs_inodes.specs.Key.{entry_of};
+ghost use Rattle.lfs_memory.specs.inodes.Blocks.{blocks_of};
+ghost use Rattle.lfs_memory.specs.inodes.Key.{entry_of};
 ghost use Rattle.lfs_memory.specs.Memory.{IsMemory, IsMemoryUpTo, HasRoom, Goes, GoesUpTo, Stops, room_of, room_in};
 
 use lfs_device::{DeviceFault, SectorDevice};
-use lfs_inodes::BlockKey;
 use lfs_memory::LogMemory;
-use lfs_segments::write;
+use lfs_memory::inodes::BlockKey;
+use lfs_memory::segments::write;
 
 /// Writes the summary of the chunk, which ends it.
 pub fn seal<D: SectorDevice>(device: &mut D, memory: &mut LogMemory) -> Result<(), DeviceFault>

@@ -1,18 +1,18 @@
 //! The end of a commit: the checkpoint that leads to all that was written.
 ghost use Rattle.std.specs.Prelude.{◌≡◌, ◌<◌, ◌≤◌, ◌+◌, ◌^◌, ◌-◌, ℕ, get_or, OnOk, OnErr};
 ghost use Rattle.lfs_model.specs.Device.{Only};
-ghost use Rattle.lfs_segments.specs.Table.{address_of};
-ghost use Rattle.lfs_inodes.specs.MapValue.{block_in};
+ghost use Rattle.lfs_memory.specs.segments.Table.{address_of};
+ghost use Rattle.lfs_memory.specs.inodes.MapValue.{block_in};
 ghost use Rattle.lfs_memory.specs.Memory.{IsMemory, HasRoom};
 ghost use Rattle.lfs_memory.specs.Present.{Looks};
 ghost use Rattle.lfs_log.specs.Publishing.{IsAllOut, IsNext, Publishes, PublishFails};
 
 use lfs_device::{DeviceFault, SectorDevice};
-use lfs_inodes::InodeMap;
 use lfs_layout::Checkpoint;
 use lfs_memory::LogMemory;
+use lfs_memory::inodes::InodeMap;
+use lfs_memory::segments::Usage;
 use lfs_root::replace;
-use lfs_segments::Usage;
 
 /// The addresses of the blocks of the inode map.
 fn map_blocks(map: &InodeMap) -> [u32; 32]

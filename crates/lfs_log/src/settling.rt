@@ -1,6 +1,6 @@
 //! How the usage blocks that changed get new places, and are written there once all counts are final.
 ghost use Rattle.std.specs.Prelude.{◌≡◌, ◌≢◌, ◌<◌, ◌≤◌, ◌+◌, ◌/◌, ℕ, true, false, length, IfSome, IfNone, OnOk, OnErr};
-ghost use Rattle.lfs_segments.specs.Table.{address_of, stale_of};
+ghost use Rattle.lfs_memory.specs.segments.Table.{address_of, stale_of};
 ghost use Rattle.lfs_memory.specs.Memory.{IsMemory, IsMemoryUpTo, HasRoom, Goes, Stops, room_of};
 ghost use Rattle.lfs_log.specs.Settling.{IsThere, Leaves, Resettles, IsResettled, IsAnew, AreAnew, IsFilled, blocks_in};
 
@@ -8,8 +8,8 @@ use crate::placing::seal_full;
 use lfs_device::{DeviceFault, SectorDevice};
 use lfs_layout::BlockName;
 use lfs_memory::LogMemory;
+use lfs_memory::segments::{Usage, write};
 use lfs_model::BlockKind;
-use lfs_segments::{Usage, write};
 
 /// The usage block lives no more at its address. Only under a device that broke its word it doesn't live there.
 fn leave(usage: &mut Usage, index: u32) -> Result<(), DeviceFault>

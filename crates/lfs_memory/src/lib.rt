@@ -21,4 +21,6 @@ pub use batch::{BlockEdit, Cut, HeaderEdit, LastLink, Loss, Removal};
 pub use changes::Changes;
 pub use fault::LogFault;
 pub use header::Header;
+pub use lfs_inodes as inodes;
+pub use lfs_segments as segments;
 pub use memory::LogMemory;

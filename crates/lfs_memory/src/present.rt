@@ -241,6 +241,3 @@ fn clear(out: &mut [u8; 512])
 {
     *out = [0; 512];
 }
-
-#[cfg(test)]
-mod tests;

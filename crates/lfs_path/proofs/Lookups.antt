@@ -7,13 +7,13 @@ use Rattle.lfs_model.specs.Objects.{IsDirectory}
 use Rattle.lfs_model.specs.Stands.{LogMap}
 use Rattle.lfs_model.specs.TreeOf.{tree_in}
 use Rattle.lfs_model.proofs.Walks.{Some-injective}
-use Rattle.lfs_memory.specs.declared.changes.Changes.{Changes}
-use Rattle.lfs_memory.specs.declared.header.Header.{Header}
-use Rattle.lfs_memory.specs.Batch.{staged}
-use Rattle.lfs_memory.specs.Present.{as_header, HeaderAnswer}
-use Rattle.lfs_log.specs.Held.{Held, Holds, Reads, IsReadFault}
-use Rattle.lfs_store.specs.Reading.{ReadsHeader}
-use Rattle.lfs_store.proofs.LogReads.{held_still}
+use Rattle.lfs_dirs.specs.memory.declared.changes.Changes.{Changes}
+use Rattle.lfs_dirs.specs.memory.declared.header.Header.{Header}
+use Rattle.lfs_dirs.specs.memory.Batch.{staged}
+use Rattle.lfs_dirs.specs.memory.Present.{as_header, HeaderAnswer}
+use Rattle.lfs_dirs.specs.log.Held.{Held, Holds, Reads, IsReadFault}
+use Rattle.lfs_dirs.specs.store.Reading.{ReadsHeader}
+use Rattle.lfs_dirs.proofs.of_store.LogReads.{held_still}
 use Rattle.lfs_dirs.specs.Finding.{Finds, IsDirectoryFault}
 use Rattle.lfs_path.specs.Pieces.{is_dots}
 use Rattle.lfs_path.specs.Walking.{HasFlatTree, FindsFile, NameThen, IsPathFault, EndsRefused}

@@ -8,9 +8,9 @@ use Rattle.lfs_model.specs.Refusal.{Refusal}
 use Rattle.lfs_model.specs.Tree.{Tree}
 use Rattle.lfs_model.specs.TreeOf.{tree_in}
 use Rattle.lfs_model.specs.Walk.{End, At, Refused, Walk}
-use Rattle.lfs_memory.specs.declared.changes.Changes.{Changes}
-use Rattle.lfs_memory.specs.Batch.{staged}
-use Rattle.lfs_log.specs.Held.{Held}
+use Rattle.lfs_dirs.specs.memory.declared.changes.Changes.{Changes}
+use Rattle.lfs_dirs.specs.memory.Batch.{staged}
+use Rattle.lfs_dirs.specs.log.Held.{Held}
 use Rattle.lfs_path.specs.declared.fault.PathFault.{PathFault}
 use Rattle.lfs_path.specs.declared.fault.PathFault.TheVariants.{NotDir}
 use Rattle.lfs_path.specs.Lasts.{IsNameBefore}

@@ -11,9 +11,9 @@ use Rattle.lfs_model.specs.Stands.{LogMap}
 use Rattle.lfs_model.specs.Tree.{File, Dir, Names, Node, Tree, names, node}
 use Rattle.lfs_model.specs.TreeOf.{tree_in}
 use Rattle.lfs_model.specs.Walk.{End, Refused, Gives, Walk, Resolve, Parent}
-use Rattle.lfs_memory.specs.declared.changes.Changes.{Changes}
-use Rattle.lfs_memory.specs.Batch.{staged}
-use Rattle.lfs_log.specs.Held.{Held, Holds}
+use Rattle.lfs_dirs.specs.memory.declared.changes.Changes.{Changes}
+use Rattle.lfs_dirs.specs.memory.Batch.{staged}
+use Rattle.lfs_dirs.specs.log.Held.{Held, Holds}
 use Rattle.lfs_path.specs.declared.fault.PathFault.{PathFault}
 use Rattle.lfs_path.specs.declared.last.Last.{Last}
 use Rattle.lfs_path.specs.Refusals.{refusal_of}

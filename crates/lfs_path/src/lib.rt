@@ -2,14 +2,13 @@
 #![tactic(auto)]
 
 mod fault;
-mod last;
+pub mod last;
 pub mod laws;
 pub mod text;
 mod walk;
 
 pub use fault::PathFault;
 pub use last::Last;
+pub use lfs_dirs as dirs;
+pub use lfs_dirs::store;
 pub use walk::{Place, parent, resolve};
-
-#[cfg(test)]
-mod tests;

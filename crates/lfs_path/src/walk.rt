@@ -1,7 +1,7 @@
 //! The walk of a path over a volume whose only directory is the root.
 ghost use Rattle.std.specs.Prelude.{◌≡◌, true, false, IfOk, IfErr, IsErrOf};
 ghost use Rattle.lfs_model.specs.Walk.{At};
-ghost use Rattle.lfs_log.specs.Held.{Reads};
+ghost use Rattle.lfs_dirs.specs.log.Held.{Reads};
 ghost use Rattle.lfs_path.specs.Pieces.{is_dots};
 ghost use Rattle.lfs_path.specs.Walking.{EndsRefused, FindsFile, HasLast, NameThen, Parents, Resolves, WalksTo};
 
@@ -10,8 +10,7 @@ use crate::last::{Above, Last, before_last};
 use crate::text::{check_text, first_name};
 use lfs_device::SectorDevice;
 use lfs_dirs::find;
-use lfs_log::LogFault;
-use lfs_store::Store;
+use lfs_dirs::store::{LogFault, Store};
 
 /// The number of the root.
 const ROOT: u16 = 1;

@@ -17,8 +17,6 @@ mod need;
 pub mod path;
 pub mod refusal;
 pub mod state;
-#[cfg(test)]
-mod tests;
 pub mod tree;
 pub mod walk;
 

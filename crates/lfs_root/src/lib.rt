@@ -152,8 +152,3 @@ pub fn replace<D: SectorDevice>(device: &mut D, checkpoint: &Checkpoint) -> Resu
 pub fn one_newest()
     ensures { (content : List Cell) (c d : CheckpointValue) → IsNewest content c → IsNewest content d → c ≡ d }
 {}
-
-#[cfg(test)]
-mod examples;
-#[cfg(test)]
-mod tests;

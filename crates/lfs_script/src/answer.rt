@@ -13,7 +13,7 @@ use lfs_fs::{Fs, FsError, Space, Stat, TreeRow};
 use std::alloc::{AllocError, Global};
 
 /// What a call gives where it isn't refused.
-#[derive(Debug, Drop)]
+#[derive(Drop)]
 pub enum Answer {
     Done,
     Handle(u32),

@@ -15,7 +15,7 @@ use crate::word::{WordFault, Words};
 use std::alloc::Global;
 
 /// A call with its arguments.
-#[derive(Debug, Drop, PartialEq, Eq)]
+#[derive(Drop)]
 pub enum Call {
     Create(Vec<u8>),
     Open(Vec<u8>),

@@ -17,14 +17,13 @@ mod source;
 mod word;
 
 pub use answer::Answer;
+pub use call::{Call, parse};
 pub use escape::{put_escaped, read_escaped};
 pub use hexadecimal::{put_hex, read_hex};
+pub use lfs_fs as fs;
 pub use number::{put_number, read_u8, read_u32, read_u64};
 pub use reply::put_reply;
 pub use script::{ScriptEnd, run};
 pub use session::{StoppedScript, use_and_stop, use_each, use_volume};
 pub use sink::Stopped;
 pub use word::WordFault;
-
-#[cfg(test)]
-mod tests;

@@ -10,7 +10,7 @@ use std::io::Read;
 pub const LONGEST: usize = 140_000;
 
 /// How a line ended.
-#[derive(Clone, Copy, Debug, PartialEq, Eq)]
+#[derive(Clone, Copy, PartialEq, Eq)]
 pub enum LineEnd {
     Newline,
     /// The input ended.

@@ -9,7 +9,7 @@ use std::io::Read;
 const CHUNK: usize = 4096;
 
 /// The reader failed, or gave 2^64 - 1 bytes with no end.
-#[derive(Clone, Copy, Debug, PartialEq, Eq)]
+#[derive(Clone, Copy, PartialEq, Eq)]
 pub struct ReadError;
 
 /// What was read and not yet taken.

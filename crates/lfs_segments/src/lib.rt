@@ -8,6 +8,3 @@ mod usage;
 pub use chunk::{ChunkWriter, write};
 pub use state::{SegmentState, UsageBlock};
 pub use usage::Usage;
-
-#[cfg(test)]
-mod tests;

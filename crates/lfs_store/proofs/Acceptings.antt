@@ -8,11 +8,11 @@ use Rattle.lfs_model.specs.Stands.{LogMap}
 use Rattle.lfs_model.specs.TreeOf.{dropped}
 use Rattle.lfs_model.proofs.Moments.{carries_none, carries_then, started, joined, weaker}
 use Rattle.lfs_model.proofs.Settled.{settled_stands}
-use Rattle.lfs_segments.specs.Table.{clean_in}
-use Rattle.lfs_memory.specs.declared.changes.Changes.{Changes}
-use Rattle.lfs_memory.specs.Batch.{room_for}
-use Rattle.lfs_memory.proofs.Looses.{loose}
-use Rattle.lfs_memory.proofs.Presents.{looks_quiet}
+use Rattle.lfs_log.specs.segments.Table.{clean_in}
+use Rattle.lfs_log.specs.memory.declared.changes.Changes.{Changes}
+use Rattle.lfs_log.specs.memory.Batch.{room_for}
+use Rattle.lfs_log.proofs.of_memory.Looses.{loose}
+use Rattle.lfs_log.proofs.of_memory.Presents.{looks_quiet}
 use Rattle.lfs_log.proofs.Volumes.{same_segments}
 use Rattle.lfs_log.specs.Held.{Held, Holds, IsSaved, Saves, Alters, IsStaged, IsRefused, IsStageFault}
 use Rattle.lfs_store.specs.Accepting.{HasClean, Stores, StoresOver, LeavesEither, Commits, MakesRoom, Accepts, Declines, IsAcceptFault}

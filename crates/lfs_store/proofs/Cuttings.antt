@@ -12,15 +12,15 @@ use Rattle.lfs_model.specs.Fields.{zeros}
 use Rattle.lfs_model.specs.Memory.{parent}
 use Rattle.lfs_model.specs.Stands.{LogMap}
 use Rattle.lfs_model.proofs.ObjectBytes.{lengthened}
-use Rattle.lfs_memory.specs.declared.batch.Cut.{Cut}
-use Rattle.lfs_memory.specs.declared.batch.Loss.{Loss}
-use Rattle.lfs_memory.specs.declared.batch.Loss.TheVariants.{Blocks}
-use Rattle.lfs_memory.specs.declared.changes.Changes.{Changes}
-use Rattle.lfs_memory.specs.declared.header.Header.{Header}
-use Rattle.lfs_memory.specs.Batch.{IsNoChange, is_lost, staged, FitsBatch}
-use Rattle.lfs_memory.specs.Changing.{stored}
-use Rattle.lfs_memory.specs.Cutting.{cut_from}
-use Rattle.lfs_memory.specs.Present.{BlockAnswer, as_header}
+use Rattle.lfs_log.specs.memory.declared.batch.Cut.{Cut}
+use Rattle.lfs_log.specs.memory.declared.batch.Loss.{Loss}
+use Rattle.lfs_log.specs.memory.declared.batch.Loss.TheVariants.{Blocks}
+use Rattle.lfs_log.specs.memory.declared.changes.Changes.{Changes}
+use Rattle.lfs_log.specs.memory.declared.header.Header.{Header}
+use Rattle.lfs_log.specs.memory.Batch.{IsNoChange, is_lost, staged, FitsBatch}
+use Rattle.lfs_log.specs.memory.Changing.{stored}
+use Rattle.lfs_log.specs.memory.Cutting.{cut_from}
+use Rattle.lfs_log.specs.memory.Present.{BlockAnswer, as_header}
 use Rattle.lfs_log.specs.Held.{Held, Reads}
 use Rattle.lfs_store.specs.Drafting.{PutsBlock, PutsHeader, TakesBlock}
 use Rattle.lfs_store.specs.Pieces.{CutsTail, CutSoFar, CutBlocks}

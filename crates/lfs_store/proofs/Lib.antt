@@ -24,3 +24,5 @@ pub mod Recountings
 pub mod Recounted
 pub mod Forgotten
 pub mod TreeTotals
+pub use Rattle.lfs_log.proofs as of_log
+pub use Rattle.lfs_log.proofs.of_memory

@@ -3,10 +3,10 @@ use Rattle.std.proofs.Common.{refl, sym, ◌∙◌, subst, arith}
 use Rattle.lfs_model.specs.Checkpoint.{CheckpointValue}
 use Rattle.lfs_model.specs.Device.{DeviceState, IsLawful}
 use Rattle.lfs_model.specs.Stands.{LogMap}
-use Rattle.lfs_memory.specs.declared.memory.LogMemory.{LogMemory}
-use Rattle.lfs_memory.specs.Memory.{IsLog}
-use Rattle.lfs_memory.proofs.Looses.{loose, tight_again}
-use Rattle.lfs_memory.proofs.Presents.{looks_none, looks_then, still_log}
+use Rattle.lfs_log.specs.memory.declared.memory.LogMemory.{LogMemory}
+use Rattle.lfs_log.specs.memory.Memory.{IsLog}
+use Rattle.lfs_log.proofs.of_memory.Looses.{loose, tight_again}
+use Rattle.lfs_log.proofs.of_memory.Presents.{looks_none, looks_then, still_log}
 use Rattle.lfs_log.specs.Held.{Held, Holds, Reads, IsReadFault}
 
 module _ {D : Type 0} (state : D → DeviceState) where

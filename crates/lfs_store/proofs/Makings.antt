@@ -10,16 +10,16 @@ use Rattle.lfs_model.specs.Memory.{is_unlinked}
 use Rattle.lfs_model.specs.Objects.{IsChangedAt, IsObject}
 use Rattle.lfs_model.specs.Stands.{LogMap}
 use Rattle.lfs_model.proofs.ObjectMaps.{object_kept, object_lost}
-use Rattle.lfs_memory.specs.declared.batch.LastLink.{LastLink}
-use Rattle.lfs_memory.specs.declared.batch.Removal.{Removal}
-use Rattle.lfs_memory.specs.declared.batch.Loss.TheVariants.{Link, File}
-use Rattle.lfs_memory.specs.declared.changes.Changes.{Changes}
-use Rattle.lfs_memory.specs.declared.header.Header.{Header}
-use Rattle.lfs_memory.specs.Batch.{IsNoChange, staged}
-use Rattle.lfs_memory.specs.Changing.{FitsHeader, header_with, with_header}
-use Rattle.lfs_memory.specs.Present.{as_header}
-use Rattle.lfs_memory.specs.Removing.{without_file}
-use Rattle.lfs_memory.proofs.LogMaps.{is_with_header}
+use Rattle.lfs_log.specs.memory.declared.batch.LastLink.{LastLink}
+use Rattle.lfs_log.specs.memory.declared.batch.Removal.{Removal}
+use Rattle.lfs_log.specs.memory.declared.batch.Loss.TheVariants.{Link, File}
+use Rattle.lfs_log.specs.memory.declared.changes.Changes.{Changes}
+use Rattle.lfs_log.specs.memory.declared.header.Header.{Header}
+use Rattle.lfs_log.specs.memory.Batch.{IsNoChange, staged}
+use Rattle.lfs_log.specs.memory.Changing.{FitsHeader, header_with, with_header}
+use Rattle.lfs_log.specs.memory.Present.{as_header}
+use Rattle.lfs_log.specs.memory.Removing.{without_file}
+use Rattle.lfs_log.proofs.of_memory.LogMaps.{is_with_header}
 use Rattle.lfs_store.specs.Drafting.{PutsHeader, LosesOnly}
 use Rattle.lfs_store.specs.Making.{Makes, SetsLinks, Removes, relinked}
 use Rattle.lfs_store.proofs.Apart.{no_change}

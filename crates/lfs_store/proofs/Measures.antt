@@ -9,10 +9,10 @@ use Rattle.lfs_model.specs.Entry as entry
 use Rattle.lfs_model.specs.Need.{pointers}
 use Rattle.lfs_model.specs.Objects.{is_stored, stored_blocks}
 use Rattle.lfs_model.specs.Stands.{LogMap}
-use Rattle.lfs_memory.specs.declared.changes.Changes.{Changes}
-use Rattle.lfs_memory.specs.declared.header.Header.{Header}
-use Rattle.lfs_memory.specs.Batch.{staged}
-use Rattle.lfs_memory.specs.Present.{as_header}
+use Rattle.lfs_log.specs.memory.declared.changes.Changes.{Changes}
+use Rattle.lfs_log.specs.memory.declared.header.Header.{Header}
+use Rattle.lfs_log.specs.memory.Batch.{staged}
+use Rattle.lfs_log.specs.memory.Present.{as_header}
 use Rattle.lfs_log.specs.Held.{Held, Holds, Reads}
 use Rattle.lfs_store.specs.declared.totals.Measure.{Measure}
 use Rattle.lfs_store.specs.declared.totals.Totals.{Totals}

@@ -14,8 +14,8 @@ use Rattle.lfs_model.specs.Stands.{LogMap, StandsAt}
 use Rattle.lfs_model.specs.TreeOf.{dropped, kept}
 use Rattle.lfs_model.proofs.Decodes.{are_sized, decoding}
 use Rattle.lfs_model.proofs.Decoding.{value_found}
-use Rattle.lfs_memory.specs.declared.changes.Changes.{Changes}
-use Rattle.lfs_memory.specs.Batch.{IsNoChange}
+use Rattle.lfs_log.specs.memory.declared.changes.Changes.{Changes}
+use Rattle.lfs_log.specs.memory.Batch.{IsNoChange}
 use Rattle.lfs_log.specs.Held.{Held, Mounts, Reads, IsReadFault}
 use Rattle.lfs_log.specs.Opening.{IsOpenFault}
 use Rattle.lfs_store.specs.declared.totals.Totals.{Totals}

@@ -4,12 +4,12 @@ use Rattle.std.proofs.Common.{◌≡◌, ℕ, Bool, true, false, not, List, leng
 use Rattle.lfs_model.specs.Device.{DeviceState}
 use Rattle.lfs_model.specs.Fields.{zeros}
 use Rattle.lfs_model.specs.Stands.{LogMap}
-use Rattle.lfs_memory.specs.declared.changes.Changes.{Changes}
-use Rattle.lfs_memory.specs.declared.header.Header.{Header}
-use Rattle.lfs_memory.specs.Batch.{staged}
-use Rattle.lfs_memory.specs.Changing.{stored}
-use Rattle.lfs_memory.specs.Present.{HeaderAnswer, BlockAnswer}
-use Rattle.lfs_memory.proofs.LogMaps.{stored_none, stored_some}
+use Rattle.lfs_log.specs.memory.declared.changes.Changes.{Changes}
+use Rattle.lfs_log.specs.memory.declared.header.Header.{Header}
+use Rattle.lfs_log.specs.memory.Batch.{staged}
+use Rattle.lfs_log.specs.memory.Changing.{stored}
+use Rattle.lfs_log.specs.memory.Present.{HeaderAnswer, BlockAnswer}
+use Rattle.lfs_log.proofs.of_memory.LogMaps.{stored_none, stored_some}
 use Rattle.lfs_log.specs.Held as held
 use Rattle.lfs_log.specs.Held.{Held}
 use Rattle.lfs_store.specs.Drafting.{DraftsHeader}

@@ -7,15 +7,15 @@ use Rattle.lfs_model.specs.Entry.{Header}
 use Rattle.lfs_model.specs.Need.{pointers}
 use Rattle.lfs_model.specs.Objects.{IsChangedAt, is_stored, stored_below, stored_blocks}
 use Rattle.lfs_model.specs.Stands.{LogMap}
-use Rattle.lfs_memory.specs.declared.changes.Changes.{Changes}
-use Rattle.lfs_memory.specs.declared.header.Header as headers
-use Rattle.lfs_memory.specs.Batch.{IsNoChange, staged}
-use Rattle.lfs_memory.specs.Changing.{with_header}
-use Rattle.lfs_memory.specs.Present.{as_header}
-use Rattle.lfs_memory.specs.Removing.{without_file}
-use Rattle.lfs_memory.proofs.LogMaps.{is_with_header}
-use Rattle.lfs_memory.proofs.Presents.{looks_then}
-use Rattle.lfs_segments.specs.Table.{clean_in}
+use Rattle.lfs_log.specs.memory.declared.changes.Changes.{Changes}
+use Rattle.lfs_log.specs.memory.declared.header.Header as headers
+use Rattle.lfs_log.specs.memory.Batch.{IsNoChange, staged}
+use Rattle.lfs_log.specs.memory.Changing.{with_header}
+use Rattle.lfs_log.specs.memory.Present.{as_header}
+use Rattle.lfs_log.specs.memory.Removing.{without_file}
+use Rattle.lfs_log.proofs.of_memory.LogMaps.{is_with_header}
+use Rattle.lfs_log.proofs.of_memory.Presents.{looks_then}
+use Rattle.lfs_log.specs.segments.Table.{clean_in}
 use Rattle.lfs_log.specs.Held.{Held, Reads, Alters, IsKept, IsRemoved}
 use Rattle.lfs_store.specs.declared.totals.Measure.{Measure}
 use Rattle.lfs_store.specs.declared.totals.Totals.{Totals}

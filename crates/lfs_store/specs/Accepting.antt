@@ -7,10 +7,10 @@ use Rattle.lfs_model.specs.Encodes.{IsLogMap}
 use Rattle.lfs_model.specs.Memory.{is_nameless}
 use Rattle.lfs_model.specs.Stands.{LogMap, StandsLog}
 use Rattle.lfs_model.specs.TreeOf.{dropped}
-use Rattle.lfs_memory.specs.declared.changes.Changes.{Changes}
-use Rattle.lfs_memory.specs.Batch.{staged, FitsBatch}
-use Rattle.lfs_memory.specs.Removing.{without_file}
-use Rattle.lfs_segments.specs.Table.{clean_in}
+use Rattle.lfs_log.specs.memory.declared.changes.Changes.{Changes}
+use Rattle.lfs_log.specs.memory.Batch.{staged, FitsBatch}
+use Rattle.lfs_log.specs.memory.Removing.{without_file}
+use Rattle.lfs_log.specs.segments.Table.{clean_in}
 use Rattle.lfs_log.specs.Held.{Held, Holds, IsSaved}
 
 -- enough segments are clean for a commit

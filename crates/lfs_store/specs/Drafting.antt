@@ -5,19 +5,19 @@ use Rattle.lfs_model.specs.Encodes.{HasInode}
 use Rattle.lfs_model.specs.Entry.{Data, Inode}
 use Rattle.lfs_model.specs.Memory.{parent, is_nameless}
 use Rattle.lfs_model.specs.Stands.{LogMap}
-use Rattle.lfs_memory.specs.declared.batch.BlockEdit.{BlockEdit}
-use Rattle.lfs_memory.specs.declared.batch.HeaderEdit.{HeaderEdit}
-use Rattle.lfs_memory.specs.declared.batch.Cut.{Cut}
-use Rattle.lfs_memory.specs.declared.batch.LastLink.{LastLink}
-use Rattle.lfs_memory.specs.declared.batch.Removal.{Removal}
-use Rattle.lfs_memory.specs.declared.batch.Loss.{Loss}
-use Rattle.lfs_memory.specs.declared.batch.Loss.TheVariants.{Nothing, Blocks, Link, File}
-use Rattle.lfs_memory.specs.declared.changes.Changes.{Changes}
-use Rattle.lfs_memory.specs.declared.header.Header.{Header}
-use Rattle.lfs_memory.specs.Batch.{lost, is_lost, staged, FitsLoss, FitsBatch, IsNoChange}
-use Rattle.lfs_memory.specs.Changing.{FitsHeader, stored, with_block, with_header}
-use Rattle.lfs_memory.specs.Preparing.{IsWithin}
-use Rattle.lfs_memory.specs.Present.{as_header}
+use Rattle.lfs_log.specs.memory.declared.batch.BlockEdit.{BlockEdit}
+use Rattle.lfs_log.specs.memory.declared.batch.HeaderEdit.{HeaderEdit}
+use Rattle.lfs_log.specs.memory.declared.batch.Cut.{Cut}
+use Rattle.lfs_log.specs.memory.declared.batch.LastLink.{LastLink}
+use Rattle.lfs_log.specs.memory.declared.batch.Removal.{Removal}
+use Rattle.lfs_log.specs.memory.declared.batch.Loss.{Loss}
+use Rattle.lfs_log.specs.memory.declared.batch.Loss.TheVariants.{Nothing, Blocks, Link, File}
+use Rattle.lfs_log.specs.memory.declared.changes.Changes.{Changes}
+use Rattle.lfs_log.specs.memory.declared.header.Header.{Header}
+use Rattle.lfs_log.specs.memory.Batch.{lost, is_lost, staged, FitsLoss, FitsBatch, IsNoChange}
+use Rattle.lfs_log.specs.memory.Changing.{FitsHeader, stored, with_block, with_header}
+use Rattle.lfs_log.specs.memory.Preparing.{IsWithin}
+use Rattle.lfs_log.specs.memory.Present.{as_header}
 
 -- ---- the last edit of a header
 

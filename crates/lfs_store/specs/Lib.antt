@@ -7,3 +7,6 @@ pub mod Accepting
 pub mod Totals
 pub mod Measuring
 pub mod Recounting
+pub use Rattle.lfs_log.specs as log
+pub use Rattle.lfs_log.specs.memory
+pub use Rattle.lfs_log.specs.segments

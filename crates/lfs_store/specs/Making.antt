@@ -5,12 +5,12 @@ use Rattle.lfs_model.specs.declared.Kind.TheVariants as kind
 use Rattle.lfs_model.specs.Encodes.{IsLogMap}
 use Rattle.lfs_model.specs.Entry.{Inode}
 use Rattle.lfs_model.specs.Stands.{LogMap}
-use Rattle.lfs_memory.specs.declared.changes.Changes.{Changes}
-use Rattle.lfs_memory.specs.declared.header.Header.{Header}
-use Rattle.lfs_memory.specs.Batch.{is_lost, staged, FitsBatch}
-use Rattle.lfs_memory.specs.Changing.{FitsHeader, with_header}
-use Rattle.lfs_memory.specs.Present.{as_header}
-use Rattle.lfs_memory.specs.Removing.{without_file}
+use Rattle.lfs_log.specs.memory.declared.changes.Changes.{Changes}
+use Rattle.lfs_log.specs.memory.declared.header.Header.{Header}
+use Rattle.lfs_log.specs.memory.Batch.{is_lost, staged, FitsBatch}
+use Rattle.lfs_log.specs.memory.Changing.{FitsHeader, with_header}
+use Rattle.lfs_log.specs.memory.Present.{as_header}
+use Rattle.lfs_log.specs.memory.Removing.{without_file}
 
 -- the links of a file that is made: a directory has its own besides its name
 abbrev pub first_links : Kind → ℕ

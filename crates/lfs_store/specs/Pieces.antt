@@ -6,8 +6,8 @@ use Rattle.lfs_model.specs.Entry.{Header}
 use Rattle.lfs_model.specs.Objects.{byte_in, Overlays, IsChangedAt, AreWhole, WritesBytes, CutsBytes}
 use Rattle.lfs_model.specs.Stands.{LogMap}
 use Rattle.lfs_model.specs.TreeOf.{object}
-use Rattle.lfs_memory.specs.Changing.{stored}
-use Rattle.lfs_memory.specs.Cutting.{cut_from}
+use Rattle.lfs_log.specs.memory.Changing.{stored}
+use Rattle.lfs_log.specs.memory.Cutting.{cut_from}
 
 -- ---- one block
 

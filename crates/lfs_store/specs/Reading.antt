@@ -7,11 +7,11 @@ use Rattle.lfs_model.specs.Entry as entry
 use Rattle.lfs_model.specs.Objects.{byte_in}
 use Rattle.lfs_model.specs.Stands.{LogMap}
 use Rattle.lfs_model.specs.TreeOf.{object}
-use Rattle.lfs_memory.specs.declared.batch.Loss.{Loss}
-use Rattle.lfs_memory.specs.declared.changes.Changes.{Changes}
-use Rattle.lfs_memory.specs.declared.header.Header.{Header}
-use Rattle.lfs_memory.specs.Batch.{lost, staged}
-use Rattle.lfs_memory.specs.Present.{HeaderAnswer, BlockAnswer}
+use Rattle.lfs_log.specs.memory.declared.batch.Loss.{Loss}
+use Rattle.lfs_log.specs.memory.declared.changes.Changes.{Changes}
+use Rattle.lfs_log.specs.memory.declared.header.Header.{Header}
+use Rattle.lfs_log.specs.memory.Batch.{lost, staged}
+use Rattle.lfs_log.specs.memory.Present.{HeaderAnswer, BlockAnswer}
 use Rattle.lfs_log.specs.Held.{Held, Holds}
 
 -- ---- what a file loses

@@ -6,14 +6,14 @@ use Rattle.lfs_model.specs.Device.{DeviceState}
 use Rattle.lfs_model.specs.Encodes.{IsLogMap, HasInode}
 use Rattle.lfs_model.specs.Objects.{IsChangedAt, AreWhole, WritesBytes, CutsBytes}
 use Rattle.lfs_model.specs.Stands.{LogMap}
-use Rattle.lfs_memory.specs.declared.batch.Cut.{Cut}
-use Rattle.lfs_memory.specs.declared.batch.Loss.{Loss}
-use Rattle.lfs_memory.specs.declared.batch.Loss.TheVariants.{Nothing, Blocks}
-use Rattle.lfs_memory.specs.declared.changes.Changes.{Changes}
-use Rattle.lfs_memory.specs.declared.header.Header.{Header}
-use Rattle.lfs_memory.specs.Batch.{staged, FitsBatch}
-use Rattle.lfs_memory.specs.Changing.{FitsHeader}
-use Rattle.lfs_memory.specs.Present.{as_header}
+use Rattle.lfs_log.specs.memory.declared.batch.Cut.{Cut}
+use Rattle.lfs_log.specs.memory.declared.batch.Loss.{Loss}
+use Rattle.lfs_log.specs.memory.declared.batch.Loss.TheVariants.{Nothing, Blocks}
+use Rattle.lfs_log.specs.memory.declared.changes.Changes.{Changes}
+use Rattle.lfs_log.specs.memory.declared.header.Header.{Header}
+use Rattle.lfs_log.specs.memory.Batch.{staged, FitsBatch}
+use Rattle.lfs_log.specs.memory.Changing.{FitsHeader}
+use Rattle.lfs_log.specs.memory.Present.{as_header}
 use Rattle.lfs_log.specs.Held.{Held, Holds}
 use Rattle.lfs_store.specs.Drafting.{IsApart, TakesBlock}
 use Rattle.lfs_store.specs.Pieces.{WriteSoFar, CutBlocks}

@@ -1,9 +1,9 @@
 //! A store from its mount on: a draft is staged after room is made for it, and a commit saves what was staged.
 ghost use Rattle.std.specs.Prelude.{◌≡◌, ◌≢◌, ◌<◌, ◌≤◌, ◌+◌, ◌/◌, true, false, length, IfOk, IfErr, OnOk, OnErr, IsErrOf, ◌⊎◌, MatchResult, IsTrue, IsFalse};
 ghost use Rattle.lfs_model.specs.Device.{Only, IsUntouched, Carries, LeavesOnly};
-ghost use Rattle.lfs_segments.specs.Table.{clean_in};
+ghost use Rattle.lfs_log.specs.segments.Table.{clean_in};
 ghost use Rattle.lfs_log.specs.Opening.{IsOpenFault};
-ghost use Rattle.lfs_memory.specs.Batch.{IsNoChange, room_for};
+ghost use Rattle.lfs_log.specs.memory.Batch.{IsNoChange, room_for};
 
 use crate::draft::Draft;
 use crate::store::Store;
@@ -231,6 +231,3 @@ impl<D: SectorDevice> Store<D> {
         outcome
     }
 }
-
-#[cfg(test)]
-mod tests;

@@ -1,6 +1,6 @@
 //! What a call will change, before it is staged.
 ghost use Rattle.std.specs.Prelude.{◌≡◌, ◌≤◌, ◌+◌, length, IfSome, IfNone, IfOk, OnOk, OnErr, IsTrue, IsFalse};
-ghost use Rattle.lfs_memory.specs.Batch.{IsNoChange};
+ghost use Rattle.lfs_log.specs.memory.Batch.{IsNoChange};
 ghost use Rattle.lfs_store.specs.Drafting.{HeaderPlace, DraftsHeader, PutsHeader, IsBlock, BlockPlace, DraftsBlock, LeavesBlock, PutsBlock, LosesOnly, IsAsBefore};
 ghost use Rattle.lfs_store.specs.Reading.{SaysHeader, SaysBlock};
 ghost use Rattle.lfs_model.specs.Fields.{zeros};

@@ -13,11 +13,10 @@ mod reading;
 mod recounting;
 mod store;
 pub mod totals;
-#[cfg(test)]
-mod volume;
 mod writing;
 
 pub use draft::Draft;
 pub use fault::StoreFault;
+pub use lfs_log::{Header, Log, LogFault, MountFault};
 pub use store::Store;
 pub use totals::{Measure, Totals};

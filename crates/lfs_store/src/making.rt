@@ -1,6 +1,6 @@
 //! Files made in the draft, their links, and files that go.
 ghost use Rattle.std.specs.Prelude.{◌≡◌, ◌≤◌, IfSome, IfNone, IfErr, OnOk, OnErr};
-ghost use Rattle.lfs_memory.specs.Batch.{IsNoChange};
+ghost use Rattle.lfs_log.specs.memory.Batch.{IsNoChange};
 ghost use Rattle.lfs_store.specs.Recounting.{CountsMade, CountsRelinked};
 ghost use Rattle.lfs_store.specs.Making.{Makes, SetsLinks, Removes, first_links, first_header};
 
@@ -12,9 +12,6 @@ use crate::totals::{Measure, NO_BLOCK};
 use lfs_device::SectorDevice;
 use lfs_log::{Header, LastLink, LogFault, Loss, Removal};
 use lfs_model::Kind;
-
-#[cfg(test)]
-mod tests;
 
 /// The links of a file that is made.
 fn first_links(kind: Kind) -> u32

@@ -8,8 +8,8 @@ use crate::losing::takes_block;
 use crate::store::Store;
 use crate::totals::{Measure, Totals};
 use lfs_device::SectorDevice;
-use lfs_inodes::{DIRECT, POINTERS};
 use lfs_layout::is_zero;
+use lfs_log::memory::inodes::{DIRECT, POINTERS};
 use lfs_log::{BlockEdit, LogFault, Loss};
 
 /// How many files a volume has at most, and the number that no file has.
@@ -305,6 +305,3 @@ fn is_below(edit: &BlockEdit, number: u16, leaf: u32) -> bool
     let first = DIRECT + POINTERS * leaf;
     edit.number == number && first <= edit.index && edit.index < first + POINTERS
 }
-
-#[cfg(test)]
-mod tests;

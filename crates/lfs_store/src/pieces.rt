@@ -4,9 +4,6 @@ ghost use Rattle.lfs_store.specs.Pieces.{BlockOverlays, CutsTail, part_of_block,
 
 use std::alloc::AllocError;
 
-#[cfg(test)]
-mod tests;
-
 /// Where a place of a file lies in its block at an index: 0 where it lies before, 512 where it lies behind.
 fn place_in_block(at: u32, index: u32) -> usize
     requires { index ≤ 16623 }

@@ -7,9 +7,6 @@ use crate::totals::{Measure, Totals};
 use lfs_device::SectorDevice;
 use lfs_log::LogFault;
 
-#[cfg(test)]
-mod tests;
-
 /// A total with one share in place of another.
 fn replaced(total: u32, before: u32, after: u32) -> u32
     ensures { Replaces total before after result }

@@ -71,6 +71,3 @@ impl<D: SectorDevice> Store<D> {
         }
     }
 }
-
-#[cfg(test)]
-mod tests;

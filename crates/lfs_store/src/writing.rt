@@ -1,6 +1,6 @@
 //! Bytes written to a file and cut off it, into the draft.
 ghost use Rattle.std.specs.Prelude.{◌≡◌, ◌<◌, ◌≤◌, ◌+◌, ◌%◌, true, length, IfErr, OnOk, IsErrOf};
-ghost use Rattle.lfs_memory.specs.Batch.{IsNoChange};
+ghost use Rattle.lfs_log.specs.memory.Batch.{IsNoChange};
 ghost use Rattle.lfs_store.specs.Drafting.{PutsHeader};
 
 use crate::fault::StoreFault;
@@ -9,9 +9,6 @@ use crate::pieces::{cut_tail, overlay};
 use crate::store::Store;
 use lfs_device::SectorDevice;
 use lfs_log::{Cut, Header, LogFault, Loss};
-
-#[cfg(test)]
-mod tests;
 
 impl<D: SectorDevice> Store<D> {
     ghost use Rattle.lfs_log.specs.Held.{Reads, IsReadFault};

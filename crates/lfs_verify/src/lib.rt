@@ -24,10 +24,4 @@ pub mod verify;
 pub mod walk;
 
 pub use fault::{VerifyFault, WalkFault};
-
-#[cfg(test)]
-mod data_tests;
-#[cfg(test)]
-mod segment_tests;
-#[cfg(test)]
-mod tests;
+pub use lfs_root as root;

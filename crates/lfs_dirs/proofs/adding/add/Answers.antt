@@ -1,5 +1,5 @@
 use Rattle.std.proofs.Common.{rules, ◌≡◌, ℕ, List, length, ap, sym, ◌∙◌, subst}
-use Rattle.lfs_memory.proofs.Going.{ok_then}
+use Rattle.lfs_store.proofs.of_memory.Going.{ok_then}
 use Rattle.lfs_store.specs.Writing.{Writes}
 use Rattle.lfs_dirs.specs.Adding.{slot_for}
 use Rattle.lfs_dirs.proofs.SlotsAdded.{adds, fits_slot}

@@ -1,7 +1,7 @@
 use Rattle.std.proofs.Common.{◌≡◌, ◌<◌, ◌*◌, ◌-◌, ◌/◌, ◌∙◌, refl, subst, arith}
 use Rattle.std.specs.Prelude.{min}
-use Rattle.lfs_memory.specs.declared.fault.LogFault.TheVariants as LogFault
-use Rattle.lfs_memory.proofs.CutEdges.{other_result}
+use Rattle.lfs_store.specs.memory.declared.fault.LogFault.TheVariants as LogFault
+use Rattle.lfs_store.proofs.of_memory.CutEdges.{other_result}
 use Rattle.lfs_dirs.specs.declared.listing.ListFault.TheVariants as ListFault
 use Rattle.lfs_store.specs.declared.draft.Draft.{Draft}
 use Rattle.lfs_dirs.specs.Finding.{IsBlockFault}

@@ -1,5 +1,5 @@
 use Rattle.std.proofs.Common.{rules, ◌≡◌, ◌-◌, ◌/◌, ℕ, length, subst, arith}
-use Rattle.lfs_memory.proofs.Going.{ok_then}
+use Rattle.lfs_store.proofs.of_memory.Going.{ok_then}
 use Rattle.lfs_store.proofs.LogReads.{fault_more, reads_more}
 use Rattle.lfs_dirs.specs.Taking.{ReadsSlot}
 use Rattle.lfs_dirs.proofs.Takings.{drops_last, drops_other}

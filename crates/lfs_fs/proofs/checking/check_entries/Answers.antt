@@ -1,6 +1,6 @@
 use Rattle.std.proofs.Common.{◌≡◌, ◌/◌, ◌∙◌, Err, ap, length, arith}
-use Rattle.lfs_dirs.specs.declared.listing.ListFault.TheVariants as list_fault
-use Rattle.lfs_dirs.specs.Listing.{pairs}
+use Rattle.lfs_path.specs.dirs.declared.listing.ListFault.TheVariants as list_fault
+use Rattle.lfs_path.specs.dirs.Listing.{pairs}
 use Rattle.lfs_fs.specs.Checking.{giving}
 use Rattle.lfs_fs.proofs.TreeChecks.{entries_failed, entries_fewer, entries_found, entries_named, log_failed, same_count}
 use Rattle.lfs_fs.proofs.checking.check_entries.Goals as goal

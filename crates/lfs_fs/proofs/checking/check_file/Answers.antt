@@ -1,7 +1,7 @@
 use Rattle.std.proofs.Common.{subst, ℕ}
 use Rattle.std.specs.Option.{option_map}
-use Rattle.lfs_memory.specs.Present.{as_header}
-use Rattle.lfs_dirs.specs.Listing.{pairs}
+use Rattle.lfs_path.specs.memory.Present.{as_header}
+use Rattle.lfs_path.specs.dirs.Listing.{pairs}
 use Rattle.lfs_fs.specs.Checking.{FitsNumber}
 use Rattle.lfs_fs.proofs.TreeChecks.{damage_told, number_failed, number_fits, number_odd}
 use Rattle.lfs_fs.proofs.checking.check_file.Goals as goal

@@ -1,6 +1,6 @@
 use Rattle.std.proofs.Common.{◌≡◌, ◌+◌, ◌∙◌, refl, subst, ℕ, arith}
-use Rattle.lfs_store.specs.declared.draft.Draft.{Draft}
-use Rattle.lfs_dirs.specs.Listing.{pairs}
+use Rattle.lfs_path.specs.store.declared.draft.Draft.{Draft}
+use Rattle.lfs_path.specs.dirs.Listing.{pairs}
 use Rattle.lfs_fs.specs.Checking.{FindsFiles, LacksFiles}
 use Rattle.lfs_fs.proofs.TreeChecks.{fault_told, files_lack, files_more, files_none}
 use Rattle.lfs_fs.proofs.checking.check_files.Goals as goal

@@ -1,5 +1,5 @@
 use Rattle.std.proofs.Common.{◌≡◌}
-use Rattle.lfs_dirs.specs.Listing.{pairs}
+use Rattle.lfs_path.specs.dirs.Listing.{pairs}
 use Rattle.lfs_fs.proofs.TreeChecks.{FilesUpTo}
 use Rattle.lfs_fs.proofs.checking.check_files.Given as goal
 

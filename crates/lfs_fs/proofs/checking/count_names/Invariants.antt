@@ -1,5 +1,5 @@
 use Rattle.std.proofs.Common.{◌≡◌, ◌≤◌, take}
-use Rattle.lfs_dirs.specs.Listing.{pairs}
+use Rattle.lfs_path.specs.dirs.Listing.{pairs}
 use Rattle.lfs_fs.specs.Checking.{giving}
 use Rattle.lfs_fs.proofs.checking.count_names.Given as goal
 

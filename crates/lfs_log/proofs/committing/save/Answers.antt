@@ -1,6 +1,6 @@
 use Rattle.std.proofs.Common.{◌∙◌, ap}
-use Rattle.lfs_segments.specs.Chunk.{Chunk}
-use Rattle.lfs_inodes.specs.Blocks.{TableValue}
+use Rattle.lfs_memory.specs.segments.Chunk.{Chunk}
+use Rattle.lfs_memory.specs.inodes.Blocks.{TableValue}
 use Rattle.lfs_log.specs.Saving.{CommitFails}
 use Rattle.lfs_log.proofs.committing.save.Goals as goal
 use Rattle.lfs_memory.proofs.Going.{on_err}

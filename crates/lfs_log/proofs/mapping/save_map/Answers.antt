@@ -1,5 +1,5 @@
 use Rattle.std.proofs.Common.{◌≡◌, ◌∙◌, ℕ, ⊎_elim, refl, sym, subst, arith}
-use Rattle.lfs_inodes.specs.MapValue.{block_in}
+use Rattle.lfs_memory.specs.inodes.MapValue.{block_in}
 use Rattle.lfs_memory.specs.Memory.{Stops}
 use Rattle.lfs_log.proofs.mapping.save_map.Goals as goal
 use Rattle.lfs_log.proofs.MapSteps.{maps_out}

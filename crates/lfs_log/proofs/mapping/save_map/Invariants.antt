@@ -1,5 +1,5 @@
 use Rattle.std.proofs.Common.{◌≡◌, ◌≢◌, ◌<◌, ℕ}
-use Rattle.lfs_inodes.specs.MapValue.{IsMap, block_in}
+use Rattle.lfs_memory.specs.inodes.MapValue.{IsMap, block_in}
 use Rattle.lfs_memory.specs.Memory.{Goes}
 use Rattle.lfs_log.proofs.mapping.save_map.Given as goal
 

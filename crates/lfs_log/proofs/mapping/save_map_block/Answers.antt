@@ -1,5 +1,5 @@
 use Rattle.std.proofs.Common.{rules, ◌≡◌, ap, arith}
-use Rattle.lfs_inodes.specs.MapValue.{MapValue, block_in}
+use Rattle.lfs_memory.specs.inodes.MapValue.{MapValue, block_in}
 use Rattle.lfs_memory.specs.Memory.{Stops}
 use Rattle.lfs_log.proofs.mapping.save_map_block.Goals as goal
 use Rattle.lfs_memory.proofs.Going.{on_err, goes_none, goes_at_most, goes_then, stops_then}

@@ -1,6 +1,6 @@
 use Rattle.std.proofs.Common.{true, refl, sym, ap, subst}
-use Rattle.lfs_inodes.specs.Blocks.{TableValue}
-use Rattle.lfs_inodes.specs.MapValue.{MapValue}
+use Rattle.lfs_memory.specs.inodes.Blocks.{TableValue}
+use Rattle.lfs_memory.specs.inodes.MapValue.{MapValue}
 use Rattle.lfs_memory.specs.Memory.{GoesUpTo, IsBlockAt, Stops}
 use Rattle.lfs_log.proofs.mapping.write_map_block.Goals as goal
 use Rattle.lfs_memory.proofs.Going.{on_err}

@@ -1,6 +1,6 @@
 use Rattle.std.proofs.Common.{◌≡◌, ◌<◌, ◌≤◌, ◌+◌, ◌*◌, ◌∙◌, ℕ, length, subst, ap}
 use Rattle.lfs_model.specs.Content.{block}
-use Rattle.lfs_inodes.specs.MapValue.{MapValue}
+use Rattle.lfs_memory.specs.inodes.MapValue.{MapValue}
 use Rattle.lfs_log.specs.Opening.{IsFault}
 use Rattle.lfs_log.proofs.opening.load_map_block.Goals as goal
 use Rattle.lfs_memory.proofs.Going.{on_err}

@@ -1,6 +1,6 @@
 use Rattle.std.proofs.Common.{◌≡◌, ◌∙◌, ap, sym, subst, ℕ}
-use Rattle.lfs_inodes.specs.Blocks.{TableValue}
-use Rattle.lfs_segments.specs.Chunk.{Chunk}
+use Rattle.lfs_memory.specs.inodes.Blocks.{TableValue}
+use Rattle.lfs_memory.specs.segments.Chunk.{Chunk}
 use Rattle.lfs_log.specs.declared.fault.MountFault.TheVariants as fault
 use Rattle.lfs_log.specs.Opening.{IsOpenFault, Opens}
 use Rattle.lfs_log.proofs.opening.open_memory.Goals as goal

@@ -1,9 +1,9 @@
 use Rattle.std.proofs.Common.{rules, ◌≡◌, ◌∙◌, ◌/◌, ◌%◌, ap, sym, subst, arith, not, Some}
 use Rattle.lfs_model.specs.Memory.{file_of}
 use Rattle.lfs_model.specs.Running.{Moves}
-use Rattle.lfs_inodes.specs.MapValue.{MapValue}
-use Rattle.lfs_inodes.specs.Blocks.{TableValue, blocks_of}
-use Rattle.lfs_inodes.specs.Key.{entry_of}
+use Rattle.lfs_memory.specs.inodes.MapValue.{MapValue}
+use Rattle.lfs_memory.specs.inodes.Blocks.{TableValue, blocks_of}
+use Rattle.lfs_memory.specs.inodes.Key.{entry_of}
 use Rattle.lfs_memory.specs.Memory.{IsPointedAt, Stops}
 use Rattle.lfs_log.proofs.placing.write_block.Goals as goal
 use Rattle.lfs_memory.proofs.Going.{on_err}

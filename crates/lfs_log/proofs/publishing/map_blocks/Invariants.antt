@@ -1,5 +1,5 @@
 use Rattle.std.proofs.Common.{◌≡◌, ◌<◌, ℕ, get_or, length}
-use Rattle.lfs_inodes.specs.MapValue.{block_in}
+use Rattle.lfs_memory.specs.inodes.MapValue.{block_in}
 use Rattle.lfs_log.proofs.publishing.map_blocks.Given as goal
 
 abbrev pub invariant-loop-index : goal.invariant-loop-index

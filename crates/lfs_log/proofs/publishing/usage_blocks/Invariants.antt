@@ -1,5 +1,5 @@
 use Rattle.std.proofs.Common.{◌≡◌, ◌<◌, ℕ, get_or, length}
-use Rattle.lfs_segments.specs.Table.{address_of}
+use Rattle.lfs_memory.specs.segments.Table.{address_of}
 use Rattle.lfs_log.proofs.publishing.usage_blocks.Given as goal
 
 abbrev pub invariant-loop-index : goal.invariant-loop-index

@@ -1,5 +1,5 @@
 use Rattle.std.proofs.Common.{rules, ◌≡◌, true}
-use Rattle.lfs_segments.specs.Table.{address_of, stale_of}
+use Rattle.lfs_memory.specs.segments.Table.{address_of, stale_of}
 use Rattle.lfs_memory.proofs.Going.{goes_none, on_err}
 use Rattle.lfs_log.proofs.UsageWrites.{fill_goes_at, write_stops_at}
 use Rattle.lfs_log.proofs.settling.fill_block.Goals as goal

@@ -1,5 +1,5 @@
 use Rattle.std.proofs.Common.{◌≡◌, ◌<◌, ℕ, false}
-use Rattle.lfs_segments.specs.Table.{address_of, stale_of}
+use Rattle.lfs_memory.specs.segments.Table.{address_of, stale_of}
 use Rattle.lfs_memory.specs.Memory.{Goes}
 use Rattle.lfs_log.specs.Settling.{AreAnew, blocks_in}
 use Rattle.lfs_log.proofs.settling.fill_usage.Given as goal

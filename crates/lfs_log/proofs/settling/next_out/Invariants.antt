@@ -1,5 +1,5 @@
 use Rattle.std.proofs.Common.{◌≡◌, ◌<◌, ℕ, true}
-use Rattle.lfs_segments.specs.Table.{stale_of}
+use Rattle.lfs_memory.specs.segments.Table.{stale_of}
 use Rattle.lfs_log.specs.Settling.{IsAnew, blocks_in}
 use Rattle.lfs_log.proofs.settling.next_out.Given as goal
 

@@ -1,5 +1,5 @@
 use Rattle.std.proofs.Common.{subst, sym}
-use Rattle.lfs_segments.specs.Table.{UsageTable}
+use Rattle.lfs_memory.specs.segments.Table.{UsageTable}
 use Rattle.lfs_model.proofs.Moments.{carries_none}
 use Rattle.lfs_log.specs.Settling.{IsResettled}
 use Rattle.lfs_memory.proofs.Going.{on_err}

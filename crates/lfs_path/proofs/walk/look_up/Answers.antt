@@ -1,5 +1,5 @@
 use Rattle.std.proofs.Common.{subst}
-use Rattle.lfs_store.specs.declared.draft.Draft.{Draft}
+use Rattle.lfs_dirs.specs.store.declared.draft.Draft.{Draft}
 use Rattle.lfs_dirs.specs.Finding.{Finds, IsDirectoryFault}
 use Rattle.lfs_path.proofs.Lookups.{long_refused, no_root, header_failed, found_file, found_none, find_failed}
 use Rattle.lfs_path.proofs.walk.look_up.Goals as goal

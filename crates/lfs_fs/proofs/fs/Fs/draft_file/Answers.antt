@@ -1,7 +1,7 @@
 use Rattle.std.proofs.Common.{Err, ap, subst, sym, ◌∙◌}
-use Rattle.lfs_log.specs.Held.{Held, IsReadFault}
-use Rattle.lfs_store.specs.Recounting.{Counts}
-use Rattle.lfs_dirs.specs.Adding.{Adds}
+use Rattle.lfs_path.specs.log.Held.{Held, IsReadFault}
+use Rattle.lfs_path.specs.store.Recounting.{Counts}
+use Rattle.lfs_path.specs.dirs.Adding.{Adds}
 use Rattle.lfs_fs.proofs.NameLooks.{none_drafted}
 use Rattle.lfs_fs.proofs.fs.Fs.draft_file.Goals as goal
 

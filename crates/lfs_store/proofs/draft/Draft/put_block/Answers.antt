@@ -1,6 +1,6 @@
 use Rattle.std.proofs.Common.{List, refl, subst}
-use Rattle.lfs_memory.specs.declared.batch.BlockEdit.{BlockEdit}
-use Rattle.lfs_memory.proofs.Going.{ok_then}
+use Rattle.lfs_log.specs.memory.declared.batch.BlockEdit.{BlockEdit}
+use Rattle.lfs_log.proofs.of_memory.Going.{ok_then}
 use Rattle.lfs_store.specs.Drafting.{LastBlock}
 use Rattle.lfs_store.proofs.Fitting.{block_replaced, block_appended}
 use Rattle.lfs_store.proofs.draft.Draft.put_block.Goals as goal

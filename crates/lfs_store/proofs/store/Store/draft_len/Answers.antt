@@ -1,5 +1,5 @@
 use Rattle.std.proofs.Common.{rules, subst, sym}
-use Rattle.lfs_memory.proofs.Going.{ok_then}
+use Rattle.lfs_log.proofs.of_memory.Going.{ok_then}
 use Rattle.lfs_log.specs.Held.{Held}
 use Rattle.lfs_store.specs.Writing.{SetsLen}
 use Rattle.lfs_store.proofs.Cuttings.{sets_shorter, sets_longer}

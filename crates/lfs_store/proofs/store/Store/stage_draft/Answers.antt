@@ -1,7 +1,7 @@
 use Rattle.std.proofs.Common.{rules, ◌≡◌, false, ap, subst, Err}
 use Rattle.lfs_store.specs.declared.draft.Draft.{Draft}
-use Rattle.lfs_memory.specs.declared.fault.LogFault.TheVariants.{Full, Device}
-use Rattle.lfs_memory.proofs.Going.{ok_then}
+use Rattle.lfs_log.specs.memory.declared.fault.LogFault.TheVariants.{Full, Device}
+use Rattle.lfs_log.proofs.of_memory.Going.{ok_then}
 use Rattle.lfs_store.specs.Accepting.{Accepts, Declines, IsAcceptFault}
 use Rattle.lfs_store.proofs.Acceptings.{accepts, declines, declines_full, accept_fault, where_err}
 use Rattle.lfs_store.proofs.store.Store.stage_draft.Goals as goal

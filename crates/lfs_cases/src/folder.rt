@@ -1,0 +1,80 @@
+//! The files of the folder.
+use crate::case::{Case, Tally, check};
+use anyhow::{Context, Result, bail};
+use std::rt::Files;
+use std::{fs, io};
+
+/// The number of segments that a case's name tells.
+fn segments_of(name: &str) -> Result<u16> {
+    match name.rsplit_once('.') {
+        Some((_, count)) => count
+            .parse::<u16>()
+            .context(format_args!("segments of {name}")),
+        None => Ok(64),
+    }
+}
+
+/// The text of a file, or none where it isn't there.
+fn text_of<R: Files + AllocGlobal>(rt: &R, name: &str, ending: &str) -> Result<Option<String>> {
+    let file = format!(in rt.alloc(); "{name}.{ending}")?;
+    match fs::read_to_string(rt, file.as_str()) {
+        Ok(text) => Ok(Some(text)),
+        Err(fault) if fault.kind() == io::ErrorKind::NotFound => Ok(None),
+        Err(fault) => Err(fault.into()),
+    }
+}
+
+fn check_script<R: Files + Print + AllocGlobal>(
+    rt: &R,
+    name: &str,
+    tally: &mut Tally,
+) -> Result<()> {
+    let script = text_of(rt, name, "script")?.context(format_args!("no script of {name}"))?;
+    let replies = text_of(rt, name, "replies")?.context(format_args!("no replies of {name}"))?;
+    let tree = text_of(rt, name, "tree")?;
+    let case = Case {
+        name,
+        segments: segments_of(name)?,
+        script: script.as_str(),
+        replies: replies.as_str(),
+        tree,
+    };
+    check(rt, &case, tally)
+}
+
+fn check_bad_lines<R: Files + Print + AllocGlobal>(
+    rt: &R,
+    name: &str,
+    tally: &mut Tally,
+) -> Result<()> {
+    let lines = text_of(rt, name, "bad")?.context(format_args!("no lines of {name}"))?;
+    for line in lines.split_terminator('\n') {
+        let case = Case {
+            name: line,
+            segments: 64,
+            script: line,
+            replies: "bad 1\n",
+            tree: None,
+        };
+        check(rt, &case, tally)?;
+    }
+    Ok(())
+}
+
+/// Checks what a file holds, if its name has an ending. A script brings its replies and its tree with it, which never stand alone.
+pub fn check_file<R: Files + Print + AllocGlobal>(
+    rt: &R,
+    file: &str,
+    tally: &mut Tally,
+) -> Result<()> {
+    match file.rsplit_once('.') {
+        Some((name, "script")) => check_script(rt, name, tally),
+        Some((name, "bad")) => check_bad_lines(rt, name, tally),
+        Some((name, "replies" | "tree")) => {
+            text_of(rt, name, "script")?.context(format_args!("no script of {name}"))?;
+            Ok(())
+        }
+        Some(_) => bail!("{file} is no part of a case"),
+        None => Ok(()),
+    }
+}

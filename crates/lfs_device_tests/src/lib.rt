@@ -1,0 +1,21 @@
+//! Tests of devices, sectors, checkpoint slots, the walk, segments, inodes and what a log holds in memory.
+#![tactic(auto)]
+
+#[cfg(test)]
+mod device;
+#[cfg(test)]
+mod examples;
+#[cfg(test)]
+mod helpers;
+#[cfg(test)]
+mod inodes;
+#[cfg(test)]
+mod layout;
+#[cfg(test)]
+mod memory;
+#[cfg(test)]
+mod root;
+#[cfg(test)]
+mod segments;
+#[cfg(test)]
+mod verify;

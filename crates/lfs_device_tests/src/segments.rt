@@ -1,0 +1,314 @@
+ghost use Rattle.std.specs.Prelude.{◌<◌, ◌≤◌};
+ghost use Rattle.lfs_memory.specs.segments.Chunk.{IsOpen};
+
+use crate::helpers::{Row, all_well, name};
+use lfs_device::{MemDevice, NoMemory, SectorDevice};
+use lfs_layout::{SegmentUsage, SummaryView, UsageView, is_placed};
+use lfs_memory::segments::{ChunkWriter, Usage};
+use lfs_model::BlockKind;
+use std::alloc::Global;
+
+/// Places so many data blocks, and tells how many got the address that they should.
+fn fill(chunk: &mut ChunkWriter, usage: &mut Usage, count: u32) -> u32
+    requires { IsOpen chunk.old usage.old }
+    ensures { IsOpen chunk.new usage.new }
+{
+    let mut right = 0u32;
+    for index in 0..count {
+        let name = name(7, BlockKind::Data, index);
+        if chunk.len() >= 63 || !is_placed(name) {
+            return right;
+        }
+        let first = 2 + 64 * chunk.segment() + 1;
+        if Some(chunk.place(usage, name, true)) == first.checked_add(index) {
+            right = right.saturating_add(1);
+        }
+    }
+    right
+}
+
+/// What the summary of a segment names, if it is one: how many blocks, and the last one's index.
+fn named(device: &mut MemDevice, segment: u32) -> Option<(usize, u32)>
+    requires { segment < 1024 }
+{
+    let mut sector = [0; 512];
+    let address = 2 + 64 * segment;
+    if address >= device.sectors() || device.read(address, &mut sector).is_err() {
+        return None;
+    }
+    let summary = SummaryView::decode(&sector)?;
+    let last = summary.len().checked_sub(1)?;
+    Some((summary.len(), summary.get(last).index))
+}
+
+/// Fills a chunk and seals it: how many places were right, and what the summary names then.
+fn write_chunk(
+    device: &mut MemDevice,
+    usage: &mut Usage,
+    count: u32,
+) -> Option<(u32, u32, usize, u32)> {
+    let mut chunk = ChunkWriter::new();
+    let segment = chunk.begin(usage, 5)?;
+    let right = fill(&mut chunk, usage, count);
+    if chunk.is_empty() || 2 + 64 * chunk.segment() >= device.sectors() {
+        return None;
+    }
+    chunk.seal(device, usage).ok()?;
+    let (blocks, last) = named(device, chunk.segment())?;
+    Some((segment, right, blocks, last))
+}
+
+/// How many blocks a chunk gets, and the index of the last one.
+#[derive(Clone, Copy)]
+struct Chunk(u32, u32);
+
+impl Row<(MemDevice, Usage)> for Chunk {
+    /// Whether a chunk comes to the first segment, one to the last where that alone is clean, and then none.
+    fn is_well(self, (device, usage): &mut (MemDevice, Usage)) -> bool {
+        let Chunk(count, last) = self;
+        let blocks = count as usize;
+        if write_chunk(device, usage, count) != Some((0, count, blocks, last)) {
+            return false;
+        }
+        for _ in 0..1_024 {
+            if usage.clean() > 1 {
+                let _ = usage.take_clean(1);
+            }
+        }
+        let end = usage.segments().saturating_sub(1);
+        write_chunk(device, usage, count) == Some((end, count, blocks, last))
+            && usage.clean() == 0
+            && write_chunk(device, usage, count).is_none()
+    }
+}
+
+/// A device for so many segments, and a table where all are clean.
+fn volume(alloc: Global, segments: u32) -> Result<(MemDevice, Usage), NoMemory>
+    requires { segments ≤ 1024 }
+{
+    let device = MemDevice::new(alloc, 2 + 64 * segments)?;
+    Ok((device, Usage::new(alloc, segments)?))
+}
+
+#[test]
+fn chunks_in_the_first_segment_and_the_last(rt: HostRuntime) {
+    for segments in [64, 72, 1_024] {
+        for chunk in [Chunk(1, 0), Chunk(62, 61), Chunk(63, 62)] {
+            all_well(&rt, volume(rt.alloc(), segments), &[chunk]);
+        }
+    }
+}
+
+/// What is kept of a segment beside the table: used, live, held, taken.
+type Plain = (u16, u16, u16, bool);
+
+/// A block comes to a segment or leaves it, where one may.
+fn change(usage: &mut Usage, segment: u32, comes: bool, lives: bool) -> bool {
+    if segment >= usage.segments() {
+        return false;
+    }
+    let state = usage.state(segment);
+    if comes {
+        if state.used == 0 || state.used >= 64 {
+            return false;
+        }
+        usage.note(segment, lives);
+        return true;
+    }
+    if lives {
+        if state.live == 0 {
+            return false;
+        }
+        usage.lift(segment, true);
+        return true;
+    }
+    if state.held == 0 {
+        return false;
+    }
+    usage.lift(segment, false);
+    true
+}
+
+/// The same beside it.
+fn changed(kept: Plain, comes: bool, lives: bool) -> Option<Plain> {
+    let (used, live, held, taken) = kept;
+    if comes {
+        if used == 0 || used >= 64 {
+            return None;
+        }
+        return Some(if lives {
+            (used + 1, live.checked_add(1)?, held, taken)
+        } else {
+            (used + 1, live, held.checked_add(1)?, taken)
+        });
+    }
+    Some(if lives {
+        (used, live.checked_sub(1)?, held, taken)
+    } else {
+        (used, live, held.checked_sub(1)?, taken)
+    })
+}
+
+/// So many blocks that live in a segment hold it from now on, where it has them.
+fn hide(usage: &mut Usage, segment: u32, count: u16) -> bool {
+    if segment >= usage.segments() || usage.state(segment).live < count {
+        return false;
+    }
+    usage.hide(segment, count);
+    true
+}
+
+/// The same beside it.
+fn hidden(kept: Plain, count: u16) -> Option<Plain> {
+    let (used, live, held, taken) = kept;
+    Some((
+        used,
+        live.checked_sub(count)?,
+        held.checked_add(count)?,
+        taken,
+    ))
+}
+
+fn released(kept: Plain) -> Plain {
+    let (used, live, held, _) = kept;
+    if live == 0 && held == 0 {
+        (0, 0, 0, false)
+    } else {
+        (used, live, held, false)
+    }
+}
+
+/// A block comes or leaves, or two hold their segment from now on; whether both agree on it.
+fn move_blocks(usage: &mut Usage, place: &mut Plain, segment: u32, what: u32) -> bool {
+    let comes = what >= 8;
+    let lives = what % 2 == 0;
+    let (next, done) = if what == 3 {
+        (hidden(*place, 2), hide(usage, segment, 2))
+    } else {
+        let next = changed(*place, comes, lives);
+        (next, change(usage, segment, comes, lives))
+    };
+    *place = next.unwrap_or(*place);
+    done == next.is_some()
+}
+
+/// One step on both, chosen by a number; whether they agree on it.
+fn step_both(usage: &mut Usage, kept: &mut [Plain], dice: u32) -> bool {
+    let segment = dice / 16 % 64;
+    match dice % 16 {
+        0 => {
+            usage.release();
+            for place in kept.iter_mut() {
+                *place = released(*place);
+            }
+            true
+        }
+        1 | 2 => {
+            let first = kept.iter().position(|place| place.0 == 0);
+            let taken = usage.take_clean(dice);
+            if let Some(segment) = first {
+                kept[segment] = (1, 0, 0, true);
+            }
+            taken.map(|segment| segment as usize) == first
+        }
+        what => match kept.get_mut(segment as usize) {
+            Some(place) => move_blocks(usage, place, segment, what),
+            None => false,
+        },
+    }
+}
+
+/// Whether both know the same.
+fn agree(usage: &Usage, kept: &[Plain]) -> bool {
+    let mut clean = 0u32;
+    for (segment, place) in kept.iter().enumerate() {
+        let Ok(segment) = u32::try_from(segment) else {
+            return false;
+        };
+        if segment >= usage.segments() {
+            return false;
+        }
+        let state = usage.state(segment);
+        if (state.used, state.live, state.held, state.taken) != *place {
+            return false;
+        }
+        if place.0 == 0 {
+            clean = clean.saturating_add(1);
+        }
+    }
+    usage.clean() == clean
+}
+
+/// The number that random steps begin with.
+#[derive(Clone, Copy)]
+struct Seed(u32);
+
+impl Row<Usage> for Seed {
+    /// Whether the table and a plain list agree after each of 4,000 steps.
+    fn is_well(self, usage: &mut Usage) -> bool {
+        let mut kept = [(0, 0, 0, false); 64];
+        let mut seed = self.0;
+        for _ in 0..4_000 {
+            seed = seed.wrapping_mul(1_664_525).wrapping_add(1_013_904_223);
+            if !step_both(usage, &mut kept, seed >> 8) || !agree(usage, &kept) {
+                return false;
+            }
+        }
+        true
+    }
+}
+
+#[test]
+fn a_random_sequence_beside_a_plain_list(rt: HostRuntime) {
+    all_well(&rt, Usage::new(rt.alloc(), 64), &[Seed(1)]);
+}
+
+/// What is done with segment 71, and what is seen.
+#[derive(Clone, Copy)]
+enum Step {
+    /// The first 72 segments are taken for checkpoint 9.
+    Take,
+    /// A block is placed, and lives or holds the segment.
+    Place(bool),
+    /// What usage block 1 says: used, live, age.
+    Says(u16, u16, u32),
+}
+
+fn says(usage: &Usage) -> Option<SegmentUsage> {
+    let count = usage.segments().checked_sub(64)? as usize;
+    let bytes = usage.encode(1);
+    Some(UsageView::decode(&bytes, count)?.get(7))
+}
+
+impl Row<Usage> for Step {
+    fn is_well(self, usage: &mut Usage) -> bool {
+        match self {
+            Step::Take => {
+                for _ in 0..72 {
+                    let _ = usage.take_clean(9);
+                }
+                true
+            }
+            Step::Place(lives) => change(usage, 71, true, lives),
+            Step::Says(used, live, age) => says(usage) == Some(SegmentUsage { used, live, age }),
+        }
+    }
+}
+
+#[test]
+fn a_usage_block_counts_what_lives(rt: HostRuntime) {
+    // Nothing lives in a segment with a summary alone, nor in one that is only held.
+    let steps = [
+        Step::Take,
+        Step::Says(0, 0, 0),
+        Step::Place(true),
+        Step::Place(false),
+        Step::Place(true),
+        Step::Says(4, 2, 9),
+    ];
+    let held = [Step::Take, Step::Place(false), Step::Says(0, 0, 0)];
+    for segments in [72, 1_024] {
+        all_well(&rt, Usage::new(rt.alloc(), segments), &steps);
+        all_well(&rt, Usage::new(rt.alloc(), segments), &held);
+    }
+}

@@ -1,0 +1,151 @@
+//! Devices that aren't formatted or mounted, with the stage of damage.
+use crate::volume::{SECTORS, device_of, formatted, mounted};
+use lfs_device::{DeviceCall, MemDevice, SectorDevice};
+use lfs_fs::{FormatFault, Fs, MountFault, format};
+use std::alloc::Global;
+use std::test::Fail;
+
+/// Why a device isn't mounted.
+fn fault(alloc: Global, device: MemDevice) -> Option<MountFault> {
+    match Fs::mount(alloc, device) {
+        Ok(_) => None,
+        Err((fault, _)) => Some(fault),
+    }
+}
+
+#[test]
+fn a_device_is_refused(rt: HostRuntime) -> Result<(), Fail> {
+    let alloc = rt.alloc();
+    let mut small = MemDevice::new(alloc, SECTORS - 1)?;
+    for (segments, refusal) in [
+        (56, FormatFault::Inval),
+        (65, FormatFault::Inval),
+        (1_032, FormatFault::Inval),
+        (64, FormatFault::TooSmall),
+    ] {
+        assert!(rt; format(&mut small, segments) == Err(refusal));
+    }
+    assert!(rt; fault(alloc, small) == Some(MountFault::TooSmall));
+    let empty = MemDevice::new(alloc, SECTORS)?;
+    assert!(rt; fault(alloc, empty) == Some(MountFault::NoCheckpoint));
+    Ok(())
+}
+
+#[test]
+fn a_mount_over_failing_calls(rt: HostRuntime) -> Result<(), Fail> {
+    for (call, nth) in [
+        (DeviceCall::Read, 0),
+        (DeviceCall::Read, 1),
+        (DeviceCall::Sync, 0),
+    ] {
+        let mut device = formatted(rt.alloc(), 64)?;
+        device.fail(call, nth);
+        assert!(rt; fault(rt.alloc(), device) == Some(MountFault::Device));
+    }
+    Ok(())
+}
+
+#[test]
+fn a_read_that_failed_before_the_format(rt: HostRuntime) -> Result<(), Fail> {
+    let mut device = MemDevice::new(rt.alloc(), SECTORS)?;
+    device.fail(DeviceCall::Read, 0);
+    if device.sectors() > 0 {
+        assert!(rt; device.read(0, &mut [0; 512]).is_err());
+    }
+    assert!(rt; format(&mut device, 64) == Ok(()));
+    let entries = mounted(rt.alloc(), device)?.tree()?;
+    assert!(rt; entries.is_empty());
+    Ok(())
+}
+
+/// The device of a volume of 64 segments with the file `/f` of one byte, saved.
+fn device_with_file(alloc: Global) -> Result<MemDevice, Fail> {
+    let mut fs = mounted(alloc, formatted(alloc, 64)?)?;
+    fs.create(b"/f")?;
+    fs.pwrite(0, 0, b"a")?;
+    fs.sync()?;
+    Ok(device_of(fs))
+}
+
+/// Another byte at a place of each sector that starts with some bytes.
+#[derive(Clone, Copy)]
+struct Damage<'a> {
+    start: &'a [u8],
+    place: usize,
+    byte: u8,
+}
+
+/// Puts the other byte into a sector, if it starts so.
+fn damage_sector(device: &mut MemDevice, sector: u32, damage: Damage) -> Result<(), Fail> {
+    if sector >= device.sectors() || damage.place >= 512 {
+        return Err(Fail::from("no such place"));
+    }
+    let mut block = [0; 512];
+    device.read(sector, &mut block)?;
+    if block.starts_with(damage.start) {
+        block[damage.place] = damage.byte;
+        device.write(sector, &block)?;
+    }
+    Ok(())
+}
+
+/// The fault of a mount of a volume with a file, behind some damage.
+fn fault_with(alloc: Global, damage: Damage) -> Result<Option<MountFault>, Fail> {
+    let mut device = device_with_file(alloc)?;
+    for sector in 2..SECTORS {
+        damage_sector(&mut device, sector, damage)?;
+    }
+    Ok(fault(alloc, device))
+}
+
+#[test]
+fn a_damaged_volume_is_refused(rt: HostRuntime) -> Result<(), Fail> {
+    let slot = b"\x02\0\0\0\x01f".as_slice();
+    let root = b"\x02\0\0\0\x01\0\0\0".as_slice();
+    let file = b"\x01\0\0\0\x02\0\0\0".as_slice();
+    // The first segment is clean, and the next has 7 used sectors with 6 live blocks.
+    let usage = b"\0\0\0\0\0\0\0\0\x07\0\x06\0".as_slice();
+    for (start, place, byte, want) in [
+        (slot, 5, b'g', None),
+        (slot, 5, b'/', Some(MountFault::Damaged(10))),
+        (slot, 0, 1, Some(MountFault::Damaged(10))),
+        (slot, 0, 3, Some(MountFault::Damaged(12))),
+        (root, 8, 3, Some(MountFault::Damaged(13))),
+        (file, 8, 2, Some(MountFault::Damaged(13))),
+        (usage, 10, 0, Some(MountFault::Damaged(1))),
+        (usage, 8, 8, Some(MountFault::Damaged(2))),
+        (usage, 10, 5, Some(MountFault::Damaged(9))),
+    ] {
+        let found = fault_with(rt.alloc(), Damage { start, place, byte })?;
+        assert!(rt; found == want);
+    }
+    Ok(())
+}
+
+/// The fault of a mount of a volume with a file, where a sector can't be read.
+fn fault_without(alloc: Global, sector: u32) -> Result<Option<MountFault>, Fail> {
+    let mut device = device_with_file(alloc)?;
+    if sector >= device.sectors() {
+        return Err(Fail::from("no such sector"));
+    }
+    device.set_unreadable(sector);
+    Ok(fault(alloc, device))
+}
+
+#[test]
+fn unreadable_sectors_are_refused_by_stage(rt: HostRuntime) -> Result<(), Fail> {
+    let mut counts = [0u8; 10];
+    for sector in 2..130 {
+        match fault_without(rt.alloc(), sector)? {
+            Some(MountFault::Damaged(code)) if code < 10 => {
+                counts[code as usize] = counts[code as usize].saturating_add(1);
+            }
+            Some(fault) => return Err(Fail::from(fault)),
+            None => {}
+        }
+    }
+    // The usage block, its summary, the block of the inode map, two inodes, and a block of the root and of the file;
+    // nothing points at the first segment any more.
+    assert!(rt; counts == [0, 1, 1, 1, 2, 0, 0, 2, 0, 0]);
+    Ok(())
+}

@@ -1,0 +1,17 @@
+//! Tests of directories, paths and the calls of a volume, over devices in memory.
+#![tactic(auto)]
+
+#[cfg(test)]
+mod damage;
+#[cfg(test)]
+mod dirs;
+#[cfg(test)]
+mod fs;
+#[cfg(test)]
+mod path;
+#[cfg(test)]
+mod steps;
+#[cfg(test)]
+mod stops;
+#[cfg(test)]
+mod volume;

@@ -1,0 +1,15 @@
+//! Tests of scripts and of the plain program, and of the one beside the other.
+#![tactic(auto)]
+
+#[cfg(test)]
+mod plain;
+#[cfg(test)]
+mod replies;
+#[cfg(test)]
+mod scripts;
+#[cfg(test)]
+mod stops;
+#[cfg(test)]
+mod streams;
+#[cfg(test)]
+mod volume;

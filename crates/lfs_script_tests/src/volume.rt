@@ -1,0 +1,33 @@
+//! Volumes of 64 segments in memory.
+use lfs_device::MemDevice;
+use lfs_script::fs::{Fs, format};
+use lfs_script::{ScriptEnd, run};
+use std::alloc::Global;
+use std::io::Read;
+use std::test::Fail;
+
+/// The sectors of a volume of 64 segments.
+pub const SECTORS: u32 = 2 + 64 * 64;
+
+/// A device with an empty volume.
+pub fn new_device(alloc: Global) -> Result<MemDevice, Fail> {
+    let mut device = MemDevice::new(alloc, SECTORS)?;
+    format(&mut device, 64)?;
+    Ok(device)
+}
+
+/// An empty volume, on the heap, where each end of a function drops it by one call.
+pub fn new_volume(alloc: Global) -> Result<Box<Fs<MemDevice>>, Fail> {
+    match Fs::mount(alloc, new_device(alloc)?) {
+        Ok(fs) => Ok(Box::new(alloc, fs)?),
+        Err(_) => Err(Fail::from("not mounted")),
+    }
+}
+
+/// How a run over this reader ends on a new volume, and what it writes.
+pub fn answered<R: Read>(alloc: Global, reader: &mut R) -> Result<(ScriptEnd, Vec<u8>), Fail> {
+    let mut fs = new_volume(alloc)?;
+    let mut output = Vec::new(alloc);
+    let end = run(alloc, reader, &mut output, &mut fs);
+    Ok((end, output))
+}
