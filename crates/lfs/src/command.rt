@@ -1,11 +1,14 @@
 //! The commands, over words and streams that are handed in.
 ghost use Rattle.std.specs.Prelude.{◌≡◌, ◌≤◌, IfOk};
+ghost use Rattle.std.specs.Io.KnownBytes.{Keeps};
+ghost use Rattle.lfs_device.specs.MemoryDevice.{device_state};
+ghost use Rattle.lfs.specs.Playing.{Plays};
 
 use crate::fault::{Fault, Refusal};
 use crate::request::{Request, read_request};
 use crate::simulation::{Plan, read_plan};
 use crate::{image, simulation};
-use lfs_device::SectorDevice;
+use lfs_device::{Left, MemDevice, SectorDevice, ThisWorld, World};
 use lfs_script::fs::Fs;
 use lfs_script::{Answer, ScriptEnd, put_reply, read_u32, use_and_stop, use_volume};
 use std::alloc::{AllocError, Global};
@@ -29,7 +32,9 @@ fn print<W: Write>(output: &mut W, text: &str) -> Result<(), Fault> {
     flush(output)
 }
 
-fn flush<W: Write>(output: &mut W) -> Result<(), Fault> {
+fn flush<W: Write>(output: &mut W) -> Result<(), Fault>
+    ensures { Keeps (W.contents output.old) (W.contents output.new) }
+{
     let Ok(()) = output.flush() else {
         return Err(Fault::Output);
     };
@@ -47,7 +52,7 @@ fn refuse<W: Write>(output: &mut W, refusal: Refusal) -> Result<u8, Fault>
     Ok(REFUSED)
 }
 
-fn mkfs<R: Files<File = File>, W: Write>(
+fn mkfs<Here: World, R: Files<File = File>, W: Write>(
     rt: &R,
     image: &str,
     segments: &str,
@@ -58,7 +63,7 @@ fn mkfs<R: Files<File = File>, W: Write>(
     let Some(segments) = read_u32(segments.as_bytes()) else {
         return Err(Fault::Segments);
     };
-    match image::make(rt, image, segments) {
+    match image::make::<Here, R>(rt, image, segments) {
         Ok(()) => {
             print(output, "ok\n")?;
             Ok(DONE)
@@ -83,7 +88,7 @@ fn show<D: SectorDevice, W: Write>(fs: &mut Fs<D>, output: &mut W) -> Result<u8,
     }
 }
 
-fn mount<R: Files<File = File>, W: Write>(
+fn mount<Here: World, R: Files<File = File>, W: Write>(
     rt: &R,
     alloc: Global,
     image: &str,
@@ -91,7 +96,7 @@ fn mount<R: Files<File = File>, W: Write>(
 ) -> Result<u8, Fault>
     ensures { IfOk result (λ status. status ≤ 2) }
 {
-    match image::mount(rt, alloc, image) {
+    match image::mount::<Here, R>(rt, alloc, image) {
         Ok(mut fs) => show(&mut fs, output),
         Err(refusal) => refuse(output, refusal),
     }
@@ -110,7 +115,35 @@ fn status_of(end: ScriptEnd) -> Result<u8, Fault>
     }
 }
 
-fn run<R: Files<File = File>, I: Read, W: Write>(
+// Ends a script: the status that tells how it ended, with all of its replies on their way.
+fn end_script<W: Write>(end: ScriptEnd, output: &mut W) -> Result<u8, Fault>
+    ensures status { IfOk result (λ status. status ≤ 2) }
+    ensures kept { Keeps (W.contents output.old) (W.contents output.new) }
+{
+    let flushed = flush(output);
+    let status = status_of(end)?;
+    flushed?;
+    Ok(status)
+}
+
+// Runs a script on the volume of a device. Where it can't be mounted its line is printed, and the status is `REFUSED`, which no script has.
+fn play<D: SectorDevice, I: Read, W: Write>(
+    alloc: Global,
+    device: D,
+    input: &mut I,
+    output: &mut W,
+) -> (Result<u8, Fault>, D)
+    ensures status { IfOk result.0 (λ status. status ≤ 2) }
+    ensures plays { Plays (I.remaining input.old) (I.remaining input.new)
+        (W.contents output.old) (W.contents output.new) (D.state device) (D.state result.1) }
+{
+    match use_volume(alloc, input, output, device) {
+        (Ok(end), device) => (end_script(end, output), device),
+        (Err(fault), device) => (refuse(output, Refusal::from(fault)), device),
+    }
+}
+
+fn run<Here: World, R: Files<File = File>, I: Read, W: Write>(
     rt: &R,
     alloc: Global,
     image: &str,
@@ -119,17 +152,30 @@ fn run<R: Files<File = File>, I: Read, W: Write>(
 ) -> Result<u8, Fault>
     ensures { IfOk result (λ status. status ≤ 2) }
 {
-    let device = match image::open(rt, image) {
-        Ok(device) => device,
-        Err(refusal) => return refuse(output, refusal),
-    };
-    match use_volume(alloc, input, output, device) {
-        (Ok(end), _) => {
-            let status = status_of(end)?;
-            flush(output)?;
-            Ok(status)
+    match image::open::<Here, R>(rt, image) {
+        Ok(device) => {
+            let (status, _) = play(alloc, device, input, output);
+            status
         }
-        (Err(fault), _) => refuse(output, Refusal::from(fault)),
+        Err(refusal) => refuse(output, refusal),
+    }
+}
+
+// As `play` on a device in memory, which stops then.
+fn play_and_stop<I: Read, W: Write>(
+    alloc: Global,
+    device: MemDevice,
+    left: Left,
+    input: &mut I,
+    output: &mut W,
+) -> (Result<u8, Fault>, MemDevice)
+    ensures status { IfOk result.0 (λ status. status ≤ 2) }
+    ensures plays { Plays (I.remaining input.old) (I.remaining input.new)
+        (W.contents output.old) (W.contents output.new) (device_state device) (device_state result.1) }
+{
+    match use_and_stop(alloc, input, output, device, left) {
+        (Ok(end), device) => (end_script(end, output), device),
+        (Err(fault), device) => (refuse(output, Refusal::from(fault)), device),
     }
 }
 
@@ -146,11 +192,11 @@ fn sim<I: Read, W: Write>(
         Ok(device) => device,
         Err(refusal) => return refuse(output, refusal),
     };
-    let (used, device) = use_and_stop(alloc, input, output, device, plan.left);
-    let played = match used {
-        Ok(end) => status_of(end)?,
-        Err(fault) => return refuse(output, Refusal::from(fault)),
-    };
+    let (played, device) = play_and_stop(alloc, device, plan.left, input, output);
+    let played = played?;
+    if played == REFUSED {
+        return Ok(REFUSED);
+    }
     let writes = format!(in alloc; "writes {}\n", device.writes())?;
     print(output, writes.as_str())?;
     let shown = match simulation::mount(alloc, device) {
@@ -160,7 +206,8 @@ fn sim<I: Read, W: Write>(
     Ok(played.max(shown))
 }
 
-fn answer<R: Files<File = File>, I: Read, W: Write>(
+// In any world, which only contracts see.
+fn answer<Here: World, R: Files<File = File>, I: Read, W: Write>(
     rt: &R,
     alloc: Global,
     words: &[String],
@@ -174,9 +221,9 @@ fn answer<R: Files<File = File>, I: Read, W: Write>(
             print(output, text.as_str())?;
             Ok(DONE)
         }
-        Request::Mkfs { image, segments } => mkfs(rt, image, segments, output),
-        Request::Mount { image } => mount(rt, alloc, image, output),
-        Request::Run { image } => run(rt, alloc, image, input, output),
+        Request::Mkfs { image, segments } => mkfs::<Here, R, W>(rt, image, segments, output),
+        Request::Mount { image } => mount::<Here, R, W>(rt, alloc, image, output),
+        Request::Run { image } => run::<Here, R, I, W>(rt, alloc, image, input, output),
         Request::Sim {
             segments,
             stop,
@@ -197,7 +244,7 @@ pub fn command<R: Files<File = File>, I: Read, O: Write, E: Write>(
 ) -> u8
     ensures { result ≤ 2 }
 {
-    match answer(rt, alloc, words, input, output) {
+    match answer::<ThisWorld, R, I, O>(rt, alloc, words, input, output) {
         Ok(status) => status,
         Err(fault) => {
             let status = fault.status();

@@ -1,9 +1,9 @@
-//! Image files.
+//! Image files, in any world.
 ghost use Rattle.std.specs.Prelude.{◌↔◌, IsTrue};
 ghost use Rattle.lfs_model.specs.Checkpoint.{IsSegmentCount};
 
 use crate::fault::Refusal;
-use lfs_device::FileDevice;
+use lfs_device::{FileDeviceIn, World};
 use lfs_script::fs::{Fs, format};
 use std::alloc::Global;
 use std::fs::File;
@@ -17,7 +17,11 @@ pub fn is_segment_count(segments: u32) -> bool
 }
 
 /// Makes the file, or empties it, and formats it. A wrong number of segments is refused with no file touched.
-pub fn make<R: Files<File = File>>(rt: &R, image: &str, segments: u32) -> Result<(), Refusal> {
+pub fn make<Here: World, R: Files<File = File>>(
+    rt: &R,
+    image: &str,
+    segments: u32,
+) -> Result<(), Refusal> {
     if !is_segment_count(segments) {
         return Err(Refusal::Inval);
     }
@@ -33,29 +37,32 @@ pub fn make<R: Files<File = File>>(rt: &R, image: &str, segments: u32) -> Result
     let Ok(()) = file.set_len(512 * (2 + 64 * u64::from(segments))) else {
         return Err(Refusal::Image);
     };
-    let Ok(mut device) = FileDevice::new(file) else {
+    let Ok(mut device) = FileDeviceIn::<Here>::new(file) else {
         return Err(Refusal::Image);
     };
     format(&mut device, segments).map_err(Refusal::Format)
 }
 
 /// The device of an image.
-pub fn open<R: Files<File = File>>(rt: &R, image: &str) -> Result<FileDevice, Refusal> {
+pub fn open<Here: World, R: Files<File = File>>(
+    rt: &R,
+    image: &str,
+) -> Result<FileDeviceIn<Here>, Refusal> {
     let Ok(file) = File::options().read(true).write(true).open(rt, image) else {
         return Err(Refusal::Image);
     };
-    let Ok(device) = FileDevice::new(file) else {
+    let Ok(device) = FileDeviceIn::new(file) else {
         return Err(Refusal::Image);
     };
     Ok(device)
 }
 
 /// Mounts the volume of an image.
-pub fn mount<R: Files<File = File>>(
+pub fn mount<Here: World, R: Files<File = File>>(
     rt: &R,
     alloc: Global,
     image: &str,
-) -> Result<Fs<FileDevice>, Refusal> {
+) -> Result<Fs<FileDeviceIn<Here>>, Refusal> {
     match Fs::mount(alloc, open(rt, image)?) {
         Ok(fs) => Ok(fs),
         Err((fault, _)) => Err(Refusal::from(fault)),

@@ -1,4 +1,9 @@
 //! Volumes in memory, whose device stops at a chosen write.
+ghost use Rattle.std.specs.Prelude.{IfOk};
+ghost use Rattle.lfs_model.specs.Device.{Only};
+ghost use Rattle.lfs_model.specs.Image.{IsNew};
+ghost use Rattle.lfs_device.specs.MemoryDevice.{device_state};
+
 use crate::fault::{Fault, Refusal};
 use crate::image::is_segment_count;
 use lfs_device::{Left, MemDevice};
@@ -44,7 +49,10 @@ pub fn read_plan(segments: &str, stop: &str, left: &str) -> Result<Plan, Fault> 
 }
 
 /// The device of a new volume, which is to stop.
-pub fn start(alloc: Global, plan: Plan) -> Result<MemDevice, Refusal> {
+pub fn start(alloc: Global, plan: Plan) -> Result<MemDevice, Refusal>
+    ensures new { IfOk result (λ d. IsNew plan.segments (device_state d).content) }
+    ensures alone { IfOk result (λ d. Only (device_state d).content (device_state d)) }
+{
     if !is_segment_count(plan.segments) {
         return Err(Refusal::Inval);
     }

@@ -23,6 +23,10 @@ pub record Fate (n : ℕ) : Type 1 where
   pub cells : (c : List Cell) → left c → AllByRecursion IsSector c
   pub present : left content
 
+-- for each that the system may tell of a file as it is opened, and each number of sectors
+abbrev pub Fates : Type 1
+Fates = Metadata → (n : ℕ) → Fate n
+
 zero_sector : Cell
 zero_sector = Some (replicate 512 0)
 
@@ -30,9 +34,9 @@ zero_is_sector : IsSector zero_sector
 unfolding zero_sector
 zero_is_sector = zeros_are_bytes
 
--- The fate of a file with n sectors of which the system told this as it was opened. No proof uses what stands to the right
--- of the sign here, so what is proved of files holds for each other such function as well.
-pub fate_of : Metadata → (n : ℕ) → Fate n
+-- The fates in the world that a program names. They are a value of which nothing is said: what is proved of files is proved in
+-- each world, and this one only shows that a world can be.
+pub fate_of : Fates
 fate_of opened n = record {
   content = replicate n zero_sector;
   left = λ c. c ≡ replicate n zero_sector;

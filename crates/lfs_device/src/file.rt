@@ -1,24 +1,25 @@
 // A device over a file. What is proved of its contents holds where the file's answers were those of a device of the model.
 ghost use Rattle.std.specs.Prelude.{◌^◌, ◌<◌};
-ghost use Rattle.lfs_device.specs.Fate.{fate_of};
 ghost use Rattle.lfs_device.specs.File.{AreWhole, AreWhole-prop, file_lawful};
 ghost use Rattle.lfs_device.specs.History.{calls_of};
 
 use crate::history::{Call, History, note};
-use crate::{DeviceFault, ReadFault, SectorDevice};
+use crate::{DeviceFault, ReadFault, SectorDevice, ThisWorld, World};
 use std::fs::{File, Metadata};
+use std::marker::PhantomData;
 use std::os::unix::fs::FileExt;
 use std::snapshot::Snapshot;
 
-/// A file as a device, sector after sector. Its calls are positional reads and writes, and syncs that reach the medium.
-/// It never answers `Unreadable`.
+/// A file of the world `W` as a device, sector after sector. Its calls are positional reads and writes, and syncs that
+/// reach the medium. It never answers `Unreadable`.
 ///
 /// It keeps the device model as far as each read that succeeded gave what such a device would hold by then. What it held
-/// as it was opened, what a stop would have left of that, and what each failed write made of its sector is a part of this
-/// premise: nothing is known of it, and the contract of each call holds for whatever it is.
+/// as it was opened, what a stop would have left of that, and what each failed write made of its sector is its fate in
+/// `W`. The contract of each call holds in every world, so for whatever the file held.
 #[derive(Drop)]
-pub struct FileDevice {
+pub struct FileDeviceIn<W: World> {
     file: File,
+    world: PhantomData<W>,
     sectors: u32,
     ghost fits: { sectors < 2 ^ 32 },
     opened: Snapshot<Metadata>,
@@ -26,43 +27,48 @@ pub struct FileDevice {
     ghost whole: { AreWhole (calls_of history.value) } by { AreWhole-prop (calls_of history.value) },
 }
 
-impl FileDevice {
+/// A file as a device, in the world that a program names.
+pub type FileDevice = FileDeviceIn<ThisWorld>;
+
+fn offset(sector: u32) -> u64 {
+    u64::from(sector) * 512
+}
+
+impl<W: World> FileDeviceIn<W> {
     ghost use Rattle.std.specs.Prelude.{◌≡◌, IfOk};
     ghost use Rattle.lfs_device.specs.FileDevice.{state_of_file};
 
-    /// The file's whole sectors, as many as it has now, at most `u32::MAX`.
+    /// The file's whole sectors, as many as it has now, at most `u32::MAX`. No call was made on them yet.
     ///
     /// # Errors
     ///
     /// The fault where the file's length can't be had.
-    pub fn new(file: File) -> Result<FileDevice, DeviceFault>
+    pub fn new(file: File) -> Result<FileDeviceIn<W>, DeviceFault>
+        ensures opened { IfOk result (λ d. (state_of_file d).moment ≡ 0) }
         ensures failures { IfOk result (λ d. (state_of_file d).failures ≡ 0) }
         ensures keeps { IfOk result (λ d. (state_of_file d).keeps_model) }
     {
         let Ok(metadata) = file.metadata() else {
             return Err(DeviceFault);
         };
-        Ok(FileDevice {
+        Ok(FileDeviceIn {
             file,
+            world: PhantomData,
             sectors: u32::try_from(metadata.len() / 512).unwrap_or(u32::MAX),
             opened: Snapshot::of(&metadata),
             history: Snapshot::of(&History::Opened),
         })
     }
-
-    fn offset(sector: u32) -> u64 {
-        u64::from(sector) * 512
-    }
 }
 
-impl SectorDevice for FileDevice {
+impl<W: World> SectorDevice for FileDeviceIn<W> {
     ghost use Rattle.std.specs.Prelude.{◌≡◌, Some, None, OnOk, OnErr, IsErrOf};
     ghost use Rattle.lfs_model.specs.Device.{cell_at, put, MayWrite, Carries, Elapses, IsUntouched, CrashWrites, CrashSpreads};
     ghost use Rattle.lfs_device.specs.FileDevice.{state_of_file};
 
     ghost state = { state_of_file };
 
-    ghost lawful = { λ d. file_lawful d.sectors (fate_of d.opened.value d.sectors) (calls_of d.history.value) d.fits d.whole };
+    ghost lawful = { λ d. file_lawful d.sectors (W.fate d.opened.value d.sectors) (calls_of d.history.value) d.fits d.whole };
 
     fn sectors(&self) -> u32 {
         self.sectors
@@ -80,11 +86,7 @@ impl SectorDevice for FileDevice {
         ensures time { Elapses (state_of_file self.old) (state_of_file self.new) }
         ensures never_unreadable { ¬ (IsErrOf result ReadFault.Unreadable) }
     {
-        if self
-            .file
-            .read_exact_at(out, FileDevice::offset(sector))
-            .is_err()
-        {
+        if self.file.read_exact_at(out, offset(sector)).is_err() {
             note(Call::Failed, &mut self.history);
             return Err(ReadFault::Failed);
         }
@@ -103,11 +105,7 @@ impl SectorDevice for FileDevice {
         ensures time { Elapses (state_of_file self.old) (state_of_file self.new) }
         ensures spreads { CrashSpreads sector bytes.now (state_of_file self.old) (state_of_file self.new) }
     {
-        if self
-            .file
-            .write_all_at(bytes, FileDevice::offset(sector))
-            .is_err()
-        {
+        if self.file.write_all_at(bytes, offset(sector)).is_err() {
             note(
                 Call::Refused(sector, Snapshot::of(bytes)),
                 &mut self.history,

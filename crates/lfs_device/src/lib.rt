@@ -7,9 +7,11 @@ mod file;
 mod history;
 mod memory;
 mod rows;
+mod world;
 
 pub use bench::DeviceCall;
 pub use device::{DeviceFault, ReadFault, SectorDevice};
-pub use file::FileDevice;
+pub use file::{FileDevice, FileDeviceIn};
 pub use memory::{MemDevice, NoMemory};
 pub use rows::Left;
+pub use world::{ThisWorld, World};

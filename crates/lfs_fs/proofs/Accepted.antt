@@ -1,5 +1,5 @@
 -- Writes, cuts and new files that were drafted and staged, as steps of the model.
-use Rattle.std.proofs.Common.{◌≡◌, ◌<◌, ◌≤◌, ◌+◌, ◌*◌, ◌^◌, ◌||◌, ℕ, false, List, length, Some, sym, ◌∙◌, ap, subst, inl, arith}
+use Rattle.std.proofs.Common.{◌≡◌, ◌<◌, ◌≤◌, ◌+◌, ◌*◌, ◌^◌, ◌||◌, ℕ, false, List, length, Some, refl, sym, ◌∙◌, ap, subst, inl, arith}
 use Rattle.std.specs.Prelude.{max}
 use Rattle.std.specs.Ordering.{nat_cmp}
 use Rattle.std.specs.FinMap.{find, put}
@@ -24,6 +24,7 @@ use Rattle.lfs_path.specs.store.Totals.{IsCounted, TotalsOfTree}
 use Rattle.lfs_path.specs.store.Writing.{SizesFile, WritesFile, resized}
 use Rattle.lfs_fs.specs.Handles.{handles_of}
 use Rattle.lfs_fs.specs.Volume.{IsAt, IsIn, Mounted, Serves, segments_of}
+use Rattle.lfs_fs.proofs.Behaving.{makes_behaves, write_behaves}
 use Rattle.lfs_fs.proofs.CallSteps.{create_map, create_step, not_worn, pwrite_map, pwrite_step}
 use Rattle.lfs_fs.proofs.Created.{NamesFile, created_log}
 use Rattle.lfs_fs.proofs.Ending.{accepts_by}
@@ -75,7 +76,7 @@ module _ {D : Type 0} (state : D → DeviceState) where
           → 0 < length w → length w ≤ 65536 → at + length w ≤ 8511488 → AreBytes w → new.blocks + 7 * new.others + 720 ≤ 47 * segments_of old → new.table ≡ old.table
           → Serves state old new (Pwrite h at w) (Count (length w))
       pwrite_serves totals at w writes some few end bytes room table =
-          accepts_by state old new (Pwrite h at w) lawful after done.carries done.segments was later c done low (Count (length w)) (λ e. cc) (λ e. cc) (λ p keeps here k m0 m is. (
+          accepts_by state old new (Pwrite h at w) lawful after done.carries done.segments was later c done low (Count (length w)) (λ e. cc) (λ e. cc) (write_behaves state old new (Pwrite h at w) (Count (length w)) refl table (λ e. cc)) (λ p keeps here k m0 m is. (
           let before = done.carries.kept_before keeps in
           let holds = is.stores.holds in
           let map = map_of_volume state old k m0 m p.state is in
@@ -97,7 +98,7 @@ module _ {D : Type 0} (state : D → DeviceState) where
       -- ---- a cut
       pub truncate_serves : (len : ℕ) → OfEach old (λ m. SizesFile m (staged c m) n head (resized head len) len) → len ≤ 8511488 → new.table ≡ old.table → Serves state old new (Truncate h len) Done
       truncate_serves len sizes end table =
-          accepts_by state old new (Truncate h len) lawful after done.carries done.segments was later c done low Done (λ e. cc) (λ e. cc) (λ p keeps here k m0 m is. (
+          accepts_by state old new (Truncate h len) lawful after done.carries done.segments was later c done low Done (λ e. cc) (λ e. cc) (write_behaves state old new (Truncate h len) Done refl table (λ e. cc)) (λ p keeps here k m0 m is. (
           let before = done.carries.kept_before keeps in
           let holds = is.stores.holds in
           let map = map_of_volume state old k m0 m p.state is in
@@ -119,7 +120,8 @@ module _ {D : Type 0} (state : D → DeviceState) where
         → AreBytes p → new.blocks + 7 * new.others + 720 ≤ 47 * segments_of old → handles_of new.table ≡ put nat_cmp (least_handle (handles_of old.table)) n (handles_of old.table)
         → Serves state old new (Create p) (Handle (least_handle (handles_of old.table)))
     create_serves totals p n made head size at w drafts bytes room table =
-        accepts_by state old new (Create p) lawful after done.carries done.segments was later c done low (Handle (least_handle (handles_of old.table))) (λ e. cc) (λ e. cc) (λ q keeps here k m0 m is. (
+        accepts_by state old new (Create p) lawful after done.carries done.segments was later c done low (Handle (least_handle (handles_of old.table))) (λ e. cc) (λ e. cc)
+        (makes_behaves state old new (Create p) (Handle (least_handle (handles_of old.table))) refl refl refl) (λ q keeps here k m0 m is. (
         let before = done.carries.kept_before keeps in
         let map = map_of_volume state old k m0 m q.state is in
         let shaped = shape_of_volume state old k m0 m q.state is in

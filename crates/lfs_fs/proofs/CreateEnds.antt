@@ -1,11 +1,11 @@
 -- The ends of create, from what its steps tell to the call as a step of the model.
 use Rattle.std.proofs.Common.{◌≡◌, ◌||◌, ℕ, suc, Bool, true, false, List, [], ◌∷◌, slice_index_or, Fits, w8, Option, None, refl, sym, ◌∙◌, ap, subst, inl, arith}
-use Rattle.lfs_model.specs.Call.{Answer, Call, Create, Refuse}
+use Rattle.lfs_model.specs.Call.{Create, Refuse}
 use Rattle.lfs_model.specs.Bytes.{AreBytes}
 use Rattle.lfs_model.specs.Checkpoint.{CheckpointValue}
-use Rattle.lfs_model.specs.Device.{Carries, DeviceState, IsLawful}
+use Rattle.lfs_model.specs.Device.{DeviceState, IsLawful}
 use Rattle.lfs_model.specs.Refusal as refusals
-use Rattle.lfs_model.specs.Refusal.{Refusal, Device, Halted}
+use Rattle.lfs_model.specs.Refusal.{Refusal}
 use Rattle.lfs_model.specs.Stands.{LogMap}
 use Rattle.lfs_model.specs.Step.{Step, last_dots, no_last}
 use Rattle.lfs_model.specs.Tree.{State, Tree}
@@ -25,13 +25,13 @@ use Rattle.lfs_fs.specs.Naming.{Reaches}
 use Rattle.lfs_fs.specs.Seen.{Begins, seen}
 use Rattle.lfs_fs.specs.Volume.{IsIn, IsStill, Mounted, Serves, segments_of}
 use Rattle.lfs_fs.proofs.Accepted.{InEach, OfEach}
-use Rattle.lfs_fs.proofs.AfterReads.{after_reads}
+use Rattle.lfs_fs.proofs.Behaving.{IsOrdinary}
 use Rattle.lfs_fs.proofs.CallSteps.{refused_not_worn}
 use Rattle.lfs_fs.proofs.Ending.{not_acknowledged}
 use Rattle.lfs_fs.proofs.NameLooks.{only_none}
 use Rattle.lfs_fs.proofs.NamingEnds.{still_read, walked, was_running}
 use Rattle.lfs_fs.proofs.PathSteps.{create_dots}
-use Rattle.lfs_fs.proofs.Serving.{served_still, still_in}
+use Rattle.lfs_fs.proofs.Serving.{served_still}
 
 module _ {D : Type 0} (state : D → DeviceState) where
   -- one volume after another that were only read
@@ -57,22 +57,6 @@ module _ {D : Type 0} (state : D → DeviceState) where
         ap (λ (t : Tree). record s { tree = t }) tree ∙ ap (λ h. record { tree = s'.tree; handles = h; version = s.version }) (is.handles ∙ sym is'.handles)
         ∙ ap (λ (n : ℕ). record { tree = s'.tree; handles = s'.handles; version = n }) (is.version ∙ sym is'.version) in
         subst (λ (x : State). P m' x) state_same (subst (λ (x : LogMap). P x s) same p)
-
-  -- A call that reads first, and ends as told by the log map and the state that it began with.
-  module _ (v mid new : Mounted D) (call : Call) (a : Answer) (lawful : IsLawful (state v.log.device)) (still : IsStill state v mid) (was : v.log.halted ≡ false) (carries : Carries (state v.log.device) (state new.log.device))
-      (segments : segments_of new ≡ segments_of v) (halts : a ≡ Refuse Halted → new.log.halted ≡ true)
-      (ends : (k : CheckpointValue) (m0 m : LogMap) (s : State) → (state new.log.device).keeps_model → IsIn state v k m0 m s → IsIn state mid k m0 m s → Serves state mid new call a) where
-    pub after_known : Serves state v new call a
-    after_known = record {
-      carries = carries;
-      segments = λ _. segments;
-      orderly = λ e. absurd (let is = was in cc);
-      halts = halts;
-      model = λ p keeps at. (
-          let r = at.running was in
-          let then = ends r.checkpoint r.saved r.present p.state keeps r.is (still_in state v mid r.checkpoint r.saved r.present p.state still r.is) in
-          (after_reads state v mid new call a lawful still was then).model p keeps at);
-    }
 
 -- the bytes of a slice are bytes
 pub bytes_of : (b : List ℕ) → ((i : ℕ) → Fits w8 (slice_index_or b i 0)) → AreBytes b
@@ -103,11 +87,11 @@ module _ {D : Type 0} (state : D → DeviceState) (lawful : (d : D) → IsLawful
 -- ---- refusals that the log map and the state tell
 
 module _ {D : Type 0} (state : D → DeviceState) (lawful : (d : D) → IsLawful (state d)) (v : Mounted D) (old : Fs D) (path : List ℕ) (d : ℕ) (piece : Option Last) (reached : Reaches state v old path d piece) (running : old.store.log.halted ≡ false) where
-  pub create_refuses : (new : Fs D) → IsStill state (seen old) (seen new) → (r : Refusal) → (r ≡ Halted → ⊥)
+  pub create_refuses : (new : Fs D) → IsStill state (seen old) (seen new) → (r : Refusal) → IsOrdinary (Refuse r)
       → ((k : CheckpointValue) (m0 m : LogMap) (s : State) → (state new.store.log.device).keeps_model → IsIn state v k m0 m s → Parent s.tree path (At 1) → Step (segments_of v) s (Create path) (Refuse r) s)
       → Serves state v (seen new) (Create path) (Refuse r)
-  create_refuses new still r fine steps = served_still state v (seen new) (Create path) (Refuse r) (lawful v.log.device) (still_more state v (seen old) (seen new) (lawful v.log.device) reached.still still) (sym reached.still.reads.halted ∙ running)
-      (λ e. fine (cc)) (λ p keeps here k m0 m is. (
+  create_refuses new still r ordinary steps = served_still state v (seen new) (Create path) (Refuse r) (lawful v.log.device) (still_more state v (seen old) (seen new) (lawful v.log.device) reached.still still) (sym reached.still.reads.halted ∙ running)
+      ordinary (λ p keeps here k m0 m is. (
       let walk = reached.walk k m0 m p.state (still.reads.looks.carries.kept_before keeps) is in
       let step = steps k m0 m p.state keeps is walk in
       inl (step, refused_not_worn (segments_of v) (Create path) p r p.state step refl)))
@@ -117,4 +101,4 @@ module _ {D : Type 0} (state : D → DeviceState) (lawful : (d : D) → IsLawful
   pub no_piece_ends : piece ≡ None → Serves state v (seen old) (Create path) (Refuse refusals.Exist)
   no_piece_ends none =
       let says : no_last path ≡ true = last_says path None (subst (HasLast path) none reached.last) in
-      create_refuses old (only_none state old).still refusals.Exist (λ e. cc) (λ k m0 m s keeps is walk. create_dots (segments_of v) s path 1 walk (ap (λ (b : Bool). b || last_dots path) says))
+      create_refuses old (only_none state old).still refusals.Exist tt (λ k m0 m s keeps is walk. create_dots (segments_of v) s path 1 walk (ap (λ (b : Bool). b || last_dots path) says))

@@ -45,6 +45,7 @@ use Rattle.lfs_fs.specs.Refusals.{refusal_of}
 use Rattle.lfs_fs.specs.Seen.{OnlyReads, seen}
 use Rattle.lfs_fs.specs.Volume.{IsIn, IsStill, Mounted, Serves, segments_of}
 use Rattle.lfs_fs.proofs.Accepted.{DraftsFile, IsDrafted, create_serves}
+use Rattle.lfs_fs.proofs.Behaving.{makes_behaves}
 use Rattle.lfs_fs.proofs.Created.{NamesFile, new_file}
 use Rattle.lfs_fs.proofs.CreateEnds.{of_each}
 use Rattle.lfs_fs.proofs.Declined.{create_fits}
@@ -207,7 +208,7 @@ module _ {D : Type 0} (state : D → DeviceState) (lawful : (d : D) → IsLawful
   -- the draft isn't staged
   pub turned_serves : (new : Fs D) → new.handles ≡ ready.handles → (fault : FsError) → TurnsDown state ready new fault → Serves state v (seen new) (Create path) (Refuse (refusal_of fault))
   turned_serves new rest fault down =
-      by_fault state lawful v ready new (Create path) (Handle handle) still_ready was rest refl refl
+      by_fault state lawful v ready new (Create path) (Handle handle) still_ready was rest refl refl refl
       (λ keeps k m0 m s is.
       create_fits state v c ready.store.drafted.data_blocks ready.store.drafted.meta_blocks (drafted keeps k m0 m s is) path n between head (head.size + 64) head.size slot (drafts_file keeps))
       (λ same lacks keeps k m0 m s is.
@@ -232,7 +233,8 @@ module _ {D : Type 0} (state : D → DeviceState) (lawful : (d : D) → IsLawful
     made_serves =
         let accepts = accepts_old state lawful v ready new (Create path) (Handle handle) still_ready was rest stages in
         subst (λ (h : ℕ). Serves state v with_table (Create path) (Handle h)) first_is
-        (when_in state lawful v with_table (Create path) was (Handle (least_handle (handles_of v.table))) accepts.carries accepts.segments (λ e. cc) (λ kept k m0 m s is. (
+        (when_in state lawful v with_table (Create path) was (Handle (least_handle (handles_of v.table))) accepts.carries accepts.segments (λ e. cc)
+        (makes_behaves state v with_table (Create path) (Handle (least_handle (handles_of v.table))) refl refl refl) (λ kept k m0 m s is. (
         let keeps = stages.accepts.carries.kept_before kept in
         create_serves state v with_table (lawful v.log.device) (lawful new.store.log.device) was accepts.once.number (low_old state lawful v ready new (Create path) (Handle handle) still_ready was rest stages.young) c accepts
         (subst (λ (t : Totals). IsDrafted state v c t.data_blocks t.meta_blocks) (sym stages.totals) (drafted keeps k m0 m s is)) totals_of_tree

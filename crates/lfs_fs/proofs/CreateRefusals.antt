@@ -35,6 +35,7 @@ use Rattle.lfs_fs.specs.Naming.{FailsLook, LooksUp, Reaches, RefusesEntry, Takes
 use Rattle.lfs_fs.specs.Refusals.{refusal_of}
 use Rattle.lfs_fs.specs.Seen.{OnlyReads, seen}
 use Rattle.lfs_fs.specs.Volume.{IsIn, IsPlain, IsStill, Mounted, Serves, segments_of}
+use Rattle.lfs_fs.proofs.Behaving.{IsOrdinary}
 use Rattle.lfs_fs.proofs.Checks.{below, not_below}
 use Rattle.lfs_fs.proofs.CreateEnds.{create_refuses, still_more}
 use Rattle.lfs_fs.proofs.Files.{IsMapOf}
@@ -191,30 +192,30 @@ module _ {D : Type 0} (state : D → DeviceState) (lawful : (d : D) → IsLawful
           (no_least (segments_of v) m s (volume k m0 m s is) (all k m0 m (still_in state v (seen new) k m0 m s still is).stores.holds))
 
   -- ---- the calls
-  refused : (r : refusals.Refusal) → (r ≡ refusals.Halted → ⊥)
+  refused : (r : refusals.Refusal) → IsOrdinary (Refuse r)
       → ((k : CheckpointValue) (m0 m : LogMap) (s : State) → (state new.store.log.device).keeps_model → IsIn state v k m0 m s → Parent s.tree path (At 1) → Step (segments_of v) s (Create path) (Refuse r) s)
       → Serves state v (seen new) (Create path) (Refuse r)
   refused = create_refuses state lawful v old path d piece reached running new only.still
 
   -- no handle is free
   pub handle_refused : (head : Header) → TakesEntry state old new d l.name.now l.slash head → 64 ≤ least_handle (handles_of new.handles.numbers.items) → Serves state v (seen new) (Create path) (Refuse refusals.TooManyOpen)
-  handle_refused head takes many = refused refusals.TooManyOpen (λ e. cc) (λ k m0 m s keeps is walk. handle_step k m0 m s keeps is walk head takes many)
+  handle_refused head takes many = refused refusals.TooManyOpen tt (λ k m0 m s keeps is walk. handle_step k m0 m s keeps is walk head takes many)
 
   -- no number is free
   pub number_refused : (head : Header) → TakesEntry state old new d l.name.now l.slash head → least_handle (handles_of new.handles.numbers.items) < 64 → HasAll state new.store.log
       → Serves state v (seen new) (Create path) (Refuse refusals.NoNumber)
-  number_refused head takes some all = refused refusals.NoNumber (λ e. cc) (λ k m0 m s keeps is walk. number_step k m0 m s keeps is walk head takes some all)
+  number_refused head takes some all = refused refusals.NoNumber tt (λ k m0 m s keeps is walk. number_step k m0 m s keeps is walk head takes some all)
 
   -- the directory doesn't take the entry
   pub entry_refused : (fault : FsError) → RefusesEntry state old new d l.name.now l.slash fault → Serves state v (seen new) (Create path) (Refuse (refusal_of fault))
   entry_refused error.Exist why = ⊎_elim
-      (λ dots. refused refusals.Exist (λ e. cc) (λ k m0 m s keeps is walk. dots_step k m0 m s keeps is walk dots))
-      (λ there. refused refusals.Exist (λ e. cc) (λ k m0 m s keeps is walk. there_step k m0 m s keeps is walk there.0 there.1 there.2.0 there.2.1.0 there.2.1.1))
+      (λ dots. refused refusals.Exist tt (λ k m0 m s keeps is walk. dots_step k m0 m s keeps is walk dots))
+      (λ there. refused refusals.Exist tt (λ k m0 m s keeps is walk. there_step k m0 m s keeps is walk there.0 there.1 there.2.0 there.2.1.0 there.2.1.1))
       why
-  entry_refused error.NameTooLong why = refused refusals.NameTooLong (λ e. cc) (λ k m0 m s keeps is walk. long_step k m0 m s keeps is walk why.0 why.1)
-  entry_refused error.Inval why = refused refusals.Inval (λ e. cc) (λ k m0 m s keeps is walk. absurd (why.2 (is_named k m0 m s keeps is walk why.0 why.1)))
-  entry_refused error.NoEntry why = refused refusals.NoEntry (λ e. cc) (λ k m0 m s keeps is walk. slash_step k m0 m s keeps is walk why.0 why.1 why.3.0 why.2 why.3.1)
-  entry_refused error.DirFull why = refused refusals.DirFull (λ e. cc) (λ k m0 m s keeps is walk. full_step k m0 m s keeps is walk why.0 why.1 why.3.0 why.2 why.3.1 why.3.2)
+  entry_refused error.NameTooLong why = refused refusals.NameTooLong tt (λ k m0 m s keeps is walk. long_step k m0 m s keeps is walk why.0 why.1)
+  entry_refused error.Inval why = refused refusals.Inval tt (λ k m0 m s keeps is walk. absurd (why.2 (is_named k m0 m s keeps is walk why.0 why.1)))
+  entry_refused error.NoEntry why = refused refusals.NoEntry tt (λ k m0 m s keeps is walk. slash_step k m0 m s keeps is walk why.0 why.1 why.3.0 why.2 why.3.1)
+  entry_refused error.DirFull why = refused refusals.DirFull tt (λ k m0 m s keeps is walk. full_step k m0 m s keeps is walk why.0 why.1 why.3.0 why.2 why.3.1 why.3.2)
   entry_refused error.Halted why = absurd (let on = why in let off = running in cc)
   entry_refused error.Device why =
       failed_serves state v (seen new) (Create path) (lawful v.log.device) still (sym reached.still.reads.halted ∙ running) refl (λ k m0 m s keeps is. rises k m0 m s is keeps why)

@@ -3,19 +3,21 @@ use Rattle.std.proofs.Common.{◌≡◌, ◌≤◌, ◌^◌, ◌<◌, ◌+◌, �
 use Rattle.std.specs.Prelude.{max}
 use Rattle.std.specs.Ordering.{nat_cmp}
 use Rattle.std.specs.FinMap.{find}
-use Rattle.lfs_model.specs.Call.{Call, Done, Refuse, Sync, changes, commits}
+use Rattle.lfs_model.specs.Call.{Call, Done, Refuse, Sync, changes, commits, takes_no_memory}
 use Rattle.lfs_model.specs.Device.{DeviceState, IsLawful}
-use Rattle.lfs_model.specs.Refusal.{Device, Stuck}
+use Rattle.lfs_model.specs.Refusal.{Device, NoMemory, Stuck}
 use Rattle.lfs_model.specs.Stands.{LogMap}
 use Rattle.lfs_path.specs.memory.declared.changes.Changes.{Changes}
 use Rattle.lfs_path.specs.memory.declared.header.Header.{Header}
 use Rattle.lfs_path.specs.memory.Batch.{staged, FitsBatch}
 use Rattle.lfs_path.specs.memory.Present.{as_header}
+use Rattle.lfs_path.specs.log.Held.{IsFull}
 use Rattle.lfs_path.specs.store.Accepting.{Commits, Declines, IsAcceptFault}
 use Rattle.lfs_path.specs.store.Writing.{SizesFile, WritesFile, resized}
 use Rattle.lfs_fs.specs.Handles.{handles_of}
 use Rattle.lfs_fs.specs.Volume.{Mounted, Serves, segments_of}
 use Rattle.lfs_fs.proofs.Accepted.{DraftsFile, InEach, IsDrafted, OfEach}
+use Rattle.lfs_fs.proofs.Behaving.{change_writes, write_behaves}
 use Rattle.lfs_fs.proofs.CallSteps.{never_worn}
 use Rattle.lfs_fs.proofs.Created.{created_log}
 use Rattle.lfs_fs.proofs.Ending.{IsRest, commits_by, declines_by}
@@ -30,7 +32,8 @@ use Rattle.lfs_fs.proofs.Written.{written_log}
 module _ {D : Type 0} (state : D → DeviceState) (old new : Mounted D) (lawful : IsLawful (state old.log.device)) (after : IsLawful (state new.log.device)) where
   pub sync_serves : IsRest state old new → Commits state old.log old.saved new.log → new.saved ≡ true → Serves state old new Sync Done
   sync_serves rest done saved =
-      commits_by state old new Sync lawful after done.carries done.segments done.was_running later rest done saved Done (λ e. cc) (λ p keeps at. inl (sync_done (segments_of old) p.state, never_worn (segments_of old) Sync p refl refl))
+      commits_by state old new Sync lawful after done.carries done.segments done.was_running later rest done saved Done (λ e. cc)
+      (write_behaves state old new Sync Done refl rest.table (λ e. cc)) (λ p keeps at. inl (sync_done (segments_of old) p.state, never_worn (segments_of old) Sync p refl refl))
     where
       one_more : (b : Bool) (n : ℕ) → n ≤ cond b n (n + 1)
       one_more true n = omega arith
@@ -44,13 +47,21 @@ module _ {D : Type 0} (state : D → DeviceState) (old new : Mounted D) (lawful 
 module _ {D : Type 0} (state : D → DeviceState) (old new : Mounted D) (call : Call) (lawful : IsLawful (state old.log.device)) (after : IsLawful (state new.log.device)) (was : old.log.halted ≡ false)
     (later : old.log.number ≤ new.log.number) (c : Changes) (rest : IsRest state old new) (declines : Declines state old.log old.saved new.log new.saved c) (low : old.log.number < 2 ^ 62) (fits : InEach state old (λ m s. FitsBatch m c)) where
   -- too few segments are clean
-  pub stuck_serves : changes call ≡ true → Serves state old new call (Refuse Stuck)
-  stuck_serves change = declines_by state old new call lawful after declines.carries declines.segments was later c rest declines low Stuck (λ e. cc) (λ p keeps at k m0 m is.
+  pub stuck_serves : changes call ≡ true → IsFull new.log → Serves state old new call (Refuse Stuck)
+  stuck_serves change full = declines_by state old new call lawful after declines.carries declines.segments was later c rest declines low Stuck (λ e. cc)
+      (write_behaves state old new call (Refuse Stuck) (change_writes call change) rest.table (λ e. full)) (λ p keeps at k m0 m is.
       (fits k m0 m p.state (declines.carries.kept_before keeps) is, inr (Stuck, refl, inl change, refl)))
 
+  -- memory has no room
+  pub no_room_serves : changes call ≡ true → takes_no_memory call ≡ false → Serves state old new call (Refuse NoMemory)
+  no_room_serves change takes = declines_by state old new call lawful after declines.carries declines.segments was later c rest declines low NoMemory (λ e. cc)
+      (write_behaves state old new call (Refuse NoMemory) (change_writes call change) rest.table (λ e. cc)) (λ p keeps at k m0 m is.
+      (fits k m0 m p.state (declines.carries.kept_before keeps) is, inr (NoMemory, refl, takes, refl)))
+
   -- a call of the device failed
-  pub accept_fault_serves : commits call ≡ false → IsAcceptFault state old.log old.saved new.log c → Serves state old new call (Refuse Device)
-  accept_fault_serves free fault = declines_by state old new call lawful after declines.carries declines.segments was later c rest declines low Device (λ e. cc) (λ p keeps at k m0 m is. (
+  pub accept_fault_serves : changes call ≡ true → commits call ≡ false → IsAcceptFault state old.log old.saved new.log c → Serves state old new call (Refuse Device)
+  accept_fault_serves change free fault = declines_by state old new call lawful after declines.carries declines.segments was later c rest declines low Device (λ e. cc)
+      (write_behaves state old new call (Refuse Device) (change_writes call change) rest.table (λ e. cc)) (λ p keeps at k m0 m is. (
       let fit = fits k m0 m p.state (declines.carries.kept_before keeps) is in
       let rose = fault k m0 m keeps is.stores fit (map_dropped state old new keeps lawful after declines.carries k m0 m p.state is) in
       (fit, inr (Device, refl, (free, (let f = at.failures in omega (arith, f, rose))), refl))))

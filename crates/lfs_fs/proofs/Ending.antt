@@ -12,15 +12,14 @@ use Rattle.lfs_model.specs.Tree.{State, drop_nameless}
 use Rattle.lfs_model.specs.TreeOf.{LeavesOne, dropped}
 use Rattle.lfs_path.specs.memory.declared.changes.Changes.{Changes}
 use Rattle.lfs_path.specs.memory.Batch.{staged, FitsBatch}
-use Rattle.lfs_path.specs.log.Held.{Halts}
 use Rattle.lfs_path.specs.store.Accepting.{Accepts, Commits, Declines, Stores, StoresOver}
 use Rattle.lfs_path.specs.store.Totals.{IsCounted}
 use Rattle.lfs_fs.specs.Handles.{handles_of}
-use Rattle.lfs_fs.specs.Volume.{IsAt, IsIn, Mounted, Runs, Serves, segments_of}
+use Rattle.lfs_fs.specs.Volume.{Behaves, IsAt, IsIn, Mounted, Runs, Serves, segments_of}
 use Rattle.lfs_fs.proofs.Files.{IsMapOf}
 use Rattle.lfs_fs.proofs.Holding.{map_of_volume, runs_over}
 use Rattle.lfs_fs.proofs.Leaving.{stands_dropped}
-use Rattle.lfs_fs.proofs.Serving.{goes_on_at, halts_at, map_dropped, point_of}
+use Rattle.lfs_fs.proofs.Serving.{goes_on_at, map_dropped, point_of}
 
 -- a refusal is never acknowledged
 pub not_acknowledged : (call : Call) (r : Refusal) → acknowledges call (Refuse r) ≡ true → ⊥
@@ -52,32 +51,19 @@ module _ {D : Type 0} (state : D → DeviceState) where
       pub moment : LeavesOnly (state old.log.device) (state new.log.device) (StandsForOn k.segments m0 (dropped m))
       pub saves : acknowledges call a ≡ true → LeavesOne (state new.log.device) (drop_nameless next)
 
-    pub runs_on : (a : Answer) → (a ≡ Refuse Halted → ⊥) → new.log.halted ≡ false
+    pub runs_on : (a : Answer) → (a ≡ Refuse Halted → ⊥) → Behaves state old new call a → new.log.halted ≡ false
         → ((p : Point) → (state new.log.device).keeps_model → IsAt state old p → (k : CheckpointValue) (m0 m : LogMap) → IsIn state old k m0 m p.state → EndsAt a p k m0 m)
         → Serves state old new call a
-    runs_on a fine running each = record {
+    runs_on a fine behaves running each = record {
       carries = carries;
       segments = λ e. segments;
       orderly = λ e. absurd (let is = was in cc);
       halts = λ e. absurd (fine e);
+      behaves = behaves;
       model = λ p keeps at. (
           let r = at.running was in
           let end = each p keeps at r.checkpoint r.saved r.present r.is in
           goes_on_at state old new keeps lawful after carries r.checkpoint r.saved r.present p.state r.is call a p at refl was running later fine end.next end.runs end.steps end.moment end.saves);
-    }
-
-    -- ---- a commit failed
-    pub halts_by : Halts state old.log new.log → Serves state old new call (Refuse Halted)
-    halts_by halts = record {
-      carries = carries;
-      segments = λ e. segments;
-      orderly = λ e. absurd (let is = was in cc);
-      halts = λ e. halts.halted;
-      model = λ p keeps at. (
-          let r = at.running was in
-          halts_at state old new keeps lawful after carries r.checkpoint r.saved r.present p.state r.is call p at refl was halts.halted later
-          (halts.cause r.checkpoint r.saved r.present keeps r.is.stores.holds)
-          (halts.moment r.checkpoint r.saved r.present keeps r.is.stores.holds (map_dropped state old new keeps lawful after carries r.checkpoint r.saved r.present p.state r.is)));
     }
 
     -- ---- a draft is staged
@@ -92,8 +78,8 @@ module _ {D : Type 0} (state : D → DeviceState) where
         pub counted : IsCounted (staged c m) new.blocks new.others
         pub steps : StepsOr (segments_of old) call p a (point_of state new next)
 
-      pub accepts_by : ((p : Point) → (state new.log.device).keeps_model → IsAt state old p → (k : CheckpointValue) (m0 m : LogMap) → IsIn state old k m0 m p.state → Drafts p m) → Serves state old new call a
-      accepts_by each = runs_on a fine (done.halted ∙ was) (λ p keeps at k m0 m is. (
+      pub accepts_by : Behaves state old new call a → ((p : Point) → (state new.log.device).keeps_model → IsAt state old p → (k : CheckpointValue) (m0 m : LogMap) → IsIn state old k m0 m p.state → Drafts p m) → Serves state old new call a
+      accepts_by behaves each = runs_on a fine behaves (done.halted ∙ was) (λ p keeps at k m0 m is. (
           let drafts = each p keeps at k m0 m is in
           let log = map_dropped state old new keeps lawful after carries k m0 m p.state is in record {
             next = drafts.next;
@@ -122,8 +108,8 @@ module _ {D : Type 0} (state : D → DeviceState) where
       left_one : (k : CheckpointValue) (m0 m : LogMap) (s : State) → IsIn state old k m0 m s → (state new.log.device).keeps_model → IsLogMap (dropped m) → LeavesOne (state new.log.device) (drop_nameless s)
       left_one k m0 m s is keeps log c left = stands_dropped (segments_of old) c m s is.log is.version (subst (λ (n : ℕ). StandsOn n c (dropped m)) (sym is.stores.holds.log.segments) (done.left k m0 m keeps is.stores log c left))
 
-      pub commits_by : (a : Answer) → (a ≡ Refuse Halted → ⊥) → ((p : Point) → (state new.log.device).keeps_model → IsAt state old p → StepsOr (segments_of old) call p a (point_of state new p.state)) → Serves state old new call a
-      commits_by a fine each = runs_on a fine done.running (λ p keeps at k m0 m is. (
+      pub commits_by : (a : Answer) → (a ≡ Refuse Halted → ⊥) → Behaves state old new call a → ((p : Point) → (state new.log.device).keeps_model → IsAt state old p → StepsOr (segments_of old) call p a (point_of state new p.state)) → Serves state old new call a
+      commits_by a fine behaves each = runs_on a fine behaves done.running (λ p keeps at k m0 m is. (
           let log = map_dropped state old new keeps lawful after carries k m0 m p.state is in record {
             next = p.state;
             runs = runs_over state old new k m0 m p.state is m p.state (over k m0 m keeps is.stores log) segments (map_of_volume state old k m0 m p.state is) is.version
@@ -138,9 +124,9 @@ module _ {D : Type 0} (state : D → DeviceState) where
       not_halted : Refuse r ≡ Refuse Halted → ⊥
       not_halted e = fine (cc)
 
-      pub declines_by : ((p : Point) → (state new.log.device).keeps_model → IsAt state old p → (k : CheckpointValue) (m0 m : LogMap) → IsIn state old k m0 m p.state
+      pub declines_by : Behaves state old new call (Refuse r) → ((p : Point) → (state new.log.device).keeps_model → IsAt state old p → (k : CheckpointValue) (m0 m : LogMap) → IsIn state old k m0 m p.state
           → FitsBatch m c × StepsOr (segments_of old) call p (Refuse r) (point_of state new p.state)) → Serves state old new call (Refuse r)
-      declines_by each = runs_on (Refuse r) not_halted (declines.halted ∙ was) (λ p keeps at k m0 m is. (
+      declines_by behaves each = runs_on (Refuse r) not_halted behaves (declines.halted ∙ was) (λ p keeps at k m0 m is. (
           let both = each p keeps at k m0 m is in
           let log = map_dropped state old new keeps lawful after carries k m0 m p.state is in record {
             next = p.state;

@@ -46,7 +46,7 @@ module _ {D : Type 0} (state : D → DeviceState) (old new : Mounted D) (lawful 
       (at : ℕ) (w : List ℕ) (writes : OfEach state old (λ m. WritesFile m (staged c m) n head (resized head (max head.size (at + length w))) at w))
       (some : 0 < length w) (few : length w ≤ 65536) (end : at + length w ≤ 8511488) where
     pub pwrite_lacks : 47 * segments_of old < blocks + 7 * others + 720 → Serves state old new (Pwrite h at w) (Refuse NoSpace)
-    pwrite_lacks lacks = served_still state old new (Pwrite h at w) (Refuse NoSpace) lawful still was (λ e. cc) (λ p keeps here k m0 m is. (
+    pwrite_lacks lacks = served_still state old new (Pwrite h at w) (Refuse NoSpace) lawful still was tt (λ p keeps here k m0 m is. (
         let before = kept keeps in
         let holds = is.stores.holds in
         let map = map_of_volume state old k m0 m p.state is in
@@ -60,7 +60,7 @@ module _ {D : Type 0} (state : D → DeviceState) (old new : Mounted D) (lawful 
         (λ e. cc)
 
     pub pwrite_worn : 2 ^ 62 ≤ old.log.number → blocks + 7 * others + 720 ≤ 47 * segments_of old → Serves state old new (Pwrite h at w) (Refuse Worn)
-    pwrite_worn high room = served_still state old new (Pwrite h at w) (Refuse Worn) lawful still was (λ e. cc) (λ p keeps here k m0 m is. (
+    pwrite_worn high room = served_still state old new (Pwrite h at w) (Refuse Worn) lawful still was tt (λ p keeps here k m0 m is. (
         let before = kept keeps in
         let holds = is.stores.holds in
         let map = map_of_volume state old k m0 m p.state is in
@@ -76,7 +76,7 @@ module _ {D : Type 0} (state : D → DeviceState) (old new : Mounted D) (lawful 
   -- ---- a new file
   module _ (p : List ℕ) (n : ℕ) (made : LogMap → LogMap) (head : Header) (size at : ℕ) (w : List ℕ) (drafts : DraftsFile state old c p n made head size at w) where
     pub create_lacks : 47 * segments_of old < blocks + 7 * others + 720 → Serves state old new (Create p) (Refuse NoSpace)
-    create_lacks lacks = served_still state old new (Create p) (Refuse NoSpace) lawful still was (λ e. cc) (λ q keeps here k m0 m is. (
+    create_lacks lacks = served_still state old new (Create p) (Refuse NoSpace) lawful still was tt (λ q keeps here k m0 m is. (
         let before = kept keeps in
         let map = map_of_volume state old k m0 m q.state is in
         let walk = drafts.walk k m0 m q.state before is in
@@ -91,7 +91,7 @@ module _ {D : Type 0} (state : D → DeviceState) (old new : Mounted D) (lawful 
         (λ e. cc)
 
     pub create_worn : 2 ^ 62 ≤ old.log.number → blocks + 7 * others + 720 ≤ 47 * segments_of old → Serves state old new (Create p) (Refuse Worn)
-    create_worn high room = served_still state old new (Create p) (Refuse Worn) lawful still was (λ e. cc) (λ q keeps here k m0 m is. (
+    create_worn high room = served_still state old new (Create p) (Refuse Worn) lawful still was tt (λ q keeps here k m0 m is. (
         let before = kept keeps in
         let map = map_of_volume state old k m0 m q.state is in
         let walk = drafts.walk k m0 m q.state before is in
@@ -108,7 +108,7 @@ module _ {D : Type 0} (state : D → DeviceState) (old new : Mounted D) (lawful 
 -- ---- a cut
 module _ {D : Type 0} (state : D → DeviceState) (old new : Mounted D) (lawful : IsLawful (state old.log.device)) (still : IsStill state old new) (was : old.log.halted ≡ false) where
   pub truncate_worn : (h n : ℕ) → find nat_cmp h (handles_of old.table) ≡ Some n → (len : ℕ) → len ≤ 8511488 → 2 ^ 62 ≤ old.log.number → Serves state old new (Truncate h len) (Refuse Worn)
-  truncate_worn h n opens len end high = served_still state old new (Truncate h len) (Refuse Worn) lawful still was (λ e. cc) (λ p keeps here k m0 m is. (
+  truncate_worn h n opens len end high = served_still state old new (Truncate h len) (Refuse Worn) lawful still was tt (λ p keeps here k m0 m is. (
       let file = ap (find nat_cmp h) is.handles ∙ opens in
       inr (
         Worn,

@@ -3,6 +3,7 @@ mod FirstSectors
 mod FirstWrites
 mod FirstMoments
 mod Leaving
+mod Behaving
 mod Serving
 mod Checks
 mod HandleSteps
@@ -20,7 +21,6 @@ mod Headers
 mod RowFacts
 mod Holding
 mod Ending
-mod AfterReads
 mod CallSteps
 mod Found
 mod Accepted

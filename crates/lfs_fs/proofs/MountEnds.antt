@@ -1,5 +1,5 @@
 -- What a mount finds after its tree was checked: the state that the device stands for, or why not.
-use Rattle.std.proofs.Common.{◌≡◌, ◌∙◌, Bool, true, false, [], refl, sym, subst, arith}
+use Rattle.std.proofs.Common.{◌≡◌, ◌<◌, ◌∙◌, Bool, true, false, [], refl, sym, subst, arith}
 use Rattle.lfs_model.specs.Checkpoint.{layout_version}
 use Rattle.lfs_model.specs.Device.{Carries, DeviceState, IsLawful, IsUntouched, LeavesOnly, Only}
 use Rattle.lfs_model.specs.Content.{Content}
@@ -14,18 +14,18 @@ use Rattle.lfs_path.specs.memory.declared.changes.Changes.{Changes}
 use Rattle.lfs_path.specs.memory.Batch.{IsNoChange, staged}
 use Rattle.lfs_path.specs.log.declared.fault.MountFault.{MountFault}
 use Rattle.lfs_path.specs.log.declared.fault.MountFault.TheVariants as fault
-use Rattle.lfs_path.specs.log.Held.{Held, Reads}
-use Rattle.lfs_path.specs.log.Opening.{IsOpenFault}
+use Rattle.lfs_path.specs.log.Held.{Held, Holds, IsReadFault, Reads}
 use Rattle.lfs_path.specs.store.declared.totals.Totals.{Totals}
-use Rattle.lfs_path.specs.store.Accepting.{MountsStore}
+use Rattle.lfs_path.specs.store.Accepting.{IsMountRefusal, MountsStore}
 use Rattle.lfs_path.specs.store.Recounting.{MountsTotals}
 use Rattle.lfs_path.proofs.of_store.Apart.{no_change}
 use Rattle.lfs_path.proofs.of_store.LogReads.{held_still}
 use Rattle.lfs_fs.specs.declared.fs.Fs.{Fs}
 use Rattle.lfs_fs.specs.Checking.{FindsTree, IsCountedMap, IsFlat, IsTreeFault, LacksTree}
 use Rattle.lfs_fs.specs.Handles.{handles_of}
-use Rattle.lfs_fs.specs.Mounting.{FindsState, HasLogMap, no_tree, IsLogFault, IsMountFault, IsRefused, IsRefusedFor, IsRefusedTree, MountsAt, MountsFs, StandsWhereLog}
+use Rattle.lfs_fs.specs.Mounting.{FindsState, HasLogMap, no_tree, IsDamageOf, IsLogFault, IsMountFault, IsRefused, IsRefusedFor, IsRefusedTree, MountsAt, MountsFs, StandsWhereLog}
 use Rattle.lfs_fs.specs.Seen.{seen}
+use Rattle.lfs_model.specs.Volume.{IsTooSmall, IsWithoutCheckpoint}
 use Rattle.lfs_fs.specs.Volume.{IsPlain}
 use Rattle.lfs_verify.specs.Take.{Looks}
 use Rattle.lfs_verify.specs.Verified.{IsVerified}
@@ -46,6 +46,9 @@ module _ {D : Type 0} (state : D → DeviceState) (lawful : (d : D) → IsLawful
     mounts_after m keeps is =
         let stores = mounts m (reads.looks.carries.kept_before keeps) is in
         record { holds = held_still state h h' is.checkpoint m m reads stores.holds; nothing_new = stores.nothing_new }
+
+    held_at : (m : LogMap) → (state h'.device).keeps_model → (is : StandsLog (state d).content m) → Holds state h is.checkpoint m m
+    held_at m keeps is = (mounts m (reads.looks.carries.kept_before keeps) is).holds
 
     module _ (c : Changes) (none : IsNoChange c) (totals : Totals) (counts : MountsTotals state d h totals) where
       module _ (m : LogMap) (keeps : (state h'.device).keeps_model) (is : StandsLog (state d).content m) where
@@ -85,33 +88,43 @@ module _ {D : Type 0} (state : D → DeviceState) (lawful : (d : D) → IsLawful
         },
       )
 
-      -- a call of the device failed, where the content stands for a plain tree
-      pub check_fault : Carries (state d) (state h.device) → LacksTree state h h' c totals → IsMountFault state d h'.device
-      check_fault carries lacks s keeps is plain =
-          let log = found_log s is in
-          let stores = mounts is.log (reads.looks.carries.kept_before keeps) log in
-          let flat : IsFlat is.checkpoint.segments is.log = record { tree = is.tree.tree; plain = subst IsPlain is.tree.is plain } in
-          let rose = lacks is.checkpoint is.log is.log keeps stores.holds (counted_map is.log keeps log) (subst (IsFlat is.checkpoint.segments) (sym (no_change c is.log none)) flat) in
-          let before = carries.failures in
-          omega (arith, rose, before)
-
-      -- why its tree is refused, where no call failed
-      pub tree_refused : Carries (state d) (state h.device) → (f : MountFault) → IsTreeFault state h h' f → ((f ≡ fault.NoMemory → ⊥) → LacksTree state h h' c totals) → IsRefusedTree (state d) (state h'.device) f
-      tree_refused carries fault.NoMemory told lacks m is keeps same = told
-      tree_refused carries fault.Device told lacks m is keeps same =
-          let rose = told is.checkpoint m m keeps (mounts m (reads.looks.carries.kept_before keeps) is).holds in
-          let before = carries.failures in
-          absurd (omega (arith, rose, before, same))
-      tree_refused carries fault.TooSmall told lacks m is keeps same = absurd told
-      tree_refused carries fault.NoCheckpoint told lacks m is keeps same = absurd told
-      tree_refused carries (fault.Damaged code) told lacks m is keeps same = no_tree told.0 told.1 record {
-        log = m;
-        stands = is;
-        no_tree = λ flat.
-            let rose = lacks (λ e. cc) is.checkpoint m m keeps (mounts m (reads.looks.carries.kept_before keeps) is).holds (counted_map m keeps is) (subst (IsFlat is.checkpoint.segments) (sym (no_change c m none)) flat) in
+      module _ (carries : Carries (state d) (state h.device)) where
+        rises : IsReadFault state h h' → (m : LogMap) → (state h'.device).keeps_model → StandsLog (state d).content m → (state d).failures < (state h'.device).failures
+        rises failed m keeps is =
+            let rose = failed is.checkpoint m m keeps (held_at m keeps is) in
             let before = carries.failures in
-            absurd (omega (arith, rose, before, same));
-      }
+            omega (arith, rose, before)
+
+        -- a call of the device failed, where the content stands for a plain tree
+        pub check_fault : (f : MountFault) → IsTreeFault state h h' (LacksTree state h h' c totals) f → IsMountFault state d h'.device
+        check_fault f told s keeps is plain = by f told
+          where
+            log : StandsLog (state d).content is.log
+            log = found_log s is
+
+            flat : IsFlat is.checkpoint.segments is.log
+            flat = record { tree = is.tree.tree; plain = subst IsPlain is.tree.is plain }
+
+            by : (f : MountFault) → IsTreeFault state h h' (LacksTree state h h' c totals) f → (state d).failures < (state h'.device).failures
+            by fault.NoMemory told = absurd told
+            by fault.Device told = rises told is.log keeps log
+            by fault.TooSmall told = absurd told
+            by fault.NoCheckpoint told = absurd told
+            by (fault.Damaged code) told = absurd (told.2 is.checkpoint is.log is.log keeps (held_at is.log keeps log) (counted_map is.log keeps log) (subst (IsFlat is.checkpoint.segments) (sym (no_change c is.log none)) flat))
+
+        -- why its tree is refused
+        pub tree_refused : (f : MountFault) → ((f ≡ fault.NoMemory → ⊥) → IsTreeFault state h h' (LacksTree state h h' c totals) f) → IsRefusedTree (state d) (state h'.device) f
+        tree_refused fault.NoMemory told m is keeps = tt
+        tree_refused fault.Device told m is keeps = rises (told (λ e. cc)) m keeps is
+        tree_refused fault.TooSmall told m is keeps = absurd (told (λ e. cc))
+        tree_refused fault.NoCheckpoint told m is keeps = absurd (told (λ e. cc))
+        tree_refused (fault.Damaged code) told m is keeps =
+            let damaged = told (λ e. cc) in
+            no_tree damaged.0 damaged.1 record {
+              log = m;
+              stands = is;
+              no_tree = λ flat. damaged.2 is.checkpoint m m keeps (held_at m keeps is) (counted_map m keeps is) (subst (IsFlat is.checkpoint.segments) (sym (no_change c m none)) flat);
+            }
 
   only_after : Only (state d).content (state h.device) → Only (state d).content (state h'.device)
   only_after only c left = only c (reads.looks.untouched.crash c left)
@@ -145,19 +158,26 @@ module _ {D : Type 0} (state : D → DeviceState) (lawful : (d : D) → IsLawful
         (found.0, found.1, mounts_fs found.0 keeps found.1)
 
 -- why the store isn't opened
-pub open_fault : {D : Type 0} (state : D → DeviceState) (d d' : D) → IsOpenFault (state d) (state d') → IsMountFault state d d'
-open_fault state d d' failed s keeps is plain = failed is.log keeps (record { checkpoint = is.checkpoint; newest = is.found; stands = is.stands })
+pub log_fault : {D : Type 0} (state : D → DeviceState) (d d' : D) → IsLogFault (state d) (state d') → IsMountFault state d d'
+log_fault state d d' failed s keeps is plain = failed is.log keeps (record { checkpoint = is.checkpoint; newest = is.found; stands = is.stands })
 
--- a refusal that only memory has
-memory_alone : (c : Content) (f : MountFault) → ((f ≡ fault.NoMemory → ⊥) → ⊥) → IsRefusedFor c f
-memory_alone c fault.NoMemory never = tt
-memory_alone c fault.Device never = absurd (never (λ e. cc))
-memory_alone c fault.TooSmall never = absurd (never (λ e. cc))
-memory_alone c fault.NoCheckpoint never = absurd (never (λ e. cc))
-memory_alone c (fault.Damaged code) never = absurd (never (λ e. cc))
+-- a store is refused for a call that failed, where the content stands for a log map
+refused_store : (old new : DeviceState) (f : MountFault) → IsMountRefusal old new f → IsLogFault old new
+refused_store old new fault.NoMemory is m keeps stands = absurd is
+refused_store old new fault.Device is m keeps stands = is m keeps stands
+refused_store old new fault.TooSmall is m keeps stands = absurd (is m keeps stands)
+refused_store old new fault.NoCheckpoint is m keeps stands = absurd (is m keeps stands)
+refused_store old new (fault.Damaged code) is m keeps stands = absurd (is m keeps stands)
 
-pub open_refused : (old new : DeviceState) (f : MountFault) → ((f ≡ fault.NoMemory → ⊥) → IsOpenFault old new) → IsRefusedTree old new f
-open_refused old new f failed m is keeps same = memory_alone old.content f (λ other. let rose = failed other m keeps is in omega (arith, rose, same))
+pub open_fault : {D : Type 0} (state : D → DeviceState) (d d' : D) (f : MountFault) → IsMountRefusal (state d) (state d') f → IsMountFault state d d'
+open_fault state d d' f is = log_fault state d d' (refused_store (state d) (state d') f is)
+
+pub open_refused : (old new : DeviceState) (f : MountFault) → ((f ≡ fault.NoMemory → ⊥) → IsMountRefusal old new f) → IsRefusedTree old new f
+open_refused old new fault.NoMemory told m is keeps = tt
+open_refused old new fault.Device told m is keeps = told (λ e. cc) m keeps is
+open_refused old new fault.TooSmall told m is keeps = absurd (told (λ e. cc) m keeps is)
+open_refused old new fault.NoCheckpoint told m is keeps = absurd (told (λ e. cc) m keeps is)
+open_refused old new (fault.Damaged code) told m is keeps = absurd (told (λ e. cc) m keeps is)
 
 -- ---- the log, which is checked before
 has_log_map : (c : Content) (enough : Bool) → IsVerified c enough → enough ≡ true → (m : LogMap) × StandsLog c m
@@ -192,13 +212,17 @@ module _ {D : Type 0} (state : D → DeviceState) (d0 d1 : D) (one : Looks (stat
       let before = one.carries.failures in
       omega (arith, rose, before)
 
+  reason_by : (d2 : D) (f : MountFault) → IsRefusedFor (state d1) (state d2) f → IsRefusedFor (state d0) (state d2) f
+  reason_by d2 fault.NoMemory is = tt
+  reason_by d2 fault.Device is = let before = one.carries.failures in omega (arith, is, before)
+  reason_by d2 fault.TooSmall is = subst IsTooSmall one.untouched.content is
+  reason_by d2 fault.NoCheckpoint is = subst IsWithoutCheckpoint one.untouched.content is
+  reason_by d2 (fault.Damaged code) is = subst (λ (c : Content). IsDamageOf c code) one.untouched.content is
+
   pub refused_by : (d2 : D) (f : MountFault) → HasLogMap (state d0) (state d1) → Carries (state d1) (state d2) → IsRefusedTree (state d1) (state d2) f → IsRefused (state d0) (state d2) f
-  refused_by d2 f has carries refused keeps same =
+  refused_by d2 f has carries refused keeps =
       let log = has (carries.kept_before keeps) in
-      let before = one.carries.failures in
-      let after = carries.failures in
-      subst (λ (c : Content). IsRefusedFor c f) one.untouched.content
-      (refused log.0 (subst (λ (c : Content). StandsLog c log.0) (sym one.untouched.content) log.1) keeps (omega (arith, same, before, after)))
+      reason_by d2 f (refused log.0 (subst (λ (c : Content). StandsLog c log.0) (sym one.untouched.content) log.1) keeps)
 
   pub looks_on : (d2 : D) → Carries (state d1) (state d2) → IsUntouched (state d1) (state d2) → LeavesOnly (state d1) (state d2) (state d1).may_leave → Looks (state d0) (state d2)
   looks_on d2 carries untouched any_moment = looks_then (state d0) (state d1) (state d2) one (looks_by (state d1) (state d2) carries untouched any_moment)

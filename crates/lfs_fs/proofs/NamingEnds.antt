@@ -34,6 +34,7 @@ use Rattle.lfs_fs.specs.Naming.{OpensNone, OpensNumber}
 use Rattle.lfs_fs.specs.Refusals.{refusal_of}
 use Rattle.lfs_fs.specs.Seen.{Begins, answer_by, seen}
 use Rattle.lfs_fs.specs.Volume.{IsIn, IsStill, Mounted, Serves, segments_of}
+use Rattle.lfs_fs.proofs.Behaving.{IsOrdinary}
 use Rattle.lfs_fs.proofs.CallSteps.{never_worn, refused_not_worn}
 use Rattle.lfs_fs.proofs.Files.{resolved_there}
 use Rattle.lfs_fs.proofs.Holding.{file_no_dir, headers_of_volume, map_of_volume, opened_map, root_dir, walked_file}
@@ -69,21 +70,21 @@ module _ {D : Type 0} (state : D → DeviceState) (old new : Mounted D) (lawful 
 
   -- a walk without an end refuses the call
   module _ (call : Call) (free : commits call ≡ false) (unclean : cleans call ≡ false) (steps : (N : ℕ) (s : State) (r : Refusal) → W s.tree (Refused r) → Step N s call (Refuse r) s) where
-    walk_refused : (r : Refusal) → (r ≡ Halted → ⊥) → WalksTo state old.log new.log c W (Refused r) → Serves state old new call (Refuse r)
-    walk_refused r fine walks = served_still state old new call (Refuse r) lawful still was (λ e. fine (cc)) (λ p keeps here k m0 m is. (
+    walk_refused : (r : Refusal) → IsOrdinary (Refuse r) → WalksTo state old.log new.log c W (Refused r) → Serves state old new call (Refuse r)
+    walk_refused r ordinary walks = served_still state old new call (Refuse r) lawful still was ordinary (λ p keeps here k m0 m is. (
         let step = steps (segments_of old) p.state r (walked (Refused r) walks k m0 m p.state keeps is) in
         inl (step, refused_not_worn (segments_of old) call p r p.state step unclean)))
         (not_acknowledged call r)
 
     pub walk_ends : (fault : PathFault) → (fault ≡ path.Log log.Halted → old.log.halted ≡ true) → (fault ≡ path.Log log.Full → ⊥) → EndsRefused state old.log new.log c W fault
         → Serves state old new call (Refuse (refusal_of (error_of_path fault)))
-    walk_ends path.NoEntry halted other ends = walk_refused refusals.NoEntry (λ e. cc) ends
-    walk_ends path.NotDir halted other ends = walk_refused refusals.NotDir (λ e. cc) ends
-    walk_ends path.NameTooLong halted other ends = walk_refused refusals.NameTooLong (λ e. cc) ends
-    walk_ends path.Inval halted other ends = walk_refused refusals.Inval (λ e. cc) ends
+    walk_ends path.NoEntry halted other ends = walk_refused refusals.NoEntry tt ends
+    walk_ends path.NotDir halted other ends = walk_refused refusals.NotDir tt ends
+    walk_ends path.NameTooLong halted other ends = walk_refused refusals.NameTooLong tt ends
+    walk_ends path.Inval halted other ends = walk_refused refusals.Inval tt ends
     walk_ends (path.Log log.Halted) halted other ends = absurd (let a = halted refl in let b = was in cc)
     walk_ends (path.Log log.Full) halted other ends = absurd (other refl)
-    walk_ends (path.Log log.Device) halted other ends = served_still state old new call (Refuse Device) lawful still was (λ e. cc) (λ p keeps here k m0 m is. (
+    walk_ends (path.Log log.Device) halted other ends = served_still state old new call (Refuse Device) lawful still was tt (λ p keeps here k m0 m is. (
         let rose = ends k m0 m keeps is.stores.holds (flat_drafted state old k m0 m p.state is c none) in
         inr (Device, refl, (free, (let f = here.failures in omega (arith, f, rose))), refl)))
         (not_acknowledged call Device)
@@ -96,7 +97,7 @@ module _ {D : Type 0} (state : D → DeviceState) (lawful : (d : D) → IsLawful
       (p : List ℕ) (n : ℕ) (walks : (k : CheckpointValue) (m0 m : LogMap) (s : State) → (state new.log.device).keeps_model → IsIn state old k m0 m s → Resolve s.tree p true (At n)) where
     pub open_gives : n ≢ 1 → (h : ℕ) → h < 64 → least_handle (handles_of old.table) ≡ h → (n ≢ 0 → handles_of new.table ≡ put nat_cmp h n (handles_of old.table)) → Serves state old new (Open p) (Handle h)
     open_gives other h some first table =
-        table_serves state old new (lawful old.log.device) (lawful new.log.device) was (Open p) (Handle h) reads saved blocks others (λ e. cc) (λ e. cc) (λ q keeps here k m0 m is. (
+        table_serves state old new (lawful old.log.device) (lawful new.log.device) was (Open p) (Handle h) reads saved blocks others refl refl (λ e. cc) (λ q keeps here k m0 m is. (
         let walk = walks k m0 m q.state keeps is in
         let map = map_of_volume state old k m0 m q.state is in
         let file = file_no_dir q.state.tree n (walked_file (segments_of old) m q.state map p true n walk other) in
@@ -117,18 +118,18 @@ module _ {D : Type 0} (state : D → DeviceState) (lawful : (d : D) → IsLawful
   -- or none
   module _ (old new : Mounted D) (still : IsStill state old new) (was : old.log.halted ≡ false) (p : List ℕ) (n : ℕ)
       (walks : (k : CheckpointValue) (m0 m : LogMap) (s : State) → (state new.log.device).keeps_model → IsIn state old k m0 m s → Resolve s.tree p true (At n)) where
-    open_refuses : (r : Refusal) → (r ≡ Halted → ⊥) → ((k : CheckpointValue) (m0 m : LogMap) (s : State) → IsIn state old k m0 m s → Resolve s.tree p true (At n) → Step (segments_of old) s (Open p) (Refuse r) s)
+    open_refuses : (r : Refusal) → IsOrdinary (Refuse r) → ((k : CheckpointValue) (m0 m : LogMap) (s : State) → IsIn state old k m0 m s → Resolve s.tree p true (At n) → Step (segments_of old) s (Open p) (Refuse r) s)
         → Serves state old new (Open p) (Refuse r)
-    open_refuses r fine steps = served_still state old new (Open p) (Refuse r) (lawful old.log.device) still was (λ e. fine (cc)) (λ q keeps here k m0 m is. (
+    open_refuses r ordinary steps = served_still state old new (Open p) (Refuse r) (lawful old.log.device) still was ordinary (λ q keeps here k m0 m is. (
         let step = steps k m0 m q.state is (walks k m0 m q.state keeps is) in
         inl (step, refused_not_worn (segments_of old) (Open p) q r q.state step refl)))
         (not_acknowledged (Open p) r)
 
     pub open_root : n ≡ 1 → Serves state old new (Open p) (Refuse refusals.IsDir)
-    open_root one = open_refuses refusals.IsDir (λ e. cc) (λ k m0 m s is walk. open_directory (segments_of old) s p n walk (subst (λ (x : ℕ). is_dir (node s.tree x) ≡ true) (sym one) (root_dir s.tree is.plain)))
+    open_root one = open_refuses refusals.IsDir tt (λ k m0 m s is walk. open_directory (segments_of old) s p n walk (subst (λ (x : ℕ). is_dir (node s.tree x) ≡ true) (sym one) (root_dir s.tree is.plain)))
 
     pub open_many : n ≢ 1 → 64 ≤ least_handle (handles_of old.table) → Serves state old new (Open p) (Refuse refusals.TooManyOpen)
-    open_many other many = open_refuses refusals.TooManyOpen (λ e. cc) (λ k m0 m s is walk.
+    open_many other many = open_refuses refusals.TooManyOpen tt (λ k m0 m s is walk.
         open_too_many (segments_of old) s p n walk (file_no_dir s.tree n (walked_file (segments_of old) m s (map_of_volume state old k m0 m s is) p true n walk other)) (subst (λ hs. 64 ≤ least_handle hs) (sym is.handles) many))
 
 -- ---- the code of the calls of paths

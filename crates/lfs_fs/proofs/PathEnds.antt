@@ -33,6 +33,7 @@ use Rattle.lfs_fs.specs.Reading.{LacksBytes, LacksObject, TellsStat}
 use Rattle.lfs_fs.specs.Refusals.{refusal_of}
 use Rattle.lfs_fs.specs.Seen.{HasHeader, LacksHeader, OnlyReads, answer_by, seen}
 use Rattle.lfs_fs.specs.Volume.{IsIn, IsPlain, Mounted, Serves, segments_of}
+use Rattle.lfs_fs.proofs.Behaving.{IsOrdinary}
 use Rattle.lfs_fs.proofs.CallSteps.{stat_step}
 use Rattle.lfs_fs.proofs.Files.{no_header_none, resolved_there}
 use Rattle.lfs_fs.proofs.Holding.{headers_of_volume, map_of_volume}
@@ -122,16 +123,16 @@ module _ {D : Type 0} (state : D → DeviceState) (old mid : Fs D) (lawful : IsL
       → (fault ≡ path.Log log.Halted → old.store.log.halted ≡ true) → (fault ≡ path.Log log.Full → ⊥) → Serves state (seen old) (seen mid) (StatOf p) (Refuse (refusal_of e))
   stat_without fault e is ends halted other = subst (λ (f : FsError). Serves state (seen old) (seen mid) (StatOf p) (Refuse (refusal_of f))) (sym is) (by fault ends halted other)
     where
-      refused : (r : Refusal) → (r ≡ Halted → ⊥) → WalksTo state old.store.log mid.store.log old.store.draft.changes (Resolves p) (Refused r) → Serves state (seen old) (seen mid) (StatOf p) (Refuse r)
-      refused r fine walk = step_serves state (seen old) (seen mid) (StatOf p) lawful first.still was (Refuse r) (λ e. fine (cc)) refl refl refl
+      refused : (r : Refusal) → IsOrdinary (Refuse r) → WalksTo state old.store.log mid.store.log old.store.draft.changes (Resolves p) (Refused r) → Serves state (seen old) (seen mid) (StatOf p) (Refuse r)
+      refused r ordinary walk = step_serves state (seen old) (seen mid) (StatOf p) lawful first.still was (Refuse r) ordinary refl refl refl
           (λ k m0 m s keeps is. stat_refused (segments_of (seen old)) s p r (walks_in (Refused r) walk k m0 m s keeps is))
 
       by : (fault : PathFault) → EndsRefused state old.store.log mid.store.log old.store.draft.changes (Resolves p) fault → (fault ≡ path.Log log.Halted → old.store.log.halted ≡ true) → (fault ≡ path.Log log.Full → ⊥)
           → Serves state (seen old) (seen mid) (StatOf p) (Refuse (refusal_of (error_of_path fault)))
-      by path.NoEntry ends halted other = refused model.NoEntry (λ e. cc) ends
-      by path.NotDir ends halted other = refused model.NotDir (λ e. cc) ends
-      by path.NameTooLong ends halted other = refused model.NameTooLong (λ e. cc) ends
-      by path.Inval ends halted other = refused model.Inval (λ e. cc) ends
+      by path.NoEntry ends halted other = refused model.NoEntry tt ends
+      by path.NotDir ends halted other = refused model.NotDir tt ends
+      by path.NameTooLong ends halted other = refused model.NameTooLong tt ends
+      by path.Inval ends halted other = refused model.Inval tt ends
       by (path.Log log.Device) ends halted other = failed_serves state (seen old) (seen mid) (StatOf p) lawful first.still was refl
           (λ k m0 m s keeps is. ends k m0 m keeps is.stores.holds (subst HasFlatTree (sym (no_change old.store.draft.changes m empty)) (flat_of_volume state (seen old) k m0 m s is)))
       by (path.Log log.Halted) ends halted other = absurd (let no = was in let on = halted refl in cc)
@@ -139,7 +140,7 @@ module _ {D : Type 0} (state : D → DeviceState) (old mid : Fs D) (lawful : IsL
 
   pub stat_ends : (n : ℕ) → WalksTo state old.store.log mid.store.log old.store.draft.changes (Resolves p) (At n) → (new : Fs D) → OnlyReads state mid new → (r : Result Stat FsError)
       → IfOk r (λ stat. TellsStat state mid new n stat) → IfErr r (λ fault. LacksObject state mid new n fault) → Serves state (seen old) (seen new) (StatOf p) (answer_by (λ stat. Status (status_of stat)) r)
-  stat_ends n walk new next (Ok stat) tells missing = step_serves state (seen old) (seen new) (StatOf p) lawful both.still was (Status (status_of stat)) (λ e. cc) refl refl refl (λ k m0 m s keeps is. (
+  stat_ends n walk new next (Ok stat) tells missing = step_serves state (seen old) (seen new) (StatOf p) lawful both.still was (Status (status_of stat)) tt refl refl refl (λ k m0 m s keeps is. (
       let here = header_there state old new (StatOf p) lawful was empty both refl n told.head told.there k m0 m s keeps is in
       subst (λ (x : call.Stat). Step (segments_of (seen old)) s (StatOf p) (Status x) s) (λ i. record { number = sym told.number i; kind = sym told.kind i; links = sym told.links i; size = sym told.size i })
       (stat_step (segments_of (seen old)) m s (map_of_volume state (seen old) k m0 m s is) p n (walks_in (At n) walk k m0 m s (next.still.reads.looks.carries.kept_before keeps) is) (as_header told.head) here

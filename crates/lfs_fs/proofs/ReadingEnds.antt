@@ -37,6 +37,7 @@ use Rattle.lfs_path.proofs.of_store.Apart.{no_change}
 use Rattle.lfs_path.specs.memory.Batch.{IsNoChange}
 use Rattle.lfs_fs.specs.Handles.{handles_of}
 use Rattle.lfs_fs.specs.Seen.{GivesNone, answer_by}
+use Rattle.lfs_fs.proofs.Behaving.{IsOrdinary}
 use Rattle.lfs_fs.proofs.CallSteps.{never_worn, pread_clipped}
 use Rattle.lfs_fs.proofs.Ending.{not_acknowledged}
 use Rattle.lfs_fs.proofs.Files.{opened_file}
@@ -115,8 +116,8 @@ module _ {D : Type 0} (state : D → DeviceState) (old new : Mounted D) (call : 
   AfterEach P = (k : CheckpointValue) (m0 m : LogMap) (s : State) → (state new.log.device).keeps_model → IsIn state old k m0 m s → P m s
 
   -- a step of a call that changes nothing
-  pub step_serves : (a : Answer) → (a ≡ Refuse Halted → ⊥) → changes call ≡ false → cleans call ≡ false → commits call ≡ false → AfterEach (λ m s. Step (segments_of old) s call a s) → Serves state old new call a
-  step_serves a fine leaves unclean free steps = served_still state old new call a lawful still was fine
+  pub step_serves : (a : Answer) → IsOrdinary a → changes call ≡ false → cleans call ≡ false → commits call ≡ false → AfterEach (λ m s. Step (segments_of old) s call a s) → Serves state old new call a
+  step_serves a ordinary leaves unclean free steps = served_still state old new call a lawful still was ordinary
       (λ p keeps here k m0 m is. inl (steps k m0 m p.state keeps is, never_worn (segments_of old) call p leaves unclean))
       (λ e. none (commits call) free e)
     where
@@ -126,7 +127,7 @@ module _ {D : Type 0} (state : D → DeviceState) (old new : Mounted D) (call : 
 
   -- a call of the device failed
   pub failed_serves : commits call ≡ false → AfterEach (λ m s. (state old.log.device).failures < (state new.log.device).failures) → Serves state old new call (Refuse Device)
-  failed_serves free rises = served_still state old new call (Refuse Device) lawful still was (λ e. cc) (λ p keeps here k m0 m is. (
+  failed_serves free rises = served_still state old new call (Refuse Device) lawful still was tt (λ p keeps here k m0 m is. (
       let rose = rises k m0 m p.state keeps is in
       inr (Device, refl, (free, (let f = here.failures in omega (arith, f, rose))), refl)))
       (not_acknowledged call Device)
@@ -187,7 +188,7 @@ module _ {D : Type 0} (state : D → DeviceState) (old : Fs D) (lawful : IsLawfu
   pub pread_without : (fault : FsError) → GivesNone table h fault → Serves state (seen old) (seen old) call (Refuse (refusal_of fault))
   pread_without fault none = ⊎_elim
       (λ closed. subst (λ (f : FsError). Serves state (seen old) (seen old) call (Refuse (refusal_of f))) (sym closed.0)
-      (step_serves state (seen old) (seen old) call lawful (still_none state (seen old)) was (Refuse BadHandle) (λ e. cc) refl refl refl
+      (step_serves state (seen old) (seen old) call lawful (still_none state (seen old)) was (Refuse BadHandle) tt refl refl refl
       (λ k m0 m s keeps is. read_bad_handle (segments_of (seen old)) s h off count (ap (find nat_cmp h) is.handles ∙ closed.1))))
       (λ other. subst (λ (f : FsError). Serves state (seen old) (seen old) call (Refuse (refusal_of f))) (sym other.0)
       (failed_serves state (seen old) (seen old) call lawful (still_none state (seen old)) was refl
@@ -196,12 +197,12 @@ module _ {D : Type 0} (state : D → DeviceState) (old : Fs D) (lawful : IsLawfu
 
   module _ (n : ℕ) (opens : find nat_cmp h (handles_of table) ≡ Some n) where
     pub pread_too_much : 65536 < count → Serves state (seen old) (seen old) call (Refuse Inval)
-    pread_too_much much = step_serves state (seen old) (seen old) call lawful (still_none state (seen old)) was (Refuse Inval) (λ e. cc) refl refl refl
+    pread_too_much much = step_serves state (seen old) (seen old) call lawful (still_none state (seen old)) was (Refuse Inval) tt refl refl refl
         (λ k m0 m s keeps is. read_too_much (segments_of (seen old)) s h off count n (ap (find nat_cmp h) is.handles ∙ opens) much)
 
     pub pread_ends : (new : Fs D) (few : count ≤ 65536) (empty : IsNoChange old.store.draft.changes) (reads : OnlyReads state old new) (r : Result (Vec ℕ Global) FsError)
         → IfOk r (λ bytes. ReadsFile state old new n off count bytes.items) → IfErr r (λ fault. LacksBytes state old new n fault) → Serves state (seen old) (seen new) call (answer_by (λ bytes. Data bytes.items) r)
-    pread_ends new few empty reads (Ok bytes) read missing = step_serves state (seen old) (seen new) call lawful reads.still was (Data bytes.items) (λ e. cc) refl refl refl (λ k m0 m s keeps is.
+    pread_ends new few empty reads (Ok bytes) read missing = step_serves state (seen old) (seen new) call lawful reads.still was (Data bytes.items) tt refl refl refl (λ k m0 m s keeps is.
         pread_clipped (segments_of (seen old)) m s (map_of_volume state (seen old) k m0 m s is) h n off count (ap (find nat_cmp h) is.handles ∙ opens) read.head
         (header_there state old new call lawful was empty reads refl n read.head read.there k m0 m s keeps is) few bytes.items
         (read.bytes k m0 m keeps is.stores.holds

@@ -22,6 +22,7 @@ use Rattle.lfs_path.specs.segments.Table.{clean_in}
 use Rattle.lfs_path.proofs.of_store.LogReads.{held_still}
 use Rattle.lfs_fs.specs.Handles.{handles_of}
 use Rattle.lfs_fs.specs.Volume.{IsStill, Mounted, segments_of, IsIn, Runs, IsAt, LeavesSome, ServesAt, Serves}
+use Rattle.lfs_fs.proofs.Behaving.{IsOrdinary, halted_behaves, not_halted, still_behaves}
 
 abbrev OneOf : DeviceState → List State → Content → Type 0
 OneOf d ss c = (s : State) × Stands c s × (Left d s ⊎ Contains ss s)
@@ -69,7 +70,10 @@ module _ {D : Type 0} (state : D → DeviceState) where
       was c left = let is = some c left in (is.0, is.1, inl (record { content = c; may_leave = left; stands = is.1 }))
 
   -- ---- calls that leave the state
-  module _ (old new : Mounted D) (call : Call) (a : Answer) (lawful : IsLawful (state old.log.device)) (still : IsStill state old new) (was : old.log.halted ≡ false) (fine : a ≡ Refuse Halted → ⊥) where
+  module _ (old new : Mounted D) (call : Call) (a : Answer) (lawful : IsLawful (state old.log.device)) (still : IsStill state old new) (was : old.log.halted ≡ false) (ordinary : IsOrdinary a) where
+    fine : a ≡ Refuse Halted → ⊥
+    fine = not_halted a ordinary
+
     now : new.log.halted ≡ false
     now = still.reads.halted ∙ was
 
@@ -106,6 +110,7 @@ module _ {D : Type 0} (state : D → DeviceState) where
       segments = λ e. segments_same;
       orderly = λ e. absurd (cc);
       halts = λ e. absurd (fine e);
+      behaves = still_behaves state old new call a still ordinary;
       model = λ p keeps is. (let r = is.running was in still_at p keeps is (steps p keeps is r.checkpoint r.saved r.present r.is) none);
     }
 
@@ -116,6 +121,7 @@ module _ {D : Type 0} (state : D → DeviceState) where
     segments = λ e. refl;
     orderly = λ e. (refl, refl);
     halts = λ e. was;
+    behaves = halted_behaves state v call was;
     model = λ p keeps is. record {
       next = p;
       at = is;

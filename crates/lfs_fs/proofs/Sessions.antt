@@ -1,55 +1,113 @@
 -- A use of a volume, from its mount to a stop: which states it goes from, and what a stop in it leaves.
-use Rattle.std.proofs.Common.{◌≡◌, ◌⊎◌, List, ◌∷◌, sym, ◌∙◌, ap, subst, inl, inr}
+use Rattle.std.proofs.Common.{◌≡◌, ◌≤◌, ◌⊎◌, ℕ, false, List, ◌∷◌, sym, ◌∙◌, ap, subst, inl, inr}
 use Rattle.lfs_model.specs.Call.{Answer, Call}
-use Rattle.lfs_model.specs.Content.{Content}
-use Rattle.lfs_model.specs.Device.{DeviceState, Carries, IsLawful, LeavesOnly, Only}
-use Rattle.lfs_model.specs.Run.{Point}
+use Rattle.lfs_model.specs.Checkpoint.{CheckpointValue}
+use Rattle.lfs_model.specs.Content.{Content, newest}
+use Rattle.lfs_model.specs.Device.{AllLeft, DeviceState, Carries, IsLawful, IsUntouched, LeavesOnly, Only}
+use Rattle.lfs_model.specs.Run.{Point, final}
 use Rattle.lfs_model.specs.Script.{Line}
-use Rattle.lfs_model.specs.Tree.{drop_nameless}
-use Rattle.lfs_model.specs.TreeOf.{LeavesOne, Stands}
+use Rattle.lfs_model.specs.Tree.{State, drop_nameless}
+use Rattle.lfs_model.specs.TreeOf.{LeavesOne, Stands, TreeOf}
+use Rattle.lfs_model.specs.Use.{Continues, IsNumbered, StandsForSome, UsesVolume}
 use Rattle.lfs_model.specs.Volume.{LeavesPrefix, StandsForPrefix}
 use Rattle.lfs_model.proofs.Committed.{nothing_dropped}
 use Rattle.lfs_model.proofs.Moments.{joined}
+use Rattle.lfs_model.proofs.Volume.{single_state}
+use Rattle.lfs_model.proofs.Walks.{Some-injective}
 use Rattle.lfs_fs.specs.declared.fs.Fs.{Fs}
-use Rattle.lfs_fs.specs.Mounting.{MountsAt, MountsFs}
-use Rattle.lfs_fs.specs.Scripts.{RanAt, RunsLines, StandsForSome, UsesVolume}
+use Rattle.lfs_fs.specs.Mounting.{FindsState, MountsAt}
+use Rattle.lfs_fs.specs.Scripts.{RanAt, RunsLines}
 use Rattle.lfs_fs.specs.Seen.{seen}
-use Rattle.lfs_fs.specs.Volume.{Mounted, segments_of}
+use Rattle.lfs_fs.specs.Volume.{IsAt, Mounted, Runs, segments_of}
+
+-- what a content stands for, under another name of the state
+stands_as : (c : Content) (s t : State) → t ≡ s → Stands c s → Stands c t
+stands_as c s t same is = record {
+  checkpoint = is.checkpoint;
+  log = is.log;
+  found = is.found;
+  stands = is.stands;
+  tree = subst (λ (x : State). TreeOf is.checkpoint.segments is.log x.tree) (sym same) is.tree;
+  version = ap (λ (x : State). x.version) same ∙ is.version;
+  closed = ap (λ (x : State). x.handles) same ∙ is.closed;
+}
+
+-- while no commit failed, what a stop leaves has the number of the acknowledged checkpoint
+numbered : {D : Type 0} (state : D → DeviceState) (v : Mounted D) (p : Point) → IsAt state v p → p.halted ≡ false → AllLeft (state v.log.device) (IsNumbered p.number)
+numbered state v p at on c left =
+    let r : Runs state v p.state = at.running (sym at.halted ∙ on) in
+    let holds = r.is.stores.holds in
+    (r.checkpoint, (holds.log.running.settled.each c left).newest, at.number ∙ sym holds.number)
 
 module _ {D : Type 0} (state : D → DeviceState) (d : D) (lawful : IsLawful (state d)) (v : Fs D) (new : Mounted D) (lines : List Line) (answers : List Answer)
-    (mounts : MountsFs state d v)
+    (finds : FindsState state d v)
     (durable : (state v.store.log.device).keeps_model → Only (state d).content (state v.store.log.device))
+    (untouched : IsUntouched (state d) (state v.store.log.device))
     (carries : Carries (state d) (state v.store.log.device)) (moment : LeavesOnly (state d) (state v.store.log.device) (state d).may_leave)
-    (runs : RunsLines state (seen v) new lines answers) (keeps : (state new.log.device).keeps_model)
-    (before : List Point) (calls : List Call) (given : List Answer) (was : LeavesPrefix (state d) before calls given) where
+    (runs : RunsLines state (seen v) new lines answers) (keeps : (state new.log.device).keeps_model) where
   kept : (state v.store.log.device).keeps_model
   kept = runs.carries.kept_before keeps
 
-  -- what is on the device now stands for a state that was pending
-  found : StandsForPrefix (state d).content before calls given
-  found = was (state d).content (lawful.present (carries.kept_before kept))
+  found : (s : State) × Stands (state d).content s × MountsAt state v s
+  found = finds kept
 
-  at : MountsAt state v (drop_nameless found.0)
-  at = mounts (drop_nameless found.0) kept found.2
+  at : MountsAt state v found.0
+  at = found.2
+
+  -- the state that is found is the one that the volume is in
+  stands : Stands (state d).content at.point.state
+  stands = stands_as (state d).content found.0 at.point.state at.same found.1
 
   -- after the mount a stop leaves it alone
   alone : LeavesOne (state v.store.log.device) (drop_nameless at.point.state)
   alone c left =
-      let same : drop_nameless at.point.state ≡ drop_nameless found.0 = ap drop_nameless at.same ∙ nothing_dropped (state d).content (drop_nameless found.0) found.2 in
-      subst (Stands c) (sym same) (subst (λ (x : Content). Stands x (drop_nameless found.0)) (sym (durable kept c left)) found.2)
+      let same : drop_nameless at.point.state ≡ at.point.state = nothing_dropped (state d).content at.point.state stands in
+      subst (Stands c) (sym same) (subst (λ (x : Content). Stands x at.point.state) (sym (durable kept c left)) stands)
 
   ran : RanAt state (seen v) new lines answers at.point
   ran = runs.model at.point keeps at.at
 
-  pub uses_volume : UsesVolume (state d) (state new.log.device) before calls given lines answers
+  running : Runs state (seen v) at.point.state
+  running = at.at.running at.running
+
+  -- the volume knows the checkpoint by which the content stands
+  same_checkpoint : running.checkpoint ≡ stands.checkpoint
+  same_checkpoint = Some-injective running.checkpoint stands.checkpoint
+      (sym running.is.stores.holds.log.running.settled.newest ∙ ap newest untouched.content ∙ stands.found)
+
+  abbrev Leaves : Content → Type 0
+  Leaves = StandsForSome (at.point ∷ ran.points)
+
+  -- what a stop meanwhile leaves, by what one before might have left
+  moments_by : (P : Content → Type 0) → AllLeft (state d) P → LeavesOnly (state d) (state new.log.device) (λ c. P c ⊎ Leaves c)
+  moments_by P was = joined (state d) (state v.store.log.device) (state new.log.device) (state d).may_leave Leaves (λ c. P c ⊎ Leaves c) moment (ran.moments alone)
+      (λ c left. inl (was c left)) (λ c some. inr some)
+
+  -- where that was pending in an earlier run, so is the state at the beginning
+  module _ (before : List Point) (calls : List Call) (given : List Answer) (was : LeavesPrefix (state d) before calls given) where
+    pending : StandsForPrefix (state d).content before calls given
+    pending = was (state d).content (lawful.present (carries.kept_before kept))
+
+    goes_on_from : Continues (state d) (state new.log.device) before calls given at.point ran.points
+    goes_on_from = record {
+      began = (pending.0, pending.1, single_state (state d).content at.point.state (drop_nameless pending.0) stands pending.2);
+      moments = moments_by (λ c. StandsForPrefix c before calls given) was;
+    }
+
+  pub uses_volume : UsesVolume (state d) (state new.log.device) lines answers
   uses_volume = record {
     first = at.point;
     points = ran.points;
-    number = segments_of (seen v);
-    began = (found.0, found.1, at.same);
+    segments = segments_of (seen v);
+    stands = stands;
+    same_segments = running.is.stores.holds.log.segments ∙ ap (λ (k : CheckpointValue). k.segments) same_checkpoint;
+    same_number = at.at.number ∙ sym running.is.stores.holds.number ∙ ap (λ (k : CheckpointValue). k.number) same_checkpoint;
     running = at.at.halted ∙ at.running;
     run = ran.run;
-    moments = joined (state d) (state v.store.log.device) (state new.log.device) (state d).may_leave (StandsForSome (at.point ∷ ran.points))
-        (λ c. StandsForPrefix c before calls given ⊎ StandsForSome (at.point ∷ ran.points) c) moment (ran.moments alone) (λ c left. inl (was c left)) (λ c some. inr some);
+    failures_before = subst (λ (n : ℕ). (state d).failures ≤ n) (sym at.at.failures) carries.failures;
+    failures_after = ran.at.failures;
+    number_after = numbered state new (final at.point ran.points) ran.at;
+    moments = moments_by (state d).may_leave (λ c left. left);
     pending = ran.pending alone;
+    continues = goes_on_from;
   }

@@ -9,6 +9,7 @@ use Rattle.lfs_model.proofs.Newest.{newest_fits}
 use Rattle.lfs_path.specs.segments.Table.{clean_in}
 use Rattle.lfs_path.specs.log.Held.{IsFull}
 use Rattle.lfs_fs.specs.Volume.{Mounted, Runs, Serves}
+use Rattle.lfs_fs.proofs.Behaving.{write_behaves}
 
 module _ {D : Type 0} (state : D → DeviceState) (v : Mounted D) (lawful : IsLawful (state v.log.device)) (was : v.log.halted ≡ false) (unsaved : v.saved ≡ false) (full : IsFull v.log) where
   never_full : (s : State) → Runs state v s → ⊥
@@ -31,5 +32,6 @@ module _ {D : Type 0} (state : D → DeviceState) (v : Mounted D) (lawful : IsLa
     segments = λ e. refl;
     orderly = λ e. absurd (cc);
     halts = λ e. absurd (cc);
+    behaves = write_behaves state v v Sync (Refuse Stuck) refl refl (λ e. full);
     model = λ p keeps at. absurd (never_full p.state (at.running was));
   }

@@ -1,5 +1,5 @@
 -- What the checks of a mount find: the root, its entries, and one number after the other; and what they lack.
-use Rattle.std.proofs.Common.{◌≡◌, ◌<◌, ◌≤◌, ◌+◌, ◌*◌, ◌/◌, ℕ, List, length, true, Option, Some, None, refl, sym, ◌∙◌, ap, subst, inl, inr, ⊎_elim, arith}
+use Rattle.std.proofs.Common.{◌≡◌, ◌<◌, ◌≤◌, ◌+◌, ◌*◌, ◌/◌, ℕ, List, length, true, Option, Some, None, refl, sym, ◌∙◌, ap, subst, ⊎_elim, arith}
 use Rattle.std.proofs.lemmas.Bool.{cases_eq}
 use Rattle.std.specs.Option.{option_map}
 use Rattle.lfs_model.specs.declared.Kind.TheVariants as kind
@@ -22,8 +22,7 @@ use Rattle.lfs_path.specs.store.declared.totals.Totals.{Totals}
 use Rattle.lfs_path.specs.store.Reading.{ReadsHeader}
 use Rattle.lfs_path.proofs.of_store.LogReads.{fault_more, held_still, reads_more, reads_none}
 use Rattle.lfs_path.specs.dirs.declared.entry.Entry.{Entry}
-use Rattle.lfs_path.specs.dirs.Finding.{IsDirectoryFault}
-use Rattle.lfs_path.specs.dirs.Listing.{Inspects, pairs}
+use Rattle.lfs_path.specs.dirs.Listing.{Inspects, LacksSlot, pairs}
 use Rattle.lfs_fs.specs.Checking.{AreEntries, FindsEntries, FindsFiles, FindsRoot, FindsTree, FitsNumber, HasOdd, IsRoot, IsTreeDamage, IsTreeFault, LacksEntries, LacksFiles, LacksRoot, LacksTree, giving}
 use Rattle.lfs_fs.proofs.FlatRoots.{flat_apart, flat_directory, flat_found, flat_kind, flat_links, flat_numbers, flat_room, flat_there, flat_unnamed}
 
@@ -41,7 +40,7 @@ same_count es es' n count same is = is ∙ ap (λ (l : List Entry). giving (pair
 module _ {D : Type 0} (state : D → DeviceState) (h h' : Held D) (c : Changes) where
   module _ (found : Option Header) (reads : ReadsHeader state h h' c 1 found) where
     pub root_none : found ≡ None → LacksRoot state h h' c
-    root_none is k m0 m keeps holds flat = absurd (flat_there k.segments (staged c m) flat (subst (λ (o : Option Header). HeaderAnswer (staged c m) 1 o) is (reads k m0 m keeps holds)))
+    root_none is k m0 m keeps holds flat = flat_there k.segments (staged c m) flat (subst (λ (o : Option Header). HeaderAnswer (staged c m) 1 o) is (reads k m0 m keeps holds))
 
     module _ (head : Header) (is : found ≡ Some head) where
       root_there : (k : CheckpointValue) (m0 m : LogMap) → (state h'.device).keeps_model → Holds state h k m0 m → (staged c m).header 1 ≡ Some (as_header head)
@@ -51,29 +50,26 @@ module _ {D : Type 0} (state : D → DeviceState) (h h' : Held D) (c : Changes) 
       root_found dir links k m0 m keeps holds = record { there = root_there k m0 m keeps holds; kind = dir; links = links }
 
       pub root_other : (head.kind ≡ kind.Directory → ⊥) → LacksRoot state h h' c
-      root_other other k m0 m keeps holds flat = absurd (other (flat_kind k.segments (staged c m) flat head (root_there k m0 m keeps holds)))
+      root_other other k m0 m keeps holds flat = other (flat_kind k.segments (staged c m) flat head (root_there k m0 m keeps holds))
 
       pub root_linked : (head.links ≡ 2 → ⊥) → LacksRoot state h h' c
-      root_linked other k m0 m keeps holds flat = absurd (other (flat_links k.segments (staged c m) flat head (root_there k m0 m keeps holds)))
-
-  pub root_failed : IsReadFault state h h' → LacksRoot state h h' c
-  root_failed failed k m0 m keeps holds flat = failed k m0 m keeps holds
+      root_linked other k m0 m keeps holds flat = other (flat_links k.segments (staged c m) flat head (root_there k m0 m keeps holds))
 
   -- ---- its entries
 
   module _ (head : Header) where
-    pub entries_failed : IsDirectoryFault state h h' c 1 head → LacksEntries state h h' c head
-    entries_failed failed k m0 m keeps holds flat root fits = failed k m0 m keeps holds (flat_directory k.segments (staged c m) flat head root.there fits)
+    pub entries_malformed : LacksSlot state h h' c 1 head → LacksEntries state h h' c head
+    entries_malformed lacks k m0 m keeps holds flat root fits = lacks k m0 m keeps holds (flat_directory k.segments (staged c m) flat head root.there fits).formed
 
     module _ (es : List Entry) (list : Inspects state h h' c 1 head es) where
       pub entries_found : length es ≡ head.size / 64 → giving (pairs es) 1 ≡ 0 → FindsEntries state h h' c head es
       entries_found apart unnamed k m0 m keeps holds = record { list = list k m0 m keeps holds; apart = apart; unnamed = unnamed }
 
       pub entries_fewer : (length es ≡ head.size / 64 → ⊥) → LacksEntries state h h' c head
-      entries_fewer other k m0 m keeps holds flat root fits = absurd (other (flat_apart k.segments (staged c m) flat head root.there es (list k m0 m keeps holds)))
+      entries_fewer other k m0 m keeps holds flat root fits = other (flat_apart k.segments (staged c m) flat head root.there es (list k m0 m keeps holds))
 
       pub entries_named : (giving (pairs es) 1 ≡ 0 → ⊥) → LacksEntries state h h' c head
-      entries_named other k m0 m keeps holds flat root fits = absurd (other (flat_unnamed k.segments (staged c m) flat head root.there es (list k m0 m keeps holds)))
+      entries_named other k m0 m keeps holds flat root fits = other (flat_unnamed k.segments (staged c m) flat head root.there es (list k m0 m keeps holds))
 
 -- ---- one number
 
@@ -86,15 +82,12 @@ module _ {D : Type 0} (state : D → DeviceState) (h h' : Held D) (c : Changes) 
         (subst (λ (o : Option entry.Header). FitsNumber o (giving ms n)) (sym (answered (staged c m) n found (reads k m0 m keeps holds))) fit)
 
     pub number_odd : (FitsNumber (option_map as_header found) (giving ms n) → ⊥) → LacksFiles state h h' c ms n (n + 1)
-    number_odd odd k m0 m keeps holds = inr record {
+    number_odd odd k m0 m keeps holds = record {
       number = n;
       low = omega arith;
       high = omega arith;
       odd = λ fit. odd (subst (λ (o : Option entry.Header). FitsNumber o (giving ms n)) (answered (staged c m) n found (reads k m0 m keeps holds)) fit);
     }
-
-  pub number_failed : IsReadFault state h h' → LacksFiles state h h' c ms n (n + 1)
-  number_failed failed k m0 m keeps holds = inl (failed k m0 m keeps holds)
 
 -- ---- one after the other
 
@@ -118,15 +111,9 @@ module _ {D : Type 0} (state : D → DeviceState) where
     }
 
     pub files_lack : 2 ≤ n → n < 4096 → LacksFiles state b d c ms n (n + 1) → LacksFiles state a d c ms 2 4096
-    files_lack low high lacks k m0 m keeps holds = ⊎_elim
-        (λ rose. inl (let before = so.reads.looks.carries.failures in omega (arith, rose, before)))
-        (λ (is : HasOdd (staged c m) ms n (n + 1)). inr record {
-          number = is.number;
-          low = (let from = is.low in omega (arith, low, from));
-          high = (let to = is.high in omega (arith, high, to));
-          odd = is.odd;
-        })
-        (lacks k m0 m keeps (held_still state a b k m0 m so.reads holds))
+    files_lack low high lacks k m0 m keeps holds =
+        let is = lacks k m0 m keeps (held_still state a b k m0 m so.reads holds) in
+        record { number = is.number; low = (let from = is.low in omega (arith, low, from)); high = (let to = is.high in omega (arith, high, to)); odd = is.odd }
 
   -- ---- the tree
 
@@ -137,9 +124,7 @@ module _ {D : Type 0} (state : D → DeviceState) where
     pub entries_lack : LacksEntries state b d c head → LacksTree state a d c totals
     entries_lack lacks k m0 m keeps holds counted flat =
         let found = root k m0 m (second.looks.carries.kept_before keeps) holds in
-        let rose = lacks k m0 m keeps (held_still state a b k m0 m first holds) flat found (counted.fits 1 (as_header head) found.there) in
-        let before = first.looks.carries.failures in
-        omega (arith, rose, before)
+        lacks k m0 m keeps (held_still state a b k m0 m first holds) flat found (counted.fits 1 (as_header head) found.there)
 
     module _ (e : Held D) (es : List Entry) (entries : FindsEntries state b d c head es) (third : Reads state d e) (lawful : IsLawful (state a.device)) where
       two : Reads state a d
@@ -156,11 +141,9 @@ module _ {D : Type 0} (state : D → DeviceState) where
         entries_of = entries k m0 m (third.looks.carries.kept_before keeps) (held_still state a b k m0 m first holds)
 
       pub files_lack_tree : LacksFiles state d e c (pairs es) 2 4096 → LacksTree state a e c totals
-      files_lack_tree lacks k m0 m keeps holds counted flat = ⊎_elim
-          (λ rose. let before = two.looks.carries.failures in omega (arith, rose, before))
-          (λ (is : HasOdd (staged c m) (pairs es) 2 4096).
-          absurd (is.odd (flat_numbers k.segments (staged c m) flat head (root_of k m0 m keeps holds).there es (entries_of k m0 m keeps holds).list is.number is.low is.high)))
-          (lacks k m0 m keeps (held_still state a d k m0 m two holds))
+      files_lack_tree lacks k m0 m keeps holds counted flat =
+          let is = lacks k m0 m keeps (held_still state a d k m0 m two holds) in
+          is.odd (flat_numbers k.segments (staged c m) flat head (root_of k m0 m keeps holds).there es (entries_of k m0 m keeps holds).list is.number is.low is.high)
 
       module _ (needed : ℕ) (is : needed ≡ totals.data_blocks + 7 * totals.meta_blocks + 720) where
         segments_are : (k : CheckpointValue) (m0 m : LogMap) → Holds state a k m0 m → length e.memory.usage.segments ≡ k.segments
@@ -170,7 +153,7 @@ module _ {D : Type 0} (state : D → DeviceState) where
         room_lacks full k m0 m keeps holds counted flat =
             let same = segments_are k m0 m holds in
             let room = flat_room k.segments (staged c m) flat totals counted in
-            absurd (omega (arith, same, room, full, is))
+            omega (arith, same, room, full, is)
 
         pub tree_finds : FindsFiles state d e c (pairs es) 2 4096 → needed ≤ 47 * length e.memory.usage.segments → FindsTree state a e c totals
         tree_finds files room k m0 m keeps holds counted =
@@ -188,17 +171,18 @@ module _ {D : Type 0} (state : D → DeviceState) where
     log_failed log.Halted device halted other = λ k m0 m keeps holds. let stands = halted refl in let runs = holds.running in absurd (cc)
     log_failed log.Full device halted other = absurd (other refl)
 
-    pub damage_told : (f : MountFault) → IsTreeDamage f → IsTreeFault state h h' f
-    damage_told fault.NoMemory is = absurd is
-    damage_told fault.Device is = absurd is
-    damage_told fault.TooSmall is = is
-    damage_told fault.NoCheckpoint is = is
-    damage_told (fault.Damaged code) is = is
+    -- damage of a tree, since it lacks something
+    pub damage_told : (lacking : Type 0) → lacking → (f : MountFault) → IsTreeDamage f → IsTreeFault state h h' lacking f
+    damage_told lacking lacks fault.NoMemory is = is
+    damage_told lacking lacks fault.Device is = absurd is
+    damage_told lacking lacks fault.TooSmall is = is
+    damage_told lacking lacks fault.NoCheckpoint is = is
+    damage_told lacking lacks (fault.Damaged code) is = (is.0, is.1, lacks)
 
-  -- the same after reads
-  pub fault_told : (a b d : Held D) → Reads state a b → (f : MountFault) → IsTreeFault state b d f → IsTreeFault state a d f
-  fault_told a b d one fault.NoMemory is = is
-  fault_told a b d one fault.Device is = fault_more state a b d one is
-  fault_told a b d one fault.TooSmall is = is
-  fault_told a b d one fault.NoCheckpoint is = is
-  fault_told a b d one (fault.Damaged code) is = is
+  -- the same after reads, where what is lacking is a part
+  pub fault_told : (a b d : Held D) → Reads state a b → (part whole : Type 0) → (part → whole) → (f : MountFault) → IsTreeFault state b d part f → IsTreeFault state a d whole f
+  fault_told a b d one part whole more fault.NoMemory is = is
+  fault_told a b d one part whole more fault.Device is = fault_more state a b d one is
+  fault_told a b d one part whole more fault.TooSmall is = is
+  fault_told a b d one part whole more fault.NoCheckpoint is = is
+  fault_told a b d one part whole more (fault.Damaged code) is = (is.0, is.1, more is.2)

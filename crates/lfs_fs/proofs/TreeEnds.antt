@@ -111,7 +111,7 @@ module _ {D : Type 0} (state : D → DeviceState) (old : Fs D) (lawful : IsLawfu
 
       pub tree_ends : (r : Result (Vec TreeRow Global) FsError) → IfOk r (λ rows. TellsRows state listed new es rows.items) → IfErr r (λ fault. LacksRows state listed new es fault)
           → Serves state (seen old) (seen new) ListTree (answer_by (λ rows. Rows (map row_of rows.items)) r)
-      tree_ends (Ok rows) told missing = step_serves state (seen old) (seen new) ListTree lawful all.still was (Rows (map row_of rows.items)) (λ e. cc) refl refl refl (λ k m0 m s keeps is.
+      tree_ends (Ok rows) told missing = step_serves state (seen old) (seen new) ListTree lawful all.still was (Rows (map row_of rows.items)) tt refl refl refl (λ k m0 m s keeps is.
           subst (λ (x : List ModelRow). Step (segments_of (seen old)) s ListTree (Rows x) s)
           (ap (map (row_at s.tree)) (plain_are k m0 m s keeps is) ∙ sym (told empty_listed k m0 m s keeps (still_in state (seen old) (seen listed) k m0 m s both.still is) (names k m0 m s keeps is)))
           (tree_step (segments_of (seen old)) m s (map_of_volume state (seen old) k m0 m s is)))

@@ -1,6 +1,6 @@
 -- Calls that change the table of open files alone, as steps of the model.
 use Rattle.std.proofs.Common.{◌≡◌, ℕ, true, false, length, refl, sym, ◌∙◌, ap, subst, inl, arith}
-use Rattle.lfs_model.specs.Call.{Answer, Call, Refuse}
+use Rattle.lfs_model.specs.Call.{Answer, Call, is_ok}
 use Rattle.lfs_model.specs.Checkpoint.{CheckpointValue}
 use Rattle.lfs_model.specs.Crash.{StandsForOn}
 use Rattle.lfs_model.specs.Device.{AllLeft, DeviceState, IsLawful, LeavesOnly}
@@ -15,7 +15,8 @@ use Rattle.lfs_path.specs.memory.declared.memory.LogMemory.{LogMemory}
 use Rattle.lfs_path.specs.memory.Present.{Looks}
 use Rattle.lfs_path.specs.log.Held.{Reads}
 use Rattle.lfs_fs.specs.Handles.{handles_of}
-use Rattle.lfs_fs.specs.Volume.{IsStill, IsAt, IsIn, Mounted, Serves, segments_of}
+use Rattle.lfs_fs.specs.Volume.{IsStill, IsAt, IsIn, Mounted, Serves, changes_handles, segments_of}
+use Rattle.lfs_fs.proofs.Behaving.{ok_refuses_none, opens_behaves}
 use Rattle.lfs_fs.proofs.Ending.{runs_on}
 use Rattle.lfs_fs.proofs.Files.{IsMapOf}
 use Rattle.lfs_fs.proofs.Serving.{point_of, still_in}
@@ -49,9 +50,9 @@ module _ {D : Type 0} (state : D → DeviceState) (old new : Mounted D) (lawful 
       pub handles : next.handles ≡ handles_of new.table
       pub steps : StepsOr (segments_of old) call p a (point_of state new next)
 
-    pub table_serves : (a ≡ Refuse Halted → ⊥) → (acknowledges call a ≡ true → ⊥)
+    pub table_serves : changes_handles call ≡ true → is_ok a ≡ true → (acknowledges call a ≡ true → ⊥)
         → ((p : Point) → (state new.log.device).keeps_model → IsAt state old p → (k : CheckpointValue) (m0 m : LogMap) → IsIn state old k m0 m p.state → Turns p m) → Serves state old new call a
-    table_serves fine none each = runs_on state old new call lawful after reads.looks.carries segments_same was (let same = reads.number in omega (arith, same)) a fine (reads.halted ∙ was) (λ p keeps here k m0 m is. (
+    table_serves moves ok none each = runs_on state old new call lawful after reads.looks.carries segments_same was (let same = reads.number in omega (arith, same)) a (ok_refuses_none a Halted ok) (opens_behaves state old new call a moves ok reads) (reads.halted ∙ was) (λ p keeps here k m0 m is. (
         let turns = each p keeps here k m0 m is in
         let now = still_in state old mid k m0 m p.state still_mid is in
         record {

@@ -157,7 +157,7 @@ module _ {D : Type 0} (state : D → DeviceState) (lawful : (d : D) → IsLawful
     pub write_ends : (at : ℕ) (w : List ℕ) → 0 < length w → length w ≤ 65536 → at + length w ≤ 8511488 → AreBytes w → Writes state mid.store.log ready.store.log mid.store.draft.changes c n head at w
         → Serves state (seen old) (seen new) (Pwrite h at w) (answer_by (λ _. Count (length w)) r)
     write_ends at w some few end bytes writes =
-        ends_by state lawful (seen old) ready new (Pwrite h at w) (Count (length w)) still was rest refl refl (λ e. cc)
+        ends_by state lawful (seen old) ready new (Pwrite h at w) (Count (length w)) still was rest refl refl refl refl
         (λ keeps k m0 m s is. write_in keeps k m0 m s is at w end writes counts)
         (λ stages keeps k m0 m s is. (
         let accepts = accepts_old state lawful (seen old) ready new (Pwrite h at w) (Count (length w)) still was rest stages in
@@ -176,7 +176,7 @@ module _ {D : Type 0} (state : D → DeviceState) (lawful : (d : D) → IsLawful
 
     pub cut_ends : (len : ℕ) → len ≤ 8511488 → SetsLen state mid.store.log ready.store.log c n head len → Serves state (seen old) (seen new) (Truncate h len) (answer_by (λ _. Done) r)
     cut_ends len end sets =
-        ends_by state lawful (seen old) ready new (Truncate h len) Done still was rest refl refl (λ e. cc)
+        ends_by state lawful (seen old) ready new (Truncate h len) Done still was rest refl refl refl refl
         (λ keeps k m0 m s is. cut_in keeps k m0 m s is len end sets counts)
         (λ stages keeps k m0 m s is. (
         let accepts = accepts_old state lawful (seen old) ready new (Truncate h len) Done still was rest stages in

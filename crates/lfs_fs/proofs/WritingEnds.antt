@@ -1,9 +1,9 @@
 -- Calls that draft a change, from what they read to what becomes of the draft, as steps of the model.
 use Rattle.std.proofs.Common.{◌≡◌, ◌<◌, ◌≤◌, ◌+◌, ◌/◌, ◌^◌, ℕ, Bool, true, false, length, Some, None, Ok, Err, refl, sym, ◌∙◌, ap, subst, inl, inr, ⊎_elim, arith}
-use Rattle.std.specs.Prelude.{Result, OnOk, IfErr}
+use Rattle.std.specs.Prelude.{IsTrue, Result, OnOk, IfErr}
 use Rattle.std.specs.Ordering.{nat_cmp}
 use Rattle.std.specs.FinMap.{find}
-use Rattle.lfs_model.specs.Call.{Call, Answer, Refuse, changes, commits, takes_no_memory}
+use Rattle.lfs_model.specs.Call.{Call, Answer, Refuse, changes, commits, is_ok, takes_no_memory}
 use Rattle.lfs_model.specs.Checkpoint.{CheckpointValue}
 use Rattle.lfs_model.specs.Crash.{StandsForOn}
 use Rattle.lfs_model.specs.Device.{AllLeft, Carries, DeviceState, IsLawful, LeavesOnly}
@@ -14,12 +14,11 @@ use Rattle.lfs_model.specs.TreeOf.{dropped}
 use Rattle.lfs_model.proofs.Moments.{carries_then, goes_on, joined, started}
 use Rattle.lfs_model.proofs.Settled.{settled_stands}
 use Rattle.lfs_path.specs.memory.declared.changes.Changes.{Changes}
-use Rattle.lfs_path.specs.memory.declared.fault.LogFault.{LogFault}
 use Rattle.lfs_path.specs.memory.declared.fault.LogFault.TheVariants as log
 use Rattle.lfs_path.specs.memory.declared.memory.LogMemory.{LogMemory}
 use Rattle.lfs_path.specs.memory.Batch.{FitsBatch, IsNoChange}
 use Rattle.lfs_path.specs.segments.Table.{clean_in}
-use Rattle.lfs_path.specs.log.Held.{Halts, Held, Holds, IsReadFault, Reads}
+use Rattle.lfs_path.specs.log.Held.{Halts, Held, Holds, IsFull, IsReadFault, Reads}
 use Rattle.lfs_path.specs.store.declared.fault.StoreFault.{StoreFault}
 use Rattle.lfs_path.specs.store.declared.fault.StoreFault.TheVariants as store
 use Rattle.lfs_path.specs.store.declared.store.Store.{Store}
@@ -32,29 +31,34 @@ use Rattle.lfs_fs.specs.declared.error.FsError.TheVariants as error
 use Rattle.lfs_fs.specs.declared.fs.Fs.{Fs}
 use Rattle.lfs_fs.specs.declared.handles.Handles.{Handles}
 use Rattle.lfs_fs.specs.Accepting.{IsDeclined, Stages, TurnsDown, limit_of, need_of}
-use Rattle.lfs_fs.specs.Faults.{error_of_log, error_of_store}
+use Rattle.lfs_fs.specs.Faults.{error_of_store}
 use Rattle.lfs_fs.specs.Handles.{handles_of}
 use Rattle.lfs_fs.specs.Refusals.{refusal_of}
 use Rattle.lfs_fs.specs.Seen.{LacksHeader, answer_by, seen}
-use Rattle.lfs_fs.specs.Volume.{IsIn, IsStill, Mounted, Serves, segments_of}
+use Rattle.lfs_fs.specs.Volume.{Behaves, IsIn, IsStill, Mounted, Serves, may_write, segments_of}
 use Rattle.lfs_fs.proofs.Accepted.{InEach}
-use Rattle.lfs_fs.proofs.Declined.{accept_fault_serves, stuck_serves}
+use Rattle.lfs_fs.proofs.Behaving.{IsOrdinary, change_writes, not_halted, ok_refuses_none, still_behaves, write_behaves}
+use Rattle.lfs_fs.proofs.Declined.{accept_fault_serves, no_room_serves, stuck_serves}
 use Rattle.lfs_fs.proofs.Ending.{IsRest, not_acknowledged}
 use Rattle.lfs_fs.proofs.Files.{IsFileOf, opened_file}
 use Rattle.lfs_fs.proofs.Serving.{halts_at, map_dropped, served_still}
 use Rattle.lfs_fs.proofs.Told.{fault_serves, memory_serves}
 
 -- why a draft isn't staged, by the fault of the store
-pub turned_down : {D : Type 0} (state : D → DeviceState) (old new : Fs D) (fault : LogFault) (e : FsError) → e ≡ error_of_log fault → old.store.log.halted ≡ false → old.store.log.number < 2 ^ 62 → new.store.totals ≡ old.store.totals
-    → (fault ≡ log.Full → Declines state old.store.log old.store.saved new.store.log new.store.saved old.store.draft.changes)
-    → (fault ≡ log.Device → Declines state old.store.log old.store.saved new.store.log new.store.saved old.store.draft.changes)
-    → (fault ≡ log.Device → IsAcceptFault state old.store.log old.store.saved new.store.log old.store.draft.changes)
-    → (fault ≡ log.Halted → (old.store.log.halted ≡ true → ⊥) → Halts state old.store.log new.store.log) → TurnsDown state old new e
-turned_down state old new log.Full e is was young totals full device failed halted =
-    subst (TurnsDown state old new) (sym is) record { declines = full refl; totals = totals; young = young }
-turned_down state old new log.Device e is was young totals full device failed halted =
+pub turned_down : {D : Type 0} (state : D → DeviceState) (old new : Fs D) (fault : StoreFault) (e : FsError) → e ≡ error_of_store fault → old.store.log.halted ≡ false → old.store.log.number < 2 ^ 62 → new.store.totals ≡ old.store.totals
+    → (fault ≡ store.Log log.Full → Declines state old.store.log old.store.saved new.store.log new.store.saved old.store.draft.changes)
+    → (fault ≡ store.Log log.Full → IsFull new.store.log)
+    → (fault ≡ store.NoMemory → Declines state old.store.log old.store.saved new.store.log new.store.saved old.store.draft.changes)
+    → (fault ≡ store.Log log.Device → Declines state old.store.log old.store.saved new.store.log new.store.saved old.store.draft.changes)
+    → (fault ≡ store.Log log.Device → IsAcceptFault state old.store.log old.store.saved new.store.log old.store.draft.changes)
+    → (fault ≡ store.Log log.Halted → (old.store.log.halted ≡ true → ⊥) → Halts state old.store.log new.store.log) → TurnsDown state old new e
+turned_down state old new store.NoMemory e is was young totals full lacks memory device failed halted =
+    subst (TurnsDown state old new) (sym is) record { declines = memory refl; totals = totals; young = young }
+turned_down state old new (store.Log log.Full) e is was young totals full lacks memory device failed halted =
+    subst (TurnsDown state old new) (sym is) (record { declines = full refl; totals = totals; young = young }, lacks refl)
+turned_down state old new (store.Log log.Device) e is was young totals full lacks memory device failed halted =
     subst (TurnsDown state old new) (sym is) (record { declines = device refl; totals = totals; young = young }, failed refl)
-turned_down state old new log.Halted e is was young totals full device failed halted = subst (TurnsDown state old new) (sym is) (halted refl (λ no. cc))
+turned_down state old new (store.Log log.Halted) e is was young totals full lacks memory device failed halted = subst (TurnsDown state old new) (sym is) (halted refl (λ no. cc))
 
 module _ {D : Type 0} (state : D → DeviceState) (lawful : (d : D) → IsLawful (state d)) where
   -- ---- reads come before the draft is staged
@@ -151,23 +155,25 @@ module _ {D : Type 0} (state : D → DeviceState) (lawful : (d : D) → IsLawful
 
   module _ (old new : Mounted D) (call : Call) (was : old.log.halted ≡ false) where
     -- what a call does may rest on the state that the volume is in, and on a device that keeps the model to the end
-    pub when_in : (a : Answer) → Carries (state old.log.device) (state new.log.device) → segments_of new ≡ segments_of old → (a ≡ Refuse refusal.Halted → ⊥)
+    pub when_in : (a : Answer) → Carries (state old.log.device) (state new.log.device) → segments_of new ≡ segments_of old → (a ≡ Refuse refusal.Halted → ⊥) → Behaves state old new call a
         → ((state new.log.device).keeps_model → (k : CheckpointValue) (m0 m : LogMap) (s : State) → IsIn state old k m0 m s → Serves state old new call a) → Serves state old new call a
-    when_in a carries segments fine each = record {
+    when_in a carries segments fine behaves each = record {
       carries = carries;
       segments = λ e. segments;
       orderly = λ e. absurd (let is = was in cc);
       halts = λ e. absurd (fine e);
+      behaves = behaves;
       model = λ p keeps at. (let r = at.running was in (each keeps r.checkpoint r.saved r.present p.state r.is).model p keeps at);
     }
 
     -- a commit failed
-    pub halts_serves : Halts state old.log new.log → Serves state old new call (Refuse refusal.Halted)
-    halts_serves halts = record {
+    pub halts_serves : IsTrue (may_write call) → new.table ≡ old.table → Halts state old.log new.log → Serves state old new call (Refuse refusal.Halted)
+    halts_serves may table halts = record {
       carries = halts.carries;
       segments = λ e. absurd (let is = halts.halted in cc);
       orderly = λ e. absurd (let is = was in cc);
       halts = λ e. halts.halted;
+      behaves = write_behaves state old new call (Refuse refusal.Halted) may table (λ e. absurd (cc));
       model = λ p keeps at. (
           let r = at.running was in
           halts_at state old new keeps (lawful old.log.device) (lawful new.log.device) halts.carries r.checkpoint r.saved r.present p.state r.is call p at refl was halts.halted
@@ -218,7 +224,7 @@ module _ {D : Type 0} (state : D → DeviceState) (lawful : (d : D) → IsLawful
   headerless_serves old mid call h n opens was empty still free fault lacks = ⊎_elim
       (λ halted. absurd (let is = halted.1 in cc))
       (λ failed. subst (λ (e : FsError). Serves state (seen old) (seen mid) call (Refuse (refusal_of e))) (sym failed.0)
-      (served_still state (seen old) (seen mid) call (Refuse refusal.Device) (lawful old.store.log.device) still was (λ e. cc) (λ p keeps here k m0 m is. (
+      (served_still state (seen old) (seen mid) call (Refuse refusal.Device) (lawful old.store.log.device) still was tt (λ p keeps here k m0 m is. (
       let file = opened_in (seen old) (seen mid) call was h n opens k m0 m p.state is in
       inr (
         refusal.Device,
@@ -277,28 +283,33 @@ module _ {D : Type 0} (state : D → DeviceState) (lawful : (d : D) → IsLawful
     abbrev pub InState : Answer → Type 0
     InState x = Kept → (k : CheckpointValue) (m0 m : LogMap) (s : State) → IsIn state v k m0 m s → Serves state v (seen new) call x
 
-    module _ (change : changes call ≡ true) (free : commits call ≡ false)
+    module _ (change : changes call ≡ true) (free : commits call ≡ false) (takes : takes_no_memory call ≡ false)
         (fits : Kept → (k : CheckpointValue) (m0 m : LogMap) (s : State) → IsIn state v k m0 m s → InEach state v (λ m s. FitsBatch m c))
         (lacks_ends : IsStill state v (seen new) → limit_of ready < need_of ready → InState (Refuse refusal.NoSpace))
         (worn_ends : IsStill state v (seen new) → 2 ^ 62 ≤ v.log.number → need_of ready ≤ limit_of ready → InState (Refuse refusal.Worn)) where
       -- nothing has changed
-      same_by : (x : Answer) → (x ≡ Refuse refusal.Halted → ⊥) → seen new ≡ seen ready → InState x → Serves state v (seen new) call x
-      same_by x other same each = when_in v (seen new) call was x (still_new same).reads.looks.carries (ap (λ (v : LogMemory). length v.usage.segments) (still_new same).reads.memory) other
+      same_by : (x : Answer) → IsOrdinary x → seen new ≡ seen ready → InState x → Serves state v (seen new) call x
+      same_by x ordinary same each = when_in v (seen new) call was x (still_new same).reads.looks.carries (ap (λ (v : LogMemory). length v.usage.segments) (still_new same).reads.memory)
+          (not_halted x ordinary) (still_behaves state v (seen new) call x (still_new same) ordinary)
           (λ keeps. each (subst (λ (x : Mounted D). (state x.log.device).keeps_model) same keeps))
 
-      declined_by : (x : Answer) → (x ≡ Refuse refusal.Halted → ⊥) → (done : IsDeclined state ready new) → InState x → Serves state v (seen new) call x
-      declined_by x other done each = when_in v (seen new) call was x (declines_old done).carries (declines_old done).segments other (λ keeps. each (done.declines.carries.kept_before keeps))
+      declined_by : (x : Answer) → (x ≡ Refuse refusal.Halted → ⊥) → (x ≡ Refuse refusal.Stuck → IsFull new.store.log) → (done : IsDeclined state ready new) → InState x → Serves state v (seen new) call x
+      declined_by x other full done each = when_in v (seen new) call was x (declines_old done).carries (declines_old done).segments other
+          (write_behaves state v (seen new) call x (change_writes call change) table_same full) (λ keeps. each (done.declines.carries.kept_before keeps))
 
       pub by_fault : (e : FsError) → TurnsDown state ready new e → Serves state v (seen new) call (Refuse (refusal_of e))
-      by_fault error.NoSpace down = same_by (Refuse refusal.NoSpace) (λ e. cc) down.0 (lacks_ends (still_new down.0) down.1)
-      by_fault error.Worn down = same_by (Refuse refusal.Worn) (λ e. cc) down.0 (worn_ends (still_new down.0) (let same = still.reads.number in let high = down.1 in omega (arith, same, high)) down.2)
-      by_fault error.Stuck down = declined_by (Refuse refusal.Stuck) (λ e. cc) down (λ keeps k m0 m s is.
-          stuck_serves state v (seen new) call (lawful v.log.device) (lawful new.store.log.device) was (declines_old down).once.number c (rest_old down) (declines_old down) (low_old down.young)
-          (fits keeps k m0 m s is) change)
-      by_fault error.Device down = declined_by (Refuse refusal.Device) (λ e. cc) down.0 (λ keeps k m0 m s is.
+      by_fault error.NoSpace down = same_by (Refuse refusal.NoSpace) tt down.0 (lacks_ends (still_new down.0) down.1)
+      by_fault error.Worn down = same_by (Refuse refusal.Worn) tt down.0 (worn_ends (still_new down.0) (let same = still.reads.number in let high = down.1 in omega (arith, same, high)) down.2)
+      by_fault error.Stuck down = declined_by (Refuse refusal.Stuck) (λ e. cc) (λ e. down.1) down.0 (λ keeps k m0 m s is.
+          stuck_serves state v (seen new) call (lawful v.log.device) (lawful new.store.log.device) was (declines_old down.0).once.number c (rest_old down.0) (declines_old down.0) (low_old down.0.young)
+          (fits keeps k m0 m s is) change down.1)
+      by_fault error.NoMemory down = declined_by (Refuse refusal.NoMemory) (λ e. cc) (λ e. absurd (cc)) down (λ keeps k m0 m s is.
+          no_room_serves state v (seen new) call (lawful v.log.device) (lawful new.store.log.device) was (declines_old down).once.number c (rest_old down) (declines_old down) (low_old down.young)
+          (fits keeps k m0 m s is) change takes)
+      by_fault error.Device down = declined_by (Refuse refusal.Device) (λ e. cc) (λ e. absurd (cc)) down.0 (λ keeps k m0 m s is.
           accept_fault_serves state v (seen new) call (lawful v.log.device) (lawful new.store.log.device) was (declines_old down.0).once.number c (rest_old down.0) (declines_old down.0) (low_old down.0.young)
-          (fits keeps k m0 m s is) free (fault_old down.1))
-      by_fault error.Halted down = halts_serves v (seen new) call was (halts_after v.log ready.store.log still.reads new.store.log down)
+          (fits keeps k m0 m s is) change free (fault_old down.1))
+      by_fault error.Halted down = halts_serves v (seen new) call was (change_writes call change) table_same (halts_after v.log ready.store.log still.reads new.store.log down)
       by_fault error.NoEntry down = absurd down
       by_fault error.NotDir down = absurd down
       by_fault error.IsDir down = absurd down
@@ -315,13 +326,13 @@ module _ {D : Type 0} (state : D → DeviceState) (lawful : (d : D) → IsLawful
       by_fault error.FileTooBig down = absurd down
       by_fault error.NoNumber down = absurd down
       by_fault error.DirFull down = absurd down
-      by_fault error.NoMemory down = absurd down
 
-    pub ends_by : changes call ≡ true → commits call ≡ false → (a ≡ Refuse refusal.Halted → ⊥)
+    pub ends_by : changes call ≡ true → commits call ≡ false → takes_no_memory call ≡ false → is_ok a ≡ true
         → (Kept → (k : CheckpointValue) (m0 m : LogMap) (s : State) → IsIn state v k m0 m s → InEach state v (λ m s. FitsBatch m c))
         → (Stages state ready new → InState a)
         → (IsStill state v (seen new) → limit_of ready < need_of ready → InState (Refuse refusal.NoSpace))
         → (IsStill state v (seen new) → 2 ^ 62 ≤ v.log.number → need_of ready ≤ limit_of ready → InState (Refuse refusal.Worn))
         → {X : Type 0} (r : Result X FsError) → OnOk r (Stages state ready new) → IfErr r (TurnsDown state ready new) → Serves state v (seen new) call (answer_by (λ _. a) r)
-    ends_by change free fine fits done_ends lacks_ends worn_ends (Ok x) done down = when_in v (seen new) call was a (accepts_old done).carries (accepts_old done).segments fine (λ keeps. done_ends done (done.accepts.carries.kept_before keeps))
-    ends_by change free fine fits done_ends lacks_ends worn_ends (Err e) done down = by_fault change free fits lacks_ends worn_ends e down
+    ends_by change free takes ok fits done_ends lacks_ends worn_ends (Ok x) done down = when_in v (seen new) call was a (accepts_old done).carries (accepts_old done).segments (ok_refuses_none a refusal.Halted ok)
+        (write_behaves state v (seen new) call a (change_writes call change) table_same (λ e. absurd (ok_refuses_none a refusal.Stuck ok e))) (λ keeps. done_ends done (done.accepts.carries.kept_before keeps))
+    ends_by change free takes ok fits done_ends lacks_ends worn_ends (Err e) done down = by_fault change free takes fits lacks_ends worn_ends e down

@@ -17,6 +17,7 @@ use Rattle.lfs_fs.specs.Handles.{handles_of}
 use Rattle.lfs_fs.specs.Refusals.{refusal_of}
 use Rattle.lfs_fs.specs.Seen.{Begins, GivesNone, seen}
 use Rattle.lfs_fs.specs.Volume.{Mounted, Serves, segments_of}
+use Rattle.lfs_fs.proofs.Behaving.{still_behaves}
 use Rattle.lfs_fs.proofs.CallSteps.{not_worn, worn}
 use Rattle.lfs_fs.proofs.HandleSteps.{cut_bad_handle, cut_too_big, write_bad_handle, write_nothing, write_too_big, write_too_much}
 use Rattle.lfs_fs.proofs.Serving.{point_of, served_halted, served_still}
@@ -58,9 +59,9 @@ module _ {D : Type 0} (state : D → DeviceState) (lawful : (d : D) → IsLawful
         → Serves state v v call (Refuse (refusal_of fault))
     unopened call h unclean steps fault gives = ⊎_elim
         (λ bad. subst (λ (e : FsError). Serves state v v call (Refuse (refusal_of e))) (sym bad.0)
-        (refused_serves state v v call (lawful v.log.device) (still_none state lawful v) was BadHandle (λ e. cc) unclean (λ k m0 m s keeps is. steps (segments_of v) s (ap (find nat_cmp h) is.handles ∙ bad.1))))
+        (refused_serves state v v call (lawful v.log.device) (still_none state lawful v) was BadHandle tt unclean (λ k m0 m s keeps is. steps (segments_of v) s (ap (find nat_cmp h) is.handles ∙ bad.1))))
         (λ odd. subst (λ (e : FsError). Serves state v v call (Refuse (refusal_of e))) (sym odd.0)
-        (when_in state lawful v v call was (Refuse Device) (carries_none (state v.log.device)) refl (λ e. cc) (λ keeps k m0 m s is. absurd (
+        (when_in state lawful v v call was (Refuse Device) (carries_none (state v.log.device)) refl (λ e. cc) (still_behaves state v v call (Refuse Device) (still_none state lawful v) tt) (λ keeps k m0 m s is. absurd (
         let number = odd.1 in
         let file = opened_in state lawful v v call was h number.0 number.1 k m0 m s is in
         let few = file.number.1 in
@@ -76,16 +77,16 @@ module _ {D : Type 0} (state : D → DeviceState) (lawful : (d : D) → IsLawful
 
     module _ (h n : ℕ) (opens : find nat_cmp h (handles_of v.table) ≡ Some n) where
       pub cut_refused : (len : ℕ) → 8511488 < len → Serves state v v (Truncate h len) (Refuse FileTooBig)
-      cut_refused len big = refused_serves state v v (Truncate h len) (lawful v.log.device) (still_none state lawful v) was FileTooBig (λ e. cc) refl (λ k m0 m s keeps is.
+      cut_refused len big = refused_serves state v v (Truncate h len) (lawful v.log.device) (still_none state lawful v) was FileTooBig tt refl (λ k m0 m s keeps is.
           cut_too_big (segments_of v) s h len n (ap (find nat_cmp h) is.handles ∙ opens) big)
 
       module _ (at : ℕ) (w : List ℕ) where
         pub write_refused : 65536 < length w → Serves state v v (Pwrite h at w) (Refuse Inval)
-        write_refused much = refused_serves state v v (Pwrite h at w) (lawful v.log.device) (still_none state lawful v) was Inval (λ e. cc) refl (λ k m0 m s keeps is.
+        write_refused much = refused_serves state v v (Pwrite h at w) (lawful v.log.device) (still_none state lawful v) was Inval tt refl (λ k m0 m s keeps is.
             write_too_much (segments_of v) s h at w n (ap (find nat_cmp h) is.handles ∙ opens) much)
 
         pub write_past : length w ≤ 65536 → 0 < length w → 8511488 < at + length w → Serves state v v (Pwrite h at w) (Refuse FileTooBig)
-        write_past few some big = refused_serves state v v (Pwrite h at w) (lawful v.log.device) (still_none state lawful v) was FileTooBig (λ e. cc) refl (λ k m0 m s keeps is.
+        write_past few some big = refused_serves state v v (Pwrite h at w) (lawful v.log.device) (still_none state lawful v) was FileTooBig tt refl (λ k m0 m s keeps is.
             write_too_big (segments_of v) s h at w n (ap (find nat_cmp h) is.handles ∙ opens) few some big)
 
         -- no bytes are written, up to the last number of a checkpoint
@@ -94,12 +95,12 @@ module _ {D : Type 0} (state : D → DeviceState) (lawful : (d : D) → IsLawful
           step_nothing s same = write_nothing (segments_of v) s h at w n (ap (find nat_cmp h) same ∙ opens) few none
 
           pub write_none : v.log.number < 2 ^ 62 → Serves state v v (Pwrite h at w) (Count 0)
-          write_none low = served_still state v v (Pwrite h at w) (Count 0) (lawful v.log.device) (still_none state lawful v) was (λ e. cc) (λ p keeps here k m0 m is.
+          write_none low = served_still state v v (Pwrite h at w) (Count 0) (lawful v.log.device) (still_none state lawful v) was tt (λ p keeps here k m0 m is.
               inl (step_nothing p.state is.handles, not_worn (segments_of v) (Pwrite h at w) p (let q = here.number in omega (arith, q, low))))
               (λ e. cc)
 
           pub write_none_worn : (fault : FsError) → fault ≡ error.Worn → 2 ^ 62 ≤ v.log.number → Serves state v v (Pwrite h at w) (Refuse (refusal_of fault))
           write_none_worn fault is high = subst (λ (e : FsError). Serves state v v (Pwrite h at w) (Refuse (refusal_of e))) (sym is)
-              (served_still state v v (Pwrite h at w) (Refuse Worn) (lawful v.log.device) (still_none state lawful v) was (λ e. cc) (λ p keeps here k m0 m is.
+              (served_still state v v (Pwrite h at w) (Refuse Worn) (lawful v.log.device) (still_none state lawful v) was tt (λ p keeps here k m0 m is.
               inr (Worn, refl, worn (segments_of v) (Pwrite h at w) p (point_of state v p.state) (let q = here.number in omega (arith, q, high)) refl (Count 0) p.state (step_nothing p.state is.handles) refl, refl))
               (λ e. cc))

@@ -1,7 +1,7 @@
 -- What becomes of a call's draft: it is staged where the volume has the space for it, or it isn't.
 use Rattle.std.specs.Prelude.{◌≡◌, ◌<◌, ◌≤◌, ◌+◌, ◌*◌, ◌^◌, ℕ, length}
 use Rattle.lfs_model.specs.Device.{DeviceState}
-use Rattle.lfs_path.specs.log.Held.{Halts}
+use Rattle.lfs_path.specs.log.Held.{Halts, IsFull}
 use Rattle.lfs_path.specs.store.Accepting.{Accepts, Declines, IsAcceptFault}
 use Rattle.lfs_fs.specs.declared.error.FsError.{FsError}
 use Rattle.lfs_fs.specs.declared.error.FsError.TheVariants as error
@@ -33,7 +33,8 @@ module _ {D : Type 0} (state : D → DeviceState) where
   abbrev pub TurnsDown : Fs D → Fs D → FsError → Type 0
   TurnsDown old new error.NoSpace = (seen new ≡ seen old) × (limit_of old < need_of old)
   TurnsDown old new error.Worn = (seen new ≡ seen old) × (2 ^ 62 ≤ old.store.log.number) × (need_of old ≤ limit_of old)
-  TurnsDown old new error.Stuck = IsDeclined old new
+  TurnsDown old new error.Stuck = IsDeclined old new × IsFull new.store.log
+  TurnsDown old new error.NoMemory = IsDeclined old new
   TurnsDown old new error.Device = IsDeclined old new × IsAcceptFault state old.store.log old.store.saved new.store.log old.store.draft.changes
   TurnsDown old new error.Halted = Halts state old.store.log new.store.log
   TurnsDown old new _ = ⊥

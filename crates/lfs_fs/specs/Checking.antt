@@ -1,5 +1,5 @@
 -- What a mount finds in a log map: the tree of a root and files in it, which are named as often as their headers say, with room for all.
-use Rattle.std.specs.Prelude.{◌≡◌, ◌⊎◌, ◌<◌, ◌≤◌, ◌/◌, ◌==◌, ℕ, List, length, count_by, Option, Some, None}
+use Rattle.std.specs.Prelude.{◌≡◌, ◌<◌, ◌≤◌, ◌/◌, ◌==◌, ℕ, List, length, count_by, Option, Some, None}
 use Rattle.lfs_model.specs.declared.Kind.TheVariants as kind
 use Rattle.lfs_model.specs.Checkpoint.{CheckpointValue}
 use Rattle.lfs_model.specs.Device.{DeviceState}
@@ -76,13 +76,13 @@ IsTreeDamage fault.NoCheckpoint = ⊥
 IsTreeDamage (fault.Damaged code) = (10 ≤ code) × (code < 15)
 
 module _ {D : Type 0} (state : D → DeviceState) where
-  -- a refusal of a check: memory that is refused, a failed call, or damage of the tree
-  abbrev pub IsTreeFault : Held D → Held D → MountFault → Type 0
-  IsTreeFault h h' fault.NoMemory = Unit {0}
-  IsTreeFault h h' fault.Device = IsReadFault state h h'
-  IsTreeFault h h' fault.TooSmall = ⊥
-  IsTreeFault h h' fault.NoCheckpoint = ⊥
-  IsTreeFault h h' (fault.Damaged code) = (10 ≤ code) × (code < 15)
+  -- A check's refusal that isn't of memory, by fault: a call of the device failed, or the tree is damaged, since it lacks this.
+  abbrev pub IsTreeFault : Held D → Held D → Type 0 → MountFault → Type 0
+  IsTreeFault h h' lacking fault.NoMemory = ⊥
+  IsTreeFault h h' lacking fault.Device = IsReadFault state h h'
+  IsTreeFault h h' lacking fault.TooSmall = ⊥
+  IsTreeFault h h' lacking fault.NoCheckpoint = ⊥
+  IsTreeFault h h' lacking (fault.Damaged code) = (10 ≤ code) × (code < 15) × lacking
 
   abbrev pub FindsRoot : Held D → Held D → Changes → Header → Type 0
   FindsRoot h h' c head = (k : CheckpointValue) (m0 m : LogMap) → (state h'.device).keeps_model → Holds state h k m0 m → IsRoot (staged c m) head
@@ -96,18 +96,16 @@ module _ {D : Type 0} (state : D → DeviceState) where
   abbrev pub FindsTree : Held D → Held D → Changes → Totals → Type 0
   FindsTree h h' c totals = (k : CheckpointValue) (m0 m : LogMap) → (state h'.device).keeps_model → Holds state h k m0 m → IsCountedMap (staged c m) totals → IsFlat k.segments (staged c m)
 
-  -- where it isn't found, a call of the device failed, or there is no such tree
+  -- there is no such tree
   abbrev pub LacksRoot : Held D → Held D → Changes → Type 0
-  LacksRoot h h' c = (k : CheckpointValue) (m0 m : LogMap) → (state h'.device).keeps_model → Holds state h k m0 m → IsFlat k.segments (staged c m) → (state h.device).failures < (state h'.device).failures
+  LacksRoot h h' c = (k : CheckpointValue) (m0 m : LogMap) → (state h'.device).keeps_model → Holds state h k m0 m → IsFlat k.segments (staged c m) → ⊥
 
   abbrev pub LacksEntries : Held D → Held D → Changes → Header → Type 0
-  LacksEntries h h' c head = (k : CheckpointValue) (m0 m : LogMap) → (state h'.device).keeps_model → Holds state h k m0 m → IsFlat k.segments (staged c m) → IsRoot (staged c m) head → IsHeaderOf 1 (as_header head)
-      → (state h.device).failures < (state h'.device).failures
+  LacksEntries h h' c head = (k : CheckpointValue) (m0 m : LogMap) → (state h'.device).keeps_model → Holds state h k m0 m → IsFlat k.segments (staged c m) → IsRoot (staged c m) head → IsHeaderOf 1 (as_header head) → ⊥
 
+  -- one of the numbers doesn't fit
   abbrev pub LacksFiles : Held D → Held D → Changes → Names → ℕ → ℕ → Type 0
-  LacksFiles h h' c ms a b = (k : CheckpointValue) (m0 m : LogMap) → (state h'.device).keeps_model → Holds state h k m0 m
-      → ((state h.device).failures < (state h'.device).failures) ⊎ HasOdd (staged c m) ms a b
+  LacksFiles h h' c ms a b = (k : CheckpointValue) (m0 m : LogMap) → (state h'.device).keeps_model → Holds state h k m0 m → HasOdd (staged c m) ms a b
 
   abbrev pub LacksTree : Held D → Held D → Changes → Totals → Type 0
-  LacksTree h h' c totals = (k : CheckpointValue) (m0 m : LogMap) → (state h'.device).keeps_model → Holds state h k m0 m → IsCountedMap (staged c m) totals → IsFlat k.segments (staged c m)
-      → (state h.device).failures < (state h'.device).failures
+  LacksTree h h' c totals = (k : CheckpointValue) (m0 m : LogMap) → (state h'.device).keeps_model → Holds state h k m0 m → IsCountedMap (staged c m) totals → IsFlat k.segments (staged c m) → ⊥

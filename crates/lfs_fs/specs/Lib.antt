@@ -11,3 +11,4 @@ pub mod Making
 pub mod Reading
 pub mod Naming
 pub mod Scripts
+pub use Rattle.lfs_path.specs.log

@@ -62,16 +62,16 @@ pub data IsDamageOf (c : Content) (code : ℕ) : Type 0 where
   few_clean : code ≡ 15 → IsVerified c false → IsDamageOf c code
   no_tree : 10 ≤ code → code < 15 → LacksPlainTree c → IsDamageOf c code
 
--- why a content is refused, where no call of the device failed
-abbrev pub IsRefusedFor : Content → MountFault → Type 0
-IsRefusedFor c NoMemory = Unit {0}
-IsRefusedFor c Device = ⊥
-IsRefusedFor c TooSmall = IsTooSmall c
-IsRefusedFor c NoCheckpoint = IsWithoutCheckpoint c
-IsRefusedFor c (Damaged code) = IsDamageOf c code
+-- why a device is refused, by fault: a call of it failed, or this is so of the content that was there
+abbrev pub IsRefusedFor : DeviceState → DeviceState → MountFault → Type 0
+IsRefusedFor old new NoMemory = Unit {0}
+IsRefusedFor old new Device = old.failures < new.failures
+IsRefusedFor old new TooSmall = IsTooSmall old.content
+IsRefusedFor old new NoCheckpoint = IsWithoutCheckpoint old.content
+IsRefusedFor old new (Damaged code) = IsDamageOf old.content code
 
 abbrev pub IsRefused : DeviceState → DeviceState → MountFault → Type 0
-IsRefused old new fault = new.keeps_model → new.failures ≡ old.failures → IsRefusedFor old.content fault
+IsRefused old new fault = new.keeps_model → IsRefusedFor old new fault
 
 -- the same where it stands for a log map
 abbrev pub IsRefusedTree : DeviceState → DeviceState → MountFault → Type 0

@@ -1,38 +1,15 @@
 -- What the lines of a script do to a volume: a run of the model, and what a stop in it leaves. The language of scripts is an own choice.
-use Rattle.std.specs.Prelude.{◌≡◌, ◌⊎◌, ℕ, IsTrue, false, List, ◌∷◌, map}
-use Rattle.std.specs.List.{Contains}
-use Rattle.lfs_model.specs.Call.{Answer, Call, Refuse}
-use Rattle.lfs_model.specs.Content.{Content}
+use Rattle.std.specs.Prelude.{◌≡◌, ◌⊎◌, IsTrue, false, List, ◌∷◌, map}
+use Rattle.lfs_model.specs.Call.{Answer, Refuse}
 use Rattle.lfs_model.specs.Device.{DeviceState, Carries, LeavesOnly}
 use Rattle.lfs_model.specs.Refusal.{NoMemory}
-use Rattle.lfs_model.specs.Run.{IsPending, LineRun, Point, final, has_word}
+use Rattle.lfs_model.specs.Run.{LineRun, Point, final, has_word}
 use Rattle.lfs_model.specs.Script.{Line, call_of}
-use Rattle.lfs_model.specs.Tree.{State, drop_nameless}
-use Rattle.lfs_model.specs.TreeOf.{LeavesOne, LeavesStates, Stands}
-use Rattle.lfs_model.specs.Volume.{LeavesPrefix, StandsForPrefix}
+use Rattle.lfs_model.specs.Tree.{drop_nameless}
+use Rattle.lfs_model.specs.TreeOf.{LeavesOne, LeavesStates}
+use Rattle.lfs_model.specs.Use.{StandsForSome, left_states}
+use Rattle.lfs_model.specs.Volume.{LeavesPrefix}
 use Rattle.lfs_fs.specs.Volume.{IsAt, Mounted, Serves, segments_of}
-
--- the states of these points as a mount after a stop gives them: without files of no name
-abbrev pub left_states : List Point → List State
-left_states points = map (λ p. drop_nameless p.state) points
-
--- the content stands for one of them
-abbrev pub StandsForSome : List Point → Content → Type 0
-StandsForSome points c = (s : State) × Contains (left_states points) s × Stands c s
-
--- A use of a volume, from a device of which a stop may have left only states that were pending in an earlier run: it begins with one of them, without files
--- of no name; a stop at any moment leaves what was left before it, or the state after some of its lines; and at the end, after lines that hold every line
--- up to the last acknowledged sync.
-pub record UsesVolume (d d' : DeviceState) (before : List Point) (calls : List Call) (given : List Answer) (lines : List Line) (answers : List Answer) : Type 0 where
-  pub first : Point
-  pub points : List Point
-  -- the number of its segments
-  pub number : ℕ
-  pub began : (s : State) × IsPending before calls given s × (first.state ≡ drop_nameless s)
-  pub running : first.halted ≡ false
-  pub run : LineRun number first lines answers points
-  pub moments : LeavesOnly d d' (λ c. StandsForPrefix c before calls given ⊎ StandsForSome (first ∷ points) c)
-  pub pending : LeavesPrefix d' (first ∷ points) (map call_of lines) answers
 
 module _ {D : Type 0} (state : D → DeviceState) where
   -- a line's call; or nothing, where memory for its word was refused

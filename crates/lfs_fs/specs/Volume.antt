@@ -1,17 +1,17 @@
 -- What contracts see of a mounted volume, the state that it is in, and what its calls do.
 -- The calls are those of POSIX.1-2017; which refusals are excused and what a stop leaves is an own choice.
-use Rattle.std.specs.Prelude.{◌≡◌, ◌≢◌, ◌≤◌, ◌^◌, ℕ, Bool, true, false, List, [], ◌∷◌, length, Some}
-use Rattle.lfs_model.specs.Call.{Call, Answer, Refuse}
+use Rattle.std.specs.Prelude.{◌≡◌, ◌≢◌, ◌⊎◌, ◌≤◌, ◌^◌, ℕ, Bool, true, false, ◌||◌, IsTrue, List, [], ◌∷◌, length, Some}
+use Rattle.lfs_model.specs.Call.{Call, Open, Create, Close, Answer, Refuse, changes, cleans, commits}
 use Rattle.lfs_model.specs.Checkpoint.{CheckpointValue}
-use Rattle.lfs_model.specs.Device.{DeviceState, Carries, AllLeft}
+use Rattle.lfs_model.specs.Device.{DeviceState, Carries, AllLeft, IsUntouched}
 use Rattle.lfs_model.specs.Encodes.{IsLogMap}
-use Rattle.lfs_model.specs.Refusal.{Halted}
+use Rattle.lfs_model.specs.Refusal.{Refusal, Halted, Stuck}
 use Rattle.lfs_model.specs.Run.{Point, Answers, acknowledges}
 use Rattle.lfs_model.specs.Stands.{LogMap}
 use Rattle.lfs_model.specs.Tree.{Tree, Node, File, Dir, Names, State, node, drop_nameless}
 use Rattle.lfs_model.specs.TreeOf.{IsTree, LeavesOne, LeavesStates, Stands}
 use Rattle.lfs_model.specs.Volume.{IsLogOf}
-use Rattle.lfs_path.specs.log.Held.{Held, Reads}
+use Rattle.lfs_path.specs.log.Held.{Held, IsFull, Reads}
 use Rattle.lfs_path.specs.store.Accepting.{Stores, HasClean}
 use Rattle.lfs_path.specs.store.Totals.{IsCounted}
 use Rattle.lfs_fs.specs.Handles.{handles_of}
@@ -27,6 +27,17 @@ pub record Mounted (D : Type 0) : Type 0 where
 -- the number of its segments
 abbrev pub segments_of : {D : Type 0} → Mounted D → ℕ
 segments_of v = length v.log.memory.usage.segments
+
+-- the calls that may write to the device
+abbrev pub may_write : Call → Bool
+may_write call = changes call || commits call || cleans call
+
+-- the calls that may change which files are open
+abbrev pub changes_handles : Call → Bool
+changes_handles (Open p) = true
+changes_handles (Create p) = true
+changes_handles (Close h) = true
+changes_handles _ = false
 
 -- The tree is the root and files in it: what the calls that are built make.
 pub record IsPlain (t : Tree) : Type 0 where
@@ -75,6 +86,19 @@ module _ {D : Type 0} (state : D → DeviceState) where
     pub others : new.others ≡ old.others
     pub table : new.table ≡ old.table
 
+  -- What holds of a call over any device, beside what follows once it answered Halted.
+  pub record Behaves (old new : Mounted D) (call : Call) (answer : Answer) : Type 0 where
+    -- a refusal leaves the open files as they were, and so does each call but open, create and close
+    pub refused : (r : Refusal) → answer ≡ Refuse r → new.table ≡ old.table
+    pub handles : changes_handles call ≡ false → new.table ≡ old.table
+    -- the first Halted is the answer of a call that may write
+    pub first_halted : answer ≡ Refuse Halted → (old.log.halted ≡ true) ⊎ IsTrue (may_write call)
+    -- a call that may not write leaves the content, what a stop leaves, and the checkpoint's number
+    pub quiet : may_write call ≡ false → IsUntouched (state old.log.device) (state new.log.device)
+    pub number : may_write call ≡ false → new.log.number ≡ old.log.number
+    -- Stuck comes only where the log is full by its own test: too few segments are clean, or no number is left
+    pub stuck : answer ≡ Refuse Stuck → IsFull new.log
+
   -- A call of a volume at a point: its answer is the model's, or an excused refusal; a stop at any moment leaves what it might have left
   -- before, or the state before or after the call, without files of no name; where the call saves, what is left is the state after it.
   pub record ServesAt (old new : Mounted D) (call : Call) (answer : Answer) (p : Point) : Type 0 where
@@ -92,4 +116,5 @@ module _ {D : Type 0} (state : D → DeviceState) where
     -- once a commit failed each call answers Halted, and does nothing
     pub orderly : old.log.halted ≡ true → (answer ≡ Refuse Halted) × (new ≡ old)
     pub halts : answer ≡ Refuse Halted → new.log.halted ≡ true
+    pub behaves : Behaves old new call answer
     pub model : (p : Point) → (state new.log.device).keeps_model → IsAt old p → ServesAt old new call answer p

@@ -38,8 +38,10 @@ pub(crate) fn check_tree<D: SectorDevice>(
     ensures saved { store.new.saved ≡ store.old.saved }
     ensures totals { store.new.totals ≡ store.old.totals }
     ensures done { OnOk result (FindsTree D.SectorDevice.state store.old.log store.new.log store.old.draft.changes store.old.totals) }
-    ensures failed { IfErr result (λ fault. (fault ≡ MountFault.NoMemory → ⊥) → LacksTree D.SectorDevice.state store.old.log store.new.log store.old.draft.changes store.old.totals) }
-    ensures names { IfErr result (IsTreeFault D.SectorDevice.state store.old.log store.new.log) }
+    ensures failed { IfErr result (λ fault. (fault ≡ MountFault.NoMemory → ⊥)
+        → IsTreeFault D.SectorDevice.state store.old.log store.new.log
+        (LacksTree D.SectorDevice.state store.old.log store.new.log
+        store.old.draft.changes store.old.totals) fault) }
 {
     let root = match check_root(store) {
         Ok(root) => root,
@@ -66,8 +68,8 @@ fn check_root<D: SectorDevice>(store: &mut Store<D>) -> Result<Header, MountFaul
     ensures saved { store.new.saved ≡ store.old.saved }
     ensures totals { store.new.totals ≡ store.old.totals }
     ensures done { IfOk result (FindsRoot D.SectorDevice.state store.old.log store.new.log store.old.draft.changes) }
-    ensures failed { OnErr result (LacksRoot D.SectorDevice.state store.old.log store.new.log store.old.draft.changes) }
-    ensures names { IfErr result (IsTreeFault D.SectorDevice.state store.old.log store.new.log) }
+    ensures failed { IfErr result (IsTreeFault D.SectorDevice.state store.old.log store.new.log
+        (LacksRoot D.SectorDevice.state store.old.log store.new.log store.old.draft.changes)) }
 {
     let header = match store.header(ROOT) {
         Ok(Some(header)) => header,
@@ -96,8 +98,10 @@ fn check_entries<D: SectorDevice>(
     ensures saved { store.new.saved ≡ store.old.saved }
     ensures totals { store.new.totals ≡ store.old.totals }
     ensures done { IfOk result (λ entries. FindsEntries D.SectorDevice.state store.old.log store.new.log store.old.draft.changes root entries.items) }
-    ensures failed { IfErr result (λ fault. (fault ≡ MountFault.NoMemory → ⊥) → LacksEntries D.SectorDevice.state store.old.log store.new.log store.old.draft.changes root) }
-    ensures names { IfErr result (IsTreeFault D.SectorDevice.state store.old.log store.new.log) }
+    ensures failed { IfErr result (λ fault. (fault ≡ MountFault.NoMemory → ⊥)
+        → IsTreeFault D.SectorDevice.state store.old.log store.new.log
+        (LacksEntries D.SectorDevice.state store.old.log store.new.log
+        store.old.draft.changes root) fault) }
 {
     let entries = match inspect(alloc, store, ROOT, root) {
         Ok(entries) => entries,
@@ -134,8 +138,9 @@ fn check_files<D: SectorDevice>(store: &mut Store<D>, entries: &[Entry]) -> Resu
     ensures saved { store.new.saved ≡ store.old.saved }
     ensures totals { store.new.totals ≡ store.old.totals }
     ensures done { OnOk result (FindsFiles D.SectorDevice.state store.old.log store.new.log store.old.draft.changes (pairs entries.now) 2 4096) }
-    ensures failed { OnErr result (LacksFiles D.SectorDevice.state store.old.log store.new.log store.old.draft.changes (pairs entries.now) 2 4096) }
-    ensures names { IfErr result (IsTreeFault D.SectorDevice.state store.old.log store.new.log) }
+    ensures failed { IfErr result (IsTreeFault D.SectorDevice.state store.old.log store.new.log
+        (LacksFiles D.SectorDevice.state store.old.log store.new.log
+        store.old.draft.changes (pairs entries.now) 2 4096)) }
 {
     for number in 2..4_096u16 {
         match check_file(store, entries, number) {
@@ -158,8 +163,9 @@ fn check_file<D: SectorDevice>(
     ensures saved { store.new.saved ≡ store.old.saved }
     ensures totals { store.new.totals ≡ store.old.totals }
     ensures done { OnOk result (FindsFiles D.SectorDevice.state store.old.log store.new.log store.old.draft.changes (pairs entries.now) number (number + 1)) }
-    ensures failed { OnErr result (LacksFiles D.SectorDevice.state store.old.log store.new.log store.old.draft.changes (pairs entries.now) number (number + 1)) }
-    ensures names { IfErr result (IsTreeFault D.SectorDevice.state store.old.log store.new.log) }
+    ensures failed { IfErr result (IsTreeFault D.SectorDevice.state store.old.log store.new.log
+        (LacksFiles D.SectorDevice.state store.old.log store.new.log
+        store.old.draft.changes (pairs entries.now) number (number + 1))) }
 {
     match store.header(number) {
         Ok(found) => match check_header(found, count_names(entries, number)) {

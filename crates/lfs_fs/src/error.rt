@@ -1,7 +1,7 @@
 //! Why a call is refused.
 ghost use Rattle.std.specs.Prelude.{◌≡◌};
 ghost use Rattle.lfs_model.specs.Script.{refusal_name};
-ghost use Rattle.lfs_fs.specs.Refusals.{refusal_of};
+ghost use Rattle.lfs_fs.specs.Refusals.{format_fault_name, refusal_of};
 ghost use Rattle.lfs_fs.specs.Faults.{error_of_log, error_of_store, error_of_path};
 
 use lfs_path::PathFault;
@@ -146,7 +146,9 @@ pub enum FormatFault {
 }
 
 impl FormatFault {
-    pub fn name(self) -> &'static str {
+    pub fn name(self) -> &'static str
+        ensures { result.now ≡ format_fault_name self }
+    {
         match self {
             FormatFault::Inval => "Inval",
             FormatFault::TooSmall => "TooSmall",

@@ -19,7 +19,7 @@ use lfs_verify::root::replace;
 
 /// Makes the device an empty volume of so many segments. It takes no memory and writes the two checkpoint slots and the
 /// first chunk alone. A stop at any moment leaves what stood there, with slots that may be cleared, or no checkpoint, or
-/// the empty volume, and after `Ok` this alone.
+/// the empty volume, and after `Ok` this alone, laid out as FORMAT.md has it.
 ///
 /// # Errors
 ///
@@ -31,6 +31,7 @@ pub fn format<D: SectorDevice>(device: &mut D, segments: u32) -> Result<(), Form
     ensures refused { IsErrOf result FormatFault.Inval ⊎ IsErrOf result FormatFault.TooSmall → device.new ≡ device.old }
     ensures failed { IsErrOf result FormatFault.Device → (D.state device.old).failures < (D.state device.new).failures }
     ensures no_failure { OnOk result ((D.state device.new).failures ≡ (D.state device.old).failures) }
+    ensures image { OnOk result ((D.state device.new).keeps_model → IsNew segments (D.state device.new).content) }
     ensures volume { OnOk result ((D.state device.new).keeps_model → Stands (D.state device.new).content (mounted 1 ((1, Dir 0 []) ∷ []))) }
     ensures checkpoint { OnOk result ((D.state device.new).keeps_model → newest (D.state device.new).content ≡ Some (first_checkpoint segments)) }
     ensures durable { OnOk result ((D.state device.new).keeps_model → Only (D.state device.new).content (D.state device.new)) }

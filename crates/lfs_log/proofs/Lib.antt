@@ -5,6 +5,7 @@ pub mod UsageMoves
 pub mod UsageWrites
 pub mod PublishSteps
 pub mod Saves
+pub mod FaultCases
 pub mod UsageLoads
 pub mod MapLoads
 pub mod Opens

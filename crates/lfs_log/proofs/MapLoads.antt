@@ -15,7 +15,8 @@ use Rattle.lfs_model.proofs.Encodes.{word_nil}
 use Rattle.lfs_model.proofs.Words.{pointers_are}
 use Rattle.lfs_memory.specs.inodes.MapValue.{MapValue, IsEmptyMap, IsLoaded, address_in, block_in}
 use Rattle.lfs_memory.specs.Present.{Looks}
-use Rattle.lfs_log.specs.Opening.{IsFault, IsMapUpTo, SaysMap}
+use Rattle.lfs_log.specs.Faults.{LacksBlock, LacksTables}
+use Rattle.lfs_log.specs.Opening.{IsMapUpTo, SaysMap}
 
 pub map_start : (map : MapValue) → IsEmptyMap map → IsMapUpTo 0 map
 map_start map is = record { hidden = is.hidden; none = λ i le. is.blocks i; past = λ n le. is.addresses n }
@@ -81,12 +82,11 @@ module _ (c : Content) (k : CheckpointValue) (m : LogMap) (st : StandsAt c k m) 
   unfolding address
   map_long all = (decoding c k m (are_sized c all) st).1.long (Map j) some
 
-pub map_fault : (d d' : DeviceState) (k : CheckpointValue) (j at : ℕ) → AllByRecursion IsSector d.content → get_or k.map j 0 ≡ at → (at ≡ 0 → ⊥)
-    → (d'.keeps_model → 2 ≤ at → at < 2 + 64 * k.segments → length (block d.content at) ≡ 512 → d.failures < d'.failures) → IsFault d d' k
-map_fault d d' k j at all points some cause m keeps st =
+pub map_fault : (d d' : DeviceState) (k : CheckpointValue) (j at : ℕ) → AllByRecursion IsSector d.content → get_or k.map j 0 ≡ at → (at ≡ 0 → ⊥) → LacksBlock d d' k.segments at → LacksTables d d' k
+map_fault d d' k j at all points some lacks m keeps st =
     let stored : 0 < get_or k.map j 0 = omega (arith, points, some) in
     let range = map_range d.content k m st j stored in
-    cause keeps (subst (λ (a : ℕ). 2 ≤ a) points range.0) (subst (λ (a : ℕ). a < 2 + 64 * k.segments) points range.1)
+    lacks keeps (subst (λ (a : ℕ). 2 ≤ a) points range.0) (subst (λ (a : ℕ). a < 2 + 64 * k.segments) points range.1)
     (subst (λ (a : ℕ). length (block d.content a) ≡ 512) points (map_long d.content k m st j stored all))
 
 pub says_map_then : (a b : DeviceState) (k : CheckpointValue) (j l : ℕ) (t u : MapValue) → Looks a b → SaysMap a.content k j t → (SaysMap b.content k j t → SaysMap b.content k l u) → SaysMap a.content k l u

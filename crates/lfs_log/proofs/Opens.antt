@@ -1,5 +1,4 @@
 -- A mount: what it took in is a log that runs.
-use Rattle.std.specs.Prelude.{Result, Ok, Err, IfErr}
 use Rattle.std.proofs.Common.{◌≡◌, ◌<◌, ◌≤◌, ⊎_elim, ◌⊎◌, inl, inr, ◌+◌, ◌*◌, ◌/◌, ◌%◌, ℕ, zero, suc, false, [], length, get_or, Some, None, refl, sym, ◌∙◌, ap, subst, arith}
 use Rattle.std.proofs.lemmas.Bool.{cases_lt}
 use Rattle.std.proofs.lemmas.List.{get_or_past}
@@ -28,7 +27,10 @@ use Rattle.lfs_memory.specs.segments.Table.{SegmentNumbers, UsageTable, no_segme
 use Rattle.lfs_memory.specs.declared.memory.LogMemory.{LogMemory}
 use Rattle.lfs_memory.specs.Memory.{IsLog, tables_by, tables_of, segment_in, chunk_in}
 use Rattle.lfs_memory.specs.Present.{Looks}
-use Rattle.lfs_log.specs.Opening.{IsFault, IsOpenFault, IsUsageUpTo, SaysUsage, IsMapUpTo, SaysMap, Opens, numbers_in}
+use Rattle.lfs_log.specs.declared.fault.MountFault.{MountFault}
+use Rattle.lfs_log.specs.Faults.{IsOpenFault, IsTableFault, LacksLog, LacksTables}
+use Rattle.lfs_log.proofs.FaultCases.{fault_on}
+use Rattle.lfs_log.specs.Opening.{IsUsageUpTo, SaysUsage, IsMapUpTo, SaysMap, Opens, numbers_in}
 use Rattle.lfs_memory.proofs.Opened.{closed_segment, closed_chunk, as_chunk}
 
 -- ---- the newest checkpoint
@@ -184,14 +186,12 @@ module _ (d mid d' : DeviceState) (k : CheckpointValue) (fits : FitsCheckpoint k
       let one = one_checkpoint d lawful_first m k is (newest_at (looks.carries.kept_before keeps)) in
       (subst (λ (x : CheckpointValue). IsLog d' v x m m) (sym one) (log_at m keeps (subst (λ (x : CheckpointValue). StandsAt d.content x m) one is.stands)), ap (λ (x : CheckpointValue). x.number) one)
 
-pub open_fault : (a b c : DeviceState) (k : CheckpointValue) → IsLawful a → (b.keeps_model → newest a.content ≡ Some k) → IsUntouched a b → Carries a b → Looks b c → IsFault b c k → IsOpenFault a c
-open_fault a b c k lawful newest_at same carries looks fault m keeps is =
+pub open_fault : (a b c : DeviceState) (k : CheckpointValue) → IsLawful a → (b.keeps_model → newest a.content ≡ Some k) → IsUntouched a b → Carries a b → Looks b c
+    → (f : MountFault) → IsTableFault b c k f → IsOpenFault a c f
+open_fault a b c k lawful newest_at same carries looks f =
+    fault_on (b.failures < c.failures) (LacksTables b c k) (a.failures < c.failures) (LacksLog a c)
+    (λ rose. let before = carries.failures in omega (arith, rose, before))
+    (λ lacks m keeps is.
     let one = one_checkpoint a lawful m k is (newest_at (looks.carries.kept_before keeps)) in
     let st = subst (λ (x : CheckpointValue). StandsAt a.content x m) one is.stands in
-    let worse = fault m keeps (subst (λ (x : Content). StandsAt x k m) (sym same.content) st) in
-    let before = carries.failures in
-    omega (arith, worse, before)
-
-pub if_err : {T E : Type 0} (r : Result T E) (P : E → Type 0) → ((e : E) → P e) → IfErr r P
-if_err (Ok x) P all = tt
-if_err (Err e) P all = all e
+    lacks m keeps (subst (λ (x : Content). StandsAt x k m) (sym same.content) st)) f

@@ -18,7 +18,10 @@ use Rattle.lfs_memory.specs.segments.Table.{SegmentNumbers, UsageTable, BlockPla
 use Rattle.lfs_memory.specs.segments.Steps.{Puts}
 use Rattle.std.proofs.lemmas.List.{get_or-replicate, length-replicate, get_or_past}
 use Rattle.lfs_memory.specs.Present.{Looks}
-use Rattle.lfs_log.specs.Opening.{IsFault, IsTakenIn, loaded, numbers_in, HasNoDeadAge, IsUsageUpTo, SaysUsage}
+use Rattle.lfs_log.specs.declared.fault.MountFault.{MountFault}
+use Rattle.lfs_log.specs.Faults.{IsTableFault, LacksBlock, LacksTables}
+use Rattle.lfs_log.proofs.FaultCases.{fault_on}
+use Rattle.lfs_log.specs.Opening.{IsTakenIn, loaded, numbers_in, HasNoDeadAge, IsUsageUpTo, SaysUsage}
 
 -- what stands at an address are bytes
 pub block_bytes : (c : Content) → AllByRecursion IsSector c → (at : ℕ) → IsBytes (block c at)
@@ -175,20 +178,19 @@ module _ (c : Content) (k : CheckpointValue) (m : LogMap) (st : StandsAt c k m) 
   unfolding address
   usage_spelt bytes is are long = usage_block_some bytes (k.segments - 64 * j) are long (subst (IsUsageBlock (k.segments - 64 * j)) is (usage_block_of (view c k) st.stages.usages j))
 
-pub usage_fault : (d d' : DeviceState) (k : CheckpointValue) (j at : ℕ) → j < (k.segments + 63) / 64 → get_or k.usage j 0 ≡ at
-    → (d'.keeps_model → 2 ≤ at → at < 2 + 64 * k.segments → length (block d.content at) ≡ 512 → d.failures < d'.failures) → IsFault d d' k
-usage_fault d d' k j at low points cause m keeps st =
+pub usage_fault : (d d' : DeviceState) (k : CheckpointValue) (j at : ℕ) → j < (k.segments + 63) / 64 → get_or k.usage j 0 ≡ at → LacksBlock d d' k.segments at → LacksTables d d' k
+usage_fault d d' k j at low points lacks m keeps st =
     let range = usage_range d.content k m st j low in
-    cause keeps (subst (λ (a : ℕ). 2 ≤ a) points range.0) (subst (λ (a : ℕ). a < 2 + 64 * k.segments) points range.1)
+    lacks keeps (subst (λ (a : ℕ). 2 ≤ a) points range.0) (subst (λ (a : ℕ). a < 2 + 64 * k.segments) points range.1)
     (subst (λ (a : ℕ). length (block d.content a) ≡ 512) points (usage_long d.content k m st j low))
 
 pub usage_undecoded : (d d' : DeviceState) (k : CheckpointValue) (j at : ℕ) (bytes : List ℕ) → j < (k.segments + 63) / 64 → get_or k.usage j 0 ≡ at
-    → (d'.keeps_model → block d.content at ≡ bytes) → AllByRecursion IsSector d.content → length bytes ≡ 512 → (count : ℕ) → count ≡ k.segments - 64 * j → usage_in count bytes ≡ None → IsFault d d' k
+    → (d'.keeps_model → block d.content at ≡ bytes) → AllByRecursion IsSector d.content → length bytes ≡ 512 → (count : ℕ) → count ≡ k.segments - 64 * j → usage_in count bytes ≡ None → LacksTables d d' k
 usage_undecoded d d' k j at bytes low points there all long count is none m keeps st =
     let are = subst IsBytes (there keeps) (block_bytes d.content all at) in
     let some = usage_spelt d.content k m st j low bytes (ap (block d.content) points ∙ there keeps) are long in
     let nothing : usage_in (k.segments - 64 * j) bytes ≡ None = subst (λ (n : ℕ). usage_in n bytes ≡ None) is none in
-    absurd (cc)
+    cc
 
 -- ---- block after block
 all_alike : {X : Type 0} (n : ℕ) (x : X) (i : ℕ) → get_or (replicate n x) i x ≡ x
@@ -212,11 +214,11 @@ says_nothing c k t = record {
   stale = λ i lt off. absurd (omega (arith, lt));
 }
 
-pub fault_then : (a b c : DeviceState) (k : CheckpointValue) → Looks a b → IsFault b c k → IsFault a c k
-fault_then a b c k looks fault m keeps st =
-    let worse = fault m keeps (subst (λ (x : Content). StandsAt x k m) (sym looks.untouched.content) st) in
-    let before = looks.carries.failures in
-    omega (arith, worse, before)
+pub fault_then : (a b c : DeviceState) (k : CheckpointValue) → Looks a b → (f : MountFault) → IsTableFault b c k f → IsTableFault a c k f
+fault_then a b c k looks f =
+    fault_on (b.failures < c.failures) (LacksTables b c k) (a.failures < c.failures) (LacksTables a c k)
+    (λ rose. let before = looks.carries.failures in omega (arith, rose, before))
+    (λ lacks m keeps st. lacks m keeps (subst (λ (x : Content). StandsAt x k m) (sym looks.untouched.content) st)) f
 
 pub says_then : (a b : DeviceState) (k : CheckpointValue) (j l : ℕ) (t u : UsageTable) → Looks a b → SaysUsage a.content k j t → (SaysUsage b.content k j t → SaysUsage b.content k l u) → SaysUsage a.content k l u
 says_then a b k j l t u looks says more =

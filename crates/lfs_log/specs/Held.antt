@@ -103,12 +103,13 @@ held_code {D} device =
     (λ p. record { device = p.0; memory = p.1.0; number = p.1.1.0; halted = p.1.1.1 })
     (λ _. refl)
 
--- What a log keeps true over any device, until a commit failed.
+-- What a log keeps true over any device, until a commit failed. Its memory takes as many blocks as one commit may write.
 pub record IsRunning (d : DeviceState) (v : LogMemory) : Type 0 where
   pub memory : IsMemory v
   pub room : HasRoom d v
   pub closed : v.chunk.names ≡ []
   pub few : length v.dirty.blocks ≤ 456
+  pub wide : v.dirty.capacity ≡ 456
 
 abbrev pub IsHeld : DeviceState → LogMemory → Bool → Type 0
 IsHeld d v halted = halted ≡ false → IsRunning d v

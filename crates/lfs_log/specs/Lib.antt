@@ -1,6 +1,7 @@
 pub mod Settling
 pub mod Publishing
 pub mod Saving
+pub mod Faults
 pub mod Opening
 pub mod Held
 pub use Rattle.lfs_memory.specs as memory

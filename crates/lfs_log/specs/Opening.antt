@@ -5,20 +5,12 @@ use Rattle.lfs_model.specs.Content.{Content}
 use Rattle.lfs_model.specs.Device.{DeviceState}
 use Rattle.lfs_model.specs.Entry.{word}
 use Rattle.lfs_model.specs.Reach.{view, map_block}
-use Rattle.lfs_model.specs.Stands.{LogMap, StandsAt, StandsLog, used_in, live_in, age_in}
+use Rattle.lfs_model.specs.Stands.{LogMap, StandsLog, used_in, live_in, age_in}
 use Rattle.lfs_model.specs.Usage.{SegmentUse, no_use}
 use Rattle.lfs_memory.specs.segments.Table.{SegmentNumbers, UsageTable, no_segment, address_of, stale_of}
 use Rattle.lfs_memory.specs.inodes.MapValue.{MapValue, address_in, is_hidden_in, block_in}
 use Rattle.lfs_memory.specs.declared.memory.LogMemory.{LogMemory}
 use Rattle.lfs_memory.specs.Memory.{IsMemory, IsLog}
-
--- a call of the device failed, where the content stands for a log map
-abbrev pub IsFault : DeviceState → DeviceState → CheckpointValue → Type 0
-IsFault d d' k = (m : LogMap) → d'.keeps_model → StandsAt d.content k m → d.failures < d'.failures
-
--- the same before the checkpoint is known
-abbrev pub IsOpenFault : DeviceState → DeviceState → Type 0
-IsOpenFault d d' = (m : LogMap) → d'.keeps_model → StandsLog d.content m → d.failures < d'.failures
 
 -- what is known of a segment on the device
 abbrev pub loaded : SegmentUse → SegmentNumbers
@@ -68,6 +60,7 @@ pub record IsOpened (v : LogMemory) (size : ℕ) : Type 0 where
   pub room : 2 + 64 * length v.usage.segments ≤ size
   pub chunk : v.chunk.names ≡ []
   pub dirty : v.dirty.blocks ≡ []
+  pub wide : v.dirty.capacity ≡ 456
 
 -- The device holds the log map that it stands for, all of it durable.
 abbrev pub Opens : DeviceState → DeviceState → LogMemory → ℕ → Type 0

@@ -1,5 +1,6 @@
 //! Why a device isn't mounted.
 ghost use Rattle.std.specs.Prelude.{◌≡◌};
+ghost use Rattle.lfs_log.specs.Faults.{mount_fault_name};
 
 use std::alloc::AllocError;
 
@@ -20,7 +21,9 @@ pub enum MountFault {
 
 impl MountFault {
     /// Its name, without the stage of damage.
-    pub fn name(self) -> &'static str {
+    pub fn name(self) -> &'static str
+        ensures { result.now ≡ mount_fault_name self }
+    {
         match self {
             MountFault::NoMemory => "NoMemory",
             MountFault::Device => "Device",

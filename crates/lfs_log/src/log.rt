@@ -1,9 +1,9 @@
 //! The log of a volume, over its device.
-ghost use Rattle.std.specs.Prelude.{◌≡◌, ◌≢◌, ◌<◌, ◌≤◌, ◌+◌, ◌-◌, ◌*◌, ◌^◌, true, false, length, IfSome, IfNone, IfOk, IfErr, OnOk, OnErr, IsErrOf, MatchResult, IsTrue, IsFalse};
+ghost use Rattle.std.specs.Prelude.{[], ◌≡◌, ◌≢◌, ◌<◌, ◌≤◌, ◌+◌, ◌-◌, ◌*◌, ◌^◌, true, false, length, IfSome, IfNone, IfOk, IfErr, OnOk, OnErr, IsErrOf, MatchResult, IsTrue, IsFalse};
 ghost use Rattle.lfs_model.specs.Device.{Only, IsUntouched, Carries, LeavesOnly};
 ghost use Rattle.lfs_model.specs.Fields.{zeros};
 ghost use Rattle.lfs_memory.specs.segments.Table.{clean_in};
-ghost use Rattle.lfs_log.specs.Opening.{IsOpenFault};
+ghost use Rattle.lfs_log.specs.Faults.{IsOpenFault};
 ghost use Rattle.lfs_memory.specs.Preparing.{LacksRoom};
 ghost use Rattle.lfs_memory.specs.Batch.{room_for};
 
@@ -53,9 +53,10 @@ impl<D: SectorDevice> Log<D> {
     /// `NoMemory` where memory is refused, `Device` where a call of the device failed; else the device holds no log map.
     pub fn open(alloc: Global, device: D) -> Result<Log<D>, (MountFault, D)>
         ensures holds { IfOk result (λ l. Mounts D.SectorDevice.state device l) }
+        ensures empty { IfOk result (λ l. l.memory.dirty.blocks ≡ []) }
         ensures durable { IfOk result (λ l. (D.state l.device).keeps_model → Only (D.state device).content (D.state l.device)) }
-        ensures cause { IfErr result (λ e. (e.0 ≡ MountFault.NoMemory → ⊥) → IsOpenFault (D.state device) (D.state e.1)) }
-        ensures failed { IfErr result (λ e. e.0 ≡ MountFault.Device → (D.state device).failures < (D.state e.1).failures) }
+        ensures cause { IfErr result (λ e. (e.0 ≡ MountFault.NoMemory → ⊥)
+            → IsOpenFault (D.state device) (D.state e.1) e.0) }
         ensures untouched { MatchResult result (λ l. IsUntouched (D.state device) (D.state l.device)) (λ e. IsUntouched (D.state device) (D.state e.1)) }
         ensures carries { MatchResult result (λ l. Carries (D.state device) (D.state l.device)) (λ e. Carries (D.state device) (D.state e.1)) }
         ensures any_moment { MatchResult result (λ l. LeavesOnly (D.state device) (D.state l.device) (D.state device).may_leave) (λ e. LeavesOnly (D.state device) (D.state e.1) (D.state device).may_leave) }
@@ -138,10 +139,12 @@ impl<D: SectorDevice> Log<D> {
         self.memory.map.least_free()
     }
 
-    /// Whether memory has room for a batch of changes. After a commit it has for one of 139 blocks.
+    /// Whether memory has room for a batch of changes. After a commit it has for each that asks for 456 blocks at most.
     pub fn has_room(&self, changes: &Changes) -> bool
         ensures room { IsTrue result → length self.now.memory.dirty.blocks + room_for changes.now ≤ self.now.memory.dirty.capacity }
+        ensures fits { IsTrue result → length self.now.memory.dirty.blocks + room_for changes.now ≤ 456 }
         ensures lacks { IsFalse result → self.now.halted ≡ false → LacksRoom self.now.memory (room_for changes.now) }
+        ensures narrow { IsFalse result → self.now.halted ≡ false → 456 < length self.now.memory.dirty.blocks + room_for changes.now }
     {
         !self.halted && has_room(&self.memory, changes)
     }
@@ -246,6 +249,7 @@ impl<D: SectorDevice> Log<D> {
         ensures done { OnOk result (IsStaged D.SectorDevice.state self.old self.new changes.now) }
         ensures refused { OnErr result (IsRefused D.SectorDevice.state self.old self.new changes.now) }
         ensures full { IsErrOf result LogFault.Full → LacksRoom self.old.memory (room_for changes.now) }
+        ensures narrow { IsErrOf result LogFault.Full → 456 < length self.old.memory.dirty.blocks + room_for changes.now }
         ensures failed { IsErrOf result LogFault.Device → IsStageFault D.SectorDevice.state self.old self.new changes.now }
         ensures halted { IsErrOf result LogFault.Halted → (self.new ≡ self.old) × (self.old.halted ≡ true) }
     {

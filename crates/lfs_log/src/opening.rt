@@ -1,5 +1,5 @@
 //! What a mount reads: the newest checkpoint, and the tables that it leads to.
-ghost use Rattle.std.specs.Prelude.{[], ◌≡◌, ◌<◌, ◌≤◌, ◌+◌, ◌*◌, ◌/◌, ℕ, List, length, get_or, replicate, slice_set, Some, OnOk, OnErr, IfOk, IfErr, IsErrOf, IsFalse};
+ghost use Rattle.std.specs.Prelude.{[], ◌≡◌, ◌<◌, ◌≤◌, ◌+◌, ◌*◌, ◌/◌, ℕ, List, length, get_or, replicate, slice_set, Some, OnOk, IfOk, IfErr, IsFalse};
 ghost use Rattle.lfs_model.specs.Checkpoint.{FitsCheckpoint};
 ghost use Rattle.lfs_model.specs.Content.{block, newest};
 ghost use Rattle.lfs_model.specs.Device.{Only, LeavesOnly, IsUntouched, Carries};
@@ -8,7 +8,8 @@ ghost use Rattle.lfs_model.specs.Usage.{SegmentUse, FitsUsage, IsUse, no_use};
 ghost use Rattle.lfs_memory.specs.inodes.MapValue.{IsEmptyMap};
 ghost use Rattle.lfs_memory.specs.segments.Table.{no_segment, no_place};
 ghost use Rattle.lfs_memory.specs.Present.{Looks};
-ghost use Rattle.lfs_log.specs.Opening.{IsFault, IsOpenFault, IsTakenIn, loaded, IsUsageUpTo, SaysUsage, IsMapUpTo, SaysMap, IsOpened, Opens};
+ghost use Rattle.lfs_log.specs.Faults.{IsBlockFault, IsOpenFault, IsTableFault};
+ghost use Rattle.lfs_log.specs.Opening.{IsTakenIn, loaded, IsUsageUpTo, SaysUsage, IsMapUpTo, SaysMap, IsOpened, Opens};
 
 use crate::fault::MountFault;
 use lfs_device::{ReadFault, SectorDevice};
@@ -33,10 +34,8 @@ fn read_table<D: SectorDevice>(
     requires size { 2 + 64 * segments ≤ (D.state device.old).size }
     ensures block { OnOk result ((D.state device.new).keeps_model → block (D.state device.old).content address ≡ out.new) }
     ensures above { OnOk result (2 ≤ address) }
-    ensures cause { OnErr result ((D.state device.new).keeps_model → 2 ≤ address → address < 2 + 64 * segments
-        → length (block (D.state device.old).content address) ≡ 512 → (D.state device.old).failures < (D.state device.new).failures) }
-    ensures failed { IsErrOf result MountFault.Device → (D.state device.old).failures < (D.state device.new).failures }
-    ensures memory { IsErrOf result MountFault.NoMemory → ⊥ }
+    ensures cause { IfErr result (IsBlockFault (D.state device.old) (D.state device.new)
+        segments address) }
     ensures no_failure { OnOk result ((D.state device.new).failures ≡ (D.state device.old).failures) }
     ensures looks { Looks (D.state device.old) (D.state device.new) }
 {
@@ -121,9 +120,8 @@ fn load_usage_block<D: SectorDevice>(
     requires before { IsUsageUpTo index checkpoint.now.segments usage.old }
     ensures after { OnOk result (IsUsageUpTo (index + 1) checkpoint.now.segments usage.new) }
     ensures says { OnOk result ((D.state device.new).keeps_model → SaysUsage (D.state device.old).content checkpoint.now index usage.old → SaysUsage (D.state device.old).content checkpoint.now (index + 1) usage.new) }
-    ensures cause { OnErr result (IsFault (D.state device.old) (D.state device.new) checkpoint.now) }
-    ensures failed { IsErrOf result MountFault.Device → (D.state device.old).failures < (D.state device.new).failures }
-    ensures memory { IsErrOf result MountFault.NoMemory → ⊥ }
+    ensures cause { IfErr result (IsTableFault (D.state device.old) (D.state device.new)
+        checkpoint.now) }
     ensures no_failure { OnOk result ((D.state device.new).failures ≡ (D.state device.old).failures) }
     ensures looks { Looks (D.state device.old) (D.state device.new) }
 {
@@ -151,9 +149,8 @@ fn load_usage<D: SectorDevice>(
     requires before { IsUsageUpTo 0 checkpoint.now.segments usage.old }
     ensures after { OnOk result (IsUsageUpTo ((checkpoint.now.segments + 63) / 64) checkpoint.now.segments usage.new) }
     ensures says { OnOk result ((D.state device.new).keeps_model → SaysUsage (D.state device.old).content checkpoint.now ((checkpoint.now.segments + 63) / 64) usage.new) }
-    ensures cause { OnErr result (IsFault (D.state device.old) (D.state device.new) checkpoint.now) }
-    ensures failed { IsErrOf result MountFault.Device → (D.state device.old).failures < (D.state device.new).failures }
-    ensures memory { IsErrOf result MountFault.NoMemory → ⊥ }
+    ensures cause { IfErr result (IsTableFault (D.state device.old) (D.state device.new)
+        checkpoint.now) }
     ensures no_failure { OnOk result ((D.state device.new).failures ≡ (D.state device.old).failures) }
     ensures looks { Looks (D.state device.old) (D.state device.new) }
 {
@@ -182,9 +179,8 @@ fn load_map_block<D: SectorDevice>(
     requires before { IsMapUpTo index map.old }
     ensures after { OnOk result (IsMapUpTo (index + 1) map.new) }
     ensures says { OnOk result ((D.state device.new).keeps_model → SaysMap (D.state device.old).content checkpoint.now index map.old → SaysMap (D.state device.old).content checkpoint.now (index + 1) map.new) }
-    ensures cause { OnErr result (IsFault (D.state device.old) (D.state device.new) checkpoint.now) }
-    ensures failed { IsErrOf result MountFault.Device → (D.state device.old).failures < (D.state device.new).failures }
-    ensures memory { IsErrOf result MountFault.NoMemory → ⊥ }
+    ensures cause { IfErr result (IsTableFault (D.state device.old) (D.state device.new)
+        checkpoint.now) }
     ensures no_failure { OnOk result ((D.state device.new).failures ≡ (D.state device.old).failures) }
     ensures looks { Looks (D.state device.old) (D.state device.new) }
 {
@@ -210,9 +206,8 @@ fn load_map<D: SectorDevice>(
     requires before { IsMapUpTo 0 map.old }
     ensures after { OnOk result (IsMapUpTo 32 map.new) }
     ensures says { OnOk result ((D.state device.new).keeps_model → SaysMap (D.state device.old).content checkpoint.now 32 map.new) }
-    ensures cause { OnErr result (IsFault (D.state device.old) (D.state device.new) checkpoint.now) }
-    ensures failed { IsErrOf result MountFault.Device → (D.state device.old).failures < (D.state device.new).failures }
-    ensures memory { IsErrOf result MountFault.NoMemory → ⊥ }
+    ensures cause { IfErr result (IsTableFault (D.state device.old) (D.state device.new)
+        checkpoint.now) }
     ensures no_failure { OnOk result ((D.state device.new).failures ≡ (D.state device.old).failures) }
     ensures looks { Looks (D.state device.old) (D.state device.new) }
 {
@@ -228,9 +223,7 @@ fn find_checkpoint<D: SectorDevice>(device: &mut D) -> Result<Checkpoint, MountF
     ensures size { IfOk result (λ k. 2 + 64 * k.segments ≤ (D.state device.new).size) }
     ensures found { IfOk result (λ k. (D.state device.new).keeps_model → newest (D.state device.old).content ≡ Some k) }
     ensures durable { OnOk result ((D.state device.new).keeps_model → Only (D.state device.old).content (D.state device.new)) }
-    ensures cause { OnErr result (IsOpenFault (D.state device.old) (D.state device.new)) }
-    ensures failed { IsErrOf result MountFault.Device → (D.state device.old).failures < (D.state device.new).failures }
-    ensures memory { IsErrOf result MountFault.NoMemory → ⊥ }
+    ensures cause { IfErr result (IsOpenFault (D.state device.old) (D.state device.new)) }
     ensures no_failure { OnOk result ((D.state device.new).failures ≡ (D.state device.old).failures) }
     ensures untouched { IsUntouched (D.state device.old) (D.state device.new) }
     ensures carries { Carries (D.state device.old) (D.state device.new) }
@@ -286,9 +279,8 @@ fn load_tables<D: SectorDevice>(
     ensures tells { OnOk result ((D.state device.new).keeps_model → SaysMap (D.state device.old).content checkpoint.now 32 memory.new.map) }
     ensures dirty { memory.new.dirty ≡ memory.old.dirty }
     ensures chunk { memory.new.chunk ≡ memory.old.chunk }
-    ensures cause { OnErr result (IsFault (D.state device.old) (D.state device.new) checkpoint.now) }
-    ensures failed { IsErrOf result MountFault.Device → (D.state device.old).failures < (D.state device.new).failures }
-    ensures memory { IsErrOf result MountFault.NoMemory → ⊥ }
+    ensures cause { IfErr result (IsTableFault (D.state device.old) (D.state device.new)
+        checkpoint.now) }
     ensures no_failure { OnOk result ((D.state device.new).failures ≡ (D.state device.old).failures) }
     ensures looks { Looks (D.state device.old) (D.state device.new) }
 {
@@ -310,8 +302,8 @@ pub fn open_memory<D: SectorDevice>(
     ensures opened { IfOk result (λ r. IsOpened r.0 (D.state device.new).size) }
     ensures log { IfOk result (λ r. Opens (D.state device.old) (D.state device.new) r.0 r.1) }
     ensures durable { OnOk result ((D.state device.new).keeps_model → Only (D.state device.old).content (D.state device.new)) }
-    ensures cause { IfErr result (λ fault. (fault ≡ MountFault.NoMemory → ⊥) → IsOpenFault (D.state device.old) (D.state device.new)) }
-    ensures failed { IsErrOf result MountFault.Device → (D.state device.old).failures < (D.state device.new).failures }
+    ensures cause { IfErr result (λ fault. (fault ≡ MountFault.NoMemory → ⊥)
+        → IsOpenFault (D.state device.old) (D.state device.new) fault) }
     ensures no_failure { OnOk result ((D.state device.new).failures ≡ (D.state device.old).failures) }
     ensures untouched { IsUntouched (D.state device.old) (D.state device.new) }
     ensures carries { Carries (D.state device.old) (D.state device.new) }

@@ -9,6 +9,7 @@ use crate::store_steps::check;
 use crate::volume::Wrong;
 use lfs_device::{DeviceCall, Left};
 use lfs_log::LogFault;
+use lfs_store::StoreFault;
 
 #[test]
 fn an_accepted_draft_stays(rt: HostRuntime) -> Result<(), Wrong> {
@@ -66,7 +67,7 @@ fn too_few_clean_segments_leave_all(rt: HostRuntime) -> Result<(), Wrong> {
     let steps = [
         Calls(FilesTo(50)),
         Drafts(File(50, 1)),
-        Accepts(Err(LogFault::Full)),
+        Accepts(Err(StoreFault::Log(LogFault::Full))),
         Counts(Clean(15)),
         Counts(Saved(true)),
         Counts(Drafted(0)),
@@ -115,7 +116,7 @@ fn a_failed_commit_halts_the_store(rt: HostRuntime) -> Result<(), Wrong> {
         Accepts(Ok(())),
         Commits(Err(LogFault::Halted)),
         Drafts(File(3, 1)),
-        Accepts(Err(LogFault::Halted)),
+        Accepts(Err(StoreFault::Log(LogFault::Halted))),
         Counts(Drafted(0)),
         Commits(Err(LogFault::Halted)),
         On(Stop(Left::New)),

@@ -6,7 +6,7 @@ use crate::volume::{Wrong, new_volume};
 use lfs_device::MemDevice;
 use lfs_log::{Cut, Header, LastLink, LogFault, Loss, Removal};
 use lfs_model::Kind;
-use lfs_store::{Draft, Measure, Store, Totals};
+use lfs_store::{Draft, Measure, Store, StoreFault, Totals};
 use std::alloc::Global;
 
 /// A change of the draft.
@@ -96,7 +96,7 @@ pub enum Count {
 pub enum Step {
     Drafts(Edit),
     Calls(Call),
-    Accepts(Result<(), LogFault>),
+    Accepts(Result<(), StoreFault>),
     Commits(Result<(), LogFault>),
     Sees(Look),
     Counts(Count),

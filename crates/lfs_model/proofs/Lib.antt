@@ -107,3 +107,5 @@ pub mod ObjectTrees
 pub mod ObjectNeeds
 pub mod ObjectMaps
 pub mod ObjectPointers
+pub mod OwnAnswers
+pub mod Uses

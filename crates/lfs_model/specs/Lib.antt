@@ -29,6 +29,8 @@ pub mod Step
 pub mod Plain
 pub mod Script
 pub mod Run
+pub mod Use
+pub mod UseLaws
 pub mod Laws
 pub mod TreeOf
 pub mod Volume

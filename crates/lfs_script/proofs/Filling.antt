@@ -11,7 +11,8 @@ use Rattle.lfs_model.specs.Refusal.{Refusal, NoEntry, NotDir, IsDir, Exist, NotE
 use Rattle.lfs_model.specs.Run.{IsExcused, IsPastLast, Point, StepsOr}
 use Rattle.lfs_model.specs.Step.{Step, bad_handle, checked, file_at, file_bytes, no_space, the_node, when, with_tree, writes}
 use Rattle.lfs_model.specs.Tree.{File, State, Tree, with_node}
-use Rattle.lfs_fs.specs.Volume.{Mounted, Serves}
+use Rattle.lfs_fs.specs.log.Held.{IsFull}
+use Rattle.lfs_fs.specs.Volume.{Behaves, Mounted, Serves}
 
 -- ---- more bytes than a write takes
 
@@ -128,12 +129,35 @@ no_halt e = cc
 -- ---- the calls
 
 module _ {D : Type 0} (state : D → DeviceState) (old new : Mounted D) (h off : ℕ) where
+  -- what holds over any device of a write of other bytes
+  filled_behaves : (w v : List ℕ) (a : Answer) → Behaves state old new (Pwrite h off w) a → Behaves state old new (Pwrite h off v) a
+  filled_behaves w v a behaves = record {
+    refused = behaves.refused;
+    handles = behaves.handles;
+    first_halted = behaves.first_halted;
+    quiet = behaves.quiet;
+    number = behaves.number;
+    stuck = behaves.stuck;
+  }
+
+  -- and of a write that is refused where room was asked for
+  told_behaves : (w : List ℕ) (r : Refusal) (a : Answer) → (Refuse r ≡ Refuse Stuck → IsFull new.log) → Behaves state old new Space a → Behaves state old new (Pwrite h off w) (Refuse r)
+  told_behaves w r a full behaves = record {
+    refused = λ x e. behaves.handles refl;
+    handles = behaves.handles;
+    first_halted = λ e. inr refl;
+    quiet = λ e. absurd (cc);
+    number = λ e. absurd (cc);
+    stuck = full;
+  }
+
   long_serves : (w v : List ℕ) → 65536 < length w → 65536 < length v → (a : Answer) → Serves state old new (Pwrite h off w) a → Serves state old new (Pwrite h off v) a
   long_serves w v long_w long_v a serves = record {
     carries = serves.carries;
     segments = serves.segments;
     orderly = serves.orderly;
     halts = serves.halts;
+    behaves = filled_behaves w v a serves.behaves;
     model = λ p keeps at. (
         let does = serves.model p keeps at in
         let answers = does.answers in record {
@@ -169,6 +193,7 @@ module _ {D : Type 0} (state : D → DeviceState) (old new : Mounted D) (h off :
     segments = serves.segments;
     orderly = λ e. (let e = (serves.orderly e).0 in absurd (cc));
     halts = λ e. absurd (no_halt e);
+    behaves = told_behaves w NoMemory (Room blocks others need limit) (λ e. absurd (cc)) serves.behaves;
     model = λ p keeps at. (
         let does = serves.model p keeps at in
         let answers = does.answers in record {
@@ -194,6 +219,7 @@ module _ {D : Type 0} (state : D → DeviceState) (old new : Mounted D) (h off :
     segments = serves.segments;
     orderly = serves.orderly;
     halts = serves.halts;
+    behaves = told_behaves w r (Refuse r) serves.behaves.stuck serves.behaves;
     model = λ p keeps at. (
         let does = serves.model p keeps at in
         let answers = does.answers in record {

@@ -7,8 +7,12 @@ use Rattle.lfs_model.specs.Device.{AllLeft, DeviceState, LeavesOnly, Only}
 use Rattle.lfs_model.specs.Run.{Point}
 use Rattle.lfs_model.specs.Script.{call_of}
 use Rattle.lfs_model.specs.Volume.{LeavesPrefix}
-use Rattle.lfs_fs.specs.Mounting.{IsMountFault}
-use Rattle.lfs_script.specs.Session.{Between, Session, StopsAtMount, UsesEach, UsesInTurn, UsesOne, texts_of}
+use Rattle.lfs_model.specs.Use.{UsesVolume}
+use Rattle.lfs_fs.specs.Mounting.{IsMountFault, IsRefused}
+use Rattle.lfs_fs.specs.log.declared.fault.MountFault.{MountFault}
+use Rattle.lfs_fs.specs.log.declared.fault.MountFault.TheVariants.{NoMemory}
+use Rattle.lfs_script.specs.Series.{Between, StopsAtMount, UsesEach, UsesInTurn, UsesOne, texts_of}
+use Rattle.lfs_script.specs.Session.{Session}
 use Rattle.lfs_script.specs.declared.script.ScriptEnd.{ScriptEnd}
 use Rattle.lfs_script.specs.declared.session.StoppedScript.{StoppedScript}
 
@@ -17,23 +21,31 @@ module _ {D : Type 0} (state : D → DeviceState) where
   each_more [] text old mid new same one = (new, subst (λ (b : Between D). UsesOne state text b new) same one, refl)
   each_more (t ∷ texts) text old mid new uses one = (uses.0, uses.1, each_more texts text uses.0 mid new uses.2 one)
 
+  -- one use by a script of this text
   abbrev pub GoesOn : List ℕ → Option (List ℕ) → Option (List ℕ) → D → D → Type 0
-  GoesOn text w w' d d' = (before : List Point) (calls : List model.Call) (given : List Answer) → LeavesPrefix (state d) before calls given
-      → (end : ScriptEnd) × (rest : Option (List ℕ)) × Session end (Some text) rest w w' (state d) (state d') before calls given
+  GoesOn text w w' d d' = (end : ScriptEnd) × (rest : Option (List ℕ)) × (session : Session end (Some text) rest w w' (state d) (state d')) × UsesVolume (state d) (state d') session.script session.answers
 
-  -- a use that begins where the last ended
+  -- it begins where the last ended
   then_last : (texts : List (List ℕ)) (text : List ℕ) (old last : Between D) (w' : Option (List ℕ)) (d' : D) → UsesEach state texts old last → LeavesPrefix (state last.device) last.points last.calls last.given
       → GoesOn text last.written w' last.device d' → Only (state d').content (state d') → UsesInTurn state (texts ++ text ∷ []) old w' d'
-  then_last texts text old last w' d' uses pending goes alone =
-      let more = goes last.points last.calls last.given pending in
-      let session : Session more.0 (Some text) more.1 last.written w' (state last.device) (state d') last.points last.calls last.given = more.2 in
-      let next : Between D = record { written = w'; device = d'; points = session.uses.first ∷ session.uses.points; calls = map call_of session.script; given = session.answers } in
+  then_last texts text old last w' d' uses pending (end, rest, session, one) alone =
+      let next : Between D = record { written = w'; device = d'; points = one.first ∷ one.points; calls = map call_of session.script; given = session.answers } in
       record {
         last = next;
-        uses = each_more texts text old last next uses (record { end = more.0; rest = more.1; session = session; alone = alone; points = refl; calls = refl; given = refl });
+        uses = each_more texts text old last next uses (record {
+          end = end;
+          rest = rest;
+          session = session;
+          uses = one;
+          continues = one.continues last.points last.calls last.given pending;
+          alone = alone;
+          points = refl;
+          calls = refl;
+          given = refl;
+        });
         written = refl;
         device = refl;
-        pending = session.uses.pending;
+        pending = one.pending;
       }
 
   pub uses_more : (texts : List (List ℕ)) (text : List ℕ) (old : Between D) (w w' : Option (List ℕ)) (d d' : D) → UsesInTurn state texts old w d → GoesOn text w w' d d'
@@ -64,10 +76,10 @@ module _ {D : Type 0} (state : D → DeviceState) where
     all_used old w d past was = subst (λ (ss : List StoppedScript). UsesInTurn state (texts_of ss) old w d) (take_all i scripts past) was
 
     -- a mount failed
-    pub stops : (LacksMemory : Type 0) (old : Between D) (w w' : Option (List ℕ)) (d d' : D) → i < length scripts → w' ≡ w → UsesInTurn state (texts_of (take i scripts)) old w d
-        → ((LacksMemory → ⊥) → IsMountFault state d d') → LeavesOnly (state d) (state d') (state d).may_leave → AllLeft (state d') (state d).may_leave
-        → StopsAtMount state (texts_of scripts) LacksMemory old w' d'
-    stops LacksMemory old w w' d d' within same was cause moments left = record {
+    pub stops : (fault : MountFault) (old : Between D) (w w' : Option (List ℕ)) (d d' : D) → i < length scripts → w' ≡ w → UsesInTurn state (texts_of (take i scripts)) old w d
+        → ((fault ≡ NoMemory → ⊥) → IsMountFault state d d') → IsRefused (state d) (state d') fault → LeavesOnly (state d) (state d') (state d).may_leave → AllLeft (state d') (state d).may_leave
+        → StopsAtMount state (texts_of scripts) fault old w' d'
+    stops fault old w w' d d' within same was cause reason moments left = record {
       done = texts_of (take i scripts);
       others = texts_of (drop i scripts);
       all = sym (map-append (λ (x : StoppedScript). x.script.items) (take i scripts) (drop i scripts)) ∙ ap texts_of (take-append-drop i scripts);
@@ -76,6 +88,7 @@ module _ {D : Type 0} (state : D → DeviceState) where
       uses = was.uses;
       written = was.written ∙ sym same;
       cause = λ other. subst (λ (x : D). IsMountFault state x d') (sym was.device) (cause other);
+      reason = subst (λ (x : D). IsRefused (state x) (state d') fault) (sym was.device) reason;
       moments = subst (λ (x : D). LeavesOnly (state x) (state d') (state x).may_leave) (sym was.device) moments;
       pending = λ c is. was.pending c (left c is);
     }

@@ -18,7 +18,8 @@ use Rattle.lfs_script.specs.declared.line.LineEnd.{LineEnd}
 use Rattle.lfs_script.specs.declared.line.LineEnd.TheVariants.{TooLong}
 use Rattle.lfs_script.specs.declared.source.ReadError.{ReadError}
 use Rattle.lfs_script.specs.Lines.{IsBuilt, IsUnknown}
-use Rattle.lfs_script.specs.Running.{AnswersText, Called, Ends, EndOf, Finishes, IsBadLine, IsBadText, IsText, Refuses, SoFar, Turns, ended_texts, replies}
+use Rattle.lfs_script.specs.Ending.{EndOf, IsBadLine, IsBadText, IsText, IsWhole, ended_texts, replies}
+use Rattle.lfs_script.specs.Running.{AnswersText, Called, Ends, Finishes, Refuses, SoFar, Turns}
 use Rattle.lfs_script.specs.declared.script.ScriptEnd.{ScriptEnd}
 use Rattle.lfs_script.specs.declared.script.ScriptEnd.TheVariants.{Done, BadLine, Read, Write, Memory}
 use Rattle.lfs_script.proofs.ScriptBytes.{all_more, last_read, line_read, lines_last, lines_whole, none_read, plain_more, replies_more, some_after, spelled_more, texts_more, with_left}
@@ -119,8 +120,8 @@ module _ {D : Type 0} (state : D → DeviceState) (none : (old : Mounted D) → 
 
   -- a reply that went out in part
   reply_stops : (n : ℕ) (r mid now w w1 w2 : Option (List ℕ)) (old at new : Mounted D) (text input rest : List ℕ) (so : SoFar state n r mid w w1 old at) → Called state (AppendsSome w1 w2) at new text
-      → lines input ≡ so.texts ++ text ∷ [] → Consumes r now (input ++ rest) → Ends state Write r now w w2 old new
-  reply_stops n r mid now w w1 w2 old at new text input rest so call cut consumes = record {
+      → lines input ≡ so.texts ++ text ∷ [] → IsWhole input rest now → Consumes r now (input ++ rest) → Ends state Write r now w w2 old new
+  reply_stops n r mid now w w1 w2 old at new text input rest so call cut whole consumes = record {
     texts = so.texts ++ text ∷ [];
     script = so.script ++ call.line ∷ [];
     answers = so.answers ++ call.answer ∷ [];
@@ -132,6 +133,7 @@ module _ {D : Type 0} (state : D → DeviceState) (none : (old : Mounted D) → 
       before = so.answers;
       last = call.answer;
       cut = cut;
+      whole = whole;
       read = consumes;
       all = refl;
       written = some_after w w1 w2 (replies so.answers) (reply call.answer) so.appended call.replied;
@@ -175,6 +177,7 @@ module _ {D : Type 0} (state : D → DeviceState) (none : (old : Mounted D) → 
       let whole = subst (Consumes r (prepend_known left now)) (sym (texts_more so.texts text)) (Consumes-trans r mid (prepend_known left now) (ended_texts so.texts) (text ++ 10 ∷ []) so.consumed consumes) in
       subst (λ (e : ScriptEnd). Ends state e r now w w2 old new) (sym is)
       (reply_stops n r mid now w w1 w2 old at new text (ended_texts (so.texts ++ text ∷ [])) left so call (lines_whole (so.texts ++ text ∷ []) (all_more so.texts text so.plain plain))
+      (inl (ended_texts so.texts ++ text, texts_more so.texts text ∙ sym (append_assoc (ended_texts so.texts) text (10 ∷ []))))
       (with_left r now left (ended_texts (so.texts ++ text ∷ [])) whole))
   turned_end end n r mid now w w1 w2 old at new text left so plain consumes (inr (unspelled, refuses, same)) =
       bad_ends end n r mid now w w1 w2 old at new text (10 ∷ left) so same (record { plain = plain; is_bad = inr (unspelled, inl (left, refl)) })
@@ -236,7 +239,7 @@ module _ {D : Type 0} (state : D → DeviceState) (none : (old : Mounted D) → 
   finished end n r mid now w w1 w2 old at new text left so plain consumes ended (inr (some, inr (inl (is, call)))) =
       let read = last_read r mid now (ended_texts so.texts) text left so.consumed consumes ended in
       subst (λ (e : ScriptEnd). Ends state e r now w w2 old new) (sym is)
-      (reply_stops n r mid now w w1 w2 old at new text (ended_texts so.texts ++ text) [] so call (lines_last so.texts text so.plain plain some)
+      (reply_stops n r mid now w w1 w2 old at new text (ended_texts so.texts ++ text) [] so call (lines_last so.texts text so.plain plain some) (inr (refl, read.1))
       (subst (Consumes r now) (sym (append-nil (ended_texts so.texts ++ text))) read.0))
   finished end n r mid now w w1 w2 old at new text left so plain consumes ended (inr (some, inr (inr (unspelled, refuses, same)))) =
       let read = last_read r mid now (ended_texts so.texts) text left so.consumed consumes ended in

@@ -6,5 +6,8 @@ pub mod Calls
 pub mod Command
 pub mod Pieces
 pub mod Answers
+pub mod Ending
 pub mod Running
 pub mod Session
+pub mod Series
+pub use Rattle.lfs_fs.specs as fs

@@ -6,6 +6,7 @@ mod call;
 mod command;
 mod escape;
 mod hexadecimal;
+pub mod laws;
 mod line;
 mod number;
 mod piece;

@@ -5,8 +5,9 @@ ghost use Rattle.lfs_model.specs.Device.{AllLeft, Carries, IsUntouched, LeavesOn
 ghost use Rattle.lfs_model.specs.Run.{Point};
 ghost use Rattle.lfs_model.specs.Volume.{LeavesPrefix};
 ghost use Rattle.lfs_device.specs.MemoryDevice.{device_state};
-ghost use Rattle.lfs_fs.specs.Mounting.{IsMountFault};
-ghost use Rattle.lfs_script.specs.Session.{Session, StopsAtMount, UsesInTurn, texts_of};
+ghost use Rattle.lfs_fs.specs.Mounting.{IsMountFault, IsRefused};
+ghost use Rattle.lfs_script.specs.Series.{StopsAtMount, UsesInTurn, texts_of};
+ghost use Rattle.lfs_script.specs.Session.{Session};
 
 use crate::script::{ScriptEnd, run};
 use lfs_device::{Left, MemDevice, SectorDevice};
@@ -21,9 +22,10 @@ pub fn use_volume<R: Read, W: Write, D: SectorDevice>(
     writer: &mut W,
     device: D,
 ) -> (Result<ScriptEnd, MountFault>, D)
-    ensures ran { IfOk result.0 (λ end. (before : List Point) (calls : List Call) (given : List Answer) → (D.state result.1).keeps_model → LeavesPrefix (D.state device) before calls given
-        → Session end (R.remaining reader.old) (R.remaining reader.new) (W.contents writer.old) (W.contents writer.new) (D.state device) (D.state result.1) before calls given) }
+    ensures ran { IfOk result.0 (λ end. Session end (R.remaining reader.old) (R.remaining reader.new)
+        (W.contents writer.old) (W.contents writer.new) (D.state device) (D.state result.1)) }
     ensures refused { IfErr result.0 (λ fault. (fault ≡ MountFault.NoMemory → ⊥) → IsMountFault D.SectorDevice.state device result.1) }
+    ensures reason { IfErr result.0 (IsRefused (D.state device) (D.state result.1)) }
     ensures untouched { OnErr result.0 (IsUntouched (D.state device) (D.state result.1)) }
     ensures any_moment { OnErr result.0 (LeavesOnly (D.state device) (D.state result.1) (D.state device).may_leave) }
     ensures unread { OnErr result.0 (reader.new ≡ reader.old) }
@@ -48,9 +50,10 @@ pub fn use_and_stop<R: Read, W: Write>(
     device: MemDevice,
     left: Left,
 ) -> (Result<ScriptEnd, MountFault>, MemDevice)
-    ensures ran { IfOk result.0 (λ end. (before : List Point) (calls : List Call) (given : List Answer) → LeavesPrefix (device_state device) before calls given
-        → Session end (R.remaining reader.old) (R.remaining reader.new) (W.contents writer.old) (W.contents writer.new) (device_state device) (device_state result.1) before calls given) }
+    ensures ran { IfOk result.0 (λ end. Session end (R.remaining reader.old) (R.remaining reader.new)
+        (W.contents writer.old) (W.contents writer.new) (device_state device) (device_state result.1)) }
     ensures refused { IfErr result.0 (λ fault. (fault ≡ MountFault.NoMemory → ⊥) → IsMountFault device_state device result.1) }
+    ensures reason { IfErr result.0 (IsRefused (device_state device) (device_state result.1)) }
     ensures left_before { OnErr result.0 (AllLeft (device_state result.1) (device_state device).may_leave) }
     ensures any_moment { OnErr result.0 (LeavesOnly (device_state device) (device_state result.1) (device_state device).may_leave) }
     ensures unread { OnErr result.0 (reader.new ≡ reader.old) }
@@ -89,7 +92,7 @@ pub fn use_each<W: Write>(
     ensures ran { OnOk result.0 ((before : List Point) (calls : List Call) (given : List Answer) → LeavesPrefix (device_state device) before calls given
         → UsesInTurn device_state (texts_of scripts.now) (record { written = W.contents writer.old; device = device; points = before; calls = calls; given = given }) (W.contents writer.new) result.1) }
     ensures stopped { IfErr result.0 (λ fault. (before : List Point) (calls : List Call) (given : List Answer) → LeavesPrefix (device_state device) before calls given
-        → StopsAtMount device_state (texts_of scripts.now) (fault ≡ MountFault.NoMemory) (record { written = W.contents writer.old; device = device; points = before; calls = calls; given = given }) (W.contents writer.new) result.1) }
+        → StopsAtMount device_state (texts_of scripts.now) fault (record { written = W.contents writer.old; device = device; points = before; calls = calls; given = given }) (W.contents writer.new) result.1) }
 {
     let mut current = device;
     for script in scripts {

@@ -10,16 +10,18 @@ use Rattle.lfs_model.specs.Encodes.{IsLogMap}
 use Rattle.lfs_model.specs.Entry.{Header, Inode, IsInode, header}
 use Rattle.lfs_model.specs.Inode.{inode_in, inode_of, inode_sector, may_be_inode}
 use Rattle.lfs_model.specs.Reach.{address}
-use Rattle.lfs_model.specs.Stands.{LogMap, StandsAt}
+use Rattle.lfs_model.specs.Stands.{LogMap, StandsAt, StandsLog}
 use Rattle.lfs_model.specs.TreeOf.{dropped, kept}
 use Rattle.lfs_model.proofs.Decodes.{are_sized, decoding}
 use Rattle.lfs_model.proofs.Decoding.{value_found}
 use Rattle.lfs_log.specs.memory.declared.changes.Changes.{Changes}
 use Rattle.lfs_log.specs.memory.Batch.{IsNoChange}
 use Rattle.lfs_log.specs.Held.{Held, Mounts, Reads, IsReadFault}
-use Rattle.lfs_log.specs.Opening.{IsOpenFault}
+use Rattle.lfs_log.specs.declared.fault.MountFault.{MountFault}
+use Rattle.lfs_log.specs.Faults.{IsOpenFault, LacksLog}
+use Rattle.lfs_log.proofs.FaultCases.{fault_on}
 use Rattle.lfs_store.specs.declared.totals.Totals.{Totals}
-use Rattle.lfs_store.specs.Accepting.{MountsStore}
+use Rattle.lfs_store.specs.Accepting.{IsMountRefusal, MountsStore}
 use Rattle.lfs_store.specs.Measuring.{CountsFiles}
 use Rattle.lfs_store.specs.Recounting.{AreTotals, MountsTotals}
 use Rattle.lfs_store.proofs.Apart.{no_change}
@@ -95,8 +97,16 @@ module _ {D : Type 0} (state : D → DeviceState) (d : D) (h h' : Held D) (lawfu
       let map = formed (state d).content is.checkpoint m (are_sized (state d).content lawful.now) is.stands in
       subst (λ (x : LogMap). AreTotals x t) same (counts is.checkpoint m m keeps (mounts m (reads.looks.carries.kept_before keeps) is) (subst IsLogMap (sym same) map))
 
-pub mount_fault : {D : Type 0} (state : D → DeviceState) (d : D) (h h' : Held D) → Mounts state d h → Carries (state d) (state h.device) → Reads state h h' → IsReadFault state h h' → IsOpenFault (state d) (state h'.device)
-mount_fault state d h h' mounts carries reads failed m keeps is =
+-- a call failed where the log was read
+pub read_fault : {D : Type 0} (state : D → DeviceState) (d : D) (h h' : Held D) → Mounts state d h → Carries (state d) (state h.device) → Reads state h h' → IsReadFault state h h'
+    → (m : LogMap) → (state h'.device).keeps_model → StandsLog (state d).content m → (state d).failures < (state h'.device).failures
+read_fault state d h h' mounts carries reads failed m keeps is =
     let rose = failed is.checkpoint m m keeps (mounts m (reads.looks.carries.kept_before keeps) is) in
     let before = carries.failures in
     omega (arith, rose, before)
+
+-- the log isn't there
+pub log_refused : (old new : DeviceState) (f : MountFault) → IsOpenFault old new f → IsMountRefusal old new f
+log_refused old new f =
+    fault_on (old.failures < new.failures) (LacksLog old new) ((m : LogMap) → new.keeps_model → StandsLog old.content m → old.failures < new.failures) (LacksLog old new)
+    (λ rose m keeps is. rose) (λ lacks. lacks) f

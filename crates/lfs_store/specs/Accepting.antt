@@ -7,11 +7,18 @@ use Rattle.lfs_model.specs.Encodes.{IsLogMap}
 use Rattle.lfs_model.specs.Memory.{is_nameless}
 use Rattle.lfs_model.specs.Stands.{LogMap, StandsLog}
 use Rattle.lfs_model.specs.TreeOf.{dropped}
+use Rattle.lfs_log.specs.declared.fault.MountFault.{MountFault}
+use Rattle.lfs_log.specs.Faults.{IsFault, LacksLog}
 use Rattle.lfs_log.specs.memory.declared.changes.Changes.{Changes}
 use Rattle.lfs_log.specs.memory.Batch.{staged, FitsBatch}
 use Rattle.lfs_log.specs.memory.Removing.{without_file}
 use Rattle.lfs_log.specs.segments.Table.{clean_in}
 use Rattle.lfs_log.specs.Held.{Held, Holds, IsSaved}
+
+-- A mount's refusal that isn't of memory. Where the content stands for a log map it is Device, and a call of the device failed.
+abbrev pub IsMountRefusal : DeviceState → DeviceState → MountFault → Type 0
+IsMountRefusal d d' =
+    IsFault ((m : LogMap) → d'.keeps_model → StandsLog d.content m → d.failures < d'.failures) (LacksLog d d')
 
 -- enough segments are clean for a commit
 abbrev pub HasClean : {D : Type 0} → Held D → Type 0

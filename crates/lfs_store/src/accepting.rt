@@ -2,10 +2,11 @@
 ghost use Rattle.std.specs.Prelude.{◌≡◌, ◌≢◌, ◌<◌, ◌≤◌, ◌+◌, ◌/◌, true, false, length, IfOk, IfErr, OnOk, OnErr, IsErrOf, ◌⊎◌, MatchResult, IsTrue, IsFalse};
 ghost use Rattle.lfs_model.specs.Device.{Only, IsUntouched, Carries, LeavesOnly};
 ghost use Rattle.lfs_log.specs.segments.Table.{clean_in};
-ghost use Rattle.lfs_log.specs.Opening.{IsOpenFault};
+ghost use Rattle.lfs_store.specs.Accepting.{IsMountRefusal};
 ghost use Rattle.lfs_log.specs.memory.Batch.{IsNoChange, room_for};
 
 use crate::draft::Draft;
+use crate::fault::StoreFault;
 use crate::store::Store;
 use crate::totals::NO_BLOCKS;
 use lfs_device::SectorDevice;
@@ -38,7 +39,8 @@ impl<D: SectorDevice> Store<D> {
         ensures saved { IfOk result (λ s. s.saved ≡ true) }
         ensures draft { IfOk result (λ s. IsNoChange s.draft.changes) }
         ensures durable { IfOk result (λ s. (D.state s.log.device).keeps_model → Only (D.state device).content (D.state s.log.device)) }
-        ensures cause { IfErr result (λ e. (e.0 ≡ MountFault.NoMemory → ⊥) → IsOpenFault (D.state device) (D.state e.1)) }
+        ensures cause { IfErr result (λ e. (e.0 ≡ MountFault.NoMemory → ⊥)
+            → IsMountRefusal (D.state device) (D.state e.1) e.0) }
         ensures untouched { MatchResult result (λ s. IsUntouched (D.state device) (D.state s.log.device)) (λ e. IsUntouched (D.state device) (D.state e.1)) }
         ensures carries { MatchResult result (λ s. Carries (D.state device) (D.state s.log.device)) (λ e. Carries (D.state device) (D.state e.1)) }
         ensures any_moment { MatchResult result (λ s. LeavesOnly (D.state device) (D.state s.log.device) (D.state device).may_leave) (λ e. LeavesOnly (D.state device) (D.state e.1) (D.state device).may_leave) }
@@ -185,25 +187,35 @@ impl<D: SectorDevice> Store<D> {
     }
 
     /// Stages the draft, and leaves it as it is.
-    fn stage_draft(&mut self) -> Result<(), LogFault>
+    fn stage_draft(&mut self) -> Result<(), StoreFault>
         ensures totals { self.new.totals ≡ self.old.totals }
         ensures drafted { self.new.drafted ≡ self.old.drafted }
         ensures done { OnOk result (Accepts D.SectorDevice.state self.old.log self.old.saved self.new.log self.new.saved self.old.draft.changes) }
-        ensures full { IsErrOf result LogFault.Full → Declines D.SectorDevice.state self.old.log self.old.saved self.new.log self.new.saved self.old.draft.changes }
-        ensures lacks { IsErrOf result LogFault.Full → IsFull self.new.log ⊎ (self.new.saved ≡ false) }
-        ensures device { IsErrOf result LogFault.Device → Declines D.SectorDevice.state self.old.log self.old.saved self.new.log self.new.saved self.old.draft.changes }
-        ensures failed { IsErrOf result LogFault.Device → IsAcceptFault D.SectorDevice.state self.old.log self.old.saved self.new.log self.old.draft.changes }
-        ensures halted { IsErrOf result LogFault.Halted → self.old.log.halted ≢ true → Halts D.SectorDevice.state self.old.log self.new.log }
-        ensures still { self.old.log.halted ≡ true → (self.new.log ≡ self.old.log) × (self.new.saved ≡ self.old.saved) × IsErrOf result LogFault.Halted }
+        ensures full { IsErrOf result (StoreFault.Log LogFault.Full) → Declines D.SectorDevice.state self.old.log self.old.saved self.new.log self.new.saved self.old.draft.changes }
+        ensures lacks { IsErrOf result (StoreFault.Log LogFault.Full) → IsFull self.new.log }
+        ensures memory { IsErrOf result StoreFault.NoMemory → Declines D.SectorDevice.state self.old.log self.old.saved self.new.log self.new.saved self.old.draft.changes }
+        ensures device { IsErrOf result (StoreFault.Log LogFault.Device) → Declines D.SectorDevice.state self.old.log self.old.saved self.new.log self.new.saved self.old.draft.changes }
+        ensures failed { IsErrOf result (StoreFault.Log LogFault.Device) → IsAcceptFault D.SectorDevice.state self.old.log self.old.saved self.new.log self.old.draft.changes }
+        ensures halted { IsErrOf result (StoreFault.Log LogFault.Halted) → self.old.log.halted ≢ true → Halts D.SectorDevice.state self.old.log self.new.log }
+        ensures still { self.old.log.halted ≡ true → (self.new.log ≡ self.old.log) × (self.new.saved ≡ self.old.saved) × IsErrOf result (StoreFault.Log LogFault.Halted) }
     {
         if self.log.is_halted() {
-            return Err(LogFault::Halted);
+            return Err(StoreFault::Log(LogFault::Halted));
         }
-        self.make_room()?;
+        match self.make_room() {
+            Ok(()) => {}
+            Err(fault) => return Err(StoreFault::Log(fault)),
+        }
         let staged = self.log.stage(&self.draft.changes);
         // A stage that fails may have brought blocks into memory, which a commit clears.
         self.saved = false;
-        staged
+        match staged {
+            Ok(()) => Ok(()),
+            // Enough segments are clean: it is memory that has no room.
+            Err(LogFault::Full) => Err(StoreFault::NoMemory),
+            Err(LogFault::Device) => Err(StoreFault::Log(LogFault::Device)),
+            Err(LogFault::Halted) => Err(StoreFault::Log(LogFault::Halted)),
+        }
     }
 
     /// Stages the draft whole, or not at all; a commit comes before it where memory has no room for it, or few segments are clean. The draft
@@ -211,20 +223,21 @@ impl<D: SectorDevice> Store<D> {
     ///
     /// # Errors
     ///
-    /// With the files as they were: `Full` where too few segments are clean, or memory has no room though all is saved (then the next
-    /// call commits first); `Device` where a call of the device failed. `Halted` once a commit failed, in this call or before.
-    pub fn accept(&mut self) -> Result<(), LogFault>
+    /// With the files as they were: `Full` where too few segments are clean, `NoMemory` where memory has no room though all is saved (then
+    /// the next call commits first), `Device` where a call of the device failed. `Halted` once a commit failed, in this call or before.
+    pub fn accept(&mut self) -> Result<(), StoreFault>
         ensures counted { OnOk result (self.new.totals ≡ self.old.drafted) }
         ensures kept { OnErr result (self.new.totals ≡ self.old.totals) }
         ensures drafted { self.new.drafted ≡ self.new.totals }
         ensures done { OnOk result (Accepts D.SectorDevice.state self.old.log self.old.saved self.new.log self.new.saved self.old.draft.changes) }
         ensures draft { IsNoChange self.new.draft.changes }
-        ensures full { IsErrOf result LogFault.Full → Declines D.SectorDevice.state self.old.log self.old.saved self.new.log self.new.saved self.old.draft.changes }
-        ensures lacks { IsErrOf result LogFault.Full → IsFull self.new.log ⊎ (self.new.saved ≡ false) }
-        ensures device { IsErrOf result LogFault.Device → Declines D.SectorDevice.state self.old.log self.old.saved self.new.log self.new.saved self.old.draft.changes }
-        ensures failed { IsErrOf result LogFault.Device → IsAcceptFault D.SectorDevice.state self.old.log self.old.saved self.new.log self.old.draft.changes }
-        ensures halted { IsErrOf result LogFault.Halted → self.old.log.halted ≢ true → Halts D.SectorDevice.state self.old.log self.new.log }
-        ensures still { self.old.log.halted ≡ true → (self.new.log ≡ self.old.log) × (self.new.saved ≡ self.old.saved) × IsErrOf result LogFault.Halted }
+        ensures full { IsErrOf result (StoreFault.Log LogFault.Full) → Declines D.SectorDevice.state self.old.log self.old.saved self.new.log self.new.saved self.old.draft.changes }
+        ensures lacks { IsErrOf result (StoreFault.Log LogFault.Full) → IsFull self.new.log }
+        ensures memory { IsErrOf result StoreFault.NoMemory → Declines D.SectorDevice.state self.old.log self.old.saved self.new.log self.new.saved self.old.draft.changes }
+        ensures device { IsErrOf result (StoreFault.Log LogFault.Device) → Declines D.SectorDevice.state self.old.log self.old.saved self.new.log self.new.saved self.old.draft.changes }
+        ensures failed { IsErrOf result (StoreFault.Log LogFault.Device) → IsAcceptFault D.SectorDevice.state self.old.log self.old.saved self.new.log self.old.draft.changes }
+        ensures halted { IsErrOf result (StoreFault.Log LogFault.Halted) → self.old.log.halted ≢ true → Halts D.SectorDevice.state self.old.log self.new.log }
+        ensures still { self.old.log.halted ≡ true → (self.new.log ≡ self.old.log) × (self.new.saved ≡ self.old.saved) × IsErrOf result (StoreFault.Log LogFault.Halted) }
     {
         let outcome = self.stage_draft();
         self.settle(outcome.is_ok());

@@ -2,31 +2,32 @@ use Rattle.std.proofs.Common.{◌≡◌, ◌/◌, ◌∙◌, Err, ap, length, ar
 use Rattle.lfs_path.specs.dirs.declared.listing.ListFault.TheVariants as list_fault
 use Rattle.lfs_path.specs.dirs.Listing.{pairs}
 use Rattle.lfs_fs.specs.Checking.{giving}
-use Rattle.lfs_fs.proofs.TreeChecks.{entries_failed, entries_fewer, entries_found, entries_named, log_failed, same_count}
+use Rattle.lfs_fs.proofs.TreeChecks.{entries_fewer, entries_found, entries_malformed, entries_named, log_failed, same_count}
 use Rattle.lfs_fs.proofs.checking.check_entries.Goals as goal
 
 pub returns-in-Err-NoSlot-clause-failed : goal.returns-in-Err-NoSlot-clause-failed
 returns-in-Err-NoSlot-clause-failed g c other =
     let is = c.in-Err-NoSlot.field-0-is in
-    entries_failed g.D.SectorDevice.state c.args.store.now.log c.inspect.new.store.log c.args.store.now.draft.changes c.args.root (c.in-Err-NoSlot.ensures.failed (λ e. cc))
-
-pub returns-in-Err-Log-clause-failed : goal.returns-in-Err-Log-clause-failed
-returns-in-Err-Log-clause-failed g c other =
-    let is = c.in-Err-Log.field-0-is in
-    entries_failed g.D.SectorDevice.state c.args.store.now.log c.inspect.new.store.log c.args.store.now.draft.changes c.args.root (c.in-Err-Log.ensures.failed (λ e. cc))
+    (omega arith, omega arith, entries_malformed g.D.SectorDevice.state c.args.store.now.log c.inspect.new.store.log c.args.store.now.draft.changes c.args.root (c.in-Err-NoSlot.ensures.malformed (ap Err is)))
 
 pub returns-then-len-root-clause-failed : goal.returns-then-len-root-clause-failed
 returns-then-len-root-clause-failed g c other =
-    let unequal = c.if-len-root.true in
-    entries_fewer g.D.SectorDevice.state c.args.store.now.log c.inspect.new.store.log c.args.store.now.draft.changes c.args.root c.in-Ok.entries.items c.in-Ok.ensures.answer
-    (λ (e : length c.in-Ok.entries.items ≡ c.args.root.size / 64). omega (arith, unequal, e))
+    let unequal = c.if-len-root.true in (
+      omega arith,
+      omega arith,
+      entries_fewer g.D.SectorDevice.state c.args.store.now.log c.inspect.new.store.log c.args.store.now.draft.changes c.args.root c.in-Ok.entries.items c.in-Ok.ensures.answer
+          (λ (e : length c.in-Ok.entries.items ≡ c.args.root.size / 64). omega (arith, unequal, e)),
+    )
 
 pub returns-then-count_names-ne0-clause-failed : goal.returns-then-count_names-ne0-clause-failed
 returns-then-count_names-ne0-clause-failed g c other =
     let some = c.if-count_names-ne0.true in
-    let is = same_count c.deref.result.now c.in-Ok.entries.items 1 c.count_names.result c.deref.ensures.value c.count_names.ensures in
-    entries_named g.D.SectorDevice.state c.args.store.now.log c.inspect.new.store.log c.args.store.now.draft.changes c.args.root c.in-Ok.entries.items c.in-Ok.ensures.answer
-    (λ (e : giving (pairs c.in-Ok.entries.items) 1 ≡ 0). omega (arith, some, is, e))
+    let is = same_count c.deref.result.now c.in-Ok.entries.items 1 c.count_names.result c.deref.ensures.value c.count_names.ensures in (
+      omega arith,
+      omega arith,
+      entries_named g.D.SectorDevice.state c.args.store.now.log c.inspect.new.store.log c.args.store.now.draft.changes c.args.root c.in-Ok.entries.items c.in-Ok.ensures.answer
+          (λ (e : giving (pairs c.in-Ok.entries.items) 1 ≡ 0). omega (arith, some, is, e)),
+    )
 
 pub returns-clause-done : goal.returns-clause-done
 returns-clause-done g c =
@@ -35,8 +36,8 @@ returns-clause-done g c =
     let is = same_count c.deref.result.now c.in-Ok.entries.items 1 c.count_names.result c.deref.ensures.value c.count_names.ensures in
     entries_found g.D.SectorDevice.state c.args.store.now.log c.inspect.new.store.log c.args.store.now.draft.changes c.args.root c.in-Ok.entries.items c.in-Ok.ensures.answer (omega (arith, apart)) (omega (arith, none, is))
 
-pub returns-in-Err-Log-clause-names : goal.returns-in-Err-Log-clause-names
-returns-in-Err-Log-clause-names g c =
+pub returns-in-Err-Log-clause-failed : goal.returns-in-Err-Log-clause-failed
+returns-in-Err-Log-clause-failed g c other =
     let is = c.in-Err-Log.field-0-is in
     log_failed g.D.SectorDevice.state c.args.store.now.log c.inspect.new.store.log c.in-Err-Log.field-0-0
     (λ e. c.in-Err-Log.ensures.device (ap Err (is ∙ ap list_fault.Log e)))

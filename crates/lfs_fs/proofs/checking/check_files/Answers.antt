@@ -24,8 +24,15 @@ loop-number-preserved g c =
 pub returns-in-Err-clause-failed : goal.returns-in-Err-clause-failed
 returns-in-Err-clause-failed g c =
     let at = c.loop-number in
-    files_lack g.D.SectorDevice.state c.args.store.now.log at.store.log c.check_file.new.store.log c.args.store.now.draft.changes (pairs c.args.entries.now) at.number at.invariant.0 c.check_file.ensures.reads at.auto.number c.loop-number-test.true
-    (subst (λ (d : Draft). LacksFiles g.D.SectorDevice.state at.store.log c.check_file.new.store.log d.changes (pairs c.args.entries.now) at.number (at.number + 1)) at.invariant.1 c.in-Err.ensures.failed)
+    let state = g.D.SectorDevice.state in
+    let draft = c.args.store.now.draft in
+    let files = pairs c.args.entries.now in
+    let one = LacksFiles state at.store.log c.check_file.new.store.log at.store.draft.changes files at.number (at.number + 1) in
+    let all = LacksFiles state c.args.store.now.log c.check_file.new.store.log draft.changes files 2 4096 in
+    fault_told state c.args.store.now.log at.store.log c.check_file.new.store.log at.invariant.0.reads one all
+    (λ lacks. files_lack state c.args.store.now.log at.store.log c.check_file.new.store.log draft.changes files at.number at.invariant.0 c.check_file.ensures.reads at.auto.number c.loop-number-test.true
+    (subst (λ (d : Draft). LacksFiles state at.store.log c.check_file.new.store.log d.changes files at.number (at.number + 1)) at.invariant.1 lacks))
+    c.in-Err.fault c.in-Err.ensures.failed
 
 pub returns-clause-done : goal.returns-clause-done
 returns-clause-done g c =
@@ -34,8 +41,3 @@ returns-clause-done g c =
     let ended = c.loop-number-test.false in
     let is : at.number ≡ 4096 = omega (arith, high, ended) in
     subst (λ (n : ℕ). FindsFiles g.D.SectorDevice.state c.args.store.now.log at.store.log c.args.store.now.draft.changes (pairs c.args.entries.now) 2 n) is at.invariant.0.files
-
-pub returns-in-Err-clause-names : goal.returns-in-Err-clause-names
-returns-in-Err-clause-names g c =
-    let at = c.loop-number in
-    fault_told g.D.SectorDevice.state c.args.store.now.log at.store.log c.check_file.new.store.log at.invariant.0.reads c.in-Err.fault c.in-Err.ensures.names

@@ -1,32 +1,56 @@
 use Rattle.std.proofs.Common.{◌+◌, ◌*◌, List, ap, subst, ◌∙◌}
 use Rattle.lfs_path.specs.store.declared.draft.Draft.{Draft}
 use Rattle.lfs_path.specs.store.declared.totals.Totals.{Totals}
-use Rattle.lfs_path.proofs.of_store.LogReads.{reads_more}
+use Rattle.lfs_path.proofs.of_store.LogReads.{reads_more, reads_none}
 use Rattle.lfs_path.specs.dirs.declared.entry.Entry.{Entry}
 use Rattle.lfs_path.specs.dirs.Listing.{pairs}
-use Rattle.lfs_fs.specs.Checking.{FindsEntries, FindsFiles, LacksEntries, LacksFiles}
+use Rattle.lfs_fs.specs.Checking.{FindsEntries, FindsFiles, LacksEntries, LacksFiles, LacksRoot, LacksTree}
 use Rattle.lfs_fs.proofs.TreeChecks.{damage_told, entries_lack, fault_told, files_lack_tree, room_lacks, root_lacks, tree_finds}
 use Rattle.lfs_fs.proofs.checking.check_tree.Goals as goal
 
 pub returns-in-Err-clause-failed : goal.returns-in-Err-clause-failed
-returns-in-Err-clause-failed g c other = root_lacks g.D.SectorDevice.state c.args.store.now.log c.check_root.new.store.log c.args.store.now.draft.changes c.args.store.now.totals c.in-Err.ensures.failed
+returns-in-Err-clause-failed g c other =
+    let state = g.D.SectorDevice.state in
+    let h = c.args.store.now.log in
+    let h' = c.check_root.new.store.log in
+    let drafted = c.args.store.now.draft.changes in
+    let totals = c.args.store.now.totals in
+    fault_told state h h h' (reads_none state h) (LacksRoot state h h' drafted) (LacksTree state h h' drafted totals) (root_lacks state h h' drafted totals) c.in-Err.fault c.in-Err.ensures.failed
 
 pub returns-in-Err-check_entries-clause-failed : goal.returns-in-Err-check_entries-clause-failed
 returns-in-Err-check_entries-clause-failed g c other =
-    entries_lack g.D.SectorDevice.state c.args.store.now.log c.check_root.new.store.log c.check_entries.new.store.log c.args.store.now.draft.changes c.args.store.now.totals c.in-Ok.root
-    c.check_root.ensures.reads c.in-Ok.ensures.done c.check_entries.ensures.reads
-    (subst (λ (d : Draft). LacksEntries g.D.SectorDevice.state c.check_root.new.store.log c.check_entries.new.store.log d.changes c.in-Ok.root) c.check_root.ensures.draft (c.in-Err-check_entries.ensures.failed other))
+    let state = g.D.SectorDevice.state in
+    let a = c.args.store.now.log in
+    let b = c.check_root.new.store.log in
+    let d = c.check_entries.new.store.log in
+    let drafted = c.args.store.now.draft.changes in
+    let totals = c.args.store.now.totals in
+    let first = c.check_root.ensures.reads in
+    fault_told state a b d first (LacksEntries state b d c.check_root.new.store.draft.changes c.in-Ok.root) (LacksTree state a d drafted totals)
+    (λ lacks. entries_lack state a b d drafted totals c.in-Ok.root first c.in-Ok.ensures.done c.check_entries.ensures.reads
+    (subst (λ (x : Draft). LacksEntries state b d x.changes c.in-Ok.root) c.check_root.ensures.draft lacks))
+    c.in-Err-check_entries.fault (c.in-Err-check_entries.ensures.failed other)
 
 pub returns-in-Err-check_files-clause-failed : goal.returns-in-Err-check_files-clause-failed
 returns-in-Err-check_files-clause-failed g c other =
+    let state = g.D.SectorDevice.state in
+    let a = c.args.store.now.log in
+    let b = c.check_root.new.store.log in
+    let d = c.check_entries.new.store.log in
+    let e = c.check_files.new.store.log in
+    let drafted = c.args.store.now.draft.changes in
+    let totals = c.args.store.now.totals in
     let es = c.in-Ok-check_entries.entries.items in
-    files_lack_tree g.D.SectorDevice.state c.args.store.now.log c.check_root.new.store.log c.check_entries.new.store.log c.args.store.now.draft.changes c.args.store.now.totals c.in-Ok.root
-    c.check_root.ensures.reads c.in-Ok.ensures.done c.check_entries.ensures.reads c.check_files.new.store.log es
-    (subst (λ (d : Draft). FindsEntries g.D.SectorDevice.state c.check_root.new.store.log c.check_entries.new.store.log d.changes c.in-Ok.root es) c.check_root.ensures.draft c.in-Ok-check_entries.ensures.done)
-    c.check_files.ensures.reads (g.met.D.SectorDevice.lawful c.args.store.now.log.device)
-    (subst (λ (l : List Entry). LacksFiles g.D.SectorDevice.state c.check_entries.new.store.log c.check_files.new.store.log c.args.store.now.draft.changes (pairs l) 2 4096) c.deref.ensures.value
-    (subst (λ (d : Draft). LacksFiles g.D.SectorDevice.state c.check_entries.new.store.log c.check_files.new.store.log d.changes (pairs c.deref.result.now) 2 4096)
-    (c.check_entries.ensures.draft ∙ c.check_root.ensures.draft) c.in-Err-check_files.ensures.failed))
+    let first = c.check_root.ensures.reads in
+    let second = c.check_entries.ensures.reads in
+    let lawful = g.met.D.SectorDevice.lawful a.device in
+    fault_told state a d e (reads_more state a b d lawful first second) (LacksFiles state d e c.check_entries.new.store.draft.changes (pairs c.deref.result.now) 2 4096) (LacksTree state a e drafted totals)
+    (λ lacks. files_lack_tree state a b d drafted totals c.in-Ok.root first c.in-Ok.ensures.done second e es
+    (subst (λ (x : Draft). FindsEntries state b d x.changes c.in-Ok.root es) c.check_root.ensures.draft c.in-Ok-check_entries.ensures.done)
+    c.check_files.ensures.reads lawful
+    (subst (λ (l : List Entry). LacksFiles state d e drafted (pairs l) 2 4096) c.deref.ensures.value
+    (subst (λ (x : Draft). LacksFiles state d e x.changes (pairs c.deref.result.now) 2 4096) (c.check_entries.ensures.draft ∙ c.check_root.ensures.draft) lacks)))
+    c.in-Err-check_files.fault c.in-Err-check_files.ensures.failed
 
 pub returns-in-Ok-check_room-clause-done : goal.returns-in-Ok-check_room-clause-done
 returns-in-Ok-check_room-clause-done g c =
@@ -46,24 +70,12 @@ pub returns-clause-failed : goal.returns-clause-failed
 returns-clause-failed g c other =
     let es = c.in-Ok-check_entries.entries.items in
     let same = c.check_files.ensures.totals ∙ c.check_entries.ensures.totals ∙ c.check_root.ensures.totals in
-    room_lacks g.D.SectorDevice.state c.args.store.now.log c.check_root.new.store.log c.check_entries.new.store.log c.args.store.now.draft.changes c.args.store.now.totals c.in-Ok.root
+    damage_told g.D.SectorDevice.state c.args.store.now.log c.check_files.new.store.log
+    (LacksTree g.D.SectorDevice.state c.args.store.now.log c.check_files.new.store.log c.args.store.now.draft.changes c.args.store.now.totals)
+    (room_lacks g.D.SectorDevice.state c.args.store.now.log c.check_root.new.store.log c.check_entries.new.store.log c.args.store.now.draft.changes c.args.store.now.totals c.in-Ok.root
     c.check_root.ensures.reads c.in-Ok.ensures.done c.check_entries.ensures.reads c.check_files.new.store.log es
     (subst (λ (d : Draft). FindsEntries g.D.SectorDevice.state c.check_root.new.store.log c.check_entries.new.store.log d.changes c.in-Ok.root es) c.check_root.ensures.draft c.in-Ok-check_entries.ensures.done)
     c.check_files.ensures.reads (g.met.D.SectorDevice.lawful c.args.store.now.log.device)
     (c.check_files.new.store.totals.data_blocks + 7 * c.check_files.new.store.totals.meta_blocks + 720) (ap (λ (t : Totals). t.data_blocks + 7 * t.meta_blocks + 720) same)
-    c.in-Err-check_room.ensures.failed
-
-pub returns-in-Err-check_entries-clause-names : goal.returns-in-Err-check_entries-clause-names
-returns-in-Err-check_entries-clause-names g c =
-    fault_told g.D.SectorDevice.state c.args.store.now.log c.check_root.new.store.log c.check_entries.new.store.log c.check_root.ensures.reads c.in-Err-check_entries.fault c.in-Err-check_entries.ensures.names
-
-pub returns-in-Err-check_files-clause-names : goal.returns-in-Err-check_files-clause-names
-returns-in-Err-check_files-clause-names g c =
-    let state = g.D.SectorDevice.state in
-    let first = c.check_root.ensures.reads in
-    let second = c.check_entries.ensures.reads in
-    let two = reads_more state c.args.store.now.log c.check_root.new.store.log c.check_entries.new.store.log (g.met.D.SectorDevice.lawful c.args.store.now.log.device) first second in
-    fault_told state c.args.store.now.log c.check_entries.new.store.log c.check_files.new.store.log two c.in-Err-check_files.fault c.in-Err-check_files.ensures.names
-
-pub returns-clause-names : goal.returns-clause-names
-returns-clause-names g c = damage_told g.D.SectorDevice.state c.args.store.now.log c.check_files.new.store.log c.in-Err-check_room.fault c.in-Err-check_room.ensures.names
+    c.in-Err-check_room.ensures.failed)
+    c.in-Err-check_room.fault c.in-Err-check_room.ensures.names

@@ -1,20 +1,22 @@
-use Rattle.std.proofs.Common.{◌≡◌, ◌<◌, ◌≤◌, ◌+◌, ◌*◌, ◌∙◌, ℕ, length, subst, ap}
-use Rattle.lfs_model.specs.Content.{block}
+use Rattle.std.proofs.Common.{◌<◌, ◌∙◌, ℕ, subst, ap}
 use Rattle.lfs_memory.specs.inodes.MapValue.{MapValue}
-use Rattle.lfs_log.specs.Opening.{IsFault}
+use Rattle.lfs_log.specs.Faults.{IsTableFault, LacksBlock, LacksTables}
 use Rattle.lfs_log.proofs.opening.load_map_block.Goals as goal
-use Rattle.lfs_memory.proofs.Going.{on_err}
+use Rattle.lfs_log.proofs.FaultCases.{as_given, fault_on}
 use Rattle.lfs_log.proofs.MapLoads.{says_skipped, map_more, says_map_more, map_fault}
 
 pub returns-in_err-read_table-clause-cause : goal.returns-in_err-read_table-clause-cause
 returns-in_err-read_table-clause-cause g c =
-    on_err c.from_residual.result
-    (IsFault (g.D.SectorDevice.state c.args.device.now) (g.D.SectorDevice.state c.read_table.new.device) c.args.checkpoint.now)
-    (map_fault (g.D.SectorDevice.state c.args.device.now) (g.D.SectorDevice.state c.read_table.new.device) c.args.checkpoint.now c.args.index
-    c.map_address-address.result (g.met.D.SectorDevice.lawful c.args.device.now).now c.map_address-address.ensures c.if-address-eq0.false
-    (subst (λ (n : ℕ). (g.D.SectorDevice.state c.read_table.new.device).keeps_model → 2 ≤ c.map_address-address.result → c.map_address-address.result < 2 + 64 * n
-    → length (block (g.D.SectorDevice.state c.args.device.now).content c.map_address-address.result) ≡ 512
-    → (g.D.SectorDevice.state c.args.device.now).failures < (g.D.SectorDevice.state c.read_table.new.device).failures) c.segments_of-segments.ensures c.in_err-read_table.ensures.cause))
+    let old = g.D.SectorDevice.state c.args.device.now in
+    let new = g.D.SectorDevice.state c.read_table.new.device in
+    let k = c.args.checkpoint.now in
+    let at = c.map_address-address.result in
+    let fault = c.in_err-read_table.field-0.0 in
+    as_given c.from_residual.result fault (IsTableFault old new k) c.from_residual.ensures.1
+    (fault_on (old.failures < new.failures) (LacksBlock old new c.segments_of-segments.result at) (old.failures < new.failures) (LacksTables old new k) (λ rose. rose)
+    (λ lacks. map_fault old new k c.args.index at (g.met.D.SectorDevice.lawful c.args.device.now).now c.map_address-address.ensures c.if-address-eq0.false
+    (subst (λ (n : ℕ). LacksBlock old new n at) c.segments_of-segments.ensures lacks))
+    fault c.in_err-read_table.ensures.cause)
 
 pub returns-clause-after : goal.returns-clause-after
 returns-clause-after g c =

@@ -1,7 +1,7 @@
 use Rattle.std.proofs.Common.{◌+◌, ◌∙◌, refl}
-use Rattle.lfs_log.specs.Opening.{IsFault}
+use Rattle.lfs_log.specs.Faults.{IsTableFault}
 use Rattle.lfs_log.proofs.opening.load_usage.Goals as goal
-use Rattle.lfs_memory.proofs.Going.{on_err}
+use Rattle.lfs_log.proofs.FaultCases.{as_given}
 use Rattle.lfs_memory.proofs.Presents.{looks_none, looks_then}
 use Rattle.lfs_log.proofs.UsageLoads.{says_nothing, fault_then, says_then}
 
@@ -30,7 +30,9 @@ loop-index-preserved g c =
 
 pub returns-in_err-load_usage_block-clause-cause : goal.returns-in_err-load_usage_block-clause-cause
 returns-in_err-load_usage_block-clause-cause g c =
-    on_err c.from_residual.result
-    (IsFault (g.D.SectorDevice.state c.args.device.now) (g.D.SectorDevice.state c.load_usage_block.new.device) c.args.checkpoint.now)
-    (fault_then (g.D.SectorDevice.state c.args.device.now) (g.D.SectorDevice.state c.loop-index.device) (g.D.SectorDevice.state c.load_usage_block.new.device) c.args.checkpoint.now
-    c.loop-index.invariant.looks c.in_err-load_usage_block.ensures.cause)
+    let old = g.D.SectorDevice.state c.args.device.now in
+    let mid = g.D.SectorDevice.state c.loop-index.device in
+    let new = g.D.SectorDevice.state c.load_usage_block.new.device in
+    let fault = c.in_err-load_usage_block.field-0.0 in
+    as_given c.from_residual.result fault (IsTableFault old new c.args.checkpoint.now) c.from_residual.ensures.1
+    (fault_then old mid new c.args.checkpoint.now c.loop-index.invariant.looks fault c.in_err-load_usage_block.ensures.cause)

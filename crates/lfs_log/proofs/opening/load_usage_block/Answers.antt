@@ -1,20 +1,22 @@
-use Rattle.std.proofs.Common.{◌≡◌, ◌<◌, ◌≤◌, ◌+◌, ◌*◌, ◌-◌, ◌∙◌, sym, ℕ, length, subst, ap}
-use Rattle.lfs_model.specs.Content.{block}
-use Rattle.lfs_log.specs.Opening.{IsFault}
+use Rattle.std.proofs.Common.{◌<◌, ◌*◌, ◌-◌, ◌∙◌, sym, ℕ, subst, ap}
+use Rattle.lfs_log.specs.Faults.{IsTableFault, LacksBlock, LacksTables}
 use Rattle.lfs_log.proofs.opening.load_usage_block.Goals as goal
-use Rattle.lfs_memory.proofs.Going.{on_err}
+use Rattle.lfs_log.proofs.FaultCases.{as_given, fault_on}
 use Rattle.lfs_log.proofs.UsageLoads.{usage_fault, usage_undecoded, says_more}
 
 -- src/opening.rt:112:5
 pub returns-in_err-read_table-clause-cause : goal.returns-in_err-read_table-clause-cause
 returns-in_err-read_table-clause-cause g c =
-    on_err c.from_residual.result
-    (IsFault (g.D.SectorDevice.state c.args.device.now) (g.D.SectorDevice.state c.read_table.new.device) c.args.checkpoint.now)
-    (usage_fault (g.D.SectorDevice.state c.args.device.now) (g.D.SectorDevice.state c.read_table.new.device) c.args.checkpoint.now c.args.index
-    c.usage_address-address.result c.requires.index c.usage_address-address.ensures
-    (subst (λ (n : ℕ). (g.D.SectorDevice.state c.read_table.new.device).keeps_model → 2 ≤ c.usage_address-address.result → c.usage_address-address.result < 2 + 64 * n
-    → length (block (g.D.SectorDevice.state c.args.device.now).content c.usage_address-address.result) ≡ 512
-    → (g.D.SectorDevice.state c.args.device.now).failures < (g.D.SectorDevice.state c.read_table.new.device).failures) c.segments_of-segments.ensures c.in_err-read_table.ensures.cause))
+    let old = g.D.SectorDevice.state c.args.device.now in
+    let new = g.D.SectorDevice.state c.read_table.new.device in
+    let k = c.args.checkpoint.now in
+    let at = c.usage_address-address.result in
+    let fault = c.in_err-read_table.field-0.0 in
+    as_given c.from_residual.result fault (IsTableFault old new k) c.from_residual.ensures.1
+    (fault_on (old.failures < new.failures) (LacksBlock old new c.segments_of-segments.result at) (old.failures < new.failures) (LacksTables old new k) (λ rose. rose)
+    (λ lacks. usage_fault old new k c.args.index at c.requires.index c.usage_address-address.ensures
+    (subst (λ (n : ℕ). LacksBlock old new n at) c.segments_of-segments.ensures lacks))
+    fault c.in_err-read_table.ensures.cause)
 
 -- src/opening.rt:115:9
 pub returns-in_default-clause-cause : goal.returns-in_default-clause-cause

@@ -3,7 +3,7 @@ use Rattle.lfs_model.specs.Call.{Answer, Call}
 use Rattle.lfs_model.specs.Run.{Point}
 use Rattle.lfs_model.specs.Volume.{LeavesPrefix}
 use Rattle.lfs_device.specs.MemoryDevice.{device_state}
-use Rattle.lfs_script.specs.Session.{UsesInTurn, texts_of}
+use Rattle.lfs_script.specs.Series.{UsesInTurn, texts_of}
 use Rattle.lfs_script.proofs.session.use_each.Given as goal
 
 -- the scripts so far were used in turn

@@ -1,8 +1,8 @@
-use Rattle.lfs_fs.proofs.MountEnds.{durable_by, fault_by, found_by, looks_on, mounts_by, open_fault, refused_by}
+use Rattle.lfs_fs.proofs.MountEnds.{durable_by, fault_by, found_by, log_fault, looks_on, mounts_by, refused_by}
 use Rattle.lfs_fs.proofs.fs.Fs.mount.Goals as goal
 
 pub returns-in-Err-clause-cause : goal.returns-in-Err-clause-cause
-returns-in-Err-clause-cause g c other = open_fault g.D.SectorDevice.state c.args.device c.check_log.new.device (c.in-Err.ensures.cause other)
+returns-in-Err-clause-cause g c other = log_fault g.D.SectorDevice.state c.args.device c.check_log.new.device (c.in-Err.ensures.cause other)
 
 pub returns-in-Err-clause-untouched : goal.returns-in-Err-clause-untouched
 returns-in-Err-clause-untouched g c = c.check_log.ensures.looks.untouched

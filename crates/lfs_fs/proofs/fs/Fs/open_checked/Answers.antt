@@ -8,7 +8,7 @@ use Rattle.lfs_fs.proofs.MountEnds.{check_fault, stands_where_log, mounts_fs, op
 use Rattle.lfs_fs.proofs.fs.Fs.open_checked.Goals as goal
 
 pub returns-in-Err-clause-cause : goal.returns-in-Err-clause-cause
-returns-in-Err-clause-cause g c other = open_fault g.D.SectorDevice.state c.args.device c.in-Err.fault.1 (c.in-Err.ensures.cause other)
+returns-in-Err-clause-cause g c other = open_fault g.D.SectorDevice.state c.args.device c.in-Err.fault.1 c.in-Err.fault.0 (c.in-Err.ensures.cause other)
 
 pub returns-in-Ok-check_tree-clause-mounts : goal.returns-in-Ok-check_tree-clause-mounts
 returns-in-Ok-check_tree-clause-mounts g c =
@@ -36,7 +36,7 @@ returns-in-Err-check_tree-clause-cause g c other =
     let check = c.in-Err-check_tree.ensures in
     subst (λ (d : g.row.D.Denot). IsMountFault g.D.SectorDevice.state c.args.device d) (sym c.into_device.ensures)
     (check_fault g.D.SectorDevice.state g.met.D.SectorDevice.lawful c.args.device c.in-Ok.store.log c.check_tree.new.store.log check.reads c.in-Ok.store.saved opened.stores c.in-Ok.store.draft.changes opened.draft
-    c.in-Ok.store.totals opened.counts opened.carries (check.failed other))
+    c.in-Ok.store.totals opened.counts opened.carries c.in-Err-check_tree.fault (check.failed other))
 
 pub returns-in-Err-clause-reason : goal.returns-in-Err-clause-reason
 returns-in-Err-clause-reason g c = open_refused (g.D.SectorDevice.state c.args.device) (g.D.SectorDevice.state c.in-Err.fault.1) c.in-Err.fault.0 c.in-Err.ensures.cause
@@ -48,4 +48,4 @@ returns-in-Err-check_tree-clause-reason g c =
     let old = g.D.SectorDevice.state c.args.device in
     subst (λ (d : g.row.D.Denot). IsRefusedTree old (g.D.SectorDevice.state d) c.in-Err-check_tree.fault) (sym c.into_device.ensures)
     (tree_refused g.D.SectorDevice.state g.met.D.SectorDevice.lawful c.args.device c.in-Ok.store.log c.check_tree.new.store.log check.reads c.in-Ok.store.saved opened.stores c.in-Ok.store.draft.changes opened.draft
-    c.in-Ok.store.totals opened.counts opened.carries c.in-Err-check_tree.fault check.names check.failed)
+    c.in-Ok.store.totals opened.counts opened.carries c.in-Err-check_tree.fault check.failed)

@@ -1,0 +1,5 @@
+use Rattle.lfs_device.proofs.Syncs.{synced_untouched}
+use Rattle.lfs_device.proofs.file.FileDeviceInSectorDevice.sync.Goals as goal
+
+pub returns-clause-untouched : goal.returns-clause-untouched
+returns-clause-untouched g c = synced_untouched (g.W.World.fate c.args.self.now.opened.value c.args.self.now.sectors) _ _ c.note-2.ensures

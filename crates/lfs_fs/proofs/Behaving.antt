@@ -1,0 +1,94 @@
+-- What holds of a call over any device, by how it ends.
+use Rattle.std.proofs.Common.{◌≡◌, Bool, true, false, ◌||◌, refl, sym, ◌∙◌, ap, subst, inl, inr}
+use Rattle.std.specs.Prelude.{IsTrue}
+use Rattle.lfs_model.specs.Call.{Answer, Call, Refuse, changes, cleans, commits, is_ok}
+use Rattle.lfs_model.specs.Device.{DeviceState}
+use Rattle.lfs_model.specs.Refusal.{Refusal, Halted, Stuck}
+use Rattle.lfs_path.specs.log.Held.{IsFull, Reads}
+use Rattle.lfs_fs.specs.Volume.{Behaves, IsStill, Mounted, changes_handles, may_write}
+
+-- ---- answers and calls
+
+-- the answer isn't Halted or Stuck, whose cause is in the log
+abbrev pub IsOrdinary : Answer → Type 0
+IsOrdinary (Refuse Halted) = ⊥
+IsOrdinary (Refuse Stuck) = ⊥
+IsOrdinary _ = Unit {0}
+
+pub not_halted : (a : Answer) → IsOrdinary a → a ≡ Refuse Halted → ⊥
+not_halted a ordinary e = subst IsOrdinary e ordinary
+
+pub not_stuck : (a : Answer) → IsOrdinary a → a ≡ Refuse Stuck → ⊥
+not_stuck a ordinary e = subst IsOrdinary e ordinary
+
+-- an answer that isn't a refusal is none
+pub ok_refuses_none : (a : Answer) (r : Refusal) → is_ok a ≡ true → a ≡ Refuse r → ⊥
+ok_refuses_none a r ok e = absurd (let both : false ≡ true = sym (ap (λ (x : Answer). is_ok x) e) ∙ ok in cc)
+
+not_both : (b : Bool) → b ≡ true → b ≡ false → ⊥
+not_both b on off = absurd (let both : true ≡ false = sym on ∙ off in cc)
+
+-- a call that changes something may write
+pub change_writes : (call : Call) → changes call ≡ true → IsTrue (may_write call)
+change_writes call change = ap (λ (b : Bool). b || commits call || cleans call) change
+
+-- ---- calls
+
+module _ {D : Type 0} (state : D → DeviceState) where
+  -- a volume that was halted
+  pub halted_behaves : (v : Mounted D) (call : Call) → v.log.halted ≡ true → Behaves state v v call (Refuse Halted)
+  halted_behaves v call was = record {
+    refused = λ r e. refl;
+    handles = λ e. refl;
+    first_halted = λ e. inl was;
+    quiet = λ e. record { content = refl; crash = λ c left. left };
+    number = λ e. refl;
+    stuck = λ e. absurd (cc);
+  }
+
+  module _ (old new : Mounted D) (call : Call) (a : Answer) where
+    -- nothing but reads
+    pub still_behaves : IsStill state old new → IsOrdinary a → Behaves state old new call a
+    still_behaves still ordinary = record {
+      refused = λ r e. still.table;
+      handles = λ e. still.table;
+      first_halted = λ e. absurd (not_halted a ordinary e);
+      quiet = λ e. still.reads.looks.untouched;
+      number = λ e. still.reads.number;
+      stuck = λ e. absurd (not_stuck a ordinary e);
+    }
+
+    -- a call that may write, and leaves the open files
+    pub write_behaves : IsTrue (may_write call) → new.table ≡ old.table → (a ≡ Refuse Stuck → IsFull new.log) → Behaves state old new call a
+    write_behaves may table full = record {
+      refused = λ r e. table;
+      handles = λ e. table;
+      first_halted = λ e. inr may;
+      quiet = λ e. absurd (not_both (may_write call) may e);
+      number = λ e. absurd (not_both (may_write call) may e);
+      stuck = full;
+    }
+
+    -- a call that opens or closes a file
+    module _ (moves : changes_handles call ≡ true) (ok : is_ok a ≡ true) where
+      -- it only reads
+      pub opens_behaves : Reads state old.log new.log → Behaves state old new call a
+      opens_behaves reads = record {
+        refused = λ r e. absurd (ok_refuses_none a r ok e);
+        handles = λ e. absurd (not_both (changes_handles call) moves e);
+        first_halted = λ e. absurd (ok_refuses_none a Halted ok e);
+        quiet = λ e. reads.looks.untouched;
+        number = λ e. reads.number;
+        stuck = λ e. absurd (ok_refuses_none a Stuck ok e);
+      }
+
+      -- it may write
+      pub makes_behaves : IsTrue (may_write call) → Behaves state old new call a
+      makes_behaves may = record {
+        refused = λ r e. absurd (ok_refuses_none a r ok e);
+        handles = λ e. absurd (not_both (changes_handles call) moves e);
+        first_halted = λ e. inr may;
+        quiet = λ e. absurd (not_both (may_write call) may e);
+        number = λ e. absurd (not_both (may_write call) may e);
+        stuck = λ e. absurd (ok_refuses_none a Stuck ok e);
+      }

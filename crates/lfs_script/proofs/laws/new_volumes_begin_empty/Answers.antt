@@ -1,0 +1,8 @@
+use Rattle.lfs_model.proofs.Uses.{begins_new, new_is_pending}
+use Rattle.lfs_script.proofs.laws.new_volumes_begin_empty.Goals as goal
+
+pub returns-clause-begins : goal.returns-clause-begins
+returns-clause-begins g c = λ N. begins_new N (g.D.SectorDevice.state c.args.device.now) (g.D.SectorDevice.state c.args.used.now)
+
+pub returns-clause-pending : goal.returns-clause-pending
+returns-clause-pending g c = λ N. new_is_pending N (g.D.SectorDevice.state c.args.device.now)
