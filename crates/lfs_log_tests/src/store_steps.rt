@@ -265,7 +265,7 @@ fn totals_of(data_blocks: u32, meta_blocks: u32) -> Totals {
     }
 }
 
-/// Whether file 2 has so many data blocks from one index to before another, and so many others.
+/// Whether file 2 has so many data blocks from one index to before another, and so many others: its inode, leaves with a block there, its double root.
 fn measures(store: &mut Store<MemDevice>, from: u32, to: u32, want: (u32, u32)) -> bool {
     let to = to.min(16_624);
     let (data_blocks, meta_blocks) = want;

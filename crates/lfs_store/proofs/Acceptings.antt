@@ -1,6 +1,6 @@
 -- What a store holds as it commits, makes room and stages its draft.
 use Rattle.std.specs.Prelude.{Result, Ok, Err, OnErr}
-use Rattle.std.proofs.Common.{◌≡◌, ◌≤◌, ◌+◌, ◌/◌, inl, inr, ⊎_elim, Bool, true, false, cond, ℕ, length, refl, sym, ◌∙◌, subst, arith}
+use Rattle.std.proofs.Common.{◌≡◌, ◌≤◌, ◌+◌, ◌/◌, inl, inr, ⊎_elim, Bool, true, false, cond, ℕ, refl, sym, ◌∙◌, subst, arith}
 use Rattle.lfs_model.specs.Checkpoint.{CheckpointValue}
 use Rattle.lfs_model.specs.Crash.{StandsOn}
 use Rattle.lfs_model.specs.Device.{DeviceState, IsLawful, Carries, AllLeft, LeavesOnly}

@@ -19,6 +19,7 @@ pub mod Ranges
 pub mod Summing
 pub mod Measured
 pub mod Pointers
+pub mod Leaves
 pub mod Measures
 pub mod Recountings
 pub mod Recounted

@@ -20,8 +20,8 @@ use Rattle.lfs_log.proofs.of_memory.LogMaps.{stored_none, stored_some}
 use Rattle.lfs_log.specs.Held as held
 use Rattle.lfs_log.specs.Held.{Held, Holds, Reads}
 use Rattle.lfs_store.specs.Drafting.{NoBlock}
-use Rattle.lfs_store.specs.Measuring.{IsInLeaf, IsOffLeaf, KeepsLeaf, LeavesLeaf, TellsStored, TellsLeaf, CountsStored, CountsLeaves, leaves_in}
-use Rattle.lfs_store.specs.Totals.{stored_in}
+use Rattle.lfs_store.specs.Measuring.{IsInLeaf, IsOffLeaf, KeepsLeaf, LeavesLeaf, TellsStored, TellsLeaf, CountsStored, CountsLeaves}
+use Rattle.lfs_store.specs.Totals.{leaves_in, stored_in}
 use Rattle.lfs_store.proofs.DraftedBlocks.{says_no_block}
 use Rattle.lfs_store.proofs.LogReads.{held_still, reads_none, reads_more}
 use Rattle.lfs_store.proofs.Ranges.{passing, passing_none, passing_more}
@@ -142,7 +142,7 @@ same_leaf_one m m' n q same has =
     let low = has.1 in
     (has.0, low, subst (λ (b : List ℕ). 0 < length b) (sym (same (112 + 128 * q + has.0) (omega arith, omega (arith, low)))) has.2)
 
-same_leaf : (m m' : LogMap) (n q : ℕ) → ((i : ℕ) → IsInLeaf q i → m'.block n i ≡ m.block n i) → has_leaf m' n q ≡ has_leaf m n q
+pub same_leaf : (m m' : LogMap) (n q : ℕ) → ((i : ℕ) → IsInLeaf q i → m'.block n i ≡ m.block n i) → has_leaf m' n q ≡ has_leaf m n q
 same_leaf m m' n q same = same_tests (has_leaf m' n q) (has_leaf m n q)
     (λ on. ((leaf_tests m n).0 q).1 (same_leaf_one m' m n q (λ i inside. sym (same i inside)) (((leaf_tests m' n).0 q).0 on)))
     (λ on. ((leaf_tests m' n).0 q).1 (same_leaf_one m m' n q same (((leaf_tests m n).0 q).0 on)))

@@ -1,13 +1,14 @@
 -- The measure of a file and of a volume, from what is counted.
 use Rattle.std.specs.Prelude.{min, max}
-use Rattle.std.proofs.Common.{◌≡◌, ◌<◌, ◌≤◌, ◌⊎◌, ⊎_elim, ◌+◌, ◌-◌, ◌*◌, ℕ, suc, false, length, Option, Some, None, refl, sym, ◌∙◌, ap, ap₂, subst, arith}
+use Rattle.std.proofs.Common.{◌≡◌, ◌<◌, ◌≤◌, ◌⊎◌, ⊎_elim, ◌+◌, ◌-◌, ◌*◌, ℕ, suc, Bool, true, false, length, Option, Some, None, refl, sym, ◌∙◌, ap, ap₂, subst, arith}
+use mir.Val.{bool_byte}
 use Rattle.std.proofs.lemmas.Bool.{cases_lt, false_from_ne_true, ltb-true}
 use Rattle.lfs_model.specs.Checkpoint.{CheckpointValue}
 use Rattle.lfs_model.specs.Device.{DeviceState, IsLawful}
 use Rattle.lfs_model.specs.Encodes.{IsLogMap}
 use Rattle.lfs_model.specs.Entry as entry
 use Rattle.lfs_model.specs.Need.{pointers}
-use Rattle.lfs_model.specs.Objects.{is_stored, stored_blocks}
+use Rattle.lfs_model.specs.Objects.{has_leaf, is_stored, one_if, stored_blocks}
 use Rattle.lfs_model.specs.Stands.{LogMap}
 use Rattle.lfs_log.specs.memory.declared.changes.Changes.{Changes}
 use Rattle.lfs_log.specs.memory.declared.header.Header.{Header}
@@ -16,11 +17,13 @@ use Rattle.lfs_log.specs.memory.Present.{as_header}
 use Rattle.lfs_log.specs.Held.{Held, Holds, Reads}
 use Rattle.lfs_store.specs.declared.totals.Measure.{Measure}
 use Rattle.lfs_store.specs.declared.totals.Totals.{Totals}
-use Rattle.lfs_store.specs.Measuring.{EndsBy, CountsStored, CountsLeaves, CountsPointers, Measures, CountsFiles}
+use Rattle.lfs_store.specs.Measuring.{EndsBy, CountsStored, CountsLeaves, CountsPointers, Measures, CountsFiles, TellsDouble}
 use Rattle.lfs_store.specs.Reading.{ReadsHeader}
-use Rattle.lfs_store.specs.Totals.{stored_in, meta_of_file, data_of_file, sum_upto}
+use Rattle.lfs_store.specs.Totals.{leaf_from, leaf_to, stored_in, meta_of_file, data_of_file, sum_upto}
 use Rattle.lfs_store.proofs.LogReads.{held_still, reads_none, reads_more}
-use Rattle.lfs_store.proofs.Pointers.{pointers_by_leaves}
+use Rattle.lfs_store.proofs.Leaves.{beside_all, beside_none, beside_split, leaves_to_end}
+use Rattle.lfs_store.proofs.Measured.{CountedUpTo, Tells, counts_leaves}
+use Rattle.lfs_store.proofs.Pointers.{double_found, double_none, pointers_all}
 use Rattle.lfs_store.proofs.Ranges.{passing_nothing}
 use Rattle.lfs_store.proofs.Summing.{stored_split, stored_all}
 
@@ -65,17 +68,36 @@ module _ {D : Type 0} (state : D → DeviceState) (c : Changes) (n : ℕ) where
       let none = answer k m0 m keeps is in
       record {
         stored = sym (stored_nothing (staged c m) n from to (λ i le lt. nothing_stored (staged c m) n map none i));
-        above = sym (ap (λ (o : Option entry.Header). elim o [ None ↦ 0 | Some h ↦ 1 + pointers (stored_blocks (staged c m) n) ]) none);
+        above = (
+            let beside = beside_none (staged c m) n (nothing_stored (staged c m) n map none) from to in
+            let gone : meta_of_file (staged c m) n ≡ 0 = ap (λ (o : Option entry.Header). elim o [ None ↦ 0 | Some h ↦ 1 + pointers (stored_blocks (staged c m) n) ]) none in
+            omega (arith, beside, gone));
       }
 
-  pub counts_pointers : (h a b : Held D) (size end single below : ℕ) → Reads state h a → Reads state a b → (size ≤ 512 * (112 + 128 * end)) ⊎ (129 ≤ end) → end ≤ 129
-      → CountsLeaves state h a c n 0 (min end 1) single → CountsLeaves state a b c n 1 (max end 1) below → CountsPointers state h b c n size (single + below + min below 1)
-  counts_pointers h a b size end single below one two past few first others k m0 m keeps is ends =
-      pointers_by_leaves (staged c m) n size end ends past single below few
-      (first k m0 m (two.looks.carries.kept_before keeps) is) (others k m0 m keeps (held_still state h a k m0 m one is))
+  -- the double root: a leaf below it is stored, or none was found
+  pub double_told : (h a b : Held D) (size leaf : ℕ) → Reads state h a → 1 ≤ leaf → leaf ≤ 128 → Tells state (λ m. has_leaf m n) a b c leaf true → TellsDouble state h b c n size true
+  double_told h a b size leaf one some few tells k m0 m keeps is ends = sym (double_found (staged c m) n leaf some few (tells k m0 m keeps (held_still state h a k m0 m one is)))
+
+  pub double_missed : (h b : Held D) (size end index : ℕ) → (size ≤ 512 * (112 + 128 * end)) ⊎ (129 ≤ end) → end ≤ 129 → index ≡ max end 1 → CountedUpTo state (λ m. has_leaf m n) h b c 1 index 0 → TellsDouble state h b c n size false
+  double_missed h b size end index past few last was k m0 m keeps is ends =
+      sym (double_none (staged c m) n size end ends past (counts_leaves state h b c n 1 (max end 1) index 0 last was k m0 m keeps is) few)
+
+  pub counts_pointers : (h a b : Held D) (size blocks from to count : ℕ) (found : Bool) → Reads state h a → Reads state a b → size ≤ 512 * blocks → from ≤ to → to ≤ 16624
+      → CountsLeaves state h a c n (min (leaf_from from) (leaf_to (min blocks to))) (leaf_to (min blocks to)) count → TellsDouble state a b c n size found → CountsPointers state h b c n size from to (count + bool_byte found)
+  counts_pointers h a b size blocks from to count found one two covers order low leaves double k m0 m keeps is ends =
+      let counted = leaves k m0 m (two.looks.carries.kept_before keeps) is in
+      let root = double k m0 m keeps (held_still state h a k m0 m one is) ends in
+      let same = leaves_to_end (staged c m) n size blocks from to ends covers order low in
+      let all = beside_split (staged c m) n from to order low in
+      let up = pointers_all (staged c m) n in
+      omega (arith, counted, root, same, all, up, byte found)
+    where
+      byte : (b : Bool) → bool_byte b ≡ one_if b
+      byte true = refl
+      byte false = refl
 
   pub measured : (h a b d : Held D) (head : Header) (blocks from to count above : ℕ) → Reads state h a → Reads state a b → Reads state b d → head.size ≤ 512 * blocks → from ≤ to
-      → ReadsHeader state h a c n (Some head) → CountsStored state a b c n (min from (min blocks to)) (min blocks to) count → CountsPointers state b d c n head.size above
+      → ReadsHeader state h a c n (Some head) → CountsStored state a b c n (min from (min blocks to)) (min blocks to) count → CountsPointers state b d c n head.size from to above
       → Measures state h d c n from to (record { data_blocks = count; meta_blocks = 1 + above })
   measured h a b d head blocks from to count above one two three covers order answer counted below k m0 m keeps is map =
       let keeps_b = three.looks.carries.kept_before keeps in
@@ -85,9 +107,10 @@ module _ {D : Type 0} (state : D → DeviceState) (c : Changes) (n : ℕ) where
       let held_b = held_still state a b k m0 m two held_a in
       let ends = ends_by (staged c m) n head map at in
       let up = below k m0 m keeps held_b ends in
+      let is_there : meta_of_file (staged c m) n ≡ 1 + pointers (stored_blocks (staged c m) n) = ap (λ (o : Option entry.Header). elim o [ None ↦ 0 | Some h ↦ 1 + pointers (stored_blocks (staged c m) n) ]) at in
       record {
         stored = sym (sym (stored_to_end (staged c m) n head.size blocks from to ends covers order) ∙ counted k m0 m keeps_b held_a);
-        above = sym (ap (λ (o : Option entry.Header). elim o [ None ↦ 0 | Some h ↦ 1 + pointers (stored_blocks (staged c m) n) ]) at ∙ ap (λ (k : ℕ). 1 + k) up);
+        above = omega (arith, up, is_there);
       }
 
 -- ---- all files
@@ -137,7 +160,9 @@ module _ {D : Type 0} (state : D → DeviceState) (c : Changes) where
         ap₂ (λ (x y : ℕ). x + y) before all ∙ sym (sum_next (data_of_file (staged c m)) number some);
     above = λ k m0 m keeps is map.
         let before = was.above k m0 m (reads.looks.carries.kept_before keeps) is map in
-        let own = (measures k m0 m keeps (held_still state h a k m0 m was.reads is) map).above in
+        let all = (measures k m0 m keeps (held_still state h a k m0 m was.reads is) map).above in
+        let none = beside_all (staged c m) number in
+        let own : found.meta_blocks ≡ meta_of_file (staged c m) number = omega (arith, all, none) in
         ap₂ (λ (x y : ℕ). x + y) before own ∙ sym (sum_next (meta_of_file (staged c m)) number some);
   }
 

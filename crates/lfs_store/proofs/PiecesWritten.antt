@@ -5,10 +5,10 @@ use Rattle.std.proofs.lemmas.List.{get_or-take, get_or-drop}
 use Rattle.lfs_model.specs.Changing.{IsWithBlock}
 use Rattle.lfs_model.specs.Objects.{byte_in, Overlays}
 use Rattle.lfs_model.specs.Stands.{LogMap}
-use Rattle.lfs_model.proofs.ObjectBytes.{block_overlaid}
+use Rattle.lfs_model.proofs.ObjectBytes.{block_overlaid, overlays_by_blocks}
 use Rattle.lfs_model.proofs.ObjectMaps.{block_whole}
 use Rattle.lfs_log.specs.memory.Changing.{stored}
-use Rattle.lfs_store.specs.Pieces.{place_in_block, piece, BlockOverlays, HoldsBlock, WriteSoFar, WriteBegins, WriteGoesOn, WriteHeads, WriteIsDone}
+use Rattle.lfs_store.specs.Pieces.{place_in_block, piece, BlockOverlays, Covers, HoldsBlock, IsBeneath, WriteSoFar, WriteBegins, WriteGoesOn, WriteHeads, WriteIsDone}
 use Rattle.lfs_store.proofs.PiecesLaid.{length_piece}
 use Rattle.lfs_store.proofs.PiecesStored.{stored_reads, stored_whole, other_block, block_apart, changed_twice, changed_none, same_whole}
 
@@ -22,7 +22,34 @@ write_begins m n at w = record {
   whole = λ was. was;
 }
 
-module _ (m m' m'' : LogMap) (n at index : ℕ) (w old new : List ℕ) (far : WriteSoFar m m' n at w index) (holds : HoldsBlock m' n index old) (over : BlockOverlays at w index old new)
+-- One block with the bytes that lie in it laid over is the file with them laid over.
+module _ (m' m'' : LogMap) (n at index : ℕ) (w old new : List ℕ) (over : BlockOverlays at w index old new) (with_it : IsWithBlock m' n index (stored new) m'') where
+  -- it had these bytes
+  over_old : HoldsBlock m' n index old → Overlays (512 * index + place_in_block at index) (piece at w index) (byte_in m' n) (byte_in m'' n)
+  over_old holds = block_overlaid m' m'' n index (stored new) with_it (place_in_block at index) (piece at w index) over.fits record {
+    before = λ k lt. stored_reads new k ∙ over.laid.before k lt ∙ holds.bytes k;
+    inside = λ j lt. stored_reads new (place_in_block at index + j) ∙ over.laid.inside j lt;
+    behind = λ k le. stored_reads new k ∙ over.laid.behind k le ∙ holds.bytes k;
+  }
+
+  -- or all of them are new
+  over_any : Covers at w index → Overlays (512 * index + place_in_block at index) (piece at w index) (byte_in m' n) (byte_in m'' n)
+  over_any covers =
+      let l = length_piece at w index in
+      let low = covers.0 in
+      let high = covers.1 in
+      overlays_by_blocks m' m'' n (512 * index + place_in_block at index) (piece at w index)
+      (λ i k few before. apart i k (λ is. absurd (omega (arith, is, before, low))))
+      (λ i k j few lt is. (
+      let place : k ≡ place_in_block at index + j = omega (arith, few, lt, is, low, high, l) in
+      let own : i ≡ index = omega (arith, few, lt, is, low, high, l) in
+      ap (λ (q : ℕ). slice_index (m''.block n q) k) own ∙ ap (λ (b : List ℕ). slice_index b k) with_it.own ∙ stored_reads new k ∙ ap (slice_index new) place ∙ over.laid.inside j lt))
+      (λ i k few behind. apart i k (λ is. absurd (omega (arith, is, few, behind, low, high, l))))
+    where
+      apart : (i k : ℕ) → (i ≡ index → ⊥) → slice_index (m''.block n i) k ≡ slice_index (m'.block n i) k
+      apart i k ne = ap (λ (b : List ℕ). slice_index b k) (other_block m' m'' n index (stored new) with_it i ne)
+
+module _ (m m' m'' : LogMap) (n at index : ℕ) (w old new : List ℕ) (far : WriteSoFar m m' n at w index) (beneath : IsBeneath m' n index at w old) (over : BlockOverlays at w index old new)
     (long : length new ≡ 512) (with_it : IsWithBlock m' n index (stored new) m'') where
   abbrev place : ℕ
   place = place_in_block at index
@@ -31,11 +58,7 @@ module _ (m m' m'' : LogMap) (n at index : ℕ) (w old new : List ℕ) (far : Wr
   some = piece at w index
 
   step : Overlays (512 * index + place) some (byte_in m' n) (byte_in m'' n)
-  step = block_overlaid m' m'' n index (stored new) with_it place some over.fits record {
-    before = λ k lt. stored_reads new k ∙ over.laid.before k lt ∙ holds.bytes k;
-    inside = λ j lt. stored_reads new (place + j) ∙ over.laid.inside j lt;
-    behind = λ k le. stored_reads new k ∙ over.laid.behind k le ∙ holds.bytes k;
-  }
+  step = ⊎_elim (λ holds. over_old m' m'' n at index w old new over with_it holds) (λ covers. over_any m' m'' n at index w old new over with_it covers) beneath
 
   go_before : (p : ℕ) → p < at → byte_in m'' n p ≡ byte_in m n p
   go_before p lt =
@@ -81,7 +104,7 @@ module _ (m m' m'' : LogMap) (n at index : ℕ) (w old new : List ℕ) (far : Wr
   }
 
 pub write_goes_on : WriteGoesOn
-write_goes_on m m' m'' n at index w old new far holds over long with_it = gone_on m m' m'' n at index w old new far holds over long with_it
+write_goes_on m m' m'' n at index w old new far beneath over long with_it = gone_on m m' m'' n at index w old new far beneath over long with_it
 
 pub write_heads : WriteHeads
 write_heads m m' m'' n at index w h far with_it = record {

@@ -1,4 +1,4 @@
--- The blocks of pointers of a file, by its leaves below its end.
+-- The blocks of pointers of a file, by its leaves.
 use Rattle.std.specs.Prelude.{min, max}
 use Rattle.std.specs.Int.{div_ceil}
 use Rattle.std.proofs.Common.{◌≡◌, ◌<◌, ◌≤◌, ◌⊎◌, ⊎_elim, ◌+◌, ◌-◌, ◌*◌, ◌||◌, ℕ, zero, suc, Bool, true, false, length, refl, sym, ◌∙◌, ap, ap₂, arith, inl, inr}
@@ -9,7 +9,8 @@ use Rattle.lfs_model.specs.Need.{pointers}
 use Rattle.lfs_model.specs.Objects.{has_double, has_leaf, one_if, stored_blocks}
 use Rattle.lfs_model.specs.Stands.{LogMap, count_up}
 use Rattle.lfs_model.proofs.ObjectPointers.{leaf_tests, pointer_count}
-use Rattle.lfs_store.specs.Measuring.{EndsBy, leaves_in}
+use Rattle.lfs_store.specs.Measuring.{EndsBy}
+use Rattle.lfs_store.specs.Totals.{leaves_in}
 use Rattle.lfs_store.proofs.Ranges.{passing, passing_none, passing_first, passing_split, passing_nothing}
 
 -- ---- ranges
@@ -55,9 +56,46 @@ module _ (m : LogMap) (n : ℕ) where
       let root = double_count ∙ ap (λ (k : ℕ). min k 1) (below_count ∙ others) in
       pointer_count m n ∙ ap₂ (λ (a b : ℕ). a + b) (ap₂ (λ (a b : ℕ). a + b) first up) root
 
+  -- all of them, and the double root where one of those below it is stored
+  pointers_of : (all below : ℕ) → all ≡ suc below → below ≡ 128 → pointers (stored_blocks m n) ≡ passing (has_leaf m n) 0 all + min (passing (has_leaf m n) 1 below) 1
+  pointers_of all below next is =
+      let up = by_leaves (one_if (has_leaf m n 0)) (passing (has_leaf m n) 1 below) refl (ap (passing (has_leaf m n) 1) (sym is)) in
+      let first = ap (passing (has_leaf m n) 0) next ∙ passing_first (has_leaf m n) 0 below in
+      omega (arith, up, first)
+
+  pub pointers_all : pointers (stored_blocks m n) ≡ leaves_in m n 0 129 + min (leaves_in m n 1 129) 1
+  unfolding leaves_in
+  pointers_all = pointers_of (129 - 0) (129 - 1) (omega arith) (omega arith)
+
+  -- ---- ranges of leaves
+  pub leaves_none : (a b : ℕ) → ((q : ℕ) → a ≤ q → q < b → has_leaf m n q ≡ false) → leaves_in m n a b ≡ 0
+  unfolding leaves_in
+  leaves_none a b none = passing_nothing (has_leaf m n) a (b - a) (λ q le lt. none q le (omega (arith, le, lt)))
+
+  pub leaves_split : (a b c : ℕ) → a ≤ b → b ≤ c → leaves_in m n a c ≡ leaves_in m n a b + leaves_in m n b c
+  unfolding leaves_in
+  leaves_split a b c low high = passing_split (has_leaf m n) a (b - a) (c - b) b (c - a) (omega (arith, low)) (omega (arith, low, high))
+
+  leaves_one : (q : ℕ) → has_leaf m n q ≡ true → leaves_in m n q (q + 1) ≡ 1
+  unfolding leaves_in
+  leaves_one q on =
+      let one : q + 1 - q ≡ 1 = omega arith in
+      let first = passing_first (has_leaf m n) q 0 in
+      let none = passing_none (has_leaf m n) (q + 1) in
+      let own = ap one_if on in
+      ap (passing (has_leaf m n) q) one ∙ omega (arith, first, none, own)
+
+  -- ---- the double root
+  pub double_found : (q : ℕ) → 1 ≤ q → q ≤ 128 → has_leaf m n q ≡ true → min (leaves_in m n 1 129) 1 ≡ 1
+  double_found q some few on =
+      let low = leaves_split 1 q 129 some (omega (arith, few)) in
+      let high = leaves_split q (q + 1) 129 (omega arith) (omega (arith, few)) in
+      let own = leaves_one q on in
+      omega (arith, low, high, own)
+
   -- no leaf from an end on is stored
   module _ (size end : ℕ) (ends : EndsBy m n size) (past : (size ≤ 512 * (112 + 128 * end)) ⊎ (129 ≤ end)) where
-    empty : (q : ℕ) → end ≤ q → q ≤ 128 → has_leaf m n q ≡ false
+    pub empty : (q : ℕ) → end ≤ q → q ≤ 128 → has_leaf m n q ≡ false
     empty q le low = false_from_ne_true (has_leaf m n q) (λ on.
         let has = ((leaf_tests m n).0 q).0 on in
         let there = lt-ltb 0 (length (m.block n (112 + 128 * q + has.0))) has.2 in
@@ -68,29 +106,11 @@ module _ (m : LogMap) (n : ℕ) where
         let bad : true ≡ false = sym there ∙ off in
         absurd (cc))
 
-    single_count : leaves_in m n 0 (min end 1) ≡ one_if (has_leaf m n 0)
-    unfolding leaves_in
-    single_count = ⊎_elim
-        (λ (none : end < 1).
-        let e : min end 1 - 0 ≡ 0 = omega (arith, none) in
-        let off = ap one_if (empty 0 (omega (arith, none)) (omega arith)) in
-        ap (passing (has_leaf m n) 0) e ∙ passing_none (has_leaf m n) 0 ∙ sym off)
-        (λ (some : 1 ≤ end).
-        let e : min end 1 - 0 ≡ 1 = omega (arith, some) in
-        let f = passing_first (has_leaf m n) 0 0 in
-        let z = passing_none (has_leaf m n) (0 + 1) in
-        ap (passing (has_leaf m n) 0) e ∙ omega (arith, f, z))
-        (cases_lt end 1)
-
-    others_count : (many : ℕ) → many ≡ 128 → end ≤ 129 → leaves_in m n 1 (max end 1) ≡ passing (has_leaf m n) 1 many
-    unfolding leaves_in
-    others_count many all few =
-        let split = passing_split (has_leaf m n) 1 (max end 1 - 1) (129 - max end 1) (max end 1) many (omega arith) (omega (arith, all, few)) in
-        let rest = passing_nothing (has_leaf m n) (max end 1) (129 - max end 1) (λ q le lt. empty q (omega (arith, le)) (omega (arith, lt, few))) in
-        omega (arith, split, rest)
-
-    pub pointers_by_leaves : (single below : ℕ) → end ≤ 129 → leaves_in m n 0 (min end 1) ≡ single → leaves_in m n 1 (max end 1) ≡ below → pointers (stored_blocks m n) ≡ single + below + min below 1
-    pointers_by_leaves single below few first others = by_leaves single below (sym single_count ∙ first) (sym (others_count 128 refl few) ∙ others)
+    pub double_none : leaves_in m n 1 (max end 1) ≡ 0 → end ≤ 129 → min (leaves_in m n 1 129) 1 ≡ 0
+    double_none none few =
+        let split = leaves_split 1 (max end 1) 129 (omega arith) (omega (arith, few)) in
+        let rest = leaves_none (max end 1) 129 (λ q le lt. empty q (omega (arith, le)) (omega (arith, lt))) in
+        omega (arith, split, none, rest)
 
 -- as many leaves as the blocks of a size need, or all
 pub leaves_cover : (size blocks leaves end : ℕ) → blocks ≡ div_ceil size 512 → leaves ≡ div_ceil (blocks - 112) 128 → end ≡ min leaves 129 → (size ≤ 512 * (112 + 128 * end)) ⊎ (129 ≤ end)

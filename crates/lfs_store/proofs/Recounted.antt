@@ -25,6 +25,7 @@ use Rattle.lfs_store.specs.Recounting.{AreTotals, Recounts, Remeasures, Counts, 
 use Rattle.lfs_store.specs.Totals.{HasMeasure, meta_of_file, data_in, meta_in}
 use Rattle.lfs_store.specs.Writing.{Writes, SetsLen}
 use Rattle.lfs_store.proofs.Apart.{no_change}
+use Rattle.lfs_store.proofs.Leaves.{beside_none}
 use Rattle.lfs_store.proofs.LogReads.{held_still}
 use Rattle.lfs_store.proofs.Makings.{changed_header, without_header, without_changed}
 use Rattle.lfs_store.proofs.Measures.{nothing_stored, stored_nothing}
@@ -47,7 +48,10 @@ meta_by o k = elim o [ None ↦ 0 | Some h ↦ 1 + k ]
 pub no_measure : (m : LogMap) (n from to : ℕ) → ((i : ℕ) → is_stored m n i ≡ false) → m.header n ≡ None → HasMeasure m n from to 0 0
 no_measure m n from to none gone = record {
   stored = sym (stored_nothing m n from to (λ i le lt. none i));
-  above = sym (ap (λ (o : Option Header). meta_by o (pointers (stored_blocks m n))) gone);
+  above = (
+      let beside = beside_none m n none from to in
+      let meta : meta_of_file m n ≡ 0 = ap (λ (o : Option Header). meta_by o (pointers (stored_blocks m n))) gone in
+      omega (arith, beside, meta));
 }
 
 -- ---- a file is made
@@ -55,7 +59,7 @@ pub made_counts : (c c' : Changes) (n : ℕ) (head : headers.Header) (old new : 
     → Recounts old new (record { data_blocks = 0; meta_blocks = 0 }) (record { data_blocks = 0; meta_blocks = 1 }) → CountsMade c c' n old new
 made_counts c c' n head old new some few makes recounts m map gone are =
     recounted (staged c m) (staged c' m) n 0 0 old new (record { data_blocks = 0; meta_blocks = 0 }) (record { data_blocks = 0; meta_blocks = 1 }) changed some few (omega arith) (omega arith)
-    (λ i out. same n i) (no_measure (staged c m) n 0 0 none gone) (record { stored = sym (stored_nothing (staged c' m) n 0 0 (λ i le lt. none' i)); above = above }) recounts are
+    (λ i out. same n i) (no_measure (staged c m) n 0 0 none gone) (record { stored = sym (stored_nothing (staged c' m) n 0 0 (λ i le lt. none' i)); above = (let none = beside_none (staged c' m) n none' 0 0 in let one = above in omega (arith, none, one)) }) recounts are
   where
     same : (k i : ℕ) → (staged c' m).block k i ≡ (staged c m).block k i
     same k i = ap (λ (x : LogMap). x.block k i) (makes.map m)

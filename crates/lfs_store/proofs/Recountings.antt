@@ -18,6 +18,7 @@ use Rattle.lfs_store.specs.declared.totals.Totals.{Totals}
 use Rattle.lfs_store.specs.Measuring.{Measures}
 use Rattle.lfs_store.specs.Recounting.{Replaces, AreTotals, Recounts, Remeasures, Counts}
 use Rattle.lfs_store.specs.Totals.{stored_in, data_of_file, meta_of_file, sum_upto, data_in, meta_in, HasMeasure}
+use Rattle.lfs_store.proofs.Leaves.{beside_same}
 use Rattle.lfs_store.proofs.LogReads.{held_still}
 use Rattle.lfs_store.proofs.Ranges.{passing, passing_first, passing_none}
 use Rattle.lfs_store.proofs.Summing.{stored_all, totals_of_change}
@@ -82,9 +83,13 @@ pub recounted : (m m' : LogMap) (n from to : ℕ) (old new : Totals) (before aft
     → HasMeasure m n from to before.data_blocks before.meta_blocks → HasMeasure m' n from to after.data_blocks after.meta_blocks → Recounts old new before after → AreTotals m old → AreTotals m' new
 recounted m m' n from to old new before after changed some few order low same was now recounts are =
     let law = totals_of_change m m' n from to changed some few order low same in
+    let beside = beside_same m m' n from to same in
+    let first = was.above in
+    let last = now.above in
+    let all = law.1 in
     record {
       stored = replaced old.data_blocks before.data_blocks after.data_blocks new.data_blocks (data_in m') (stored_in m n from to) (stored_in m' n from to) (data_in m) recounts.stored are.stored was.stored now.stored law.0 (data_low m');
-      above = replaced old.meta_blocks before.meta_blocks after.meta_blocks new.meta_blocks (meta_in m') (meta_of_file m n) (meta_of_file m' n) (meta_in m) recounts.above are.above was.above now.above law.1 (meta_low m');
+      above = replaced old.meta_blocks before.meta_blocks after.meta_blocks new.meta_blocks (meta_in m') before.meta_blocks after.meta_blocks (meta_in m) recounts.above are.above refl refl (omega (arith, first, last, beside, all)) (meta_low m');
     }
 
 -- ---- over a log

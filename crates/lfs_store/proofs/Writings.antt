@@ -23,7 +23,7 @@ use Rattle.lfs_log.specs.Held.{Held, Holds, Reads}
 use Rattle.lfs_store.specs.Drafting.{PutsBlock, PutsHeader, TakesBlock, TakesHeader, IsApart}
 use Rattle.lfs_store.specs.Pieces.{HoldsBlock, BlockOverlays, WriteSoFar}
 use Rattle.lfs_store.specs.Reading.{ReadsBlock}
-use Rattle.lfs_store.specs.Writing.{resized, WritesFile, WritesBlock, Writes, TakesWrite}
+use Rattle.lfs_store.specs.Writing.{ReadsBeneath, resized, WritesFile, WritesBlock, Writes, TakesWrite}
 use Rattle.lfs_store.proofs.LogReads.{held_still, reads_more}
 use Rattle.lfs_store.proofs.PiecesRead.{last_block}
 use Rattle.lfs_store.proofs.PiecesStored.{other_block}
@@ -62,9 +62,9 @@ takes_header c m n head head' there name apart fits = record { header = fits; na
 
 module _ {D : Type 0} (state : D → DeviceState) where
   -- ---- one block
-  pub block_written : (h h' : Held D) (c c' : Changes) (n index at : ℕ) (w old new : List ℕ) (found : Bool) → length old ≡ 512 → length new ≡ 512 → (IsFalse found → old ≡ zeros 512)
-      → ReadsBlock state h h' c n index old found → BlockOverlays at w index old new → PutsBlock c c' n index new → WritesBlock state h h' c c' n index at w
-  block_written h h' c c' n index at w old new found long stays blank answer over puts = record {
+  pub block_written : (h h' : Held D) (c c' : Changes) (n index at : ℕ) (w old new : List ℕ) → length new ≡ 512
+      → ReadsBeneath state h h' c n index at w old → BlockOverlays at w index old new → PutsBlock c c' n index new → WritesBlock state h h' c c' n index at w
+  block_written h h' c c' n index at w old new stays beneath over puts = record {
     few = puts.few;
     headers = puts.headers;
     loss = puts.loss;
@@ -72,9 +72,14 @@ module _ {D : Type 0} (state : D → DeviceState) where
     others = λ m i ne. other_block (staged c m) (staged c' m) n index (stored new) (block_put (staged c m) (staged c' m) n index (stored new) (puts.map m)) i ne;
     fits = puts.fits;
     goes_on = λ k m0 m a keeps is far.
-        write_goes_on a (staged c m) (staged c' m) n at index w old new far (block_read (staged c m) n index old found long blank (answer k m0 m keeps is)) over stays
+        write_goes_on a (staged c m) (staged c' m) n at index w old new far (beneath k m0 m keeps is) over stays
         (block_put (staged c m) (staged c' m) n index (stored new) (puts.map m));
   }
+
+  -- a block that is read is what bytes are laid over
+  pub read_beneath : (h h' : Held D) (c : Changes) (n index at : ℕ) (w old : List ℕ) (found : Bool) → length old ≡ 512 → (IsFalse found → old ≡ zeros 512)
+      → ReadsBlock state h h' c n index old found → ReadsBeneath state h h' c n index at w old
+  read_beneath h h' c n index at w old found long blank answer k m0 m keeps is = inl (block_read (staged c m) n index old found long blank (answer k m0 m keeps is))
 
   -- ---- the blocks up to here
   pub record WrittenUpTo (h h' : Held D) (c c' : Changes) (n at : ℕ) (w : List ℕ) (index : ℕ) : Type 0 where

@@ -1,11 +1,10 @@
 -- What is counted of a draft over a log.
-use Rattle.std.specs.Prelude.{◌≡◌, ◌<◌, ◌≤◌, ◌+◌, ◌-◌, ◌*◌, ℕ, Bool, false, length, filter, Option, Some, None}
-use Rattle.std.specs.List.{range_with_len}
+use Rattle.std.specs.Prelude.{◌≡◌, ◌<◌, ◌≤◌, ◌+◌, ◌*◌, ℕ, Bool, false, min, Option, Some, None}
 use Rattle.lfs_model.specs.Checkpoint.{CheckpointValue}
 use Rattle.lfs_model.specs.Device.{DeviceState}
 use Rattle.lfs_model.specs.Encodes.{IsLogMap}
 use Rattle.lfs_model.specs.Need.{pointers}
-use Rattle.lfs_model.specs.Objects.{is_stored, has_leaf, stored_blocks}
+use Rattle.lfs_model.specs.Objects.{is_stored, has_leaf, one_if, stored_blocks}
 use Rattle.lfs_model.specs.Stands.{LogMap}
 use Rattle.lfs_log.specs.memory.declared.batch.BlockEdit.{BlockEdit}
 use Rattle.lfs_log.specs.memory.declared.batch.Loss.{Loss}
@@ -15,7 +14,7 @@ use Rattle.lfs_log.specs.Held.{Held, Holds}
 use Rattle.lfs_store.specs.declared.totals.Measure.{Measure}
 use Rattle.lfs_store.specs.declared.totals.Totals.{Totals}
 use Rattle.lfs_store.specs.Reading.{KeepsBlock}
-use Rattle.lfs_store.specs.Totals.{stored_in, HasMeasure, IsCounted}
+use Rattle.lfs_store.specs.Totals.{leaves_beside, leaves_in, stored_in, HasMeasure, IsCounted}
 
 -- ---- a draft
 
@@ -42,10 +41,6 @@ LeavesLeaf c n q = (i : ℕ) → IsInLeaf q i → (m : LogMap) → (staged c m).
 
 -- ---- over a log: what is counted is the log map that it holds, after the draft
 
--- how many leaves of pointers of file n, from..to, are stored
-unfoldable pub leaves_in : LogMap → ℕ → ℕ → ℕ → ℕ
-leaves_in m n from to = length (filter (has_leaf m n) (range_with_len from (to - from)))
-
 -- file n has no block from a size on
 abbrev pub EndsBy : LogMap → ℕ → ℕ → Type 0
 EndsBy m n size = (i : ℕ) → size ≤ 512 * i → is_stored m n i ≡ false
@@ -67,11 +62,17 @@ module _ {D : Type 0} (state : D → DeviceState) where
   abbrev pub CountsLeaves : Held D → Held D → Changes → ℕ → ℕ → ℕ → ℕ → Type 0
   CountsLeaves h h' c n from to count = (k : CheckpointValue) (m0 m : LogMap) → (state h'.device).keeps_model → Holds state h k m0 m → leaves_in (staged c m) n from to ≡ count
 
-  -- its blocks of pointers, where it has no block from a size on
-  abbrev pub CountsPointers : Held D → Held D → Changes → ℕ → ℕ → ℕ → Type 0
-  CountsPointers h h' c n size count = (k : CheckpointValue) (m0 m : LogMap) → (state h'.device).keeps_model → Holds state h k m0 m → EndsBy (staged c m) n size → pointers (stored_blocks (staged c m) n) ≡ count
+  -- whether its double root is stored, since a leaf below it is, where it has no block from a size on
+  abbrev pub TellsDouble : Held D → Held D → Changes → ℕ → ℕ → Bool → Type 0
+  TellsDouble h h' c n size found = (k : CheckpointValue) (m0 m : LogMap) → (state h'.device).keeps_model → Holds state h k m0 m → EndsBy (staged c m) n size
+      → one_if found ≡ min (leaves_in (staged c m) n 1 129) 1
 
-  -- the blocks of file n: its data blocks from..to, and its inode and blocks of pointers
+  -- its blocks of pointers with a block at the indices from..to, and its double root, where it has no block from a size on
+  abbrev pub CountsPointers : Held D → Held D → Changes → ℕ → ℕ → ℕ → ℕ → ℕ → Type 0
+  CountsPointers h h' c n size from to count = (k : CheckpointValue) (m0 m : LogMap) → (state h'.device).keeps_model → Holds state h k m0 m → EndsBy (staged c m) n size
+      → count + leaves_beside (staged c m) n from to ≡ pointers (stored_blocks (staged c m) n)
+
+  -- the blocks of file n: its data blocks from..to, its inode, its leaves of pointers with a block there, and its double root
   abbrev pub Measures : Held D → Held D → Changes → ℕ → ℕ → ℕ → Measure → Type 0
   Measures h h' c n from to found = (k : CheckpointValue) (m0 m : LogMap) → (state h'.device).keeps_model → Holds state h k m0 m → IsLogMap (staged c m) → HasMeasure (staged c m) n from to found.data_blocks found.meta_blocks
 

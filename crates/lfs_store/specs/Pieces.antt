@@ -1,5 +1,5 @@
 -- Bytes laid over the blocks of a file, cut off them, and read out of them, one block after the other.
-use Rattle.std.specs.Prelude.{◌≡◌, ◌<◌, ◌≤◌, ℕ, ◌+◌, ◌-◌, ◌*◌, ◌/◌, ◌%◌, max, min, List, [], ◌++◌, length, take, drop, Option, slice_index}
+use Rattle.std.specs.Prelude.{◌≡◌, ◌⊎◌, ◌<◌, ◌≤◌, ℕ, ◌+◌, ◌-◌, ◌*◌, ◌/◌, ◌%◌, max, min, List, [], ◌++◌, length, take, drop, Option, slice_index}
 use Rattle.lfs_model.specs.Bytes.{part}
 use Rattle.lfs_model.specs.Changing.{IsWithBlock, IsWithHeader}
 use Rattle.lfs_model.specs.Entry.{Header}
@@ -37,6 +37,14 @@ pub record CutsTail (from : ℕ) (old new : List ℕ) : Type 0 where
 pub record HoldsBlock (m : LogMap) (n index : ℕ) (block : List ℕ) : Type 0 where
   pub long : length block ≡ 512
   pub bytes : (k : ℕ) → slice_index block k ≡ slice_index (m.block n index) k
+
+-- the bytes w, which begin at a place of a file, cover its block at an index whole
+abbrev pub Covers : ℕ → List ℕ → ℕ → Type 0
+Covers at w index = (at ≤ 512 * index) × (512 * index + 512 ≤ at + length w)
+
+-- What they are laid over: the block's bytes, or any where they cover it whole.
+abbrev pub IsBeneath : LogMap → ℕ → ℕ → ℕ → List ℕ → List ℕ → Type 0
+IsBeneath m n index at w old = HoldsBlock m n index old ⊎ Covers at w index
 
 -- ---- reading
 
@@ -81,7 +89,7 @@ WriteBegins = (m : LogMap) (n at : ℕ) (w : List ℕ) → WriteSoFar m m n at w
 
 -- A block with its piece laid over is stored, or isn't where it is zeros alone.
 abbrev pub WriteGoesOn : Type 0
-WriteGoesOn = (m m' m'' : LogMap) (n at index : ℕ) (w old new : List ℕ) → WriteSoFar m m' n at w index → HoldsBlock m' n index old
+WriteGoesOn = (m m' m'' : LogMap) (n at index : ℕ) (w old new : List ℕ) → WriteSoFar m m' n at w index → IsBeneath m' n index at w old
     → BlockOverlays at w index old new → length new ≡ 512 → IsWithBlock m' n index (stored new) m'' → WriteSoFar m m'' n at w (index + 1)
 
 -- The file may get another header at any time.

@@ -1,17 +1,33 @@
 -- The blocks by which a volume's space is counted: those of one file, and of all files of a log map.
-use Rattle.std.specs.Prelude.{◌≡◌, ◌≤◌, ◌<◌, ◌⊎◌, ◌+◌, ◌-◌, ℕ, zero, suc, length, filter, Some, None}
+use Rattle.std.specs.Prelude.{◌≡◌, ◌≤◌, ◌<◌, ◌⊎◌, ◌+◌, ◌-◌, ◌/◌, ℕ, zero, suc, length, filter, Some, None}
+use Rattle.std.specs.Int.{div_ceil}
 use Rattle.std.specs.List.{range_with_len}
 use Rattle.lfs_model.specs.declared.Kind.TheVariants as kind
 use Rattle.lfs_model.specs.Encodes.{IsLogMap}
 use Rattle.lfs_model.specs.Entry.{Header}
 use Rattle.lfs_model.specs.Need.{data_blocks, meta_blocks, pointers}
-use Rattle.lfs_model.specs.Objects.{AreLong, IsChangedAt, IsDirectory, is_stored, stored_blocks}
+use Rattle.lfs_model.specs.Objects.{AreLong, IsChangedAt, IsDirectory, has_leaf, is_stored, stored_blocks}
 use Rattle.lfs_model.specs.Stands.{LogMap}
 use Rattle.lfs_model.specs.TreeOf.{tree_in}
 
 -- how many blocks of file n at the indices from..to are stored
 unfoldable pub stored_in : LogMap → ℕ → ℕ → ℕ → ℕ
 stored_in m n from to = length (filter (is_stored m n) (range_with_len from (to - from)))
+
+-- how many leaves of pointers of file n, from..to, are stored
+unfoldable pub leaves_in : LogMap → ℕ → ℕ → ℕ → ℕ
+leaves_in m n from to = length (filter (has_leaf m n) (range_with_len from (to - from)))
+
+-- the first leaf that may have a block at an index or behind it, and the one behind the last that may have a block before it
+abbrev pub leaf_from : ℕ → ℕ
+leaf_from i = (i - 112) / 128
+
+abbrev pub leaf_to : ℕ → ℕ
+leaf_to i = div_ceil (i - 112) 128
+
+-- its leaves that have no block at the indices from..to
+abbrev pub leaves_beside : LogMap → ℕ → ℕ → ℕ → ℕ
+leaves_beside m n from to = leaves_in m n 0 (leaf_from from) + leaves_in m n (leaf_to to) 129
 
 -- its data blocks
 abbrev pub data_of_file : LogMap → ℕ → ℕ
@@ -38,10 +54,10 @@ pub record IsCounted (m : LogMap) (blocks others : ℕ) : Type 0 where
   pub stored : blocks ≡ data_in m
   pub above : others ≡ meta_in m
 
--- File n has so many blocks at the indices from..to, and so many others.
+-- File n has so many blocks at the indices from..to, and so many others, but for leaves of pointers without a block there.
 pub record HasMeasure (m : LogMap) (n from to blocks others : ℕ) : Type 0 where
   pub stored : blocks ≡ stored_in m n from to
-  pub above : others ≡ meta_of_file m n
+  pub above : others + leaves_beside m n from to ≡ meta_of_file m n
 
 -- Only object n changes, and of its blocks those at from..to: the totals change by its measure.
 abbrev pub TotalsOfChange : Type 0

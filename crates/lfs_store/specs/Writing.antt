@@ -16,7 +16,7 @@ use Rattle.lfs_log.specs.memory.Changing.{FitsHeader}
 use Rattle.lfs_log.specs.memory.Present.{as_header}
 use Rattle.lfs_log.specs.Held.{Held, Holds}
 use Rattle.lfs_store.specs.Drafting.{IsApart, TakesBlock}
-use Rattle.lfs_store.specs.Pieces.{WriteSoFar, CutBlocks}
+use Rattle.lfs_store.specs.Pieces.{IsBeneath, WriteSoFar, CutBlocks}
 
 -- the header of a file that has another size
 abbrev pub resized : Header → ℕ → Header
@@ -39,6 +39,11 @@ pub record TakesWrite (c : Changes) (m : LogMap) (n : ℕ) (h : Header) (at : �
   pub header : FitsHeader h.kind h.links (max h.size (at + length w))
 
 module _ {D : Type 0} (state : D → DeviceState) where
+  -- what the bytes of one block are laid over
+  abbrev pub ReadsBeneath : Held D → Held D → Changes → ℕ → ℕ → ℕ → List ℕ → List ℕ → Type 0
+  ReadsBeneath h h' c n index at w out = (k : CheckpointValue) (m0 m : LogMap) → (state h'.device).keeps_model → Holds state h k m0 m
+      → IsBeneath (staged c m) n index at w out
+
   -- One block more has the bytes that lie in it.
   pub record WritesBlock (h h' : Held D) (c c' : Changes) (n index at : ℕ) (w : List ℕ) : Type 0 where
     pub few : length c'.blocks.items ≤ length c.blocks.items + 1

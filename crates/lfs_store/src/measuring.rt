@@ -23,7 +23,7 @@ const LEAVES: u32 = 1 + POINTERS;
 
 impl<D: SectorDevice> Store<D> {
     ghost use Rattle.lfs_log.specs.Held.{Reads, IsReadFault};
-    ghost use Rattle.lfs_store.specs.Measuring.{TellsStored, TellsLeaf, CountsStored, CountsLeaves, CountsPointers, Measures, CountsFiles};
+    ghost use Rattle.lfs_store.specs.Measuring.{TellsStored, TellsLeaf, TellsDouble, CountsStored, CountsLeaves, CountsPointers, Measures, CountsFiles};
 
     /// Whether a block of a file is stored. It reads no block of data.
     fn is_stored(&mut self, number: u16, index: u32) -> Result<bool, LogFault>
@@ -140,35 +140,68 @@ impl<D: SectorDevice> Store<D> {
         Ok(count)
     }
 
-    /// How many blocks of pointers a file of this size has: leaves, and the double root where a leaf below it is stored.
-    fn count_pointers(&mut self, number: u16, size: u32) -> Result<u32, LogFault>
+    /// Whether the double root of pointers of a file of this size is stored, since a leaf below it is.
+    fn has_double(&mut self, number: u16, size: u32) -> Result<bool, LogFault>
         requires { number < 4096 }
         ensures reads { Reads D.SectorDevice.state self.old.log self.new.log }
         ensures draft { self.new.draft ≡ self.old.draft }
         ensures saved { self.new.saved ≡ self.old.saved }
         ensures totals { self.new.totals ≡ self.old.totals }
         ensures drafted { self.new.drafted ≡ self.old.drafted }
-        ensures few { IfOk result (λ count. count ≤ 130) }
-        ensures answer { IfOk result (CountsPointers D.SectorDevice.state self.old.log self.new.log self.old.draft.changes number size) }
+        ensures answer { IfOk result (TellsDouble D.SectorDevice.state self.old.log self.new.log self.old.draft.changes number size) }
         ensures failed { OnErr result (IsReadFault D.SectorDevice.state self.old.log self.new.log) }
         ensures halted { IsErrOf result LogFault.Halted → self.old.log.halted ≡ true }
         ensures other { IsErrOf result LogFault.Full → ⊥ }
     {
         let blocks = size.div_ceil(512);
         let end = blocks.saturating_sub(DIRECT).div_ceil(POINTERS).min(LEAVES);
-        let single = match self.count_leaves(number, 0, end.min(1)) {
-            Ok(count) => count,
-            Err(fault) => return Err(fault),
-        };
-        let below = match self.count_leaves(number, 1, end.max(1)) {
-            Ok(count) => count,
-            Err(fault) => return Err(fault),
-        };
-        Ok(single + below + below.min(1))
+        for leaf in 1..end.max(1) {
+            match self.has_leaf(number, leaf) {
+                Ok(true) => return Ok(true),
+                Ok(false) => {}
+                Err(fault) => return Err(fault),
+            }
+        }
+        Ok(false)
     }
 
-    /// How many blocks a file has: data blocks at the indices from one on to another, and its inode and all its blocks of pointers.
-    /// It reads no block of data.
+    /// How many blocks of pointers a file of this size has: leaves with a block at the indices from one on to another, and the double root.
+    fn count_pointers(
+        &mut self,
+        number: u16,
+        size: u32,
+        from: u32,
+        to: u32,
+    ) -> Result<u32, LogFault>
+        requires number { number < 4096 }
+        requires order { from ≤ to }
+        requires low { to ≤ 16624 }
+        ensures reads { Reads D.SectorDevice.state self.old.log self.new.log }
+        ensures draft { self.new.draft ≡ self.old.draft }
+        ensures saved { self.new.saved ≡ self.old.saved }
+        ensures totals { self.new.totals ≡ self.old.totals }
+        ensures drafted { self.new.drafted ≡ self.old.drafted }
+        ensures few { IfOk result (λ count. count ≤ 130) }
+        ensures answer { IfOk result (CountsPointers D.SectorDevice.state self.old.log self.new.log self.old.draft.changes number size from to) }
+        ensures failed { OnErr result (IsReadFault D.SectorDevice.state self.old.log self.new.log) }
+        ensures halted { IsErrOf result LogFault.Halted → self.old.log.halted ≡ true }
+        ensures other { IsErrOf result LogFault.Full → ⊥ }
+    {
+        let blocks = size.div_ceil(512).min(to);
+        let end = blocks.saturating_sub(DIRECT).div_ceil(POINTERS);
+        let first = (from.saturating_sub(DIRECT) / POINTERS).min(end);
+        let leaves = match self.count_leaves(number, first, end) {
+            Ok(count) => count,
+            Err(fault) => return Err(fault),
+        };
+        match self.has_double(number, size) {
+            Ok(found) => Ok(leaves + u32::from(found)),
+            Err(fault) => Err(fault),
+        }
+    }
+
+    /// How many blocks a file has: data blocks at the indices from one on to another, its inode, its leaves of pointers with a block there, and
+    /// its double root. It reads no block of data.
     ///
     /// # Errors
     ///
@@ -204,7 +237,7 @@ impl<D: SectorDevice> Store<D> {
             Ok(count) => count,
             Err(fault) => return Err(fault),
         };
-        let pointers = match self.count_pointers(number, size) {
+        let pointers = match self.count_pointers(number, size, from, to) {
             Ok(count) => count,
             Err(fault) => return Err(fault),
         };

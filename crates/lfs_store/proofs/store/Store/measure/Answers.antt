@@ -32,7 +32,7 @@ returns-clause-answer g c =
     let told = subst (λ (d : Draft). CountsStored state c.header.new.self.log c.count_stored.new.self.log d.changes c.args.number c.min.result c.min-end.result c.in-Ok.count) c.header.ensures.draft c.in-Ok.ensures.answer in
     let counted = subst (λ (end : ℕ). CountsStored state c.header.new.self.log c.count_stored.new.self.log c.args.self.now.draft.changes c.args.number (min c.args.from end) end c.in-Ok.count) c.min-end.ensures
     (subst (λ (start : ℕ). CountsStored state c.header.new.self.log c.count_stored.new.self.log c.args.self.now.draft.changes c.args.number start c.min-end.result c.in-Ok.count) c.min.ensures told) in
-    let below = subst (λ (d : Draft). CountsPointers state c.count_stored.new.self.log c.count_pointers.new.self.log d.changes c.args.number c.in-Ok-Some.header.size c.in-Ok-count_pointers.count)
+    let below = subst (λ (d : Draft). CountsPointers state c.count_stored.new.self.log c.count_pointers.new.self.log d.changes c.args.number c.in-Ok-Some.header.size c.args.from c.args.to c.in-Ok-count_pointers.count)
     (c.count_stored.ensures.draft ∙ c.header.ensures.draft) c.in-Ok-count_pointers.ensures.answer in
     measured state c.args.self.now.draft.changes c.args.number c.args.self.now.log c.header.new.self.log c.count_stored.new.self.log c.count_pointers.new.self.log c.in-Ok-Some.header c.div_ceil.result c.args.from c.args.to
     c.in-Ok.count c.in-Ok-count_pointers.count c.header.ensures.reads c.count_stored.ensures.reads c.count_pointers.ensures.reads covers c.requires.order answer counted below
