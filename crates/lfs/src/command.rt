@@ -13,7 +13,7 @@ use lfs_script::fs::Fs;
 use lfs_script::{Answer, ScriptEnd, put_reply, read_u32, use_and_stop, use_volume};
 use std::alloc::{AllocError, Global};
 use std::fs::File;
-use std::io::{Read, Write};
+use std::io::{BufWriter, Read, Write};
 use std::rt::Files;
 
 /// The work is done, whatever the replies were.
@@ -232,6 +232,33 @@ fn answer<Here: World, R: Files<File = File>, I: Read, W: Write>(
     }
 }
 
+// Hands the command a buffer before the output. Each part of a command flushes what it wrote, and a script its replies before each read.
+fn answer_buffered<R: Files<File = File>, I: Read, O: Write>(
+    rt: &R,
+    alloc: Global,
+    words: &[String],
+    input: &mut I,
+    output: &mut O,
+) -> Result<u8, Fault>
+    ensures { IfOk result (λ status. status ≤ 2) }
+{
+    let Ok(mut buffered) = BufWriter::new(alloc, output) else {
+        return Err(Fault::Memory(AllocError));
+    };
+    let answered = answer::<ThisWorld, R, I, BufWriter<&mut O>>(
+        rt,
+        alloc,
+        words,
+        input,
+        &mut buffered,
+    );
+    // What came before a fault goes out before its text.
+    let flushed = flush(&mut buffered);
+    let status = answered?;
+    flushed?;
+    Ok(status)
+}
+
 /// Runs a command line, whose first word is the program's name, and answers the exit status: 0 done, 1 a command
 /// refused, or input, output or memory failed, 2 a bad line of the script or a bad command line.
 pub fn command<R: Files<File = File>, I: Read, O: Write, E: Write>(
@@ -244,7 +271,7 @@ pub fn command<R: Files<File = File>, I: Read, O: Write, E: Write>(
 ) -> u8
     ensures { result ≤ 2 }
 {
-    match answer::<ThisWorld, R, I, O>(rt, alloc, words, input, output) {
+    match answer_buffered(rt, alloc, words, input, output) {
         Ok(status) => status,
         Err(fault) => {
             let status = fault.status();

@@ -1,10 +1,7 @@
 -- Uses of a volume one after the other: one more.
 use Rattle.std.proofs.Common.{◌≡◌, ◌+◌, ◌<◌, ◌≤◌, ℕ, Option, Some, List, [], ◌∷◌, ◌++◌, drop, length, map, take, refl, sym, ◌∙◌, ap, subst, arith, get_or}
 use Rattle.std.proofs.lemmas.List.{length-drop, length-map, map-append, take-append-drop, take_all, take_more}
-use Rattle.lfs_model.specs.Call.{Answer}
-use Rattle.lfs_model.specs.Call as model
 use Rattle.lfs_model.specs.Device.{AllLeft, DeviceState, LeavesOnly, Only}
-use Rattle.lfs_model.specs.Run.{Point}
 use Rattle.lfs_model.specs.Script.{call_of}
 use Rattle.lfs_model.specs.Volume.{LeavesPrefix}
 use Rattle.lfs_model.specs.Use.{UsesVolume}

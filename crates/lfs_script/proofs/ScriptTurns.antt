@@ -3,8 +3,8 @@ use Rattle.std.proofs.Common.{◌≡◌, ◌≢◌, ◌==◌, true, false, ◌+�
 use Rattle.std.specs.Prelude.{IsTrue}
 use Rattle.std.proofs.lemmas.Bool.Decides.{nat_tests}
 use Rattle.std.proofs.lemmas.List.{append-nil}
-use Rattle.std.specs.Io.KnownBytes.{Appends, Consumes, IsAtEnd, prepend_known}
-use Rattle.std.proofs.KnownBytes.{Appends-nil, Appends-trans, Consumes-trans, Keeps-refl, prepend_known-nil}
+use Rattle.std.specs.Io.KnownBytes.{Appends, Consumes, IsAtEnd, Keeps, prepend_known}
+use Rattle.std.proofs.KnownBytes.{Appends-kept, Appends-nil, Appends-trans, Consumes-trans, Keeps-refl, prepend_known-nil}
 use Rattle.lfs_model.specs.Call.{Answer, Refuse}
 use Rattle.lfs_model.specs.Device.{DeviceState}
 use Rattle.lfs_model.specs.Refusal.{NoMemory}
@@ -69,6 +69,20 @@ module _ {D : Type 0} (state : D → DeviceState) where
 
   pub called : (R : List ℕ → Type 0) (old new : Mounted D) (text : List ℕ) (answer : Answer) → AnswersText state (Some answer) old new text → R (reply answer) → Called state R old new text
   called R old new text answer (line, spells, serves) replied = record { line = line; answer = answer; spells = spells; serves = serves; replied = replied }
+
+  -- the replies so far are flushed
+  pub so_far_flushed : (n : ℕ) (r left w w1 w2 : Option (List ℕ)) (old now : Mounted D) → Keeps w1 w2 → SoFar state n r left w w1 old now → SoFar state n r left w w2 old now
+  so_far_flushed n r left w w1 w2 old now keeps so = record {
+    texts = so.texts;
+    script = so.script;
+    answers = so.answers;
+    plain = so.plain;
+    spelled = so.spelled;
+    run = so.run;
+    consumed = so.consumed;
+    appended = Appends-kept w w1 w2 (replies so.answers) so.appended keeps;
+    count = so.count;
+  }
 
 -- how a line ended
 pub line_ended : (a b : Option (List ℕ)) (text : List ℕ) (end is : LineEnd) → end ≡ is → Consumes a b (text ++ consumed_by_line {E = ReadError} (Ok end)) → Consumes a b (text ++ consumed_by_line {E = ReadError} (Ok is))

@@ -4,7 +4,7 @@ use Rattle.lfs_model.specs.Content.{Content}
 use Rattle.lfs_model.specs.Device.{Carries, DeviceState, Elapses, IsLawful, IsUntouched, LeavesOnly, Only}
 use Rattle.lfs_model.specs.Script.{Line}
 use Rattle.lfs_model.specs.Call.{Answer}
-use Rattle.lfs_model.specs.Use.{Continues, UsesVolume}
+use Rattle.lfs_model.specs.Use.{UsesVolume}
 use Rattle.lfs_model.proofs.Moments.{goes_on}
 use Rattle.lfs_fs.specs.declared.fs.Fs.{Fs}
 use Rattle.lfs_fs.specs.Mounting.{FindsState, IsRefused}

@@ -1,10 +1,10 @@
 // Lines of a reader.
 ghost use Rattle.std.specs.Prelude.{◌≡◌, ◌≢◌, ◌≤◌, ◌∷◌, ◌++◌, [], All, Ok, vec_capacity, vec_len, OnErr, slice_range};
-ghost use Rattle.std.specs.Io.KnownBytes.{Consumes, IsAtEnd, prepend_known};
+ghost use Rattle.std.specs.Io.KnownBytes.{Consumes, IsAtEnd, Keeps, prepend_known};
 ghost use Rattle.lfs_script.specs.LineEnd.{consumed_by_line, OnTooLong};
 
 use crate::source::{ReadError, Source};
-use std::io::Read;
+use std::io::{Read, Write};
 
 /// The bytes of the longest line, its newline left out.
 pub const LONGEST: usize = 140_000;
@@ -19,10 +19,11 @@ pub enum LineEnd {
     TooLong(u8),
 }
 
-/// Reads a line into the buffer, which has the room.
-pub fn next_line<R: Read>(
+/// Reads a line into the buffer, which has the room. The writer is flushed before each read of the reader.
+pub fn next_line<R: Read, W: Write>(
     source: &mut Source,
     reader: &mut R,
+    writer: &mut W,
     line: &mut Vec<u8>,
 ) -> Result<LineEnd, ReadError>
     requires { 140000 ≤ vec_capacity line.old }
@@ -34,10 +35,11 @@ pub fn next_line<R: Read>(
     ensures long { OnTooLong result (λ b. (b ≢ 10) × (vec_len line.new ≡ 140000)) }
     ensures end { result ≡ Ok LineEnd.Input → IsAtEnd (prepend_known (slice_range source.new.chunk.items source.new.start source.new.end) (R.remaining reader.new)) }
     ensures err { OnErr result (slice_range source.new.chunk.items source.new.start source.new.end ≡ []) }
+    ensures kept { Keeps (W.contents writer.old) (W.contents writer.new) }
 {
     line.clear();
     loop {
-        match source.next(reader)? {
+        match source.next(reader, writer)? {
             None => return Ok(LineEnd::Input),
             Some(b'\n') => return Ok(LineEnd::Newline),
             Some(byte) => {

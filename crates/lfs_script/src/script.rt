@@ -96,7 +96,8 @@ fn finish<W: Write, D: SectorDevice>(
     }
 }
 
-/// Makes the calls of the lines that the reader gives, and writes their replies.
+/// Makes the calls of the lines that the reader gives, and writes their replies. It flushes the writer before each read, whatever that answers:
+/// behind a buffer each reply goes out before the next line is asked for. The end is the caller's to flush.
 pub fn run<R: Read, W: Write, D: SectorDevice>(
     alloc: Global,
     reader: &mut R,
@@ -112,7 +113,7 @@ pub fn run<R: Read, W: Write, D: SectorDevice>(
         return ScriptEnd::Memory;
     };
     for count in 1..u64::MAX {
-        match next_line(&mut source, reader, &mut line) {
+        match next_line(&mut source, reader, writer, &mut line) {
             Ok(LineEnd::Newline) => {
                 if let Some(end) = turn(alloc, writer, fs, line.as_slice(), count) {
                     return end;

@@ -4,7 +4,7 @@ ghost use Rattle.std.specs.Io.KnownBytes.{Consumes, IsAtEnd, Keeps, prepend_know
 ghost use Rattle.lfs_script.specs.Bytes.{taken};
 
 use std::alloc::{AllocError, Global};
-use std::io::Read;
+use std::io::{Read, Write};
 
 const CHUNK: usize = 4096;
 
@@ -51,15 +51,21 @@ impl Source {
         })
     }
 
-    /// Takes the next byte; `None` is the end of the input. After an error nothing that was read is left over.
-    pub fn next<R: Read>(&mut self, reader: &mut R) -> Result<Option<u8>, ReadError>
+    /// Takes the next byte; `None` is the end of the input. After an error nothing that was read is left over. The writer is flushed before the
+    /// reader is asked.
+    pub fn next<R: Read, W: Write>(
+        &mut self,
+        reader: &mut R,
+        writer: &mut W,
+    ) -> Result<Option<u8>, ReadError>
         ensures bytes { Consumes (prepend_known (slice_range self.old.chunk.items self.old.start self.old.end) (R.remaining reader.old))
             (prepend_known (slice_range self.new.chunk.items self.new.start self.new.end) (R.remaining reader.new)) (taken result) }
         ensures end { IfOk result (λ byte. byte ≡ None → IsAtEnd (prepend_known (slice_range self.new.chunk.items self.new.start self.new.end) (R.remaining reader.new))) }
         ensures err { OnErr result (slice_range self.new.chunk.items self.new.start self.new.end ≡ []) }
+        ensures kept { Keeps (W.contents writer.old) (W.contents writer.new) }
     {
         if self.start == self.end {
-            return self.refill(reader);
+            return self.refill(reader, writer);
         }
         let byte = self.chunk[self.start];
         self.start += 1;
@@ -67,12 +73,17 @@ impl Source {
     }
 
     // The same, where nothing is left.
-    fn refill<R: Read>(&mut self, reader: &mut R) -> Result<Option<u8>, ReadError>
+    fn refill<R: Read, W: Write>(
+        &mut self,
+        reader: &mut R,
+        writer: &mut W,
+    ) -> Result<Option<u8>, ReadError>
         requires { self.old.start ≡ self.old.end }
         ensures bytes { Consumes (R.remaining reader.old)
             (prepend_known (slice_range self.new.chunk.items self.new.start self.new.end) (R.remaining reader.new)) (taken result) }
         ensures end { IfOk result (λ byte. byte ≡ None → IsAtEnd (prepend_known (slice_range self.new.chunk.items self.new.start self.new.end) (R.remaining reader.new))) }
         ensures err { OnErr result (slice_range self.new.chunk.items self.new.start self.new.end ≡ []) }
+        ensures kept { Keeps (W.contents writer.old) (W.contents writer.new) }
     {
         self.start = 0;
         self.end = 0;
@@ -82,6 +93,8 @@ impl Source {
         if self.chunk.is_empty() {
             return Err(ReadError);
         }
+        // What it can't send now a later write or flush has to tell.
+        let _ = writer.flush();
         let n = read_chunk(reader, &mut self.chunk)?;
         if n == 0 {
             return Ok(None);

@@ -120,6 +120,54 @@ impl Write for Full {
     }
 }
 
+// Keeps what it takes, with a mark for each flush, which fails where it is told to.
+#[derive(Drop)]
+struct Marked {
+    output: Vec<u8>,
+    fails: bool,
+}
+
+impl Write for Marked {
+    fn write(&mut self, buf: &[u8]) -> io::Result<usize> {
+        match self.output.extend_from_slice(buf) {
+            Ok(()) => Ok(buf.len()),
+            Err(_) => Err(io::Error::from(io::ErrorKind::OutOfMemory)),
+        }
+    }
+
+    fn flush(&mut self) -> io::Result<()> {
+        if self.output.push(b'|').is_err() || self.fails {
+            return Err(io::Error::from(io::ErrorKind::BrokenPipe));
+        }
+        Ok(())
+    }
+}
+
+// What a writer is given as a script is read a byte at a time: a flush before each read, whatever it answers.
+fn is_flushed(alloc: Global, fs: &mut Fs<MemDevice>, fails: bool) -> bool {
+    let mut input = Trickle {
+        rest: b"space\nspace\n",
+        fails: false,
+    };
+    let mut writer = Marked {
+        output: Vec::new(alloc),
+        fails,
+    };
+    let end = run(alloc, &mut input, &mut writer, fs);
+    let wanted = b"||||||ok 0 1 727 3008\n||||||ok 0 1 727 3008\n|".as_slice();
+    end == ScriptEnd::Done && writer.output.as_slice() == wanted
+}
+
+#[test]
+fn a_writer_is_flushed_before_each_read(rt: HostRuntime) -> Result<(), Fail> {
+    let mut fs = new_volume(rt.alloc())?;
+    for fails in [false, true] {
+        let flushed = is_flushed(rt.alloc(), &mut fs, fails);
+        assert!(rt; flushed);
+    }
+    Ok(())
+}
+
 // Whether a reader that fails within the second line ends a run behind the first reply.
 fn fails_to_read(alloc: Global, fs: &mut Fs<MemDevice>) -> bool {
     let mut input = Trickle {

@@ -1,4 +1,5 @@
 use Rattle.std.proofs.Common.{rules, ◌≡◌, ◌≢◌, ◌++◌, [], ◌∷◌, All, subst, sym}
+use Rattle.std.proofs.KnownBytes.{Keeps-trans}
 use Rattle.lfs_script.specs.declared.source.ReadError.{ReadError}
 use Rattle.lfs_script.proofs.ScriptBytes.{byte_read, plain_more}
 use Rattle.lfs_script.proofs.line.next_line.Goals as goal
@@ -11,4 +12,5 @@ loop-byte-preserved g c =
       search rules,
       subst (All (λ b. b ≢ 10)) (sym pushed) (plain_more _ c.in-Some.byte c.loop-byte.invariant.2 apart),
       byte_read ReadError _ _ _ _ _ c.in_ok-next.field-0 c.in-Some.byte c.in-Some.is pushed c.loop-byte.invariant.3 c.in_ok-next.ensures.bytes,
+      Keeps-trans _ _ _ c.loop-byte.invariant.4 c.next.ensures.kept,
     )

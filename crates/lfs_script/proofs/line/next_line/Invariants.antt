@@ -1,5 +1,5 @@
 use Rattle.std.proofs.Common.{◌≢◌, ◌≤◌, ◌-◌, All, vec_len, vec_capacity, slice_range}
-use Rattle.std.specs.Io.KnownBytes.{Consumes, prepend_known}
+use Rattle.std.specs.Io.KnownBytes.{Consumes, Keeps, prepend_known}
 use Rattle.lfs_script.proofs.line.next_line.Given as goal
 
 abbrev pub decreases-loop-byte : goal.decreases-loop-byte
@@ -10,3 +10,4 @@ invariant-loop-byte g l =
     (140000 ≤ vec_capacity l.line) × (vec_len l.line ≤ 140000) × All (λ b. b ≢ 10) l.line.items
     × Consumes (prepend_known (slice_range l.initial.source.chunk.items l.initial.source.start l.initial.source.end) (g.R.Read.remaining l.initial.reader))
     (prepend_known (slice_range l.source.chunk.items l.source.start l.source.end) (g.R.Read.remaining l.reader)) l.line.items
+    × Keeps (g.W.Write.contents l.initial.writer) (g.W.Write.contents l.writer)
