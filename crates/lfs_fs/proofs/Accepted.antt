@@ -20,7 +20,7 @@ use Rattle.lfs_path.specs.memory.Batch.{staged, FitsBatch}
 use Rattle.lfs_path.specs.memory.Present.{as_header}
 use Rattle.lfs_path.specs.log.Held.{Holds}
 use Rattle.lfs_path.specs.store.Accepting.{Accepts}
-use Rattle.lfs_path.specs.store.Totals.{IsCounted, TotalsOfTree}
+use Rattle.lfs_model.specs.Totals.{IsCounted, TotalsOfTree}
 use Rattle.lfs_path.specs.store.Writing.{SizesFile, WritesFile, resized}
 use Rattle.lfs_fs.specs.Handles.{handles_of}
 use Rattle.lfs_fs.specs.Volume.{IsAt, IsIn, Mounted, Serves, segments_of}

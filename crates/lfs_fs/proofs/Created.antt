@@ -31,7 +31,7 @@ use Rattle.lfs_model.proofs.Standing.{in_order}
 use Rattle.lfs_model.proofs.Volume.{node_in}
 use Rattle.lfs_path.specs.memory.declared.header.Header.{Header}
 use Rattle.lfs_path.specs.memory.Present.{as_header}
-use Rattle.lfs_path.specs.store.Totals.{IsCounted, TotalsOfTree}
+use Rattle.lfs_model.specs.Totals.{IsCounted, TotalsOfTree}
 use Rattle.lfs_path.specs.store.Writing.{WritesFile, resized}
 use Rattle.lfs_fs.specs.Volume.{IsPlain}
 use Rattle.lfs_fs.proofs.Changed.{IsFormed, formed_same, long_kept, not_directory, shape_kept}

@@ -13,7 +13,7 @@ use Rattle.lfs_model.specs.TreeOf.{LeavesOne, dropped}
 use Rattle.lfs_path.specs.memory.declared.changes.Changes.{Changes}
 use Rattle.lfs_path.specs.memory.Batch.{staged, FitsBatch}
 use Rattle.lfs_path.specs.store.Accepting.{Accepts, Commits, Declines, Stores, StoresOver}
-use Rattle.lfs_path.specs.store.Totals.{IsCounted}
+use Rattle.lfs_model.specs.Totals.{IsCounted}
 use Rattle.lfs_fs.specs.Handles.{handles_of}
 use Rattle.lfs_fs.specs.Volume.{Behaves, IsAt, IsIn, Mounted, Runs, Serves, segments_of}
 use Rattle.lfs_fs.proofs.Files.{IsMapOf}

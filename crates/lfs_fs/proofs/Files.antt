@@ -25,7 +25,7 @@ use Rattle.lfs_model.proofs.ObjectTrees.{no_header_no_node}
 use Rattle.lfs_model.proofs.Parents.{up_dir}
 use Rattle.lfs_model.proofs.Standing.{object_length, slots_length}
 use Rattle.lfs_model.proofs.Volume.{node_in}
-use Rattle.lfs_path.specs.store.Totals.{IsCounted, TotalsOfTree}
+use Rattle.lfs_model.specs.Totals.{IsCounted, TotalsOfTree}
 use Rattle.lfs_fs.specs.Volume.{IsPlain}
 
 -- The log map of a volume between two calls: it can be laid out, and its tree is the state's, a root and files in it.

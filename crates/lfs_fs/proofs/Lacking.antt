@@ -14,7 +14,7 @@ use Rattle.lfs_path.specs.memory.declared.changes.Changes.{Changes}
 use Rattle.lfs_path.specs.memory.declared.header.Header.{Header}
 use Rattle.lfs_path.specs.memory.Batch.{staged}
 use Rattle.lfs_path.specs.memory.Present.{as_header}
-use Rattle.lfs_path.specs.store.Totals.{TotalsOfTree}
+use Rattle.lfs_model.specs.Totals.{TotalsOfTree}
 use Rattle.lfs_path.specs.store.Writing.{WritesFile, resized}
 use Rattle.lfs_fs.specs.Handles.{handles_of}
 use Rattle.lfs_fs.specs.Volume.{IsStill, IsAt, Mounted, Serves, segments_of}

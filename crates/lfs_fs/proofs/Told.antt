@@ -14,7 +14,7 @@ use Rattle.lfs_model.specs.Walk.{At, Resolve}
 use Rattle.lfs_path.specs.memory.declared.header.Header.{Header}
 use Rattle.lfs_path.specs.memory.Present.{as_header}
 use Rattle.lfs_path.specs.log.Held.{IsReadFault, Reads}
-use Rattle.lfs_path.specs.store.Totals.{TotalsOfTree}
+use Rattle.lfs_model.specs.Totals.{TotalsOfTree}
 use Rattle.lfs_fs.specs.Handles.{handles_of}
 use Rattle.lfs_fs.specs.Volume.{IsStill, IsPlain, Mounted, Serves, segments_of}
 use Rattle.lfs_fs.proofs.Accepted.{InEach, OfEach}

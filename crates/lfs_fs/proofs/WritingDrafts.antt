@@ -24,7 +24,7 @@ use Rattle.lfs_path.specs.store.declared.draft.Draft.{Draft}
 use Rattle.lfs_path.specs.store.declared.totals.Totals.{Totals}
 use Rattle.lfs_path.specs.store.Drafting.{IsApart}
 use Rattle.lfs_path.specs.store.Recounting.{AreTotals, Counts}
-use Rattle.lfs_path.specs.store.Totals.{IsCounted}
+use Rattle.lfs_model.specs.Totals.{IsCounted}
 use Rattle.lfs_path.specs.store.Writing.{SetsLen, SizesFile, Writes, WritesFile, resized}
 use Rattle.lfs_path.proofs.of_store.Apart.{draft_empty, nothing_apart}
 use Rattle.lfs_path.proofs.of_store.LogReads.{held_still}

@@ -13,7 +13,7 @@ use Rattle.lfs_model.specs.TreeOf.{IsTree, LeavesOne, LeavesStates, Stands}
 use Rattle.lfs_model.specs.Volume.{IsLogOf}
 use Rattle.lfs_path.specs.log.Held.{Held, IsFull, Reads}
 use Rattle.lfs_path.specs.store.Accepting.{Stores, HasClean}
-use Rattle.lfs_path.specs.store.Totals.{IsCounted}
+use Rattle.lfs_model.specs.Totals.{IsCounted}
 use Rattle.lfs_fs.specs.Handles.{handles_of}
 
 -- a volume between two calls: its log, whether all of it is saved, its data blocks and its other blocks, and the table of open files

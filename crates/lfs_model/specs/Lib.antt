@@ -50,3 +50,4 @@ pub mod Detaching
 pub mod Cutting
 pub mod Tight
 pub mod Objects
+pub mod Totals

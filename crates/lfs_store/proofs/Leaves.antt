@@ -6,7 +6,7 @@ use Rattle.lfs_model.specs.Objects.{has_leaf, is_stored}
 use Rattle.lfs_model.specs.Stands.{LogMap}
 use Rattle.lfs_model.proofs.ObjectPointers.{leaf_tests}
 use Rattle.lfs_store.specs.Measuring.{EndsBy}
-use Rattle.lfs_store.specs.Totals.{leaf_from, leaf_to, leaves_beside, leaves_in}
+use Rattle.lfs_model.specs.Totals.{leaf_from, leaf_to, leaves_beside, leaves_in}
 use Rattle.lfs_store.proofs.Measured.{same_leaf}
 use Rattle.lfs_store.proofs.Pointers.{empty, leaves_none, leaves_split}
 use Rattle.lfs_store.proofs.Ranges.{passing_same}

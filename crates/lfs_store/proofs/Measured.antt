@@ -21,7 +21,7 @@ use Rattle.lfs_log.specs.Held as held
 use Rattle.lfs_log.specs.Held.{Held, Holds, Reads}
 use Rattle.lfs_store.specs.Drafting.{NoBlock}
 use Rattle.lfs_store.specs.Measuring.{IsInLeaf, IsOffLeaf, KeepsLeaf, LeavesLeaf, TellsStored, TellsLeaf, CountsStored, CountsLeaves}
-use Rattle.lfs_store.specs.Totals.{leaves_in, stored_in}
+use Rattle.lfs_model.specs.Totals.{leaves_in, stored_in}
 use Rattle.lfs_store.proofs.DraftedBlocks.{says_no_block}
 use Rattle.lfs_store.proofs.LogReads.{held_still, reads_none, reads_more}
 use Rattle.lfs_store.proofs.Ranges.{passing, passing_none, passing_more}

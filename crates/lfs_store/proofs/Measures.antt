@@ -19,7 +19,7 @@ use Rattle.lfs_store.specs.declared.totals.Measure.{Measure}
 use Rattle.lfs_store.specs.declared.totals.Totals.{Totals}
 use Rattle.lfs_store.specs.Measuring.{EndsBy, CountsStored, CountsLeaves, CountsPointers, Measures, CountsFiles, TellsDouble}
 use Rattle.lfs_store.specs.Reading.{ReadsHeader}
-use Rattle.lfs_store.specs.Totals.{leaf_from, leaf_to, stored_in, meta_of_file, data_of_file, sum_upto}
+use Rattle.lfs_model.specs.Totals.{leaf_from, leaf_to, stored_in, meta_of_file, data_of_file, sum_upto}
 use Rattle.lfs_store.proofs.LogReads.{held_still, reads_none, reads_more}
 use Rattle.lfs_store.proofs.Leaves.{beside_all, beside_none, beside_split, leaves_to_end}
 use Rattle.lfs_store.proofs.Measured.{CountedUpTo, Tells, counts_leaves}

@@ -10,7 +10,7 @@ use Rattle.lfs_model.specs.Objects.{has_double, has_leaf, one_if, stored_blocks}
 use Rattle.lfs_model.specs.Stands.{LogMap, count_up}
 use Rattle.lfs_model.proofs.ObjectPointers.{leaf_tests, pointer_count}
 use Rattle.lfs_store.specs.Measuring.{EndsBy}
-use Rattle.lfs_store.specs.Totals.{leaves_in}
+use Rattle.lfs_model.specs.Totals.{leaves_in}
 use Rattle.lfs_store.proofs.Ranges.{passing, passing_none, passing_first, passing_split, passing_nothing}
 
 -- ---- ranges

@@ -22,7 +22,7 @@ use Rattle.lfs_store.specs.declared.totals.Totals.{Totals}
 use Rattle.lfs_store.specs.Measuring.{Measures}
 use Rattle.lfs_store.specs.Making.{Makes, SetsLinks, Removes, relinked}
 use Rattle.lfs_store.specs.Recounting.{AreTotals, Recounts, Remeasures, Counts, CountsMade, CountsRelinked, CountsGone}
-use Rattle.lfs_store.specs.Totals.{HasMeasure, meta_of_file, data_in, meta_in}
+use Rattle.lfs_model.specs.Totals.{HasMeasure, meta_of_file, data_in, meta_in}
 use Rattle.lfs_store.specs.Writing.{Writes, SetsLen}
 use Rattle.lfs_store.proofs.Apart.{no_change}
 use Rattle.lfs_store.proofs.Leaves.{beside_none}

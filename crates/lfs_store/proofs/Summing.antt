@@ -6,7 +6,7 @@ use Rattle.lfs_model.specs.Need.{pointers}
 use Rattle.lfs_model.specs.Objects.{IsChangedAt, is_stored, stored_below}
 use Rattle.lfs_model.specs.Stands.{LogMap}
 use Rattle.lfs_model.proofs.ObjectNeeds.{filter_same}
-use Rattle.lfs_store.specs.Totals.{stored_in, meta_of_file, sum_upto, TotalsOfChange}
+use Rattle.lfs_model.specs.Totals.{stored_in, meta_of_file, sum_upto, TotalsOfChange}
 use Rattle.lfs_store.proofs.Ranges.{passing, passing_split, passing_same}
 
 -- ---- sums

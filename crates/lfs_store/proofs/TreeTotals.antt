@@ -11,7 +11,7 @@ use Rattle.lfs_model.specs.Stands.{LogMap}
 use Rattle.lfs_model.specs.Tree.{Node, Tree}
 use Rattle.lfs_model.specs.TreeOf.{node_by, node_of, nodes_from, tree_in, with_object}
 use Rattle.lfs_model.proofs.ObjectNeeds.{object_costs}
-use Rattle.lfs_store.specs.Totals.{data_of_file, meta_of_file, sum_upto, TotalsOfTree}
+use Rattle.lfs_model.specs.Totals.{data_of_file, meta_of_file, sum_upto, TotalsOfTree}
 use Rattle.lfs_store.proofs.Measures.{nothing_stored, stored_nothing, sum_none, sum_more}
 use Rattle.lfs_store.proofs.Summing.{stored_all}
 

@@ -4,7 +4,6 @@ pub mod Pieces
 pub mod Writing
 pub mod Making
 pub mod Accepting
-pub mod Totals
 pub mod Measuring
 pub mod Recounting
 pub use Rattle.lfs_log.specs as log

@@ -14,7 +14,7 @@ use Rattle.lfs_log.specs.Held.{Held, Holds}
 use Rattle.lfs_store.specs.declared.totals.Measure.{Measure}
 use Rattle.lfs_store.specs.declared.totals.Totals.{Totals}
 use Rattle.lfs_store.specs.Reading.{KeepsBlock}
-use Rattle.lfs_store.specs.Totals.{leaves_beside, leaves_in, stored_in, HasMeasure, IsCounted}
+use Rattle.lfs_model.specs.Totals.{leaves_beside, leaves_in, stored_in, HasMeasure, IsCounted}
 
 -- ---- a draft
 

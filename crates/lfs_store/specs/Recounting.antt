@@ -13,7 +13,7 @@ use Rattle.lfs_log.specs.Held.{Held, Holds}
 use Rattle.lfs_store.specs.declared.totals.Measure.{Measure}
 use Rattle.lfs_store.specs.declared.totals.Totals.{Totals}
 use Rattle.lfs_store.specs.Measuring.{Measures}
-use Rattle.lfs_store.specs.Totals.{IsCounted}
+use Rattle.lfs_model.specs.Totals.{IsCounted}
 
 -- In a total one share takes the place of another, where the outcome is a number of 32 bits.
 abbrev pub Replaces : ℕ → ℕ → ℕ → ℕ → Type 0

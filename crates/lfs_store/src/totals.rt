@@ -1,5 +1,5 @@
 //! The totals by which a volume's space is counted.
-ghost use Rattle.lfs_store.specs.Totals.{TotalsOfChange, TotalsOfTree};
+ghost use Rattle.lfs_model.specs.Totals.{TotalsOfChange, TotalsOfTree};
 
 /// The data blocks of all files, and their inodes and blocks of pointers.
 #[derive(Clone, Copy, Debug, PartialEq, Eq)]

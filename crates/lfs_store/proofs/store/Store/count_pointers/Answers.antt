@@ -3,7 +3,7 @@ use Rattle.std.specs.Int.{div_ceil}
 use Rattle.std.proofs.Common.{◌≡◌, ◌≤◌, ◌+◌, ◌-◌, ◌/◌, ◌*◌, ℕ, ◌∙◌, ap, ap₂, sym, subst, arith}
 use Rattle.lfs_store.specs.declared.draft.Draft.{Draft}
 use Rattle.lfs_store.specs.Measuring.{CountsLeaves, CountsPointers, TellsDouble}
-use Rattle.lfs_store.specs.Totals.{leaf_from, leaf_to}
+use Rattle.lfs_model.specs.Totals.{leaf_from, leaf_to}
 use Rattle.lfs_store.proofs.LogReads.{fault_more}
 use Rattle.lfs_store.proofs.Measures.{counts_pointers}
 use Rattle.lfs_store.proofs.store.Store.count_pointers.Goals as goal
