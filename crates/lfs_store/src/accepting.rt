@@ -23,7 +23,7 @@ impl<D: SectorDevice> Store<D> {
     ghost use Rattle.lfs_log.specs.Held.{Halts, IsFull, Reads, IsReadFault};
     ghost use Rattle.lfs_store.specs.Measuring.{CountsFiles};
     ghost use Rattle.lfs_store.specs.Recounting.{MountsTotals};
-    ghost use Rattle.lfs_store.specs.Accepting.{MountsStore, Commits, MakesRoom, Accepts, Declines, IsAcceptFault};
+    ghost use Rattle.lfs_store.specs.Accepting.{MountsStore, Commits, MakesRoom, Accepts, Declines, IsAcceptFault, HasClean};
 
     /// The volume that the newest checkpoint of the device leads to, with its totals and an empty draft; else why there is none, and the
     /// device. It writes nothing, and takes the memory that later calls need.
@@ -155,31 +155,50 @@ impl<D: SectorDevice> Store<D> {
         self.log.clean_segments() < self.log.segments() / 8 + 8
     }
 
-    /// Whether memory has no room for the draft, or too few segments are clean.
-    fn is_tight(&self) -> bool
-        ensures room { IsFalse result → length self.now.log.memory.dirty.blocks + room_for self.now.draft.changes ≤ self.now.log.memory.dirty.capacity }
-        ensures enough { IsFalse result → length self.now.log.memory.usage.segments / 8 + 8 ≤ clean_in self.now.log.memory.usage.segments }
-    {
-        !self.log.has_room(&self.draft.changes) || self.lacks_segments()
-    }
-
-    /// Commits where there is no room for the draft.
-    fn make_room(&mut self) -> Result<(), LogFault>
-        ensures done { OnOk result (MakesRoom D.SectorDevice.state self.old.log self.old.saved self.new.log self.new.saved) }
-        ensures enough { OnOk result (length self.new.log.memory.usage.segments / 8 + 8 ≤ clean_in self.new.log.memory.usage.segments) }
-        ensures room { OnOk result (self.new.saved ≡ false → length self.new.log.memory.dirty.blocks + room_for self.new.draft.changes ≤ self.new.log.memory.dirty.capacity) }
+    /// Commits where memory has no room for the draft.
+    fn find_room(&mut self) -> Result<(), LogFault>
+        ensures done { OnOk result (MakesRoom D.SectorDevice.state self.old.log self.old.saved
+            self.new.log self.new.saved) }
+        ensures room { OnOk result (self.new.saved ≡ false →
+            length self.new.log.memory.dirty.blocks + room_for self.new.draft.changes
+            ≤ self.new.log.memory.dirty.capacity) }
         ensures draft { self.new.draft ≡ self.old.draft }
         ensures totals { self.new.totals ≡ self.old.totals }
         ensures drafted { self.new.drafted ≡ self.old.drafted }
-        ensures full { IsErrOf result LogFault.Full → MakesRoom D.SectorDevice.state self.old.log self.old.saved self.new.log self.new.saved }
+        ensures full { IsErrOf result LogFault.Full →
+            MakesRoom D.SectorDevice.state self.old.log self.old.saved self.new.log self.new.saved }
         ensures lacks { IsErrOf result LogFault.Full → IsFull self.new.log }
-        ensures halted { IsErrOf result LogFault.Halted → self.old.log.halted ≢ true → Halts D.SectorDevice.state self.old.log self.new.log }
+        ensures halted { IsErrOf result LogFault.Halted → self.old.log.halted ≢ true →
+            Halts D.SectorDevice.state self.old.log self.new.log }
         ensures other { IsErrOf result LogFault.Device → ⊥ }
     {
-        if !self.is_tight() {
+        if self.log.has_room(&self.draft.changes) {
             return Ok(());
         }
         self.commit()?;
+        Ok(())
+    }
+
+    /// Readies the log for a change, the only place that knows when one may begin: memory has room for the draft, else a commit makes it;
+    /// and enough segments are clean for the commit that saves it.
+    fn prepare_change(&mut self) -> Result<(), LogFault>
+        ensures done { OnOk result (MakesRoom D.SectorDevice.state self.old.log self.old.saved
+            self.new.log self.new.saved) }
+        ensures enough { OnOk result (HasClean self.new.log) }
+        ensures room { OnOk result (self.new.saved ≡ false →
+            length self.new.log.memory.dirty.blocks + room_for self.new.draft.changes
+            ≤ self.new.log.memory.dirty.capacity) }
+        ensures draft { self.new.draft ≡ self.old.draft }
+        ensures totals { self.new.totals ≡ self.old.totals }
+        ensures drafted { self.new.drafted ≡ self.old.drafted }
+        ensures full { IsErrOf result LogFault.Full →
+            MakesRoom D.SectorDevice.state self.old.log self.old.saved self.new.log self.new.saved }
+        ensures lacks { IsErrOf result LogFault.Full → IsFull self.new.log }
+        ensures halted { IsErrOf result LogFault.Halted → self.old.log.halted ≢ true →
+            Halts D.SectorDevice.state self.old.log self.new.log }
+        ensures other { IsErrOf result LogFault.Device → ⊥ }
+    {
+        self.find_room()?;
         if self.lacks_segments() {
             return Err(LogFault::Full);
         }
@@ -202,7 +221,7 @@ impl<D: SectorDevice> Store<D> {
         if self.log.is_halted() {
             return Err(StoreFault::Log(LogFault::Halted));
         }
-        match self.make_room() {
+        match self.prepare_change() {
             Ok(()) => {}
             Err(fault) => return Err(StoreFault::Log(fault)),
         }
@@ -218,8 +237,7 @@ impl<D: SectorDevice> Store<D> {
         }
     }
 
-    /// Stages the draft whole, or not at all; a commit comes before it where memory has no room for it, or few segments are clean. The draft
-    /// is empty afterwards.
+    /// Stages the draft whole, or not at all; a commit comes before it where memory has no room for it. The draft is empty afterwards.
     ///
     /// # Errors
     ///

@@ -3,10 +3,10 @@ use Rattle.lfs_log.specs.memory.declared.fault.LogFault.TheVariants.{Full}
 use Rattle.lfs_log.specs.Held.{Held}
 use Rattle.lfs_store.specs.Accepting.{MakesRoom}
 use Rattle.lfs_store.proofs.Acceptings.{room_none, room_commit}
-use Rattle.lfs_store.proofs.store.Store.make_room.Goals as goal
+use Rattle.lfs_store.proofs.store.Store.find_room.Goals as goal
 
-pub returns-then-not-is_tight-clause-done : goal.returns-then-not-is_tight-clause-done
-returns-then-not-is_tight-clause-done g c = room_none g.D.SectorDevice.state c.args.self.now.log c.args.self.now.saved (g.met.D.SectorDevice.lawful c.args.self.now.log.device)
+pub returns-then-has_room-clause-done : goal.returns-then-has_room-clause-done
+returns-then-has_room-clause-done g c = room_none g.D.SectorDevice.state c.args.self.now.log c.args.self.now.saved (g.met.D.SectorDevice.lawful c.args.self.now.log.device)
 
 pub returns-in_err-commit-clause-full : goal.returns-in_err-commit-clause-full
 returns-in_err-commit-clause-full g c is =
@@ -16,11 +16,6 @@ returns-in_err-commit-clause-full g c is =
     subst (λ (saved : Bool). MakesRoom g.D.SectorDevice.state c.args.self.now.log c.args.self.now.saved c.commit.new.self.log saved) (sym same)
     (subst (λ (h : Held g.row.D.Denot). MakesRoom g.D.SectorDevice.state c.args.self.now.log c.args.self.now.saved h c.args.self.now.saved) (sym nothing.0)
     (room_none g.D.SectorDevice.state c.args.self.now.log c.args.self.now.saved (g.met.D.SectorDevice.lawful c.args.self.now.log.device)))
-
-pub returns-then-lacks_segments-clause-full : goal.returns-then-lacks_segments-clause-full
-returns-then-lacks_segments-clause-full g c is =
-    subst (λ (saved : Bool). MakesRoom g.D.SectorDevice.state c.args.self.now.log c.args.self.now.saved c.commit.new.self.log saved) (sym c.in_ok-commit.ensures.saved)
-    (room_commit g.D.SectorDevice.state c.args.self.now.log c.commit.new.self.log c.args.self.now.saved c.in_ok-commit.ensures.done)
 
 pub returns-clause-done : goal.returns-clause-done
 returns-clause-done g c =
