@@ -56,25 +56,50 @@ AreArguments (StatOf p) = AreBytes p
 AreArguments (LstatOf p) = AreBytes p
 AreArguments (Readdir p) = AreBytes p
 AreArguments (Fsync h) = h < 2 ^ 32
-AreArguments _ = Unit {0}
+AreArguments Sync = Unit {0}
+AreArguments Clean = Unit {0}
+AreArguments Space = Unit {0}
+AreArguments ListTree = Unit {0}
 
 -- the calls that may change the tree
 abbrev pub changes : Call → Bool
+changes (Open p) = false
 changes (Create p) = true
+changes (Close h) = false
+changes (Pread h off n) = false
 changes (Pwrite h off w) = true
 changes (Truncate h n) = true
 changes (Mkdir p) = true
 changes (LinkTo p q) = true
 changes (Symlink text p) = true
+changes (Readlink p) = false
 changes (Unlink p) = true
 changes (Rmdir p) = true
 changes (Rename p q) = true
-changes _ = false
+changes (StatOf p) = false
+changes (LstatOf p) = false
+changes (Readdir p) = false
+changes (Fsync h) = false
+changes Sync = false
+changes Clean = false
+changes Space = false
+changes ListTree = false
 
 -- the calls that leave the state as it is
 abbrev pub leaves_state : Call → Bool
+leaves_state (Open p) = false
+leaves_state (Create p) = false
+leaves_state (Close h) = false
 leaves_state (Pread h off n) = true
+leaves_state (Pwrite h off w) = false
+leaves_state (Truncate h n) = false
+leaves_state (Mkdir p) = false
+leaves_state (LinkTo p q) = false
+leaves_state (Symlink text p) = false
 leaves_state (Readlink p) = true
+leaves_state (Unlink p) = false
+leaves_state (Rmdir p) = false
+leaves_state (Rename p q) = false
 leaves_state (StatOf p) = true
 leaves_state (LstatOf p) = true
 leaves_state (Readdir p) = true
@@ -83,26 +108,78 @@ leaves_state Sync = true
 leaves_state Clean = true
 leaves_state Space = true
 leaves_state ListTree = true
-leaves_state _ = false
 
 -- the calls that commit: after their Ok a stop loses nothing of what was before (POSIX.1-2017: fsync, sync)
 abbrev pub commits : Call → Bool
+commits (Open p) = false
+commits (Create p) = false
+commits (Close h) = false
+commits (Pread h off n) = false
+commits (Pwrite h off w) = false
+commits (Truncate h n) = false
+commits (Mkdir p) = false
+commits (LinkTo p q) = false
+commits (Symlink text p) = false
+commits (Readlink p) = false
+commits (Unlink p) = false
+commits (Rmdir p) = false
+commits (Rename p q) = false
+commits (StatOf p) = false
+commits (LstatOf p) = false
+commits (Readdir p) = false
 commits (Fsync h) = true
 commits Sync = true
-commits _ = false
+commits Clean = false
+commits Space = false
+commits ListTree = false
 
 -- the call that cleans (the 1992 LFS paper: segment cleaning)
 abbrev pub cleans : Call → Bool
+cleans (Open p) = false
+cleans (Create p) = false
+cleans (Close h) = false
+cleans (Pread h off n) = false
+cleans (Pwrite h off w) = false
+cleans (Truncate h n) = false
+cleans (Mkdir p) = false
+cleans (LinkTo p q) = false
+cleans (Symlink text p) = false
+cleans (Readlink p) = false
+cleans (Unlink p) = false
+cleans (Rmdir p) = false
+cleans (Rename p q) = false
+cleans (StatOf p) = false
+cleans (LstatOf p) = false
+cleans (Readdir p) = false
+cleans (Fsync h) = false
+cleans Sync = false
 cleans Clean = true
-cleans _ = false
+cleans Space = false
+cleans ListTree = false
 
 -- the calls that are never refused for memory
 abbrev pub takes_no_memory : Call → Bool
+takes_no_memory (Open p) = false
+takes_no_memory (Create p) = false
 takes_no_memory (Close h) = true
+takes_no_memory (Pread h off n) = false
+takes_no_memory (Pwrite h off w) = false
+takes_no_memory (Truncate h n) = false
+takes_no_memory (Mkdir p) = false
+takes_no_memory (LinkTo p q) = false
+takes_no_memory (Symlink text p) = false
+takes_no_memory (Readlink p) = false
+takes_no_memory (Unlink p) = false
+takes_no_memory (Rmdir p) = false
+takes_no_memory (Rename p q) = false
+takes_no_memory (StatOf p) = false
+takes_no_memory (LstatOf p) = false
+takes_no_memory (Readdir p) = false
 takes_no_memory (Fsync h) = true
 takes_no_memory Sync = true
+takes_no_memory Clean = false
 takes_no_memory Space = true
-takes_no_memory _ = false
+takes_no_memory ListTree = false
 
 -- what stat tells (POSIX.1-2017, stat: st_ino, the file type, st_nlink, st_size)
 pub record Stat : Type 0 where

@@ -2,7 +2,7 @@
 use Rattle.std.specs.Prelude.{ℕ, ◌<◌, ◌≤◌, ◌^◌, ◌≡◌, ◌⊎◌, Bool, true, false, ◌&&◌, IsTrue, Some, List, [], ◌∷◌, drop, slice_get}
 use Rattle.lfs_model.specs.Tree.{State}
 use Rattle.lfs_model.specs.Refusal.{Refusal, NoMemory, Device, Halted, Stuck, Worn}
-use Rattle.lfs_model.specs.Call.{Call, Close, Pread, Truncate, Fsync, Sync, Clean, Space, ListTree, Answer, Refuse, changes, commits, cleans, takes_no_memory, is_ok}
+use Rattle.lfs_model.specs.Call.{Call, Open, Create, Close, Pread, Pwrite, Truncate, Mkdir, LinkTo, Symlink, Readlink, Unlink, Rmdir, Rename, StatOf, LstatOf, Readdir, Fsync, Sync, Clean, Space, ListTree, Answer, Refuse, is_ok, changes, cleans, commits, takes_no_memory}
 use Rattle.lfs_model.specs.Step.{Step}
 use Rattle.lfs_model.specs.Script.{Line, Plain, Fill, call_of}
 
@@ -51,15 +51,27 @@ pub record Answers (N : ℕ) (call : Call) (old : Point) (answer : Answer) (new 
 -- the lines with a word that spells bytes, for which memory is needed before the call is made
 abbrev pub has_word : Line → Bool
 has_word (Fill h off n byte) = false
+has_word (Plain (Open p)) = true
+has_word (Plain (Create p)) = true
 has_word (Plain (Close h)) = false
 has_word (Plain (Pread h off n)) = false
+has_word (Plain (Pwrite h off w)) = true
 has_word (Plain (Truncate h n)) = false
+has_word (Plain (Mkdir p)) = true
+has_word (Plain (LinkTo p q)) = true
+has_word (Plain (Symlink text p)) = true
+has_word (Plain (Readlink p)) = true
+has_word (Plain (Unlink p)) = true
+has_word (Plain (Rmdir p)) = true
+has_word (Plain (Rename p q)) = true
+has_word (Plain (StatOf p)) = true
+has_word (Plain (LstatOf p)) = true
+has_word (Plain (Readdir p)) = true
 has_word (Plain (Fsync h)) = false
 has_word (Plain Sync) = false
 has_word (Plain Clean) = false
 has_word (Plain Space) = false
 has_word (Plain ListTree) = false
-has_word (Plain _) = true
 
 -- What one line of a script does: its call; or nothing, where memory for its word was refused.
 abbrev pub LineAnswers : ℕ → Line → Point → Answer → Point → Type 0
