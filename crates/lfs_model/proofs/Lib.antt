@@ -109,3 +109,4 @@ pub mod ObjectMaps
 pub mod ObjectPointers
 pub mod OwnAnswers
 pub mod Uses
+pub mod FollowedTexts
