@@ -27,4 +27,4 @@ pub mod Prepared
 pub mod Unlinked
 pub mod Staged
 pub mod SegmentsTaken
-pub mod MayPass
+pub mod Pressed
