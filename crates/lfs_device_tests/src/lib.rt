@@ -19,3 +19,5 @@ mod root;
 mod segments;
 #[cfg(test)]
 mod verify;
+#[cfg(test)]
+mod victims;

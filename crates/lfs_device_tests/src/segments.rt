@@ -103,7 +103,7 @@ fn chunks_in_the_first_segment_and_the_last(rt: HostRuntime) {
 type Plain = (u16, u16, u16, bool);
 
 /// A block comes to a segment or leaves it, where one may.
-fn change(usage: &mut Usage, segment: u32, comes: bool, lives: bool) -> bool {
+pub(crate) fn change(usage: &mut Usage, segment: u32, comes: bool, lives: bool) -> bool {
     if segment >= usage.segments() {
         return false;
     }

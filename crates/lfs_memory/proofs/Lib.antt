@@ -26,3 +26,5 @@ pub mod CutFiles
 pub mod Prepared
 pub mod Unlinked
 pub mod Staged
+pub mod SegmentsTaken
+pub mod Pressed

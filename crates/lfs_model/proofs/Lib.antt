@@ -110,3 +110,10 @@ pub mod ObjectPointers
 pub mod OwnAnswers
 pub mod Uses
 pub mod FollowedTexts
+pub mod BelowSums
+pub mod BlocksCounted
+pub mod EmptySegment
+pub mod FileEntries
+pub mod StoredCounted
+pub mod MetasCounted
+pub mod Marking

@@ -135,8 +135,25 @@ module _ (d : DeviceState) (dirty dirty' : Dirty) (t t' : Tables) (k : Checkpoin
     opened = open_now chunk w.opened;
   }
 
+  -- only x comes into memory: what has an address after it had that before
+  fetched_traces : (y : Entry) → 2 ≤ fetched.memory.at y → w.memory.at y ≡ fetched.memory.at y
+  unfolding fetched
+  fetched_traces y above = ⊎_elim
+      (λ (here : y ≡ x). let one = ap next.at here ∙ taken_now.at in absurd (omega (arith, above, one)))
+      (λ (ne : y ≡ x → ⊥). sym (taken_now.others y ne))
+      (same_entry y x)
+
 pub fetching : Fetching
 fetching d dirty dirty' t t' k m0 m seg chunk x address bytes w file at above is map fetch go = fetched d dirty dirty' t t' k m0 m seg chunk x address bytes w file at above is map fetch go
+
+-- A block that comes into memory leaves every other address as it was, and gives no new one.
+pub fetching_traces : (d : DeviceState) (dirty dirty' : Dirty) (t t' : Tables) (k : CheckpointValue) (m0 m : LogMap) (seg : ℕ) (chunk : Option (List Entry)) (x : Entry) (address : ℕ) (bytes : List ℕ)
+    → (w : Running d dirty t k m0 m seg chunk) → IsOfFile x → IsAt dirty t x address → 2 ≤ address → block d.content address ≡ bytes
+    → ((n : ℕ) → x ≡ Inode n → is_shown m x ≡ true → t.at (Map (n / 128)) ≡ 1)
+    → Fetches dirty dirty' x bytes → IsLifted m t t' x 1 (segment_of address)
+    → (w' : Running d dirty' t' k m0 m seg chunk) × ((y : Entry) → 2 ≤ w'.memory.at y → w.memory.at y ≡ w'.memory.at y)
+fetching_traces d dirty dirty' t t' k m0 m seg chunk x address bytes w file at above is map fetch go =
+    (fetched d dirty dirty' t t' k m0 m seg chunk x address bytes w file at above is map fetch go, fetched_traces d dirty dirty' t t' k m0 m seg chunk x address bytes w file at above is map fetch go)
 
 -- ---- inode map blocks
 pub map_fetching : MapFetching

@@ -51,3 +51,4 @@ pub mod Cutting
 pub mod Tight
 pub mod Objects
 pub mod Totals
+pub mod Members

@@ -2,3 +2,9 @@ pub mod Numbers
 pub mod Steps
 pub mod Saving
 pub mod Entries
+pub mod LeastSums
+pub mod LoadsBelow
+pub mod Choosing
+pub mod PressedGains
+pub mod StaysEmptied
+pub mod EmptiedGained

@@ -1,3 +1,7 @@
 pub mod Table
 pub mod Steps
 pub mod Chunk
+pub mod Victims
+pub mod Keys
+pub mod Choosing
+pub mod Emptied

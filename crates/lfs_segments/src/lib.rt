@@ -1,9 +1,11 @@
 //! The segments of a volume: what lives in each, and chunks of blocks that are written to clean ones.
 #![tactic(auto)]
 
+mod candidate;
 mod chunk;
 mod state;
 mod usage;
+pub mod victims;
 
 pub use chunk::{ChunkWriter, write};
 pub use state::{SegmentState, UsageBlock};

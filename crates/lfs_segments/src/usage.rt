@@ -69,6 +69,7 @@ impl Usage {
     pub fn segments(&self) -> u32
         ensures value { result ≡ length self.now.segments }
         ensures few { result ≤ 1024 }
+        ensures table { FitsTable self.now }
     {
         self.states.len() as u32
     }
