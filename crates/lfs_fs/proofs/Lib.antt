@@ -1,7 +1,4 @@
 pub mod HandleTables
-mod FirstSectors
-mod FirstWrites
-mod FirstMoments
 mod Leaving
 mod Behaving
 mod Serving

@@ -7,7 +7,6 @@ pub mod Accepting
 pub mod Answers
 pub mod Checking
 pub mod Mounting
-pub mod Making
 pub mod Reading
 pub mod Naming
 pub mod Scripts

@@ -1,9 +1,6 @@
--- The refusal of the model that an error is, and the names of the faults of a format.
-use Rattle.std.specs.Prelude.{ℕ, List, codes}
+-- The refusal of the model that an error is.
 use Rattle.lfs_fs.specs.declared.error.FsError.{FsError}
 use Rattle.lfs_fs.specs.declared.error.FsError.TheVariants as error
-use Rattle.lfs_fs.specs.declared.error.FormatFault.{FormatFault}
-use Rattle.lfs_fs.specs.declared.error.FormatFault.TheVariants as fault
 use Rattle.lfs_model.specs.Refusal.{Refusal, NoEntry, NotDir, IsDir, Exist, NotEmpty, Inval, NameTooLong, Loop, Perm, Busy, BadHandle, TooManyOpen, TooManyLinks, FileTooBig, NoSpace, NoNumber, DirFull, NoMemory, Device, Halted, Stuck, Worn}
 
 abbrev pub refusal_of : FsError → Refusal
@@ -29,8 +26,3 @@ refusal_of error.Device = Device
 refusal_of error.Halted = Halted
 refusal_of error.Stuck = Stuck
 refusal_of error.Worn = Worn
-
-abbrev pub format_fault_name : FormatFault → List ℕ
-format_fault_name fault.Inval = codes "Inval"
-format_fault_name fault.TooSmall = codes "TooSmall"
-format_fault_name fault.Device = codes "Device"

@@ -1,7 +1,7 @@
 //! Why a call is refused.
 ghost use Rattle.std.specs.Prelude.{◌≡◌};
 ghost use Rattle.lfs_model.specs.Script.{refusal_name};
-ghost use Rattle.lfs_fs.specs.Refusals.{format_fault_name, refusal_of};
+ghost use Rattle.lfs_fs.specs.Refusals.{refusal_of};
 ghost use Rattle.lfs_fs.specs.Faults.{error_of_log, error_of_store, error_of_path};
 
 use lfs_path::PathFault;
@@ -129,30 +129,6 @@ impl From<PathFault> for FsError {
             PathFault::NameTooLong => FsError::NameTooLong,
             PathFault::Inval => FsError::Inval,
             PathFault::Log(fault) => FsError::from(fault),
-        }
-    }
-}
-
-/// Why a device isn't formatted.
-#[derive(Clone, Copy, Debug, PartialEq, Eq)]
-pub enum FormatFault {
-    /// No volume has so many segments.
-    Inval,
-    /// The device has too few sectors.
-    TooSmall,
-    /// A device call failed: the device holds what stood there, with slots that may be cleared, or no checkpoint, or the
-    /// empty volume.
-    Device,
-}
-
-impl FormatFault {
-    pub fn name(self) -> &'static str
-        ensures { result.now ≡ format_fault_name self }
-    {
-        match self {
-            FormatFault::Inval => "Inval",
-            FormatFault::TooSmall => "TooSmall",
-            FormatFault::Device => "Device",
         }
     }
 }

@@ -1,9 +1,9 @@
 use Rattle.std.proofs.Common.{◌+◌, ◌<◌, length, ◌∙◌, arith}
 use Rattle.lfs_model.specs.Image.{usage_blocks}
 use Rattle.lfs_model.proofs.Moments.{carries_then}
-use Rattle.lfs_fs.proofs.FirstMoments.{touches_write}
-use Rattle.lfs_fs.proofs.FirstWrites.{chunk_write, chunk_more}
-use Rattle.lfs_fs.proofs.making.write_later_usage.Goals as goal
+use Rattle.lfs_format.proofs.FirstMoments.{touches_write}
+use Rattle.lfs_format.proofs.FirstWrites.{chunk_write, chunk_more}
+use Rattle.lfs_format.proofs.making.write_later_usage.Goals as goal
 
 pub returns-in_err-write-clause-touched : goal.returns-in_err-write-clause-touched
 returns-in_err-write-clause-touched g c =

@@ -1,7 +1,7 @@
 use Rattle.std.proofs.Common.{◌+◌, ◌*◌, ◌%◌, ◌<◌, ◌≤◌, length, arith}
 use Rattle.lfs_model.specs.Image.{usage_blocks}
-use Rattle.lfs_fs.proofs.FirstMoments.{moments_chunked, moments_synced, moments_written, touches_slot, touches_slots, touches_still, touches_then}
-use Rattle.lfs_fs.proofs.making.write_volume.Goals as goal
+use Rattle.lfs_format.proofs.FirstMoments.{moments_chunked, moments_synced, moments_written, touches_slot, touches_slots, touches_still, touches_then}
+use Rattle.lfs_format.proofs.making.write_volume.Goals as goal
 
 pub returns-in_err-write_chunk-clause-any_moment : goal.returns-in_err-write_chunk-clause-any_moment
 returns-in_err-write_chunk-clause-any_moment g c keeps =

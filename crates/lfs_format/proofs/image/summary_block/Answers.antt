@@ -1,8 +1,8 @@
 use Rattle.std.proofs.Common.{◌+◌, ◌≤◌, ◌≡◌, ℕ, List, length, take, ap, subst, sym, ◌∙◌, arith}
 use Rattle.lfs_model.specs.Image.{usage_blocks, first_names}
 use Rattle.lfs_model.specs.Summary.{BlockNameValue, FitsSummary, summary_sector}
-use Rattle.lfs_fs.proofs.FirstSectors.{named, fits_first_names}
-use Rattle.lfs_fs.proofs.image.summary_block.Goals as goal
+use Rattle.lfs_format.proofs.FirstSectors.{named, fits_first_names}
+use Rattle.lfs_format.proofs.image.summary_block.Goals as goal
 
 pub encode_summary-requires : goal.encode_summary-requires
 encode_summary-requires c =

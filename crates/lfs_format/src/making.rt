@@ -7,15 +7,15 @@ ghost use Rattle.lfs_model.specs.Image.{first_checkpoint, usage_blocks, IsNew};
 ghost use Rattle.lfs_model.specs.Tree.{Dir};
 ghost use Rattle.lfs_model.specs.TreeOf.{Stands};
 ghost use Rattle.lfs_model.specs.Volume.{mounted};
-ghost use Rattle.lfs_fs.specs.Making.{AreClear, HasChunk, MayClearSlots, MayStand};
+ghost use Rattle.lfs_format.specs.Making.{AreClear, HasChunk, MayClearSlots, MayStand};
 
-use crate::error::FormatFault;
+use crate::fault::FormatFault;
 use crate::image::{
     INODE, MAP, USAGE, checkpoint, map_block, root_block, summary_block, usage_block, usage_count,
 };
 use lfs_device::{DeviceFault, SectorDevice};
 use lfs_layout::is_segment_count;
-use lfs_verify::root::replace;
+use lfs_root::replace;
 
 /// Makes the device an empty volume of so many segments. It takes no memory and writes the two checkpoint slots and the
 /// first chunk alone. A stop at any moment leaves what stood there, with slots that may be cleared, or no checkpoint, or

@@ -1,7 +1,7 @@
 use Rattle.std.proofs.Common.{arith}
 use Rattle.lfs_model.proofs.Moments.{run_untouched}
-use Rattle.lfs_fs.proofs.FirstWrites.{slots_start, slots_write}
-use Rattle.lfs_fs.proofs.making.clear_slots.Goals as goal
+use Rattle.lfs_format.proofs.FirstWrites.{slots_start, slots_write}
+use Rattle.lfs_format.proofs.making.clear_slots.Goals as goal
 
 pub returns-in_err-write-clause-any_moment : goal.returns-in_err-write-clause-any_moment
 returns-in_err-write-clause-any_moment g c =

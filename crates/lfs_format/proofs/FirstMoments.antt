@@ -6,7 +6,7 @@ use Rattle.lfs_model.specs.Device.{Cell, cell_at, put, MayWrite, left_old, left_
 use Rattle.lfs_model.specs.Fields.{read64, part}
 use Rattle.lfs_model.specs.Image.{blank, usage_blocks, first_checkpoint, IsNew}
 use Rattle.lfs_model.proofs.Moments.{started, goes_on, joined, weaker, same_outside_none, write_outside}
-use Rattle.lfs_fs.specs.Making.{MayClearSlots, AreClear, HasChunk, MayStand}
+use Rattle.lfs_format.specs.Making.{MayClearSlots, AreClear, HasChunk, MayStand}
 
 none_blank : checkpoint_in (blank 512) ≡ None
 unfolding checkpoint_in read64 part

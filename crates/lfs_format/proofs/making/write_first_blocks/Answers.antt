@@ -1,7 +1,7 @@
 use Rattle.std.proofs.Common.{ℕ, ◌+◌, ◌<◌, arith}
 use Rattle.lfs_model.specs.Image.{usage_blocks}
-use Rattle.lfs_fs.proofs.FirstMoments.{touches_none, touches_write}
-use Rattle.lfs_fs.proofs.making.write_first_blocks.Goals as goal
+use Rattle.lfs_format.proofs.FirstMoments.{touches_none, touches_write}
+use Rattle.lfs_format.proofs.making.write_first_blocks.Goals as goal
 
 pub returns-in_err-write-3-clause-touched : goal.returns-in_err-write-3-clause-touched
 returns-in_err-write-3-clause-touched g c =

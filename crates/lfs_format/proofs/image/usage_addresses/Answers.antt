@@ -1,7 +1,7 @@
 use Rattle.std.proofs.Common.{◌≡◌, arith}
 use Rattle.lfs_model.specs.Image.{usage_blocks}
-use Rattle.lfs_fs.proofs.FirstSectors.{addressed}
-use Rattle.lfs_fs.proofs.image.usage_addresses.Goals as goal
+use Rattle.lfs_format.proofs.FirstSectors.{addressed}
+use Rattle.lfs_format.proofs.image.usage_addresses.Goals as goal
 
 pub returns : goal.returns
 returns c =

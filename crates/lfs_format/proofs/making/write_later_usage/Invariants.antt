@@ -2,10 +2,10 @@ use Rattle.std.proofs.Common.{◌≡◌, ◌+◌}
 use Rattle.lfs_model.specs.Content.{Content}
 use Rattle.lfs_model.specs.Device.{Carries}
 use Rattle.lfs_model.specs.Image.{usage_blocks}
-use Rattle.lfs_fs.specs.Making.{HasChunk}
-use Rattle.lfs_fs.proofs.FirstMoments.{Touches}
-use Rattle.lfs_fs.proofs.FirstWrites.{Chunk}
-use Rattle.lfs_fs.proofs.making.write_later_usage.Given as goal
+use Rattle.lfs_format.specs.Making.{HasChunk}
+use Rattle.lfs_format.proofs.FirstMoments.{Touches}
+use Rattle.lfs_format.proofs.FirstWrites.{Chunk}
+use Rattle.lfs_format.proofs.making.write_later_usage.Given as goal
 
 abbrev pub invariant-loop-index : goal.invariant-loop-index
 invariant-loop-index g l =

@@ -1,5 +1,5 @@
 use Rattle.std.proofs.Common.{◌≡◌, ◌<◌, ◌+◌, ℕ, length, get_or, cond, nat_lt}
-use Rattle.lfs_fs.proofs.image.usage_addresses.Given as goal
+use Rattle.lfs_format.proofs.image.usage_addresses.Given as goal
 
 abbrev pub invariant-loop-index : goal.invariant-loop-index
 invariant-loop-index l = record {

@@ -11,7 +11,7 @@ use Rattle.lfs_model.specs.Summary.{summary_sector}
 use Rattle.lfs_model.specs.Usage.{usage_sector}
 use Rattle.lfs_model.proofs.Image.{unused_spelled}
 use Rattle.lfs_model.proofs.Moments.{Run, run_none, run_call, run_write, all_left_write, Survives, same_outside_none, write_outside}
-use Rattle.lfs_fs.specs.Making.{MayClear, left_as_was, left_clear, left_unreadable, MayClearSlots, AreClear, HasChunk}
+use Rattle.lfs_format.specs.Making.{MayClear, left_as_was, left_clear, left_unreadable, MayClearSlots, AreClear, HasChunk}
 
 -- ---- the slots
 

@@ -1,6 +1,6 @@
 use Rattle.lfs_model.proofs.Image.{formatted}
 use Rattle.lfs_model.proofs.Volume.{new_volume}
-use Rattle.lfs_fs.proofs.making.format.Goals as goal
+use Rattle.lfs_format.proofs.making.format.Goals as goal
 
 pub returns-in-Ok-clause-volume : goal.returns-in-Ok-clause-volume
 returns-in-Ok-clause-volume g c keeps = new_volume c.args.segments _ (c.in-Ok.ensures.volume keeps)

@@ -1,7 +1,7 @@
 use Rattle.std.proofs.Common.{◌+◌}
 use Rattle.lfs_model.specs.Image.{usage_blocks}
-use Rattle.lfs_fs.proofs.FirstMoments.{touches_then}
-use Rattle.lfs_fs.proofs.making.write_chunk.Goals as goal
+use Rattle.lfs_format.proofs.FirstMoments.{touches_then}
+use Rattle.lfs_format.proofs.making.write_chunk.Goals as goal
 
 pub returns-in_err-write_later_usage-clause-touched : goal.returns-in_err-write_later_usage-clause-touched
 returns-in_err-write_later_usage-clause-touched g c =

@@ -1,0 +1,3 @@
+mod FirstMoments
+mod FirstSectors
+mod FirstWrites

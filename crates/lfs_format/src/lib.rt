@@ -1,0 +1,9 @@
+//! The making of an empty volume, which takes no memory.
+#![tactic(auto)]
+
+mod fault;
+mod image;
+mod making;
+
+pub use fault::FormatFault;
+pub use making::format;
