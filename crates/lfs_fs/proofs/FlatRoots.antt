@@ -123,7 +123,7 @@ module _ (t : Tree) (order : T (is_sorted nat_cmp t)) (plain : IsPlain t) where
 -- ---- what a log map's headers and its root's slots make of the tree
 
 module _ (m : LogMap) (fits : (n : ℕ) (h : entry.Header) → m.header n ≡ Some h → IsHeaderOf n h) (head : Header) (root_is : IsRoot m head) (es : List Entry) (list : IsListOf (slots_at m 1 head) es)
-    (all : FitNumbers m (pairs es) 2 4096) where
+    (all : FitNumbers m (giving (pairs es)) 2 4096) where
   pub root_node : node (tree_in m) 1 ≡ Some (Dir 0 (pairs es))
   root_node =
       node_in m 1 (omega arith) (omega arith) ∙ ap (node_of m 1) root_is.there
@@ -241,7 +241,7 @@ module _ (m : LogMap) (fits : (n : ℕ) (h : entry.Header) → m.header n ≡ So
     }
 
 -- a root, entries and files that fit, with room for them
-pub flat_found : (N : ℕ) (m : LogMap) (head : Header) (es : List Entry) (totals : Totals) → IsCountedMap m totals → IsRoot m head → AreEntries m head es → FitNumbers m (pairs es) 2 4096
+pub flat_found : (N : ℕ) (m : LogMap) (head : Header) (es : List Entry) (totals : Totals) → IsCountedMap m totals → IsRoot m head → AreEntries m head es → FitNumbers m (giving (pairs es)) 2 4096
     → totals.data_blocks + 7 * totals.meta_blocks + 720 ≤ 47 * N → IsFlat N m
 flat_found N m head es totals is root_is entries all room =
     let shaped = shaped_found m is.fits head root_is es entries.list all entries.apart entries.unnamed is.map is.long in
@@ -297,7 +297,7 @@ module _ (N : ℕ) (m : LogMap) (flat : IsFlat N m) where
       pub flat_unnamed : giving (pairs es) 1 ≡ 0
       flat_unnamed = ap (λ (l : Names). giving l 1) listed ∙ flat_alone
 
-      pub flat_numbers : FitNumbers m (pairs es) 2 4096
+      pub flat_numbers : FitNumbers m (giving (pairs es)) 2 4096
       flat_numbers n low high = by (m.header n) refl
         where
           other : n ≢ 1

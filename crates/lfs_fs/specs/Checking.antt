@@ -1,5 +1,5 @@
 -- What a mount finds in a log map: the tree of a root and files in it, which are named as often as their headers say, with room for all.
-use Rattle.std.specs.Prelude.{◌≡◌, ◌<◌, ◌≤◌, ◌/◌, ◌==◌, ℕ, List, length, count_by, Option, Some, None}
+use Rattle.std.specs.Prelude.{◌≡◌, ◌<◌, ◌≤◌, ◌/◌, ◌==◌, ℕ, List, length, slice_index, count_by, Option, Some, None}
 use Rattle.lfs_model.specs.declared.Kind.TheVariants as kind
 use Rattle.lfs_model.specs.Checkpoint.{CheckpointValue}
 use Rattle.lfs_model.specs.Device.{DeviceState}
@@ -32,16 +32,21 @@ abbrev pub FitsNumber : Option entry.Header → ℕ → Type 0
 FitsNumber None count = count ≡ 0
 FitsNumber (Some h) count = (h.kind ≡ kind.File) × (h.links ≡ count) × (0 < count)
 
--- the numbers a..b do so
-abbrev pub FitNumbers : LogMap → Names → ℕ → ℕ → Type 0
-FitNumbers m ms a b = (n : ℕ) → a ≤ n → n < b → FitsNumber (m.header n) (giving ms n)
+-- how many of these names give each number that an object may have, by number
+pub record AreCounts (ms : Names) (counts : List ℕ) : Type 0 where
+  pub whole : length counts ≡ 4096
+  pub each : (n : ℕ) → n < 4096 → slice_index counts n ≡ giving ms n
+
+-- the numbers a..b do so, with counts by number
+abbrev pub FitNumbers : LogMap → (ℕ → ℕ) → ℕ → ℕ → Type 0
+FitNumbers m count a b = (n : ℕ) → a ≤ n → n < b → FitsNumber (m.header n) (count n)
 
 -- one of them doesn't
-pub record HasOdd (m : LogMap) (ms : Names) (a b : ℕ) : Type 0 where
+pub record HasOdd (m : LogMap) (count : ℕ → ℕ) (a b : ℕ) : Type 0 where
   pub number : ℕ
   pub low : a ≤ number
   pub high : number < b
-  pub odd : FitsNumber (m.header number) (giving ms number) → ⊥
+  pub odd : FitsNumber (m.header number) (count number) → ⊥
 
 -- the root's header
 pub record IsRoot (m : LogMap) (head : Header) : Type 0 where
@@ -54,6 +59,12 @@ pub record AreEntries (m : LogMap) (head : Header) (es : List Entry) : Type 0 wh
   pub list : IsListOf (slots_at m 1 head) es
   pub apart : length es ≡ head.size / 64
   pub unnamed : giving (pairs es) 1 ≡ 0
+
+-- the root's entries, counted by the numbers that they give
+pub record CountsEntries (m : LogMap) (head : Header) (counts : List ℕ) : Type 0 where
+  pub entries : List Entry
+  pub are : AreEntries m head entries
+  pub count : AreCounts (pairs entries) counts
 
 -- The log map of a volume of N segments is a tree's: a root and files in it.
 pub record IsFlat (N : ℕ) (m : LogMap) : Type 0 where
@@ -87,11 +98,18 @@ module _ {D : Type 0} (state : D → DeviceState) where
   abbrev pub FindsRoot : Held D → Held D → Changes → Header → Type 0
   FindsRoot h h' c head = (k : CheckpointValue) (m0 m : LogMap) → (state h'.device).keeps_model → Holds state h k m0 m → IsRoot (staged c m) head
 
-  abbrev pub FindsEntries : Held D → Held D → Changes → Header → List Entry → Type 0
-  FindsEntries h h' c head es = (k : CheckpointValue) (m0 m : LogMap) → (state h'.device).keeps_model → Holds state h k m0 m → AreEntries (staged c m) head es
+  abbrev pub FindsEntries : Held D → Held D → Changes → Header → List ℕ → Type 0
+  FindsEntries h h' c head counts = (k : CheckpointValue) (m0 m : LogMap) → (state h'.device).keeps_model
+      → Holds state h k m0 m → CountsEntries (staged c m) head counts
 
-  abbrev pub FindsFiles : Held D → Held D → Changes → Names → ℕ → ℕ → Type 0
-  FindsFiles h h' c ms a b = (k : CheckpointValue) (m0 m : LogMap) → (state h'.device).keeps_model → Holds state h k m0 m → FitNumbers (staged c m) ms a b
+  -- one number fits a count
+  abbrev pub FindsFile : Held D → Held D → Changes → ℕ → ℕ → Type 0
+  FindsFile h h' c n count = (k : CheckpointValue) (m0 m : LogMap) → (state h'.device).keeps_model
+      → Holds state h k m0 m → FitsNumber ((staged c m).header n) count
+
+  abbrev pub FindsFiles : Held D → Held D → Changes → (ℕ → ℕ) → ℕ → ℕ → Type 0
+  FindsFiles h h' c count a b = (k : CheckpointValue) (m0 m : LogMap) → (state h'.device).keeps_model
+      → Holds state h k m0 m → FitNumbers (staged c m) count a b
 
   abbrev pub FindsTree : Held D → Held D → Changes → Totals → Type 0
   FindsTree h h' c totals = (k : CheckpointValue) (m0 m : LogMap) → (state h'.device).keeps_model → Holds state h k m0 m → IsCountedMap (staged c m) totals → IsFlat k.segments (staged c m)
@@ -103,9 +121,15 @@ module _ {D : Type 0} (state : D → DeviceState) where
   abbrev pub LacksEntries : Held D → Held D → Changes → Header → Type 0
   LacksEntries h h' c head = (k : CheckpointValue) (m0 m : LogMap) → (state h'.device).keeps_model → Holds state h k m0 m → IsFlat k.segments (staged c m) → IsRoot (staged c m) head → IsHeaderOf 1 (as_header head) → ⊥
 
+  -- a number doesn't fit a count
+  abbrev pub LacksFile : Held D → Held D → Changes → ℕ → ℕ → Type 0
+  LacksFile h h' c n count = (k : CheckpointValue) (m0 m : LogMap) → (state h'.device).keeps_model
+      → Holds state h k m0 m → FitsNumber ((staged c m).header n) count → ⊥
+
   -- one of the numbers doesn't fit
-  abbrev pub LacksFiles : Held D → Held D → Changes → Names → ℕ → ℕ → Type 0
-  LacksFiles h h' c ms a b = (k : CheckpointValue) (m0 m : LogMap) → (state h'.device).keeps_model → Holds state h k m0 m → HasOdd (staged c m) ms a b
+  abbrev pub LacksFiles : Held D → Held D → Changes → (ℕ → ℕ) → ℕ → ℕ → Type 0
+  LacksFiles h h' c count a b = (k : CheckpointValue) (m0 m : LogMap) → (state h'.device).keeps_model
+      → Holds state h k m0 m → HasOdd (staged c m) count a b
 
   abbrev pub LacksTree : Held D → Held D → Changes → Totals → Type 0
   LacksTree h h' c totals = (k : CheckpointValue) (m0 m : LogMap) → (state h'.device).keeps_model → Holds state h k m0 m → IsCountedMap (staged c m) totals → IsFlat k.segments (staged c m) → ⊥

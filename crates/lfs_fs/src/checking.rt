@@ -1,20 +1,23 @@
 //! What a mount checks of a volume's tree: that it is a root and files, named as often as their inodes say, with room for all.
-ghost use Rattle.std.specs.Prelude.{◌≡◌, ◌≤◌, ◌<◌, ◌+◌, ◌*◌, length, OnOk, OnErr, IfOk, IfErr};
+ghost use Rattle.std.specs.Prelude.{◌≡◌, ◌≤◌, ◌<◌, ◌+◌, ◌*◌, length, slice_index, OnOk, OnErr, IfOk, IfErr};
 ghost use Rattle.std.specs.Option.{option_map};
 ghost use Rattle.lfs_path.specs.memory.Present.{as_header};
 ghost use Rattle.lfs_path.specs.log.Held.{Reads};
 ghost use Rattle.lfs_path.specs.dirs.Listing.{pairs};
-ghost use Rattle.lfs_fs.specs.Checking.{FitsNumber, giving, FindsRoot, FindsEntries, FindsFiles, FindsTree, LacksRoot, LacksEntries, LacksFiles, LacksTree, IsTreeDamage, IsTreeFault};
+ghost use Rattle.lfs_fs.specs.Checking.{AreCounts, FitsNumber, FindsRoot, FindsEntries, FindsFile, FindsFiles, FindsTree, LacksRoot, LacksEntries, LacksFile, LacksFiles, LacksTree, IsTreeDamage, IsTreeFault};
 
 use crate::fs::ROOT;
 use lfs_device::SectorDevice;
 use lfs_model::Kind;
 use lfs_path::dirs::{Entry, ListFault, inspect};
 use lfs_path::store::{Header, MountFault, Store};
-use std::alloc::Global;
+use std::alloc::{AllocError, Global};
 
 /// The bytes of a slot of the root.
 const SLOT: u32 = 64;
+
+/// An object's number is below this.
+const NUMBERS: u16 = 4_096;
 
 /// The code of damage of the root's entries, and of what they give.
 const DAMAGED_ENTRIES: u8 = 10;
@@ -47,11 +50,11 @@ pub(crate) fn check_tree<D: SectorDevice>(
         Ok(root) => root,
         Err(fault) => return Err(fault),
     };
-    let entries = match check_entries(alloc, store, root) {
-        Ok(entries) => entries,
+    let counts = match check_entries(alloc, store, root) {
+        Ok(counts) => counts,
         Err(fault) => return Err(fault),
     };
-    match check_files(store, &entries) {
+    match check_files(store, &counts) {
         Ok(()) => {}
         Err(fault) => return Err(fault),
     }
@@ -87,17 +90,19 @@ fn check_root<D: SectorDevice>(store: &mut Store<D>) -> Result<Header, MountFaul
     Ok(header)
 }
 
-/// The root's entries: one for each slot, none of them the root's.
+/// Looks at the root's entries: one for each slot, none of them the root's. It tells how many of them give each number.
 fn check_entries<D: SectorDevice>(
     alloc: Global,
     store: &mut Store<D>,
     root: Header,
-) -> Result<Vec<Entry>, MountFault>
+) -> Result<Vec<usize>, MountFault>
     ensures reads { Reads D.SectorDevice.state store.old.log store.new.log }
     ensures draft { store.new.draft ≡ store.old.draft }
     ensures saved { store.new.saved ≡ store.old.saved }
     ensures totals { store.new.totals ≡ store.old.totals }
-    ensures done { IfOk result (λ entries. FindsEntries D.SectorDevice.state store.old.log store.new.log store.old.draft.changes root entries.items) }
+    ensures done { IfOk result (λ counts. FindsEntries D.SectorDevice.state store.old.log
+        store.new.log store.old.draft.changes root counts.items) }
+    ensures whole { IfOk result (λ counts. length counts.items ≡ 4096) }
     ensures failed { IfErr result (λ fault. (fault ≡ MountFault.NoMemory → ⊥)
         → IsTreeFault D.SectorDevice.state store.old.log store.new.log
         (LacksEntries D.SectorDevice.state store.old.log store.new.log
@@ -112,38 +117,44 @@ fn check_entries<D: SectorDevice>(
     if entries.len() != (root.size / SLOT) as usize {
         return Err(MountFault::Damaged(DAMAGED_ENTRIES));
     }
-    if count_names(&entries, ROOT) != 0 {
+    let Ok(counts) = count_names(alloc, &entries) else {
+        return Err(MountFault::NoMemory);
+    };
+    if counts[ROOT as usize] != 0 {
         return Err(MountFault::Damaged(DAMAGED_ENTRIES));
     }
-    Ok(entries)
+    Ok(counts)
 }
 
-/// How many entries give a number.
-fn count_names(entries: &[Entry], number: u16) -> usize
-    ensures { result ≡ giving (pairs entries.now) number }
+/// How many entries give each number, in one pass over them.
+fn count_names(alloc: Global, entries: &[Entry]) -> Result<Vec<usize>, AllocError>
+    ensures { IfOk result (λ counts. AreCounts (pairs entries.now) counts.items) }
 {
-    let mut count = 0;
-    for place in 0..entries.len() {
-        if entries[place].number == number {
-            count += 1;
+    let mut counts = vec![in alloc; 0; NUMBERS as usize]?;
+    for entry in entries {
+        let number = entry.number as usize;
+        if number < counts.len() {
+            counts[number] += 1;
         }
     }
-    count
+    Ok(counts)
 }
 
-/// Looks at each object: all but the root are files that the entries name as often as they say.
-fn check_files<D: SectorDevice>(store: &mut Store<D>, entries: &[Entry]) -> Result<(), MountFault>
+/// Looks at each object: all but the root are files that as many entries name as they say.
+fn check_files<D: SectorDevice>(store: &mut Store<D>, counts: &[usize]) -> Result<(), MountFault>
+    requires { length counts.now ≡ 4096 }
     ensures reads { Reads D.SectorDevice.state store.old.log store.new.log }
     ensures draft { store.new.draft ≡ store.old.draft }
     ensures saved { store.new.saved ≡ store.old.saved }
     ensures totals { store.new.totals ≡ store.old.totals }
-    ensures done { OnOk result (FindsFiles D.SectorDevice.state store.old.log store.new.log store.old.draft.changes (pairs entries.now) 2 4096) }
+    ensures done { OnOk result (FindsFiles D.SectorDevice.state store.old.log store.new.log
+        store.old.draft.changes (slice_index counts.now) 2 4096) }
     ensures failed { IfErr result (IsTreeFault D.SectorDevice.state store.old.log store.new.log
         (LacksFiles D.SectorDevice.state store.old.log store.new.log
-        store.old.draft.changes (pairs entries.now) 2 4096)) }
+        store.old.draft.changes (slice_index counts.now) 2 4096)) }
 {
-    for number in 2..4_096u16 {
-        match check_file(store, entries, number) {
+    for number in 2..NUMBERS {
+        match check_file(store, number, counts[number as usize]) {
             Ok(()) => {}
             Err(fault) => return Err(fault),
         }
@@ -151,24 +162,25 @@ fn check_files<D: SectorDevice>(store: &mut Store<D>, entries: &[Entry]) -> Resu
     Ok(())
 }
 
-/// Whether a number is free and not named, or a file's that is named as often as it says.
+/// Whether a number is free and not named, or a file's that has as many names as it says.
 fn check_file<D: SectorDevice>(
     store: &mut Store<D>,
-    entries: &[Entry],
     number: u16,
+    count: usize,
 ) -> Result<(), MountFault>
     requires { number < 4096 }
     ensures reads { Reads D.SectorDevice.state store.old.log store.new.log }
     ensures draft { store.new.draft ≡ store.old.draft }
     ensures saved { store.new.saved ≡ store.old.saved }
     ensures totals { store.new.totals ≡ store.old.totals }
-    ensures done { OnOk result (FindsFiles D.SectorDevice.state store.old.log store.new.log store.old.draft.changes (pairs entries.now) number (number + 1)) }
+    ensures done { OnOk result (FindsFile D.SectorDevice.state store.old.log store.new.log
+        store.old.draft.changes number count) }
     ensures failed { IfErr result (IsTreeFault D.SectorDevice.state store.old.log store.new.log
-        (LacksFiles D.SectorDevice.state store.old.log store.new.log
-        store.old.draft.changes (pairs entries.now) number (number + 1))) }
+        (LacksFile D.SectorDevice.state store.old.log store.new.log
+        store.old.draft.changes number count)) }
 {
     match store.header(number) {
-        Ok(found) => match check_header(found, count_names(entries, number)) {
+        Ok(found) => match check_header(found, count) {
             Ok(()) => Ok(()),
             Err(fault) => Err(fault),
         },

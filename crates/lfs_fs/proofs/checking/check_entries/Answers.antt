@@ -1,8 +1,7 @@
-use Rattle.std.proofs.Common.{◌≡◌, ◌/◌, ◌∙◌, Err, ap, length, arith}
+use Rattle.std.proofs.Common.{◌≡◌, ◌/◌, ◌∙◌, Err, ap, length, slice_index, arith}
+use Rattle.std.proofs.lemmas.Grind.{get_or_default_zero}
 use Rattle.lfs_path.specs.dirs.declared.listing.ListFault.TheVariants as list_fault
-use Rattle.lfs_path.specs.dirs.Listing.{pairs}
-use Rattle.lfs_fs.specs.Checking.{giving}
-use Rattle.lfs_fs.proofs.TreeChecks.{entries_fewer, entries_found, entries_malformed, entries_named, log_failed, same_count}
+use Rattle.lfs_fs.proofs.TreeChecks.{entries_fewer, entries_found, entries_malformed, entries_named, log_failed, same_counts}
 use Rattle.lfs_fs.proofs.checking.check_entries.Goals as goal
 
 pub returns-in-Err-NoSlot-clause-failed : goal.returns-in-Err-NoSlot-clause-failed
@@ -19,23 +18,6 @@ returns-then-len-root-clause-failed g c other =
           (λ (e : length c.in-Ok.entries.items ≡ c.args.root.size / 64). omega (arith, unequal, e)),
     )
 
-pub returns-then-count_names-ne0-clause-failed : goal.returns-then-count_names-ne0-clause-failed
-returns-then-count_names-ne0-clause-failed g c other =
-    let some = c.if-count_names-ne0.true in
-    let is = same_count c.deref.result.now c.in-Ok.entries.items 1 c.count_names.result c.deref.ensures.value c.count_names.ensures in (
-      omega arith,
-      omega arith,
-      entries_named g.D.SectorDevice.state c.args.store.now.log c.inspect.new.store.log c.args.store.now.draft.changes c.args.root c.in-Ok.entries.items c.in-Ok.ensures.answer
-          (λ (e : giving (pairs c.in-Ok.entries.items) 1 ≡ 0). omega (arith, some, is, e)),
-    )
-
-pub returns-clause-done : goal.returns-clause-done
-returns-clause-done g c =
-    let apart = c.if-len-root.false in
-    let none = c.if-count_names-ne0.false in
-    let is = same_count c.deref.result.now c.in-Ok.entries.items 1 c.count_names.result c.deref.ensures.value c.count_names.ensures in
-    entries_found g.D.SectorDevice.state c.args.store.now.log c.inspect.new.store.log c.args.store.now.draft.changes c.args.root c.in-Ok.entries.items c.in-Ok.ensures.answer (omega (arith, apart)) (omega (arith, none, is))
-
 pub returns-in-Err-Log-clause-failed : goal.returns-in-Err-Log-clause-failed
 returns-in-Err-Log-clause-failed g c other =
     let is = c.in-Err-Log.field-0-is in
@@ -43,3 +25,27 @@ returns-in-Err-Log-clause-failed g c other =
     (λ e. c.in-Err-Log.ensures.device (ap Err (is ∙ ap list_fault.Log e)))
     (λ e. c.in-Err-Log.ensures.halted (ap Err (is ∙ ap list_fault.Log e)))
     (λ e. c.in-Err-Log.ensures.other (ap Err (is ∙ ap list_fault.Log e)))
+
+pub returns-then-index-ne0-clause-failed : goal.returns-then-index-ne0-clause-failed
+returns-then-index-ne0-clause-failed g c other =
+    let some = c.if-index-ne0.true in
+    let counts = c.in-Ok-count_names.counts.items in
+    let count = same_counts c.deref.result.now c.in-Ok.entries.items counts c.deref.ensures.value c.in-Ok-count_names.ensures in
+    let whole = count.whole in
+    let is = c.index.ensures ∙ get_or_default_zero counts 1 c.index.result.now (omega (arith, whole)) in (
+      omega arith,
+      omega arith,
+      entries_named g.D.SectorDevice.state c.args.store.now.log c.inspect.new.store.log c.args.store.now.draft.changes c.args.root c.in-Ok.entries.items c.in-Ok.ensures.answer counts count
+          (λ (e : slice_index counts 1 ≡ 0). omega (arith, some, is, e)),
+    )
+
+pub returns-clause-done : goal.returns-clause-done
+returns-clause-done g c =
+    let apart = c.if-len-root.false in
+    let none = c.if-index-ne0.false in
+    let counts = c.in-Ok-count_names.counts.items in
+    let count = same_counts c.deref.result.now c.in-Ok.entries.items counts c.deref.ensures.value c.in-Ok-count_names.ensures in
+    let whole = count.whole in
+    let is = c.index.ensures ∙ get_or_default_zero counts 1 c.index.result.now (omega (arith, whole)) in
+    entries_found g.D.SectorDevice.state c.args.store.now.log c.inspect.new.store.log c.args.store.now.draft.changes c.args.root c.in-Ok.entries.items c.in-Ok.ensures.answer counts count
+    (omega (arith, apart)) (omega (arith, none, is))

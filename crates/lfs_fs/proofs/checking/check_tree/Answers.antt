@@ -1,9 +1,7 @@
-use Rattle.std.proofs.Common.{◌+◌, ◌*◌, List, ap, subst, ◌∙◌}
+use Rattle.std.proofs.Common.{◌+◌, ◌*◌, ℕ, List, ap, slice_index, subst, ◌∙◌}
 use Rattle.lfs_path.specs.store.declared.draft.Draft.{Draft}
 use Rattle.lfs_path.specs.store.declared.totals.Totals.{Totals}
 use Rattle.lfs_path.proofs.of_store.LogReads.{reads_more, reads_none}
-use Rattle.lfs_path.specs.dirs.declared.entry.Entry.{Entry}
-use Rattle.lfs_path.specs.dirs.Listing.{pairs}
 use Rattle.lfs_fs.specs.Checking.{FindsEntries, FindsFiles, LacksEntries, LacksFiles, LacksRoot, LacksTree}
 use Rattle.lfs_fs.proofs.TreeChecks.{damage_told, entries_lack, fault_told, files_lack_tree, room_lacks, root_lacks, tree_finds}
 use Rattle.lfs_fs.proofs.checking.check_tree.Goals as goal
@@ -40,42 +38,51 @@ returns-in-Err-check_files-clause-failed g c other =
     let e = c.check_files.new.store.log in
     let drafted = c.args.store.now.draft.changes in
     let totals = c.args.store.now.totals in
-    let es = c.in-Ok-check_entries.entries.items in
+    let counts = c.in-Ok-check_entries.counts.items in
     let first = c.check_root.ensures.reads in
     let second = c.check_entries.ensures.reads in
     let lawful = g.met.D.SectorDevice.lawful a.device in
-    fault_told state a d e (reads_more state a b d lawful first second) (LacksFiles state d e c.check_entries.new.store.draft.changes (pairs c.deref.result.now) 2 4096) (LacksTree state a e drafted totals)
-    (λ lacks. files_lack_tree state a b d drafted totals c.in-Ok.root first c.in-Ok.ensures.done second e es
-    (subst (λ (x : Draft). FindsEntries state b d x.changes c.in-Ok.root es) c.check_root.ensures.draft c.in-Ok-check_entries.ensures.done)
+    fault_told state a d e (reads_more state a b d lawful first second) (LacksFiles state d e c.check_entries.new.store.draft.changes (slice_index c.deref.result.now) 2 4096) (LacksTree state a e drafted totals)
+    (λ lacks. files_lack_tree state a b d drafted totals c.in-Ok.root first c.in-Ok.ensures.done second e counts
+    (subst (λ (x : Draft). FindsEntries state b d x.changes c.in-Ok.root counts) c.check_root.ensures.draft c.in-Ok-check_entries.ensures.done)
     c.check_files.ensures.reads lawful
-    (subst (λ (l : List Entry). LacksFiles state d e drafted (pairs l) 2 4096) c.deref.ensures.value
-    (subst (λ (x : Draft). LacksFiles state d e x.changes (pairs c.deref.result.now) 2 4096) (c.check_entries.ensures.draft ∙ c.check_root.ensures.draft) lacks)))
+    (subst (λ (l : List ℕ). LacksFiles state d e drafted (slice_index l) 2 4096) c.deref.ensures.value
+    (subst (λ (x : Draft). LacksFiles state d e x.changes (slice_index c.deref.result.now) 2 4096) (c.check_entries.ensures.draft ∙ c.check_root.ensures.draft) lacks)))
     c.in-Err-check_files.fault c.in-Err-check_files.ensures.failed
 
 pub returns-in-Ok-check_room-clause-done : goal.returns-in-Ok-check_room-clause-done
 returns-in-Ok-check_room-clause-done g c =
-    let es = c.in-Ok-check_entries.entries.items in
+    let state = g.D.SectorDevice.state in
+    let a = c.args.store.now.log in
+    let b = c.check_root.new.store.log in
+    let d = c.check_entries.new.store.log in
+    let e = c.check_files.new.store.log in
+    let drafted = c.args.store.now.draft.changes in
+    let counts = c.in-Ok-check_entries.counts.items in
     let same = c.check_files.ensures.totals ∙ c.check_entries.ensures.totals ∙ c.check_root.ensures.totals in
-    tree_finds g.D.SectorDevice.state c.args.store.now.log c.check_root.new.store.log c.check_entries.new.store.log c.args.store.now.draft.changes c.args.store.now.totals c.in-Ok.root
-    c.check_root.ensures.reads c.in-Ok.ensures.done c.check_entries.ensures.reads c.check_files.new.store.log es
-    (subst (λ (d : Draft). FindsEntries g.D.SectorDevice.state c.check_root.new.store.log c.check_entries.new.store.log d.changes c.in-Ok.root es) c.check_root.ensures.draft c.in-Ok-check_entries.ensures.done)
-    c.check_files.ensures.reads (g.met.D.SectorDevice.lawful c.args.store.now.log.device)
+    tree_finds state a b d drafted c.args.store.now.totals c.in-Ok.root c.check_root.ensures.reads c.in-Ok.ensures.done c.check_entries.ensures.reads e counts
+    (subst (λ (x : Draft). FindsEntries state b d x.changes c.in-Ok.root counts) c.check_root.ensures.draft c.in-Ok-check_entries.ensures.done)
+    c.check_files.ensures.reads (g.met.D.SectorDevice.lawful a.device)
     (c.check_files.new.store.totals.data_blocks + 7 * c.check_files.new.store.totals.meta_blocks + 720) (ap (λ (t : Totals). t.data_blocks + 7 * t.meta_blocks + 720) same)
-    (subst (λ (l : List Entry). FindsFiles g.D.SectorDevice.state c.check_entries.new.store.log c.check_files.new.store.log c.args.store.now.draft.changes (pairs l) 2 4096) c.deref.ensures.value
-    (subst (λ (d : Draft). FindsFiles g.D.SectorDevice.state c.check_entries.new.store.log c.check_files.new.store.log d.changes (pairs c.deref.result.now) 2 4096)
+    (subst (λ (l : List ℕ). FindsFiles state d e drafted (slice_index l) 2 4096) c.deref.ensures.value
+    (subst (λ (x : Draft). FindsFiles state d e x.changes (slice_index c.deref.result.now) 2 4096)
     (c.check_entries.ensures.draft ∙ c.check_root.ensures.draft) c.in-Ok-check_files.ensures.done))
     c.in-Ok-check_room.ensures.done
 
 pub returns-clause-failed : goal.returns-clause-failed
 returns-clause-failed g c other =
-    let es = c.in-Ok-check_entries.entries.items in
+    let state = g.D.SectorDevice.state in
+    let a = c.args.store.now.log in
+    let b = c.check_root.new.store.log in
+    let d = c.check_entries.new.store.log in
+    let e = c.check_files.new.store.log in
+    let drafted = c.args.store.now.draft.changes in
+    let counts = c.in-Ok-check_entries.counts.items in
     let same = c.check_files.ensures.totals ∙ c.check_entries.ensures.totals ∙ c.check_root.ensures.totals in
-    damage_told g.D.SectorDevice.state c.args.store.now.log c.check_files.new.store.log
-    (LacksTree g.D.SectorDevice.state c.args.store.now.log c.check_files.new.store.log c.args.store.now.draft.changes c.args.store.now.totals)
-    (room_lacks g.D.SectorDevice.state c.args.store.now.log c.check_root.new.store.log c.check_entries.new.store.log c.args.store.now.draft.changes c.args.store.now.totals c.in-Ok.root
-    c.check_root.ensures.reads c.in-Ok.ensures.done c.check_entries.ensures.reads c.check_files.new.store.log es
-    (subst (λ (d : Draft). FindsEntries g.D.SectorDevice.state c.check_root.new.store.log c.check_entries.new.store.log d.changes c.in-Ok.root es) c.check_root.ensures.draft c.in-Ok-check_entries.ensures.done)
-    c.check_files.ensures.reads (g.met.D.SectorDevice.lawful c.args.store.now.log.device)
+    damage_told state a e (LacksTree state a e drafted c.args.store.now.totals)
+    (room_lacks state a b d drafted c.args.store.now.totals c.in-Ok.root c.check_root.ensures.reads c.in-Ok.ensures.done c.check_entries.ensures.reads e counts
+    (subst (λ (x : Draft). FindsEntries state b d x.changes c.in-Ok.root counts) c.check_root.ensures.draft c.in-Ok-check_entries.ensures.done)
+    c.check_files.ensures.reads (g.met.D.SectorDevice.lawful a.device)
     (c.check_files.new.store.totals.data_blocks + 7 * c.check_files.new.store.totals.meta_blocks + 720) (ap (λ (t : Totals). t.data_blocks + 7 * t.meta_blocks + 720) same)
     c.in-Err-check_room.ensures.failed)
     c.in-Err-check_room.fault c.in-Err-check_room.ensures.names
