@@ -1,8 +1,8 @@
 //! How many blocks a file and a volume have with the draft.
-ghost use Rattle.std.specs.Prelude.{◌≡◌, ◌<◌, ◌≤◌, ◌-◌, true, IfOk, OnErr, IsErrOf, IsTrue, IsFalse};
+ghost use Rattle.std.specs.Prelude.{◌≡◌, ◌<◌, ◌≤◌, ◌-◌, true, IfSome, IfNone, IfOk, OnErr, IsErrOf, IsTrue, IsFalse};
 ghost use Rattle.std.specs.List.{AllByRecursion};
 ghost use Rattle.lfs_log.specs.Held.{Reads, IsReadFault};
-ghost use Rattle.lfs_store.specs.Measuring.{SaysStored, IsOffLeaf, KeepsLeaf, LeavesLeaf, TellsStored, TellsLeaf, TellsDouble, CountsStored, CountsLeaves, CountsPointers};
+ghost use Rattle.lfs_store.specs.Measuring.{SaysStored, IsInLeaf, IsOffLeaf, KeepsLeaf, LeavesLeaf, StoresLeaf, IsLeafRange, TellsStored, TellsLeaf, TellsDouble, CountsStored, CountsLeaves, CountsPointers};
 
 use crate::draft::Draft;
 use crate::losing::takes_block;
@@ -132,7 +132,7 @@ fn is_stored<D: SectorDevice>(
     }
 }
 
-/// Whether a leaf of pointers of a file is stored, since a block below it is.
+/// Whether a leaf of pointers of a file is stored, since a block below it is. Where the draft stores one, nothing is read.
 fn has_leaf<D: SectorDevice>(
     log: &mut Log<D>,
     draft: &Draft,
@@ -148,6 +148,9 @@ fn has_leaf<D: SectorDevice>(
     ensures halted { IsErrOf result LogFault.Halted → log.old.halted ≡ true }
     ensures other { IsErrOf result LogFault.Full → ⊥ }
 {
+    if stores_leaf(draft, number, leaf) {
+        return Ok(true);
+    }
     if changes_leaf(draft, number, leaf) {
         return search_leaf(log, draft, number, leaf);
     }
@@ -265,6 +268,20 @@ fn has_double<D: SectorDevice>(
     Ok(false)
 }
 
+/// The first of the leaves of pointers with a block at the indices from one on to another, before the end of a file of this size, and where
+/// they end.
+fn leaf_range(size: u32, from: u32, to: u32) -> (u32, u32)
+    requires { to ≤ 16624 }
+    ensures range { IsLeafRange size from to result.0 result.1 }
+    ensures order { result.0 ≤ result.1 }
+    ensures low { result.1 ≤ 129 }
+{
+    let blocks = size.div_ceil(512).min(to);
+    let end = blocks.saturating_sub(DIRECT).div_ceil(POINTERS);
+    let first = (from.saturating_sub(DIRECT) / POINTERS).min(end);
+    (first, end)
+}
+
 /// How many blocks of pointers a file of this size has: leaves with a block at the indices from one on to another, and the double root.
 fn count_pointers<D: SectorDevice>(
     log: &mut Log<D>,
@@ -285,13 +302,15 @@ fn count_pointers<D: SectorDevice>(
     ensures halted { IsErrOf result LogFault.Halted → log.old.halted ≡ true }
     ensures other { IsErrOf result LogFault.Full → ⊥ }
 {
-    let blocks = size.div_ceil(512).min(to);
-    let end = blocks.saturating_sub(DIRECT).div_ceil(POINTERS);
-    let first = (from.saturating_sub(DIRECT) / POINTERS).min(end);
+    let (first, end) = leaf_range(size, from, to);
     let leaves = match count_leaves(log, draft, number, first, end) {
         Ok(count) => count,
         Err(fault) => return Err(fault),
     };
+    // A leaf behind the first is below the double root.
+    if first > 0 && leaves > 0 {
+        return Ok(leaves + 1);
+    }
     match has_double(log, draft, number, size) {
         Ok(found) => Ok(leaves + u32::from(found)),
         Err(fault) => Err(fault),
@@ -311,13 +330,29 @@ fn stored_after(draft: &Draft, number: u16, index: u32) -> Option<bool>
     Some(false)
 }
 
+/// Whether a draft stores a block below a leaf of pointers of a file: it looks at the last that it has there.
+fn stores_leaf(draft: &Draft, number: u16, leaf: u32) -> bool
+    requires { leaf ≤ 128 }
+    ensures { IsTrue result → StoresLeaf draft.now.changes number leaf }
+{
+    let Some(index) = index_below(&draft.changes.blocks, number, leaf) else {
+        return false;
+    };
+    match stored_after(draft, number, index) {
+        Some(stored) => stored,
+        None => false,
+    }
+}
+
 /// Whether a draft changes a block below a leaf of pointers of a file.
 fn changes_leaf(draft: &Draft, number: u16, leaf: u32) -> bool
     requires { leaf ≤ 128 }
     ensures { IsFalse result → LeavesLeaf draft.now.changes number leaf }
 {
-    takes_below(&draft.changes.loss, number, leaf)
-        || edits_below(&draft.changes.blocks, number, leaf)
+    match index_below(&draft.changes.blocks, number, leaf) {
+        Some(_) => true,
+        None => takes_below(&draft.changes.loss, number, leaf),
+    }
 }
 
 /// Whether a loss takes a block below a leaf of pointers of a file.
@@ -333,25 +368,27 @@ fn takes_below(loss: &Loss, number: u16, leaf: u32) -> bool
     }
 }
 
-/// Whether one of these blocks is below a leaf of pointers of a file.
-fn edits_below(edits: &[BlockEdit], number: u16, leaf: u32) -> bool
+/// The index of the last of these blocks that is below a leaf of pointers of a file.
+fn index_below(edits: &[BlockEdit], number: u16, leaf: u32) -> Option<u32>
     requires { leaf ≤ 128 }
-    ensures { IsFalse result → AllByRecursion (IsOffLeaf number leaf) edits.now }
+    ensures some { IfSome result (IsInLeaf leaf) }
+    ensures none { IfNone result (AllByRecursion (IsOffLeaf number leaf) edits.now) }
 {
     let mut place = edits.len();
     while place > 0 {
         place -= 1;
         if is_below(&edits[place], number, leaf) {
-            return true;
+            return Some(edits[place].index);
         }
     }
-    false
+    None
 }
 
 /// Whether this is a block below a leaf of pointers of a file.
 fn is_below(edit: &BlockEdit, number: u16, leaf: u32) -> bool
     requires { leaf ≤ 128 }
-    ensures { IsFalse result → IsOffLeaf number leaf edit.now }
+    ensures inside { IsTrue result → IsInLeaf leaf edit.now.index }
+    ensures off { IsFalse result → IsOffLeaf number leaf edit.now }
 {
     let first = DIRECT + POINTERS * leaf;
     edit.number == number && first <= edit.index && edit.index < first + POINTERS

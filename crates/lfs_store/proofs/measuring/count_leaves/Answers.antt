@@ -1,7 +1,7 @@
-use Rattle.std.proofs.Common.{◌≡◌, ◌+◌, ℕ, ◌∙◌, ap, subst, arith}
+use Rattle.std.proofs.Common.{◌≡◌, ◌+◌, ℕ, ap, arith}
 use Rattle.lfs_model.specs.Objects.{has_leaf}
 use Rattle.lfs_store.proofs.LogReads.{fault_more}
-use Rattle.lfs_store.proofs.Measured.{Tells, counted_more, counts_leaves}
+use Rattle.lfs_store.proofs.Measured.{counted_more, counts_leaves}
 use Rattle.lfs_store.proofs.measuring.count_leaves.Goals as goal
 
 pub returns-in-Err-clause-failed : goal.returns-in-Err-clause-failed
@@ -11,7 +11,7 @@ returns-in-Err-clause-failed g c =
 pub loop-leaf-preserved : goal.loop-leaf-preserved
 loop-leaf-preserved g c =
     counted_more g.D.SectorDevice.state (λ m. has_leaf m c.args.number) c.args.log.now c.loop-leaf.log c.has_leaf.new.log c.args.draft.now.changes c.args.from c.loop-leaf.leaf c.loop-leaf.count
-          (g.met.D.SectorDevice.lawful c.args.log.now.device) c.loop-leaf.invariant c.has_leaf.ensures.reads c.in-Ok.found (c.loop-leaf.count + c.from-count.result) (ap (λ (x : ℕ). c.loop-leaf.count + x) c.from-count.ensures) c.in-Ok.ensures.answer
+    (g.met.D.SectorDevice.lawful c.args.log.now.device) c.loop-leaf.invariant c.has_leaf.ensures.reads c.in-Ok.found (c.loop-leaf.count + c.from-count.result) (ap (λ (x : ℕ). c.loop-leaf.count + x) c.from-count.ensures) c.in-Ok.ensures.answer
 
 pub returns-clause-answer : goal.returns-clause-answer
 returns-clause-answer g c =

@@ -1,9 +1,9 @@
-use Rattle.std.proofs.Common.{ℕ, Bool, true, false, ◌∙◌, ap, refl, subst, arith}
+use Rattle.std.proofs.Common.{ℕ, Bool, false, ◌∙◌, ap, refl, subst, arith}
 use Rattle.std.specs.Int.{div_ceil}
 use Rattle.lfs_model.specs.Objects.{has_leaf}
 use Rattle.lfs_store.specs.Measuring.{TellsLeaf}
 use Rattle.lfs_store.proofs.LogReads.{fault_more}
-use Rattle.lfs_store.proofs.Measured.{Tells, counted_more, counted_none}
+use Rattle.lfs_store.proofs.Measured.{counted_more, counted_none}
 use Rattle.lfs_store.proofs.Measures.{double_missed, double_told}
 use Rattle.lfs_store.proofs.Pointers.{leaves_cover}
 use Rattle.lfs_store.proofs.measuring.has_double.Goals as goal
@@ -19,7 +19,7 @@ pub loop-leaf-preserved : goal.loop-leaf-preserved
 loop-leaf-preserved g c =
     let tells = subst (λ (b : Bool). TellsLeaf g.D.SectorDevice.state c.loop-leaf.log c.has_leaf.new.log c.args.draft.now.changes c.args.number c.loop-leaf.leaf b) c.in-Ok-false.field-0-test c.in-Ok-false.ensures.answer in
     counted_more g.D.SectorDevice.state (λ m. has_leaf m c.args.number) c.args.log.now c.loop-leaf.log c.has_leaf.new.log c.args.draft.now.changes 1 c.loop-leaf.leaf 0
-          (g.met.D.SectorDevice.lawful c.args.log.now.device) c.loop-leaf.invariant c.has_leaf.ensures.reads false 0 refl tells
+    (g.met.D.SectorDevice.lawful c.args.log.now.device) c.loop-leaf.invariant c.has_leaf.ensures.reads false 0 refl tells
 
 pub returns-in-Ok-true-clause-answer : goal.returns-in-Ok-true-clause-answer
 returns-in-Ok-true-clause-answer g c =

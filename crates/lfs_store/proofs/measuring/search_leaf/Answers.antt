@@ -1,4 +1,4 @@
-use Rattle.std.proofs.Common.{◌+◌, ◌*◌, Bool, ◌∙◌, refl, subst, true, false}
+use Rattle.std.proofs.Common.{◌+◌, ◌*◌, Bool, refl, subst}
 use Rattle.lfs_store.specs.Measuring.{TellsStored}
 use Rattle.lfs_store.proofs.LogReads.{fault_more}
 use Rattle.lfs_store.proofs.Measured.{searched_none, searched_more, leaf_found, leaf_empty}
@@ -15,7 +15,7 @@ pub loop-index-preserved : goal.loop-index-preserved
 loop-index-preserved g c =
     let tells = subst (λ (b : Bool). TellsStored g.D.SectorDevice.state c.loop-index.log c.is_stored.new.log c.args.draft.now.changes c.args.number c.loop-index.index b) c.in-Ok-false.field-0-test c.in-Ok-false.ensures.answer in
     searched_more g.D.SectorDevice.state c.args.number c.args.log.now c.loop-index.log c.is_stored.new.log c.args.draft.now.changes (112 + 128 * c.args.leaf) c.loop-index.index
-          (g.met.D.SectorDevice.lawful c.args.log.now.device) c.loop-index.invariant c.is_stored.ensures.reads tells
+    (g.met.D.SectorDevice.lawful c.args.log.now.device) c.loop-index.invariant c.is_stored.ensures.reads tells
 
 pub returns-in-Ok-true-clause-answer : goal.returns-in-Ok-true-clause-answer
 returns-in-Ok-true-clause-answer g c =

@@ -1,5 +1,5 @@
 use Rattle.std.specs.Prelude.{min, Option}
-use Rattle.std.proofs.Common.{◌≤◌, ◌*◌, ℕ, ◌∙◌, subst, arith}
+use Rattle.std.proofs.Common.{◌≤◌, ◌*◌, ℕ, subst, arith}
 use Rattle.lfs_log.specs.memory.declared.header.Header.{Header}
 use Rattle.lfs_store.specs.declared.draft.Draft.{Draft}
 use Rattle.lfs_store.specs.Measuring.{CountsStored, CountsPointers}
