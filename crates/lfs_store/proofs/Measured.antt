@@ -1,5 +1,5 @@
 -- How many blocks a file has with a draft, from what the draft says and what the log tells.
-use Rattle.std.specs.Prelude.{Result, Ok, Err, IfOk, IsTrue, ◌↔◌}
+use Rattle.std.specs.Prelude.{Some, Result, Ok, Err, IfOk, IsTrue, ◌↔◌}
 use Rattle.std.proofs.Common.{◌≡◌, ◌<◌, ◌≤◌, ⊎_elim, ◌+◌, ◌-◌, ◌*◌, ℕ, Bool, true, false, not, List, [], ◌∷◌, length, nat_lt, refl, sym, ◌∙◌, ap, subst, arith}
 use mir.Val.{bool_byte}
 use Rattle.std.specs.List.{AllByRecursion}
@@ -20,7 +20,7 @@ use Rattle.lfs_log.proofs.of_memory.LogMaps.{stored_none, stored_some}
 use Rattle.lfs_log.specs.Held as held
 use Rattle.lfs_log.specs.Held.{Held, Holds, Reads}
 use Rattle.lfs_store.specs.Drafting.{NoBlock}
-use Rattle.lfs_store.specs.Measuring.{IsInLeaf, IsOffLeaf, KeepsLeaf, LeavesLeaf, TellsStored, TellsLeaf, CountsStored, CountsLeaves}
+use Rattle.lfs_store.specs.Measuring.{SaysStored, IsInLeaf, IsOffLeaf, KeepsLeaf, LeavesLeaf, StoresLeaf, TellsStored, TellsLeaf, CountsStored, CountsLeaves}
 use Rattle.lfs_model.specs.Totals.{leaves_in, stored_in}
 use Rattle.lfs_store.proofs.DraftedBlocks.{says_no_block}
 use Rattle.lfs_store.proofs.LogReads.{held_still, reads_none, reads_more}
@@ -159,3 +159,12 @@ off_leaf n q i (e ∷ edits) inside off = ((λ is. off.0 is.0 (subst (IsInLeaf q
 
 pub leaves_leaf : (c : Changes) (n q : ℕ) → KeepsLeaf c.loss n q → AllByRecursion (IsOffLeaf n q) c.blocks.items → LeavesLeaf c n q
 leaves_leaf c n q keeps off i inside m = (says_no_block c n i (off_leaf n q i c.blocks.items inside off)).1 m ∙ keeps i inside m
+
+-- a draft that stores a block of a leaf
+pub stores_leaf : (c : Changes) (n q i : ℕ) → IsInLeaf q i → SaysStored c n i (Some true) → StoresLeaf c n q
+stores_leaf c n q i inside says m =
+    let low = inside.0 in
+    let high = inside.1 in
+    let place : i ≡ 112 + 128 * q + (i - (112 + 128 * q)) = omega (arith, low) in
+    let has = ltb-true 0 (length ((staged c m).block n i)) (says m) in
+    ((leaf_tests (staged c m) n).0 q).1 (i - (112 + 128 * q), omega (arith, low, high), subst (HasData (staged c m) n) place has)

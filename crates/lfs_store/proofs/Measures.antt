@@ -1,5 +1,6 @@
 -- The measure of a file and of a volume, from what is counted.
 use Rattle.std.specs.Prelude.{min, max}
+use Rattle.std.specs.Int.{div_ceil}
 use Rattle.std.proofs.Common.{◌≡◌, ◌<◌, ◌≤◌, ◌⊎◌, ⊎_elim, ◌+◌, ◌-◌, ◌*◌, ℕ, suc, Bool, true, false, length, Option, Some, None, refl, sym, ◌∙◌, ap, ap₂, subst, arith}
 use mir.Val.{bool_byte}
 use Rattle.std.proofs.lemmas.Bool.{cases_lt, false_from_ne_true, ltb-true}
@@ -17,13 +18,13 @@ use Rattle.lfs_log.specs.memory.Present.{as_header}
 use Rattle.lfs_log.specs.Held.{Held, Holds, Reads}
 use Rattle.lfs_store.specs.declared.totals.Measure.{Measure}
 use Rattle.lfs_store.specs.declared.totals.Totals.{Totals}
-use Rattle.lfs_store.specs.Measuring.{EndsBy, CountsStored, CountsLeaves, CountsPointers, Measures, CountsFiles, TellsDouble}
+use Rattle.lfs_store.specs.Measuring.{EndsBy, IsLeafRange, CountsStored, CountsLeaves, CountsPointers, Measures, CountsFiles, TellsDouble}
 use Rattle.lfs_store.specs.Reading.{ReadsHeader}
-use Rattle.lfs_model.specs.Totals.{leaf_from, leaf_to, stored_in, meta_of_file, data_of_file, sum_upto}
+use Rattle.lfs_model.specs.Totals.{leaf_from, leaves_beside, leaves_in, stored_in, meta_of_file, data_of_file, sum_upto}
 use Rattle.lfs_store.proofs.LogReads.{held_still, reads_none, reads_more}
 use Rattle.lfs_store.proofs.Leaves.{beside_all, beside_none, beside_split, leaves_to_end}
 use Rattle.lfs_store.proofs.Measured.{CountedUpTo, Tells, counts_leaves}
-use Rattle.lfs_store.proofs.Pointers.{double_found, double_none, pointers_all}
+use Rattle.lfs_store.proofs.Pointers.{double_beside, double_found, double_none, pointers_all}
 use Rattle.lfs_store.proofs.Ranges.{passing_nothing}
 use Rattle.lfs_store.proofs.Summing.{stored_split, stored_all}
 
@@ -82,19 +83,35 @@ module _ {D : Type 0} (state : D → DeviceState) (c : Changes) (n : ℕ) where
   double_missed h b size end index past few last was k m0 m keeps is ends =
       sym (double_none (staged c m) n size end ends past (counts_leaves state h b c n 1 (max end 1) index 0 last was k m0 m keeps is) few)
 
-  pub counts_pointers : (h a b : Held D) (size blocks from to count : ℕ) (found : Bool) → Reads state h a → Reads state a b → size ≤ 512 * blocks → from ≤ to → to ≤ 16624
-      → CountsLeaves state h a c n (min (leaf_from from) (leaf_to (min blocks to))) (leaf_to (min blocks to)) count → TellsDouble state a b c n size found → CountsPointers state h b c n size from to (count + bool_byte found)
-  counts_pointers h a b size blocks from to count found one two covers order low leaves double k m0 m keeps is ends =
-      let counted = leaves k m0 m (two.looks.carries.kept_before keeps) is in
-      let root = double k m0 m keeps (held_still state h a k m0 m one is) ends in
-      let same = leaves_to_end (staged c m) n size blocks from to ends covers order low in
-      let all = beside_split (staged c m) n from to order low in
-      let up = pointers_all (staged c m) n in
-      omega (arith, counted, root, same, all, up, byte found)
-    where
-      byte : (b : Bool) → bool_byte b ≡ one_if b
-      byte true = refl
-      byte false = refl
+  -- the leaves at some indices, and the double root: looked for, or above a leaf behind the first
+  module _ (h a : Held D) (size from to first end count : ℕ) (range : IsLeafRange size from to first end) (order : from ≤ to) (low : to ≤ 16624) (leaves : CountsLeaves state h a c n first end count) where
+    within : (m : LogMap) → EndsBy m n size → leaves_in m n first end ≡ count → count + leaves_beside m n from to ≡ leaves_in m n 0 129
+    within m ends counted =
+        let covers : size ≤ 512 * div_ceil size 512 = omega arith in
+        let same = leaves_to_end m n size (div_ceil size 512) from to ends covers order low in
+        let begins = range.begins ∙ ap (λ (e : ℕ). min (leaf_from from) e) range.ends in
+        let here = ap₂ (λ (x y : ℕ). leaves_in m n x y) begins range.ends in
+        let all = beside_split m n from to order low in
+        omega (arith, counted, same, here, all)
+
+    pub counts_pointers : (b : Held D) (found : Bool) → Reads state h a → Reads state a b → TellsDouble state a b c n size found → CountsPointers state h b c n size from to (count + bool_byte found)
+    counts_pointers b found one two double k m0 m keeps is ends =
+        let all = within (staged c m) ends (leaves k m0 m (two.looks.carries.kept_before keeps) is) in
+        let root = double k m0 m keeps (held_still state h a k m0 m one is) ends in
+        let up = pointers_all (staged c m) n in
+        omega (arith, all, root, up, byte found)
+      where
+        byte : (b : Bool) → bool_byte b ≡ one_if b
+        byte true = refl
+        byte false = refl
+
+    pub counts_below : 1 ≤ first → first ≤ end → end ≤ 129 → 1 ≤ count → CountsPointers state h a c n size from to (count + 1)
+    counts_below some order few found k m0 m keeps is ends =
+        let counted = leaves k m0 m keeps is in
+        let all = within (staged c m) ends counted in
+        let root = double_beside (staged c m) n first end some order few (omega (arith, counted, found)) in
+        let up = pointers_all (staged c m) n in
+        omega (arith, all, root, up)
 
   pub measured : (h a b d : Held D) (head : Header) (blocks from to count above : ℕ) → Reads state h a → Reads state a b → Reads state b d → head.size ≤ 512 * blocks → from ≤ to
       → ReadsHeader state h a c n (Some head) → CountsStored state a b c n (min from (min blocks to)) (min blocks to) count → CountsPointers state b d c n head.size from to above

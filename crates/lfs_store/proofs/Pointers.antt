@@ -93,6 +93,12 @@ module _ (m : LogMap) (n : ℕ) where
       let own = leaves_one q on in
       omega (arith, low, high, own)
 
+  pub double_beside : (a b : ℕ) → 1 ≤ a → a ≤ b → b ≤ 129 → 1 ≤ leaves_in m n a b → min (leaves_in m n 1 129) 1 ≡ 1
+  double_beside a b some order few on =
+      let low = leaves_split 1 a 129 some (omega (arith, order, few)) in
+      let high = leaves_split a b 129 order few in
+      omega (arith, low, high, on)
+
   -- no leaf from an end on is stored
   module _ (size end : ℕ) (ends : EndsBy m n size) (past : (size ≤ 512 * (112 + 128 * end)) ⊎ (129 ≤ end)) where
     pub empty : (q : ℕ) → end ≤ q → q ≤ 128 → has_leaf m n q ≡ false

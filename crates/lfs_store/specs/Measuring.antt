@@ -1,5 +1,6 @@
 -- What is counted of a draft over a log.
-use Rattle.std.specs.Prelude.{◌≡◌, ◌<◌, ◌≤◌, ◌+◌, ◌*◌, ℕ, Bool, false, min, Option, Some, None}
+use Rattle.std.specs.Prelude.{◌≡◌, ◌<◌, ◌≤◌, ◌+◌, ◌*◌, ℕ, Bool, true, false, min, Option, Some, None}
+use Rattle.std.specs.Int.{div_ceil}
 use Rattle.lfs_model.specs.Checkpoint.{CheckpointValue}
 use Rattle.lfs_model.specs.Device.{DeviceState}
 use Rattle.lfs_model.specs.Encodes.{IsLogMap}
@@ -14,7 +15,7 @@ use Rattle.lfs_log.specs.Held.{Held, Holds}
 use Rattle.lfs_store.specs.declared.totals.Measure.{Measure}
 use Rattle.lfs_store.specs.declared.totals.Totals.{Totals}
 use Rattle.lfs_store.specs.Reading.{KeepsBlock}
-use Rattle.lfs_model.specs.Totals.{leaves_beside, leaves_in, stored_in, HasMeasure, IsCounted}
+use Rattle.lfs_model.specs.Totals.{leaf_from, leaf_to, leaves_beside, leaves_in, stored_in, HasMeasure, IsCounted}
 
 -- ---- a draft
 
@@ -38,6 +39,15 @@ KeepsLeaf x n q = (i : ℕ) → IsInLeaf q i → KeepsBlock x n i
 -- after a draft they are as they were
 abbrev pub LeavesLeaf : Changes → ℕ → ℕ → Type 0
 LeavesLeaf c n q = (i : ℕ) → IsInLeaf q i → (m : LogMap) → (staged c m).block n i ≡ m.block n i
+
+-- it stores one of them
+abbrev pub StoresLeaf : Changes → ℕ → ℕ → Type 0
+StoresLeaf c n q = (m : LogMap) → has_leaf (staged c m) n q ≡ true
+
+-- Leaves first..end are those with a block at the indices from..to, before the end of a file of this size.
+pub record IsLeafRange (size from to first end : ℕ) : Type 0 where
+  pub ends : end ≡ leaf_to (min (div_ceil size 512) to)
+  pub begins : first ≡ min (leaf_from from) end
 
 -- ---- over a log: what is counted is the log map that it holds, after the draft
 

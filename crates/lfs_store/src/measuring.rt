@@ -1,7 +1,8 @@
 //! How many blocks a file and a volume have with the draft.
-ghost use Rattle.std.specs.Prelude.{◌≡◌, ◌<◌, ◌≤◌, ◌-◌, true, IfOk, OnErr, IsErrOf, IsTrue, IsFalse};
+ghost use Rattle.std.specs.Prelude.{◌≡◌, ◌<◌, ◌≤◌, ◌-◌, true, IfSome, IfNone, IfOk, OnErr, IsErrOf, IsTrue, IsFalse};
 ghost use Rattle.std.specs.List.{AllByRecursion};
-ghost use Rattle.lfs_store.specs.Measuring.{SaysStored, IsOffLeaf, KeepsLeaf, LeavesLeaf};
+ghost use Rattle.lfs_log.specs.Held.{Reads, IsReadFault};
+ghost use Rattle.lfs_store.specs.Measuring.{SaysStored, IsInLeaf, IsOffLeaf, KeepsLeaf, LeavesLeaf, StoresLeaf, IsLeafRange, TellsStored, TellsLeaf, TellsDouble, CountsStored, CountsLeaves, CountsPointers};
 
 use crate::draft::Draft;
 use crate::losing::takes_block;
@@ -10,7 +11,7 @@ use crate::totals::{Measure, Totals};
 use lfs_device::SectorDevice;
 use lfs_layout::is_zero;
 use lfs_log::memory::inodes::{DIRECT, POINTERS};
-use lfs_log::{BlockEdit, LogFault, Loss};
+use lfs_log::{BlockEdit, Log, LogFault, Loss};
 
 /// How many files a volume has at most, and the number that no file has.
 const NUMBERS: u16 = 4_096;
@@ -22,183 +23,7 @@ pub const BLOCKS: u32 = 16_624;
 const LEAVES: u32 = 1 + POINTERS;
 
 impl<D: SectorDevice> Store<D> {
-    ghost use Rattle.lfs_log.specs.Held.{Reads, IsReadFault};
-    ghost use Rattle.lfs_store.specs.Measuring.{TellsStored, TellsLeaf, TellsDouble, CountsStored, CountsLeaves, CountsPointers, Measures, CountsFiles};
-
-    /// Whether a block of a file is stored. It reads no block of data.
-    fn is_stored(&mut self, number: u16, index: u32) -> Result<bool, LogFault>
-        requires { number < 4096 }
-        ensures reads { Reads D.SectorDevice.state self.old.log self.new.log }
-        ensures draft { self.new.draft ≡ self.old.draft }
-        ensures saved { self.new.saved ≡ self.old.saved }
-        ensures totals { self.new.totals ≡ self.old.totals }
-        ensures drafted { self.new.drafted ≡ self.old.drafted }
-        ensures answer { IfOk result (TellsStored D.SectorDevice.state self.old.log self.new.log self.old.draft.changes number index) }
-        ensures failed { OnErr result (IsReadFault D.SectorDevice.state self.old.log self.new.log) }
-        ensures halted { IsErrOf result LogFault.Halted → self.old.log.halted ≡ true }
-        ensures other { IsErrOf result LogFault.Full → ⊥ }
-    {
-        match stored_after(&self.draft, number, index) {
-            Some(stored) => Ok(stored),
-            None => self.log.has_block(number, index),
-        }
-    }
-
-    /// Whether a leaf of pointers of a file is stored, since a block below it is.
-    fn has_leaf(&mut self, number: u16, leaf: u32) -> Result<bool, LogFault>
-        requires number { number < 4096 }
-        requires leaf { leaf ≤ 128 }
-        ensures reads { Reads D.SectorDevice.state self.old.log self.new.log }
-        ensures draft { self.new.draft ≡ self.old.draft }
-        ensures saved { self.new.saved ≡ self.old.saved }
-        ensures totals { self.new.totals ≡ self.old.totals }
-        ensures drafted { self.new.drafted ≡ self.old.drafted }
-        ensures answer { IfOk result (TellsLeaf D.SectorDevice.state self.old.log self.new.log self.old.draft.changes number leaf) }
-        ensures failed { OnErr result (IsReadFault D.SectorDevice.state self.old.log self.new.log) }
-        ensures halted { IsErrOf result LogFault.Halted → self.old.log.halted ≡ true }
-        ensures other { IsErrOf result LogFault.Full → ⊥ }
-    {
-        if changes_leaf(&self.draft, number, leaf) {
-            return self.search_leaf(number, leaf);
-        }
-        self.log.has_leaf(number, leaf)
-    }
-
-    /// Looks at each block below a leaf of pointers, until one is stored.
-    fn search_leaf(&mut self, number: u16, leaf: u32) -> Result<bool, LogFault>
-        requires number { number < 4096 }
-        requires leaf { leaf ≤ 128 }
-        ensures reads { Reads D.SectorDevice.state self.old.log self.new.log }
-        ensures draft { self.new.draft ≡ self.old.draft }
-        ensures saved { self.new.saved ≡ self.old.saved }
-        ensures totals { self.new.totals ≡ self.old.totals }
-        ensures drafted { self.new.drafted ≡ self.old.drafted }
-        ensures answer { IfOk result (TellsLeaf D.SectorDevice.state self.old.log self.new.log self.old.draft.changes number leaf) }
-        ensures failed { OnErr result (IsReadFault D.SectorDevice.state self.old.log self.new.log) }
-        ensures halted { IsErrOf result LogFault.Halted → self.old.log.halted ≡ true }
-        ensures other { IsErrOf result LogFault.Full → ⊥ }
-    {
-        let first = DIRECT + POINTERS * leaf;
-        for index in first..first + POINTERS {
-            match self.is_stored(number, index) {
-                Ok(true) => return Ok(true),
-                Ok(false) => {}
-                Err(fault) => return Err(fault),
-            }
-        }
-        Ok(false)
-    }
-
-    /// How many blocks of a file are stored at the indices from one on to another.
-    fn count_stored(&mut self, number: u16, from: u32, to: u32) -> Result<u32, LogFault>
-        requires number { number < 4096 }
-        requires order { from ≤ to }
-        ensures reads { Reads D.SectorDevice.state self.old.log self.new.log }
-        ensures draft { self.new.draft ≡ self.old.draft }
-        ensures saved { self.new.saved ≡ self.old.saved }
-        ensures totals { self.new.totals ≡ self.old.totals }
-        ensures drafted { self.new.drafted ≡ self.old.drafted }
-        ensures few { IfOk result (λ count. count ≤ to - from) }
-        ensures answer { IfOk result (CountsStored D.SectorDevice.state self.old.log self.new.log self.old.draft.changes number from to) }
-        ensures failed { OnErr result (IsReadFault D.SectorDevice.state self.old.log self.new.log) }
-        ensures halted { IsErrOf result LogFault.Halted → self.old.log.halted ≡ true }
-        ensures other { IsErrOf result LogFault.Full → ⊥ }
-    {
-        let mut count = 0;
-        for index in from..to {
-            match self.is_stored(number, index) {
-                Ok(found) => count += u32::from(found),
-                Err(fault) => return Err(fault),
-            }
-        }
-        Ok(count)
-    }
-
-    /// How many leaves of pointers of a file are stored, from one on to another.
-    fn count_leaves(&mut self, number: u16, from: u32, to: u32) -> Result<u32, LogFault>
-        requires number { number < 4096 }
-        requires order { from ≤ to }
-        requires low { to ≤ 129 }
-        ensures reads { Reads D.SectorDevice.state self.old.log self.new.log }
-        ensures draft { self.new.draft ≡ self.old.draft }
-        ensures saved { self.new.saved ≡ self.old.saved }
-        ensures totals { self.new.totals ≡ self.old.totals }
-        ensures drafted { self.new.drafted ≡ self.old.drafted }
-        ensures few { IfOk result (λ count. count ≤ to - from) }
-        ensures answer { IfOk result (CountsLeaves D.SectorDevice.state self.old.log self.new.log self.old.draft.changes number from to) }
-        ensures failed { OnErr result (IsReadFault D.SectorDevice.state self.old.log self.new.log) }
-        ensures halted { IsErrOf result LogFault.Halted → self.old.log.halted ≡ true }
-        ensures other { IsErrOf result LogFault.Full → ⊥ }
-    {
-        let mut count = 0;
-        for leaf in from..to {
-            match self.has_leaf(number, leaf) {
-                Ok(found) => count += u32::from(found),
-                Err(fault) => return Err(fault),
-            }
-        }
-        Ok(count)
-    }
-
-    /// Whether the double root of pointers of a file of this size is stored, since a leaf below it is.
-    fn has_double(&mut self, number: u16, size: u32) -> Result<bool, LogFault>
-        requires { number < 4096 }
-        ensures reads { Reads D.SectorDevice.state self.old.log self.new.log }
-        ensures draft { self.new.draft ≡ self.old.draft }
-        ensures saved { self.new.saved ≡ self.old.saved }
-        ensures totals { self.new.totals ≡ self.old.totals }
-        ensures drafted { self.new.drafted ≡ self.old.drafted }
-        ensures answer { IfOk result (TellsDouble D.SectorDevice.state self.old.log self.new.log self.old.draft.changes number size) }
-        ensures failed { OnErr result (IsReadFault D.SectorDevice.state self.old.log self.new.log) }
-        ensures halted { IsErrOf result LogFault.Halted → self.old.log.halted ≡ true }
-        ensures other { IsErrOf result LogFault.Full → ⊥ }
-    {
-        let blocks = size.div_ceil(512);
-        let end = blocks.saturating_sub(DIRECT).div_ceil(POINTERS).min(LEAVES);
-        for leaf in 1..end.max(1) {
-            match self.has_leaf(number, leaf) {
-                Ok(true) => return Ok(true),
-                Ok(false) => {}
-                Err(fault) => return Err(fault),
-            }
-        }
-        Ok(false)
-    }
-
-    /// How many blocks of pointers a file of this size has: leaves with a block at the indices from one on to another, and the double root.
-    fn count_pointers(
-        &mut self,
-        number: u16,
-        size: u32,
-        from: u32,
-        to: u32,
-    ) -> Result<u32, LogFault>
-        requires number { number < 4096 }
-        requires order { from ≤ to }
-        requires low { to ≤ 16624 }
-        ensures reads { Reads D.SectorDevice.state self.old.log self.new.log }
-        ensures draft { self.new.draft ≡ self.old.draft }
-        ensures saved { self.new.saved ≡ self.old.saved }
-        ensures totals { self.new.totals ≡ self.old.totals }
-        ensures drafted { self.new.drafted ≡ self.old.drafted }
-        ensures few { IfOk result (λ count. count ≤ 130) }
-        ensures answer { IfOk result (CountsPointers D.SectorDevice.state self.old.log self.new.log self.old.draft.changes number size from to) }
-        ensures failed { OnErr result (IsReadFault D.SectorDevice.state self.old.log self.new.log) }
-        ensures halted { IsErrOf result LogFault.Halted → self.old.log.halted ≡ true }
-        ensures other { IsErrOf result LogFault.Full → ⊥ }
-    {
-        let blocks = size.div_ceil(512).min(to);
-        let end = blocks.saturating_sub(DIRECT).div_ceil(POINTERS);
-        let first = (from.saturating_sub(DIRECT) / POINTERS).min(end);
-        let leaves = match self.count_leaves(number, first, end) {
-            Ok(count) => count,
-            Err(fault) => return Err(fault),
-        };
-        match self.has_double(number, size) {
-            Ok(found) => Ok(leaves + u32::from(found)),
-            Err(fault) => Err(fault),
-        }
-    }
+    ghost use Rattle.lfs_store.specs.Measuring.{Measures, CountsFiles};
 
     /// How many blocks a file has: data blocks at the indices from one on to another, its inode, its leaves of pointers with a block there, and
     /// its double root. It reads no block of data.
@@ -233,11 +58,17 @@ impl<D: SectorDevice> Store<D> {
             Err(fault) => return Err(fault),
         };
         let end = size.div_ceil(512).min(to);
-        let data_blocks = match self.count_stored(number, from.min(end), end) {
+        let data_blocks = match count_stored(
+            &mut self.log,
+            &self.draft,
+            number,
+            from.min(end),
+            end,
+        ) {
             Ok(count) => count,
             Err(fault) => return Err(fault),
         };
-        let pointers = match self.count_pointers(number, size, from, to) {
+        let pointers = match count_pointers(&mut self.log, &self.draft, number, size, from, to) {
             Ok(count) => count,
             Err(fault) => return Err(fault),
         };
@@ -280,6 +111,212 @@ impl<D: SectorDevice> Store<D> {
     }
 }
 
+/// Whether a block of a file is stored. It reads no block of data.
+fn is_stored<D: SectorDevice>(
+    log: &mut Log<D>,
+    draft: &Draft,
+    number: u16,
+    index: u32,
+) -> Result<bool, LogFault>
+    requires { number < 4096 }
+    ensures reads { Reads D.state log.old log.new }
+    ensures answer { IfOk result
+        (TellsStored D.state log.old log.new draft.now.changes number index) }
+    ensures failed { OnErr result (IsReadFault D.state log.old log.new) }
+    ensures halted { IsErrOf result LogFault.Halted → log.old.halted ≡ true }
+    ensures other { IsErrOf result LogFault.Full → ⊥ }
+{
+    match stored_after(draft, number, index) {
+        Some(stored) => Ok(stored),
+        None => log.has_block(number, index),
+    }
+}
+
+/// Whether a leaf of pointers of a file is stored, since a block below it is. Where the draft stores one, nothing is read.
+fn has_leaf<D: SectorDevice>(
+    log: &mut Log<D>,
+    draft: &Draft,
+    number: u16,
+    leaf: u32,
+) -> Result<bool, LogFault>
+    requires number { number < 4096 }
+    requires leaf { leaf ≤ 128 }
+    ensures reads { Reads D.state log.old log.new }
+    ensures answer { IfOk result
+        (TellsLeaf D.state log.old log.new draft.now.changes number leaf) }
+    ensures failed { OnErr result (IsReadFault D.state log.old log.new) }
+    ensures halted { IsErrOf result LogFault.Halted → log.old.halted ≡ true }
+    ensures other { IsErrOf result LogFault.Full → ⊥ }
+{
+    if stores_leaf(draft, number, leaf) {
+        return Ok(true);
+    }
+    if changes_leaf(draft, number, leaf) {
+        return search_leaf(log, draft, number, leaf);
+    }
+    log.has_leaf(number, leaf)
+}
+
+/// Looks at each block below a leaf of pointers, until one is stored.
+fn search_leaf<D: SectorDevice>(
+    log: &mut Log<D>,
+    draft: &Draft,
+    number: u16,
+    leaf: u32,
+) -> Result<bool, LogFault>
+    requires number { number < 4096 }
+    requires leaf { leaf ≤ 128 }
+    ensures reads { Reads D.state log.old log.new }
+    ensures answer { IfOk result
+        (TellsLeaf D.state log.old log.new draft.now.changes number leaf) }
+    ensures failed { OnErr result (IsReadFault D.state log.old log.new) }
+    ensures halted { IsErrOf result LogFault.Halted → log.old.halted ≡ true }
+    ensures other { IsErrOf result LogFault.Full → ⊥ }
+{
+    let first = DIRECT + POINTERS * leaf;
+    for index in first..first + POINTERS {
+        match is_stored(log, draft, number, index) {
+            Ok(true) => return Ok(true),
+            Ok(false) => {}
+            Err(fault) => return Err(fault),
+        }
+    }
+    Ok(false)
+}
+
+/// How many blocks of a file are stored at the indices from one on to another.
+fn count_stored<D: SectorDevice>(
+    log: &mut Log<D>,
+    draft: &Draft,
+    number: u16,
+    from: u32,
+    to: u32,
+) -> Result<u32, LogFault>
+    requires number { number < 4096 }
+    requires order { from ≤ to }
+    ensures reads { Reads D.state log.old log.new }
+    ensures few { IfOk result (λ count. count ≤ to - from) }
+    ensures answer { IfOk result
+        (CountsStored D.state log.old log.new draft.now.changes number from to) }
+    ensures failed { OnErr result (IsReadFault D.state log.old log.new) }
+    ensures halted { IsErrOf result LogFault.Halted → log.old.halted ≡ true }
+    ensures other { IsErrOf result LogFault.Full → ⊥ }
+{
+    let mut count = 0;
+    for index in from..to {
+        match is_stored(log, draft, number, index) {
+            Ok(found) => count += u32::from(found),
+            Err(fault) => return Err(fault),
+        }
+    }
+    Ok(count)
+}
+
+/// How many leaves of pointers of a file are stored, from one on to another.
+fn count_leaves<D: SectorDevice>(
+    log: &mut Log<D>,
+    draft: &Draft,
+    number: u16,
+    from: u32,
+    to: u32,
+) -> Result<u32, LogFault>
+    requires number { number < 4096 }
+    requires order { from ≤ to }
+    requires low { to ≤ 129 }
+    ensures reads { Reads D.state log.old log.new }
+    ensures few { IfOk result (λ count. count ≤ to - from) }
+    ensures answer { IfOk result
+        (CountsLeaves D.state log.old log.new draft.now.changes number from to) }
+    ensures failed { OnErr result (IsReadFault D.state log.old log.new) }
+    ensures halted { IsErrOf result LogFault.Halted → log.old.halted ≡ true }
+    ensures other { IsErrOf result LogFault.Full → ⊥ }
+{
+    let mut count = 0;
+    for leaf in from..to {
+        match has_leaf(log, draft, number, leaf) {
+            Ok(found) => count += u32::from(found),
+            Err(fault) => return Err(fault),
+        }
+    }
+    Ok(count)
+}
+
+/// Whether the double root of pointers of a file of this size is stored, since a leaf below it is.
+fn has_double<D: SectorDevice>(
+    log: &mut Log<D>,
+    draft: &Draft,
+    number: u16,
+    size: u32,
+) -> Result<bool, LogFault>
+    requires { number < 4096 }
+    ensures reads { Reads D.state log.old log.new }
+    ensures answer { IfOk result
+        (TellsDouble D.state log.old log.new draft.now.changes number size) }
+    ensures failed { OnErr result (IsReadFault D.state log.old log.new) }
+    ensures halted { IsErrOf result LogFault.Halted → log.old.halted ≡ true }
+    ensures other { IsErrOf result LogFault.Full → ⊥ }
+{
+    let blocks = size.div_ceil(512);
+    let end = blocks.saturating_sub(DIRECT).div_ceil(POINTERS).min(LEAVES);
+    for leaf in 1..end.max(1) {
+        match has_leaf(log, draft, number, leaf) {
+            Ok(true) => return Ok(true),
+            Ok(false) => {}
+            Err(fault) => return Err(fault),
+        }
+    }
+    Ok(false)
+}
+
+/// The first of the leaves of pointers with a block at the indices from one on to another, before the end of a file of this size, and where
+/// they end.
+fn leaf_range(size: u32, from: u32, to: u32) -> (u32, u32)
+    requires { to ≤ 16624 }
+    ensures range { IsLeafRange size from to result.0 result.1 }
+    ensures order { result.0 ≤ result.1 }
+    ensures low { result.1 ≤ 129 }
+{
+    let blocks = size.div_ceil(512).min(to);
+    let end = blocks.saturating_sub(DIRECT).div_ceil(POINTERS);
+    let first = (from.saturating_sub(DIRECT) / POINTERS).min(end);
+    (first, end)
+}
+
+/// How many blocks of pointers a file of this size has: leaves with a block at the indices from one on to another, and the double root.
+fn count_pointers<D: SectorDevice>(
+    log: &mut Log<D>,
+    draft: &Draft,
+    number: u16,
+    size: u32,
+    from: u32,
+    to: u32,
+) -> Result<u32, LogFault>
+    requires number { number < 4096 }
+    requires order { from ≤ to }
+    requires low { to ≤ 16624 }
+    ensures reads { Reads D.state log.old log.new }
+    ensures few { IfOk result (λ count. count ≤ 130) }
+    ensures answer { IfOk result
+        (CountsPointers D.state log.old log.new draft.now.changes number size from to) }
+    ensures failed { OnErr result (IsReadFault D.state log.old log.new) }
+    ensures halted { IsErrOf result LogFault.Halted → log.old.halted ≡ true }
+    ensures other { IsErrOf result LogFault.Full → ⊥ }
+{
+    let (first, end) = leaf_range(size, from, to);
+    let leaves = match count_leaves(log, draft, number, first, end) {
+        Ok(count) => count,
+        Err(fault) => return Err(fault),
+    };
+    // A leaf behind the first is below the double root.
+    if first > 0 && leaves > 0 {
+        return Ok(leaves + 1);
+    }
+    match has_double(log, draft, number, size) {
+        Ok(found) => Ok(leaves + u32::from(found)),
+        Err(fault) => Err(fault),
+    }
+}
+
 /// Whether a block of a file is stored after a draft; `None` where the draft leaves it as it is.
 fn stored_after(draft: &Draft, number: u16, index: u32) -> Option<bool>
     ensures { SaysStored draft.now.changes number index result }
@@ -293,13 +330,29 @@ fn stored_after(draft: &Draft, number: u16, index: u32) -> Option<bool>
     Some(false)
 }
 
+/// Whether a draft stores a block below a leaf of pointers of a file: it looks at the last that it has there.
+fn stores_leaf(draft: &Draft, number: u16, leaf: u32) -> bool
+    requires { leaf ≤ 128 }
+    ensures { IsTrue result → StoresLeaf draft.now.changes number leaf }
+{
+    let Some(index) = index_below(&draft.changes.blocks, number, leaf) else {
+        return false;
+    };
+    match stored_after(draft, number, index) {
+        Some(stored) => stored,
+        None => false,
+    }
+}
+
 /// Whether a draft changes a block below a leaf of pointers of a file.
 fn changes_leaf(draft: &Draft, number: u16, leaf: u32) -> bool
     requires { leaf ≤ 128 }
     ensures { IsFalse result → LeavesLeaf draft.now.changes number leaf }
 {
-    takes_below(&draft.changes.loss, number, leaf)
-        || edits_below(&draft.changes.blocks, number, leaf)
+    match index_below(&draft.changes.blocks, number, leaf) {
+        Some(_) => true,
+        None => takes_below(&draft.changes.loss, number, leaf),
+    }
 }
 
 /// Whether a loss takes a block below a leaf of pointers of a file.
@@ -315,25 +368,27 @@ fn takes_below(loss: &Loss, number: u16, leaf: u32) -> bool
     }
 }
 
-/// Whether one of these blocks is below a leaf of pointers of a file.
-fn edits_below(edits: &[BlockEdit], number: u16, leaf: u32) -> bool
+/// The index of the last of these blocks that is below a leaf of pointers of a file.
+fn index_below(edits: &[BlockEdit], number: u16, leaf: u32) -> Option<u32>
     requires { leaf ≤ 128 }
-    ensures { IsFalse result → AllByRecursion (IsOffLeaf number leaf) edits.now }
+    ensures some { IfSome result (IsInLeaf leaf) }
+    ensures none { IfNone result (AllByRecursion (IsOffLeaf number leaf) edits.now) }
 {
     let mut place = edits.len();
     while place > 0 {
         place -= 1;
         if is_below(&edits[place], number, leaf) {
-            return true;
+            return Some(edits[place].index);
         }
     }
-    false
+    None
 }
 
 /// Whether this is a block below a leaf of pointers of a file.
 fn is_below(edit: &BlockEdit, number: u16, leaf: u32) -> bool
     requires { leaf ≤ 128 }
-    ensures { IsFalse result → IsOffLeaf number leaf edit.now }
+    ensures inside { IsTrue result → IsInLeaf leaf edit.now.index }
+    ensures off { IsFalse result → IsOffLeaf number leaf edit.now }
 {
     let first = DIRECT + POINTERS * leaf;
     edit.number == number && first <= edit.index && edit.index < first + POINTERS

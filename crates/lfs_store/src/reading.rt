@@ -1,16 +1,17 @@
 //! Bytes of a file as it is with the draft.
-ghost use Rattle.std.specs.Prelude.{◌≡◌, ◌<◌, ◌≤◌, ◌+◌, ◌%◌, true, IfOk, IfErr, OnOk, IsErrOf, length};
+ghost use Rattle.std.specs.Prelude.{◌≡◌, ◌<◌, ◌≤◌, ◌+◌, ◌%◌, true, IfOk, IfErr, OnOk, OnErr, IsErrOf, IsFalse, length};
+ghost use Rattle.lfs_model.specs.Fields.{zeros};
+ghost use Rattle.lfs_log.specs.Held.{Reads, IsReadFault};
+ghost use Rattle.lfs_store.specs.Reading.{ReadsBlock, ReadsPart, Appends};
 
+use crate::draft::Draft;
 use crate::fault::StoreFault;
 use crate::store::Store;
 use lfs_device::SectorDevice;
-use lfs_log::LogFault;
+use lfs_log::{Log, LogFault};
 use std::alloc::Global;
 
 impl<D: SectorDevice> Store<D> {
-    ghost use Rattle.lfs_log.specs.Held.{Reads, IsReadFault};
-    ghost use Rattle.lfs_store.specs.Reading.{ReadsPart, Appends};
-
     /// The bytes of a file between two places, both at most its size.
     ///
     /// # Errors
@@ -36,50 +37,99 @@ impl<D: SectorDevice> Store<D> {
         ensures halted { IsErrOf result (StoreFault.Log LogFault.Halted) → self.old.log.halted ≡ true }
         ensures other { IsErrOf result (StoreFault.Log LogFault.Full) → ⊥ }
     {
-        let Ok(mut bytes) = Vec::with_capacity(alloc, (to - from) as usize) else {
-            return Err(StoreFault::NoMemory);
-        };
-        let mut at = from;
-        while at < to {
-            let len = (to - at).min(512 - at % 512);
-            match self.append(number, at, len, &mut bytes) {
-                Ok(()) => {}
-                Err(fault) => return Err(fault),
-            }
-            at += len;
-        }
-        Ok(bytes)
+        read_part(alloc, &mut self.log, &self.draft, number, from, to)
     }
+}
 
-    /// Reads bytes of one block of a file, behind those that are there.
-    fn append(
-        &mut self,
-        number: u16,
-        at: u32,
-        len: u32,
-        bytes: &mut Vec<u8>,
-    ) -> Result<(), StoreFault>
-        requires number { number < 4096 }
-        requires inside { at % 512 + len ≤ 512 }
-        ensures reads { Reads D.SectorDevice.state self.old.log self.new.log }
-        ensures draft { self.new.draft ≡ self.old.draft }
-        ensures saved { self.new.saved ≡ self.old.saved }
-        ensures totals { self.new.totals ≡ self.old.totals }
-        ensures drafted { self.new.drafted ≡ self.old.drafted }
-        ensures done { OnOk result (Appends D.SectorDevice.state self.old.log self.new.log self.old.draft.changes number at len bytes.old.items bytes.new.items) }
-        ensures failed { IfErr result (λ fault. (fault ≡ StoreFault.NoMemory → ⊥) → IsReadFault D.SectorDevice.state self.old.log self.new.log) }
-        ensures halted { IsErrOf result (StoreFault.Log LogFault.Halted) → self.old.log.halted ≡ true }
-        ensures other { IsErrOf result (StoreFault.Log LogFault.Full) → ⊥ }
-    {
-        let mut block = [0; 512];
-        match self.block(number, at / 512, &mut block) {
-            Ok(_) => {}
-            Err(fault) => return Err(StoreFault::Log(fault)),
+/// Whether a block of a file is stored with a draft, and its bytes; zeros where it isn't.
+///
+/// # Errors
+///
+/// As those of `Store::header`.
+pub fn read_block<D: SectorDevice>(
+    log: &mut Log<D>,
+    draft: &Draft,
+    number: u16,
+    index: u32,
+    out: &mut [u8; 512],
+) -> Result<bool, LogFault>
+    requires { number < 4096 }
+    ensures reads { Reads D.state log.old log.new }
+    ensures answer { IfOk result
+        (ReadsBlock D.state log.old log.new draft.now.changes number index out.new) }
+    ensures zeros { IfOk result (λ found. IsFalse found → out.new ≡ zeros 512) }
+    ensures failed { OnErr result (IsReadFault D.state log.old log.new) }
+    ensures halted { IsErrOf result LogFault.Halted → log.old.halted ≡ true }
+    ensures other { IsErrOf result LogFault.Full → ⊥ }
+{
+    match draft.block(number, index, out) {
+        Some(stored) => Ok(stored),
+        None => log.block(number, index, out),
+    }
+}
+
+/// The bytes of a file between two places, both at most its size, as it is with a draft.
+fn read_part<D: SectorDevice>(
+    alloc: Global,
+    log: &mut Log<D>,
+    draft: &Draft,
+    number: u16,
+    from: u32,
+    to: u32,
+) -> Result<Vec<u8>, StoreFault>
+    requires number { number < 4096 }
+    requires order { from ≤ to }
+    ensures reads { Reads D.state log.old log.new }
+    ensures long { IfOk result (λ bytes. from + length bytes.items ≡ to) }
+    ensures answer { IfOk result (λ bytes.
+        ReadsPart D.state log.old log.new draft.now.changes number from to bytes.items) }
+    ensures failed { IfErr result (λ fault.
+        (fault ≡ StoreFault.NoMemory → ⊥) → IsReadFault D.state log.old log.new) }
+    ensures halted { IsErrOf result (StoreFault.Log LogFault.Halted) → log.old.halted ≡ true }
+    ensures other { IsErrOf result (StoreFault.Log LogFault.Full) → ⊥ }
+{
+    let Ok(mut bytes) = Vec::with_capacity(alloc, (to - from) as usize) else {
+        return Err(StoreFault::NoMemory);
+    };
+    let mut at = from;
+    while at < to {
+        let len = (to - at).min(512 - at % 512);
+        match append(log, draft, number, at, len, &mut bytes) {
+            Ok(()) => {}
+            Err(fault) => return Err(fault),
         }
-        let start = (at % 512) as usize;
-        match bytes.extend_from_slice(&block[start..start + len as usize]) {
-            Ok(()) => Ok(()),
-            Err(_) => Err(StoreFault::NoMemory),
-        }
+        at += len;
+    }
+    Ok(bytes)
+}
+
+/// Reads bytes of one block of a file, behind those that are there.
+fn append<D: SectorDevice>(
+    log: &mut Log<D>,
+    draft: &Draft,
+    number: u16,
+    at: u32,
+    len: u32,
+    bytes: &mut Vec<u8>,
+) -> Result<(), StoreFault>
+    requires number { number < 4096 }
+    requires inside { at % 512 + len ≤ 512 }
+    ensures reads { Reads D.state log.old log.new }
+    ensures done { OnOk result (Appends D.state log.old log.new
+        draft.now.changes number at len bytes.old.items bytes.new.items) }
+    ensures failed { IfErr result (λ fault.
+        (fault ≡ StoreFault.NoMemory → ⊥) → IsReadFault D.state log.old log.new) }
+    ensures halted { IsErrOf result (StoreFault.Log LogFault.Halted) → log.old.halted ≡ true }
+    ensures other { IsErrOf result (StoreFault.Log LogFault.Full) → ⊥ }
+{
+    let mut block = [0; 512];
+    match read_block(log, draft, number, at / 512, &mut block) {
+        Ok(_) => {}
+        Err(fault) => return Err(StoreFault::Log(fault)),
+    }
+    let start = (at % 512) as usize;
+    match bytes.extend_from_slice(&block[start..start + len as usize]) {
+        Ok(()) => Ok(()),
+        Err(_) => Err(StoreFault::NoMemory),
     }
 }

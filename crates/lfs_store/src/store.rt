@@ -3,6 +3,7 @@ ghost use Rattle.std.specs.Prelude.{◌≡◌, ◌<◌, true, IfOk, OnErr, IsErr
 ghost use Rattle.lfs_model.specs.Fields.{zeros};
 
 use crate::draft::Draft;
+use crate::reading::read_block;
 use crate::totals::Totals;
 use lfs_device::SectorDevice;
 use lfs_log::{Header, Log, LogFault};
@@ -65,9 +66,6 @@ impl<D: SectorDevice> Store<D> {
         ensures halted { IsErrOf result LogFault.Halted → self.old.log.halted ≡ true }
         ensures other { IsErrOf result LogFault.Full → ⊥ }
     {
-        match self.draft.block(number, index, out) {
-            Some(stored) => Ok(stored),
-            None => self.log.block(number, index, out),
-        }
+        read_block(&mut self.log, &self.draft, number, index, out)
     }
 }

@@ -1,15 +1,19 @@
 //! Bytes written to a file and cut off it, into the draft.
 ghost use Rattle.std.specs.Prelude.{◌≡◌, ◌<◌, ◌≤◌, ◌+◌, ◌%◌, true, length, IfErr, OnOk, OnErr, IsErrOf, IsTrue};
 ghost use Rattle.lfs_log.specs.memory.Batch.{IsNoChange};
+ghost use Rattle.lfs_log.specs.Held.{Reads, IsReadFault};
 ghost use Rattle.lfs_store.specs.Drafting.{PutsHeader};
 ghost use Rattle.lfs_store.specs.Pieces.{Covers};
+ghost use Rattle.lfs_store.specs.Writing.{ReadsBeneath};
 
+use crate::draft::Draft;
 use crate::fault::StoreFault;
 use crate::measuring::BLOCKS;
 use crate::pieces::{cut_tail, overlay};
+use crate::reading::read_block;
 use crate::store::Store;
 use lfs_device::SectorDevice;
-use lfs_log::{Cut, Header, LogFault, Loss};
+use lfs_log::{Cut, Header, Log, LogFault, Loss};
 
 /// Whether bytes that begin at a place of a file cover its block at an index whole.
 fn covers(at: u32, bytes: &[u8], index: u32) -> bool
@@ -20,10 +24,38 @@ fn covers(at: u32, bytes: &[u8], index: u32) -> bool
     at <= 512 * index && 512 * index + 512 <= at + bytes.len() as u32
 }
 
+/// What the bytes that lie in one block are laid over: the block as it is, which isn't read where they cover it whole.
+fn block_beneath<D: SectorDevice>(
+    log: &mut Log<D>,
+    draft: &Draft,
+    number: u16,
+    index: u32,
+    at: u32,
+    bytes: &[u8],
+    out: &mut [u8; 512],
+) -> Result<(), LogFault>
+    requires few { number ≤ 4095 }
+    requires low { index ≤ 16623 }
+    requires end { at + length bytes.now ≤ 8511488 }
+    ensures reads { Reads D.state log.old log.new }
+    ensures done { OnOk result
+        (ReadsBeneath D.state log.old log.new draft.now.changes number index at bytes.now out.new) }
+    ensures failed { OnErr result (IsReadFault D.state log.old log.new) }
+    ensures halted { IsErrOf result LogFault.Halted → log.old.halted ≡ true }
+    ensures other { IsErrOf result LogFault.Full → ⊥ }
+{
+    if covers(at, bytes, index) {
+        return Ok(());
+    }
+    match read_block(log, draft, number, index, out) {
+        Ok(_) => Ok(()),
+        Err(fault) => Err(fault),
+    }
+}
+
 impl<D: SectorDevice> Store<D> {
-    ghost use Rattle.lfs_log.specs.Held.{Reads, IsReadFault};
     ghost use Rattle.lfs_store.specs.Recounting.{Counts};
-    ghost use Rattle.lfs_store.specs.Writing.{ReadsBeneath, Writes, WritesBlock, DraftsCut, CutsDraft, SetsLen, resized};
+    ghost use Rattle.lfs_store.specs.Writing.{Writes, WritesBlock, DraftsCut, CutsDraft, SetsLen, resized};
 
     /// Lays bytes over a file of this header, from a place on. Where they end behind its size, it is as long as that needs.
     ///
@@ -116,7 +148,15 @@ impl<D: SectorDevice> Store<D> {
         ensures other { IsErrOf result (StoreFault.Log LogFault.Full) → ⊥ }
     {
         let mut block = [0; 512];
-        match self.block_beneath(number, index, at, bytes, &mut block) {
+        match block_beneath(
+            &mut self.log,
+            &self.draft,
+            number,
+            index,
+            at,
+            bytes,
+            &mut block,
+        ) {
             Ok(()) => {}
             Err(fault) => return Err(StoreFault::Log(fault)),
         }
@@ -125,37 +165,6 @@ impl<D: SectorDevice> Store<D> {
             return Err(StoreFault::NoMemory);
         };
         Ok(())
-    }
-
-    /// What the bytes that lie in one block are laid over: the block as it is, which isn't read where they cover it whole.
-    fn block_beneath(
-        &mut self,
-        number: u16,
-        index: u32,
-        at: u32,
-        bytes: &[u8],
-        out: &mut [u8; 512],
-    ) -> Result<(), LogFault>
-        requires few { number ≤ 4095 }
-        requires low { index ≤ 16623 }
-        requires end { at + length bytes.now ≤ 8511488 }
-        ensures reads { Reads D.SectorDevice.state self.old.log self.new.log }
-        ensures draft { self.new.draft ≡ self.old.draft }
-        ensures saved { self.new.saved ≡ self.old.saved }
-        ensures totals { self.new.totals ≡ self.old.totals }
-        ensures drafted { self.new.drafted ≡ self.old.drafted }
-        ensures done { OnOk result (ReadsBeneath D.SectorDevice.state self.old.log self.new.log self.old.draft.changes number index at bytes.now out.new) }
-        ensures failed { OnErr result (IsReadFault D.SectorDevice.state self.old.log self.new.log) }
-        ensures halted { IsErrOf result LogFault.Halted → self.old.log.halted ≡ true }
-        ensures other { IsErrOf result LogFault.Full → ⊥ }
-    {
-        if covers(at, bytes, index) {
-            return Ok(());
-        }
-        match self.block(number, index, out) {
-            Ok(_) => Ok(()),
-            Err(fault) => Err(fault),
-        }
     }
 
     /// Cuts a file of this header, or makes it longer with zeros.

@@ -1,7 +1,7 @@
 use Rattle.std.proofs.Common.{◌≤◌, length, drop}
 use Rattle.std.specs.List.{AllByRecursion}
 use Rattle.lfs_store.specs.Measuring.{IsOffLeaf}
-use Rattle.lfs_store.proofs.measuring.edits_below.Given as goal
+use Rattle.lfs_store.proofs.measuring.index_below.Given as goal
 
 abbrev pub invariant-loop-place : goal.invariant-loop-place
 invariant-loop-place l = (l.place ≤ length l.edits) × AllByRecursion (IsOffLeaf l.number l.leaf) (drop l.place l.edits)

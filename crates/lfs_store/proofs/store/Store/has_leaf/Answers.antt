@@ -1,7 +1,0 @@
-use Rattle.std.proofs.Common.{refl}
-use Rattle.lfs_store.proofs.Measured.{log_leaf}
-use Rattle.lfs_store.proofs.store.Store.has_leaf.Goals as goal
-
-pub returns-clause-answer : goal.returns-clause-answer
-returns-clause-answer g c =
-    log_leaf g.D.SectorDevice.state c.args.self.now.log c.has_leaf.new.self c.args.self.now.draft.changes c.args.number c.args.leaf c.has_leaf.result (c.if-changes_leaf.ensures refl) c.has_leaf.ensures.answer
