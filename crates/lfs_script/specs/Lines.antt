@@ -1,6 +1,6 @@
 -- The lines that a script may have so far, and how they are cut into words. What a line is, and its one text, is the model's.
 use Rattle.std.specs.Prelude.{◌≢◌, ℕ, ◌==◌, if◌then◌else◌, List, [], ◌∷◌, Option, Some, None, codes, decimal}
-use Rattle.lfs_model.specs.Call.{Create, Open, Close, Pread, Pwrite, Truncate, Mkdir, LinkTo, Symlink, Readlink, Unlink, Rmdir, Rename, StatOf, LstatOf, Readdir, Fsync, Sync, Clean, Space, ListTree}
+use Rattle.lfs_model.specs.Call.{Create, Open, Pread, Pwrite, Truncate, StatOf, Sync, Space, ListTree}
 use Rattle.lfs_model.specs.Script.{Line, Plain, Fill, InRange, hex, line_of, text_of, word}
 
 -- the lines whose calls are built
@@ -15,24 +15,13 @@ IsBuilt (Plain (StatOf path)) = Unit {0}
 IsBuilt (Plain Sync) = Unit {0}
 IsBuilt (Plain Space) = Unit {0}
 IsBuilt (Plain ListTree) = Unit {0}
-IsBuilt (Plain (Close handle)) = ⊥
-IsBuilt (Plain (Mkdir path)) = ⊥
-IsBuilt (Plain (LinkTo path next)) = ⊥
-IsBuilt (Plain (Symlink text path)) = ⊥
-IsBuilt (Plain (Readlink path)) = ⊥
-IsBuilt (Plain (Unlink path)) = ⊥
-IsBuilt (Plain (Rmdir path)) = ⊥
-IsBuilt (Plain (Rename path next)) = ⊥
-IsBuilt (Plain (LstatOf path)) = ⊥
-IsBuilt (Plain (Readdir path)) = ⊥
-IsBuilt (Plain (Fsync handle)) = ⊥
-IsBuilt (Plain Clean) = ⊥
+IsBuilt _ = ⊥
 
 -- no such line has this text
 abbrev pub IsUnknown : List ℕ → Type 0
 IsUnknown text = (line : Line) → IsBuilt line → InRange line → text_of line ≢ text
 
--- a line's words
+-- such a line's words
 abbrev pub words_of : Line → List (List ℕ)
 words_of (Plain (Create path)) = codes "create" ∷ word path ∷ []
 words_of (Plain (Open path)) = codes "open" ∷ word path ∷ []
@@ -44,18 +33,7 @@ words_of (Plain (StatOf path)) = codes "stat" ∷ word path ∷ []
 words_of (Plain Sync) = codes "sync" ∷ []
 words_of (Plain Space) = codes "space" ∷ []
 words_of (Plain ListTree) = codes "tree" ∷ []
-words_of (Plain (Close handle)) = codes "close" ∷ decimal handle ∷ []
-words_of (Plain (Mkdir path)) = codes "mkdir" ∷ word path ∷ []
-words_of (Plain (LinkTo path next)) = codes "link" ∷ word path ∷ word next ∷ []
-words_of (Plain (Symlink text path)) = codes "symlink" ∷ word text ∷ word path ∷ []
-words_of (Plain (Readlink path)) = codes "readlink" ∷ word path ∷ []
-words_of (Plain (Unlink path)) = codes "unlink" ∷ word path ∷ []
-words_of (Plain (Rmdir path)) = codes "rmdir" ∷ word path ∷ []
-words_of (Plain (Rename path next)) = codes "rename" ∷ word path ∷ word next ∷ []
-words_of (Plain (LstatOf path)) = codes "lstat" ∷ word path ∷ []
-words_of (Plain (Readdir path)) = codes "readdir" ∷ word path ∷ []
-words_of (Plain (Fsync handle)) = codes "fsync" ∷ decimal handle ∷ []
-words_of (Plain Clean) = codes "clean" ∷ []
+words_of _ = []
 
 -- words with one space between two
 abbrev pub spaced : List (List ℕ) → List ℕ
