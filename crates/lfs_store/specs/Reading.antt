@@ -12,7 +12,8 @@ use Rattle.lfs_log.specs.memory.declared.changes.Changes.{Changes}
 use Rattle.lfs_log.specs.memory.declared.header.Header.{Header}
 use Rattle.lfs_log.specs.memory.Batch.{lost, staged}
 use Rattle.lfs_log.specs.memory.Present.{HeaderAnswer, BlockAnswer}
-use Rattle.lfs_log.specs.Held.{Held, Holds}
+use Rattle.lfs_log.specs.Held.{Held, Holds, Reads}
+use Rattle.lfs_store.specs.declared.store.Store.{Store}
 
 -- ---- what a file loses
 
@@ -42,6 +43,14 @@ SaysBlock c n i out (Some found) = (m : LogMap) → BlockAnswer (staged c m) n i
 
 -- ---- over a log: what is read is that of the log map that it holds, after the draft
 module _ {D : Type 0} (state : D → DeviceState) where
+  -- A call that only reads: its log at most is read, and all else is as it was.
+  pub record ReadsStore (old new : Store D) : Type 0 where
+    pub log : Reads state old.log new.log
+    pub draft : new.draft ≡ old.draft
+    pub saved : new.saved ≡ old.saved
+    pub totals : new.totals ≡ old.totals
+    pub drafted : new.drafted ≡ old.drafted
+
   abbrev pub ReadsHeader : Held D → Held D → Changes → ℕ → Option Header → Type 0
   ReadsHeader h h' c n found = (k : CheckpointValue) (m0 m : LogMap) → (state h'.device).keeps_model → Holds state h k m0 m → HeaderAnswer (staged c m) n found
 

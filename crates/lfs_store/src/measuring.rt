@@ -24,6 +24,7 @@ const LEAVES: u32 = 1 + POINTERS;
 
 impl<D: SectorDevice> Store<D> {
     ghost use Rattle.lfs_store.specs.Measuring.{Measures, CountsFiles};
+    ghost use Rattle.lfs_store.specs.Reading.{ReadsStore};
 
     /// How many blocks a file has: data blocks at the indices from one on to another, its inode, its leaves of pointers with a block there, and
     /// its double root. It reads no block of data.
@@ -35,11 +36,7 @@ impl<D: SectorDevice> Store<D> {
         requires number { number < 4096 }
         requires order { from ≤ to }
         requires low { to ≤ 16624 }
-        ensures reads { Reads D.SectorDevice.state self.old.log self.new.log }
-        ensures draft { self.new.draft ≡ self.old.draft }
-        ensures saved { self.new.saved ≡ self.old.saved }
-        ensures totals { self.new.totals ≡ self.old.totals }
-        ensures drafted { self.new.drafted ≡ self.old.drafted }
+        ensures reads { ReadsStore D.SectorDevice.state self.old self.new }
         ensures few { IfOk result (λ found. found.data_blocks ≤ to - from) }
         ensures few_above { IfOk result (λ found. found.meta_blocks ≤ 131) }
         ensures answer { IfOk result (Measures D.SectorDevice.state self.old.log self.new.log self.old.draft.changes number from to) }

@@ -2,7 +2,7 @@
 ghost use Rattle.std.specs.Prelude.{◌≡◌, ◌<◌, ◌≤◌, ◌+◌, ◌%◌, true, IfOk, IfErr, OnOk, OnErr, IsErrOf, IsFalse, length};
 ghost use Rattle.lfs_model.specs.Fields.{zeros};
 ghost use Rattle.lfs_log.specs.Held.{Reads, IsReadFault};
-ghost use Rattle.lfs_store.specs.Reading.{ReadsBlock, ReadsPart, Appends};
+ghost use Rattle.lfs_store.specs.Reading.{ReadsStore, ReadsBlock, ReadsPart, Appends};
 
 use crate::draft::Draft;
 use crate::fault::StoreFault;
@@ -26,11 +26,7 @@ impl<D: SectorDevice> Store<D> {
     ) -> Result<Vec<u8>, StoreFault>
         requires number { number < 4096 }
         requires order { from ≤ to }
-        ensures reads { Reads D.SectorDevice.state self.old.log self.new.log }
-        ensures draft { self.new.draft ≡ self.old.draft }
-        ensures saved { self.new.saved ≡ self.old.saved }
-        ensures totals { self.new.totals ≡ self.old.totals }
-        ensures drafted { self.new.drafted ≡ self.old.drafted }
+        ensures reads { ReadsStore D.SectorDevice.state self.old self.new }
         ensures long { IfOk result (λ bytes. from + length bytes.items ≡ to) }
         ensures answer { IfOk result (λ bytes. ReadsPart D.SectorDevice.state self.old.log self.new.log self.old.draft.changes number from to bytes.items) }
         ensures failed { IfErr result (λ fault. (fault ≡ StoreFault.NoMemory → ⊥) → IsReadFault D.SectorDevice.state self.old.log self.new.log) }

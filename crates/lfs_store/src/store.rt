@@ -22,8 +22,8 @@ pub struct Store<D: SectorDevice> {
 }
 
 impl<D: SectorDevice> Store<D> {
-    ghost use Rattle.lfs_log.specs.Held.{Reads, IsReadFault};
-    ghost use Rattle.lfs_store.specs.Reading.{ReadsHeader, ReadsBlock};
+    ghost use Rattle.lfs_log.specs.Held.{IsReadFault};
+    ghost use Rattle.lfs_store.specs.Reading.{ReadsStore, ReadsHeader, ReadsBlock};
 
     /// What the inode of a file says of it, if the file is there.
     ///
@@ -32,11 +32,7 @@ impl<D: SectorDevice> Store<D> {
     /// `Halted` once a commit failed, `Device` where a call of the device failed.
     pub fn header(&mut self, number: u16) -> Result<Option<Header>, LogFault>
         requires { number < 4096 }
-        ensures reads { Reads D.SectorDevice.state self.old.log self.new.log }
-        ensures draft { self.new.draft ≡ self.old.draft }
-        ensures saved { self.new.saved ≡ self.old.saved }
-        ensures totals { self.new.totals ≡ self.old.totals }
-        ensures drafted { self.new.drafted ≡ self.old.drafted }
+        ensures reads { ReadsStore D.SectorDevice.state self.old self.new }
         ensures answer { IfOk result (ReadsHeader D.SectorDevice.state self.old.log self.new.log self.old.draft.changes number) }
         ensures failed { OnErr result (IsReadFault D.SectorDevice.state self.old.log self.new.log) }
         ensures halted { IsErrOf result LogFault.Halted → self.old.log.halted ≡ true }
@@ -55,11 +51,7 @@ impl<D: SectorDevice> Store<D> {
     /// As those of `header`.
     pub fn block(&mut self, number: u16, index: u32, out: &mut [u8; 512]) -> Result<bool, LogFault>
         requires { number < 4096 }
-        ensures reads { Reads D.SectorDevice.state self.old.log self.new.log }
-        ensures draft { self.new.draft ≡ self.old.draft }
-        ensures saved { self.new.saved ≡ self.old.saved }
-        ensures totals { self.new.totals ≡ self.old.totals }
-        ensures drafted { self.new.drafted ≡ self.old.drafted }
+        ensures reads { ReadsStore D.SectorDevice.state self.old self.new }
         ensures answer { IfOk result (ReadsBlock D.SectorDevice.state self.old.log self.new.log self.old.draft.changes number index out.new) }
         ensures zeros { IfOk result (λ found. IsFalse found → out.new ≡ zeros 512) }
         ensures failed { OnErr result (IsReadFault D.SectorDevice.state self.old.log self.new.log) }

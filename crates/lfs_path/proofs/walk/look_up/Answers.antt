@@ -19,17 +19,17 @@ returns-in-Err-clause-refused g c =
 pub returns-in-Ok-Some-find-clause-answer : goal.returns-in-Ok-Some-find-clause-answer
 returns-in-Ok-Some-find-clause-answer g c =
     found_file g.D.SectorDevice.state c.args.store.now.draft.changes c.args.store.now.log c.header.new.self.log c.find.new.store.log c.in-Ok-Some.root c.in-Ok-Some.field-0 c.in-Ok-Some.field-0-is
-    c.header.ensures.reads c.find.ensures.reads c.in-Ok-Some.ensures.answer c.args.name.now c.in-Ok-Some-find.number c.in-Ok-Some-find.field-0 c.in-Ok-Some-find.field-0-is c.requires c.if-name-gt-LONGEST_NAME.false
-    (subst (λ (d : Draft). Finds g.D.SectorDevice.state c.header.new.self.log c.find.new.store.log d.changes 1 c.in-Ok-Some.root c.args.name.now c.in-Ok-Some-find.field-0) c.header.ensures.draft c.in-Ok-Some-find.ensures.answer)
+    c.header.ensures.reads.log c.find.ensures.reads c.in-Ok-Some.ensures.answer c.args.name.now c.in-Ok-Some-find.number c.in-Ok-Some-find.field-0 c.in-Ok-Some-find.field-0-is c.requires c.if-name-gt-LONGEST_NAME.false
+    (subst (λ (d : Draft). Finds g.D.SectorDevice.state c.header.new.self.log c.find.new.store.log d.changes 1 c.in-Ok-Some.root c.args.name.now c.in-Ok-Some-find.field-0) c.header.ensures.reads.draft c.in-Ok-Some-find.ensures.answer)
 
 pub returns-in-Ok-None-find-clause-refused : goal.returns-in-Ok-None-find-clause-refused
 returns-in-Ok-None-find-clause-refused g c =
     found_none g.D.SectorDevice.state c.args.store.now.draft.changes c.args.store.now.log c.header.new.self.log c.find.new.store.log c.in-Ok-Some.root c.in-Ok-Some.field-0 c.in-Ok-Some.field-0-is
-    c.header.ensures.reads c.find.ensures.reads c.in-Ok-Some.ensures.answer c.args.name.now c.in-Ok-None-find.field-0 c.in-Ok-None-find.field-0-is c.requires c.if-name-gt-LONGEST_NAME.false
-    (subst (λ (d : Draft). Finds g.D.SectorDevice.state c.header.new.self.log c.find.new.store.log d.changes 1 c.in-Ok-Some.root c.args.name.now c.in-Ok-None-find.field-0) c.header.ensures.draft c.in-Ok-None-find.ensures.answer)
+    c.header.ensures.reads.log c.find.ensures.reads c.in-Ok-Some.ensures.answer c.args.name.now c.in-Ok-None-find.field-0 c.in-Ok-None-find.field-0-is c.requires c.if-name-gt-LONGEST_NAME.false
+    (subst (λ (d : Draft). Finds g.D.SectorDevice.state c.header.new.self.log c.find.new.store.log d.changes 1 c.in-Ok-Some.root c.args.name.now c.in-Ok-None-find.field-0) c.header.ensures.reads.draft c.in-Ok-None-find.ensures.answer)
 
 pub returns-in-Err-find-clause-refused : goal.returns-in-Err-find-clause-refused
 returns-in-Err-find-clause-refused g c =
     find_failed g.D.SectorDevice.state c.args.store.now.draft.changes c.args.store.now.log c.header.new.self.log c.find.new.store.log c.in-Ok-Some.root c.in-Ok-Some.field-0 c.in-Ok-Some.field-0-is
-    c.header.ensures.reads c.find.ensures.reads c.in-Ok-Some.ensures.answer
-    (subst (λ (d : Draft). IsDirectoryFault g.D.SectorDevice.state c.header.new.self.log c.find.new.store.log d.changes 1 c.in-Ok-Some.root) c.header.ensures.draft c.in-Err-find.ensures.failed)
+    c.header.ensures.reads.log c.find.ensures.reads c.in-Ok-Some.ensures.answer
+    (subst (λ (d : Draft). IsDirectoryFault g.D.SectorDevice.state c.header.new.self.log c.find.new.store.log d.changes 1 c.in-Ok-Some.root) c.header.ensures.reads.draft c.in-Err-find.ensures.failed)

@@ -16,12 +16,12 @@ pub loop-number-preserved : goal.loop-number-preserved
 loop-number-preserved g c =
     let draft = c.loop-number.invariant.0 in
     let measures = subst (λ (d : Draft). Measures g.D.SectorDevice.state c.loop-number.self.log c.measure.new.self.log d.changes c.loop-number.number 0 16624 c.in-Ok.found) draft c.in-Ok.ensures.answer in (
-      c.measure.ensures.draft ∙ draft,
-      c.measure.ensures.saved ∙ c.loop-number.invariant.1,
+      c.measure.ensures.reads.draft ∙ draft,
+      c.measure.ensures.reads.saved ∙ c.loop-number.invariant.1,
       summed_more g.D.SectorDevice.state c.args.self.now.draft.changes c.args.self.now.log c.loop-number.self.log c.measure.new.self.log c.loop-number.number c.loop-number.totals.data_blocks c.loop-number.totals.meta_blocks c.in-Ok.found
-          (g.met.D.SectorDevice.lawful c.args.self.now.log.device) c.loop-number.auto.number c.in-Ok.ensures.few c.in-Ok.ensures.few_above c.loop-number.invariant.2 c.measure.ensures.reads measures,
-      c.measure.ensures.totals ∙ c.loop-number.invariant.3,
-      c.measure.ensures.drafted ∙ c.loop-number.invariant.4,
+          (g.met.D.SectorDevice.lawful c.args.self.now.log.device) c.loop-number.auto.number c.in-Ok.ensures.few c.in-Ok.ensures.few_above c.loop-number.invariant.2 c.measure.ensures.reads.log measures,
+      c.measure.ensures.reads.totals ∙ c.loop-number.invariant.3,
+      c.measure.ensures.reads.drafted ∙ c.loop-number.invariant.4,
     )
 
 pub returns-clause-answer : goal.returns-clause-answer

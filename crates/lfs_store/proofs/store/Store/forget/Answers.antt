@@ -7,27 +7,27 @@ use Rattle.lfs_store.proofs.Recounted.{gone_counts, kept_read, kept_more, remove
 use Rattle.lfs_store.proofs.store.Store.forget.Goals as goal
 
 pub returns-in-Err-clause-kept : goal.returns-in-Err-clause-kept
-returns-in-Err-clause-kept g c = kept_read g.D.SectorDevice.state c.args.self.now.log c.measure.new.self.log c.measure.ensures.reads
+returns-in-Err-clause-kept g c = kept_read g.D.SectorDevice.state c.args.self.now.log c.measure.new.self.log c.measure.ensures.reads.log
 
 pub returns-in-Err-remove-clause-kept : goal.returns-in-Err-remove-clause-kept
 returns-in-Err-remove-clause-kept g c =
-    kept_more g.D.SectorDevice.state c.args.self.now.log c.measure.new.self.log c.remove.new.self (g.met.D.SectorDevice.lawful c.args.self.now.log.device) c.measure.ensures.reads c.in-Err-remove.ensures.kept
+    kept_more g.D.SectorDevice.state c.args.self.now.log c.measure.new.self.log c.remove.new.self (g.met.D.SectorDevice.lawful c.args.self.now.log.device) c.measure.ensures.reads.log c.in-Err-remove.ensures.kept
 
 pub returns-in-Err-remove-clause-failed : goal.returns-in-Err-remove-clause-failed
 returns-in-Err-remove-clause-failed g c =
-    fault_more g.D.SectorDevice.state c.args.self.now.log c.measure.new.self.log c.remove.new.self c.measure.ensures.reads c.in-Err-remove.ensures.failed
+    fault_more g.D.SectorDevice.state c.args.self.now.log c.measure.new.self.log c.remove.new.self c.measure.ensures.reads.log c.in-Err-remove.ensures.failed
 
 pub returns-clause-done : goal.returns-clause-done
 returns-clause-done g c =
-    removed_more g.D.SectorDevice.state c.args.self.now.log c.measure.new.self.log c.remove.new.self c.args.number (g.met.D.SectorDevice.lawful c.args.self.now.log.device) c.measure.ensures.reads c.in-Ok-remove.ensures.done
+    removed_more g.D.SectorDevice.state c.args.self.now.log c.measure.new.self.log c.remove.new.self c.args.number (g.met.D.SectorDevice.lawful c.args.self.now.log.device) c.measure.ensures.reads.log c.in-Ok-remove.ensures.done
 
 pub returns-clause-counted : goal.returns-clause-counted
 returns-clause-counted g c =
-    let recounts = subst (λ (t : Totals). Recounts t c.recounted-self.result c.in-Ok.measure (record { data_blocks = 0; meta_blocks = 0 })) c.measure.ensures.totals c.recounted-self.ensures in
+    let recounts = subst (λ (t : Totals). Recounts t c.recounted-self.result c.in-Ok.measure (record { data_blocks = 0; meta_blocks = 0 })) c.measure.ensures.reads.totals c.recounted-self.ensures in
     gone_counts g.D.SectorDevice.state c.args.self.now.log c.measure.new.self.log c.remove.new.self c.args.self.now.draft.changes c.args.number c.in-Ok.measure c.args.self.now.totals c.recounted-self.result
-    c.requires.some c.requires.few c.requires.empty c.measure.ensures.reads c.in-Ok.ensures.answer c.in-Ok-remove.ensures.done.alters recounts
+    c.requires.some c.requires.few c.requires.empty c.measure.ensures.reads.log c.in-Ok.ensures.answer c.in-Ok-remove.ensures.done.alters recounts
 
 pub returns-clause-stores : goal.returns-clause-stores
 returns-clause-stores g c =
     forgets g.D.SectorDevice.state c.args.self.now.log c.remove.new.self c.args.self.now.saved c.args.number
-    (removed_more g.D.SectorDevice.state c.args.self.now.log c.measure.new.self.log c.remove.new.self c.args.number (g.met.D.SectorDevice.lawful c.args.self.now.log.device) c.measure.ensures.reads c.in-Ok-remove.ensures.done)
+    (removed_more g.D.SectorDevice.state c.args.self.now.log c.measure.new.self.log c.remove.new.self c.args.number (g.met.D.SectorDevice.lawful c.args.self.now.log.device) c.measure.ensures.reads.log c.in-Ok-remove.ensures.done)
