@@ -23,6 +23,7 @@ use Rattle.lfs_path.specs.memory.declared.header.Header.{Header}
 use Rattle.lfs_path.specs.memory.Present.{as_header}
 use Rattle.lfs_model.specs.Totals.{IsCounted, TotalsOfTree}
 use Rattle.lfs_path.specs.store.Writing.{WritesFile, resized}
+use Rattle.lfs_fs.specs.Volume.{IsPlain}
 use Rattle.lfs_fs.proofs.Created.{NamesFile, created_map, created_need}
 use Rattle.lfs_fs.proofs.Files.{IsFileOf, IsMapOf, IsShaped, opened_file, room_counted, stat_is}
 use Rattle.lfs_fs.proofs.HandleSteps.{read_done, write_done, write_no_space, written}
@@ -88,8 +89,8 @@ module _ (N : ℕ) (m : LogMap) (s : State) (is : IsMapOf N m s) where
       → Step N s (StatOf p) (Status (record { number = n; kind = h.kind; links = h.links; size = h.size })) s
   stat_step p n walk h there fits = subst (λ (x : Stat). Step N s (StatOf p) (Status x) s) (stat_is N m s is.log n h there fits) (stat_done N s p n walk)
 
-  pub tree_step : Step N s ListTree (Rows (map (row_in s.tree) is.plain.names)) s
-  tree_step = subst (λ rows. Step N s ListTree (Rows rows) s) (plain_rows s.tree is.log.sound.in_order is.plain) (tree_done N s)
+  pub tree_step : (plain : IsPlain s.tree) → Step N s ListTree (Rows (map (row_in s.tree) plain.names)) s
+  tree_step plain = subst (λ rows. Step N s ListTree (Rows rows) s) (plain_rows s.tree is.log.sound.in_order plain) (tree_done N s)
 
   -- ---- room
   module _ (totals : TotalsOfTree) where

@@ -24,7 +24,6 @@ use Rattle.lfs_model.proofs.ObjectMaps.{object_kept}
 use Rattle.lfs_model.proofs.Sums.{total_put, weight}
 use Rattle.lfs_model.proofs.Trees.{find_here, find_other}
 use Rattle.lfs_model.proofs.Writes.{written_sound}
-use Rattle.lfs_fs.specs.Volume.{IsPlain}
 use Rattle.lfs_fs.proofs.Files.{IsMapOf, IsFileOf, IsShaped}
 
 -- ---- what other objects keep
@@ -105,22 +104,6 @@ not_directory m n h there file g at dir =
     let same : h ≡ g = (let both : Some h ≡ Some g = sym there ∙ at in cc) in
     let both : kind.File ≡ kind.Directory = sym file ∙ ap (λ (x : Header). x.kind) same ∙ dir in cc
 
--- Nor the root.
-pub file_not_root : (t : Tree) → IsPlain t → (n : ℕ) (b : List ℕ) → node t n ≡ Some (File b) → n ≢ 1
-file_not_root t plain n b is root =
-    let dir : node t n ≡ Some (Dir 0 plain.names) = subst (λ x. node t x ≡ Some (Dir 0 plain.names)) (sym root) plain.root in
-    let both : Some (File b) ≡ Some (Dir 0 plain.names) = sym is ∙ dir in cc
-
--- A tree in which a file has other bytes is plain still.
-pub plain_kept : (t : Tree) → IsPlain t → (n : ℕ) (new : List ℕ) → n ≢ 1 → IsPlain (with_node t n (File new))
-plain_kept t plain n new other = record {
-  names = plain.names;
-  root = find_other t n (File new) 1 (λ e. other (sym e)) ∙ plain.root;
-  files = λ q x is ne. same_or_not q n
-      (λ e. (new, (let both : Some x ≡ Some (File new) = sym is ∙ ap (node (with_node t n (File new))) e ∙ find_here t n (File new) in cc)))
-      (λ elsewhere. plain.files q x (sym (find_other t n (File new) q elsewhere) ∙ is) ne);
-}
-
 module _ (N : ℕ) (m m' : LogMap) (s : State) (is : IsMapOf N m s) (n : ℕ) (file : IsFileOf m s.tree n) (h' : Header) (changed : IsChangedAt m n m')
     (there : m'.header n ≡ Some h') (is_file : h'.kind ≡ kind.File) (links_same : h'.links ≡ file.head.links) (fits : IsObject m' n h')
     (new : List ℕ) (tree : tree_in m' ≡ with_node s.tree n (File new)) (good : IsWithinLimits (File new)) (room : need (with_node s.tree n (File new)) ≤ 47 * N) where
@@ -151,5 +134,4 @@ module _ (N : ℕ) (m m' : LogMap) (s : State) (is : IsMapOf N m s) (n : ℕ) (f
           (cases_eq k n);
       links = links_kept;
     };
-    plain = plain_kept s.tree is.plain n new (file_not_root s.tree is.plain n (object m n file.head) file.node);
   }

@@ -33,7 +33,6 @@ use Rattle.lfs_path.specs.memory.declared.header.Header.{Header}
 use Rattle.lfs_path.specs.memory.Present.{as_header}
 use Rattle.lfs_model.specs.Totals.{IsCounted, TotalsOfTree}
 use Rattle.lfs_path.specs.store.Writing.{WritesFile, resized}
-use Rattle.lfs_fs.specs.Volume.{IsPlain}
 use Rattle.lfs_fs.proofs.Changed.{IsFormed, formed_same, long_kept, not_directory, shape_kept}
 use Rattle.lfs_fs.proofs.Files.{IsMapOf, IsShaped, need_shaped, node_by_header, none_no_header}
 use Rattle.lfs_fs.proofs.PathSteps.{create_done, with_file}
@@ -56,7 +55,7 @@ module _ (N : ℕ) (m m1 : LogMap) (s : State) (is : IsMapOf N m s) (n : ℕ) (i
   no_header = none_no_header N m s is.log n in_range free
 
   pub not_root : n ≢ 1
-  not_root root = let dir = is.plain.root in let none : node s.tree 1 ≡ None = ap (node s.tree) (sym root) ∙ free in cc
+  not_root root = let dir = is.log.sound.root in let none : node s.tree 1 ≡ None = ap (node s.tree) (sym root) ∙ free in cc
 
   -- what has no header has no block
   no_data : (i : ℕ) → HasData m n i → ⊥
@@ -263,16 +262,6 @@ module _ (N : ℕ) (m m1 m' : LogMap) (s : State) (is : IsMapOf N m s) (p : List
       (cases_eq k 1))
       (cases_eq k n)
 
-  plain_after : IsPlain t'
-  plain_after = record {
-    names = put byte_cmp (name p) (least s.tree) (names_in s.tree 1);
-    root = after_root ∙ ap (λ (f : ℕ). Some (Dir f (put byte_cmp (name p) (least s.tree) (names_in s.tree 1)))) form_is;
-    files = λ q x there ne. ⊎_elim
-        (λ (here : q ≡ least s.tree). ([], (let both : Some x ≡ Some (File []) = sym there ∙ ap (node t') here ∙ after_new in cc)))
-        (λ (a : q ≡ least s.tree → ⊥). is.plain.files q x (sym (after_others q a ne) ∙ there) ne)
-        (cases_eq q (least s.tree));
-  }
-
   -- the volume's log map after the call
   module _ (bytes : AreBytes p) (named : (no_last p || last_dots p) ≡ false) (short : is_long s.tree 1 p ≡ false) (plain : slash p ≡ false) (space : is_full s.tree 1 ≡ false)
       (some : least_handle s.handles < 64) (room : need (with_new s.tree 1 p (File [])) ≤ 47 * N) where
@@ -292,5 +281,4 @@ module _ (N : ℕ) (m m1 m' : LogMap) (s : State) (is : IsMapOf N m s) (p : List
         formed = formed_after;
         links = λ k h there. links_at k h there ∙ ap (λ (t : Tree). links t k) (sym created_tree);
       };
-      plain = plain_after;
     }

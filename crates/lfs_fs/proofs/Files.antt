@@ -26,14 +26,12 @@ use Rattle.lfs_model.proofs.Parents.{up_dir}
 use Rattle.lfs_model.proofs.Standing.{object_length, slots_length}
 use Rattle.lfs_model.proofs.Volume.{node_in}
 use Rattle.lfs_model.specs.Totals.{IsCounted, TotalsOfTree}
-use Rattle.lfs_fs.specs.Volume.{IsPlain}
 
--- The log map of a volume between two calls: it can be laid out, and its tree is the state's, a root and files in it.
+-- The log map of a volume between two calls: it can be laid out, and its tree is the state's, any sound one.
 pub record IsMapOf (N : ℕ) (m : LogMap) (s : State) : Type 0 where
   pub map : IsLogMap m
   pub long : (n : ℕ) → AreLong m n
   pub log : IsLogOf N m s
-  pub plain : IsPlain s.tree
 
 -- ---- nodes
 
@@ -183,17 +181,6 @@ module _ (N : ℕ) (s : State) (sound : Sound N s) where
   -- a path's parent is a directory
   pub parent_is_dir : (p : List ℕ) (d : ℕ) → Parent s.tree p (At d) → is_dir (node s.tree d) ≡ true
   parent_is_dir p d walk = (parent_dir N s sound p d walk).0
-
--- the only directory is the root
-pub plain_dir : (t : Tree) → IsPlain t → (d : ℕ) → is_dir (node t d) ≡ true → d ≡ 1
-plain_dir t plain d dir = ⊎_elim
-    (λ (root : d ≡ 1). root)
-    (λ (other : d ≡ 1 → ⊥). absurd (not_file (node t d) refl other))
-    (cases_eq d 1)
-  where
-    not_file : (o : Option Node) → node t d ≡ o → d ≢ 1 → ⊥
-    not_file None is other = let no : is_dir (node t d) ≡ false = ap is_dir is in cc
-    not_file (Some x) is other = let file = plain.files d x is other in let no : is_dir (node t d) ≡ false = ap is_dir (is ∙ ap Some file.1) in cc
 
 -- ---- the need
 

@@ -39,7 +39,8 @@ use Rattle.lfs_path.proofs.of_dirs.SlotNames.{sorted_names}
 use Rattle.lfs_path.proofs.of_dirs.SlotsGive.{slot_gives}
 use Rattle.lfs_fs.specs.Checking.{AreEntries, FitNumbers, FitsNumber, IsCountedMap, IsFlat, IsRoot, giving}
 use Rattle.lfs_fs.specs.Volume.{IsPlain}
-use Rattle.lfs_fs.proofs.Files.{IsShaped, need_shaped, plain_dir}
+use Rattle.lfs_fs.proofs.Files.{IsShaped, need_shaped}
+use Rattle.lfs_fs.proofs.PlainTrees.{plain_dir}
 
 -- ---- names
 

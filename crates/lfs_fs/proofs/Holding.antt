@@ -29,7 +29,6 @@ module _ {D : Type 0} (state : D → DeviceState) (v : Mounted D) (k : Checkpoin
     map = is.map;
     long = laid_long (state v.log.device).content m running.memory _ running.laid;
     log = is.log;
-    plain = is.plain;
   }
 
   -- its headers are those of inodes
@@ -49,9 +48,9 @@ module _ {D : Type 0} (state : D → DeviceState) (old new : Mounted D) (k : Che
       (λ (e : next ≡ dropped m). subst (IsTree (segments_of old)) (sym e) (dropped_tree (segments_of old) m s is.log).tree)
       either
 
-  pub runs_over : (m' : LogMap) (next : State) → StoresOver state k.segments m0 m new.log new.saved m' → segments_of new ≡ segments_of old → IsMapOf (segments_of old) m' next
+  pub runs_over : (m' : LogMap) (next : State) → StoresOver state k.segments m0 m new.log new.saved m' → segments_of new ≡ segments_of old → IsMapOf (segments_of old) m' next → IsPlain next.tree
       → next.version ≡ 1 → next.handles ≡ handles_of new.table → IsCounted m' new.blocks new.others → (new.saved ≡ false → HasClean new.log × (new.log.number ≤ 2 ^ 62)) → Runs state new next
-  runs_over m' next over same map version handles counted ready = record {
+  runs_over m' next over same map plain version handles counted ready = record {
     checkpoint = over.checkpoint;
     saved = over.acknowledged;
     present = m';
@@ -59,7 +58,7 @@ module _ {D : Type 0} (state : D → DeviceState) (old new : Mounted D) (k : Che
       stores = over.stores;
       map = map.map;
       log = (subst (λ (n : ℕ). IsMapOf n m' next) (sym same) map).log;
-      plain = map.plain;
+      plain = plain;
       version = version;
       handles = handles;
       counted = counted;
@@ -71,19 +70,16 @@ module _ {D : Type 0} (state : D → DeviceState) (old new : Mounted D) (k : Che
 -- ---- open
 
 -- what a walk comes to in a plain tree, besides the root, is a file
-pub walked_file : (N : ℕ) (m : LogMap) (s : State) → IsMapOf N m s → (p : List ℕ) (follow : Bool) (n : ℕ) → Resolve s.tree p follow (At n) → n ≢ 1 → IsFile (node s.tree n)
-walked_file N m s is p follow n walk other = by (node s.tree n) refl
+pub walked_file : (N : ℕ) (m : LogMap) (s : State) → IsMapOf N m s → IsPlain s.tree → (p : List ℕ) (follow : Bool) (n : ℕ) → Resolve s.tree p follow (At n) → n ≢ 1 → IsFile (node s.tree n)
+walked_file N m s is plain p follow n walk other = by (node s.tree n) refl
   where
     by : (o : Option Node) → node s.tree n ≡ o → IsFile (node s.tree n)
     by None none = absurd (resolved_there N s is.log.sound p follow n walk none)
-    by (Some x) there = let file = is.plain.files n x there other in (file.0, there ∙ ap Some file.1)
+    by (Some x) there = let file = plain.files n x there other in (file.0, there ∙ ap Some file.1)
 
--- it is no directory, and the root is one
+-- it is no directory
 pub file_no_dir : (t : Tree) (n : ℕ) → IsFile (node t n) → is_dir (node t n) ≡ false
 file_no_dir t n file = ap is_dir file.1
-
-pub root_dir : (t : Tree) → IsPlain t → is_dir (node t 1) ≡ true
-root_dir t plain = ap is_dir plain.root
 
 -- a handle more leaves the log map
 pub opened_map : (N : ℕ) (m : LogMap) (s : State) → IsMapOf N m s → (p : List ℕ) (n : ℕ) (walk : Resolve s.tree p true (At n)) → is_dir (node s.tree n) ≡ false → least_handle s.handles < 64
@@ -97,5 +93,4 @@ opened_map N m s is p n walk file some = record {
     formed = is.log.formed;
     links = is.log.links;
   };
-  plain = is.plain;
 }

@@ -7,6 +7,7 @@ mod HandleSteps
 mod PathSteps
 mod Looking
 mod Files
+mod PlainTrees
 mod Changed
 mod Written
 mod Shortened

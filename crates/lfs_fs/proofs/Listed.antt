@@ -64,10 +64,10 @@ plain_rows t order plain = only_one rows_at 1 (Dir 0 plain.names) t order plain.
     rows_at d = map (λ e. record { directory = d.0; name = e.0; stat = stat_of t e.1; head = head_of (the_node t e.1) }) (names_of d.1)
 
 -- its names are those of the root's slots
-pub plain_names : (N : ℕ) (m : LogMap) (s : State) → (is : IsMapOf N m s) → (h : Header) → m.header 1 ≡ Some h → h.kind ≡ kind.Directory → (h.form ≡ 0) × (is.plain.names ≡ map_of h.form (slots m 1 h))
-plain_names N m s is h there dir =
-    let node_1 : Some (Dir 0 is.plain.names) ≡ Some (Dir h.form (map_of h.form (slots m 1 h))) =
-    sym is.plain.root ∙ node_by_header N m s is.log 1 h (omega arith, omega arith) there ∙ ap (λ (k : Kind). Some (node_by m k 1 h)) dir in
+pub plain_names : (N : ℕ) (m : LogMap) (s : State) → (is : IsMapOf N m s) (plain : IsPlain s.tree) → (h : Header) → m.header 1 ≡ Some h → h.kind ≡ kind.Directory → (h.form ≡ 0) × (plain.names ≡ map_of h.form (slots m 1 h))
+plain_names N m s is plain h there dir =
+    let node_1 : Some (Dir 0 plain.names) ≡ Some (Dir h.form (map_of h.form (slots m 1 h))) =
+    sym plain.root ∙ node_by_header N m s is.log 1 h (omega arith, omega arith) there ∙ ap (λ (k : Kind). Some (node_by m k 1 h)) dir in
     (ap form_at (sym node_1), ap names_at node_1)
   where
     form_at : Option Node → ℕ

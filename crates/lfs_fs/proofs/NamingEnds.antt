@@ -37,7 +37,7 @@ use Rattle.lfs_fs.specs.Volume.{IsIn, IsStill, Mounted, Serves, segments_of}
 use Rattle.lfs_fs.proofs.Behaving.{IsOrdinary}
 use Rattle.lfs_fs.proofs.CallSteps.{never_worn, refused_not_worn}
 use Rattle.lfs_fs.proofs.Files.{resolved_there}
-use Rattle.lfs_fs.proofs.Holding.{file_no_dir, headers_of_volume, map_of_volume, opened_map, root_dir, walked_file}
+use Rattle.lfs_fs.proofs.Holding.{file_no_dir, headers_of_volume, map_of_volume, opened_map, walked_file}
 use Rattle.lfs_fs.proofs.PathSteps.{open_directory, open_file, open_too_many, with_handle}
 use Rattle.lfs_fs.proofs.Serving.{served_halted, served_still}
 use Rattle.lfs_fs.proofs.Ending.{not_acknowledged}
@@ -100,13 +100,14 @@ module _ {D : Type 0} (state : D → DeviceState) (lawful : (d : D) → IsLawful
         table_serves state old new (lawful old.log.device) (lawful new.log.device) was (Open p) (Handle h) reads saved blocks others refl refl (λ e. cc) (λ q keeps here k m0 m is. (
         let walk = walks k m0 m q.state keeps is in
         let map = map_of_volume state old k m0 m q.state is in
-        let file = file_no_dir q.state.tree n (walked_file (segments_of old) m q.state map p true n walk other) in
+        let file = file_no_dir q.state.tree n (walked_file (segments_of old) m q.state map is.plain p true n walk other) in
         let first_is : least_handle q.state.handles ≡ h = ap least_handle is.handles ∙ first in
         let few = subst (λ (x : ℕ). x < 64) (sym first_is) some in
         let low = is.log.sound.numbers n (resolved_there (segments_of old) q.state is.log.sound p true n walk) in
         let opened = table (λ e. omega (arith, e, low)) in record {
           next = with_handle (segments_of old) q.state p n walk;
           map = opened_map (segments_of old) m q.state map p n walk file few;
+          plain = is.plain;
           version = is.version;
           handles = ap (λ (x : ℕ). put nat_cmp x n q.state.handles) first_is ∙ ap (put nat_cmp h n) is.handles ∙ sym opened;
           steps = inl (
@@ -126,11 +127,11 @@ module _ {D : Type 0} (state : D → DeviceState) (lawful : (d : D) → IsLawful
         (not_acknowledged (Open p) r)
 
     pub open_root : n ≡ 1 → Serves state old new (Open p) (Refuse refusals.IsDir)
-    open_root one = open_refuses refusals.IsDir tt (λ k m0 m s is walk. open_directory (segments_of old) s p n walk (subst (λ (x : ℕ). is_dir (node s.tree x) ≡ true) (sym one) (root_dir s.tree is.plain)))
+    open_root one = open_refuses refusals.IsDir tt (λ k m0 m s is walk. open_directory (segments_of old) s p n walk (subst (λ (x : ℕ). is_dir (node s.tree x) ≡ true) (sym one) is.log.sound.root))
 
     pub open_many : n ≢ 1 → 64 ≤ least_handle (handles_of old.table) → Serves state old new (Open p) (Refuse refusals.TooManyOpen)
     open_many other many = open_refuses refusals.TooManyOpen tt (λ k m0 m s is walk.
-        open_too_many (segments_of old) s p n walk (file_no_dir s.tree n (walked_file (segments_of old) m s (map_of_volume state old k m0 m s is) p true n walk other)) (subst (λ hs. 64 ≤ least_handle hs) (sym is.handles) many))
+        open_too_many (segments_of old) s p n walk (file_no_dir s.tree n (walked_file (segments_of old) m s (map_of_volume state old k m0 m s is) is.plain p true n walk other)) (subst (λ hs. 64 ≤ least_handle hs) (sym is.handles) many))
 
 -- ---- the code of the calls of paths
 

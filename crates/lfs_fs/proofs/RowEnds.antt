@@ -65,7 +65,7 @@ module _ {D : Type 0} (state : D → DeviceState) where
       pub row_is : row ≡ row_at s.tree (pair e)
       row_is =
           (λ i. record { directory = dir_is i; name = e.name.items; stat = record { number = told.number i; kind = told.kind i; links = told.links i; size = told.size i }; head = head_is i })
-          ∙ sym (row_by (segments_of (seen old)) m s (map_of_volume state (seen old) k m0 m s is) e.name.items e.number found told.head there (headers_of_volume state (seen old) k m0 m s is e.number (as_header told.head) there))
+          ∙ sym (row_by (segments_of (seen old)) m s (map_of_volume state (seen old) k m0 m s is) is.plain e.name.items e.number found told.head there (headers_of_volume state (seen old) k m0 m s is e.number (as_header told.head) there))
 
   -- a name of the root gives an object
   named_there : (v : Fs D) (k : CheckpointValue) (m0 m : LogMap) (s : State) → IsIn state (seen v) k m0 m s → (e : Entry) → entry_in s.tree 1 e.name.items ≡ Some e.number → (e.number ≤ 4095) × (m.header e.number ≢ None)

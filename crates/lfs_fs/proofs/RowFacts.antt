@@ -14,6 +14,7 @@ use Rattle.lfs_model.proofs.Shrinking.{named_counts}
 use Rattle.lfs_model.proofs.Standing.{object_length}
 use Rattle.lfs_path.specs.memory.declared.header.Header.{Header}
 use Rattle.lfs_path.specs.memory.Present.{as_header}
+use Rattle.lfs_fs.specs.Volume.{IsPlain}
 use Rattle.lfs_fs.proofs.Files.{IsFileOf, IsMapOf, file_of, stat_is}
 use Rattle.lfs_fs.proofs.Listed.{file_head, row_in}
 
@@ -21,7 +22,7 @@ use Rattle.lfs_fs.proofs.Listed.{file_head, row_in}
 pub head_clipped : (m : LogMap) (n : ℕ) (h : entry.Header) → part (object m n h) 0 (min 16 h.size) ≡ part (object m n h) 0 16
 head_clipped m n h = ap (λ (l : ℕ). part (object m n h) 0 (min 16 l)) (sym (object_length m n h)) ∙ take_min 16 (object m n h)
 
-module _ (N : ℕ) (m : LogMap) (s : State) (is : IsMapOf N m s) (nm : List ℕ) (n : ℕ) (found : entry_in s.tree 1 nm ≡ Some n) where
+module _ (N : ℕ) (m : LogMap) (s : State) (is : IsMapOf N m s) (plain : IsPlain s.tree) (nm : List ℕ) (n : ℕ) (found : entry_in s.tree 1 nm ≡ Some n) where
   -- what a name of the root gives is a file
   pub entry_not_root : n ≢ 1
   entry_not_root e =
@@ -34,7 +35,7 @@ module _ (N : ℕ) (m : LogMap) (s : State) (is : IsMapOf N m s) (nm : List ℕ)
     where
       by : (o : Option Node) → node s.tree n ≡ o → IsFile (node s.tree n)
       by None none = absurd (is.log.sound.named 1 nm n found none)
-      by (Some x) there = let file = is.plain.files n x there entry_not_root in (file.0, there ∙ ap Some file.1)
+      by (Some x) there = let file = plain.files n x there entry_not_root in (file.0, there ∙ ap Some file.1)
 
   was : IsFileOf m s.tree n
   was = file_of N m s is.log n entry_file

@@ -78,7 +78,7 @@ module _ {D : Type 0} (state : D → DeviceState) (old new : Mounted D) (lawful 
 
   pub tree_serves : (rows : List TreeRow) → InEach state old (λ m s. (plain : IsPlain s.tree) → rows ≡ map (row_in s.tree) plain.names) → Serves state old new ListTree (Rows rows)
   tree_serves rows are = told_serves state old new ListTree lawful still was (Rows rows) tt refl refl refl (λ k m0 m s keeps is.
-      subst (λ (x : List TreeRow). Step (segments_of old) s ListTree (Rows x) s) (sym (are k m0 m s keeps is (map_of_volume state old k m0 m s is).plain)) (tree_step (segments_of old) m s (map_of_volume state old k m0 m s is)))
+      subst (λ (x : List TreeRow). Step (segments_of old) s ListTree (Rows x) s) (sym (are k m0 m s keeps is is.plain)) (tree_step (segments_of old) m s (map_of_volume state old k m0 m s is) is.plain))
 
 -- ---- open
 
@@ -94,6 +94,7 @@ module _ {D : Type 0} (state : D → DeviceState) (old new : Mounted D) (lawful 
       let few = subst (λ hs. least_handle hs < 64) (sym is.handles) some in record {
         next = with_handle (segments_of old) q.state p n walk;
         map = opened_map (segments_of old) m q.state (map_of_volume state old k m0 m q.state is) p n walk file few;
+        plain = is.plain;
         version = is.version;
         handles = (λ i. put nat_cmp (least_handle (is.handles i)) n (is.handles i)) ∙ sym table;
         steps = inl (

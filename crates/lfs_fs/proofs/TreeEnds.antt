@@ -106,15 +106,15 @@ module _ {D : Type 0} (state : D → DeviceState) (old : Fs D) (lawful : IsLawfu
         names : AreNames s.tree es
         names = are_names s.tree (pairs es) es (λ name n found. ap (find byte_cmp name) in_root ∙ found) (subst (λ ms. T (is_sorted byte_cmp ms)) (sym names_are) (sorted_names (slots_at m 1 root)))
 
-        plain_are : (map_of_volume state (seen old) k m0 m s is).plain.names ≡ pairs es
-        plain_are = sym (ap (λ o. names_of (unwrap_or o (File []))) (map_of_volume state (seen old) k m0 m s is).plain.root) ∙ in_root
+        plain_are : is.plain.names ≡ pairs es
+        plain_are = sym (ap (λ o. names_of (unwrap_or o (File []))) is.plain.root) ∙ in_root
 
       pub tree_ends : (r : Result (Vec TreeRow Global) FsError) → IfOk r (λ rows. TellsRows state listed new es rows.items) → IfErr r (λ fault. LacksRows state listed new es fault)
           → Serves state (seen old) (seen new) ListTree (answer_by (λ rows. Rows (map row_of rows.items)) r)
       tree_ends (Ok rows) told missing = step_serves state (seen old) (seen new) ListTree lawful all.still was (Rows (map row_of rows.items)) tt refl refl refl (λ k m0 m s keeps is.
           subst (λ (x : List ModelRow). Step (segments_of (seen old)) s ListTree (Rows x) s)
           (ap (map (row_at s.tree)) (plain_are k m0 m s keeps is) ∙ sym (told empty_listed k m0 m s keeps (still_in state (seen old) (seen listed) k m0 m s both.still is) (names k m0 m s keeps is)))
-          (tree_step (segments_of (seen old)) m s (map_of_volume state (seen old) k m0 m s is)))
+          (tree_step (segments_of (seen old)) m s (map_of_volume state (seen old) k m0 m s is) is.plain))
       tree_ends (Err fault) told missing = ⊎_elim
           (λ (e : fault ≡ error.NoMemory). subst (λ (f : FsError). Serves state (seen old) (seen new) ListTree (Refuse (refusal_of f))) (sym e) (memory_serves state (seen old) (seen new) ListTree lawful all.still was refl))
           (λ other. ⊎_elim
