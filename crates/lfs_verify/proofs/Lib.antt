@@ -18,3 +18,5 @@ pub mod MapSteps
 pub mod UsageSteps
 pub mod WholeSteps
 pub mod VerifySteps
+pub mod Occurrences
+pub mod MarkTotals

@@ -7,4 +7,5 @@ pub mod Tables
 pub mod Directories
 pub mod MapTables
 pub mod UsageTables
+pub mod Totals
 pub mod Verified

@@ -18,6 +18,7 @@ pub mod reading;
 pub mod roots;
 pub mod rows;
 pub mod runs;
+pub mod totals;
 pub mod usage_stage;
 pub mod values;
 pub mod verify;
