@@ -3,7 +3,7 @@ use Rattle.std.specs.Prelude.{◌≡◌, ◌⊎◌, ℕ, Option, List}
 use Rattle.std.specs.Io.KnownBytes.{Keeps}
 use Rattle.lfs_model.specs.Device.{AllLeft, DeviceState}
 use Rattle.lfs_script.specs.fs.Mounting.{IsRefused}
-use Rattle.lfs_script.specs.fs.log.declared.fault.MountFault.{MountFault}
+use Rattle.lfs_script.specs.fs.log.verify.declared.fault.MountFault.{MountFault}
 use Rattle.lfs_script.specs.Session.{Session}
 use Rattle.lfs_script.specs.declared.script.ScriptEnd.{ScriptEnd}
 

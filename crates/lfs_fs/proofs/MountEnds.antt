@@ -1,10 +1,9 @@
 -- What a mount finds after its tree was checked: the state that the device stands for, or why not.
-use Rattle.std.proofs.Common.{◌≡◌, ◌<◌, ◌∙◌, Bool, true, false, [], refl, sym, subst, arith}
+use Rattle.std.proofs.Common.{ℕ, ◌≡◌, ◌<◌, ◌∙◌, Bool, true, false, [], refl, sym, subst, arith}
 use Rattle.lfs_model.specs.Checkpoint.{layout_version}
-use Rattle.lfs_model.specs.Device.{Carries, DeviceState, IsLawful, IsUntouched, LeavesOnly, Only}
+use Rattle.lfs_model.specs.Device.{Carries, DeviceState, IsLawful, Only}
 use Rattle.lfs_model.specs.Content.{Content}
-use Rattle.lfs_model.specs.Reach.{view}
-use Rattle.lfs_model.specs.Stands.{LogMap, StandsLog, log_in}
+use Rattle.lfs_model.specs.Stands.{LogMap, StandsLog}
 use Rattle.lfs_model.specs.Tree.{State}
 use Rattle.lfs_model.specs.TreeOf.{Stands, tree_in}
 use Rattle.lfs_model.proofs.Decodes.{are_sized, decoding}
@@ -12,8 +11,8 @@ use Rattle.lfs_model.proofs.ObjectMaps.{laid_headers}
 use Rattle.lfs_model.proofs.ObjectNeeds.{laid_long}
 use Rattle.lfs_path.specs.memory.declared.changes.Changes.{Changes}
 use Rattle.lfs_path.specs.memory.Batch.{IsNoChange, staged}
-use Rattle.lfs_path.specs.log.declared.fault.MountFault.{MountFault}
-use Rattle.lfs_path.specs.log.declared.fault.MountFault.TheVariants as fault
+use Rattle.lfs_path.specs.log.verify.declared.fault.MountFault.{MountFault}
+use Rattle.lfs_path.specs.log.verify.declared.fault.MountFault.TheVariants as fault
 use Rattle.lfs_path.specs.log.Held.{Held, Holds, IsReadFault, Reads}
 use Rattle.lfs_path.specs.store.declared.totals.Totals.{Totals}
 use Rattle.lfs_path.specs.store.Accepting.{IsMountRefusal, MountsStore}
@@ -23,14 +22,10 @@ use Rattle.lfs_path.proofs.of_store.LogReads.{held_still}
 use Rattle.lfs_fs.specs.declared.fs.Fs.{Fs}
 use Rattle.lfs_fs.specs.Checking.{FindsTree, IsCountedMap, IsFlat, IsTreeFault, LacksTree}
 use Rattle.lfs_fs.specs.Handles.{handles_of}
-use Rattle.lfs_fs.specs.Mounting.{FindsState, HasLogMap, no_tree, IsDamageOf, IsLogFault, IsMountFault, IsRefused, IsRefusedFor, IsRefusedTree, MountsAt, MountsFs, StandsWhereLog}
+use Rattle.lfs_fs.specs.Mounting.{FindsState, few_clean, no_tree, stage, IsDamageOf, IsLogFault, IsMountFault, IsRefused, IsRefusedTree, MountsAt, MountsFs, StandsWhereLog}
 use Rattle.lfs_fs.specs.Seen.{seen}
-use Rattle.lfs_model.specs.Volume.{IsTooSmall, IsWithoutCheckpoint}
 use Rattle.lfs_fs.specs.Volume.{IsPlain}
-use Rattle.lfs_verify.specs.Take.{Looks}
-use Rattle.lfs_verify.specs.Verified.{IsVerified}
-use Rattle.lfs_verify.proofs.VerifySteps.{looks_by, stands_for_none, stands_where_enough}
-use Rattle.lfs_verify.proofs.Takes.{looks_then}
+use Rattle.lfs_verify.specs.Verified.{HasLogMap, IsLogDamage, IsRefusedLog, lacks_clean, stage_fails}
 use Rattle.lfs_fs.proofs.Found.{found_at, found_running}
 use Rattle.lfs_fs.proofs.Serving.{point_of}
 
@@ -172,57 +167,23 @@ refused_store old new (fault.Damaged code) is m keeps stands = absurd (is m keep
 pub open_fault : {D : Type 0} (state : D → DeviceState) (d d' : D) (f : MountFault) → IsMountRefusal (state d) (state d') f → IsMountFault state d d'
 open_fault state d d' f is = log_fault state d d' (refused_store (state d) (state d') f is)
 
-pub open_refused : (old new : DeviceState) (f : MountFault) → ((f ≡ fault.NoMemory → ⊥) → IsMountRefusal old new f) → IsRefusedTree old new f
-open_refused old new fault.NoMemory told m is keeps = tt
-open_refused old new fault.Device told m is keeps = told (λ e. cc) m keeps is
-open_refused old new fault.TooSmall told m is keeps = absurd (told (λ e. cc) m keeps is)
-open_refused old new fault.NoCheckpoint told m is keeps = absurd (told (λ e. cc) m keeps is)
-open_refused old new (fault.Damaged code) told m is keeps = absurd (told (λ e. cc) m keeps is)
+-- ---- the log, which is verified before the tree is checked
+damage_of : (c : Content) (code : ℕ) → IsLogDamage c code → IsDamageOf c code
+damage_of c code (stage_fails low damaged) = stage low damaged
+damage_of c code (lacks_clean at few) = few_clean at few
 
--- ---- the log, which is checked before
-has_log_map : (c : Content) (enough : Bool) → IsVerified c enough → enough ≡ true → (m : LogMap) × StandsLog c m
-has_log_map c enough is all = (log_in (view c is.checkpoint), stands_where_enough c enough is all)
+-- why the log is refused
+pub log_refused : (old new : DeviceState) (f : MountFault) → IsRefusedLog old new f → IsRefused old new f
+log_refused old new fault.NoMemory is = λ keeps. tt
+log_refused old new fault.Device is = λ keeps. is
+log_refused old new fault.TooSmall is = is
+log_refused old new fault.NoCheckpoint is = is
+log_refused old new (fault.Damaged code) is = λ keeps. damage_of old.content code (is keeps)
 
-pub log_found : (old new : DeviceState) (enough : Bool) → enough ≡ true → (new.keeps_model → IsVerified old.content enough) → HasLogMap old new
-log_found old new enough all is keeps = has_log_map old.content enough (is keeps) all
+-- what holds where the content stands for a log map, holds of a log that was found
+module _ {D : Type 0} (state : D → DeviceState) (d d1 d2 : D) (has : HasLogMap (state d) (state d1)) (carries : Carries (state d1) (state d2)) where
+  pub tree_reason : (f : MountFault) → IsRefusedTree (state d) (state d2) f → IsRefused (state d) (state d2) f
+  tree_reason f refused keeps = let log = has (carries.kept_before keeps) in refused log.0 log.1 keeps
 
-pub log_lacks : (old new : DeviceState) (enough : Bool) → enough ≡ false → (new.keeps_model → IsVerified old.content enough) → IsLogFault old new
-log_lacks old new enough few is m keeps stands = absurd (stands_for_none old.content (subst (IsVerified old.content) few (is keeps)) m stands)
-
-module _ {D : Type 0} (state : D → DeviceState) (d0 d1 : D) (one : Looks (state d0) (state d1)) where
-  -- what stood at first still does
-  stands_still : (s : State) → Stands (state d0).content s → Stands (state d1).content s
-  stands_still s is = subst (λ (c : Content). Stands c s) (sym one.untouched.content) is
-
-  pub mounts_by : (v : Fs D) → MountsFs state d1 v → MountsFs state d0 v
-  mounts_by v mounts s keeps is = mounts s keeps (stands_still s is)
-
-  pub found_by : (v : Fs D) → HasLogMap (state d0) (state d1) → Carries (state d1) (state v.store.log.device) → StandsWhereLog state d1 v → FindsState state d0 v
-  found_by v has carries finds keeps =
-      let log = has (carries.kept_before keeps) in
-      let found = finds log.0 keeps (subst (λ (c : Content). StandsLog c log.0) (sym one.untouched.content) log.1) in
-      (found.0, subst (λ (c : Content). Stands c found.0) one.untouched.content found.1, found.2)
-
-  pub durable_by : (d2 : D) → ((state d2).keeps_model → Only (state d1).content (state d2)) → (state d2).keeps_model → Only (state d0).content (state d2)
-  durable_by d2 durable keeps c left = durable keeps c left ∙ one.untouched.content
-
-  pub fault_by : (d2 : D) → IsMountFault state d1 d2 → IsMountFault state d0 d2
-  fault_by d2 fault s keeps is plain =
-      let rose = fault s keeps (stands_still s is) plain in
-      let before = one.carries.failures in
-      omega (arith, rose, before)
-
-  reason_by : (d2 : D) (f : MountFault) → IsRefusedFor (state d1) (state d2) f → IsRefusedFor (state d0) (state d2) f
-  reason_by d2 fault.NoMemory is = tt
-  reason_by d2 fault.Device is = let before = one.carries.failures in omega (arith, is, before)
-  reason_by d2 fault.TooSmall is = subst IsTooSmall one.untouched.content is
-  reason_by d2 fault.NoCheckpoint is = subst IsWithoutCheckpoint one.untouched.content is
-  reason_by d2 (fault.Damaged code) is = subst (λ (c : Content). IsDamageOf c code) one.untouched.content is
-
-  pub refused_by : (d2 : D) (f : MountFault) → HasLogMap (state d0) (state d1) → Carries (state d1) (state d2) → IsRefusedTree (state d1) (state d2) f → IsRefused (state d0) (state d2) f
-  refused_by d2 f has carries refused keeps =
-      let log = has (carries.kept_before keeps) in
-      reason_by d2 f (refused log.0 (subst (λ (c : Content). StandsLog c log.0) (sym one.untouched.content) log.1) keeps)
-
-  pub looks_on : (d2 : D) → Carries (state d1) (state d2) → IsUntouched (state d1) (state d2) → LeavesOnly (state d1) (state d2) (state d1).may_leave → Looks (state d0) (state d2)
-  looks_on d2 carries untouched any_moment = looks_then (state d0) (state d1) (state d2) one (looks_by (state d1) (state d2) carries untouched any_moment)
+  pub state_there : (v : Fs D) → v.store.log.device ≡ d2 → StandsWhereLog state d v → FindsState state d v
+  state_there v same finds keeps = let log = has (carries.kept_before (subst (λ (x : D). (state x).keeps_model) same keeps)) in finds log.0 keeps log.1

@@ -19,8 +19,8 @@ use Rattle.lfs_path.specs.memory.declared.header.Header.{Header}
 use Rattle.lfs_path.specs.memory.declared.memory.LogMemory.{LogMemory}
 use Rattle.lfs_path.specs.memory.Batch.{staged}
 use Rattle.lfs_path.specs.memory.Present.{HeaderAnswer, as_header}
-use Rattle.lfs_path.specs.log.declared.fault.MountFault.{MountFault}
-use Rattle.lfs_path.specs.log.declared.fault.MountFault.TheVariants as fault
+use Rattle.lfs_path.specs.log.verify.declared.fault.MountFault.{MountFault}
+use Rattle.lfs_path.specs.log.verify.declared.fault.MountFault.TheVariants as fault
 use Rattle.lfs_path.specs.log.Held.{Held, Holds, IsReadFault, Reads}
 use Rattle.lfs_path.specs.store.declared.totals.Totals.{Totals}
 use Rattle.lfs_path.specs.store.Reading.{ReadsHeader}

@@ -13,8 +13,8 @@ use Rattle.lfs_path.specs.memory.declared.changes.Changes.{Changes}
 use Rattle.lfs_path.specs.memory.declared.header.Header.{Header}
 use Rattle.lfs_path.specs.memory.Batch.{staged}
 use Rattle.lfs_path.specs.memory.Present.{as_header}
-use Rattle.lfs_path.specs.log.declared.fault.MountFault.{MountFault}
-use Rattle.lfs_path.specs.log.declared.fault.MountFault.TheVariants as fault
+use Rattle.lfs_path.specs.log.verify.declared.fault.MountFault.{MountFault}
+use Rattle.lfs_path.specs.log.verify.declared.fault.MountFault.TheVariants as fault
 use Rattle.lfs_path.specs.log.Held.{Held, Holds, IsReadFault}
 use Rattle.lfs_path.specs.store.declared.totals.Totals.{Totals}
 use Rattle.lfs_path.specs.store.Recounting.{AreTotals}

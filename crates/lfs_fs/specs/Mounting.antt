@@ -7,8 +7,8 @@ use Rattle.lfs_model.specs.Stands.{LogMap, StandsLog}
 use Rattle.lfs_model.specs.Tree.{State}
 use Rattle.lfs_model.specs.TreeOf.{Stands}
 use Rattle.lfs_model.specs.Volume.{IsTooSmall, IsWithoutCheckpoint}
-use Rattle.lfs_path.specs.log.declared.fault.MountFault.{MountFault}
-use Rattle.lfs_path.specs.log.declared.fault.MountFault.TheVariants.{NoMemory, Device, TooSmall, NoCheckpoint, Damaged}
+use Rattle.lfs_path.specs.log.verify.declared.fault.MountFault.{MountFault}
+use Rattle.lfs_path.specs.log.verify.declared.fault.MountFault.TheVariants.{NoMemory, Device, TooSmall, NoCheckpoint, Damaged}
 use Rattle.lfs_verify.specs.Verified.{IsDamagedIn, IsVerified}
 use Rattle.lfs_fs.specs.declared.fs.Fs.{Fs}
 use Rattle.lfs_fs.specs.Checking.{IsFlat}
@@ -39,11 +39,7 @@ module _ {D : Type 0} (state : D → DeviceState) where
   abbrev pub IsMountFault : D → D → Type 0
   IsMountFault d d' = (s : State) → (state d').keeps_model → Stands (state d).content s → IsPlain s.tree → (state d).failures < (state d').failures
 
--- the content that was read stands for a log map
-abbrev pub HasLogMap : DeviceState → DeviceState → Type 0
-HasLogMap old new = new.keeps_model → (m : LogMap) × StandsLog old.content m
-
--- where it stands for one, a call of the device failed
+-- where the content stands for a log map, a call of the device failed
 abbrev pub IsLogFault : DeviceState → DeviceState → Type 0
 IsLogFault old new = (m : LogMap) → new.keeps_model → StandsLog old.content m → old.failures < new.failures
 

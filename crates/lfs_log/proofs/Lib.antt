@@ -5,10 +5,8 @@ pub mod UsageMoves
 pub mod UsageWrites
 pub mod PublishSteps
 pub mod Saves
-pub mod FaultCases
-pub mod UsageLoads
-pub mod MapLoads
 pub mod Opens
 pub mod Volumes
 pub mod StoredBlocks
 pub use Rattle.lfs_memory.proofs as of_memory
+pub use Rattle.lfs_verify.proofs as of_verify

@@ -26,47 +26,22 @@ use Rattle.lfs_memory.specs.inodes.MapValue.{MapValue, address_in, block_in}
 use Rattle.lfs_memory.specs.segments.Table.{SegmentNumbers, UsageTable, no_segment, address_of, stale_of}
 use Rattle.lfs_memory.specs.declared.memory.LogMemory.{LogMemory}
 use Rattle.lfs_memory.specs.Memory.{IsLog, tables_by, tables_of, segment_in, chunk_in}
-use Rattle.lfs_memory.specs.Present.{Looks}
-use Rattle.lfs_log.specs.declared.fault.MountFault.{MountFault}
-use Rattle.lfs_log.specs.Faults.{IsOpenFault, IsTableFault, LacksLog, LacksTables}
-use Rattle.lfs_log.proofs.FaultCases.{fault_on}
-use Rattle.lfs_log.specs.Opening.{IsUsageUpTo, SaysUsage, IsMapUpTo, SaysMap, Opens, numbers_in}
+use Rattle.lfs_model.specs.Totals.{IsCounted}
+use Rattle.lfs_model.proofs.Crash.{single_log}
+use Rattle.lfs_verify.specs.declared.tables.Tables.{Tables}
+use Rattle.lfs_verify.specs.declared.totals.BlockTotals.{BlockTotals}
+use Rattle.lfs_verify.specs.Loading.{HasTables, IsLoaded, IsUsageUpTo, SaysUsage, IsMapUpTo, SaysMap, numbers_in}
+use Rattle.lfs_verify.specs.Take.{Looks}
+use Rattle.lfs_verify.specs.Verified.{HasLogMap}
+use Rattle.lfs_log.specs.Opening.{CountsOpened, Opens}
 use Rattle.lfs_memory.proofs.Opened.{closed_segment, closed_chunk, as_chunk}
 
 -- ---- the newest checkpoint
-module _ (d : DeviceState) (lawful : IsLawful d) where
-  pub newest_is : (k : CheckpointValue) → IsNewest d.content k → newest d.content ≡ Some k
-  newest_is k is = ((newest_fits d.content lawful.now).0 k).1 is
-
-  pub is_newest : (k : CheckpointValue) → newest d.content ≡ Some k → IsNewest d.content k
-  is_newest k is = ((newest_fits d.content lawful.now).0 k).0 is
-
-  pub no_newest : HasNoCheckpoint d.content → newest d.content ≡ None
-  no_newest none = (newest_fits d.content lawful.now).1.1 none
-
-  pub not_small : (m : LogMap) → StandsLog d.content m → d.size < 4098 → ⊥
-  not_small m is small =
-      let fits = (is_newest is.checkpoint is.newest).held.fits in
-      let least = fits.segments.least in
-      let size = is.stands.size in
-      let long = lawful.size in
-      omega (arith, least, size, long, small)
-
-  pub has_checkpoint : (m : LogMap) → StandsLog d.content m → HasNoCheckpoint d.content → ⊥
-  has_checkpoint m is none = let some = is.newest in let no = no_newest none in absurd (cc)
-
-  pub one_checkpoint : (m : LogMap) (k : CheckpointValue) → (is : StandsLog d.content m) → newest d.content ≡ Some k → is.checkpoint ≡ k
-  one_checkpoint m k is newest = some_is is.checkpoint k (sym is.newest ∙ newest)
-    where
-      some_is : (a b : CheckpointValue) → Some a ≡ Some b → a ≡ b
-      some_is a b e = cc
-
-  pub has_segments : (m : LogMap) (k : CheckpointValue) → StandsLog d.content m → IsNewest d.content k → d.size < 2 + 64 * k.segments → ⊥
-  has_segments m k is newest small =
-      let same = ap (λ (x : CheckpointValue). x.segments) (one_checkpoint m k is (newest_is k newest)) in
-      let size = is.stands.size in
-      let long = lawful.size in
-      omega (arith, same, size, long, small)
+one_checkpoint : (d : DeviceState) (m : LogMap) (k : CheckpointValue) → (is : StandsLog d.content m) → newest d.content ≡ Some k → is.checkpoint ≡ k
+one_checkpoint d m k is newest = some_is is.checkpoint k (sym is.newest ∙ newest)
+  where
+    some_is : (a b : CheckpointValue) → Some a ≡ Some b → a ≡ b
+    some_is a b e = cc
 
 -- ---- the tables
 abbrev by_numbers : ℕ → ℕ → ℕ → SegmentNumbers
@@ -140,58 +115,72 @@ module _ (c : Content) (k : CheckpointValue) (fits : FitsCheckpoint k) (m : LogM
   }
 
 -- ---- the log
-module _ (d mid d' : DeviceState) (k : CheckpointValue) (fits : FitsCheckpoint k) (lawful : IsLawful d') (lawful_first : IsLawful d) (newest_at : mid.keeps_model → newest d.content ≡ Some k) (durable : mid.keeps_model → Only d.content mid) (same : IsUntouched d mid) (looks : Looks mid d')
-    (v : LogMemory) (chunk : v.chunk.names ≡ []) (dirty : v.dirty.blocks ≡ [])
-    (usages : IsUsageUpTo ((k.segments + 63) / 64) k.segments v.usage) (says : d'.keeps_model → SaysUsage mid.content k ((k.segments + 63) / 64) v.usage)
-    (maps : IsMapUpTo 32 v.map) (tells : d'.keeps_model → SaysMap mid.content k 32 v.map) where
-  content_same : d'.content ≡ d.content
-  content_same = looks.untouched.content ∙ same.content
+module _ (d d' : DeviceState) (lawful : IsLawful d') (lawful_first : IsLawful d) (durable : d'.keeps_model → Only d.content d') (looks : Looks d d')
+    (t : Tables) (loaded : IsLoaded t d'.size) (has : d'.keeps_model → HasTables d.content t)
+    (v : LogMemory) (chunk : v.chunk.names ≡ []) (dirty : v.dirty.blocks ≡ []) (usage : v.usage ≡ t.usage) (map : v.map ≡ t.map) where
+  module _ (keeps : d'.keeps_model) (m : LogMap) where
+    abbrev k : CheckpointValue
+    k = (has keeps).checkpoint
 
-  settled : (m : LogMap) → d'.keeps_model → StandsAt d.content k m → IsSettled d' k m
-  settled m keeps st =
-      let was = looks.carries.kept_before keeps in
-      let now : newest d'.content ≡ Some k = ap newest content_same ∙ newest_at was in
-      record {
-        newest = now;
-        stands = subst (λ (c : Content). StandsAt c k m) (sym content_same) st;
-        each = λ c left. subst (λ (x : Content). Keeps d'.content k x) (content_same ∙ sym (durable was c (looks.untouched.crash c left))) (keeps_itself d'.content k now);
-      }
+    fits : FitsCheckpoint k
+    fits = (has keeps).fits
 
-  running : (m : LogMap) → d'.keeps_model → StandsAt d.content k m → Running d' (λ x. None) (tables_of v) k m m 1024 None
-  running m keeps st =
-      let most : k.segments ≤ 1024 = fits.segments.most in
-      let to_mid : mid.content ≡ d'.content = sym looks.untouched.content in
-      starting d' (tables_of v) k m 1024 most (are_sized d'.content lawful.now) (settled m keeps st)
-      (mounted_tables d'.content k fits m (subst (λ (c : Content). StandsAt c k m) (sym content_same) st) v.map v.usage
-      usages (subst (λ (c : Content). SaysUsage c k ((k.segments + 63) / 64) v.usage) to_mid (says keeps))
-      maps (subst (λ (c : Content). SaysMap c k 32 v.map) to_mid (tells keeps)))
-      most
+    count_same : k.segments ≡ t.segments
+    count_same = (has keeps).says.segments
 
-  log_at : (m : LogMap) → d'.keeps_model → StandsAt d.content k m → IsLog d' v k m m
-  log_at m keeps st =
-      let none : length v.chunk.names ≡ 0 = ap length chunk in
-      let w = subst (λ (bs : Blocks). Running d' (blocks_in bs) (tables_of v) k m m 1024 None) (sym dirty) (running m keeps st) in
-      record {
-        running = as_chunk d' (blocks_of v.dirty) (tables_of v) k m m 1024 (segment_in v.chunk) None (chunk_in v.chunk) (sym (closed_segment v.chunk none)) (sym (closed_chunk v.chunk none)) w;
-        hidden = λ n low. (mounting d.content k m (let most = fits.segments.most in omega (arith, most)) (are_sized d.content lawful_first.now) st).2 n ∙ sym (maps.hidden n);
-        segments = usages.size;
-        tight = λ x b there. absurd (let none = empty x in cc);
-      }
-    where
-      empty : (x : Entry) → blocks_of v.dirty x ≡ None
-      empty x = ap (λ (bs : Blocks). blocks_in bs x) dirty
+    usages : IsUsageUpTo ((k.segments + 63) / 64) k.segments v.usage
+    usages = subst (λ (n : ℕ). IsUsageUpTo ((n + 63) / 64) n v.usage) (sym count_same) (subst (IsUsageUpTo ((t.segments + 63) / 64) t.segments) (sym usage) loaded.usage)
 
-  pub opens : Opens d d' v k.number
+    maps : IsMapUpTo 32 v.map
+    maps = subst (IsMapUpTo 32) (sym map) loaded.map
+
+    settled : StandsAt d.content k m → IsSettled d' k m
+    settled st =
+        let now : newest d'.content ≡ Some k = ap newest looks.untouched.content ∙ (has keeps).newest in
+        record {
+          newest = now;
+          stands = subst (λ (c : Content). StandsAt c k m) (sym looks.untouched.content) st;
+          each = λ c left. subst (λ (x : Content). Keeps d'.content k x) (looks.untouched.content ∙ sym (durable keeps c left)) (keeps_itself d'.content k now);
+        }
+
+    running : StandsAt d.content k m → Running d' (λ x. None) (tables_of v) k m m 1024 None
+    running st =
+        let most : k.segments ≤ 1024 = fits.segments.most in
+        let to : d.content ≡ d'.content = sym looks.untouched.content in
+        starting d' (tables_of v) k m 1024 most (are_sized d'.content lawful.now) (settled st)
+        (mounted_tables d'.content k fits m (subst (λ (c : Content). StandsAt c k m) to st) v.map v.usage
+        usages (subst (λ (c : Content). SaysUsage c k ((k.segments + 63) / 64) v.usage) to (subst (SaysUsage d.content k ((k.segments + 63) / 64)) (sym usage) (has keeps).says.usage))
+        maps (subst (λ (c : Content). SaysMap c k 32 v.map) to (subst (SaysMap d.content k 32) (sym map) (has keeps).says.map)))
+        most
+
+    log_at : StandsAt d.content k m → IsLog d' v k m m
+    log_at st =
+        let none : length v.chunk.names ≡ 0 = ap length chunk in
+        let w = subst (λ (bs : Blocks). Running d' (blocks_in bs) (tables_of v) k m m 1024 None) (sym dirty) (running st) in
+        record {
+          running = as_chunk d' (blocks_of v.dirty) (tables_of v) k m m 1024 (segment_in v.chunk) None (chunk_in v.chunk) (sym (closed_segment v.chunk none)) (sym (closed_chunk v.chunk none)) w;
+          hidden = λ n low. (mounting d.content k m (let most = fits.segments.most in omega (arith, most)) (are_sized d.content lawful_first.now) st).2 n ∙ sym (maps.hidden n);
+          segments = usages.size;
+          tight = λ x b there. absurd (let none = empty x in cc);
+        }
+      where
+        empty : (x : Entry) → blocks_of v.dirty x ≡ None
+        empty x = ap (λ (bs : Blocks). blocks_in bs x) dirty
+
+  pub opens : Opens d d' v t.number
   opens m keeps is =
-      let one = one_checkpoint d lawful_first m k is (newest_at (looks.carries.kept_before keeps)) in
-      (subst (λ (x : CheckpointValue). IsLog d' v x m m) (sym one) (log_at m keeps (subst (λ (x : CheckpointValue). StandsAt d.content x m) one is.stands)), ap (λ (x : CheckpointValue). x.number) one)
+      let one = one_checkpoint d m (k keeps m) is (has keeps).newest in (
+        subst (λ (x : CheckpointValue). IsLog d' v x m m) (sym one) (log_at keeps m (subst (λ (x : CheckpointValue). StandsAt d.content x m) one is.stands)),
+        ap (λ (x : CheckpointValue). x.number) one ∙ (has keeps).says.number,
+      )
 
-pub open_fault : (a b c : DeviceState) (k : CheckpointValue) → IsLawful a → (b.keeps_model → newest a.content ≡ Some k) → IsUntouched a b → Carries a b → Looks b c
-    → (f : MountFault) → IsTableFault b c k f → IsOpenFault a c f
-open_fault a b c k lawful newest_at same carries looks f =
-    fault_on (b.failures < c.failures) (LacksTables b c k) (a.failures < c.failures) (LacksLog a c)
-    (λ rose. let before = carries.failures in omega (arith, rose, before))
-    (λ lacks m keeps is.
-    let one = one_checkpoint a lawful m k is (newest_at (looks.carries.kept_before keeps)) in
-    let st = subst (λ (x : CheckpointValue). StandsAt a.content x m) one is.stands in
-    lacks m keeps (subst (λ (x : Content). StandsAt x k m) (sym same.content) st)) f
+  -- and these are its totals
+  pub counts_opened : (totals : BlockTotals) → totals.data_blocks ≡ t.data_blocks → totals.meta_blocks ≡ t.meta_blocks → CountsOpened d d' totals
+  counts_opened totals blocks others m keeps is =
+      let h = has keeps in
+      let same = single_log d.content h.log m (record { checkpoint = h.checkpoint; newest = h.newest; stands = h.stands }) is in
+      let counted = subst (λ (x : LogMap). IsCounted x t.data_blocks t.meta_blocks) same h.counted in
+      record { stored = blocks ∙ counted.stored; above = others ∙ counted.above }
+
+pub has_log_map : (d d' : DeviceState) (t : Tables) → (d'.keeps_model → HasTables d.content t) → HasLogMap d d'
+has_log_map d d' t has keeps = let h = has keeps in (h.log, record { checkpoint = h.checkpoint; newest = h.newest; stands = h.stands })

@@ -1,9 +1,9 @@
 pub mod Settling
 pub mod Publishing
 pub mod Saving
-pub mod Faults
 pub mod Opening
 pub mod Held
 pub use Rattle.lfs_memory.specs as memory
 pub use Rattle.lfs_memory.specs.inodes
 pub use Rattle.lfs_memory.specs.segments
+pub use Rattle.lfs_verify.specs as verify

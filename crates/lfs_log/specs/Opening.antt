@@ -1,58 +1,11 @@
--- What a mount takes into memory, block by block of the tables.
-use Rattle.std.specs.Prelude.{◌≡◌, ◌<◌, ◌≤◌, ◌+◌, ◌*◌, ℕ, false, List, [], length, get_or}
-use Rattle.lfs_model.specs.Checkpoint.{CheckpointValue}
-use Rattle.lfs_model.specs.Content.{Content}
+-- What a mount makes of the tables: the memory of a log that runs.
+use Rattle.std.specs.Prelude.{◌≡◌, ◌≤◌, ◌+◌, ◌*◌, ℕ, [], length}
 use Rattle.lfs_model.specs.Device.{DeviceState}
-use Rattle.lfs_model.specs.Entry.{word}
-use Rattle.lfs_model.specs.Reach.{view, map_block}
-use Rattle.lfs_model.specs.Stands.{LogMap, StandsLog, used_in, live_in, age_in}
-use Rattle.lfs_model.specs.Usage.{SegmentUse, no_use}
-use Rattle.lfs_memory.specs.segments.Table.{SegmentNumbers, UsageTable, no_segment, address_of, stale_of}
-use Rattle.lfs_memory.specs.inodes.MapValue.{MapValue, address_in, is_hidden_in, block_in}
+use Rattle.lfs_model.specs.Stands.{LogMap, StandsLog}
+use Rattle.lfs_model.specs.Totals.{IsCounted}
+use Rattle.lfs_verify.specs.declared.totals.BlockTotals.{BlockTotals}
 use Rattle.lfs_memory.specs.declared.memory.LogMemory.{LogMemory}
 use Rattle.lfs_memory.specs.Memory.{IsMemory, IsLog}
-
--- what is known of a segment on the device
-abbrev pub loaded : SegmentUse → SegmentNumbers
-loaded u = record { used = u.used; live = u.live; held = 0; age = u.age; taken = false }
-
--- the entries of usage block j are taken in, up to the one at this place
-pub record IsTakenIn (old new : UsageTable) (uses : List SegmentUse) (j upto : ℕ) : Type 0 where
-  pub own : (i : ℕ) → i < upto → 64 * j + i < length old.segments → get_or new.segments (64 * j + i) no_segment ≡ loaded (get_or uses i no_use)
-  pub before : (s : ℕ) → s < 64 * j → get_or new.segments s no_segment ≡ get_or old.segments s no_segment
-  pub after : (s : ℕ) → 64 * j + upto ≤ s → get_or new.segments s no_segment ≡ get_or old.segments s no_segment
-  pub size : length new.segments ≡ length old.segments
-  pub blocks : new.blocks ≡ old.blocks
-
--- what the content says of a segment
-abbrev pub numbers_in : Content → CheckpointValue → ℕ → SegmentNumbers
-numbers_in c k s = record { used = used_in (view c k) s; live = live_in (view c k) s; held = 0; age = age_in (view c k) s; taken = false }
-
--- an entry of a segment where nothing lives has no age
-abbrev pub HasNoDeadAge : Content → CheckpointValue → ℕ → Type 0
-HasNoDeadAge c k j = (i : ℕ) → i < 64 → live_in (view c k) (64 * j + i) ≡ 0 → age_in (view c k) (64 * j + i) ≡ 0
-
--- The usage table, of which the blocks below j are taken in; of what they say there is the content alone to know it by.
-pub record IsUsageUpTo (j : ℕ) (segments : ℕ) (t : UsageTable) : Type 0 where
-  pub size : length t.segments ≡ segments
-  pub own : (i : ℕ) → i < j → 2 ≤ address_of t i
-  pub none : (i : ℕ) → j ≤ i → address_of t i ≡ 0
-  pub past : (s : ℕ) → 64 * j ≤ s → get_or t.segments s no_segment ≡ no_segment
-
-pub record SaysUsage (c : Content) (k : CheckpointValue) (j : ℕ) (t : UsageTable) : Type 0 where
-  pub numbers : (s : ℕ) → s < 64 * j → s < length t.segments → get_or t.segments s no_segment ≡ numbers_in c k s
-  pub address : (i : ℕ) → i < j → address_of t i ≡ get_or k.usage i 0
-  pub stale : (i : ℕ) → i < j → stale_of t i ≡ false → HasNoDeadAge c k i
-
--- The inode map, of which the blocks below j are taken in.
-pub record IsMapUpTo (j : ℕ) (map : MapValue) : Type 0 where
-  pub hidden : (n : ℕ) → is_hidden_in map n ≡ false
-  pub none : (i : ℕ) → j ≤ i → block_in map i ≡ 0
-  pub past : (n : ℕ) → 128 * j ≤ n → address_in map n ≡ 0
-
-pub record SaysMap (c : Content) (k : CheckpointValue) (j : ℕ) (map : MapValue) : Type 0 where
-  pub addresses : (i l : ℕ) → i < j → l < 128 → address_in map (128 * i + l) ≡ word (map_block c k i) l
-  pub blocks : (i : ℕ) → i < j → block_in map i ≡ get_or k.map i 0
 
 -- a mount's memory
 pub record IsOpened (v : LogMemory) (size : ℕ) : Type 0 where
@@ -65,3 +18,7 @@ pub record IsOpened (v : LogMemory) (size : ℕ) : Type 0 where
 -- The device holds the log map that it stands for, all of it durable.
 abbrev pub Opens : DeviceState → DeviceState → LogMemory → ℕ → Type 0
 Opens d d' v number = (m : LogMap) → d'.keeps_model → (is : StandsLog d.content m) → IsLog d' v is.checkpoint m m × (is.checkpoint.number ≡ number)
+
+-- These are the totals of the log map for which the content stands.
+abbrev pub CountsOpened : DeviceState → DeviceState → BlockTotals → Type 0
+CountsOpened d d' totals = (m : LogMap) → d'.keeps_model → StandsLog d.content m → IsCounted m totals.data_blocks totals.meta_blocks

@@ -2,7 +2,6 @@
 #![tactic(auto)]
 
 pub mod committing;
-mod fault;
 mod log;
 pub mod mapping;
 pub mod opening;
@@ -10,9 +9,10 @@ pub mod placing;
 pub mod publishing;
 pub mod settling;
 
-pub use fault::MountFault;
 pub use lfs_memory as memory;
 pub use lfs_memory::{
     BlockEdit, Changes, Cut, Header, HeaderEdit, LastLink, LogFault, Loss, Removal,
 };
+pub use lfs_verify as verify;
+pub use lfs_verify::{BlockTotals, MountFault};
 pub use log::Log;

@@ -3,12 +3,13 @@ ghost use Rattle.std.specs.Prelude.{[], ◌≡◌, ◌≢◌, ◌<◌, ◌≤◌
 ghost use Rattle.lfs_model.specs.Device.{Only, IsUntouched, Carries, LeavesOnly};
 ghost use Rattle.lfs_model.specs.Fields.{zeros};
 ghost use Rattle.lfs_memory.specs.segments.Table.{clean_in};
-ghost use Rattle.lfs_log.specs.Faults.{IsOpenFault};
+ghost use Rattle.lfs_verify.specs.Faults.{IsOpenFault};
+ghost use Rattle.lfs_verify.specs.Verified.{HasLogMap, IsRefusedLog};
+ghost use Rattle.lfs_log.specs.Opening.{CountsOpened};
 ghost use Rattle.lfs_memory.specs.Preparing.{LacksRoom};
 ghost use Rattle.lfs_memory.specs.Batch.{room_for};
 
 use crate::committing::save;
-use crate::fault::MountFault;
 use crate::opening::open_memory;
 use lfs_device::SectorDevice;
 use lfs_memory::counting::SegmentCounts;
@@ -16,6 +17,7 @@ use lfs_memory::present::{locate_block, locate_leaf, read_block, read_header};
 use lfs_memory::segments::Usage;
 use lfs_memory::staging::{has_room, remove_tight, stage_tight};
 use lfs_memory::{Changes, Header, LogFault, LogMemory};
+use lfs_verify::{BlockTotals, MountFault};
 use std::alloc::Global;
 use std::marker::Model;
 
@@ -45,34 +47,42 @@ impl<D: SectorDevice> Model for Log<D> {
 impl<D: SectorDevice> Log<D> {
     ghost use Rattle.lfs_log.specs.Held.{Mounts, Saves, Halts, Reads, ReadsHeader, ReadsBlock, TellsBlock, TellsLeaf, IsReadFault, IsFull, IsVacant, HasAll, IsStaged, IsRefused, IsStageFault, IsRemoved, IsKept, HoldsOne};
 
-    /// The volume that the newest checkpoint of the device leads to; else why there is none, and the device. It writes nothing, and
-    /// takes the memory that later calls need.
+    /// The volume that the newest checkpoint of the device leads to, and how many blocks its files have; else why there is none, and
+    /// the device. All that the checkpoint leads to is walked over once, but for the tree of its files. It writes nothing, and takes
+    /// the memory that later calls need.
     ///
     /// # Errors
     ///
-    /// `NoMemory` where memory is refused, `Device` where a call of the device failed; else the device holds no log map.
-    pub fn open(alloc: Global, device: D) -> Result<Log<D>, (MountFault, D)>
-        ensures holds { IfOk result (λ l. Mounts D.SectorDevice.state device l) }
-        ensures empty { IfOk result (λ l. l.memory.dirty.blocks ≡ []) }
-        ensures durable { IfOk result (λ l. (D.state l.device).keeps_model → Only (D.state device).content (D.state l.device)) }
+    /// `NoMemory` where memory is refused, `Device` where a call of the device failed; else the device holds no log map: it is too
+    /// small, holds no checkpoint, or the first stage that fails is named, one of the stages 1 to 9, or 15 where too few segments are clean.
+    pub fn open(alloc: Global, device: D) -> Result<(Log<D>, BlockTotals), (MountFault, D)>
+        ensures holds { IfOk result (λ r. Mounts D.SectorDevice.state device r.0) }
+        ensures counts { IfOk result (λ r. CountsOpened (D.state device) (D.state r.0.device) r.1) }
+        ensures found { IfOk result (λ r. HasLogMap (D.state device) (D.state r.0.device)) }
+        ensures empty { IfOk result (λ r. r.0.memory.dirty.blocks ≡ []) }
+        ensures durable { IfOk result (λ r. (D.state r.0.device).keeps_model → Only (D.state device).content (D.state r.0.device)) }
         ensures cause { IfErr result (λ e. (e.0 ≡ MountFault.NoMemory → ⊥)
             → IsOpenFault (D.state device) (D.state e.1) e.0) }
-        ensures untouched { MatchResult result (λ l. IsUntouched (D.state device) (D.state l.device)) (λ e. IsUntouched (D.state device) (D.state e.1)) }
-        ensures carries { MatchResult result (λ l. Carries (D.state device) (D.state l.device)) (λ e. Carries (D.state device) (D.state e.1)) }
-        ensures any_moment { MatchResult result (λ l. LeavesOnly (D.state device) (D.state l.device) (D.state device).may_leave) (λ e. LeavesOnly (D.state device) (D.state e.1) (D.state device).may_leave) }
+        ensures reason { IfErr result (λ e. IsRefusedLog (D.state device) (D.state e.1) e.0) }
+        ensures untouched { MatchResult result (λ r. IsUntouched (D.state device) (D.state r.0.device)) (λ e. IsUntouched (D.state device) (D.state e.1)) }
+        ensures carries { MatchResult result (λ r. Carries (D.state device) (D.state r.0.device)) (λ e. Carries (D.state device) (D.state e.1)) }
+        ensures any_moment { MatchResult result (λ r. LeavesOnly (D.state device) (D.state r.0.device) (D.state device).may_leave) (λ e. LeavesOnly (D.state device) (D.state e.1) (D.state device).may_leave) }
     {
         let Ok(counts) = SegmentCounts::new(alloc) else {
             return Err((MountFault::NoMemory, device));
         };
         let mut device = device;
         match open_memory(alloc, &mut device) {
-            Ok((memory, number)) => Ok(Log {
-                device,
-                memory,
-                number,
-                halted: false,
-                counts,
-            }),
+            Ok(opened) => {
+                let log = Log {
+                    device,
+                    memory: opened.memory,
+                    number: opened.number,
+                    halted: false,
+                    counts,
+                };
+                Ok((log, opened.totals))
+            }
             Err(fault) => Err((fault, device)),
         }
     }

@@ -12,7 +12,7 @@ use lfs_layout::Checkpoint;
 use lfs_memory::LogMemory;
 use lfs_memory::inodes::InodeMap;
 use lfs_memory::segments::Usage;
-use lfs_root::replace;
+use lfs_verify::root::replace;
 
 /// The addresses of the blocks of the inode map.
 fn map_blocks(map: &InodeMap) -> [u32; 32]

@@ -204,7 +204,7 @@ fn is_seen(log: &mut Log<MemDevice>, look: Look) -> bool {
 
 /// The log on the heap, where each end drops it by one call.
 pub fn mounted<D: SectorDevice + Drop>(alloc: Global, device: D) -> Result<Box<Log<D>>, Wrong> {
-    let Ok(log) = Log::open(alloc, device) else {
+    let Ok((log, _)) = Log::open(alloc, device) else {
         return Err(Wrong::NotOpened);
     };
     match Box::new(alloc, log) {

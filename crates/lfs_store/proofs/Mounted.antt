@@ -14,18 +14,11 @@ use Rattle.lfs_model.specs.Stands.{LogMap, StandsAt, StandsLog}
 use Rattle.lfs_model.specs.TreeOf.{dropped, kept}
 use Rattle.lfs_model.proofs.Decodes.{are_sized, decoding}
 use Rattle.lfs_model.proofs.Decoding.{value_found}
-use Rattle.lfs_log.specs.memory.declared.changes.Changes.{Changes}
-use Rattle.lfs_log.specs.memory.Batch.{IsNoChange}
-use Rattle.lfs_log.specs.Held.{Held, Mounts, Reads, IsReadFault}
-use Rattle.lfs_log.specs.declared.fault.MountFault.{MountFault}
-use Rattle.lfs_log.specs.Faults.{IsOpenFault, LacksLog}
-use Rattle.lfs_log.proofs.FaultCases.{fault_on}
-use Rattle.lfs_store.specs.declared.totals.Totals.{Totals}
+use Rattle.lfs_log.specs.Held.{Held, Mounts}
+use Rattle.lfs_log.specs.verify.declared.fault.MountFault.{MountFault}
+use Rattle.lfs_log.specs.verify.Faults.{IsOpenFault, LacksLog}
+use Rattle.lfs_log.proofs.of_verify.FaultCases.{fault_on}
 use Rattle.lfs_store.specs.Accepting.{IsMountRefusal, MountsStore}
-use Rattle.lfs_store.specs.Measuring.{CountsFiles}
-use Rattle.lfs_store.specs.Recounting.{AreTotals, MountsTotals}
-use Rattle.lfs_store.proofs.Apart.{no_change}
-use Rattle.lfs_store.proofs.LogReads.{held_still}
 
 -- an inode on a device has a link
 links_some : (n : ℕ) (b : List ℕ) → IsInode n b → 1 ≤ (header b).links
@@ -84,26 +77,12 @@ module _ (c : Content) (k : CheckpointValue) (m : LogMap) (sized : IsSized c) (s
   all_linked =
       ap₂ (λ (hs : ℕ → Option Header) (bs : ℕ → ℕ → List ℕ). record { header = hs; block = bs }) (fun_ext header_same) (fun_ext (λ n. fun_ext (λ i. block_same n i)))
 
-module _ {D : Type 0} (state : D → DeviceState) (d : D) (h h' : Held D) (lawful : IsLawful (state d)) (mounts : Mounts state d h) (reads : Reads state h h') where
-  pub mounts_store : MountsStore state d h' true
+module _ {D : Type 0} (state : D → DeviceState) (d : D) (h : Held D) (lawful : IsLawful (state d)) (mounts : Mounts state d h) where
+  pub mounts_store : MountsStore state d h true
   mounts_store m keeps is = record {
-    holds = held_still state h h' is.checkpoint m m reads (mounts m (reads.looks.carries.kept_before keeps) is);
+    holds = mounts m keeps is;
     nothing_new = λ _. all_linked (state d).content is.checkpoint m (are_sized (state d).content lawful.now) is.stands;
   }
-
-  pub mounts_totals : (c : Changes) (t : Totals) → IsNoChange c → CountsFiles state h h' c t → MountsTotals state d h' t
-  mounts_totals c t none counts m keeps is =
-      let same = no_change c m none in
-      let map = formed (state d).content is.checkpoint m (are_sized (state d).content lawful.now) is.stands in
-      subst (λ (x : LogMap). AreTotals x t) same (counts is.checkpoint m m keeps (mounts m (reads.looks.carries.kept_before keeps) is) (subst IsLogMap (sym same) map))
-
--- a call failed where the log was read
-pub read_fault : {D : Type 0} (state : D → DeviceState) (d : D) (h h' : Held D) → Mounts state d h → Carries (state d) (state h.device) → Reads state h h' → IsReadFault state h h'
-    → (m : LogMap) → (state h'.device).keeps_model → StandsLog (state d).content m → (state d).failures < (state h'.device).failures
-read_fault state d h h' mounts carries reads failed m keeps is =
-    let rose = failed is.checkpoint m m keeps (mounts m (reads.looks.carries.kept_before keeps) is) in
-    let before = carries.failures in
-    omega (arith, rose, before)
 
 -- the log isn't there
 pub log_refused : (old new : DeviceState) (f : MountFault) → IsOpenFault old new f → IsMountRefusal old new f

@@ -7,8 +7,8 @@ use Rattle.lfs_model.specs.Encodes.{IsLogMap}
 use Rattle.lfs_model.specs.Memory.{is_nameless}
 use Rattle.lfs_model.specs.Stands.{LogMap, StandsLog}
 use Rattle.lfs_model.specs.TreeOf.{dropped}
-use Rattle.lfs_log.specs.declared.fault.MountFault.{MountFault}
-use Rattle.lfs_log.specs.Faults.{IsFault, LacksLog}
+use Rattle.lfs_log.specs.verify.declared.fault.MountFault.{MountFault}
+use Rattle.lfs_log.specs.verify.Faults.{IsFault, LacksLog}
 use Rattle.lfs_log.specs.memory.declared.changes.Changes.{Changes}
 use Rattle.lfs_log.specs.memory.Batch.{staged, FitsBatch}
 use Rattle.lfs_log.specs.memory.Removing.{without_file}

@@ -2,13 +2,14 @@
 ghost use Rattle.std.specs.Prelude.{◌≡◌, ◌≢◌, ◌<◌, ◌≤◌, ◌+◌, ◌/◌, true, false, length, IfOk, IfErr, OnOk, OnErr, IsErrOf, ◌⊎◌, MatchResult, IsTrue, IsFalse};
 ghost use Rattle.lfs_model.specs.Device.{Only, IsUntouched, Carries, LeavesOnly};
 ghost use Rattle.lfs_log.specs.segments.Table.{clean_in};
+ghost use Rattle.lfs_log.specs.verify.Verified.{HasLogMap, IsRefusedLog};
 ghost use Rattle.lfs_store.specs.Accepting.{IsMountRefusal};
 ghost use Rattle.lfs_log.specs.memory.Batch.{IsNoChange, room_for};
 
 use crate::draft::Draft;
 use crate::fault::StoreFault;
 use crate::store::Store;
-use crate::totals::NO_BLOCKS;
+use crate::totals::Totals;
 use lfs_device::SectorDevice;
 use lfs_log::{Log, LogFault, MountFault};
 use std::alloc::Global;
@@ -20,8 +21,7 @@ const MOST_HEADERS: usize = 4;
 const MOST_BLOCKS: usize = 140;
 
 impl<D: SectorDevice> Store<D> {
-    ghost use Rattle.lfs_log.specs.Held.{Halts, IsFull, Reads, IsReadFault};
-    ghost use Rattle.lfs_store.specs.Measuring.{CountsFiles};
+    ghost use Rattle.lfs_log.specs.Held.{Halts, IsFull};
     ghost use Rattle.lfs_store.specs.Recounting.{MountsTotals};
     ghost use Rattle.lfs_store.specs.Accepting.{MountsStore, Commits, MakesRoom, Accepts, Declines, IsAcceptFault, HasClean};
 
@@ -30,8 +30,8 @@ impl<D: SectorDevice> Store<D> {
     ///
     /// # Errors
     ///
-    /// `NoMemory` where memory is refused, `Device` where a call of the device failed; else the device holds no log map. Where it holds
-    /// none, `Device` may also say that a block can't be read.
+    /// `NoMemory` where memory is refused, `Device` where a call of the device failed; else the device holds no log map: it is too
+    /// small, holds no checkpoint, or the first stage that fails is named, one of the stages 1 to 9, or 15 where too few segments are clean.
     pub fn open(alloc: Global, device: D) -> Result<Store<D>, (MountFault, D)>
         ensures stores { IfOk result (λ s. MountsStore D.SectorDevice.state device s.log s.saved) }
         ensures counts { IfOk result (λ s. MountsTotals D.SectorDevice.state device s.log s.totals) }
@@ -41,6 +41,8 @@ impl<D: SectorDevice> Store<D> {
         ensures durable { IfOk result (λ s. (D.state s.log.device).keeps_model → Only (D.state device).content (D.state s.log.device)) }
         ensures cause { IfErr result (λ e. (e.0 ≡ MountFault.NoMemory → ⊥)
             → IsMountRefusal (D.state device) (D.state e.1) e.0) }
+        ensures found { IfOk result (λ s. HasLogMap (D.state device) (D.state s.log.device)) }
+        ensures reason { IfErr result (λ e. IsRefusedLog (D.state device) (D.state e.1) e.0) }
         ensures untouched { MatchResult result (λ s. IsUntouched (D.state device) (D.state s.log.device)) (λ e. IsUntouched (D.state device) (D.state e.1)) }
         ensures carries { MatchResult result (λ s. Carries (D.state device) (D.state s.log.device)) (λ e. Carries (D.state device) (D.state e.1)) }
         ensures any_moment { MatchResult result (λ s. LeavesOnly (D.state device) (D.state s.log.device) (D.state device).may_leave) (λ e. LeavesOnly (D.state device) (D.state e.1) (D.state device).may_leave) }
@@ -48,39 +50,21 @@ impl<D: SectorDevice> Store<D> {
         let Ok(draft) = Draft::new(alloc, MOST_HEADERS, MOST_BLOCKS) else {
             return Err((MountFault::NoMemory, device));
         };
-        let log = match Log::open(alloc, device) {
-            Ok(log) => log,
+        let (log, found) = match Log::open(alloc, device) {
+            Ok(opened) => opened,
             Err(fault) => return Err(fault),
         };
-        let mut store = Store {
+        let totals = Totals {
+            data_blocks: found.data_blocks,
+            meta_blocks: found.meta_blocks,
+        };
+        Ok(Store {
             log,
             draft,
             saved: true,
-            totals: NO_BLOCKS,
-            drafted: NO_BLOCKS,
-        };
-        match store.count_all() {
-            Ok(()) => Ok(store),
-            Err(_) => Err((MountFault::Device, store.into_device())),
-        }
-    }
-
-    /// Counts all files, with the draft.
-    fn count_all(&mut self) -> Result<(), LogFault>
-        ensures reads { Reads D.SectorDevice.state self.old.log self.new.log }
-        ensures draft { self.new.draft ≡ self.old.draft }
-        ensures saved { self.new.saved ≡ self.old.saved }
-        ensures answer { OnOk result (CountsFiles D.SectorDevice.state self.old.log self.new.log self.old.draft.changes self.new.totals) }
-        ensures drafted { OnOk result (self.new.drafted ≡ self.new.totals) }
-        ensures failed { OnErr result (IsReadFault D.SectorDevice.state self.old.log self.new.log) }
-    {
-        let totals = match self.count_files() {
-            Ok(totals) => totals,
-            Err(fault) => return Err(fault),
-        };
-        self.totals = totals;
-        self.drafted = totals;
-        Ok(())
+            totals,
+            drafted: totals,
+        })
     }
 
     /// The device as it is; what wasn't saved is gone.

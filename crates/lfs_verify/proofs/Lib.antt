@@ -20,3 +20,6 @@ pub mod WholeSteps
 pub mod VerifySteps
 pub mod Occurrences
 pub mod MarkTotals
+pub mod FaultCases
+pub mod UsageLoads
+pub mod MapLoads

@@ -1,17 +1,24 @@
 -- A device that is verified: its newest checkpoint, and what the walk from it says.
-use Rattle.std.proofs.Common.{subst, ◌≡◌, ◌<◌, ◌≤◌, ◌↔◌, ◌+◌, ◌*◌, ℕ, Bool, true, false, length, Some, None, inl, inr, refl, sym, ◌∙◌, ap, arith}
-use Rattle.lfs_model.specs.Checkpoint.{CheckpointValue}
+use Rattle.std.proofs.Common.{subst, ⊎_elim, ◌≡◌, ◌<◌, ◌≤◌, ◌↔◌, ◌+◌, ◌*◌, ℕ, Bool, true, false, length, Some, None, inl, inr, refl, sym, ◌∙◌, ap, arith}
+use Rattle.lfs_model.specs.Checkpoint.{CheckpointValue, FitsCheckpoint}
 use Rattle.lfs_model.specs.Content.{Content, newest}
 use Rattle.lfs_model.specs.Damage.{IsDamaged}
-use Rattle.lfs_model.specs.Device.{DeviceState, IsLawful, IsUntouched, Carries, LeavesOnly}
+use Rattle.lfs_model.specs.Device.{DeviceState, IsLawful, IsUntouched, Carries, LeavesOnly, Only}
 use Rattle.lfs_model.specs.Reach.{View, view}
 use Rattle.lfs_model.specs.Slots.{IsNewest, HasNoCheckpoint}
-use Rattle.lfs_model.specs.Stands.{LogMap, StandsLog, EnoughClean, Stages}
+use Rattle.lfs_model.specs.Stands.{LogMap, StandsAt, StandsLog, EnoughClean, Stages, log_in}
 use Rattle.lfs_model.specs.Volume.{IsTooSmall, IsWithoutCheckpoint}
 use Rattle.lfs_model.proofs.Newest.{newest_fits}
 use Rattle.lfs_verify.specs.Codes.{HoldsBelow, NineStages}
 use Rattle.lfs_verify.specs.Take.{Looks, Reads}
-use Rattle.lfs_verify.specs.Verified.{IsVerified, IsDamagedIn, LacksLogMap, StandsWhereEnough}
+use Rattle.lfs_verify.specs.declared.fault.MountFault.{MountFault}
+use Rattle.lfs_verify.specs.declared.fault.MountFault.TheVariants as fault
+use Rattle.lfs_verify.specs.declared.tables.Tables.{Tables}
+use Rattle.lfs_verify.specs.declared.totals.BlockTotals.{BlockTotals}
+use Rattle.lfs_verify.specs.Faults.{IsOpenFault, IsTableFault}
+use Rattle.lfs_verify.specs.Loading.{HasTables, SaysTables}
+use Rattle.lfs_verify.specs.Totals.{CountsLog}
+use Rattle.lfs_verify.specs.Verified.{IsVerified, IsDamagedIn, IsLogDamage, IsRefusedLog, LacksLogMap, StandsCounted, StandsWhereEnough, lacks_clean, stage_fails}
 use Rattle.lfs_verify.proofs.CodeSteps.{below_1, below_next, stage_1, stage_2, stage_3, stage_4, stage_5, stage_6, stage_7, stage_8, stage_9}
 
 some_is : (a b : CheckpointValue) → Some a ≡ Some b → a ≡ b
@@ -34,67 +41,52 @@ module _ (d : DeviceState) (lawful : IsLawful d) where
   pub without_checkpoint : 4098 ≤ d.size → HasNoCheckpoint d.content → IsWithoutCheckpoint d.content
   without_checkpoint least none = ((let long = lawful.size in omega (arith, least, long)), no_newest none)
 
-  pub not_small : (m : LogMap) → StandsLog d.content m → d.size < 4098 → ⊥
-  not_small m is small =
-      let held = ((newest_fits d.content lawful.now).0 is.checkpoint).0 is.newest in
-      let least = held.held.fits.segments.least in
-      let size = is.stands.size in
-      let long = lawful.size in
-      omega (arith, least, size, long, small)
-
-  pub has_checkpoint : (m : LogMap) → StandsLog d.content m → HasNoCheckpoint d.content → ⊥
-  has_checkpoint m is none = let some = is.newest in let no = no_newest none in absurd (cc)
-
-  pub has_segments : (m : LogMap) (k : CheckpointValue) → StandsLog d.content m → IsNewest d.content k → d.size < 2 + 64 * k.segments → ⊥
-  has_segments m k is newest small =
-      let same = ap (λ (x : CheckpointValue). x.segments) (some_is is.checkpoint k (sym is.newest ∙ newest_is k newest)) in
-      let size = is.stands.size in
-      let long = lawful.size in
-      omega (arith, same, size, long, small)
-
 -- a call that syncs and reads
 pub looks_by : (old new : DeviceState) → Carries old new → IsUntouched old new → LeavesOnly old new old.may_leave → Looks old new
 looks_by old new carries untouched any_moment = record { carries = carries; untouched = untouched; any_moment = any_moment }
 
 -- ---- the walk
-module _ (s0 s1 s2 : DeviceState) (lawful : IsLawful s0) (one : Looks s0 s1) (two : Looks s1 s2) (keeps : s2.keeps_model) where
-  -- the content that the walk read
-  pub read_content : Reads s1 s2 s0.content
-  read_content = record { content = one.untouched.content; keeps = keeps }
-
-  pub long_enough : (k : CheckpointValue) → 2 + 64 * k.segments ≤ s1.size → 2 + 64 * k.segments ≤ length s0.content
-  long_enough k size = let same = one.carries.size in let long = lawful.size in omega (arith, size, same, long)
-
-  pub is_verified : (k : CheckpointValue) → newest s0.content ≡ Some k → 2 + 64 * k.segments ≤ s1.size → (enough : Bool)
-      → NineStages (view s0.content k) × HoldsBelow (view s0.content k) 10 × ((enough ≡ true) ↔ EnoughClean (view s0.content k)) → IsVerified s0.content enough
-  is_verified k found size enough says = record { checkpoint = k; newest = found; size = long_enough k size; stages = says.0; clean = says.2 }
-
-  pub is_damaged : (k : CheckpointValue) → newest s0.content ≡ Some k → 2 + 64 * k.segments ≤ s1.size → (code : ℕ) → IsDamaged (view s0.content k) code → IsDamagedIn s0.content code
-  is_damaged k found size code damaged = record { checkpoint = k; newest = found; size = long_enough k size; damaged = damaged }
+-- where all stages hold, the content stands for the log map that is read from it
+stands_by : (c : Content) (k : CheckpointValue) → 2 + 64 * k.segments ≤ length c → NineStages (view c k) → EnoughClean (view c k) → StandsAt c k (log_in (view c k))
+stands_by c k size stages clean = record {
+  size = size;
+  stages = record {
+    usages = stages.usages;
+    rows = stages.rows;
+    maps = stages.maps;
+    inodes = stages.inodes;
+    roots = stages.roots;
+    leaves = stages.leaves;
+    blocks = stages.blocks;
+    named = stages.named;
+    counted = stages.counted;
+    clean = clean;
+  };
+  header = λ n. refl;
+  block = λ n i. refl;
+}
 
 -- what is missing to a log map
 pub stands_where_enough : StandsWhereEnough
-stands_where_enough c enough is holds = record {
-  checkpoint = is.checkpoint;
-  newest = is.newest;
-  stands = record {
-    size = is.size;
-    stages = record {
-      usages = is.stages.usages;
-      rows = is.stages.rows;
-      maps = is.stages.maps;
-      inodes = is.stages.inodes;
-      roots = is.stages.roots;
-      leaves = is.stages.leaves;
-      blocks = is.stages.blocks;
-      named = is.stages.named;
-      counted = is.stages.counted;
-      clean = is.clean.0 holds;
-    };
-    header = λ n. refl;
-    block = λ n i. refl;
-  };
-}
+stands_where_enough c enough is holds = record { checkpoint = is.checkpoint; newest = is.newest; stands = stands_by c is.checkpoint is.size is.stages (is.clean.0 holds) }
+
+module _ (old new : DeviceState) (lawful : IsLawful old) (k : CheckpointValue) (inside : 2 + 64 * k.segments ≤ old.size) (keeps : new.keeps_model) where
+  -- the content that the walk read
+  pub read_content : Reads old new old.content
+  read_content = record { content = refl; keeps = keeps }
+
+  long_enough : 2 + 64 * k.segments ≤ length old.content
+  long_enough = let long = lawful.size in omega (arith, inside, long)
+
+  module _ (enough : Bool) (says : NineStages (view old.content k) × HoldsBelow (view old.content k) 10 × ((enough ≡ true) ↔ EnoughClean (view old.content k))) where
+    pub stands_counted : enough ≡ true → (totals : BlockTotals) → CountsLog old.content k totals.data_blocks totals.meta_blocks → StandsCounted old.content k totals
+    stands_counted on totals counts = (let st = stands_by old.content k long_enough says.0 (says.2.0 on) in record { stands = st; counted = counts (log_in (view old.content k)) st })
+
+    pub few_clean : newest old.content ≡ Some k → enough ≡ false → IsLogDamage old.content 15
+    few_clean found off = lacks_clean refl (subst (IsVerified old.content) off (record { checkpoint = k; newest = found; size = long_enough; stages = says.0; clean = says.2 }))
+
+  pub first_damage : newest old.content ≡ Some k → (code : ℕ) → code < 10 → IsDamaged (view old.content k) code → IsLogDamage old.content code
+  first_damage found code low damaged = stage_fails low (record { checkpoint = k; newest = found; size = long_enough; damaged = damaged })
 
 -- ---- a content that stands for a log map
 module _ (c : Content) (m : LogMap) (is : StandsLog c m) where
@@ -113,3 +105,82 @@ module _ (c : Content) (m : LogMap) (is : StandsLog c m) where
 
 pub stands_for_none : LacksLogMap
 stands_for_none c few m is = let clean : false ≡ true = few.clean.1 (stages_of c m is few.checkpoint few.newest).clean in absurd (cc)
+
+-- ---- refusals
+refused_behind : (a b c : DeviceState) → Looks a b → (f : MountFault) → IsRefusedLog b c f → IsRefusedLog a c f
+refused_behind a b c looks fault.NoMemory is = tt
+refused_behind a b c looks fault.Device is = let before = looks.carries.failures in omega (arith, is, before)
+refused_behind a b c looks fault.TooSmall is = λ keeps. subst IsTooSmall looks.untouched.content (is keeps)
+refused_behind a b c looks fault.NoCheckpoint is = λ keeps. subst IsWithoutCheckpoint looks.untouched.content (is keeps)
+refused_behind a b c looks (fault.Damaged code) is = λ keeps. subst (λ (x : Content). IsLogDamage x code) looks.untouched.content (is keeps)
+
+-- a table that can't be read is a call that failed, where the content stands for a log map
+table_refused : (b c : DeviceState) (k : CheckpointValue) (m : LogMap) → (c.keeps_model → StandsAt b.content k m) → (f : MountFault) → ((f ≡ fault.NoMemory → ⊥) → IsTableFault b c k f) → IsRefusedLog b c f
+table_refused b c k m stands fault.NoMemory told = tt
+table_refused b c k m stands fault.Device told = told (λ e. cc)
+table_refused b c k m stands fault.TooSmall told = λ keeps. absurd (told (λ e. cc) m keeps (stands keeps))
+table_refused b c k m stands fault.NoCheckpoint told = λ keeps. absurd (told (λ e. cc) m keeps (stands keeps))
+table_refused b c k m stands (fault.Damaged code) told = λ keeps. absurd (told (λ e. cc) m keeps (stands keeps))
+
+module _ (d : DeviceState) (lawful : IsLawful d) (m : LogMap) (is : StandsLog d.content m) where
+  large : IsTooSmall d.content → ⊥
+  large small = ⊎_elim
+      (λ (low : length d.content < 4098).
+      let held = ((newest_fits d.content lawful.now).0 is.checkpoint).0 is.newest in
+      let least = held.held.fits.segments.least in
+      let size = is.stands.size in
+      omega (arith, least, size, low))
+      (λ (few : (k : CheckpointValue) × (newest d.content ≡ Some k) × (length d.content < 2 + 64 * k.segments)).
+      let same = ap (λ (x : CheckpointValue). x.segments) (some_is is.checkpoint few.0 (sym is.newest ∙ few.1)) in
+      let size = is.stands.size in
+      let low = few.2 in
+      omega (arith, same, size, low))
+      small
+
+  undamaged : (code : ℕ) → IsLogDamage d.content code → ⊥
+  undamaged code (stage_fails low damaged) = none_fails d.content m is code low damaged
+  undamaged code (lacks_clean at few) = stands_for_none d.content few m is
+
+-- why a device isn't opened
+pub open_fault : (old new : DeviceState) → IsLawful old → (f : MountFault) → IsRefusedLog old new f → (f ≡ fault.NoMemory → ⊥) → IsOpenFault old new f
+open_fault old new lawful fault.NoMemory is other = absurd (other refl)
+open_fault old new lawful fault.Device is other = is
+open_fault old new lawful fault.TooSmall is other = λ m keeps stands. large old lawful m stands (is keeps)
+open_fault old new lawful fault.NoCheckpoint is other = λ m keeps stands. (let some = stands.newest in let none = (is keeps).1 in absurd (cc))
+open_fault old new lawful (fault.Damaged code) is other = λ m keeps stands. undamaged old lawful m stands code (is keeps)
+
+-- ---- the checkpoint, the walk and the tables, one after the other
+module _ (a b c d : DeviceState) (one : Looks a b) (two : Looks b c) (three : Looks c d) (k : CheckpointValue) (newest_at : b.keeps_model → newest a.content ≡ Some k) where
+  newest_later : c.keeps_model → newest b.content ≡ Some k
+  newest_later keeps = ap newest one.untouched.content ∙ newest_at (two.carries.kept_before keeps)
+
+  pub check_refused : (f : MountFault) → ((c.keeps_model → newest b.content ≡ Some k) → IsRefusedLog b c f) → IsRefusedLog a c f
+  check_refused f told = refused_behind a b c one f (told newest_later)
+
+  module _ (totals : BlockTotals) (holds : c.keeps_model → StandsCounted b.content k totals) where
+    content_same : c.content ≡ a.content
+    content_same = two.untouched.content ∙ one.untouched.content
+
+    stands_then : d.keeps_model → StandsAt c.content k (log_in (view b.content k))
+    stands_then keeps = subst (λ (x : Content). StandsAt x k (log_in (view b.content k))) (sym two.untouched.content) (holds (three.carries.kept_before keeps)).stands
+
+    pub load_refused : (f : MountFault) → ((f ≡ fault.NoMemory → ⊥) → IsTableFault c d k f) → IsRefusedLog a d f
+    load_refused f told = refused_behind a b d one f (refused_behind b c d two f (table_refused c d k (log_in (view b.content k)) stands_then f told))
+
+    pub has_tables : FitsCheckpoint k → (t : Tables) → (d.keeps_model → SaysTables c.content k t) → (t.data_blocks ≡ totals.data_blocks) × (t.meta_blocks ≡ totals.meta_blocks)
+        → d.keeps_model → HasTables a.content t
+    has_tables fits t says same keeps =
+        let was = three.carries.kept_before keeps in
+        let counted = (holds was).counted in
+        record {
+          log = log_in (view b.content k);
+          checkpoint = k;
+          newest = newest_at (two.carries.kept_before was);
+          fits = fits;
+          stands = subst (λ (x : Content). StandsAt x k (log_in (view b.content k))) content_same (stands_then keeps);
+          says = subst (λ (x : Content). SaysTables x k t) content_same (says keeps);
+          counted = record { stored = same.0 ∙ counted.stored; above = same.1 ∙ counted.above };
+        }
+
+    pub only_then : (b.keeps_model → Only a.content b) → d.keeps_model → Only a.content d
+    only_then durable keeps x left = durable (two.carries.kept_before (three.carries.kept_before keeps)) x (two.untouched.crash x (three.untouched.crash x left))

@@ -4,6 +4,7 @@ use Rattle.std.proofs.Common.{◌≡◌, ◌↔◌, ◌+◌, ◌*◌, ℕ, Bool,
 use Rattle.std.specs.List.{AllByRecursion}
 use Rattle.lfs_model.specs.Checkpoint.{CheckpointValue, FitsCheckpoint}
 use Rattle.lfs_model.specs.Content.{Content}
+use Rattle.lfs_model.specs.Decodes.{IsSized}
 use Rattle.lfs_model.specs.Device.{DeviceState, IsLawful, IsSector}
 use Rattle.lfs_model.specs.Reach.{View, view}
 use Rattle.lfs_model.specs.Stands.{EnoughClean}
@@ -12,6 +13,10 @@ use Rattle.lfs_verify.specs.Codes.{HoldsBelow, Passed, NineStages}
 use Rattle.lfs_verify.specs.Take.{Reads}
 use Rattle.lfs_verify.proofs.Bounds.{bounded_of}
 use Rattle.lfs_verify.proofs.CodeSteps.{nine_stages, passed_none}
+
+-- the sectors that were read are whole
+pub sized_content : (d d' : DeviceState) → IsLawful d → (c : Content) → Reads d d' c → IsSized c
+sized_content d d' lawful c reads = are_sized c (subst (AllByRecursion IsSector) reads.content lawful.now)
 
 -- what a lawful device holds leads nowhere past the bounds, so that a walk over it can begin
 pub passed_start : (d d' : DeviceState) → IsLawful d → (c : Content) → Reads d d' c → (k : CheckpointValue) → FitsCheckpoint k

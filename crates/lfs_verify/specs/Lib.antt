@@ -8,4 +8,6 @@ pub mod Directories
 pub mod MapTables
 pub mod UsageTables
 pub mod Totals
+pub mod Faults
+pub mod Loading
 pub mod Verified

@@ -20,3 +20,7 @@ above_count marks mark n = count_up (is_above marks mark) n
 abbrev pub CountsByMarks : List ℕ → ℕ → ℕ → Type 0
 CountsByMarks marks blocks others = (c : Content) (k : CheckpointValue) → IsSized c → (m : LogMap) → StandsAt c k m
     → Walked (view c k) marks 68628528 → IsCounted m blocks others
+
+-- These are the totals of the log map for which a content stands by a checkpoint.
+abbrev pub CountsLog : Content → CheckpointValue → ℕ → ℕ → Type 0
+CountsLog c k blocks others = (m : LogMap) → StandsAt c k m → IsCounted m blocks others

@@ -6,18 +6,13 @@ use Rattle.lfs_model.specs.Content.{Content, newest}
 use Rattle.lfs_model.specs.Damage.{IsDamaged}
 use Rattle.lfs_model.specs.Device.{DeviceState}
 use Rattle.lfs_model.specs.Reach.{view}
-use Rattle.lfs_model.specs.Stands.{EnoughClean, LogMap, StandsLog, log_in}
+use Rattle.lfs_model.specs.Stands.{EnoughClean, LogMap, StandsAt, StandsLog, log_in}
+use Rattle.lfs_model.specs.Totals.{IsCounted}
+use Rattle.lfs_model.specs.Volume.{IsTooSmall, IsWithoutCheckpoint}
 use Rattle.lfs_verify.specs.Codes.{NineStages}
-use Rattle.lfs_verify.specs.declared.fault.VerifyFault.{VerifyFault}
-use Rattle.lfs_verify.specs.declared.fault.VerifyFault.TheVariants.{NoMemory, Device, TooSmall, NoCheckpoint, Damaged}
-
--- the fault names this stage
-abbrev pub StageIs : VerifyFault → ℕ → Type 0
-StageIs NoMemory code = ⊥
-StageIs Device code = ⊥
-StageIs TooSmall code = ⊥
-StageIs NoCheckpoint code = ⊥
-StageIs (Damaged x) code = x ≡ code
+use Rattle.lfs_verify.specs.declared.fault.MountFault.{MountFault}
+use Rattle.lfs_verify.specs.declared.fault.MountFault.TheVariants.{NoMemory, Device, TooSmall, NoCheckpoint, Damaged}
+use Rattle.lfs_verify.specs.declared.totals.BlockTotals.{BlockTotals}
 
 -- the content stands for the log map of its newest checkpoint, but for the count of clean segments; and whether these are enough
 pub record IsVerified (c : Content) (enough : Bool) : Type 0 where
@@ -42,6 +37,24 @@ StandsWhereEnough = (c : Content) (enough : Bool) (is : IsVerified c enough) →
 abbrev pub LacksLogMap : Type 0
 LacksLogMap = (c : Content) → IsVerified c false → (m : LogMap) → StandsLog c m → ⊥
 
--- a call of the device failed, where the content stands for a log map
-abbrev pub IsVerifyFault : DeviceState → DeviceState → Type 0
-IsVerifyFault old new = (m : LogMap) → new.keeps_model → StandsLog old.content m → old.failures < new.failures
+-- the content stands by this checkpoint for the log map that it leads to, and these are the totals of that map
+pub record StandsCounted (c : Content) (k : CheckpointValue) (totals : BlockTotals) : Type 0 where
+  pub stands : StandsAt c k (log_in (view c k))
+  pub counted : IsCounted (log_in (view c k)) totals.data_blocks totals.meta_blocks
+
+-- the content that was read stands for a log map
+abbrev pub HasLogMap : DeviceState → DeviceState → Type 0
+HasLogMap old new = new.keeps_model → (m : LogMap) × StandsLog old.content m
+
+-- What a code of damage says of a log: the first of the stages 1 to 9 that fails, or, where these hold, that too few segments are clean.
+pub data IsLogDamage (c : Content) (code : ℕ) : Type 0 where
+  stage_fails : code < 10 → IsDamagedIn c code → IsLogDamage c code
+  lacks_clean : code ≡ 15 → IsVerified c false → IsLogDamage c code
+
+-- why a device has no log, by fault: a call of it failed, or, if it keeps the model, this is so of the content that was there
+abbrev pub IsRefusedLog : DeviceState → DeviceState → MountFault → Type 0
+IsRefusedLog old new NoMemory = Unit {0}
+IsRefusedLog old new Device = old.failures < new.failures
+IsRefusedLog old new TooSmall = new.keeps_model → IsTooSmall old.content
+IsRefusedLog old new NoCheckpoint = new.keeps_model → IsWithoutCheckpoint old.content
+IsRefusedLog old new (Damaged code) = new.keeps_model → IsLogDamage old.content code

@@ -18,11 +18,14 @@ pub mod reading;
 pub mod roots;
 pub mod rows;
 pub mod runs;
+pub mod tables;
 pub mod totals;
 pub mod usage_stage;
 pub mod values;
 pub mod verify;
 pub mod walk;
 
-pub use fault::{VerifyFault, WalkFault};
+pub use fault::{MountFault, WalkFault};
 pub use lfs_root as root;
+pub use tables::Tables;
+pub use totals::BlockTotals;

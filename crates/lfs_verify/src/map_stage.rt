@@ -13,7 +13,7 @@ use crate::values::{has_word, word_at};
 use lfs_device::{DeviceFault, SectorDevice};
 use lfs_layout::Checkpoint;
 
-fn map_address(checkpoint: &Checkpoint, index: u32) -> u32
+pub(crate) fn map_address(checkpoint: &Checkpoint, index: u32) -> u32
     requires { index < 32 }
     ensures { result ≡ get_or checkpoint.now.map index 0 }
 {

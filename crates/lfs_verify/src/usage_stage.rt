@@ -18,7 +18,7 @@ pub(crate) fn segments_of(checkpoint: &Checkpoint) -> u32
     checkpoint.segments
 }
 
-fn usage_address(checkpoint: &Checkpoint, index: u32) -> u32
+pub(crate) fn usage_address(checkpoint: &Checkpoint, index: u32) -> u32
     requires { index < 16 }
     ensures { result ≡ get_or checkpoint.now.usage index 0 }
 {

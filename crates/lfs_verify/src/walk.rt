@@ -8,6 +8,7 @@ ghost use Rattle.lfs_model.specs.Stands.{EnoughClean};
 ghost use Rattle.lfs_verify.specs.Codes.{HoldsBelow, FaultIs, Passed, NineStages};
 ghost use Rattle.lfs_verify.specs.Tables.{IsUsedTable, IsLiveTable};
 ghost use Rattle.lfs_verify.specs.Take.{Looks, Reads, Lists};
+ghost use Rattle.lfs_verify.specs.Totals.{CountsLog};
 ghost use Rattle.lfs_verify.specs.Walk.{Walked, IsBounded};
 
 use crate::blocks::stage_data;
@@ -20,6 +21,7 @@ use crate::leaves::stage_leaves;
 use crate::map_stage::stage_maps;
 use crate::roots::stage_roots;
 use crate::rows::stage_rows;
+use crate::totals::{BlockTotals, count_totals};
 use crate::usage_stage::{segments_of, stage_usages};
 use lfs_device::{DeviceFault, SectorDevice};
 use lfs_layout::Checkpoint;
@@ -217,7 +219,7 @@ fn walk_segments<D: SectorDevice>(
     Ok(())
 }
 
-/// All nine stages on empty tables, and then whether enough segments are clean.
+/// All nine stages on empty tables, and then whether enough segments are clean, and the totals.
 ///
 /// # Errors
 ///
@@ -229,7 +231,7 @@ fn walk_all<D: SectorDevice>(
     live: &mut [u16],
     map: &mut [u32],
     marks: &mut [u32],
-) -> Result<bool, WalkFault>
+) -> Result<(bool, BlockTotals), WalkFault>
     requires fits { FitsCheckpoint checkpoint.now }
     requires used { length used.old ≡ checkpoint.now.segments }
     requires live { length live.old ≡ checkpoint.now.segments }
@@ -238,8 +240,10 @@ fn walk_all<D: SectorDevice>(
     requires marks { length marks.old ≡ 2 + 64 * checkpoint.now.segments }
     requires unmarked { (a : ℕ) → get_or marks.old a 0 ≡ 0 }
     requires inside { length marks.old ≤ (D.state device.old).size }
-    ensures holds { IfOk result (λ enough. (c : Content) → Reads (D.state device.old) (D.state device.new) c
-        → HoldsBelow (view c checkpoint.now) 10 × (IsTrue enough ↔ EnoughClean (view c checkpoint.now))) }
+    ensures holds { IfOk result (λ r. (c : Content) → Reads (D.state device.old) (D.state device.new) c
+        → HoldsBelow (view c checkpoint.now) 10 × (IsTrue r.0 ↔ EnoughClean (view c checkpoint.now))) }
+    ensures counts { IfOk result (λ r. (c : Content) → Reads (D.state device.old) (D.state device.new) c
+        → CountsLog c checkpoint.now r.1.data_blocks r.1.meta_blocks) }
     ensures damaged { IfErr result (λ e. (code : ℕ) → FaultIs e code → (c : Content) → Reads (D.state device.old) (D.state device.new) c → IsDamaged (view c checkpoint.now) code) }
     ensures low { IfErr result (λ e. (code : ℕ) → FaultIs e code → code < 10) }
     ensures failed { IsErrOf result WalkFault.Device → (D.state device.old).failures < (D.state device.new).failures }
@@ -262,7 +266,8 @@ fn walk_all<D: SectorDevice>(
         Ok(()) => (),
         Err(fault) => return Err(fault),
     }
-    Ok(stage_clean(used))
+    let totals = count_totals(marks);
+    Ok((stage_clean(used), totals))
 }
 
 /// A table of so many numbers, all 0.
@@ -275,7 +280,7 @@ fn zeros(alloc: Global, count: usize) -> Result<Vec<u32>, AllocError>
 }
 
 /// Walks over the whole volume to which a checkpoint leads: whether, where all that it leads to is well-formed, enough segments are
-/// clean. It only reads.
+/// clean, and how many blocks its files have. It only reads.
 ///
 /// # Errors
 ///
@@ -284,11 +289,13 @@ pub fn walk<D: SectorDevice>(
     alloc: Global,
     device: &mut D,
     checkpoint: &Checkpoint,
-) -> Result<bool, WalkFault>
+) -> Result<(bool, BlockTotals), WalkFault>
     requires fits { FitsCheckpoint checkpoint.now }
     requires inside { 2 + 64 * checkpoint.now.segments ≤ (D.state device.old).size }
-    ensures holds { IfOk result (λ enough. (c : Content) → Reads (D.state device.old) (D.state device.new) c
-        → NineStages (view c checkpoint.now) × HoldsBelow (view c checkpoint.now) 10 × (IsTrue enough ↔ EnoughClean (view c checkpoint.now))) }
+    ensures holds { IfOk result (λ r. (c : Content) → Reads (D.state device.old) (D.state device.new) c
+        → NineStages (view c checkpoint.now) × HoldsBelow (view c checkpoint.now) 10 × (IsTrue r.0 ↔ EnoughClean (view c checkpoint.now))) }
+    ensures counts { IfOk result (λ r. (c : Content) → Reads (D.state device.old) (D.state device.new) c
+        → CountsLog c checkpoint.now r.1.data_blocks r.1.meta_blocks) }
     ensures damaged { IfErr result (λ e. (code : ℕ) → FaultIs e code → (c : Content) → Reads (D.state device.old) (D.state device.new) c → IsDamaged (view c checkpoint.now) code) }
     ensures low { IfErr result (λ e. (code : ℕ) → FaultIs e code → code < 10) }
     ensures failed { IsErrOf result WalkFault.Device → (D.state device.old).failures < (D.state device.new).failures }

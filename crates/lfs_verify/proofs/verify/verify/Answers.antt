@@ -1,53 +1,44 @@
-use Rattle.std.proofs.Common.{refl, sym, subst}
-use Rattle.lfs_verify.specs.declared.fault.WalkFault.{WalkFault}
-use Rattle.lfs_verify.specs.Codes.{FaultIs}
-use Rattle.lfs_verify.proofs.VerifySteps.{read_content, is_verified, is_damaged, none_fails}
+use Rattle.lfs_verify.proofs.VerifySteps.{check_refused, has_tables, load_refused, only_then, open_fault}
+use Rattle.lfs_verify.proofs.Takes.{looks_none}
 use Rattle.lfs_verify.proofs.verify.verify.Goals as goal
 
-pub returns-in-Ok-walk-clause-holds : goal.returns-in-Ok-walk-clause-holds
-returns-in-Ok-walk-clause-holds g c = λ keeps.
-    let s0 = g.D.SectorDevice.state c.args.device.now in
-    let s1 = g.D.SectorDevice.state c.find_checkpoint.new.device in
-    let s2 = g.D.SectorDevice.state c.walk.new.device in
-    let lawful = g.met.D.SectorDevice.lawful c.args.device.now in
-    let one = c.find_checkpoint.ensures.looks in
-    let two = c.walk.ensures.looks in
-    is_verified s0 s1 s2 lawful one two keeps c.in-Ok.checkpoint (c.in-Ok.ensures.found (two.carries.kept_before keeps)) c.in-Ok.ensures.size _
-    (c.in-Ok-walk.ensures.holds s0.content (read_content s0 s1 s2 lawful one two keeps))
+pub returns-in-Err-clause-cause : goal.returns-in-Err-clause-cause
+returns-in-Err-clause-cause g c =
+    open_fault (g.D.SectorDevice.state c.args.device.now) (g.D.SectorDevice.state c.find_checkpoint.new.device) (g.met.D.SectorDevice.lawful c.args.device.now) c.in-Err.fault c.in-Err.ensures.reason
 
-pub returns-in-Err-Damaged-clause-damaged : goal.returns-in-Err-Damaged-clause-damaged
-returns-in-Err-Damaged-clause-damaged g c = λ code is keeps.
-    let s0 = g.D.SectorDevice.state c.args.device.now in
-    let s1 = g.D.SectorDevice.state c.find_checkpoint.new.device in
-    let s2 = g.D.SectorDevice.state c.walk.new.device in
-    let lawful = g.met.D.SectorDevice.lawful c.args.device.now in
-    let one = c.find_checkpoint.ensures.looks in
-    let two = c.walk.ensures.looks in
-    is_damaged s0 s1 s2 lawful one two keeps c.in-Ok.checkpoint (c.in-Ok.ensures.found (two.carries.kept_before keeps)) c.in-Ok.ensures.size code
-    (c.in-Err-Damaged.ensures.damaged code (subst (λ (e : WalkFault). FaultIs e code) (sym c.in-Err-Damaged.field-0-is) is) s0.content (read_content s0 s1 s2 lawful one two keeps))
+pub returns-in-Err-check-clause-reason : goal.returns-in-Err-check-clause-reason
+returns-in-Err-check-clause-reason g c =
+    let s2 = g.D.SectorDevice.state c.check.new.device in
+    check_refused (g.D.SectorDevice.state c.args.device.now) (g.D.SectorDevice.state c.find_checkpoint.new.device) s2 s2 c.find_checkpoint.ensures.looks c.check.ensures.looks
+    (looks_none s2 (g.met.D.SectorDevice.lawful c.check.new.device)) c.in-Ok.checkpoint c.in-Ok.ensures.found c.in-Err-check.fault c.in-Err-check.ensures.reason
 
-pub returns-in-Err-clause-damaged : goal.returns-in-Err-clause-damaged
-returns-in-Err-clause-damaged g c = λ code is keeps. absurd (c.in-Err.ensures.stage code is)
+pub returns-in-Err-check-clause-cause : goal.returns-in-Err-check-clause-cause
+returns-in-Err-check-clause-cause g c =
+    let s2 = g.D.SectorDevice.state c.check.new.device in
+    open_fault (g.D.SectorDevice.state c.args.device.now) s2 (g.met.D.SectorDevice.lawful c.args.device.now) c.in-Err-check.fault
+    (check_refused (g.D.SectorDevice.state c.args.device.now) (g.D.SectorDevice.state c.find_checkpoint.new.device) s2 s2 c.find_checkpoint.ensures.looks c.check.ensures.looks
+    (looks_none s2 (g.met.D.SectorDevice.lawful c.check.new.device)) c.in-Ok.checkpoint c.in-Ok.ensures.found c.in-Err-check.fault c.in-Err-check.ensures.reason)
 
-pub returns-in-Err-clause-small : goal.returns-in-Err-clause-small
-returns-in-Err-clause-small g c = λ err keeps. c.in-Err.ensures.small err keeps
+pub returns-in-Err-load_tables-clause-reason : goal.returns-in-Err-load_tables-clause-reason
+returns-in-Err-load_tables-clause-reason g c =
+    load_refused (g.D.SectorDevice.state c.args.device.now) (g.D.SectorDevice.state c.find_checkpoint.new.device) (g.D.SectorDevice.state c.check.new.device) (g.D.SectorDevice.state c.load_tables.new.device)
+    c.find_checkpoint.ensures.looks c.check.ensures.looks c.load_tables.ensures.looks c.in-Ok.checkpoint c.in-Ok.ensures.found c.in-Ok-check.totals c.in-Ok-check.ensures.holds
+    c.in-Err-load_tables.fault c.in-Err-load_tables.ensures.cause
 
-pub returns-in-Err-clause-missing : goal.returns-in-Err-clause-missing
-returns-in-Err-clause-missing g c = λ err keeps. c.in-Err.ensures.missing err keeps
+pub returns-in-Err-load_tables-clause-cause : goal.returns-in-Err-load_tables-clause-cause
+returns-in-Err-load_tables-clause-cause g c =
+    open_fault (g.D.SectorDevice.state c.args.device.now) (g.D.SectorDevice.state c.load_tables.new.device) (g.met.D.SectorDevice.lawful c.args.device.now) c.in-Err-load_tables.fault
+    (load_refused (g.D.SectorDevice.state c.args.device.now) (g.D.SectorDevice.state c.find_checkpoint.new.device) (g.D.SectorDevice.state c.check.new.device) (g.D.SectorDevice.state c.load_tables.new.device)
+    c.find_checkpoint.ensures.looks c.check.ensures.looks c.load_tables.ensures.looks c.in-Ok.checkpoint c.in-Ok.ensures.found c.in-Ok-check.totals c.in-Ok-check.ensures.holds
+    c.in-Err-load_tables.fault c.in-Err-load_tables.ensures.cause)
 
-pub returns-in-Err-Damaged-clause-low : goal.returns-in-Err-Damaged-clause-low
-returns-in-Err-Damaged-clause-low g c = λ code is. c.in-Err-Damaged.ensures.low code (subst (λ (e : WalkFault). FaultIs e code) (sym c.in-Err-Damaged.field-0-is) is)
+pub returns-in-Ok-load_tables-clause-found : goal.returns-in-Ok-load_tables-clause-found
+returns-in-Ok-load_tables-clause-found g c =
+    has_tables (g.D.SectorDevice.state c.args.device.now) (g.D.SectorDevice.state c.find_checkpoint.new.device) (g.D.SectorDevice.state c.check.new.device) (g.D.SectorDevice.state c.load_tables.new.device)
+    c.find_checkpoint.ensures.looks c.check.ensures.looks c.load_tables.ensures.looks c.in-Ok.checkpoint c.in-Ok.ensures.found c.in-Ok-check.totals c.in-Ok-check.ensures.holds
+    c.in-Ok.ensures.fits c.in-Ok-load_tables.tables c.in-Ok-load_tables.ensures.says c.in-Ok-load_tables.ensures.totals
 
-pub returns-in-Err-Damaged-clause-cause : goal.returns-in-Err-Damaged-clause-cause
-returns-in-Err-Damaged-clause-cause g c = λ other m keeps is.
-    let s0 = g.D.SectorDevice.state c.args.device.now in
-    let s1 = g.D.SectorDevice.state c.find_checkpoint.new.device in
-    let s2 = g.D.SectorDevice.state c.walk.new.device in
-    let lawful = g.met.D.SectorDevice.lawful c.args.device.now in
-    let one = c.find_checkpoint.ensures.looks in
-    let two = c.walk.ensures.looks in
-    let code = c.in-Err-Damaged.stage in
-    let fault = subst (λ (e : WalkFault). FaultIs e code) (sym c.in-Err-Damaged.field-0-is) refl in
-    let damaged = is_damaged s0 s1 s2 lawful one two keeps c.in-Ok.checkpoint (c.in-Ok.ensures.found (two.carries.kept_before keeps)) c.in-Ok.ensures.size code
-    (c.in-Err-Damaged.ensures.damaged code fault s0.content (read_content s0 s1 s2 lawful one two keeps)) in
-    absurd (none_fails s0.content m is code (c.in-Err-Damaged.ensures.low code fault) damaged)
+pub returns-in-Ok-load_tables-clause-durable : goal.returns-in-Ok-load_tables-clause-durable
+returns-in-Ok-load_tables-clause-durable g c =
+    only_then (g.D.SectorDevice.state c.args.device.now) (g.D.SectorDevice.state c.find_checkpoint.new.device) (g.D.SectorDevice.state c.check.new.device) (g.D.SectorDevice.state c.load_tables.new.device)
+    c.find_checkpoint.ensures.looks c.check.ensures.looks c.load_tables.ensures.looks c.in-Ok.checkpoint c.in-Ok.ensures.found c.in-Ok-check.totals c.in-Ok-check.ensures.holds c.in-Ok.ensures.durable

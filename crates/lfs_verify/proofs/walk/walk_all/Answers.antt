@@ -1,6 +1,6 @@
 use Rattle.lfs_model.specs.Reach.{view}
 use Rattle.lfs_verify.proofs.Takes.{reads_first, reads_then, looks_then}
-use Rattle.lfs_verify.proofs.WholeSteps.{passed_start}
+use Rattle.lfs_verify.proofs.WholeSteps.{passed_start, sized_content}
 use Rattle.lfs_verify.proofs.walk.walk_all.Goals as goal
 
 pub returns-in-Err-clause-damaged : goal.returns-in-Err-clause-damaged
@@ -109,3 +109,33 @@ returns-clause-holds g c = λ d reads.
     let p3 = c.in-Ok-walk_files.ensures.holds d c.args.checkpoint.now q3 lists p2 in
     let p4 = c.in-Ok-walk_segments.ensures.holds d c.args.checkpoint.now q4 tables.0 tables.1 p3 in
     (p4.below, c.stage_clean.ensures v tables.0)
+
+pub returns-clause-counts : goal.returns-clause-counts
+returns-clause-counts g c = λ d reads.
+    let s0 = g.D.SectorDevice.state c.args.device.now in
+    let s1 = g.D.SectorDevice.state c.walk_usages.new.device in
+    let s2 = g.D.SectorDevice.state c.walk_inodes.new.device in
+    let s3 = g.D.SectorDevice.state c.walk_files.new.device in
+    let s4 = g.D.SectorDevice.state c.walk_segments.new.device in
+    let v = view d c.args.checkpoint.now in
+    let l1 = c.walk_usages.ensures.looks in
+    let l2 = c.walk_inodes.ensures.looks in
+    let l3 = c.walk_files.ensures.looks in
+    let l4 = c.walk_segments.ensures.looks in
+    let m1 = l1 in
+    let m2 = looks_then s0 s1 s2 m1 l2 in
+    let m3 = looks_then s0 s2 s3 m2 l3 in
+    let r4 = reads in
+    let r3 = reads_first s0 s3 s4 d r4 l4 in
+    let r2 = reads_first s0 s2 s3 d r3 l3 in
+    let r1 = reads_first s0 s1 s2 d r2 l2 in
+    let q2 = reads_then s0 s1 s2 d r2 m1 in
+    let q3 = reads_then s0 s2 s3 d r3 m2 in
+    let q4 = reads_then s0 s3 s4 d r4 m3 in
+    let p0 = passed_start _ _ (g.met.D.SectorDevice.lawful c.args.device.now) d reads c.args.checkpoint.now c.requires.fits c.args.marks.now c.requires.marks c.requires.unmarked in
+    let p1 = c.in-Ok.ensures.holds d r1 p0 in
+    let tables = c.in-Ok.ensures.tables d r1 p0 in
+    let p2 = c.in-Ok-walk_inodes.ensures.holds d q2 p1 in
+    let lists = c.in-Ok-walk_inodes.ensures.lists d q2 in
+    let p3 = c.in-Ok-walk_files.ensures.holds d c.args.checkpoint.now q3 lists p2 in
+    λ m st. c.count_totals-totals.ensures d c.args.checkpoint.now (sized_content s0 s4 (g.met.D.SectorDevice.lawful c.args.device.now) d reads) m st p3.walked
