@@ -11,6 +11,3 @@ pub mod SlotsTaken
 pub mod Takings
 pub mod PlacesOfNames
 pub mod Lists
-pub use Rattle.lfs_store.proofs as of_store
-pub use Rattle.lfs_store.proofs.of_log
-pub use Rattle.lfs_store.proofs.of_memory

@@ -5,21 +5,14 @@ use Rattle.std.proofs.lemmas.Bool.{cases_lt}
 use Rattle.std.proofs.lemmas.List.{take-append-drop, drop-drop, drop_all, get_or-take, get_or-drop, length-take, length-drop}
 use Rattle.std.specs.FinMap.{find}
 use Rattle.std.specs.List.{AllByRecursion}
-use Rattle.lfs_model.specs.Checkpoint.{CheckpointValue}
-use Rattle.lfs_model.specs.Device.{DeviceState, IsLawful}
-use Rattle.lfs_model.specs.Fields.{zeros}
+use Rattle.lfs_model.specs.Device.{IsLawful}
 use Rattle.lfs_model.specs.Slot.{slot_in}
 use Rattle.lfs_model.specs.Stands.{LogMap}
 use Rattle.lfs_model.specs.Tree.{byte_cmp}
 use Rattle.lfs_model.specs.TreeOf.{map_of}
-use Rattle.lfs_store.specs.memory.declared.changes.Changes.{Changes}
-use Rattle.lfs_store.specs.memory.declared.header.Header.{Header}
-use Rattle.lfs_store.specs.memory.Batch.{staged}
-use Rattle.lfs_store.specs.log.Held.{Held, Holds, Reads, IsReadFault}
-use Rattle.lfs_store.specs.Pieces.{HoldsBlock}
-use Rattle.lfs_store.specs.Reading.{ReadsBlock}
-use Rattle.lfs_store.proofs.LogReads.{held_still, reads_more, reads_none}
-use Rattle.lfs_store.proofs.Writings.{block_read}
+use Rattle.lfs_files.specs.declared.header.Header.{Header}
+use Rattle.lfs_files.specs.Files.{FilesState, HoldsBlock, IsFault, Reads, TellsBlock}
+use Rattle.lfs_files.proofs.FilesCompose.{reads_more, reads_none}
 use Rattle.lfs_dirs.specs.Directory.{first_slots, names_at, slots_at}
 use Rattle.lfs_dirs.specs.declared.searching.Found.{Found}
 use Rattle.lfs_dirs.specs.Finding.{HasNoSlot, IsDirectoryFault, IsBlockFault}
@@ -55,71 +48,65 @@ each_is_slot m d head i count block is few room formed bad =
     all_at (λ b. slot_in 0 b ≢ None) (slots_at m d head) (8 * i + bad.place) [] formed (omega (arith, low, many))
     (ap (slot_in 0) (slot_of_block m d head i bad.place block is (omega (arith, inside, few)) low) ∙ bad.none)
 
-module _ {D : Type 0} (state : D → DeviceState) where
-  pub block_found : (h h' : Held D) (c : Changes) (d index count : ℕ) (name block : List ℕ) (found : Option Found) (stored : Bool) → count ≤ 8 → length block ≡ 512 → (IsFalse stored → block ≡ zeros 512)
-      → ReadsBlock state h h' c d index block stored → FindsIn (first_slots block count) name found → FindsInBlock state h h' c d index count name found
-  block_found h h' c d index count name block found stored few long blank answer is k m0 m keeps holds head room =
-      subst (λ (a : List (List ℕ)). FindsIn a name found)
-      (sym (slots_of_block (staged c m) d head index count block (block_read (staged c m) d index block stored long blank (answer k m0 m keeps holds)) few room)) is
+module _ {S D : Type 0} (s s' : FilesState S D) (d index count : ℕ) (few : count ≤ 8) (block : List ℕ) (told : TellsBlock s s' d index block) where
+  pub block_found : (name : List ℕ) (found : Option Found) → FindsIn (first_slots block count) name found → FindsInBlock s s' d index count name found
+  block_found name found is m m' keeps has head room =
+      subst (λ (a : List (List ℕ)). FindsIn a name found) (sym (slots_of_block m' d head index count block (told m m' keeps has) few room)) is
 
-  pub block_broken : (h h' : Held D) (c : Changes) (d index count : ℕ) (block : List ℕ) (stored : Bool) → count ≤ 8 → length block ≡ 512 → (IsFalse stored → block ≡ zeros 512)
-      → ReadsBlock state h h' c d index block stored → HasNoSlot block count → IsBlockFault state h h' c d index count
-  block_broken h h' c d index count block stored few long blank answer bad k m0 m keeps holds head room dir =
-      absurd (each_is_slot (staged c m) d head index count block (block_read (staged c m) d index block stored long blank (answer k m0 m keeps holds)) few room dir.formed bad)
+  pub block_broken : HasNoSlot block count → IsBlockFault s s' d index count
+  block_broken bad m m' keeps has head room dir = absurd (each_is_slot m' d head index count block (told m m' keeps has) few room dir.formed bad)
 
-  pub block_failed : (h h' : Held D) (c : Changes) (d index count : ℕ) → IsReadFault state h h' → IsBlockFault state h h' c d index count
-  block_failed h h' c d index count failed k m0 m keeps holds head room dir = failed k m0 m keeps holds
+pub block_failed : {S D : Type 0} (s s' : FilesState S D) (d index count : ℕ) → IsFault s s' → IsBlockFault s s' d index count
+block_failed s s' d index count failed m m' keeps has head room dir = failed m m' keeps has
 
-  -- ---- the blocks before one of this index don't have the name
-  pub record SearchedTo (h h' : Held D) (c : Changes) (d : ℕ) (head : Header) (name : List ℕ) (index : ℕ) : Type 0 where
-    pub reads : Reads state h h'
-    pub behind : (k : CheckpointValue) (m0 m : LogMap) → (state h'.device).keeps_model → Holds state h k m0 m
-        → find byte_cmp name (map_of 0 (drop (8 * index) (slots_at (staged c m) d head))) ≡ find byte_cmp name (names_at (staged c m) d head)
+-- ---- the blocks before one of this index don't have the name
+module _ {S D : Type 0} (d : ℕ) (head : Header) (name : List ℕ) where
+  pub record SearchedTo (s s' : FilesState S D) (index : ℕ) : Type 0 where
+    pub reads : Reads s s'
+    pub behind : (m m' : LogMap) → s'.device.keeps_model → s.has m m'
+        → find byte_cmp name (map_of 0 (drop (8 * index) (slots_at m' d head))) ≡ find byte_cmp name (names_at m' d head)
 
-  pub search_begins : (h : Held D) (c : Changes) (d : ℕ) (head : Header) (name : List ℕ) → SearchedTo h h c d head name 0
-  search_begins h c d head name = record { reads = reads_none state h; behind = λ k m0 m keeps holds. refl }
+  pub search_begins : (s : FilesState S D) → SearchedTo s s 0
+  search_begins s = record { reads = reads_none s; behind = λ m m' keeps has. refl }
+
+  pub search_ends : (s a : FilesState S D) (index : ℕ) → head.size / 64 ≤ 8 * index → SearchedTo s a index → FindsSlot s a d head name None
+  search_ends s a index past was m m' keeps has =
+      let slots = slots_at m' d head in
+      let many = slots_many m' d head in
+      sym (was.behind m m' keeps has) ∙ ap (λ (s : List (List ℕ)). find byte_cmp name (map_of 0 s)) (drop_all (8 * index) slots (omega (arith, many, past)))
 
   -- ---- a block more
-  pub search_goes_on : (h a b : Held D) (c : Changes) (d : ℕ) (head : Header) (name : List ℕ) (index count : ℕ) → IsLawful (state h.device) → count ≡ min (head.size / 64 - 8 * index) 8 → 8 * index < head.size / 64
-      → SearchedTo h a c d head name index → Reads state a b → FindsInBlock state a b c d index count name None → SearchedTo h b c d head name (index + 1)
-  search_goes_on h a b c d head name index count lawful is low was reads none = record {
-    reads = reads_more state h a b lawful was.reads reads;
-    behind = λ k m0 m keeps holds.
-        let slots = slots_at (staged c m) d head in
-        let found = none k m0 m keeps (held_still state h a k m0 m was.reads holds) head (omega (arith, is, low)) in
-        sym (ap (λ (s : List (List ℕ)). find byte_cmp name (map_of 0 s)) (block_and_rest slots index count (head.size / 64) (slots_many (staged c m) d head) is)
-        ∙ gives_none (take count (drop (8 * index) slots)) (drop (8 * (index + 1)) slots) name found)
-        ∙ was.behind k m0 m (reads.looks.carries.kept_before keeps) holds;
-  }
+  module _ (s a b : FilesState S D) (index count : ℕ) (is : count ≡ min (head.size / 64 - 8 * index) 8) (low : 8 * index < head.size / 64) (was : SearchedTo s a index) where
+    pub search_goes_on : IsLawful s.device → Reads a b → FindsInBlock a b d index count name None → SearchedTo s b (index + 1)
+    search_goes_on lawful reads none = record {
+      reads = reads_more s a b lawful was.reads reads;
+      behind = λ m m' keeps has.
+          let slots = slots_at m' d head in
+          let found = none m m' keeps (was.reads.has m m' has) head (omega (arith, is, low)) in
+          sym (ap (λ (s : List (List ℕ)). find byte_cmp name (map_of 0 s)) (block_and_rest slots index count (head.size / 64) (slots_many m' d head) is)
+          ∙ gives_none (take count (drop (8 * index) slots)) (drop (8 * (index + 1)) slots) name found)
+          ∙ was.behind m m' (reads.looks.carries.kept_before keeps) has;
+    }
 
-  pub search_hits : (h a b : Held D) (c : Changes) (d : ℕ) (head : Header) (name : List ℕ) (index count : ℕ) (found : Found) → count ≡ min (head.size / 64 - 8 * index) 8 → 8 * index < head.size / 64
-      → SearchedTo h a c d head name index → Reads state a b → FindsInBlock state a b c d index count name (Some found) → FindsSlot state h b c d head name (Some record { place = 8 * index + found.place; number = found.number })
-  search_hits h a b c d head name index count found is low was reads hit k m0 m keeps holds =
-      let slots = slots_at (staged c m) d head in
-      let slot = hit k m0 m keeps (held_still state h a k m0 m was.reads holds) head (omega (arith, is, low)) in
-      let taken = length-take count (drop (8 * index) slots) in
-      let left = length-drop (8 * index) slots in
-      let inside = slot.inside in
-      let within : found.place < count = omega (arith, taken, inside) in
-      record {
-        gives =
-            sym (was.behind k m0 m (reads.looks.carries.kept_before keeps) holds)
-            ∙ ap (λ (s : List (List ℕ)). find byte_cmp name (map_of 0 s)) (block_and_rest slots index count (head.size / 64) (slots_many (staged c m) d head) is)
-            ∙ gives_some (take count (drop (8 * index) slots)) (drop (8 * (index + 1)) slots) name found.number slot.gives;
-        inside = omega (arith, taken, left, inside);
-        slot = ap (slot_in 0) (sym (get_or-take count (drop (8 * index) slots) found.place [] within ∙ get_or-drop (8 * index) slots found.place [])) ∙ slot.slot;
-      }
+    pub search_hits : (found : Found) → Reads a b → FindsInBlock a b d index count name (Some found) → FindsSlot s b d head name (Some record { place = 8 * index + found.place; number = found.number })
+    search_hits found reads hit m m' keeps has =
+        let slots = slots_at m' d head in
+        let slot = hit m m' keeps (was.reads.has m m' has) head (omega (arith, is, low)) in
+        let taken = length-take count (drop (8 * index) slots) in
+        let left = length-drop (8 * index) slots in
+        let inside = slot.inside in
+        let within : found.place < count = omega (arith, taken, inside) in
+        record {
+          gives =
+              sym (was.behind m m' (reads.looks.carries.kept_before keeps) has)
+              ∙ ap (λ (s : List (List ℕ)). find byte_cmp name (map_of 0 s)) (block_and_rest slots index count (head.size / 64) (slots_many m' d head) is)
+              ∙ gives_some (take count (drop (8 * index) slots)) (drop (8 * (index + 1)) slots) name found.number slot.gives;
+          inside = omega (arith, taken, left, inside);
+          slot = ap (slot_in 0) (sym (get_or-take count (drop (8 * index) slots) found.place [] within ∙ get_or-drop (8 * index) slots found.place [])) ∙ slot.slot;
+        }
 
-  pub search_ends : (h a : Held D) (c : Changes) (d : ℕ) (head : Header) (name : List ℕ) (index : ℕ) → head.size / 64 ≤ 8 * index → SearchedTo h a c d head name index → FindsSlot state h a c d head name None
-  search_ends h a c d head name index past was k m0 m keeps holds =
-      let slots = slots_at (staged c m) d head in
-      let many = slots_many (staged c m) d head in
-      sym (was.behind k m0 m keeps holds)
-      ∙ ap (λ (s : List (List ℕ)). find byte_cmp name (map_of 0 s)) (drop_all (8 * index) slots (omega (arith, many, past)))
-
-  pub search_fails : (h a b : Held D) (c : Changes) (d : ℕ) (head : Header) (name : List ℕ) (index count : ℕ) → count ≡ min (head.size / 64 - 8 * index) 8 → 8 * index < head.size / 64
-      → SearchedTo h a c d head name index → IsBlockFault state a b c d index count → IsDirectoryFault state h b c d head
-  search_fails h a b c d head name index count is low was failed k m0 m keeps holds dir =
-      let rose = failed k m0 m keeps (held_still state h a k m0 m was.reads holds) head (omega (arith, is, low)) dir in
-      let before = was.reads.looks.carries.failures in
-      omega (arith, rose, before)
+    pub search_fails : IsBlockFault a b d index count → IsDirectoryFault s b d head
+    search_fails failed m m' keeps has dir =
+        let rose = failed m m' keeps (was.reads.has m m' has) head (omega (arith, is, low)) dir in
+        let before = was.reads.looks.carries.failures in
+        omega (arith, rose, before)

@@ -10,9 +10,9 @@ use Rattle.lfs_model.specs.Stands.{LogMap}
 use Rattle.lfs_model.specs.TreeOf.{object, slots}
 use Rattle.lfs_model.proofs.ObjectBytes.{object_byte}
 use Rattle.lfs_model.proofs.Standing.{object_length, slots_length}
-use Rattle.lfs_store.specs.memory.declared.header.Header.{Header}
-use Rattle.lfs_store.specs.memory.Present.{as_header}
-use Rattle.lfs_store.specs.Pieces.{HoldsBlock}
+use Rattle.lfs_files.specs.declared.header.Header.{Header}
+use Rattle.lfs_files.specs.Headers.{as_header}
+use Rattle.lfs_files.specs.Files.{HoldsBlock}
 use Rattle.lfs_dirs.specs.Directory.{NamesMany, SlotInBlock, SlotsOfBlock, first_slots, slots_at, slots_in}
 
 -- ---- one slot

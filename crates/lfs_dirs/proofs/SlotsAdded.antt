@@ -5,19 +5,14 @@ use Rattle.std.proofs.lemmas.Bool.{cases_lt}
 use Rattle.std.proofs.lemmas.List.{ext_get_or, get_or_append_left, get_or_push, length_push}
 use Rattle.std.specs.FinMap.{find}
 use Rattle.std.specs.List.{AllByRecursion}
-use Rattle.lfs_model.specs.Checkpoint.{CheckpointValue}
-use Rattle.lfs_model.specs.Device.{DeviceState}
 use Rattle.lfs_model.specs.Objects.{IsDirectory, WritesBytes, byte_in}
 use Rattle.lfs_model.specs.Slot.{FitsSlot, IsName, SlotValue, slot_in}
 use Rattle.lfs_model.specs.Stands.{LogMap}
 use Rattle.lfs_model.specs.Tree.{byte_cmp}
 use Rattle.lfs_model.specs.TreeOf.{map_of}
-use Rattle.lfs_store.specs.memory.declared.changes.Changes.{Changes}
-use Rattle.lfs_store.specs.memory.declared.header.Header.{Header}
-use Rattle.lfs_store.specs.memory.Batch.{staged}
-use Rattle.lfs_store.specs.memory.Present.{as_header}
-use Rattle.lfs_store.specs.log.Held.{Held, Holds}
-use Rattle.lfs_store.specs.Writing.{Writes, WritesFile, resized}
+use Rattle.lfs_files.specs.declared.header.Header.{Header}
+use Rattle.lfs_files.specs.Headers.{as_header, resized}
+use Rattle.lfs_files.specs.Files.{FilesState, Writes, WritesFile}
 use Rattle.lfs_dirs.specs.Adding.{Adds, AddsName, SlotWritten, grown, slot_for}
 use Rattle.lfs_dirs.specs.Directory.{names_at, slots_at}
 use Rattle.lfs_dirs.proofs.SlotNames.{appended, appended_apart, appended_formed}
@@ -77,16 +72,15 @@ pub fits_slot : (n : ℕ) (name : List ℕ) → 1 ≤ n → n ≤ 4095 → IsNam
 fits_slot n name some few good = record { number = (some, few); name = good }
 
 -- ---- the draft
-module _ {D : Type 0} (state : D → DeviceState) (h h' : Held D) (c c' : Changes) (d : ℕ) (head : Header) (n : ℕ) (name : List ℕ) where
-  pub adds : FitsSlot 0 record { number = n; name = name } → length (slot_for n name) ≡ 64 → Writes state h h' c c' d head head.size (slot_for n name) → Adds state h h' c c' d head n name
+module _ {S D : Type 0} (s s' : FilesState S D) (d : ℕ) (head : Header) (n : ℕ) (name : List ℕ) where
+  pub adds : FitsSlot 0 record { number = n; name = name } → length (slot_for n name) ≡ 64 → Writes s s' d head head.size (slot_for n name) → Adds s s' d head n name
   adds fits long writes = record {
     writes = writes;
-    file = file;
-    more = λ k m0 m keeps holds dir new. adds_name (staged c m) (staged c' m) d head n name fits long dir new (file k m0 m keeps holds).bytes;
+    has = λ m m' keeps has.
+        let f = writes.file m m' keeps has in
+        let file = subst (λ (z : ℕ). WritesFile m' f.map d head (resized head z) head.size (slot_for n name)) size f.file in
+        record { map = f.map; has = f.has; file = file; more = λ dir new. adds_name m' f.map d head n name fits long dir new file.bytes };
   }
     where
       size : max head.size (head.size + length (slot_for n name)) ≡ head.size + 64
       size = omega (arith, long)
-
-      file : (k : CheckpointValue) (m0 m : LogMap) → (state h'.device).keeps_model → Holds state h k m0 m → WritesFile (staged c m) (staged c' m) d head (grown head) head.size (slot_for n name)
-      file k m0 m keeps holds = subst (λ (z : ℕ). WritesFile (staged c m) (staged c' m) d head (resized head z) head.size (slot_for n name)) size (writes.file k m0 m keeps holds)

@@ -8,8 +8,8 @@ use Rattle.lfs_model.specs.Slot.{slot_in}
 use Rattle.lfs_model.specs.Stands.{LogMap}
 use Rattle.lfs_model.specs.TreeOf.{map_of, object, slots}
 use Rattle.lfs_model.proofs.ObjectBytes.{same_objects}
-use Rattle.lfs_store.specs.memory.declared.header.Header.{Header}
-use Rattle.lfs_store.specs.memory.Present.{as_header}
+use Rattle.lfs_files.specs.declared.header.Header.{Header}
+use Rattle.lfs_files.specs.Headers.{as_header}
 use Rattle.lfs_dirs.specs.Directory.{slots_at}
 use Rattle.lfs_dirs.specs.Keeping.{DirectoryStays, EmptyDirectory, SlotsStay}
 use Rattle.lfs_dirs.proofs.SlotPlaces.{slots_many}

@@ -4,21 +4,16 @@ use Rattle.std.proofs.Common.{◌≡◌, ◌≢◌, ◌<◌, ◌≤◌, ⊎_elim
 use Rattle.std.proofs.lemmas.Bool.{cases_eq, cases_lt}
 use Rattle.std.proofs.lemmas.List.{drop_more, ext_get_or, get_or-set_same, get_or-set_other, length-set, set_split, take-append-drop}
 use Rattle.std.specs.FinMap.{put}
-use Rattle.lfs_model.specs.Checkpoint.{CheckpointValue}
-use Rattle.lfs_model.specs.Device.{DeviceState}
 use Rattle.lfs_model.specs.Objects.{IsDirectory, WritesBytes, byte_in}
 use Rattle.lfs_model.specs.Slot.{FitsSlot, SlotValue, slot_in}
 use Rattle.lfs_model.specs.Stands.{LogMap}
 use Rattle.lfs_model.specs.Tree.{byte_cmp}
 use Rattle.lfs_model.specs.TreeOf.{map_of}
 use Rattle.lfs_model.proofs.Decoding.{slot_some}
-use Rattle.lfs_store.specs.memory.declared.changes.Changes.{Changes}
-use Rattle.lfs_store.specs.memory.declared.header.Header.{Header}
-use Rattle.lfs_store.specs.memory.Batch.{staged}
-use Rattle.lfs_store.specs.memory.Present.{as_header}
-use Rattle.lfs_store.specs.log.Held.{Held, Holds, Reads, IsReadFault}
-use Rattle.lfs_store.specs.Writing.{Writes, WritesFile, resized}
-use Rattle.lfs_store.proofs.LogReads.{held_still}
+use Rattle.lfs_files.specs.declared.header.Header.{Header}
+use Rattle.lfs_files.specs.Headers.{as_header, resized}
+use Rattle.lfs_files.specs.Files.{FilesState, IsFault, Reads, Redrafts, Writes, WritesFile}
+use Rattle.lfs_files.proofs.FilesCompose.{writes_behind}
 use Rattle.lfs_dirs.specs.declared.searching.Found.{Found}
 use Rattle.lfs_dirs.specs.Adding.{slot_for}
 use Rattle.lfs_dirs.specs.Directory.{slots_at}
@@ -109,30 +104,29 @@ module _ (m m' : LogMap) (d : ℕ) (head : Header) (n : ℕ) (name : List ℕ) (
   }
 
 -- ---- the draft
-module _ {D : Type 0} (state : D → DeviceState) (h s h' : Held D) (c c' : Changes) (d : ℕ) (head : Header) (n : ℕ) (name : List ℕ) (found : Found) where
-  pub repoints : FitsSlot 0 record { number = n; name = name } → length (slot_for n name) ≡ 64 → found.place < head.size / 64 → Reads state h s → Reads state s h' → FindsSlot state h s c d head name (Some found)
-      → Writes state s h' c c' d head (64 * found.place) (slot_for n name) → Repoints state h h' c c' d head n name
+module _ {S D : Type 0} (s a s' : FilesState S D) (d : ℕ) (head : Header) (n : ℕ) (name : List ℕ) (found : Found) where
+  pub repoints : FitsSlot 0 record { number = n; name = name } → length (slot_for n name) ≡ 64 → found.place < head.size / 64 → Reads s a → Redrafts a s'
+      → FindsSlot s a d head name (Some found) → Writes a s' d head (64 * found.place) (slot_for n name) → Repoints s s' d head n name
   repoints fits long inside reads more finds writes = record {
-    searched = s;
-    reads = reads;
     place = found.place;
-    writes = writes;
-    file = file;
-    names = λ k m0 m keeps holds dir.
-        repoints_name (staged c m) (staged c' m) d head n name fits long found (finds k m0 m (more.looks.carries.kept_before keeps) holds) dir (file k m0 m keeps holds).bytes;
+    writes = writes_behind s a s' d head (64 * found.place) (slot_for n name) reads writes;
+    has = λ m m' keeps has.
+        let f = writes.file m m' keeps (reads.has m m' has) in
+        let file = subst (λ (z : ℕ). WritesFile m' f.map d head (resized head z) (64 * found.place) (slot_for n name)) size f.file in
+        record {
+          map = f.map;
+          has = f.has;
+          file = file;
+          names = λ dir. repoints_name m' f.map d head n name fits long found (finds m m' (more.looks.carries.kept_before keeps) has) dir file.bytes;
+        };
   }
     where
       size : max head.size (64 * found.place + length (slot_for n name)) ≡ head.size
       size = omega (arith, long, inside)
 
-      file : (k : CheckpointValue) (m0 m : LogMap) → (state h'.device).keeps_model → Holds state h k m0 m → WritesFile (staged c m) (staged c' m) d head head (64 * found.place) (slot_for n name)
-      file k m0 m keeps holds =
-          subst (λ (z : ℕ). WritesFile (staged c m) (staged c' m) d head (resized head z) (64 * found.place) (slot_for n name)) size
-          (writes.file k m0 m keeps (held_still state h s k m0 m reads holds))
-
 -- what fails after the search
-pub fails_behind : {D : Type 0} (state : D → DeviceState) (h s h' : Held D) (c : Changes) (d : ℕ) (head : Header) → Reads state h s → IsReadFault state s h' → IsDirectoryFault state h h' c d head
-fails_behind state h s h' c d head reads failed k m0 m keeps holds dir =
-    let rose = failed k m0 m keeps (held_still state h s k m0 m reads holds) in
+pub fails_behind : {S D : Type 0} (s a s' : FilesState S D) (d : ℕ) (head : Header) → Reads s a → IsFault a s' → IsDirectoryFault s s' d head
+fails_behind s a s' d head reads failed m m' keeps has dir =
+    let rose = failed m m' keeps (reads.has m m' has) in
     let before = reads.looks.carries.failures in
     omega (arith, rose, before)

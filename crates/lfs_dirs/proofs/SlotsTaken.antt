@@ -10,9 +10,9 @@ use Rattle.lfs_model.specs.Stands.{LogMap}
 use Rattle.lfs_model.specs.Tree.{byte_cmp, without}
 use Rattle.lfs_model.specs.TreeOf.{map_of}
 use Rattle.lfs_model.proofs.ObjectBytes.{cut_ends}
-use Rattle.lfs_store.specs.memory.declared.header.Header.{Header}
-use Rattle.lfs_store.specs.memory.Present.{as_header}
-use Rattle.lfs_store.specs.Writing.{SizesFile, WritesFile}
+use Rattle.lfs_files.specs.declared.header.Header.{Header}
+use Rattle.lfs_files.specs.Headers.{as_header}
+use Rattle.lfs_files.specs.Files.{SizesFile, WritesFile}
 use Rattle.lfs_dirs.specs.declared.searching.Found.{Found}
 use Rattle.lfs_dirs.specs.Directory.{slots_at}
 use Rattle.lfs_dirs.specs.Searching.{IsSlotOf}

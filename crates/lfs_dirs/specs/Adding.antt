@@ -1,18 +1,13 @@
 -- A name drafted into a directory: a slot behind its slots.
 use Rattle.std.specs.Prelude.{◌≡◌, ◌+◌, ℕ, List, [], ◌∷◌, ◌++◌, length, None}
 use Rattle.std.specs.FinMap.{find, put}
-use Rattle.lfs_model.specs.Checkpoint.{CheckpointValue}
-use Rattle.lfs_model.specs.Device.{DeviceState}
 use Rattle.lfs_model.specs.Objects.{IsDirectory, WritesBytes}
 use Rattle.lfs_model.specs.Slot.{slot_bytes}
 use Rattle.lfs_model.specs.Stands.{LogMap}
 use Rattle.lfs_model.specs.Tree.{byte_cmp}
-use Rattle.lfs_store.specs.memory.declared.changes.Changes.{Changes}
-use Rattle.lfs_store.specs.memory.declared.header.Header.{Header}
-use Rattle.lfs_store.specs.memory.Batch.{staged}
-use Rattle.lfs_store.specs.memory.Present.{as_header}
-use Rattle.lfs_store.specs.log.Held.{Held, Holds}
-use Rattle.lfs_store.specs.Writing.{Writes, WritesFile, resized}
+use Rattle.lfs_files.specs.declared.header.Header.{Header}
+use Rattle.lfs_files.specs.Files.{FilesState, Writes, WritesFile}
+use Rattle.lfs_files.specs.Headers.{as_header, resized}
 use Rattle.lfs_dirs.specs.Directory.{names_at, slots_at}
 
 -- the header of a directory that has one slot more
@@ -28,13 +23,18 @@ pub record AddsName (m m' : LogMap) (d : ℕ) (head : Header) (n : ℕ) (name : 
   pub directory : IsDirectory m' d (as_header (grown head))
   pub names : names_at m' d (grown head) ≡ put byte_cmp name n (names_at m d head)
 
-module _ {D : Type 0} (state : D → DeviceState) where
-  -- A draft that writes the slot behind those of directory d; where no slot has the name, it has one name more.
-  pub record Adds (h h' : Held D) (c c' : Changes) (d : ℕ) (head : Header) (n : ℕ) (name : List ℕ) : Type 0 where
-    pub writes : Writes state h h' c c' d head head.size (slot_for n name)
-    pub file : (k : CheckpointValue) (m0 m : LogMap) → (state h'.device).keeps_model → Holds state h k m0 m → WritesFile (staged c m) (staged c' m) d head (grown head) head.size (slot_for n name)
-    pub more : (k : CheckpointValue) (m0 m : LogMap) → (state h'.device).keeps_model → Holds state h k m0 m → IsDirectory (staged c m) d (as_header head)
-        → find byte_cmp name (names_at (staged c m) d head) ≡ None → AddsName (staged c m) (staged c' m) d head n name
+module _ {S D : Type 0} where
+  -- A slot stands behind those of directory d; where no slot had the name, it has one name more.
+  pub record HasAdded (s' : FilesState S D) (m m' : LogMap) (d : ℕ) (head : Header) (n : ℕ) (name : List ℕ) : Type 0 where
+    pub map : LogMap
+    pub has : s'.has m map
+    pub file : WritesFile m' map d head (grown head) head.size (slot_for n name)
+    pub more : IsDirectory m' d (as_header head) → find byte_cmp name (names_at m' d head) ≡ None → AddsName m' map d head n name
+
+  -- A draft that writes it.
+  pub record Adds (s s' : FilesState S D) (d : ℕ) (head : Header) (n : ℕ) (name : List ℕ) : Type 0 where
+    pub writes : Writes s s' d head head.size (slot_for n name)
+    pub has : (m m' : LogMap) → s'.device.keeps_model → s.has m m' → HasAdded s' m m' d head n name
 
 -- ---- laws
 

@@ -8,9 +8,9 @@ use Rattle.lfs_model.specs.Slot.{SlotValue, FitsSlot, slot_bytes, slot_in}
 use Rattle.lfs_model.specs.Stands.{LogMap}
 use Rattle.lfs_model.specs.Tree.{Names, byte_cmp, without}
 use Rattle.lfs_model.specs.TreeOf.{map_of, slots}
-use Rattle.lfs_store.specs.memory.declared.header.Header.{Header}
-use Rattle.lfs_store.specs.memory.Present.{as_header}
-use Rattle.lfs_store.specs.Pieces.{HoldsBlock}
+use Rattle.lfs_files.specs.declared.header.Header.{Header}
+use Rattle.lfs_files.specs.Headers.{as_header}
+use Rattle.lfs_files.specs.Files.{HoldsBlock}
 
 -- the slots of directory d, each 64 bytes
 abbrev pub slots_at : LogMap → ℕ → Header → List (List ℕ)

@@ -2,8 +2,8 @@
 use Rattle.std.specs.Prelude.{◌≡◌, ℕ, []}
 use Rattle.lfs_model.specs.Objects.{IsDirectory}
 use Rattle.lfs_model.specs.Stands.{LogMap}
-use Rattle.lfs_store.specs.memory.declared.header.Header.{Header}
-use Rattle.lfs_store.specs.memory.Present.{as_header}
+use Rattle.lfs_files.specs.declared.header.Header.{Header}
+use Rattle.lfs_files.specs.Headers.{as_header}
 use Rattle.lfs_dirs.specs.Directory.{names_at, slots_at}
 
 -- Where neither a block of object d nor its size changes, its slots stay, whatever else does.

@@ -2,16 +2,12 @@
 use Rattle.std.specs.Prelude.{◌≡◌, ◌≢◌, ◌<◌, ◌≤◌, ◌+◌, ◌*◌, ◌/◌, ℕ, List, ◌++◌, ◌∷◌, length, map, take, drop, get_or, Result, Ok, Err, None}
 use Rattle.std.specs.List.{AllByRecursion}
 use Rattle.std.specs.FinMap.{put}
-use Rattle.lfs_model.specs.Checkpoint.{CheckpointValue}
-use Rattle.lfs_model.specs.Device.{DeviceState}
 use Rattle.lfs_model.specs.Slot.{slot_in}
 use Rattle.lfs_model.specs.Stands.{LogMap}
 use Rattle.lfs_model.specs.Tree.{Names, byte_cmp}
 use Rattle.lfs_model.specs.TreeOf.{map_of}
-use Rattle.lfs_store.specs.memory.declared.changes.Changes.{Changes}
-use Rattle.lfs_store.specs.memory.declared.header.Header.{Header}
-use Rattle.lfs_store.specs.memory.Batch.{staged}
-use Rattle.lfs_store.specs.log.Held.{Held, Holds}
+use Rattle.lfs_files.specs.declared.header.Header.{Header}
+use Rattle.lfs_files.specs.Files.{FilesState}
 use Rattle.lfs_dirs.specs.declared.entry.Entry.{Entry}
 use Rattle.lfs_dirs.specs.Directory.{names_at, slots_at}
 
@@ -43,25 +39,25 @@ abbrev pub PutsSlots : List (List ℕ) → List Entry → List Entry → Type 0
 PutsSlots more es es' = (behind : List (List ℕ)) → IsListOf behind es → IsListOf (more ++ behind) es'
 
 -- ---- a directory
-module _ {D : Type 0} (state : D → DeviceState) where
+module _ {S D : Type 0} (s s' : FilesState S D) where
   -- its names, with those of one block more
-  abbrev pub ListsBlock : Held D → Held D → Changes → ℕ → ℕ → ℕ → List Entry → List Entry → Type 0
-  ListsBlock h h' c d index count es es' = (k : CheckpointValue) (m0 m : LogMap) → (state h'.device).keeps_model → Holds state h k m0 m → (head : Header) → 8 * index + count ≤ head.size / 64
-      → PutsSlots (take count (drop (8 * index) (slots_at (staged c m) d head))) es es'
+  abbrev pub ListsBlock : ℕ → ℕ → ℕ → List Entry → List Entry → Type 0
+  ListsBlock d index count es es' = (m m' : LogMap) → s'.device.keeps_model → s.has m m' → (head : Header)
+      → 8 * index + count ≤ head.size / 64 → PutsSlots (take count (drop (8 * index) (slots_at m' d head))) es es'
 
   -- all of them; each of its slots is well-formed
-  abbrev pub Inspects : Held D → Held D → Changes → ℕ → Header → List Entry → Type 0
-  Inspects h h' c d head es = (k : CheckpointValue) (m0 m : LogMap) → (state h'.device).keeps_model → Holds state h k m0 m → IsListOf (slots_at (staged c m) d head) es
+  abbrev pub Inspects : ℕ → Header → List Entry → Type 0
+  Inspects d head es = (m m' : LogMap) → s'.device.keeps_model → s.has m m' → IsListOf (slots_at m' d head) es
 
   -- one of its slots isn't
-  abbrev pub LacksSlot : Held D → Held D → Changes → ℕ → Header → Type 0
-  LacksSlot h h' c d head = (k : CheckpointValue) (m0 m : LogMap) → (state h'.device).keeps_model → Holds state h k m0 m → AreSlots (slots_at (staged c m) d head) → ⊥
+  abbrev pub LacksSlot : ℕ → Header → Type 0
+  LacksSlot d head = (m m' : LogMap) → s'.device.keeps_model → s.has m m' → AreSlots (slots_at m' d head) → ⊥
 
   -- the same of every object that has so many slots in this block
-  abbrev pub LacksBlockSlot : Held D → Held D → Changes → ℕ → ℕ → ℕ → Type 0
-  LacksBlockSlot h h' c d index count = (k : CheckpointValue) (m0 m : LogMap) → (state h'.device).keeps_model → Holds state h k m0 m → (head : Header) → 8 * index + count ≤ head.size / 64
-      → AreSlots (slots_at (staged c m) d head) → ⊥
+  abbrev pub LacksBlockSlot : ℕ → ℕ → ℕ → Type 0
+  LacksBlockSlot d index count = (m m' : LogMap) → s'.device.keeps_model → s.has m m' → (head : Header)
+      → 8 * index + count ≤ head.size / 64 → AreSlots (slots_at m' d head) → ⊥
 
   -- all of them
-  abbrev pub Lists : Held D → Held D → Changes → ℕ → Header → List Entry → Type 0
-  Lists h h' c d head es = (k : CheckpointValue) (m0 m : LogMap) → (state h'.device).keeps_model → Holds state h k m0 m → pairs es ≡ names_at (staged c m) d head
+  abbrev pub Lists : ℕ → Header → List Entry → Type 0
+  Lists d head es = (m m' : LogMap) → s'.device.keeps_model → s.has m m' → pairs es ≡ names_at m' d head

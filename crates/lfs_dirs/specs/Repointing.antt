@@ -1,17 +1,12 @@
 -- Another number drafted for a name of a directory.
 use Rattle.std.specs.Prelude.{◌≡◌, ◌≢◌, ◌*◌, ℕ, List, None}
 use Rattle.std.specs.FinMap.{find, put}
-use Rattle.lfs_model.specs.Checkpoint.{CheckpointValue}
-use Rattle.lfs_model.specs.Device.{DeviceState}
 use Rattle.lfs_model.specs.Objects.{IsDirectory}
 use Rattle.lfs_model.specs.Stands.{LogMap}
 use Rattle.lfs_model.specs.Tree.{byte_cmp}
-use Rattle.lfs_store.specs.memory.declared.changes.Changes.{Changes}
-use Rattle.lfs_store.specs.memory.declared.header.Header.{Header}
-use Rattle.lfs_store.specs.memory.Batch.{staged}
-use Rattle.lfs_store.specs.memory.Present.{as_header}
-use Rattle.lfs_store.specs.log.Held.{Held, Holds, Reads}
-use Rattle.lfs_store.specs.Writing.{Writes, WritesFile}
+use Rattle.lfs_files.specs.declared.header.Header.{Header}
+use Rattle.lfs_files.specs.Files.{FilesState, Writes, WritesFile}
+use Rattle.lfs_files.specs.Headers.{as_header}
 use Rattle.lfs_dirs.specs.Adding.{slot_for}
 use Rattle.lfs_dirs.specs.Directory.{names_at}
 
@@ -21,16 +16,20 @@ pub record RepointsName (m m' : LogMap) (d : ℕ) (head : Header) (n : ℕ) (nam
   pub directory : IsDirectory m' d (as_header head)
   pub names : names_at m' d head ≡ put byte_cmp name n (names_at m d head)
 
-module _ {D : Type 0} (state : D → DeviceState) where
-  -- A draft that writes a slot of directory d anew; the log was only read before.
-  pub record Repoints (h h' : Held D) (c c' : Changes) (d : ℕ) (head : Header) (n : ℕ) (name : List ℕ) : Type 0 where
-    pub searched : Held D
-    pub reads : Reads state h searched
+module _ {S D : Type 0} where
+  -- A slot of directory d is another; where it is a directory, the name gives that number.
+  pub record HasRepointed (s' : FilesState S D) (m m' : LogMap) (d : ℕ) (head : Header) (place n : ℕ) (name : List ℕ) : Type 0 where
+    pub map : LogMap
+    pub has : s'.has m map
+    pub file : WritesFile m' map d head head (64 * place) (slot_for n name)
+    pub names : IsDirectory m' d (as_header head) → RepointsName m' map d head n name
+
+  -- A draft that writes a slot of directory d anew.
+  pub record Repoints (s s' : FilesState S D) (d : ℕ) (head : Header) (n : ℕ) (name : List ℕ) : Type 0 where
     pub place : ℕ
-    pub writes : Writes state searched h' c c' d head (64 * place) (slot_for n name)
-    pub file : (k : CheckpointValue) (m0 m : LogMap) → (state h'.device).keeps_model → Holds state h k m0 m → WritesFile (staged c m) (staged c' m) d head head (64 * place) (slot_for n name)
-    pub names : (k : CheckpointValue) (m0 m : LogMap) → (state h'.device).keeps_model → Holds state h k m0 m → IsDirectory (staged c m) d (as_header head) → RepointsName (staged c m) (staged c' m) d head n name
+    pub writes : Writes s s' d head (64 * place) (slot_for n name)
+    pub has : (m m' : LogMap) → s'.device.keeps_model → s.has m m' → HasRepointed s' m m' d head place n name
 
   -- Directory d doesn't have the name.
-  abbrev pub Lacks : Held D → Held D → Changes → ℕ → Header → List ℕ → Type 0
-  Lacks h h' c d head name = (k : CheckpointValue) (m0 m : LogMap) → (state h'.device).keeps_model → Holds state h k m0 m → find byte_cmp name (names_at (staged c m) d head) ≡ None
+  abbrev pub Lacks : FilesState S D → FilesState S D → ℕ → Header → List ℕ → Type 0
+  Lacks s s' d head name = (m m' : LogMap) → s'.device.keeps_model → s.has m m' → find byte_cmp name (names_at m' d head) ≡ None

@@ -1,16 +1,12 @@
 -- What a search for the slot of a name answers.
 use Rattle.std.specs.Prelude.{◌≡◌, ◌<◌, ◌≤◌, ◌+◌, ◌*◌, ◌/◌, ℕ, List, [], length, take, drop, get_or, Option, Some, None}
 use Rattle.std.specs.FinMap.{find}
-use Rattle.lfs_model.specs.Checkpoint.{CheckpointValue}
-use Rattle.lfs_model.specs.Device.{DeviceState}
 use Rattle.lfs_model.specs.Slot.{slot_in}
 use Rattle.lfs_model.specs.Stands.{LogMap}
 use Rattle.lfs_model.specs.Tree.{byte_cmp}
 use Rattle.lfs_model.specs.TreeOf.{map_of}
-use Rattle.lfs_store.specs.memory.declared.changes.Changes.{Changes}
-use Rattle.lfs_store.specs.memory.declared.header.Header.{Header}
-use Rattle.lfs_store.specs.memory.Batch.{staged}
-use Rattle.lfs_store.specs.log.Held.{Held, Holds}
+use Rattle.lfs_files.specs.declared.header.Header.{Header}
+use Rattle.lfs_files.specs.Files.{FilesState}
 use Rattle.lfs_dirs.specs.declared.searching.Found.{Found}
 use Rattle.lfs_dirs.specs.Directory.{slots_at}
 
@@ -24,12 +20,12 @@ abbrev pub FindsIn : List (List ℕ) → List ℕ → Option Found → Type 0
 FindsIn slots name None = find byte_cmp name (map_of 0 slots) ≡ None
 FindsIn slots name (Some found) = IsSlotOf slots name found
 
-module _ {D : Type 0} (state : D → DeviceState) where
+module _ {S D : Type 0} (s s' : FilesState S D) where
   -- among so many of directory d's slots, from the first of a block on
-  abbrev pub FindsInBlock : Held D → Held D → Changes → ℕ → ℕ → ℕ → List ℕ → Option Found → Type 0
-  FindsInBlock h h' c d index count name found = (k : CheckpointValue) (m0 m : LogMap) → (state h'.device).keeps_model → Holds state h k m0 m → (head : Header) → 8 * index + count ≤ head.size / 64
-      → FindsIn (take count (drop (8 * index) (slots_at (staged c m) d head))) name found
+  abbrev pub FindsInBlock : ℕ → ℕ → ℕ → List ℕ → Option Found → Type 0
+  FindsInBlock d index count name found = (m m' : LogMap) → s'.device.keeps_model → s.has m m' → (head : Header)
+      → 8 * index + count ≤ head.size / 64 → FindsIn (take count (drop (8 * index) (slots_at m' d head))) name found
 
   -- among all of them
-  abbrev pub FindsSlot : Held D → Held D → Changes → ℕ → Header → List ℕ → Option Found → Type 0
-  FindsSlot h h' c d head name found = (k : CheckpointValue) (m0 m : LogMap) → (state h'.device).keeps_model → Holds state h k m0 m → FindsIn (slots_at (staged c m) d head) name found
+  abbrev pub FindsSlot : ℕ → Header → List ℕ → Option Found → Type 0
+  FindsSlot d head name found = (m m' : LogMap) → s'.device.keeps_model → s.has m m' → FindsIn (slots_at m' d head) name found

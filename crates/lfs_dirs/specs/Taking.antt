@@ -1,18 +1,16 @@
 -- A name drafted out of a directory: the last slot comes into the place of its own, and the directory is a slot shorter.
-use Rattle.std.specs.Prelude.{◌≡◌, ◌≢◌, ◌⊎◌, ◌<◌, ◌≤◌, ◌+◌, ◌-◌, ◌*◌, ◌/◌, ◌%◌, ℕ, List, [], length, get_or, Some, None}
+use Rattle.std.specs.Prelude.{◌≡◌, ◌≢◌, ◌<◌, ◌≤◌, ◌+◌, ◌-◌, ◌/◌, ◌%◌, ℕ, List, [], get_or, Some, None}
 use Rattle.std.specs.FinMap.{find}
+use Rattle.std.specs.Int.{div_ceil}
 use Rattle.std.specs.List.{swap_remove}
-use Rattle.lfs_model.specs.Checkpoint.{CheckpointValue}
-use Rattle.lfs_model.specs.Device.{DeviceState}
+use Rattle.lfs_model.specs.Cutting.{is_past}
+use Rattle.lfs_model.specs.Entry.{Entry}
 use Rattle.lfs_model.specs.Objects.{AreWhole, IsChangedAt, IsDirectory, byte_in}
 use Rattle.lfs_model.specs.Stands.{LogMap}
 use Rattle.lfs_model.specs.Tree.{byte_cmp, without}
-use Rattle.lfs_store.specs.memory.declared.changes.Changes.{Changes}
-use Rattle.lfs_store.specs.memory.declared.header.Header.{Header}
-use Rattle.lfs_store.specs.memory.Batch.{staged}
-use Rattle.lfs_store.specs.memory.Present.{as_header}
-use Rattle.lfs_store.specs.log.Held.{Held, Holds, Reads}
-use Rattle.lfs_store.specs.Writing.{SetsLen, Writes, resized}
+use Rattle.lfs_files.specs.declared.header.Header.{Header}
+use Rattle.lfs_files.specs.Files.{FilesState, IsApart}
+use Rattle.lfs_files.specs.Headers.{FitsHeader, as_header, resized}
 use Rattle.lfs_dirs.specs.Directory.{names_at, slots_at}
 
 -- the header of a directory that has one slot less
@@ -32,36 +30,43 @@ pub record TakesName (m m' : LogMap) (d : ℕ) (head : Header) (name : List ℕ)
   pub directory : IsDirectory m' d (as_header (shrunk head))
   pub names : names_at m' d (shrunk head) ≡ without byte_cmp name (names_at m d head)
 
-module _ {D : Type 0} (state : D → DeviceState) where
+module _ {S D : Type 0} where
   -- the bytes of a slot of directory d
-  abbrev pub ReadsSlot : Held D → Held D → Changes → ℕ → ℕ → List ℕ → Type 0
-  ReadsSlot h h' c d place slot = (k : CheckpointValue) (m0 m : LogMap) → (state h'.device).keeps_model → Holds state h k m0 m → (head : Header) → place < head.size / 64
-      → get_or (slots_at (staged c m) d head) place [] ≡ slot
+  abbrev pub ReadsSlot : FilesState S D → FilesState S D → ℕ → ℕ → List ℕ → Type 0
+  ReadsSlot s s' d place slot = (m m' : LogMap) → s'.device.keeps_model → s.has m m' → (head : Header) → place < head.size / 64
+      → get_or (slots_at m' d head) place [] ≡ slot
 
-  -- A slot is written anew.
-  pub record WritesSlot (h h' : Held D) (c c' : Changes) (d : ℕ) (head : Header) (place : ℕ) : Type 0 where
-    pub slot : List ℕ
-    pub long : length slot ≡ 64
-    pub inside : 64 * place + 64 ≤ head.size
-    pub writes : Writes state h h' c c' d head (64 * place) slot
+  -- A log map that the draft may change: d is there, may be a slot shorter, and the slot that comes into another's place is apart from what is cut off.
+  pub record TakesDrop (s' : FilesState S D) (m m' : LogMap) (d : ℕ) (head : Header) (place : ℕ) : Type 0 where
+    pub staged : m.header d ≡ Some (as_header head)
+    pub there : m'.header d ≡ Some (as_header head)
+    pub header : FitsHeader head.kind head.links (head.size - 64)
+    pub apart : place + 1 < head.size / 64 → IsApart s'.lost d
+
+  -- Directory d is a slot shorter, the last slot being in this place.
+  pub record HasDropped (s' : FilesState S D) (m m' : LogMap) (d : ℕ) (head : Header) (place : ℕ) : Type 0 where
+    pub map : LogMap
+    pub has : s'.has m map
+    pub file : CutsSlot m' map d head
+    pub slots : head.size % 64 ≡ 0 → slots_at map d (shrunk head) ≡ swap_remove (slots_at m' d head) place []
 
   -- A draft that cuts the last slot off, and then writes it into another's place if it isn't that one itself.
-  pub record Drops (h h' : Held D) (c c' : Changes) (d : ℕ) (head : Header) (place : ℕ) : Type 0 where
-    pub before : Held D
-    pub reads : Reads state h before
-    pub between : Held D
-    pub cut : Changes
-    pub sets : SetsLen state before between cut d head (head.size - 64)
-    pub moves : ((h' ≡ between) × (c' ≡ cut)) ⊎ WritesSlot between h' cut c' d (shrunk head) place
-    pub file : (k : CheckpointValue) (m0 m : LogMap) → (state h'.device).keeps_model → Holds state h k m0 m → CutsSlot (staged c m) (staged c' m) d head
-    pub slots : (k : CheckpointValue) (m0 m : LogMap) → (state h'.device).keeps_model → Holds state h k m0 m → head.size % 64 ≡ 0
-        → slots_at (staged c' m) d (shrunk head) ≡ swap_remove (slots_at (staged c m) d head) place []
+  pub record Drops (s s' : FilesState S D) (d : ℕ) (head : Header) (place : ℕ) : Type 0 where
+    pub lost : (x : Entry) → s'.lost x ≡ is_past d (div_ceil (head.size - 64) 512) x
+    pub headers : s'.headers ≤ 2
+    pub blocks : s'.blocks ≤ 2
+    pub fits : (m m' : LogMap) → s'.device.keeps_model → s.has m m' → TakesDrop s' m m' d head place → s'.fits m
+    pub has : (m m' : LogMap) → s'.device.keeps_model → s.has m m' → HasDropped s' m m' d head place
 
-  -- One that drops the slot of a name.
-  pub record Takes (h h' : Held D) (c c' : Changes) (d : ℕ) (head : Header) (name : List ℕ) : Type 0 where
-    pub searched : Held D
-    pub reads : Reads state h searched
+  -- The name of a directory is gone.
+  pub record HasTaken (s' : FilesState S D) (m m' : LogMap) (d : ℕ) (head : Header) (name : List ℕ) : Type 0 where
+    pub map : LogMap
+    pub has : s'.has m map
+    pub file : CutsSlot m' map d head
+    pub names : IsDirectory m' d (as_header head) → TakesName m' map d head name
+
+  -- A draft that drops the slot of a name.
+  pub record Takes (s s' : FilesState S D) (d : ℕ) (head : Header) (name : List ℕ) : Type 0 where
     pub place : ℕ
-    pub drops : Drops searched h' c c' d head place
-    pub file : (k : CheckpointValue) (m0 m : LogMap) → (state h'.device).keeps_model → Holds state h k m0 m → CutsSlot (staged c m) (staged c' m) d head
-    pub names : (k : CheckpointValue) (m0 m : LogMap) → (state h'.device).keeps_model → Holds state h k m0 m → IsDirectory (staged c m) d (as_header head) → TakesName (staged c m) (staged c' m) d head name
+    pub drops : Drops s s' d head place
+    pub has : (m m' : LogMap) → s'.device.keeps_model → s.has m m' → HasTaken s' m m' d head name

@@ -14,7 +14,6 @@ mod taking;
 pub use adding::add;
 pub use entry::Entry;
 pub use finding::find;
-pub use lfs_store as store;
 pub use listing::{ListFault, inspect, list};
 pub use repointing::repoint;
 pub use taking::take;

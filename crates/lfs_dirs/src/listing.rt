@@ -2,16 +2,15 @@
 ghost use Rattle.std.specs.Prelude.{◌≡◌, ◌≢◌, ◌<◌, ◌≤◌, true, IfOk, IfErr, OnOk, IsErrOf, None};
 ghost use Rattle.lfs_model.specs.Slot.{slot_in};
 ghost use Rattle.lfs_model.specs.TreeOf.{with_slot};
-ghost use Rattle.lfs_store.specs.log.Held.{IsReadFault, Reads};
+ghost use Rattle.lfs_files.specs.Files.{IsFault, Reads};
 ghost use Rattle.lfs_dirs.specs.Directory.{first_slots};
 ghost use Rattle.lfs_dirs.specs.Finding.{HasNoSlot, IsDirectoryFault, IsBlockFault};
 ghost use Rattle.lfs_dirs.specs.Listing.{PutsSlots, ListsBlock, Lists, Inspects, LacksSlot, LacksBlockSlot, pairs};
 
 use crate::entry::{Entry, put_entry};
 use crate::slots::{SLOT, SLOTS_IN_BLOCK};
-use lfs_device::SectorDevice;
+use lfs_files::{Files, Header, LogFault, StoreFault};
 use lfs_layout::{SlotView, nth_slot};
-use lfs_store::{Header, LogFault, Store, StoreFault};
 use std::alloc::Global;
 
 /// The names in a directory of this header with the numbers that they give, in the order of the names' bytes.
@@ -19,24 +18,20 @@ use std::alloc::Global;
 /// # Errors
 ///
 /// `NoMemory` where memory runs out; else as those of `find`.
-pub fn list<D: SectorDevice>(
+pub fn list<F: Files>(
     alloc: Global,
-    store: &mut Store<D>,
+    files: &mut F,
     directory: u16,
     header: Header,
 ) -> Result<Vec<Entry>, StoreFault>
     requires { directory < 4096 }
-    ensures reads { Reads D.SectorDevice.state store.old.log store.new.log }
-    ensures draft { store.new.draft ≡ store.old.draft }
-    ensures saved { store.new.saved ≡ store.old.saved }
-    ensures totals { store.new.totals ≡ store.old.totals }
-    ensures drafted { store.new.drafted ≡ store.old.drafted }
-    ensures answer { IfOk result (λ entries. Lists D.SectorDevice.state store.old.log store.new.log store.old.draft.changes directory header entries.items) }
-    ensures failed { IfErr result (λ fault. (fault ≡ StoreFault.NoMemory → ⊥) → IsDirectoryFault D.SectorDevice.state store.old.log store.new.log store.old.draft.changes directory header) }
-    ensures halted { IsErrOf result (StoreFault.Log LogFault.Halted) → store.old.log.halted ≡ true }
+    ensures reads { Reads (F.state files.old) (F.state files.new) }
+    ensures answer { IfOk result (λ entries. Lists (F.state files.old) (F.state files.new) directory header entries.items) }
+    ensures failed { IfErr result (λ fault. (fault ≡ StoreFault.NoMemory → ⊥) → IsDirectoryFault (F.state files.old) (F.state files.new) directory header) }
+    ensures halted { IsErrOf result (StoreFault.Log LogFault.Halted) → (F.state files.old).halted ≡ true }
     ensures other { IsErrOf result (StoreFault.Log LogFault.Full) → ⊥ }
 {
-    match inspect(alloc, store, directory, header) {
+    match inspect(alloc, files, directory, header) {
         Ok(entries) => Ok(entries),
         Err(ListFault::NoMemory) => Err(StoreFault::NoMemory),
         Err(ListFault::NoSlot) => Err(StoreFault::Log(LogFault::Device)),
@@ -59,23 +54,19 @@ pub enum ListFault {
 /// # Errors
 ///
 /// `NoMemory` where memory runs out, `NoSlot` where a slot is malformed; else as those of `find`.
-pub fn inspect<D: SectorDevice>(
+pub fn inspect<F: Files>(
     alloc: Global,
-    store: &mut Store<D>,
+    files: &mut F,
     directory: u16,
     header: Header,
 ) -> Result<Vec<Entry>, ListFault>
     requires { directory < 4096 }
-    ensures reads { Reads D.SectorDevice.state store.old.log store.new.log }
-    ensures draft { store.new.draft ≡ store.old.draft }
-    ensures saved { store.new.saved ≡ store.old.saved }
-    ensures totals { store.new.totals ≡ store.old.totals }
-    ensures drafted { store.new.drafted ≡ store.old.drafted }
-    ensures answer { IfOk result (λ entries. Inspects D.SectorDevice.state store.old.log store.new.log store.old.draft.changes directory header entries.items) }
-    ensures failed { IfErr result (λ fault. (fault ≡ ListFault.NoMemory → ⊥) → IsDirectoryFault D.SectorDevice.state store.old.log store.new.log store.old.draft.changes directory header) }
-    ensures malformed { IsErrOf result ListFault.NoSlot → LacksSlot D.SectorDevice.state store.old.log store.new.log store.old.draft.changes directory header }
-    ensures device { IsErrOf result (ListFault.Log LogFault.Device) → IsReadFault D.SectorDevice.state store.old.log store.new.log }
-    ensures halted { IsErrOf result (ListFault.Log LogFault.Halted) → store.old.log.halted ≡ true }
+    ensures reads { Reads (F.state files.old) (F.state files.new) }
+    ensures answer { IfOk result (λ entries. Inspects (F.state files.old) (F.state files.new) directory header entries.items) }
+    ensures failed { IfErr result (λ fault. (fault ≡ ListFault.NoMemory → ⊥) → IsDirectoryFault (F.state files.old) (F.state files.new) directory header) }
+    ensures malformed { IsErrOf result ListFault.NoSlot → LacksSlot (F.state files.old) (F.state files.new) directory header }
+    ensures device { IsErrOf result (ListFault.Log LogFault.Device) → IsFault (F.state files.old) (F.state files.new) }
+    ensures halted { IsErrOf result (ListFault.Log LogFault.Halted) → (F.state files.old).halted ≡ true }
     ensures other { IsErrOf result (ListFault.Log LogFault.Full) → ⊥ }
 {
     let slots = header.size / SLOT;
@@ -84,7 +75,7 @@ pub fn inspect<D: SectorDevice>(
     while index > 0 {
         index -= 1;
         let count = (slots - SLOTS_IN_BLOCK * index).min(SLOTS_IN_BLOCK);
-        match list_block(alloc, store, directory, index, count as usize, &mut entries) {
+        match list_block(alloc, files, directory, index, count as usize, &mut entries) {
             Ok(()) => {}
             Err(fault) => return Err(fault),
         }
@@ -93,9 +84,9 @@ pub fn inspect<D: SectorDevice>(
 }
 
 /// Lists the names of one block of a directory, whose first slots are the directory's, among those of the blocks behind it.
-fn list_block<D: SectorDevice>(
+fn list_block<F: Files>(
     alloc: Global,
-    store: &mut Store<D>,
+    files: &mut F,
     directory: u16,
     index: u32,
     count: usize,
@@ -103,20 +94,16 @@ fn list_block<D: SectorDevice>(
 ) -> Result<(), ListFault>
     requires number { directory < 4096 }
     requires few { count ≤ 8 }
-    ensures reads { Reads D.SectorDevice.state store.old.log store.new.log }
-    ensures draft { store.new.draft ≡ store.old.draft }
-    ensures saved { store.new.saved ≡ store.old.saved }
-    ensures totals { store.new.totals ≡ store.old.totals }
-    ensures drafted { store.new.drafted ≡ store.old.drafted }
-    ensures done { OnOk result (ListsBlock D.SectorDevice.state store.old.log store.new.log store.old.draft.changes directory index count entries.old.items entries.new.items) }
-    ensures failed { IfErr result (λ fault. (fault ≡ ListFault.NoMemory → ⊥) → IsBlockFault D.SectorDevice.state store.old.log store.new.log store.old.draft.changes directory index count) }
-    ensures malformed { IsErrOf result ListFault.NoSlot → LacksBlockSlot D.SectorDevice.state store.old.log store.new.log store.old.draft.changes directory index count }
-    ensures device { IsErrOf result (ListFault.Log LogFault.Device) → IsReadFault D.SectorDevice.state store.old.log store.new.log }
-    ensures halted { IsErrOf result (ListFault.Log LogFault.Halted) → store.old.log.halted ≡ true }
+    ensures reads { Reads (F.state files.old) (F.state files.new) }
+    ensures done { OnOk result (ListsBlock (F.state files.old) (F.state files.new) directory index count entries.old.items entries.new.items) }
+    ensures failed { IfErr result (λ fault. (fault ≡ ListFault.NoMemory → ⊥) → IsBlockFault (F.state files.old) (F.state files.new) directory index count) }
+    ensures malformed { IsErrOf result ListFault.NoSlot → LacksBlockSlot (F.state files.old) (F.state files.new) directory index count }
+    ensures device { IsErrOf result (ListFault.Log LogFault.Device) → IsFault (F.state files.old) (F.state files.new) }
+    ensures halted { IsErrOf result (ListFault.Log LogFault.Halted) → (F.state files.old).halted ≡ true }
     ensures other { IsErrOf result (ListFault.Log LogFault.Full) → ⊥ }
 {
     let mut block = [0; 512];
-    match store.block(directory, index, &mut block) {
+    match files.block(directory, index, &mut block) {
         Ok(_) => {}
         Err(fault) => return Err(ListFault::Log(fault)),
     }

@@ -1,23 +1,22 @@
 //! A name that comes to give another number.
 ghost use Rattle.std.specs.Prelude.{◌≡◌, ◌≤◌, IfOk, IfErr, IsTrue, IsFalse};
 ghost use Rattle.lfs_model.specs.Slot.{IsName};
-ghost use Rattle.lfs_store.specs.log.Held.{Reads};
+ghost use Rattle.lfs_files.specs.Files.{Reads, Redrafts};
 ghost use Rattle.lfs_dirs.specs.Finding.{IsDirectoryFault};
 ghost use Rattle.lfs_dirs.specs.Repointing.{Repoints, Lacks};
 
 use crate::searching::search;
 use crate::slots::SLOT;
-use lfs_device::SectorDevice;
+use lfs_files::{Files, Header, StoreFault};
 use lfs_layout::encode_slot;
-use lfs_store::{Header, Store, StoreFault};
 
 /// Drafts another number for a name of a directory of this header, if it has the name.
 ///
 /// # Errors
 ///
-/// As those of `find` and of `Store::write_at`.
-pub fn repoint<D: SectorDevice>(
-    store: &mut Store<D>,
+/// As those of `find` and of `Files::write_at`.
+pub fn repoint<F: Files>(
+    files: &mut F,
     directory: u16,
     header: Header,
     name: &[u8],
@@ -29,19 +28,19 @@ pub fn repoint<D: SectorDevice>(
     requires first { 1 ≤ number }
     requires last { number ≤ 4095 }
     requires name { IsName 59 name.now }
-    ensures reads { Reads D.SectorDevice.state store.old.log store.new.log }
-    ensures done { IfOk result (λ found. IsTrue found → Repoints D.SectorDevice.state store.old.log store.new.log store.old.draft.changes store.new.draft.changes directory header number name.now) }
-    ensures same { IfOk result (λ found. IsFalse found → store.new.draft ≡ store.old.draft) }
-    ensures none { IfOk result (λ found. IsFalse found → Lacks D.SectorDevice.state store.old.log store.new.log store.old.draft.changes directory header name.now) }
-    ensures failed { IfErr result (λ fault. (fault ≡ StoreFault.NoMemory → ⊥) → IsDirectoryFault D.SectorDevice.state store.old.log store.new.log store.old.draft.changes directory header) }
+    ensures redrafts { Redrafts (F.state files.old) (F.state files.new) }
+    ensures done { IfOk result (λ found. IsTrue found → Repoints (F.state files.old) (F.state files.new) directory header number name.now) }
+    ensures same { IfOk result (λ found. IsFalse found → Reads (F.state files.old) (F.state files.new)) }
+    ensures none { IfOk result (λ found. IsFalse found → Lacks (F.state files.old) (F.state files.new) directory header name.now) }
+    ensures failed { IfErr result (λ fault. (fault ≡ StoreFault.NoMemory → ⊥) → IsDirectoryFault (F.state files.old) (F.state files.new) directory header) }
 {
-    let found = match search(store, directory, header, name) {
+    let found = match search(files, directory, header, name) {
         Ok(Some(found)) => found,
         Ok(None) => return Ok(false),
         Err(fault) => return Err(StoreFault::Log(fault)),
     };
     let slot = encode_slot(u32::from(number), name);
-    match store.write_at(directory, header, SLOT * found.place, &slot) {
+    match files.write_at(directory, header, SLOT * found.place, &slot) {
         Ok(()) => {}
         Err(fault) => return Err(fault),
     }

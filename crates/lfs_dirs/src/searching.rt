@@ -1,14 +1,13 @@
 //! The slot of a name, searched in a directory.
 ghost use Rattle.std.specs.Prelude.{◌≡◌, ◌<◌, ◌≤◌, ◌/◌, true, IfOk, IfSome, OnErr, IsErrOf};
-ghost use Rattle.lfs_store.specs.log.Held.{Reads};
+ghost use Rattle.lfs_files.specs.Files.{Reads};
 ghost use Rattle.lfs_dirs.specs.Directory.{first_slots};
 ghost use Rattle.lfs_dirs.specs.Finding.{HasNoSlot, IsDirectoryFault, IsBlockFault};
 ghost use Rattle.lfs_dirs.specs.Searching.{FindsIn, FindsInBlock, FindsSlot};
 
 use crate::slots::{SLOT, SLOTS_IN_BLOCK};
-use lfs_device::SectorDevice;
+use lfs_files::{Files, Header, LogFault};
 use lfs_layout::{SlotView, nth_slot};
-use lfs_store::{Header, LogFault, Store};
 
 /// A slot that has the name looked for.
 #[derive(Clone, Copy)]
@@ -22,30 +21,26 @@ pub struct Found {
 ///
 /// # Errors
 ///
-/// As those of `Store::block`; `Device` also where a slot can't be read as one, as none of a directory is.
-pub fn search<D: SectorDevice>(
-    store: &mut Store<D>,
+/// As those of `Files::block`; `Device` also where a slot can't be read as one, as none of a directory is.
+pub fn search<F: Files>(
+    files: &mut F,
     directory: u16,
     header: Header,
     name: &[u8],
 ) -> Result<Option<Found>, LogFault>
     requires { directory < 4096 }
-    ensures reads { Reads D.SectorDevice.state store.old.log store.new.log }
-    ensures draft { store.new.draft ≡ store.old.draft }
-    ensures saved { store.new.saved ≡ store.old.saved }
-    ensures totals { store.new.totals ≡ store.old.totals }
-    ensures drafted { store.new.drafted ≡ store.old.drafted }
-    ensures answer { IfOk result (FindsSlot D.SectorDevice.state store.old.log store.new.log store.old.draft.changes directory header name.now) }
+    ensures reads { Reads (F.state files.old) (F.state files.new) }
+    ensures answer { IfOk result (FindsSlot (F.state files.old) (F.state files.new) directory header name.now) }
     ensures inside { IfOk result (λ found. IfSome found (λ slot. slot.place < header.size / 64)) }
-    ensures failed { OnErr result (IsDirectoryFault D.SectorDevice.state store.old.log store.new.log store.old.draft.changes directory header) }
-    ensures halted { IsErrOf result LogFault.Halted → store.old.log.halted ≡ true }
+    ensures failed { OnErr result (IsDirectoryFault (F.state files.old) (F.state files.new) directory header) }
+    ensures halted { IsErrOf result LogFault.Halted → (F.state files.old).halted ≡ true }
     ensures other { IsErrOf result LogFault.Full → ⊥ }
 {
     let slots = header.size / SLOT;
     for index in 0..slots.div_ceil(SLOTS_IN_BLOCK) {
         let first = SLOTS_IN_BLOCK * index;
         let count = (slots - first).min(SLOTS_IN_BLOCK);
-        match search_block(store, directory, index, count, name) {
+        match search_block(files, directory, index, count, name) {
             Ok(Some(found)) => {
                 return Ok(Some(Found {
                     place: first + found.place,
@@ -60,8 +55,8 @@ pub fn search<D: SectorDevice>(
 }
 
 /// The same in one block of a directory, whose first slots are the directory's.
-fn search_block<D: SectorDevice>(
-    store: &mut Store<D>,
+fn search_block<F: Files>(
+    files: &mut F,
     directory: u16,
     index: u32,
     count: u32,
@@ -69,19 +64,15 @@ fn search_block<D: SectorDevice>(
 ) -> Result<Option<Found>, LogFault>
     requires number { directory < 4096 }
     requires few { count ≤ 8 }
-    ensures reads { Reads D.SectorDevice.state store.old.log store.new.log }
-    ensures draft { store.new.draft ≡ store.old.draft }
-    ensures saved { store.new.saved ≡ store.old.saved }
-    ensures totals { store.new.totals ≡ store.old.totals }
-    ensures drafted { store.new.drafted ≡ store.old.drafted }
-    ensures answer { IfOk result (FindsInBlock D.SectorDevice.state store.old.log store.new.log store.old.draft.changes directory index count name.now) }
+    ensures reads { Reads (F.state files.old) (F.state files.new) }
+    ensures answer { IfOk result (FindsInBlock (F.state files.old) (F.state files.new) directory index count name.now) }
     ensures inside { IfOk result (λ found. IfSome found (λ slot. slot.place < count)) }
-    ensures failed { OnErr result (IsBlockFault D.SectorDevice.state store.old.log store.new.log store.old.draft.changes directory index count) }
-    ensures halted { IsErrOf result LogFault.Halted → store.old.log.halted ≡ true }
+    ensures failed { OnErr result (IsBlockFault (F.state files.old) (F.state files.new) directory index count) }
+    ensures halted { IsErrOf result LogFault.Halted → (F.state files.old).halted ≡ true }
     ensures other { IsErrOf result LogFault.Full → ⊥ }
 {
     let mut block = [0; 512];
-    match store.block(directory, index, &mut block) {
+    match files.block(directory, index, &mut block) {
         Ok(_) => {}
         Err(fault) => return Err(fault),
     }

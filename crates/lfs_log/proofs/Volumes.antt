@@ -8,7 +8,7 @@ use Rattle.lfs_model.specs.Stands.{LogMap, StandsLog}
 use Rattle.lfs_model.proofs.Crash.{single_log}
 use Rattle.lfs_model.specs.TreeOf.{dropped}
 use Rattle.lfs_model.proofs.Settled.{settled_stands}
-use Rattle.lfs_memory.specs.declared.header.Header.{Header}
+use Rattle.lfs_memory.specs.files.declared.header.Header.{Header}
 use Rattle.lfs_log.specs.Opening.{Opens}
 use Rattle.lfs_memory.specs.Present.{AnswersHeader, AnswersBlock, IsExcused}
 use Rattle.lfs_log.specs.Publishing.{IsAcknowledged}

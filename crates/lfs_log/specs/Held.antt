@@ -10,7 +10,7 @@ use Rattle.lfs_model.specs.Device.{DeviceState, Carries, LeavesOnly, AllLeft}
 use Rattle.lfs_model.specs.Encodes.{IsLogMap, HasInode}
 use Rattle.lfs_model.specs.Objects.{is_stored, has_leaf}
 use Rattle.lfs_memory.specs.declared.changes.Changes.{Changes}
-use Rattle.lfs_memory.specs.declared.header.Header.{Header}
+use Rattle.lfs_memory.specs.files.declared.header.Header.{Header}
 use Rattle.lfs_model.specs.TreeOf.{dropped}
 use Rattle.lfs_model.specs.Stands.{LogMap, StandsLog}
 use Rattle.lfs_model.specs.Summary.{BlockNameValue}

@@ -4,6 +4,7 @@ pub mod Saving
 pub mod Opening
 pub mod Held
 pub use Rattle.lfs_memory.specs as memory
+pub use Rattle.lfs_memory.specs.files
 pub use Rattle.lfs_memory.specs.inodes
 pub use Rattle.lfs_memory.specs.segments
 pub use Rattle.lfs_verify.specs as verify

@@ -14,42 +14,23 @@ use Rattle.lfs_model.specs.Running.{Dirty}
 use Rattle.lfs_model.specs.Stands.{LogMap}
 use Rattle.lfs_model.proofs.Entries.{data_parent_low, data_parent_high}
 use Rattle.lfs_model.proofs.Leaving.{staying}
-use Rattle.lfs_model.proofs.Moments.{carries_none, carries_then, started, goes_on}
+use Rattle.lfs_model.proofs.Moments.{started, goes_on}
 use Rattle.lfs_model.proofs.Reading.{reading}
 use Rattle.lfs_model.proofs.Settled.{settled_stands, settled_still}
 use Rattle.lfs_model.proofs.Tables.{block_at}
 use Rattle.lfs_device.specs.declared.device.ReadFault.{ReadFault}
 use Rattle.lfs_device.specs.declared.device.ReadFault.TheVariants as kind
+pub use Rattle.lfs_files.proofs.LooksCompose.{looks_none, looks_then}
 use Rattle.lfs_inodes.specs.Blocks.{blocks_of}
 use Rattle.lfs_inodes.specs.MapValue.{address_in}
 use Rattle.lfs_inodes.specs.Present.{present, leaf_now, data_now, IsAway, IsLeafAway, IsDataAway}
 use Rattle.lfs_inodes.proofs.PresentPointers.{present_is, leaf_is, present_is_laid}
-use Rattle.lfs_memory.specs.declared.header.Header.{Header}
+use Rattle.lfs_files.specs.declared.header.Header.{Header}
 use Rattle.lfs_memory.specs.declared.memory.LogMemory.{LogMemory}
 use Rattle.lfs_memory.specs.Memory.{IsLoose, tables_of, segment_in, chunk_in}
 use Rattle.lfs_memory.specs.Present.{Looks, IsMissing, IsExcused, AnswersInode, AnswersHeader, AnswersBlock, AnswersAddress, as_header}
 
 -- ---- calls that only read
-pub looks_none : (d : DeviceState) → Looks d d
-looks_none d = record {
-  untouched = record { content = refl; crash = λ c left. left };
-  carries = carries_none d;
-  time = λ t c le left. inl left;
-}
-
-pub looks_then : (a b c : DeviceState) → IsLawful a → Looks a b → Looks b c → Looks a c
-looks_then a b c lawful one two = record {
-  untouched = record { content = two.untouched.content ∙ one.untouched.content; crash = λ x left. one.untouched.crash x (two.untouched.crash x left) };
-  carries = carries_then a b c one.carries two.carries;
-  time = λ t x le left. ⊎_elim
-      (λ (before : b.left_since t x). ⊎_elim
-      (λ (at_first : a.left_since t x). inl at_first)
-      (λ (now : b.may_leave x). inl (lawful.counts_now t x le (one.untouched.crash x now)))
-      (one.time t x le before))
-      (λ (now : c.may_leave x). inr now)
-      (two.time t x (let later = one.carries.later in omega (arith, le, later)) left);
-}
-
 pub still_log : (d d' : DeviceState) (v : LogMemory) (k : CheckpointValue) (m0 m : LogMap) → Looks d d' → IsLoose d v k m0 m → IsLoose d' v k m0 m
 still_log d d' v k m0 m looks is = record {
   running = staying d d' (blocks_of v.dirty) (tables_of v) k m0 m (segment_in v.chunk) (chunk_in v.chunk) is.running looks.untouched;

@@ -12,7 +12,7 @@ use Rattle.lfs_memory.specs.declared.batch.HeaderEdit.{HeaderEdit}
 use Rattle.lfs_memory.specs.declared.changes.Changes.{Changes}
 use Rattle.lfs_memory.specs.declared.batch.Loss.{Loss}
 use Rattle.lfs_memory.specs.declared.batch.Loss.TheVariants.{Nothing, Blocks, Link, File}
-use Rattle.lfs_memory.specs.declared.header.Header.{Header}
+use Rattle.lfs_files.specs.declared.header.Header.{Header}
 use Rattle.lfs_memory.specs.Changing.{FitsHeader, header_with, with_header}
 use Rattle.lfs_memory.specs.Removing.{without_file}
 use Rattle.lfs_memory.specs.Cutting.{cut_from}

@@ -4,11 +4,12 @@ use Rattle.lfs_model.specs.declared.Kind.{Kind}
 use Rattle.lfs_model.specs.Counting.{segment_of}
 use Rattle.lfs_model.specs.Entry.{Entry, Data, Leaf, Inode, Header, word}
 use Rattle.lfs_model.specs.Fields.{zeros, le32}
-use Rattle.lfs_model.specs.Inode.{IsSize, kind_byte}
+use Rattle.lfs_model.specs.Inode.{kind_byte}
 use Rattle.lfs_model.specs.Memory.{parent, pointer}
 use Rattle.lfs_model.specs.Running.{Dirty, IsSet, IsTight, Moves}
 use Rattle.lfs_model.specs.Staging.{Fetches, ChangesTo}
 use Rattle.lfs_model.specs.Stands.{LogMap}
+pub use Rattle.lfs_files.specs.Headers.{FitsHeader}
 use Rattle.lfs_segments.specs.Table.{UsageTable, live_of, held_of, clean_in}
 use Rattle.lfs_segments.specs.Steps.{Lifts}
 use Rattle.lfs_inodes.specs.Blocks.{TableValue, blocks_of}
@@ -131,11 +132,6 @@ headed kind n links size bytes = (kind_byte kind ∷ []) ++ zeros 3 ++ le32 n ++
 -- what it says
 abbrev pub header_with : Kind → ℕ → ℕ → Header
 header_with kind links size = record { kind = kind; form = 0; links = links; size = size }
-
--- what an inode's header may be, where the file may have lost its last link
-pub record FitsHeader (kind : Kind) (links size : ℕ) : Type 0 where
-  pub links_few : links ≤ 1000
-  pub size_fits : IsSize 0 kind size
 
 -- The inode of file n, in memory, has another header, and the same pointers.
 pub record ChangesHeader (v v' : LogMemory) (n : ℕ) (kind : Kind) (links size : ℕ) : Type 0 where

@@ -10,5 +10,6 @@ pub mod Cutting
 pub mod Hiding
 pub mod Batch
 pub mod Staging
+pub use Rattle.lfs_files.specs as files
 pub use Rattle.lfs_inodes.specs as inodes
 pub use Rattle.lfs_segments.specs as segments

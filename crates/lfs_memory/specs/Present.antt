@@ -2,21 +2,16 @@
 use Rattle.std.specs.Prelude.{◌≡◌, ◌<◌, ℕ, Bool, true, false, List, [], Option, Some, None}
 use Rattle.lfs_model.specs.Checkpoint.{CheckpointValue}
 use Rattle.lfs_model.specs.Content.{Content}
-use Rattle.lfs_model.specs.Device.{DeviceState, IsUntouched, Carries, Elapses, cell_at}
-use Rattle.lfs_model.specs.Entry as entry
+use Rattle.lfs_model.specs.Device.{DeviceState, cell_at}
 use Rattle.lfs_model.specs.Entry.{Entry, header}
 use Rattle.lfs_model.specs.Laid.{HoldsInode}
 use Rattle.lfs_model.specs.Running.{Dirty}
 use Rattle.lfs_model.specs.Stands.{LogMap}
-use Rattle.lfs_memory.specs.declared.header.Header.{Header}
+use Rattle.lfs_files.specs.declared.header.Header.{Header}
+pub use Rattle.lfs_files.specs.Headers.{HeaderAnswer, as_header}
+pub use Rattle.lfs_files.specs.Looking.{Looks}
 use Rattle.lfs_memory.specs.declared.memory.LogMemory.{LogMemory}
 use Rattle.lfs_memory.specs.Memory.{IsLoose}
-
--- A call that only reads leaves the device as it is.
-pub record Looks (d d' : DeviceState) : Type 0 where
-  pub untouched : IsUntouched d d'
-  pub carries : Carries d d'
-  pub time : Elapses d d'
 
 -- Where memory and device hold a log map, a call of the device failed.
 abbrev pub IsExcused : DeviceState → DeviceState → LogMemory → Type 0
@@ -31,14 +26,6 @@ pub record IsMissing (content : Content) (dirty : Dirty) (x : Entry) (address : 
 abbrev pub InodeAnswer : LogMap → ℕ → List ℕ → Bool → Type 0
 InodeAnswer m n out false = m.header n ≡ None
 InodeAnswer m n out true = HoldsInode n out × (m.header n ≡ Some (header out))
-
--- what its inode says of it
-abbrev pub as_header : Header → entry.Header
-as_header h = record { kind = h.kind; form = 0; links = h.links; size = h.size }
-
-abbrev pub HeaderAnswer : LogMap → ℕ → Option Header → Type 0
-HeaderAnswer m n None = m.header n ≡ None
-HeaderAnswer m n (Some h) = m.header n ≡ Some (as_header h)
 
 -- whether a block of a file is stored, and its bytes
 abbrev pub BlockAnswer : LogMap → ℕ → ℕ → List ℕ → Bool → Type 0

@@ -1,7 +1,7 @@
 //! Changes of files that are asked for together.
 ghost use Rattle.std.specs.Prelude.{◌≡◌, ◌≤◌, length};
 
-use crate::header::Header;
+use lfs_files::Header;
 use lfs_model::Kind;
 
 /// The header of a file, which is made where it isn't there.

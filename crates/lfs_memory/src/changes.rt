@@ -4,7 +4,7 @@ ghost use Rattle.lfs_memory.specs.Batch.{IsNoChange, PutsHeader, PutsBlock};
 ghost use Rattle.lfs_memory.specs.Preparing.{ways, way_from, is_beside, row_of};
 
 use crate::batch::{BlockEdit, HeaderEdit, Loss};
-use crate::header::Header;
+use lfs_files::Header;
 use lfs_inodes::{DIRECT, POINTERS};
 use std::alloc::{AllocError, Global};
 

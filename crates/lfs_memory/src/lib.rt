@@ -7,8 +7,6 @@ pub mod changes;
 pub mod changing;
 pub mod counting;
 pub mod cutting;
-mod fault;
-mod header;
 pub mod hiding;
 pub mod lifting;
 pub mod memory;
@@ -19,8 +17,7 @@ pub mod staging;
 
 pub use batch::{BlockEdit, Cut, HeaderEdit, LastLink, Loss, Removal};
 pub use changes::Changes;
-pub use fault::LogFault;
-pub use header::Header;
+pub use lfs_files::{Header, LogFault};
 pub use lfs_inodes as inodes;
 pub use lfs_segments as segments;
 pub use memory::LogMemory;

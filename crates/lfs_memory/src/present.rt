@@ -11,7 +11,7 @@ ghost use Rattle.lfs_memory.specs.Memory.{IsMemory};
 ghost use Rattle.lfs_memory.specs.Present.{Looks, IsExcused, IsMissing, AnswersInode, AnswersHeader, AnswersBlock, as_header, AnswersAddress};
 
 use crate::counting::{DOUBLE, SINGLE};
-use crate::header::Header;
+use lfs_files::Header;
 use crate::memory::LogMemory;
 use lfs_device::{DeviceFault, SectorDevice};
 use lfs_inodes::{BlockKey, IN_MEMORY, locate_present};

@@ -13,7 +13,7 @@ use crate::changes::{Changes, ways_to};
 use crate::changing::tighten;
 use crate::counting::SegmentCounts;
 use crate::cutting::cut_file;
-use crate::fault::LogFault;
+use lfs_files::LogFault;
 use crate::hiding::hide_file;
 use crate::lifting::LiftFault;
 use crate::memory::LogMemory;

@@ -16,8 +16,8 @@ use Rattle.lfs_model.specs.Walk.{End, At, Refused, Ends, IsLookedUp, Walk, no_pi
 use Rattle.lfs_model.proofs.ObjectTrees.{node_of_header}
 use Rattle.lfs_model.proofs.Shrinking.{named_counts}
 use Rattle.lfs_model.proofs.Walks.{Some-injective}
-use Rattle.lfs_dirs.specs.memory.declared.header.Header.{Header}
-use Rattle.lfs_dirs.specs.memory.Present.{as_header}
+use Rattle.lfs_files.specs.declared.header.Header.{Header}
+use Rattle.lfs_files.specs.Headers.{as_header}
 use Rattle.lfs_dirs.specs.Directory.{names_at}
 use Rattle.lfs_path.specs.Pieces.{is_dots, from_name, IsFirstName}
 use Rattle.lfs_path.specs.Lasts.{IsNameBefore}

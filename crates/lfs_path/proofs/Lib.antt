@@ -5,6 +5,3 @@ pub mod Lookups
 pub mod PathEnds
 pub mod Texts
 pub use Rattle.lfs_dirs.proofs as of_dirs
-pub use Rattle.lfs_dirs.proofs.of_log
-pub use Rattle.lfs_dirs.proofs.of_memory
-pub use Rattle.lfs_dirs.proofs.of_store

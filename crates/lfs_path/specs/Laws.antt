@@ -8,8 +8,8 @@ use Rattle.lfs_model.specs.Stands.{LogMap}
 use Rattle.lfs_model.specs.Tree.{File, Dir, Tree, names, is_dir, name_limit, names_in, node, with_name, with_node, without, without_name}
 use Rattle.lfs_model.specs.TreeOf.{AreFormed, tree_in}
 use Rattle.lfs_model.specs.Step.{last_dots, name, no_last}
-use Rattle.lfs_dirs.specs.memory.declared.header.Header.{Header as HeaderValue}
-use Rattle.lfs_dirs.specs.memory.Present.{as_header}
+use Rattle.lfs_files.specs.declared.header.Header.{Header as HeaderValue}
+use Rattle.lfs_files.specs.Headers.{as_header}
 use Rattle.lfs_dirs.specs.Directory.{names_at}
 use Rattle.lfs_path.specs.declared.last.Last.{Last}
 use Rattle.lfs_path.specs.Pieces.{is_dots}

@@ -1,8 +1,6 @@
 -- What walks answer, over a volume whose only directory is the root.
 use Rattle.std.specs.Prelude.{◌≡◌, ◌≢◌, ◌<◌, ℕ, Bool, List, ◌∷◌, Option, Some, None, MatchOption, true}
 use Rattle.lfs_model.specs.declared.Kind.TheVariants as kind
-use Rattle.lfs_model.specs.Checkpoint.{CheckpointValue}
-use Rattle.lfs_model.specs.Device.{DeviceState}
 use Rattle.lfs_model.specs.Entry.{Header}
 use Rattle.lfs_model.specs.Objects.{IsDirectory}
 use Rattle.lfs_model.specs.PathText.{comps, slash, last}
@@ -11,9 +9,7 @@ use Rattle.lfs_model.specs.Stands.{LogMap}
 use Rattle.lfs_model.specs.Tree.{File, Dir, Names, Node, Tree, names, node}
 use Rattle.lfs_model.specs.TreeOf.{tree_in}
 use Rattle.lfs_model.specs.Walk.{End, Refused, Gives, Walk, Resolve, Parent}
-use Rattle.lfs_dirs.specs.memory.declared.changes.Changes.{Changes}
-use Rattle.lfs_dirs.specs.memory.Batch.{staged}
-use Rattle.lfs_dirs.specs.log.Held.{Held, Holds}
+use Rattle.lfs_files.specs.Files.{FilesState}
 use Rattle.lfs_path.specs.declared.fault.PathFault.{PathFault}
 use Rattle.lfs_path.specs.declared.last.Last.{Last}
 use Rattle.lfs_path.specs.Refusals.{refusal_of}
@@ -55,20 +51,20 @@ abbrev pub HasLast : List ℕ → Option Last → Type 0
 HasLast path None = last (comps path) ≡ None
 HasLast path (Some l) = (last (comps path) ≡ Some l.name.now) × (slash path ≡ l.slash)
 
--- ---- over a log: the tree is that of the log map that it holds, after the draft
-module _ {D : Type 0} (state : D → DeviceState) where
+-- ---- over files: the tree is that of the log map that is staged, with the draft
+module _ {S D : Type 0} (s s' : FilesState S D) where
   -- a name of the root gives file n
-  abbrev pub FindsFile : Held D → Held D → Changes → List ℕ → ℕ → Type 0
-  FindsFile h h' c name n = (k : CheckpointValue) (m0 m : LogMap) → (state h'.device).keeps_model → Holds state h k m0 m → HasFlatTree (staged c m) → GivesFile (tree_in (staged c m)) name n
+  abbrev pub FindsFile : List ℕ → ℕ → Type 0
+  FindsFile name n = (m m' : LogMap) → s'.device.keeps_model → s.has m m' → HasFlatTree m' → GivesFile (tree_in m') name n
 
   -- a walk ends there
-  abbrev pub WalksTo : Held D → Held D → Changes → (Tree → End → Type 0) → End → Type 0
-  WalksTo h h' c W e = (k : CheckpointValue) (m0 m : LogMap) → (state h'.device).keeps_model → Holds state h k m0 m → HasFlatTree (staged c m) → W (tree_in (staged c m)) e
+  abbrev pub WalksTo : (Tree → End → Type 0) → End → Type 0
+  WalksTo W e = (m m' : LogMap) → s'.device.keeps_model → s.has m m' → HasFlatTree m' → W (tree_in m') e
 
   -- a call of the device failed
-  abbrev pub IsPathFault : Held D → Held D → Changes → Type 0
-  IsPathFault h h' c = (k : CheckpointValue) (m0 m : LogMap) → (state h'.device).keeps_model → Holds state h k m0 m → HasFlatTree (staged c m) → (state h.device).failures < (state h'.device).failures
+  abbrev pub IsPathFault : Type 0
+  IsPathFault = (m m' : LogMap) → s'.device.keeps_model → s.has m m' → HasFlatTree m' → s.device.failures < s'.device.failures
 
   -- The walk ends refused; or there is no answer, since a call of the device failed.
-  abbrev pub EndsRefused : Held D → Held D → Changes → (Tree → End → Type 0) → PathFault → Type 0
-  EndsRefused h h' c W fault = MatchOption (refusal_of fault) (IsPathFault h h' c) (λ r. WalksTo h h' c W (Refused r))
+  abbrev pub EndsRefused : (Tree → End → Type 0) → PathFault → Type 0
+  EndsRefused W fault = MatchOption (refusal_of fault) IsPathFault (λ r. WalksTo W (Refused r))

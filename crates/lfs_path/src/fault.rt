@@ -1,7 +1,7 @@
 //! Why a path isn't walked to its end.
 ghost use Rattle.std.specs.Prelude.{◌≡◌};
 
-use lfs_dirs::store::LogFault;
+use lfs_files::LogFault;
 
 /// Why a path isn't walked to its end.
 #[derive(Clone, Copy, Debug, PartialEq, Eq)]

@@ -10,5 +10,4 @@ mod walk;
 pub use fault::PathFault;
 pub use last::Last;
 pub use lfs_dirs as dirs;
-pub use lfs_dirs::store;
 pub use walk::{Place, parent, resolve};

@@ -1,16 +1,15 @@
 //! The walk of a path over a volume whose only directory is the root.
 ghost use Rattle.std.specs.Prelude.{◌≡◌, true, false, IfOk, IfErr, IsErrOf};
 ghost use Rattle.lfs_model.specs.Walk.{At};
-ghost use Rattle.lfs_dirs.specs.log.Held.{Reads};
+ghost use Rattle.lfs_files.specs.Files.{Reads};
 ghost use Rattle.lfs_path.specs.Pieces.{is_dots};
 ghost use Rattle.lfs_path.specs.Walking.{EndsRefused, FindsFile, HasLast, NameThen, Parents, Resolves, WalksTo};
 
 use crate::fault::PathFault;
 use crate::last::{Above, Last, before_last};
 use crate::text::{check_text, first_name};
-use lfs_device::SectorDevice;
 use lfs_dirs::find;
-use lfs_dirs::store::{LogFault, Store};
+use lfs_files::{Files, LogFault};
 
 /// The number of the root.
 const ROOT: u16 = 1;
@@ -26,28 +25,24 @@ pub struct Place<'a> {
 }
 
 /// The file that a name other than the dots gives in the root.
-fn look_up<D: SectorDevice>(store: &mut Store<D>, name: &[u8]) -> Result<u16, PathFault>
+fn look_up<F: Files>(files: &mut F, name: &[u8]) -> Result<u16, PathFault>
     requires { is_dots name.now ≡ false }
-    ensures reads { Reads D.SectorDevice.state store.old.log store.new.log }
-    ensures draft { store.new.draft ≡ store.old.draft }
-    ensures saved { store.new.saved ≡ store.old.saved }
-    ensures totals { store.new.totals ≡ store.old.totals }
-    ensures drafted { store.new.drafted ≡ store.old.drafted }
-    ensures answer { IfOk result (FindsFile D.SectorDevice.state store.old.log store.new.log store.old.draft.changes name.now) }
-    ensures refused { IfErr result (EndsRefused D.SectorDevice.state store.old.log store.new.log store.old.draft.changes (NameThen name.now)) }
-    ensures halted { IsErrOf result (PathFault.Log LogFault.Halted) → store.old.log.halted ≡ true }
+    ensures reads { Reads (F.state files.old) (F.state files.new) }
+    ensures answer { IfOk result (FindsFile (F.state files.old) (F.state files.new) name.now) }
+    ensures refused { IfErr result (EndsRefused (F.state files.old) (F.state files.new) (NameThen name.now)) }
+    ensures halted { IsErrOf result (PathFault.Log LogFault.Halted) → (F.state files.old).halted ≡ true }
     ensures other { IsErrOf result (PathFault.Log LogFault.Full) → ⊥ }
 {
     if name.len() > LONGEST_NAME {
         return Err(PathFault::NameTooLong);
     }
-    let root = match store.header(ROOT) {
+    let root = match files.header(ROOT) {
         Ok(Some(root)) => root,
         // No volume is without a root.
         Ok(None) => return Err(PathFault::Log(LogFault::Device)),
         Err(fault) => return Err(PathFault::Log(fault)),
     };
-    match find(store, ROOT, root, name) {
+    match find(files, ROOT, root, name) {
         Ok(Some(number)) => Ok(number),
         Ok(None) => Err(PathFault::NoEntry),
         Err(fault) => Err(PathFault::Log(fault)),
@@ -59,15 +54,11 @@ fn look_up<D: SectorDevice>(store: &mut Store<D>, name: &[u8]) -> Result<u16, Pa
 /// # Errors
 ///
 /// The path's refusal. `Log` where the log gives no answer: `Halted` once a commit failed, `Device` where a call of the device failed.
-pub fn resolve<D: SectorDevice>(store: &mut Store<D>, path: &[u8]) -> Result<u16, PathFault>
-    ensures reads { Reads D.SectorDevice.state store.old.log store.new.log }
-    ensures draft { store.new.draft ≡ store.old.draft }
-    ensures saved { store.new.saved ≡ store.old.saved }
-    ensures totals { store.new.totals ≡ store.old.totals }
-    ensures drafted { store.new.drafted ≡ store.old.drafted }
-    ensures answer { IfOk result (λ n. WalksTo D.SectorDevice.state store.old.log store.new.log store.old.draft.changes (Resolves path.now) (At n)) }
-    ensures refused { IfErr result (EndsRefused D.SectorDevice.state store.old.log store.new.log store.old.draft.changes (Resolves path.now)) }
-    ensures halted { IsErrOf result (PathFault.Log LogFault.Halted) → store.old.log.halted ≡ true }
+pub fn resolve<F: Files>(files: &mut F, path: &[u8]) -> Result<u16, PathFault>
+    ensures reads { Reads (F.state files.old) (F.state files.new) }
+    ensures answer { IfOk result (λ n. WalksTo (F.state files.old) (F.state files.new) (Resolves path.now) (At n)) }
+    ensures refused { IfErr result (EndsRefused (F.state files.old) (F.state files.new) (Resolves path.now)) }
+    ensures halted { IsErrOf result (PathFault.Log LogFault.Halted) → (F.state files.old).halted ≡ true }
     ensures other { IsErrOf result (PathFault.Log LogFault.Full) → ⊥ }
 {
     match check_text(path) {
@@ -77,7 +68,7 @@ pub fn resolve<D: SectorDevice>(store: &mut Store<D>, path: &[u8]) -> Result<u16
     let Some((name, rest)) = first_name(path) else {
         return Ok(ROOT);
     };
-    let number = match look_up(store, name) {
+    let number = match look_up(files, name) {
         Ok(number) => number,
         Err(fault) => return Err(fault),
     };
@@ -93,20 +84,16 @@ pub fn resolve<D: SectorDevice>(store: &mut Store<D>, path: &[u8]) -> Result<u16
 /// # Errors
 ///
 /// As those of `resolve`.
-pub fn parent<'a, D: SectorDevice>(
-    store: &mut Store<D>,
+pub fn parent<'a, F: Files>(
+    files: &mut F,
     path: &'a [u8],
 ) -> Result<Place<'a>, PathFault>
-    ensures reads { Reads D.SectorDevice.state store.old.log store.new.log }
-    ensures draft { store.new.draft ≡ store.old.draft }
-    ensures saved { store.new.saved ≡ store.old.saved }
-    ensures totals { store.new.totals ≡ store.old.totals }
-    ensures drafted { store.new.drafted ≡ store.old.drafted }
+    ensures reads { Reads (F.state files.old) (F.state files.new) }
     ensures root { IfOk result (λ place. place.directory ≡ 1) }
     ensures last { IfOk result (λ place. HasLast path.now place.last) }
-    ensures answer { IfOk result (λ place. WalksTo D.SectorDevice.state store.old.log store.new.log store.old.draft.changes (Parents path.now) (At place.directory)) }
-    ensures refused { IfErr result (EndsRefused D.SectorDevice.state store.old.log store.new.log store.old.draft.changes (Parents path.now)) }
-    ensures halted { IsErrOf result (PathFault.Log LogFault.Halted) → store.old.log.halted ≡ true }
+    ensures answer { IfOk result (λ place. WalksTo (F.state files.old) (F.state files.new) (Parents path.now) (At place.directory)) }
+    ensures refused { IfErr result (EndsRefused (F.state files.old) (F.state files.new) (Parents path.now)) }
+    ensures halted { IsErrOf result (PathFault.Log LogFault.Halted) → (F.state files.old).halted ≡ true }
     ensures other { IsErrOf result (PathFault.Log LogFault.Full) → ⊥ }
 {
     match check_text(path) {
@@ -128,7 +115,7 @@ pub fn parent<'a, D: SectorDevice>(
         }
         Above::Name(name) => name,
     };
-    match look_up(store, name) {
+    match look_up(files, name) {
         Ok(_) => Err(PathFault::NotDir),
         Err(fault) => Err(fault),
     }

@@ -16,7 +16,7 @@ use Rattle.lfs_log.specs.memory.declared.batch.Cut.{Cut}
 use Rattle.lfs_log.specs.memory.declared.batch.Loss.{Loss}
 use Rattle.lfs_log.specs.memory.declared.batch.Loss.TheVariants.{Blocks}
 use Rattle.lfs_log.specs.memory.declared.changes.Changes.{Changes}
-use Rattle.lfs_log.specs.memory.declared.header.Header.{Header}
+use Rattle.lfs_log.specs.memory.files.declared.header.Header.{Header}
 use Rattle.lfs_log.specs.memory.Batch.{IsNoChange, is_lost, staged, FitsBatch}
 use Rattle.lfs_log.specs.memory.Changing.{stored}
 use Rattle.lfs_log.specs.memory.Cutting.{cut_from}

@@ -12,7 +12,7 @@ use Rattle.lfs_log.specs.memory.declared.batch.BlockEdit.{BlockEdit}
 use Rattle.lfs_log.specs.memory.declared.batch.HeaderEdit.{HeaderEdit}
 use Rattle.lfs_log.specs.memory.declared.batch.Loss.{Loss}
 use Rattle.lfs_log.specs.memory.declared.changes.Changes.{Changes}
-use Rattle.lfs_log.specs.memory.declared.header.Header.{Header}
+use Rattle.lfs_log.specs.memory.files.declared.header.Header.{Header}
 use Rattle.lfs_log.specs.memory.Applying.{FitsFile, AreHeadersFit, AreBlocksFit, after_header, after_headers, after_blocks}
 use Rattle.lfs_log.specs.memory.Batch as batch
 use Rattle.lfs_log.specs.memory.Batch.{lost, is_lost, staged, FitEdits, FitsBatch}

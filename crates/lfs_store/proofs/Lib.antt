@@ -25,5 +25,6 @@ pub mod Recountings
 pub mod Recounted
 pub mod Forgotten
 pub mod TreeTotals
+pub mod StoreSeen
 pub use Rattle.lfs_log.proofs as of_log
 pub use Rattle.lfs_log.proofs.of_memory

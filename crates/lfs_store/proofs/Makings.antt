@@ -14,7 +14,7 @@ use Rattle.lfs_log.specs.memory.declared.batch.LastLink.{LastLink}
 use Rattle.lfs_log.specs.memory.declared.batch.Removal.{Removal}
 use Rattle.lfs_log.specs.memory.declared.batch.Loss.TheVariants.{Link, File}
 use Rattle.lfs_log.specs.memory.declared.changes.Changes.{Changes}
-use Rattle.lfs_log.specs.memory.declared.header.Header.{Header}
+use Rattle.lfs_log.specs.memory.files.declared.header.Header.{Header}
 use Rattle.lfs_log.specs.memory.Batch.{IsNoChange, staged}
 use Rattle.lfs_log.specs.memory.Changing.{FitsHeader, header_with, with_header}
 use Rattle.lfs_log.specs.memory.Present.{as_header}

@@ -12,7 +12,7 @@ use Rattle.lfs_model.specs.Need.{pointers}
 use Rattle.lfs_model.specs.Objects.{has_leaf, is_stored, one_if, stored_blocks}
 use Rattle.lfs_model.specs.Stands.{LogMap}
 use Rattle.lfs_log.specs.memory.declared.changes.Changes.{Changes}
-use Rattle.lfs_log.specs.memory.declared.header.Header.{Header}
+use Rattle.lfs_log.specs.memory.files.declared.header.Header.{Header}
 use Rattle.lfs_log.specs.memory.Batch.{staged}
 use Rattle.lfs_log.specs.memory.Present.{as_header}
 use Rattle.lfs_log.specs.Held.{Held, Holds, Reads}

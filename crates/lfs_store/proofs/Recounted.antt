@@ -8,7 +8,7 @@ use Rattle.lfs_model.specs.Need.{pointers}
 use Rattle.lfs_model.specs.Objects.{IsChangedAt, is_stored, stored_below, stored_blocks}
 use Rattle.lfs_model.specs.Stands.{LogMap}
 use Rattle.lfs_log.specs.memory.declared.changes.Changes.{Changes}
-use Rattle.lfs_log.specs.memory.declared.header.Header as headers
+use Rattle.lfs_log.specs.memory.files.declared.header.Header as headers
 use Rattle.lfs_log.specs.memory.Batch.{IsNoChange, staged}
 use Rattle.lfs_log.specs.memory.Changing.{with_header}
 use Rattle.lfs_log.specs.memory.Present.{as_header}

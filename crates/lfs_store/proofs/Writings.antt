@@ -13,7 +13,7 @@ use Rattle.lfs_model.specs.Stands.{LogMap}
 use Rattle.lfs_model.proofs.ObjectBytes.{get_or-zeros}
 use Rattle.lfs_log.specs.memory.declared.batch.Loss.{Loss}
 use Rattle.lfs_log.specs.memory.declared.changes.Changes.{Changes}
-use Rattle.lfs_log.specs.memory.declared.header.Header.{Header}
+use Rattle.lfs_log.specs.memory.files.declared.header.Header.{Header}
 use Rattle.lfs_log.specs.memory.Batch.{staged, is_lost, FitsBatch}
 use Rattle.lfs_log.specs.memory.Changing.{FitsHeader, stored, with_block, with_header}
 use Rattle.lfs_log.specs.memory.Preparing.{IsWithin}

@@ -13,7 +13,7 @@ use Rattle.lfs_log.specs.memory.declared.batch.Removal.{Removal}
 use Rattle.lfs_log.specs.memory.declared.batch.Loss.{Loss}
 use Rattle.lfs_log.specs.memory.declared.batch.Loss.TheVariants.{Nothing, Blocks, Link, File}
 use Rattle.lfs_log.specs.memory.declared.changes.Changes.{Changes}
-use Rattle.lfs_log.specs.memory.declared.header.Header.{Header}
+use Rattle.lfs_log.specs.memory.files.declared.header.Header.{Header}
 use Rattle.lfs_log.specs.memory.Batch.{lost, is_lost, staged, FitsLoss, FitsBatch, IsNoChange}
 use Rattle.lfs_log.specs.memory.Changing.{FitsHeader, stored, with_block, with_header}
 use Rattle.lfs_log.specs.memory.Preparing.{IsWithin}

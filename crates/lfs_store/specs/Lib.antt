@@ -6,6 +6,7 @@ pub mod Making
 pub mod Accepting
 pub mod Measuring
 pub mod Recounting
+pub mod Seen
 pub use Rattle.lfs_log.specs as log
 pub use Rattle.lfs_log.specs.memory
 pub use Rattle.lfs_log.specs.segments

@@ -6,7 +6,7 @@ use Rattle.lfs_model.specs.Encodes.{IsLogMap}
 use Rattle.lfs_model.specs.Entry.{Inode}
 use Rattle.lfs_model.specs.Stands.{LogMap}
 use Rattle.lfs_log.specs.memory.declared.changes.Changes.{Changes}
-use Rattle.lfs_log.specs.memory.declared.header.Header.{Header}
+use Rattle.lfs_log.specs.memory.files.declared.header.Header.{Header}
 use Rattle.lfs_log.specs.memory.Batch.{is_lost, staged, FitsBatch}
 use Rattle.lfs_log.specs.memory.Changing.{FitsHeader, with_header}
 use Rattle.lfs_log.specs.memory.Present.{as_header}

@@ -6,6 +6,7 @@ use Rattle.lfs_model.specs.Entry.{Header}
 use Rattle.lfs_model.specs.Objects.{byte_in, Overlays, IsChangedAt, AreWhole, WritesBytes, CutsBytes}
 use Rattle.lfs_model.specs.Stands.{LogMap}
 use Rattle.lfs_model.specs.TreeOf.{object}
+pub use Rattle.lfs_files.specs.Files.{HoldsBlock}
 use Rattle.lfs_log.specs.memory.Changing.{stored}
 use Rattle.lfs_log.specs.memory.Cutting.{cut_from}
 
@@ -32,11 +33,6 @@ pub record BlockOverlays (at : ℕ) (w : List ℕ) (index : ℕ) (old new : List
 pub record CutsTail (from : ℕ) (old new : List ℕ) : Type 0 where
   pub before : (k : ℕ) → k < from → slice_index new k ≡ slice_index old k
   pub zeros : (k : ℕ) → from ≤ k → slice_index new k ≡ 0
-
--- the bytes are those of a file's block, zeros where it isn't stored
-pub record HoldsBlock (m : LogMap) (n index : ℕ) (block : List ℕ) : Type 0 where
-  pub long : length block ≡ 512
-  pub bytes : (k : ℕ) → slice_index block k ≡ slice_index (m.block n index) k
 
 -- the bytes w, which begin at a place of a file, cover its block at an index whole
 abbrev pub Covers : ℕ → List ℕ → ℕ → Type 0

@@ -5,7 +5,7 @@ use Rattle.lfs_model.specs.Device.{DeviceState}
 use Rattle.lfs_model.specs.Encodes.{IsLogMap}
 use Rattle.lfs_model.specs.Stands.{LogMap, StandsLog}
 use Rattle.lfs_log.specs.memory.declared.changes.Changes.{Changes}
-use Rattle.lfs_log.specs.memory.declared.header.Header.{Header}
+use Rattle.lfs_log.specs.memory.files.declared.header.Header.{Header}
 use Rattle.lfs_log.specs.memory.Batch.{staged}
 use Rattle.lfs_log.specs.memory.Present.{as_header}
 use Rattle.lfs_log.specs.memory.Removing.{without_file}

@@ -6,11 +6,13 @@ use Rattle.lfs_model.specs.Device.{DeviceState}
 use Rattle.lfs_model.specs.Encodes.{IsLogMap, HasInode}
 use Rattle.lfs_model.specs.Objects.{IsChangedAt, AreWhole, WritesBytes, CutsBytes}
 use Rattle.lfs_model.specs.Stands.{LogMap}
+pub use Rattle.lfs_files.specs.Files.{SizesFile, WritesFile}
+pub use Rattle.lfs_files.specs.Headers.{resized}
 use Rattle.lfs_log.specs.memory.declared.batch.Cut.{Cut}
 use Rattle.lfs_log.specs.memory.declared.batch.Loss.{Loss}
 use Rattle.lfs_log.specs.memory.declared.batch.Loss.TheVariants.{Nothing, Blocks}
 use Rattle.lfs_log.specs.memory.declared.changes.Changes.{Changes}
-use Rattle.lfs_log.specs.memory.declared.header.Header.{Header}
+use Rattle.lfs_log.specs.memory.files.declared.header.Header.{Header}
 use Rattle.lfs_log.specs.memory.Batch.{staged, FitsBatch}
 use Rattle.lfs_log.specs.memory.Changing.{FitsHeader}
 use Rattle.lfs_log.specs.memory.Present.{as_header}
@@ -18,18 +20,7 @@ use Rattle.lfs_log.specs.Held.{Held, Holds}
 use Rattle.lfs_store.specs.Drafting.{IsApart, TakesBlock}
 use Rattle.lfs_store.specs.Pieces.{IsBeneath, WriteSoFar, CutBlocks}
 
--- the header of a file that has another size
-abbrev pub resized : Header → ℕ → Header
-resized h size = record { kind = h.kind; links = h.links; size = size }
-
 -- ---- writing
-
--- File n with w laid over it from a place on, and its header; all other files are as they were.
-pub record WritesFile (m m' : LogMap) (n : ℕ) (h h' : Header) (at : ℕ) (w : List ℕ) : Type 0 where
-  pub bytes : WritesBytes m m' n (as_header h) (as_header h') at w
-  pub only : IsChangedAt m n m'
-  pub whole : AreWhole m n → AreWhole m' n
-  pub header : m'.header n ≡ Some (as_header h')
 
 -- The log map may be changed so: the file is there, and apart from what is lost; a file that the log map hasn't yet gets blocks below the 113th alone.
 pub record TakesWrite (c : Changes) (m : LogMap) (n : ℕ) (h : Header) (at : ℕ) (w : List ℕ) : Type 0 where
@@ -78,15 +69,6 @@ pub record DraftsCut (c : Changes) (n len : ℕ) : Type 0 where
   pub lost : LosesFrom c.loss n (div_ceil len 512)
   pub headers : c.headers.items ≡ []
   pub blocks : c.blocks.items ≡ []
-
--- File n with another size: cut, or made longer with its blocks as they were; all other files are as they were.
-pub record SizesFile (m m' : LogMap) (n : ℕ) (h h' : Header) (len : ℕ) : Type 0 where
-  pub shorter : len < h.size → CutsBytes m m' n (as_header h) (as_header h') len
-  pub longer : h.size ≤ len → IsLogMap m → m.header n ≡ Some (as_header h) → CutsBytes m m' n (as_header h) (as_header h') len
-  pub below : (i : ℕ) → i < len / 512 → m'.block n i ≡ m.block n i
-  pub only : IsChangedAt m n m'
-  pub whole : AreWhole m n → AreWhole m' n
-  pub header : m'.header n ≡ Some (as_header h')
 
 module _ {D : Type 0} (state : D → DeviceState) where
   -- A draft that cuts the blocks of file n.

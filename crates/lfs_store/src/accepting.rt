@@ -7,10 +7,10 @@ ghost use Rattle.lfs_store.specs.Accepting.{IsMountRefusal};
 ghost use Rattle.lfs_log.specs.memory.Batch.{IsNoChange, room_for};
 
 use crate::draft::Draft;
-use crate::fault::StoreFault;
 use crate::store::Store;
 use crate::totals::Totals;
 use lfs_device::SectorDevice;
+use lfs_files::StoreFault;
 use lfs_log::{Log, LogFault, MountFault};
 use std::alloc::Global;
 

@@ -4,7 +4,7 @@
 mod accepting;
 mod draft;
 pub mod drafting;
-mod fault;
+mod files;
 mod losing;
 mod making;
 mod measuring;
@@ -16,7 +16,7 @@ pub mod totals;
 mod writing;
 
 pub use draft::Draft;
-pub use fault::StoreFault;
+pub use lfs_files::StoreFault;
 pub use lfs_log::{Header, Log, LogFault, MountFault};
 pub use store::Store;
 pub use totals::{Measure, Totals};

@@ -4,12 +4,12 @@ ghost use Rattle.lfs_log.specs.memory.Batch.{IsNoChange};
 ghost use Rattle.lfs_store.specs.Recounting.{CountsMade, CountsRelinked};
 ghost use Rattle.lfs_store.specs.Making.{Makes, SetsLinks, Removes, first_links, first_header};
 
-use crate::fault::StoreFault;
 use crate::measuring::BLOCKS;
 use crate::recounting::recounted;
 use crate::store::Store;
 use crate::totals::{Measure, NO_BLOCK};
 use lfs_device::SectorDevice;
+use lfs_files::StoreFault;
 use lfs_log::{Header, LastLink, LogFault, Loss, Removal};
 use lfs_model::Kind;
 

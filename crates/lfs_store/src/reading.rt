@@ -5,9 +5,9 @@ ghost use Rattle.lfs_log.specs.Held.{Reads, IsReadFault};
 ghost use Rattle.lfs_store.specs.Reading.{ReadsStore, ReadsBlock, ReadsPart, Appends};
 
 use crate::draft::Draft;
-use crate::fault::StoreFault;
 use crate::store::Store;
 use lfs_device::SectorDevice;
+use lfs_files::StoreFault;
 use lfs_log::{Log, LogFault};
 use std::alloc::Global;
 

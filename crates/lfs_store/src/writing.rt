@@ -7,12 +7,12 @@ ghost use Rattle.lfs_store.specs.Pieces.{Covers};
 ghost use Rattle.lfs_store.specs.Writing.{ReadsBeneath};
 
 use crate::draft::Draft;
-use crate::fault::StoreFault;
 use crate::measuring::BLOCKS;
 use crate::pieces::{cut_tail, overlay};
 use crate::reading::read_block;
 use crate::store::Store;
 use lfs_device::SectorDevice;
+use lfs_files::StoreFault;
 use lfs_log::{Cut, Header, Log, LogFault, Loss};
 
 /// Whether bytes that begin at a place of a file cover its block at an index whole.

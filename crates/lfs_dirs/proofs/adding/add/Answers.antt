@@ -1,6 +1,6 @@
 use Rattle.std.proofs.Common.{rules, ◌≡◌, ℕ, List, length, ap, sym, ◌∙◌, subst}
-use Rattle.lfs_store.proofs.of_memory.Going.{ok_then}
-use Rattle.lfs_store.specs.Writing.{Writes}
+use Rattle.std.proofs.lemmas.Result.{on_ok_weaker}
+use Rattle.lfs_files.specs.Files.{Writes}
 use Rattle.lfs_dirs.specs.Adding.{slot_for}
 use Rattle.lfs_dirs.proofs.SlotsAdded.{adds, fits_slot}
 use Rattle.lfs_dirs.proofs.adding.add.Goals as goal
@@ -10,8 +10,10 @@ returns-clause-done g c =
     let is : c.encode_slot-slot.result ≡ slot_for c.args.number c.args.name.now =
     c.encode_slot-slot.ensures ∙ ap (λ (n : ℕ). slot_for n c.args.name.now) c.from.ensures in
     let long : length c.encode_slot-slot.result ≡ 64 = search rules in
-    ok_then c.write_at.result _ _
-    (λ writes. adds g.D.SectorDevice.state c.args.store.now.log c.write_at.new.self.log c.args.store.now.draft.changes c.write_at.new.self.draft.changes c.args.directory c.args.header c.args.number c.args.name.now
+    let old = g.F.Files.state c.args.files.now in
+    let new = g.F.Files.state c.write_at.new.self in
+    on_ok_weaker c.write_at.result
+    (λ writes. adds old new c.args.directory c.args.header c.args.number c.args.name.now
     (fits_slot c.args.number c.args.name.now c.requires.first c.requires.last c.requires.name) (sym (ap length is) ∙ long)
-    (subst (λ (w : List ℕ). Writes g.D.SectorDevice.state c.args.store.now.log c.write_at.new.self.log c.args.store.now.draft.changes c.write_at.new.self.draft.changes c.args.directory c.args.header c.args.header.size w) is writes))
+    (subst (λ (w : List ℕ). Writes old new c.args.directory c.args.header c.args.header.size w) is writes))
     c.write_at.ensures.done

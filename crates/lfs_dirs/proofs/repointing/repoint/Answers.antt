@@ -1,6 +1,6 @@
 use Rattle.std.proofs.Common.{rules, ◌≡◌, ◌<◌, ◌*◌, ◌/◌, ℕ, List, Option, length, ap, sym, ◌∙◌, subst}
-use Rattle.lfs_store.specs.declared.draft.Draft.{Draft}
-use Rattle.lfs_store.specs.Writing.{Writes}
+use Rattle.lfs_files.specs.Files.{Writes}
+use Rattle.lfs_files.proofs.FilesCompose.{redrafts_more, redrafts_read}
 use Rattle.lfs_dirs.specs.declared.searching.Found.{Found}
 use Rattle.lfs_dirs.specs.Adding.{slot_for}
 use Rattle.lfs_dirs.specs.Searching.{FindsSlot}
@@ -8,24 +8,39 @@ use Rattle.lfs_dirs.proofs.SlotsAdded.{fits_slot}
 use Rattle.lfs_dirs.proofs.SlotsReplaced.{repoints, fails_behind}
 use Rattle.lfs_dirs.proofs.repointing.repoint.Goals as goal
 
+pub returns-in-Ok-None-clause-redrafts : goal.returns-in-Ok-None-clause-redrafts
+returns-in-Ok-None-clause-redrafts g c = redrafts_read (g.F.Files.state c.args.files.now) (g.F.Files.state c.search.new.files) c.search.ensures.reads
+
+pub returns-in-Err-clause-redrafts : goal.returns-in-Err-clause-redrafts
+returns-in-Err-clause-redrafts g c = redrafts_read (g.F.Files.state c.args.files.now) (g.F.Files.state c.search.new.files) c.search.ensures.reads
+
+pub returns-in-Err-write_at-clause-redrafts : goal.returns-in-Err-write_at-clause-redrafts
+returns-in-Err-write_at-clause-redrafts g c =
+    redrafts_more (g.F.Files.state c.args.files.now) (g.F.Files.state c.search.new.files) (g.F.Files.state c.write_at.new.self) (g.met.F.Files.lawful c.args.files.now)
+    (redrafts_read (g.F.Files.state c.args.files.now) (g.F.Files.state c.search.new.files) c.search.ensures.reads) c.write_at.ensures.redrafts
+
+pub returns-clause-redrafts : goal.returns-clause-redrafts
+returns-clause-redrafts g c =
+    redrafts_more (g.F.Files.state c.args.files.now) (g.F.Files.state c.search.new.files) (g.F.Files.state c.write_at.new.self) (g.met.F.Files.lawful c.args.files.now)
+    (redrafts_read (g.F.Files.state c.args.files.now) (g.F.Files.state c.search.new.files) c.search.ensures.reads) c.write_at.ensures.redrafts
+
 pub returns-in-Ok-None-clause-none : goal.returns-in-Ok-None-clause-none
 returns-in-Ok-None-clause-none g c is =
-    subst (λ (o : Option Found). FindsSlot g.D.SectorDevice.state c.args.store.now.log c.search.new.store.log c.args.store.now.draft.changes c.args.directory c.args.header c.args.name.now o)
+    subst (λ (o : Option Found). FindsSlot (g.F.Files.state c.args.files.now) (g.F.Files.state c.search.new.files) c.args.directory c.args.header c.args.name.now o)
     c.in-Ok-None.field-0-is c.in-Ok-None.ensures.answer
 
 pub returns-in-Err-write_at-clause-failed : goal.returns-in-Err-write_at-clause-failed
 returns-in-Err-write_at-clause-failed g c other =
-    fails_behind g.D.SectorDevice.state c.args.store.now.log c.search.new.store.log c.write_at.new.self.log c.args.store.now.draft.changes c.args.directory c.args.header
+    fails_behind (g.F.Files.state c.args.files.now) (g.F.Files.state c.search.new.files) (g.F.Files.state c.write_at.new.self) c.args.directory c.args.header
     c.search.ensures.reads (c.in-Err-write_at.ensures.failed other)
 
 pub returns-clause-done : goal.returns-clause-done
 returns-clause-done g c is =
     let slot : c.encode_slot-slot.result ≡ slot_for c.args.number c.args.name.now = c.encode_slot-slot.ensures ∙ ap (λ (n : ℕ). slot_for n c.args.name.now) c.from.ensures in
     let long : length c.encode_slot-slot.result ≡ 64 = search rules in
-    let found = subst (λ (o : Option Found). FindsSlot g.D.SectorDevice.state c.args.store.now.log c.search.new.store.log c.args.store.now.draft.changes c.args.directory c.args.header c.args.name.now o)
+    let found = subst (λ (o : Option Found). FindsSlot (g.F.Files.state c.args.files.now) (g.F.Files.state c.search.new.files) c.args.directory c.args.header c.args.name.now o)
     c.in-Ok-Some.field-0-is c.in-Ok-Some.ensures.answer in
     let inside : c.in-Ok-Some.found.place < c.args.header.size / 64 = search rules in
-    repoints g.D.SectorDevice.state c.args.store.now.log c.search.new.store.log c.write_at.new.self.log c.args.store.now.draft.changes c.write_at.new.self.draft.changes c.args.directory c.args.header c.args.number c.args.name.now c.in-Ok-Some.found
-    (fits_slot c.args.number c.args.name.now c.requires.first c.requires.last c.requires.name) (sym (ap length slot) ∙ long) inside c.search.ensures.reads c.write_at.ensures.reads found
-    (subst (λ (d : Draft). Writes g.D.SectorDevice.state c.search.new.store.log c.write_at.new.self.log d.changes c.write_at.new.self.draft.changes c.args.directory c.args.header (64 * c.in-Ok-Some.found.place) (slot_for c.args.number c.args.name.now)) c.search.ensures.draft
-    (subst (λ (w : List ℕ). Writes g.D.SectorDevice.state c.search.new.store.log c.write_at.new.self.log c.search.new.store.draft.changes c.write_at.new.self.draft.changes c.args.directory c.args.header (64 * c.in-Ok-Some.found.place) w) slot c.in-Ok.ensures.done))
+    repoints (g.F.Files.state c.args.files.now) (g.F.Files.state c.search.new.files) (g.F.Files.state c.write_at.new.self) c.args.directory c.args.header c.args.number c.args.name.now c.in-Ok-Some.found
+    (fits_slot c.args.number c.args.name.now c.requires.first c.requires.last c.requires.name) (sym (ap length slot) ∙ long) inside c.search.ensures.reads c.write_at.ensures.redrafts found
+    (subst (λ (w : List ℕ). Writes (g.F.Files.state c.search.new.files) (g.F.Files.state c.write_at.new.self) c.args.directory c.args.header (64 * c.in-Ok-Some.found.place) w) slot c.in-Ok.ensures.done)

@@ -1,8 +1,6 @@
-use Rattle.std.proofs.Common.{◌≡◌, ◌<◌, ◌*◌, ◌-◌, ◌/◌, Option, Some, None, ◌∙◌, subst, arith}
+use Rattle.std.proofs.Common.{◌≡◌, ◌<◌, ◌*◌, ◌-◌, ◌/◌, Option, subst, arith}
 use Rattle.std.specs.Prelude.{min}
-use Rattle.lfs_store.specs.declared.draft.Draft.{Draft}
 use Rattle.lfs_dirs.specs.declared.searching.Found.{Found}
-use Rattle.lfs_dirs.specs.Finding.{IsBlockFault}
 use Rattle.lfs_dirs.specs.Searching.{FindsInBlock}
 use Rattle.lfs_dirs.proofs.Searches.{search_goes_on, search_hits, search_ends, search_fails}
 use Rattle.lfs_dirs.proofs.searching.search.Goals as goal
@@ -14,12 +12,10 @@ returns-in-Ok-Some-clause-answer g c =
     let m = c.min-count.ensures in
     let low : 8 * c.loop-index.index < c.args.header.size / 64 = omega (arith, t, e) in
     let is : c.min-count.result ≡ min (c.args.header.size / 64 - 8 * c.loop-index.index) 8 = omega (arith, m) in
-    let hit = subst (λ (found : Option Found). FindsInBlock g.D.SectorDevice.state c.loop-index.store.log c.search_block.new.store.log c.loop-index.store.draft.changes c.args.directory c.loop-index.index c.min-count.result c.args.name.now found)
-    c.in-Ok-Some.field-0-is c.in-Ok-Some.ensures.answer in
-    search_hits g.D.SectorDevice.state c.args.store.now.log c.loop-index.store.log c.search_block.new.store.log c.args.store.now.draft.changes c.args.directory c.args.header c.args.name.now
-    c.loop-index.index c.min-count.result c.in-Ok-Some.found is low c.loop-index.invariant.2 c.search_block.ensures.reads
-    (subst (λ (d : Draft). FindsInBlock g.D.SectorDevice.state c.loop-index.store.log c.search_block.new.store.log d.changes c.args.directory c.loop-index.index c.min-count.result c.args.name.now (Some c.in-Ok-Some.found))
-    c.loop-index.invariant.0 hit)
+    search_hits c.args.directory c.args.header c.args.name.now (g.F.Files.state c.args.files.now) (g.F.Files.state c.loop-index.files) (g.F.Files.state c.search_block.new.files)
+    c.loop-index.index c.min-count.result is low c.loop-index.invariant c.in-Ok-Some.found c.search_block.ensures.reads
+    (subst (λ (found : Option Found). FindsInBlock (g.F.Files.state c.loop-index.files) (g.F.Files.state c.search_block.new.files) c.args.directory c.loop-index.index c.min-count.result c.args.name.now found)
+    c.in-Ok-Some.field-0-is c.in-Ok-Some.ensures.answer)
 
 pub returns-in-Err-clause-failed : goal.returns-in-Err-clause-failed
 returns-in-Err-clause-failed g c =
@@ -28,10 +24,8 @@ returns-in-Err-clause-failed g c =
     let m = c.min-count.ensures in
     let low : 8 * c.loop-index.index < c.args.header.size / 64 = omega (arith, t, e) in
     let is : c.min-count.result ≡ min (c.args.header.size / 64 - 8 * c.loop-index.index) 8 = omega (arith, m) in
-    search_fails g.D.SectorDevice.state c.args.store.now.log c.loop-index.store.log c.search_block.new.store.log c.args.store.now.draft.changes c.args.directory c.args.header c.args.name.now
-    c.loop-index.index c.min-count.result is low c.loop-index.invariant.2
-    (subst (λ (d : Draft). IsBlockFault g.D.SectorDevice.state c.loop-index.store.log c.search_block.new.store.log d.changes c.args.directory c.loop-index.index c.min-count.result)
-    c.loop-index.invariant.0 c.in-Err.ensures.failed)
+    search_fails c.args.directory c.args.header c.args.name.now (g.F.Files.state c.args.files.now) (g.F.Files.state c.loop-index.files) (g.F.Files.state c.search_block.new.files)
+    c.loop-index.index c.min-count.result is low c.loop-index.invariant c.in-Err.ensures.failed
 
 pub loop-index-preserved : goal.loop-index-preserved
 loop-index-preserved g c =
@@ -40,21 +34,14 @@ loop-index-preserved g c =
     let m = c.min-count.ensures in
     let low : 8 * c.loop-index.index < c.args.header.size / 64 = omega (arith, t, e) in
     let is : c.min-count.result ≡ min (c.args.header.size / 64 - 8 * c.loop-index.index) 8 = omega (arith, m) in
-    let miss = subst (λ (found : Option Found). FindsInBlock g.D.SectorDevice.state c.loop-index.store.log c.search_block.new.store.log c.loop-index.store.draft.changes c.args.directory c.loop-index.index c.min-count.result c.args.name.now found)
-    c.in-Ok-None.field-0-is c.in-Ok-None.ensures.answer in (
-      c.search_block.ensures.draft ∙ c.loop-index.invariant.0,
-      c.search_block.ensures.saved ∙ c.loop-index.invariant.1,
-      search_goes_on g.D.SectorDevice.state c.args.store.now.log c.loop-index.store.log c.search_block.new.store.log c.args.store.now.draft.changes c.args.directory c.args.header c.args.name.now
-          c.loop-index.index c.min-count.result (g.met.D.SectorDevice.lawful c.args.store.now.log.device) is low c.loop-index.invariant.2 c.search_block.ensures.reads
-          (subst (λ (d : Draft). FindsInBlock g.D.SectorDevice.state c.loop-index.store.log c.search_block.new.store.log d.changes c.args.directory c.loop-index.index c.min-count.result c.args.name.now None)
-          c.loop-index.invariant.0 miss),
-      c.search_block.ensures.totals ∙ c.loop-index.invariant.3,
-      c.search_block.ensures.drafted ∙ c.loop-index.invariant.4,
-    )
+    search_goes_on c.args.directory c.args.header c.args.name.now (g.F.Files.state c.args.files.now) (g.F.Files.state c.loop-index.files) (g.F.Files.state c.search_block.new.files)
+    c.loop-index.index c.min-count.result is low c.loop-index.invariant (g.met.F.Files.lawful c.args.files.now) c.search_block.ensures.reads
+    (subst (λ (found : Option Found). FindsInBlock (g.F.Files.state c.loop-index.files) (g.F.Files.state c.search_block.new.files) c.args.directory c.loop-index.index c.min-count.result c.args.name.now found)
+    c.in-Ok-None.field-0-is c.in-Ok-None.ensures.answer)
 
 pub returns-clause-answer : goal.returns-clause-answer
 returns-clause-answer g c =
     let t = c.loop-index-test.false in
     let e = c.div_ceil-index-end.ensures in
-    search_ends g.D.SectorDevice.state c.args.store.now.log c.loop-index.store.log c.args.store.now.draft.changes c.args.directory c.args.header c.args.name.now
-    c.loop-index.index (omega (arith, t, e)) c.loop-index.invariant.2
+    search_ends c.args.directory c.args.header c.args.name.now (g.F.Files.state c.args.files.now) (g.F.Files.state c.loop-index.files)
+    c.loop-index.index (omega (arith, t, e)) c.loop-index.invariant

@@ -1,5 +1,5 @@
 use Rattle.std.proofs.Common.{rules, ◌≡◌, Bool, sym, ap, subst, Err}
-use Rattle.lfs_log.specs.memory.declared.fault.LogFault.TheVariants.{Full}
+use Rattle.lfs_log.specs.memory.files.declared.fault.LogFault.TheVariants.{Full}
 use Rattle.lfs_log.specs.Held.{Held}
 use Rattle.lfs_store.specs.Accepting.{MakesRoom}
 use Rattle.lfs_store.proofs.Acceptings.{room_none, room_commit}

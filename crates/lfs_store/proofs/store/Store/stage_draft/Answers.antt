@@ -1,6 +1,6 @@
 use Rattle.std.proofs.Common.{rules, ◌≡◌, false, ap, subst, Err}
 use Rattle.lfs_store.specs.declared.draft.Draft.{Draft}
-use Rattle.lfs_log.specs.memory.declared.fault.LogFault.TheVariants.{Full, Device}
+use Rattle.lfs_log.specs.memory.files.declared.fault.LogFault.TheVariants.{Full, Device}
 use Rattle.lfs_store.specs.Accepting.{Accepts, Declines, IsAcceptFault}
 use Rattle.lfs_store.proofs.Acceptings.{accepts, declines, declines_full, accept_fault, where_err}
 use Rattle.lfs_store.proofs.store.Store.stage_draft.Goals as goal

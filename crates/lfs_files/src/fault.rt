@@ -1,4 +1,4 @@
-//! Why calls of a log fail.
+//! Why calls on files fail.
 ghost use Rattle.std.specs.Prelude.{◌≡◌};
 
 /// Why a call of the log isn't done.
@@ -10,4 +10,13 @@ pub enum LogFault {
     Halted,
     /// Too few segments are clean, or the changes need more room in memory than there is before the next commit. Nothing changed.
     Full,
+}
+
+/// Why a call that takes memory isn't done.
+#[derive(Clone, Copy, Debug, PartialEq, Eq)]
+pub enum StoreFault {
+    /// Memory was refused.
+    NoMemory,
+    /// The log gave no answer.
+    Log(LogFault),
 }

@@ -1,0 +1,2 @@
+pub mod LooksCompose
+pub mod FilesCompose

@@ -1,0 +1,3 @@
+pub mod Headers
+pub mod Looking
+pub mod Files

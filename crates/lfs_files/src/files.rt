@@ -1,0 +1,84 @@
+//! Files by number, with the changes of one call before they are staged.
+ghost use Rattle.std.specs.Prelude.{◌≡◌, ◌<◌, ◌≤◌, ◌+◌, true, length, IfOk, IfErr, OnOk, OnErr, IsErrOf, IsFalse};
+ghost use Rattle.lfs_model.specs.Device.{IsLawful};
+ghost use Rattle.lfs_files.specs.Files.{Counts, FilesState, IsFault, Reads, Redrafts, SetsLen, TellsBlock, TellsHeader, Writes};
+
+use crate::fault::{LogFault, StoreFault};
+use crate::header::Header;
+
+/// The files of a volume, and a draft of changes to them, which reads see.
+pub trait Files {
+    ghost Staged: { Type 0 };
+    ghost Draft: { Type 0 };
+    ghost state: { Self → FilesState Staged Draft };
+
+    /// What the inode of a file says of it, if the file is there.
+    ///
+    /// # Errors
+    ///
+    /// `Halted` once a commit failed, `Device` where a call of the device failed.
+    fn header(&mut self, number: u16) -> Result<Option<Header>, LogFault>
+        requires { number < 4096 }
+        ensures reads { Reads (state self.old) (state self.new) }
+        ensures answer { IfOk result (TellsHeader (state self.old) (state self.new) number) }
+        ensures failed { OnErr result (IsFault (state self.old) (state self.new)) }
+        ensures halted { IsErrOf result LogFault.Halted → (state self.old).halted ≡ true }
+        ensures other { IsErrOf result LogFault.Full → ⊥ };
+
+    /// Whether a block of a file is stored, and its bytes; zeros where it isn't.
+    ///
+    /// # Errors
+    ///
+    /// As those of `header`.
+    fn block(&mut self, number: u16, index: u32, out: &mut [u8; 512]) -> Result<bool, LogFault>
+        requires { number < 4096 }
+        ensures reads { Reads (state self.old) (state self.new) }
+        ensures answer { OnOk result (TellsBlock (state self.old) (state self.new) number index out.new) }
+        ensures failed { OnErr result (IsFault (state self.old) (state self.new)) }
+        ensures halted { IsErrOf result LogFault.Halted → (state self.old).halted ≡ true }
+        ensures other { IsErrOf result LogFault.Full → ⊥ };
+
+    /// Lays bytes over a file of this header, from a place on. Where they end behind its size, it is as long as that needs.
+    ///
+    /// # Errors
+    ///
+    /// `NoMemory` where memory runs out; else as those of `block`. What the draft holds then is of no use.
+    fn write_at(
+        &mut self,
+        number: u16,
+        header: Header,
+        at: u32,
+        bytes: &[u8],
+    ) -> Result<(), StoreFault>
+        requires some { 1 ≤ number }
+        requires few { number ≤ 4095 }
+        requires bytes { 0 < length bytes.now }
+        requires end { at + length bytes.now ≤ 8511488 }
+        ensures redrafts { Redrafts (state self.old) (state self.new) }
+        ensures done { OnOk result (Writes (state self.old) (state self.new) number header at bytes.now) }
+        ensures counted { OnOk result (Counts (state self.old) (state self.new)) }
+        ensures failed { IfErr result (λ fault. (fault ≡ StoreFault.NoMemory → ⊥)
+            → IsFault (state self.old) (state self.new)) }
+        ensures halted { IsErrOf result (StoreFault.Log LogFault.Halted) → (state self.old).halted ≡ true }
+        ensures other { IsErrOf result (StoreFault.Log LogFault.Full) → ⊥ };
+
+    /// Cuts a file of this header, or makes it longer with zeros. The draft was empty.
+    ///
+    /// # Errors
+    ///
+    /// As those of `write_at`.
+    fn set_len(&mut self, number: u16, header: Header, len: u32) -> Result<(), StoreFault>
+        requires some { 1 ≤ number }
+        requires few { number ≤ 4095 }
+        requires most { len ≤ 8511488 }
+        requires empty { (state self.old).empty }
+        ensures redrafts { Redrafts (state self.old) (state self.new) }
+        ensures done { OnOk result (SetsLen (state self.old) (state self.new) number header len) }
+        ensures counted { OnOk result (Counts (state self.old) (state self.new)) }
+        ensures failed { IfErr result (λ fault. (fault ≡ StoreFault.NoMemory → ⊥)
+            → IsFault (state self.old) (state self.new)) }
+        ensures halted { IsErrOf result (StoreFault.Log LogFault.Halted) → (state self.old).halted ≡ true }
+        ensures other { IsErrOf result (StoreFault.Log LogFault.Full) → ⊥ };
+
+    ghost lawful: { (f : Self) → IsLawful (state f).device };
+}

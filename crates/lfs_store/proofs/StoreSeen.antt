@@ -1,0 +1,148 @@
+-- What calls of a store are to the layers above.
+use Rattle.std.specs.Prelude.{max, IfErr, IfOk, IsFalse, OnOk}
+use Rattle.std.proofs.Common.{◌≡◌, ◌<◌, ◌≤◌, ◌+◌, ℕ, Bool, false, List, Option, Result, Ok, Err, length, refl, sym, ◌∙◌, ap, ap₂, subst}
+use Rattle.std.specs.Int.{div_ceil}
+use Rattle.lfs_model.specs.Cutting.{is_past}
+use Rattle.lfs_model.specs.Device.{DeviceState}
+use Rattle.lfs_model.specs.Encodes.{IsLogMap}
+use Rattle.lfs_model.specs.Fields.{zeros}
+use Rattle.lfs_model.specs.Stands.{LogMap}
+use Rattle.lfs_files.specs.declared.header.Header.{Header}
+use Rattle.lfs_files.specs.Files as files
+use Rattle.lfs_files.specs.Files.{FilesState, HasSized, HasWritten, HoldsBlock, SizesFile, TakesWrite, WritesFile}
+use Rattle.lfs_files.specs.Headers.{HeaderAnswer, resized}
+use Rattle.lfs_log.specs.memory.declared.batch.Cut.{Cut}
+use Rattle.lfs_log.specs.memory.declared.batch.Loss.{Loss}
+use Rattle.lfs_log.specs.memory.declared.memory.LogMemory.{LogMemory}
+use Rattle.lfs_log.specs.memory.Batch.{FitsBatch, IsNoChange, is_lost, staged}
+use Rattle.lfs_log.specs.Held as held
+use Rattle.lfs_log.specs.Held.{Held, Holds, IsReadFault}
+use Rattle.lfs_store.specs.declared.draft.Draft.{Draft}
+use Rattle.lfs_store.specs.declared.totals.Totals.{Totals}
+use Rattle.lfs_store.specs.Reading.{ReadsHeader, ReadsBlock}
+use Rattle.lfs_store.specs.Recounting as counts
+use Rattle.lfs_store.specs.Seen.{HasMap, StagedLog, counted_of, state_of}
+use Rattle.lfs_store.specs.Writing as writing
+use Rattle.lfs_store.proofs.Apart.{no_change}
+use Rattle.lfs_store.proofs.LogReads.{held_still}
+use Rattle.lfs_store.proofs.Writings.{block_read}
+
+module _ {D : Type 0} (state : D → DeviceState) (h h' : Held D) (d d' : Draft) (v v' : Bool) (t t' u u' : Totals) where
+  abbrev S : FilesState StagedLog Draft
+  S = state_of state h d v t u
+
+  abbrev S' : FilesState StagedLog Draft
+  S' = state_of state h' d' v' t' u'
+
+  same_staged : held.Reads state h h' → S'.staged ≡ S.staged
+  same_staged reads = ap₂ (λ (x : LogMemory) (n : ℕ). record { memory = x; number = n }) reads.memory reads.number
+
+  -- ---- reading
+  pub seen_read : held.Reads state h h' → d' ≡ d → v' ≡ v → t' ≡ t → u' ≡ u → files.Reads S S'
+  seen_read reads same saved totals drafted = record {
+    looks = reads.looks;
+    halted = reads.halted;
+    saved = saved;
+    staged = same_staged reads;
+    draft = same;
+    totals = ap counted_of totals;
+    drafted = ap counted_of drafted;
+    headers = ap (λ (x : Draft). length x.changes.headers.items) same;
+    blocks = ap (λ (x : Draft). length x.changes.blocks.items) same;
+    empty = subst (λ (x : Draft). IsNoChange x.changes) (sym same);
+    lost = λ y. ap (λ (x : Draft). is_lost x.changes.loss y) same;
+    has = λ m m' is. record {
+      checkpoint = is.checkpoint;
+      acknowledged = is.acknowledged;
+      holds = held_still state h h' is.checkpoint is.acknowledged m reads is.holds;
+      draft = is.draft ∙ ap (λ (x : Draft). staged x.changes m) (sym same);
+    };
+    fits = λ m. subst (λ (x : Draft). FitsBatch m x.changes) (sym same);
+  }
+
+  pub seen_fault : IsReadFault state h h' → files.IsFault S S'
+  seen_fault failed m m' keeps is = failed is.checkpoint is.acknowledged m keeps is.holds
+
+  pub seen_fault_by : {T E : Type 0} (P : E → Type 0) (r : Result T E) → IfErr r (λ e. P e → IsReadFault state h h') → IfErr r (λ e. P e → files.IsFault S S')
+  seen_fault_by P (Ok x) failed = record {}
+  seen_fault_by P (Err e) failed = λ other. seen_fault (failed other)
+
+  pub seen_header : (n : ℕ) (found : Option Header) → ReadsHeader state h h' d.changes n found → files.TellsHeader S S' n found
+  seen_header n found answer m m' keeps is =
+      subst (λ (x : LogMap). HeaderAnswer x n found) (sym is.draft) (answer is.checkpoint is.acknowledged m keeps is.holds)
+
+  seen_block : (n i : ℕ) (out : List ℕ) (stored : Bool) → length out ≡ 512 → (IsFalse stored → out ≡ zeros 512)
+      → ReadsBlock state h h' d.changes n i out stored → files.TellsBlock S S' n i out
+  seen_block n i out stored long blank answer m m' keeps is =
+      subst (λ (x : LogMap). HoldsBlock x n i out) (sym is.draft)
+      (block_read (staged d.changes m) n i out stored long blank (answer is.checkpoint is.acknowledged m keeps is.holds))
+
+  pub seen_block_then : {E : Type 0} (n i : ℕ) (out : List ℕ) (r : Result Bool E) → length out ≡ 512 → IfOk r (λ stored. IsFalse stored → out ≡ zeros 512)
+      → IfOk r (ReadsBlock state h h' d.changes n i out) → OnOk r (files.TellsBlock S S' n i out)
+  seen_block_then n i out (Ok stored) long blank answer = seen_block n i out stored long blank answer
+  seen_block_then n i out (Err e) long blank answer = record {}
+
+  -- ---- changing the draft
+  pub seen_redraft : held.Reads state h h' → v' ≡ v → t' ≡ t → files.Redrafts S S'
+  seen_redraft reads saved totals = record {
+    looks = reads.looks;
+    halted = reads.halted;
+    saved = saved;
+    staged = same_staged reads;
+    totals = ap counted_of totals;
+  }
+
+  pub seen_counts : counts.Counts state h h' d.changes d'.changes u u' → files.Counts S S'
+  seen_counts is m a b keeps has has' whole whole' =
+      subst (λ (x : LogMap). files.AreCounted x (counted_of u) → files.AreCounted b (counted_of u')) (sym has.draft)
+      (subst (λ (x : LogMap). files.AreCounted (staged d.changes m) (counted_of u) → files.AreCounted x (counted_of u')) (sym has'.draft)
+      (is has.checkpoint has.acknowledged m keeps has.holds (subst IsLogMap has.draft whole) (subst IsLogMap has'.draft whole')))
+
+  pub seen_written : (n : ℕ) (head : Header) (at : ℕ) (w : List ℕ) → held.Reads state h h' → writing.Writes state h h' d.changes d'.changes n head at w → files.Writes S S' n head at w
+  seen_written n head at w reads is = record {
+    lost = λ y. ap (λ (x : Loss). is_lost x y) is.loss;
+    headers = is.headers;
+    blocks = is.blocks;
+    fits = λ m m' has fits takes. is.fits m fits record {
+      there = ap (λ (x : LogMap). x.header n) (sym has.draft) ∙ takes.there;
+      apart = record { inode = takes.apart.inode; above = takes.apart.above };
+      within = takes.within;
+      header = takes.header;
+    };
+    file = λ m m' keeps has. record {
+      map = staged d'.changes m;
+      has = record {
+        checkpoint = has.checkpoint;
+        acknowledged = has.acknowledged;
+        holds = held_still state h h' has.checkpoint has.acknowledged m reads has.holds;
+        draft = refl;
+      };
+      file = subst (λ (x : LogMap). WritesFile x (staged d'.changes m) n head (resized head (max head.size (at + length w))) at w) (sym has.draft)
+          (is.file has.checkpoint has.acknowledged m keeps has.holds);
+      around = λ i out. is.around m i out ∙ ap (λ (x : LogMap). x.block n i) (sym has.draft);
+    };
+  }
+
+  pub seen_sized : (n : ℕ) (head : Header) (len : ℕ) → IsNoChange d.changes → held.Reads state h h' → writing.SetsLen state h h' d'.changes n head len → files.SetsLen S S' n head len
+  seen_sized n head len none reads is = record {
+    cut = λ less y. let from = is.lost less in
+        ap (λ (x : Loss). is_lost x y) from.loss ∙ ap₂ (λ (k first : ℕ). is_past k first y) from.number from.start;
+    kept = λ more y. ap (λ (x : Loss). is_lost x y) (is.kept more);
+    headers = is.headers;
+    blocks = is.blocks;
+    fits = λ m m' has there fits. is.fits m (ap (λ (x : LogMap). x.header n) (sym (was m m' has)) ∙ there) fits;
+    file = λ m m' keeps has. record {
+      map = staged d'.changes m;
+      has = record {
+        checkpoint = has.checkpoint;
+        acknowledged = has.acknowledged;
+        holds = held_still state h h' has.checkpoint has.acknowledged m reads has.holds;
+        draft = refl;
+      };
+      file = subst (λ (x : LogMap). SizesFile x (staged d'.changes m) n head (resized head len) len) (sym (was m m' has))
+          (is.file has.checkpoint has.acknowledged m keeps has.holds);
+    };
+  }
+    where
+      was : (m m' : LogMap) → HasMap state h d.changes m m' → m' ≡ m
+      was m m' has = has.draft ∙ no_change d.changes m none

@@ -1,0 +1,22 @@
+use Rattle.std.proofs.lemmas.Result.{on_err_weaker}
+use Rattle.lfs_store.proofs.StoreSeen.{seen_read, seen_fault, seen_block_then}
+use Rattle.lfs_store.proofs.files.StoreFiles.block.Goals as goal
+
+pub returns-clause-reads : goal.returns-clause-reads
+returns-clause-reads g c =
+    seen_read g.D.SectorDevice.state c.args.self.now.log c.block.new.self.log c.args.self.now.draft c.block.new.self.draft
+    c.args.self.now.saved c.block.new.self.saved c.args.self.now.totals c.block.new.self.totals c.args.self.now.drafted c.block.new.self.drafted
+    c.block.ensures.reads c.block.ensures.draft c.block.ensures.saved c.block.ensures.totals c.block.ensures.drafted
+
+pub returns-clause-failed : goal.returns-clause-failed
+returns-clause-failed g c =
+    on_err_weaker c.block.result
+    (seen_fault g.D.SectorDevice.state c.args.self.now.log c.block.new.self.log c.args.self.now.draft c.block.new.self.draft
+    c.args.self.now.saved c.block.new.self.saved c.args.self.now.totals c.block.new.self.totals c.args.self.now.drafted c.block.new.self.drafted)
+    c.block.ensures.failed
+
+pub returns-clause-answer : goal.returns-clause-answer
+returns-clause-answer g c =
+    seen_block_then g.D.SectorDevice.state c.args.self.now.log c.block.new.self.log c.args.self.now.draft c.block.new.self.draft
+    c.args.self.now.saved c.block.new.self.saved c.args.self.now.totals c.block.new.self.totals c.args.self.now.drafted c.block.new.self.drafted
+    c.args.number c.args.index c.block.new.out c.block.result c.block.array_long c.block.ensures.zeros c.block.ensures.answer

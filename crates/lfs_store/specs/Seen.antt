@@ -1,0 +1,47 @@
+-- What the layers above see of a store.
+use Rattle.std.specs.Prelude.{◌≡◌, ℕ, Bool, length}
+use Rattle.lfs_model.specs.Checkpoint.{CheckpointValue}
+use Rattle.lfs_model.specs.Device.{DeviceState}
+use Rattle.lfs_model.specs.Stands.{LogMap}
+use Rattle.lfs_files.specs.Files.{Counted, FilesState}
+use Rattle.lfs_log.specs.memory.Batch.{FitsBatch, IsNoChange, is_lost, staged}
+use Rattle.lfs_log.specs.memory.declared.changes.Changes.{Changes}
+use Rattle.lfs_log.specs.memory.declared.memory.LogMemory.{LogMemory}
+use Rattle.lfs_log.specs.Held.{Held, Holds}
+use Rattle.lfs_store.specs.declared.draft.Draft.{Draft}
+use Rattle.lfs_store.specs.declared.totals.Totals.{Totals}
+
+-- totals as two numbers
+abbrev pub counted_of : Totals → Counted
+counted_of t = record { data_blocks = t.data_blocks; meta_blocks = t.meta_blocks }
+
+-- what is staged: what the log has in memory, and the number of the checkpoint that it acknowledged
+pub record StagedLog : Type 0 where
+  pub memory : LogMemory
+  pub number : ℕ
+
+module _ {D : Type 0} (state : D → DeviceState) where
+  -- The log holds log map m, and m' is it with the draft.
+  pub record HasMap (h : Held D) (c : Changes) (m m' : LogMap) : Type 0 where
+    pub checkpoint : CheckpointValue
+    pub acknowledged : LogMap
+    pub holds : Holds state h checkpoint acknowledged m
+    pub draft : m' ≡ staged c m
+
+  -- a store as files with a draft
+  abbrev pub state_of : Held D → Draft → Bool → Totals → Totals → FilesState StagedLog Draft
+  state_of h d saved totals drafted = record {
+    device = state h.device;
+    halted = h.halted;
+    saved = saved;
+    staged = record { memory = h.memory; number = h.number };
+    draft = d;
+    totals = counted_of totals;
+    drafted = counted_of drafted;
+    headers = length d.changes.headers.items;
+    blocks = length d.changes.blocks.items;
+    empty = IsNoChange d.changes;
+    lost = is_lost d.changes.loss;
+    has = HasMap h d.changes;
+    fits = λ m. FitsBatch m d.changes;
+  }

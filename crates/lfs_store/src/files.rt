@@ -1,0 +1,37 @@
+//! A store as the files that the layers above see.
+use crate::store::Store;
+use lfs_device::SectorDevice;
+use lfs_files::{Files, Header, LogFault, StoreFault};
+
+impl<D: SectorDevice> Files for Store<D> {
+    ghost use Rattle.lfs_store.specs.declared.draft.Draft.{Draft};
+    ghost use Rattle.lfs_store.specs.Seen.{StagedLog, state_of};
+
+    ghost Staged = { StagedLog };
+    ghost Draft = { Draft };
+    ghost state = { λ s. state_of D.SectorDevice.state s.log s.draft s.saved s.totals s.drafted };
+
+    fn header(&mut self, number: u16) -> Result<Option<Header>, LogFault> {
+        Store::header(self, number)
+    }
+
+    fn block(&mut self, number: u16, index: u32, out: &mut [u8; 512]) -> Result<bool, LogFault> {
+        Store::block(self, number, index, out)
+    }
+
+    fn write_at(
+        &mut self,
+        number: u16,
+        header: Header,
+        at: u32,
+        bytes: &[u8],
+    ) -> Result<(), StoreFault> {
+        Store::write_at(self, number, header, at, bytes)
+    }
+
+    fn set_len(&mut self, number: u16, header: Header, len: u32) -> Result<(), StoreFault> {
+        Store::set_len(self, number, header, len)
+    }
+
+    ghost lawful = { λ s. D.SectorDevice.lawful s.log.device };
+}
