@@ -16,14 +16,14 @@ use Rattle.lfs_model.specs.Tree.{State, least, least_handle}
 use Rattle.lfs_model.specs.TreeOf.{object}
 use Rattle.lfs_model.specs.Volume.{IsLogOf}
 use Rattle.lfs_model.specs.Walk.{At, Parent}
-use Rattle.lfs_path.specs.memory.declared.changes.Changes.{Changes}
-use Rattle.lfs_path.specs.memory.declared.header.Header.{Header}
-use Rattle.lfs_path.specs.memory.Batch.{staged, FitsBatch}
-use Rattle.lfs_path.specs.memory.Present.{as_header}
-use Rattle.lfs_path.specs.log.Held.{Holds}
-use Rattle.lfs_path.specs.store.Accepting.{Accepts}
+use Rattle.lfs_store.specs.memory.declared.changes.Changes.{Changes}
+use Rattle.lfs_files.specs.declared.header.Header.{Header}
+use Rattle.lfs_store.specs.memory.Batch.{staged, FitsBatch}
+use Rattle.lfs_store.specs.memory.Present.{as_header}
+use Rattle.lfs_store.specs.log.Held.{Holds}
+use Rattle.lfs_store.specs.Accepting.{Accepts}
 use Rattle.lfs_model.specs.Totals.{IsCounted, TotalsOfTree}
-use Rattle.lfs_path.specs.store.Writing.{SizesFile, WritesFile, resized}
+use Rattle.lfs_store.specs.Writing.{SizesFile, WritesFile, resized}
 use Rattle.lfs_fs.specs.Handles.{handles_of}
 use Rattle.lfs_fs.specs.Volume.{IsAt, IsIn, Mounted, Serves, segments_of}
 use Rattle.lfs_fs.proofs.Behaving.{makes_behaves, write_behaves}

@@ -4,7 +4,7 @@ use Rattle.std.specs.Prelude.{IsTrue}
 use Rattle.lfs_model.specs.Call.{Answer, Call, Refuse, changes, cleans, commits, is_ok}
 use Rattle.lfs_model.specs.Device.{DeviceState}
 use Rattle.lfs_model.specs.Refusal.{Refusal, Halted, Stuck}
-use Rattle.lfs_path.specs.log.Held.{IsFull, Reads}
+use Rattle.lfs_store.specs.log.Held.{IsFull, Reads}
 use Rattle.lfs_fs.specs.Volume.{Behaves, IsStill, Mounted, changes_handles, may_write}
 
 -- ---- answers and calls

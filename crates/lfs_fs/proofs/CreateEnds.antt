@@ -11,14 +11,15 @@ use Rattle.lfs_model.specs.Step.{Step, last_dots, no_last}
 use Rattle.lfs_model.specs.Tree.{State, Tree}
 use Rattle.lfs_model.specs.TreeOf.{tree_in}
 use Rattle.lfs_model.specs.Walk.{At, Parent}
-use Rattle.lfs_path.specs.memory.Batch.{IsNoChange}
-use Rattle.lfs_path.proofs.of_log.Volumes.{holds_one}
-use Rattle.lfs_path.specs.log.Held.{Reads}
-use Rattle.lfs_path.specs.store.declared.draft.Draft.{Draft}
-use Rattle.lfs_path.specs.store.declared.store.Store.{Store}
-use Rattle.lfs_path.proofs.of_store.LogReads.{reads_more}
+use Rattle.lfs_store.specs.memory.Batch.{IsNoChange}
+use Rattle.lfs_store.proofs.of_log.Volumes.{holds_one}
+use Rattle.lfs_store.specs.log.Held.{Reads}
+use Rattle.lfs_store.specs.declared.draft.Draft.{Draft}
+use Rattle.lfs_store.specs.declared.store.Store.{Store}
+use Rattle.lfs_store.proofs.LogReads.{reads_more}
 use Rattle.lfs_path.specs.declared.last.Last.{Last}
-use Rattle.lfs_path.specs.Walking.{HasLast, Parents, WalksTo}
+use Rattle.lfs_path.specs.Walking.{HasLast, Parents}
+use Rattle.lfs_fs.specs.Drafted.{WalksTo}
 use Rattle.lfs_path.proofs.FlatTrees.{last_says}
 use Rattle.lfs_fs.specs.declared.fs.Fs.{Fs}
 use Rattle.lfs_fs.specs.Naming.{Reaches}

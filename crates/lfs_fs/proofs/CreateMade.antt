@@ -12,24 +12,24 @@ use Rattle.lfs_model.specs.Objects.{IsHeaderOf}
 use Rattle.lfs_model.specs.Stands.{LogMap}
 use Rattle.lfs_model.specs.Step.{is_full, is_long, is_there, last_dots, name, no_last}
 use Rattle.lfs_model.specs.Tree.{State, byte_cmp, least, least_handle}
-use Rattle.lfs_path.specs.memory.declared.batch.Loss.{Loss}
-use Rattle.lfs_path.specs.memory.declared.changes.Changes.{Changes}
-use Rattle.lfs_path.specs.memory.declared.header.Header.{Header}
-use Rattle.lfs_path.specs.memory.declared.memory.LogMemory.{LogMemory}
-use Rattle.lfs_path.specs.memory.Batch.{is_lost, staged, FitsBatch, IsNoChange}
-use Rattle.lfs_path.specs.memory.Changing.{FitsHeader, with_header}
-use Rattle.lfs_path.specs.memory.Present.{as_header}
-use Rattle.lfs_path.specs.log.Held.{Holds, IsVacant}
-use Rattle.lfs_path.specs.store.declared.draft.Draft.{Draft}
-use Rattle.lfs_path.specs.store.declared.totals.Totals.{Totals}
-use Rattle.lfs_path.specs.store.Drafting.{IsApart}
-use Rattle.lfs_path.specs.store.Recounting.{AreTotals}
+use Rattle.lfs_store.specs.memory.declared.batch.Loss.{Loss}
+use Rattle.lfs_store.specs.memory.declared.changes.Changes.{Changes}
+use Rattle.lfs_files.specs.declared.header.Header.{Header}
+use Rattle.lfs_store.specs.memory.declared.memory.LogMemory.{LogMemory}
+use Rattle.lfs_store.specs.memory.Batch.{is_lost, staged, FitsBatch, IsNoChange}
+use Rattle.lfs_store.specs.memory.Changing.{FitsHeader, with_header}
+use Rattle.lfs_store.specs.memory.Present.{as_header}
+use Rattle.lfs_store.specs.log.Held.{Holds, IsVacant}
+use Rattle.lfs_store.specs.declared.draft.Draft.{Draft}
+use Rattle.lfs_store.specs.declared.totals.Totals.{Totals}
+use Rattle.lfs_store.specs.Drafting.{IsApart}
+use Rattle.lfs_store.specs.Recounting.{AreTotals}
 use Rattle.lfs_model.specs.Totals.{IsCounted}
-use Rattle.lfs_path.specs.store.Writing.{WritesFile}
-use Rattle.lfs_path.proofs.of_store.Apart.{draft_empty, nothing_apart}
-use Rattle.lfs_path.proofs.of_store.LogReads.{held_still}
-use Rattle.lfs_path.proofs.of_store.TreeTotals.{totals_of_tree}
-use Rattle.lfs_path.proofs.of_store.Writings.{header_put}
+use Rattle.lfs_store.specs.Writing.{WritesFile}
+use Rattle.lfs_store.proofs.Apart.{draft_empty, nothing_apart}
+use Rattle.lfs_store.proofs.LogReads.{held_still}
+use Rattle.lfs_store.proofs.TreeTotals.{totals_of_tree}
+use Rattle.lfs_store.proofs.Writings.{header_put}
 use Rattle.lfs_path.specs.dirs.Adding.{AddsName, grown, slot_for}
 use Rattle.lfs_path.specs.dirs.Directory.{names_at}
 use Rattle.lfs_path.specs.declared.last.Last.{Last}
@@ -161,7 +161,7 @@ module _ {D : Type 0} (state : D → DeviceState) (lawful : (d : D) → IsLawful
       -- the draft fits
       fits_here : IsLogMap m → IsLogMap (staged c m) → FitsBatch m c
       fits_here log after =
-          is_ready.drafts.adds.writes.fits m
+          is_ready.drafts.adds.fits k m0 m in_mid
           (is_ready.drafts.makes.fits m (draft_empty mid.store.draft.changes m none_drafted).1 (ap (λ (x : LogMap). x.header n) (same_mid m) ∙ free) (ap (λ (x : Loss). is_lost x (Inode n)) none_drafted.loss) new_file_fits)
           record {
             there = made_root (segments_of v) m s map head looks.0 (between m) n other made;

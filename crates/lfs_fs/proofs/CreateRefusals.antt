@@ -16,11 +16,11 @@ use Rattle.lfs_model.specs.Tree.{Node, State, Tree, byte_cmp, form_of, least_han
 use Rattle.lfs_model.specs.Walk.{At, Parent}
 use Rattle.lfs_model.proofs.GoodNames.{good_name}
 use Rattle.lfs_model.proofs.Keeps.{good_text, parent_dir}
-use Rattle.lfs_path.specs.memory.declared.header.Header.{Header}
-use Rattle.lfs_path.specs.memory.Batch.{staged}
-use Rattle.lfs_path.specs.memory.Present.{as_header}
-use Rattle.lfs_path.specs.log.Held.{HasAll, Holds}
-use Rattle.lfs_path.proofs.of_store.Apart.{no_change}
+use Rattle.lfs_files.specs.declared.header.Header.{Header}
+use Rattle.lfs_store.specs.memory.Batch.{staged}
+use Rattle.lfs_store.specs.memory.Present.{as_header}
+use Rattle.lfs_store.specs.log.Held.{HasAll, Holds}
+use Rattle.lfs_store.proofs.Apart.{no_change}
 use Rattle.lfs_path.specs.dirs.Directory.{names_at}
 use Rattle.lfs_path.specs.declared.last.Last.{Last}
 use Rattle.lfs_path.specs.Laws.{SaysLast}

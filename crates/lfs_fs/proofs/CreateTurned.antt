@@ -5,9 +5,9 @@ use Rattle.std.specs.FinMap.{put}
 use Rattle.lfs_model.specs.Call.{Create, Handle, Refuse}
 use Rattle.lfs_model.specs.Device.{DeviceState, IsLawful}
 use Rattle.lfs_model.specs.Tree.{least_handle}
-use Rattle.lfs_path.specs.memory.declared.header.Header.{Header}
-use Rattle.lfs_path.specs.log.Held.{IsVacant}
-use Rattle.lfs_path.proofs.of_store.LogReads.{fault_more}
+use Rattle.lfs_files.specs.declared.header.Header.{Header}
+use Rattle.lfs_store.specs.log.Held.{IsVacant}
+use Rattle.lfs_store.proofs.LogReads.{fault_more}
 use Rattle.lfs_path.specs.declared.last.Last.{Last}
 use Rattle.lfs_fs.specs.declared.error.FsError.{FsError}
 use Rattle.lfs_fs.specs.declared.fs.Fs.{Fs}

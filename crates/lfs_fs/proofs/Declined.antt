@@ -7,13 +7,13 @@ use Rattle.lfs_model.specs.Call.{Call, Done, Refuse, Sync, changes, commits, tak
 use Rattle.lfs_model.specs.Device.{DeviceState, IsLawful}
 use Rattle.lfs_model.specs.Refusal.{Device, NoMemory, Stuck}
 use Rattle.lfs_model.specs.Stands.{LogMap}
-use Rattle.lfs_path.specs.memory.declared.changes.Changes.{Changes}
-use Rattle.lfs_path.specs.memory.declared.header.Header.{Header}
-use Rattle.lfs_path.specs.memory.Batch.{staged, FitsBatch}
-use Rattle.lfs_path.specs.memory.Present.{as_header}
-use Rattle.lfs_path.specs.log.Held.{IsFull}
-use Rattle.lfs_path.specs.store.Accepting.{Commits, Declines, IsAcceptFault}
-use Rattle.lfs_path.specs.store.Writing.{SizesFile, WritesFile, resized}
+use Rattle.lfs_store.specs.memory.declared.changes.Changes.{Changes}
+use Rattle.lfs_files.specs.declared.header.Header.{Header}
+use Rattle.lfs_store.specs.memory.Batch.{staged, FitsBatch}
+use Rattle.lfs_store.specs.memory.Present.{as_header}
+use Rattle.lfs_store.specs.log.Held.{IsFull}
+use Rattle.lfs_store.specs.Accepting.{Commits, Declines, IsAcceptFault}
+use Rattle.lfs_store.specs.Writing.{SizesFile, WritesFile, resized}
 use Rattle.lfs_fs.specs.Handles.{handles_of}
 use Rattle.lfs_fs.specs.Volume.{Mounted, Serves, segments_of}
 use Rattle.lfs_fs.proofs.Accepted.{DraftsFile, InEach, IsDrafted, OfEach}

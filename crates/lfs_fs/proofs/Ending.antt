@@ -10,9 +10,9 @@ use Rattle.lfs_model.specs.Run.{Point, StepsOr, acknowledges}
 use Rattle.lfs_model.specs.Stands.{LogMap}
 use Rattle.lfs_model.specs.Tree.{State, drop_nameless}
 use Rattle.lfs_model.specs.TreeOf.{LeavesOne, dropped}
-use Rattle.lfs_path.specs.memory.declared.changes.Changes.{Changes}
-use Rattle.lfs_path.specs.memory.Batch.{staged, FitsBatch}
-use Rattle.lfs_path.specs.store.Accepting.{Accepts, Commits, Declines, Stores, StoresOver}
+use Rattle.lfs_store.specs.memory.declared.changes.Changes.{Changes}
+use Rattle.lfs_store.specs.memory.Batch.{staged, FitsBatch}
+use Rattle.lfs_store.specs.Accepting.{Accepts, Commits, Declines, Stores, StoresOver}
 use Rattle.lfs_model.specs.Totals.{IsCounted}
 use Rattle.lfs_fs.specs.Handles.{handles_of}
 use Rattle.lfs_fs.specs.Volume.{IsPlain, Behaves, IsAt, IsIn, Mounted, Runs, Serves, segments_of}

@@ -27,10 +27,10 @@ use Rattle.lfs_model.proofs.Standing.{in_order, node_is, slots_length}
 use Rattle.lfs_model.proofs.Sums.{find_without, total_without, total_zero, weight, weight-le-total}
 use Rattle.lfs_model.proofs.Trees.{cmp_other}
 use Rattle.lfs_model.proofs.Volume.{node_in}
-use Rattle.lfs_path.specs.memory.declared.header.Header.{Header}
-use Rattle.lfs_path.specs.memory.Present.{as_header}
-use Rattle.lfs_path.specs.store.declared.totals.Totals.{Totals}
-use Rattle.lfs_path.proofs.of_store.TreeTotals.{totals_of_tree}
+use Rattle.lfs_files.specs.declared.header.Header.{Header}
+use Rattle.lfs_store.specs.memory.Present.{as_header}
+use Rattle.lfs_store.specs.declared.totals.Totals.{Totals}
+use Rattle.lfs_store.proofs.TreeTotals.{totals_of_tree}
 use Rattle.lfs_path.specs.dirs.declared.entry.Entry.{Entry}
 use Rattle.lfs_path.specs.dirs.Directory.{slots_at}
 use Rattle.lfs_path.specs.dirs.Listing.{IsListOf, pairs}

@@ -17,7 +17,7 @@ use Rattle.lfs_model.proofs.Committed.{mounted_log}
 use Rattle.lfs_model.proofs.Decodes.{are_sized, decoding}
 use Rattle.lfs_model.proofs.Growing.{gives}
 use Rattle.lfs_model.proofs.Sums.{total_zero}
-use Rattle.lfs_path.specs.store.Accepting.{MountsStore, Stores}
+use Rattle.lfs_store.specs.Accepting.{MountsStore, Stores}
 use Rattle.lfs_model.specs.Totals.{IsCounted}
 use Rattle.lfs_fs.specs.Handles.{handles_of}
 use Rattle.lfs_fs.specs.Volume.{IsAt, IsIn, IsPlain, Mounted, segments_of}

@@ -4,9 +4,9 @@ use Rattle.lfs_model.specs.declared.Kind.{Kind}
 use Rattle.lfs_model.specs.declared.Kind.TheVariants as kind
 use Rattle.lfs_model.specs.Inode.{IsSize}
 use Rattle.lfs_model.specs.Objects.{IsHeaderOf}
-use Rattle.lfs_path.specs.memory.declared.header.Header.{Header}
-use Rattle.lfs_path.specs.memory.Changing.{FitsHeader}
-use Rattle.lfs_path.specs.memory.Present.{as_header}
+use Rattle.lfs_files.specs.declared.header.Header.{Header}
+use Rattle.lfs_store.specs.memory.Changing.{FitsHeader}
+use Rattle.lfs_store.specs.memory.Present.{as_header}
 
 -- a file of another size
 pub file_fits : (n : ℕ) (head : Header) → IsHeaderOf n (as_header head) → head.kind ≡ kind.File → (size : ℕ) → size ≤ 8511488 → FitsHeader head.kind head.links size

@@ -14,7 +14,7 @@ use Rattle.lfs_model.proofs.Committed.{dropped_tree}
 use Rattle.lfs_model.proofs.Keeps.{open_keeps}
 use Rattle.lfs_model.proofs.ObjectMaps.{laid_headers}
 use Rattle.lfs_model.proofs.ObjectNeeds.{laid_long}
-use Rattle.lfs_path.specs.store.Accepting.{HasClean, StoresOver}
+use Rattle.lfs_store.specs.Accepting.{HasClean, StoresOver}
 use Rattle.lfs_model.specs.Totals.{IsCounted}
 use Rattle.lfs_fs.specs.Handles.{handles_of}
 use Rattle.lfs_fs.specs.Volume.{IsIn, IsPlain, Mounted, Runs, segments_of}

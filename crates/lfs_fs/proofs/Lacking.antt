@@ -10,12 +10,12 @@ use Rattle.lfs_model.specs.Run.{Point, StepsOr}
 use Rattle.lfs_model.specs.Stands.{LogMap}
 use Rattle.lfs_model.specs.Step.{Step, with_tree}
 use Rattle.lfs_model.specs.Tree.{State, least_handle}
-use Rattle.lfs_path.specs.memory.declared.changes.Changes.{Changes}
-use Rattle.lfs_path.specs.memory.declared.header.Header.{Header}
-use Rattle.lfs_path.specs.memory.Batch.{staged}
-use Rattle.lfs_path.specs.memory.Present.{as_header}
+use Rattle.lfs_store.specs.memory.declared.changes.Changes.{Changes}
+use Rattle.lfs_files.specs.declared.header.Header.{Header}
+use Rattle.lfs_store.specs.memory.Batch.{staged}
+use Rattle.lfs_store.specs.memory.Present.{as_header}
 use Rattle.lfs_model.specs.Totals.{TotalsOfTree}
-use Rattle.lfs_path.specs.store.Writing.{WritesFile, resized}
+use Rattle.lfs_store.specs.Writing.{WritesFile, resized}
 use Rattle.lfs_fs.specs.Handles.{handles_of}
 use Rattle.lfs_fs.specs.Volume.{IsStill, IsAt, Mounted, Serves, segments_of}
 use Rattle.lfs_fs.proofs.Accepted.{DraftsFile, IsDrafted, OfEach}

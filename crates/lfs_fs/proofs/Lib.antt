@@ -41,6 +41,7 @@ mod CreateRefusals
 mod CreateMade
 mod CreateTurned
 mod RowLoops
+mod StoreCalls
 mod TreeEnds
 mod LineSteps
 pub mod ScriptRuns

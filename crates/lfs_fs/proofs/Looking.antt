@@ -1,13 +1,13 @@
 -- What a call reads of the store, and why it gets no answer.
 use Rattle.std.proofs.Common.{◌≡◌, ℕ, true, Option, Some, None, refl, subst, inl, inr}
 use Rattle.lfs_model.specs.Device.{DeviceState}
-use Rattle.lfs_path.specs.memory.declared.fault.LogFault.{LogFault}
-use Rattle.lfs_path.specs.memory.declared.fault.LogFault.TheVariants as log
-use Rattle.lfs_path.specs.memory.declared.header.Header.{Header}
-use Rattle.lfs_path.specs.memory.Batch.{staged}
-use Rattle.lfs_path.specs.memory.Present.{HeaderAnswer}
-use Rattle.lfs_path.specs.log.Held.{IsReadFault}
-use Rattle.lfs_path.specs.store.Reading.{ReadsHeader}
+use Rattle.lfs_files.specs.declared.fault.LogFault.{LogFault}
+use Rattle.lfs_files.specs.declared.fault.LogFault.TheVariants as log
+use Rattle.lfs_files.specs.declared.header.Header.{Header}
+use Rattle.lfs_store.specs.memory.Batch.{staged}
+use Rattle.lfs_store.specs.memory.Present.{HeaderAnswer}
+use Rattle.lfs_store.specs.log.Held.{IsReadFault}
+use Rattle.lfs_store.specs.Reading.{ReadsHeader}
 use Rattle.lfs_fs.specs.declared.error.FsError.{FsError}
 use Rattle.lfs_fs.specs.declared.error.FsError.TheVariants as error
 use Rattle.lfs_fs.specs.declared.fs.Fs.{Fs}

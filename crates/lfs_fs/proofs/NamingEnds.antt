@@ -14,16 +14,17 @@ use Rattle.lfs_model.specs.Step.{Step}
 use Rattle.lfs_model.specs.Tree.{State, Tree, is_dir, least_handle, names, node}
 use Rattle.lfs_model.specs.TreeOf.{tree_in}
 use Rattle.lfs_model.specs.Walk.{At, End, Refused, Resolve}
-use Rattle.lfs_path.specs.memory.declared.changes.Changes.{Changes}
-use Rattle.lfs_path.specs.memory.declared.fault.LogFault.TheVariants as log
-use Rattle.lfs_path.specs.memory.Batch.{IsNoChange, staged}
-use Rattle.lfs_path.specs.log.Held.{Reads}
-use Rattle.lfs_path.specs.store.declared.store.Store.{Store}
-use Rattle.lfs_path.specs.store.declared.totals.Totals.{Totals}
-use Rattle.lfs_path.proofs.of_store.Apart.{draft_empty}
+use Rattle.lfs_store.specs.memory.declared.changes.Changes.{Changes}
+use Rattle.lfs_files.specs.declared.fault.LogFault.TheVariants as log
+use Rattle.lfs_store.specs.memory.Batch.{IsNoChange, staged}
+use Rattle.lfs_store.specs.log.Held.{Reads}
+use Rattle.lfs_store.specs.declared.store.Store.{Store}
+use Rattle.lfs_store.specs.declared.totals.Totals.{Totals}
+use Rattle.lfs_store.proofs.Apart.{draft_empty}
 use Rattle.lfs_path.specs.declared.fault.PathFault.{PathFault}
 use Rattle.lfs_path.specs.declared.fault.PathFault.TheVariants as path
-use Rattle.lfs_path.specs.Walking.{EndsRefused, HasFlatTree, IsFlat, Resolves, WalksTo}
+use Rattle.lfs_path.specs.Walking.{HasFlatTree, IsFlat, Resolves}
+use Rattle.lfs_fs.specs.Drafted.{EndsRefused, WalksTo}
 use Rattle.lfs_path.proofs.FlatTrees.{flat_maps}
 use Rattle.lfs_fs.specs.declared.error.FsError.{FsError}
 use Rattle.lfs_fs.specs.declared.error.FsError.TheVariants as error

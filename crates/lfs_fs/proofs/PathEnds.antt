@@ -13,16 +13,17 @@ use Rattle.lfs_model.specs.Step.{Step}
 use Rattle.lfs_model.specs.Tree.{State, Tree, names}
 use Rattle.lfs_model.specs.TreeOf.{tree_in}
 use Rattle.lfs_model.specs.Walk.{At, End, Refused, Resolve}
-use Rattle.lfs_path.specs.memory.declared.fault.LogFault.TheVariants as log
-use Rattle.lfs_path.specs.memory.declared.header.Header.{Header}
-use Rattle.lfs_path.specs.memory.Batch.{IsNoChange, staged}
-use Rattle.lfs_path.specs.memory.Present.{as_header}
-use Rattle.lfs_path.specs.log.Held.{Reads}
-use Rattle.lfs_path.proofs.of_store.Apart.{no_change}
-use Rattle.lfs_path.proofs.of_store.LogReads.{held_still, reads_more}
+use Rattle.lfs_files.specs.declared.fault.LogFault.TheVariants as log
+use Rattle.lfs_files.specs.declared.header.Header.{Header}
+use Rattle.lfs_store.specs.memory.Batch.{IsNoChange, staged}
+use Rattle.lfs_store.specs.memory.Present.{as_header}
+use Rattle.lfs_store.specs.log.Held.{Reads}
+use Rattle.lfs_store.proofs.Apart.{no_change}
+use Rattle.lfs_store.proofs.LogReads.{held_still, reads_more}
 use Rattle.lfs_path.specs.declared.fault.PathFault.{PathFault}
 use Rattle.lfs_path.specs.declared.fault.PathFault.TheVariants as path
-use Rattle.lfs_path.specs.Walking.{EndsRefused, HasFlatTree, IsFlat, Resolves, WalksTo}
+use Rattle.lfs_path.specs.Walking.{HasFlatTree, IsFlat, Resolves}
+use Rattle.lfs_fs.specs.Drafted.{EndsRefused, WalksTo}
 use Rattle.lfs_path.proofs.FlatTrees.{flat_maps}
 use Rattle.lfs_fs.specs.declared.error.FsError.{FsError}
 use Rattle.lfs_fs.specs.declared.fs.Fs.{Fs}

@@ -10,18 +10,18 @@ use Rattle.lfs_model.specs.Tree.{State}
 use Rattle.lfs_model.specs.Bytes.{part}
 use Rattle.lfs_model.specs.TreeOf.{object}
 use Rattle.std.specs.Prelude.{min}
-use Rattle.lfs_path.specs.memory.declared.fault.LogFault.TheVariants as log
-use Rattle.lfs_path.specs.memory.declared.header.Header.{Header}
-use Rattle.lfs_path.specs.memory.Batch.{staged}
-use Rattle.lfs_path.specs.memory.Present.{as_header}
-use Rattle.lfs_path.specs.log.Held.{IsReadFault, Reads}
-use Rattle.lfs_path.specs.store.declared.fault.StoreFault.{StoreFault}
-use Rattle.lfs_path.specs.store.declared.fault.StoreFault.TheVariants as store
-use Rattle.lfs_path.specs.store.Reading.{ReadsPart}
+use Rattle.lfs_files.specs.declared.fault.LogFault.TheVariants as log
+use Rattle.lfs_files.specs.declared.header.Header.{Header}
+use Rattle.lfs_store.specs.memory.Batch.{staged}
+use Rattle.lfs_store.specs.memory.Present.{as_header}
+use Rattle.lfs_store.specs.log.Held.{IsReadFault, Reads}
+use Rattle.lfs_files.specs.declared.fault.StoreFault.{StoreFault}
+use Rattle.lfs_files.specs.declared.fault.StoreFault.TheVariants as store
+use Rattle.lfs_store.specs.Reading.{ReadsPart}
 use Rattle.lfs_fs.specs.Faults.{error_of_store}
 use Rattle.lfs_fs.specs.Reading.{LacksBytes, LacksObject, ReadsFile}
-use Rattle.lfs_path.proofs.of_store.LogReads.{fault_more, held_still, reads_none}
-use Rattle.lfs_path.proofs.of_store.TreeTotals.{totals_of_tree}
+use Rattle.lfs_store.proofs.LogReads.{fault_more, held_still, reads_none}
+use Rattle.lfs_store.proofs.TreeTotals.{totals_of_tree}
 use Rattle.lfs_fs.specs.declared.error.FsError.{FsError}
 use Rattle.lfs_fs.specs.declared.error.FsError.TheVariants as error
 use Rattle.lfs_fs.specs.declared.fs.Fs.{Fs}
@@ -33,8 +33,8 @@ use Rattle.lfs_fs.specs.Volume.{IsIn, IsStill, Mounted, Serves, segments_of}
 use Rattle.std.specs.Prelude.{IfErr, IfOk}
 use Rattle.std.specs.Ordering.{nat_cmp}
 use Rattle.std.specs.FinMap.{find}
-use Rattle.lfs_path.proofs.of_store.Apart.{no_change}
-use Rattle.lfs_path.specs.memory.Batch.{IsNoChange}
+use Rattle.lfs_store.proofs.Apart.{no_change}
+use Rattle.lfs_store.specs.memory.Batch.{IsNoChange}
 use Rattle.lfs_fs.specs.Handles.{handles_of}
 use Rattle.lfs_fs.specs.Seen.{GivesNone, answer_by}
 use Rattle.lfs_fs.proofs.Behaving.{IsOrdinary}

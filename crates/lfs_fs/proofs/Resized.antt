@@ -6,9 +6,9 @@ use Rattle.lfs_model.specs.Objects.{AreLong, CutsBytes, IsObject}
 use Rattle.lfs_model.specs.Stands.{LogMap}
 use Rattle.lfs_model.proofs.ObjectBytes.{cut_ends, write_ends}
 use Rattle.lfs_model.proofs.ObjectMaps.{object_fits, object_kept}
-use Rattle.lfs_path.specs.memory.declared.header.Header.{Header}
-use Rattle.lfs_path.specs.memory.Present.{as_header}
-use Rattle.lfs_path.specs.store.Writing.{SizesFile, WritesFile, resized}
+use Rattle.lfs_files.specs.declared.header.Header.{Header}
+use Rattle.lfs_store.specs.memory.Present.{as_header}
+use Rattle.lfs_store.specs.Writing.{SizesFile, WritesFile, resized}
 use Rattle.lfs_fs.proofs.Changed.{long_kept}
 
 module _ (m m' : LogMap) (n : ℕ) (head : Header) (size : ℕ) (map : IsLogMap m) (long : (k : ℕ) → AreLong m k) (there : m.header n ≡ Some (as_header head)) (small : size ≤ 8511488) where

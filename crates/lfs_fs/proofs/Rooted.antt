@@ -19,9 +19,9 @@ use Rattle.lfs_model.proofs.Leasts.{least_free, least_taken}
 use Rattle.lfs_model.proofs.Makes.{starts_one}
 use Rattle.lfs_model.proofs.ObjectTrees.{with_header_at}
 use Rattle.lfs_model.proofs.Standing.{slots_length}
-use Rattle.lfs_path.specs.memory.declared.header.Header.{Header}
-use Rattle.lfs_path.specs.memory.Present.{as_header}
-use Rattle.lfs_path.specs.store.Writing.{WritesFile, resized}
+use Rattle.lfs_files.specs.declared.header.Header.{Header}
+use Rattle.lfs_store.specs.memory.Present.{as_header}
+use Rattle.lfs_store.specs.Writing.{WritesFile, resized}
 use Rattle.lfs_fs.proofs.Changed.{slots_same}
 use Rattle.lfs_fs.proofs.Checks.{below, not_below, at_most, not_at_most}
 use Rattle.lfs_fs.proofs.Created.{NamesFile, new_file}

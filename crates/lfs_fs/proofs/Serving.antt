@@ -16,10 +16,10 @@ use Rattle.lfs_model.specs.Crash.{StandsForOn}
 use Rattle.lfs_fs.proofs.Leaving.{leaves_states}
 use Rattle.lfs_model.specs.Volume.{IsLogOf}
 use Rattle.lfs_model.proofs.Moments.{carries_none, started, goes_on}
-use Rattle.lfs_path.specs.memory.declared.memory.LogMemory.{LogMemory}
-use Rattle.lfs_path.specs.memory.Present.{Looks}
-use Rattle.lfs_path.specs.segments.Table.{clean_in}
-use Rattle.lfs_path.proofs.of_store.LogReads.{held_still}
+use Rattle.lfs_store.specs.memory.declared.memory.LogMemory.{LogMemory}
+use Rattle.lfs_store.specs.memory.Present.{Looks}
+use Rattle.lfs_store.specs.segments.Table.{clean_in}
+use Rattle.lfs_store.proofs.LogReads.{held_still}
 use Rattle.lfs_fs.specs.Handles.{handles_of}
 use Rattle.lfs_fs.specs.Volume.{IsStill, Mounted, segments_of, IsIn, Runs, IsAt, LeavesSome, ServesAt, Serves}
 use Rattle.lfs_fs.proofs.Behaving.{IsOrdinary, halted_behaves, not_halted, still_behaves}

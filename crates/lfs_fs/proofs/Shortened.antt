@@ -20,9 +20,9 @@ use Rattle.lfs_model.proofs.Needs.{need-with_node}
 use Rattle.lfs_model.proofs.ObjectBytes.{cut_ends}
 use Rattle.lfs_model.proofs.ObjectMaps.{object_fits, object_kept}
 use Rattle.lfs_model.proofs.ObjectTrees.{file_cut}
-use Rattle.lfs_path.specs.memory.declared.header.Header.{Header}
-use Rattle.lfs_path.specs.memory.Present.{as_header}
-use Rattle.lfs_path.specs.store.Writing.{SizesFile, resized}
+use Rattle.lfs_files.specs.declared.header.Header.{Header}
+use Rattle.lfs_store.specs.memory.Present.{as_header}
+use Rattle.lfs_store.specs.Writing.{SizesFile, resized}
 use Rattle.lfs_fs.proofs.Files.{IsMapOf, IsFileOf, IsShaped, opened_file}
 use Rattle.lfs_fs.proofs.Changed.{changed_map, not_directory, shape_kept}
 use Rattle.lfs_fs.proofs.HandleSteps.{file_is, shortened}

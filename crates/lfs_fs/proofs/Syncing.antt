@@ -6,8 +6,8 @@ use Rattle.lfs_model.specs.Refusal.{Stuck}
 use Rattle.lfs_model.specs.Tree.{State}
 use Rattle.lfs_model.proofs.Moments.{carries_none}
 use Rattle.lfs_model.proofs.Newest.{newest_fits}
-use Rattle.lfs_path.specs.segments.Table.{clean_in}
-use Rattle.lfs_path.specs.log.Held.{IsFull}
+use Rattle.lfs_store.specs.segments.Table.{clean_in}
+use Rattle.lfs_store.specs.log.Held.{IsFull}
 use Rattle.lfs_fs.specs.Volume.{Mounted, Runs, Serves}
 use Rattle.lfs_fs.proofs.Behaving.{write_behaves}
 

@@ -12,18 +12,18 @@ use Rattle.lfs_model.specs.Stands.{LogMap}
 use Rattle.lfs_model.specs.Step.{Step}
 use Rattle.lfs_model.specs.Tree.{File, Names, State, Tree, byte_cmp, entry as entry_in, names_in, names_of}
 use Rattle.lfs_model.proofs.Sums.{T_right, find_after, find_first}
-use Rattle.lfs_path.specs.memory.declared.fault.LogFault.TheVariants as log
-use Rattle.lfs_path.specs.memory.declared.header.Header.{Header}
-use Rattle.lfs_path.specs.memory.Batch.{IsNoChange, staged}
-use Rattle.lfs_path.specs.memory.Present.{as_header}
-use Rattle.lfs_path.specs.store.declared.fault.StoreFault.{StoreFault}
-use Rattle.lfs_path.specs.store.declared.fault.StoreFault.TheVariants as store
-use Rattle.lfs_path.proofs.of_store.Apart.{no_change}
-use Rattle.lfs_path.proofs.of_store.LogReads.{held_still}
+use Rattle.lfs_files.specs.declared.fault.LogFault.TheVariants as log
+use Rattle.lfs_files.specs.declared.header.Header.{Header}
+use Rattle.lfs_store.specs.memory.Batch.{IsNoChange, staged}
+use Rattle.lfs_store.specs.memory.Present.{as_header}
+use Rattle.lfs_files.specs.declared.fault.StoreFault.{StoreFault}
+use Rattle.lfs_files.specs.declared.fault.StoreFault.TheVariants as store
+use Rattle.lfs_store.proofs.Apart.{no_change}
+use Rattle.lfs_store.proofs.LogReads.{held_still}
 use Rattle.lfs_path.specs.dirs.declared.entry.Entry.{Entry}
 use Rattle.lfs_path.specs.dirs.Directory.{names_at, slots_at}
-use Rattle.lfs_path.specs.dirs.Finding.{IsDirectoryFault}
-use Rattle.lfs_path.specs.dirs.Listing.{Lists, pair, pairs}
+use Rattle.lfs_path.specs.dirs.Listing.{pair, pairs}
+use Rattle.lfs_fs.specs.Drafted.{IsDirectoryFault, Lists}
 use Rattle.lfs_path.proofs.of_dirs.SlotNames.{sorted_names}
 use Rattle.lfs_fs.specs.declared.error.FsError.{FsError}
 use Rattle.lfs_fs.specs.declared.error.FsError.TheVariants as error

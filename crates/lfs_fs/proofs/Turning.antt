@@ -11,9 +11,9 @@ use Rattle.lfs_model.specs.Tree.{State}
 use Rattle.lfs_model.specs.TreeOf.{dropped}
 use Rattle.lfs_model.proofs.Moments.{goes_on, started}
 use Rattle.lfs_model.proofs.Settled.{settled_stands}
-use Rattle.lfs_path.specs.memory.declared.memory.LogMemory.{LogMemory}
-use Rattle.lfs_path.specs.memory.Present.{Looks}
-use Rattle.lfs_path.specs.log.Held.{Reads}
+use Rattle.lfs_store.specs.memory.declared.memory.LogMemory.{LogMemory}
+use Rattle.lfs_store.specs.memory.Present.{Looks}
+use Rattle.lfs_store.specs.log.Held.{Reads}
 use Rattle.lfs_fs.specs.Handles.{handles_of}
 use Rattle.lfs_fs.specs.Volume.{IsPlain, IsStill, IsAt, IsIn, Mounted, Serves, changes_handles, segments_of}
 use Rattle.lfs_fs.proofs.Behaving.{ok_refuses_none, opens_behaves}

@@ -14,21 +14,21 @@ use Rattle.lfs_model.specs.Need.{need}
 use Rattle.lfs_model.specs.Objects.{IsHeaderOf}
 use Rattle.lfs_model.specs.Stands.{LogMap}
 use Rattle.lfs_model.specs.Tree.{State}
-use Rattle.lfs_path.specs.memory.declared.batch.Loss.{Loss}
-use Rattle.lfs_path.specs.memory.declared.changes.Changes.{Changes}
-use Rattle.lfs_path.specs.memory.declared.header.Header.{Header}
-use Rattle.lfs_path.specs.memory.declared.memory.LogMemory.{LogMemory}
-use Rattle.lfs_path.specs.memory.Batch.{staged, FitsBatch, IsNoChange}
-use Rattle.lfs_path.specs.memory.Present.{as_header}
-use Rattle.lfs_path.specs.store.declared.draft.Draft.{Draft}
-use Rattle.lfs_path.specs.store.declared.totals.Totals.{Totals}
-use Rattle.lfs_path.specs.store.Drafting.{IsApart}
-use Rattle.lfs_path.specs.store.Recounting.{AreTotals, Counts}
+use Rattle.lfs_store.specs.memory.declared.batch.Loss.{Loss}
+use Rattle.lfs_store.specs.memory.declared.changes.Changes.{Changes}
+use Rattle.lfs_files.specs.declared.header.Header.{Header}
+use Rattle.lfs_store.specs.memory.declared.memory.LogMemory.{LogMemory}
+use Rattle.lfs_store.specs.memory.Batch.{staged, FitsBatch, IsNoChange}
+use Rattle.lfs_store.specs.memory.Present.{as_header}
+use Rattle.lfs_store.specs.declared.draft.Draft.{Draft}
+use Rattle.lfs_store.specs.declared.totals.Totals.{Totals}
+use Rattle.lfs_store.specs.Drafting.{IsApart}
+use Rattle.lfs_store.specs.Recounting.{AreTotals, Counts}
 use Rattle.lfs_model.specs.Totals.{IsCounted}
-use Rattle.lfs_path.specs.store.Writing.{SetsLen, SizesFile, Writes, WritesFile, resized}
-use Rattle.lfs_path.proofs.of_store.Apart.{draft_empty, nothing_apart}
-use Rattle.lfs_path.proofs.of_store.LogReads.{held_still}
-use Rattle.lfs_path.proofs.of_store.TreeTotals.{totals_of_tree}
+use Rattle.lfs_store.specs.Writing.{SetsLen, SizesFile, Writes, WritesFile, resized}
+use Rattle.lfs_store.proofs.Apart.{draft_empty, nothing_apart}
+use Rattle.lfs_store.proofs.LogReads.{held_still}
+use Rattle.lfs_store.proofs.TreeTotals.{totals_of_tree}
 use Rattle.lfs_fs.specs.declared.error.FsError.{FsError}
 use Rattle.lfs_fs.specs.declared.fs.Fs.{Fs}
 use Rattle.lfs_fs.specs.Accepting.{Stages, TurnsDown, limit_of, need_of}

@@ -13,19 +13,19 @@ use Rattle.lfs_model.specs.Tree.{State}
 use Rattle.lfs_model.specs.TreeOf.{dropped}
 use Rattle.lfs_model.proofs.Moments.{carries_then, goes_on, joined, started}
 use Rattle.lfs_model.proofs.Settled.{settled_stands}
-use Rattle.lfs_path.specs.memory.declared.changes.Changes.{Changes}
-use Rattle.lfs_path.specs.memory.declared.fault.LogFault.TheVariants as log
-use Rattle.lfs_path.specs.memory.declared.memory.LogMemory.{LogMemory}
-use Rattle.lfs_path.specs.memory.Batch.{FitsBatch, IsNoChange}
-use Rattle.lfs_path.specs.segments.Table.{clean_in}
-use Rattle.lfs_path.specs.log.Held.{Halts, Held, Holds, IsFull, IsReadFault, Reads}
-use Rattle.lfs_path.specs.store.declared.fault.StoreFault.{StoreFault}
-use Rattle.lfs_path.specs.store.declared.fault.StoreFault.TheVariants as store
-use Rattle.lfs_path.specs.store.declared.store.Store.{Store}
-use Rattle.lfs_path.specs.store.declared.totals.Totals.{Totals}
-use Rattle.lfs_path.specs.store.Accepting.{Accepts, Declines, HasClean, IsAcceptFault, LeavesEither, SavesOnce, Stores}
-use Rattle.lfs_path.proofs.of_store.Apart.{draft_empty}
-use Rattle.lfs_path.proofs.of_store.LogReads.{fault_more, held_still, reads_more, reads_none}
+use Rattle.lfs_store.specs.memory.declared.changes.Changes.{Changes}
+use Rattle.lfs_files.specs.declared.fault.LogFault.TheVariants as log
+use Rattle.lfs_store.specs.memory.declared.memory.LogMemory.{LogMemory}
+use Rattle.lfs_store.specs.memory.Batch.{FitsBatch, IsNoChange}
+use Rattle.lfs_store.specs.segments.Table.{clean_in}
+use Rattle.lfs_store.specs.log.Held.{Halts, Held, Holds, IsFull, IsReadFault, Reads}
+use Rattle.lfs_files.specs.declared.fault.StoreFault.{StoreFault}
+use Rattle.lfs_files.specs.declared.fault.StoreFault.TheVariants as store
+use Rattle.lfs_store.specs.declared.store.Store.{Store}
+use Rattle.lfs_store.specs.declared.totals.Totals.{Totals}
+use Rattle.lfs_store.specs.Accepting.{Accepts, Declines, HasClean, IsAcceptFault, LeavesEither, SavesOnce, Stores}
+use Rattle.lfs_store.proofs.Apart.{draft_empty}
+use Rattle.lfs_store.proofs.LogReads.{fault_more, held_still, reads_more, reads_none}
 use Rattle.lfs_fs.specs.declared.error.FsError.{FsError}
 use Rattle.lfs_fs.specs.declared.error.FsError.TheVariants as error
 use Rattle.lfs_fs.specs.declared.fs.Fs.{Fs}

@@ -18,10 +18,10 @@ use Rattle.lfs_model.proofs.FileBytes.{put_bytes, put_length}
 use Rattle.lfs_model.proofs.ObjectBytes.{write_ends}
 use Rattle.lfs_model.proofs.ObjectMaps.{object_fits, object_kept}
 use Rattle.lfs_model.proofs.ObjectTrees.{file_written}
-use Rattle.lfs_path.specs.memory.declared.header.Header.{Header}
-use Rattle.lfs_path.specs.memory.Present.{as_header}
+use Rattle.lfs_files.specs.declared.header.Header.{Header}
+use Rattle.lfs_store.specs.memory.Present.{as_header}
 use Rattle.lfs_model.specs.Totals.{IsCounted, TotalsOfTree}
-use Rattle.lfs_path.specs.store.Writing.{WritesFile, resized}
+use Rattle.lfs_store.specs.Writing.{WritesFile, resized}
 use Rattle.lfs_fs.proofs.Files.{IsMapOf, IsFileOf, IsShaped, need_shaped, opened_file}
 use Rattle.lfs_fs.proofs.Changed.{changed_map, not_directory, shape_kept}
 use Rattle.lfs_fs.proofs.HandleSteps.{file_is, written}

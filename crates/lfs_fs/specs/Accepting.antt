@@ -1,8 +1,8 @@
 -- What becomes of a call's draft: it is staged where the volume has the space for it, or it isn't.
 use Rattle.std.specs.Prelude.{◌≡◌, ◌<◌, ◌≤◌, ◌+◌, ◌*◌, ◌^◌, ℕ, length}
 use Rattle.lfs_model.specs.Device.{DeviceState}
-use Rattle.lfs_path.specs.log.Held.{Halts, IsFull}
-use Rattle.lfs_path.specs.store.Accepting.{Accepts, Declines, IsAcceptFault}
+use Rattle.lfs_store.specs.log.Held.{Halts, IsFull}
+use Rattle.lfs_store.specs.Accepting.{Accepts, Declines, IsAcceptFault}
 use Rattle.lfs_fs.specs.declared.error.FsError.{FsError}
 use Rattle.lfs_fs.specs.declared.error.FsError.TheVariants as error
 use Rattle.lfs_fs.specs.declared.fs.Fs.{Fs}

@@ -1,8 +1,8 @@
 -- The errors of a call by the faults of the layers below.
-use Rattle.lfs_path.specs.memory.declared.fault.LogFault.{LogFault}
-use Rattle.lfs_path.specs.memory.declared.fault.LogFault.TheVariants as log
-use Rattle.lfs_path.specs.store.declared.fault.StoreFault.{StoreFault}
-use Rattle.lfs_path.specs.store.declared.fault.StoreFault.TheVariants as store
+use Rattle.lfs_files.specs.declared.fault.LogFault.{LogFault}
+use Rattle.lfs_files.specs.declared.fault.LogFault.TheVariants as log
+use Rattle.lfs_files.specs.declared.fault.StoreFault.{StoreFault}
+use Rattle.lfs_files.specs.declared.fault.StoreFault.TheVariants as store
 use Rattle.lfs_path.specs.declared.fault.PathFault.{PathFault}
 use Rattle.lfs_path.specs.declared.fault.PathFault.TheVariants as path
 use Rattle.lfs_fs.specs.declared.error.FsError.{FsError}

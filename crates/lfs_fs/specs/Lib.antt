@@ -10,4 +10,5 @@ pub mod Mounting
 pub mod Reading
 pub mod Naming
 pub mod Scripts
-pub use Rattle.lfs_path.specs.log
+pub mod Drafted
+pub use Rattle.lfs_store.specs.log

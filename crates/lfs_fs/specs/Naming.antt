@@ -11,15 +11,15 @@ use Rattle.lfs_model.specs.Slot.{IsName}
 use Rattle.lfs_model.specs.Stands.{LogMap}
 use Rattle.lfs_model.specs.Tree.{State, byte_cmp, least_handle}
 use Rattle.lfs_model.specs.Walk.{At, Parent}
-use Rattle.lfs_path.specs.memory.declared.changes.Changes.{Changes}
-use Rattle.lfs_path.specs.memory.declared.header.Header.{Header}
-use Rattle.lfs_path.specs.memory.Batch.{IsNoChange, staged}
-use Rattle.lfs_path.specs.memory.Present.{as_header}
-use Rattle.lfs_path.specs.log.Held.{Holds, IsReadFault}
-use Rattle.lfs_path.specs.store.declared.totals.Totals.{Totals}
-use Rattle.lfs_path.specs.store.Making.{Makes, first_header}
-use Rattle.lfs_path.specs.store.Recounting.{Counts, CountsMade}
-use Rattle.lfs_path.specs.dirs.Adding.{Adds}
+use Rattle.lfs_store.specs.memory.declared.changes.Changes.{Changes}
+use Rattle.lfs_files.specs.declared.header.Header.{Header}
+use Rattle.lfs_store.specs.memory.Batch.{IsNoChange, staged}
+use Rattle.lfs_store.specs.memory.Present.{as_header}
+use Rattle.lfs_store.specs.log.Held.{Holds, IsReadFault}
+use Rattle.lfs_store.specs.declared.totals.Totals.{Totals}
+use Rattle.lfs_store.specs.Making.{Makes, first_header}
+use Rattle.lfs_store.specs.Recounting.{Counts, CountsMade}
+use Rattle.lfs_fs.specs.Drafted.{Adds}
 use Rattle.lfs_path.specs.dirs.Directory.{names_at}
 use Rattle.lfs_path.specs.declared.last.Last.{Last}
 use Rattle.lfs_path.specs.Pieces.{is_dots}

@@ -8,10 +8,10 @@ use Rattle.lfs_model.specs.Stands.{LogMap}
 use Rattle.lfs_model.specs.Step.{head_of, stat_of, the_node}
 use Rattle.lfs_model.specs.Tree.{State, Tree, entry}
 use Rattle.lfs_model.specs.TreeOf.{object}
-use Rattle.lfs_path.specs.log.Held.{Holds}
-use Rattle.lfs_path.specs.memory.declared.header.Header.{Header}
-use Rattle.lfs_path.specs.memory.Batch.{IsNoChange, staged}
-use Rattle.lfs_path.specs.memory.Present.{as_header}
+use Rattle.lfs_store.specs.log.Held.{Holds}
+use Rattle.lfs_files.specs.declared.header.Header.{Header}
+use Rattle.lfs_store.specs.memory.Batch.{IsNoChange, staged}
+use Rattle.lfs_store.specs.memory.Present.{as_header}
 use Rattle.lfs_fs.specs.declared.error.FsError.{FsError}
 use Rattle.lfs_fs.specs.declared.error.FsError.TheVariants as error
 use Rattle.lfs_fs.specs.declared.fs.Fs.{Fs}

@@ -4,19 +4,19 @@ use Rattle.std.specs.Ordering.{nat_cmp}
 use Rattle.std.specs.FinMap.{find}
 use Rattle.lfs_model.specs.Call.{Answer, Refuse}
 use Rattle.lfs_model.specs.Device.{DeviceState}
-use Rattle.lfs_path.specs.log.Held.{Holds}
+use Rattle.lfs_store.specs.log.Held.{Holds}
 use Rattle.lfs_model.specs.Checkpoint.{CheckpointValue}
 use Rattle.lfs_model.specs.Stands.{LogMap}
-use Rattle.lfs_path.specs.memory.declared.header.Header.{Header}
-use Rattle.lfs_path.specs.memory.Batch.{staged}
-use Rattle.lfs_path.specs.memory.Present.{as_header}
+use Rattle.lfs_files.specs.declared.header.Header.{Header}
+use Rattle.lfs_store.specs.memory.Batch.{staged}
+use Rattle.lfs_store.specs.memory.Present.{as_header}
 use Rattle.lfs_fs.specs.declared.error.FsError.{FsError}
 use Rattle.lfs_fs.specs.declared.error.FsError.TheVariants as error
 use Rattle.lfs_fs.specs.declared.fs.Fs.{Fs}
 use Rattle.lfs_fs.specs.Handles.{handles_of}
 use Rattle.lfs_fs.specs.Refusals.{refusal_of}
 use Rattle.lfs_fs.specs.Volume.{IsStill, Mounted}
-use Rattle.lfs_path.specs.memory.Batch.{IsNoChange}
+use Rattle.lfs_store.specs.memory.Batch.{IsNoChange}
 
 abbrev pub seen : {D : Type 0} → Fs D → Mounted D
 seen f = record { log = f.store.log; saved = f.store.saved; blocks = f.store.totals.data_blocks; others = f.store.totals.meta_blocks; table = f.handles.numbers.items }

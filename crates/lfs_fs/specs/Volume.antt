@@ -11,8 +11,8 @@ use Rattle.lfs_model.specs.Stands.{LogMap}
 use Rattle.lfs_model.specs.Tree.{Tree, Node, File, Dir, Names, State, node, drop_nameless}
 use Rattle.lfs_model.specs.TreeOf.{IsTree, LeavesOne, LeavesStates, Stands}
 use Rattle.lfs_model.specs.Volume.{IsLogOf}
-use Rattle.lfs_path.specs.log.Held.{Held, IsFull, Reads}
-use Rattle.lfs_path.specs.store.Accepting.{Stores, HasClean}
+use Rattle.lfs_store.specs.log.Held.{Held, IsFull, Reads}
+use Rattle.lfs_store.specs.Accepting.{Stores, HasClean}
 use Rattle.lfs_model.specs.Totals.{IsCounted}
 use Rattle.lfs_fs.specs.Handles.{handles_of}
 

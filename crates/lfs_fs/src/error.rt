@@ -5,7 +5,7 @@ ghost use Rattle.lfs_fs.specs.Refusals.{refusal_of};
 ghost use Rattle.lfs_fs.specs.Faults.{error_of_log, error_of_store, error_of_path};
 
 use lfs_path::PathFault;
-use lfs_path::store::{LogFault, StoreFault};
+use lfs_store::{LogFault, StoreFault};
 use std::alloc::AllocError;
 
 /// Why a call of a mounted volume is refused. After all but `Halted` the tree and the handles are as before.

@@ -10,7 +10,7 @@ use crate::error::FsError;
 use crate::handles::Handles;
 use crate::rows::Space;
 use lfs_device::SectorDevice;
-use lfs_path::store::{Header, Store, Totals};
+use lfs_store::{Header, Store, Totals};
 use std::alloc::Global;
 
 /// The root's number.

@@ -12,7 +12,7 @@ use lfs_device::SectorDevice;
 use lfs_layout::is_name;
 use lfs_model::Kind;
 use lfs_path::dirs::{add, find};
-use lfs_path::store::Header;
+use lfs_store::Header;
 use lfs_path::text::is_dots;
 use lfs_path::{Last, Place, parent, resolve};
 

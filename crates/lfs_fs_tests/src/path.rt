@@ -3,7 +3,7 @@
 use crate::volume::store_with;
 use lfs_device::MemDevice;
 use lfs_path::last::{Above, before_last};
-use lfs_path::store::Store;
+use lfs_store::Store;
 use lfs_path::text::{check_text, first_name};
 use lfs_path::{Last, PathFault, parent, resolve};
 use std::alloc::Global;

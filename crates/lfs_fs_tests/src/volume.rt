@@ -6,7 +6,7 @@ use lfs_fs::{Fs, format};
 use lfs_layout::is_name;
 use lfs_model::Kind;
 use lfs_path::dirs::add;
-use lfs_path::store::{Header, Store};
+use lfs_store::{Header, Store};
 use std::alloc::Global;
 use std::test::Fail;
 

@@ -1,7 +1,7 @@
 use Rattle.std.proofs.Common.{ap, refl, sym, subst, Err}
-use Rattle.lfs_path.specs.store.declared.draft.Draft.{Draft}
-use Rattle.lfs_path.specs.store.declared.totals.Totals.{Totals}
-use Rattle.lfs_path.specs.memory.Batch.{IsNoChange}
+use Rattle.lfs_store.specs.declared.draft.Draft.{Draft}
+use Rattle.lfs_store.specs.declared.totals.Totals.{Totals}
+use Rattle.lfs_store.specs.memory.Batch.{IsNoChange}
 use Rattle.lfs_fs.proofs.WritingDrafts.{cut_ends}
 use Rattle.lfs_fs.proofs.WritingEnds.{given_up_serves, headerless_serves}
 use Rattle.lfs_fs.proofs.fs.Fs.cut_file.Goals as goal

@@ -1,5 +1,8 @@
-use Rattle.std.proofs.Common.{ap, Err}
+use Rattle.std.proofs.Common.{ap, refl, Err}
+use Rattle.lfs_fs.specs.declared.fs.Fs.{Fs}
 use Rattle.lfs_fs.proofs.NameLooks.{looks_up, none_found, none_without}
+use Rattle.lfs_fs.proofs.PathEnds.{reads_again, store_reads}
+use Rattle.lfs_fs.proofs.StoreCalls.{each_drafted, log_reads, same_drafted, same_totals}
 use Rattle.lfs_fs.proofs.fs.Fs.look_in.Goals as goal
 
 pub returns-in-Err-clause-missing : goal.returns-in-Err-clause-missing
@@ -8,10 +11,24 @@ returns-in-Err-clause-missing g c = none_without g.D.SectorDevice.state c.args.s
 pub returns-in-Ok-find-clause-answer : goal.returns-in-Ok-find-clause-answer
 returns-in-Ok-find-clause-answer g c =
     looks_up g.D.SectorDevice.state c.args.self.now c.header.new.self c.in-Ok.ensures.reads c.args.directory c.in-Ok.header c.in-Ok.ensures.answer
-    record { alloc = c.header.new.self.alloc; store = c.find.new.store; handles = c.header.new.self.handles } c.in-Ok-find.ensures.reads c.args.name.now c.in-Ok-find.found c.in-Ok-find.ensures.answer
+    record { alloc = c.header.new.self.alloc; store = c.find.new.files; handles = c.header.new.self.handles } (log_reads g.D.SectorDevice.state c.header.new.self.store c.find.new.files c.in-Ok-find.ensures.reads) c.args.name.now c.in-Ok-find.found (each_drafted g.D.SectorDevice.state c.header.new.self.store c.find.new.files _ c.in-Ok-find.ensures.answer)
 
 pub returns-in-Err-find-clause-missing : goal.returns-in-Err-find-clause-missing
 returns-in-Err-find-clause-missing g c =
     none_found g.D.SectorDevice.state c.args.self.now c.header.new.self c.in-Ok.ensures.reads c.args.directory c.in-Ok.header c.in-Ok.ensures.answer
-    record { alloc = c.header.new.self.alloc; store = c.find.new.store; handles = c.header.new.self.handles } c.in-Err-find.ensures.reads c.in-Err-find.fault
-    (λ e. c.in-Err-find.ensures.halted (ap Err e)) (λ e. c.in-Err-find.ensures.other (ap Err e)) c.in-Err-find.ensures.failed c.from.result c.from.ensures
+    record { alloc = c.header.new.self.alloc; store = c.find.new.files; handles = c.header.new.self.handles } (log_reads g.D.SectorDevice.state c.header.new.self.store c.find.new.files c.in-Err-find.ensures.reads) c.in-Err-find.fault
+    (λ e. c.in-Err-find.ensures.halted (ap Err e)) (λ e. c.in-Err-find.ensures.other (ap Err e)) (each_drafted g.D.SectorDevice.state c.header.new.self.store c.find.new.files _ c.in-Err-find.ensures.failed) c.from.result c.from.ensures
+
+pub returns-in-Ok-find-clause-reads : goal.returns-in-Ok-find-clause-reads
+returns-in-Ok-find-clause-reads g c =
+    let read : Fs g.row.D.Denot = record { alloc = c.header.new.self.alloc; store = c.find.new.files; handles = c.header.new.self.handles } in
+    reads_again g.D.SectorDevice.state c.args.self.now c.header.new.self read c.in-Ok.ensures.reads (g.met.D.SectorDevice.lawful c.args.self.now.store.log.device)
+    (store_reads g.D.SectorDevice.state c.header.new.self read (log_reads g.D.SectorDevice.state c.header.new.self.store c.find.new.files c.in-Ok-find.ensures.reads) c.in-Ok-find.ensures.reads.draft c.in-Ok-find.ensures.reads.saved
+    (same_totals g.D.SectorDevice.state c.header.new.self.store c.find.new.files c.in-Ok-find.ensures.reads) (same_drafted g.D.SectorDevice.state c.header.new.self.store c.find.new.files c.in-Ok-find.ensures.reads) refl)
+
+pub returns-in-Err-find-clause-reads : goal.returns-in-Err-find-clause-reads
+returns-in-Err-find-clause-reads g c =
+    let read : Fs g.row.D.Denot = record { alloc = c.header.new.self.alloc; store = c.find.new.files; handles = c.header.new.self.handles } in
+    reads_again g.D.SectorDevice.state c.args.self.now c.header.new.self read c.in-Ok.ensures.reads (g.met.D.SectorDevice.lawful c.args.self.now.store.log.device)
+    (store_reads g.D.SectorDevice.state c.header.new.self read (log_reads g.D.SectorDevice.state c.header.new.self.store c.find.new.files c.in-Err-find.ensures.reads) c.in-Err-find.ensures.reads.draft c.in-Err-find.ensures.reads.saved
+    (same_totals g.D.SectorDevice.state c.header.new.self.store c.find.new.files c.in-Err-find.ensures.reads) (same_drafted g.D.SectorDevice.state c.header.new.self.store c.find.new.files c.in-Err-find.ensures.reads) refl)

@@ -1,5 +1,5 @@
 use Rattle.std.proofs.Common.{inl}
-use Rattle.lfs_path.proofs.of_memory.Going.{ok_then}
+use Rattle.lfs_store.proofs.of_memory.Going.{ok_then}
 use Rattle.lfs_fs.proofs.NameLooks.{fault_then, none_made, seen_same}
 use Rattle.lfs_fs.proofs.fs.Fs.make_file.Goals as goal
 

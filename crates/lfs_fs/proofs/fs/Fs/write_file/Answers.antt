@@ -1,5 +1,5 @@
 use Rattle.std.proofs.Common.{rules, ap, refl, Err}
-use Rattle.lfs_path.specs.store.declared.totals.Totals.{Totals}
+use Rattle.lfs_store.specs.declared.totals.Totals.{Totals}
 use Rattle.lfs_fs.proofs.WritingDrafts.{write_ends}
 use Rattle.lfs_fs.proofs.WritingEnds.{given_up_serves, headerless_serves}
 use Rattle.lfs_fs.proofs.WritingExits.{bytes_of}

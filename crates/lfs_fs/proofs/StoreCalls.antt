@@ -1,0 +1,105 @@
+-- Calls on files are calls on a store.
+use Rattle.std.proofs.Common.{◌≡◌, ℕ, List, Option, Some, None, refl, ◌∙◌, ap, subst}
+use Rattle.std.specs.FinMap.{find}
+use Rattle.std.specs.Prelude.{MatchOption}
+use Rattle.lfs_model.specs.Device.{DeviceState}
+use Rattle.lfs_model.specs.Objects.{IsDirectory}
+use Rattle.lfs_model.specs.Refusal.{Refusal}
+use Rattle.lfs_model.specs.Stands.{LogMap}
+use Rattle.lfs_model.specs.Tree.{Tree, byte_cmp}
+use Rattle.lfs_model.specs.Walk.{End, Refused}
+use Rattle.lfs_files.specs.declared.header.Header.{Header}
+use Rattle.lfs_files.specs.Files as files
+use Rattle.lfs_files.specs.Files.{Counted, WritesFile}
+use Rattle.lfs_files.specs.Headers.{as_header}
+use Rattle.lfs_store.specs.declared.store.Store.{Store}
+use Rattle.lfs_store.specs.declared.totals.Totals.{Totals}
+use Rattle.lfs_store.specs.log.Held.{Held, IsReadFault, Reads}
+use Rattle.lfs_store.specs.memory.Batch.{staged}
+use Rattle.lfs_store.specs.Recounting.{Counts}
+use Rattle.lfs_store.specs.Seen.{StagedLog}
+use Rattle.lfs_store.proofs.LogReads.{held_still}
+use Rattle.lfs_path.specs.declared.fault.PathFault.{PathFault}
+use Rattle.lfs_path.specs.Refusals.{refusal_of}
+use Rattle.lfs_path.specs.Walking as walking
+use Rattle.lfs_path.specs.dirs.Adding as adding
+use Rattle.lfs_path.specs.dirs.Adding.{AddsName, grown, slot_for}
+use Rattle.lfs_path.specs.dirs.Directory.{names_at}
+use Rattle.lfs_fs.specs.declared.fs.Fs.{Fs}
+use Rattle.lfs_fs.specs.Seen.{seen}
+use Rattle.lfs_fs.specs.Volume.{IsStill}
+use Rattle.lfs_fs.specs.Drafted.{Adds, EachDrafted, EndsRefused, IsPathFault, WalksTo, files_of}
+
+-- two numbers as totals
+abbrev totals_of : Counted → Totals
+totals_of t = record { data_blocks = t.data_blocks; meta_blocks = t.meta_blocks }
+
+module _ {D : Type 0} (state : D → DeviceState) (a b : Store D) where
+  -- what is told of files is told of each log map, with the draft
+  pub each_drafted : (P : LogMap → Type 0) → ((m m' : LogMap) → (files_of state b).device.keeps_model → (files_of state a).has m m' → P m') → EachDrafted state a.log b.log a.draft.changes P
+  each_drafted P all k m0 m keeps holds = all m (staged a.draft.changes m) keeps record { checkpoint = k; acknowledged = m0; holds = holds; draft = refl }
+
+  pub store_failed : files.IsFault (files_of state a) (files_of state b) → IsReadFault state a.log b.log
+  store_failed failed k m0 m keeps holds = failed m (staged a.draft.changes m) keeps record { checkpoint = k; acknowledged = m0; holds = holds; draft = refl }
+
+  -- ---- calls that only read
+  module _ (reads : files.Reads (files_of state a) (files_of state b)) where
+    pub log_reads : Reads state a.log b.log
+    log_reads = record { looks = reads.looks; memory = ap (λ (s : StagedLog). s.memory) reads.staged; number = ap (λ (s : StagedLog). s.number) reads.staged; halted = reads.halted }
+
+    pub same_totals : b.totals ≡ a.totals
+    same_totals = ap totals_of reads.totals
+
+    pub same_drafted : b.drafted ≡ a.drafted
+    same_drafted = ap totals_of reads.drafted
+
+  -- ---- walks of a path
+  pub ends_refused : (W : Tree → End → Type 0) (fault : PathFault) → walking.EndsRefused (files_of state a) (files_of state b) W fault → EndsRefused state a.log b.log a.draft.changes W fault
+  ends_refused W fault = by (refusal_of fault)
+    where
+      by : (o : Option Refusal) → MatchOption o (walking.IsPathFault (files_of state a) (files_of state b)) (λ r. walking.WalksTo (files_of state a) (files_of state b) W (Refused r))
+          → MatchOption o (IsPathFault state a.log b.log a.draft.changes) (λ r. WalksTo state a.log b.log a.draft.changes W (Refused r))
+      by None failed = λ k m0 m keeps holds. failed m (staged a.draft.changes m) keeps record { checkpoint = k; acknowledged = m0; holds = holds; draft = refl }
+      by (Some r) ends = λ k m0 m keeps holds. ends m (staged a.draft.changes m) keeps record { checkpoint = k; acknowledged = m0; holds = holds; draft = refl }
+
+  -- ---- calls that change the draft
+  module _ (redrafts : files.Redrafts (files_of state a) (files_of state b)) where
+    pub log_redrafts : Reads state a.log b.log
+    log_redrafts = record { looks = redrafts.looks; memory = ap (λ (s : StagedLog). s.memory) redrafts.staged; number = ap (λ (s : StagedLog). s.number) redrafts.staged; halted = redrafts.halted }
+
+    pub totals_stay : b.totals ≡ a.totals
+    totals_stay = ap totals_of redrafts.totals
+
+    pub log_counts : files.Counts (files_of state a) (files_of state b) → Counts state a.log b.log a.draft.changes b.draft.changes a.drafted b.drafted
+    log_counts counts k m0 m keeps holds =
+        counts m (staged a.draft.changes m) (staged b.draft.changes m) keeps
+        record { checkpoint = k; acknowledged = m0; holds = holds; draft = refl }
+        record { checkpoint = k; acknowledged = m0; holds = held_still state a.log b.log k m0 m log_redrafts holds; draft = refl }
+
+  pub log_adds : (d : ℕ) (head : Header) (n : ℕ) (name : List ℕ) → adding.Adds (files_of state a) (files_of state b) d head n name
+      → Adds state a.log b.log a.draft.changes b.draft.changes d head n name
+  log_adds d head n name adds = record {
+    fits = λ k m0 m holds fits takes. adds.writes.fits m (staged a.draft.changes m) record { checkpoint = k; acknowledged = m0; holds = holds; draft = refl } fits record {
+      there = takes.there;
+      apart = record { inode = takes.apart.inode; above = takes.apart.above };
+      within = takes.within;
+      header = takes.header;
+    };
+    file = λ k m0 m keeps holds.
+        let f = adds.has m (staged a.draft.changes m) keeps record { checkpoint = k; acknowledged = m0; holds = holds; draft = refl } in
+        subst (λ (x : LogMap). WritesFile (staged a.draft.changes m) x d head (grown head) head.size (slot_for n name)) f.has.draft f.file;
+    more = λ k m0 m keeps holds.
+        let f = adds.has m (staged a.draft.changes m) keeps record { checkpoint = k; acknowledged = m0; holds = holds; draft = refl } in
+        subst (λ (x : LogMap). IsDirectory (staged a.draft.changes m) d (as_header head) → find byte_cmp name (names_at (staged a.draft.changes m) d head) ≡ None → AddsName (staged a.draft.changes m) x d head n name) f.has.draft f.more;
+  }
+
+-- a volume whose store was changed no more than its draft, from where it has the same log and totals
+pub still_drafted : {D : Type 0} (state : D → DeviceState) (old : Fs D) (a b : Store D) → a.log ≡ old.store.log → a.saved ≡ old.store.saved → a.totals ≡ old.store.totals
+    → files.Redrafts (files_of state a) (files_of state b) → IsStill state (seen old) (seen record { alloc = old.alloc; store = b; handles = old.handles })
+still_drafted {D} state old a b log saved totals redrafts = record {
+  reads = subst (λ (h : Held D). Reads state h b.log) log (log_redrafts state a b redrafts);
+  saved = redrafts.saved ∙ saved;
+  blocks = ap (λ (t : Totals). t.data_blocks) (totals_stay state a b redrafts ∙ totals);
+  others = ap (λ (t : Totals). t.meta_blocks) (totals_stay state a b redrafts ∙ totals);
+  table = refl;
+}

@@ -1,0 +1,74 @@
+-- What calls on files tell of a store: of each log map that its log holds, with the draft.
+use Rattle.std.specs.Prelude.{◌≡◌, ◌<◌, ℕ, List, Option, None, MatchOption}
+use Rattle.std.specs.FinMap.{find}
+use Rattle.lfs_model.specs.Checkpoint.{CheckpointValue}
+use Rattle.lfs_model.specs.Device.{DeviceState}
+use Rattle.lfs_model.specs.Objects.{IsDirectory}
+use Rattle.lfs_model.specs.Stands.{LogMap}
+use Rattle.lfs_model.specs.Tree.{Tree, byte_cmp}
+use Rattle.lfs_model.specs.TreeOf.{tree_in}
+use Rattle.lfs_model.specs.Walk.{End, Refused}
+use Rattle.lfs_files.specs.declared.header.Header.{Header}
+use Rattle.lfs_files.specs.Files.{FilesState, WritesFile}
+use Rattle.lfs_files.specs.Headers.{as_header}
+use Rattle.lfs_store.specs.declared.draft.Draft.{Draft}
+use Rattle.lfs_store.specs.declared.store.Store.{Store}
+use Rattle.lfs_store.specs.log.Held.{Held, Holds}
+use Rattle.lfs_store.specs.memory.Batch.{FitsBatch, staged}
+use Rattle.lfs_store.specs.memory.declared.changes.Changes.{Changes}
+use Rattle.lfs_store.specs.Seen.{StagedLog, state_of}
+use Rattle.lfs_store.specs.Writing.{TakesWrite}
+use Rattle.lfs_path.specs.declared.fault.PathFault.{PathFault}
+use Rattle.lfs_path.specs.Refusals.{refusal_of}
+use Rattle.lfs_path.specs.Walking.{HasFlatTree}
+use Rattle.lfs_path.specs.dirs.declared.entry.Entry.{Entry}
+use Rattle.lfs_path.specs.dirs.Adding.{AddsName, grown, slot_for}
+use Rattle.lfs_path.specs.dirs.Directory.{names_at, slots_at}
+use Rattle.lfs_path.specs.dirs.Listing.{AreSlots, IsListOf, pairs}
+
+module _ {D : Type 0} (state : D → DeviceState) where
+  -- a store as files with a draft
+  abbrev pub files_of : Store D → FilesState StagedLog Draft
+  files_of s = state_of state s.log s.draft s.saved s.totals s.drafted
+
+  -- this is so of each log map that the log holds, after the draft
+  abbrev pub EachDrafted : Held D → Held D → Changes → (LogMap → Type 0) → Type 0
+  EachDrafted h h' c P = (k : CheckpointValue) (m0 m : LogMap) → (state h'.device).keeps_model → Holds state h k m0 m → P (staged c m)
+
+  -- what a name gives in directory d
+  abbrev pub Finds : Held D → Held D → Changes → ℕ → Header → List ℕ → Option ℕ → Type 0
+  Finds h h' c d head name found = EachDrafted h h' c (λ m. found ≡ find byte_cmp name (names_at m d head))
+
+  -- a call of the device failed, where d is a directory
+  abbrev pub IsDirectoryFault : Held D → Held D → Changes → ℕ → Header → Type 0
+  IsDirectoryFault h h' c d head = EachDrafted h h' c (λ m. IsDirectory m d (as_header head) → (state h.device).failures < (state h'.device).failures)
+
+  -- the names of directory d
+  abbrev pub Lists : Held D → Held D → Changes → ℕ → Header → List Entry → Type 0
+  Lists h h' c d head es = EachDrafted h h' c (λ m. pairs es ≡ names_at m d head)
+
+  -- the same, where each of its slots is well-formed; or one isn't
+  abbrev pub Inspects : Held D → Held D → Changes → ℕ → Header → List Entry → Type 0
+  Inspects h h' c d head es = EachDrafted h h' c (λ m. IsListOf (slots_at m d head) es)
+
+  abbrev pub LacksSlot : Held D → Held D → Changes → ℕ → Header → Type 0
+  LacksSlot h h' c d head = EachDrafted h h' c (λ m. AreSlots (slots_at m d head) → ⊥)
+
+  -- a walk ends there
+  abbrev pub WalksTo : Held D → Held D → Changes → (Tree → End → Type 0) → End → Type 0
+  WalksTo h h' c W e = EachDrafted h h' c (λ m. HasFlatTree m → W (tree_in m) e)
+
+  -- it ends refused; or there is no answer, since a call of the device failed
+  abbrev pub IsPathFault : Held D → Held D → Changes → Type 0
+  IsPathFault h h' c = EachDrafted h h' c (λ m. HasFlatTree m → (state h.device).failures < (state h'.device).failures)
+
+  abbrev pub EndsRefused : Held D → Held D → Changes → (Tree → End → Type 0) → PathFault → Type 0
+  EndsRefused h h' c W fault = MatchOption (refusal_of fault) (IsPathFault h h' c) (λ r. WalksTo h h' c W (Refused r))
+
+  -- A name is drafted into directory d.
+  pub record Adds (h h' : Held D) (c c' : Changes) (d : ℕ) (head : Header) (n : ℕ) (name : List ℕ) : Type 0 where
+    pub fits : (k : CheckpointValue) (m0 m : LogMap) → Holds state h k m0 m → FitsBatch m c → TakesWrite c m d head head.size (slot_for n name) → FitsBatch m c'
+    pub file : (k : CheckpointValue) (m0 m : LogMap) → (state h'.device).keeps_model → Holds state h k m0 m
+        → WritesFile (staged c m) (staged c' m) d head (grown head) head.size (slot_for n name)
+    pub more : (k : CheckpointValue) (m0 m : LogMap) → (state h'.device).keeps_model → Holds state h k m0 m → IsDirectory (staged c m) d (as_header head)
+        → find byte_cmp name (names_at (staged c m) d head) ≡ None → AddsName (staged c m) (staged c' m) d head n name
