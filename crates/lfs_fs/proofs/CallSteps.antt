@@ -19,10 +19,10 @@ use Rattle.lfs_model.specs.TreeOf.{object}
 use Rattle.lfs_model.specs.Walk.{At, Parent, Resolve}
 use Rattle.lfs_model.proofs.StepsAre.{step_unique}
 use Rattle.lfs_model.proofs.Standing.{object_length}
-use Rattle.lfs_path.specs.memory.declared.header.Header.{Header}
-use Rattle.lfs_path.specs.memory.Present.{as_header}
+use Rattle.lfs_files.specs.declared.header.Header.{Header}
+use Rattle.lfs_store.specs.memory.Present.{as_header}
 use Rattle.lfs_model.specs.Totals.{IsCounted, TotalsOfTree}
-use Rattle.lfs_path.specs.store.Writing.{WritesFile, resized}
+use Rattle.lfs_store.specs.Writing.{WritesFile, resized}
 use Rattle.lfs_fs.specs.Volume.{IsPlain}
 use Rattle.lfs_fs.proofs.Created.{NamesFile, created_map, created_need}
 use Rattle.lfs_fs.proofs.Files.{IsFileOf, IsMapOf, IsShaped, opened_file, room_counted, stat_is}

@@ -29,10 +29,10 @@ use Rattle.lfs_model.proofs.ObjectMaps.{object_fits, object_kept}
 use Rattle.lfs_model.proofs.ObjectTrees.{node_elsewhere, same_trees, with_header_at}
 use Rattle.lfs_model.proofs.Standing.{in_order}
 use Rattle.lfs_model.proofs.Volume.{node_in}
-use Rattle.lfs_path.specs.memory.declared.header.Header.{Header}
-use Rattle.lfs_path.specs.memory.Present.{as_header}
+use Rattle.lfs_files.specs.declared.header.Header.{Header}
+use Rattle.lfs_store.specs.memory.Present.{as_header}
 use Rattle.lfs_model.specs.Totals.{IsCounted, TotalsOfTree}
-use Rattle.lfs_path.specs.store.Writing.{WritesFile, resized}
+use Rattle.lfs_store.specs.Writing.{WritesFile, resized}
 use Rattle.lfs_fs.proofs.Changed.{IsFormed, formed_same, long_kept, not_directory, shape_kept}
 use Rattle.lfs_fs.proofs.Files.{IsMapOf, IsShaped, need_shaped, node_by_header, none_no_header}
 use Rattle.lfs_fs.proofs.PathSteps.{create_done, with_file}

@@ -9,16 +9,16 @@ use Rattle.lfs_model.specs.TreeOf.{Stands, tree_in}
 use Rattle.lfs_model.proofs.Decodes.{are_sized, decoding}
 use Rattle.lfs_model.proofs.ObjectMaps.{laid_headers}
 use Rattle.lfs_model.proofs.ObjectNeeds.{laid_long}
-use Rattle.lfs_path.specs.memory.declared.changes.Changes.{Changes}
-use Rattle.lfs_path.specs.memory.Batch.{IsNoChange, staged}
-use Rattle.lfs_path.specs.log.verify.declared.fault.MountFault.{MountFault}
-use Rattle.lfs_path.specs.log.verify.declared.fault.MountFault.TheVariants as fault
-use Rattle.lfs_path.specs.log.Held.{Held, Holds, IsReadFault, Reads}
-use Rattle.lfs_path.specs.store.declared.totals.Totals.{Totals}
-use Rattle.lfs_path.specs.store.Accepting.{IsMountRefusal, MountsStore}
-use Rattle.lfs_path.specs.store.Recounting.{MountsTotals}
-use Rattle.lfs_path.proofs.of_store.Apart.{no_change}
-use Rattle.lfs_path.proofs.of_store.LogReads.{held_still}
+use Rattle.lfs_store.specs.memory.declared.changes.Changes.{Changes}
+use Rattle.lfs_store.specs.memory.Batch.{IsNoChange, staged}
+use Rattle.lfs_store.specs.log.verify.declared.fault.MountFault.{MountFault}
+use Rattle.lfs_store.specs.log.verify.declared.fault.MountFault.TheVariants as fault
+use Rattle.lfs_store.specs.log.Held.{Held, Holds, IsReadFault, Reads}
+use Rattle.lfs_store.specs.declared.totals.Totals.{Totals}
+use Rattle.lfs_store.specs.Accepting.{IsMountRefusal, MountsStore}
+use Rattle.lfs_store.specs.Recounting.{MountsTotals}
+use Rattle.lfs_store.proofs.Apart.{no_change}
+use Rattle.lfs_store.proofs.LogReads.{held_still}
 use Rattle.lfs_fs.specs.declared.fs.Fs.{Fs}
 use Rattle.lfs_fs.specs.Checking.{FindsTree, IsCountedMap, IsFlat, IsTreeFault, LacksTree}
 use Rattle.lfs_fs.specs.Handles.{handles_of}

@@ -12,8 +12,8 @@ use Rattle.lfs_model.specs.Tree.{Node, State, entry as entry_in, names, node}
 use Rattle.lfs_model.specs.TreeOf.{object}
 use Rattle.lfs_model.proofs.Shrinking.{named_counts}
 use Rattle.lfs_model.proofs.Standing.{object_length}
-use Rattle.lfs_path.specs.memory.declared.header.Header.{Header}
-use Rattle.lfs_path.specs.memory.Present.{as_header}
+use Rattle.lfs_files.specs.declared.header.Header.{Header}
+use Rattle.lfs_store.specs.memory.Present.{as_header}
 use Rattle.lfs_fs.specs.Volume.{IsPlain}
 use Rattle.lfs_fs.proofs.Files.{IsFileOf, IsMapOf, file_of, stat_is}
 use Rattle.lfs_fs.proofs.Listed.{file_head, row_in}

@@ -9,15 +9,15 @@ use Rattle.lfs_model.specs.Objects.{AreLong, IsHeaderOf}
 use Rattle.lfs_model.specs.Stands.{LogMap}
 use Rattle.lfs_model.specs.Tree.{Names}
 use Rattle.lfs_model.specs.TreeOf.{IsTree, tree_in}
-use Rattle.lfs_path.specs.memory.declared.changes.Changes.{Changes}
-use Rattle.lfs_path.specs.memory.declared.header.Header.{Header}
-use Rattle.lfs_path.specs.memory.Batch.{staged}
-use Rattle.lfs_path.specs.memory.Present.{as_header}
-use Rattle.lfs_path.specs.log.verify.declared.fault.MountFault.{MountFault}
-use Rattle.lfs_path.specs.log.verify.declared.fault.MountFault.TheVariants as fault
-use Rattle.lfs_path.specs.log.Held.{Held, Holds, IsReadFault}
-use Rattle.lfs_path.specs.store.declared.totals.Totals.{Totals}
-use Rattle.lfs_path.specs.store.Recounting.{AreTotals}
+use Rattle.lfs_store.specs.memory.declared.changes.Changes.{Changes}
+use Rattle.lfs_files.specs.declared.header.Header.{Header}
+use Rattle.lfs_store.specs.memory.Batch.{staged}
+use Rattle.lfs_store.specs.memory.Present.{as_header}
+use Rattle.lfs_store.specs.log.verify.declared.fault.MountFault.{MountFault}
+use Rattle.lfs_store.specs.log.verify.declared.fault.MountFault.TheVariants as fault
+use Rattle.lfs_store.specs.log.Held.{Held, Holds, IsReadFault}
+use Rattle.lfs_store.specs.declared.totals.Totals.{Totals}
+use Rattle.lfs_store.specs.Recounting.{AreTotals}
 use Rattle.lfs_path.specs.dirs.declared.entry.Entry.{Entry}
 use Rattle.lfs_path.specs.dirs.Directory.{slots_at}
 use Rattle.lfs_path.specs.dirs.Listing.{IsListOf, pairs}

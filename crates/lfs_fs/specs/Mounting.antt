@@ -7,8 +7,8 @@ use Rattle.lfs_model.specs.Stands.{LogMap, StandsLog}
 use Rattle.lfs_model.specs.Tree.{State}
 use Rattle.lfs_model.specs.TreeOf.{Stands}
 use Rattle.lfs_model.specs.Volume.{IsTooSmall, IsWithoutCheckpoint}
-use Rattle.lfs_path.specs.log.verify.declared.fault.MountFault.{MountFault}
-use Rattle.lfs_path.specs.log.verify.declared.fault.MountFault.TheVariants.{NoMemory, Device, TooSmall, NoCheckpoint, Damaged}
+use Rattle.lfs_store.specs.log.verify.declared.fault.MountFault.{MountFault}
+use Rattle.lfs_store.specs.log.verify.declared.fault.MountFault.TheVariants.{NoMemory, Device, TooSmall, NoCheckpoint, Damaged}
 use Rattle.lfs_verify.specs.Verified.{IsDamagedIn, IsVerified}
 use Rattle.lfs_fs.specs.declared.fs.Fs.{Fs}
 use Rattle.lfs_fs.specs.Checking.{IsFlat}

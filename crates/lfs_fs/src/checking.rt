@@ -1,8 +1,8 @@
 //! What a mount checks of a volume's tree: that it is a root and files, named as often as their inodes say, with room for all.
 ghost use Rattle.std.specs.Prelude.{◌≡◌, ◌≤◌, ◌<◌, ◌+◌, ◌*◌, length, slice_index, OnOk, OnErr, IfOk, IfErr};
 ghost use Rattle.std.specs.Option.{option_map};
-ghost use Rattle.lfs_path.specs.memory.Present.{as_header};
-ghost use Rattle.lfs_path.specs.log.Held.{Reads};
+ghost use Rattle.lfs_store.specs.memory.Present.{as_header};
+ghost use Rattle.lfs_store.specs.log.Held.{Reads};
 ghost use Rattle.lfs_path.specs.dirs.Listing.{pairs};
 ghost use Rattle.lfs_fs.specs.Checking.{AreCounts, FitsNumber, FindsRoot, FindsEntries, FindsFile, FindsFiles, FindsTree, LacksRoot, LacksEntries, LacksFile, LacksFiles, LacksTree, IsTreeDamage, IsTreeFault};
 
@@ -10,7 +10,7 @@ use crate::fs::ROOT;
 use lfs_device::SectorDevice;
 use lfs_model::Kind;
 use lfs_path::dirs::{Entry, ListFault, inspect};
-use lfs_path::store::{Header, MountFault, Store};
+use lfs_store::{Header, MountFault, Store};
 use std::alloc::{AllocError, Global};
 
 /// The bytes of a slot of the root.

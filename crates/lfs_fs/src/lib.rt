@@ -15,5 +15,5 @@ mod writing;
 pub use error::FsError;
 pub use fs::Fs;
 pub use lfs_format::{FormatFault, format};
-pub use lfs_path::store::MountFault;
+pub use lfs_store::MountFault;
 pub use rows::{Space, Stat, TreeRow};

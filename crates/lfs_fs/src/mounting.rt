@@ -7,7 +7,7 @@ use crate::checking::check_tree;
 use crate::fs::Fs;
 use crate::handles::Handles;
 use lfs_device::SectorDevice;
-use lfs_path::store::{MountFault, Store};
+use lfs_store::{MountFault, Store};
 use std::alloc::Global;
 
 impl<D: SectorDevice> Fs<D> {

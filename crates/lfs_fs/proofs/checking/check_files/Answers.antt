@@ -1,5 +1,5 @@
 use Rattle.std.proofs.Common.{◌≡◌, ◌∙◌, ℕ, refl, slice_index, subst, arith}
-use Rattle.lfs_path.specs.store.declared.draft.Draft.{Draft}
+use Rattle.lfs_store.specs.declared.draft.Draft.{Draft}
 use Rattle.lfs_fs.specs.Checking.{FindsFile, FindsFiles, LacksFile, LacksFiles}
 use Rattle.lfs_fs.proofs.TreeChecks.{fault_told, files_lack, files_more, files_none}
 use Rattle.lfs_fs.proofs.checking.check_files.Goals as goal

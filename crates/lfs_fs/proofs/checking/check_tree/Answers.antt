@@ -1,7 +1,7 @@
 use Rattle.std.proofs.Common.{◌+◌, ◌*◌, ℕ, List, ap, slice_index, subst, ◌∙◌}
-use Rattle.lfs_path.specs.store.declared.draft.Draft.{Draft}
-use Rattle.lfs_path.specs.store.declared.totals.Totals.{Totals}
-use Rattle.lfs_path.proofs.of_store.LogReads.{reads_more, reads_none}
+use Rattle.lfs_store.specs.declared.draft.Draft.{Draft}
+use Rattle.lfs_store.specs.declared.totals.Totals.{Totals}
+use Rattle.lfs_store.proofs.LogReads.{reads_more, reads_none}
 use Rattle.lfs_fs.specs.Checking.{FindsEntries, FindsFiles, LacksEntries, LacksFiles, LacksRoot, LacksTree}
 use Rattle.lfs_fs.proofs.TreeChecks.{damage_told, entries_lack, fault_told, files_lack_tree, room_lacks, root_lacks, tree_finds}
 use Rattle.lfs_fs.proofs.checking.check_tree.Goals as goal

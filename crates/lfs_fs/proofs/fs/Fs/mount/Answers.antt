@@ -1,8 +1,8 @@
 use Rattle.std.proofs.Common.{refl, sym, subst, ◌∙◌}
 use Rattle.lfs_fs.specs.Mounting.{IsMountFault, IsRefused}
-use Rattle.lfs_path.specs.store.Accepting.{MountsStore}
-use Rattle.lfs_path.specs.store.Recounting.{MountsTotals}
-use Rattle.lfs_path.specs.store.declared.totals.Totals.{Totals}
+use Rattle.lfs_store.specs.Accepting.{MountsStore}
+use Rattle.lfs_store.specs.Recounting.{MountsTotals}
+use Rattle.lfs_store.specs.declared.totals.Totals.{Totals}
 use Rattle.lfs_fs.specs.declared.fs.Fs.{Fs}
 use Rattle.lfs_fs.specs.Checking.{FindsTree}
 use Rattle.lfs_fs.proofs.MountEnds.{check_fault, log_refused, mounts_fs, open_fault, stands_where_log, state_there, tree_reason, tree_refused}
