@@ -16,7 +16,7 @@ fn first_wrong(
 ) -> Result<Option<usize>, Fail> {
     let mut store = store_with(alloc, b"ab")?;
     for (place, (path, want)) in rows.iter().enumerate() {
-        if resolve(&mut store, path) != *want {
+        if resolve(&mut *store, path) != *want {
             return Ok(Some(place));
         }
     }
@@ -67,7 +67,7 @@ fn the_last_piece_is_not_walked(rt: HostRuntime) -> Result<(), Fail> {
     ] {
         assert!(rt; ends_in(&mut store, path, name));
     }
-    assert!(rt; matches!(parent(&mut store, b"a/b"), Err(PathFault::NotDir)));
+    assert!(rt; matches!(parent(&mut *store, b"a/b"), Err(PathFault::NotDir)));
     Ok(())
 }
 
