@@ -12,19 +12,19 @@ use Rattle.lfs_model.specs.Device.{DeviceState, IsLawful}
 use Rattle.lfs_model.specs.Entry as entry
 use Rattle.lfs_model.specs.Stands.{LogMap}
 use Rattle.lfs_model.specs.Tree.{Names}
-use Rattle.lfs_path.specs.memory.declared.changes.Changes.{Changes}
-use Rattle.lfs_path.specs.memory.declared.fault.LogFault.{LogFault}
-use Rattle.lfs_path.specs.memory.declared.fault.LogFault.TheVariants as log
-use Rattle.lfs_path.specs.memory.declared.header.Header.{Header}
-use Rattle.lfs_path.specs.memory.declared.memory.LogMemory.{LogMemory}
-use Rattle.lfs_path.specs.memory.Batch.{staged}
-use Rattle.lfs_path.specs.memory.Present.{HeaderAnswer, as_header}
-use Rattle.lfs_path.specs.log.verify.declared.fault.MountFault.{MountFault}
-use Rattle.lfs_path.specs.log.verify.declared.fault.MountFault.TheVariants as fault
-use Rattle.lfs_path.specs.log.Held.{Held, Holds, IsReadFault, Reads}
-use Rattle.lfs_path.specs.store.declared.totals.Totals.{Totals}
-use Rattle.lfs_path.specs.store.Reading.{ReadsHeader}
-use Rattle.lfs_path.proofs.of_store.LogReads.{fault_more, held_still, reads_more, reads_none}
+use Rattle.lfs_store.specs.memory.declared.changes.Changes.{Changes}
+use Rattle.lfs_files.specs.declared.fault.LogFault.{LogFault}
+use Rattle.lfs_files.specs.declared.fault.LogFault.TheVariants as log
+use Rattle.lfs_files.specs.declared.header.Header.{Header}
+use Rattle.lfs_store.specs.memory.declared.memory.LogMemory.{LogMemory}
+use Rattle.lfs_store.specs.memory.Batch.{staged}
+use Rattle.lfs_store.specs.memory.Present.{HeaderAnswer, as_header}
+use Rattle.lfs_store.specs.log.verify.declared.fault.MountFault.{MountFault}
+use Rattle.lfs_store.specs.log.verify.declared.fault.MountFault.TheVariants as fault
+use Rattle.lfs_store.specs.log.Held.{Held, Holds, IsReadFault, Reads}
+use Rattle.lfs_store.specs.declared.totals.Totals.{Totals}
+use Rattle.lfs_store.specs.Reading.{ReadsHeader}
+use Rattle.lfs_store.proofs.LogReads.{fault_more, held_still, reads_more, reads_none}
 use Rattle.lfs_path.specs.dirs.declared.entry.Entry.{Entry}
 use Rattle.lfs_path.specs.dirs.Listing.{Inspects, LacksSlot, pair, pairs}
 use Rattle.lfs_path.proofs.of_dirs.PlacesOfNames.{pairs_many}

@@ -6,7 +6,7 @@ pub returns-clause-reads : goal.returns-clause-reads
 returns-clause-reads g c =
     seen_read g.D.SectorDevice.state c.args.self.now.log c.block.new.self.log c.args.self.now.draft c.block.new.self.draft
     c.args.self.now.saved c.block.new.self.saved c.args.self.now.totals c.block.new.self.totals c.args.self.now.drafted c.block.new.self.drafted
-    c.block.ensures.reads c.block.ensures.draft c.block.ensures.saved c.block.ensures.totals c.block.ensures.drafted
+    c.block.ensures.reads.log c.block.ensures.reads.draft c.block.ensures.reads.saved c.block.ensures.reads.totals c.block.ensures.reads.drafted
 
 pub returns-clause-failed : goal.returns-clause-failed
 returns-clause-failed g c =

@@ -6,7 +6,7 @@ pub returns-clause-reads : goal.returns-clause-reads
 returns-clause-reads g c =
     seen_read g.D.SectorDevice.state c.args.self.now.log c.header.new.self.log c.args.self.now.draft c.header.new.self.draft
     c.args.self.now.saved c.header.new.self.saved c.args.self.now.totals c.header.new.self.totals c.args.self.now.drafted c.header.new.self.drafted
-    c.header.ensures.reads c.header.ensures.draft c.header.ensures.saved c.header.ensures.totals c.header.ensures.drafted
+    c.header.ensures.reads.log c.header.ensures.reads.draft c.header.ensures.reads.saved c.header.ensures.reads.totals c.header.ensures.reads.drafted
 
 pub returns-clause-failed : goal.returns-clause-failed
 returns-clause-failed g c =
