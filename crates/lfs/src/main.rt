@@ -1,14 +1,10 @@
 //! A log-structured file system in an image file, from the command line.
 #![tactic(auto)]
 
-mod command;
-mod fault;
-mod image;
-mod request;
-mod simulation;
 #[cfg(test)]
 mod tests;
 
+pub use lfs_command::command;
 use std::io::ErrorKind;
 use std::process::ExitCode;
 use std::{env, io};
@@ -24,7 +20,7 @@ fn words(rt: &HostRuntime) -> io::Result<Vec<String>> {
 
 fn main(rt: HostRuntime) -> ExitCode {
     let status = match words(&rt) {
-        Ok(words) => command::command(
+        Ok(words) => command(
             &rt,
             rt.alloc(),
             words.as_slice(),

@@ -1,5 +1,5 @@
 // Rows of commands over image files and over volumes in memory, carried out one after another.
-use crate::command::command;
+use crate::command;
 use std::alloc::{AllocError, Global};
 use std::fs::File;
 use std::io::Write;

@@ -1,6 +1,6 @@
 use Rattle.std.proofs.Common.{ap, inl, inr}
 use Rattle.lfs_script.proofs.Used.{err_of, ok_of}
-use Rattle.lfs.proofs.command.play_and_stop.Goals as goal
+use Rattle.lfs_command.proofs.commands.play_and_stop.Goals as goal
 
 pub returns-in-Ok-default-clause-plays : goal.returns-in-Ok-default-clause-plays
 returns-in-Ok-default-clause-plays g c = inl (record {

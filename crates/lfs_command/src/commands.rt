@@ -2,7 +2,7 @@
 ghost use Rattle.std.specs.Prelude.{◌≡◌, ◌≤◌, IfOk};
 ghost use Rattle.std.specs.Io.KnownBytes.{Keeps};
 ghost use Rattle.lfs_device.specs.MemoryDevice.{device_state};
-ghost use Rattle.lfs.specs.Playing.{Plays};
+ghost use Rattle.lfs_command.specs.Playing.{Plays};
 
 use crate::fault::{Fault, Refusal};
 use crate::request::{Request, read_request};
