@@ -26,7 +26,8 @@ use Rattle.lfs_store.specs.declared.totals.Totals.{Totals}
 use Rattle.lfs_store.specs.Reading.{ReadsHeader}
 use Rattle.lfs_store.proofs.LogReads.{fault_more, held_still, reads_more, reads_none}
 use Rattle.lfs_path.specs.dirs.declared.entry.Entry.{Entry}
-use Rattle.lfs_path.specs.dirs.Listing.{Inspects, LacksSlot, pair, pairs}
+use Rattle.lfs_path.specs.dirs.Listing.{pair, pairs}
+use Rattle.lfs_fs.specs.Drafted.{Inspects, LacksSlot}
 use Rattle.lfs_path.proofs.of_dirs.PlacesOfNames.{pairs_many}
 use Rattle.lfs_fs.specs.Checking.{AreCounts, CountsEntries, FindsEntries, FindsFile, FindsFiles, FindsRoot, FindsTree, FitsNumber, IsRoot, IsTreeDamage, IsTreeFault, LacksEntries, LacksFile, LacksFiles, LacksRoot, LacksTree, giving}
 use Rattle.lfs_fs.proofs.FlatRoots.{flat_apart, flat_directory, flat_found, flat_kind, flat_links, flat_numbers, flat_room, flat_there, flat_unnamed}

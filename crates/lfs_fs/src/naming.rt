@@ -12,9 +12,9 @@ use lfs_device::SectorDevice;
 use lfs_layout::is_name;
 use lfs_model::Kind;
 use lfs_path::dirs::{add, find};
-use lfs_store::Header;
 use lfs_path::text::is_dots;
 use lfs_path::{Last, Place, parent, resolve};
+use lfs_store::Header;
 
 /// The most bytes of a name.
 const LONGEST_NAME: usize = 59;

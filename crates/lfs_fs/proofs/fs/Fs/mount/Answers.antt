@@ -54,3 +54,8 @@ returns-in-Err-check_tree-clause-reason g c =
     (tree_reason g.D.SectorDevice.state c.args.device c.in-Ok.store.log.device store.log.device opened.found check.reads.looks.carries c.in-Err-check_tree.fault
     (tree_refused g.D.SectorDevice.state g.met.D.SectorDevice.lawful c.args.device c.in-Ok.store.log store.log check.reads c.in-Ok.store.saved opened.stores c.in-Ok.store.draft.changes opened.draft
     c.in-Ok.store.totals opened.counts opened.carries c.in-Err-check_tree.fault check.failed))
+
+pub returns-in-Ok-check_tree-clause-durable : goal.returns-in-Ok-check_tree-clause-durable
+returns-in-Ok-check_tree-clause-durable g c keeps content left =
+    let looks = c.in-Ok-check_tree.ensures.reads.looks in
+    c.in-Ok.ensures.durable (looks.carries.kept_before keeps) content (looks.untouched.crash content left)
