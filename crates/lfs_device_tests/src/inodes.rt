@@ -156,7 +156,7 @@ fn change(table: &mut DirtyTable, plain: &mut Plain, draw: u32) -> Result<(), Al
 }
 
 fn new_tables(alloc: Global) -> Result<(DirtyTable, Plain), AllocError> {
-    Ok((DirtyTable::new(alloc, 10)?, Vec::new(alloc)))
+    Ok((DirtyTable::new(alloc, 10, 10)?, Vec::new(alloc)))
 }
 
 /// The number that random changes begin with.
@@ -272,7 +272,7 @@ fn a_full_table(rt: HostRuntime) {
         Step::Holds(10, None),
         Step::Size(0, 3),
     ];
-    all_well(&rt, DirtyTable::new(rt.alloc(), 3), &steps);
+    all_well(&rt, DirtyTable::new(rt.alloc(), 3, 3), &steps);
 }
 
 #[test]
@@ -306,7 +306,7 @@ fn blocks_of_a_file_from_one_on(rt: HostRuntime) {
         Step::Clear(7, 0, 128),
         Step::Size(17, 22),
     ];
-    all_well(&rt, DirtyTable::new(rt.alloc(), 22), &steps);
+    all_well(&rt, DirtyTable::new(rt.alloc(), 22, 22), &steps);
 }
 
 /// A way through an inode's pointers, and where it leads.
@@ -339,7 +339,7 @@ fn put_tree(device: &mut MemDevice) -> bool {
 /// A device of zeros, and a table with a leaf and the double root of file 9.
 fn volume(alloc: Global) -> Result<(MemDevice, DirtyTable), NoMemory> {
     let device = MemDevice::new(alloc, 6)?;
-    let mut table = DirtyTable::new(alloc, 2)?;
+    let mut table = DirtyTable::new(alloc, 2, 2)?;
     let root = [(0, IN_MEMORY), (2, 6), (3, IN_MEMORY), (127, 5)];
     let leaf = [(0, 30), (127, IN_MEMORY)];
     put_dirty(&mut table, BlockKey::leaf(9, 1), &leaf);

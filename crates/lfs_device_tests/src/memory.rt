@@ -63,7 +63,7 @@ fn volume(alloc: Global) -> Result<(MemDevice, LogMemory), NoMemory> {
     let device = MemDevice::new(alloc, 40)?;
     let map = InodeMap::new(alloc)?;
     let usage = Usage::new(alloc, 64)?;
-    let dirty = DirtyTable::new(alloc, 4)?;
+    let dirty = DirtyTable::new(alloc, 4, 4)?;
     let chunk = ChunkWriter::new();
     Ok((
         device,

@@ -9,6 +9,7 @@ use Rattle.std.proofs.lemmas.Bool.Decides.{nat_tests}
 use Rattle.std.proofs.lemmas.List.Edits.{length-insert, length-remove}
 use Rattle.lfs_model.specs.Tree.{without}
 use Rattle.lfs_inodes.specs.declared.table.Place.{Place}
+use Rattle.lfs_inodes.specs.Code.{IsCode}
 use Rattle.lfs_inodes.specs.Blocks.{Blocks, TableValue, number_at, altered_as, altered, IsAt, IsGapFor}
 use Rattle.lfs_inodes.specs.Held.{entry_in, entries_in, spots, times, one_below, IsHeld}
 use Rattle.lfs_inodes.proofs.Blocks.{put_at, put_gap, without_at, sorted_put, sorted_without, find_at, find_gap}
@@ -90,7 +91,7 @@ number_is (q ∷ ps) bs (suc i) p lt is = number_is ps bs i p (omega arith) is
 low_if : (n s : ℕ) → 1 ≤ one_below n s → s < n
 low_if n s some = grind (arith, nat_tests)
 
-module _ (ps : List Place) (bs : List (List ℕ)) (spare : List ℕ) (a b : ℕ) (h : IsHeld ps bs spare a b) where
+module _ (ps : List Place) (bs : List (List ℕ)) (spare : List ℕ) (most a b : ℕ) (h : IsHeld ps bs spare most a b) where
   pub few : length (entries_in ps bs) ≤ length bs
   few = let l = length-entries ps bs in let s = h.shared in omega arith
 
@@ -119,7 +120,7 @@ module _ (ps : List Place) (bs : List (List ℕ)) (spare : List ℕ) (a b : ℕ)
           ∙ ap (λ (k : ℕ). set (entries_in ps bs) i (k, v)) key_is
           ∙ sym (put_at (entries_in ps bs) h.sorted c v i at)
 
-      pub held_written : (v : List ℕ) → IsHeld ps (set bs p.spot v) spare a b
+      pub held_written : (v : List ℕ) → IsHeld ps (set bs p.spot v) spare most a b
       held_written v =
           let l = length-set bs p.spot v in
           record {
@@ -127,6 +128,8 @@ module _ (ps : List Place) (bs : List (List ℕ)) (spare : List ℕ) (a b : ℕ)
             once = λ s. h.once s ∙ ap (λ (n : ℕ). one_below n s) (sym l);
             shared = h.shared ∙ sym l;
             small = subst (λ (n : ℕ). n < 4294967296) (sym l) h.small;
+            few = h.few;
+            within = subst (λ (n : ℕ). most ≤ n) (sym l) h.within;
             room = subst (λ (n : ℕ). n ≤ a) (sym l) h.room;
             room_for_spare = subst (λ (n : ℕ). n ≤ b) (sym l) h.room_for_spare;
           }
@@ -135,11 +138,12 @@ module _ (ps : List Place) (bs : List (List ℕ)) (spare : List ℕ) (a b : ℕ)
       pub removed_is : entries_in (remove ps i) bs ≡ without nat_cmp c (entries_in ps bs)
       removed_is = map-remove (entry_in bs) ps i ∙ sym (without_at (entries_in ps bs) h.sorted c i at)
 
-      pub held_removed : (spare' : List ℕ) → spare' ≡ spare ++ p.spot ∷ [] → IsHeld (remove ps i) bs spare' a b
+      pub held_removed : (spare' : List ℕ) → spare' ≡ spare ++ p.spot ∷ [] → IsHeld (remove ps i) bs spare' most a b
       held_removed spare' now =
           let lr = length-remove ps i lt in
           let ls = ap length now ∙ length-append spare (p.spot ∷ []) in
           let s = h.shared in
+          let f = h.few in
           record {
             sorted = subst (λ (es : Blocks). T (is_sorted nat_cmp es)) (sym removed_is) (sorted_without (entries_in ps bs) c h.sorted);
             once = λ n.
@@ -149,6 +153,8 @@ module _ (ps : List Place) (bs : List (List ℕ)) (spare : List ℕ) (a b : ℕ)
                 omega arith;
             shared = omega arith;
             small = h.small;
+            few = omega arith;
+            within = h.within;
             room = h.room;
             room_for_spare = h.room_for_spare;
           }
@@ -180,8 +186,8 @@ module _ (ps : List Place) (bs : List (List ℕ)) (spare : List ℕ) (a b : ℕ)
           ∙ ap₂ (λ (es : Blocks) (x : List ℕ). insert es i (p.key.code, x)) (kept ps bs p.spot v unused) (get_or-set_same bs p.spot v [] spare_low)
           ∙ sym (put_gap (entries_in ps bs) p.key.code v i gap)
 
-      pub held_inserted : IsHeld (insert ps i p) (set bs p.spot v) spare' a b
-      held_inserted =
+      pub held_inserted : length ps < most → IsHeld (insert ps i p) (set bs p.spot v) spare' most a b
+      held_inserted more =
           let l = length-set bs p.spot v in
           let le = length-entries ps bs in
           let g = gap.within in
@@ -198,15 +204,17 @@ module _ (ps : List Place) (bs : List (List ℕ)) (spare : List ℕ) (a b : ℕ)
                 omega arith;
             shared = omega arith;
             small = subst (λ (n : ℕ). n < 4294967296) (sym l) h.small;
+            few = omega arith;
+            within = subst (λ (n : ℕ). most ≤ n) (sym l) h.within;
             room = subst (λ (n : ℕ). n ≤ a) (sym l) h.room;
             room_for_spare = subst (λ (n : ℕ). n ≤ b) (sym l) h.room_for_spare;
           }
 
-pub wider : (ps : List Place) (bs : List (List ℕ)) (spare : List ℕ) (a b a' b' : ℕ) → IsHeld ps bs spare a b → a ≤ a' → b ≤ b' → IsHeld ps bs spare a' b'
-wider ps bs spare a b a' b' h more more_spare =
+pub wider : (ps : List Place) (bs : List (List ℕ)) (spare : List ℕ) (most a b a' b' : ℕ) → IsHeld ps bs spare most a b → a ≤ a' → b ≤ b' → IsHeld ps bs spare most a' b'
+wider ps bs spare most a b a' b' h more more_spare =
     let r = h.room in
     let s = h.room_for_spare in
-    record { sorted = h.sorted; once = h.once; shared = h.shared; small = h.small; room = omega arith; room_for_spare = omega arith }
+    record { sorted = h.sorted; once = h.once; shared = h.shared; small = h.small; few = h.few; within = h.within; room = omega arith; room_for_spare = omega arith }
 
 -- ---- numbers of keys are small
 pub numbers_small : (ps : List Place) (bs : List (List ℕ)) (j : ℕ) → j < length (entries_in ps bs) → number_at (entries_in ps bs) j < 4294967296
@@ -214,20 +222,29 @@ numbers_small [] bs j lt = absurd (omega arith)
 numbers_small (p ∷ ps) bs zero lt = let k = p.key.formed in let s = k.small in omega arith
 numbers_small (p ∷ ps) bs (suc j) lt = numbers_small ps bs j (omega arith)
 
+-- and each is a key's
+pub numbers_of_keys : (ps : List Place) (bs : List (List ℕ)) (j : ℕ) → j < length (entries_in ps bs) → IsCode (number_at (entries_in ps bs) j)
+numbers_of_keys [] bs j lt = absurd (omega arith)
+numbers_of_keys (p ∷ ps) bs zero lt = p.key.formed
+numbers_of_keys (p ∷ ps) bs (suc j) lt = numbers_of_keys ps bs j (omega arith)
+
 -- ---- the same of the table's value
-abbrev pub value_of : List Place → List (List ℕ) → TableValue
-value_of ps bs = record { blocks = entries_in ps bs; capacity = length bs }
+abbrev pub value_of : ℕ → List Place → List (List ℕ) → TableValue
+value_of most ps bs = record { blocks = entries_in ps bs; capacity = record { limit = most; room = length bs } }
 
-pub small_value : (ps : List Place) (bs : List (List ℕ)) (t : TableValue) → value_of ps bs ≡ t → (j : ℕ) → j < length t.blocks → number_at t.blocks j < 4294967296
-small_value ps bs t view = subst (λ (u : TableValue). (j : ℕ) → j < length u.blocks → number_at u.blocks j < 4294967296) view (numbers_small ps bs)
+pub small_value : (most : ℕ) (ps : List Place) (bs : List (List ℕ)) (t : TableValue) → value_of most ps bs ≡ t → (j : ℕ) → j < length t.blocks → number_at t.blocks j < 4294967296
+small_value most ps bs t view = subst (λ (u : TableValue). (j : ℕ) → j < length u.blocks → number_at u.blocks j < 4294967296) view (numbers_small ps bs)
 
-pub at_value : (ps : List Place) (bs : List (List ℕ)) (t : TableValue) → value_of ps bs ≡ t → (i : ℕ) (p : Place) → i < length ps → p ≡ get_or ps i p → IsAt t.blocks p.key.code i
-at_value ps bs t view i p lt is =
+pub codes_value : (most : ℕ) (ps : List Place) (bs : List (List ℕ)) (t : TableValue) → value_of most ps bs ≡ t → (j : ℕ) → j < length t.blocks → IsCode (number_at t.blocks j)
+codes_value most ps bs t view = subst (λ (u : TableValue). (j : ℕ) → j < length u.blocks → IsCode (number_at u.blocks j)) view (numbers_of_keys ps bs)
+
+pub at_value : (most : ℕ) (ps : List Place) (bs : List (List ℕ)) (t : TableValue) → value_of most ps bs ≡ t → (i : ℕ) (p : Place) → i < length ps → p ≡ get_or ps i p → IsAt t.blocks p.key.code i
+at_value most ps bs t view i p lt is =
     let l = length-entries ps bs in
     subst (λ (u : TableValue). IsAt u.blocks p.key.code i) view
     (record { within = omega arith; number = ap (λ (e : ℕ × List ℕ). e.0) (number_is ps bs i p lt is) })
 
-module _ (ps : List Place) (bs : List (List ℕ)) (spare : List ℕ) (a b : ℕ) (h : IsHeld ps bs spare a b) (t : TableValue) (view : value_of ps bs ≡ t) where
+module _ (ps : List Place) (bs : List (List ℕ)) (spare : List ℕ) (most a b : ℕ) (h : IsHeld ps bs spare most a b) (t : TableValue) (view : value_of most ps bs ≡ t) where
   pub sorted_value : T (is_sorted nat_cmp t.blocks)
   sorted_value = subst (λ (u : TableValue). T (is_sorted nat_cmp u.blocks)) view h.sorted
 
@@ -239,60 +256,63 @@ module _ (ps : List Place) (bs : List (List ℕ)) (spare : List ℕ) (a b : ℕ)
     inside = let l = length-entries ps bs in let w = here.within in omega arith
 
     pub low_at : p.spot < length bs
-    low_at = spot_low ps bs spare a b h i p inside is
+    low_at = spot_low ps bs spare most a b h i p inside is
 
     pub found_at : find nat_cmp c t.blocks ≡ Some (get_or bs p.spot [])
     found_at =
         subst (λ (u : TableValue). find nat_cmp c u.blocks ≡ Some (get_or bs p.spot [])) view
-        (find_at (entries_in ps bs) h.sorted c i here ∙ ap (λ (e : ℕ × List ℕ). Some e.1) (place_is ps bs spare a b h i p inside is))
+        (find_at (entries_in ps bs) h.sorted c i here ∙ ap (λ (e : ℕ × List ℕ). Some e.1) (place_is ps bs spare most a b h i p inside is))
 
-    pub held_at : (v : List ℕ) → IsHeld ps (set bs p.spot v) spare a b
-    held_at v = held_written ps bs spare a b h i p inside is c here v
+    pub held_at : (v : List ℕ) → IsHeld ps (set bs p.spot v) spare most a b
+    held_at v = held_written ps bs spare most a b h i p inside is c here v
 
-    pub put_value : (v : List ℕ) → value_of ps (set bs p.spot v) ≡ record t { blocks = put nat_cmp c v t.blocks }
+    pub put_value : (v : List ℕ) → value_of most ps (set bs p.spot v) ≡ record t { blocks = put nat_cmp c v t.blocks }
     put_value v =
-        subst (λ (u : TableValue). value_of ps (set bs p.spot v) ≡ record u { blocks = put nat_cmp c v u.blocks }) view
-        (λ k. record { blocks = written_is ps bs spare a b h i p inside is c here v k; capacity = length-set bs p.spot v k })
+        subst (λ (u : TableValue). value_of most ps (set bs p.spot v) ≡ record u { blocks = put nat_cmp c v u.blocks }) view
+        (λ k. record { blocks = written_is ps bs spare most a b h i p inside is c here v k; capacity = record { limit = most; room = length-set bs p.spot v k } })
 
-    pub altered_value : (f : List ℕ → List ℕ) (v : List ℕ) → v ≡ f (get_or bs p.spot []) → value_of ps (set bs p.spot v) ≡ record t { blocks = altered f c t.blocks }
+    pub altered_value : (f : List ℕ → List ℕ) (v : List ℕ) → v ≡ f (get_or bs p.spot []) → value_of most ps (set bs p.spot v) ≡ record t { blocks = altered f c t.blocks }
     altered_value f v now =
         put_value v
         ∙ ap (λ (w : List ℕ). record t { blocks = put nat_cmp c w t.blocks }) now
         ∙ ap (λ o. record t { blocks = altered_as o f c t.blocks }) (sym found_at)
 
-    pub held_left : (spare' : List ℕ) → spare' ≡ spare ++ p.spot ∷ [] → IsHeld (remove ps i) bs spare' a b
-    held_left = held_removed ps bs spare a b h i p inside is c here
+    pub held_left : (spare' : List ℕ) → spare' ≡ spare ++ p.spot ∷ [] → IsHeld (remove ps i) bs spare' most a b
+    held_left = held_removed ps bs spare most a b h i p inside is c here
 
-    pub removed_value : value_of (remove ps i) bs ≡ record t { blocks = without nat_cmp c t.blocks }
+    pub removed_value : value_of most (remove ps i) bs ≡ record t { blocks = without nat_cmp c t.blocks }
     removed_value =
-        subst (λ (u : TableValue). value_of (remove ps i) bs ≡ record u { blocks = without nat_cmp c u.blocks }) view
-        (λ k. record { blocks = removed_is ps bs spare a b h i p inside is c here k; capacity = length bs })
+        subst (λ (u : TableValue). value_of most (remove ps i) bs ≡ record u { blocks = without nat_cmp c u.blocks }) view
+        (λ k. record { blocks = removed_is ps bs spare most a b h i p inside is c here k; capacity = record { limit = most; room = length bs } })
 
   module _ (c i : ℕ) (gap : IsGapFor t.blocks c i) where
     gap_here : IsGapFor (entries_in ps bs) c i
     gap_here = subst (λ (u : TableValue). IsGapFor u.blocks c i) (sym view) gap
 
-    pub spare_some : (find nat_cmp c t.blocks ≡ None → length t.blocks < t.capacity) → 0 < length spare
-    spare_some room =
-        let r : length (entries_in ps bs) < length bs = subst (λ (u : TableValue). length u.blocks < u.capacity) (sym view) (room (find_gap t.blocks c i gap)) in
-        let l = length-entries ps bs in
-        let s = h.shared in
-        omega arith
+    module _ (room : find nat_cmp c t.blocks ≡ None → length t.blocks < t.capacity.limit) where
+      place_left : length ps < most
+      place_left =
+          let r : length (entries_in ps bs) < most = subst (λ (u : TableValue). length u.blocks < u.capacity.limit) (sym view) (room (find_gap t.blocks c i gap)) in
+          let l = length-entries ps bs in
+          omega arith
+
+      pub spare_some : 0 < length spare
+      spare_some = let l = place_left in let w = h.within in let s = h.shared in omega arith
 
     module _ (p : Place) (key : p.key.code ≡ c) (spare' : List ℕ) (was : spare ≡ spare' ++ p.spot ∷ []) where
       gap_key : IsGapFor (entries_in ps bs) p.key.code i
       gap_key = subst (λ (n : ℕ). IsGapFor (entries_in ps bs) n i) (sym key) gap_here
 
       pub low_spare : p.spot < length bs
-      low_spare = spare_low ps bs spare a b h spare' p was
+      low_spare = spare_low ps bs spare most a b h spare' p was
 
-      pub held_put : (v : List ℕ) → IsHeld (insert ps i p) (set bs p.spot v) spare' a b
-      held_put = held_inserted ps bs spare a b h spare' p was i gap_key
+      pub held_put : (find nat_cmp c t.blocks ≡ None → length t.blocks < t.capacity.limit) → (v : List ℕ) → IsHeld (insert ps i p) (set bs p.spot v) spare' most a b
+      held_put room v = held_inserted ps bs spare most a b h spare' p was i gap_key v (place_left room)
 
-      pub inserted_value : (v : List ℕ) → value_of (insert ps i p) (set bs p.spot v) ≡ record t { blocks = put nat_cmp c v t.blocks }
+      pub inserted_value : (v : List ℕ) → value_of most (insert ps i p) (set bs p.spot v) ≡ record t { blocks = put nat_cmp c v t.blocks }
       inserted_value v =
-          subst (λ (u : TableValue). value_of (insert ps i p) (set bs p.spot v) ≡ record u { blocks = put nat_cmp c v u.blocks }) view
-          (λ k. record { blocks = (inserted_is ps bs spare a b h spare' p was i gap_key v ∙ ap (λ (n : ℕ). put nat_cmp n v (entries_in ps bs)) key) k; capacity = length-set bs p.spot v k })
+          subst (λ (u : TableValue). value_of most (insert ps i p) (set bs p.spot v) ≡ record u { blocks = put nat_cmp c v u.blocks }) view
+          (λ k. record { blocks = (inserted_is ps bs spare most a b h spare' p was i gap_key v ∙ ap (λ (n : ℕ). put nat_cmp n v (entries_in ps bs)) key) k; capacity = record { limit = most; room = length-set bs p.spot v k } })
 
 -- ---- an empty table
 pub once_more : (xs : List ℕ) (n : ℕ) → ((s : ℕ) → times s xs ≡ one_below n s) → (s : ℕ) → times s (xs ++ n ∷ []) ≡ one_below (n + 1) s
@@ -302,12 +322,14 @@ once_more xs n once s =
     let m : one_below (n + 1) s ≡ one_below n s + mark n s = grind (arith, nat_tests) in
     omega arith
 
-pub held_empty : (bs : List (List ℕ)) (spare : List ℕ) (a b : ℕ) → length spare ≡ length bs → length bs < 4294967296 → ((s : ℕ) → times s spare ≡ one_below (length bs) s) → length bs ≤ a → length bs ≤ b → IsHeld [] bs spare a b
-held_empty bs spare a b same few once room room_for_spare = record {
+pub held_empty : (bs : List (List ℕ)) (spare : List ℕ) (most a b : ℕ) → most ≤ length bs → length spare ≡ length bs → length bs < 4294967296 → ((s : ℕ) → times s spare ≡ one_below (length bs) s) → length bs ≤ a → length bs ≤ b → IsHeld [] bs spare most a b
+held_empty bs spare most a b within same few once room room_for_spare = record {
   sorted = tt;
   once = λ s. let o = once s in omega arith;
   shared = omega arith;
   small = few;
+  few = omega arith;
+  within = within;
   room = room;
   room_for_spare = room_for_spare;
 }

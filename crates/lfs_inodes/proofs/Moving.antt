@@ -10,7 +10,7 @@ use Rattle.lfs_model.specs.Running.{IsLowest}
 use Rattle.lfs_model.proofs.Entries.{same_entry}
 use Rattle.lfs_model.specs.Staging.{ChangesTo}
 use Rattle.lfs_inodes.specs.Code.{code, entry_at, IsCode}
-use Rattle.lfs_inodes.specs.Blocks.{Blocks, TableValue, blocks_of, blocks_in, number_at, IsAt}
+use Rattle.lfs_inodes.specs.Blocks.{Capacity, Blocks, TableValue, blocks_of, blocks_in, number_at, IsAt}
 use Rattle.lfs_inodes.proofs.Codes.{code_entry, entry_code, code_below, of_file}
 use Rattle.lfs_inodes.proofs.Blocks.{rises, find_none, find_at, entry_found}
 
@@ -97,11 +97,11 @@ same_patched now mid new c d o is at lt same count room changes = record {
   room = ap (λ (t : TableValue). t.capacity) same ∙ room;
 }
 
-pub still_room : (now mid : TableValue) (c : ℕ) → IsSameAt now mid c → (find nat_cmp c now.blocks ≡ None → length now.blocks < now.capacity) → find nat_cmp c mid.blocks ≡ None → length mid.blocks < mid.capacity
+pub still_room : (now mid : TableValue) (c : ℕ) → IsSameAt now mid c → (find nat_cmp c now.blocks ≡ None → length now.blocks < now.capacity.limit) → find nat_cmp c mid.blocks ≡ None → length mid.blocks < mid.capacity.limit
 still_room now mid c same room none =
     let r = room (sym same.found ∙ none) in
     let n = same.count in
-    let m = same.room in
+    let m = ap (λ (k : Capacity). k.limit) same.room in
     omega arith
 
 pub still_counts : (now mid : TableValue) (c n : ℕ) → IsSameAt now mid c → n ≡ cond (is_some (find nat_cmp c mid.blocks)) (length mid.blocks) (length mid.blocks + 1)

@@ -63,7 +63,7 @@ module _ (ps : List Place) (bs : List (List ℕ)) (sorted : T (is_sorted nat_cmp
 abbrev pub IsFoundIn : TableValue → ℕ → Result ℕ ℕ → Type 0
 IsFoundIn t k r = record { found : IfOk r (IsAt t.blocks k); missing : IfErr r (IsGapFor t.blocks k) }
 
-module _ (ps : List Place) (bs : List (List ℕ)) (sorted : T (is_sorted nat_cmp (entries_in ps bs))) (t : TableValue) (view : value_of ps bs ≡ t) where
+module _ (ps : List Place) (bs : List (List ℕ)) (sorted : T (is_sorted nat_cmp (entries_in ps bs))) (most : ℕ) (t : TableValue) (view : value_of most ps bs ≡ t) where
   pub found_in : (xs : List Place) → xs ≡ ps → (n k : ℕ) → n ≡ k → (r : Result ℕ ℕ) → IsSearchInRange r (length xs) → IsBinarySearchResult (λ (p : Place). nat_cmp p.key.code n) xs r → IsFoundIn t k r
   found_in xs same n k is r within answer =
       let P : List Place → ℕ → Type 0 = λ ys m. IsSearchInRange r (length ys) → IsBinarySearchResult (λ (p : Place). nat_cmp p.key.code m) ys r → IsFoundIn t k r in

@@ -9,10 +9,15 @@ use Rattle.lfs_inodes.specs.Code.{code}
 abbrev pub Blocks : Type 0
 Blocks = List (ℕ × List ℕ)
 
--- the table: its blocks by rising numbers, and how many it has room for
+-- how many blocks a table takes at present, and for how many it has memory
+pub record Capacity : Type 0 where
+  pub limit : ℕ
+  pub room : ℕ
+
+-- the table: its blocks by rising numbers, and how many there may be
 pub record TableValue : Type 0 where
   pub blocks : Blocks
-  pub capacity : ℕ
+  pub capacity : Capacity
 
 abbrev pub blocks_in : Blocks → Dirty
 blocks_in es x = find nat_cmp (code x) es

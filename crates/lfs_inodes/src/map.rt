@@ -51,6 +51,15 @@ impl InodeMap {
         })
     }
 
+    /// The map becomes what another one is. No memory is asked for.
+    pub fn copy_from(&mut self, other: &InodeMap)
+        ensures { self.new ≡ other.now }
+    {
+        self.addresses.copy_from_slice(other.addresses.as_slice());
+        self.hidden.copy_from_slice(other.hidden.as_slice());
+        self.blocks = other.blocks;
+    }
+
     /// The address of an inode.
     pub fn address(&self, number: u16) -> u32
         requires { number < 4096 }

@@ -11,7 +11,8 @@ ghost use Rattle.lfs_model.specs.Running.{IsLowest, IsTight, Moves};
 ghost use Rattle.lfs_model.specs.Staging.{ChangesTo, Fetches};
 ghost use Rattle.lfs_inodes.specs.Key.{entry_of};
 ghost use Rattle.lfs_inodes.specs.Empty.{IsEmptyBlock};
-ghost use Rattle.lfs_inodes.specs.Blocks.{blocks_of, altered, IsAt, IsGapFor};
+ghost use Rattle.lfs_inodes.specs.Blocks.{blocks_of, altered, number_at, IsAt, IsGapFor};
+ghost use Rattle.lfs_inodes.specs.Code.{IsCode};
 ghost use Rattle.lfs_inodes.specs.Clearing.{LeavesPast, zeroed};
 ghost use Rattle.lfs_inodes.specs.Held.{times, one_below};
 
@@ -28,12 +29,13 @@ struct Place {
 }
 
 /// The blocks of files in memory, by their keys. All memory is taken as the table is made. Contracts see the list of the keys'
-/// numbers and the blocks, and how many blocks there may be.
+/// numbers and the blocks, how many blocks there may be at present (`limit`), and for how many there is memory (`room`).
 #[derive(Drop)]
 pub struct DirtyTable {
     places: Vec<Place>,
     arena: Vec<[u8; 512]>,
     spare: Vec<u32>,
+    limit: u32,
 }
 
 impl Model for DirtyTable {
@@ -44,47 +46,63 @@ impl Model for DirtyTable {
 
     ghost use Rattle.lfs_inodes.specs.Held.{entries_in, IsHeld};
 
-    ghost view = { λ t. record { blocks = entries_in t.places.items t.arena.items; capacity = length t.arena.items } };
+    ghost view = { λ t. record { blocks = entries_in t.places.items t.arena.items; capacity = record { limit = t.limit; room = length t.arena.items } } };
 
-    ghost invariant = { λ t. IsHeld t.places.items t.arena.items t.spare.items (vec_capacity t.places) (vec_capacity t.spare) };
+    ghost invariant = { λ t. IsHeld t.places.items t.arena.items t.spare.items t.limit (vec_capacity t.places) (vec_capacity t.spare) };
 }
 
 impl DirtyTable {
-    /// An empty table with room for this many blocks.
+    /// An empty table with memory for so many blocks, that takes no more than `limit` of them at first.
     ///
     /// # Errors
     ///
     /// Where memory runs out.
-    pub fn new(alloc: Global, capacity: u32) -> Result<DirtyTable, AllocError>
+    pub fn new(alloc: Global, room: u32, limit: u32) -> Result<DirtyTable, AllocError>
+        requires { limit ≤ room }
         ensures empty { IfOk result (λ t. t.blocks ≡ []) }
-        ensures capacity { IfOk result (λ t. t.capacity ≡ capacity) }
+        ensures limit { IfOk result (λ t. t.capacity.limit ≡ limit) }
+        ensures room { IfOk result (λ t. t.capacity.room ≡ room) }
     {
-        let places = Vec::with_capacity(alloc, capacity as usize)?;
-        let arena = Vec::from_elem(alloc, [0; 512], capacity as usize)?;
-        let mut spare = Vec::with_capacity(alloc, capacity as usize)?;
-        fill(&mut spare, capacity);
+        let places = Vec::with_capacity(alloc, room as usize)?;
+        let arena = Vec::from_elem(alloc, [0; 512], room as usize)?;
+        let mut spare = Vec::with_capacity(alloc, room as usize)?;
+        fill(&mut spare, room);
         Ok(DirtyTable {
             places,
             arena,
             spare,
+            limit,
         })
+    }
+
+    /// The table takes so many blocks from now on. No memory is asked for.
+    pub fn set_limit(&mut self, limit: u32)
+        requires room { limit ≤ self.old.capacity.room }
+        requires few { length self.old.blocks ≤ limit }
+        ensures blocks { self.new.blocks ≡ self.old.blocks }
+        ensures limit { self.new.capacity.limit ≡ limit }
+        ensures room { self.new.capacity.room ≡ self.old.capacity.room }
+    {
+        self.limit = limit;
     }
 
     /// How many blocks there are.
     pub fn len(&self) -> usize
         ensures length { result ≡ length self.now.blocks }
-        ensures room { length self.now.blocks ≤ self.now.capacity }
+        ensures room { length self.now.blocks ≤ self.now.capacity.limit }
         ensures sorted { T (is_sorted nat_cmp self.now.blocks) }
         ensures files { (x : Entry) (bytes : List ℕ) → blocks_of self.now x ≡ Some bytes → IsOfFile x }
+        ensures codes { (i : ℕ) → i < length self.now.blocks → IsCode (number_at self.now.blocks i) }
     {
         self.places.len()
     }
 
-    /// How many blocks there may be.
+    /// How many blocks there may be at present.
     pub fn capacity(&self) -> usize
-        ensures { result ≡ self.now.capacity }
+        ensures limit { result ≡ self.now.capacity.limit }
+        ensures room { result ≤ self.now.capacity.room }
     {
-        self.arena.len()
+        self.limit as usize
     }
 
     /// The block with the least key: none of the blocks that it points to is in memory.
@@ -156,7 +174,7 @@ impl DirtyTable {
 
     /// Puts a block in, in the place of what it was.
     pub fn put(&mut self, key: BlockKey, bytes: &[u8; 512])
-        requires { find nat_cmp key.code self.old.blocks ≡ None → length self.old.blocks < self.old.capacity }
+        requires { find nat_cmp key.code self.old.blocks ≡ None → length self.old.blocks < self.old.capacity.limit }
         ensures put { self.new ≡ record self.old { blocks = put nat_cmp key.code bytes.now self.old.blocks } }
         ensures changed { ChangesTo (blocks_of self.old) (blocks_of self.new) (entry_of key) (Some bytes.now) }
         ensures length { length self.new.blocks ≡ cond (is_some (find nat_cmp key.code self.old.blocks)) (length self.old.blocks) (length self.old.blocks + 1) }
@@ -271,7 +289,7 @@ impl DirtyTable {
 
     /// A block comes into memory, in the place of what was there, and its parent points to it there.
     pub fn fetch(&mut self, key: BlockKey, bytes: &[u8; 512])
-        requires { find nat_cmp key.code self.old.blocks ≡ None → length self.old.blocks < self.old.capacity }
+        requires { find nat_cmp key.code self.old.blocks ≡ None → length self.old.blocks < self.old.capacity.limit }
         ensures fetches { Fetches (blocks_of self.old) (blocks_of self.new) (entry_of key) bytes.now }
         ensures length { length self.new.blocks ≡ cond (is_some (find nat_cmp key.code self.old.blocks)) (length self.old.blocks) (length self.old.blocks + 1) }
         ensures capacity { self.new.capacity ≡ self.old.capacity }

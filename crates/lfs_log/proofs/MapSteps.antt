@@ -23,7 +23,7 @@ use Rattle.lfs_memory.specs.inodes.Blocks.{blocks_of}
 use Rattle.lfs_memory.specs.inodes.MapValue.{MapValue, IsMap, IsMapOf, AreSettled, block_in}
 use Rattle.lfs_memory.specs.declared.memory.LogMemory.{LogMemory}
 use Rattle.lfs_memory.specs.Memory.{IsMemory, AreMapsOut, IsLog, IsBlockAt, AreHidden, Places, Goes, GoesUpTo, tables_by, tables_of, segment_in, chunk_in}
-use Rattle.lfs_memory.proofs.Begun.{before, begun, noted, place_is, few_entries, opened_after, segment_after, segments_same, memory_after}
+use Rattle.lfs_memory.proofs.Begun.{before, begun, noted, place_is, few_entries, opened_after, segment_after, segments_same, memory_after, placed_emptied}
 use Rattle.lfs_memory.proofs.FileSteps.{quiet_step}
 use Rattle.lfs_memory.proofs.Opened.{as_chunk}
 use Rattle.lfs_memory.proofs.Rooms.{takes_place}
@@ -88,6 +88,7 @@ module _ (d : DeviceState) (v : LogMemory) (j : ℕ) (map' : MapValue) (sets : I
     segments = refl;
     room = omega arith;
     no_failure = refl;
+    emptied = λ s is. is;
     log = λ k m0 m keeps is. dropped_log k m0 m is;
     quiet = λ k m0 m keeps is. started d (λ c. StandsOn k.segments c m0) lawful (settled_stands d k m0 is.running.settled);
   }
@@ -127,6 +128,7 @@ module _ (v v' : LogMemory) (name : BlockNameValue) (age place : ℕ) (memory : 
     segments = segments_same v v' name true age place memory p;
     room = let r = takes_place v v' name true age place memory p in omega (arith, r);
     no_failure = no_failure;
+    emptied = placed_emptied v v' name true age place memory p;
     log = log;
     quiet = quiet_step v v' name true age place memory p d d' bytes crash carries time lawful (λ keeps. left_new (is_put keeps));
   }

@@ -22,6 +22,7 @@ use Rattle.lfs_model.proofs.Publishing.{planning, resting}
 use Rattle.lfs_model.proofs.Settled.{settled_stands, settled_still, slot_torn, acknowledged}
 use Rattle.lfs_memory.specs.segments.Table.{SegmentNumbers, BlockPlace, UsageTable, no_segment, no_place, used_of, live_of, held_of, address_of, is_clean_in, clean_in}
 use Rattle.lfs_memory.specs.segments.Steps.{Releases, is_empty}
+use Rattle.lfs_memory.specs.segments.Spare.{spare_in}
 use Rattle.lfs_memory.specs.inodes.Blocks.{Blocks, blocks_in, blocks_of}
 use Rattle.lfs_memory.specs.inodes.MapValue.{block_in}
 use Rattle.lfs_memory.specs.declared.memory.LogMemory.{LogMemory}
@@ -50,12 +51,9 @@ saved_none l u z = eq-eqb (cond (l == 0) 0 u) 0 (either (l == 0) (eqb-true u 0 z
     either true e = refl
     either false e = e
 
-many_clean : (t : UsageTable) (n : ℕ) → length t.segments ≡ n → n ≤ 8 * clean_in t.segments → n ≤ 8 * count_up (λ s. cond (live_of t s == 0) 0 (used_of t s) == 0) n
-unfolding clean_in
-many_clean t n same many =
-    let more = count_monotone (is_clean_in t.segments) (λ s. cond (live_of t s == 0) 0 (used_of t s) == 0) n (λ s. saved_none (live_of t s) (used_of t s)) in
-    let e = ap (count_up (is_clean_in t.segments)) same in
-    omega arith
+many_clean : (t : UsageTable) (n : ℕ) → length t.segments ≡ n → length t.segments ≤ 8 * spare_in t.segments → n ≤ 8 * count_up (λ s. cond (live_of t s == 0) 0 (used_of t s) == 0) n
+unfolding spare_in
+many_clean t n same many = subst (λ (i : ℕ). i ≤ 8 * count_up (λ s. cond (live_of t s == 0) 0 (used_of t s) == 0) i) same many
 
 -- ---- what a release does
 both_zero : (l h : ℕ) → l ≡ 0 → h ≡ 0 → ((l == 0) && (h == 0)) ≡ true
@@ -96,7 +94,7 @@ module _ (v : LogMemory) (u : UsageTable) (go : Releases v.usage u) where
     opened = λ some. let e = ap length none in absurd (omega arith);
     short = good.short;
     usages = λ j one. good.usages j (sym (places_same (λ b. b.address) j) ∙ one);
-    few = good.few;
+    few = let few = good.few in let size = go.size in omega (arith, few, size);
   }
 
 -- ---- addresses past the last block of a table
@@ -179,7 +177,7 @@ module _ (d d1 : DeviceState) (v : LogMemory) (number : ℕ) (lawful : IsLawful 
       }
 
       many : ManyClean (tables_of v) k.segments
-      many = many_clean v.usage k.segments held.log.segments (subst (λ (n : ℕ). n ≤ 8 * clean_in v.usage.segments) held.log.segments out.many)
+      many = many_clean v.usage k.segments held.log.segments out.many
 
       leads : LeadsTo (tables_of v) k next
       leads = record {
@@ -230,7 +228,7 @@ module _ (d d1 : DeviceState) (v : LogMemory) (number : ℕ) (lawful : IsLawful 
         carries = carries_then d d1 d2 carries more;
         memory = released_memory v u go good out.chunk;
         segments = go.size;
-        clean = go.clean;
+        released = go;
         no_failure = same_failures ∙ unfailed;
         log = λ k m0 m keeps held. (next, is.number, rested k m0 m keeps held);
         moment = λ k m0 m keeps held. either k m0 m held keeps;

@@ -1,5 +1,5 @@
 -- A commit, from its two halves.
-use Rattle.std.proofs.Common.{◌≡◌, ◌<◌, ◌≤◌, ⊎_elim, inl, ◌+◌, ℕ, [], length, ◌∙◌, ap, arith}
+use Rattle.std.proofs.Common.{◌≡◌, ◌<◌, ◌≤◌, ⊎_elim, inl, ◌+◌, ◌*◌, ℕ, [], length, ◌∙◌, ap, arith}
 use Rattle.lfs_model.specs.Checkpoint.{CheckpointValue}
 use Rattle.lfs_model.specs.Content.{Content}
 use Rattle.lfs_model.specs.Crash.{StandsOn, StandsForOn}
@@ -9,22 +9,38 @@ use Rattle.lfs_model.specs.TreeOf.{dropped}
 use Rattle.lfs_model.proofs.Moments.{carries_then, joined, weaker}
 use Rattle.lfs_model.proofs.Settled.{settled_stands}
 use Rattle.lfs_memory.specs.segments.Table.{clean_in}
+use Rattle.lfs_memory.specs.segments.Emptied.{IsEmptied}
+use Rattle.lfs_memory.specs.segments.Spare.{emptied_in, spare_in}
+use Rattle.lfs_memory.proofs.of_segments.Spare.{emptied_stay, spare_there, emptied_given}
 use Rattle.lfs_memory.specs.declared.memory.LogMemory.{LogMemory}
 use Rattle.lfs_memory.specs.Memory.{IsMemory, Goes, Stops, room_of, room_in}
 use Rattle.lfs_log.specs.Publishing.{IsAcknowledged, Publishes, PublishFails, LeavesEither}
-use Rattle.lfs_log.specs.Saving.{Commits, CommitFails}
+use Rattle.lfs_log.specs.Saving.{Commits, CommitFails, segments_for}
 use Rattle.lfs_memory.proofs.Begun.{zero_or_more}
 use Rattle.lfs_memory.proofs.Rooms.{room_none, room_some}
 
--- no more than eight segments were taken for 504 blocks
-pub eight_taken : (v v' : LogMemory) → v.chunk.names ≡ [] → IsMemory v' → room_of v ≤ room_of v' + 504 → clean_in v.usage.segments ≤ clean_in v'.usage.segments + 8
-eight_taken v v' closed memory room =
+-- a commit of so many blocks, begun with no chunk, takes no more segments than these want
+pub segments_taken : (v v' : LogMemory) (blocks : ℕ) → v.chunk.names ≡ [] → IsMemory v' → room_of v ≤ room_of v' + (blocks + 48) → clean_in v.usage.segments ≤ clean_in v'.usage.segments + segments_for blocks
+segments_taken v v' blocks closed memory room =
     let none = room_none v.chunk.names (ap length closed) in
     let few : room_in v'.chunk.names ≤ 62 = ⊎_elim
     (λ (z : length v'.chunk.names ≡ 0). let r = room_none v'.chunk.names z in omega (arith, r))
     (λ (some : 0 < length v'.chunk.names). let r = room_some v'.chunk.names some in omega (arith, r, some))
     (zero_or_more (length v'.chunk.names)) in
     omega (arith, none, few, room)
+
+-- and there is room for them, where so many are clean
+pub room_there : (v : LogMemory) (blocks : ℕ) → segments_for blocks ≤ clean_in v.usage.segments → blocks + 48 ≤ room_of v
+room_there v blocks clean = omega (arith, clean)
+
+-- in an eighth of the segments nothing lives then
+pub many_spare : (v v' : LogMemory) (blocks : ℕ) → length v'.usage.segments ≡ length v.usage.segments → ((s : ℕ) → IsEmptied v.usage s → IsEmptied v'.usage s)
+    → length v.usage.segments + 8 * segments_for blocks ≤ 8 * (clean_in v.usage.segments + emptied_in v.usage.segments) → clean_in v.usage.segments ≤ clean_in v'.usage.segments + segments_for blocks
+    → length v'.usage.segments ≤ 8 * spare_in v'.usage.segments
+many_spare v v' blocks size stay spare taken =
+    let there = spare_there v'.usage in
+    let more = emptied_stay v.usage v'.usage size stay in
+    omega (arith, size, spare, taken, there, more)
 
 acknowledged_on : (a b : DeviceState) (v v' : LogMemory) (n number : ℕ) → Goes a b v v' n → b.keeps_model → (k : CheckpointValue) (m0 m : LogMap) → IsAcknowledged a v number k m0 m → IsAcknowledged b v' number k m0 m
 acknowledged_on a b v v' n number goes keeps k m0 m is = record { log = goes.log k m0 m keeps is.log; map = is.map; same = is.same }
@@ -52,16 +68,25 @@ publish_fails a b c v v' n number goes fails = record {
 }
 
 pub commits : (a b c : DeviceState) (v v' v'' : LogMemory) (n number : ℕ) → Goes a b v v' n → Publishes b c v' v'' number
-    → clean_in v.usage.segments ≤ clean_in v'.usage.segments + 8 → v''.chunk.names ≡ [] → v''.dirty.blocks ≡ [] → v''.dirty.capacity ≡ v.dirty.capacity → Commits a c v v'' number
-commits a b c v v' v'' n number goes done few chunk dirty capacity = record {
+    → clean_in v.usage.segments ≤ clean_in v'.usage.segments + segments_for (length v.dirty.blocks)
+    → length v.usage.segments + 8 * segments_for (length v.dirty.blocks) ≤ 8 * (clean_in v.usage.segments + emptied_in v.usage.segments)
+    → v''.chunk.names ≡ [] → v''.dirty.blocks ≡ [] → v''.dirty.capacity ≡ v.dirty.capacity → Commits a c v v'' number
+commits a b c v v' v'' n number goes done taken spare chunk dirty capacity = record {
   carries = carries_then a b c goes.carries done.carries;
   memory = done.memory;
   chunk = chunk;
   dirty = dirty;
   capacity = capacity;
   segments = done.segments ∙ goes.segments;
-  clean = let more = done.clean in omega (arith, few, more);
+  gains = gains;
+  many = let size = done.segments ∙ goes.segments in omega (arith, size, spare, gains);
   no_failure = done.no_failure ∙ goes.no_failure;
   log = λ k m0 m keeps is. done.log k m0 m keeps (acknowledged_on a b v v' n number goes (done.carries.kept_before keeps) k m0 m is);
   moment = either_then a b c v v' n number goes done.carries.kept_before done.moment;
 }
+  where
+    gains : clean_in v.usage.segments + emptied_in v.usage.segments ≤ clean_in v''.usage.segments + segments_for (length v.dirty.blocks)
+    gains =
+        let given = emptied_given v'.usage v''.usage done.released in
+        let more = emptied_stay v.usage v'.usage goes.segments goes.emptied in
+        omega (arith, given, more, taken)

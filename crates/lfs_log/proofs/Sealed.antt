@@ -74,6 +74,7 @@ module _ (d d' : DeviceState) (v : LogMemory) (memory : IsMemoryUpTo 63 v) (some
       segments = refl;
       room = let z = room_none c.names none in omega (arith, z);
       no_failure = no_failure;
+      emptied = λ s is. is;
       log = log;
       quiet = quiet_sealed (λ keeps. left_new (is_put keeps));
     }

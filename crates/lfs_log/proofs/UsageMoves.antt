@@ -20,6 +20,8 @@ use Rattle.lfs_model.proofs.Stepping.{usage_settling}
 use Rattle.lfs_memory.specs.segments.Table.{SegmentNumbers, UsageTable, no_segment, used_of, live_of, held_of, age_of, taken_of, address_of, stale_of, clean_in}
 use Rattle.lfs_memory.specs.segments.Chunk.{Chunk, IsOpen, entries_of}
 use Rattle.lfs_memory.specs.segments.Steps.{Takes}
+use Rattle.lfs_memory.specs.segments.Emptied.{IsEmptied}
+use Rattle.lfs_memory.proofs.of_segments.StaysEmptied.{stays_emptied}
 use Rattle.lfs_memory.specs.inodes.Blocks.{TableValue, blocks_of}
 use Rattle.lfs_memory.specs.inodes.MapValue.{MapValue, address_in, block_in}
 use Rattle.lfs_memory.specs.declared.memory.LogMemory.{LogMemory}
@@ -173,7 +175,7 @@ module _ (v v' : LogMemory) (j number : ℕ) (good : IsMemory v) (old : stale_of
         (λ (here : i ≡ j). let a = r.puts.address.own in let b = r.places.address in let c = ap (address_of v'.usage) here in absurd (omega arith))
         (λ (ne : i ≡ j → ⊥). good.usages i (sym (mid_address i) ∙ sym (other_address i ne) ∙ one))
         (cases_eq i j);
-    few = subst (λ (t : TableValue). t.capacity ≤ 456) (sym new_dirty) good.few;
+    few = let f = good.few in let c = ap (λ (t : TableValue). t.capacity.limit) new_dirty in let size = new_size in omega (arith, f, c, size);
   }
 
   pub resettled_room : room_of v ≤ room_of v' + 1
@@ -297,6 +299,17 @@ module _ (v v' : LogMemory) (j number : ℕ) (good : IsMemory v) (old : stale_of
         tight = subst (λ (t : TableValue). IsTight (blocks_of t)) (sym new_dirty) log.tight;
       }
 
+  -- a segment that was emptied stays so
+  pub resettled_emptied : (s : ℕ) → IsEmptied v.usage s → IsEmptied v'.usage s
+  resettled_emptied s is =
+      let lifted : IsEmptied r.lifted s = (stays_emptied v.usage r.lifted s is).2 (segment_of (address_of v.usage j)) true r.leaves.lifts in
+      let middle : IsEmptied r.places.middle s = by_case (IsEmptied r.places.middle s)
+      (λ z takes. (stays_emptied r.lifted r.places.middle s lifted).0 r.placed.chunk.segment number takes)
+      (λ lt same on. subst (λ (u : UsageTable). IsEmptied u s) (sym same) lifted) in
+      let placed : IsEmptied r.placed.usage s =
+      (stays_emptied r.places.middle r.placed.usage s middle).1 r.placed.chunk.segment true r.places.noted (sym (r.places.noted.taken r.placed.chunk.segment) ∙ r.places.opened.taken) in
+      (stays_emptied r.placed.usage v'.usage s placed).3 j r.place true r.puts
+
   pub resettled_goes : (d d' : DeviceState) (w : LogMemory) → Goes d d' v' w 0 → Goes d d' v w 1
   resettled_goes d d' w g = record {
     carries = g.carries;
@@ -304,6 +317,7 @@ module _ (v v' : LogMemory) (j number : ℕ) (good : IsMemory v) (old : stale_of
     segments = g.segments ∙ new_size;
     room = let a = resettled_room in let b = g.room in omega arith;
     no_failure = g.no_failure;
+    emptied = λ s is. g.emptied s (resettled_emptied s is);
     log = λ k m0 m keeps log. g.log k m0 m keeps (resettled_log m d k m0 log);
     quiet = λ k m0 m keeps log. g.quiet k m0 m keeps (resettled_log m d k m0 log);
   }

@@ -1,5 +1,5 @@
 -- A usage block is written where it stands: what that leaves of the log.
-use Rattle.std.proofs.Common.{◌≡◌, ◌<◌, ◌≤◌, ⊎_elim, ◌+◌, ◌-◌, ◌/◌, ◌%◌, true, false, ℕ, List, length, get_or, refl, sym, ◌∙◌, ap, subst, arith}
+use Rattle.std.proofs.Common.{◌≡◌, ◌<◌, ◌≤◌, ⊎_elim, ◌+◌, ◌-◌, ◌*◌, ◌/◌, ◌%◌, true, false, ℕ, List, length, get_or, refl, sym, ◌∙◌, ap, subst, arith}
 use Rattle.std.proofs.lemmas.Bool.{cases_eq}
 use Rattle.lfs_model.specs.Entry.{Entry, Data, Leaf, Double, Inode, Map, Usage}
 use Rattle.lfs_model.specs.Checkpoint.{CheckpointValue, IsSegmentCount}
@@ -11,6 +11,7 @@ use Rattle.lfs_model.specs.Running.{SpellsUsage, IsFresh}
 use Rattle.lfs_model.proofs.Leaving.{usage_filling}
 use Rattle.lfs_memory.specs.segments.Table.{SegmentNumbers, UsageTable, no_segment, taken_of, address_of, stale_of, clean_in}
 use Rattle.lfs_memory.specs.segments.Steps.{Puts, SpellsBlock}
+use Rattle.lfs_memory.proofs.of_segments.StaysEmptied.{stays_emptied}
 use Rattle.lfs_memory.specs.inodes.Blocks.{blocks_of}
 use Rattle.lfs_memory.specs.inodes.MapValue.{MapValue}
 use Rattle.lfs_memory.specs.declared.memory.LogMemory.{LogMemory}
@@ -68,7 +69,7 @@ module _ (v : LogMemory) (j : ℕ) (u : UsageTable) (good : IsMemory v) (is : Is
         };
     short = good.short;
     usages = λ i one. good.usages i (sym (put_address i) ∙ one);
-    few = good.few;
+    few = subst (λ (x : List SegmentNumbers). v.dirty.capacity.limit + 48 ≤ 63 * (length x / 8)) (sym puts.segments) good.few;
   }
 
   module _ (d d' : DeviceState) (bytes : List ℕ) (spells : SpellsBlock v.usage j bytes) (lawful : IsLawful d)
@@ -93,6 +94,7 @@ module _ (v : LogMemory) (j : ℕ) (u : UsageTable) (good : IsMemory v) (is : Is
       segments = ap length puts.segments;
       room = let e = ap clean_in puts.segments in omega arith;
       no_failure = same;
+      emptied = λ s was. (stays_emptied v.usage u s was).3 j (address_of v.usage j) false puts;
       log = log_now;
       quiet = λ k m0 m keeps log. stays_quiet d d' k m0 (address_of v.usage j) bytes log.running.settled (place_free d v k m0 m (address_of v.usage j) log is.0 is.1) (left_new (written keeps)) crash lawful carries time;
     }

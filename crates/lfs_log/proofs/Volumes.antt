@@ -38,13 +38,15 @@ module _ {D : Type 0} (state : D → DeviceState) where
       → Holds state h k m0 m → Holds state h' next m0' m' → next.segments ≡ k.segments
   same_segments h h' k next m0 m m0' m' same is is' = sym is'.log.segments ∙ same ∙ is.log.segments
 
-  pub saves : (h h' : Held D) → Commits (state h.device) (state h'.device) h.memory h'.memory h.number → h'.number ≡ h.number + 1 → h'.halted ≡ false → Saves state h h'
-  saves h h' c number running = record {
+  pub saves : (h h' : Held D) → length h.memory.dirty.blocks ≤ 456 → Commits (state h.device) (state h'.device) h.memory h'.memory h.number → h'.number ≡ h.number + 1 → h'.halted ≡ false → Saves state h h'
+  saves h h' few c number running = record {
     carries = c.carries;
     running = running;
     number = number;
     segments = c.segments;
-    clean = c.clean;
+    gains = let more = c.gains in omega (arith, more, few);
+    clean = let more = c.gains in omega (arith, more, few);
+    many = c.many;
     empty = c.dirty;
     no_failure = c.no_failure;
     holds = holds;

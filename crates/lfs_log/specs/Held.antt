@@ -1,5 +1,5 @@
 -- What contracts see of a log: its device, what memory holds, the number of the acknowledged checkpoint, and whether a commit failed.
-use Rattle.std.specs.Prelude.{◌≡◌, ◌⊎◌, ◌<◌, ◌≤◌, ◌+◌, ◌-◌, ◌*◌, ◌^◌, ℕ, zero, suc, Bool, true, false, List, [], length, refl, Option, None}
+use Rattle.std.specs.Prelude.{◌≡◌, ◌⊎◌, ◌<◌, ◌≤◌, ◌+◌, ◌-◌, ◌*◌, ◌/◌, ◌^◌, ℕ, zero, suc, Bool, true, false, List, [], length, refl, Option, None}
 use Rattle.std.specs.Coded.{Coded, code_by, coded×, coded_ℕ, coded_bool, coded_list}
 use Rattle.lfs_model.specs.declared.BlockKind.{BlockKind}
 use Rattle.lfs_model.specs.declared.BlockKind.TheVariants as kind
@@ -16,7 +16,8 @@ use Rattle.lfs_model.specs.Stands.{LogMap, StandsLog}
 use Rattle.lfs_model.specs.Summary.{BlockNameValue}
 use Rattle.lfs_memory.specs.segments.Table.{SegmentNumbers, BlockPlace, UsageTable, clean_in}
 use Rattle.lfs_memory.specs.segments.Chunk.{Chunk}
-use Rattle.lfs_memory.specs.inodes.Blocks.{TableValue}
+use Rattle.lfs_memory.specs.segments.Spare.{emptied_in}
+use Rattle.lfs_memory.specs.inodes.Blocks.{Capacity, TableValue}
 use Rattle.lfs_memory.specs.inodes.MapValue.{MapValue}
 use Rattle.lfs_memory.specs.declared.memory.LogMemory.{LogMemory}
 use Rattle.lfs_memory.specs.Memory.{IsMemory, HasRoom, IsLog}
@@ -51,9 +52,12 @@ map_code =
     code_by (List ℕ × (List Bool × List ℕ)) (coded× (coded_list coded_ℕ) (coded× (coded_list coded_bool) (coded_list coded_ℕ)))
     (λ m. (m.addresses, (m.hidden, m.blocks))) (λ p. record { addresses = p.0; hidden = p.1.0; blocks = p.1.1 }) (λ _. refl)
 
+abbrev pub capacity_code : Coded Capacity
+capacity_code = code_by (ℕ × ℕ) (coded× coded_ℕ coded_ℕ) (λ c. (c.limit, c.room)) (λ p. record { limit = p.0; room = p.1 }) (λ _. refl)
+
 abbrev pub table_code : Coded TableValue
 table_code =
-    code_by (List (ℕ × List ℕ) × ℕ) (coded× (coded_list (coded× coded_ℕ (coded_list coded_ℕ))) coded_ℕ)
+    code_by (List (ℕ × List ℕ) × Capacity) (coded× (coded_list (coded× coded_ℕ (coded_list coded_ℕ))) capacity_code)
     (λ t. (t.blocks, t.capacity)) (λ p. record { blocks = p.0; capacity = p.1 }) (λ _. refl)
 
 abbrev pub kind_number : BlockKind → ℕ
@@ -109,7 +113,9 @@ pub record IsRunning (d : DeviceState) (v : LogMemory) : Type 0 where
   pub room : HasRoom d v
   pub closed : v.chunk.names ≡ []
   pub few : length v.dirty.blocks ≤ 456
-  pub wide : v.dirty.capacity ≡ 456
+  pub wide : v.dirty.capacity.limit ≡ 456
+  -- memory for all that a cleaning pass may bring there
+  pub reserved : v.dirty.capacity.room + 48 ≡ 63 * (length v.usage.segments / 8)
 
 abbrev pub IsHeld : DeviceState → LogMemory → Bool → Type 0
 IsHeld d v halted = halted ≡ false → IsRunning d v
@@ -139,7 +145,10 @@ module _ {D : Type 0} (state : D → DeviceState) where
     pub running : h'.halted ≡ false
     pub number : h'.number ≡ h.number + 1
     pub segments : length h'.memory.usage.segments ≡ length h.memory.usage.segments
+    -- at most eight segments were taken for it, those that were emptied are clean too, and so is an eighth at least
+    pub gains : clean_in h.memory.usage.segments + emptied_in h.memory.usage.segments ≤ clean_in h'.memory.usage.segments + 8
     pub clean : clean_in h.memory.usage.segments ≤ clean_in h'.memory.usage.segments + 8
+    pub many : length h'.memory.usage.segments ≤ 8 * clean_in h'.memory.usage.segments
     pub empty : h'.memory.dirty.blocks ≡ []
     pub no_failure : (state h'.device).failures ≡ (state h.device).failures
     pub holds : (k : CheckpointValue) (m0 m : LogMap) → (state h'.device).keeps_model → Holds h k m0 m → IsLogMap (dropped m) → (next : CheckpointValue) × Holds h' next (dropped m) m

@@ -1,5 +1,5 @@
 -- What a mount makes of the tables: the memory of a log that runs.
-use Rattle.std.specs.Prelude.{◌≡◌, ◌≤◌, ◌+◌, ◌*◌, ℕ, [], length}
+use Rattle.std.specs.Prelude.{◌≡◌, ◌≤◌, ◌+◌, ◌*◌, ◌/◌, ℕ, [], length}
 use Rattle.lfs_model.specs.Device.{DeviceState}
 use Rattle.lfs_model.specs.Stands.{LogMap, StandsLog}
 use Rattle.lfs_model.specs.Totals.{IsCounted}
@@ -13,7 +13,8 @@ pub record IsOpened (v : LogMemory) (size : ℕ) : Type 0 where
   pub room : 2 + 64 * length v.usage.segments ≤ size
   pub chunk : v.chunk.names ≡ []
   pub dirty : v.dirty.blocks ≡ []
-  pub wide : v.dirty.capacity ≡ 456
+  pub wide : v.dirty.capacity.limit ≡ 456
+  pub reserved : v.dirty.capacity.room + 48 ≡ 63 * (length v.usage.segments / 8)
 
 -- The device holds the log map that it stands for, all of it durable.
 abbrev pub Opens : DeviceState → DeviceState → LogMemory → ℕ → Type 0

@@ -6,19 +6,21 @@ use Rattle.lfs_model.specs.Device.{DeviceState, Carries, LeavesOnly, AllLeft}
 use Rattle.lfs_model.specs.Encodes.{IsLogMap}
 use Rattle.lfs_model.specs.Stands.{LogMap}
 use Rattle.lfs_model.specs.TreeOf.{dropped}
-use Rattle.lfs_memory.specs.segments.Table.{address_of, stale_of, clean_in}
+use Rattle.lfs_memory.specs.segments.Table.{address_of, stale_of}
+use Rattle.lfs_memory.specs.segments.Steps.{Releases}
+use Rattle.lfs_memory.specs.segments.Spare.{spare_in}
 use Rattle.lfs_memory.specs.inodes.MapValue.{block_in}
 use Rattle.lfs_memory.specs.declared.memory.LogMemory.{LogMemory}
 use Rattle.lfs_memory.specs.Memory.{IsMemory, IsLog}
 use Rattle.lfs_log.specs.Settling.{blocks_in}
 
--- all blocks are out, and many segments are clean
+-- all blocks are out, and in many segments nothing lives: the checkpoint has them as clean
 pub record IsAllOut (v : LogMemory) : Type 0 where
   pub chunk : v.chunk.names ≡ []
   pub dirty : v.dirty.blocks ≡ []
   pub maps : (j : ℕ) → block_in v.map j ≡ 1 → ⊥
   pub fresh : (j : ℕ) → j < blocks_in v.usage → stale_of v.usage j ≡ false
-  pub many : length v.usage.segments ≤ 8 * clean_in v.usage.segments
+  pub many : length v.usage.segments ≤ 8 * spare_in v.usage.segments
 
 -- the checkpoint after this number
 pub record IsNext (v : LogMemory) (old : ℕ) (next : CheckpointValue) : Type 0 where
@@ -43,7 +45,7 @@ pub record Publishes (d d' : DeviceState) (v v' : LogMemory) (number : ℕ) : Ty
   pub carries : Carries d d'
   pub memory : IsMemory v'
   pub segments : length v'.usage.segments ≡ length v.usage.segments
-  pub clean : clean_in v.usage.segments ≤ clean_in v'.usage.segments
+  pub released : Releases v.usage v'.usage
   pub no_failure : d'.failures ≡ d.failures
   pub log : (k : CheckpointValue) (m0 m : LogMap) → d'.keeps_model → IsAcknowledged d v number k m0 m → (next : CheckpointValue) × (next.number ≡ number + 1) × IsLog d' v' next (dropped m) m
   pub moment : LeavesEither d d' v number

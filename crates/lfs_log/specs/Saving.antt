@@ -1,16 +1,26 @@
 -- What a commit does.
-use Rattle.std.specs.Prelude.{◌≡◌, ◌<◌, ◌≤◌, ◌+◌, ℕ, [], length}
+use Rattle.std.specs.Prelude.{◌≡◌, ◌<◌, ◌≤◌, ◌+◌, ◌*◌, ◌/◌, ℕ, [], length}
 use Rattle.lfs_model.specs.Checkpoint.{CheckpointValue}
 use Rattle.lfs_model.specs.Crash.{StandsForOn}
 use Rattle.lfs_model.specs.Device.{DeviceState, Carries, AllLeft}
 use Rattle.lfs_model.specs.Stands.{LogMap}
 use Rattle.lfs_model.specs.TreeOf.{dropped}
 use Rattle.lfs_memory.specs.segments.Table.{clean_in}
+use Rattle.lfs_memory.specs.segments.Spare.{emptied_in}
 use Rattle.lfs_memory.specs.declared.memory.LogMemory.{LogMemory}
 use Rattle.lfs_memory.specs.Memory.{IsMemory, IsLog}
 use Rattle.lfs_log.specs.Publishing.{IsAcknowledged, LeavesEither}
 
--- All that memory holds is saved, but for files without a name; at most eight segments were taken for it.
+-- how many segments a commit takes at most that places so many blocks of files, and all blocks of the tables
+abbrev pub segments_for : ℕ → ℕ
+segments_for blocks = (blocks + 48 + 62) / 63
+
+-- with these taken, an eighth of the segments is clean or emptied still
+abbrev pub IsSpared : LogMemory → Type 0
+IsSpared v = length v.usage.segments + 8 * segments_for (length v.dirty.blocks) ≤ 8 * (clean_in v.usage.segments + emptied_in v.usage.segments)
+
+-- All that memory holds is saved, but for files without a name; no more segments were taken for it than its blocks want, those that
+-- were emptied are clean besides those that were, and an eighth is clean at least.
 pub record Commits (d d' : DeviceState) (v v' : LogMemory) (number : ℕ) : Type 0 where
   pub carries : Carries d d'
   pub memory : IsMemory v'
@@ -18,7 +28,8 @@ pub record Commits (d d' : DeviceState) (v v' : LogMemory) (number : ℕ) : Type
   pub dirty : v'.dirty.blocks ≡ []
   pub capacity : v'.dirty.capacity ≡ v.dirty.capacity
   pub segments : length v'.usage.segments ≡ length v.usage.segments
-  pub clean : clean_in v.usage.segments ≤ clean_in v'.usage.segments + 8
+  pub gains : clean_in v.usage.segments + emptied_in v.usage.segments ≤ clean_in v'.usage.segments + segments_for (length v.dirty.blocks)
+  pub many : length v'.usage.segments ≤ 8 * clean_in v'.usage.segments
   pub no_failure : d'.failures ≡ d.failures
   pub log : (k : CheckpointValue) (m0 m : LogMap) → d'.keeps_model → IsAcknowledged d v number k m0 m → (next : CheckpointValue) × (next.number ≡ number + 1) × IsLog d' v' next (dropped m) m
   pub moment : LeavesEither d d' v number

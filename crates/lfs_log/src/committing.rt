@@ -5,7 +5,7 @@ ghost use Rattle.lfs_memory.specs.segments.Table.{clean_in};
 ghost use Rattle.lfs_log.specs.Settling.{AreAnew};
 ghost use Rattle.lfs_memory.specs.Memory.{IsMemory, AreMapsOut, HasRoom, Goes, Stops, room_of};
 ghost use Rattle.lfs_log.specs.Publishing.{IsAllOut};
-ghost use Rattle.lfs_log.specs.Saving.{Commits, CommitFails};
+ghost use Rattle.lfs_log.specs.Saving.{Commits, CommitFails, IsSpared, segments_for};
 
 use crate::mapping::save_map;
 use crate::placing::{save_files, seal};
@@ -22,9 +22,9 @@ fn place_all<D: SectorDevice>(
 ) -> Result<(), DeviceFault>
     requires memory { IsMemory memory.old }
     requires size { HasRoom (D.state device.old) memory.old }
-    requires few { length memory.old.dirty.blocks ≤ 456 }
-    requires room { 504 ≤ room_of memory.old }
-    ensures done { OnOk result (Goes (D.state device.old) (D.state device.new) memory.old memory.new 504) }
+    requires room { length memory.old.dirty.blocks + 48 ≤ room_of memory.old }
+    ensures done { OnOk result (Goes (D.state device.old) (D.state device.new)
+        memory.old memory.new (length memory.old.dirty.blocks + 48)) }
     ensures stopped { OnErr result (Stops (D.state device.old) (D.state device.new) memory.old) }
     ensures dirty { OnOk result (memory.new.dirty.blocks ≡ []) }
     ensures capacity { OnOk result (memory.new.dirty.capacity ≡ memory.old.dirty.capacity) }
@@ -63,13 +63,15 @@ fn write_out<D: SectorDevice>(
     requires memory { IsMemory memory.old }
     requires size { HasRoom (D.state device.old) memory.old }
     requires closed { memory.old.chunk.names ≡ [] }
-    requires few { length memory.old.dirty.blocks ≤ 456 }
-    requires clean { length memory.old.usage.segments + 64 ≤ 8 * clean_in memory.old.usage.segments }
-    ensures done { OnOk result (Goes (D.state device.old) (D.state device.new) memory.old memory.new 566) }
+    requires clean { segments_for (length memory.old.dirty.blocks) ≤ clean_in memory.old.usage.segments }
+    requires spare { IsSpared memory.old }
+    ensures done { OnOk result (Goes (D.state device.old) (D.state device.new)
+        memory.old memory.new (length memory.old.dirty.blocks + 48 + 62)) }
     ensures stopped { OnErr result (Stops (D.state device.old) (D.state device.new) memory.old) }
     ensures capacity { OnOk result (memory.new.dirty.capacity ≡ memory.old.dirty.capacity) }
     ensures out { OnOk result (IsAllOut memory.new) }
-    ensures used { OnOk result (clean_in memory.old.usage.segments ≤ clean_in memory.new.usage.segments + 8) }
+    ensures taken { OnOk result (clean_in memory.old.usage.segments
+        ≤ clean_in memory.new.usage.segments + segments_for (length memory.old.dirty.blocks)) }
 {
     place_all(device, memory, age)?;
     seal_rest(device, memory)?;
@@ -78,7 +80,8 @@ fn write_out<D: SectorDevice>(
 }
 
 /// Saves all that memory holds, but for files without a name: blocks to clean segments, a sync, the next checkpoint after
-/// the one of this number to its slot, a sync. At most eight segments are taken for it.
+/// the one of this number to its slot, a sync. No more segments are taken for it than its blocks want, and those that were
+/// emptied are clean then.
 ///
 /// # Errors
 ///
@@ -92,8 +95,8 @@ pub fn save<D: SectorDevice>(
     requires size { HasRoom (D.state device.old) memory.old }
     requires number { number < 2 ^ 64 - 1 }
     requires closed { memory.old.chunk.names ≡ [] }
-    requires few { length memory.old.dirty.blocks ≤ 456 }
-    requires clean { length memory.old.usage.segments + 64 ≤ 8 * clean_in memory.old.usage.segments }
+    requires clean { segments_for (length memory.old.dirty.blocks) ≤ clean_in memory.old.usage.segments }
+    requires spare { IsSpared memory.old }
     ensures done { OnOk result (Commits (D.state device.old) (D.state device.new) memory.old memory.new number) }
     ensures stopped { OnErr result (CommitFails (D.state device.old) (D.state device.new) memory.old number) }
 {

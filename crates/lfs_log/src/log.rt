@@ -151,7 +151,7 @@ impl<D: SectorDevice> Log<D> {
 
     /// Whether memory has room for a batch of changes. After a commit it has for each that asks for 456 blocks at most.
     pub fn has_room(&self, changes: &Changes) -> bool
-        ensures room { IsTrue result → length self.now.memory.dirty.blocks + room_for changes.now ≤ self.now.memory.dirty.capacity }
+        ensures room { IsTrue result → length self.now.memory.dirty.blocks + room_for changes.now ≤ self.now.memory.dirty.capacity.limit }
         ensures fits { IsTrue result → length self.now.memory.dirty.blocks + room_for changes.now ≤ 456 }
         ensures lacks { IsFalse result → self.now.halted ≡ false → LacksRoom self.now.memory (room_for changes.now) }
         ensures narrow { IsFalse result → self.now.halted ≡ false → 456 < length self.now.memory.dirty.blocks + room_for changes.now }

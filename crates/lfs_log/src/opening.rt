@@ -1,5 +1,6 @@
 //! What a mount takes into memory: the tables that a walk over the volume leads to.
-ghost use Rattle.std.specs.Prelude.{[], ◌≡◌, ◌<◌, ◌≤◌, ◌+◌, ◌*◌, length, OnOk, IfOk, IfErr};
+ghost use Rattle.std.specs.Prelude.{[], ◌≡◌, ◌<◌, ◌≤◌, ◌+◌, ◌*◌, ◌/◌, length, OnOk, IfOk, IfErr};
+ghost use Rattle.lfs_model.specs.Checkpoint.{IsSegmentCount};
 ghost use Rattle.lfs_model.specs.Device.{Only};
 ghost use Rattle.lfs_verify.specs.Faults.{IsOpenFault};
 ghost use Rattle.lfs_verify.specs.Take.{Looks};
@@ -16,6 +17,19 @@ use std::alloc::Global;
 
 /// How many blocks of files may be in memory: with all blocks of the tables, eight chunks of them.
 const MOST_DIRTY: u32 = 456;
+
+/// How many blocks the tables have: 32 of the inode map, and 16 of usage.
+const TABLE_BLOCKS: u32 = 48;
+
+/// How many blocks of files a cleaning pass may bring into memory: with all blocks of the tables, a chunk for each of an eighth of
+/// the segments.
+fn most_cleaned(segments: u32) -> u32
+    requires { IsSegmentCount segments }
+    ensures blocks { result + 48 ≡ 63 * (segments / 8) }
+    ensures least { 456 ≤ result }
+{
+    63 * (segments / 8) - TABLE_BLOCKS
+}
 
 /// What a mount takes into memory.
 #[derive(Drop)]
@@ -49,7 +63,7 @@ pub fn open_memory<D: SectorDevice>(alloc: Global, device: &mut D) -> Result<Ope
         Ok(tables) => tables,
         Err(fault) => return Err(fault),
     };
-    let Ok(dirty) = DirtyTable::new(alloc, MOST_DIRTY) else {
+    let Ok(dirty) = DirtyTable::new(alloc, most_cleaned(tables.segments), MOST_DIRTY) else {
         return Err(MountFault::NoMemory);
     };
     Ok(OpenedLog {

@@ -15,7 +15,9 @@ use Rattle.lfs_model.proofs.Leaving.{beginning}
 use Rattle.lfs_segments.specs.Table.{UsageTable, live_of, held_of}
 use Rattle.lfs_segments.specs.Chunk.{entries_of}
 use Rattle.lfs_segments.specs.Steps.{Takes}
-use Rattle.lfs_inodes.specs.Blocks.{TableValue, blocks_of}
+use Rattle.lfs_segments.specs.Emptied.{IsEmptied}
+use Rattle.lfs_segments.proofs.StaysEmptied.{stays_emptied}
+use Rattle.lfs_inodes.specs.Blocks.{Capacity, TableValue, blocks_of}
 use Rattle.lfs_inodes.specs.MapValue.{MapValue}
 use Rattle.lfs_memory.specs.declared.memory.LogMemory.{LogMemory}
 use Rattle.lfs_memory.specs.Memory.{IsMemory, IsMemoryUpTo, IsLog, Places, tables_by, tables_of, segment_in, chunk_in}
@@ -90,8 +92,17 @@ module _ (v v' : LogMemory) (name : BlockNameValue) (lives : Bool) (age place : 
     opened = λ some. p.opened;
     short = let long = long_names in let short = memory.short in omega (arith, long, short);
     usages = λ j one. memory.usages j (sym (addresses_same j) ∙ one);
-    few = let few = memory.few in omega (arith, few, same);
+    few = let few = memory.few in let c = ap (λ (c : Capacity). c.limit) same in let size = segments_same in omega (arith, few, c, size);
   }
+
+  -- a segment that was emptied stays so
+  pub placed_emptied : (s : ℕ) → IsEmptied v.usage s → IsEmptied v'.usage s
+  placed_emptied s is =
+      let middle : IsEmptied p.middle s = ⊎_elim
+      (λ (none : length v.chunk.names ≡ 0). (stays_emptied v.usage p.middle s is).0 v'.chunk.segment age (p.begun none))
+      (λ (some : 0 < length v.chunk.names). subst (λ (u : UsageTable). IsEmptied u s) (sym (p.went_on some).0) is)
+      (zero_or_more (length v.chunk.names)) in
+      (stays_emptied p.middle v'.usage s middle).1 v'.chunk.segment lives p.noted (sym (p.noted.taken v'.chunk.segment) ∙ p.opened.taken)
 
   module _ (d : DeviceState) (k : CheckpointValue) (m0 m : LogMap) (is : IsLog d v k m0 m) where
     pub begun : Running d (blocks_of v.dirty) before k m0 m v'.chunk.segment (Some (entries_of v.chunk))

@@ -1,6 +1,6 @@
 -- What points to the blocks that go comes into memory.
-use Rattle.std.proofs.Common.{◌≡◌, ◌<◌, ◌≤◌, ⊎_elim, ◌+◌, ◌*◌, ◌-◌, ◌/◌, ◌%◌, ℕ, zero, suc, sym, ap, subst, arith, inl}
-use Rattle.std.specs.Prelude.{Err, IsErrOf}
+use Rattle.std.proofs.Common.{◌≡◌, ◌<◌, ◌≤◌, ⊎_elim, ◌+◌, ◌*◌, ◌-◌, ◌/◌, ◌%◌, ℕ, zero, suc, Bool, true, false, refl, sym, ◌∙◌, ap, subst, arith, inl, inr}
+use Rattle.std.specs.Prelude.{Err, IsErrOf, IsTrue, IsFalse}
 use Rattle.lfs_model.specs.Checkpoint.{CheckpointValue}
 use Rattle.lfs_model.specs.Device.{DeviceState}
 use Rattle.lfs_model.specs.Entry.{Entry, Leaf, Double}
@@ -26,6 +26,17 @@ cut_leaf_at first high some = record { from = omega (arith, high, some); to = om
 pub above_cut_leaf : (v : LogMemory) (n first : ℕ) (x : Entry) → x ≡ Leaf n ((first - 112) / 128) → 112 < first → ((first - 112) % 128 ≡ 0 → ⊥)
     → ((q : ℕ) → IsCutLeaf first q → IsInMemory v (parent (Leaf n q))) → IsInMemory v (parent x)
 above_cut_leaf v n first x named high some above = subst (λ (y : Entry). IsInMemory v (parent y)) (sym named) (above ((first - 112) / 128) (cut_leaf_at first high some))
+
+-- so it is ready as it is brought into memory, or isn't stored
+pub cut_leaf_ready : (v : LogMemory) (n first : ℕ) (x : Entry) → x ≡ Leaf n ((first - 112) / 128) → (found : Bool) → (IsTrue found → IsInMemory v x)
+    → (IsFalse found → IsAt (blocks_of v.dirty) (tables_of v) x 0) → (q : ℕ) → IsCutLeaf first q → IsReady v (Leaf n q)
+cut_leaf_ready v n first x named found inside none q cut =
+    let same : (first - 112) / 128 ≡ q = let from = cut.from in let to = cut.to in omega (arith, from, to) in
+    subst (λ (y : Entry). IsReady v y) (named ∙ ap (Leaf n) same) (either found inside none)
+  where
+    either : (found : Bool) → (IsTrue found → IsInMemory v x) → (IsFalse found → IsAt (blocks_of v.dirty) (tables_of v) x 0) → IsReady v x
+    either true inside none = inl (inside refl)
+    either false inside none = inr (none refl)
 
 pub low_edge : (v : LogMemory) (n first : ℕ) → first ≤ 240 → ((q : ℕ) → IsCutLeaf first q → IsReady v (Leaf n q)) → HasEdge v n first
 low_edge v n first low leaf = record { double = λ more. absurd (omega (arith, low, more)); leaf = λ q cut. inl (leaf q cut) }

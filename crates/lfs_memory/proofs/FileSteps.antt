@@ -21,7 +21,7 @@ use Rattle.lfs_segments.specs.Chunk.{Chunk, entries_of}
 use Rattle.lfs_segments.specs.Table.{UsageTable}
 use Rattle.lfs_memory.specs.declared.memory.LogMemory.{LogMemory}
 use Rattle.lfs_memory.specs.Memory.{IsMemory, IsLog, IsPointedAt, Places, GoesUpTo, Quiet, Stops, tables_by, segment_in, chunk_in}
-use Rattle.lfs_memory.proofs.Begun.{before, begun, noted, place_is, few_entries, opened_after, segment_after, segments_same, memory_after, free_place}
+use Rattle.lfs_memory.proofs.Begun.{before, begun, noted, place_is, few_entries, opened_after, segment_after, segments_same, memory_after, free_place, placed_emptied}
 use Rattle.lfs_memory.proofs.Opened.{as_chunk, stays_settled, stays_quiet}
 use Rattle.lfs_memory.proofs.Rooms.{takes_place}
 
@@ -116,6 +116,7 @@ module _ (v v' : LogMemory) (name : BlockNameValue) (lives : Bool) (age place : 
         segments = segments_same v v' name lives age place memory p;
         room = let r = takes_place v v' name lives age place memory p in omega (arith, r);
         no_failure = no_failure;
+        emptied = placed_emptied v v' name lives age place memory p;
         log = log;
         quiet = quiet_step v v' name lives age place memory p d d' bytes crash carries time lawful (λ keeps. left_new (is_put keeps));
       }

@@ -16,6 +16,7 @@ goes_none d v lawful memory = record {
   segments = refl;
   room = omega arith;
   no_failure = refl;
+  emptied = λ s is. is;
   log = λ k m0 m keeps is. is;
   quiet = λ k m0 m keeps is. started d (λ c. StandsOn k.segments c m0) lawful (settled_stands d k m0 is.running.settled);
 }
@@ -32,6 +33,7 @@ goes_then p q a b c v v' v'' n l one two = record {
   segments = two.segments ∙ one.segments;
   room = let x = one.room in let y = two.room in omega (arith, x, y);
   no_failure = two.no_failure ∙ one.no_failure;
+  emptied = λ s is. two.emptied s (one.emptied s is);
   log = λ k m0 m keeps is. two.log k m0 m keeps (one.log k m0 m (two.carries.kept_before keeps) is);
   quiet = quiet_then p a b c v v' n one two.carries.kept_before two.quiet;
 }
@@ -43,6 +45,7 @@ goes_at_most a b v v' n l le one = record {
   segments = one.segments;
   room = let x = one.room in omega (arith, x, le);
   no_failure = one.no_failure;
+  emptied = one.emptied;
   log = one.log;
   quiet = one.quiet;
 }

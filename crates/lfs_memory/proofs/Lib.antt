@@ -28,3 +28,4 @@ pub mod Unlinked
 pub mod Staged
 pub mod SegmentsTaken
 pub mod Pressed
+pub use Rattle.lfs_segments.proofs as of_segments

@@ -22,7 +22,7 @@ use Rattle.lfs_model.proofs.Staging.{fetching, map_fetching, map_adding}
 use Rattle.lfs_model.proofs.Tables.{map_table, usage_table}
 use Rattle.lfs_segments.specs.Chunk.{Chunk}
 use Rattle.lfs_segments.specs.Table.{UsageTable, used_of, live_of, held_of, age_of, taken_of, address_of, stale_of, clean_in}
-use Rattle.lfs_inodes.specs.Blocks.{TableValue, blocks_of}
+use Rattle.lfs_inodes.specs.Blocks.{Capacity, TableValue, blocks_of}
 use Rattle.lfs_inodes.specs.MapValue.{MapValue, address_in, is_hidden_in, block_in}
 use Rattle.lfs_inodes.specs.Present.{present}
 use Rattle.lfs_memory.specs.declared.memory.LogMemory.{LogMemory}
@@ -81,7 +81,7 @@ kept_memory v v' memory size chunk used taken address capacity = record {
       };
   short = let s = memory.short in let n : length v'.chunk.names ≡ length v.chunk.names = ap (λ (c : Chunk). length c.names) chunk in omega (arith, s, n);
   usages = λ j one. memory.usages j (sym (address j) ∙ one);
-  few = let f = memory.few in omega (arith, f, capacity);
+  few = let f = memory.few in let c = ap (λ (c : Capacity). c.limit) capacity in omega (arith, f, c, size);
 }
 
 with_chunk : (d : DeviceState) (dirty : Dirty) (t : Tables) (k : CheckpointValue) (m0 m : LogMap) (c c' : Chunk) → c' ≡ c

@@ -14,7 +14,7 @@ use Rattle.lfs_model.proofs.Running.{taken_memory, is_taken}
 use Rattle.lfs_segments.specs.Chunk.{Chunk, IsOpen}
 use Rattle.lfs_segments.specs.Table.{UsageTable, live_of, held_of, clean_in}
 use Rattle.lfs_segments.specs.Steps.{Lifts}
-use Rattle.lfs_inodes.specs.Blocks.{blocks_of}
+use Rattle.lfs_inodes.specs.Blocks.{Capacity, blocks_of}
 use Rattle.lfs_inodes.specs.MapValue.{MapValue, is_hidden_in}
 use Rattle.lfs_memory.specs.declared.memory.LogMemory.{LogMemory}
 use Rattle.lfs_memory.specs.Memory.{IsMemory, IsLog, IsLoose, table_at, tables_by, tables_of, segment_in, chunk_in}
@@ -35,7 +35,7 @@ stays_memory v v' memory chunk segments opened same capacity = record {
   opened = λ some. subst (λ (c : Chunk). IsOpen c v'.usage) (sym chunk) (opened (memory.opened (subst (λ (c : Chunk). 0 < length c.names) chunk some)));
   short = subst (λ (c : Chunk). length c.names ≤ 62) (sym chunk) memory.short;
   usages = λ j one. memory.usages j (sym (same j) ∙ one);
-  few = subst (λ (n : ℕ). n ≤ 456) (sym capacity) memory.few;
+  few = let f = memory.few in let c = ap (λ (c : Capacity). c.limit) capacity in omega (arith, f, c, segments);
 }
 
 pub stays_same : (v v' : LogMemory) → v'.chunk ≡ v.chunk → v'.usage ≡ v.usage → v'.dirty.capacity ≡ v.dirty.capacity → IsMemory v → IsMemory v'

@@ -8,7 +8,7 @@ use Rattle.lfs_model.specs.Memory.{parent, IsPointers}
 use Rattle.lfs_model.specs.Staging.{IsAt}
 use Rattle.lfs_model.specs.Stands.{LogMap}
 use Rattle.lfs_model.proofs.Entries.{data_parent_low, data_parent_high, pointers_below}
-use Rattle.lfs_inodes.specs.Blocks.{blocks_of}
+use Rattle.lfs_inodes.specs.Blocks.{Capacity, blocks_of}
 use Rattle.lfs_inodes.specs.MapValue.{MapValue, address_in, block_in}
 use Rattle.lfs_memory.specs.declared.batch.BlockEdit.{BlockEdit}
 use Rattle.lfs_memory.specs.declared.batch.HeaderEdit.{HeaderEdit}
@@ -56,7 +56,7 @@ lacks_more : (v : LogMemory) (a b : ℕ) → a ≤ b → LacksRoom v a → Lacks
 lacks_more v a b le lacks = omega (arith, le, lacks)
 
 lacks_then : (d d' : DeviceState) (v v' : LogMemory) (a b : ℕ) → Prepares d d' v v' a → LacksRoom v' b → LacksRoom v (a + b)
-lacks_then d d' v v' a b one lacks = let few = one.few in let capacity = one.capacity in omega (arith, few, capacity, lacks)
+lacks_then d d' v v' a b one lacks = let few = one.few in let capacity = ap (λ (c : Capacity). c.limit) one.capacity in omega (arith, few, capacity, lacks)
 
 -- ---- what stays
 pub record Keeps (v w : LogMemory) : Type 0 where

@@ -1,13 +1,13 @@
 -- A batch of changes, from what its parts do.
 use Rattle.std.specs.Prelude.{Result, Ok, Err, OnErr, IsErrOf}
-use Rattle.std.proofs.Common.{◌≡◌, ◌<◌, ◌≤◌, ⊎_elim, ◌+◌, ℕ, true, false, List, [], ◌∷◌, length, refl, sym, ◌∙◌, arith, inl, inr}
+use Rattle.std.proofs.Common.{◌≡◌, ◌<◌, ◌≤◌, ⊎_elim, ◌+◌, ℕ, true, false, List, [], ◌∷◌, length, refl, sym, ◌∙◌, ap, arith, inl, inr}
 use Rattle.lfs_model.specs.Checkpoint.{CheckpointValue}
 use Rattle.lfs_model.specs.Device.{DeviceState, IsLawful}
 use Rattle.lfs_model.specs.Entry.{Data, Inode}
 use Rattle.lfs_model.specs.Memory.{parent}
 use Rattle.lfs_model.specs.Stands.{LogMap}
 use Rattle.lfs_model.proofs.Detaching.{is_of_yes}
-use Rattle.lfs_inodes.specs.Blocks.{blocks_of}
+use Rattle.lfs_inodes.specs.Blocks.{Capacity, blocks_of}
 use Rattle.lfs_inodes.specs.MapValue.{address_in}
 use Rattle.lfs_memory.specs.declared.batch.BlockEdit.{BlockEdit}
 use Rattle.lfs_memory.specs.declared.batch.HeaderEdit.{HeaderEdit}
@@ -158,7 +158,7 @@ module _ (a b : DeviceState) (v v1 : LogMemory) (x : Loss) (hs : List HeaderEdit
   pub prepared_refuses : Refuses a b v v1 x hs bs
   prepared_refuses = refuses_prepared a b v v1 (length hs + ways bs) x hs bs (omega arith) first
 
-  pub prepared_excused : (r : Result (Unit {0}) LiftFault) → length v.dirty.blocks + room_for_edits hs bs ≤ v.dirty.capacity → (IsErrOf r fault.Full → LacksRoom v (length hs + ways bs))
+  pub prepared_excused : (r : Result (Unit {0}) LiftFault) → length v.dirty.blocks + room_for_edits hs bs ≤ v.dirty.capacity.limit → (IsErrOf r fault.Full → LacksRoom v (length hs + ways bs))
       → (IsErrOf r fault.Device → AreExcusedWithin a b v bs) → OnErr r (IsBatchExcused a b v x hs bs)
   prepared_excused r room full failed =
       device_only r (IsBatchExcused a b v x hs bs) (λ is. let lacks = full is in omega (arith, lacks, room)) (λ is. λ k m0 m keeps log fits. failed is k m0 m keeps log fits.within)
@@ -176,11 +176,11 @@ module _ (a b : DeviceState) (v v1 : LogMemory) (x : Loss) (hs : List HeaderEdit
         let before = first.looks.carries.failures in
         omega (arith, rose, before)
 
-    pub loss_excuses : (r : Result (Unit {0}) LiftFault) → length v.dirty.blocks + room_for_edits hs bs ≤ v.dirty.capacity → Prepares b e v1 v2 3 → (IsErrOf r fault.Full → v2.dirty.capacity ≤ length v2.dirty.blocks)
+    pub loss_excuses : (r : Result (Unit {0}) LiftFault) → length v.dirty.blocks + room_for_edits hs bs ≤ v.dirty.capacity.limit → Prepares b e v1 v2 3 → (IsErrOf r fault.Full → v2.dirty.capacity.limit ≤ length v2.dirty.blocks)
         → (IsErrOf r fault.Device → IsLossExcused b e v1 x) → OnErr r (IsBatchExcused a e v x hs bs)
     loss_excuses r room second full failed =
         device_only r (IsBatchExcused a e v x hs bs)
-        (λ is. let lacks = full is in let few = second.few in let before = first.few in let same = second.capacity in let was = first.capacity in omega (arith, lacks, few, before, same, was, room))
+        (λ is. let lacks = full is in let few = second.few in let before = first.few in let same = ap (λ (c : Capacity). c.limit) second.capacity in let was = ap (λ (c : Capacity). c.limit) first.capacity in omega (arith, lacks, few, before, same, was, room))
         (λ is. loss_excused_then second.looks (failed is))
 
     module _ (go : Loses b e v1 v2 x) (ready_headers : AreHeadersReady v1 hs) (ready_blocks : AreBlocksReady v1 bs) where

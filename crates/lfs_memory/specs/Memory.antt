@@ -1,5 +1,5 @@
 -- What the log holds in memory, and what that and the device stand for.
-use Rattle.std.specs.Prelude.{◌≡◌, ◌<◌, ◌≤◌, ◌+◌, ◌*◌, ◌-◌, ◌==◌, cond, ℕ, suc, Bool, List, [], ◌∷◌, ◌++◌, length, Option, Some, None}
+use Rattle.std.specs.Prelude.{◌≡◌, ◌<◌, ◌≤◌, ◌+◌, ◌*◌, ◌-◌, ◌/◌, ◌==◌, cond, ℕ, suc, Bool, List, [], ◌∷◌, ◌++◌, length, Option, Some, None}
 use Rattle.lfs_model.specs.Entry.{Entry, Data, Leaf, Double, Inode, Map, Usage}
 use Rattle.lfs_model.specs.Checkpoint.{CheckpointValue, IsSegmentCount}
 use Rattle.lfs_model.specs.Crash.{StandsOn}
@@ -11,6 +11,7 @@ use Rattle.lfs_model.specs.Running.{IsTight, Tables, Running, IsSet}
 use Rattle.lfs_model.specs.Settled.{IsSettled}
 use Rattle.lfs_segments.specs.Table.{UsageTable, used_of, live_of, held_of, age_of, taken_of, address_of, stale_of, clean_in}
 use Rattle.lfs_segments.specs.Chunk.{Chunk, IsOpen, entries_of}
+use Rattle.lfs_segments.specs.Emptied.{IsEmptied}
 use Rattle.lfs_segments.specs.Steps.{Takes, Notes}
 use Rattle.lfs_inodes.specs.Blocks.{blocks_of}
 use Rattle.lfs_inodes.specs.MapValue.{MapValue, address_in, is_hidden_in, block_in}
@@ -59,7 +60,8 @@ pub record IsMemoryUpTo (most : ℕ) (v : LogMemory) : Type 0 where
   pub opened : 0 < length v.chunk.names → IsOpen v.chunk v.usage
   pub short : length v.chunk.names ≤ most
   pub usages : (j : ℕ) → address_of v.usage j ≡ 1 → ⊥
-  pub few : v.dirty.capacity ≤ 456
+  -- no more blocks of files than a cleaning pass may write into the segments that it may take
+  pub few : v.dirty.capacity.limit + 48 ≤ 63 * (length v.usage.segments / 8)
 
 -- between two blocks: a chunk that is full is written at once
 abbrev pub IsMemory : LogMemory → Type 0
@@ -99,6 +101,7 @@ pub record GoesUpTo (most : ℕ) (d d' : DeviceState) (v v' : LogMemory) (placed
   pub segments : length v'.usage.segments ≡ length v.usage.segments
   pub room : room_of v ≤ room_of v' + placed
   pub no_failure : d'.failures ≡ d.failures
+  pub emptied : (s : ℕ) → IsEmptied v.usage s → IsEmptied v'.usage s
   pub log : (k : CheckpointValue) (m0 m : LogMap) → d'.keeps_model → IsLog d v k m0 m → IsLog d' v' k m0 m
   pub quiet : Quiet d d' v
 

@@ -33,7 +33,7 @@ AreHeadersReady v edits = AllByRecursion (λ (e : HeaderEdit). IsHeaderReady v e
 
 -- memory takes fewer than so many more blocks
 abbrev pub LacksRoom : LogMemory → ℕ → Type 0
-LacksRoom v more = v.dirty.capacity < length v.dirty.blocks + more
+LacksRoom v more = v.dirty.capacity.limit < length v.dirty.blocks + more
 
 -- the block above a data block, by its place in the file
 abbrev pub row_of : ℕ → ℕ

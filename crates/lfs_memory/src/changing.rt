@@ -55,7 +55,7 @@ fn store_block(
     address: u32,
     bytes: &[u8; 512],
 ) -> Result<(), DeviceFault>
-    requires room { length memory.old.dirty.blocks < memory.old.dirty.capacity }
+    requires room { length memory.old.dirty.blocks < memory.old.dirty.capacity.limit }
     ensures done { OnOk result (Stores memory.old memory.new (key.code / 32768 % 4096) (entry_of key) address bytes.now) }
     ensures miscounted { OnErr result (IsMiscounted memory.old.usage address (not (is_hidden_in memory.old.map (key.code / 32768 % 4096)))) }
     ensures same { OnErr result (memory.new ≡ memory.old) }
@@ -96,7 +96,7 @@ fn put_block(
     requires some { 1 ≤ file }
     requires file { file ≤ 4095 }
     requires index { index ≤ 16623 }
-    requires room { length memory.old.dirty.blocks < memory.old.dirty.capacity }
+    requires room { length memory.old.dirty.blocks < memory.old.dirty.capacity.limit }
     ensures done { OnOk result (PutsBlock memory.old memory.new file index address bytes.now) }
     ensures miscounted { OnErr result (IsMiscounted memory.old.usage address (not (is_hidden_in memory.old.map file))) }
     ensures same { OnErr result (memory.new ≡ memory.old) }
@@ -124,7 +124,7 @@ pub fn change_block(
     requires file { file ≤ 4095 }
     requires index { index ≤ 16623 }
     requires above { HasAbove (blocks_of memory.old.dirty) (Data file index) }
-    requires room { length memory.old.dirty.blocks < memory.old.dirty.capacity }
+    requires room { length memory.old.dirty.blocks < memory.old.dirty.capacity.limit }
     ensures done { OnOk result (ChangesBlock memory.old memory.new file index bytes.now) }
     ensures miscounted { OnErr result (IsBlockMiscounted memory.old file index) }
     ensures same { OnErr result (memory.new ≡ memory.old) }
@@ -150,7 +150,7 @@ pub fn change_header(memory: &mut LogMemory, file: u16, kind: Kind, links: u32, 
 pub fn create(memory: &mut LogMemory, file: u16, kind: Kind, links: u32, size: u32)
     requires some { 1 ≤ file }
     requires file { file ≤ 4095 }
-    requires room { length memory.old.dirty.blocks < memory.old.dirty.capacity }
+    requires room { length memory.old.dirty.blocks < memory.old.dirty.capacity.limit }
     ensures { Creates memory.old memory.new file kind links size }
 {
     let mut inode = no_bytes();
@@ -170,7 +170,7 @@ fn no_bytes() -> [u8; 512]
 /// An empty block of pointers comes into memory.
 #[tactic(auto, unfolding(lfs_model::specs::Fields::zeros))]
 pub fn grow(memory: &mut LogMemory, key: BlockKey)
-    requires room { length memory.old.dirty.blocks < memory.old.dirty.capacity }
+    requires room { length memory.old.dirty.blocks < memory.old.dirty.capacity.limit }
     ensures { Grows memory.old memory.new (entry_of key) }
 {
     memory.dirty.fetch(key, &[0; 512]);

@@ -39,7 +39,7 @@ fn lift_part<D: SectorDevice>(
     requires above { (q : ℕ) → IsCutLeaf first q → IsInMemory memory.old (parent (Leaf number q)) }
     ensures prepares { Prepares (D.state device.old) (D.state device.new) memory.old memory.new 1 }
     ensures leaf { OnOk result ((q : ℕ) → IsCutLeaf first q → IsReady memory.new (Leaf number q)) }
-    ensures full { IsErrOf result LiftFault.Full → memory.new.dirty.capacity ≤ length memory.new.dirty.blocks }
+    ensures full { IsErrOf result LiftFault.Full → memory.new.dirty.capacity.limit ≤ length memory.new.dirty.blocks }
     ensures failed { IsErrOf result LiftFault.Device → IsExcused (D.state device.old) (D.state device.new) memory.old }
     ensures no_failure { OnOk result ((D.state device.new).failures ≡ (D.state device.old).failures) }
 {
@@ -74,7 +74,7 @@ fn lift_edge<D: SectorDevice>(
     requires above { IsInMemory memory.old (Inode number) }
     ensures prepares { Prepares (D.state device.old) (D.state device.new) memory.old memory.new 2 }
     ensures edge { OnOk result (HasEdge memory.new number first) }
-    ensures full { IsErrOf result LiftFault.Full → memory.new.dirty.capacity ≤ length memory.new.dirty.blocks }
+    ensures full { IsErrOf result LiftFault.Full → memory.new.dirty.capacity.limit ≤ length memory.new.dirty.blocks }
     ensures failed { IsErrOf result LiftFault.Device → IsExcused (D.state device.old) (D.state device.new) memory.old }
     ensures no_failure { OnOk result ((D.state device.new).failures ≡ (D.state device.old).failures) }
 {
@@ -218,7 +218,7 @@ pub fn cut_file<D: SectorDevice>(
     requires first { first ≤ 16624 }
     ensures cuts { OnOk result (Cuts (D.state device.old) (D.state device.new) memory.old memory.new number first) }
     ensures prepares { OnErr result (Prepares (D.state device.old) (D.state device.new) memory.old memory.new 3) }
-    ensures full { IsErrOf result LiftFault.Full → memory.new.dirty.capacity ≤ length memory.new.dirty.blocks }
+    ensures full { IsErrOf result LiftFault.Full → memory.new.dirty.capacity.limit ≤ length memory.new.dirty.blocks }
     ensures failed { IsErrOf result LiftFault.Device → IsExcused (D.state device.old) (D.state device.new) memory.old }
     ensures no_failure { OnOk result ((D.state device.new).failures ≡ (D.state device.old).failures) }
 {

@@ -86,7 +86,7 @@ pub(crate) fn lift_map_of(memory: &mut LogMemory, number: u16) -> Result<(), Dev
 /// A block comes into memory in the place of the one at its address, which isn't counted there any more.
 pub fn bring(memory: &mut LogMemory, key: BlockKey, address: u32, lives: bool, bytes: &[u8; 512])
     requires counted { IsCounted memory.old.usage address lives }
-    requires room { length memory.old.dirty.blocks < memory.old.dirty.capacity }
+    requires room { length memory.old.dirty.blocks < memory.old.dirty.capacity.limit }
     ensures { Brings memory.old memory.new (entry_of key) address lives bytes.now }
 {
     memory.usage.lift((address - 2) / 64, lives);
@@ -134,7 +134,7 @@ pub fn lift<D: SectorDevice>(
     ensures prepares { Prepares (D.state device.old) (D.state device.new) memory.old memory.new 1 }
     ensures inside { OnOk result (IsInMemory memory.new (entry_of key)) }
     ensures same { OnErr result (memory.new ≡ memory.old) }
-    ensures full { IsErrOf result LiftFault.Full → memory.new.dirty.capacity ≤ length memory.new.dirty.blocks }
+    ensures full { IsErrOf result LiftFault.Full → memory.new.dirty.capacity.limit ≤ length memory.new.dirty.blocks }
     ensures failed { IsErrOf result LiftFault.Device → IsExcused (D.state device.old) (D.state device.new) memory.old }
     ensures no_failure { OnOk result ((D.state device.new).failures ≡ (D.state device.old).failures) }
 {
@@ -180,7 +180,7 @@ pub fn lift_inode<D: SectorDevice>(
     ensures same { IfOk result (λ found. IsFalse found → memory.new ≡ memory.old) }
     ensures absent { IfOk result (λ found. IsFalse found → IsAbsent (D.state device.old) (D.state device.new) memory.old number) }
     ensures kept { OnErr result (memory.new.dirty ≡ memory.old.dirty) }
-    ensures full { IsErrOf result LiftFault.Full → memory.new.dirty.capacity ≤ length memory.new.dirty.blocks }
+    ensures full { IsErrOf result LiftFault.Full → memory.new.dirty.capacity.limit ≤ length memory.new.dirty.blocks }
     ensures failed { IsErrOf result LiftFault.Device → IsExcused (D.state device.old) (D.state device.new) memory.old }
     ensures no_failure { OnOk result ((D.state device.new).failures ≡ (D.state device.old).failures) }
 {
@@ -237,7 +237,7 @@ pub fn lift_child<D: SectorDevice>(
     ensures none { IfOk result (λ found. IsFalse found → IsAt (blocks_of memory.new.dirty) (tables_of memory.new) (entry_of key) 0) }
     ensures same { IfOk result (λ found. IsFalse found → memory.new ≡ memory.old) }
     ensures kept { OnErr result (memory.new ≡ memory.old) }
-    ensures full { IsErrOf result LiftFault.Full → memory.new.dirty.capacity ≤ length memory.new.dirty.blocks }
+    ensures full { IsErrOf result LiftFault.Full → memory.new.dirty.capacity.limit ≤ length memory.new.dirty.blocks }
     ensures failed { IsErrOf result LiftFault.Device → IsExcused (D.state device.old) (D.state device.new) memory.old }
     ensures no_failure { OnOk result ((D.state device.new).failures ≡ (D.state device.old).failures) }
 {
@@ -276,7 +276,7 @@ pub fn lift_leaf<D: SectorDevice>(
     ensures prepares { Prepares (D.state device.old) (D.state device.new) memory.old memory.new 2 }
     ensures inside { IfOk result (λ found. IsTrue found → IsInMemory memory.new (Leaf number index)) }
     ensures absent { IfOk result (λ found. IsFalse found → IsLeafAbsent (D.state device.old) (D.state device.new) memory.old number index) }
-    ensures full { IsErrOf result LiftFault.Full → memory.new.dirty.capacity ≤ length memory.new.dirty.blocks }
+    ensures full { IsErrOf result LiftFault.Full → memory.new.dirty.capacity.limit ≤ length memory.new.dirty.blocks }
     ensures failed { IsErrOf result LiftFault.Device → IsExcused (D.state device.old) (D.state device.new) memory.old }
     ensures no_failure { OnOk result ((D.state device.new).failures ≡ (D.state device.old).failures) }
 {
@@ -310,7 +310,7 @@ pub fn lift_way<D: SectorDevice>(
     ensures prepares { Prepares (D.state device.old) (D.state device.new) memory.old memory.new 3 }
     ensures inside { IfOk result (λ found. IsTrue found → (1 ≤ number) × IsInMemory memory.new (parent (Data number index))) }
     ensures absent { IfOk result (λ found. IsFalse found → AnswersBlock (D.state device.old) (D.state device.new) memory.old number index [] false) }
-    ensures full { IsErrOf result LiftFault.Full → memory.new.dirty.capacity ≤ length memory.new.dirty.blocks }
+    ensures full { IsErrOf result LiftFault.Full → memory.new.dirty.capacity.limit ≤ length memory.new.dirty.blocks }
     ensures failed { IsErrOf result LiftFault.Device → IsExcused (D.state device.old) (D.state device.new) memory.old }
     ensures no_failure { OnOk result ((D.state device.new).failures ≡ (D.state device.old).failures) }
 {

@@ -32,7 +32,7 @@ fn prepare_pointers<D: SectorDevice>(
     ensures prepares { Prepares (D.state device.old) (D.state device.new) memory.old memory.new 1 }
     ensures inside { OnOk result (IsInMemory memory.new (entry_of key)) }
     ensures same { OnErr result (memory.new ≡ memory.old) }
-    ensures full { IsErrOf result LiftFault.Full → memory.new.dirty.capacity ≤ length memory.new.dirty.blocks }
+    ensures full { IsErrOf result LiftFault.Full → memory.new.dirty.capacity.limit ≤ length memory.new.dirty.blocks }
     ensures failed { IsErrOf result LiftFault.Device → IsExcused (D.state device.old) (D.state device.new) memory.old }
     ensures no_failure { OnOk result ((D.state device.new).failures ≡ (D.state device.old).failures) }
 {
@@ -66,7 +66,7 @@ fn prepare_leaf<D: SectorDevice>(
     requires above { IsInMemory memory.old (Inode number) }
     ensures prepares { Prepares (D.state device.old) (D.state device.new) memory.old memory.new 2 }
     ensures inside { OnOk result (IsInMemory memory.new (Leaf number index)) }
-    ensures full { IsErrOf result LiftFault.Full → memory.new.dirty.capacity ≤ length memory.new.dirty.blocks }
+    ensures full { IsErrOf result LiftFault.Full → memory.new.dirty.capacity.limit ≤ length memory.new.dirty.blocks }
     ensures short { IsErrOf result LiftFault.Full → LacksRoom memory.old 2 }
     ensures failed { IsErrOf result LiftFault.Device → IsExcused (D.state device.old) (D.state device.new) memory.old }
     ensures no_failure { OnOk result ((D.state device.new).failures ≡ (D.state device.old).failures) }
@@ -99,7 +99,7 @@ fn prepare_way<D: SectorDevice>(
     requires index { index ≤ 16623 }
     ensures prepares { Prepares (D.state device.old) (D.state device.new) memory.old memory.new 3 }
     ensures ready { OnOk result (IsReady memory.new number index) }
-    ensures full { IsErrOf result LiftFault.Full → memory.new.dirty.capacity ≤ length memory.new.dirty.blocks }
+    ensures full { IsErrOf result LiftFault.Full → memory.new.dirty.capacity.limit ≤ length memory.new.dirty.blocks }
     ensures short { IsErrOf result LiftFault.Full → LacksRoom memory.old 3 }
     ensures failed { IsErrOf result LiftFault.Device → IsExcusedWithin (D.state device.old) (D.state device.new) memory.old number index }
     ensures no_failure { OnOk result ((D.state device.new).failures ≡ (D.state device.old).failures) }
@@ -151,7 +151,7 @@ pub fn prepare_block<D: SectorDevice>(
     ensures ready { OnOk result (IsReady memory.new number index) }
     ensures same { IsReady memory.old number index → memory.new ≡ memory.old }
     ensures away { OnErr result (IsReady memory.old number index → ⊥) }
-    ensures full { IsErrOf result LiftFault.Full → memory.new.dirty.capacity ≤ length memory.new.dirty.blocks }
+    ensures full { IsErrOf result LiftFault.Full → memory.new.dirty.capacity.limit ≤ length memory.new.dirty.blocks }
     ensures short { IsErrOf result LiftFault.Full → LacksRoom memory.old 3 }
     ensures failed { IsErrOf result LiftFault.Device → IsExcusedWithin (D.state device.old) (D.state device.new) memory.old number index }
     ensures no_failure { OnOk result ((D.state device.new).failures ≡ (D.state device.old).failures) }
@@ -193,7 +193,7 @@ pub fn prepare_header<D: SectorDevice>(
     requires few { number ≤ 4095 }
     ensures prepares { Prepares (D.state device.old) (D.state device.new) memory.old memory.new 1 }
     ensures ready { OnOk result (IsHeaderReady memory.new number links) }
-    ensures full { IsErrOf result LiftFault.Full → memory.new.dirty.capacity ≤ length memory.new.dirty.blocks }
+    ensures full { IsErrOf result LiftFault.Full → memory.new.dirty.capacity.limit ≤ length memory.new.dirty.blocks }
     ensures short { IsErrOf result LiftFault.Full → LacksRoom memory.old 1 }
     ensures failed { IsErrOf result LiftFault.Device → IsExcused (D.state device.old) (D.state device.new) memory.old }
     ensures no_failure { OnOk result ((D.state device.new).failures ≡ (D.state device.old).failures) }

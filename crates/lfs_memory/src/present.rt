@@ -11,9 +11,9 @@ ghost use Rattle.lfs_memory.specs.Memory.{IsMemory};
 ghost use Rattle.lfs_memory.specs.Present.{Looks, IsExcused, IsMissing, AnswersInode, AnswersHeader, AnswersBlock, as_header, AnswersAddress};
 
 use crate::counting::{DOUBLE, SINGLE};
-use lfs_files::Header;
 use crate::memory::LogMemory;
 use lfs_device::{DeviceFault, SectorDevice};
+use lfs_files::Header;
 use lfs_inodes::{BlockKey, IN_MEMORY, locate_present};
 use lfs_layout::word;
 use lfs_model::Kind;

@@ -13,19 +13,20 @@ use crate::changes::{Changes, ways_to};
 use crate::changing::tighten;
 use crate::counting::SegmentCounts;
 use crate::cutting::cut_file;
-use lfs_files::LogFault;
 use crate::hiding::hide_file;
 use crate::lifting::LiftFault;
 use crate::memory::LogMemory;
 use crate::preparing::prepare_batch;
 use crate::removing::remove_file;
 use lfs_device::{DeviceFault, SectorDevice};
+use lfs_files::LogFault;
 
 /// Whether memory has room for a batch.
 pub fn has_room(memory: &LogMemory, changes: &Changes) -> bool
-    requires { IsMemory memory.now }
-    ensures few { length memory.now.dirty.blocks ≤ memory.now.dirty.capacity }
-    ensures room { IsTrue result → length memory.now.dirty.blocks + room_for changes.now ≤ memory.now.dirty.capacity }
+    requires memory { IsMemory memory.now }
+    requires limit { memory.now.dirty.capacity.limit ≤ 456 }
+    ensures few { length memory.now.dirty.blocks ≤ memory.now.dirty.capacity.limit }
+    ensures room { IsTrue result → length memory.now.dirty.blocks + room_for changes.now ≤ memory.now.dirty.capacity.limit }
     ensures lacks { IsFalse result → LacksRoom memory.now (room_for changes.now) }
 {
     let present = memory.dirty.len();
@@ -49,7 +50,7 @@ fn lose<D: SectorDevice>(
     requires memory { IsMemory memory.old }
     ensures done { OnOk result (Loses (D.state device.old) (D.state device.new) memory.old memory.new loss) }
     ensures prepares { OnErr result (Prepares (D.state device.old) (D.state device.new) memory.old memory.new 3) }
-    ensures full { IsErrOf result LiftFault.Full → memory.new.dirty.capacity ≤ length memory.new.dirty.blocks }
+    ensures full { IsErrOf result LiftFault.Full → memory.new.dirty.capacity.limit ≤ length memory.new.dirty.blocks }
     ensures failed { IsErrOf result LiftFault.Device → IsLossExcused (D.state device.old) (D.state device.new) memory.old loss }
     ensures no_failure { OnOk result ((D.state device.new).failures ≡ (D.state device.old).failures) }
 {
@@ -78,7 +79,7 @@ fn stage_edits<D: SectorDevice>(
     counts: &mut SegmentCounts,
 ) -> Result<(), DeviceFault>
     requires memory { IsMemory memory.old }
-    requires room { length memory.old.dirty.blocks + room_for_edits headers.now blocks.now ≤ memory.old.dirty.capacity }
+    requires room { length memory.old.dirty.blocks + room_for_edits headers.now blocks.now ≤ memory.old.dirty.capacity.limit }
     ensures done { OnOk result (Stages (D.state device.old) (D.state device.new) memory.old memory.new loss headers.now blocks.now) }
     ensures refused { OnErr result (Refuses (D.state device.old) (D.state device.new) memory.old memory.new loss headers.now blocks.now) }
     ensures failed { OnErr result (IsBatchExcused (D.state device.old) (D.state device.new) memory.old loss headers.now blocks.now) }
@@ -108,6 +109,7 @@ fn stage_batch<D: SectorDevice>(
     counts: &mut SegmentCounts,
 ) -> Result<(), LogFault>
     requires memory { IsMemory memory.old }
+    requires limit { memory.old.dirty.capacity.limit ≤ 456 }
     ensures done { OnOk result (Stages (D.state device.old) (D.state device.new) memory.old memory.new changes.now.loss changes.now.headers.items changes.now.blocks.items) }
     ensures refused { OnErr result (Refuses (D.state device.old) (D.state device.new) memory.old memory.new changes.now.loss changes.now.headers.items changes.now.blocks.items) }
     ensures full { IsErrOf result LogFault.Full → LacksRoom memory.old (room_for changes.now) }
@@ -138,6 +140,7 @@ pub fn stage_tight<D: SectorDevice>(
     counts: &mut SegmentCounts,
 ) -> Result<(), LogFault>
     requires memory { IsMemory memory.old }
+    requires limit { memory.old.dirty.capacity.limit ≤ 456 }
     ensures done { OnOk result (StagesTight (D.state device.old) (D.state device.new) memory.old memory.new changes.now) }
     ensures refused { OnErr result (RefusesTight (D.state device.old) (D.state device.new) memory.old memory.new changes.now) }
     ensures full { IsErrOf result LogFault.Full → LacksRoom memory.old (room_for changes.now) }

@@ -8,3 +8,4 @@ pub mod Choosing
 pub mod PressedGains
 pub mod StaysEmptied
 pub mod EmptiedGained
+pub mod Spare

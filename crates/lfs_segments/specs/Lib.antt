@@ -5,3 +5,4 @@ pub mod Victims
 pub mod Keys
 pub mod Choosing
 pub mod Emptied
+pub mod Spare

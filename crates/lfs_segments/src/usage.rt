@@ -65,6 +65,16 @@ impl Usage {
         })
     }
 
+    /// The table becomes what another one of as many segments is. No memory is asked for.
+    pub fn copy_from(&mut self, other: &Usage)
+        requires { length self.old.segments ≡ length other.now.segments }
+        ensures { self.new ≡ other.now }
+    {
+        self.states.copy_from_slice(other.states.as_slice());
+        self.blocks.copy_from_slice(other.blocks.as_slice());
+        self.clean = other.clean;
+    }
+
     /// How many segments there are.
     pub fn segments(&self) -> u32
         ensures value { result ≡ length self.now.segments }

@@ -145,7 +145,7 @@ impl<D: SectorDevice> Store<D> {
             self.new.log self.new.saved) }
         ensures room { OnOk result (self.new.saved ≡ false →
             length self.new.log.memory.dirty.blocks + room_for self.new.draft.changes
-            ≤ self.new.log.memory.dirty.capacity) }
+            ≤ self.new.log.memory.dirty.capacity.limit) }
         ensures draft { self.new.draft ≡ self.old.draft }
         ensures totals { self.new.totals ≡ self.old.totals }
         ensures drafted { self.new.drafted ≡ self.old.drafted }
@@ -171,7 +171,7 @@ impl<D: SectorDevice> Store<D> {
         ensures enough { OnOk result (HasClean self.new.log) }
         ensures room { OnOk result (self.new.saved ≡ false →
             length self.new.log.memory.dirty.blocks + room_for self.new.draft.changes
-            ≤ self.new.log.memory.dirty.capacity) }
+            ≤ self.new.log.memory.dirty.capacity.limit) }
         ensures draft { self.new.draft ≡ self.old.draft }
         ensures totals { self.new.totals ≡ self.old.totals }
         ensures drafted { self.new.drafted ≡ self.old.drafted }

@@ -8,7 +8,9 @@ impl<D: SectorDevice> Files for Store<D> {
     ghost use Rattle.lfs_store.specs.Seen.{StagedLog, state_of};
 
     ghost Staged = { StagedLog };
+
     ghost Draft = { Draft };
+
     ghost state = { λ s. state_of D.SectorDevice.state s.log s.draft s.saved s.totals s.drafted };
 
     fn header(&mut self, number: u16) -> Result<Option<Header>, LogFault> {

@@ -1,4 +1,4 @@
-use Rattle.std.proofs.Common.{length, arith}
+use Rattle.std.proofs.Common.{◌+◌, length, arith}
 use Rattle.lfs_memory.specs.Memory.{Stops}
 use Rattle.lfs_log.proofs.committing.place_all.Goals as goal
 use Rattle.lfs_memory.proofs.Going.{on_err, goes_then, goes_at_most, stops_then}
@@ -24,8 +24,7 @@ returns-in_err-settle_usage-clause-stopped g c =
 -- src/committing.rt:18:1
 pub returns-clause-done : goal.returns-clause-done
 returns-clause-done g c =
-    let few = c.requires.few in
-    goes_at_most (g.D.SectorDevice.state c.args.device.now) (g.D.SectorDevice.state c.settle_usage.new.device) c.args.memory.now c.settle_usage.new.memory _ 504 (omega (arith, few))
+    goes_at_most (g.D.SectorDevice.state c.args.device.now) (g.D.SectorDevice.state c.settle_usage.new.device) c.args.memory.now c.settle_usage.new.memory _ (length c.args.memory.now.dirty.blocks + 48) (omega arith)
     (goes_then 62 62 (g.D.SectorDevice.state c.args.device.now) (g.D.SectorDevice.state c.save_map.new.device) (g.D.SectorDevice.state c.settle_usage.new.device)
     c.args.memory.now c.save_map.new.memory c.settle_usage.new.memory _ 16
     (goes_then 62 62 (g.D.SectorDevice.state c.args.device.now) (g.D.SectorDevice.state c.save_files.new.device) (g.D.SectorDevice.state c.save_map.new.device)

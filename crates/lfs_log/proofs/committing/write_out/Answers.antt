@@ -1,6 +1,12 @@
-use Rattle.lfs_memory.specs.Memory.{Stops}
+use Rattle.std.proofs.Common.{◌≤◌, ◌+◌, ◌∙◌, [], ◌≡◌, length, sym, subst, ap, arith}
+use Rattle.lfs_memory.specs.segments.Chunk.{Chunk}
+use Rattle.lfs_memory.specs.segments.Table.{UsageTable, clean_in}
+use Rattle.lfs_memory.specs.inodes.Blocks.{TableValue}
+use Rattle.lfs_memory.specs.inodes.MapValue.{MapValue}
+use Rattle.lfs_memory.specs.Memory.{Stops, AreMapsOut}
+use Rattle.lfs_log.proofs.Saves.{segments_taken, room_there, many_spare}
 use Rattle.lfs_log.proofs.committing.write_out.Goals as goal
-use Rattle.lfs_memory.proofs.Going.{on_err, goes_then, stops_then}
+use Rattle.lfs_memory.proofs.Going.{on_err, goes_then, goes_at_most, stops_then}
 
 -- src/committing.rt:75:5
 pub returns-in_err-seal_rest-clause-stopped : goal.returns-in_err-seal_rest-clause-stopped
@@ -23,8 +29,31 @@ returns-in_err-fill_usage-clause-stopped g c =
 -- src/committing.rt:58:1
 pub returns-clause-done : goal.returns-clause-done
 returns-clause-done g c =
-    goes_then 62 62 (g.D.SectorDevice.state c.args.device.now) (g.D.SectorDevice.state c.seal_rest.new.device) (g.D.SectorDevice.state c.fill_usage.new.device)
-    c.args.memory.now c.seal_rest.new.memory c.fill_usage.new.memory 566 0
+    let n = length c.args.memory.now.dirty.blocks + 48 + 62 in
+    goes_at_most (g.D.SectorDevice.state c.args.device.now) (g.D.SectorDevice.state c.fill_usage.new.device) c.args.memory.now c.fill_usage.new.memory (n + 0) n (omega arith)
+    (goes_then 62 62 (g.D.SectorDevice.state c.args.device.now) (g.D.SectorDevice.state c.seal_rest.new.device) (g.D.SectorDevice.state c.fill_usage.new.device)
+    c.args.memory.now c.seal_rest.new.memory c.fill_usage.new.memory (length c.args.memory.now.dirty.blocks + 48 + 62) 0
     (goes_then 62 62 (g.D.SectorDevice.state c.args.device.now) (g.D.SectorDevice.state c.place_all.new.device) (g.D.SectorDevice.state c.seal_rest.new.device)
-    c.args.memory.now c.place_all.new.memory c.seal_rest.new.memory 504 62 c.in_ok-place_all.ensures.done c.in_ok-seal_rest.ensures.done)
-    c.in_ok-fill_usage.ensures.done
+    c.args.memory.now c.place_all.new.memory c.seal_rest.new.memory (length c.args.memory.now.dirty.blocks + 48) 62 c.in_ok-place_all.ensures.done c.in_ok-seal_rest.ensures.done)
+    c.in_ok-fill_usage.ensures.done)
+
+-- src/committing.rt:76:5
+pub place_all-requires-clause-room : goal.place_all-requires-clause-room
+place_all-requires-clause-room g c = room_there c.args.memory.now (length c.args.memory.now.dirty.blocks) c.requires.clean
+
+pub returns-clause-taken : goal.returns-clause-taken
+returns-clause-taken g c =
+    let taken = segments_taken c.args.memory.now c.place_all.new.memory (length c.args.memory.now.dirty.blocks) c.requires.closed c.in_ok-place_all.ensures.done.memory c.in_ok-place_all.ensures.done.room in
+    let same = ap clean_in (c.in_ok-fill_usage.ensures.segments ∙ ap (λ (u : UsageTable). u.segments) c.seal_rest.ensures.usage) in
+    omega (arith, taken, same)
+
+pub returns-clause-out : goal.returns-clause-out
+returns-clause-out g c =
+    let goes = returns-clause-done g c in
+    record {
+      chunk = ap (λ (x : Chunk). x.names) c.fill_usage.ensures.chunk ∙ c.in_ok-seal_rest.ensures.ended;
+      dirty = ap (λ (t : TableValue). t.blocks) (c.fill_usage.ensures.dirty ∙ c.seal_rest.ensures.dirty) ∙ c.in_ok-place_all.ensures.dirty;
+      maps = subst AreMapsOut (sym (c.fill_usage.ensures.map ∙ c.seal_rest.ensures.map)) c.in_ok-place_all.ensures.maps;
+      fresh = c.in_ok-fill_usage.ensures.fresh;
+      many = many_spare c.args.memory.now c.fill_usage.new.memory (length c.args.memory.now.dirty.blocks) goes.segments goes.emptied c.requires.spare (returns-clause-taken g c);
+    }

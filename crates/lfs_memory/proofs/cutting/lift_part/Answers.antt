@@ -1,4 +1,4 @@
-use Rattle.lfs_memory.proofs.CutEdges.{other_result, above_cut_leaf}
+use Rattle.lfs_memory.proofs.CutEdges.{other_result, above_cut_leaf, cut_leaf_ready}
 use Rattle.lfs_memory.proofs.cutting.lift_part.Goals as goal
 
 pub lift_child-requires-clause-above : goal.lift_child-requires-clause-above
@@ -7,3 +7,7 @@ lift_child-requires-clause-above g c =
 
 pub returns-in-Err-clause-failed : goal.returns-in-Err-clause-failed
 returns-in-Err-clause-failed g c is = c.in-Err.ensures.failed (other_result c.in-Err.fault _ is)
+
+pub returns-in-Ok-clause-leaf : goal.returns-in-Ok-clause-leaf
+returns-in-Ok-clause-leaf g c =
+    cut_leaf_ready c.lift_child.new.memory c.args.number c.args.first _ c.leaf-leaf.ensures _ c.in-Ok.ensures.inside c.in-Ok.ensures.none

@@ -22,18 +22,18 @@ returns-in_default-clause-changed c =
 
 pub index_mut-requires : goal.index_mut-requires
 index_mut-requires c =
-    let l = low_at c.self.inside.places.items c.self.inside.arena.items c.self.inside.spare.items _ _ c.self.invariant c.args.self.now c.self.view_is c.args.key.code c.in-Ok.at c.in-Ok.ensures.found c.index.result.now c.index.ensures in
+    let l = low_at c.self.inside.places.items c.self.inside.arena.items c.self.inside.spare.items _ _ _ c.self.invariant c.args.self.now c.self.view_is c.args.key.code c.in-Ok.at c.in-Ok.ensures.found c.index.result.now c.index.ensures in
     let o = c.self.inside.arena.ok in
     omega (arith, l, o.0)
 
 pub invariant_of-self : goal.invariant_of-self
-invariant_of-self c = held_at c.self.inside.places.items c.self.inside.arena.items c.self.inside.spare.items _ _ c.self.invariant c.args.self.now c.self.view_is c.args.key.code c.in-Ok.at c.in-Ok.ensures.found c.index.result.now c.index.ensures c.set_word.new.block
+invariant_of-self c = held_at c.self.inside.places.items c.self.inside.arena.items c.self.inside.spare.items _ _ _ c.self.invariant c.args.self.now c.self.view_is c.args.key.code c.in-Ok.at c.in-Ok.ensures.found c.index.result.now c.index.ensures c.set_word.new.block
 
 pub returns-clause-patched : goal.returns-clause-patched
 unfolding patched
 returns-clause-patched c =
-    let l = low_at c.self.inside.places.items c.self.inside.arena.items c.self.inside.spare.items _ _ c.self.invariant c.args.self.now c.self.view_is c.args.key.code c.in-Ok.at c.in-Ok.ensures.found c.index.result.now c.index.ensures in
-    altered_value c.self.inside.places.items c.self.inside.arena.items c.self.inside.spare.items _ _ c.self.invariant c.args.self.now c.self.view_is c.args.key.code c.in-Ok.at c.in-Ok.ensures.found c.index.result.now c.index.ensures (patched c.args.place c.args.number) c.set_word.new.block
+    let l = low_at c.self.inside.places.items c.self.inside.arena.items c.self.inside.spare.items _ _ _ c.self.invariant c.args.self.now c.self.view_is c.args.key.code c.in-Ok.at c.in-Ok.ensures.found c.index.result.now c.index.ensures in
+    altered_value c.self.inside.places.items c.self.inside.arena.items c.self.inside.spare.items _ _ _ c.self.invariant c.args.self.now c.self.view_is c.args.key.code c.in-Ok.at c.in-Ok.ensures.found c.index.result.now c.index.ensures (patched c.args.place c.args.number) c.set_word.new.block
     (c.set_word.ensures ∙ ap (patched c.args.place c.args.number) (c.index_mut.ensures.value ∙ sym (get_or_default c.self.inside.arena.items c.index.result.now.spot [] c.index_mut.result.now l)))
 
 pub returns-clause-changed : goal.returns-clause-changed
@@ -45,4 +45,4 @@ returns-clause-changed c =
 pub returns-clause-length : goal.returns-clause-length
 returns-clause-length c =
     ap (λ (t : TableValue). length t.blocks) (returns-clause-patched c)
-    ∙ count_altered c.args.self.now.blocks c.args.key.code (patched c.args.place c.args.number) (sorted_value c.self.inside.places.items c.self.inside.arena.items c.self.inside.spare.items _ _ c.self.invariant c.args.self.now c.self.view_is)
+    ∙ count_altered c.args.self.now.blocks c.args.key.code (patched c.args.place c.args.number) (sorted_value c.self.inside.places.items c.self.inside.arena.items c.self.inside.spare.items _ _ _ c.self.invariant c.args.self.now c.self.view_is)

@@ -30,12 +30,12 @@ pub invariant_of-self : goal.invariant_of-self
 invariant_of-self c =
     let items : c.push.new.self.items ≡ c.self.inside.spare.items ++ c.remove-place.result.spot ∷ [] = rw c.unwrap.ensures at c.push.ensures.items in
     let less = c.remove-place.ensures.capacity in
-    subst (λ (ps : List Place). IsHeld ps c.self.inside.arena.items c.push.new.self.items (vec_capacity c.remove-place.new.self) (vec_capacity c.push.new.self)) (sym c.remove-place.ensures.items)
-    (wider _ _ _ _ _ _ _ (held_left c.self.inside.places.items c.self.inside.arena.items c.self.inside.spare.items _ _ c.self.invariant c.args.self.now c.self.view_is c.args.key.code c.in-Ok.at c.in-Ok.ensures.found c.remove-place.result c.remove-place.ensures.value c.push.new.self.items items) (omega arith) c.push.ensures.capacity)
+    subst (λ (ps : List Place). IsHeld ps c.self.inside.arena.items c.push.new.self.items c.self.inside.limit (vec_capacity c.remove-place.new.self) (vec_capacity c.push.new.self)) (sym c.remove-place.ensures.items)
+    (wider _ _ _ _ _ _ _ _ (held_left c.self.inside.places.items c.self.inside.arena.items c.self.inside.spare.items _ _ _ c.self.invariant c.args.self.now c.self.view_is c.args.key.code c.in-Ok.at c.in-Ok.ensures.found c.remove-place.result c.remove-place.ensures.value c.push.new.self.items items) (omega arith) c.push.ensures.capacity)
 
 pub returns-clause-removed : goal.returns-clause-removed
 returns-clause-removed c =
-    ap (λ (ps : List Place). value_of ps c.self.inside.arena.items) c.remove-place.ensures.items ∙ removed_value c.self.inside.places.items c.self.inside.arena.items c.self.inside.spare.items _ _ c.self.invariant c.args.self.now c.self.view_is c.args.key.code c.in-Ok.at c.in-Ok.ensures.found c.remove-place.result c.remove-place.ensures.value
+    ap (λ (ps : List Place). value_of c.self.inside.limit ps c.self.inside.arena.items) c.remove-place.ensures.items ∙ removed_value c.self.inside.places.items c.self.inside.arena.items c.self.inside.spare.items _ _ _ c.self.invariant c.args.self.now c.self.view_is c.args.key.code c.in-Ok.at c.in-Ok.ensures.found c.remove-place.result c.remove-place.ensures.value
 
 pub returns-clause-changed : goal.returns-clause-changed
 returns-clause-changed c =
@@ -45,4 +45,4 @@ returns-clause-changed c =
 pub returns-clause-length : goal.returns-clause-length
 returns-clause-length c =
     ap (λ (t : TableValue). cond (is_some (find nat_cmp c.args.key.code c.args.self.now.blocks)) 1 0 + length t.blocks) (returns-clause-removed c)
-    ∙ count_without c.args.self.now.blocks c.args.key.code (sorted_value c.self.inside.places.items c.self.inside.arena.items c.self.inside.spare.items _ _ c.self.invariant c.args.self.now c.self.view_is)
+    ∙ count_without c.args.self.now.blocks c.args.key.code (sorted_value c.self.inside.places.items c.self.inside.arena.items c.self.inside.spare.items _ _ _ c.self.invariant c.args.self.now c.self.view_is)
