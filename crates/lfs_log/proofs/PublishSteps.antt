@@ -16,11 +16,10 @@ use Rattle.lfs_model.specs.Running.{Running}
 use Rattle.lfs_model.specs.Committing.{IsOut, ManyClean, LeadsTo, IsReleased}
 use Rattle.lfs_model.proofs.Decoding.{checkpoint_some}
 use Rattle.lfs_model.proofs.Leaving.{staying}
-use Rattle.lfs_model.proofs.Live.{count_up_none, count_up_more}
 use Rattle.lfs_model.proofs.Moments.{carries_then, started, goes_on, joined}
 use Rattle.lfs_model.proofs.Publishing.{planning, resting}
 use Rattle.lfs_model.proofs.Settled.{settled_stands, settled_still, slot_torn, acknowledged}
-use Rattle.lfs_memory.specs.segments.Table.{SegmentNumbers, BlockPlace, UsageTable, no_segment, no_place, used_of, live_of, held_of, address_of, is_clean_in, clean_in}
+use Rattle.lfs_memory.specs.segments.Table.{SegmentNumbers, BlockPlace, UsageTable, no_segment, no_place, used_of, live_of, held_of, address_of}
 use Rattle.lfs_memory.specs.segments.Steps.{Releases, is_empty}
 use Rattle.lfs_memory.specs.segments.Spare.{spare_in}
 use Rattle.lfs_memory.specs.inodes.Blocks.{Blocks, blocks_in, blocks_of}
@@ -32,25 +31,6 @@ use Rattle.lfs_memory.proofs.Opened.{closed_segment, closed_chunk, as_chunk}
 use Rattle.lfs_log.proofs.UsageWrites.{table_same}
 
 -- ---- counts
-count_monotone : (p q : ℕ → Bool) (n : ℕ) → ((x : ℕ) → p x ≡ true → q x ≡ true) → count_up p n ≤ count_up q n
-count_monotone p q zero so = omega (arith, count_up_none p)
-count_monotone p q (suc n) so =
-    let rest = count_monotone p q n so in
-    let last = one_more (p n) (q n) (so n) in
-    omega (arith, rest, last, count_up_more p n, count_up_more q n)
-  where
-    one_more : (a b : Bool) → (a ≡ true → b ≡ true) → cond {A = ℕ} a 1 0 ≤ cond {A = ℕ} b 1 0
-    one_more true true f = omega arith
-    one_more true false f = let bad : false ≡ true = f refl in absurd (cc)
-    one_more false b f = omega arith
-
-saved_none : (l u : ℕ) → (u == 0) ≡ true → (cond (l == 0) 0 u == 0) ≡ true
-saved_none l u z = eq-eqb (cond (l == 0) 0 u) 0 (either (l == 0) (eqb-true u 0 z))
-  where
-    either : (b : Bool) → u ≡ 0 → cond b 0 u ≡ 0
-    either true e = refl
-    either false e = e
-
 many_clean : (t : UsageTable) (n : ℕ) → length t.segments ≡ n → length t.segments ≤ 8 * spare_in t.segments → n ≤ 8 * count_up (λ s. cond (live_of t s == 0) 0 (used_of t s) == 0) n
 unfolding spare_in
 many_clean t n same many = subst (λ (i : ℕ). i ≤ 8 * count_up (λ s. cond (live_of t s == 0) 0 (used_of t s) == 0) i) same many

@@ -63,7 +63,8 @@ fn write_out<D: SectorDevice>(
     requires memory { IsMemory memory.old }
     requires size { HasRoom (D.state device.old) memory.old }
     requires closed { memory.old.chunk.names ≡ [] }
-    requires clean { segments_for (length memory.old.dirty.blocks) ≤ clean_in memory.old.usage.segments }
+    requires clean { segments_for (length memory.old.dirty.blocks)
+        ≤ clean_in memory.old.usage.segments }
     requires spare { IsSpared memory.old }
     ensures done { OnOk result (Goes (D.state device.old) (D.state device.new)
         memory.old memory.new (length memory.old.dirty.blocks + 48 + 62)) }
@@ -95,7 +96,8 @@ pub fn save<D: SectorDevice>(
     requires size { HasRoom (D.state device.old) memory.old }
     requires number { number < 2 ^ 64 - 1 }
     requires closed { memory.old.chunk.names ≡ [] }
-    requires clean { segments_for (length memory.old.dirty.blocks) ≤ clean_in memory.old.usage.segments }
+    requires clean { segments_for (length memory.old.dirty.blocks)
+        ≤ clean_in memory.old.usage.segments }
     requires spare { IsSpared memory.old }
     ensures done { OnOk result (Commits (D.state device.old) (D.state device.new) memory.old memory.new number) }
     ensures stopped { OnErr result (CommitFails (D.state device.old) (D.state device.new) memory.old number) }
