@@ -65,7 +65,7 @@ bytes_of [] fits = tt
 bytes_of (x ∷ xs) fits = (let first = (fits 0).fits in omega (arith, first), bytes_of xs (λ i. fits (suc i)))
 
 module _ {D : Type 0} (state : D → DeviceState) (lawful : (d : D) → IsLawful (state d)) (old begun : Fs D) (begins : Begins old begun) (store : Store D) (reads : Reads state begun.store.log store.log)
-    (saved : store.saved ≡ begun.store.saved) (totals : store.totals ≡ begun.store.totals) (draft : store.draft ≡ begun.store.draft) (drafted : store.drafted ≡ begun.store.drafted) where
+    (saved : store.saved ≡ begun.store.saved) (totals : store.log.totals ≡ begun.store.log.totals) (draft : store.draft ≡ begun.store.draft) (drafted : store.drafted ≡ begun.store.drafted) where
   -- the call came to the directory of the last piece
   pub reaches : (p : List ℕ) → AreBytes p → (d : ℕ) → d ≡ 1 → (piece : Option Last) → HasLast p piece → WalksTo state begun.store.log store.log begun.store.draft.changes (Parents p) (At d)
       → Reaches state (seen begun) (record { alloc = begun.alloc; store = store; handles = begun.handles }) p d piece

@@ -21,7 +21,7 @@ use Rattle.lfs_store.specs.memory.Changing.{FitsHeader, with_header}
 use Rattle.lfs_store.specs.memory.Present.{as_header}
 use Rattle.lfs_store.specs.log.Held.{Holds, IsVacant}
 use Rattle.lfs_store.specs.declared.draft.Draft.{Draft}
-use Rattle.lfs_store.specs.declared.totals.Totals.{Totals}
+use Rattle.lfs_store.specs.log.verify.declared.totals.BlockTotals.{BlockTotals}
 use Rattle.lfs_store.specs.Drafting.{IsApart}
 use Rattle.lfs_store.specs.Recounting.{AreTotals}
 use Rattle.lfs_model.specs.Totals.{IsCounted}
@@ -175,9 +175,9 @@ module _ {D : Type 0} (state : D → DeviceState) (lawful : (d : D) → IsLawful
       counted_here log after counted =
           let none : (staged mid.store.draft.changes m).header n ≡ None = ap (λ (x : LogMap). x.header n) (same_mid m) ∙ free in
           let log_mid : IsLogMap (staged mid.store.draft.changes m) = subst IsLogMap (sym (same_mid m)) log in
-          let before : AreTotals m old.store.totals = record { stored = reached.still.blocks ∙ counted.stored; above = reached.still.others ∙ counted.above } in
+          let before : AreTotals m old.store.log.totals = record { stored = reached.still.blocks ∙ counted.stored; above = reached.still.others ∙ counted.above } in
           let totals_mid : AreTotals (staged mid.store.draft.changes m) mid.store.drafted =
-          subst (λ (x : LogMap). AreTotals x mid.store.drafted) (sym (same_mid m)) (subst (λ (t : Totals). AreTotals m t) (sym (only.drafted ∙ reached.drafted)) before) in
+          subst (λ (x : LogMap). AreTotals x mid.store.drafted) (sym (same_mid m)) (subst (λ (t : BlockTotals). AreTotals m t) (sym (only.drafted ∙ reached.drafted)) before) in
           is_ready.drafts.recounts k m0 m keeps in_mid (is_ready.drafts.makes.keeps m log_mid none) after (is_ready.drafts.counts m log_mid none totals_mid)
 
       drafted : IsDrafted state v c ready.store.drafted.data_blocks ready.store.drafted.meta_blocks
@@ -222,7 +222,7 @@ module _ {D : Type 0} (state : D → DeviceState) (lawful : (d : D) → IsLawful
   -- it is, and a handle is opened on the file
   module _ (new : Fs D) (rest : new.handles ≡ ready.handles) (stages : Stages state ready new) (table : List ℕ) (opened : n ≢ 0 → handles_of table ≡ put nat_cmp handle n (handles_of new.handles.numbers.items)) where
     abbrev with_table : Mounted D
-    with_table = record { log = new.store.log; saved = new.store.saved; blocks = new.store.totals.data_blocks; others = new.store.totals.meta_blocks; table = table }
+    with_table = record { log = new.store.log; saved = new.store.saved; blocks = new.store.log.totals.data_blocks; others = new.store.log.totals.meta_blocks; table = table }
 
     table_is : handles_of table ≡ put nat_cmp (least_handle (handles_of v.table)) n (handles_of v.table)
     table_is =
@@ -237,7 +237,7 @@ module _ {D : Type 0} (state : D → DeviceState) (lawful : (d : D) → IsLawful
         (makes_behaves state v with_table (Create path) (Handle (least_handle (handles_of v.table))) refl refl refl) (λ kept k m0 m s is. (
         let keeps = stages.accepts.carries.kept_before kept in
         create_serves state v with_table (lawful v.log.device) (lawful new.store.log.device) was accepts.once.number (low_old state lawful v ready new (Create path) (Handle handle) still_ready was rest stages.young) c accepts
-        (subst (λ (t : Totals). IsDrafted state v c t.data_blocks t.meta_blocks) (sym stages.totals) (drafted keeps k m0 m s is)) totals_of_tree
+        (subst (λ (t : BlockTotals). IsDrafted state v c t.data_blocks t.meta_blocks) (sym stages.totals) (drafted keeps k m0 m s is)) totals_of_tree
         path n between head (head.size + 64) head.size slot (drafts_file keeps) reached.bytes
-        (subst (λ (t : Totals). t.data_blocks + 7 * t.meta_blocks + 720 ≤ 47 * segments_of v) (sym stages.totals) (let room = stages.room in subst (λ (x : ℕ). need_of ready ≤ x) limit_same room))
+        (subst (λ (t : BlockTotals). t.data_blocks + 7 * t.meta_blocks + 720 ≤ 47 * segments_of v) (sym stages.totals) (let room = stages.room in subst (λ (x : ℕ). need_of ready ≤ x) limit_same room))
         table_is)))

@@ -56,6 +56,6 @@ module _ {D : Type 0} (state : D → DeviceState) (lawful : (d : D) → IsLawful
 
   -- the file is made
   pub made_ends : (new : Fs D) → MakesFile state mid new d head n last.name.now → (table : List ℕ) → (n ≢ 0 → handles_of table ≡ put nat_cmp handle n (handles_of new.handles.numbers.items))
-      → Serves state v record { log = new.store.log; saved = new.store.saved; blocks = new.store.totals.data_blocks; others = new.store.totals.meta_blocks; table = table } (Create path) (Handle handle)
+      → Serves state v record { log = new.store.log; saved = new.store.saved; blocks = new.store.log.totals.data_blocks; others = new.store.log.totals.meta_blocks; table = table } (Create path) (Handle handle)
   made_ends new makes table opened =
       made_serves state lawful v old mid makes.mid path last in_root running only head takes_root n vacant handle few first (ready_root makes.mid makes.ready) new makes.table makes.stages table opened

@@ -29,7 +29,7 @@ use Rattle.lfs_model.proofs.Trees.{cmp_other}
 use Rattle.lfs_model.proofs.Volume.{node_in}
 use Rattle.lfs_files.specs.declared.header.Header.{Header}
 use Rattle.lfs_store.specs.memory.Present.{as_header}
-use Rattle.lfs_store.specs.declared.totals.Totals.{Totals}
+use Rattle.lfs_store.specs.log.verify.declared.totals.BlockTotals.{BlockTotals}
 use Rattle.lfs_store.proofs.TreeTotals.{totals_of_tree}
 use Rattle.lfs_path.specs.dirs.declared.entry.Entry.{Entry}
 use Rattle.lfs_path.specs.dirs.Directory.{slots_at}
@@ -242,7 +242,7 @@ module _ (m : LogMap) (fits : (n : ℕ) (h : entry.Header) → m.header n ≡ So
     }
 
 -- a root, entries and files that fit, with room for them
-pub flat_found : (N : ℕ) (m : LogMap) (head : Header) (es : List Entry) (totals : Totals) → IsCountedMap m totals → IsRoot m head → AreEntries m head es → FitNumbers m (giving (pairs es)) 2 4096
+pub flat_found : (N : ℕ) (m : LogMap) (head : Header) (es : List Entry) (totals : BlockTotals) → IsCountedMap m totals → IsRoot m head → AreEntries m head es → FitNumbers m (giving (pairs es)) 2 4096
     → totals.data_blocks + 7 * totals.meta_blocks + 720 ≤ 47 * N → IsFlat N m
 flat_found N m head es totals is root_is entries all room =
     let shaped = shaped_found m is.fits head root_is es entries.list all entries.apart entries.unnamed is.map is.long in
@@ -332,7 +332,7 @@ module _ (N : ℕ) (m : LogMap) (flat : IsFlat N m) where
               )
 
   -- there is room for what is counted
-  pub flat_room : (totals : Totals) → IsCountedMap m totals → totals.data_blocks + 7 * totals.meta_blocks + 720 ≤ 47 * N
+  pub flat_room : (totals : BlockTotals) → IsCountedMap m totals → totals.data_blocks + 7 * totals.meta_blocks + 720 ≤ 47 * N
   flat_room totals is =
       let shaped : IsShaped m = record {
         map = is.map;

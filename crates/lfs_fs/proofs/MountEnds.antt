@@ -14,7 +14,7 @@ use Rattle.lfs_store.specs.memory.Batch.{IsNoChange, staged}
 use Rattle.lfs_store.specs.log.verify.declared.fault.MountFault.{MountFault}
 use Rattle.lfs_store.specs.log.verify.declared.fault.MountFault.TheVariants as fault
 use Rattle.lfs_store.specs.log.Held.{Held, Holds, IsReadFault, Reads}
-use Rattle.lfs_store.specs.declared.totals.Totals.{Totals}
+use Rattle.lfs_store.specs.log.verify.declared.totals.BlockTotals.{BlockTotals}
 use Rattle.lfs_store.specs.Accepting.{IsMountRefusal, MountsStore}
 use Rattle.lfs_store.specs.Recounting.{MountsTotals}
 use Rattle.lfs_store.proofs.Apart.{no_change}
@@ -25,7 +25,7 @@ use Rattle.lfs_fs.specs.Handles.{handles_of}
 use Rattle.lfs_fs.specs.Mounting.{FindsState, few_clean, no_tree, stage, IsDamageOf, IsLogFault, IsMountFault, IsRefused, IsRefusedTree, MountsAt, MountsFs, StandsWhereLog}
 use Rattle.lfs_fs.specs.Seen.{seen}
 use Rattle.lfs_fs.specs.Volume.{IsPlain}
-use Rattle.lfs_verify.specs.Verified.{HasLogMap, IsLogDamage, IsRefusedLog, lacks_clean, stage_fails}
+use Rattle.lfs_store.specs.log.verify.Verified.{HasLogMap, IsLogDamage, IsRefusedLog, lacks_clean, stage_fails}
 use Rattle.lfs_fs.proofs.Found.{found_at, found_running}
 use Rattle.lfs_fs.proofs.Serving.{point_of}
 
@@ -45,7 +45,7 @@ module _ {D : Type 0} (state : D → DeviceState) (lawful : (d : D) → IsLawful
     held_at : (m : LogMap) → (state h'.device).keeps_model → (is : StandsLog (state d).content m) → Holds state h is.checkpoint m m
     held_at m keeps is = (mounts m (reads.looks.carries.kept_before keeps) is).holds
 
-    module _ (c : Changes) (none : IsNoChange c) (totals : Totals) (counts : MountsTotals state d h totals) where
+    module _ (c : Changes) (none : IsNoChange c) (totals : BlockTotals) (counts : MountsTotals state d h totals) where
       module _ (m : LogMap) (keeps : (state h'.device).keeps_model) (is : StandsLog (state d).content m) where
         -- the log map can be laid out, and is counted
         counted_map : IsCountedMap (staged c m) totals
@@ -128,12 +128,12 @@ module _ {D : Type 0} (state : D → DeviceState) (lawful : (d : D) → IsLawful
   durable_after durable keeps = only_after (durable (reads.looks.carries.kept_before keeps))
 
   -- the volume is in the state that the content stands for
-  module _ (v : Fs D) (same : v.store.log ≡ h') (mounts : MountsStore state d h v.store.saved) (saved : v.store.saved ≡ true) (c : Changes) (none : IsNoChange c) (totals : MountsTotals state d h v.store.totals)
-      (closed : handles_of v.handles.numbers.items ≡ []) (durable : (state h.device).keeps_model → Only (state d).content (state h.device)) (finds : FindsTree state h h' c v.store.totals) where
+  module _ (v : Fs D) (same : v.store.log ≡ h') (mounts : MountsStore state d h v.store.saved) (saved : v.store.saved ≡ true) (c : Changes) (none : IsNoChange c) (totals : MountsTotals state d h v.store.log.totals)
+      (closed : handles_of v.handles.numbers.items ≡ []) (durable : (state h.device).keeps_model → Only (state d).content (state h.device)) (finds : FindsTree state h h' c v.store.log.totals) where
     pub mounts_fs : MountsFs state d v
     mounts_fs s =
         subst (λ (x : Held D). (state x.device).keeps_model → Stands (state d).content s → MountsAt state v s) (sym same) (λ keeps is.
-        let plain = plain_of v.store.saved mounts c none v.store.totals totals finds s keeps is in
+        let plain = plain_of v.store.saved mounts c none v.store.log.totals totals finds s keeps is in
         let after = subst (λ (x : Held D). MountsStore state d x v.store.saved) (sym same) (mounts_after v.store.saved mounts) in
         let kept = subst (λ (x : Held D). (state x.device).keeps_model) (sym same) keeps in
         record {
@@ -149,7 +149,7 @@ module _ {D : Type 0} (state : D → DeviceState) (lawful : (d : D) → IsLawful
     -- and it stands for one, where it stands for a log map
     pub stands_where_log : StandsWhereLog state d v
     stands_where_log m keeps is =
-        let found = state_found v.store.saved mounts c none v.store.totals totals finds m (subst (λ (x : Held D). (state x.device).keeps_model) same keeps) is in
+        let found = state_found v.store.saved mounts c none v.store.log.totals totals finds m (subst (λ (x : Held D). (state x.device).keeps_model) same keeps) is in
         (found.0, found.1, mounts_fs found.0 keeps found.1)
 
 -- why the store isn't opened

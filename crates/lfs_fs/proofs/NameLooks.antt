@@ -1,5 +1,5 @@
 -- A name looked up in a directory, and the rule of a new entry.
-use Rattle.std.proofs.Common.{◌≡◌, ℕ, Bool, true, false, List, Option, Some, None, Result, Ok, Err, refl, sym, ◌∙◌, ap, subst, inl, inr, ⊎_elim, arith}
+use Rattle.std.proofs.Common.{◌≡◌, ℕ, Bool, true, false, List, Option, Some, None, Result, Ok, Err, refl, sym, ◌∙◌, ap, ap₂, subst, inl, inr, ⊎_elim, arith}
 use Rattle.std.specs.Prelude.{IfErr, is_some}
 use Rattle.lfs_model.specs.Device.{DeviceState}
 use Rattle.lfs_files.specs.declared.fault.LogFault.{LogFault}
@@ -10,7 +10,7 @@ use Rattle.lfs_store.specs.declared.draft.Draft.{Draft}
 use Rattle.lfs_files.specs.declared.fault.StoreFault.{StoreFault}
 use Rattle.lfs_files.specs.declared.fault.StoreFault.TheVariants as store
 use Rattle.lfs_store.specs.declared.store.Store.{Store}
-use Rattle.lfs_store.specs.declared.totals.Totals.{Totals}
+use Rattle.lfs_store.specs.log.verify.declared.totals.BlockTotals.{BlockTotals}
 use Rattle.lfs_store.proofs.LogReads.{held_still, reads_none}
 use Rattle.lfs_fs.specs.Drafted.{Finds, IsDirectoryFault}
 use Rattle.lfs_fs.specs.declared.error.FsError.{FsError}
@@ -92,8 +92,6 @@ module _ {D : Type 0} (state : D → DeviceState) where
   )
 
   -- a volume with a store of the same log and totals
-  pub seen_same : (f : Fs D) (store : Store D) → store.log ≡ f.store.log → store.saved ≡ f.store.saved → store.totals ≡ f.store.totals → seen (record { alloc = f.alloc; store = store; handles = f.handles }) ≡ seen f
-  seen_same f store log saved totals =
-      ap (λ (l : Held D). record { log = l; saved = store.saved; blocks = store.totals.data_blocks; others = store.totals.meta_blocks; table = f.handles.numbers.items }) log
-      ∙ ap (λ (b : Bool). record { log = f.store.log; saved = b; blocks = store.totals.data_blocks; others = store.totals.meta_blocks; table = f.handles.numbers.items }) saved
-      ∙ ap (λ (t : Totals). record { log = f.store.log; saved = f.store.saved; blocks = t.data_blocks; others = t.meta_blocks; table = f.handles.numbers.items }) totals
+  pub seen_same : (f : Fs D) (store : Store D) → store.log ≡ f.store.log → store.saved ≡ f.store.saved → seen (record { alloc = f.alloc; store = store; handles = f.handles }) ≡ seen f
+  seen_same f store log saved =
+      ap₂ (λ (l : Held D) (b : Bool). record { log = l; saved = b; blocks = l.totals.data_blocks; others = l.totals.meta_blocks; table = f.handles.numbers.items }) log saved

@@ -19,7 +19,7 @@ use Rattle.lfs_files.specs.declared.fault.LogFault.TheVariants as log
 use Rattle.lfs_store.specs.memory.Batch.{IsNoChange, staged}
 use Rattle.lfs_store.specs.log.Held.{Reads}
 use Rattle.lfs_store.specs.declared.store.Store.{Store}
-use Rattle.lfs_store.specs.declared.totals.Totals.{Totals}
+use Rattle.lfs_store.specs.log.verify.declared.totals.BlockTotals.{BlockTotals}
 use Rattle.lfs_store.proofs.Apart.{draft_empty}
 use Rattle.lfs_path.specs.declared.fault.PathFault.{PathFault}
 use Rattle.lfs_path.specs.declared.fault.PathFault.TheVariants as path
@@ -143,13 +143,13 @@ module _ {D : Type 0} (state : D → DeviceState) (lawful : (d : D) → IsLawful
       subst (λ (f : Fs D). Serves state (seen old) (seen f) call (Refuse (refusal_of fault))) (sym same)
       (subst (λ (e : FsError). Serves state (seen old) (seen old) call (Refuse (refusal_of e))) (sym is) (served_halted state (seen old) call (lawful old.store.log.device) halted))
 
-  module _ (old begun : Fs D) (begins : Begins old begun) (store : Store D) (reads : Reads state begun.store.log store.log) (saved : store.saved ≡ begun.store.saved) (totals : store.totals ≡ begun.store.totals) where
+  module _ (old begun : Fs D) (begins : Begins old begun) (store : Store D) (reads : Reads state begun.store.log store.log) (saved : store.saved ≡ begun.store.saved) (totals : store.log.totals ≡ begun.store.log.totals) where
     -- a volume whose store was read
     abbrev pub read : Fs D
     read = record { alloc = begun.alloc; store = store; handles = begun.handles }
 
     pub still_read : IsStill state (seen begun) (seen read)
-    still_read = record { reads = reads; saved = saved; blocks = ap (λ (t : Totals). t.data_blocks) totals; others = ap (λ (t : Totals). t.meta_blocks) totals; table = refl }
+    still_read = record { reads = reads; saved = saved; blocks = ap (λ (t : BlockTotals). t.data_blocks) totals; others = ap (λ (t : BlockTotals). t.meta_blocks) totals; table = refl }
 
     pub was_running : begun.store.log.halted ≡ false
     was_running = ap (λ (v : Mounted D). v.log.halted) begins.same ∙ begins.running
@@ -175,8 +175,8 @@ module _ {D : Type 0} (state : D → DeviceState) (lawful : (d : D) → IsLawful
       opened : (new : Fs D) (h : ℕ) → OpensNumber read new n h → Serves state (seen begun) (seen new) (Open p) (Handle h)
       opened new h opens =
           let numbers : List ℕ = new.handles.numbers.items in
-          subst (λ (s : Store D). Serves state (seen begun) (record { log = s.log; saved = s.saved; blocks = s.totals.data_blocks; others = s.totals.meta_blocks; table = numbers }) (Open p) (Handle h)) (sym opens.store)
-          (open_gives state lawful (seen begun) (record { log = store.log; saved = store.saved; blocks = store.totals.data_blocks; others = store.totals.meta_blocks; table = numbers }) reads saved still_read.blocks still_read.others was_running
+          subst (λ (s : Store D). Serves state (seen begun) (record { log = s.log; saved = s.saved; blocks = s.log.totals.data_blocks; others = s.log.totals.meta_blocks; table = numbers }) (Open p) (Handle h)) (sym opens.store)
+          (open_gives state lawful (seen begun) (record { log = store.log; saved = store.saved; blocks = store.log.totals.data_blocks; others = store.log.totals.meta_blocks; table = numbers }) reads saved still_read.blocks still_read.others was_running
           p n resolved opens.other h opens.few opens.first opens.opened)
 
       not_opened : (new : Fs D) (fault : FsError) → OpensNone read new n fault → Serves state (seen begun) (seen new) (Open p) (Refuse (refusal_of fault))

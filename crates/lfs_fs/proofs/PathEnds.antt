@@ -55,7 +55,7 @@ module _ {D : Type 0} (state : D → DeviceState) where
   -- ---- one read after another
 
   -- a layer below only reads
-  pub store_reads : (old new : Fs D) → Reads state old.store.log new.store.log → new.store.draft ≡ old.store.draft → new.store.saved ≡ old.store.saved → new.store.totals ≡ old.store.totals
+  pub store_reads : (old new : Fs D) → Reads state old.store.log new.store.log → new.store.draft ≡ old.store.draft → new.store.saved ≡ old.store.saved → new.store.log.totals ≡ old.store.log.totals
       → new.store.drafted ≡ old.store.drafted → new.handles ≡ old.handles → OnlyReads state old new
   store_reads old new reads draft saved totals drafted handles = record {
     still = record { reads = reads; saved = saved; blocks = ap (λ t. t.data_blocks) totals; others = ap (λ t. t.meta_blocks) totals; table = ap (λ h. h.numbers.items) handles };

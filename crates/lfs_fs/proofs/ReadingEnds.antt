@@ -72,19 +72,19 @@ module _ {D : Type 0} (state : D → DeviceState) where
       (subst (λ (a : Answer). Serves state (seen mid) (seen mid) Space a) (λ i. Room (stored_is i) (above_is i) (need_is i) (sym limit i))
       (space_serves state (seen mid) (seen mid) lawful (still_none (seen mid)) (begun_running old mid begun) totals_of_tree))
     where
-      blocks : mid.store.drafted.data_blocks ≡ mid.store.totals.data_blocks
+      blocks : mid.store.drafted.data_blocks ≡ mid.store.log.totals.data_blocks
       blocks = ap (λ t. t.data_blocks) begun.drafted
 
-      others : mid.store.drafted.meta_blocks ≡ mid.store.totals.meta_blocks
+      others : mid.store.drafted.meta_blocks ≡ mid.store.log.totals.meta_blocks
       others = ap (λ t. t.meta_blocks) begun.drafted
 
-      stored_is : mid.store.totals.data_blocks ≡ r.data_blocks
+      stored_is : mid.store.log.totals.data_blocks ≡ r.data_blocks
       stored_is = sym (stored ∙ blocks)
 
-      above_is : mid.store.totals.meta_blocks ≡ r.meta_blocks
+      above_is : mid.store.log.totals.meta_blocks ≡ r.meta_blocks
       above_is = sym (above ∙ others)
 
-      need_is : mid.store.totals.data_blocks + 7 * mid.store.totals.meta_blocks + 720 ≡ r.need
+      need_is : mid.store.log.totals.data_blocks + 7 * mid.store.log.totals.meta_blocks + 720 ≡ r.need
       need_is = omega (arith, need, blocks, others)
 
   -- ---- bytes of an object

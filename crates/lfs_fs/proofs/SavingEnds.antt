@@ -6,7 +6,7 @@ use Rattle.lfs_files.specs.declared.fault.LogFault.{LogFault}
 use Rattle.lfs_files.specs.declared.fault.LogFault.TheVariants as log
 use Rattle.lfs_store.specs.log.Held.{Halts, IsFull}
 use Rattle.lfs_store.specs.declared.store.Store.{Store}
-use Rattle.lfs_store.specs.declared.totals.Totals.{Totals}
+use Rattle.lfs_store.specs.log.verify.declared.totals.BlockTotals.{BlockTotals}
 use Rattle.lfs_store.specs.Accepting.{Commits}
 use Rattle.lfs_fs.specs.declared.error.FsError.{FsError}
 use Rattle.lfs_fs.specs.declared.fs.Fs.{Fs}
@@ -21,13 +21,13 @@ use Rattle.lfs_fs.proofs.WritingEnds.{halts_serves}
 pub not_halted : {D : Type 0} (f : Fs D) → f.store.log.halted ≡ false → f.store.log.halted ≡ true → ⊥
 not_halted f was halted = cc
 
-module _ {D : Type 0} (state : D → DeviceState) (lawful : (d : D) → IsLawful (state d)) (old : Fs D) (store : Store D) (was : old.store.log.halted ≡ false) (totals : store.totals ≡ old.store.totals) where
+module _ {D : Type 0} (state : D → DeviceState) (lawful : (d : D) → IsLawful (state d)) (old : Fs D) (store : Store D) (was : old.store.log.halted ≡ false) (totals : store.log.totals ≡ old.store.log.totals) where
   abbrev new : Fs D
   new = record { alloc = old.alloc; store = store; handles = old.handles }
 
   pub sync_done_serves : Commits state old.store.log old.store.saved store.log → store.saved ≡ true → Serves state (seen old) (seen new) Sync Done
   sync_done_serves done saved = sync_serves state (seen old) (seen new) (lawful old.store.log.device) (lawful store.log.device)
-      (record { blocks = ap (λ (t : Totals). t.data_blocks) totals; others = ap (λ (t : Totals). t.meta_blocks) totals; table = refl }) done saved
+      (record { blocks = ap (λ (t : BlockTotals). t.data_blocks) totals; others = ap (λ (t : BlockTotals). t.meta_blocks) totals; table = refl }) done saved
 
   module _ (kept : store.saved ≡ old.store.saved) where
     same_seen : store.log ≡ old.store.log → seen new ≡ seen old

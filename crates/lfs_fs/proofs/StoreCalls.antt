@@ -13,7 +13,7 @@ use Rattle.lfs_files.specs.Files as files
 use Rattle.lfs_files.specs.Files.{Counted, WritesFile}
 use Rattle.lfs_files.specs.Headers.{as_header}
 use Rattle.lfs_store.specs.declared.store.Store.{Store}
-use Rattle.lfs_store.specs.declared.totals.Totals.{Totals}
+use Rattle.lfs_store.specs.log.verify.declared.totals.BlockTotals.{BlockTotals}
 use Rattle.lfs_store.specs.log.Held.{Held, IsReadFault, Reads}
 use Rattle.lfs_store.specs.memory.Batch.{staged}
 use Rattle.lfs_store.specs.Recounting.{Counts}
@@ -31,7 +31,7 @@ use Rattle.lfs_fs.specs.Volume.{IsStill}
 use Rattle.lfs_fs.specs.Drafted.{Adds, EachDrafted, EndsRefused, IsPathFault, WalksTo, files_of}
 
 -- two numbers as totals
-abbrev totals_of : Counted → Totals
+abbrev totals_of : Counted → BlockTotals
 totals_of t = record { data_blocks = t.data_blocks; meta_blocks = t.meta_blocks }
 
 module _ {D : Type 0} (state : D → DeviceState) (a b : Store D) where
@@ -45,9 +45,15 @@ module _ {D : Type 0} (state : D → DeviceState) (a b : Store D) where
   -- ---- calls that only read
   module _ (reads : files.Reads (files_of state a) (files_of state b)) where
     pub log_reads : Reads state a.log b.log
-    log_reads = record { looks = reads.looks; memory = ap (λ (s : StagedLog). s.memory) reads.staged; number = ap (λ (s : StagedLog). s.number) reads.staged; halted = reads.halted }
+    log_reads = record {
+      looks = reads.looks;
+      memory = ap (λ (s : StagedLog). s.memory) reads.staged;
+      number = ap (λ (s : StagedLog). s.number) reads.staged;
+      halted = reads.halted;
+      totals = ap totals_of reads.totals;
+    }
 
-    pub same_totals : b.totals ≡ a.totals
+    pub same_totals : b.log.totals ≡ a.log.totals
     same_totals = ap totals_of reads.totals
 
     pub same_drafted : b.drafted ≡ a.drafted
@@ -65,10 +71,13 @@ module _ {D : Type 0} (state : D → DeviceState) (a b : Store D) where
   -- ---- calls that change the draft
   module _ (redrafts : files.Redrafts (files_of state a) (files_of state b)) where
     pub log_redrafts : Reads state a.log b.log
-    log_redrafts = record { looks = redrafts.looks; memory = ap (λ (s : StagedLog). s.memory) redrafts.staged; number = ap (λ (s : StagedLog). s.number) redrafts.staged; halted = redrafts.halted }
-
-    pub totals_stay : b.totals ≡ a.totals
-    totals_stay = ap totals_of redrafts.totals
+    log_redrafts = record {
+      looks = redrafts.looks;
+      memory = ap (λ (s : StagedLog). s.memory) redrafts.staged;
+      number = ap (λ (s : StagedLog). s.number) redrafts.staged;
+      halted = redrafts.halted;
+      totals = ap totals_of redrafts.totals;
+    }
 
     pub log_counts : files.Counts (files_of state a) (files_of state b) → Counts state a.log b.log a.draft.changes b.draft.changes a.drafted b.drafted
     log_counts counts k m0 m keeps holds =
@@ -94,12 +103,12 @@ module _ {D : Type 0} (state : D → DeviceState) (a b : Store D) where
   }
 
 -- a volume whose store was changed no more than its draft, from where it has the same log and totals
-pub still_drafted : {D : Type 0} (state : D → DeviceState) (old : Fs D) (a b : Store D) → a.log ≡ old.store.log → a.saved ≡ old.store.saved → a.totals ≡ old.store.totals
+pub still_drafted : {D : Type 0} (state : D → DeviceState) (old : Fs D) (a b : Store D) → a.log ≡ old.store.log → a.saved ≡ old.store.saved
     → files.Redrafts (files_of state a) (files_of state b) → IsStill state (seen old) (seen record { alloc = old.alloc; store = b; handles = old.handles })
-still_drafted {D} state old a b log saved totals redrafts = record {
+still_drafted {D} state old a b log saved redrafts = record {
   reads = subst (λ (h : Held D). Reads state h b.log) log (log_redrafts state a b redrafts);
   saved = redrafts.saved ∙ saved;
-  blocks = ap (λ (t : Totals). t.data_blocks) (totals_stay state a b redrafts ∙ totals);
-  others = ap (λ (t : Totals). t.meta_blocks) (totals_stay state a b redrafts ∙ totals);
+  blocks = ap (λ (t : BlockTotals). t.data_blocks) (ap totals_of redrafts.totals ∙ ap (λ (h : Held D). h.totals) log);
+  others = ap (λ (t : BlockTotals). t.meta_blocks) (ap totals_of redrafts.totals ∙ ap (λ (h : Held D). h.totals) log);
   table = refl;
 }

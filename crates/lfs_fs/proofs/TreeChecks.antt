@@ -22,7 +22,7 @@ use Rattle.lfs_store.specs.memory.Present.{HeaderAnswer, as_header}
 use Rattle.lfs_store.specs.log.verify.declared.fault.MountFault.{MountFault}
 use Rattle.lfs_store.specs.log.verify.declared.fault.MountFault.TheVariants as fault
 use Rattle.lfs_store.specs.log.Held.{Held, Holds, IsReadFault, Reads}
-use Rattle.lfs_store.specs.declared.totals.Totals.{Totals}
+use Rattle.lfs_store.specs.log.verify.declared.totals.BlockTotals.{BlockTotals}
 use Rattle.lfs_store.specs.Reading.{ReadsHeader}
 use Rattle.lfs_store.proofs.LogReads.{fault_more, held_still, reads_more, reads_none}
 use Rattle.lfs_path.specs.dirs.declared.entry.Entry.{Entry}
@@ -182,10 +182,10 @@ module _ {D : Type 0} (state : D → DeviceState) where
 
   -- ---- the tree
 
-  pub root_lacks : (h h' : Held D) (c : Changes) (totals : Totals) → LacksRoot state h h' c → LacksTree state h h' c totals
+  pub root_lacks : (h h' : Held D) (c : Changes) (totals : BlockTotals) → LacksRoot state h h' c → LacksTree state h h' c totals
   root_lacks h h' c totals lacks k m0 m keeps holds counted flat = lacks k m0 m keeps holds flat
 
-  module _ (a b d : Held D) (c : Changes) (totals : Totals) (head : Header) (first : Reads state a b) (root : FindsRoot state a b c head) (second : Reads state b d) where
+  module _ (a b d : Held D) (c : Changes) (totals : BlockTotals) (head : Header) (first : Reads state a b) (root : FindsRoot state a b c head) (second : Reads state b d) where
     pub entries_lack : LacksEntries state b d c head → LacksTree state a d c totals
     entries_lack lacks k m0 m keeps holds counted flat =
         let found = root k m0 m (second.looks.carries.kept_before keeps) holds in

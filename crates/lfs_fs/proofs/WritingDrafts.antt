@@ -21,7 +21,7 @@ use Rattle.lfs_store.specs.memory.declared.memory.LogMemory.{LogMemory}
 use Rattle.lfs_store.specs.memory.Batch.{staged, FitsBatch, IsNoChange}
 use Rattle.lfs_store.specs.memory.Present.{as_header}
 use Rattle.lfs_store.specs.declared.draft.Draft.{Draft}
-use Rattle.lfs_store.specs.declared.totals.Totals.{Totals}
+use Rattle.lfs_store.specs.log.verify.declared.totals.BlockTotals.{BlockTotals}
 use Rattle.lfs_store.specs.Drafting.{IsApart}
 use Rattle.lfs_store.specs.Recounting.{AreTotals, Counts}
 use Rattle.lfs_model.specs.Totals.{IsCounted}
@@ -45,7 +45,7 @@ use Rattle.lfs_fs.proofs.Shortened.{shortened_log, shortened_room, shortened_sha
 use Rattle.lfs_fs.proofs.WritingEnds.{accepts_old, ends_by, low_old, opened_in, still_more, table_same}
 
 module _ {D : Type 0} (state : D → DeviceState) (lawful : (d : D) → IsLawful (state d)) (old mid ready : Fs D) (h n : ℕ) (opens : find nat_cmp h (handles_of old.handles.numbers.items) ≡ Some n)
-    (was : old.store.log.halted ≡ false) (empty : IsNoChange old.store.draft.changes) (even : old.store.drafted ≡ old.store.totals)
+    (was : old.store.log.halted ≡ false) (empty : IsNoChange old.store.draft.changes) (even : old.store.drafted ≡ old.store.log.totals)
     (only : OnlyReads state old mid) (head : Header) (has : HasHeader state old mid n head) (drafts : IsStill state (seen mid) (seen ready)) where
   abbrev c : Changes
   c = ready.store.draft.changes
@@ -59,7 +59,7 @@ module _ {D : Type 0} (state : D → DeviceState) (lawful : (d : D) → IsLawful
   same_map : (m : LogMap) → staged mid.store.draft.changes m ≡ m
   same_map m = (draft_empty mid.store.draft.changes m none_drafted).0
 
-  same_totals : old.store.totals ≡ mid.store.drafted
+  same_totals : old.store.log.totals ≡ mid.store.drafted
   same_totals = sym even ∙ sym only.drafted
 
   -- ---- where the device keeps the model to the end, and the volume is in a state
@@ -87,10 +87,10 @@ module _ {D : Type 0} (state : D → DeviceState) (lawful : (d : D) → IsLawful
 
     -- the totals with the draft are those of its log map
     counts_each : Counts state mid.store.log ready.store.log mid.store.draft.changes c mid.store.drafted ready.store.drafted
-        → OfEach state (seen old) (λ m. IsLogMap m → IsLogMap (staged c m) → IsCounted m old.store.totals.data_blocks old.store.totals.meta_blocks → IsCounted (staged c m) ready.store.drafted.data_blocks ready.store.drafted.meta_blocks)
+        → OfEach state (seen old) (λ m. IsLogMap m → IsLogMap (staged c m) → IsCounted m old.store.log.totals.data_blocks old.store.log.totals.meta_blocks → IsCounted (staged c m) ready.store.drafted.data_blocks ready.store.drafted.meta_blocks)
     counts_each counts k m0 m before holds map log counted =
         counts k m0 m keeps (held_still state old.store.log mid.store.log k m0 m only.still.reads holds) (subst IsLogMap (sym (same_map m)) map) log
-        (subst (λ (x : LogMap). AreTotals x mid.store.drafted) (sym (same_map m)) (subst (λ (t : Totals). AreTotals m t) same_totals counted))
+        (subst (λ (x : LogMap). AreTotals x mid.store.drafted) (sym (same_map m)) (subst (λ (t : BlockTotals). AreTotals m t) same_totals counted))
 
     -- ---- a write
     module _ (at : ℕ) (w : List ℕ) (end : at + length w ≤ 8511488) (writes : Writes state mid.store.log ready.store.log mid.store.draft.changes c n head at w)
@@ -162,9 +162,9 @@ module _ {D : Type 0} (state : D → DeviceState) (lawful : (d : D) → IsLawful
         (λ stages keeps k m0 m s is. (
         let accepts = accepts_old state lawful (seen old) ready new (Pwrite h at w) (Count (length w)) still was rest stages in
         pwrite_serves state (seen old) (seen new) (lawful old.store.log.device) (lawful new.store.log.device) was accepts.once.number (low_old state lawful (seen old) ready new (Pwrite h at w) (Count (length w)) still was rest stages.young) c accepts
-        (subst (λ (t : Totals). IsDrafted state (seen old) c t.data_blocks t.meta_blocks) (sym stages.totals) (write_drafted keeps k m0 m s is at w end writes counts))
+        (subst (λ (t : BlockTotals). IsDrafted state (seen old) c t.data_blocks t.meta_blocks) (sym stages.totals) (write_drafted keeps k m0 m s is at w end writes counts))
         h n opens head (header_each keeps k m0 m s is) totals_of_tree at w (writes_each keeps k m0 m s is at w end writes counts) some few end bytes
-        (subst (λ (t : Totals). t.data_blocks + 7 * t.meta_blocks + 720 ≤ 47 * segments_of (seen old)) (sym stages.totals) (let room = stages.room in subst (λ (x : ℕ). need_of ready ≤ x) limit_same room))
+        (subst (λ (t : BlockTotals). t.data_blocks + 7 * t.meta_blocks + 720 ≤ 47 * segments_of (seen old)) (sym stages.totals) (let room = stages.room in subst (λ (x : ℕ). need_of ready ≤ x) limit_same room))
         (table_same state lawful (seen old) ready new (Pwrite h at w) (Count (length w)) still was rest)))
         (λ same lacks keeps k m0 m s is.
         pwrite_lacks state (seen old) (seen new) (lawful old.store.log.device) same was c ready.store.drafted.data_blocks ready.store.drafted.meta_blocks (write_drafted keeps k m0 m s is at w end writes counts) totals_of_tree
@@ -181,7 +181,7 @@ module _ {D : Type 0} (state : D → DeviceState) (lawful : (d : D) → IsLawful
         (λ stages keeps k m0 m s is. (
         let accepts = accepts_old state lawful (seen old) ready new (Truncate h len) Done still was rest stages in
         truncate_serves state (seen old) (seen new) (lawful old.store.log.device) (lawful new.store.log.device) was accepts.once.number (low_old state lawful (seen old) ready new (Truncate h len) Done still was rest stages.young) c accepts
-        (subst (λ (t : Totals). IsDrafted state (seen old) c t.data_blocks t.meta_blocks) (sym stages.totals) (cut_drafted keeps k m0 m s is len end sets counts))
+        (subst (λ (t : BlockTotals). IsDrafted state (seen old) c t.data_blocks t.meta_blocks) (sym stages.totals) (cut_drafted keeps k m0 m s is len end sets counts))
         h n opens head (header_each keeps k m0 m s is) len (sizes_each keeps k m0 m s is len end sets counts) end
         (table_same state lawful (seen old) ready new (Truncate h len) Done still was rest)))
         (λ same lacks keeps k m0 m s is. absurd (

@@ -22,7 +22,7 @@ use Rattle.lfs_store.specs.log.Held.{Halts, Held, Holds, IsFull, IsReadFault, Re
 use Rattle.lfs_files.specs.declared.fault.StoreFault.{StoreFault}
 use Rattle.lfs_files.specs.declared.fault.StoreFault.TheVariants as store
 use Rattle.lfs_store.specs.declared.store.Store.{Store}
-use Rattle.lfs_store.specs.declared.totals.Totals.{Totals}
+use Rattle.lfs_store.specs.log.verify.declared.totals.BlockTotals.{BlockTotals}
 use Rattle.lfs_store.specs.Accepting.{Accepts, Declines, HasClean, IsAcceptFault, LeavesEither, SavesOnce, Stores}
 use Rattle.lfs_store.proofs.Apart.{draft_empty}
 use Rattle.lfs_store.proofs.LogReads.{fault_more, held_still, reads_more, reads_none}
@@ -45,7 +45,7 @@ use Rattle.lfs_fs.proofs.Serving.{halts_at, map_dropped, served_still}
 use Rattle.lfs_fs.proofs.Told.{fault_serves, memory_serves}
 
 -- why a draft isn't staged, by the fault of the store
-pub turned_down : {D : Type 0} (state : D → DeviceState) (old new : Fs D) (fault : StoreFault) (e : FsError) → e ≡ error_of_store fault → old.store.log.halted ≡ false → old.store.log.number < 2 ^ 62 → new.store.totals ≡ old.store.totals
+pub turned_down : {D : Type 0} (state : D → DeviceState) (old new : Fs D) (fault : StoreFault) (e : FsError) → e ≡ error_of_store fault → old.store.log.halted ≡ false → old.store.log.number < 2 ^ 62 → new.store.log.totals ≡ old.store.log.totals
     → (fault ≡ store.Log log.Full → Declines state old.store.log old.store.saved new.store.log new.store.saved old.store.draft.changes)
     → (fault ≡ store.Log log.Full → IsFull new.store.log)
     → (fault ≡ store.NoMemory → Declines state old.store.log old.store.saved new.store.log new.store.saved old.store.draft.changes)
@@ -198,13 +198,13 @@ module _ {D : Type 0} (state : D → DeviceState) (lawful : (d : D) → IsLawful
 
   -- and the draft is given up
   module _ (old mid : Fs D) (tried gone : Store D) (call : Call) (was : old.store.log.halted ≡ false) (still : IsStill state (seen old) (seen mid)) (reads : Reads state mid.store.log tried.log)
-      (saved : tried.saved ≡ mid.store.saved) (totals : tried.totals ≡ mid.store.totals) (same_log : gone.log ≡ tried.log) (same_saved : gone.saved ≡ tried.saved) (same_totals : gone.totals ≡ tried.totals) where
+      (saved : tried.saved ≡ mid.store.saved) (same_log : gone.log ≡ tried.log) (same_saved : gone.saved ≡ tried.saved) where
     still_gone : IsStill state (seen mid) (seen record { alloc = mid.alloc; store = gone; handles = mid.handles })
     still_gone = record {
       reads = subst (λ (x : Held D). Reads state mid.store.log x) (sym same_log) reads;
       saved = same_saved ∙ saved;
-      blocks = ap (λ (t : Totals). t.data_blocks) (same_totals ∙ totals);
-      others = ap (λ (t : Totals). t.meta_blocks) (same_totals ∙ totals);
+      blocks = ap (λ (t : BlockTotals). t.data_blocks) (ap (λ (h : Held D). h.totals) same_log ∙ reads.totals);
+      others = ap (λ (t : BlockTotals). t.meta_blocks) (ap (λ (h : Held D). h.totals) same_log ∙ reads.totals);
       table = refl;
     }
 
@@ -265,8 +265,8 @@ module _ {D : Type 0} (state : D → DeviceState) (lawful : (d : D) → IsLawful
 
     rest_old : IsDeclined state ready new → IsRest state v (seen new)
     rest_old done = record {
-      blocks = ap (λ (t : Totals). t.data_blocks) done.totals ∙ still.blocks;
-      others = ap (λ (t : Totals). t.meta_blocks) done.totals ∙ still.others;
+      blocks = ap (λ (t : BlockTotals). t.data_blocks) done.totals ∙ still.blocks;
+      others = ap (λ (t : BlockTotals). t.meta_blocks) done.totals ∙ still.others;
       table = table_same;
     }
 

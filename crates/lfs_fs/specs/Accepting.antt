@@ -19,14 +19,14 @@ module _ {D : Type 0} (state : D → DeviceState) where
   -- The draft is staged, and the totals are those with it.
   pub record Stages (old new : Fs D) : Type 0 where
     pub accepts : Accepts state old.store.log old.store.saved new.store.log new.store.saved old.store.draft.changes
-    pub totals : new.store.totals ≡ old.store.drafted
+    pub totals : new.store.log.totals ≡ old.store.drafted
     pub young : old.store.log.number < 2 ^ 62
     pub room : need_of old ≤ limit_of old
 
   -- It isn't, after room was to be made for it.
   pub record IsDeclined (old new : Fs D) : Type 0 where
     pub declines : Declines state old.store.log old.store.saved new.store.log new.store.saved old.store.draft.changes
-    pub totals : new.store.totals ≡ old.store.totals
+    pub totals : new.store.log.totals ≡ old.store.log.totals
     pub young : old.store.log.number < 2 ^ 62
 
   -- Why it isn't: no other fault comes.

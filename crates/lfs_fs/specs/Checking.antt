@@ -16,7 +16,7 @@ use Rattle.lfs_store.specs.memory.Present.{as_header}
 use Rattle.lfs_store.specs.log.verify.declared.fault.MountFault.{MountFault}
 use Rattle.lfs_store.specs.log.verify.declared.fault.MountFault.TheVariants as fault
 use Rattle.lfs_store.specs.log.Held.{Held, Holds, IsReadFault}
-use Rattle.lfs_store.specs.declared.totals.Totals.{Totals}
+use Rattle.lfs_store.specs.log.verify.declared.totals.BlockTotals.{BlockTotals}
 use Rattle.lfs_store.specs.Recounting.{AreTotals}
 use Rattle.lfs_path.specs.dirs.declared.entry.Entry.{Entry}
 use Rattle.lfs_path.specs.dirs.Directory.{slots_at}
@@ -72,7 +72,7 @@ pub record IsFlat (N : ℕ) (m : LogMap) : Type 0 where
   pub plain : IsPlain (tree_in m)
 
 -- A log map that can be laid out, with its totals.
-pub record IsCountedMap (m : LogMap) (totals : Totals) : Type 0 where
+pub record IsCountedMap (m : LogMap) (totals : BlockTotals) : Type 0 where
   pub map : IsLogMap m
   pub long : (n : ℕ) → AreLong m n
   pub fits : (n : ℕ) (h : entry.Header) → m.header n ≡ Some h → IsHeaderOf n h
@@ -111,7 +111,7 @@ module _ {D : Type 0} (state : D → DeviceState) where
   FindsFiles h h' c count a b = (k : CheckpointValue) (m0 m : LogMap) → (state h'.device).keeps_model
       → Holds state h k m0 m → FitNumbers (staged c m) count a b
 
-  abbrev pub FindsTree : Held D → Held D → Changes → Totals → Type 0
+  abbrev pub FindsTree : Held D → Held D → Changes → BlockTotals → Type 0
   FindsTree h h' c totals = (k : CheckpointValue) (m0 m : LogMap) → (state h'.device).keeps_model → Holds state h k m0 m → IsCountedMap (staged c m) totals → IsFlat k.segments (staged c m)
 
   -- there is no such tree
@@ -131,5 +131,5 @@ module _ {D : Type 0} (state : D → DeviceState) where
   LacksFiles h h' c count a b = (k : CheckpointValue) (m0 m : LogMap) → (state h'.device).keeps_model
       → Holds state h k m0 m → HasOdd (staged c m) count a b
 
-  abbrev pub LacksTree : Held D → Held D → Changes → Totals → Type 0
+  abbrev pub LacksTree : Held D → Held D → Changes → BlockTotals → Type 0
   LacksTree h h' c totals = (k : CheckpointValue) (m0 m : LogMap) → (state h'.device).keeps_model → Holds state h k m0 m → IsCountedMap (staged c m) totals → IsFlat k.segments (staged c m) → ⊥

@@ -9,7 +9,7 @@ use Rattle.lfs_model.specs.TreeOf.{Stands}
 use Rattle.lfs_model.specs.Volume.{IsTooSmall, IsWithoutCheckpoint}
 use Rattle.lfs_store.specs.log.verify.declared.fault.MountFault.{MountFault}
 use Rattle.lfs_store.specs.log.verify.declared.fault.MountFault.TheVariants.{NoMemory, Device, TooSmall, NoCheckpoint, Damaged}
-use Rattle.lfs_verify.specs.Verified.{IsDamagedIn, IsVerified}
+use Rattle.lfs_store.specs.log.verify.Verified.{IsDamagedIn, IsVerified}
 use Rattle.lfs_fs.specs.declared.fs.Fs.{Fs}
 use Rattle.lfs_fs.specs.Checking.{IsFlat}
 use Rattle.lfs_fs.specs.Seen.{seen}

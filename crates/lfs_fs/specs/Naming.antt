@@ -16,7 +16,7 @@ use Rattle.lfs_files.specs.declared.header.Header.{Header}
 use Rattle.lfs_store.specs.memory.Batch.{IsNoChange, staged}
 use Rattle.lfs_store.specs.memory.Present.{as_header}
 use Rattle.lfs_store.specs.log.Held.{Holds, IsReadFault}
-use Rattle.lfs_store.specs.declared.totals.Totals.{Totals}
+use Rattle.lfs_store.specs.log.verify.declared.totals.BlockTotals.{BlockTotals}
 use Rattle.lfs_store.specs.Making.{Makes, first_header}
 use Rattle.lfs_store.specs.Recounting.{Counts, CountsMade}
 use Rattle.lfs_fs.specs.Drafted.{Adds}
@@ -91,7 +91,7 @@ module _ {D : Type 0} (state : D → DeviceState) where
   -- An empty file n is drafted, and then its name in directory d.
   pub record DraftsNew (old new : Fs D) (d : ℕ) (head : Header) (n : ℕ) (name : List ℕ) : Type 0 where
     pub between : Changes
-    pub half : Totals
+    pub half : BlockTotals
     pub makes : Makes old.store.draft.changes between n (first_header kind.File 0)
     pub counts : CountsMade old.store.draft.changes between n old.store.drafted half
     pub adds : Adds state old.store.log new.store.log between new.store.draft.changes d head n name
@@ -128,7 +128,7 @@ module _ {D : Type 0} (state : D → DeviceState) where
   pub record Reaches (v : Mounted D) (old : Fs D) (path : List ℕ) (d : ℕ) (piece : Option Last) : Type 0 where
     pub still : IsStill state v (seen old)
     pub empty : IsNoChange old.store.draft.changes
-    pub drafted : old.store.drafted ≡ old.store.totals
+    pub drafted : old.store.drafted ≡ old.store.log.totals
     pub bytes : AreBytes path
     pub root : d ≡ 1
     pub last : HasLast path piece

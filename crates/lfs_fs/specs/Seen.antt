@@ -19,7 +19,7 @@ use Rattle.lfs_fs.specs.Volume.{IsStill, Mounted}
 use Rattle.lfs_store.specs.memory.Batch.{IsNoChange}
 
 abbrev pub seen : {D : Type 0} → Fs D → Mounted D
-seen f = record { log = f.store.log; saved = f.store.saved; blocks = f.store.totals.data_blocks; others = f.store.totals.meta_blocks; table = f.handles.numbers.items }
+seen f = record { log = f.store.log; saved = f.store.saved; blocks = f.store.log.totals.data_blocks; others = f.store.log.totals.meta_blocks; table = f.handles.numbers.items }
 
 -- the answer of a call by its result
 abbrev pub answer_by : {X : Type 0} → (X → Answer) → Result X FsError → Answer
@@ -37,7 +37,7 @@ pub record Begins {D : Type 0} (old new : Fs D) : Type 0 where
   pub running : old.store.log.halted ≡ false
   pub same : seen new ≡ seen old
   pub empty : IsNoChange new.store.draft.changes
-  pub drafted : new.store.drafted ≡ new.store.totals
+  pub drafted : new.store.drafted ≡ new.store.log.totals
 
 -- why a handle gives no file: it isn't open, or gives a number that no file has
 abbrev pub GivesNone : List ℕ → ℕ → FsError → Type 0

@@ -39,12 +39,11 @@ pub(crate) fn check_tree<D: SectorDevice>(
     ensures reads { Reads D.SectorDevice.state store.old.log store.new.log }
     ensures draft { store.new.draft ≡ store.old.draft }
     ensures saved { store.new.saved ≡ store.old.saved }
-    ensures totals { store.new.totals ≡ store.old.totals }
-    ensures done { OnOk result (FindsTree D.SectorDevice.state store.old.log store.new.log store.old.draft.changes store.old.totals) }
+    ensures done { OnOk result (FindsTree D.SectorDevice.state store.old.log store.new.log store.old.draft.changes store.old.log.totals) }
     ensures failed { IfErr result (λ fault. (fault ≡ MountFault.NoMemory → ⊥)
         → IsTreeFault D.SectorDevice.state store.old.log store.new.log
         (LacksTree D.SectorDevice.state store.old.log store.new.log
-        store.old.draft.changes store.old.totals) fault) }
+        store.old.draft.changes store.old.log.totals) fault) }
 {
     let root = match check_root(store) {
         Ok(root) => root,
@@ -69,7 +68,6 @@ fn check_root<D: SectorDevice>(store: &mut Store<D>) -> Result<Header, MountFaul
     ensures reads { Reads D.SectorDevice.state store.old.log store.new.log }
     ensures draft { store.new.draft ≡ store.old.draft }
     ensures saved { store.new.saved ≡ store.old.saved }
-    ensures totals { store.new.totals ≡ store.old.totals }
     ensures done { IfOk result (FindsRoot D.SectorDevice.state store.old.log store.new.log store.old.draft.changes) }
     ensures failed { IfErr result (IsTreeFault D.SectorDevice.state store.old.log store.new.log
         (LacksRoot D.SectorDevice.state store.old.log store.new.log store.old.draft.changes)) }
@@ -99,7 +97,6 @@ fn check_entries<D: SectorDevice>(
     ensures reads { Reads D.SectorDevice.state store.old.log store.new.log }
     ensures draft { store.new.draft ≡ store.old.draft }
     ensures saved { store.new.saved ≡ store.old.saved }
-    ensures totals { store.new.totals ≡ store.old.totals }
     ensures done { IfOk result (λ counts. FindsEntries D.SectorDevice.state store.old.log
         store.new.log store.old.draft.changes root counts.items) }
     ensures whole { IfOk result (λ counts. length counts.items ≡ 4096) }
@@ -146,7 +143,6 @@ fn check_files<D: SectorDevice>(store: &mut Store<D>, counts: &[usize]) -> Resul
     ensures reads { Reads D.SectorDevice.state store.old.log store.new.log }
     ensures draft { store.new.draft ≡ store.old.draft }
     ensures saved { store.new.saved ≡ store.old.saved }
-    ensures totals { store.new.totals ≡ store.old.totals }
     ensures done { OnOk result (FindsFiles D.SectorDevice.state store.old.log store.new.log
         store.old.draft.changes (slice_index counts.now) 2 4096) }
     ensures failed { IfErr result (IsTreeFault D.SectorDevice.state store.old.log store.new.log
@@ -172,7 +168,6 @@ fn check_file<D: SectorDevice>(
     ensures reads { Reads D.SectorDevice.state store.old.log store.new.log }
     ensures draft { store.new.draft ≡ store.old.draft }
     ensures saved { store.new.saved ≡ store.old.saved }
-    ensures totals { store.new.totals ≡ store.old.totals }
     ensures done { OnOk result (FindsFile D.SectorDevice.state store.old.log store.new.log
         store.old.draft.changes number count) }
     ensures failed { IfErr result (IsTreeFault D.SectorDevice.state store.old.log store.new.log
@@ -216,11 +211,15 @@ fn check_header(found: Option<Header>, count: usize) -> Result<(), MountFault>
 
 /// Whether the volume has room for its files.
 fn check_room<D: SectorDevice>(store: &Store<D>) -> Result<(), MountFault>
-    ensures done { OnOk result (store.now.totals.data_blocks + 7 * store.now.totals.meta_blocks + 720 ≤ 47 * length store.now.log.memory.usage.segments) }
-    ensures failed { OnErr result (47 * length store.now.log.memory.usage.segments < store.now.totals.data_blocks + 7 * store.now.totals.meta_blocks + 720) }
+    ensures done { OnOk result (store.now.log.totals.data_blocks
+        + 7 * store.now.log.totals.meta_blocks + 720
+        ≤ 47 * length store.now.log.memory.usage.segments) }
+    ensures failed { OnErr result (47 * length store.now.log.memory.usage.segments
+        < store.now.log.totals.data_blocks + 7 * store.now.log.totals.meta_blocks + 720) }
     ensures names { IfErr result IsTreeDamage }
 {
-    let need = u64::from(store.totals.data_blocks) + 7 * u64::from(store.totals.meta_blocks) + 720;
+    let totals = store.log.totals();
+    let need = u64::from(totals.data_blocks) + 7 * u64::from(totals.meta_blocks) + 720;
     if need > 47 * u64::from(store.log.segments()) {
         return Err(MountFault::Damaged(NO_ROOM));
     }

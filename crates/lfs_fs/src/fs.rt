@@ -10,7 +10,7 @@ use crate::error::FsError;
 use crate::handles::Handles;
 use crate::rows::Space;
 use lfs_device::SectorDevice;
-use lfs_store::{Header, Store, Totals};
+use lfs_store::{Header, Store, BlockTotals};
 use std::alloc::Global;
 
 /// The root's number.
@@ -88,7 +88,7 @@ impl<D: SectorDevice> Fs<D> {
     }
 
     /// What these totals need of the volume.
-    pub(crate) fn space_of(&self, totals: Totals) -> Space
+    pub(crate) fn space_of(&self, totals: BlockTotals) -> Space
         ensures stored { result.data_blocks ≡ totals.data_blocks }
         ensures above { result.meta_blocks ≡ totals.meta_blocks }
         ensures need { result.need ≡ totals.data_blocks + 7 * totals.meta_blocks + 720 }

@@ -60,7 +60,7 @@ impl<D: SectorDevice> Fs<D> {
         requires end { at + length bytes.now ≤ 8511488 }
         requires running { self.old.store.log.halted ≡ false }
         requires empty { IsNoChange self.old.store.draft.changes }
-        requires counted { self.old.store.drafted ≡ self.old.store.totals }
+        requires counted { self.old.store.drafted ≡ self.old.store.log.totals }
         ensures { (handle : ℕ) → find nat_cmp handle (handles_of self.old.handles.numbers.items) ≡ Some number → length bytes.now ≤ 65536
             → Serves D.SectorDevice.state (seen self.old) (seen self.new) (Pwrite handle at bytes.now) (answer_by (λ _. Count (length bytes.now)) result) }
     {
@@ -106,7 +106,7 @@ impl<D: SectorDevice> Fs<D> {
         requires most { len ≤ 8511488 }
         requires running { self.old.store.log.halted ≡ false }
         requires empty { IsNoChange self.old.store.draft.changes }
-        requires counted { self.old.store.drafted ≡ self.old.store.totals }
+        requires counted { self.old.store.drafted ≡ self.old.store.log.totals }
         ensures { (handle : ℕ) → find nat_cmp handle (handles_of self.old.handles.numbers.items) ≡ Some number
             → Serves D.SectorDevice.state (seen self.old) (seen self.new) (Truncate handle len) (answer_by (λ _. Done) result) }
     {

@@ -1,4 +1,5 @@
--- What contracts see of a log: its device, what memory holds, the number of the acknowledged checkpoint, and whether a commit failed.
+-- What contracts see of a log: its device, what memory holds, the number of the acknowledged checkpoint, whether a commit failed, and
+-- the blocks of all files.
 use Rattle.std.specs.Prelude.{◌≡◌, ◌⊎◌, ◌<◌, ◌≤◌, ◌+◌, ◌-◌, ◌*◌, ◌/◌, ◌^◌, ℕ, zero, suc, Bool, true, false, List, [], length, refl, Option, None}
 use Rattle.std.specs.Coded.{Coded, code_by, coded×, coded_ℕ, coded_bool, coded_list}
 use Rattle.lfs_model.specs.declared.BlockKind.{BlockKind}
@@ -24,12 +25,14 @@ use Rattle.lfs_memory.specs.Memory.{IsMemory, HasRoom, IsLog}
 use Rattle.lfs_memory.specs.Present.{Looks, HeaderAnswer, BlockAnswer}
 use Rattle.lfs_memory.specs.Removing.{without_file}
 use Rattle.lfs_memory.specs.Batch.{room_for, staged, FitsBatch}
+use Rattle.lfs_verify.specs.declared.totals.BlockTotals.{BlockTotals}
 
 pub record Held (D : Type 0) : Type 0 where
   pub device : D
   pub memory : LogMemory
   pub number : ℕ
   pub halted : Bool
+  pub totals : BlockTotals
 
 -- ---- these records by numbers and lists
 abbrev pub segment_code : Coded SegmentNumbers
@@ -100,11 +103,14 @@ memory_code =
     code_by (MapValue × (UsageTable × (TableValue × Chunk))) (coded× map_code (coded× usage_code (coded× table_code chunk_code)))
     (λ v. (v.map, (v.usage, (v.dirty, v.chunk)))) (λ p. record { map = p.0; usage = p.1.0; dirty = p.1.1.0; chunk = p.1.1.1 }) (λ _. refl)
 
+abbrev pub totals_code : Coded BlockTotals
+totals_code = code_by (ℕ × ℕ) (coded× coded_ℕ coded_ℕ) (λ t. (t.data_blocks, t.meta_blocks)) (λ p. record { data_blocks = p.0; meta_blocks = p.1 }) (λ _. refl)
+
 abbrev pub held_code : {D : Type 0} → Coded D → Coded (Held D)
 held_code {D} device =
-    code_by (D × (LogMemory × (ℕ × Bool))) (coded× device (coded× memory_code (coded× coded_ℕ coded_bool)))
-    (λ h. (h.device, (h.memory, (h.number, h.halted))))
-    (λ p. record { device = p.0; memory = p.1.0; number = p.1.1.0; halted = p.1.1.1 })
+    code_by (D × (LogMemory × (ℕ × (Bool × BlockTotals)))) (coded× device (coded× memory_code (coded× coded_ℕ (coded× coded_bool totals_code))))
+    (λ h. (h.device, (h.memory, (h.number, (h.halted, h.totals)))))
+    (λ p. record { device = p.0; memory = p.1.0; number = p.1.1.0; halted = p.1.1.1.0; totals = p.1.1.1.1 })
     (λ _. refl)
 
 -- What a log keeps true over any device, until a commit failed. Its memory takes as many blocks as one commit may write.
@@ -170,6 +176,7 @@ module _ {D : Type 0} (state : D → DeviceState) where
     pub memory : h'.memory ≡ h.memory
     pub number : h'.number ≡ h.number
     pub halted : h'.halted ≡ h.halted
+    pub totals : h'.totals ≡ h.totals
 
   -- a call of the device failed, where the log holds a map
   abbrev pub IsReadFault : Held D → Held D → Type 0

@@ -28,6 +28,8 @@ pub struct Log<D: SectorDevice> {
     memory: LogMemory,
     number: u64,
     halted: bool,
+    /// The blocks of all files, as they are staged.
+    totals: BlockTotals,
     /// What a file loses is counted here.
     counts: SegmentCounts,
 }
@@ -39,7 +41,13 @@ impl<D: SectorDevice> Model for Log<D> {
 
     ghost coded = { held_code D.code };
 
-    ghost view = { λ l. record { device = l.device; memory = l.memory; number = l.number; halted = l.halted } };
+    ghost view = { λ l. record {
+      device = l.device;
+      memory = l.memory;
+      number = l.number;
+      halted = l.halted;
+      totals = l.totals;
+    } };
 
     ghost invariant = { λ l. IsHeld (D.SectorDevice.state l.device) l.memory l.halted };
 }
@@ -47,7 +55,7 @@ impl<D: SectorDevice> Model for Log<D> {
 impl<D: SectorDevice> Log<D> {
     ghost use Rattle.lfs_log.specs.Held.{Mounts, Saves, Halts, Reads, ReadsHeader, ReadsBlock, TellsBlock, TellsLeaf, IsReadFault, IsFull, IsVacant, HasAll, IsStaged, IsRefused, IsStageFault, IsRemoved, IsKept, HoldsOne};
 
-    /// The volume that the newest checkpoint of the device leads to, and how many blocks its files have; else why there is none, and
+    /// The volume that the newest checkpoint of the device leads to, with the totals of its files; else why there is none, and
     /// the device. All that the checkpoint leads to is walked over once, but for the tree of its files. It writes nothing, and takes
     /// the memory that later calls need.
     ///
@@ -55,34 +63,37 @@ impl<D: SectorDevice> Log<D> {
     ///
     /// `NoMemory` where memory is refused, `Device` where a call of the device failed; else the device holds no log map: it is too
     /// small, holds no checkpoint, or the first stage that fails is named, one of the stages 1 to 9, or 15 where too few segments are clean.
-    pub fn open(alloc: Global, device: D) -> Result<(Log<D>, BlockTotals), (MountFault, D)>
-        ensures holds { IfOk result (λ r. Mounts D.SectorDevice.state device r.0) }
-        ensures counts { IfOk result (λ r. CountsOpened (D.state device) (D.state r.0.device) r.1) }
-        ensures found { IfOk result (λ r. HasLogMap (D.state device) (D.state r.0.device)) }
-        ensures empty { IfOk result (λ r. r.0.memory.dirty.blocks ≡ []) }
-        ensures durable { IfOk result (λ r. (D.state r.0.device).keeps_model → Only (D.state device).content (D.state r.0.device)) }
+    pub fn open(alloc: Global, device: D) -> Result<Log<D>, (MountFault, D)>
+        ensures holds { IfOk result (λ log. Mounts D.SectorDevice.state device log) }
+        ensures counts { IfOk result (λ log. CountsOpened (D.state device) (D.state log.device) log.totals) }
+        ensures found { IfOk result (λ log. HasLogMap (D.state device) (D.state log.device)) }
+        ensures empty { IfOk result (λ log. log.memory.dirty.blocks ≡ []) }
+        ensures durable { IfOk result (λ log. (D.state log.device).keeps_model
+            → Only (D.state device).content (D.state log.device)) }
         ensures cause { IfErr result (λ e. (e.0 ≡ MountFault.NoMemory → ⊥)
             → IsOpenFault (D.state device) (D.state e.1) e.0) }
         ensures reason { IfErr result (λ e. IsRefusedLog (D.state device) (D.state e.1) e.0) }
-        ensures untouched { MatchResult result (λ r. IsUntouched (D.state device) (D.state r.0.device)) (λ e. IsUntouched (D.state device) (D.state e.1)) }
-        ensures carries { MatchResult result (λ r. Carries (D.state device) (D.state r.0.device)) (λ e. Carries (D.state device) (D.state e.1)) }
-        ensures any_moment { MatchResult result (λ r. LeavesOnly (D.state device) (D.state r.0.device) (D.state device).may_leave) (λ e. LeavesOnly (D.state device) (D.state e.1) (D.state device).may_leave) }
+        ensures untouched { MatchResult result (λ log. IsUntouched (D.state device) (D.state log.device))
+            (λ e. IsUntouched (D.state device) (D.state e.1)) }
+        ensures carries { MatchResult result (λ log. Carries (D.state device) (D.state log.device))
+            (λ e. Carries (D.state device) (D.state e.1)) }
+        ensures any_moment { MatchResult result
+            (λ log. LeavesOnly (D.state device) (D.state log.device) (D.state device).may_leave)
+            (λ e. LeavesOnly (D.state device) (D.state e.1) (D.state device).may_leave) }
     {
         let Ok(counts) = SegmentCounts::new(alloc) else {
             return Err((MountFault::NoMemory, device));
         };
         let mut device = device;
         match open_memory(alloc, &mut device) {
-            Ok(opened) => {
-                let log = Log {
-                    device,
-                    memory: opened.memory,
-                    number: opened.number,
-                    halted: false,
-                    counts,
-                };
-                Ok((log, opened.totals))
-            }
+            Ok(opened) => Ok(Log {
+                device,
+                memory: opened.memory,
+                number: opened.number,
+                halted: false,
+                totals: opened.totals,
+                counts,
+            }),
             Err(fault) => Err((fault, device)),
         }
     }
@@ -132,6 +143,20 @@ impl<D: SectorDevice> Log<D> {
         ensures { result ≡ length self.now.memory.dirty.blocks }
     {
         self.memory.dirty.len()
+    }
+
+    /// The blocks of all files, as they are staged: what the last change said of them, or the mount counted.
+    pub fn totals(&self) -> BlockTotals
+        ensures { result ≡ self.now.totals }
+    {
+        self.totals
+    }
+
+    /// How many inodes and blocks of pointers the files have, as they are staged.
+    pub fn meta(&self) -> u32
+        ensures { result ≡ self.now.totals.meta_blocks }
+    {
+        self.totals.meta_blocks
     }
 
     /// How many blocks live in each segment, and hold it.
@@ -249,14 +274,16 @@ impl<D: SectorDevice> Log<D> {
         Ok(address != 0)
     }
 
-    /// Changes files in memory, whole or not at all: first what is lost, then headers, then blocks.
+    /// Changes files in memory, whole or not at all: first what is lost, then headers, then blocks. All files have these totals then.
     ///
     /// # Errors
     ///
     /// With the files as they were: `Full` where memory has no room, `Device` where a call of the device failed. `Halted` once a
     /// commit failed.
-    pub fn stage(&mut self, changes: &Changes) -> Result<(), LogFault>
+    pub fn stage(&mut self, changes: &Changes, totals: BlockTotals) -> Result<(), LogFault>
         ensures done { OnOk result (IsStaged D.SectorDevice.state self.old self.new changes.now) }
+        ensures counted { OnOk result (self.new.totals ≡ totals) }
+        ensures kept { OnErr result (self.new.totals ≡ self.old.totals) }
         ensures refused { OnErr result (IsRefused D.SectorDevice.state self.old self.new changes.now) }
         ensures full { IsErrOf result LogFault.Full → LacksRoom self.old.memory (room_for changes.now) }
         ensures narrow { IsErrOf result LogFault.Full → 456 < length self.old.memory.dirty.blocks + room_for changes.now }
@@ -266,23 +293,31 @@ impl<D: SectorDevice> Log<D> {
         if self.halted {
             return Err(LogFault::Halted);
         }
-        stage_tight(
+        match stage_tight(
             &mut self.device,
             &mut self.memory,
             changes,
             &mut self.counts,
-        )
+        ) {
+            Ok(()) => {
+                self.totals = totals;
+                Ok(())
+            }
+            Err(fault) => Err(fault),
+        }
     }
 
-    /// Removes a file with all its blocks. It takes no memory.
+    /// Removes a file with all its blocks; the others have these totals. It takes no memory.
     ///
     /// # Errors
     ///
     /// With the files as they were: `Device` where a call of the device failed. `Halted` once a commit failed.
-    pub fn remove(&mut self, number: u16) -> Result<(), LogFault>
+    pub fn remove(&mut self, number: u16, totals: BlockTotals) -> Result<(), LogFault>
         requires { number < 4096 }
         ensures done { OnOk result (IsRemoved D.SectorDevice.state self.old self.new number) }
+        ensures counted { OnOk result (self.new.totals ≡ totals) }
         ensures kept { OnErr result (IsKept D.SectorDevice.state self.old self.new) }
+        ensures same { OnErr result (self.new.totals ≡ self.old.totals) }
         ensures halted { IsErrOf result LogFault.Halted → self.old.halted ≡ true }
         ensures other { IsErrOf result LogFault.Full → ⊥ }
         ensures failed { OnErr result (IsReadFault D.SectorDevice.state self.old self.new) }
@@ -294,6 +329,7 @@ impl<D: SectorDevice> Log<D> {
         else {
             return Err(LogFault::Device);
         };
+        self.totals = totals;
         Ok(())
     }
 
@@ -316,6 +352,7 @@ impl<D: SectorDevice> Log<D> {
     /// `Full` where too few segments are clean: nothing changed. `Halted` where a call of the device failed, here or in a commit before.
     pub fn commit(&mut self) -> Result<(), LogFault>
         ensures done { OnOk result (Saves D.SectorDevice.state self.old self.new) }
+        ensures totals { self.new.totals ≡ self.old.totals }
         ensures full { IsErrOf result LogFault.Full → (self.new ≡ self.old) × IsFull self.old }
         ensures halted { IsErrOf result LogFault.Halted → self.old.halted ≢ true → Halts D.SectorDevice.state self.old self.new }
         ensures still { self.old.halted ≡ true → (self.new ≡ self.old) × IsErrOf result LogFault.Halted }

@@ -1,5 +1,5 @@
 //! Blocks that are counted over an empty volume of 64 segments.
-use crate::store_steps::Count::{Files, Measured};
+use crate::store_steps::Count::Measured;
 use crate::store_steps::Edit::{Block, Header, LoseFrom};
 use crate::store_steps::Step::{Accepts, Counts, Drafts};
 use crate::store_steps::check;
@@ -40,19 +40,6 @@ fn a_file_in_the_log(rt: HostRuntime) -> Result<(), Wrong> {
         Counts(Measured(0, 16_624, 4, 4)),
         Drafts(LoseFrom(239)),
         Counts(Measured(0, 240, 2, 2)),
-    ];
-    check(rt.alloc(), &steps)
-}
-
-#[test]
-fn all_files(rt: HostRuntime) -> Result<(), Wrong> {
-    let steps = [
-        // The inode of the root.
-        Counts(Files(0, 1)),
-        Drafts(Header(2, 8_511_488)),
-        Drafts(Block(2, 0, 7)),
-        Drafts(Block(2, 112, 7)),
-        Counts(Files(2, 3)),
     ];
     check(rt.alloc(), &steps)
 }

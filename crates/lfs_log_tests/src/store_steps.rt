@@ -6,7 +6,7 @@ use crate::volume::{Wrong, new_volume};
 use lfs_device::MemDevice;
 use lfs_log::{Cut, Header, LastLink, LogFault, Loss, Removal};
 use lfs_model::Kind;
-use lfs_store::{Draft, Measure, Store, StoreFault, Totals};
+use lfs_store::{BlockTotals, Draft, Measure, Store, StoreFault};
 use std::alloc::Global;
 
 /// A change of the draft.
@@ -85,8 +85,6 @@ pub enum Count {
     Space(u32, u32),
     /// And without it.
     Staged(u32, u32),
-    /// And as all files are measured.
-    Files(u32, u32),
     /// From one index to before another: the data blocks of file 2, and all its other blocks.
     Measured(u32, u32, u32, u32),
 }
@@ -258,8 +256,8 @@ fn is_seen(store: &mut Store<MemDevice>, alloc: Global, look: Look) -> bool {
     }
 }
 
-fn totals_of(data_blocks: u32, meta_blocks: u32) -> Totals {
-    Totals {
+fn totals_of(data_blocks: u32, meta_blocks: u32) -> BlockTotals {
+    BlockTotals {
         data_blocks,
         meta_blocks,
     }
@@ -284,8 +282,7 @@ fn is_counted(store: &mut Store<MemDevice>, count: Count) -> bool {
         Count::Clean(segments) => store.log.clean_segments() == segments,
         Count::LeastFree(number) => store.least_free() == Some(number),
         Count::Space(data, meta) => store.space() == totals_of(data, meta),
-        Count::Staged(data, meta) => store.totals == totals_of(data, meta),
-        Count::Files(data, meta) => store.count_files() == Ok(totals_of(data, meta)),
+        Count::Staged(data, meta) => store.log.totals() == totals_of(data, meta),
         Count::Measured(from, to, data, meta) => measures(store, from, to, (data, meta)),
     }
 }

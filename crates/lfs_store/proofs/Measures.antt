@@ -1,11 +1,10 @@
 -- The measure of a file and of a volume, from what is counted.
 use Rattle.std.specs.Prelude.{min, max}
 use Rattle.std.specs.Int.{div_ceil}
-use Rattle.std.proofs.Common.{◌≡◌, ◌<◌, ◌≤◌, ◌⊎◌, ⊎_elim, ◌+◌, ◌-◌, ◌*◌, ℕ, suc, Bool, true, false, length, Option, Some, None, refl, sym, ◌∙◌, ap, ap₂, subst, arith}
+use Rattle.std.proofs.Common.{◌≡◌, ◌<◌, ◌≤◌, ◌⊎◌, ⊎_elim, ◌+◌, ◌-◌, ◌*◌, ℕ, Bool, true, false, length, Option, Some, None, refl, sym, ◌∙◌, ap, ap₂, subst, arith}
 use mir.Val.{bool_byte}
 use Rattle.std.proofs.lemmas.Bool.{cases_lt, false_from_ne_true, ltb-true}
-use Rattle.lfs_model.specs.Checkpoint.{CheckpointValue}
-use Rattle.lfs_model.specs.Device.{DeviceState, IsLawful}
+use Rattle.lfs_model.specs.Device.{DeviceState}
 use Rattle.lfs_model.specs.Encodes.{IsLogMap}
 use Rattle.lfs_model.specs.Entry as entry
 use Rattle.lfs_model.specs.Need.{pointers}
@@ -15,18 +14,16 @@ use Rattle.lfs_log.specs.memory.declared.changes.Changes.{Changes}
 use Rattle.lfs_log.specs.memory.files.declared.header.Header.{Header}
 use Rattle.lfs_log.specs.memory.Batch.{staged}
 use Rattle.lfs_log.specs.memory.Present.{as_header}
-use Rattle.lfs_log.specs.Held.{Held, Holds, Reads}
-use Rattle.lfs_store.specs.declared.totals.Measure.{Measure}
-use Rattle.lfs_store.specs.declared.totals.Totals.{Totals}
-use Rattle.lfs_store.specs.Measuring.{EndsBy, IsLeafRange, CountsStored, CountsLeaves, CountsPointers, Measures, CountsFiles, TellsDouble}
+use Rattle.lfs_log.specs.Held.{Held, Reads}
+use Rattle.lfs_store.specs.Measuring.{EndsBy, IsLeafRange, CountsStored, CountsLeaves, CountsPointers, Measures, TellsDouble}
 use Rattle.lfs_store.specs.Reading.{ReadsHeader}
-use Rattle.lfs_model.specs.Totals.{leaf_from, leaves_beside, leaves_in, stored_in, meta_of_file, data_of_file, sum_upto}
-use Rattle.lfs_store.proofs.LogReads.{held_still, reads_none, reads_more}
-use Rattle.lfs_store.proofs.Leaves.{beside_all, beside_none, beside_split, leaves_to_end}
+use Rattle.lfs_model.specs.Totals.{leaf_from, leaves_beside, leaves_in, stored_in, meta_of_file}
+use Rattle.lfs_store.proofs.LogReads.{held_still}
+use Rattle.lfs_store.proofs.Leaves.{beside_none, beside_split, leaves_to_end}
 use Rattle.lfs_store.proofs.Measured.{CountedUpTo, Tells, counts_leaves}
 use Rattle.lfs_store.proofs.Pointers.{double_beside, double_found, double_none, pointers_all}
 use Rattle.lfs_store.proofs.Ranges.{passing_nothing}
-use Rattle.lfs_store.proofs.Summing.{stored_split, stored_all}
+use Rattle.lfs_store.proofs.Summing.{stored_split}
 
 -- ---- the end of a file
 
@@ -129,65 +126,3 @@ module _ {D : Type 0} (state : D → DeviceState) (c : Changes) (n : ℕ) where
         stored = sym (sym (stored_to_end (staged c m) n head.size blocks from to ends covers order) ∙ counted k m0 m keeps_b held_a);
         above = omega (arith, up, is_there);
       }
-
--- ---- all files
-
--- the files below a number were counted
-pub record SummedUpTo {D : Type 0} (state : D → DeviceState) (h h' : Held D) (c : Changes) (number blocks others : ℕ) : Type 0 where
-  pub reads : Reads state h h'
-  pub few : blocks ≤ 16624 * (number - 1)
-  pub few_above : others ≤ 131 * (number - 1)
-  pub stored : (k : CheckpointValue) (m0 m : LogMap) → (state h'.device).keeps_model → Holds state h k m0 m → IsLogMap (staged c m) → blocks ≡ sum_upto (data_of_file (staged c m)) (number - 1)
-  pub above : (k : CheckpointValue) (m0 m : LogMap) → (state h'.device).keeps_model → Holds state h k m0 m → IsLogMap (staged c m) → others ≡ sum_upto (meta_of_file (staged c m)) (number - 1)
-
-pub sum_none : (f : ℕ → ℕ) → sum_upto f 0 ≡ 0
-unfolding sum_upto
-sum_none f = refl
-
-pub sum_more : (f : ℕ → ℕ) (n : ℕ) → sum_upto f (suc n) ≡ sum_upto f n + f (suc n)
-unfolding sum_upto
-sum_more f n = refl
-
-sum_next : (f : ℕ → ℕ) (number : ℕ) → 1 ≤ number → sum_upto f (number + 1 - 1) ≡ sum_upto f (number - 1) + f number
-sum_next f number some =
-    let at : number + 1 - 1 ≡ suc (number - 1) = omega (arith, some) in
-    let own : suc (number - 1) ≡ number = omega (arith, some) in
-    ap (sum_upto f) at ∙ sum_more f (number - 1) ∙ ap (λ (n : ℕ). sum_upto f (number - 1) + f n) own
-
-module _ {D : Type 0} (state : D → DeviceState) (c : Changes) where
-  pub summed_none : (h : Held D) → SummedUpTo state h h c 1 0 0
-  summed_none h = record {
-    reads = reads_none state h;
-    few = omega arith;
-    few_above = omega arith;
-    stored = λ k m0 m keeps is map. (let none : 1 - 1 ≡ 0 = omega arith in sym (ap (sum_upto (data_of_file (staged c m))) none ∙ sum_none (data_of_file (staged c m))));
-    above = λ k m0 m keeps is map. (let none : 1 - 1 ≡ 0 = omega arith in sym (ap (sum_upto (meta_of_file (staged c m))) none ∙ sum_none (meta_of_file (staged c m))));
-  }
-
-  pub summed_more : (h a b : Held D) (number blocks others : ℕ) (found : Measure) → IsLawful (state h.device) → 1 ≤ number → found.data_blocks ≤ 16624 - 0 → found.meta_blocks ≤ 131
-      → SummedUpTo state h a c number blocks others → Reads state a b → Measures state a b c number 0 16624 found → SummedUpTo state h b c (number + 1) (blocks + found.data_blocks) (others + found.meta_blocks)
-  summed_more h a b number blocks others found lawful some few few_above was reads measures = record {
-    reads = reads_more state h a b lawful was.reads reads;
-    few = let before = was.few in omega (arith, before, few, some);
-    few_above = let before = was.few_above in omega (arith, before, few_above, some);
-    stored = λ k m0 m keeps is map.
-        let before = was.stored k m0 m (reads.looks.carries.kept_before keeps) is map in
-        let own = (measures k m0 m keeps (held_still state h a k m0 m was.reads is) map).stored in
-        let all = own ∙ sym (stored_all (staged c m) number 16624) in
-        ap₂ (λ (x y : ℕ). x + y) before all ∙ sym (sum_next (data_of_file (staged c m)) number some);
-    above = λ k m0 m keeps is map.
-        let before = was.above k m0 m (reads.looks.carries.kept_before keeps) is map in
-        let all = (measures k m0 m keeps (held_still state h a k m0 m was.reads is) map).above in
-        let none = beside_all (staged c m) number in
-        let own : found.meta_blocks ≡ meta_of_file (staged c m) number = omega (arith, all, none) in
-        ap₂ (λ (x y : ℕ). x + y) before own ∙ sym (sum_next (meta_of_file (staged c m)) number some);
-  }
-
-  pub counts_files : (h b : Held D) (number : ℕ) (totals : Totals) → number ≡ 4096 → SummedUpTo state h b c number totals.data_blocks totals.meta_blocks → CountsFiles state h b c totals
-  counts_files h b number totals end was k m0 m keeps is map = record {
-    stored = was.stored k m0 m keeps is map ∙ ap (sum_upto (data_of_file (staged c m))) last;
-    above = was.above k m0 m keeps is map ∙ ap (sum_upto (meta_of_file (staged c m))) last;
-  }
-    where
-      last : number - 1 ≡ 4095
-      last = omega (arith, end)

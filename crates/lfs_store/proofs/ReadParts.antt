@@ -53,6 +53,7 @@ module _ {D : Type 0} (state : D → DeviceState) where
     memory = two.memory ∙ one.memory;
     number = two.number ∙ one.number;
     halted = two.halted ∙ one.halted;
+    totals = two.totals ∙ one.totals;
   }
 
   pub fault_then : (a b c : Held D) → Reads state a b → IsReadFault state b c → IsReadFault state a c

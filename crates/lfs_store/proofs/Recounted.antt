@@ -18,7 +18,7 @@ use Rattle.lfs_log.proofs.of_memory.Presents.{looks_then}
 use Rattle.lfs_log.specs.segments.Table.{clean_in}
 use Rattle.lfs_log.specs.Held.{Held, Reads, Alters, IsKept, IsRemoved}
 use Rattle.lfs_store.specs.declared.totals.Measure.{Measure}
-use Rattle.lfs_store.specs.declared.totals.Totals.{Totals}
+use Rattle.lfs_log.specs.verify.declared.totals.BlockTotals.{BlockTotals}
 use Rattle.lfs_store.specs.Measuring.{Measures}
 use Rattle.lfs_store.specs.Making.{Makes, SetsLinks, Removes, relinked}
 use Rattle.lfs_store.specs.Recounting.{AreTotals, Recounts, Remeasures, Counts, CountsMade, CountsRelinked, CountsGone}
@@ -55,7 +55,7 @@ no_measure m n from to none gone = record {
 }
 
 -- ---- a file is made
-pub made_counts : (c c' : Changes) (n : ℕ) (head : headers.Header) (old new : Totals) → 1 ≤ n → n ≤ 4095 → Makes c c' n head
+pub made_counts : (c c' : Changes) (n : ℕ) (head : headers.Header) (old new : BlockTotals) → 1 ≤ n → n ≤ 4095 → Makes c c' n head
     → Recounts old new (record { data_blocks = 0; meta_blocks = 0 }) (record { data_blocks = 0; meta_blocks = 1 }) → CountsMade c c' n old new
 made_counts c c' n head old new some few makes recounts m map gone are =
     recounted (staged c m) (staged c' m) n 0 0 old new (record { data_blocks = 0; meta_blocks = 0 }) (record { data_blocks = 0; meta_blocks = 1 }) changed some few (omega arith) (omega arith)
@@ -84,7 +84,7 @@ same_list : (m : LogMap) (n : ℕ) (h : Option Header) (end : ℕ) → stored_be
 unfolding stored_below
 same_list m n h end = refl
 
-relinked_totals : (m : LogMap) (n : ℕ) (h h' : Header) (t : Totals) → 1 ≤ n → n ≤ 4095 → m.header n ≡ Some h → AreTotals m t → AreTotals (with_header m n (Some h')) t
+relinked_totals : (m : LogMap) (n : ℕ) (h h' : Header) (t : BlockTotals) → 1 ≤ n → n ≤ 4095 → m.header n ≡ Some h → AreTotals m t → AreTotals (with_header m n (Some h')) t
 relinked_totals m n h h' t some few there are =
     let law = totals_of_change m (with_header m n (Some h')) n 0 0 (changed_header m n (Some h')) some few (omega arith) (omega arith) (λ i out. refl) in
     let none = stored_nothing m n 0 0 (λ i le lt. absurd (omega (arith, lt))) in
@@ -103,12 +103,12 @@ relinked_totals m n h h' t some few there are =
     others : (a b x y : ℕ) → b + x ≡ a + y → x ≡ y → a ≡ b
     others a b x y e same = omega (arith, e, same)
 
-pub relinked_counts : (c c' : Changes) (n : ℕ) (head : headers.Header) (links : ℕ) (t : Totals) → 1 ≤ n → n ≤ 4095 → SetsLinks c c' n head links → CountsRelinked c c' n head t
+pub relinked_counts : (c c' : Changes) (n : ℕ) (head : headers.Header) (links : ℕ) (t : BlockTotals) → 1 ≤ n → n ≤ 4095 → SetsLinks c c' n head links → CountsRelinked c c' n head t
 relinked_counts c c' n head links t some few sets m there are =
     subst (λ (x : LogMap). AreTotals x t) (sym (sets.map m)) (relinked_totals (staged c m) n (as_header head) (as_header (relinked head links)) t some few there are)
 
 -- ---- over a log
-module _ {D : Type 0} (state : D → DeviceState) (h a b h' : Held D) (c c' : Changes) (n : ℕ) (before : Measure) (old new : Totals) (some : 1 ≤ n) (few : n ≤ 4095)
+module _ {D : Type 0} (state : D → DeviceState) (h a b h' : Held D) (c c' : Changes) (n : ℕ) (before : Measure) (old new : BlockTotals) (some : 1 ≤ n) (few : n ≤ 4095)
     (first : Reads state h a) (next : Reads state a b) (last : Reads state b h') where
   pub write_counts : (head : headers.Header) (at : ℕ) (w : List ℕ) (to : ℕ) → 0 < length w → at + length w ≤ 8511488 → to ≡ div_ceil (at + length w) 512 → Measures state h a c n (at / 512) to before
       → Writes state a b c c' n head at w → Remeasures state b h' c' n (at / 512) to before old new → Counts state h h' c c' old new
@@ -140,7 +140,7 @@ module _ {D : Type 0} (state : D → DeviceState) (h a b h' : Held D) (c c' : Ch
 
 module _ {D : Type 0} (state : D → DeviceState) where
   -- ---- a file goes at once
-  pub gone_counts : (h a h' : Held D) (c : Changes) (n : ℕ) (before : Measure) (old new : Totals) → 1 ≤ n → n ≤ 4095 → IsNoChange c → Reads state h a → Measures state h a c n 0 16624 before → Alters state a h' 0
+  pub gone_counts : (h a h' : Held D) (c : Changes) (n : ℕ) (before : Measure) (old new : BlockTotals) → 1 ≤ n → n ≤ 4095 → IsNoChange c → Reads state h a → Measures state h a c n 0 16624 before → Alters state a h' 0
       → Recounts old new before (record { data_blocks = 0; meta_blocks = 0 }) → CountsGone state h h' n old new
   gone_counts h a h' c n before old new some few none first measured alters recounts k m0 m keeps is map map' are =
       let same = no_change c m none in

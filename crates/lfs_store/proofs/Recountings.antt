@@ -14,7 +14,7 @@ use Rattle.lfs_log.specs.memory.declared.changes.Changes.{Changes}
 use Rattle.lfs_log.specs.memory.Batch.{staged}
 use Rattle.lfs_log.specs.Held.{Held, Holds, Reads}
 use Rattle.lfs_store.specs.declared.totals.Measure.{Measure}
-use Rattle.lfs_store.specs.declared.totals.Totals.{Totals}
+use Rattle.lfs_log.specs.verify.declared.totals.BlockTotals.{BlockTotals}
 use Rattle.lfs_store.specs.Measuring.{Measures}
 use Rattle.lfs_store.specs.Recounting.{Replaces, AreTotals, Recounts, Remeasures, Counts}
 use Rattle.lfs_model.specs.Totals.{stored_in, data_of_file, meta_of_file, sum_upto, data_in, meta_in, HasMeasure}
@@ -78,7 +78,7 @@ replaced old before after new all was now total replaces a b c law low =
     let is = replaces (omega (arith, a, b, c, law)) (omega (arith, a, b, c, law, low)) in
     omega (arith, is, a, b, c, law)
 
-pub recounted : (m m' : LogMap) (n from to : ℕ) (old new : Totals) (before after : Measure) → IsChangedAt m n m' → 1 ≤ n → n ≤ 4095 → from ≤ to → to ≤ 16624
+pub recounted : (m m' : LogMap) (n from to : ℕ) (old new : BlockTotals) (before after : Measure) → IsChangedAt m n m' → 1 ≤ n → n ≤ 4095 → from ≤ to → to ≤ 16624
     → ((i : ℕ) → (i < from) ⊎ (to ≤ i) → m'.block n i ≡ m.block n i)
     → HasMeasure m n from to before.data_blocks before.meta_blocks → HasMeasure m' n from to after.data_blocks after.meta_blocks → Recounts old new before after → AreTotals m old → AreTotals m' new
 recounted m m' n from to old new before after changed some few order low same was now recounts are =
@@ -94,7 +94,7 @@ recounted m m' n from to old new before after changed some few order low same wa
 
 -- ---- over a log
 module _ {D : Type 0} (state : D → DeviceState) where
-  pub counts : (h a b h' : Held D) (c c' : Changes) (n from to : ℕ) (before : Measure) (old new : Totals) → 1 ≤ n → n ≤ 4095 → from ≤ to → to ≤ 16624
+  pub counts : (h a b h' : Held D) (c c' : Changes) (n from to : ℕ) (before : Measure) (old new : BlockTotals) → 1 ≤ n → n ≤ 4095 → from ≤ to → to ≤ 16624
       → Reads state h a → Measures state h a c n from to before → Reads state a b → Reads state b h' → Remeasures state b h' c' n from to before old new
       → ((k : CheckpointValue) (m0 m : LogMap) → (state b.device).keeps_model → Holds state a k m0 m → IsLogMap (staged c m) → IsLogMap (staged c' m)
       → IsChangedAt (staged c m) n (staged c' m) × ((i : ℕ) → (i < from) ⊎ (to ≤ i) → (staged c' m).block n i ≡ (staged c m).block n i))

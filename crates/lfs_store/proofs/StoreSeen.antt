@@ -1,7 +1,6 @@
 -- What calls of a store are to the layers above.
 use Rattle.std.specs.Prelude.{max, IfErr, IfOk, IsFalse, OnOk}
-use Rattle.std.proofs.Common.{◌≡◌, ◌<◌, ◌≤◌, ◌+◌, ℕ, Bool, false, List, Option, Result, Ok, Err, length, refl, sym, ◌∙◌, ap, ap₂, subst}
-use Rattle.std.specs.Int.{div_ceil}
+use Rattle.std.proofs.Common.{◌≡◌, ◌+◌, ℕ, Bool, List, Option, Result, Ok, Err, length, refl, sym, ◌∙◌, ap, ap₂, subst}
 use Rattle.lfs_model.specs.Cutting.{is_past}
 use Rattle.lfs_model.specs.Device.{DeviceState}
 use Rattle.lfs_model.specs.Encodes.{IsLogMap}
@@ -11,14 +10,13 @@ use Rattle.lfs_files.specs.declared.header.Header.{Header}
 use Rattle.lfs_files.specs.Files as files
 use Rattle.lfs_files.specs.Files.{FilesState, HasSized, HasWritten, HoldsBlock, SizesFile, TakesWrite, WritesFile}
 use Rattle.lfs_files.specs.Headers.{HeaderAnswer, resized}
-use Rattle.lfs_log.specs.memory.declared.batch.Cut.{Cut}
 use Rattle.lfs_log.specs.memory.declared.batch.Loss.{Loss}
 use Rattle.lfs_log.specs.memory.declared.memory.LogMemory.{LogMemory}
 use Rattle.lfs_log.specs.memory.Batch.{FitsBatch, IsNoChange, is_lost, staged}
 use Rattle.lfs_log.specs.Held as held
 use Rattle.lfs_log.specs.Held.{Held, Holds, IsReadFault}
 use Rattle.lfs_store.specs.declared.draft.Draft.{Draft}
-use Rattle.lfs_store.specs.declared.totals.Totals.{Totals}
+use Rattle.lfs_log.specs.verify.declared.totals.BlockTotals.{BlockTotals}
 use Rattle.lfs_store.specs.Reading.{ReadsHeader, ReadsBlock}
 use Rattle.lfs_store.specs.Recounting as counts
 use Rattle.lfs_store.specs.Seen.{HasMap, StagedLog, counted_of, state_of}
@@ -27,25 +25,25 @@ use Rattle.lfs_store.proofs.Apart.{no_change}
 use Rattle.lfs_store.proofs.LogReads.{held_still}
 use Rattle.lfs_store.proofs.Writings.{block_read}
 
-module _ {D : Type 0} (state : D → DeviceState) (h h' : Held D) (d d' : Draft) (v v' : Bool) (t t' u u' : Totals) where
+module _ {D : Type 0} (state : D → DeviceState) (h h' : Held D) (d d' : Draft) (v v' : Bool) (u u' : BlockTotals) where
   abbrev S : FilesState StagedLog Draft
-  S = state_of state h d v t u
+  S = state_of state h d v u
 
   abbrev S' : FilesState StagedLog Draft
-  S' = state_of state h' d' v' t' u'
+  S' = state_of state h' d' v' u'
 
   same_staged : held.Reads state h h' → S'.staged ≡ S.staged
   same_staged reads = ap₂ (λ (x : LogMemory) (n : ℕ). record { memory = x; number = n }) reads.memory reads.number
 
   -- ---- reading
-  pub seen_read : held.Reads state h h' → d' ≡ d → v' ≡ v → t' ≡ t → u' ≡ u → files.Reads S S'
-  seen_read reads same saved totals drafted = record {
+  pub seen_read : held.Reads state h h' → d' ≡ d → v' ≡ v → u' ≡ u → files.Reads S S'
+  seen_read reads same saved drafted = record {
     looks = reads.looks;
     halted = reads.halted;
     saved = saved;
     staged = same_staged reads;
     draft = same;
-    totals = ap counted_of totals;
+    totals = ap counted_of reads.totals;
     drafted = ap counted_of drafted;
     headers = ap (λ (x : Draft). length x.changes.headers.items) same;
     blocks = ap (λ (x : Draft). length x.changes.blocks.items) same;
@@ -83,13 +81,13 @@ module _ {D : Type 0} (state : D → DeviceState) (h h' : Held D) (d d' : Draft)
   seen_block_then n i out (Err e) long blank answer = record {}
 
   -- ---- changing the draft
-  pub seen_redraft : held.Reads state h h' → v' ≡ v → t' ≡ t → files.Redrafts S S'
-  seen_redraft reads saved totals = record {
+  pub seen_redraft : held.Reads state h h' → v' ≡ v → files.Redrafts S S'
+  seen_redraft reads saved = record {
     looks = reads.looks;
     halted = reads.halted;
     saved = saved;
     staged = same_staged reads;
-    totals = ap counted_of totals;
+    totals = ap counted_of reads.totals;
   }
 
   pub seen_counts : counts.Counts state h h' d.changes d'.changes u u' → files.Counts S S'

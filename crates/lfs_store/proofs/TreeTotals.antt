@@ -12,8 +12,16 @@ use Rattle.lfs_model.specs.Tree.{Node, Tree}
 use Rattle.lfs_model.specs.TreeOf.{node_by, node_of, nodes_from, tree_in, with_object}
 use Rattle.lfs_model.proofs.ObjectNeeds.{object_costs}
 use Rattle.lfs_model.specs.Totals.{data_of_file, meta_of_file, sum_upto, TotalsOfTree}
-use Rattle.lfs_store.proofs.Measures.{nothing_stored, stored_nothing, sum_none, sum_more}
+use Rattle.lfs_store.proofs.Measures.{nothing_stored, stored_nothing}
 use Rattle.lfs_store.proofs.Summing.{stored_all}
+
+sum_none : (f : ℕ → ℕ) → sum_upto f 0 ≡ 0
+unfolding sum_upto
+sum_none f = refl
+
+sum_more : (f : ℕ → ℕ) (n : ℕ) → sum_upto f (suc n) ≡ sum_upto f n + f (suc n)
+unfolding sum_upto
+sum_more f n = refl
 
 -- ---- a sum over the nodes, by their numbers
 module _ (m : LogMap) (f : Node → ℕ) (w : ℕ → ℕ) where

@@ -13,9 +13,8 @@ use Rattle.lfs_log.specs.memory.declared.changes.Changes.{Changes}
 use Rattle.lfs_log.specs.memory.Batch.{staged}
 use Rattle.lfs_log.specs.Held.{Held, Holds}
 use Rattle.lfs_store.specs.declared.totals.Measure.{Measure}
-use Rattle.lfs_store.specs.declared.totals.Totals.{Totals}
 use Rattle.lfs_store.specs.Reading.{KeepsBlock}
-use Rattle.lfs_model.specs.Totals.{leaf_from, leaf_to, leaves_beside, leaves_in, stored_in, HasMeasure, IsCounted}
+use Rattle.lfs_model.specs.Totals.{leaf_from, leaf_to, leaves_beside, leaves_in, stored_in, HasMeasure}
 
 -- ---- a draft
 
@@ -85,7 +84,3 @@ module _ {D : Type 0} (state : D → DeviceState) where
   -- the blocks of file n: its data blocks from..to, its inode, its leaves of pointers with a block there, and its double root
   abbrev pub Measures : Held D → Held D → Changes → ℕ → ℕ → ℕ → Measure → Type 0
   Measures h h' c n from to found = (k : CheckpointValue) (m0 m : LogMap) → (state h'.device).keeps_model → Holds state h k m0 m → IsLogMap (staged c m) → HasMeasure (staged c m) n from to found.data_blocks found.meta_blocks
-
-  -- those of all files
-  abbrev pub CountsFiles : Held D → Held D → Changes → Totals → Type 0
-  CountsFiles h h' c found = (k : CheckpointValue) (m0 m : LogMap) → (state h'.device).keeps_model → Holds state h k m0 m → IsLogMap (staged c m) → IsCounted (staged c m) found.data_blocks found.meta_blocks

@@ -48,7 +48,6 @@ module _ {D : Type 0} (state : D → DeviceState) where
     pub log : Reads state old.log new.log
     pub draft : new.draft ≡ old.draft
     pub saved : new.saved ≡ old.saved
-    pub totals : new.totals ≡ old.totals
     pub drafted : new.drafted ≡ old.drafted
 
   abbrev pub ReadsHeader : Held D → Held D → Changes → ℕ → Option Header → Type 0

@@ -11,7 +11,7 @@ use Rattle.lfs_log.specs.memory.Present.{as_header}
 use Rattle.lfs_log.specs.memory.Removing.{without_file}
 use Rattle.lfs_log.specs.Held.{Held, Holds}
 use Rattle.lfs_store.specs.declared.totals.Measure.{Measure}
-use Rattle.lfs_store.specs.declared.totals.Totals.{Totals}
+use Rattle.lfs_log.specs.verify.declared.totals.BlockTotals.{BlockTotals}
 use Rattle.lfs_store.specs.Measuring.{Measures}
 use Rattle.lfs_model.specs.Totals.{IsCounted}
 
@@ -20,39 +20,39 @@ abbrev pub Replaces : ℕ → ℕ → ℕ → ℕ → Type 0
 Replaces old before after new = before ≤ old + after → old + after < before + 2 ^ 32 → new + before ≡ old + after
 
 -- these are the totals of the log map
-abbrev pub AreTotals : LogMap → Totals → Type 0
+abbrev pub AreTotals : LogMap → BlockTotals → Type 0
 AreTotals m t = IsCounted m t.data_blocks t.meta_blocks
 
 -- So in each of the totals.
-pub record Recounts (old new : Totals) (before after : Measure) : Type 0 where
+pub record Recounts (old new : BlockTotals) (before after : Measure) : Type 0 where
   pub stored : Replaces old.data_blocks before.data_blocks after.data_blocks new.data_blocks
   pub above : Replaces old.meta_blocks before.meta_blocks after.meta_blocks new.meta_blocks
 
 -- A file is made where none was: its inode is one block more.
-abbrev pub CountsMade : Changes → Changes → ℕ → Totals → Totals → Type 0
+abbrev pub CountsMade : Changes → Changes → ℕ → BlockTotals → BlockTotals → Type 0
 CountsMade c c' n old new = (m : LogMap) → IsLogMap (staged c m) → (staged c m).header n ≡ None → AreTotals (staged c m) old → AreTotals (staged c' m) new
 
 -- A file has other links: the totals stay.
-abbrev pub CountsRelinked : Changes → Changes → ℕ → Header → Totals → Type 0
+abbrev pub CountsRelinked : Changes → Changes → ℕ → Header → BlockTotals → Type 0
 CountsRelinked c c' n h t = (m : LogMap) → (staged c m).header n ≡ Some (as_header h) → AreTotals (staged c m) t → AreTotals (staged c' m) t
 
 module _ {D : Type 0} (state : D → DeviceState) where
   -- The measure of file n takes the place of what it was before.
-  pub record Remeasures (h h' : Held D) (c : Changes) (n from to : ℕ) (before : Measure) (old new : Totals) : Type 0 where
+  pub record Remeasures (h h' : Held D) (c : Changes) (n from to : ℕ) (before : Measure) (old new : BlockTotals) : Type 0 where
     pub after : Measure
     pub measures : Measures state h h' c n from to after
     pub recounts : Recounts old new before after
 
-  -- Totals of the log map after one draft become those of the log map after another.
-  abbrev pub Counts : Held D → Held D → Changes → Changes → Totals → Totals → Type 0
+  -- BlockTotals of the log map after one draft become those of the log map after another.
+  abbrev pub Counts : Held D → Held D → Changes → Changes → BlockTotals → BlockTotals → Type 0
   Counts h h' c c' old new = (k : CheckpointValue) (m0 m : LogMap) → (state h'.device).keeps_model → Holds state h k m0 m
       → IsLogMap (staged c m) → IsLogMap (staged c' m) → AreTotals (staged c m) old → AreTotals (staged c' m) new
 
-  -- Totals of the log map become those of the log map without file n.
-  abbrev pub CountsGone : Held D → Held D → ℕ → Totals → Totals → Type 0
+  -- BlockTotals of the log map become those of the log map without file n.
+  abbrev pub CountsGone : Held D → Held D → ℕ → BlockTotals → BlockTotals → Type 0
   CountsGone h h' n old new = (k : CheckpointValue) (m0 m : LogMap) → (state h'.device).keeps_model → Holds state h k m0 m
       → IsLogMap m → IsLogMap (without_file n m) → AreTotals m old → AreTotals (without_file n m) new
 
   -- a mount counts the log map that the device stands for
-  abbrev pub MountsTotals : D → Held D → Totals → Type 0
+  abbrev pub MountsTotals : D → Held D → BlockTotals → Type 0
   MountsTotals d h t = (m : LogMap) → (state h.device).keeps_model → StandsLog (state d).content m → AreTotals m t

@@ -9,10 +9,10 @@ use Rattle.lfs_log.specs.memory.declared.changes.Changes.{Changes}
 use Rattle.lfs_log.specs.memory.declared.memory.LogMemory.{LogMemory}
 use Rattle.lfs_log.specs.Held.{Held, Holds}
 use Rattle.lfs_store.specs.declared.draft.Draft.{Draft}
-use Rattle.lfs_store.specs.declared.totals.Totals.{Totals}
+use Rattle.lfs_log.specs.verify.declared.totals.BlockTotals.{BlockTotals}
 
 -- totals as two numbers
-abbrev pub counted_of : Totals → Counted
+abbrev pub counted_of : BlockTotals → Counted
 counted_of t = record { data_blocks = t.data_blocks; meta_blocks = t.meta_blocks }
 
 -- what is staged: what the log has in memory, and the number of the checkpoint that it acknowledged
@@ -29,14 +29,14 @@ module _ {D : Type 0} (state : D → DeviceState) where
     pub draft : m' ≡ staged c m
 
   -- a store as files with a draft
-  abbrev pub state_of : Held D → Draft → Bool → Totals → Totals → FilesState StagedLog Draft
-  state_of h d saved totals drafted = record {
+  abbrev pub state_of : Held D → Draft → Bool → BlockTotals → FilesState StagedLog Draft
+  state_of h d saved drafted = record {
     device = state h.device;
     halted = h.halted;
     saved = saved;
     staged = record { memory = h.memory; number = h.number };
     draft = d;
-    totals = counted_of totals;
+    totals = counted_of h.totals;
     drafted = counted_of drafted;
     headers = length d.changes.headers.items;
     blocks = length d.changes.blocks.items;

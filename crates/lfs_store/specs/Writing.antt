@@ -3,8 +3,7 @@ use Rattle.std.specs.Prelude.{◌≡◌, ◌⊎◌, ◌<◌, ◌≤◌, ◌+◌,
 use Rattle.std.specs.Int.{div_ceil}
 use Rattle.lfs_model.specs.Checkpoint.{CheckpointValue}
 use Rattle.lfs_model.specs.Device.{DeviceState}
-use Rattle.lfs_model.specs.Encodes.{IsLogMap, HasInode}
-use Rattle.lfs_model.specs.Objects.{IsChangedAt, AreWhole, WritesBytes, CutsBytes}
+use Rattle.lfs_model.specs.Encodes.{HasInode}
 use Rattle.lfs_model.specs.Stands.{LogMap}
 pub use Rattle.lfs_files.specs.Files.{SizesFile, WritesFile}
 pub use Rattle.lfs_files.specs.Headers.{resized}

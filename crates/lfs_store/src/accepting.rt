@@ -8,7 +8,6 @@ ghost use Rattle.lfs_log.specs.memory.Batch.{IsNoChange, room_for};
 
 use crate::draft::Draft;
 use crate::store::Store;
-use crate::totals::Totals;
 use lfs_device::SectorDevice;
 use lfs_files::StoreFault;
 use lfs_log::{Log, LogFault, MountFault};
@@ -34,8 +33,8 @@ impl<D: SectorDevice> Store<D> {
     /// small, holds no checkpoint, or the first stage that fails is named, one of the stages 1 to 9, or 15 where too few segments are clean.
     pub fn open(alloc: Global, device: D) -> Result<Store<D>, (MountFault, D)>
         ensures stores { IfOk result (λ s. MountsStore D.SectorDevice.state device s.log s.saved) }
-        ensures counts { IfOk result (λ s. MountsTotals D.SectorDevice.state device s.log s.totals) }
-        ensures drafted { IfOk result (λ s. s.drafted ≡ s.totals) }
+        ensures counts { IfOk result (λ s. MountsTotals D.SectorDevice.state device s.log s.log.totals) }
+        ensures drafted { IfOk result (λ s. s.drafted ≡ s.log.totals) }
         ensures saved { IfOk result (λ s. s.saved ≡ true) }
         ensures draft { IfOk result (λ s. IsNoChange s.draft.changes) }
         ensures durable { IfOk result (λ s. (D.state s.log.device).keeps_model → Only (D.state device).content (D.state s.log.device)) }
@@ -50,20 +49,16 @@ impl<D: SectorDevice> Store<D> {
         let Ok(draft) = Draft::new(alloc, MOST_HEADERS, MOST_BLOCKS) else {
             return Err((MountFault::NoMemory, device));
         };
-        let (log, found) = match Log::open(alloc, device) {
-            Ok(opened) => opened,
+        let log = match Log::open(alloc, device) {
+            Ok(log) => log,
             Err(fault) => return Err(fault),
         };
-        let totals = Totals {
-            data_blocks: found.data_blocks,
-            meta_blocks: found.meta_blocks,
-        };
+        let drafted = log.totals();
         Ok(Store {
             log,
             draft,
             saved: true,
-            totals,
-            drafted: totals,
+            drafted,
         })
     }
 
@@ -85,7 +80,7 @@ impl<D: SectorDevice> Store<D> {
         ensures saved { OnOk result (self.new.saved ≡ true) }
         ensures same { OnErr result (self.new.saved ≡ self.old.saved) }
         ensures draft { self.new.draft ≡ self.old.draft }
-        ensures totals { self.new.totals ≡ self.old.totals }
+        ensures totals { self.new.log.totals ≡ self.old.log.totals }
         ensures drafted { self.new.drafted ≡ self.old.drafted }
         ensures full { IsErrOf result LogFault.Full → (self.new.log ≡ self.old.log) × IsFull self.old.log }
         ensures unsaved { IsErrOf result LogFault.Full → self.old.saved ≡ false }
@@ -109,26 +104,10 @@ impl<D: SectorDevice> Store<D> {
         ensures draft { IsNoChange self.new.draft.changes }
         ensures log { self.new.log ≡ self.old.log }
         ensures saved { self.new.saved ≡ self.old.saved }
-        ensures totals { self.new.totals ≡ self.old.totals }
-        ensures drafted { self.new.drafted ≡ self.old.totals }
+        ensures drafted { self.new.drafted ≡ self.old.log.totals }
     {
         self.draft.changes.clear();
-        self.drafted = self.totals;
-    }
-
-    /// The draft is empty, and the totals are those with it if it is staged.
-    fn settle(&mut self, staged: bool)
-        ensures draft { IsNoChange self.new.draft.changes }
-        ensures log { self.new.log ≡ self.old.log }
-        ensures saved { self.new.saved ≡ self.old.saved }
-        ensures counted { IsTrue staged → self.new.totals ≡ self.old.drafted }
-        ensures kept { IsFalse staged → self.new.totals ≡ self.old.totals }
-        ensures drafted { self.new.drafted ≡ self.new.totals }
-    {
-        if staged {
-            self.totals = self.drafted;
-        }
-        self.give_up();
+        self.drafted = self.log.totals();
     }
 
     /// Whether so few segments are clean that a commit might find too few.
@@ -147,7 +126,7 @@ impl<D: SectorDevice> Store<D> {
             length self.new.log.memory.dirty.blocks + room_for self.new.draft.changes
             ≤ self.new.log.memory.dirty.capacity.limit) }
         ensures draft { self.new.draft ≡ self.old.draft }
-        ensures totals { self.new.totals ≡ self.old.totals }
+        ensures totals { self.new.log.totals ≡ self.old.log.totals }
         ensures drafted { self.new.drafted ≡ self.old.drafted }
         ensures full { IsErrOf result LogFault.Full →
             MakesRoom D.SectorDevice.state self.old.log self.old.saved self.new.log self.new.saved }
@@ -173,7 +152,7 @@ impl<D: SectorDevice> Store<D> {
             length self.new.log.memory.dirty.blocks + room_for self.new.draft.changes
             ≤ self.new.log.memory.dirty.capacity.limit) }
         ensures draft { self.new.draft ≡ self.old.draft }
-        ensures totals { self.new.totals ≡ self.old.totals }
+        ensures totals { self.new.log.totals ≡ self.old.log.totals }
         ensures drafted { self.new.drafted ≡ self.old.drafted }
         ensures full { IsErrOf result LogFault.Full →
             MakesRoom D.SectorDevice.state self.old.log self.old.saved self.new.log self.new.saved }
@@ -191,7 +170,8 @@ impl<D: SectorDevice> Store<D> {
 
     /// Stages the draft, and leaves it as it is.
     fn stage_draft(&mut self) -> Result<(), StoreFault>
-        ensures totals { self.new.totals ≡ self.old.totals }
+        ensures counted { OnOk result (self.new.log.totals ≡ self.old.drafted) }
+        ensures kept { OnErr result (self.new.log.totals ≡ self.old.log.totals) }
         ensures drafted { self.new.drafted ≡ self.old.drafted }
         ensures done { OnOk result (Accepts D.SectorDevice.state self.old.log self.old.saved self.new.log self.new.saved self.old.draft.changes) }
         ensures full { IsErrOf result (StoreFault.Log LogFault.Full) → Declines D.SectorDevice.state self.old.log self.old.saved self.new.log self.new.saved self.old.draft.changes }
@@ -209,7 +189,7 @@ impl<D: SectorDevice> Store<D> {
             Ok(()) => {}
             Err(fault) => return Err(StoreFault::Log(fault)),
         }
-        let staged = self.log.stage(&self.draft.changes);
+        let staged = self.log.stage(&self.draft.changes, self.drafted);
         // A stage that fails may have brought blocks into memory, which a commit clears.
         self.saved = false;
         match staged {
@@ -228,9 +208,9 @@ impl<D: SectorDevice> Store<D> {
     /// With the files as they were: `Full` where too few segments are clean, `NoMemory` where memory has no room though all is saved (then
     /// the next call commits first), `Device` where a call of the device failed. `Halted` once a commit failed, in this call or before.
     pub fn accept(&mut self) -> Result<(), StoreFault>
-        ensures counted { OnOk result (self.new.totals ≡ self.old.drafted) }
-        ensures kept { OnErr result (self.new.totals ≡ self.old.totals) }
-        ensures drafted { self.new.drafted ≡ self.new.totals }
+        ensures counted { OnOk result (self.new.log.totals ≡ self.old.drafted) }
+        ensures kept { OnErr result (self.new.log.totals ≡ self.old.log.totals) }
+        ensures drafted { self.new.drafted ≡ self.new.log.totals }
         ensures done { OnOk result (Accepts D.SectorDevice.state self.old.log self.old.saved self.new.log self.new.saved self.old.draft.changes) }
         ensures draft { IsNoChange self.new.draft.changes }
         ensures full { IsErrOf result (StoreFault.Log LogFault.Full) → Declines D.SectorDevice.state self.old.log self.old.saved self.new.log self.new.saved self.old.draft.changes }
@@ -242,7 +222,7 @@ impl<D: SectorDevice> Store<D> {
         ensures still { self.old.log.halted ≡ true → (self.new.log ≡ self.old.log) × (self.new.saved ≡ self.old.saved) × IsErrOf result (StoreFault.Log LogFault.Halted) }
     {
         let outcome = self.stage_draft();
-        self.settle(outcome.is_ok());
+        self.give_up();
         outcome
     }
 }

@@ -11,7 +11,7 @@ impl<D: SectorDevice> Files for Store<D> {
 
     ghost Draft = { Draft };
 
-    ghost state = { λ s. state_of D.SectorDevice.state s.log s.draft s.saved s.totals s.drafted };
+    ghost state = { λ s. state_of D.SectorDevice.state s.log s.draft s.saved s.drafted };
 
     fn header(&mut self, number: u16) -> Result<Option<Header>, LogFault> {
         Store::header(self, number)

@@ -17,6 +17,6 @@ mod writing;
 
 pub use draft::Draft;
 pub use lfs_files::StoreFault;
-pub use lfs_log::{Header, Log, LogFault, MountFault};
+pub use lfs_log::{BlockTotals, Header, Log, LogFault, MountFault};
 pub use store::Store;
-pub use totals::{Measure, Totals};
+pub use totals::Measure;

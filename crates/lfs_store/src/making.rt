@@ -46,7 +46,6 @@ impl<D: SectorDevice> Store<D> {
         requires few { number ≤ 4095 }
         ensures log { self.new.log ≡ self.old.log }
         ensures saved { self.new.saved ≡ self.old.saved }
-        ensures totals { self.new.totals ≡ self.old.totals }
         ensures done { OnOk result (Makes self.old.draft.changes self.new.draft.changes number (first_header kind 0)) }
         ensures counted { OnOk result (CountsMade self.old.draft.changes self.new.draft.changes number self.old.drafted self.new.drafted) }
         ensures failed { IfErr result (λ fault. fault ≡ StoreFault.NoMemory) }
@@ -65,7 +64,6 @@ impl<D: SectorDevice> Store<D> {
         requires most { size ≤ 1023 }
         ensures log { self.new.log ≡ self.old.log }
         ensures saved { self.new.saved ≡ self.old.saved }
-        ensures totals { self.new.totals ≡ self.old.totals }
         ensures done { OnOk result (Makes self.old.draft.changes self.new.draft.changes number (first_header Kind.Link size)) }
         ensures counted { OnOk result (CountsMade self.old.draft.changes self.new.draft.changes number self.old.drafted self.new.drafted) }
         ensures failed { IfErr result (λ fault. fault ≡ StoreFault.NoMemory) }
@@ -80,7 +78,6 @@ impl<D: SectorDevice> Store<D> {
         requires most { size ≤ 8511488 }
         ensures log { self.new.log ≡ self.old.log }
         ensures saved { self.new.saved ≡ self.old.saved }
-        ensures totals { self.new.totals ≡ self.old.totals }
         ensures done { OnOk result (Makes self.old.draft.changes self.new.draft.changes number (first_header kind size)) }
         ensures counted { OnOk result (CountsMade self.old.draft.changes self.new.draft.changes number self.old.drafted self.new.drafted) }
         ensures failed { IfErr result (λ fault. fault ≡ StoreFault.NoMemory) }
@@ -112,7 +109,6 @@ impl<D: SectorDevice> Store<D> {
         requires last { links ≡ 0 → IsNoChange self.old.draft.changes }
         ensures log { self.new.log ≡ self.old.log }
         ensures saved { self.new.saved ≡ self.old.saved }
-        ensures totals { self.new.totals ≡ self.old.totals }
         ensures drafted { self.new.drafted ≡ self.old.drafted }
         ensures done { OnOk result (SetsLinks self.old.draft.changes self.new.draft.changes number header links) }
         ensures counted { OnOk result (CountsRelinked self.old.draft.changes self.new.draft.changes number header self.new.drafted) }
@@ -132,7 +128,6 @@ impl<D: SectorDevice> Store<D> {
         requires empty { IsNoChange self.old.draft.changes }
         ensures log { self.new.log ≡ self.old.log }
         ensures saved { self.new.saved ≡ self.old.saved }
-        ensures totals { self.new.totals ≡ self.old.totals }
         ensures drafted { self.new.drafted ≡ self.old.drafted }
         ensures done { SetsLinks self.old.draft.changes self.new.draft.changes number header 0 }
     {
@@ -150,7 +145,6 @@ impl<D: SectorDevice> Store<D> {
         requires linked { 1 ≤ links }
         ensures log { self.new.log ≡ self.old.log }
         ensures saved { self.new.saved ≡ self.old.saved }
-        ensures totals { self.new.totals ≡ self.old.totals }
         ensures drafted { self.new.drafted ≡ self.old.drafted }
         ensures done { OnOk result (SetsLinks self.old.draft.changes self.new.draft.changes number header links) }
         ensures failed { IfErr result (λ fault. fault ≡ StoreFault.NoMemory) }
@@ -177,7 +171,6 @@ impl<D: SectorDevice> Store<D> {
         requires empty { IsNoChange self.old.draft.changes }
         ensures reads { Reads D.SectorDevice.state self.old.log self.new.log }
         ensures saved { self.new.saved ≡ self.old.saved }
-        ensures totals { self.new.totals ≡ self.old.totals }
         ensures done { OnOk result (Removes self.new.draft.changes number) }
         ensures counted { OnOk result (Counts D.SectorDevice.state self.old.log self.new.log self.old.draft.changes self.new.draft.changes self.old.drafted self.new.drafted) }
         ensures failed { OnErr result (IsReadFault D.SectorDevice.state self.old.log self.new.log) }
@@ -199,7 +192,6 @@ impl<D: SectorDevice> Store<D> {
         requires empty { IsNoChange self.old.draft.changes }
         ensures log { self.new.log ≡ self.old.log }
         ensures saved { self.new.saved ≡ self.old.saved }
-        ensures totals { self.new.totals ≡ self.old.totals }
         ensures drafted { self.new.drafted ≡ self.old.drafted }
         ensures done { Removes self.new.draft.changes number }
     {
@@ -220,9 +212,9 @@ impl<D: SectorDevice> Store<D> {
         ensures kept { OnErr result (IsKept D.SectorDevice.state self.old.log self.new.log) }
         ensures draft { self.new.draft ≡ self.old.draft }
         ensures saved { self.new.saved ≡ self.old.saved }
-        ensures counted { OnOk result (CountsGone D.SectorDevice.state self.old.log self.new.log number self.old.totals self.new.totals) }
-        ensures drafted { OnOk result (self.new.drafted ≡ self.new.totals) }
-        ensures same { OnErr result (self.new.totals ≡ self.old.totals) }
+        ensures counted { OnOk result (CountsGone D.SectorDevice.state self.old.log self.new.log number self.old.log.totals self.new.log.totals) }
+        ensures drafted { OnOk result (self.new.drafted ≡ self.new.log.totals) }
+        ensures same { OnErr result (self.new.log.totals ≡ self.old.log.totals) }
         ensures same_drafted { OnErr result (self.new.drafted ≡ self.old.drafted) }
         ensures failed { OnErr result (IsReadFault D.SectorDevice.state self.old.log self.new.log) }
     {
@@ -230,12 +222,12 @@ impl<D: SectorDevice> Store<D> {
             Ok(measure) => measure,
             Err(fault) => return Err(fault),
         };
-        match self.log.remove(number) {
+        let totals = recounted(self.log.totals(), before, NO_BLOCK);
+        match self.log.remove(number, totals) {
             Ok(()) => {}
             Err(fault) => return Err(fault),
         }
-        self.totals = recounted(self.totals, before, NO_BLOCK);
-        self.drafted = self.totals;
+        self.drafted = totals;
         Ok(())
     }
 }

@@ -1,4 +1,4 @@
-//! How many blocks a file and a volume have with the draft.
+//! How many blocks a file has with the draft.
 ghost use Rattle.std.specs.Prelude.{◌≡◌, ◌<◌, ◌≤◌, ◌-◌, true, IfSome, IfNone, IfOk, OnErr, IsErrOf, IsTrue, IsFalse};
 ghost use Rattle.std.specs.List.{AllByRecursion};
 ghost use Rattle.lfs_log.specs.Held.{Reads, IsReadFault};
@@ -7,14 +7,11 @@ ghost use Rattle.lfs_store.specs.Measuring.{SaysStored, IsInLeaf, IsOffLeaf, Kee
 use crate::draft::Draft;
 use crate::losing::takes_block;
 use crate::store::Store;
-use crate::totals::{Measure, Totals};
+use crate::totals::Measure;
 use lfs_device::SectorDevice;
 use lfs_layout::is_zero;
 use lfs_log::memory::inodes::{DIRECT, POINTERS};
 use lfs_log::{BlockEdit, Log, LogFault, Loss};
-
-/// How many files a volume has at most, and the number that no file has.
-const NUMBERS: u16 = 4_096;
 
 /// How many blocks a file has at most.
 pub const BLOCKS: u32 = 16_624;
@@ -23,7 +20,7 @@ pub const BLOCKS: u32 = 16_624;
 const LEAVES: u32 = 1 + POINTERS;
 
 impl<D: SectorDevice> Store<D> {
-    ghost use Rattle.lfs_store.specs.Measuring.{Measures, CountsFiles};
+    ghost use Rattle.lfs_store.specs.Measuring.{Measures};
     ghost use Rattle.lfs_store.specs.Reading.{ReadsStore};
 
     /// How many blocks a file has: data blocks at the indices from one on to another, its inode, its leaves of pointers with a block there, and
@@ -73,38 +70,6 @@ impl<D: SectorDevice> Store<D> {
             data_blocks,
             meta_blocks: 1 + pointers,
         })
-    }
-
-    /// How many blocks all files have.
-    ///
-    /// # Errors
-    ///
-    /// As those of `header`.
-    pub fn count_files(&mut self) -> Result<Totals, LogFault>
-        ensures reads { Reads D.SectorDevice.state self.old.log self.new.log }
-        ensures draft { self.new.draft ≡ self.old.draft }
-        ensures saved { self.new.saved ≡ self.old.saved }
-        ensures totals { self.new.totals ≡ self.old.totals }
-        ensures drafted { self.new.drafted ≡ self.old.drafted }
-        ensures answer { IfOk result (CountsFiles D.SectorDevice.state self.old.log self.new.log self.old.draft.changes) }
-        ensures failed { OnErr result (IsReadFault D.SectorDevice.state self.old.log self.new.log) }
-        ensures halted { IsErrOf result LogFault.Halted → self.old.log.halted ≡ true }
-        ensures other { IsErrOf result LogFault.Full → ⊥ }
-    {
-        let mut totals = Totals {
-            data_blocks: 0,
-            meta_blocks: 0,
-        };
-        for number in 1..NUMBERS {
-            match self.measure(number, 0, BLOCKS) {
-                Ok(found) => {
-                    totals.data_blocks += found.data_blocks;
-                    totals.meta_blocks += found.meta_blocks;
-                }
-                Err(fault) => return Err(fault),
-            }
-        }
-        Ok(totals)
     }
 }
 

@@ -3,9 +3,9 @@ ghost use Rattle.std.specs.Prelude.{◌≡◌, ◌<◌, ◌≤◌, true, OnOk, O
 ghost use Rattle.lfs_store.specs.Recounting.{Replaces, Recounts};
 
 use crate::store::Store;
-use crate::totals::{Measure, Totals};
+use crate::totals::Measure;
 use lfs_device::SectorDevice;
-use lfs_log::LogFault;
+use lfs_log::{BlockTotals, LogFault};
 
 /// A total with one share in place of another.
 fn replaced(total: u32, before: u32, after: u32) -> u32
@@ -17,10 +17,10 @@ fn replaced(total: u32, before: u32, after: u32) -> u32
 }
 
 /// The totals with one measure of a file in place of another.
-pub fn recounted(totals: Totals, before: Measure, after: Measure) -> Totals
+pub fn recounted(totals: BlockTotals, before: Measure, after: Measure) -> BlockTotals
     ensures { Recounts totals result before after }
 {
-    Totals {
+    BlockTotals {
         data_blocks: replaced(totals.data_blocks, before.data_blocks, after.data_blocks),
         meta_blocks: replaced(totals.meta_blocks, before.meta_blocks, after.meta_blocks),
     }
@@ -31,7 +31,7 @@ impl<D: SectorDevice> Store<D> {
     ghost use Rattle.lfs_store.specs.Recounting.{Remeasures};
 
     /// The data blocks, inodes and blocks of pointers of all files, with the draft.
-    pub fn space(&self) -> Totals
+    pub fn space(&self) -> BlockTotals
         ensures { result ≡ self.now.drafted }
     {
         self.drafted
@@ -55,7 +55,6 @@ impl<D: SectorDevice> Store<D> {
         ensures reads { Reads D.SectorDevice.state self.old.log self.new.log }
         ensures draft { self.new.draft ≡ self.old.draft }
         ensures saved { self.new.saved ≡ self.old.saved }
-        ensures totals { self.new.totals ≡ self.old.totals }
         ensures done { OnOk result (Remeasures D.SectorDevice.state self.old.log self.new.log self.old.draft.changes number from to before self.old.drafted self.new.drafted) }
         ensures failed { OnErr result (IsReadFault D.SectorDevice.state self.old.log self.new.log) }
         ensures halted { IsErrOf result LogFault.Halted → self.old.log.halted ≡ true }

@@ -4,9 +4,8 @@ ghost use Rattle.lfs_model.specs.Fields.{zeros};
 
 use crate::draft::Draft;
 use crate::reading::read_block;
-use crate::totals::Totals;
 use lfs_device::SectorDevice;
-use lfs_log::{Header, Log, LogFault};
+use lfs_log::{BlockTotals, Header, Log, LogFault};
 
 /// A log, and the changes of the present call, which reads see.
 #[derive(Drop)]
@@ -15,10 +14,8 @@ pub struct Store<D: SectorDevice> {
     pub draft: Draft,
     /// Whether nothing changed since the acknowledged checkpoint.
     pub saved: bool,
-    /// The blocks of all files, as they are staged.
-    pub totals: Totals,
-    /// And with the draft.
-    pub drafted: Totals,
+    /// The blocks of all files, with the draft.
+    pub drafted: BlockTotals,
 }
 
 impl<D: SectorDevice> Store<D> {

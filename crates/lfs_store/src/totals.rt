@@ -1,19 +1,6 @@
 //! The totals by which a volume's space is counted.
 ghost use Rattle.lfs_model.specs.Totals.{TotalsOfChange, TotalsOfTree};
 
-/// The data blocks of all files, and their inodes and blocks of pointers.
-#[derive(Clone, Copy, Debug, PartialEq, Eq)]
-pub struct Totals {
-    pub data_blocks: u32,
-    pub meta_blocks: u32,
-}
-
-/// The totals of no file.
-pub const NO_BLOCKS: Totals = Totals {
-    data_blocks: 0,
-    meta_blocks: 0,
-};
-
 /// The blocks of one file: data blocks within a range, and its inode and blocks of pointers.
 #[derive(Clone, Copy, Debug, PartialEq, Eq)]
 pub struct Measure {

@@ -75,7 +75,6 @@ impl<D: SectorDevice> Store<D> {
         requires end { at + length bytes.now ≤ 8511488 }
         ensures reads { Reads D.SectorDevice.state self.old.log self.new.log }
         ensures saved { self.new.saved ≡ self.old.saved }
-        ensures totals { self.new.totals ≡ self.old.totals }
         ensures done { OnOk result (Writes D.SectorDevice.state self.old.log self.new.log self.old.draft.changes self.new.draft.changes number header at bytes.now) }
         ensures counted { OnOk result (Counts D.SectorDevice.state self.old.log self.new.log self.old.draft.changes self.new.draft.changes self.old.drafted self.new.drafted) }
         ensures failed { IfErr result (λ fault. (fault ≡ StoreFault.NoMemory → ⊥) → IsReadFault D.SectorDevice.state self.old.log self.new.log) }
@@ -112,7 +111,6 @@ impl<D: SectorDevice> Store<D> {
         requires end { at + length bytes.now ≤ 8511488 }
         ensures reads { Reads D.SectorDevice.state self.old.log self.new.log }
         ensures saved { self.new.saved ≡ self.old.saved }
-        ensures totals { self.new.totals ≡ self.old.totals }
         ensures drafted { self.new.drafted ≡ self.old.drafted }
         ensures done { OnOk result (Writes D.SectorDevice.state self.old.log self.new.log self.old.draft.changes self.new.draft.changes number header at bytes.now) }
         ensures failed { IfErr result (λ fault. (fault ≡ StoreFault.NoMemory → ⊥) → IsReadFault D.SectorDevice.state self.old.log self.new.log) }
@@ -140,7 +138,6 @@ impl<D: SectorDevice> Store<D> {
         requires end { at + length bytes.now ≤ 8511488 }
         ensures reads { Reads D.SectorDevice.state self.old.log self.new.log }
         ensures saved { self.new.saved ≡ self.old.saved }
-        ensures totals { self.new.totals ≡ self.old.totals }
         ensures drafted { self.new.drafted ≡ self.old.drafted }
         ensures done { OnOk result (WritesBlock D.SectorDevice.state self.old.log self.new.log self.old.draft.changes self.new.draft.changes number index at bytes.now) }
         ensures failed { IfErr result (λ fault. (fault ≡ StoreFault.NoMemory → ⊥) → IsReadFault D.SectorDevice.state self.old.log self.new.log) }
@@ -179,7 +176,6 @@ impl<D: SectorDevice> Store<D> {
         requires empty { IsNoChange self.old.draft.changes }
         ensures reads { Reads D.SectorDevice.state self.old.log self.new.log }
         ensures saved { self.new.saved ≡ self.old.saved }
-        ensures totals { self.new.totals ≡ self.old.totals }
         ensures done { OnOk result (SetsLen D.SectorDevice.state self.old.log self.new.log self.new.draft.changes number header len) }
         ensures counted { OnOk result (Counts D.SectorDevice.state self.old.log self.new.log self.old.draft.changes self.new.draft.changes self.old.drafted self.new.drafted) }
         ensures failed { IfErr result (λ fault. (fault ≡ StoreFault.NoMemory → ⊥) → IsReadFault D.SectorDevice.state self.old.log self.new.log) }
@@ -208,7 +204,6 @@ impl<D: SectorDevice> Store<D> {
         requires empty { IsNoChange self.old.draft.changes }
         ensures reads { Reads D.SectorDevice.state self.old.log self.new.log }
         ensures saved { self.new.saved ≡ self.old.saved }
-        ensures totals { self.new.totals ≡ self.old.totals }
         ensures drafted { self.new.drafted ≡ self.old.drafted }
         ensures done { OnOk result (SetsLen D.SectorDevice.state self.old.log self.new.log self.new.draft.changes number header len) }
         ensures failed { IfErr result (λ fault. (fault ≡ StoreFault.NoMemory → ⊥) → IsReadFault D.SectorDevice.state self.old.log self.new.log) }
@@ -230,7 +225,6 @@ impl<D: SectorDevice> Store<D> {
         requires empty { IsNoChange self.old.draft.changes }
         ensures reads { Reads D.SectorDevice.state self.old.log self.new.log }
         ensures saved { self.new.saved ≡ self.old.saved }
-        ensures totals { self.new.totals ≡ self.old.totals }
         ensures drafted { self.new.drafted ≡ self.old.drafted }
         ensures done { OnOk result (CutsDraft D.SectorDevice.state self.old.log self.new.log self.new.draft.changes number len) }
         ensures failed { IfErr result (λ fault. (fault ≡ StoreFault.NoMemory → ⊥) → IsReadFault D.SectorDevice.state self.old.log self.new.log) }
@@ -251,7 +245,6 @@ impl<D: SectorDevice> Store<D> {
         requires empty { IsNoChange self.old.draft.changes }
         ensures log { self.new.log ≡ self.old.log }
         ensures saved { self.new.saved ≡ self.old.saved }
-        ensures totals { self.new.totals ≡ self.old.totals }
         ensures drafted { self.new.drafted ≡ self.old.drafted }
         ensures draft { DraftsCut self.new.draft.changes number len }
     {
@@ -270,7 +263,6 @@ impl<D: SectorDevice> Store<D> {
         requires lost { DraftsCut self.old.draft.changes number len }
         ensures reads { Reads D.SectorDevice.state self.old.log self.new.log }
         ensures saved { self.new.saved ≡ self.old.saved }
-        ensures totals { self.new.totals ≡ self.old.totals }
         ensures drafted { self.new.drafted ≡ self.old.drafted }
         ensures done { OnOk result (CutsDraft D.SectorDevice.state self.old.log self.new.log self.new.draft.changes number len) }
         ensures failed { IfErr result (λ fault. (fault ≡ StoreFault.NoMemory → ⊥) → IsReadFault D.SectorDevice.state self.old.log self.new.log) }
@@ -298,7 +290,6 @@ impl<D: SectorDevice> Store<D> {
         requires few { number ≤ 4095 }
         ensures log { self.new.log ≡ self.old.log }
         ensures saved { self.new.saved ≡ self.old.saved }
-        ensures totals { self.new.totals ≡ self.old.totals }
         ensures drafted { self.new.drafted ≡ self.old.drafted }
         ensures done { OnOk result (PutsHeader self.old.draft.changes self.new.draft.changes number (resized header size)) }
         ensures failed { IfErr result (λ fault. fault ≡ StoreFault.NoMemory) }

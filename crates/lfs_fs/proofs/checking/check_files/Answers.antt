@@ -5,7 +5,7 @@ use Rattle.lfs_fs.proofs.TreeChecks.{fault_told, files_lack, files_more, files_n
 use Rattle.lfs_fs.proofs.checking.check_files.Goals as goal
 
 pub loop-number-init : goal.loop-number-init
-loop-number-init g c = (files_none g.D.SectorDevice.state c.args.store.now.log c.args.store.now.draft.changes (slice_index c.args.counts.now), refl, refl, refl)
+loop-number-init g c = (files_none g.D.SectorDevice.state c.args.store.now.log c.args.store.now.draft.changes (slice_index c.args.counts.now), refl, refl)
 
 pub loop-number-preserved : goal.loop-number-preserved
 loop-number-preserved g c =
@@ -18,7 +18,6 @@ loop-number-preserved g c =
           (subst (λ (d : Draft). FindsFile g.D.SectorDevice.state at.store.log c.check_file.new.store.log d.changes at.number (slice_index counts at.number)) at.invariant.1 check_done),
       check.draft ∙ at.invariant.1,
       check.saved ∙ at.invariant.2,
-      check.totals ∙ at.invariant.3,
     )
 
 pub returns-in-Err-clause-failed : goal.returns-in-Err-clause-failed

@@ -7,4 +7,3 @@ invariant-loop-number g l =
     FilesUpTo g.D.SectorDevice.state l.initial.store.log l.store.log l.initial.store.draft.changes (slice_index l.counts) l.number
     × (l.store.draft ≡ l.initial.store.draft)
     × (l.store.saved ≡ l.initial.store.saved)
-    × (l.store.totals ≡ l.initial.store.totals)

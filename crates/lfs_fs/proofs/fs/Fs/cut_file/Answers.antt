@@ -1,6 +1,6 @@
 use Rattle.std.proofs.Common.{ap, refl, sym, subst, Err}
 use Rattle.lfs_store.specs.declared.draft.Draft.{Draft}
-use Rattle.lfs_store.specs.declared.totals.Totals.{Totals}
+use Rattle.lfs_store.specs.log.verify.declared.totals.BlockTotals.{BlockTotals}
 use Rattle.lfs_store.specs.memory.Batch.{IsNoChange}
 use Rattle.lfs_fs.proofs.WritingDrafts.{cut_ends}
 use Rattle.lfs_fs.proofs.WritingEnds.{given_up_serves, headerless_serves}
@@ -21,8 +21,8 @@ returns-in-Ok-set_len g c handle opens =
     record {
       reads = c.in-Ok-set_len.ensures.reads;
       saved = c.in-Ok-set_len.ensures.saved;
-      blocks = ap (λ (t : Totals). t.data_blocks) c.in-Ok-set_len.ensures.totals;
-      others = ap (λ (t : Totals). t.meta_blocks) c.in-Ok-set_len.ensures.totals;
+      blocks = ap (λ (t : BlockTotals). t.data_blocks) c.in-Ok-set_len.ensures.reads.totals;
+      others = ap (λ (t : BlockTotals). t.meta_blocks) c.in-Ok-set_len.ensures.reads.totals;
       table = refl;
     }
     c.accept.new.self c.accept.ensures.rest c.accept.result c.accept.ensures.done c.accept.ensures.refused c.in-Ok-set_len.ensures.counted c.args.len c.requires.most c.in-Ok-set_len.ensures.done
@@ -30,5 +30,5 @@ returns-in-Ok-set_len g c handle opens =
 pub returns-in-Err-set_len : goal.returns-in-Err-set_len
 returns-in-Err-set_len g c handle opens =
     given_up_serves g.D.SectorDevice.state g.met.D.SectorDevice.lawful c.args.self.now c.header.new.self c.set_len.new.self c.give_up.new.self _ c.requires.running c.in-Ok.ensures.reads.still
-    c.in-Err-set_len.ensures.reads c.in-Err-set_len.ensures.saved c.in-Err-set_len.ensures.totals c.give_up.ensures.log c.give_up.ensures.saved c.give_up.ensures.totals
+    c.in-Err-set_len.ensures.reads c.in-Err-set_len.ensures.saved c.give_up.ensures.log c.give_up.ensures.saved
     refl refl c.in-Err-set_len.fault c.in-Err-set_len.ensures.failed (λ on. c.in-Err-set_len.ensures.halted (ap Err on)) (λ full. c.in-Err-set_len.ensures.other (ap Err full)) c.from.result c.from.ensures

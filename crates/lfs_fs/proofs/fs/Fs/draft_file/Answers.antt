@@ -29,9 +29,9 @@ returns-in-Err-add-clause-refused g c =
 pub returns-in-Ok-add-clause-still : goal.returns-in-Ok-add-clause-still
 returns-in-Ok-add-clause-still g c =
     let made = c.in-Ok.ensures in
-    still_drafted g.D.SectorDevice.state c.args.self.now c.create.new.self c.add.new.files made.log made.saved made.totals c.add.ensures.redrafts
+    still_drafted g.D.SectorDevice.state c.args.self.now c.create.new.self c.add.new.files made.log made.saved c.add.ensures.redrafts
 
 pub returns-in-Err-add-clause-still : goal.returns-in-Err-add-clause-still
 returns-in-Err-add-clause-still g c =
     let made = c.in-Ok.ensures in
-    still_drafted g.D.SectorDevice.state c.args.self.now c.create.new.self c.add.new.files made.log made.saved made.totals c.add.ensures.redrafts
+    still_drafted g.D.SectorDevice.state c.args.self.now c.create.new.self c.add.new.files made.log made.saved c.add.ensures.redrafts

@@ -19,4 +19,4 @@ pub returns-in-Err-clause-refused : goal.returns-in-Err-clause-refused
 returns-in-Err-clause-refused g c =
     none_made g.D.SectorDevice.state c.args.self.now c.draft_file.new.self record { alloc = c.draft_file.new.self.alloc; store = c.give_up.new.self; handles = c.draft_file.new.self.handles }
     c.args.directory c.args.header c.args.number c.args.name.now c.in-Err.fault c.in-Err.ensures.still
-    (seen_same g.D.SectorDevice.state c.draft_file.new.self c.give_up.new.self c.give_up.ensures.log c.give_up.ensures.saved c.give_up.ensures.totals) c.in-Err.ensures.refused
+    (seen_same g.D.SectorDevice.state c.draft_file.new.self c.give_up.new.self c.give_up.ensures.log c.give_up.ensures.saved) c.in-Err.ensures.refused

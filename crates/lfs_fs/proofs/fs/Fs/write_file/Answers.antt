@@ -1,5 +1,5 @@
 use Rattle.std.proofs.Common.{rules, ap, refl, Err}
-use Rattle.lfs_store.specs.declared.totals.Totals.{Totals}
+use Rattle.lfs_store.specs.log.verify.declared.totals.BlockTotals.{BlockTotals}
 use Rattle.lfs_fs.proofs.WritingDrafts.{write_ends}
 use Rattle.lfs_fs.proofs.WritingEnds.{given_up_serves, headerless_serves}
 use Rattle.lfs_fs.proofs.WritingExits.{bytes_of}
@@ -17,8 +17,8 @@ returns-in-Ok-write_at g c handle opens few =
     record {
       reads = c.in-Ok-write_at.ensures.reads;
       saved = c.in-Ok-write_at.ensures.saved;
-      blocks = ap (λ (t : Totals). t.data_blocks) c.in-Ok-write_at.ensures.totals;
-      others = ap (λ (t : Totals). t.meta_blocks) c.in-Ok-write_at.ensures.totals;
+      blocks = ap (λ (t : BlockTotals). t.data_blocks) c.in-Ok-write_at.ensures.reads.totals;
+      others = ap (λ (t : BlockTotals). t.meta_blocks) c.in-Ok-write_at.ensures.reads.totals;
       table = refl;
     }
     c.accept.new.self c.accept.ensures.rest c.accept.result c.accept.ensures.done c.accept.ensures.refused c.in-Ok-write_at.ensures.counted c.args.at c.args.bytes.now c.requires.bytes few c.requires.end (bytes_of c.args.bytes.now (λ i. search rules))
@@ -27,5 +27,5 @@ returns-in-Ok-write_at g c handle opens few =
 pub returns-in-Err-write_at : goal.returns-in-Err-write_at
 returns-in-Err-write_at g c handle opens few =
     given_up_serves g.D.SectorDevice.state g.met.D.SectorDevice.lawful c.args.self.now c.header.new.self c.write_at.new.self c.give_up.new.self _ c.requires.running c.in-Ok.ensures.reads.still
-    c.in-Err-write_at.ensures.reads c.in-Err-write_at.ensures.saved c.in-Err-write_at.ensures.totals c.give_up.ensures.log c.give_up.ensures.saved c.give_up.ensures.totals
+    c.in-Err-write_at.ensures.reads c.in-Err-write_at.ensures.saved c.give_up.ensures.log c.give_up.ensures.saved
     refl refl c.in-Err-write_at.fault c.in-Err-write_at.ensures.failed (λ on. c.in-Err-write_at.ensures.halted (ap Err on)) (λ full. c.in-Err-write_at.ensures.other (ap Err full)) c.from.result c.from.ensures

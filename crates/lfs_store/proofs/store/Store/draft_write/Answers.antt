@@ -15,7 +15,6 @@ loop-index-init g c = (
   written_none g.D.SectorDevice.state c.args.self.now.log c.args.self.now.draft.changes c.args.number c.args.at c.args.bytes.now (reads_none g.D.SectorDevice.state c.args.self.now.log),
   refl,
   refl,
-  refl,
 )
 
 pub returns-in_err-write_block-clause-failed : goal.returns-in_err-write_block-clause-failed
@@ -31,8 +30,7 @@ loop-index-preserved g c = (
   written_more g.D.SectorDevice.state c.args.self.now.log c.loop-index.self.log c.write_block.new.self.log c.args.self.now.draft.changes c.loop-index.self.draft.changes c.write_block.new.self.draft.changes
       c.args.number c.args.at c.args.bytes.now c.loop-index.index (g.met.D.SectorDevice.lawful c.args.self.now.log.device) (search rules) c.loop-index.invariant.0 c.write_block.ensures.reads c.in_ok-write_block.ensures.done,
   c.write_block.ensures.saved ∙ c.loop-index.invariant.1,
-  c.write_block.ensures.totals ∙ c.loop-index.invariant.2,
-  c.write_block.ensures.drafted ∙ c.loop-index.invariant.3,
+  c.write_block.ensures.drafted ∙ c.loop-index.invariant.2,
 )
 
 pub returns-clause-done : goal.returns-clause-done
@@ -49,14 +47,8 @@ returns-in_err-write_block-clause-saved g c = c.write_block.ensures.saved ∙ c.
 pub returns-clause-saved : goal.returns-clause-saved
 returns-clause-saved g c = c.resize.ensures.saved ∙ c.loop-index.invariant.1
 
-pub returns-in_err-write_block-clause-totals : goal.returns-in_err-write_block-clause-totals
-returns-in_err-write_block-clause-totals g c = c.write_block.ensures.totals ∙ c.loop-index.invariant.2
-
-pub returns-clause-totals : goal.returns-clause-totals
-returns-clause-totals g c = c.resize.ensures.totals ∙ c.loop-index.invariant.2
-
 pub returns-in_err-write_block-clause-drafted : goal.returns-in_err-write_block-clause-drafted
-returns-in_err-write_block-clause-drafted g c = c.write_block.ensures.drafted ∙ c.loop-index.invariant.3
+returns-in_err-write_block-clause-drafted g c = c.write_block.ensures.drafted ∙ c.loop-index.invariant.2
 
 pub returns-clause-drafted : goal.returns-clause-drafted
-returns-clause-drafted g c = c.resize.ensures.drafted ∙ c.loop-index.invariant.3
+returns-clause-drafted g c = c.resize.ensures.drafted ∙ c.loop-index.invariant.2

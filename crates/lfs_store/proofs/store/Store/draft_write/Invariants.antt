@@ -6,5 +6,4 @@ abbrev pub invariant-loop-index : goal.invariant-loop-index
 invariant-loop-index g l =
     WrittenUpTo g.D.SectorDevice.state l.initial.self.log l.self.log l.initial.self.draft.changes l.self.draft.changes l.number l.at l.bytes l.index
     × (l.self.saved ≡ l.initial.self.saved)
-    × (l.self.totals ≡ l.initial.self.totals)
     × (l.self.drafted ≡ l.initial.self.drafted)

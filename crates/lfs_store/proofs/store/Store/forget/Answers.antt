@@ -1,6 +1,6 @@
-use Rattle.std.proofs.Common.{subst}
-use Rattle.lfs_store.specs.declared.totals.Totals.{Totals}
-use Rattle.lfs_store.specs.Recounting.{Recounts}
+use Rattle.std.proofs.Common.{◌∙◌, subst, sym}
+use Rattle.lfs_log.specs.verify.declared.totals.BlockTotals.{BlockTotals}
+use Rattle.lfs_store.specs.Recounting.{CountsGone, Recounts}
 use Rattle.lfs_store.proofs.Forgotten.{forgets}
 use Rattle.lfs_store.proofs.LogReads.{fault_more}
 use Rattle.lfs_store.proofs.Recounted.{gone_counts, kept_read, kept_more, removed_more}
@@ -23,9 +23,10 @@ returns-clause-done g c =
 
 pub returns-clause-counted : goal.returns-clause-counted
 returns-clause-counted g c =
-    let recounts = subst (λ (t : Totals). Recounts t c.recounted-self.result c.in-Ok.measure (record { data_blocks = 0; meta_blocks = 0 })) c.measure.ensures.reads.totals c.recounted-self.ensures in
-    gone_counts g.D.SectorDevice.state c.args.self.now.log c.measure.new.self.log c.remove.new.self c.args.self.now.draft.changes c.args.number c.in-Ok.measure c.args.self.now.totals c.recounted-self.result
-    c.requires.some c.requires.few c.requires.empty c.measure.ensures.reads.log c.in-Ok.ensures.answer c.in-Ok-remove.ensures.done.alters recounts
+    let recounts = subst (λ (t : BlockTotals). Recounts t c.recounted-totals.result c.in-Ok.measure (record { data_blocks = 0; meta_blocks = 0 })) (c.totals.ensures ∙ c.measure.ensures.reads.log.totals) c.recounted-totals.ensures in
+    subst (λ (t : BlockTotals). CountsGone g.D.SectorDevice.state c.args.self.now.log c.remove.new.self c.args.number c.args.self.now.log.totals t) (sym c.in-Ok-remove.ensures.counted)
+    (gone_counts g.D.SectorDevice.state c.args.self.now.log c.measure.new.self.log c.remove.new.self c.args.self.now.draft.changes c.args.number c.in-Ok.measure c.args.self.now.log.totals c.recounted-totals.result
+    c.requires.some c.requires.few c.requires.empty c.measure.ensures.reads.log c.in-Ok.ensures.answer c.in-Ok-remove.ensures.done.alters recounts)
 
 pub returns-clause-stores : goal.returns-clause-stores
 returns-clause-stores g c =

@@ -1,7 +1,7 @@
 use Rattle.std.proofs.Common.{◌∙◌, sym, subst}
 use Rattle.lfs_log.specs.Held.{Held, Reads}
 use Rattle.lfs_store.specs.declared.draft.Draft.{Draft}
-use Rattle.lfs_store.specs.declared.totals.Totals.{Totals}
+use Rattle.lfs_log.specs.verify.declared.totals.BlockTotals.{BlockTotals}
 use Rattle.lfs_store.specs.Recounting.{Remeasures, Counts}
 use Rattle.lfs_store.proofs.LogReads.{fault_more, reads_none, reads_more}
 use Rattle.lfs_store.proofs.Recounted.{remove_counts}
@@ -19,7 +19,7 @@ pub returns-in-Ok-recount-clause-counted : goal.returns-in-Ok-recount-clause-cou
 returns-in-Ok-recount-clause-counted g c =
     let state = g.D.SectorDevice.state in
     let next = subst (λ (l : Held _). Reads state c.measure.new.self.log l) (sym c.lose_file.ensures.log) (reads_none state c.measure.new.self.log) in
-    let again = subst (λ (t : Totals). Remeasures state c.lose_file.new.self.log c.recount.new.self.log c.lose_file.new.self.draft.changes c.args.number 0 16624 c.in-Ok.measure t c.recount.new.self.drafted)
+    let again = subst (λ (t : BlockTotals). Remeasures state c.lose_file.new.self.log c.recount.new.self.log c.lose_file.new.self.draft.changes c.args.number 0 16624 c.in-Ok.measure t c.recount.new.self.drafted)
     (c.lose_file.ensures.drafted ∙ c.measure.ensures.reads.drafted) c.in-Ok-recount.ensures.done in
     subst (λ (d : Draft). Counts state c.args.self.now.log c.recount.new.self.log c.args.self.now.draft.changes d.changes c.args.self.now.drafted c.recount.new.self.drafted) (sym c.recount.ensures.draft)
     (remove_counts state c.args.self.now.log c.measure.new.self.log c.lose_file.new.self.log c.recount.new.self.log c.args.self.now.draft.changes c.lose_file.new.self.draft.changes c.args.number c.in-Ok.measure

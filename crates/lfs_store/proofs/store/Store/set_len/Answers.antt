@@ -1,6 +1,6 @@
 use Rattle.std.proofs.Common.{◌/◌, ◌∙◌, sym, subst}
 use Rattle.lfs_store.specs.declared.draft.Draft.{Draft}
-use Rattle.lfs_store.specs.declared.totals.Totals.{Totals}
+use Rattle.lfs_log.specs.verify.declared.totals.BlockTotals.{BlockTotals}
 use Rattle.lfs_store.specs.Recounting.{Remeasures, Counts}
 use Rattle.lfs_store.specs.Writing.{SetsLen}
 use Rattle.lfs_store.proofs.Cuttings.{sets_around}
@@ -28,7 +28,7 @@ returns-in-Ok-recount-clause-done g c =
 pub returns-in-Ok-recount-clause-counted : goal.returns-in-Ok-recount-clause-counted
 returns-in-Ok-recount-clause-counted g c =
     let state = g.D.SectorDevice.state in
-    let again = subst (λ (t : Totals). Remeasures state c.draft_len.new.self.log c.recount.new.self.log c.draft_len.new.self.draft.changes c.args.number (c.args.len / 512) 16624 c.in-Ok.measure t c.recount.new.self.drafted)
+    let again = subst (λ (t : BlockTotals). Remeasures state c.draft_len.new.self.log c.recount.new.self.log c.draft_len.new.self.draft.changes c.args.number (c.args.len / 512) 16624 c.in-Ok.measure t c.recount.new.self.drafted)
     (c.draft_len.ensures.drafted ∙ c.measure.ensures.reads.drafted) c.in-Ok-recount.ensures.done in
     subst (λ (d : Draft). Counts state c.args.self.now.log c.recount.new.self.log c.args.self.now.draft.changes d.changes c.args.self.now.drafted c.recount.new.self.drafted) (sym c.recount.ensures.draft)
     (cut_counts state c.args.self.now.log c.measure.new.self.log c.draft_len.new.self.log c.recount.new.self.log c.args.self.now.draft.changes c.draft_len.new.self.draft.changes c.args.number c.in-Ok.measure

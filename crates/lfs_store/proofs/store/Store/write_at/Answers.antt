@@ -1,6 +1,6 @@
 use Rattle.std.proofs.Common.{◌/◌, ◌∙◌, sym, subst}
 use Rattle.lfs_store.specs.declared.draft.Draft.{Draft}
-use Rattle.lfs_store.specs.declared.totals.Totals.{Totals}
+use Rattle.lfs_log.specs.verify.declared.totals.BlockTotals.{BlockTotals}
 use Rattle.lfs_store.specs.Recounting.{Remeasures, Counts}
 use Rattle.lfs_store.specs.Writing.{Writes}
 use Rattle.lfs_store.proofs.LogReads.{fault_more, reads_more}
@@ -30,7 +30,7 @@ pub returns-in-Ok-recount-clause-counted : goal.returns-in-Ok-recount-clause-cou
 returns-in-Ok-recount-clause-counted g c =
     let state = g.D.SectorDevice.state in
     let writes = subst (λ (d : Draft). Writes state c.measure.new.self.log c.draft_write.new.self.log d.changes c.draft_write.new.self.draft.changes c.args.number c.args.header c.args.at c.args.bytes.now) c.measure.ensures.reads.draft c.in-Ok-draft_write.ensures.done in
-    let again = subst (λ (t : Totals). Remeasures state c.draft_write.new.self.log c.recount.new.self.log c.draft_write.new.self.draft.changes c.args.number (c.args.at / 512) c.div_ceil-to.result c.in-Ok.measure t c.recount.new.self.drafted)
+    let again = subst (λ (t : BlockTotals). Remeasures state c.draft_write.new.self.log c.recount.new.self.log c.draft_write.new.self.draft.changes c.args.number (c.args.at / 512) c.div_ceil-to.result c.in-Ok.measure t c.recount.new.self.drafted)
     (c.draft_write.ensures.drafted ∙ c.measure.ensures.reads.drafted) c.in-Ok-recount.ensures.done in
     subst (λ (d : Draft). Counts state c.args.self.now.log c.recount.new.self.log c.args.self.now.draft.changes d.changes c.args.self.now.drafted c.recount.new.self.drafted) (sym c.recount.ensures.draft)
     (write_counts state c.args.self.now.log c.measure.new.self.log c.draft_write.new.self.log c.recount.new.self.log c.args.self.now.draft.changes c.draft_write.new.self.draft.changes c.args.number c.in-Ok.measure
