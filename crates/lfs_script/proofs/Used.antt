@@ -10,8 +10,8 @@ use Rattle.lfs_fs.specs.declared.fs.Fs.{Fs}
 use Rattle.lfs_fs.specs.Mounting.{FindsState, IsRefused}
 use Rattle.lfs_fs.specs.Seen.{seen}
 use Rattle.lfs_fs.specs.Volume.{Mounted}
-use Rattle.lfs_fs.specs.log.declared.fault.MountFault.{MountFault}
-use Rattle.lfs_fs.specs.log.declared.fault.MountFault.TheVariants.{NoMemory, Device, TooSmall, NoCheckpoint, Damaged}
+use Rattle.lfs_fs.specs.log.verify.declared.fault.MountFault.{MountFault}
+use Rattle.lfs_fs.specs.log.verify.declared.fault.MountFault.TheVariants.{NoMemory, Device, TooSmall, NoCheckpoint, Damaged}
 use Rattle.lfs_fs.proofs.Sessions.{uses_volume}
 use Rattle.lfs_script.specs.Running.{Ends}
 use Rattle.lfs_script.specs.Session.{Session}

@@ -7,8 +7,8 @@ use Rattle.lfs_model.specs.Script.{call_of}
 use Rattle.lfs_model.specs.Use.{Continues, UsesVolume}
 use Rattle.lfs_model.specs.Volume.{LeavesPrefix}
 use Rattle.lfs_fs.specs.Mounting.{IsMountFault, IsRefused}
-use Rattle.lfs_fs.specs.log.declared.fault.MountFault.{MountFault}
-use Rattle.lfs_fs.specs.log.declared.fault.MountFault.TheVariants.{NoMemory}
+use Rattle.lfs_fs.specs.log.verify.declared.fault.MountFault.{MountFault}
+use Rattle.lfs_fs.specs.log.verify.declared.fault.MountFault.TheVariants.{NoMemory}
 use Rattle.lfs_script.specs.Session.{Session}
 use Rattle.lfs_script.specs.declared.script.ScriptEnd.{ScriptEnd}
 use Rattle.lfs_script.specs.declared.session.StoppedScript.{StoppedScript}
