@@ -1,5 +1,5 @@
 //! A name looked up in a directory.
-ghost use Rattle.std.specs.Prelude.{◌≡◌, ◌<◌, true, IfOk, OnErr, IsErrOf};
+ghost use Rattle.std.specs.Prelude.{◌≡◌, ◌<◌, true, IfOk, IfSome, OnErr, IsErrOf};
 ghost use Rattle.lfs_files.specs.Files.{Reads};
 ghost use Rattle.lfs_dirs.specs.Finding.{Finds, IsDirectoryFault};
 
@@ -20,6 +20,7 @@ pub fn find<F: Files>(
     requires { directory < 4096 }
     ensures reads { Reads (F.state files.old) (F.state files.new) }
     ensures answer { IfOk result (Finds (F.state files.old) (F.state files.new) directory header name.now) }
+    ensures number { IfOk result (λ found. IfSome found (λ n. n < 4096)) }
     ensures failed { OnErr result (IsDirectoryFault (F.state files.old) (F.state files.new) directory header) }
     ensures halted { IsErrOf result LogFault.Halted → (F.state files.old).halted ≡ true }
     ensures other { IsErrOf result LogFault.Full → ⊥ }

@@ -32,6 +32,7 @@ pub fn search<F: Files>(
     ensures reads { Reads (F.state files.old) (F.state files.new) }
     ensures answer { IfOk result (FindsSlot (F.state files.old) (F.state files.new) directory header name.now) }
     ensures inside { IfOk result (λ found. IfSome found (λ slot. slot.place < header.size / 64)) }
+    ensures number { IfOk result (λ found. IfSome found (λ slot. slot.number < 4096)) }
     ensures failed { OnErr result (IsDirectoryFault (F.state files.old) (F.state files.new) directory header) }
     ensures halted { IsErrOf result LogFault.Halted → (F.state files.old).halted ≡ true }
     ensures other { IsErrOf result LogFault.Full → ⊥ }
@@ -67,6 +68,7 @@ fn search_block<F: Files>(
     ensures reads { Reads (F.state files.old) (F.state files.new) }
     ensures answer { IfOk result (FindsInBlock (F.state files.old) (F.state files.new) directory index count name.now) }
     ensures inside { IfOk result (λ found. IfSome found (λ slot. slot.place < count)) }
+    ensures number { IfOk result (λ found. IfSome found (λ slot. slot.number < 4096)) }
     ensures failed { OnErr result (IsBlockFault (F.state files.old) (F.state files.new) directory index count) }
     ensures halted { IsErrOf result LogFault.Halted → (F.state files.old).halted ≡ true }
     ensures other { IsErrOf result LogFault.Full → ⊥ }
@@ -90,6 +92,7 @@ fn search_slots(block: &[u8; 512], count: u32, name: &[u8]) -> Result<Option<Fou
     requires { count ≤ 8 }
     ensures found { IfOk result (FindsIn (first_slots block.now count) name.now) }
     ensures inside { IfOk result (λ found. IfSome found (λ slot. slot.place < count)) }
+    ensures number { IfOk result (λ found. IfSome found (λ slot. slot.number < 4096)) }
     ensures broken { OnErr result (HasNoSlot block.now count) }
 {
     for place in 0..count {
