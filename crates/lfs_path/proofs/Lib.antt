@@ -3,5 +3,7 @@ pub mod FlatWalks
 pub mod Lasts
 pub mod Lookups
 pub mod PathEnds
+pub mod InTrees
+pub mod Sights
 pub mod Texts
 pub use Rattle.lfs_dirs.proofs as of_dirs

@@ -1,9 +1,9 @@
 -- The pieces of a text, from its slashes.
-use Rattle.std.proofs.Common.{◌≡◌, refl, sym, ap, subst, ◌∙◌, ℕ, suc, ◌-◌, ◌<◌, true, false, not, ◌&&◌, List, [], ◌∷◌, length, take, drop, eqb, arith, inl, inr}
+use Rattle.std.proofs.Common.{◌≡◌, refl, sym, ap, subst, ◌∙◌, ℕ, suc, ◌+◌, ◌-◌, ◌<◌, ◌≤◌, ◌⊎◌, true, false, not, ◌&&◌, List, [], ◌∷◌, length, take, drop, eqb, arith, inl, inr}
 use Rattle.std.specs.Prelude.{filter, nat_eq, nat_lt}
 use Rattle.std.specs.List.{prefix_len}
 use Rattle.std.proofs.lemmas.Bool.Decides.{nat_tests, eqb_tells}
-use Rattle.std.proofs.lemmas.List.{length-drop, take_all}
+use Rattle.std.proofs.lemmas.List.{length-drop, take_all, drop-drop, drop_all}
 use lib.Pointwise.{pointwise}
 use Rattle.lfs_model.specs.PathText.{parts, before_parts, comps, slash, from_root}
 use Rattle.lfs_model.specs.Tree.{same_name}
@@ -135,6 +135,24 @@ slash_skipped (c ∷ q) some = elim (eqb_tells c 47) as (λ _. slash (c ∷ q) �
     longer [] left = absurd (omega arith)
     longer (d ∷ r) left = refl
 
+-- what is left of a text behind some of its bytes is as many bytes from its end
+pub suffix_back : (k j : ℕ) (path r : List ℕ) → r ≡ drop j (drop k path) → r ≡ drop (length path - length r) path
+suffix_back k j path r is = elim (cases_le (k + j) (length path)) as (λ _. r ≡ drop (length path - length r) path) [
+  | inl inside ↦ let at : k + j ≡ length path - length r = omega (arith, long, inside) in whole ∙ ap (λ (n : ℕ). drop n path) at
+  | inr past ↦
+      let none : length path ≤ length path - length r = omega (arith, long, past) in
+      whole ∙ drop_all (k + j) path (omega (arith, past)) ∙ sym (drop_all (length path - length r) path none)
+]
+  where
+    whole : r ≡ drop (k + j) path
+    whole = is ∙ drop-drop j k path
+
+    long : length r ≡ length path - (k + j)
+    long = ap length whole ∙ length-drop (k + j) path
+
+    cases_le : (a b : ℕ) → (a ≤ b) ⊎ (b ≤ a)
+    cases_le a b = grind arith
+
 module _ (path q piece rest : List ℕ) (k : ℕ) (at : k ≡ prefix_len is_slash path) (is : q ≡ take (length path - k) (drop k path)) where
   whole : q ≡ drop (prefix_len is_slash path) path
   whole =
@@ -168,6 +186,8 @@ module _ (path q piece rest : List ℕ) (k : ℕ) (at : k ≡ prefix_len is_slas
             slash_end = slash_skipped path left ∙ ap slash (sym all) ∙ slash_behind (c ∷ x) ∙ ap slash (sym back);
             goes_on = subst (λ (y : List ℕ). more (comps y) (slash y) ≡ nat_lt 0 (length y)) (sym back) (more_behind (drop (piece_len (c ∷ x)) (c ∷ x)) (ends_there (c ∷ x)));
             shorter = omega arith;
+            behind = suffix_back (prefix_len is_slash path) (piece_len (c ∷ x)) path rest (back ∙ ap (drop (piece_len (c ∷ x))) all);
+            begins = subst Ends (sym back) (ends_there (c ∷ x));
           }
 
 -- `==` on two pieces

@@ -3,4 +3,7 @@ pub mod Laws
 pub mod Pieces
 pub mod Refusals
 pub mod Walking
+pub mod Trees
+pub mod Telling
+pub mod Seeing
 pub use Rattle.lfs_dirs.specs as dirs

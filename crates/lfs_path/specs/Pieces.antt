@@ -1,6 +1,6 @@
 -- The pieces of a path, one after the other.
-use Rattle.std.specs.Prelude.{ℕ, ◌≡◌, ◌<◌, ◌==◌, ◌||◌, Bool, false, nat_lt, List, [], ◌∷◌, length, if◌then◌else◌}
-use Rattle.lfs_model.specs.PathText.{comps, slash}
+use Rattle.std.specs.Prelude.{ℕ, ◌≡◌, ◌<◌, ◌-◌, ◌==◌, ◌||◌, Bool, false, nat_lt, List, [], ◌∷◌, length, drop, if◌then◌else◌}
+use Rattle.lfs_model.specs.PathText.{comps, slash, from_root}
 use Rattle.lfs_model.specs.Tree.{same_name}
 use Rattle.lfs_model.specs.Walk.{dot, dot_dot, more}
 
@@ -24,6 +24,9 @@ pub record IsNextPiece (path piece rest : List ℕ) : Type 0 where
   -- a piece or a slash end is left where any text is
   pub goes_on : more (comps rest) (slash rest) ≡ nat_lt 0 (length rest)
   pub shorter : length rest < length path
+  -- the text behind it is the path's end, and is empty or begins with a slash
+  pub behind : rest ≡ drop (length path - length rest) path
+  pub begins : from_root rest ≡ nat_lt 0 (length rest)
 
 -- The first piece that is a name, and the text behind it.
 pub record IsFirstName (path name rest : List ℕ) : Type 0 where

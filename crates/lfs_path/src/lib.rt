@@ -4,10 +4,13 @@
 mod fault;
 pub mod last;
 pub mod laws;
+mod seen;
 pub mod text;
 mod walk;
+mod walk_fault;
 
 pub use fault::PathFault;
 pub use last::Last;
 pub use lfs_dirs as dirs;
 pub use walk::{Place, parent, resolve};
+pub use walk_fault::WalkFault;

@@ -1,0 +1,67 @@
+-- Pieces looked up, over files with a draft.
+use Rattle.std.proofs.Common.{◌≡◌, ◌≢◌, ◌<◌, ◌≤◌, sym, subst, ◌∙◌, ℕ, List, length, Option, Some, None, arith}
+use Rattle.lfs_model.specs.declared.Kind.TheVariants as kind
+use Rattle.lfs_model.specs.Walk.{dot, dot_dot}
+use Rattle.lfs_model.specs.Stands.{LogMap}
+use Rattle.lfs_files.specs.declared.header.Header.{Header}
+use Rattle.lfs_files.specs.Files.{FilesState, Reads}
+use Rattle.lfs_dirs.specs.Finding.{Finds, IsDirectoryFault}
+use Rattle.lfs_path.specs.Seeing.{EndsAtPiece, HasHeader, HasObject, IsSeen, NamesObject}
+use Rattle.lfs_path.specs.Telling.{Fails, Refuses, Tells}
+use Rattle.lfs_path.specs.Trees.{InDirectory}
+use Rattle.lfs_path.specs.declared.seen.Seen.TheVariants as seen
+use Rattle.lfs_path.specs.declared.walk_fault.WalkFault.TheVariants.{NoEntry, NameTooLong}
+use Rattle.lfs_path.proofs.InTrees.{gives_directory, gives_file, gives_link, is_formed, is_name, is_object, long_name, named_object, no_name}
+
+module _ {S D : Type 0} where
+  -- what failed behind a call that read
+  pub fails_then : (s a b : FilesState S D) (P Q : LogMap → Type 0) → Reads s a → ((m m' : LogMap) → b.device.keeps_model → s.has m m' → P m' → Q m') → Fails a b Q → Fails s b P
+  fails_then s a b P Q one so failed m m' keeps has p =
+      let rose = failed m m' keeps (one.has m m' has) (so m m' keeps has p) in
+      let before = one.looks.carries.failures in
+      omega (arith, rose, before)
+
+  pub long_refused : (s : FilesState S D) (d : ℕ) (name : List ℕ) → 59 < length name → Refuses s s (InDirectory d) (EndsAtPiece d name) NameTooLong
+  long_refused s d name long m m' keeps has within = long_name m' d within name long
+
+  pub header_failed : (s a : FilesState S D) (d : ℕ) → Fails s a (HasObject d) → Fails s a (InDirectory d)
+  header_failed s a d failed m m' keeps has within = failed m m' keeps has (is_object m' d within)
+
+  -- ---- a name looked up in directory d
+  module _ (s a b : FilesState S D) (d : ℕ) (head : Header) (one : Reads s a) (two : Reads a b) (read : Tells s a (λ m. Unit {0}) (HasHeader d head)) where
+    header_is : (m m' : LogMap) → b.device.keeps_model → s.has m m' → HasHeader d head m'
+    header_is m m' keeps has = read m m' (two.looks.carries.kept_before keeps) has tt
+
+    pub found : (name : List ℕ) (n : ℕ) → (name ≢ dot) × (name ≢ dot_dot) → length name ≤ 59 → Finds a b d head name (Some n) → Tells s b (InDirectory d) (NamesObject d name n)
+    found name n dots short finds m m' keeps has within = is_name m' d within head (header_is m m' keeps has) name dots short n (finds m m' keeps (one.has m m' has))
+
+    pub found_none : (name : List ℕ) → (name ≢ dot) × (name ≢ dot_dot) → length name ≤ 59 → Finds a b d head name None → Refuses s b (InDirectory d) (EndsAtPiece d name) NoEntry
+    found_none name dots short finds m m' keeps has within = no_name m' d within head (header_is m m' keeps has) name dots short (finds m m' keeps (one.has m m' has))
+
+    pub find_failed : IsDirectoryFault a b d head → Fails s b (InDirectory d)
+    find_failed failed m m' keeps has within =
+        let rose = failed m m' keeps (one.has m m' has) (is_formed m' d within head (header_is m m' keeps has)) in
+        let before = one.looks.carries.failures in
+        omega (arith, rose, before)
+
+  -- ---- what it gives
+  module _ (s a b : FilesState S D) (d n : ℕ) (name : List ℕ) (one : Reads s a) (two : Reads a b) (named : Tells s a (InDirectory d) (NamesObject d name n)) where
+    pub object_failed : Fails a b (HasObject n) → Fails s b (InDirectory d)
+    object_failed = fails_then s a b (InDirectory d) (HasObject n) one
+        (λ m m' keeps has within. named_object m' d name n within.tree (named m m' (two.looks.carries.kept_before keeps) has within))
+
+    module _ (head : Header) (read : Tells a b (λ m. Unit {0}) (HasHeader n head)) where
+      named_at : (m m' : LogMap) → b.device.keeps_model → s.has m m' → InDirectory d m' → NamesObject d name n m'
+      named_at m m' keeps has within = named m m' (two.looks.carries.kept_before keeps) has within
+
+      header_at : (m m' : LogMap) → b.device.keeps_model → s.has m m' → HasHeader n head m'
+      header_at m m' keeps has = read m m' keeps (one.has m m' has) tt
+
+      pub seen_file : head.kind ≡ kind.File → Tells s b (InDirectory d) (IsSeen d name (seen.File n))
+      seen_file same m m' keeps has within = gives_file m' d name n within.tree (named_at m m' keeps has within) head (header_at m m' keeps has) same
+
+      pub seen_directory : head.kind ≡ kind.Directory → Tells s b (InDirectory d) (IsSeen d name (seen.Directory n))
+      seen_directory same m m' keeps has within = gives_directory m' d name n within.tree (named_at m m' keeps has within) head (header_at m m' keeps has) same
+
+      pub seen_link : head.kind ≡ kind.Link → Tells s b (InDirectory d) (IsSeen d name (seen.Symbolic record { number = n; header = head }))
+      seen_link same m m' keeps has within = gives_link m' d name n within.tree (named_at m m' keeps has within) head (header_at m m' keeps has) same

@@ -1,0 +1,121 @@
+//! A piece of a path, looked up in a directory.
+ghost use Rattle.std.specs.Prelude.{◌≡◌, ◌≢◌, ◌<◌, true, IfOk, IfErr, OnErr, IsErrOf};
+ghost use Rattle.lfs_model.specs.Walk.{dot, dot_dot};
+ghost use Rattle.lfs_files.specs.Files.{Reads};
+ghost use Rattle.lfs_path.specs.Seeing.{EndsAtPiece, HasHeader, HasNumber, HasObject, IsSeen, NamesObject};
+ghost use Rattle.lfs_path.specs.Telling.{Fails, Refuses, Tells};
+ghost use Rattle.lfs_path.specs.Trees.{InDirectory};
+
+use crate::walk_fault::WalkFault;
+use lfs_dirs::find;
+use lfs_files::{Files, Header, LogFault};
+use lfs_model::Kind;
+
+/// The most bytes of a name.
+const LONGEST_NAME: usize = 59;
+
+/// A symbolic link.
+#[derive(Clone, Copy)]
+pub struct Link {
+    pub number: u16,
+    pub header: Header,
+}
+
+/// What a piece of a path is, in the directory where it stands.
+#[derive(Clone, Copy)]
+pub enum Seen {
+    /// Dot.
+    Here,
+    /// Dot-dot.
+    Above,
+    /// A name of a directory.
+    Directory(u16),
+    /// A name of a file.
+    File(u16),
+    /// A name of a symbolic link.
+    Symbolic(Link),
+}
+
+/// What a piece of a path is in a directory.
+///
+/// # Errors
+///
+/// `NameTooLong`, or `NoEntry` where the directory doesn't have the name. `Log` where the log gives no answer.
+pub fn look<F: Files>(
+    files: &mut F,
+    directory: u16,
+    piece: &[u8],
+) -> Result<Seen, WalkFault>
+    requires { directory < 4096 }
+    ensures reads { Reads (F.state files.old) (F.state files.new) }
+    ensures number { IfOk result HasNumber }
+    ensures answer { IfOk result (λ seen. Tells (F.state files.old) (F.state files.new) (InDirectory directory) (IsSeen directory piece.now seen)) }
+    ensures refused { IfErr result (Refuses (F.state files.old) (F.state files.new) (InDirectory directory) (EndsAtPiece directory piece.now)) }
+    ensures halted { IsErrOf result (WalkFault.Log LogFault.Halted) → (F.state files.old).halted ≡ true }
+    ensures other { IsErrOf result (WalkFault.Log LogFault.Full) → ⊥ }
+{
+    if piece == b".".as_slice() {
+        return Ok(Seen::Here);
+    }
+    if piece == b"..".as_slice() {
+        return Ok(Seen::Above);
+    }
+    let number = match entry_in(files, directory, piece) {
+        Ok(number) => number,
+        Err(fault) => return Err(fault),
+    };
+    let header = match header_of(files, number) {
+        Ok(header) => header,
+        Err(fault) => return Err(WalkFault::Log(fault)),
+    };
+    match header.kind {
+        Kind::File => Ok(Seen::File(number)),
+        Kind::Directory => Ok(Seen::Directory(number)),
+        Kind::Link => Ok(Seen::Symbolic(Link { number, header })),
+    }
+}
+
+/// What the inode of an object says of it.
+fn header_of<F: Files>(files: &mut F, number: u16) -> Result<Header, LogFault>
+    requires { number < 4096 }
+    ensures reads { Reads (F.state files.old) (F.state files.new) }
+    ensures answer { IfOk result (λ header. Tells (F.state files.old) (F.state files.new) (λ m. Unit {0}) (HasHeader number header)) }
+    ensures failed { OnErr result (Fails (F.state files.old) (F.state files.new) (HasObject number)) }
+    ensures halted { IsErrOf result LogFault.Halted → (F.state files.old).halted ≡ true }
+    ensures other { IsErrOf result LogFault.Full → ⊥ }
+{
+    match files.header(number) {
+        Ok(Some(header)) => Ok(header),
+        Ok(None) => Err(LogFault::Device),
+        Err(fault) => Err(fault),
+    }
+}
+
+/// The object that a name gives in a directory.
+fn entry_in<F: Files>(
+    files: &mut F,
+    directory: u16,
+    name: &[u8],
+) -> Result<u16, WalkFault>
+    requires few { directory < 4096 }
+    requires dots { (name.now ≢ dot) × (name.now ≢ dot_dot) }
+    ensures reads { Reads (F.state files.old) (F.state files.new) }
+    ensures number { IfOk result (λ n. n < 4096) }
+    ensures answer { IfOk result (λ n. Tells (F.state files.old) (F.state files.new) (InDirectory directory) (NamesObject directory name.now n)) }
+    ensures refused { IfErr result (Refuses (F.state files.old) (F.state files.new) (InDirectory directory) (EndsAtPiece directory name.now)) }
+    ensures halted { IsErrOf result (WalkFault.Log LogFault.Halted) → (F.state files.old).halted ≡ true }
+    ensures other { IsErrOf result (WalkFault.Log LogFault.Full) → ⊥ }
+{
+    if name.len() > LONGEST_NAME {
+        return Err(WalkFault::NameTooLong);
+    }
+    let header = match header_of(files, directory) {
+        Ok(header) => header,
+        Err(fault) => return Err(WalkFault::Log(fault)),
+    };
+    match find(files, directory, header, name) {
+        Ok(Some(number)) => Ok(number),
+        Ok(None) => Err(WalkFault::NoEntry),
+        Err(fault) => Err(WalkFault::Log(fault)),
+    }
+}
