@@ -5,5 +5,6 @@ pub mod Lookups
 pub mod PathEnds
 pub mod InTrees
 pub mod Sights
+pub mod LinkTexts
 pub mod Texts
 pub use Rattle.lfs_dirs.proofs as of_dirs

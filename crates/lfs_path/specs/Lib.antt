@@ -6,4 +6,5 @@ pub mod Walking
 pub mod Trees
 pub mod Telling
 pub mod Seeing
+pub mod Following
 pub use Rattle.lfs_dirs.specs as dirs

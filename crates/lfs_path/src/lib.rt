@@ -1,9 +1,11 @@
 //! Paths: their text, and the walk of them over a volume whose only directory is the root.
 #![tactic(auto)]
 
+mod chain;
 mod fault;
 pub mod last;
 pub mod laws;
+mod link;
 mod seen;
 pub mod text;
 mod walk;

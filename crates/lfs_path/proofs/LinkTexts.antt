@@ -1,0 +1,77 @@
+-- The text of a symbolic link, read block by block.
+use Rattle.std.proofs.Common.{◌≡◌, ⊎_elim, ◌<◌, ◌≤◌, ◌+◌, ◌*◌, ◌-◌, ◌/◌, ◌%◌, ℕ, Bool, true, false, List, [], ◌∷◌, ◌++◌, length, take, get_or, refl, sym, ◌∙◌, ap, ap₂, subst, arith}
+use Rattle.std.specs.Prelude.{min}
+use Rattle.std.proofs.lemmas.Bool.{cases_lt}
+use Rattle.std.proofs.lemmas.List.{length-append, length-take, get_or_append_left, get_or-append_right, get_or-take}
+use Rattle.lfs_model.specs.Device.{IsLawful}
+use Rattle.lfs_model.specs.Objects.{byte_in}
+use Rattle.lfs_model.specs.PathText.{from_root}
+use Rattle.lfs_model.specs.Stands.{LogMap}
+use Rattle.lfs_model.proofs.ObjectBytes.{object_is}
+use Rattle.lfs_files.specs.Files.{FilesState, IsFault, Reads}
+use Rattle.lfs_files.specs.Headers.{as_header}
+use Rattle.lfs_files.proofs.FilesCompose.{fault_more, reads_more, reads_none}
+use Rattle.lfs_path.specs.Following.{Follows, HasTaken, ReadsText, TakesBytes, started, text_of}
+use Rattle.lfs_path.specs.declared.seen.Link.{Link}
+
+-- ---- bytes
+-- the bytes of a block come behind those of the blocks before it
+module _ (m : LogMap) (n index count : ℕ) (old new : List ℕ) (at : length old ≡ 512 * index) (few : count ≤ 512) (is : HasTaken m n index count old new) where
+  cut_long : length (take count is.block) ≡ count
+  cut_long = let long = is.holds.long in let cut = length-take count is.block in omega (arith, long, cut, few)
+
+  pub taken_long : length new ≡ 512 * index + count
+  taken_long = let both = ap length is.text ∙ length-append old (take count is.block) in let cut = cut_long in omega (arith, both, cut, at)
+
+  pub taken_bytes : ((p : ℕ) → p < length old → byte_in m n p ≡ get_or old p 0) → (p : ℕ) → p < length new → byte_in m n p ≡ get_or new p 0
+  taken_bytes each p low = ⊎_elim
+      (λ (before : p < length old). each p before ∙ sym (ap (λ (b : List ℕ). get_or b p 0) is.text ∙ get_or_append_left old (take count is.block) 0 p before))
+      (λ (behind : length old ≤ p).
+          let long = taken_long in
+          let j : p - length old < count = omega (arith, long, low, at, behind) in
+          let index_is : p / 512 ≡ index = omega (arith, at, behind, j, few) in
+          let place_is : p % 512 ≡ p - length old = omega (arith, at, behind, j, few) in
+          ap₂ (λ (i k : ℕ). get_or (m.block n i) k 0) index_is place_is
+          ∙ sym (is.holds.bytes (p - length old))
+          ∙ sym (ap (λ (b : List ℕ). get_or b p 0) is.text ∙ get_or-append_right old (take count is.block) (length old) p 0 refl behind ∙ get_or-take count is.block (p - length old) 0 j))
+      (cases_lt p (length old))
+
+-- ---- blocks up to one of this index
+pub record HasRead (m : LogMap) (n size index : ℕ) (text : List ℕ) : Type 0 where
+  pub long : length text ≡ min (512 * index) size
+  pub bytes : (p : ℕ) → p < length text → byte_in m n p ≡ get_or text p 0
+
+module _ {S D : Type 0} (n size : ℕ) where
+  pub record ReadTo (s s' : FilesState S D) (index : ℕ) (text : List ℕ) : Type 0 where
+    pub reads : Reads s s'
+    pub read : (m m' : LogMap) → s'.device.keeps_model → s.has m m' → HasRead m' n size index text
+
+  pub read_begins : (s : FilesState S D) → ReadTo s s 0 []
+  read_begins s = record { reads = reads_none s; read = λ m m' keeps has. record { long = omega arith; bytes = λ p low. absurd (omega (arith, low)) } }
+
+  module _ (s a b : FilesState S D) (index count : ℕ) (old new : List ℕ) (low : 512 * index < size) (is : count ≡ min (size - 512 * index) 512) (was : ReadTo s a index old) where
+    pub read_goes_on : IsLawful s.device → Reads a b → TakesBytes a b n index count old new → ReadTo s b (index + 1) new
+    read_goes_on lawful reads takes = record {
+      reads = reads_more s a b lawful was.reads reads;
+      read = λ m m' keeps has.
+          let before = was.read m m' (reads.looks.carries.kept_before keeps) has in
+          let long = before.long in
+          let at : length old ≡ 512 * index = omega (arith, long, low) in
+          let few : count ≤ 512 = omega (arith, is) in
+          let taken = takes m m' keeps (was.reads.has m m' has) in
+          let longer = taken_long m' n index count old new at few taken in
+          record { long = omega (arith, longer, is, low); bytes = taken_bytes m' n index count old new at few taken before.bytes };
+    }
+
+module _ {S D : Type 0} where
+  pub read_ends : (s s' : FilesState S D) (l : Link) (index : ℕ) (text : List ℕ) → l.header.size ≤ 512 * index → ReadTo l.number l.header.size s s' index text → ReadsText s s' l text
+  read_ends s s' l index text past was m m' keeps has =
+      let all = was.read m m' keeps has in
+      let long = all.long in
+      object_is m' l.number (as_header l.header) text (omega (arith, long, past)) (λ p low. all.bytes p (omega (arith, long, low, past)))
+
+  -- ---- the text that is left
+  pub follows : (s s' : FilesState S D) (l : Link) (rest chain chain' text text' : List ℕ) (b : Bool) → ReadsText s s' l text → text' ≡ text ++ rest → b ≡ from_root text → chain' ≡ started text chain → Follows s s' l rest chain chain' text'
+  follows s s' l rest chain chain' text text' b reads joined slash begins m m' keeps has =
+      let is = reads m m' keeps has in
+      (joined ∙ ap (λ (x : List ℕ). x ++ rest) (sym is), begins ∙ ap (λ (x : List ℕ). started x chain) (sym is))

@@ -1,0 +1,103 @@
+//! The texts of symbolic links.
+ghost use Rattle.std.specs.Prelude.{◌≡◌, ◌<◌, ◌≤◌, true, IfOk, IfErr, OnOk, IsErrOf};
+ghost use Rattle.lfs_model.specs.PathText.{from_root};
+ghost use Rattle.lfs_files.specs.Files.{IsFault, Reads};
+ghost use Rattle.lfs_path.specs.Following.{Follows, ReadsText, TakesBytes};
+
+use crate::chain::Chain;
+use crate::seen::Link;
+use lfs_files::{Files, LogFault, StoreFault};
+use std::alloc::Global;
+
+/// The bytes of a block.
+const BLOCK: u32 = 512;
+
+/// Follows a link: the text that is left is the link's and behind it what was left, from the root where the link's begins with a slash.
+pub fn follow<F: Files>(
+    alloc: Global,
+    files: &mut F,
+    chain: &mut Chain,
+    link: Link,
+    rest: &[u8],
+) -> Result<Vec<u8>, StoreFault>
+    requires { link.number < 4096 }
+    ensures reads { Reads (F.state files.old) (F.state files.new) }
+    ensures answer { IfOk result (λ text. Follows (F.state files.old) (F.state files.new) link rest.now chain.old chain.new text.items) }
+    ensures failed { IfErr result (λ fault. (fault ≡ StoreFault.NoMemory → ⊥) → IsFault (F.state files.old) (F.state files.new)) }
+    ensures halted { IsErrOf result (StoreFault.Log LogFault.Halted) → (F.state files.old).halted ≡ true }
+    ensures other { IsErrOf result (StoreFault.Log LogFault.Full) → ⊥ }
+{
+    let mut text = match read_text(alloc, files, link) {
+        Ok(text) => text,
+        Err(fault) => return Err(fault),
+    };
+    if begins_with_slash(text.as_slice()) {
+        chain.restart();
+    }
+    match text.extend_from_slice(rest) {
+        Ok(()) => Ok(text),
+        Err(_) => Err(StoreFault::NoMemory),
+    }
+}
+
+/// Whether the first byte of a text is a slash.
+fn begins_with_slash(text: &[u8]) -> bool
+    ensures { result ≡ from_root text.now }
+{
+    if text.is_empty() {
+        return false;
+    }
+    text[0] == b'/'
+}
+
+/// The text of a link.
+fn read_text<F: Files>(
+    alloc: Global,
+    files: &mut F,
+    link: Link,
+) -> Result<Vec<u8>, StoreFault>
+    requires { link.number < 4096 }
+    ensures reads { Reads (F.state files.old) (F.state files.new) }
+    ensures answer { IfOk result (λ text. ReadsText (F.state files.old) (F.state files.new) link text.items) }
+    ensures failed { IfErr result (λ fault. (fault ≡ StoreFault.NoMemory → ⊥) → IsFault (F.state files.old) (F.state files.new)) }
+    ensures halted { IsErrOf result (StoreFault.Log LogFault.Halted) → (F.state files.old).halted ≡ true }
+    ensures other { IsErrOf result (StoreFault.Log LogFault.Full) → ⊥ }
+{
+    let size = link.header.size;
+    let mut text = Vec::new(alloc);
+    for index in 0..size.div_ceil(BLOCK) {
+        let count = (size - BLOCK * index).min(BLOCK);
+        match read_block(files, link.number, index, count as usize, &mut text) {
+            Ok(()) => {}
+            Err(fault) => return Err(fault),
+        }
+    }
+    Ok(text)
+}
+
+/// Adds the first bytes of a block of an object.
+fn read_block<F: Files>(
+    files: &mut F,
+    number: u16,
+    index: u32,
+    count: usize,
+    text: &mut Vec<u8>,
+) -> Result<(), StoreFault>
+    requires number { number < 4096 }
+    requires few { count ≤ 512 }
+    ensures reads { Reads (F.state files.old) (F.state files.new) }
+    ensures done { OnOk result (TakesBytes (F.state files.old) (F.state files.new) number index count text.old.items text.new.items) }
+    ensures failed { IfErr result (λ fault. (fault ≡ StoreFault.NoMemory → ⊥) → IsFault (F.state files.old) (F.state files.new)) }
+    ensures halted { IsErrOf result (StoreFault.Log LogFault.Halted) → (F.state files.old).halted ≡ true }
+    ensures other { IsErrOf result (StoreFault.Log LogFault.Full) → ⊥ }
+{
+    let mut block = [0; 512];
+    match files.block(number, index, &mut block) {
+        Ok(_) => {}
+        Err(fault) => return Err(StoreFault::Log(fault)),
+    }
+    match text.extend_from_slice(&block[..count]) {
+        Ok(()) => Ok(()),
+        Err(_) => Err(StoreFault::NoMemory),
+    }
+}
