@@ -6,5 +6,8 @@ pub mod PathEnds
 pub mod InTrees
 pub mod Sights
 pub mod LinkTexts
+pub mod Uppers
+pub mod Chains
+pub mod Passes
 pub mod Texts
 pub use Rattle.lfs_dirs.proofs as of_dirs

@@ -7,4 +7,5 @@ pub mod Trees
 pub mod Telling
 pub mod Seeing
 pub mod Following
+pub mod Passing
 pub use Rattle.lfs_dirs.specs as dirs

@@ -6,6 +6,7 @@ mod fault;
 pub mod last;
 pub mod laws;
 mod link;
+mod passing;
 mod seen;
 pub mod text;
 mod walk;

@@ -1,0 +1,60 @@
+-- The directories above a walk, and what a piece makes of them.
+use Rattle.std.proofs.Common.{◌≡◌, ◌≢◌, refl, sym, ap, subst, ◌∙◌, ℕ, ◌+◌, ◌<◌, ◌≤◌, Bool, true, List, [], ◌∷◌, Some, arith}
+use Rattle.lfs_model.specs.Stands.{LogMap}
+use Rattle.lfs_model.specs.Tree.{Dir, Names, Tree, is_dir, names, node, up}
+use Rattle.lfs_model.specs.TreeOf.{tree_in}
+use Rattle.lfs_model.specs.Walk.{End, Gives, Walk, directory, dot, dot_dot, goes_up, stays}
+use Rattle.lfs_model.proofs.Shrinking.{named_counts}
+use Rattle.lfs_model.proofs.Standing.{in_order}
+use Rattle.lfs_path.specs.Passing.{Leads}
+use Rattle.lfs_path.specs.Trees.{HasTree, InChain, InDirectory, IsChain, here, risen}
+use Rattle.lfs_path.proofs.Uppers.{up_is}
+
+chain_directory : (t : Tree) (chain : List ℕ) → is_dir (node t 1) ≡ true → IsChain t chain → is_dir (node t (here chain)) ≡ true
+chain_directory t [] root is = absurd is
+chain_directory t (d ∷ []) root is = ap (λ (n : ℕ). is_dir (node t n)) is ∙ root
+chain_directory t (d ∷ above ∷ rest) root is = is.1
+
+pub in_directory : (m : LogMap) (chain : List ℕ) → InChain chain m → InDirectory (here chain) m
+in_directory m chain is = record { tree = is.tree; directory = chain_directory (tree_in m) chain is.tree.root is.directories }
+
+-- ---- dot
+pub dot_leads : (m : LogMap) (piece chain : List ℕ) → piece ≡ dot → InChain chain m → Leads piece chain chain m
+dot_leads m piece chain same is = record { directories = is.directories; walks = λ follow ps s k e w. stays same w }
+
+-- ---- dot-dot
+risen_chain : (t : Tree) (chain : List ℕ) → IsChain t chain → IsChain t (risen chain) × (here (risen chain) ≡ up t (here chain))
+risen_chain t [] is = absurd is
+risen_chain t (d ∷ []) is = (is, is ∙ sym (ap (up t) is))
+risen_chain t (d ∷ above ∷ rest) is = (is.2, sym is.0)
+
+pub dot_dot_leads : (m : LogMap) (piece chain chain' : List ℕ) → piece ≡ dot_dot → chain' ≡ risen chain → InChain chain m → Leads piece chain chain' m
+dot_dot_leads m piece chain chain' same up_there is =
+    let risen_is = risen_chain (tree_in m) chain is.directories in
+    record {
+      directories = subst (IsChain (tree_in m)) (sym up_there) risen_is.0;
+      walks = λ follow ps s k e w. goes_up same (subst (λ (d : ℕ). Walk (tree_in m) follow d ps s k e) (ap here up_there ∙ risen_is.1) w);
+    }
+
+-- ---- a directory's name
+down_chain : (t : Tree) (chain : List ℕ) (n : ℕ) → up t n ≡ here chain → is_dir (node t n) ≡ true → IsChain t chain → IsChain t (n ∷ chain)
+down_chain t [] n above dir is = absurd is
+down_chain t (d ∷ rest) n above dir is = (above, dir, is)
+
+pub name_leads : (m : LogMap) (piece chain chain' : List ℕ) (n form : ℕ) (ns : Names) → Gives (tree_in m) (here chain) piece n (Dir form ns) → chain' ≡ n ∷ chain → InChain chain m → Leads piece chain chain' m
+name_leads m piece chain chain' n form ns gives down is = record {
+  directories = subst (IsChain (tree_in m)) (sym down) (down_chain (tree_in m) chain n above dir is.directories);
+  walks = λ follow ps s k e w. directory gives (subst (λ (d : ℕ). Walk (tree_in m) follow d ps s k e) (ap here down) w);
+}
+  where
+    dir : is_dir (node (tree_in m) n) ≡ true
+    dir = ap is_dir gives.is_node
+
+    not_root : n ≢ 1
+    not_root same =
+        let counts = named_counts (tree_in m) (here chain) piece n gives.is_there in
+        let none : names (tree_in m) n ≡ 0 = ap (names (tree_in m)) same ∙ is.tree.unnamed in
+        omega (arith, counts, none)
+
+    above : up (tree_in m) n ≡ here chain
+    above = up_is (tree_in m) (in_order m) (here chain) n piece gives.is_there not_root (is.tree.one_name n not_root dir)
