@@ -9,5 +9,7 @@ pub mod LinkTexts
 pub mod Uppers
 pub mod Chains
 pub mod Passes
+pub mod Refusing
+pub mod TextWalks
 pub mod Texts
 pub use Rattle.lfs_dirs.proofs as of_dirs

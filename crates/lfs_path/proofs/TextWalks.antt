@@ -1,0 +1,178 @@
+-- A text walked piece by piece, until it ends or an object that is no directory is met.
+use Rattle.std.proofs.Common.{◌≡◌, ◌<◌, refl, sym, ap, subst, ◌∙◌, ℕ, Bool, true, false, ◌||◌, List, [], ◌∷◌, length, Option, Some, None}
+use Rattle.std.specs.Prelude.{IfOk, IfErr, nat_lt, Result, Ok, Err}
+use Rattle.lfs_model.specs.Device.{IsLawful}
+use Rattle.lfs_model.specs.PathText.{comps, slash}
+use Rattle.lfs_model.specs.Refusal as refusals
+use Rattle.lfs_model.specs.Stands.{LogMap}
+use Rattle.lfs_model.specs.Tree.{Tree}
+use Rattle.lfs_model.specs.TreeOf.{tree_in}
+use Rattle.lfs_model.specs.Walk.{End, At, Refused, Walk, file, link, more, no_piece, not_dir}
+use Rattle.lfs_files.specs.Files.{FilesState, Reads}
+use Rattle.lfs_files.proofs.FilesCompose.{reads_more, reads_none}
+use Rattle.lfs_path.specs.Passing.{EndsText, FitsStop, HasLinkNumber, IsStop, Leads, Meets, MeetsLink, Passes, Stops, WalksText, is_left}
+use Rattle.lfs_path.specs.Pieces.{IsNextPiece}
+use Rattle.lfs_path.specs.Seeing.{EndsAtPiece}
+use Rattle.lfs_path.specs.Telling.{Refuses, Tells}
+use Rattle.lfs_path.specs.Trees.{InChain, IsChain, here}
+use Rattle.lfs_path.specs.declared.seen.Link.{Link}
+use Rattle.lfs_path.specs.declared.passing.Met.{Met}
+use Rattle.lfs_path.specs.declared.passing.Met.TheVariants as met
+use Rattle.lfs_path.specs.declared.passing.Stop.{Stop}
+use Rattle.lfs_path.specs.declared.passing.Stop.TheVariants as stop
+use Rattle.lfs_path.specs.declared.walk_fault.WalkFault.{WalkFault}
+use Rattle.lfs_path.specs.declared.walk_fault.WalkFault.TheVariants.{NoEntry, NotDir, NameTooLong, Inval, Loop, NoMemory, Log}
+use Rattle.lfs_path.proofs.Refusing.{refuses_then}
+
+module _ (slash_end follow : Bool) where
+  -- ---- by the tree
+
+  -- A walk of the rest from where the walk is now is one of the whole text.
+  pub record GoesTo (chain text chain' rest : List ℕ) (m : LogMap) : Type 0 where
+    pub directories : IsChain (tree_in m) chain'
+    pub walks : (k : ℕ) (e : End) → WalksText slash_end follow (here chain') rest k (tree_in m) e → WalksText slash_end follow (here chain) text k (tree_in m) e
+
+  pub at_first : (m : LogMap) (chain text : List ℕ) → InChain chain m → GoesTo chain text chain text m
+  at_first m chain text is = record { directories = is.directories; walks = λ k e w. w }
+
+  pub still : (m : LogMap) (chain text chain' rest : List ℕ) → InChain chain m → GoesTo chain text chain' rest m → InChain chain' m
+  still m chain text chain' rest is goes = record { tree = is.tree; directories = goes.directories }
+
+  -- no piece is left
+  pub at_end : (m : LogMap) (chain text chain' rest : List ℕ) → comps rest ≡ [] → GoesTo chain text chain' rest m → Stops slash_end follow chain text chain' stop.Directory m
+  at_end m chain text chain' rest none goes = record {
+    directories = goes.directories;
+    stop = λ k. goes.walks k (At (here chain')) (subst (λ (ps : List (List ℕ)). Walk (tree_in m) follow (here chain') ps (slash_end || slash rest) k (At (here chain'))) (sym none) no_piece);
+  }
+
+  module _ (m : LogMap) (chain text chain' rest piece after : List ℕ) (next : IsNextPiece rest piece after) (goes : GoesTo chain text chain' rest m) where
+    -- a walk of the piece and what follows is one of the whole text
+    from_piece : (k : ℕ) (e : End) → Walk (tree_in m) follow (here chain') (piece ∷ comps after) (slash_end || slash after) k e → WalksText slash_end follow (here chain) text k (tree_in m) e
+    from_piece k e w = goes.walks k e
+        (subst (λ (ps : List (List ℕ)). Walk (tree_in m) follow (here chain') ps (slash_end || slash rest) k e) (sym next.pieces)
+        (subst (λ (b : Bool). Walk (tree_in m) follow (here chain') (piece ∷ comps after) (slash_end || b) k e) (sym next.slash_end) w))
+
+    pub goes_further : (chain'' : List ℕ) → Leads piece chain' chain'' m → GoesTo chain text chain'' after m
+    goes_further chain'' leads = record {
+      directories = leads.directories;
+      walks = λ k e w. from_piece k e (leads.walks follow (comps after) (slash_end || slash after) k e w);
+    }
+
+    pub ends_there : (e : End) → EndsAtPiece (here chain') piece (tree_in m) e → EndsText slash_end follow (here chain) text (tree_in m) e
+    ends_there e ends k = from_piece k e (ends follow (comps after) (slash_end || slash after) k)
+
+    -- whether something is left behind the piece
+    left_is : more (comps after) (slash_end || slash after) ≡ is_left slash_end after
+    left_is = by slash_end
+      where
+        some : (ps : List (List ℕ)) → more ps true ≡ true
+        some [] = refl
+        some (p ∷ ps) = refl
+
+        by : (b : Bool) → more (comps after) (b || slash after) ≡ is_left b after
+        by true = some (comps after)
+        by false = next.goes_on
+
+    meets_link : (l : Link) → Meets (here chain') piece (met.Symbolic l) m → (is_left slash_end after || follow) ≡ true → MeetsLink slash_end follow (here chain) text (here chain') l after m
+    meets_link l meets goes_on = record {
+      piece = piece;
+      gives = meets;
+      goes = ap (λ (b : Bool). b || follow) left_is ∙ goes_on;
+      walks = from_piece;
+      begins = next.begins;
+      goes_on = next.goes_on;
+    }
+
+    module _ (chain'' : List ℕ) (same : chain'' ≡ chain') where
+      directories_are : IsChain (tree_in m) chain''
+      directories_are = subst (IsChain (tree_in m)) (sym same) goes.directories
+
+      pub stops : (x : Met) (y : Stop) → Meets (here chain') piece x m → IsStop slash_end follow after x (Ok y) → Stops slash_end follow chain text chain'' y m
+      stops (met.File n) (stop.Node q) meets is = record {
+        directories = directories_are;
+        stop = λ k. from_piece k (At q) (subst (λ (j : ℕ). Walk (tree_in m) follow (here chain') (piece ∷ comps after) (slash_end || slash after) k (At j)) (sym is.0) (file meets.1 (left_is ∙ is.1)));
+      }
+      stops (met.Symbolic l) (stop.Node q) meets is = record {
+        directories = directories_are;
+        stop = λ k. from_piece k (At q) (subst (λ (j : ℕ). Walk (tree_in m) follow (here chain') (piece ∷ comps after) (slash_end || slash after) k (At j)) (sym is.0) (link meets (ap (λ (b : Bool). b || follow) left_is ∙ is.1)));
+      }
+      stops (met.Symbolic l) (stop.Followed x rest') meets is = record {
+        directories = directories_are;
+        stop =
+            subst (λ (c : List ℕ). MeetsLink slash_end follow (here chain) text (here c) x rest'.now m) (sym same)
+            (subst (λ (r : List ℕ). MeetsLink slash_end follow (here chain) text (here chain') x r m) (sym is.1)
+            (subst (λ (z : Link). MeetsLink slash_end follow (here chain) text (here chain') z after m) (sym is.0) (meets_link l meets is.2)));
+      }
+      stops _ _ meets is = absurd is
+
+    pub refuses : (x : Met) → Meets (here chain') piece x m → IsStop slash_end follow after x (Err NotDir) → EndsText slash_end follow (here chain) text (tree_in m) (Refused refusals.NotDir)
+    refuses (met.File n) meets is k = from_piece k (Refused refusals.NotDir) (not_dir meets.1 (left_is ∙ is))
+    refuses (met.Symbolic l) meets is k = absurd is
+
+-- what is known of a stop whatever the tree is
+fits_node : (slash_end : Bool) (rest : List ℕ) → is_left slash_end rest ≡ false → slash_end ≡ false
+fits_node true rest is = is
+fits_node false rest is = refl
+
+fits_link : (slash_end follow : Bool) (rest : List ℕ) → (is_left slash_end rest || follow) ≡ false → slash_end ≡ false
+fits_link true follow rest is = is
+fits_link false follow rest is = refl
+
+pub fits_stop : (slash_end follow : Bool) (rest : List ℕ) (x : Met) (y : Stop) → HasLinkNumber (Some x) → IsStop slash_end follow rest x (Ok y) → FitsStop slash_end y
+fits_stop slash_end follow rest (met.File n) (stop.Node q) few is = fits_node slash_end rest is.1
+fits_stop slash_end follow rest (met.Symbolic l) (stop.Node q) few is = fits_link slash_end follow rest is.1
+fits_stop slash_end follow rest (met.Symbolic l) (stop.Followed x rest') few is = subst (λ (z : Link). z.number < 4096) (sym is.0) few
+fits_stop slash_end follow rest _ _ few is = absurd is
+
+-- ---- over files
+module _ {S D : Type 0} (slash_end follow : Bool) where
+  pub record ComesTo (s s' : FilesState S D) (chain text chain' rest : List ℕ) : Type 0 where
+    pub reads : Reads s s'
+    pub goes : Tells s s' (InChain chain) (GoesTo slash_end follow chain text chain' rest)
+
+  pub begins : (s : FilesState S D) (chain text : List ℕ) → ComesTo s s chain text chain text
+  begins s chain text = record { reads = reads_none s; goes = λ m m' keeps has is. at_first slash_end follow m' chain text is }
+
+  pub ends : (s s' : FilesState S D) (chain text chain' rest : List ℕ) → comps rest ≡ [] → ComesTo s s' chain text chain' rest → Tells s s' (InChain chain) (Stops slash_end follow chain text chain' stop.Directory)
+  ends s s' chain text chain' rest none was m m' keeps has is = at_end slash_end follow m' chain text chain' rest none (was.goes m m' keeps has is)
+
+  module _ (s a b : FilesState S D) (chain text chain' rest piece after : List ℕ) (next : IsNextPiece rest piece after) (was : ComesTo s a chain text chain' rest) (reads : Reads a b) where
+    goes_at : (m m' : LogMap) → b.device.keeps_model → s.has m m' → InChain chain m' → GoesTo slash_end follow chain text chain' rest m'
+    goes_at m m' keeps has is = was.goes m m' (reads.looks.carries.kept_before keeps) has is
+
+    in_chain : (m m' : LogMap) → b.device.keeps_model → s.has m m' → InChain chain m' → InChain chain' m'
+    in_chain m m' keeps has is = still slash_end follow m' chain text chain' rest is (goes_at m m' keeps has is)
+
+    passed : (chain'' : List ℕ) (x : Option Met) → Tells a b (InChain chain') (Passes piece chain' chain'' x) → Tells s b (InChain chain) (Passes piece chain' chain'' x)
+    passed chain'' x passes m m' keeps has is = passes m m' keeps (was.reads.has m m' has) (in_chain m m' keeps has is)
+
+    pub goes_on : IsLawful s.device → (chain'' : List ℕ) → Tells a b (InChain chain') (Passes piece chain' chain'' None) → ComesTo s b chain text chain'' after
+    goes_on lawful chain'' passes = record {
+      reads = reads_more s a b lawful was.reads reads;
+      goes = λ m m' keeps has is.
+          goes_further slash_end follow m' chain text chain' rest piece after next (goes_at m m' keeps has is) chain'' (passed chain'' None passes m m' keeps has is);
+    }
+
+    pub refused : (fault : WalkFault) → Refuses a b (InChain chain') (EndsAtPiece (here chain') piece) fault → Refuses s b (InChain chain) (EndsText slash_end follow (here chain) text) fault
+    refused fault = refuses_then s a b (InChain chain) (InChain chain') (EndsAtPiece (here chain') piece) (EndsText slash_end follow (here chain) text) fault was.reads in_chain
+        (λ m m' keeps has is e. ends_there slash_end follow m' chain text chain' rest piece after next (goes_at m m' keeps has is) e)
+
+    module _ (chain'' : List ℕ) (x : Met) (passes : Tells a b (InChain chain') (Passes piece chain' chain'' (Some x))) where
+      pub stops_ok : (r : Result Stop WalkFault) → IsStop slash_end follow after x r → IfOk r (λ y. Tells s b (InChain chain) (Stops slash_end follow chain text chain'' y))
+      stops_ok (Err fault) is = tt
+      stops_ok (Ok y) is = λ m m' keeps has within.
+          let p = passed chain'' (Some x) passes m m' keeps has within in
+          stops slash_end follow m' chain text chain' rest piece after next (goes_at m m' keeps has within) chain'' p.0 x y p.1 is
+
+      pub stops_err : (r : Result Stop WalkFault) → IsStop slash_end follow after x r → IfErr r (Refuses s b (InChain chain) (EndsText slash_end follow (here chain) text))
+      stops_err (Ok y) is = tt
+      stops_err (Err fault) is = by x fault is (λ m m' keeps has within. (passed chain'' (Some x) passes m m' keeps has within).1)
+        where
+          by : (z : Met) (fault : WalkFault) → IsStop slash_end follow after z (Err fault) → Tells s b (InChain chain) (Meets (here chain') piece z) → Refuses s b (InChain chain) (EndsText slash_end follow (here chain) text) fault
+          by (met.File n) NotDir is meets = λ m m' keeps has within.
+              refuses slash_end follow m' chain text chain' rest piece after next (goes_at m m' keeps has within) (met.File n) (meets m m' keeps has within) is
+          by _ _ is meets = absurd is
+
+pub stops_fit : (slash_end follow : Bool) (rest : List ℕ) (x : Met) (r : Result Stop WalkFault) → HasLinkNumber (Some x) → IsStop slash_end follow rest x r → IfOk r (FitsStop slash_end)
+stops_fit slash_end follow rest x (Err fault) few is = tt
+stops_fit slash_end follow rest x (Ok y) few is = fits_stop slash_end follow rest x y few is
