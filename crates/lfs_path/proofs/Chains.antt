@@ -1,13 +1,13 @@
 -- The directories above a walk, and what a piece makes of them.
-use Rattle.std.proofs.Common.{◌≡◌, ◌≢◌, refl, sym, ap, subst, ◌∙◌, ℕ, ◌+◌, ◌<◌, ◌≤◌, Bool, true, List, [], ◌∷◌, Some, arith}
+use Rattle.std.proofs.Common.{◌≡◌, ◌≢◌, sym, ap, subst, ◌∙◌, ℕ, true, List, [], ◌∷◌, arith}
 use Rattle.lfs_model.specs.Stands.{LogMap}
 use Rattle.lfs_model.specs.Tree.{Dir, Names, Tree, is_dir, names, node, up}
 use Rattle.lfs_model.specs.TreeOf.{tree_in}
-use Rattle.lfs_model.specs.Walk.{End, Gives, Walk, directory, dot, dot_dot, goes_up, stays}
+use Rattle.lfs_model.specs.Walk.{Gives, Walk, directory, dot, dot_dot, goes_up, stays}
 use Rattle.lfs_model.proofs.Shrinking.{named_counts}
 use Rattle.lfs_model.proofs.Standing.{in_order}
 use Rattle.lfs_path.specs.Passing.{Leads}
-use Rattle.lfs_path.specs.Trees.{HasTree, InChain, InDirectory, IsChain, here, risen}
+use Rattle.lfs_path.specs.Trees.{InChain, InDirectory, IsChain, here, risen}
 use Rattle.lfs_path.proofs.Uppers.{up_is}
 
 chain_directory : (t : Tree) (chain : List ℕ) → is_dir (node t 1) ≡ true → IsChain t chain → is_dir (node t (here chain)) ≡ true

@@ -1,5 +1,5 @@
 -- Directories and their entries in the tree of a log map.
-use Rattle.std.proofs.Common.{◌≡◌, ◌≢◌, ⊎_elim, refl, sym, ap, subst, ◌∙◌, ℕ, ◌<◌, ◌≤◌, true, false, List, [], length, Option, Some, None, arith}
+use Rattle.std.proofs.Common.{◌≡◌, ◌≢◌, ⊎_elim, refl, sym, ap, ◌∙◌, ℕ, ◌<◌, ◌≤◌, true, List, [], length, Option, Some, None, arith}
 use Rattle.std.specs.Prelude.{unwrap_or}
 use Rattle.std.proofs.lemmas.Bool.{cases_lt}
 use Rattle.std.specs.FinMap.{find}
@@ -9,7 +9,7 @@ use Rattle.lfs_model.specs.Entry as entries
 use Rattle.lfs_model.specs.Objects.{IsDirectory}
 use Rattle.lfs_model.specs.Refusal as refusals
 use Rattle.lfs_model.specs.Stands.{LogMap}
-use Rattle.lfs_model.specs.Tree.{File, Dir, Link, Names, Node, Tree, byte_cmp, entry, form_of, is_dir, name_len, name_limit, names_in, names_of, node}
+use Rattle.lfs_model.specs.Tree.{File, Dir, Link, Node, byte_cmp, entry, form_of, is_dir, name_len, name_limit, names_of, node}
 use Rattle.lfs_model.specs.TreeOf.{map_of, node_by, node_of, object, slots, tree_in}
 use Rattle.lfs_model.specs.Walk.{Gives, IsLookedUp, Refused, dot, dot_dot, too_long, not_there}
 use Rattle.lfs_model.proofs.Volume.{node_in, no_node_0, no_node_past}
@@ -19,7 +19,6 @@ use Rattle.lfs_files.specs.Headers.{as_header}
 use Rattle.lfs_dirs.specs.Directory.{names_at}
 use Rattle.lfs_path.specs.Seeing.{EndsAtPiece, HasObject, HasHeader, IsSeen, NamesObject}
 use Rattle.lfs_path.specs.Trees.{HasTree, InDirectory}
-use Rattle.lfs_path.specs.declared.seen.Seen.{Seen}
 use Rattle.lfs_path.specs.declared.seen.Seen.TheVariants as seen
 
 module _ (m : LogMap) where

@@ -11,5 +11,6 @@ pub mod Chains
 pub mod Passes
 pub mod Refusing
 pub mod TextWalks
+pub mod PathWalks
 pub mod Texts
 pub use Rattle.lfs_dirs.proofs as of_dirs

@@ -1,5 +1,5 @@
 -- The text of a symbolic link, read block by block.
-use Rattle.std.proofs.Common.{◌≡◌, ⊎_elim, ◌<◌, ◌≤◌, ◌+◌, ◌*◌, ◌-◌, ◌/◌, ◌%◌, ℕ, Bool, true, false, List, [], ◌∷◌, ◌++◌, length, take, get_or, refl, sym, ◌∙◌, ap, ap₂, subst, arith}
+use Rattle.std.proofs.Common.{◌≡◌, ⊎_elim, ◌<◌, ◌≤◌, ◌+◌, ◌*◌, ◌-◌, ◌/◌, ◌%◌, ℕ, Bool, List, [], ◌++◌, length, take, get_or, refl, sym, ◌∙◌, ap, ap₂, arith}
 use Rattle.std.specs.Prelude.{min}
 use Rattle.std.proofs.lemmas.Bool.{cases_lt}
 use Rattle.std.proofs.lemmas.List.{length-append, length-take, get_or_append_left, get_or-append_right, get_or-take}
@@ -8,10 +8,10 @@ use Rattle.lfs_model.specs.Objects.{byte_in}
 use Rattle.lfs_model.specs.PathText.{from_root}
 use Rattle.lfs_model.specs.Stands.{LogMap}
 use Rattle.lfs_model.proofs.ObjectBytes.{object_is}
-use Rattle.lfs_files.specs.Files.{FilesState, IsFault, Reads}
+use Rattle.lfs_files.specs.Files.{FilesState, Reads}
 use Rattle.lfs_files.specs.Headers.{as_header}
-use Rattle.lfs_files.proofs.FilesCompose.{fault_more, reads_more, reads_none}
-use Rattle.lfs_path.specs.Following.{Follows, HasTaken, ReadsText, TakesBytes, started, text_of}
+use Rattle.lfs_files.proofs.FilesCompose.{reads_more, reads_none}
+use Rattle.lfs_path.specs.Following.{Follows, HasTaken, ReadsText, TakesBytes, started}
 use Rattle.lfs_path.specs.declared.seen.Link.{Link}
 
 -- ---- bytes

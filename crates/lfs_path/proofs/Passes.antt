@@ -1,5 +1,5 @@
 -- Pieces walked one after the other, over files with a draft.
-use Rattle.std.proofs.Common.{◌≡◌, sym, subst, ◌∙◌, ap, ℕ, Bool, List, ◌∷◌, Option, Some, None}
+use Rattle.std.proofs.Common.{◌≡◌, sym, subst, ℕ, List, ◌∷◌}
 use Rattle.lfs_model.specs.Stands.{LogMap}
 use Rattle.lfs_model.specs.Tree.{Dir}
 use Rattle.lfs_model.specs.TreeOf.{tree_in}

@@ -1,5 +1,4 @@
 -- Refusals of walks, behind calls that read.
-use Rattle.std.proofs.Common.{◌<◌, ◌≤◌, arith}
 use Rattle.lfs_model.specs.Refusal.{Refusal}
 use Rattle.lfs_model.specs.Stands.{LogMap}
 use Rattle.lfs_model.specs.Tree.{Tree}

@@ -1,5 +1,5 @@
 -- Pieces looked up, over files with a draft.
-use Rattle.std.proofs.Common.{◌≡◌, ◌≢◌, ◌<◌, ◌≤◌, sym, subst, ◌∙◌, ℕ, List, length, Option, Some, None, arith}
+use Rattle.std.proofs.Common.{◌≡◌, ◌≢◌, ◌<◌, ◌≤◌, ℕ, List, length, Some, None, arith}
 use Rattle.lfs_model.specs.declared.Kind.TheVariants as kind
 use Rattle.lfs_model.specs.Walk.{dot, dot_dot}
 use Rattle.lfs_model.specs.Stands.{LogMap}

@@ -1,11 +1,10 @@
 -- A text walked piece by piece, until it ends or an object that is no directory is met.
-use Rattle.std.proofs.Common.{◌≡◌, ◌<◌, refl, sym, ap, subst, ◌∙◌, ℕ, Bool, true, false, ◌||◌, List, [], ◌∷◌, length, Option, Some, None}
-use Rattle.std.specs.Prelude.{IfOk, IfErr, nat_lt, Result, Ok, Err}
+use Rattle.std.proofs.Common.{◌≡◌, ◌<◌, refl, sym, ap, subst, ◌∙◌, ℕ, Bool, true, false, ◌||◌, List, [], ◌∷◌, Option, Some, None}
+use Rattle.std.specs.Prelude.{IfOk, IfErr, Result, Ok, Err}
 use Rattle.lfs_model.specs.Device.{IsLawful}
 use Rattle.lfs_model.specs.PathText.{comps, slash}
 use Rattle.lfs_model.specs.Refusal as refusals
 use Rattle.lfs_model.specs.Stands.{LogMap}
-use Rattle.lfs_model.specs.Tree.{Tree}
 use Rattle.lfs_model.specs.TreeOf.{tree_in}
 use Rattle.lfs_model.specs.Walk.{End, At, Refused, Walk, file, link, more, no_piece, not_dir}
 use Rattle.lfs_files.specs.Files.{FilesState, Reads}
@@ -21,7 +20,7 @@ use Rattle.lfs_path.specs.declared.passing.Met.TheVariants as met
 use Rattle.lfs_path.specs.declared.passing.Stop.{Stop}
 use Rattle.lfs_path.specs.declared.passing.Stop.TheVariants as stop
 use Rattle.lfs_path.specs.declared.walk_fault.WalkFault.{WalkFault}
-use Rattle.lfs_path.specs.declared.walk_fault.WalkFault.TheVariants.{NoEntry, NotDir, NameTooLong, Inval, Loop, NoMemory, Log}
+use Rattle.lfs_path.specs.declared.walk_fault.WalkFault.TheVariants.{NotDir}
 use Rattle.lfs_path.proofs.Refusing.{refuses_then}
 
 module _ (slash_end follow : Bool) where

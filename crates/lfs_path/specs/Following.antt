@@ -1,11 +1,13 @@
 -- Symbolic links that are followed.
-use Rattle.std.specs.Prelude.{◌≡◌, ◌++◌, ℕ, List, [], ◌∷◌, take, length, ◌+◌, if◌then◌else◌}
+use Rattle.std.specs.Prelude.{◌≡◌, ◌++◌, ℕ, List, [], ◌∷◌, take, if◌then◌else◌}
 use Rattle.lfs_model.specs.PathText.{from_root}
 use Rattle.lfs_model.specs.Stands.{LogMap}
 use Rattle.lfs_model.specs.TreeOf.{object}
-use Rattle.lfs_files.specs.Files.{FilesState, HoldsBlock}
+use Rattle.lfs_files.specs.Files.{FilesState, HoldsBlock, IsFault}
 use Rattle.lfs_files.specs.Headers.{as_header}
 use Rattle.lfs_path.specs.declared.seen.Link.{Link}
+use Rattle.lfs_path.specs.declared.walk_fault.WalkFault.{WalkFault}
+use Rattle.lfs_path.specs.Telling.{ByFault}
 
 -- a link's text is walked from the root, or from where the walk is
 abbrev pub started : List ℕ → List ℕ → List ℕ
@@ -22,6 +24,10 @@ pub record HasTaken (m : LogMap) (n index count : ℕ) (old new : List ℕ) : Ty
   pub text : new ≡ old ++ take count block
 
 module _ {S D : Type 0} (s s' : FilesState S D) where
+  -- a read gives no refusal
+  abbrev pub IsReadFault : WalkFault → Type 0
+  IsReadFault fault = ByFault fault (IsFault s s') (λ r. ⊥)
+
   abbrev pub TakesBytes : ℕ → ℕ → ℕ → List ℕ → List ℕ → Type 0
   TakesBytes n index count old new = (m m' : LogMap) → s'.device.keeps_model → s.has m m' → HasTaken m' n index count old new
 

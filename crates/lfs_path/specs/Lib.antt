@@ -8,4 +8,5 @@ pub mod Telling
 pub mod Seeing
 pub mod Following
 pub mod Passing
+pub mod Reaching
 pub use Rattle.lfs_dirs.specs as dirs

@@ -10,6 +10,7 @@ mod passing;
 mod seen;
 pub mod text;
 mod walk;
+mod walking;
 mod walk_fault;
 
 pub use fault::PathFault;

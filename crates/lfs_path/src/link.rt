@@ -1,31 +1,32 @@
 //! The texts of symbolic links.
 ghost use Rattle.std.specs.Prelude.{◌≡◌, ◌<◌, ◌≤◌, true, IfOk, IfErr, OnOk, IsErrOf};
 ghost use Rattle.lfs_model.specs.PathText.{from_root};
-ghost use Rattle.lfs_files.specs.Files.{IsFault, Reads};
-ghost use Rattle.lfs_path.specs.Following.{Follows, ReadsText, TakesBytes};
+ghost use Rattle.lfs_files.specs.Files.{Reads};
+ghost use Rattle.lfs_path.specs.Following.{Follows, IsReadFault, ReadsText, TakesBytes};
 
 use crate::chain::Chain;
 use crate::seen::Link;
-use lfs_files::{Files, LogFault, StoreFault};
+use crate::walk_fault::WalkFault;
+use lfs_files::{Files, LogFault};
 use std::alloc::Global;
 
 /// The bytes of a block.
 const BLOCK: u32 = 512;
 
 /// Follows a link: the text that is left is the link's and behind it what was left, from the root where the link's begins with a slash.
-pub fn follow<F: Files>(
+pub fn follow_link<F: Files>(
     alloc: Global,
     files: &mut F,
     chain: &mut Chain,
     link: Link,
     rest: &[u8],
-) -> Result<Vec<u8>, StoreFault>
+) -> Result<Vec<u8>, WalkFault>
     requires { link.number < 4096 }
     ensures reads { Reads (F.state files.old) (F.state files.new) }
     ensures answer { IfOk result (λ text. Follows (F.state files.old) (F.state files.new) link rest.now chain.old chain.new text.items) }
-    ensures failed { IfErr result (λ fault. (fault ≡ StoreFault.NoMemory → ⊥) → IsFault (F.state files.old) (F.state files.new)) }
-    ensures halted { IsErrOf result (StoreFault.Log LogFault.Halted) → (F.state files.old).halted ≡ true }
-    ensures other { IsErrOf result (StoreFault.Log LogFault.Full) → ⊥ }
+    ensures failed { IfErr result (IsReadFault (F.state files.old) (F.state files.new)) }
+    ensures halted { IsErrOf result (WalkFault.Log LogFault.Halted) → (F.state files.old).halted ≡ true }
+    ensures other { IsErrOf result (WalkFault.Log LogFault.Full) → ⊥ }
 {
     let mut text = match read_text(alloc, files, link) {
         Ok(text) => text,
@@ -36,7 +37,7 @@ pub fn follow<F: Files>(
     }
     match text.extend_from_slice(rest) {
         Ok(()) => Ok(text),
-        Err(_) => Err(StoreFault::NoMemory),
+        Err(_) => Err(WalkFault::NoMemory),
     }
 }
 
@@ -55,13 +56,13 @@ fn read_text<F: Files>(
     alloc: Global,
     files: &mut F,
     link: Link,
-) -> Result<Vec<u8>, StoreFault>
+) -> Result<Vec<u8>, WalkFault>
     requires { link.number < 4096 }
     ensures reads { Reads (F.state files.old) (F.state files.new) }
     ensures answer { IfOk result (λ text. ReadsText (F.state files.old) (F.state files.new) link text.items) }
-    ensures failed { IfErr result (λ fault. (fault ≡ StoreFault.NoMemory → ⊥) → IsFault (F.state files.old) (F.state files.new)) }
-    ensures halted { IsErrOf result (StoreFault.Log LogFault.Halted) → (F.state files.old).halted ≡ true }
-    ensures other { IsErrOf result (StoreFault.Log LogFault.Full) → ⊥ }
+    ensures failed { IfErr result (IsReadFault (F.state files.old) (F.state files.new)) }
+    ensures halted { IsErrOf result (WalkFault.Log LogFault.Halted) → (F.state files.old).halted ≡ true }
+    ensures other { IsErrOf result (WalkFault.Log LogFault.Full) → ⊥ }
 {
     let size = link.header.size;
     let mut text = Vec::new(alloc);
@@ -82,22 +83,22 @@ fn read_block<F: Files>(
     index: u32,
     count: usize,
     text: &mut Vec<u8>,
-) -> Result<(), StoreFault>
+) -> Result<(), WalkFault>
     requires number { number < 4096 }
     requires few { count ≤ 512 }
     ensures reads { Reads (F.state files.old) (F.state files.new) }
     ensures done { OnOk result (TakesBytes (F.state files.old) (F.state files.new) number index count text.old.items text.new.items) }
-    ensures failed { IfErr result (λ fault. (fault ≡ StoreFault.NoMemory → ⊥) → IsFault (F.state files.old) (F.state files.new)) }
-    ensures halted { IsErrOf result (StoreFault.Log LogFault.Halted) → (F.state files.old).halted ≡ true }
-    ensures other { IsErrOf result (StoreFault.Log LogFault.Full) → ⊥ }
+    ensures failed { IfErr result (IsReadFault (F.state files.old) (F.state files.new)) }
+    ensures halted { IsErrOf result (WalkFault.Log LogFault.Halted) → (F.state files.old).halted ≡ true }
+    ensures other { IsErrOf result (WalkFault.Log LogFault.Full) → ⊥ }
 {
     let mut block = [0; 512];
     match files.block(number, index, &mut block) {
         Ok(_) => {}
-        Err(fault) => return Err(StoreFault::Log(fault)),
+        Err(fault) => return Err(WalkFault::Log(fault)),
     }
     match text.extend_from_slice(&block[..count]) {
         Ok(()) => Ok(()),
-        Err(_) => Err(StoreFault::NoMemory),
+        Err(_) => Err(WalkFault::NoMemory),
     }
 }

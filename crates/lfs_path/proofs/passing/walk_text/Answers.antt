@@ -1,4 +1,3 @@
-use Rattle.std.proofs.Common.{Some}
 use Rattle.lfs_path.proofs.TextWalks.{ends, stops_err, stops_ok}
 use Rattle.lfs_path.proofs.passing.walk_text.Goals as goal
 

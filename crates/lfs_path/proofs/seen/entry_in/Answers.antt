@@ -1,5 +1,3 @@
-use Rattle.std.proofs.Common.{◌≡◌, Option, Some, None, subst}
-use Rattle.lfs_dirs.specs.Finding.{Finds}
 use Rattle.lfs_path.proofs.Sights.{find_failed, found, found_none, header_failed, long_refused}
 use Rattle.lfs_path.proofs.seen.entry_in.Goals as goal
 

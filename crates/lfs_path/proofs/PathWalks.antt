@@ -1,0 +1,167 @@
+-- A path walked from the root, link by link.
+use Rattle.std.proofs.Common.{◌≡◌, ◌<◌, ◌≤◌, ◌+◌, refl, sym, ap, subst, ◌∙◌, ℕ, suc, Bool, true, false, ◌||◌, List, [], ◌∷◌, ◌++◌, length, Bor, arith}
+use Rattle.std.specs.Prelude.{nat_lt, if◌then◌else◌}
+use Rattle.std.proofs.lemmas.Bool.{eqb-true}
+use Rattle.std.proofs.lemmas.Bool.Decides.{nat_tests}
+use Rattle.lfs_model.specs.Device.{IsLawful}
+use Rattle.lfs_model.specs.PathText.{comps, slash, from_root}
+use Rattle.lfs_model.specs.Refusal as refusals
+use Rattle.lfs_model.specs.Stands.{LogMap}
+use Rattle.lfs_model.specs.Tree.{Tree}
+use Rattle.lfs_model.specs.TreeOf.{tree_in}
+use Rattle.lfs_model.specs.Walk.{End, At, Refused, Walk, followed, loops, slash_with, start}
+use Rattle.lfs_model.proofs.FollowedTexts.{IsRest, pieces_joined, slash_joined}
+use Rattle.lfs_files.specs.Files.{FilesState, IsFault, Reads}
+use Rattle.lfs_files.proofs.FilesCompose.{reads_more, reads_none}
+use Rattle.lfs_path.specs.Following.{Follows, IsReadFault, started, text_of}
+use Rattle.lfs_path.specs.Passing.{EndsText, MeetsLink, Stops, WalksText}
+use Rattle.lfs_path.specs.Reaching.{EndsPath, Reaches}
+use Rattle.lfs_path.specs.Telling.{Fails, Refuses, Tells}
+use Rattle.lfs_path.specs.Trees.{HasTree, InChain, IsChain, here}
+use Rattle.lfs_path.specs.declared.passing.Stop.TheVariants as stop
+use Rattle.lfs_path.specs.declared.seen.Link.{Link}
+use Rattle.lfs_path.specs.declared.walk_fault.WalkFault.{WalkFault}
+use Rattle.lfs_path.specs.declared.walk_fault.WalkFault.TheVariants.{Loop}
+use Rattle.lfs_path.proofs.Refusing.{by_fault, refuses_then}
+
+-- ---- texts
+some_true : (n : ℕ) → nat_lt 0 (suc n) ≡ true
+some_true n = grind (arith, nat_tests)
+
+is_rest : (rest : List ℕ) → from_root rest ≡ nat_lt 0 (length rest) → IsRest rest
+is_rest [] begins = tt
+is_rest (c ∷ q) begins = eqb-true c 47 (begins ∙ some_true (length q))
+
+-- the slash end of what is left then
+slash_left : (b : Bool) (x rest : List ℕ) → IsRest rest → (slash_with x (comps rest) (slash rest) ≡ slash (x ++ rest)) → (b || slash (x ++ rest)) ≡ slash_with x (comps rest) (b || slash rest)
+slash_left false x rest is joined = sym joined
+slash_left true x rest is joined = by (comps rest) (slash x)
+  where
+    or_true : (b : Bool) → true ≡ (b || true)
+    or_true true = refl
+    or_true false = refl
+
+    by : (ps : List (List ℕ)) (b : Bool) → true ≡ slash_with x ps true
+    by [] b = or_true (slash x)
+    by (p ∷ ps) b = refl
+
+here_started : (x chain : List ℕ) → here (started x chain) ≡ start x (here chain)
+here_started x chain = by (from_root x)
+  where
+    by : (b : Bool) → here (if b then 1 ∷ [] else chain) ≡ (if b then 1 else here chain)
+    by true = refl
+    by false = refl
+
+started_chain : (t : Tree) (x chain : List ℕ) → IsChain t chain → IsChain t (started x chain)
+started_chain t x chain is = by (from_root x)
+  where
+    by : (b : Bool) → IsChain t (if b then 1 ∷ [] else chain)
+    by true = refl
+    by false = is
+
+module _ (slash_end follow : Bool) (path : List ℕ) where
+  -- ---- by the tree
+
+  -- A walk of the text that is left from where the walk is now, with so many links followed, is one of the whole path.
+  pub record GoesOn (chain text : List ℕ) (links : ℕ) (m : LogMap) : Type 0 where
+    pub directories : IsChain (tree_in m) chain
+    pub walks : (e : End) → WalksText slash_end follow (here chain) text links (tree_in m) e → EndsPath slash_end follow path (tree_in m) e
+
+  module _ (m : LogMap) (chain text chain' : List ℕ) (links : ℕ) (l : Link) (rest : List ℕ) (was : GoesOn chain text links m) (meets : MeetsLink slash_end follow (here chain) text (here chain') l rest m) where
+    at_link : (e : End) → Walk (tree_in m) follow (here chain') (meets.piece ∷ comps rest) (slash_end || slash rest) links e → EndsPath slash_end follow path (tree_in m) e
+    at_link e w = was.walks e (meets.walks links e w)
+
+    pub too_many : 40 ≤ links → EndsPath slash_end follow path (tree_in m) (Refused refusals.Loop)
+    too_many full = at_link (Refused refusals.Loop) (loops meets.gives meets.goes full)
+
+    pub link_goes_on : IsChain (tree_in m) chain' → links < 40 → (chain'' text' : List ℕ) → text' ≡ text_of m l ++ rest → chain'' ≡ started (text_of m l) chain' → GoesOn chain'' text' (links + 1) m
+    link_goes_on directories room chain'' text' left from = record {
+      directories = subst (IsChain (tree_in m)) (sym from) (started_chain (tree_in m) (text_of m l) chain' directories);
+      walks = λ e w. at_link e (followed meets.gives meets.goes room (turned e w));
+    }
+      where
+        behind : IsRest rest
+        behind = is_rest rest meets.begins
+
+        pieces_are : comps text' ≡ comps (text_of m l) ++ comps rest
+        pieces_are = ap comps left ∙ pieces_joined (text_of m l) rest behind
+
+        slash_is : (slash_end || slash text') ≡ slash_with (text_of m l) (comps rest) (slash_end || slash rest)
+        slash_is = ap (λ (x : List ℕ). slash_end || slash x) left ∙ slash_left slash_end (text_of m l) rest behind (slash_joined (text_of m l) rest behind meets.goes_on)
+
+        turned : (e : End) → WalksText slash_end follow (here chain'') text' (links + 1) (tree_in m) e
+            → Walk (tree_in m) follow (start (text_of m l) (here chain')) (comps (text_of m l) ++ comps rest) (slash_with (text_of m l) (comps rest) (slash_end || slash rest)) (links + 1) e
+        turned e w =
+            subst (λ (d : ℕ). Walk (tree_in m) follow d (comps (text_of m l) ++ comps rest) (slash_with (text_of m l) (comps rest) (slash_end || slash rest)) (links + 1) e) (ap here from ∙ here_started (text_of m l) chain')
+            (subst (λ (ps : List (List ℕ)). Walk (tree_in m) follow (here chain'') ps (slash_with (text_of m l) (comps rest) (slash_end || slash rest)) (links + 1) e) pieces_are
+            (subst (λ (b : Bool). Walk (tree_in m) follow (here chain'') (comps text') b (links + 1) e) slash_is w))
+
+module _ {S D : Type 0} (slash_end follow : Bool) (path : List ℕ) where
+  pub record ComesOn (s s' : FilesState S D) (chain text : List ℕ) (links : ℕ) : Type 0 where
+    pub reads : Reads s s'
+    pub few : links ≤ 40
+    pub goes : Tells s s' HasTree (GoesOn slash_end follow path chain text links)
+
+  pub walk_begins : (s : FilesState S D) (chain : List ℕ) → chain ≡ 1 ∷ [] → ComesOn s s chain path 0
+  walk_begins s chain at = record {
+    reads = reads_none s;
+    few = omega arith;
+    goes = λ m m' keeps has tree. record {
+      directories = subst (IsChain (tree_in m')) (sym at) refl;
+      walks = λ e w. subst (λ (c : List ℕ). WalksText slash_end follow (here c) path 0 (tree_in m') e) at w;
+    };
+  }
+
+  module _ (s a b : FilesState S D) (chain text chain' : List ℕ) (links : ℕ) (was : ComesOn s a chain text links) (reads : Reads a b) where
+    goes_at : (m m' : LogMap) → b.device.keeps_model → s.has m m' → HasTree m' → GoesOn slash_end follow path chain text links m'
+    goes_at m m' keeps has tree = was.goes m m' (reads.looks.carries.kept_before keeps) has tree
+
+    in_chain : (m m' : LogMap) → b.device.keeps_model → s.has m m' → HasTree m' → InChain chain m'
+    in_chain m m' keeps has tree = record { tree = tree; directories = (goes_at m m' keeps has tree).directories }
+
+    pub walk_refused : (fault : WalkFault) → Refuses a b (InChain chain) (EndsText slash_end follow (here chain) text) fault → Refuses s b HasTree (EndsPath slash_end follow path) fault
+    walk_refused fault = refuses_then s a b HasTree (InChain chain) (EndsText slash_end follow (here chain) text) (EndsPath slash_end follow path) fault was.reads in_chain
+        (λ m m' keeps has tree e ends. (goes_at m m' keeps has tree).walks e (ends links))
+
+    pub walk_directory : Tells a b (InChain chain) (Stops slash_end follow chain text chain' stop.Directory) → Tells s b HasTree (Reaches slash_end follow path chain' (here chain'))
+    walk_directory stops m m' keeps has tree =
+        let x = stops m m' keeps (was.reads.has m m' has) (in_chain m m' keeps has tree) in
+        record { directories = x.directories; walk = (goes_at m m' keeps has tree).walks (At (here chain')) (x.stop links) }
+
+    pub walk_node : (n : ℕ) → Tells a b (InChain chain) (Stops slash_end follow chain text chain' (stop.Node n)) → Tells s b HasTree (Reaches slash_end follow path chain' n)
+    walk_node n stops m m' keeps has tree =
+        let x = stops m m' keeps (was.reads.has m m' has) (in_chain m m' keeps has tree) in
+        record { directories = x.directories; walk = (goes_at m m' keeps has tree).walks (At n) (x.stop links) }
+
+    module _ (l : Link) (r : Bor (List ℕ)) (seen : List ℕ) (value : seen ≡ text) (told : Tells a b (InChain chain) (Stops slash_end follow chain seen chain' (stop.Followed l r))) where
+      stops : (m m' : LogMap) → b.device.keeps_model → s.has m m' → InChain chain m' → IsChain (tree_in m') chain' × MeetsLink slash_end follow (here chain) text (here chain') l r.now m'
+      stops m m' keeps has is =
+          let x = told m m' keeps (was.reads.has m m' has) is in
+          (x.directories, subst (λ (y : List ℕ). MeetsLink slash_end follow (here chain) y (here chain') l r.now m') value x.stop)
+
+      pub walk_loops : 40 ≤ links → Refuses s b HasTree (EndsPath slash_end follow path) Loop
+      walk_loops full m m' keeps has tree =
+          let x = stops m m' keeps has (in_chain m m' keeps has tree) in
+          too_many slash_end follow path m' chain text chain' links l r.now (goes_at m m' keeps has tree) x.1 full
+
+      module _ (c : FilesState S D) (again : Reads b c) where
+        pub walk_goes_on : IsLawful s.device → links < 40 → (chain'' text' : List ℕ) → Follows b c l r.now chain' chain'' text' → ComesOn s c chain'' text' (links + 1)
+        walk_goes_on lawful room chain'' text' follows = record {
+          reads = reads_more s b c lawful (reads_more s a b lawful was.reads reads) again;
+          few = omega (arith, room);
+          goes = λ m m' keeps has tree.
+              let before = again.looks.carries.kept_before keeps in
+              let x = stops m m' before has (in_chain m m' before has tree) in
+              let left = follows m m' keeps (reads.has m m' (was.reads.has m m' has)) in
+              link_goes_on slash_end follow path m' chain text chain' links l r.now (goes_at m m' before has tree) x.1 x.0 room chain'' text' left.0 left.1;
+        }
+
+        pub follow_failed : (fault : WalkFault) → IsReadFault b c fault → Refuses s c HasTree (EndsPath slash_end follow path) fault
+        follow_failed fault =
+            by_fault fault (IsFault b c) (Fails s c HasTree) (λ r. ⊥) (λ r. Tells s c HasTree (λ m. EndsPath slash_end follow path (tree_in m) (Refused r)))
+            (λ failed m m' keeps has tree.
+            let rose = failed m m' keeps (reads.has m m' (was.reads.has m m' has)) in
+            let one = was.reads.looks.carries.failures in
+            let two = reads.looks.carries.failures in
+            omega (arith, rose, one, two))
+            (λ r bad. absurd bad)

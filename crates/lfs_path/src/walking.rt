@@ -1,0 +1,61 @@
+//! The pieces of a path, walked from the root, with symbolic links followed.
+ghost use Rattle.std.specs.Prelude.{◌≡◌, [], ◌∷◌, true, IfOk, IfErr, IsErrOf};
+ghost use Rattle.lfs_files.specs.Files.{Reads};
+ghost use Rattle.lfs_path.specs.Reaching.{EndsPath, Reaches};
+ghost use Rattle.lfs_path.specs.Telling.{Refuses, Tells};
+ghost use Rattle.lfs_path.specs.Trees.{HasTree, here};
+
+use crate::chain::Chain;
+use crate::link::follow_link;
+use crate::passing::{Stop, walk_text};
+use crate::walk_fault::WalkFault;
+use lfs_files::{Files, LogFault};
+use std::alloc::Global;
+
+/// The most links that a walk follows.
+const MOST_LINKS: u32 = 40;
+
+/// Walks a path from the root to its end. A slash end counts as there where `slash_end` says so; `follow` says whether a link at the end is followed.
+///
+/// # Errors
+///
+/// The walk's refusal. `NoMemory`; `Log` where the log gives no answer.
+pub fn walk<F: Files>(
+    alloc: Global,
+    files: &mut F,
+    chain: &mut Chain,
+    path: &[u8],
+    slash_end: bool,
+    follow: bool,
+) -> Result<u16, WalkFault>
+    requires { chain.old ≡ 1 ∷ [] }
+    ensures reads { Reads (F.state files.old) (F.state files.new) }
+    ensures last { IfOk result (λ n. slash_end ≡ true → n ≡ here chain.new) }
+    ensures answer { IfOk result (λ n. Tells (F.state files.old) (F.state files.new) HasTree (Reaches slash_end follow path.now chain.new n)) }
+    ensures refused { IfErr result (Refuses (F.state files.old) (F.state files.new) HasTree (EndsPath slash_end follow path.now)) }
+    ensures halted { IsErrOf result (WalkFault.Log LogFault.Halted) → (F.state files.old).halted ≡ true }
+    ensures other { IsErrOf result (WalkFault.Log LogFault.Full) → ⊥ }
+{
+    let mut text = Vec::new(alloc);
+    match text.extend_from_slice(path) {
+        Ok(()) => {}
+        Err(_) => return Err(WalkFault::NoMemory),
+    }
+    let mut links = 0;
+    loop {
+        let (link, rest) = match walk_text(files, chain, text.as_slice(), slash_end, follow) {
+            Ok(Stop::Directory) => return Ok(chain.directory()),
+            Ok(Stop::Node(number)) => return Ok(number),
+            Ok(Stop::Followed(link, rest)) => (link, rest),
+            Err(fault) => return Err(fault),
+        };
+        if links == MOST_LINKS {
+            return Err(WalkFault::Loop);
+        }
+        links += 1;
+        text = match follow_link(alloc, files, chain, link, rest) {
+            Ok(text) => text,
+            Err(fault) => return Err(fault),
+        };
+    }
+}
