@@ -1,6 +1,7 @@
 pub mod FlatTrees
 pub mod FlatWalks
 pub mod Lasts
+pub mod Splits
 pub mod Lookups
 pub mod PathEnds
 pub mod InTrees
@@ -12,5 +13,6 @@ pub mod Passes
 pub mod Refusing
 pub mod TextWalks
 pub mod PathWalks
+pub mod Places
 pub mod Texts
 pub use Rattle.lfs_dirs.proofs as of_dirs

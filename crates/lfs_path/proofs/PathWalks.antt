@@ -1,8 +1,6 @@
 -- A path walked from the root, link by link.
-use Rattle.std.proofs.Common.{◌≡◌, ◌<◌, ◌≤◌, ◌+◌, refl, sym, ap, subst, ◌∙◌, ℕ, suc, Bool, true, false, ◌||◌, List, [], ◌∷◌, ◌++◌, length, Bor, arith}
-use Rattle.std.specs.Prelude.{nat_lt, if◌then◌else◌}
-use Rattle.std.proofs.lemmas.Bool.{eqb-true}
-use Rattle.std.proofs.lemmas.Bool.Decides.{nat_tests}
+use Rattle.std.proofs.Common.{◌≡◌, ◌<◌, ◌≤◌, ◌+◌, refl, sym, ap, subst, ◌∙◌, ℕ, Bool, true, false, ◌||◌, List, [], ◌∷◌, ◌++◌, Bor, arith}
+use Rattle.std.specs.Prelude.{if◌then◌else◌}
 use Rattle.lfs_model.specs.Device.{IsLawful}
 use Rattle.lfs_model.specs.PathText.{comps, slash, from_root}
 use Rattle.lfs_model.specs.Refusal as refusals
@@ -23,15 +21,9 @@ use Rattle.lfs_path.specs.declared.seen.Link.{Link}
 use Rattle.lfs_path.specs.declared.walk_fault.WalkFault.{WalkFault}
 use Rattle.lfs_path.specs.declared.walk_fault.WalkFault.TheVariants.{Loop}
 use Rattle.lfs_path.proofs.Refusing.{by_fault, refuses_then}
+use Rattle.lfs_path.proofs.Splits.{is_rest}
 
 -- ---- texts
-some_true : (n : ℕ) → nat_lt 0 (suc n) ≡ true
-some_true n = grind (arith, nat_tests)
-
-is_rest : (rest : List ℕ) → from_root rest ≡ nat_lt 0 (length rest) → IsRest rest
-is_rest [] begins = tt
-is_rest (c ∷ q) begins = eqb-true c 47 (begins ∙ some_true (length q))
-
 -- the slash end of what is left then
 slash_left : (b : Bool) (x rest : List ℕ) → IsRest rest → (slash_with x (comps rest) (slash rest) ≡ slash (x ++ rest)) → (b || slash (x ++ rest)) ≡ slash_with x (comps rest) (b || slash rest)
 slash_left false x rest is joined = sym joined

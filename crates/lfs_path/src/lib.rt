@@ -9,10 +9,12 @@ mod link;
 mod passing;
 mod seen;
 pub mod text;
+pub mod tree;
 mod walk;
 mod walking;
 mod walk_fault;
 
+pub use chain::Chain;
 pub use fault::PathFault;
 pub use last::Last;
 pub use lfs_dirs as dirs;

@@ -1,0 +1,22 @@
+-- The directory of a path without pieces.
+use Rattle.std.proofs.Common.{◌≡◌, refl, sym, subst, ℕ, true, List, [], ◌∷◌, Option, None}
+use Rattle.std.specs.Prelude.{MatchOption}
+use Rattle.lfs_model.specs.PathText.{but_last, comps, text_refusal}
+use Rattle.lfs_model.specs.Refusal.{Refusal}
+use Rattle.lfs_model.specs.Stands.{LogMap}
+use Rattle.lfs_model.specs.Tree.{Tree}
+use Rattle.lfs_model.specs.TreeOf.{tree_in}
+use Rattle.lfs_model.specs.Walk.{At, Refused, Walk, no_piece}
+use Rattle.lfs_path.specs.Reaching.{EndsParent, IsParent}
+use Rattle.lfs_path.specs.Trees.{IsChain, here}
+
+root_ends : (t : Tree) (path : List ℕ) → text_refusal path ≡ None → comps path ≡ [] → EndsParent path t (At 1)
+root_ends t path text none =
+    subst (λ (o : Option Refusal). MatchOption o (Walk t true 1 (but_last (comps path)) true 0 (At 1)) (λ r. At 1 ≡ Refused r)) (sym text)
+    (subst (λ (ps : List (List ℕ)). Walk t true 1 (but_last ps) true 0 (At 1)) (sym none) no_piece)
+
+pub root_place : (m : LogMap) (path chain : List ℕ) → text_refusal path ≡ None → comps path ≡ [] → chain ≡ 1 ∷ [] → IsParent path chain m
+root_place m path chain text none at = record {
+  directories = subst (IsChain (tree_in m)) (sym at) refl;
+  ends = subst (λ (c : List ℕ). EndsParent path (tree_in m) (At (here c))) (sym at) (root_ends (tree_in m) path text none);
+}

@@ -1,0 +1,102 @@
+//! The walk of a path over any tree of directories, files and symbolic links.
+ghost use Rattle.std.specs.Prelude.{◌≡◌, None, true, IfOk, IfErr, OnOk, IsErrOf};
+ghost use Rattle.lfs_model.specs.PathText.{text_refusal};
+ghost use Rattle.lfs_files.specs.Files.{Reads};
+ghost use Rattle.lfs_path.specs.Reaching.{EndsParent, EndsResolve, IsParent, IsTextFault, ResolvesTo};
+ghost use Rattle.lfs_path.specs.Telling.{Refuses, Tells};
+ghost use Rattle.lfs_path.specs.Trees.{HasTree};
+ghost use Rattle.lfs_path.specs.Walking.{HasLast};
+
+use crate::chain::Chain;
+use crate::fault::PathFault;
+use crate::last::{Last, split_last};
+use crate::text::check_text;
+use crate::walk_fault::WalkFault;
+use crate::walking::walk;
+use lfs_files::{Files, LogFault};
+use std::alloc::Global;
+
+/// The directory that a path's last piece stands in, and that piece, where the path has one.
+#[derive(Drop)]
+pub struct Place<'a> {
+    /// The directory, and those above it.
+    pub chain: Chain,
+    pub last: Option<Last<'a>>,
+}
+
+/// The number of the object that a path gives; `follow` says whether a symbolic link at its end is followed.
+///
+/// # Errors
+///
+/// The path's refusal. `NoMemory`; `Log` where the log gives no answer: `Halted` once a commit failed, `Device` where a call of the device failed.
+pub fn resolve<F: Files>(
+    alloc: Global,
+    files: &mut F,
+    path: &[u8],
+    follow: bool,
+) -> Result<u16, WalkFault>
+    ensures reads { Reads (F.state files.old) (F.state files.new) }
+    ensures answer { IfOk result (λ n. Tells (F.state files.old) (F.state files.new) HasTree (ResolvesTo path.now follow n)) }
+    ensures refused { IfErr result (Refuses (F.state files.old) (F.state files.new) HasTree (EndsResolve path.now follow)) }
+    ensures halted { IsErrOf result (WalkFault.Log LogFault.Halted) → (F.state files.old).halted ≡ true }
+    ensures other { IsErrOf result (WalkFault.Log LogFault.Full) → ⊥ }
+{
+    match check(path) {
+        Ok(()) => {}
+        Err(fault) => return Err(fault),
+    }
+    let mut chain = Chain::root(alloc);
+    match walk(alloc, files, &mut chain, path, false, follow) {
+        Ok(number) => Ok(number),
+        Err(fault) => Err(fault),
+    }
+}
+
+/// Walks all pieces of a path but the last.
+///
+/// # Errors
+///
+/// As those of `resolve`.
+pub fn parent<'a, F: Files>(
+    alloc: Global,
+    files: &mut F,
+    path: &'a [u8],
+) -> Result<Place<'a>, WalkFault>
+    ensures reads { Reads (F.state files.old) (F.state files.new) }
+    ensures last { IfOk result (λ p. HasLast path.now p.last) }
+    ensures answer { IfOk result (λ p. Tells (F.state files.old) (F.state files.new) HasTree (IsParent path.now p.chain)) }
+    ensures refused { IfErr result (Refuses (F.state files.old) (F.state files.new) HasTree (EndsParent path.now)) }
+    ensures halted { IsErrOf result (WalkFault.Log LogFault.Halted) → (F.state files.old).halted ≡ true }
+    ensures other { IsErrOf result (WalkFault.Log LogFault.Full) → ⊥ }
+{
+    match check(path) {
+        Ok(()) => {}
+        Err(fault) => return Err(fault),
+    }
+    let mut chain = Chain::root(alloc);
+    let Some((above, last)) = split_last(path) else {
+        return Ok(Place { chain, last: None });
+    };
+    match walk(alloc, files, &mut chain, above, true, true) {
+        Ok(_) => Ok(Place {
+            chain,
+            last: Some(last),
+        }),
+        Err(fault) => Err(fault),
+    }
+}
+
+/// Refuses a path for its text alone.
+fn check(path: &[u8]) -> Result<(), WalkFault>
+    ensures taken { OnOk result (text_refusal path.now ≡ None) }
+    ensures refused { IfErr result (IsTextFault path.now) }
+{
+    match check_text(path) {
+        Ok(()) => Ok(()),
+        Err(PathFault::NoEntry) => Err(WalkFault::NoEntry),
+        Err(PathFault::NotDir) => Err(WalkFault::NotDir),
+        Err(PathFault::NameTooLong) => Err(WalkFault::NameTooLong),
+        Err(PathFault::Inval) => Err(WalkFault::Inval),
+        Err(PathFault::Log(fault)) => Err(WalkFault::Log(fault)),
+    }
+}
