@@ -71,7 +71,7 @@ module _ (m : LogMap) where
         let h = within.tree.headers d a.head a.is in
         let number = h.number in
         let there : node (tree_in m) d ≡ Some (Dir a.head.form (map_of a.head.form (slots m d a.head))) =
-            node_in m d number.0 number.1 ∙ ap (node_of m d) a.is ∙ ap (λ (k : Kind). Some (node_by m k d a.head)) a.kind in
+        node_in m d number.0 number.1 ∙ ap (node_of m d) a.is ∙ ap (λ (k : Kind). Some (node_by m k d a.head)) a.kind in
         ap (λ (o : Option Node). name_len (form_of o)) there ∙ ap name_len h.form
 
     pub long_name : (name : List ℕ) → 59 < length name → EndsAtPiece d name (tree_in m) (Refused refusals.NameTooLong)

@@ -3,6 +3,7 @@ use Rattle.std.proofs.Common.{◌≡◌, refl, sym, ap, ◌∙◌, ℕ, suc, ◌
 use Rattle.std.specs.Prelude.{IfSome, is_none, if◌then◌else◌}
 use Rattle.std.specs.List.{last_or}
 use Rattle.lfs_model.specs.PathText.{comps, slash, but_last, last}
+use Rattle.lfs_path.specs.Lasts.{IsNameBefore}
 use Rattle.lfs_path.specs.Pieces.{is_dots, from_name, IsNextPiece}
 
 -- all pieces of the path that aren't in the rest are dots, and the last is in the rest
@@ -56,3 +57,12 @@ pub goes_by : {A : Type 0} (front back : A → List ℕ) (r : Option A) (path re
     → IfSome r (λ x. IsNextPiece after (front x) (back x)) → is_dots piece ≡ true → LeavesDots path after
 goes_by front back None path rest piece after goes next some two dots = absurd (cc)
 goes_by front back (Some x) path rest piece after goes next some two dots = goes_further path rest piece after goes next (front x) (back x) two dots
+
+pub name_by : {A : Type 0} (front back : A → List ℕ) (r : Option A) (path rest piece after : List ℕ) → LeavesDots path rest → IsNextPiece rest piece after → is_none r ≡ false
+    → IfSome r (λ x. IsNextPiece after (front x) (back x)) → is_dots piece ≡ false → IsNameBefore path piece
+name_by front back None path rest piece after goes next some two plain = absurd (cc)
+name_by front back (Some x) path rest piece after goes next some two plain = record {
+  rest = but_last (comps after);
+  pieces = names_are path rest piece after goes next (front x) (back x) two false plain;
+  plain = plain;
+}

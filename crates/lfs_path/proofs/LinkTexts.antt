@@ -27,13 +27,13 @@ module _ (m : LogMap) (n index count : ℕ) (old new : List ℕ) (at : length ol
   taken_bytes each p low = ⊎_elim
       (λ (before : p < length old). each p before ∙ sym (ap (λ (b : List ℕ). get_or b p 0) is.text ∙ get_or_append_left old (take count is.block) 0 p before))
       (λ (behind : length old ≤ p).
-          let long = taken_long in
-          let j : p - length old < count = omega (arith, long, low, at, behind) in
-          let index_is : p / 512 ≡ index = omega (arith, at, behind, j, few) in
-          let place_is : p % 512 ≡ p - length old = omega (arith, at, behind, j, few) in
-          ap₂ (λ (i k : ℕ). get_or (m.block n i) k 0) index_is place_is
-          ∙ sym (is.holds.bytes (p - length old))
-          ∙ sym (ap (λ (b : List ℕ). get_or b p 0) is.text ∙ get_or-append_right old (take count is.block) (length old) p 0 refl behind ∙ get_or-take count is.block (p - length old) 0 j))
+      let long = taken_long in
+      let j : p - length old < count = omega (arith, long, low, at, behind) in
+      let index_is : p / 512 ≡ index = omega (arith, at, behind, j, few) in
+      let place_is : p % 512 ≡ p - length old = omega (arith, at, behind, j, few) in
+      ap₂ (λ (i k : ℕ). get_or (m.block n i) k 0) index_is place_is
+      ∙ sym (is.holds.bytes (p - length old))
+      ∙ sym (ap (λ (b : List ℕ). get_or b p 0) is.text ∙ get_or-append_right old (take count is.block) (length old) p 0 refl behind ∙ get_or-take count is.block (p - length old) 0 j))
       (cases_lt p (length old))
 
 -- ---- blocks up to one of this index

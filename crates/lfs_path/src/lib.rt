@@ -11,8 +11,8 @@ mod seen;
 pub mod text;
 pub mod tree;
 mod walk;
-mod walking;
 mod walk_fault;
+mod walking;
 
 pub use chain::Chain;
 pub use fault::PathFault;

@@ -52,11 +52,7 @@ fn begins_with_slash(text: &[u8]) -> bool
 }
 
 /// The text of a link.
-fn read_text<F: Files>(
-    alloc: Global,
-    files: &mut F,
-    link: Link,
-) -> Result<Vec<u8>, WalkFault>
+fn read_text<F: Files>(alloc: Global, files: &mut F, link: Link) -> Result<Vec<u8>, WalkFault>
     requires { link.number < 4096 }
     ensures reads { Reads (F.state files.old) (F.state files.new) }
     ensures answer { IfOk result (λ text. ReadsText (F.state files.old) (F.state files.new) link text.items) }

@@ -62,11 +62,7 @@ pub fn walk_text<'a, F: Files>(
 }
 
 /// Walks one piece: to the directory that it leads to, or an object that is none.
-fn pass<F: Files>(
-    files: &mut F,
-    chain: &mut Chain,
-    piece: &[u8],
-) -> Result<Option<Met>, WalkFault>
+fn pass<F: Files>(files: &mut F, chain: &mut Chain, piece: &[u8]) -> Result<Option<Met>, WalkFault>
     ensures reads { Reads (F.state files.old) (F.state files.new) }
     ensures number { IfOk result HasLinkNumber }
     ensures answer { IfOk result (λ met. Tells (F.state files.old) (F.state files.new) (InChain chain.old) (Passes piece.now chain.old chain.new met)) }
@@ -94,12 +90,7 @@ fn pass<F: Files>(
 }
 
 /// What is done at an object that is no directory, with this text left.
-fn stop_at(
-    met: Met,
-    rest: &[u8],
-    slash_end: bool,
-    follow: bool,
-) -> Result<Stop<'_>, WalkFault>
+fn stop_at(met: Met, rest: &[u8], slash_end: bool, follow: bool) -> Result<Stop<'_>, WalkFault>
     ensures { IsStop slash_end follow rest.now met result }
 {
     let left = slash_end || !rest.is_empty();

@@ -41,11 +41,7 @@ pub enum Seen {
 /// # Errors
 ///
 /// `NameTooLong`, or `NoEntry` where the directory doesn't have the name. `Log` where the log gives no answer.
-pub fn look<F: Files>(
-    files: &mut F,
-    directory: u16,
-    piece: &[u8],
-) -> Result<Seen, WalkFault>
+pub fn look<F: Files>(files: &mut F, directory: u16, piece: &[u8]) -> Result<Seen, WalkFault>
     requires { directory < 4096 }
     ensures reads { Reads (F.state files.old) (F.state files.new) }
     ensures number { IfOk result HasNumber }
@@ -92,11 +88,7 @@ fn header_of<F: Files>(files: &mut F, number: u16) -> Result<Header, LogFault>
 }
 
 /// The object that a name gives in a directory.
-fn entry_in<F: Files>(
-    files: &mut F,
-    directory: u16,
-    name: &[u8],
-) -> Result<u16, WalkFault>
+fn entry_in<F: Files>(files: &mut F, directory: u16, name: &[u8]) -> Result<u16, WalkFault>
     requires few { directory < 4096 }
     requires dots { (name.now ≢ dot) × (name.now ≢ dot_dot) }
     ensures reads { Reads (F.state files.old) (F.state files.new) }

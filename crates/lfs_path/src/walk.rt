@@ -84,10 +84,7 @@ pub fn resolve<F: Files>(files: &mut F, path: &[u8]) -> Result<u16, PathFault>
 /// # Errors
 ///
 /// As those of `resolve`.
-pub fn parent<'a, F: Files>(
-    files: &mut F,
-    path: &'a [u8],
-) -> Result<Place<'a>, PathFault>
+pub fn parent<'a, F: Files>(files: &mut F, path: &'a [u8]) -> Result<Place<'a>, PathFault>
     ensures reads { Reads (F.state files.old) (F.state files.new) }
     ensures root { IfOk result (λ place. place.directory ≡ 1) }
     ensures last { IfOk result (λ place. HasLast path.now place.last) }
