@@ -10,7 +10,7 @@ use Rattle.lfs_model.specs.TreeOf.{dropped}
 use Rattle.lfs_log.specs.verify.declared.fault.MountFault.{MountFault}
 use Rattle.lfs_log.specs.verify.Faults.{IsFault, LacksLog}
 use Rattle.lfs_log.specs.memory.declared.changes.Changes.{Changes}
-use Rattle.lfs_log.specs.memory.Batch.{staged, FitsBatch}
+use Rattle.lfs_log.specs.memory.Batch.{room_for, staged, FitsBatch}
 use Rattle.lfs_log.specs.memory.Removing.{without_file}
 use Rattle.lfs_log.specs.segments.Table.{clean_in}
 use Rattle.lfs_log.specs.Held.{Held, Holds, IsSaved}
@@ -23,6 +23,10 @@ IsMountRefusal d d' =
 -- enough segments are clean for a commit
 abbrev pub HasClean : {D : Type 0} → Held D → Type 0
 HasClean h = length h.memory.usage.segments / 8 + 8 ≤ clean_in h.memory.usage.segments
+
+-- memory has room for a draft: what it brings fits beside what isn't saved, in what one commit may write
+abbrev pub HasRoomFor : {D : Type 0} → Held D → Changes → Type 0
+HasRoomFor h c = (h.halted ≡ false) × (length h.memory.dirty.blocks + room_for c ≤ 456)
 
 -- At most one checkpoint is written, and where there was room for what isn't saved there still is.
 pub record SavesOnce {D : Type 0} (h : Held D) (saved : Bool) (h' : Held D) (saved' : Bool) : Type 0 where

@@ -22,7 +22,7 @@ const MOST_BLOCKS: usize = 140;
 impl<D: SectorDevice> Store<D> {
     ghost use Rattle.lfs_log.specs.Held.{Halts, IsFull};
     ghost use Rattle.lfs_store.specs.Recounting.{MountsTotals};
-    ghost use Rattle.lfs_store.specs.Accepting.{MountsStore, Commits, MakesRoom, Accepts, Declines, IsAcceptFault, HasClean};
+    ghost use Rattle.lfs_store.specs.Accepting.{MountsStore, Commits, MakesRoom, Accepts, Declines, IsAcceptFault, HasClean, HasRoomFor};
 
     /// The volume that the newest checkpoint of the device leads to, with its totals and an empty draft; else why there is none, and the
     /// device. It writes nothing, and takes the memory that later calls need.
@@ -118,13 +118,14 @@ impl<D: SectorDevice> Store<D> {
         self.log.clean_segments() < self.log.segments() / 8 + 8
     }
 
-    /// Commits where memory has no room for the draft.
+    /// Commits where memory has no room for the draft, and only there.
     fn find_room(&mut self) -> Result<(), LogFault>
         ensures done { OnOk result (MakesRoom D.SectorDevice.state self.old.log self.old.saved
             self.new.log self.new.saved) }
         ensures room { OnOk result (self.new.saved ≡ false →
             length self.new.log.memory.dirty.blocks + room_for self.new.draft.changes
             ≤ self.new.log.memory.dirty.capacity.limit) }
+        ensures quiet { HasRoomFor self.old.log self.old.draft.changes → self.new.log ≡ self.old.log }
         ensures draft { self.new.draft ≡ self.old.draft }
         ensures totals { self.new.log.totals ≡ self.old.log.totals }
         ensures drafted { self.new.drafted ≡ self.old.drafted }
@@ -151,6 +152,7 @@ impl<D: SectorDevice> Store<D> {
         ensures room { OnOk result (self.new.saved ≡ false →
             length self.new.log.memory.dirty.blocks + room_for self.new.draft.changes
             ≤ self.new.log.memory.dirty.capacity.limit) }
+        ensures quiet { HasRoomFor self.old.log self.old.draft.changes → self.new.log ≡ self.old.log }
         ensures draft { self.new.draft ≡ self.old.draft }
         ensures totals { self.new.log.totals ≡ self.old.log.totals }
         ensures drafted { self.new.drafted ≡ self.old.drafted }
@@ -180,6 +182,8 @@ impl<D: SectorDevice> Store<D> {
         ensures device { IsErrOf result (StoreFault.Log LogFault.Device) → Declines D.SectorDevice.state self.old.log self.old.saved self.new.log self.new.saved self.old.draft.changes }
         ensures failed { IsErrOf result (StoreFault.Log LogFault.Device) → IsAcceptFault D.SectorDevice.state self.old.log self.old.saved self.new.log self.old.draft.changes }
         ensures halted { IsErrOf result (StoreFault.Log LogFault.Halted) → self.old.log.halted ≢ true → Halts D.SectorDevice.state self.old.log self.new.log }
+        ensures quiet { HasRoomFor self.old.log self.old.draft.changes →
+            self.new.log.number ≡ self.old.log.number }
         ensures still { self.old.log.halted ≡ true → (self.new.log ≡ self.old.log) × (self.new.saved ≡ self.old.saved) × IsErrOf result (StoreFault.Log LogFault.Halted) }
     {
         if self.log.is_halted() {
@@ -201,7 +205,7 @@ impl<D: SectorDevice> Store<D> {
         }
     }
 
-    /// Stages the draft whole, or not at all; a commit comes before it where memory has no room for it. The draft is empty afterwards.
+    /// Stages the draft whole, or not at all; a commit comes before it where memory has no room for it, and only there. The draft is empty afterwards.
     ///
     /// # Errors
     ///
@@ -219,6 +223,8 @@ impl<D: SectorDevice> Store<D> {
         ensures device { IsErrOf result (StoreFault.Log LogFault.Device) → Declines D.SectorDevice.state self.old.log self.old.saved self.new.log self.new.saved self.old.draft.changes }
         ensures failed { IsErrOf result (StoreFault.Log LogFault.Device) → IsAcceptFault D.SectorDevice.state self.old.log self.old.saved self.new.log self.old.draft.changes }
         ensures halted { IsErrOf result (StoreFault.Log LogFault.Halted) → self.old.log.halted ≢ true → Halts D.SectorDevice.state self.old.log self.new.log }
+        ensures quiet { HasRoomFor self.old.log self.old.draft.changes →
+            self.new.log.number ≡ self.old.log.number }
         ensures still { self.old.log.halted ≡ true → (self.new.log ≡ self.old.log) × (self.new.saved ≡ self.old.saved) × IsErrOf result (StoreFault.Log LogFault.Halted) }
     {
         let outcome = self.stage_draft();
