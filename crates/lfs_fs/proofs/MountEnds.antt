@@ -1,5 +1,5 @@
 -- What a mount finds after its tree was checked: the state that the device stands for, or why not.
-use Rattle.std.proofs.Common.{ℕ, ◌≡◌, ◌<◌, ◌∙◌, Bool, true, false, [], refl, sym, subst, arith}
+use Rattle.std.proofs.Common.{ℕ, ◌≡◌, ◌<◌, Bool, true, [], refl, sym, subst, arith}
 use Rattle.lfs_model.specs.Checkpoint.{layout_version}
 use Rattle.lfs_model.specs.Device.{Carries, DeviceState, IsLawful, Only}
 use Rattle.lfs_model.specs.Content.{Content}

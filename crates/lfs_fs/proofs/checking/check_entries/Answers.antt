@@ -1,7 +1,7 @@
 use Rattle.std.proofs.Common.{◌≡◌, ◌/◌, ◌∙◌, Err, ap, length, slice_index, arith}
 use Rattle.std.proofs.lemmas.Grind.{get_or_default_zero}
 use Rattle.lfs_path.specs.dirs.declared.listing.ListFault.TheVariants as list_fault
-use Rattle.lfs_fs.proofs.StoreCalls.{each_drafted, log_reads, same_totals, store_failed}
+use Rattle.lfs_fs.proofs.StoreCalls.{each_drafted, log_reads, store_failed}
 use Rattle.lfs_fs.proofs.TreeChecks.{entries_fewer, entries_found, entries_malformed, entries_named, log_failed, same_counts}
 use Rattle.lfs_fs.proofs.checking.check_entries.Goals as goal
 
@@ -61,41 +61,20 @@ returns-clause-done g c =
 pub returns-in-Err-NoMemory-clause-reads : goal.returns-in-Err-NoMemory-clause-reads
 returns-in-Err-NoMemory-clause-reads g c = log_reads g.D.SectorDevice.state c.args.store.now c.inspect.new.files c.inspect.ensures.reads
 
-pub returns-in-Err-NoMemory-clause-totals : goal.returns-in-Err-NoMemory-clause-totals
-returns-in-Err-NoMemory-clause-totals g c = same_totals g.D.SectorDevice.state c.args.store.now c.inspect.new.files c.inspect.ensures.reads
-
 pub returns-in-Err-NoSlot-clause-reads : goal.returns-in-Err-NoSlot-clause-reads
 returns-in-Err-NoSlot-clause-reads g c = log_reads g.D.SectorDevice.state c.args.store.now c.inspect.new.files c.inspect.ensures.reads
-
-pub returns-in-Err-NoSlot-clause-totals : goal.returns-in-Err-NoSlot-clause-totals
-returns-in-Err-NoSlot-clause-totals g c = same_totals g.D.SectorDevice.state c.args.store.now c.inspect.new.files c.inspect.ensures.reads
 
 pub returns-in-Err-Log-clause-reads : goal.returns-in-Err-Log-clause-reads
 returns-in-Err-Log-clause-reads g c = log_reads g.D.SectorDevice.state c.args.store.now c.inspect.new.files c.inspect.ensures.reads
 
-pub returns-in-Err-Log-clause-totals : goal.returns-in-Err-Log-clause-totals
-returns-in-Err-Log-clause-totals g c = same_totals g.D.SectorDevice.state c.args.store.now c.inspect.new.files c.inspect.ensures.reads
-
 pub returns-then-len-root-clause-reads : goal.returns-then-len-root-clause-reads
 returns-then-len-root-clause-reads g c = log_reads g.D.SectorDevice.state c.args.store.now c.inspect.new.files c.inspect.ensures.reads
-
-pub returns-then-len-root-clause-totals : goal.returns-then-len-root-clause-totals
-returns-then-len-root-clause-totals g c = same_totals g.D.SectorDevice.state c.args.store.now c.inspect.new.files c.inspect.ensures.reads
 
 pub returns-in_default-clause-reads : goal.returns-in_default-clause-reads
 returns-in_default-clause-reads g c = log_reads g.D.SectorDevice.state c.args.store.now c.inspect.new.files c.inspect.ensures.reads
 
-pub returns-in_default-clause-totals : goal.returns-in_default-clause-totals
-returns-in_default-clause-totals g c = same_totals g.D.SectorDevice.state c.args.store.now c.inspect.new.files c.inspect.ensures.reads
-
 pub returns-then-index-ne0-clause-reads : goal.returns-then-index-ne0-clause-reads
 returns-then-index-ne0-clause-reads g c = log_reads g.D.SectorDevice.state c.args.store.now c.inspect.new.files c.inspect.ensures.reads
 
-pub returns-then-index-ne0-clause-totals : goal.returns-then-index-ne0-clause-totals
-returns-then-index-ne0-clause-totals g c = same_totals g.D.SectorDevice.state c.args.store.now c.inspect.new.files c.inspect.ensures.reads
-
 pub returns-clause-reads : goal.returns-clause-reads
 returns-clause-reads g c = log_reads g.D.SectorDevice.state c.args.store.now c.inspect.new.files c.inspect.ensures.reads
-
-pub returns-clause-totals : goal.returns-clause-totals
-returns-clause-totals g c = same_totals g.D.SectorDevice.state c.args.store.now c.inspect.new.files c.inspect.ensures.reads
