@@ -10,7 +10,6 @@ pub mod LinkTexts
 pub mod Uppers
 pub mod Chains
 pub mod Passes
-pub mod Refusing
 pub mod TextWalks
 pub mod PathWalks
 pub mod Places

@@ -1,17 +1,16 @@
 -- The text of a symbolic link, read block by block.
-use Rattle.std.proofs.Common.{◌≡◌, ⊎_elim, ◌<◌, ◌≤◌, ◌+◌, ◌*◌, ◌-◌, ◌/◌, ◌%◌, ℕ, Bool, List, [], ◌++◌, length, take, get_or, refl, sym, ◌∙◌, ap, ap₂, arith}
+use Rattle.std.proofs.Common.{◌≡◌, ⊎_elim, ◌<◌, ◌≤◌, ◌+◌, ◌*◌, ◌-◌, ◌/◌, ◌%◌, ℕ, List, length, take, get_or, refl, sym, ◌∙◌, ap, ap₂, arith}
 use Rattle.std.specs.Prelude.{min}
 use Rattle.std.proofs.lemmas.Bool.{cases_lt}
 use Rattle.std.proofs.lemmas.List.{length-append, length-take, get_or_append_left, get_or-append_right, get_or-take}
 use Rattle.lfs_model.specs.Device.{IsLawful}
 use Rattle.lfs_model.specs.Objects.{byte_in}
-use Rattle.lfs_model.specs.PathText.{from_root}
 use Rattle.lfs_model.specs.Stands.{LogMap}
 use Rattle.lfs_model.proofs.ObjectBytes.{object_is}
 use Rattle.lfs_files.specs.Files.{FilesState, Reads}
 use Rattle.lfs_files.specs.Headers.{as_header}
-use Rattle.lfs_files.proofs.FilesCompose.{reads_more, reads_none}
-use Rattle.lfs_path.specs.Following.{Follows, HasTaken, ReadsText, TakesBytes, started}
+use Rattle.lfs_files.proofs.FilesCompose.{reads_more}
+use Rattle.lfs_path.specs.Following.{HasTaken, ReadsText, TakesBytes}
 use Rattle.lfs_path.specs.declared.seen.Link.{Link}
 
 -- ---- bytes
@@ -46,8 +45,7 @@ module _ {S D : Type 0} (n size : ℕ) where
     pub reads : Reads s s'
     pub read : (m m' : LogMap) → s'.device.keeps_model → s.has m m' → HasRead m' n size index text
 
-  pub read_begins : (s : FilesState S D) → ReadTo s s 0 []
-  read_begins s = record { reads = reads_none s; read = λ m m' keeps has. record { long = omega arith; bytes = λ p low. absurd (omega (arith, low)) } }
+
 
   module _ (s a b : FilesState S D) (index count : ℕ) (old new : List ℕ) (low : 512 * index < size) (is : count ≡ min (size - 512 * index) 512) (was : ReadTo s a index old) where
     pub read_goes_on : IsLawful s.device → Reads a b → TakesBytes a b n index count old new → ReadTo s b (index + 1) new
@@ -71,7 +69,3 @@ module _ {S D : Type 0} where
       object_is m' l.number (as_header l.header) text (omega (arith, long, past)) (λ p low. all.bytes p (omega (arith, long, low, past)))
 
   -- ---- the text that is left
-  pub follows : (s s' : FilesState S D) (l : Link) (rest chain chain' text text' : List ℕ) (b : Bool) → ReadsText s s' l text → text' ≡ text ++ rest → b ≡ from_root text → chain' ≡ started text chain → Follows s s' l rest chain chain' text'
-  follows s s' l rest chain chain' text text' b reads joined slash begins m m' keeps has =
-      let is = reads m m' keeps has in
-      (joined ∙ ap (λ (x : List ℕ). x ++ rest) (sym is), begins ∙ ap (λ (x : List ℕ). started x chain) (sym is))

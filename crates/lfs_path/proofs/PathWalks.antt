@@ -7,20 +7,18 @@ use Rattle.lfs_model.specs.Refusal as refusals
 use Rattle.lfs_model.specs.Stands.{LogMap}
 use Rattle.lfs_model.specs.Tree.{Tree}
 use Rattle.lfs_model.specs.TreeOf.{tree_in}
-use Rattle.lfs_model.specs.Walk.{End, At, Refused, Walk, followed, loops, slash_with, start}
+use Rattle.lfs_model.specs.Walk.{End, Refused, Walk, followed, loops, slash_with, start}
 use Rattle.lfs_model.proofs.FollowedTexts.{IsRest, pieces_joined, slash_joined}
-use Rattle.lfs_files.specs.Files.{FilesState, IsFault, Reads}
-use Rattle.lfs_files.proofs.FilesCompose.{reads_more, reads_none}
-use Rattle.lfs_path.specs.Following.{Follows, IsReadFault, started, text_of}
-use Rattle.lfs_path.specs.Passing.{EndsText, MeetsLink, Stops, WalksText}
-use Rattle.lfs_path.specs.Reaching.{EndsPath, Reaches}
-use Rattle.lfs_path.specs.Telling.{Fails, Refuses, Tells}
+use Rattle.lfs_files.specs.Files.{FilesState, Reads}
+use Rattle.lfs_files.proofs.FilesCompose.{reads_more}
+use Rattle.lfs_path.specs.Following.{Follows, started, text_of}
+use Rattle.lfs_path.specs.Passing.{MeetsLink, Stops, WalksText}
+use Rattle.lfs_path.specs.Reaching.{EndsPath}
+use Rattle.lfs_path.specs.Telling.{Refuses, Tells}
 use Rattle.lfs_path.specs.Trees.{HasTree, InChain, IsChain, here}
 use Rattle.lfs_path.specs.declared.passing.Stop.TheVariants as stop
 use Rattle.lfs_path.specs.declared.seen.Link.{Link}
-use Rattle.lfs_path.specs.declared.walk_fault.WalkFault.{WalkFault}
 use Rattle.lfs_path.specs.declared.walk_fault.WalkFault.TheVariants.{Loop}
-use Rattle.lfs_path.proofs.Refusing.{by_fault, refuses_then}
 use Rattle.lfs_path.proofs.Splits.{is_rest}
 
 -- ---- texts
@@ -94,15 +92,7 @@ module _ {S D : Type 0} (slash_end follow : Bool) (path : List ℕ) where
     pub few : links ≤ 40
     pub goes : Tells s s' HasTree (GoesOn slash_end follow path chain text links)
 
-  pub walk_begins : (s : FilesState S D) (chain : List ℕ) → chain ≡ 1 ∷ [] → ComesOn s s chain path 0
-  walk_begins s chain at = record {
-    reads = reads_none s;
-    few = omega arith;
-    goes = λ m m' keeps has tree. record {
-      directories = subst (IsChain (tree_in m')) (sym at) refl;
-      walks = λ e w. subst (λ (c : List ℕ). WalksText slash_end follow (here c) path 0 (tree_in m') e) at w;
-    };
-  }
+
 
   module _ (s a b : FilesState S D) (chain text chain' : List ℕ) (links : ℕ) (was : ComesOn s a chain text links) (reads : Reads a b) where
     goes_at : (m m' : LogMap) → b.device.keeps_model → s.has m m' → HasTree m' → GoesOn slash_end follow path chain text links m'
@@ -111,19 +101,11 @@ module _ {S D : Type 0} (slash_end follow : Bool) (path : List ℕ) where
     in_chain : (m m' : LogMap) → b.device.keeps_model → s.has m m' → HasTree m' → InChain chain m'
     in_chain m m' keeps has tree = record { tree = tree; directories = (goes_at m m' keeps has tree).directories }
 
-    pub walk_refused : (fault : WalkFault) → Refuses a b (InChain chain) (EndsText slash_end follow (here chain) text) fault → Refuses s b HasTree (EndsPath slash_end follow path) fault
-    walk_refused fault = refuses_then s a b HasTree (InChain chain) (EndsText slash_end follow (here chain) text) (EndsPath slash_end follow path) fault was.reads in_chain
-        (λ m m' keeps has tree e ends. (goes_at m m' keeps has tree).walks e (ends links))
 
-    pub walk_directory : Tells a b (InChain chain) (Stops slash_end follow chain text chain' stop.Directory) → Tells s b HasTree (Reaches slash_end follow path chain' (here chain'))
-    walk_directory stops m m' keeps has tree =
-        let x = stops m m' keeps (was.reads.has m m' has) (in_chain m m' keeps has tree) in
-        record { directories = x.directories; walk = (goes_at m m' keeps has tree).walks (At (here chain')) (x.stop links) }
 
-    pub walk_node : (n : ℕ) → Tells a b (InChain chain) (Stops slash_end follow chain text chain' (stop.Node n)) → Tells s b HasTree (Reaches slash_end follow path chain' n)
-    walk_node n stops m m' keeps has tree =
-        let x = stops m m' keeps (was.reads.has m m' has) (in_chain m m' keeps has tree) in
-        record { directories = x.directories; walk = (goes_at m m' keeps has tree).walks (At n) (x.stop links) }
+
+
+
 
     module _ (l : Link) (r : Bor (List ℕ)) (seen : List ℕ) (value : seen ≡ text) (told : Tells a b (InChain chain) (Stops slash_end follow chain seen chain' (stop.Followed l r))) where
       stops : (m m' : LogMap) → b.device.keeps_model → s.has m m' → InChain chain m' → IsChain (tree_in m') chain' × MeetsLink slash_end follow (here chain) text (here chain') l r.now m'
@@ -148,12 +130,3 @@ module _ {S D : Type 0} (slash_end follow : Bool) (path : List ℕ) where
               link_goes_on slash_end follow path m' chain text chain' links l r.now (goes_at m m' before has tree) x.1 x.0 room chain'' text' left.0 left.1;
         }
 
-        pub follow_failed : (fault : WalkFault) → IsReadFault b c fault → Refuses s c HasTree (EndsPath slash_end follow path) fault
-        follow_failed fault =
-            by_fault fault (IsFault b c) (Fails s c HasTree) (λ r. ⊥) (λ r. Tells s c HasTree (λ m. EndsPath slash_end follow path (tree_in m) (Refused r)))
-            (λ failed m m' keeps has tree.
-            let rose = failed m m' keeps (reads.has m m' (was.reads.has m m' has)) in
-            let one = was.reads.looks.carries.failures in
-            let two = reads.looks.carries.failures in
-            omega (arith, rose, one, two))
-            (λ r bad. absurd bad)

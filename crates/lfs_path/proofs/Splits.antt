@@ -41,17 +41,7 @@ pub record SplitsAt (path rest : List ℕ) : Type 0 where
   pub slash_end : slash path ≡ slash rest
   pub none : comps rest ≡ [] → comps path ≡ []
 
-pub at_first : (path : List ℕ) → SplitsAt path path
-at_first path = record {
-  few = omega arith;
-  behind = sym (ap (λ (n : ℕ). drop n path) nothing);
-  pieces = sym (ap (λ (n : ℕ). comps (take n path) ++ comps path) nothing);
-  slash_end = refl;
-  none = λ is. is;
-}
-  where
-    nothing : length path - length path ≡ 0
-    nothing = omega arith
+
 
 -- where no piece is found, there is none
 pub no_piece : {A : Type 0} (r : Option A) (text : List ℕ) → is_none r ≡ true → IfNone r (comps text ≡ []) → comps text ≡ []

@@ -1,17 +1,14 @@
 -- A text walked piece by piece, until it ends or an object that is no directory is met.
-use Rattle.std.proofs.Common.{◌≡◌, ◌<◌, refl, sym, ap, subst, ◌∙◌, ℕ, Bool, true, false, ◌||◌, List, [], ◌∷◌, Option, Some, None}
+use Rattle.std.proofs.Common.{◌≡◌, refl, sym, ap, subst, ◌∙◌, ℕ, Bool, true, false, ◌||◌, List, [], ◌∷◌, Option, Some}
 use Rattle.std.specs.Prelude.{IfOk, IfErr, Result, Ok, Err}
-use Rattle.lfs_model.specs.Device.{IsLawful}
 use Rattle.lfs_model.specs.PathText.{comps, slash}
 use Rattle.lfs_model.specs.Refusal as refusals
 use Rattle.lfs_model.specs.Stands.{LogMap}
 use Rattle.lfs_model.specs.TreeOf.{tree_in}
 use Rattle.lfs_model.specs.Walk.{End, At, Refused, Walk, file, link, more, no_piece, not_dir}
 use Rattle.lfs_files.specs.Files.{FilesState, Reads}
-use Rattle.lfs_files.proofs.FilesCompose.{reads_more, reads_none}
-use Rattle.lfs_path.specs.Passing.{EndsText, FitsStop, HasLinkNumber, IsStop, Leads, Meets, MeetsLink, Passes, Stops, WalksText, is_left}
+use Rattle.lfs_path.specs.Passing.{EndsText, IsStop, Meets, MeetsLink, Passes, Stops, WalksText, is_left}
 use Rattle.lfs_path.specs.Pieces.{IsNextPiece}
-use Rattle.lfs_path.specs.Seeing.{EndsAtPiece}
 use Rattle.lfs_path.specs.Telling.{Refuses, Tells}
 use Rattle.lfs_path.specs.Trees.{InChain, IsChain, here}
 use Rattle.lfs_path.specs.declared.seen.Link.{Link}
@@ -21,7 +18,6 @@ use Rattle.lfs_path.specs.declared.passing.Stop.{Stop}
 use Rattle.lfs_path.specs.declared.passing.Stop.TheVariants as stop
 use Rattle.lfs_path.specs.declared.walk_fault.WalkFault.{WalkFault}
 use Rattle.lfs_path.specs.declared.walk_fault.WalkFault.TheVariants.{NotDir}
-use Rattle.lfs_path.proofs.Refusing.{refuses_then}
 
 module _ (slash_end follow : Bool) where
   -- ---- by the tree
@@ -30,9 +26,6 @@ module _ (slash_end follow : Bool) where
   pub record GoesTo (chain text chain' rest : List ℕ) (m : LogMap) : Type 0 where
     pub directories : IsChain (tree_in m) chain'
     pub walks : (k : ℕ) (e : End) → WalksText slash_end follow (here chain') rest k (tree_in m) e → WalksText slash_end follow (here chain) text k (tree_in m) e
-
-  pub at_first : (m : LogMap) (chain text : List ℕ) → InChain chain m → GoesTo chain text chain text m
-  at_first m chain text is = record { directories = is.directories; walks = λ k e w. w }
 
   pub still : (m : LogMap) (chain text chain' rest : List ℕ) → InChain chain m → GoesTo chain text chain' rest m → InChain chain' m
   still m chain text chain' rest is goes = record { tree = is.tree; directories = goes.directories }
@@ -50,15 +43,6 @@ module _ (slash_end follow : Bool) where
     from_piece k e w = goes.walks k e
         (subst (λ (ps : List (List ℕ)). Walk (tree_in m) follow (here chain') ps (slash_end || slash rest) k e) (sym next.pieces)
         (subst (λ (b : Bool). Walk (tree_in m) follow (here chain') (piece ∷ comps after) (slash_end || b) k e) (sym next.slash_end) w))
-
-    pub goes_further : (chain'' : List ℕ) → Leads piece chain' chain'' m → GoesTo chain text chain'' after m
-    goes_further chain'' leads = record {
-      directories = leads.directories;
-      walks = λ k e w. from_piece k e (leads.walks follow (comps after) (slash_end || slash after) k e w);
-    }
-
-    pub ends_there : (e : End) → EndsAtPiece (here chain') piece (tree_in m) e → EndsText slash_end follow (here chain) text (tree_in m) e
-    ends_there e ends k = from_piece k e (ends follow (comps after) (slash_end || slash after) k)
 
     -- whether something is left behind the piece
     left_is : more (comps after) (slash_end || slash after) ≡ is_left slash_end after
@@ -108,29 +92,11 @@ module _ (slash_end follow : Bool) where
     refuses (met.File n) meets is k = from_piece k (Refused refusals.NotDir) (not_dir meets.1 (left_is ∙ is))
     refuses (met.Symbolic l) meets is k = absurd is
 
--- what is known of a stop whatever the tree is
-fits_node : (slash_end : Bool) (rest : List ℕ) → is_left slash_end rest ≡ false → slash_end ≡ false
-fits_node true rest is = is
-fits_node false rest is = refl
-
-fits_link : (slash_end follow : Bool) (rest : List ℕ) → (is_left slash_end rest || follow) ≡ false → slash_end ≡ false
-fits_link true follow rest is = is
-fits_link false follow rest is = refl
-
-pub fits_stop : (slash_end follow : Bool) (rest : List ℕ) (x : Met) (y : Stop) → HasLinkNumber (Some x) → IsStop slash_end follow rest x (Ok y) → FitsStop slash_end y
-fits_stop slash_end follow rest (met.File n) (stop.Node q) few is = fits_node slash_end rest is.1
-fits_stop slash_end follow rest (met.Symbolic l) (stop.Node q) few is = fits_link slash_end follow rest is.1
-fits_stop slash_end follow rest (met.Symbolic l) (stop.Followed x rest') few is = subst (λ (z : Link). z.number < 4096) (sym is.0) few
-fits_stop slash_end follow rest _ _ few is = absurd is
-
 -- ---- over files
 module _ {S D : Type 0} (slash_end follow : Bool) where
   pub record ComesTo (s s' : FilesState S D) (chain text chain' rest : List ℕ) : Type 0 where
     pub reads : Reads s s'
     pub goes : Tells s s' (InChain chain) (GoesTo slash_end follow chain text chain' rest)
-
-  pub begins : (s : FilesState S D) (chain text : List ℕ) → ComesTo s s chain text chain text
-  begins s chain text = record { reads = reads_none s; goes = λ m m' keeps has is. at_first slash_end follow m' chain text is }
 
   pub ends : (s s' : FilesState S D) (chain text chain' rest : List ℕ) → comps rest ≡ [] → ComesTo s s' chain text chain' rest → Tells s s' (InChain chain) (Stops slash_end follow chain text chain' stop.Directory)
   ends s s' chain text chain' rest none was m m' keeps has is = at_end slash_end follow m' chain text chain' rest none (was.goes m m' keeps has is)
@@ -144,17 +110,6 @@ module _ {S D : Type 0} (slash_end follow : Bool) where
 
     passed : (chain'' : List ℕ) (x : Option Met) → Tells a b (InChain chain') (Passes piece chain' chain'' x) → Tells s b (InChain chain) (Passes piece chain' chain'' x)
     passed chain'' x passes m m' keeps has is = passes m m' keeps (was.reads.has m m' has) (in_chain m m' keeps has is)
-
-    pub goes_on : IsLawful s.device → (chain'' : List ℕ) → Tells a b (InChain chain') (Passes piece chain' chain'' None) → ComesTo s b chain text chain'' after
-    goes_on lawful chain'' passes = record {
-      reads = reads_more s a b lawful was.reads reads;
-      goes = λ m m' keeps has is.
-          goes_further slash_end follow m' chain text chain' rest piece after next (goes_at m m' keeps has is) chain'' (passed chain'' None passes m m' keeps has is);
-    }
-
-    pub refused : (fault : WalkFault) → Refuses a b (InChain chain') (EndsAtPiece (here chain') piece) fault → Refuses s b (InChain chain) (EndsText slash_end follow (here chain) text) fault
-    refused fault = refuses_then s a b (InChain chain) (InChain chain') (EndsAtPiece (here chain') piece) (EndsText slash_end follow (here chain) text) fault was.reads in_chain
-        (λ m m' keeps has is e. ends_there slash_end follow m' chain text chain' rest piece after next (goes_at m m' keeps has is) e)
 
     module _ (chain'' : List ℕ) (x : Met) (passes : Tells a b (InChain chain') (Passes piece chain' chain'' (Some x))) where
       pub stops_ok : (r : Result Stop WalkFault) → IsStop slash_end follow after x r → IfOk r (λ y. Tells s b (InChain chain) (Stops slash_end follow chain text chain'' y))
@@ -172,6 +127,3 @@ module _ {S D : Type 0} (slash_end follow : Bool) where
               refuses slash_end follow m' chain text chain' rest piece after next (goes_at m m' keeps has within) (met.File n) (meets m m' keeps has within) is
           by _ _ is meets = absurd is
 
-pub stops_fit : (slash_end follow : Bool) (rest : List ℕ) (x : Met) (r : Result Stop WalkFault) → HasLinkNumber (Some x) → IsStop slash_end follow rest x r → IfOk r (FitsStop slash_end)
-stops_fit slash_end follow rest x (Err fault) few is = tt
-stops_fit slash_end follow rest x (Ok y) few is = fits_stop slash_end follow rest x y few is
