@@ -9,7 +9,7 @@ use Rattle.lfs_model.specs.Entry as entries
 use Rattle.lfs_model.specs.Objects.{IsDirectory}
 use Rattle.lfs_model.specs.Refusal as refusals
 use Rattle.lfs_model.specs.Stands.{LogMap}
-use Rattle.lfs_model.specs.Tree.{File, Dir, Link, Node, byte_cmp, entry, form_of, is_dir, name_len, name_limit, names_of, node}
+use Rattle.lfs_model.specs.Tree.{File, Dir, Link, Node, byte_cmp, entry, form_of, is_dir, name_len, name_limit, names_in, names_of, node}
 use Rattle.lfs_model.specs.TreeOf.{map_of, node_by, node_of, object, slots, tree_in}
 use Rattle.lfs_model.specs.Walk.{Gives, IsLookedUp, Refused, dot, dot_dot, too_long, not_there}
 use Rattle.lfs_model.proofs.Volume.{node_in, no_node_0, no_node_past}
@@ -91,6 +91,9 @@ module _ (m : LogMap) where
 
       pub entry_is : (name : List ℕ) (found : Option ℕ) → found ≡ find byte_cmp name (names_at m d head) → entry (tree_in m) d name ≡ found
       entry_is name found answer = ap (λ (o : Option Node). find byte_cmp name (names_of (unwrap_or o (File [])))) there ∙ sym answer
+
+      pub names_are : names_in (tree_in m) d ≡ names_at m d head
+      names_are = ap (λ (o : Option Node). names_of (unwrap_or o (File []))) there
 
       pub is_formed : IsDirectory m d (as_header head)
       is_formed =

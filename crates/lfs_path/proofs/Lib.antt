@@ -13,5 +13,6 @@ pub mod Passes
 pub mod TextWalks
 pub mod PathWalks
 pub mod Places
+pub mod TreeLaws
 pub mod Texts
 pub use Rattle.lfs_dirs.proofs as of_dirs

@@ -45,8 +45,6 @@ module _ {S D : Type 0} (n size : ℕ) where
     pub reads : Reads s s'
     pub read : (m m' : LogMap) → s'.device.keeps_model → s.has m m' → HasRead m' n size index text
 
-
-
   module _ (s a b : FilesState S D) (index count : ℕ) (old new : List ℕ) (low : 512 * index < size) (is : count ≡ min (size - 512 * index) 512) (was : ReadTo s a index old) where
     pub read_goes_on : IsLawful s.device → Reads a b → TakesBytes a b n index count old new → ReadTo s b (index + 1) new
     read_goes_on lawful reads takes = record {
@@ -67,5 +65,4 @@ module _ {S D : Type 0} where
       let all = was.read m m' keeps has in
       let long = all.long in
       object_is m' l.number (as_header l.header) text (omega (arith, long, past)) (λ p low. all.bytes p (omega (arith, long, low, past)))
-
   -- ---- the text that is left

@@ -92,20 +92,12 @@ module _ {S D : Type 0} (slash_end follow : Bool) (path : List ℕ) where
     pub few : links ≤ 40
     pub goes : Tells s s' HasTree (GoesOn slash_end follow path chain text links)
 
-
-
   module _ (s a b : FilesState S D) (chain text chain' : List ℕ) (links : ℕ) (was : ComesOn s a chain text links) (reads : Reads a b) where
     goes_at : (m m' : LogMap) → b.device.keeps_model → s.has m m' → HasTree m' → GoesOn slash_end follow path chain text links m'
     goes_at m m' keeps has tree = was.goes m m' (reads.looks.carries.kept_before keeps) has tree
 
     in_chain : (m m' : LogMap) → b.device.keeps_model → s.has m m' → HasTree m' → InChain chain m'
     in_chain m m' keeps has tree = record { tree = tree; directories = (goes_at m m' keeps has tree).directories }
-
-
-
-
-
-
 
     module _ (l : Link) (r : Bor (List ℕ)) (seen : List ℕ) (value : seen ≡ text) (told : Tells a b (InChain chain) (Stops slash_end follow chain seen chain' (stop.Followed l r))) where
       stops : (m m' : LogMap) → b.device.keeps_model → s.has m m' → InChain chain m' → IsChain (tree_in m') chain' × MeetsLink slash_end follow (here chain) text (here chain') l r.now m'
@@ -129,4 +121,3 @@ module _ {S D : Type 0} (slash_end follow : Bool) (path : List ℕ) where
               let left = follows m m' keeps (reads.has m m' (was.reads.has m m' has)) in
               link_goes_on slash_end follow path m' chain text chain' links l r.now (goes_at m m' before has tree) x.1 x.0 room chain'' text' left.0 left.1;
         }
-

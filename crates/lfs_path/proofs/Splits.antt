@@ -41,8 +41,6 @@ pub record SplitsAt (path rest : List ℕ) : Type 0 where
   pub slash_end : slash path ≡ slash rest
   pub none : comps rest ≡ [] → comps path ≡ []
 
-
-
 -- where no piece is found, there is none
 pub no_piece : {A : Type 0} (r : Option A) (text : List ℕ) → is_none r ≡ true → IfNone r (comps text ≡ []) → comps text ≡ []
 no_piece None text none is = is

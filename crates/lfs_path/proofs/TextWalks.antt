@@ -126,4 +126,3 @@ module _ {S D : Type 0} (slash_end follow : Bool) where
           by (met.File n) NotDir is meets = λ m m' keeps has within.
               refuses slash_end follow m' chain text chain' rest piece after next (goes_at m m' keeps has within) (met.File n) (meets m m' keeps has within) is
           by _ _ is meets = absurd is
-

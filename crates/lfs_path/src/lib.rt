@@ -8,6 +8,7 @@ pub mod laws;
 mod link;
 mod passing;
 mod seen;
+mod split;
 pub mod text;
 pub mod tree;
 mod walk;

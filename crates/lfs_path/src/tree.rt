@@ -9,7 +9,8 @@ ghost use Rattle.lfs_path.specs.Walking.{HasLast};
 
 use crate::chain::Chain;
 use crate::fault::PathFault;
-use crate::last::{Last, split_last};
+use crate::last::Last;
+use crate::split::split_last;
 use crate::text::check_text;
 use crate::walk_fault::WalkFault;
 use crate::walking::walk;

@@ -1,7 +1,7 @@
 use Rattle.std.proofs.Common.{◌≡◌, rules, refl, true, false, length}
 use Rattle.std.specs.Prelude.{is_none, not}
 use Rattle.lfs_path.proofs.Splits.{no_piece, not_empty, some_piece, splits_further, splits_last}
-use Rattle.lfs_path.proofs.last.split_last.Goals as goal
+use Rattle.lfs_path.proofs.split.split_last.Goals as goal
 
 pub returns-then-is_none-clause-some : goal.returns-then-is_none-clause-some
 returns-then-is_none-clause-some c =

@@ -1,6 +1,6 @@
 use Rattle.std.proofs.Common.{length}
 use Rattle.lfs_path.proofs.Splits.{SplitsAt}
-use Rattle.lfs_path.proofs.last.split_last.Given as goal
+use Rattle.lfs_path.proofs.split.split_last.Given as goal
 
 abbrev pub invariant-loop-piece : goal.invariant-loop-piece
 invariant-loop-piece l = SplitsAt l.path l.rest
