@@ -31,7 +31,7 @@ fn is_repointed(store: &mut Store<MemDevice>, slots: u8, name: &[u8], number: u1
 
 /// Whether the draft is staged, and a name is there and is then taken out.
 fn is_taken(store: &mut Store<MemDevice>, slots: u8, name: &[u8]) -> bool {
-    if store.log.stage(&store.draft.changes) != Ok(()) {
+    if store.log.stage(&store.draft.changes, store.drafted) != Ok(()) {
         return false;
     }
     store.draft.clear();

@@ -117,7 +117,8 @@ fn stage(log: &mut Log<MemDevice>, alloc: Global, act: Act) -> Result<(), LogFau
         }
         _ => {}
     }
-    log.stage(&changes)
+    let totals = log.totals();
+    log.stage(&changes, totals)
 }
 
 /// Fills the blocks of file 2 before this one.
@@ -146,8 +147,9 @@ fn make_to(log: &mut Log<MemDevice>, alloc: Global, end: u16) -> Result<(), LogF
 }
 
 fn carry_out(log: &mut Log<MemDevice>, alloc: Global, act: Act) -> Result<(), LogFault> {
+    let totals = log.totals();
     match act {
-        Act::Remove(file) => log.remove(file % 4_096),
+        Act::Remove(file) => log.remove(file % 4_096, totals),
         Act::Commit => log.commit(),
         Act::FillTo(end, byte) => fill_to(log, alloc, end, byte),
         Act::FillEdges => fill_edges(log, alloc),
@@ -204,7 +206,7 @@ fn is_seen(log: &mut Log<MemDevice>, look: Look) -> bool {
 
 /// The log on the heap, where each end drops it by one call.
 pub fn mounted<D: SectorDevice + Drop>(alloc: Global, device: D) -> Result<Box<Log<D>>, Wrong> {
-    let Ok((log, _)) = Log::open(alloc, device) else {
+    let Ok(log) = Log::open(alloc, device) else {
         return Err(Wrong::NotOpened);
     };
     match Box::new(alloc, log) {

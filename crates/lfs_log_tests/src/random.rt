@@ -43,9 +43,10 @@ struct Trial<'a> {
 }
 
 fn carry_out(log: &mut Log<WiredDevice<'_>>, call: Call<'_>) -> Result<(), LogFault> {
+    let totals = log.totals();
     match call {
-        Call::Stage(changes) => log.stage(changes),
-        Call::Remove(number) => log.remove(number % 4_096),
+        Call::Stage(changes) => log.stage(changes, totals),
+        Call::Remove(number) => log.remove(number % 4_096, totals),
     }
 }
 
