@@ -1,0 +1,133 @@
+-- What a device that holds a log map answers to reads.
+use Rattle.std.proofs.Common.{◌≡◌, ◌<◌, ⊎_elim, ◌+◌, ◌-◌, ◌/◌, ◌%◌, ℕ, zero, suc, nat_lt, cond, List, [], length, replicate, Option, Some, None, refl, sym, ◌∙◌, ap, ap₂, subst, arith, slice_index}
+use Rattle.std.proofs.lemmas.Bool.{cases_eq}
+use Rattle.std.proofs.lemmas.List.{get_or-set_other, get_or-set_same, length-replicate}
+use Rattle.std.proofs.Common.{get_or, set}
+use Rattle.std.specs.Option.{option_map}
+use Rattle.lfs_model.specs.Checkpoint.{CheckpointValue}
+use Rattle.lfs_model.specs.Content.{Content, block, bytes_of}
+use Rattle.lfs_model.specs.Device.{DeviceState, IsLawful, IsUntouched, Carries, Elapses, cell_at}
+use Rattle.lfs_model.specs.Encodes.{Encodes}
+use Rattle.lfs_model.specs.Entry.{Entry, Data, Leaf, Double, Inode, header, word}
+use Rattle.lfs_model.specs.Reach.{address}
+use Rattle.lfs_model.specs.Stands.{LogMap, StandsAt}
+use Rattle.lfs_model.proofs.Decodes.{decoding}
+use Rattle.lfs_model.proofs.Moments.{goes_on, started}
+use Rattle.lfs_model.proofs.ObjectBytes.{get_or-zeros}
+use Rattle.lfs_files.specs.declared.header.Header.{Header}
+use Rattle.lfs_files.specs.Files.{HoldsBlock}
+use Rattle.lfs_files.specs.Headers.{as_header}
+use Rattle.lfs_inodes.specs.MapValue.{MapValue}
+use Rattle.lfs_inodes.specs.Pointed.{data_in, leaf_in, IsLost, IsLeafLost, IsDataLost}
+use Rattle.lfs_verify.specs.Take.{Looks, Reads}
+use Rattle.lfs_verify.proofs.Takes.{block_at}
+use Rattle.lfs_tree.specs.Reading.{Sees, Leads, IsInodeOf, TellsHeaders}
+
+-- ---- calls that only read
+
+pub looks_call : (a b : DeviceState) → IsLawful a → Carries a b → IsUntouched a b → Elapses a b → Looks a b
+looks_call a b lawful carries untouched time = record {
+  carries = carries;
+  untouched = untouched;
+  any_moment = goes_on a a b a.may_leave (started a a.may_leave lawful (λ c left. left)) carries time untouched.crash;
+}
+
+pub reads_of : (a b : DeviceState) (k : CheckpointValue) (m : LogMap) → Sees a b k m → Reads a b a.content
+reads_of a b k m sees = record { content = refl; keeps = sees.keeps }
+
+-- a run that sees a log map begins with one that sees it, and goes on with one
+pub sees_first : (a b c : DeviceState) (k : CheckpointValue) (m : LogMap) → Sees a c k m → Looks b c → Sees a b k m
+sees_first a b c k m sees looks = record { keeps = looks.carries.kept_before sees.keeps; stands = sees.stands; sized = sees.sized }
+
+pub sees_then : (a b c : DeviceState) (k : CheckpointValue) (m : LogMap) → Sees a c k m → Looks a b → Sees b c k m
+sees_then a b c k m sees looks =
+    let same = sym looks.untouched.content in
+    record { keeps = sees.keeps; stands = subst (λ (x : Content). StandsAt x k m) same sees.stands; sized = subst (λ (x : Content). (at : ℕ) (bytes : List ℕ) → cell_at x at ≡ Some bytes → length bytes ≡ 512) same sees.sized }
+
+pub leads_then : (a b : DeviceState) (k : CheckpointValue) (map : MapValue) → Leads a.content k map → Looks a b → Leads b.content k map
+leads_then a b k map leads looks = subst (λ (x : Content). Leads x k map) (sym looks.untouched.content) leads
+
+-- ---- what is there
+module _ (c : Content) (k : CheckpointValue) (m : LogMap) (sized : (at : ℕ) (bytes : List ℕ) → cell_at c at ≡ Some bytes → length bytes ≡ 512) (st : StandsAt c k m) where
+  encodes : Encodes c k (address c k) m
+  encodes = (decoding c k m sized st).1
+
+  pub is_long : (e : Entry) (at : ℕ) → at ≡ address c k e → 0 < at → 0 < length (block c at)
+  is_long e at is some =
+      let long = encodes.long e (omega (arith, is, some)) in
+      let same = ap (λ (x : ℕ). length (block c x)) is in
+      omega (arith, long, same)
+
+  pub is_inside : (e : Entry) (at : ℕ) → at ≡ address c k e → 0 < at → at < length c
+  is_inside e at is some =
+      let within = encodes.within e (omega (arith, is, some)) in
+      let high = within.1 in
+      let size = encodes.size in
+      omega (arith, is, high, size)
+
+  pub not_lost : (e : Entry) (at : ℕ) → at ≡ address c k e → IsLost c at → ⊥
+  not_lost e at is lost =
+      let some = lost.some in
+      let long = is_long e at is some in
+      let none = ap length (block_at c at some ∙ ap bytes_of lost.lost) in
+      omega (arith, long, none)
+
+  pub inode_there : (n at : ℕ) (bytes : List ℕ) → at ≡ address c k (Inode n) → 0 < at → block c at ≡ bytes → IsInodeOf c k m n bytes
+  inode_there n at bytes is some own =
+      let same : bytes ≡ block c (address c k (Inode n)) = sym own ∙ ap (block c) is in
+      record {
+        header = (encodes.spells (Inode n) (omega (arith, is, some))).header ∙ ap (λ (b : List ℕ). Some (header b)) (sym same);
+        block = same;
+      }
+
+  pub inode_not : (n at : ℕ) → at ≡ address c k (Inode n) → at ≡ 0 → m.header n ≡ None
+  inode_not n at is none =
+      let zero_at : address c k (Inode n) ≡ 0 = sym is ∙ none in
+      st.header n ∙ ap (λ (a : ℕ). cond (nat_lt 0 a) (Some (header (block c (address c k (Inode n))))) None) zero_at
+
+  -- ---- blocks
+  leaf_is : (n q : ℕ) (bytes : List ℕ) → bytes ≡ block c (address c k (Inode n)) → leaf_in c bytes q ≡ address c k (Leaf n q)
+  unfolding address
+  leaf_is n zero bytes is = ap (λ (b : List ℕ). word b 120) is
+  leaf_is n (suc q) bytes is = ap (λ (b : List ℕ). word (block c (word b 121)) q) is
+
+  double_is : (n : ℕ) (bytes : List ℕ) → bytes ≡ block c (address c k (Inode n)) → word bytes 121 ≡ address c k (Double n)
+  unfolding address
+  double_is n bytes is = ap (λ (b : List ℕ). word b 121) is
+
+  data_by : (n i : ℕ) (bytes : List ℕ) → bytes ≡ block c (address c k (Inode n)) → (leaf : ℕ) → leaf ≡ address c k (Leaf n ((i - 112) / 128))
+      → cond (nat_lt i 112) (word bytes (8 + i)) (word (block c leaf) ((i - 112) % 128)) ≡ address c k (Data n i)
+  unfolding address
+  data_by n i bytes is leaf at = ap₂ (λ (b : List ℕ) (x : ℕ). cond (nat_lt i 112) (word b (8 + i)) (word (block c x) ((i - 112) % 128))) is at
+
+  pub data_is : (n i : ℕ) (bytes : List ℕ) → bytes ≡ block c (address c k (Inode n)) → data_in c bytes i ≡ address c k (Data n i)
+  data_is n i bytes is = data_by n i bytes is (leaf_in c bytes ((i - 112) / 128)) (leaf_is n ((i - 112) / 128) bytes is)
+
+  pub data_not_lost : (n i : ℕ) (bytes : List ℕ) → bytes ≡ block c (address c k (Inode n)) → IsDataLost c bytes i → ⊥
+  data_not_lost n i bytes is lost = ⊎_elim
+      (λ (double : IsLeafLost c bytes ((i - 112) / 128)). not_lost (Double n) (word bytes 121) (double_is n bytes is) double.1)
+      (λ (leaf : IsLost c (leaf_in c bytes ((i - 112) / 128))). not_lost (Leaf n ((i - 112) / 128)) (leaf_in c bytes ((i - 112) / 128)) (leaf_is n ((i - 112) / 128) bytes is) leaf)
+      lost.1
+
+  pub block_there : (n i at : ℕ) (bytes : List ℕ) → at ≡ address c k (Data n i) → 0 < at → block c at ≡ bytes → HoldsBlock m n i bytes
+  block_there n i at bytes is some own =
+      let same : bytes ≡ block c (address c k (Data n i)) = sym own ∙ ap (block c) is in
+      record {
+        long = ap length same ∙ encodes.long (Data n i) (omega (arith, is, some));
+        bytes = λ p. ap (λ (b : List ℕ). slice_index b p) (same ∙ sym (st.block n i));
+      }
+
+  pub block_not : (n i at : ℕ) (bytes : List ℕ) → at ≡ address c k (Data n i) → at ≡ 0 → bytes ≡ replicate 512 0 → HoldsBlock m n i bytes
+  block_not n i at bytes is none zeros =
+      let gone : m.block n i ≡ [] = st.block n i ∙ ap (block c) (sym is ∙ none) in
+      record {
+        long = ap length zeros ∙ (let nought : ℕ = 0 in length-replicate 512 nought);
+        bytes = λ p. ap (λ (b : List ℕ). slice_index b p) zeros ∙ get_or-zeros 512 p ∙ sym (ap (λ (b : List ℕ). slice_index b p) gone);
+      }
+
+-- ---- headers by number
+pub told_next : (m : LogMap) (hs : List (Option Header)) (i : ℕ) (found : Option Header) → i < length hs → TellsHeaders m hs i → m.header i ≡ option_map as_header found → TellsHeaders m (set hs i found) (i + 1)
+told_next m hs i found inside was own n low = ⊎_elim
+    (λ (here : n ≡ i). ap m.header here ∙ own ∙ ap (option_map as_header) (sym (ap (λ (x : ℕ). get_or (set hs i found) x None) here ∙ get_or-set_same hs i found None inside)))
+    (λ (other : n ≡ i → ⊥). was n (omega (arith, low, other)) ∙ ap (option_map as_header) (sym (get_or-set_other hs i n found None other)))
+    (cases_eq n i)

@@ -1,0 +1,39 @@
+use Rattle.std.proofs.Common.{◌∙◌, arith}
+use Rattle.std.proofs.lemmas.List.{length-set}
+use Rattle.lfs_verify.proofs.Takes.{looks_then}
+use Rattle.lfs_tree.proofs.Seeing.{leads_then, sees_first, sees_then, told_next}
+use Rattle.lfs_tree.proofs.headers.read_headers.Goals as goal
+
+pub returns-in-Err-clause-failed : goal.returns-in-Err-clause-failed
+returns-in-Err-clause-failed g c k m sees leads =
+    let old = g.D.SectorDevice.state c.args.device.now in
+    let mid = g.D.SectorDevice.state c.loop-number.device in
+    let new = g.D.SectorDevice.state c.read_header.new.device in
+    let looks = c.loop-number.invariant.looks in
+    let rose = c.in-Err.ensures.failed k m (sees_then old mid new k m sees looks) (leads_then old mid k c.args.map.now leads looks) in
+    let earlier = looks.carries.failures in
+    omega (arith, rose, earlier)
+
+pub loop-number-preserved : goal.loop-number-preserved
+loop-number-preserved g c =
+    let old = g.D.SectorDevice.state c.args.device.now in
+    let mid = g.D.SectorDevice.state c.loop-number.device in
+    let new = g.D.SectorDevice.state c.read_header.new.device in
+    let here = c.loop-number.invariant in
+    let step = c.in-Ok.ensures in
+    let size = here.size in
+    let whole = c.requires in
+    let below = c.loop-number-test.true in
+    record {
+      looks = looks_then old mid new here.looks step.looks;
+      size = length-set c.loop-number.headers c.loop-number.number c.in-Ok.found ∙ here.size;
+      told = λ k m sees leads.
+          told_next m c.loop-number.headers c.loop-number.number c.in-Ok.found (omega (arith, size, whole, below))
+          (here.told k m (sees_first old mid new k m sees step.looks) leads)
+          (step.answer k m (sees_then old mid new k m sees here.looks) (leads_then old mid k c.args.map.now leads here.looks));
+    }
+
+pub returns-clause-told : goal.returns-clause-told
+returns-clause-told g c k m sees leads =
+    let ended = c.loop-number-test.false in
+    λ n low. c.loop-number.invariant.told k m sees leads n (omega (arith, ended, low))

@@ -1,0 +1,16 @@
+use Rattle.std.proofs.Common.{◌≡◌, length}
+use Rattle.lfs_model.specs.Checkpoint.{CheckpointValue}
+use Rattle.lfs_model.specs.Stands.{LogMap}
+use Rattle.lfs_verify.specs.Take.{Looks}
+use Rattle.lfs_tree.specs.Reading.{Sees, Leads, TellsHeaders}
+use Rattle.lfs_tree.proofs.headers.read_headers.Given as goal
+
+abbrev pub invariant-loop-number : goal.invariant-loop-number
+invariant-loop-number g l =
+    let old = g.D.SectorDevice.state l.initial.device in
+    let now = g.D.SectorDevice.state l.device in
+    record {
+      looks : Looks old now;
+      size : length l.headers ≡ length l.initial.headers;
+      told : (k : CheckpointValue) (m : LogMap) → Sees old now k m → Leads old.content k l.map → TellsHeaders m l.headers l.number;
+    }

@@ -1,0 +1,95 @@
+//! The headers of all files.
+ghost use Rattle.std.specs.Prelude.{◌≡◌, ◌<◌, length, IfOk, OnOk, OnErr};
+ghost use Rattle.std.specs.Option.{option_map};
+ghost use Rattle.lfs_model.specs.Checkpoint.{CheckpointValue};
+ghost use Rattle.lfs_model.specs.Entry.{header};
+ghost use Rattle.lfs_model.specs.Inode.{kind_of};
+ghost use Rattle.lfs_model.specs.Stands.{LogMap};
+ghost use Rattle.lfs_files.specs.Headers.{as_header};
+ghost use Rattle.lfs_verify.specs.Take.{Looks};
+ghost use Rattle.lfs_tree.specs.Reading.{Sees, Leads, TellsHeaders};
+
+use crate::reading::read_inode;
+use lfs_device::{DeviceFault, SectorDevice};
+use lfs_files::Header;
+use lfs_inodes::InodeMap;
+use lfs_layout::word;
+use lfs_model::Kind;
+
+/// Numbers are below this one.
+pub const NUMBERS: u16 = 4_096;
+
+fn kind_of(byte: u8) -> Kind
+    ensures { result ≡ kind_of byte }
+{
+    match byte {
+        1 => Kind::File,
+        2 => Kind::Directory,
+        _ => Kind::Link,
+    }
+}
+
+/// What an inode says of its file.
+#[tactic(auto, unfolding(lfs_model::specs::Entry::header))]
+pub fn header_of(inode: &[u8; 512]) -> Header
+    ensures { header inode.now ≡ as_header result }
+{
+    Header {
+        kind: kind_of(inode[0]),
+        links: word(inode, 2),
+        size: word(inode, 3),
+    }
+}
+
+/// What the inode of a file says of it, if the file is there.
+///
+/// # Errors
+///
+/// The fault where a call of the device failed, or the inode can't be read.
+fn read_header<D: SectorDevice>(
+    device: &mut D,
+    map: &InodeMap,
+    number: u16,
+    inode: &mut [u8; 512],
+) -> Result<Option<Header>, DeviceFault>
+    requires { number < 4096 }
+    ensures answer { IfOk result (λ found. (k : CheckpointValue) (m : LogMap) → Sees (D.state device.old) (D.state device.new) k m
+        → Leads (D.state device.old).content k map.now → m.header number ≡ option_map as_header found) }
+    ensures failed { OnErr result ((k : CheckpointValue) (m : LogMap) → Sees (D.state device.old) (D.state device.new) k m
+        → Leads (D.state device.old).content k map.now → (D.state device.old).failures < (D.state device.new).failures) }
+    ensures looks { Looks (D.state device.old) (D.state device.new) }
+{
+    match read_inode(device, map, number, inode) {
+        Ok(true) => Ok(Some(header_of(inode))),
+        Ok(false) => Ok(None),
+        Err(fault) => Err(fault),
+    }
+}
+
+/// Takes the headers of all files to their places in a table by number.
+///
+/// # Errors
+///
+/// The fault where a call of the device failed, or an inode can't be read.
+pub fn read_headers<D: SectorDevice>(
+    device: &mut D,
+    map: &InodeMap,
+    headers: &mut [Option<Header>],
+) -> Result<(), DeviceFault>
+    requires { length headers.old ≡ 4096 }
+    ensures told { OnOk result ((k : CheckpointValue) (m : LogMap) → Sees (D.state device.old) (D.state device.new) k m
+        → Leads (D.state device.old).content k map.now → TellsHeaders m headers.new 4096) }
+    ensures failed { OnErr result ((k : CheckpointValue) (m : LogMap) → Sees (D.state device.old) (D.state device.new) k m
+        → Leads (D.state device.old).content k map.now → (D.state device.old).failures < (D.state device.new).failures) }
+    ensures size { length headers.new ≡ length headers.old }
+    ensures looks { Looks (D.state device.old) (D.state device.new) }
+{
+    let mut inode = [0; 512];
+    for number in 0..NUMBERS {
+        headers[number as usize] = match read_header(device, map, number, &mut inode) {
+            Ok(found) => found,
+            Err(fault) => return Err(fault),
+        };
+    }
+    Ok(())
+}

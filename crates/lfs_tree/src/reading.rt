@@ -1,0 +1,100 @@
+//! Inodes and blocks of files, read where a content stands for a log map.
+ghost use Rattle.std.specs.Prelude.{◌≡◌, ◌<◌, ℕ, length, IfOk, OnOk, OnErr};
+ghost use Rattle.lfs_model.specs.Checkpoint.{CheckpointValue};
+ghost use Rattle.lfs_model.specs.Content.{Content, block};
+ghost use Rattle.lfs_model.specs.Entry.{Inode};
+ghost use Rattle.lfs_model.specs.Reach.{address};
+ghost use Rattle.lfs_model.specs.Stands.{LogMap};
+ghost use Rattle.lfs_files.specs.Files.{HoldsBlock};
+ghost use Rattle.lfs_verify.specs.Take.{Looks, Reads};
+ghost use Rattle.lfs_tree.specs.Reading.{Sees, Leads, InodeAnswer};
+
+use lfs_device::{DeviceFault, ReadFault, SectorDevice};
+use lfs_inodes::{InodeMap, locate};
+
+/// Reads the block at an address.
+///
+/// # Errors
+///
+/// The fault where the block isn't on the device, can't be read, or the call failed.
+fn read_sector<D: SectorDevice>(
+    device: &mut D,
+    address: u32,
+    out: &mut [u8; 512],
+) -> Result<(), DeviceFault>
+    requires { 0 < address }
+    ensures block { OnOk result ((c : Content) → Reads (D.state device.old) (D.state device.new) c → block c address ≡ out.new) }
+    ensures failed { OnErr result ((c : Content) → Reads (D.state device.old) (D.state device.new) c
+        → address < length c → 0 < length (block c address) → (D.state device.old).failures < (D.state device.new).failures) }
+    ensures looks { Looks (D.state device.old) (D.state device.new) }
+{
+    if address >= device.sectors() {
+        return Err(DeviceFault);
+    }
+    match device.read(address, out) {
+        Ok(()) => Ok(()),
+        Err(ReadFault::Unreadable) => Err(DeviceFault),
+        Err(ReadFault::Failed) => Err(DeviceFault),
+    }
+}
+
+/// Whether a file is there, and its inode then.
+///
+/// # Errors
+///
+/// The fault where a call of the device failed, or the inode can't be read.
+pub fn read_inode<D: SectorDevice>(
+    device: &mut D,
+    map: &InodeMap,
+    number: u16,
+    out: &mut [u8; 512],
+) -> Result<bool, DeviceFault>
+    requires { number < 4096 }
+    ensures answer { IfOk result (λ found. (k : CheckpointValue) (m : LogMap) → Sees (D.state device.old) (D.state device.new) k m
+        → Leads (D.state device.old).content k map.now → InodeAnswer (D.state device.old).content k m number out.new found) }
+    ensures failed { OnErr result ((k : CheckpointValue) (m : LogMap) → Sees (D.state device.old) (D.state device.new) k m
+        → Leads (D.state device.old).content k map.now → (D.state device.old).failures < (D.state device.new).failures) }
+    ensures looks { Looks (D.state device.old) (D.state device.new) }
+{
+    let address = map.address(number);
+    if address == 0 {
+        return Ok(false);
+    }
+    match read_sector(device, address, out) {
+        Ok(()) => Ok(true),
+        Err(fault) => Err(fault),
+    }
+}
+
+/// Reads a block of the file of an inode; one that isn't stored reads as zeros.
+///
+/// # Errors
+///
+/// The fault where a call of the device failed, or a block can't be read.
+pub fn read_block<D: SectorDevice>(
+    device: &mut D,
+    inode: &[u8; 512],
+    index: u32,
+    out: &mut [u8; 512],
+) -> Result<(), DeviceFault>
+    ensures answer { OnOk result ((k : CheckpointValue) (m : LogMap) (n : ℕ) → Sees (D.state device.old) (D.state device.new) k m
+        → inode.now ≡ block (D.state device.old).content (address (D.state device.old).content k (Inode n)) → HoldsBlock m n index out.new) }
+    ensures failed { OnErr result ((k : CheckpointValue) (m : LogMap) (n : ℕ) → Sees (D.state device.old) (D.state device.new) k m
+        → inode.now ≡ block (D.state device.old).content (address (D.state device.old).content k (Inode n))
+        → (D.state device.old).failures < (D.state device.new).failures) }
+    ensures looks { Looks (D.state device.old) (D.state device.new) }
+{
+    let address = match locate(device, inode, index) {
+        Ok(address) => address,
+        Err(ReadFault::Unreadable) => return Err(DeviceFault),
+        Err(ReadFault::Failed) => return Err(DeviceFault),
+    };
+    if address == 0 {
+        *out = [0; 512];
+        return Ok(());
+    }
+    match read_sector(device, address, out) {
+        Ok(()) => Ok(()),
+        Err(fault) => Err(fault),
+    }
+}
