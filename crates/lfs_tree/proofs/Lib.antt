@@ -1,1 +1,4 @@
 pub mod Seeing
+pub mod SetNames
+pub mod Notings
+pub mod GoodSlots

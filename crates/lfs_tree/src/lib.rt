@@ -3,3 +3,5 @@
 
 pub mod headers;
 pub mod reading;
+mod slots;
+pub mod tables;

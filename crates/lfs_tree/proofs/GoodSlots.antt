@@ -1,0 +1,136 @@
+-- Slots that are good, with one slot more before them.
+use Rattle.std.specs.Prelude.{is_some}
+use Rattle.std.proofs.Common.{◌≡◌, ◌≢◌, ◌<◌, ◌≤◌, ◌+◌, ◌-◌, ◌*◌, ℕ, suc, true, false, cond, T, List, [], ◌∷◌, ◌++◌, length, get_or, take, drop, Option, Some, None, Bool, Vec, Global, refl, sym, ◌∙◌, ap, subst, arith, append_assoc}
+use Rattle.std.proofs.lemmas.List.{ext_get_or, get_or-drop, length-drop, take-append-drop}
+use Rattle.std.specs.List.{AllByRecursion}
+use Rattle.std.specs.BTreeSet.{BTreeSet}
+use Rattle.std.specs.Cmp.Lexicographic.{nat_list_cmp_total}
+use Rattle.std.specs.FinMap.{find, put, is_sorted}
+use Rattle.std.specs.FinMap.Entries.{length-put}
+use Rattle.lfs_model.specs.Fields.{part}
+use Rattle.lfs_model.specs.Slot.{SlotValue, slot_in}
+use Rattle.lfs_model.specs.Tree.{Names, byte_cmp}
+use Rattle.lfs_model.specs.TreeOf.{map_of, with_slot}
+use Rattle.lfs_files.specs.declared.header.Header.{Header}
+use Rattle.lfs_dirs.specs.Directory.{first_slots, slots_in}
+use Rattle.lfs_dirs.proofs.Scans.{next_slot, no_slots}
+use Rattle.lfs_dirs.proofs.SlotNames.{sorted_names}
+use Rattle.lfs_dirs.proofs.SlotPlaces.{block_slot, block_slots_many}
+use Rattle.lfs_tree.specs.declared.tables.NameTables.{NameTables}
+use Rattle.lfs_tree.specs.Naming.{AreGoodSlots, AreTables, Base, HasNames, IsGoodSlot, IsNoted, IsTaken, Notes, TakesSlots, leads}
+use Rattle.lfs_tree.proofs.Notings.{noted_more}
+
+-- ---- those behind are good too
+few_with : (o : Option SlotValue) (m : Names) → T (is_sorted byte_cmp m) → length (with_slot o m) ≤ length m + 1
+few_with None m order = omega arith
+few_with (Some s) m order =
+    let long = length-put byte_cmp nat_list_cmp_total s.name s.number m order in
+    elim (is_some (find byte_cmp s.name m)) as (λ b. length (put byte_cmp s.name s.number m) ≡ cond b (length m) (length m + 1) → length (put byte_cmp s.name s.number m) ≤ length m + 1) [
+      | true ↦ λ e. omega (arith, e)
+      | false ↦ λ e. omega (arith, e)
+    ] long
+
+few_names : (a : List (List ℕ)) → length (map_of 0 a) ≤ length a
+few_names [] = omega arith
+few_names (x ∷ a) = let few = few_with (slot_in 0 x) (map_of 0 a) (sorted_names a) in let rest = few_names a in omega (arith, few, rest)
+
+module _ (headers : List (Option Header)) where
+  pub good_behind : (a b : List (List ℕ)) → AreGoodSlots headers (a ++ b) → AreGoodSlots headers b
+  good_behind [] b good = good
+  good_behind (x ∷ a) b good = good_behind a b record {
+    each = good.each.1;
+    apart =
+        let few = few_with (slot_in 0 x) (map_of 0 (a ++ b)) (sorted_names (a ++ b)) in
+        let rest = few_names (a ++ b) in
+        let all = good.apart in
+        omega (arith, few, rest, all);
+  }
+
+  pub good_none : AreGoodSlots headers []
+  good_none = record { each = tt; apart = refl }
+
+-- ---- one slot more
+module _ (headers : List (Option Header)) (d : ℕ) (slot : List ℕ) where
+  pub slot_malformed : (behind : List (List ℕ)) → slot_in 0 slot ≡ None → AreGoodSlots headers (slot ∷ behind) → ⊥
+  slot_malformed behind none good = let own = good.each.0 in let both : Some own.value ≡ None = sym own.spelt ∙ none in absurd (cc)
+
+  module _ (s : SlotValue) (is : slot_in 0 slot ≡ Some s) where
+    pub slot_missing : (behind : List (List ℕ)) → get_or headers s.number None ≡ None → AreGoodSlots headers (slot ∷ behind) → ⊥
+    slot_missing behind none good =
+        let own = good.each.0 in
+        let both : Some own.value ≡ Some s = sym own.spelt ∙ is in
+        let same : own.value ≡ s = cc in
+        own.there (ap (λ (v : SlotValue). get_or headers v.number None) same ∙ none)
+
+    map_more : (behind : List (List ℕ)) → map_of 0 (slot ∷ behind) ≡ put byte_cmp s.name s.number (map_of 0 behind)
+    map_more behind = ap (λ (o : Option SlotValue). with_slot o (map_of 0 behind)) is
+
+    long_more : (behind : List (List ℕ)) → length (map_of 0 (slot ∷ behind)) ≡ cond (is_some (find byte_cmp s.name (map_of 0 behind))) (length (map_of 0 behind)) (length (map_of 0 behind) + 1)
+    long_more behind = ap length (map_more behind) ∙ length-put byte_cmp nat_list_cmp_total s.name s.number (map_of 0 behind) (sorted_names behind)
+
+    pub slot_twice : (behind : List (List ℕ)) → AreGoodSlots headers behind → (find byte_cmp s.name (map_of 0 behind) ≡ None → ⊥) → AreGoodSlots headers (slot ∷ behind) → ⊥
+    slot_twice behind rest found good =
+        elim (find byte_cmp s.name (map_of 0 behind)) as (λ o. find byte_cmp s.name (map_of 0 behind) ≡ o → length (map_of 0 (slot ∷ behind)) ≡ cond (is_some o) (length (map_of 0 behind)) (length (map_of 0 behind) + 1) → ⊥) [
+          | None ↦ λ e long. found e
+          | Some n ↦ λ e long. let all = good.apart in let some = rest.apart in omega (arith, long, all, some)
+        ] refl (long_more behind)
+
+    pub slot_taken : (set set' : BTreeSet (Vec ℕ Global)) (t t' : NameTables) (base : Base) (behind : List (List ℕ)) → d < 4096 → s.number < 4096 → (get_or headers s.number None ≡ None → ⊥) → AreTables t
+        → IsTaken headers d base behind set t → find byte_cmp s.name (map_of 0 behind) ≡ None
+        → HasNames set' (put byte_cmp s.name s.number (map_of 0 behind)) → Notes t t' d s.number (leads headers s.number) → IsTaken headers d base (slot ∷ behind) set' t'
+    slot_taken set set' t t' base behind low inside there sizes was new names notes = record {
+      good = record {
+        each = (record { value = s; spelt = is; there = there }, was.good.each);
+        apart =
+            let long = long_more behind ∙ ap (λ (o : Option ℕ). cond (is_some o) (length (map_of 0 behind)) (length (map_of 0 behind) + 1)) new in
+            let rest = was.good.apart in
+            omega (arith, long, rest);
+      };
+      names = subst (HasNames set') (sym (map_more behind)) names;
+      noted = subst (λ (m : Names). IsNoted headers d base m t') (sym (map_more behind)) (noted_more headers d base (map_of 0 behind) t t' s.number s.name low inside sizes (sorted_names behind) new was.noted notes);
+    }
+
+-- ---- the slots of a block, from its last on
+module _ (headers : List (Option Header)) (d : ℕ) (block : List ℕ) (count : ℕ) (set : BTreeSet (Vec ℕ Global)) (t : NameTables) where
+  pub slots_begin : TakesSlots headers d (slots_in block count (count - count)) set set t t true
+  slots_begin base behind was = subst (λ (a : List (List ℕ)). IsTaken headers d base (a ++ behind) set t) (sym (no_slots block count count (omega arith))) was
+
+  module _ (place next : ℕ) (some : 0 < place) (le : place ≤ count) (before : next ≡ place - 1) (slot : List ℕ) (own : slot ≡ part (64 * next) 64 block) where
+    split : slots_in block next (count - next) ≡ slot ∷ slots_in block place (count - place)
+    split =
+        let here : next + 1 ≡ place = omega (arith, some, before) in
+        next_slot block next count (omega (arith, le, some, before))
+        ∙ ap (λ (k : ℕ). part (64 * next) 64 block ∷ slots_in block k (count - k)) here
+        ∙ ap (λ (s : List ℕ). s ∷ slots_in block place (count - place)) (sym own)
+
+    pub slots_go_on : (set1 set2 : BTreeSet (Vec ℕ Global)) (t1 t2 : NameTables) → TakesSlots headers d (slots_in block place (count - place)) set set1 t t1 true
+        → TakesSlots headers d (slot ∷ []) set1 set2 t1 t2 true → TakesSlots headers d (slots_in block next (count - next)) set set2 t t2 true
+    slots_go_on set1 set2 t1 t2 was one base behind taken =
+        subst (λ (a : List (List ℕ)). IsTaken headers d base (a ++ behind) set2 t2) (sym split) (one base (slots_in block place (count - place) ++ behind) (was base behind taken))
+
+    dropped : drop next (first_slots block count) ≡ slots_in block next (count - next)
+    dropped =
+        let many = block_slots_many block 0 count in
+        let left = length-drop next (first_slots block count) in
+        let rest = block_slots_many block next (count - next) in
+        let long : length (drop next (first_slots block count)) ≡ length (slots_in block next (count - next)) = omega (arith, many, left, rest) in
+        ext_get_or [] (drop next (first_slots block count)) (slots_in block next (count - next)) long
+        (λ k low.
+        let inside : k < count - next = omega (arith, low, many, left) in
+        get_or-drop next (first_slots block count) k []
+        ∙ block_slot block 0 count (next + k) (omega (arith, inside))
+        ∙ ap (λ (j : ℕ). part (64 * j) 64 block) (omega arith)
+        ∙ sym (block_slot block next (count - next) k inside))
+
+    pub slots_fail : (set1 set2 : BTreeSet (Vec ℕ Global)) (t1 t2 : NameTables) → TakesSlots headers d (slots_in block place (count - place)) set set1 t t1 true
+        → TakesSlots headers d (slot ∷ []) set1 set2 t1 t2 false → TakesSlots headers d (first_slots block count) set set2 t t2 false
+    slots_fail set1 set2 t1 t2 was one base behind taken good =
+        one base (slots_in block place (count - place) ++ behind) (was base behind taken)
+        (subst (λ (a : List (List ℕ)). AreGoodSlots headers (a ++ behind)) (dropped ∙ split)
+        (good_behind headers (take next (first_slots block count)) (drop next (first_slots block count) ++ behind)
+        (subst (AreGoodSlots headers) (ap (λ (a : List (List ℕ)). a ++ behind) (sym (take-append-drop next (first_slots block count))) ∙ append_assoc (take next (first_slots block count)) (drop next (first_slots block count)) behind) good)))
+
+  pub slots_end : (place : ℕ) (set1 : BTreeSet (Vec ℕ Global)) (t1 : NameTables) → place ≡ 0 → TakesSlots headers d (slots_in block place (count - place)) set set1 t t1 true → TakesSlots headers d (first_slots block count) set set1 t t1 true
+  slots_end place set1 t1 none was =
+      let all : count - 0 ≡ count = omega arith in
+      subst (λ (c : ℕ). TakesSlots headers d (slots_in block 0 c) set set1 t t1 true) all (subst (λ (p : ℕ). TakesSlots headers d (slots_in block p (count - p)) set set1 t t1 true) none was)

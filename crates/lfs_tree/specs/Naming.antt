@@ -1,0 +1,95 @@
+-- What the entries of directories say of numbers, in tables by number, and the slots that they are read from.
+-- All of it is an own choice.
+use Rattle.std.specs.Prelude.{◌≡◌, ◌≢◌, ◌<◌, ◌+◌, ◌==◌, min, is_some, cond, ℕ, Bool, true, false, List, ◌++◌, length, slice_index, slice_set, get_or, count_by, Option, Some, None, MatchBool, Vec}
+use Rattle.std.specs.declared.alloc.Global.{Global}
+use Rattle.std.specs.BTreeSet as tree
+use Rattle.std.specs.BTreeSet.{BTreeSet}
+use Rattle.std.specs.Cmp.Lexicographic.{slice_cmp}
+use Rattle.std.specs.FinMap.{find}
+use Rattle.std.specs.List.{AllByRecursion}
+use Rattle.std.specs.Ordering.{nat_cmp}
+use Rattle.lfs_model.specs.declared.Kind.{Kind}
+use Rattle.lfs_model.specs.declared.Kind.TheVariants as kind
+use Rattle.lfs_model.specs.Slot.{SlotValue, slot_in}
+use Rattle.lfs_model.specs.Tree.{Names, byte_cmp}
+use Rattle.lfs_model.specs.TreeOf.{map_of}
+use Rattle.lfs_files.specs.declared.header.Header.{Header}
+use Rattle.lfs_tree.specs.declared.tables.NameTables.{NameTables}
+
+abbrev pub is_directory_kind : Kind → Bool
+is_directory_kind kind.File = false
+is_directory_kind kind.Directory = true
+is_directory_kind kind.Link = false
+
+abbrev pub is_directory : Option Header → Bool
+is_directory None = false
+is_directory (Some h) = is_directory_kind h.kind
+
+-- whether a directory stands at a number
+abbrev pub leads : List (Option Header) → ℕ → Bool
+leads headers n = is_directory (get_or headers n None)
+
+-- how many of these names give a number
+abbrev pub giving : Names → ℕ → ℕ
+giving names n = count_by (λ x. x.1 == n) names
+
+-- what a table says of a count
+abbrev pub capped : ℕ → ℕ
+capped n = min n 65535
+
+-- ---- names in a set
+
+-- the set has these names, and no other
+abbrev pub HasNames : BTreeSet (Vec ℕ Global) → Names → Type 0
+HasNames set names = (q : Vec ℕ Global) → tree.contains (λ (x y : Vec ℕ Global). slice_cmp nat_cmp x.items y.items) set q ≡ is_some (find byte_cmp q.items names)
+
+-- ---- tables by number
+
+pub record AreTables (t : NameTables) : Type 0 where
+  pub counts : length t.counts.items ≡ 4096
+  pub up : length t.up.items ≡ 4096
+  pub below : length t.below.items ≡ 4096
+
+-- Directory d gives number n once more; whether a directory stands there.
+pub record Notes (old new : NameTables) (d n : ℕ) (is_dir : Bool) : Type 0 where
+  pub counts : new.counts.items ≡ slice_set old.counts.items n (min (slice_index old.counts.items n + 1) 65535)
+  pub up : new.up.items ≡ slice_set old.up.items n d
+  pub below : new.below.items ≡ slice_set old.below.items d (min (slice_index old.below.items d + cond {A = ℕ} is_dir 1 0) 65535)
+
+-- what is known before a directory is gone through: how often each number is given, by which directory, and how many directories each gives
+pub record Base : Type 0 where
+  pub counts : ℕ → ℕ
+  pub up : ℕ → ℕ
+  pub below : ℕ → ℕ
+
+-- The tables tell these names of directory d too.
+pub record IsNoted (headers : List (Option Header)) (d : ℕ) (base : Base) (names : Names) (t : NameTables) : Type 0 where
+  pub counts : (n : ℕ) → n < 4096 → slice_index t.counts.items n ≡ capped (base.counts n + giving names n)
+  pub given : (n : ℕ) → n < 4096 → 0 < giving names n → slice_index t.up.items n ≡ d
+  pub kept : (n : ℕ) → n < 4096 → giving names n ≡ 0 → slice_index t.up.items n ≡ base.up n
+  pub own : slice_index t.below.items d ≡ capped (base.below d + count_by (λ x. leads headers x.1) names)
+  pub others : (e : ℕ) → e ≢ d → slice_index t.below.items e ≡ base.below e
+
+-- ---- slots
+
+-- it is well-formed, and its number is there
+pub record IsGoodSlot (headers : List (Option Header)) (slot : List ℕ) : Type 0 where
+  pub value : SlotValue
+  pub spelt : slot_in 0 slot ≡ Some value
+  pub there : get_or headers value.number None ≢ None
+
+-- each is so, and no two have one name
+pub record AreGoodSlots (headers : List (Option Header)) (slots : List (List ℕ)) : Type 0 where
+  pub each : AllByRecursion (IsGoodSlot headers) slots
+  pub apart : length (map_of 0 slots) ≡ length slots
+
+-- slots of directory d were gone through
+pub record IsTaken (headers : List (Option Header)) (d : ℕ) (base : Base) (slots : List (List ℕ)) (set : BTreeSet (Vec ℕ Global)) (t : NameTables) : Type 0 where
+  pub good : AreGoodSlots headers slots
+  pub names : HasNames set (map_of 0 slots)
+  pub noted : IsNoted headers d base (map_of 0 slots) t
+
+-- More slots are gone through, which stand before those; or they aren't good.
+abbrev pub TakesSlots : List (Option Header) → ℕ → List (List ℕ) → BTreeSet (Vec ℕ Global) → BTreeSet (Vec ℕ Global) → NameTables → NameTables → Bool → Type 0
+TakesSlots headers d more set set' t t' taken = (base : Base) (behind : List (List ℕ)) → IsTaken headers d base behind set t
+    → MatchBool taken (IsTaken headers d base (more ++ behind) set' t') (AreGoodSlots headers (more ++ behind) → ⊥)

@@ -1,0 +1,109 @@
+//! The slots of directories, gone through one by one.
+ghost use Rattle.std.specs.Prelude.{ℕ};
+ghost use Rattle.std.specs.Prelude.{◌≡◌, ◌<◌, ◌≤◌, ◌↔◌, [], ◌∷◌, length, IfOk, IsTrue, None};
+ghost use Rattle.std.specs.FinMap.{find, put};
+ghost use Rattle.lfs_model.specs.Tree.{Names, byte_cmp};
+ghost use Rattle.lfs_dirs.specs.Directory.{first_slots};
+ghost use Rattle.lfs_tree.specs.Naming.{AreTables, HasNames, TakesSlots, is_directory_kind};
+
+use crate::tables::NameTables;
+use lfs_files::Header;
+use lfs_layout::{SlotView, nth_slot};
+use lfs_model::Kind;
+use std::alloc::{AllocError, Global};
+use std::collections::BTreeSet;
+
+/// Whether it is the header of a directory.
+pub(crate) fn is_directory(header: Header) -> bool
+    ensures { result ≡ is_directory_kind header.kind }
+{
+    match header.kind {
+        Kind::Directory => true,
+        Kind::File => false,
+        Kind::Link => false,
+    }
+}
+
+/// A name comes into a set: true where the set didn't have it.
+///
+/// # Errors
+///
+/// Where memory runs out.
+fn insert_name(
+    alloc: Global,
+    names: &mut BTreeSet<Vec<u8>>,
+    name: &[u8],
+) -> Result<bool, AllocError>
+    ensures new { IfOk result (λ new. (ms : Names) → HasNames names.old ms → IsTrue new ↔ (find byte_cmp name.now ms ≡ None)) }
+    ensures more { IfOk result (λ new. (ms : Names) (v : ℕ) → HasNames names.old ms → HasNames names.new (put byte_cmp name.now v ms)) }
+{
+    let name = name.to_vec(alloc)?;
+    let Ok(new) = names.insert(name) else {
+        return Err(AllocError);
+    };
+    Ok(new)
+}
+
+/// Goes through a slot of a directory: false where it is malformed, its number isn't there, or the directory had its name.
+///
+/// # Errors
+///
+/// Where memory runs out.
+fn take_slot(
+    alloc: Global,
+    slot: &[u8; 64],
+    headers: &[Option<Header>],
+    directory: u16,
+    names: &mut BTreeSet<Vec<u8>>,
+    tables: &mut NameTables,
+) -> Result<bool, AllocError>
+    requires whole { length headers.now ≡ 4096 }
+    requires directory { directory < 4096 }
+    requires sizes { AreTables tables.old }
+    ensures takes { IfOk result (λ taken. TakesSlots headers.now directory (slot.now ∷ []) names.old names.new tables.old tables.new taken) }
+    ensures sizes { AreTables tables.new }
+{
+    let Some(view) = SlotView::decode(slot) else {
+        return Ok(false);
+    };
+    let number = view.number() as u16;
+    let Some(header) = headers[number as usize] else {
+        return Ok(false);
+    };
+    if !insert_name(alloc, names, view.name())? {
+        return Ok(false);
+    }
+    tables.note(directory, number, is_directory(header));
+    Ok(true)
+}
+
+/// Goes through the first slots of a block of a directory, from the last on.
+///
+/// # Errors
+///
+/// Where memory runs out.
+pub(crate) fn take_slots(
+    alloc: Global,
+    block: &[u8; 512],
+    count: usize,
+    headers: &[Option<Header>],
+    directory: u16,
+    names: &mut BTreeSet<Vec<u8>>,
+    tables: &mut NameTables,
+) -> Result<bool, AllocError>
+    requires few { count ≤ 8 }
+    requires whole { length headers.now ≡ 4096 }
+    requires directory { directory < 4096 }
+    requires sizes { AreTables tables.old }
+    ensures takes { IfOk result (λ taken. TakesSlots headers.now directory (first_slots block.now count) names.old names.new tables.old tables.new taken) }
+    ensures sizes { AreTables tables.new }
+{
+    let mut place = count;
+    while place > 0 {
+        place -= 1;
+        if !take_slot(alloc, nth_slot(block, place), headers, directory, names, tables)? {
+            return Ok(false);
+        }
+    }
+    Ok(true)
+}
