@@ -2,3 +2,6 @@ pub mod Seeing
 pub mod SetNames
 pub mod Notings
 pub mod GoodSlots
+pub mod GoodBlocks
+pub mod ObjectNames
+pub mod Named

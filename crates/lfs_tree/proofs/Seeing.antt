@@ -47,6 +47,9 @@ sees_then a b c k m sees looks =
 pub leads_then : (a b : DeviceState) (k : CheckpointValue) (map : MapValue) → Leads a.content k map → Looks a b → Leads b.content k map
 leads_then a b k map leads looks = subst (λ (x : Content). Leads x k map) (sym looks.untouched.content) leads
 
+pub inode_then : (a b : DeviceState) (k : CheckpointValue) (n : ℕ) (bytes : List ℕ) → bytes ≡ block a.content (address a.content k (Inode n)) → Looks a b → bytes ≡ block b.content (address b.content k (Inode n))
+inode_then a b k n bytes is looks = is ∙ ap (λ (x : Content). block x (address x k (Inode n))) (sym looks.untouched.content)
+
 -- ---- what is there
 module _ (c : Content) (k : CheckpointValue) (m : LogMap) (sized : (at : ℕ) (bytes : List ℕ) → cell_at c at ≡ Some bytes → length bytes ≡ 512) (st : StandsAt c k m) where
   encodes : Encodes c k (address c k) m

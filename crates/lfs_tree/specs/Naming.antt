@@ -49,6 +49,12 @@ pub record AreTables (t : NameTables) : Type 0 where
   pub counts : length t.counts.items ≡ 4096
   pub up : length t.up.items ≡ 4096
   pub below : length t.below.items ≡ 4096
+  pub inside : (n : ℕ) → slice_index t.up.items n < 4096
+
+-- tables of no entries
+pub record AreEmpty (t : NameTables) : Type 0 where
+  pub counts : (n : ℕ) → slice_index t.counts.items n ≡ 0
+  pub below : (n : ℕ) → slice_index t.below.items n ≡ 0
 
 -- Directory d gives number n once more; whether a directory stands there.
 pub record Notes (old new : NameTables) (d n : ℕ) (is_dir : Bool) : Type 0 where
@@ -93,3 +99,7 @@ pub record IsTaken (headers : List (Option Header)) (d : ℕ) (base : Base) (slo
 abbrev pub TakesSlots : List (Option Header) → ℕ → List (List ℕ) → BTreeSet (Vec ℕ Global) → BTreeSet (Vec ℕ Global) → NameTables → NameTables → Bool → Type 0
 TakesSlots headers d more set set' t t' taken = (base : Base) (behind : List (List ℕ)) → IsTaken headers d base behind set t
     → MatchBool taken (IsTaken headers d base (more ++ behind) set' t') (AreGoodSlots headers (more ++ behind) → ⊥)
+
+-- Whether slots are good and the tables tell their names too, or they aren't good.
+abbrev pub TakesNames : List (Option Header) → ℕ → Base → List (List ℕ) → NameTables → Bool → Type 0
+TakesNames headers d base slots t taken = MatchBool taken (AreGoodSlots headers slots × IsNoted headers d base (map_of 0 slots) t) (AreGoodSlots headers slots → ⊥)

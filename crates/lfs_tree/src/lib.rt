@@ -1,7 +1,12 @@
 //! The tree of a volume's log map, checked stage by stage. It only reads.
 #![tactic(auto)]
 
+mod directories;
+pub mod fault;
 pub mod headers;
 pub mod reading;
+pub mod slot_stage;
 mod slots;
 pub mod tables;
+
+pub use fault::CheckFault;

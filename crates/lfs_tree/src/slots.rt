@@ -101,7 +101,14 @@ pub(crate) fn take_slots(
     let mut place = count;
     while place > 0 {
         place -= 1;
-        if !take_slot(alloc, nth_slot(block, place), headers, directory, names, tables)? {
+        if !take_slot(
+            alloc,
+            nth_slot(block, place),
+            headers,
+            directory,
+            names,
+            tables,
+        )? {
             return Ok(false);
         }
     }

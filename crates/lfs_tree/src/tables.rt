@@ -1,6 +1,6 @@
 //! What the entries of directories say of numbers.
-ghost use Rattle.std.specs.Prelude.{◌≡◌, ◌<◌, length, IfOk};
-ghost use Rattle.lfs_tree.specs.Naming.{AreTables, Notes};
+ghost use Rattle.std.specs.Prelude.{◌≡◌, ◌<◌, ℕ, length, slice_index, IfOk};
+ghost use Rattle.lfs_tree.specs.Naming.{AreEmpty, AreTables, Notes};
 
 use crate::headers::NUMBERS;
 use std::alloc::{AllocError, Global};
@@ -16,6 +16,15 @@ pub struct NameTables {
     pub below: Vec<u16>,
 }
 
+/// A table of 4,096 numbers, all 0.
+fn zeros(alloc: Global) -> Result<Vec<u16>, AllocError>
+    ensures len { IfOk result (λ v. length v.items ≡ 4096) }
+    ensures empty { IfOk result (λ v. (n : ℕ) → slice_index v.items n ≡ 0) }
+{
+    let numbers = Vec::from_elem(alloc, 0, NUMBERS as usize)?;
+    Ok(numbers)
+}
+
 impl NameTables {
     /// Tables of no entries.
     ///
@@ -24,10 +33,11 @@ impl NameTables {
     /// Where memory runs out.
     pub fn new(alloc: Global) -> Result<NameTables, AllocError>
         ensures sizes { IfOk result AreTables }
+        ensures empty { IfOk result AreEmpty }
     {
-        let counts = vec![in alloc; 0; NUMBERS as usize]?;
-        let up = vec![in alloc; 0; NUMBERS as usize]?;
-        let below = vec![in alloc; 0; NUMBERS as usize]?;
+        let counts = zeros(alloc)?;
+        let up = zeros(alloc)?;
+        let below = zeros(alloc)?;
         Ok(NameTables { counts, up, below })
     }
 

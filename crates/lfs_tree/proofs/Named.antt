@@ -1,0 +1,78 @@
+-- The tables of names, with one object more.
+use Rattle.std.specs.Prelude.{count_by}
+use Rattle.std.proofs.Common.{◌≡◌, ◌<◌, ◌≤◌, ⊎_elim, ◌+◌, ℕ, zero, suc, List, [], Option, refl, sym, ◌∙◌, ap, subst, arith, slice_index}
+use Rattle.std.proofs.lemmas.Bool.{cases_eq, cases_lt}
+use Rattle.lfs_model.specs.Stands.{LogMap}
+use Rattle.lfs_files.specs.declared.header.Header.{Header}
+use Rattle.lfs_tree.specs.declared.tables.NameTables.{NameTables}
+use Rattle.lfs_tree.specs.Naming.{AreEmpty, Base, IsNoted, capped, giving, leads}
+use Rattle.lfs_tree.specs.Objects.{AreNamed, IsGoodObject, given_below, names_at, sum_below}
+
+pub sum_none : (f : ℕ → ℕ) → sum_below f 0 ≡ 0
+unfolding sum_below
+sum_none f = refl
+
+sum_suc : (f : ℕ → ℕ) (n : ℕ) → sum_below f (suc n) ≡ sum_below f n + f n
+unfolding sum_below
+sum_suc f n = refl
+
+pub sum_more : (f : ℕ → ℕ) (n : ℕ) → sum_below f (n + 1) ≡ sum_below f n + f n
+sum_more f n = let next : n + 1 ≡ suc n = omega arith in ap (sum_below f) next ∙ sum_suc f n
+
+module _ (m : LogMap) (headers : List (Option Header)) where
+  -- what is known before the next object
+  abbrev pub base_at : NameTables → ℕ → Base
+  base_at t upto = record { counts = given_below m upto; up = slice_index t.up.items; below = slice_index t.below.items }
+
+  pub named_none : (t : NameTables) → AreEmpty t → AreNamed m headers t 0
+  named_none t empty = record {
+    counts = λ n low. let none = sum_none (λ d. giving (names_at m d) n) in let zero_at = empty.counts n in omega (arith, none, zero_at);
+    up = λ n low some. let none = sum_none (λ d. giving (names_at m d) n) in absurd (omega (arith, none, some));
+    below = λ d low. absurd (omega (arith, low));
+    none = λ d le. empty.below d;
+    good = λ n low. absurd (omega (arith, low));
+  }
+
+  module _ (t : NameTables) (upto : ℕ) (was : AreNamed m headers t upto) where
+    pub noted_begin : IsNoted headers upto (base_at t upto) [] t
+    noted_begin = record {
+      counts = λ n low. let own = was.counts n low in omega (arith, own);
+      given = λ n low some. absurd (omega (arith, some));
+      kept = λ n low none. refl;
+      own = let none = was.none upto (omega arith) in omega (arith, none);
+      others = λ e other. refl;
+    }
+
+    module _ (t' : NameTables) (good : IsGoodObject m headers upto) (noted : IsNoted headers upto (base_at t upto) (names_at m upto) t') where
+      up_then : (n : ℕ) → n < 4096 → 0 < given_below m (upto + 1) n → 0 < giving (names_at m (slice_index t'.up.items n)) n
+      up_then n low some = ⊎_elim
+          (λ (here : 0 < giving (names_at m upto) n). subst (λ (d : ℕ). 0 < giving (names_at m d) n) (sym (noted.given n low here)) here)
+          (λ (none : giving (names_at m upto) n ≤ 0).
+          let more = sum_more (λ d. giving (names_at m d) n) upto in
+          subst (λ (d : ℕ). 0 < giving (names_at m d) n) (sym (noted.kept n low (omega (arith, none)))) (was.up n low (omega (arith, more, none, some))))
+          (cases_lt 0 (giving (names_at m upto) n))
+
+      below_then : (d : ℕ) → d < upto + 1 → slice_index t'.below.items d ≡ capped (count_by (λ x. leads headers x.1) (names_at m d))
+      below_then d low = ⊎_elim
+          (λ (here : d ≡ upto).
+          let own = noted.own in
+          let none = was.none upto (omega arith) in
+          let last : slice_index t'.below.items upto ≡ capped (count_by (λ x. leads headers x.1) (names_at m upto)) = omega (arith, own, none) in
+          subst (λ (x : ℕ). slice_index t'.below.items x ≡ capped (count_by (λ y. leads headers y.1) (names_at m x))) (sym here) last)
+          (λ (other : d ≡ upto → ⊥). noted.others d other ∙ was.below d (omega (arith, low, other)))
+          (cases_eq d upto)
+
+      good_then : (n : ℕ) → n < upto + 1 → IsGoodObject m headers n
+      good_then n low = ⊎_elim
+          (λ (here : n ≡ upto). subst (IsGoodObject m headers) (sym here) good)
+          (λ (other : n ≡ upto → ⊥). was.good n (omega (arith, low, other)))
+          (cases_eq n upto)
+
+      pub named_more : AreNamed m headers t' (upto + 1)
+      named_more = record {
+        counts = λ n low. let own = noted.counts n low in let more = sum_more (λ d. giving (names_at m d) n) upto in omega (arith, own, more);
+        up = up_then;
+        below = below_then;
+        none = λ d le. noted.others d (λ e. omega (arith, e, le)) ∙ was.none d (omega (arith, le));
+        good = good_then;
+      }

@@ -1,0 +1,67 @@
+use Rattle.std.proofs.Common.{◌≡◌, ◌≤◌, ◌+◌, true, false, Bool, subst, arith, ℕ}
+use Rattle.lfs_model.proofs.Standing.{headers_are}
+use Rattle.lfs_verify.proofs.Takes.{looks_none, looks_then}
+use Rattle.lfs_tree.specs.Objects.{AreNamed, TakesObject}
+use Rattle.lfs_tree.proofs.Named.{base_at, named_more, named_none, noted_begin}
+use Rattle.lfs_tree.proofs.ObjectNames.{good_if_stage, stage_if_good}
+use Rattle.lfs_tree.proofs.Seeing.{leads_then, sees_first, sees_then}
+use Rattle.lfs_tree.proofs.slot_stage.stage_slots.Goals as goal
+
+pub loop-number-init : goal.loop-number-init
+loop-number-init g c = record {
+  looks = looks_none (g.D.SectorDevice.state c.args.device.now) (g.met.D.SectorDevice.lawful c.args.device.now);
+  sizes = c.requires.sizes;
+  named = λ k m sees leads told empty. named_none m c.args.headers.now c.args.tables.now empty;
+}
+
+pub loop-number-preserved : goal.loop-number-preserved
+loop-number-preserved g c =
+    let old = g.D.SectorDevice.state c.args.device.now in
+    let mid = g.D.SectorDevice.state c.loop-number.device in
+    let new = g.D.SectorDevice.state c.take_object.new.device in
+    let here = c.loop-number.invariant in
+    let number = c.loop-number.number in
+    let headers = c.args.headers.now in
+    record {
+      looks = looks_then old mid new here.looks c.in-Ok-true.ensures.looks;
+      sizes = c.take_object.ensures.sizes;
+      named = λ k m sees leads told empty.
+          let was = here.named k m (sees_first old mid new k m sees c.in-Ok-true.ensures.looks) leads told empty in
+          let base = base_at m headers c.loop-number.tables number in
+          let taken = c.in-Ok-true.ensures.takes k m (sees_then old mid new k m sees here.looks) (leads_then old mid k c.args.map.now leads here.looks) told base (noted_begin m headers c.loop-number.tables number was) in
+          let both = subst (TakesObject m headers number base c.take_object.new.tables) c.in-Ok-true.field-0-test taken in
+          named_more m headers c.loop-number.tables number was c.take_object.new.tables both.0 both.1;
+    }
+
+pub returns-in-Ok-false-clause-holds : goal.returns-in-Ok-false-clause-holds
+returns-in-Ok-false-clause-holds g c k m sees leads told empty =
+    let old = g.D.SectorDevice.state c.args.device.now in
+    let mid = g.D.SectorDevice.state c.loop-number.device in
+    let new = g.D.SectorDevice.state c.take_object.new.device in
+    let here = c.loop-number.invariant in
+    let number = c.loop-number.number in
+    let headers = c.args.headers.now in
+    let was = here.named k m (sees_first old mid new k m sees c.in-Ok-false.ensures.looks) leads told empty in
+    let base = base_at m headers c.loop-number.tables number in
+    let taken = c.in-Ok-false.ensures.takes k m (sees_then old mid new k m sees here.looks) (leads_then old mid k c.args.map.now leads here.looks) told base (noted_begin m headers c.loop-number.tables number was) in
+    let bad = subst (TakesObject m headers number base c.take_object.new.tables) c.in-Ok-false.field-0-test taken in
+    λ stage. bad (good_if_stage m (headers_are old.content k m sees.stands) headers told stage number)
+
+pub returns-in-Err-clause-failed : goal.returns-in-Err-clause-failed
+returns-in-Err-clause-failed g c same k m sees leads told =
+    let old = g.D.SectorDevice.state c.args.device.now in
+    let mid = g.D.SectorDevice.state c.loop-number.device in
+    let new = g.D.SectorDevice.state c.take_object.new.device in
+    let looks = c.loop-number.invariant.looks in
+    let rose = c.in-Err.ensures.failed same k m (sees_then old mid new k m sees looks) (leads_then old mid k c.args.map.now leads looks) told in
+    let earlier = looks.carries.failures in
+    omega (arith, rose, earlier)
+
+pub returns-clause-holds : goal.returns-clause-holds
+returns-clause-holds g c k m sees leads told empty =
+    let old = g.D.SectorDevice.state c.args.device.now in
+    let ended = c.loop-number-test.false in
+    let high = c.loop-number.auto.number-end in
+    let last : c.loop-number.number ≡ 4096 = omega (arith, ended, high) in
+    let named = subst (AreNamed m c.args.headers.now c.loop-number.tables) last (c.loop-number.invariant.named k m sees leads told empty) in
+    (stage_if_good m (headers_are old.content k m sees.stands) c.args.headers.now told named.good, named)

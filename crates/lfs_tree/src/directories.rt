@@ -1,0 +1,118 @@
+//! The directories of a log map, gone through one by one.
+ghost use Rattle.std.specs.Prelude.{◌≡◌, ◌<◌, ◌/◌, [], length, Some, IfOk, IsErrOf, MatchBool};
+ghost use Rattle.lfs_model.specs.Checkpoint.{CheckpointValue};
+ghost use Rattle.lfs_model.specs.Content.{block};
+ghost use Rattle.lfs_model.specs.Entry.{Inode};
+ghost use Rattle.lfs_model.specs.Reach.{address};
+ghost use Rattle.lfs_model.specs.Stands.{LogMap};
+ghost use Rattle.lfs_model.specs.TreeOf.{AreSlots};
+ghost use Rattle.lfs_dirs.specs.Directory.{slots_at};
+ghost use Rattle.lfs_files.specs.Headers.{as_header};
+ghost use Rattle.lfs_verify.specs.Take.{Looks};
+ghost use Rattle.lfs_tree.specs.Naming.{AreEmpty, AreGoodSlots, AreTables, Base, IsNoted, IsTaken, TakesNames};
+ghost use Rattle.lfs_tree.specs.Objects.{AreNamed, TakesObject};
+ghost use Rattle.lfs_tree.specs.Reading.{Leads, Sees, TellsHeaders};
+
+use crate::fault::CheckFault;
+use crate::headers::NUMBERS;
+use crate::reading::{read_block, read_inode};
+use crate::slots::{is_directory, take_slots};
+use crate::tables::NameTables;
+use lfs_device::SectorDevice;
+use lfs_files::Header;
+use lfs_inodes::InodeMap;
+use std::alloc::Global;
+use std::collections::BTreeSet;
+
+/// The bytes of a slot, and how many slots a block has.
+const SLOT: u32 = 64;
+
+const SLOTS_IN_BLOCK: u32 = 8;
+
+/// Goes through the blocks of a directory of this inode, from the last on.
+///
+/// # Errors
+///
+/// `NoMemory` where memory runs out, `Device` where a block can't be read.
+fn take_blocks<D: SectorDevice>(
+    alloc: Global,
+    device: &mut D,
+    inode: &[u8; 512],
+    header: Header,
+    headers: &[Option<Header>],
+    directory: u16,
+    names: &mut BTreeSet<Vec<u8>>,
+    tables: &mut NameTables,
+) -> Result<bool, CheckFault>
+    requires whole { length headers.now ≡ 4096 }
+    requires directory { directory < 4096 }
+    requires sizes { AreTables tables.old }
+    ensures takes { IfOk result (λ taken. (k : CheckpointValue) (m : LogMap) → Sees (D.state device.old) (D.state device.new) k m
+        → inode.now ≡ block (D.state device.old).content (address (D.state device.old).content k (Inode directory))
+        → (base : Base) → IsTaken headers.now directory base [] names.old tables.old
+        → TakesNames headers.now directory base (slots_at m directory header) tables.new taken) }
+    ensures failed { IsErrOf result CheckFault.Device → (k : CheckpointValue) (m : LogMap) → Sees (D.state device.old) (D.state device.new) k m
+        → inode.now ≡ block (D.state device.old).content (address (D.state device.old).content k (Inode directory))
+        → (D.state device.old).failures < (D.state device.new).failures }
+    ensures sizes { AreTables tables.new }
+    ensures looks { Looks (D.state device.old) (D.state device.new) }
+{
+    let slots = header.size / SLOT;
+    let mut block = [0; 512];
+    let mut index = slots.div_ceil(SLOTS_IN_BLOCK);
+    while index > 0 {
+        index -= 1;
+        let count = (slots - SLOTS_IN_BLOCK * index).min(SLOTS_IN_BLOCK) as usize;
+        match read_block(device, inode, index, &mut block) {
+            Ok(()) => {}
+            Err(_) => return Err(CheckFault::Device),
+        }
+        match take_slots(alloc, &block, count, headers, directory, names, tables) {
+            Ok(true) => {}
+            Ok(false) => return Ok(false),
+            Err(_) => return Err(CheckFault::NoMemory),
+        }
+    }
+    Ok(true)
+}
+
+/// Goes through a directory: false where a slot is malformed or gives a number that isn't there, or two have one name.
+///
+/// # Errors
+///
+/// As those of `take_blocks`.
+pub(crate) fn take_directory<D: SectorDevice>(
+    alloc: Global,
+    device: &mut D,
+    map: &InodeMap,
+    headers: &[Option<Header>],
+    directory: u16,
+    header: Header,
+    tables: &mut NameTables,
+) -> Result<bool, CheckFault>
+    requires whole { length headers.now ≡ 4096 }
+    requires directory { directory < 4096 }
+    requires sizes { AreTables tables.old }
+    ensures takes { IfOk result (λ taken. (k : CheckpointValue) (m : LogMap) → Sees (D.state device.old) (D.state device.new) k m
+        → Leads (D.state device.old).content k map.now → (base : Base) → IsNoted headers.now directory base [] tables.old
+        → TakesNames headers.now directory base (slots_at m directory header) tables.new taken) }
+    ensures failed { IsErrOf result CheckFault.Device → (k : CheckpointValue) (m : LogMap) → Sees (D.state device.old) (D.state device.new) k m
+        → Leads (D.state device.old).content k map.now → m.header directory ≡ Some (as_header header)
+        → (D.state device.old).failures < (D.state device.new).failures }
+    ensures sizes { AreTables tables.new }
+    ensures looks { Looks (D.state device.old) (D.state device.new) }
+{
+    let mut inode = [0; 512];
+    match read_inode(device, map, directory, &mut inode) {
+        Ok(true) => {}
+        Ok(false) => return Err(CheckFault::Device),
+        Err(_) => return Err(CheckFault::Device),
+    }
+    let mut names = BTreeSet::new(alloc);
+    match take_blocks(
+        alloc, device, &inode, header, headers, directory, &mut names, tables,
+    ) {
+        Ok(taken) => Ok(taken),
+        Err(fault) => Err(fault),
+    }
+}

@@ -1,0 +1,89 @@
+//! Stage 10: each directory's slots are well-formed, its names differ, and its numbers are there.
+ghost use Rattle.std.specs.Prelude.{◌≡◌, ◌<◌, [], length, IfOk, IsErrOf, MatchBool};
+ghost use Rattle.lfs_model.specs.Checkpoint.{CheckpointValue};
+ghost use Rattle.lfs_model.specs.Stands.{LogMap};
+ghost use Rattle.lfs_model.specs.TreeOf.{AreSlots};
+ghost use Rattle.lfs_verify.specs.Take.{Looks};
+ghost use Rattle.lfs_tree.specs.Naming.{AreEmpty, AreTables, Base, IsNoted};
+ghost use Rattle.lfs_tree.specs.Objects.{SlotStage, TakesObject};
+ghost use Rattle.lfs_tree.specs.Reading.{Leads, Sees, TellsHeaders};
+
+use crate::directories::take_directory;
+use crate::fault::CheckFault;
+use crate::headers::NUMBERS;
+use crate::slots::is_directory;
+use crate::tables::NameTables;
+use lfs_device::SectorDevice;
+use lfs_files::Header;
+use lfs_inodes::InodeMap;
+use std::alloc::Global;
+
+/// Goes through the object at a number, if it is a directory.
+///
+/// # Errors
+///
+/// `NoMemory` where memory runs out, `Device` where a block can't be read.
+fn take_object<D: SectorDevice>(
+    alloc: Global,
+    device: &mut D,
+    map: &InodeMap,
+    headers: &[Option<Header>],
+    number: u16,
+    tables: &mut NameTables,
+) -> Result<bool, CheckFault>
+    requires whole { length headers.now ≡ 4096 }
+    requires number { number < 4096 }
+    requires sizes { AreTables tables.old }
+    ensures takes { IfOk result (λ taken. (k : CheckpointValue) (m : LogMap) → Sees (D.state device.old) (D.state device.new) k m
+        → Leads (D.state device.old).content k map.now → TellsHeaders m headers.now 4096
+        → (base : Base) → IsNoted headers.now number base [] tables.old → TakesObject m headers.now number base tables.new taken) }
+    ensures failed { IsErrOf result CheckFault.Device → (k : CheckpointValue) (m : LogMap) → Sees (D.state device.old) (D.state device.new) k m
+        → Leads (D.state device.old).content k map.now → TellsHeaders m headers.now 4096
+        → (D.state device.old).failures < (D.state device.new).failures }
+    ensures sizes { AreTables tables.new }
+    ensures looks { Looks (D.state device.old) (D.state device.new) }
+{
+    let Some(header) = headers[number as usize] else {
+        return Ok(true);
+    };
+    if !is_directory(header) {
+        return Ok(true);
+    }
+    match take_directory(alloc, device, map, headers, number, header, tables) {
+        Ok(taken) => Ok(taken),
+        Err(fault) => Err(fault),
+    }
+}
+
+/// Goes through all directories, and takes what their entries say of numbers to empty tables. False where the stage fails.
+///
+/// # Errors
+///
+/// `NoMemory` where memory runs out, `Device` where a block can't be read.
+pub fn stage_slots<D: SectorDevice>(
+    alloc: Global,
+    device: &mut D,
+    map: &InodeMap,
+    headers: &[Option<Header>],
+    tables: &mut NameTables,
+) -> Result<bool, CheckFault>
+    requires whole { length headers.now ≡ 4096 }
+    requires sizes { AreTables tables.old }
+    ensures holds { IfOk result (λ holds. (k : CheckpointValue) (m : LogMap) → Sees (D.state device.old) (D.state device.new) k m
+        → Leads (D.state device.old).content k map.now → TellsHeaders m headers.now 4096
+        → AreEmpty tables.old → SlotStage m headers.now tables.new holds) }
+    ensures failed { IsErrOf result CheckFault.Device → (k : CheckpointValue) (m : LogMap) → Sees (D.state device.old) (D.state device.new) k m
+        → Leads (D.state device.old).content k map.now → TellsHeaders m headers.now 4096
+        → (D.state device.old).failures < (D.state device.new).failures }
+    ensures sizes { AreTables tables.new }
+    ensures looks { Looks (D.state device.old) (D.state device.new) }
+{
+    for number in 0..NUMBERS {
+        match take_object(alloc, device, map, headers, number, tables) {
+            Ok(true) => {}
+            Ok(false) => return Ok(false),
+            Err(fault) => return Err(fault),
+        }
+    }
+    Ok(true)
+}
