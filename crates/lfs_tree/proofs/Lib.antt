@@ -5,3 +5,4 @@ pub mod GoodSlots
 pub mod GoodBlocks
 pub mod ObjectNames
 pub mod Named
+pub mod LinkTexts

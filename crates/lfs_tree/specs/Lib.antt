@@ -1,3 +1,4 @@
 pub mod Reading
 pub mod Naming
 pub mod Objects
+pub mod Texts

@@ -8,5 +8,6 @@ pub mod reading;
 pub mod slot_stage;
 mod slots;
 pub mod tables;
+pub mod texts;
 
 pub use fault::CheckFault;

@@ -1,0 +1,63 @@
+use Rattle.std.specs.Prelude.{min}
+use Rattle.std.proofs.Common.{◌≡◌, ◌≢◌, ◌<◌, ◌≤◌, ◌-◌, ◌+◌, ◌*◌, ℕ, arith, subst, slice_index}
+use Rattle.lfs_verify.proofs.Takes.{looks_none, looks_then}
+use Rattle.lfs_tree.specs.Texts.{HasNoZero}
+use Rattle.lfs_tree.proofs.LinkTexts.{texts_fail, texts_go_on}
+use Rattle.lfs_tree.proofs.Seeing.{inode_then, sees_first, sees_then}
+use Rattle.lfs_tree.proofs.texts.check_bytes.Goals as goal
+
+pub loop-index-init : goal.loop-index-init
+loop-index-init g c = record {
+  looks = looks_none (g.D.SectorDevice.state c.args.device.now) (g.met.D.SectorDevice.lawful c.args.device.now);
+  none = λ k m n sees is p low none. omega (arith, low);
+}
+
+pub returns-in-Err-clause-failed : goal.returns-in-Err-clause-failed
+returns-in-Err-clause-failed g c k m n sees is =
+    let old = g.D.SectorDevice.state c.args.device.now in
+    let mid = g.D.SectorDevice.state c.loop-index.device in
+    let new = g.D.SectorDevice.state c.read_block.new.device in
+    let looks = c.loop-index.invariant.looks in
+    let rose = c.in-Err.ensures.failed k m n (sees_then old mid new k m sees looks) (inode_then old mid k n c.args.inode.now is looks) in
+    let earlier = looks.carries.failures in
+    omega (arith, rose, earlier)
+
+pub loop-index-preserved : goal.loop-index-preserved
+loop-index-preserved g c =
+    let old = g.D.SectorDevice.state c.args.device.now in
+    let mid = g.D.SectorDevice.state c.loop-index.device in
+    let new = g.D.SectorDevice.state c.read_block.new.device in
+    let here = c.loop-index.invariant in
+    let t = c.loop-index-test.true in
+    let d = c.div_ceil-index-end.ensures in
+    let e = c.min-count.ensures in
+    let low : 512 * c.loop-index.index < c.args.size = omega (arith, t, d) in
+    let is : c.min-count.result ≡ min (c.args.size - 512 * c.loop-index.index) 512 = omega (arith, e) in
+    record {
+      looks = looks_then old mid new here.looks c.in-Ok.ensures.looks;
+      none = λ k m n sees own.
+          texts_go_on m n c.loop-index.index c.args.size c.min-count.result c.read_block.new.out
+          (c.in-Ok.ensures.answer k m n (sees_then old mid new k m sees here.looks) (inode_then old mid k n c.args.inode.now own here.looks))
+          low is (here.none k m n (sees_first old mid new k m sees c.in-Ok.ensures.looks) own) (c.is_nonzero.ensures.0 c.if-not-is_nonzero.false);
+    }
+
+pub returns-then-not-is_nonzero-clause-holds : goal.returns-then-not-is_nonzero-clause-holds
+returns-then-not-is_nonzero-clause-holds g c k m n sees own =
+    let old = g.D.SectorDevice.state c.args.device.now in
+    let mid = g.D.SectorDevice.state c.loop-index.device in
+    let new = g.D.SectorDevice.state c.read_block.new.device in
+    let here = c.loop-index.invariant in
+    let t = c.loop-index-test.true in
+    let d = c.div_ceil-index-end.ensures in
+    let e = c.min-count.ensures in
+    let low : 512 * c.loop-index.index < c.args.size = omega (arith, t, d) in
+    let is : c.min-count.result ≡ min (c.args.size - 512 * c.loop-index.index) 512 = omega (arith, e) in
+    texts_fail m n c.loop-index.index c.args.size c.min-count.result c.read_block.new.out
+    (c.in-Ok.ensures.answer k m n (sees_then old mid new k m sees here.looks) (inode_then old mid k n c.args.inode.now own here.looks))
+    low is (λ all. let yes = c.is_nonzero.ensures.1 all in let no_ = c.if-not-is_nonzero.true in absurd (cc))
+
+pub returns-clause-holds : goal.returns-clause-holds
+returns-clause-holds g c k m n sees own =
+    let t = c.loop-index-test.false in
+    let d = c.div_ceil-index-end.ensures in
+    λ p low. c.loop-index.invariant.none k m n sees own p (omega (arith, low, t, d))

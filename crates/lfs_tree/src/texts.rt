@@ -1,0 +1,168 @@
+//! Stage 11: no link's text has a zero byte.
+ghost use Rattle.std.specs.Prelude.{◌≡◌, ◌≢◌, ◌<◌, ◌≤◌, ◌↔◌, ℕ, length, slice_index, Some, IfOk, OnErr, IsTrue};
+ghost use Rattle.lfs_model.specs.Checkpoint.{CheckpointValue};
+ghost use Rattle.lfs_model.specs.Content.{block};
+ghost use Rattle.lfs_model.specs.Entry.{Inode};
+ghost use Rattle.lfs_model.specs.Reach.{address};
+ghost use Rattle.lfs_model.specs.Stands.{LogMap};
+ghost use Rattle.lfs_model.specs.TreeOf.{AreTexts};
+ghost use Rattle.lfs_files.specs.Headers.{as_header};
+ghost use Rattle.lfs_verify.specs.Take.{Looks};
+ghost use Rattle.lfs_tree.specs.Reading.{Leads, Sees, TellsHeaders};
+ghost use Rattle.lfs_tree.specs.Texts.{Decides, HasNoZero, IsGoodText};
+
+use crate::headers::NUMBERS;
+use crate::reading::{read_block, read_inode};
+use lfs_device::{DeviceFault, SectorDevice};
+use lfs_files::Header;
+use lfs_inodes::InodeMap;
+use lfs_model::Kind;
+
+/// The bytes of a block.
+const BLOCK: u32 = 512;
+
+/// Whether none of the first bytes of a block is zero.
+fn is_nonzero(block: &[u8; 512], count: usize) -> bool
+    requires { count ≤ 512 }
+    ensures { IsTrue result ↔ ((i : ℕ) → i < count → slice_index block.now i ≢ 0) }
+{
+    for place in 0..count {
+        if block[place] == 0 {
+            return false;
+        }
+    }
+    true
+}
+
+/// Whether no byte of the file of an inode is zero.
+///
+/// # Errors
+///
+/// The fault where a block can't be read.
+fn check_bytes<D: SectorDevice>(
+    device: &mut D,
+    inode: &[u8; 512],
+    size: u32,
+) -> Result<bool, DeviceFault>
+    ensures holds { IfOk result (λ holds. (k : CheckpointValue) (m : LogMap) (n : ℕ) → Sees (D.state device.old) (D.state device.new) k m
+        → inode.now ≡ block (D.state device.old).content (address (D.state device.old).content k (Inode n)) → Decides (HasNoZero m n size) holds) }
+    ensures failed { OnErr result ((k : CheckpointValue) (m : LogMap) (n : ℕ) → Sees (D.state device.old) (D.state device.new) k m
+        → inode.now ≡ block (D.state device.old).content (address (D.state device.old).content k (Inode n))
+        → (D.state device.old).failures < (D.state device.new).failures) }
+    ensures looks { Looks (D.state device.old) (D.state device.new) }
+{
+    let mut block = [0; 512];
+    for index in 0..size.div_ceil(BLOCK) {
+        match read_block(device, inode, index, &mut block) {
+            Ok(()) => {}
+            Err(fault) => return Err(fault),
+        }
+        let count = (size - BLOCK * index).min(BLOCK) as usize;
+        if !is_nonzero(&block, count) {
+            return Ok(false);
+        }
+    }
+    Ok(true)
+}
+
+/// Whether the text of a link has no zero byte.
+///
+/// # Errors
+///
+/// The fault where a block can't be read.
+fn check_text<D: SectorDevice>(
+    device: &mut D,
+    map: &InodeMap,
+    number: u16,
+    header: Header,
+) -> Result<bool, DeviceFault>
+    requires { number < 4096 }
+    ensures holds { IfOk result (λ holds. (k : CheckpointValue) (m : LogMap) → Sees (D.state device.old) (D.state device.new) k m
+        → Leads (D.state device.old).content k map.now → Decides (HasNoZero m number header.size) holds) }
+    ensures failed { OnErr result ((k : CheckpointValue) (m : LogMap) → Sees (D.state device.old) (D.state device.new) k m
+        → Leads (D.state device.old).content k map.now → m.header number ≡ Some (as_header header)
+        → (D.state device.old).failures < (D.state device.new).failures) }
+    ensures looks { Looks (D.state device.old) (D.state device.new) }
+{
+    let mut inode = [0; 512];
+    match read_inode(device, map, number, &mut inode) {
+        Ok(true) => {}
+        Ok(false) => return Err(DeviceFault),
+        Err(fault) => return Err(fault),
+    }
+    match check_bytes(device, &inode, header.size) {
+        Ok(holds) => Ok(holds),
+        Err(fault) => Err(fault),
+    }
+}
+
+/// Whether it is the header of a link.
+fn is_link(header: Header) -> bool
+    ensures { IsTrue result ↔ header.kind ≡ Kind.Link }
+{
+    match header.kind {
+        Kind::Link => true,
+        Kind::File => false,
+        Kind::Directory => false,
+    }
+}
+
+/// Whether the text of the object at a number has no zero byte, if it is a link.
+///
+/// # Errors
+///
+/// The fault where a block can't be read.
+fn check_object<D: SectorDevice>(
+    device: &mut D,
+    map: &InodeMap,
+    headers: &[Option<Header>],
+    number: u16,
+) -> Result<bool, DeviceFault>
+    requires whole { length headers.now ≡ 4096 }
+    requires number { number < 4096 }
+    ensures holds { IfOk result (λ holds. (k : CheckpointValue) (m : LogMap) → Sees (D.state device.old) (D.state device.new) k m
+        → Leads (D.state device.old).content k map.now → TellsHeaders m headers.now 4096 → Decides (IsGoodText m number) holds) }
+    ensures failed { OnErr result ((k : CheckpointValue) (m : LogMap) → Sees (D.state device.old) (D.state device.new) k m
+        → Leads (D.state device.old).content k map.now → TellsHeaders m headers.now 4096
+        → (D.state device.old).failures < (D.state device.new).failures) }
+    ensures looks { Looks (D.state device.old) (D.state device.new) }
+{
+    let Some(header) = headers[number as usize] else {
+        return Ok(true);
+    };
+    if !is_link(header) {
+        return Ok(true);
+    }
+    match check_text(device, map, number, header) {
+        Ok(holds) => Ok(holds),
+        Err(fault) => Err(fault),
+    }
+}
+
+/// Whether no link's text has a zero byte: false where the stage fails.
+///
+/// # Errors
+///
+/// The fault where a block can't be read.
+pub fn stage_texts<D: SectorDevice>(
+    device: &mut D,
+    map: &InodeMap,
+    headers: &[Option<Header>],
+) -> Result<bool, DeviceFault>
+    requires { length headers.now ≡ 4096 }
+    ensures holds { IfOk result (λ holds. (k : CheckpointValue) (m : LogMap) → Sees (D.state device.old) (D.state device.new) k m
+        → Leads (D.state device.old).content k map.now → TellsHeaders m headers.now 4096 → Decides (AreTexts m) holds) }
+    ensures failed { OnErr result ((k : CheckpointValue) (m : LogMap) → Sees (D.state device.old) (D.state device.new) k m
+        → Leads (D.state device.old).content k map.now → TellsHeaders m headers.now 4096
+        → (D.state device.old).failures < (D.state device.new).failures) }
+    ensures looks { Looks (D.state device.old) (D.state device.new) }
+{
+    for number in 0..NUMBERS {
+        match check_object(device, map, headers, number) {
+            Ok(true) => {}
+            Ok(false) => return Ok(false),
+            Err(fault) => return Err(fault),
+        }
+    }
+    Ok(true)
+}
