@@ -6,3 +6,5 @@ pub mod GoodBlocks
 pub mod ObjectNames
 pub mod Named
 pub mod LinkTexts
+pub mod Climbing
+pub mod TreeNames

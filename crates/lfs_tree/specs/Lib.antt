@@ -2,3 +2,4 @@ pub mod Reading
 pub mod Naming
 pub mod Objects
 pub mod Texts
+pub mod Reaching

@@ -17,7 +17,7 @@ pub struct NameTables {
 }
 
 /// A table of 4,096 numbers, all 0.
-fn zeros(alloc: Global) -> Result<Vec<u16>, AllocError>
+pub(crate) fn zeros(alloc: Global) -> Result<Vec<u16>, AllocError>
     ensures len { IfOk result (λ v. length v.items ≡ 4096) }
     ensures empty { IfOk result (λ v. (n : ℕ) → slice_index v.items n ≡ 0) }
 {

@@ -1,0 +1,125 @@
+-- How often the tree's directories give a number, and which.
+use Rattle.std.specs.Prelude.{T, sum_by, unwrap_or}
+use Rattle.std.proofs.Common.{◌≡◌, ◌≢◌, ◌<◌, ◌≤◌, ⊎_elim, ◌+◌, cond, true, false, Bool, eqb, ℕ, zero, suc, List, [], ◌∷◌, Option, Some, None, refl, sym, ◌∙◌, ap, subst, arith}
+use Rattle.std.proofs.lemmas.Bool.{cases_eq}
+use Rattle.std.proofs.lemmas.List.Sums.{sum_by-cons}
+use Rattle.std.specs.Cmp.Lexicographic.{nat_list_cmp_total}
+use Rattle.std.specs.FinMap.{find, is_sorted}
+use Rattle.std.specs.Prelude.{◌==◌}
+use Rattle.std.proofs.lemmas.Bool.Decides.{nat_tests}
+use Rattle.lfs_model.specs.Entry.{Header}
+use Rattle.lfs_model.specs.Stands.{LogMap}
+use Rattle.lfs_model.specs.Tree.{File, Names, Node, Tree, byte_cmp, names, names_of}
+use Rattle.lfs_model.specs.TreeOf.{node_of, nodes_from, tree_in, with_object}
+use Rattle.lfs_model.proofs.Sums.{T_right, find_after, find_first, weight-le-total}
+use Rattle.lfs_model.proofs.Standing.{IsHeader}
+use Rattle.lfs_tree.specs.Naming.{giving}
+use Rattle.lfs_tree.specs.Objects.{given_below, names_at, sum_below}
+use Rattle.lfs_tree.proofs.Named.{sum_more, sum_none}
+use Rattle.lfs_tree.proofs.ObjectNames.{AreHeaders, no_names}
+
+-- ---- a sum over the nodes, by their numbers
+module _ (m : LogMap) (f : Node → ℕ) (w : ℕ → ℕ) where
+  abbrev weighs : Option Node → ℕ
+  weighs o = elim o [ None ↦ 0 | Some x ↦ f x ]
+
+  abbrev total : Tree → ℕ
+  total t = sum_by (λ e. f e.1) t
+
+  one_more : (n : ℕ) (o : Option Node) (t : Tree) → total (with_object n o t) ≡ weighs o + total t
+  one_more n None t = omega arith
+  one_more n (Some x) t = sum_by-cons (λ (e : ℕ × Node). f e.1) (n, x) t
+
+  module _ (each : (n : ℕ) → weighs (node_of m n (m.header n)) ≡ w n) where
+    first : (count a : ℕ) → total (nodes_from m (suc count) a) ≡ w a + total (nodes_from m count (a + 1))
+    unfolding nodes_from
+    first count a =
+        let own = each a in
+        let one = one_more a (node_of m a (m.header a)) (nodes_from m count (a + 1)) in
+        omega (arith, own, one)
+
+    none : (a : ℕ) → total (nodes_from m 0 a) ≡ 0
+    unfolding nodes_from
+    none a = refl
+
+    nodes_sum : (count b : ℕ) → total (nodes_from m count b) + sum_below w b ≡ sum_below w (b + count)
+    nodes_sum zero b =
+        let same : b ≡ b + 0 = omega arith in
+        let e = ap (sum_below w) same in
+        omega (arith, none b, e)
+    nodes_sum (suc count) b =
+        let rest = nodes_sum count (b + 1) in
+        let last : b + 1 + count ≡ b + suc count = omega arith in
+        let up = sum_more w b in
+        let end = ap (sum_below w) last in
+        omega (arith, rest, up, end, first count b)
+
+    pub tree_sum : w 0 ≡ 0 → total (tree_in m) ≡ sum_below w 4096
+    unfolding tree_in
+    tree_sum nobody =
+        let all = nodes_sum 4095 1 in
+        let start = sum_more w 0 in
+        let empty = sum_none w in
+        let one : 0 + 1 ≡ 1 = omega arith in
+        let e = ap (sum_below w) one in
+        let end : 1 + 4095 ≡ 4096 = omega arith in
+        let last = ap (sum_below w) end in
+        omega (arith, all, start, empty, nobody, e, last)
+
+-- ---- names
+module _ (m : LogMap) (are : AreHeaders m) (n : ℕ) where
+  given_each : (d : ℕ) (o : Option Node) → elim o [ None ↦ 0 | Some x ↦ giving (names_of x) n ] ≡ giving (names_of (unwrap_or o (File []))) n
+  given_each d None = refl
+  given_each d (Some x) = refl
+
+  no_root : m.header 0 ≡ None
+  no_root = elim (m.header 0) as (λ (o : Option Header). m.header 0 ≡ o → o ≡ None) [
+    | None ↦ λ e. refl
+    | Some h ↦ λ e. let range = (are 0 h e).number in let low = range.0 in absurd (omega (arith, low))
+  ] refl
+
+  -- how often the tree gives a number
+  pub names_given : names (tree_in m) n ≡ given_below m 4096 n
+  names_given =
+      tree_sum m (λ x. giving (names_of x) n) (λ d. giving (names_at m d) n) (λ d. given_each d (node_of m d (m.header d)))
+      (ap (λ (ms : Names). giving ms n) (no_names m are 0 no_root))
+
+-- what is given is found, and what is found is given
+pub given_found : (ms : Names) (n : ℕ) → T (is_sorted byte_cmp ms) → 0 < giving ms n → (name : List ℕ) × (find byte_cmp name ms ≡ Some n)
+given_found [] n order some = absurd (omega (arith, some))
+given_found (e ∷ ms) n order some = ⊎_elim
+    (λ (here : e.1 ≡ n). (e.0, find_first nat_list_cmp_total (λ x. 0) e ms ∙ ap Some here))
+    (λ (other : e.1 ≡ n → ⊥).
+    let no_ : eqb e.1 n ≡ false = grind (arith, nat_tests) in
+    let first = sum_by-cons (λ (x : List ℕ × ℕ). cond {A = ℕ} (x.1 == n) 1 0) e ms in
+    let own = ap {B = ℕ} (λ (b : Bool). cond b 1 0) no_ in
+    let rest = given_found ms n (T_right _ (is_sorted byte_cmp ms) order) (omega (arith, some, first, own)) in
+    (rest.0, find_after nat_list_cmp_total (λ x. 0) rest.0 e ms n order rest.1))
+    (cases_eq e.1 n)
+
+pub found_given : (ms : Names) (name : List ℕ) (n : ℕ) → find byte_cmp name ms ≡ Some n → 0 < giving ms n
+found_given ms name n found =
+    let some = weight-le-total nat_list_cmp_total (λ v. cond {A = ℕ} (v == n) 1 0) name n ms found in
+    let same : eqb n n ≡ true = grind (arith, nat_tests) in
+    let one = ap {B = ℕ} (λ (b : Bool). cond b 1 0) same in
+    omega (arith, some, one)
+
+-- ---- two numbers that add to a sum
+sum_own : (f : ℕ → ℕ) (a n : ℕ) → a < n → f a ≤ sum_below f n
+unfolding sum_below
+sum_own f a zero low = absurd (omega (arith, low))
+sum_own f a (suc n) low = ⊎_elim
+    (λ (here : a ≡ n). (let e = ap f here in omega (arith, e)))
+    (λ (other : a ≡ n → ⊥). (let rest = sum_own f a n (omega (arith, low, other)) in omega (arith, rest)))
+    (cases_eq a n)
+
+pub sum_both : (f : ℕ → ℕ) (a b n : ℕ) → a < n → b < n → (a ≡ b → ⊥) → f a + f b ≤ sum_below f n
+unfolding sum_below
+sum_both f a b zero low high ne = absurd (omega (arith, low))
+sum_both f a b (suc n) low high ne = ⊎_elim
+    (λ (here : a ≡ n). (let e = ap f here in let rest = sum_own f b n (omega (arith, here, high, ne)) in omega (arith, e, rest)))
+    (λ (other : a ≡ n → ⊥). ⊎_elim
+    (λ (there : b ≡ n). (let e = ap f there in let rest = sum_own f a n (omega (arith, low, other)) in omega (arith, e, rest)))
+    (λ (apart : b ≡ n → ⊥). (let rest = sum_both f a b n (omega (arith, low, other)) (omega (arith, high, apart)) ne in omega (arith, rest)))
+    (cases_eq b n))
+    (cases_eq a n)
