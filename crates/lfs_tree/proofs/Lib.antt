@@ -8,3 +8,4 @@ pub mod Named
 pub mod LinkTexts
 pub mod Climbing
 pub mod TreeNames
+pub mod ReachStages

@@ -3,3 +3,4 @@ pub mod Naming
 pub mod Objects
 pub mod Texts
 pub mod Reaching
+pub mod Linking

@@ -4,6 +4,7 @@
 mod directories;
 pub mod fault;
 pub mod headers;
+pub mod links;
 pub mod reached;
 pub mod reading;
 pub mod slot_stage;

@@ -1,0 +1,263 @@
+-- What the tables say of the tree: numbers that are named, directories that are reached, and links.
+use Rattle.std.specs.Prelude.{T, count_by, unwrap_or}
+use Rattle.std.proofs.Common.{◌≡◌, ◌≢◌, ◌<◌, ◌≤◌, ◌↔◌, ⊎_elim, ◌+◌, cond, true, false, Bool, ℕ, zero, suc, List, [], ◌∷◌, length, get_or, Option, Some, None, refl, sym, ◌∙◌, ap, subst, arith, slice_index}
+use Rattle.std.proofs.lemmas.Bool.{cases_eq, cases_lt}
+use Rattle.std.proofs.lemmas.List.{get_or_past}
+use Rattle.std.proofs.lemmas.List.Sums.{sum_by-cons}
+use Rattle.std.specs.FinMap.{find, is_sorted}
+use Rattle.std.specs.Option.{option_map}
+use Rattle.lfs_model.specs.declared.Kind.{Kind}
+use Rattle.lfs_model.specs.declared.Kind.TheVariants as kind
+use Rattle.lfs_model.specs.Entry as entry
+use Rattle.lfs_model.specs.Sound.{Reached, below, root}
+use Rattle.lfs_model.specs.Stands.{LogMap}
+use Rattle.lfs_model.specs.Tree.{Dir, File, Link, Names, Node, byte_cmp, entry as entry_in, is_dir, links, links_at, names, names_in, names_of, node}
+use Rattle.lfs_model.specs.TreeOf.{AreLinks, AreReached, node_by, node_of, slots, tree_in}
+use Rattle.lfs_model.proofs.Volume.{no_node_past}
+use Rattle.lfs_files.specs.declared.header.Header.{Header}
+use Rattle.lfs_files.specs.Headers.{as_header}
+use Rattle.lfs_dirs.proofs.SlotNames.{sorted_names}
+use Rattle.lfs_tree.specs.declared.tables.NameTables.{NameTables}
+use Rattle.lfs_tree.specs.Linking.{AreLinksFit, FitsLinks}
+use Rattle.lfs_tree.specs.Naming.{AreTables, capped, giving, is_directory, is_directory_kind, leads}
+use Rattle.lfs_tree.specs.Objects.{AreNamed, given_below, names_at}
+use Rattle.lfs_tree.specs.Reaching.{AllClimb, AreNamesFit, Climbs, FitsNames}
+use Rattle.lfs_tree.specs.Reaching as way
+use Rattle.lfs_tree.specs.Reading.{TellsHeaders}
+use Rattle.lfs_tree.proofs.ObjectNames.{AreHeaders, head_told, names_directory, names_in_is, names_other, names_slots, no_names, node_at}
+use Rattle.lfs_tree.proofs.TreeNames.{found_given, given_found, names_given, sum_both}
+
+count_same : (p q : ℕ → Bool) → ((n : ℕ) → p n ≡ q n) → (ms : Names) → count_by (λ x. p x.1) ms ≡ count_by (λ x. q x.1) ms
+count_same p q same [] = refl
+count_same p q same (e ∷ ms) =
+    let rest = count_same p q same ms in
+    let a = sum_by-cons (λ (x : List ℕ × ℕ). cond {A = ℕ} (p x.1) 1 0) e ms in
+    let b = sum_by-cons (λ (x : List ℕ × ℕ). cond {A = ℕ} (q x.1) 1 0) e ms in
+    let own = ap {B = ℕ} (λ (t : Bool). cond t 1 0) (same e.1) in
+    omega (arith, rest, a, b, own)
+
+module _ (m : LogMap) (are : AreHeaders m) (headers : List (Option Header)) (whole : length headers ≡ 4096) (told : TellsHeaders m headers 4096) where
+  -- ---- what stands at a number
+  dir_by : (n : ℕ) (h : entry.Header) (k : Kind) → is_dir (Some (node_by m k n h)) ≡ is_directory_kind k
+  dir_by n h kind.File = refl
+  dir_by n h kind.Directory = refl
+  dir_by n h kind.Link = refl
+
+  node_there : (n : ℕ) (hd : Header) → n < 4096 → get_or headers n None ≡ Some hd → node (tree_in m) n ≡ Some (node_by m hd.kind n (as_header hd))
+  node_there n hd low is = node_at m are n ∙ ap (node_of m n) (head_told m headers told n low hd is)
+
+  node_not : (n : ℕ) → n < 4096 → get_or headers n None ≡ None → node (tree_in m) n ≡ None
+  node_not n low none = node_at m are n ∙ ap (node_of m n) (told n low ∙ ap (option_map as_header) none)
+
+  leads_low : (n : ℕ) → n < 4096 → (o : Option Header) → get_or headers n None ≡ o → leads headers n ≡ is_dir (node (tree_in m) n)
+  leads_low n low None is = ap is_directory is ∙ sym (ap is_dir (node_not n low is))
+  leads_low n low (Some hd) is = ap is_directory is ∙ sym (ap is_dir (node_there n hd low is) ∙ dir_by n (as_header hd) hd.kind)
+
+  pub leads_is : (n : ℕ) → leads headers n ≡ is_dir (node (tree_in m) n)
+  leads_is n = ⊎_elim
+      (λ (low : n < 4096). leads_low n low (get_or headers n None) refl)
+      (λ (past : 4096 ≤ n). ap is_directory (get_or_past headers n None (omega (arith, whole, past))) ∙ sym (ap is_dir (no_node_past m n past)))
+      (cases_lt n 4096)
+
+  -- a number that is there
+  low_of : (n : ℕ) (h : entry.Header) → m.header n ≡ Some h → n < 4096
+  low_of n h at = let range = (are n h at).number in let high = range.1 in omega (arith, high)
+
+  header_of : (n : ℕ) (h : entry.Header) → m.header n ≡ Some h → (hd : Header) × (get_or headers n None ≡ Some hd) × (h ≡ as_header hd)
+  header_of n h at = by (get_or headers n None) refl
+    where
+      by : (o : Option Header) → get_or headers n None ≡ o → (hd : Header) × (get_or headers n None ≡ Some hd) × (h ≡ as_header hd)
+      by None is = absurd (let both : None ≡ Some h = sym (told n (low_of n h at) ∙ ap (option_map as_header) is) ∙ at in cc)
+      by (Some hd) is = (hd, is, let both : Some h ≡ Some (as_header hd) = sym at ∙ head_told m headers told n (low_of n h at) hd is in cc)
+
+  header_in : (n : ℕ) → node (tree_in m) n ≢ None → (h : entry.Header) × (m.header n ≡ Some h)
+  header_in n there = by (m.header n) refl
+    where
+      by : (o : Option entry.Header) → m.header n ≡ o → (h : entry.Header) × (m.header n ≡ Some h)
+      by None is = absurd (there (node_at m are n ∙ ap (node_of m n) is))
+      by (Some h) is = (h, is)
+
+  dir_there : (n : ℕ) → is_dir (node (tree_in m) n) ≡ true → node (tree_in m) n ≢ None
+  dir_there n dir none = let no_ : true ≡ false = sym dir ∙ ap is_dir none in absurd (cc)
+
+  -- ---- names of a directory
+  sorted_at : (d : ℕ) → T (is_sorted byte_cmp (names_at m d))
+  sorted_at d = by (m.header d) refl
+    where
+      sorted_by : (h : entry.Header) → m.header d ≡ Some h → (k : Kind) → h.kind ≡ k → T (is_sorted byte_cmp (names_at m d))
+      sorted_by h is kind.File e = subst (λ (ms : Names). T (is_sorted byte_cmp ms)) (sym (names_other m are d h is (λ dir. let both = sym e ∙ dir in absurd (cc)))) tt
+      sorted_by h is kind.Link e = subst (λ (ms : Names). T (is_sorted byte_cmp ms)) (sym (names_other m are d h is (λ dir. let both = sym e ∙ dir in absurd (cc)))) tt
+      sorted_by h is kind.Directory e = subst (λ (ms : Names). T (is_sorted byte_cmp ms)) (sym (names_slots m are d h is e)) (sorted_names (slots m d h))
+
+      by : (o : Option entry.Header) → m.header d ≡ o → T (is_sorted byte_cmp (names_at m d))
+      by None is = subst (λ (ms : Names). T (is_sorted byte_cmp ms)) (sym (no_names m are d is)) tt
+      by (Some h) is = sorted_by h is h.kind refl
+
+  -- what gives a name is a directory
+  entry_dir : (d : ℕ) (name : List ℕ) (n : ℕ) → entry_in (tree_in m) d name ≡ Some n → is_dir (node (tree_in m) d) ≡ true
+  entry_dir d name n given = by (node (tree_in m) d) refl
+    where
+      none_of : (o : Option Node) → node (tree_in m) d ≡ o → names_of (unwrap_or o (File [])) ≡ [] → is_dir (node (tree_in m) d) ≡ true
+      none_of o is none = absurd (let both : None ≡ Some n = sym (ap (λ (x : Option Node). find byte_cmp name (names_of (unwrap_or x (File [])))) is ∙ ap (find byte_cmp name) none) ∙ given in cc)
+
+      by : (o : Option Node) → node (tree_in m) d ≡ o → is_dir (node (tree_in m) d) ≡ true
+      by None is = none_of None is refl
+      by (Some (File b)) is = none_of (Some (File b)) is refl
+      by (Some (Link text)) is = none_of (Some (Link text)) is refl
+      by (Some (Dir form ms)) is = ap is_dir is
+
+  entry_given : (d : ℕ) (name : List ℕ) (n : ℕ) → entry_in (tree_in m) d name ≡ Some n → 0 < giving (names_at m d) n
+  entry_given d name n given = found_given (names_at m d) name n (sym (ap (find byte_cmp name) (names_in_is m are d)) ∙ given)
+
+  -- ---- the tables
+  module _ (t : NameTables) (sizes : AreTables t) (named : AreNamed m headers t 4096) where
+    pub count_is : (n : ℕ) → n < 4096 → slice_index t.counts.items n ≡ capped (names (tree_in m) n)
+    count_is n low = named.counts n low ∙ ap capped (sym (names_given m are n))
+
+    up : ℕ → ℕ
+    up n = slice_index t.up.items n
+
+    -- the directory above one that is named
+    up_names : (n : ℕ) → n < 4096 → 0 < names (tree_in m) n → 0 < giving (names_at m (slice_index t.up.items n)) n
+    up_names n low some = let same = names_given m are n in named.up n low (omega (arith, some, same))
+
+    up_entry : (n : ℕ) → n < 4096 → 0 < names (tree_in m) n → (name : List ℕ) × (entry_in (tree_in m) (slice_index t.up.items n) name ≡ Some n)
+    up_entry n low some =
+        let found = given_found (names_at m (slice_index t.up.items n)) n (sorted_at (slice_index t.up.items n)) (up_names n low some) in
+        (found.0, ap (find byte_cmp found.0) (names_in_is m are (slice_index t.up.items n)) ∙ found.1)
+
+    -- ---- numbers named
+    module _ (fit : AreNamesFit headers t) where
+      fits_at : (n : ℕ) (h : entry.Header) → m.header n ≡ Some h → (hd : Header) × (h ≡ as_header hd) × FitsNames (Some hd) n (slice_index t.counts.items n)
+      fits_at n h at =
+          let is = header_of n h at in
+          (is.0, is.2, subst (λ (o : Option Header). FitsNames o n (slice_index t.counts.items n)) is.1 (fit n (low_of n h at)))
+
+      pub named_some : (n : ℕ) → n ≢ 1 → node (tree_in m) n ≢ None → 0 < names (tree_in m) n
+      named_some n other there =
+          let at = header_in n there in
+          let fits = fits_at n at.0 at.1 in
+          let some = fits.2.1 other in
+          let same = count_is n (low_of n at.0 at.1) in
+          omega (arith, some, same)
+
+      pub named_root : (h : entry.Header) → m.header 1 ≡ Some h → names (tree_in m) 1 ≡ 0
+      named_root h at =
+          let fits = fits_at 1 h at in
+          let none = fits.2.0 refl in
+          let same = count_is 1 (omega arith) in
+          omega (arith, none, same)
+
+      pub named_one : (n : ℕ) → n ≢ 1 → is_dir (node (tree_in m) n) ≡ true → names (tree_in m) n ≡ 1
+      named_one n other dir =
+          let at = header_in n (dir_there n dir) in
+          let fits = fits_at n at.0 at.1 in
+          let kind_is = sym (dir_by n at.0 at.0.kind) ∙ ap is_dir (sym (node_at m are n ∙ ap (node_of m n) at.1)) ∙ dir in
+          let one = fits.2.2 other (ap (λ (h : entry.Header). is_directory_kind h.kind) (sym fits.1) ∙ kind_is) in
+          let same = count_is n (low_of n at.0 at.1) in
+          omega (arith, one, same)
+
+    pub names_fit : AreReached m → AreNamesFit headers t
+    names_fit reached n low = by (get_or headers n None) refl
+      where
+        by : (o : Option Header) → get_or headers n None ≡ o → FitsNames (get_or headers n None) n (slice_index t.counts.items n)
+        by None is = subst (λ (o : Option Header). FitsNames o n (slice_index t.counts.items n)) (sym is) tt
+        by (Some hd) is =
+            let same = count_is n low in
+            let at = node_there n hd low is in
+            subst (λ (o : Option Header). FitsNames o n (slice_index t.counts.items n)) (sym is) (
+              λ one. (let none = ap (names (tree_in m)) one ∙ reached.root in omega (arith, same, none)),
+              λ other. (let some = reached.some n other (λ none. let both : Some (node_by m hd.kind n (as_header hd)) ≡ None = sym at ∙ none in absurd (cc)) in omega (arith, same, some)),
+              λ other dir. (let one = reached.one n other (ap is_dir at ∙ dir_by n (as_header hd) hd.kind ∙ dir) in omega (arith, same, one)),
+            )
+
+    -- ---- directories reached
+    module _ (one : (n : ℕ) → n ≢ 1 → is_dir (node (tree_in m) n) ≡ true → names (tree_in m) n ≡ 1) where
+      dir_low : (n : ℕ) → is_dir (node (tree_in m) n) ≡ true → n < 4096
+      dir_low n dir = let at = header_in n (dir_there n dir) in low_of n at.0 at.1
+
+      pub climbs_reached : {n : ℕ} → Climbs (slice_index t.up.items) n → is_dir (node (tree_in m) n) ≡ true → Reached (tree_in m) n
+      climbs_reached way.root dir = root
+      climbs_reached (way.more n rest) dir = ⊎_elim
+          (λ (here : n ≡ 1). subst (Reached (tree_in m)) (sym here) root)
+          (λ (other : n ≡ 1 → ⊥).
+          let once = one n other dir in
+          let given = up_entry n (dir_low n dir) (omega (arith, once)) in
+          below given.0 (climbs_reached rest (entry_dir (slice_index t.up.items n) given.0 n given.1)) given.1)
+          (cases_eq n 1)
+
+      same_up : (n d : ℕ) (name : List ℕ) → n ≢ 1 → is_dir (node (tree_in m) n) ≡ true → entry_in (tree_in m) d name ≡ Some n → d ≡ slice_index t.up.items n
+      same_up n d name other dir given = ⊎_elim
+          (λ (same : d ≡ slice_index t.up.items n). same)
+          (λ (apart : d ≡ slice_index t.up.items n → ⊥).
+          let once = one n other dir in
+          let first = entry_given d name n given in
+          let second = up_names n (dir_low n dir) (omega (arith, once)) in
+          let both = sum_both (λ (x : ℕ). giving (names_at m x) n) d (slice_index t.up.items n) 4096 (dir_low d (entry_dir d name n given)) (sizes.inside n) apart in
+          let all = names_given m are n in
+          absurd (omega (arith, once, first, second, both, all)))
+          (cases_eq d (slice_index t.up.items n))
+
+      pub reached_climbs : {n : ℕ} → Reached (tree_in m) n → is_dir (node (tree_in m) n) ≡ true → Climbs (slice_index t.up.items) n
+      reached_climbs root dir = way.root
+      reached_climbs (below {d} {n} name from given) dir = ⊎_elim
+          (λ (here : n ≡ 1). subst (Climbs (slice_index t.up.items)) (sym here) way.root)
+          (λ (other : n ≡ 1 → ⊥).
+          way.more n (subst (Climbs (slice_index t.up.items)) (same_up n d name other dir given) (reached_climbs from (entry_dir d name n given))))
+          (cases_eq n 1)
+
+    -- ---- the stage
+    pub reached_if_fit : (h : entry.Header) → m.header 1 ≡ Some h → AreNamesFit headers t → AllClimb headers t.up.items → AreReached m
+    reached_if_fit h at fit climb = record {
+      some = named_some fit;
+      root = named_root fit h at;
+      one = named_one fit;
+      down = λ n dir.
+          let there = header_in n (dir_there n dir) in
+          let range = (are n there.0 there.1).number in
+          climbs_reached (named_one fit) (climb n range.0 (low_of n there.0 there.1) (leads_is n ∙ dir)) dir;
+    }
+
+    pub fit_if_reached : AreReached m → AreNamesFit headers t × AllClimb headers t.up.items
+    fit_if_reached reached = (names_fit reached, λ n some low on. (let dir = sym (leads_is n) ∙ on in reached_climbs reached.one (reached.down n dir) dir))
+
+    -- ---- links
+    links_of : (n : ℕ) (hd : Header) → n < 4096 → get_or headers n None ≡ Some hd → hd.links ≤ 1000 → (k : Kind) → hd.kind ≡ k
+        → (hd.links ≡ cond (is_directory_kind hd.kind) (2 + slice_index t.below.items n) (slice_index t.counts.items n)) ↔ (hd.links ≡ links (tree_in m) n)
+    links_of n hd low is few kind.File e =
+        let same = count_is n low in
+        let tree = ap (links_at (tree_in m) n) (node_there n hd low is ∙ ap (λ (k : Kind). Some (node_by m k n (as_header hd))) e) in
+        let test = ap {B = ℕ} (λ (k : Kind). cond (is_directory_kind k) (2 + slice_index t.below.items n) (slice_index t.counts.items n)) e in
+        (λ l. omega (arith, l, same, tree, test, few), λ l. omega (arith, l, same, tree, test, few))
+    links_of n hd low is few kind.Link e =
+        let same = count_is n low in
+        let tree = ap (links_at (tree_in m) n) (node_there n hd low is ∙ ap (λ (k : Kind). Some (node_by m k n (as_header hd))) e) in
+        let test = ap {B = ℕ} (λ (k : Kind). cond (is_directory_kind k) (2 + slice_index t.below.items n) (slice_index t.counts.items n)) e in
+        (λ l. omega (arith, l, same, tree, test, few), λ l. omega (arith, l, same, tree, test, few))
+    links_of n hd low is few kind.Directory e =
+        let own = names_directory m are n (as_header hd) (head_told m headers told n low hd is) e in
+        let same = named.below n low in
+        let counted = count_same (leads headers) (λ (v : ℕ). is_dir (node (tree_in m) v)) leads_is (names_at m n) in
+        let moved = ap (λ (ms : Names). count_by (λ x. is_dir (node (tree_in m) x.1)) ms) own in
+        let tree = ap (links_at (tree_in m) n) (node_there n hd low is ∙ ap (λ (k : Kind). Some (node_by m k n (as_header hd))) e) in
+        let test = ap {B = ℕ} (λ (k : Kind). cond (is_directory_kind k) (2 + slice_index t.below.items n) (slice_index t.counts.items n)) e in
+        (λ l. omega (arith, l, same, counted, moved, tree, test, few), λ l. omega (arith, l, same, counted, moved, tree, test, few))
+
+    few_links : (n : ℕ) (hd : Header) → n < 4096 → get_or headers n None ≡ Some hd → hd.links ≤ 1000
+    few_links n hd low is = (are n (as_header hd) (head_told m headers told n low hd is)).links.1
+
+    pub links_if_fit : AreLinksFit headers t → AreLinks m
+    links_if_fit fit n h at =
+        let is = header_of n h at in
+        let low = low_of n h at in
+        let fits = subst (λ (o : Option Header). FitsLinks o (slice_index t.counts.items n) (slice_index t.below.items n)) is.1 (fit n low) in
+        ap (λ (x : entry.Header). x.links) is.2 ∙ (links_of n is.0 low is.1 (few_links n is.0 low is.1) is.0.kind refl).0 fits
+
+    pub fit_if_links : AreLinks m → AreLinksFit headers t
+    fit_if_links all n low = by (get_or headers n None) refl
+      where
+        by : (o : Option Header) → get_or headers n None ≡ o → FitsLinks (get_or headers n None) (slice_index t.counts.items n) (slice_index t.below.items n)
+        by None is = subst (λ (o : Option Header). FitsLinks o (slice_index t.counts.items n) (slice_index t.below.items n)) (sym is) tt
+        by (Some hd) is =
+            subst (λ (o : Option Header). FitsLinks o (slice_index t.counts.items n) (slice_index t.below.items n)) (sym is)
+            ((links_of n hd low is (few_links n hd low is) hd.kind refl).1 (all n (as_header hd) (head_told m headers told n low hd is)))

@@ -1,0 +1,52 @@
+//! Stage 13: each inode's links are those of the tree. Stage 14: the tree's need is within the limit.
+ghost use Rattle.std.specs.Prelude.{◌≡◌, ◌<◌, ◌≤◌, ◌↔◌, length, IsTrue};
+ghost use Rattle.lfs_tree.specs.Linking.{AreLinksFit, FitsLinks, FitsRoom};
+ghost use Rattle.lfs_tree.specs.Naming.{AreTables};
+
+use crate::headers::NUMBERS;
+use crate::slots::is_directory;
+use crate::tables::NameTables;
+use lfs_files::Header;
+
+/// The need of a tree without nodes, what a block other than of data adds to it, and how much need a segment has room for.
+const LEAST_NEED: u64 = 720;
+
+const NEED_OF_OTHER: u64 = 7;
+
+const NEED_OF_SEGMENT: u64 = 47;
+
+/// Whether an inode has as many links as names, or, of a directory, 2 and one for each directory in it.
+fn has_links(found: Option<Header>, count: u16, below: u16) -> bool
+    ensures { IsTrue result ↔ FitsLinks found count below }
+{
+    let Some(header) = found else {
+        return true;
+    };
+    if is_directory(header) {
+        return header.links == 2 + u32::from(below);
+    }
+    header.links == u32::from(count)
+}
+
+/// Whether all inodes' links are those of the tree: false where the stage fails.
+pub fn stage_links(headers: &[Option<Header>], tables: &NameTables) -> bool
+    requires whole { length headers.now ≡ 4096 }
+    requires sizes { AreTables tables.now }
+    ensures { IsTrue result ↔ AreLinksFit headers.now tables.now }
+{
+    for number in 0..NUMBERS {
+        let place = number as usize;
+        if !has_links(headers[place], tables.counts[place], tables.below[place]) {
+            return false;
+        }
+    }
+    true
+}
+
+/// Whether so many segments have room for a tree of so many blocks of data and others: false where the stage fails.
+pub fn stage_room(data_blocks: u32, meta_blocks: u32, segments: u32) -> bool
+    ensures { IsTrue result ↔ FitsRoom data_blocks meta_blocks segments }
+{
+    let need = u64::from(data_blocks) + NEED_OF_OTHER * u64::from(meta_blocks) + LEAST_NEED;
+    need <= NEED_OF_SEGMENT * u64::from(segments)
+}
