@@ -9,3 +9,5 @@ pub mod LinkTexts
 pub mod Climbing
 pub mod TreeNames
 pub mod ReachStages
+pub mod TreeStages
+pub mod CheckSteps

@@ -4,3 +4,4 @@ pub mod Objects
 pub mod Texts
 pub mod Reaching
 pub mod Linking
+pub mod Checking

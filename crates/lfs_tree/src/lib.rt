@@ -1,6 +1,7 @@
 //! The tree of a volume's log map, checked stage by stage. It only reads.
 #![tactic(auto)]
 
+mod check;
 mod directories;
 pub mod fault;
 pub mod headers;
@@ -12,4 +13,5 @@ mod slots;
 pub mod tables;
 pub mod texts;
 
+pub use check::check_tree;
 pub use fault::CheckFault;

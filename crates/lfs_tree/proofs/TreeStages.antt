@@ -1,0 +1,149 @@
+-- The stages of a tree by number, and the room that it needs.
+use Rattle.std.proofs.Common.{◌≡◌, ◌<◌, ◌≤◌, ◌+◌, ◌*◌, ◌%◌, ◌/◌, ◌==◌, nat_le, nat_lt, true, false, Bool, ℕ, zero, suc, List, [], length, Option, Some, None, refl, sym, ◌∙◌, ap, subst, arith, ⊎_elim}
+use Rattle.std.specs.Prelude.{sum_by}
+use Rattle.std.proofs.lemmas.Bool.{and_parts, eqb-true, ltb-true}
+use Rattle.std.proofs.lemmas.Bool.Decides.{nat_tests}
+use Rattle.lfs_model.specs.declared.Kind.{Kind}
+use Rattle.lfs_model.specs.declared.Kind.TheVariants as kind
+use Rattle.lfs_model.specs.Checkpoint.{CheckpointValue}
+use Rattle.lfs_model.specs.Content.{Content, block}
+use Rattle.lfs_model.specs.Damage.{IsDamaged, stage}
+use Rattle.lfs_model.specs.Decodes.{IsSized}
+use Rattle.lfs_model.specs.Encodes.{Encodes, HasData, IsLogMap}
+use Rattle.lfs_model.specs.Entry.{Data, Header}
+use Rattle.lfs_model.specs.Inode.{is_size}
+use Rattle.lfs_model.specs.Need.{data_blocks, data_of, meta_blocks, meta_of, need, pointers}
+use Rattle.lfs_model.specs.Objects.{AreLong, HasCosts, IsDirectory, is_stored, stored_below, stored_blocks}
+use Rattle.lfs_model.specs.Reach.{View, address, view}
+use Rattle.lfs_model.specs.Stands.{LogMap, Stages, StandsAt, log_in}
+use Rattle.lfs_model.specs.Totals.{IsCounted, data_of_file, meta_of_file, sum_upto}
+use Rattle.lfs_model.specs.Tree.{Node, slot_len}
+use Rattle.lfs_model.specs.TreeOf.{AreFormed, HasRoom, node_by, node_of, tree_in}
+use Rattle.lfs_model.proofs.Decodes.{decoding}
+use Rattle.lfs_model.proofs.ObjectNeeds.{filter_none, object_costs}
+use Rattle.lfs_model.proofs.Standing.{headers_are}
+use Rattle.lfs_verify.specs.Codes.{HoldsBelow}
+use Rattle.lfs_verify.proofs.CodeSteps.{below_1, below_next, stage_1, stage_2, stage_3, stage_4, stage_5, stage_6, stage_7, stage_8, stage_9}
+use Rattle.lfs_tree.specs.Checking.{IsTreeDamage, links_fail, reached_fail, room_fail, slots_fail, texts_fail}
+use Rattle.lfs_tree.specs.Linking.{FitsRoom}
+use Rattle.lfs_tree.specs.Objects.{sum_below}
+use Rattle.lfs_tree.proofs.Named.{sum_more, sum_none}
+use Rattle.lfs_tree.proofs.TreeNames.{tree_sum}
+
+-- ---- stages by number
+below_10 : (v : View) → Stages v → HoldsBelow v 10
+below_10 v s =
+    below_next v 9 (below_next v 8 (below_next v 7 (below_next v 6 (below_next v 5 (below_next v 4 (below_next v 3 (below_next v 2 (below_next v 1 (below_1 v)
+    ((stage_1 v).1 s.usages)) ((stage_2 v).1 s.rows)) ((stage_3 v).1 s.maps)) ((stage_4 v).1 s.inodes)) (stage_5 v s.roots)) (stage_6 v s.leaves))
+    ((stage_7 v).1 s.blocks)) ((stage_8 v).1 s.named)) ((stage_9 v).1 s.counted)
+
+-- damage of the tree is damage of the volume, where the stages of its log hold
+pub damage_of_tree : (v : View) (code : ℕ) → Stages v → IsTreeDamage v.checkpoint.segments (log_in v) code → (10 ≤ code) × (code ≤ 14) × IsDamaged v code
+unfolding stage
+damage_of_tree v code s (slots_fail is fails) =
+    (omega (arith, is), omega (arith, is), subst (IsDamaged v) (sym is) (below_10 v s, fails))
+damage_of_tree v code s (texts_fail is slots fails) =
+    (omega (arith, is), omega (arith, is), subst (IsDamaged v) (sym is) (below_next v 10 (below_10 v s) slots, fails))
+damage_of_tree v code s (reached_fail is slots texts fails) =
+    (omega (arith, is), omega (arith, is), subst (IsDamaged v) (sym is) (below_next v 11 (below_next v 10 (below_10 v s) slots) texts, fails))
+damage_of_tree v code s (links_fail is slots texts reached fails) =
+    (omega (arith, is), omega (arith, is), subst (IsDamaged v) (sym is) (below_next v 12 (below_next v 11 (below_next v 10 (below_10 v s) slots) texts) reached, fails))
+damage_of_tree v code s (room_fail is slots texts reached links fails) =
+    (omega (arith, is), omega (arith, is), subst (IsDamaged v) (sym is) (below_next v 13 (below_next v 12 (below_next v 11 (below_next v 10 (below_10 v s) slots) texts) reached) links, fails))
+
+-- ---- the log map of a content
+pub same_log : (c : Content) (k : CheckpointValue) (m : LogMap) → StandsAt c k m → m ≡ log_in (view c k)
+same_log c k m st i = record { header = λ n. st.header n i; block = λ n j. st.block n j i }
+
+-- ---- sums
+sum_upto_none : (f : ℕ → ℕ) → sum_upto f 0 ≡ 0
+unfolding sum_upto
+sum_upto_none f = refl
+
+sum_upto_more : (f : ℕ → ℕ) (n : ℕ) → sum_upto f (suc n) ≡ sum_upto f n + f (suc n)
+unfolding sum_upto
+sum_upto_more f n = refl
+
+sums_same : (f g : ℕ → ℕ) → f 0 ≡ 0 → ((n : ℕ) → f (suc n) ≡ g (suc n)) → (n : ℕ) → sum_below f (suc n) ≡ sum_upto g n
+unfolding sum_below
+sums_same f g none same zero = let e = sum_upto_none g in omega (arith, e, none)
+sums_same f g none same (suc n) =
+    let rest = sums_same f g none same n in
+    let more = sum_upto_more g n in
+    let own = same n in
+    omega (arith, rest, more, own)
+
+-- ---- the need
+module _ (c : Content) (k : CheckpointValue) (m : LogMap) (sized : IsSized c) (st : StandsAt c k m) (formed : AreFormed m) where
+  map_is : IsLogMap m
+  map_is = (decoding c k m sized st).0
+
+  encodes : Encodes c k (address c k) m
+  encodes = (decoding c k m sized st).1
+
+  long : (n : ℕ) → AreLong m n
+  long n i has = ap length (st.block n i) ∙ encodes.long (Data n i) (encodes.stored (Data n i) has)
+
+  whole_slots : (h : Header) → is_size h.form h.kind h.size ≡ true → (k : Kind) → h.kind ≡ k → k ≡ kind.Directory → h.size % slot_len h.form ≡ 0
+  unfolding is_size
+  whole_slots h size kind.File e dir = absurd (cc)
+  whole_slots h size kind.Link e dir = absurd (cc)
+  whole_slots h size kind.Directory e dir =
+      let own : is_size h.form kind.Directory h.size ≡ true = ap (λ (x : Kind). is_size h.form x h.size) (sym e) ∙ size in
+      eqb-true (h.size % slot_len h.form) 0 (and_parts (h.size % slot_len h.form == 0) (nat_le h.size (1024 * slot_len h.form)) own).0
+
+  directory : (n : ℕ) (h : Header) → m.header n ≡ Some h → h.kind ≡ kind.Directory → IsDirectory m n h
+  directory n h at dir =
+      let own = formed n h at dir in
+      record { whole = whole_slots h (headers_are c k m st n h at).size h.kind refl dir; formed = own.0; apart = own.1 }
+
+  costs : (n : ℕ) (h : Header) → m.header n ≡ Some h → HasCosts (node_by m h.kind n h) (stored_blocks m n)
+  costs n h at = object_costs m n h map_is (long n) at (directory n h at)
+
+  not_stored : (n : ℕ) → m.header n ≡ None → (i : ℕ) → is_stored m n i ≡ false
+  not_stored n none i = by (is_stored m n i) refl
+    where
+      by : (b : Bool) → is_stored m n i ≡ b → b ≡ false
+      by false e = refl
+      by true e =
+          let at = map_is.within n i (ltb-true 0 (length (m.block n i)) e) in
+          let both : Some at.0 ≡ None = sym at.1 ∙ none in
+          absurd (cc)
+
+  stored_none : (n : ℕ) → m.header n ≡ None → length (stored_blocks m n) ≡ 0
+  unfolding stored_below
+  stored_none n none = ap length (filter_none (is_stored m n) 0 16624 (λ i low. not_stored n none i))
+
+  data_each : (n : ℕ) (o : Option Header) → m.header n ≡ o → elim (node_of m n o) [ None ↦ 0 | Some x ↦ data_of x ] ≡ data_of_file m n
+  data_each n None at = sym (stored_none n at)
+  data_each n (Some h) at = (costs n h at).blocks
+
+  meta_each : (n : ℕ) (o : Option Header) → m.header n ≡ o → elim (node_of m n o) [ None ↦ 0 | Some x ↦ meta_of x ] ≡ meta_of_file m n
+  meta_each n None at = sym (ap (λ (o : Option Header). elim o [ None ↦ 0 | Some h ↦ 1 + pointers (stored_blocks m n) ]) at)
+  meta_each n (Some h) at = (costs n h at).above ∙ sym (ap (λ (o : Option Header). elim o [ None ↦ 0 | Some h ↦ 1 + pointers (stored_blocks m n) ]) at)
+
+  nobody : m.header 0 ≡ None
+  nobody = by (m.header 0) refl
+    where
+      by : (o : Option Header) → m.header 0 ≡ o → o ≡ None
+      by None e = refl
+      by (Some h) e = absurd (map_is.none h e)
+
+  sum_of : (f : Node → ℕ) (g : ℕ → ℕ) → ((n : ℕ) → elim (node_of m n (m.header n)) [ None ↦ 0 | Some x ↦ f x ] ≡ g n)
+      → sum_below (λ n. elim (node_of m n (m.header n)) [ None ↦ 0 | Some x ↦ f x ]) 4096 ≡ sum_upto g 4095
+  sum_of f g each =
+      sums_same (λ n. elim (node_of m n (m.header n)) [ None ↦ 0 | Some x ↦ f x ]) g
+      (ap (λ (o : Option Header). elim (node_of m 0 o) [ None ↦ 0 | Some x ↦ f x ]) nobody) (λ n. each (suc n)) 4095
+
+  total_of : (f : Node → ℕ) → sum_by (λ (e : ℕ × Node). f e.1) (tree_in m) ≡ sum_below (λ n. elim (node_of m n (m.header n)) [ None ↦ 0 | Some x ↦ f x ]) 4096
+  total_of f =
+      tree_sum m f (λ n. elim (node_of m n (m.header n)) [ None ↦ 0 | Some x ↦ f x ]) (λ n. refl)
+      (ap (λ (o : Option Header). elim (node_of m 0 o) [ None ↦ 0 | Some x ↦ f x ]) nobody)
+
+  pub need_is : (blocks others : ℕ) → IsCounted m blocks others → need (tree_in m) ≡ blocks + 7 * others + 720
+  need_is blocks others counted =
+      let data_is : data_blocks (tree_in m) ≡ sum_upto (data_of_file m) 4095 = total_of data_of ∙ sum_of data_of (data_of_file m) (λ n. data_each n (m.header n) refl) in
+      let meta : meta_blocks (tree_in m) ≡ sum_upto (meta_of_file m) 4095 = total_of meta_of ∙ sum_of meta_of (meta_of_file m) (λ n. meta_each n (m.header n) refl) in
+      let stored = counted.stored in
+      let above = counted.above in
+      omega (arith, data_is, meta, stored, above)

@@ -1,0 +1,58 @@
+-- What a check of a log map's tree says, and why it refuses one.
+-- All of it is an own choice.
+use Rattle.std.specs.Prelude.{◌≡◌, ◌<◌, ◌≤◌, ℕ, List, Option}
+use Rattle.lfs_model.specs.Checkpoint.{CheckpointValue}
+use Rattle.lfs_model.specs.Content.{Content}
+use Rattle.lfs_model.specs.Decodes.{IsSized}
+use Rattle.lfs_model.specs.Device.{DeviceState}
+use Rattle.lfs_model.specs.Stands.{LogMap, StandsAt}
+use Rattle.lfs_model.specs.Totals.{IsCounted}
+use Rattle.lfs_model.specs.TreeOf.{AreLinks, AreReached, AreSlots, AreTexts, HasRoom}
+use Rattle.lfs_files.specs.declared.header.Header.{Header}
+use Rattle.lfs_verify.specs.declared.fault.MountFault.{MountFault}
+use Rattle.lfs_verify.specs.declared.fault.MountFault.TheVariants.{NoMemory, Device, TooSmall, NoCheckpoint, Damaged}
+use Rattle.lfs_verify.specs.declared.tables.Tables.{Tables}
+use Rattle.lfs_verify.specs.Verified.{IsDamagedIn}
+use Rattle.lfs_tree.specs.declared.tables.NameTables.{NameTables}
+use Rattle.lfs_tree.specs.Objects.{AreNamed}
+use Rattle.lfs_tree.specs.Reading.{Leads, TellsHeaders}
+
+-- the tables of a volume are those of a log map
+pub record IsOfLog (c : Content) (k : CheckpointValue) (m : LogMap) (t : Tables) : Type 0 where
+  pub leads : Leads c k t.map
+  pub segments : k.segments ≡ t.segments
+  pub counted : IsCounted m t.data_blocks t.meta_blocks
+
+-- The first of the tree's stages that fails, by its code.
+pub data IsTreeDamage (N : ℕ) (m : LogMap) (code : ℕ) : Type 0 where
+  slots_fail : code ≡ 10 → (AreSlots m → ⊥) → IsTreeDamage N m code
+  texts_fail : code ≡ 11 → AreSlots m → (AreTexts m → ⊥) → IsTreeDamage N m code
+  reached_fail : code ≡ 12 → AreSlots m → AreTexts m → (AreReached m → ⊥) → IsTreeDamage N m code
+  links_fail : code ≡ 13 → AreSlots m → AreTexts m → AreReached m → (AreLinks m → ⊥) → IsTreeDamage N m code
+  room_fail : code ≡ 14 → AreSlots m → AreTexts m → AreReached m → AreLinks m → (HasRoom m N → ⊥) → IsTreeDamage N m code
+
+-- What a fault says: that a call of the device failed, or that there is such damage. No others come.
+abbrev pub IsFaultOf : Type 0 → (ℕ → Type 0) → MountFault → Type 0
+IsFaultOf failed damage NoMemory = Unit {0}
+IsFaultOf failed damage Device = failed
+IsFaultOf failed damage TooSmall = ⊥
+IsFaultOf failed damage NoCheckpoint = ⊥
+IsFaultOf failed damage (Damaged code) = damage code
+
+-- all that the stages of names look at is in tables, and the stages before hold
+pub record IsGathered (c : Content) (k : CheckpointValue) (m : LogMap) (headers : List (Option Header)) (names : NameTables) (t : Tables) : Type 0 where
+  pub stands : StandsAt c k m
+  pub sized : IsSized c
+  pub told : TellsHeaders m headers 4096
+  pub named : AreNamed m headers names 4096
+  pub slots : AreSlots m
+  pub texts : AreTexts m
+  pub of_log : IsOfLog c k m t
+
+-- a stage of the tree, of this number, is the first that fails
+abbrev pub IsDamagedTree : Content → ℕ → Type 0
+IsDamagedTree c code = (10 ≤ code) × (code ≤ 14) × IsDamagedIn c code
+
+-- why a tree is refused, by fault
+abbrev pub IsRefusedTree : DeviceState → DeviceState → MountFault → Type 0
+IsRefusedTree old new = IsFaultOf (old.failures < new.failures) (IsDamagedTree old.content)

@@ -1,0 +1,180 @@
+//! The stages of a tree in order, with the number of the first that fails.
+ghost use Rattle.std.specs.Prelude.{◌≡◌, ◌<◌, ℕ, length, OnOk, IfOk, IfErr};
+ghost use Rattle.lfs_model.specs.Checkpoint.{CheckpointValue};
+ghost use Rattle.lfs_model.specs.Content.{Content};
+ghost use Rattle.lfs_model.specs.Stands.{LogMap};
+ghost use Rattle.lfs_model.specs.TreeOf.{AreSlots, AreTexts, IsTree, TreeOf, tree_in};
+ghost use Rattle.lfs_verify.specs.Loading.{HasTables};
+ghost use Rattle.lfs_verify.specs.Take.{Looks};
+ghost use Rattle.lfs_tree.specs.Checking.{IsFaultOf, IsGathered, IsOfLog, IsRefusedTree, IsTreeDamage};
+ghost use Rattle.lfs_tree.specs.Naming.{AreEmpty, AreTables};
+ghost use Rattle.lfs_tree.specs.Objects.{AreNamed};
+ghost use Rattle.lfs_tree.specs.Reading.{Leads, Sees, TellsHeaders};
+
+use crate::fault::CheckFault;
+use crate::headers::{NUMBERS, read_headers};
+use crate::links::{stage_links, stage_room};
+use crate::reached::stage_reached;
+use crate::slot_stage::stage_slots;
+use crate::tables::NameTables;
+use crate::texts::stage_texts;
+use lfs_device::SectorDevice;
+use lfs_files::Header;
+use lfs_inodes::InodeMap;
+use lfs_verify::{MountFault, Tables};
+use std::alloc::{AllocError, Global};
+
+/// The codes of damage of the tree's stages.
+const SLOTS: u8 = 10;
+
+const TEXTS: u8 = 11;
+
+const REACHED: u8 = 12;
+
+const LINKS: u8 = 13;
+
+const ROOM: u8 = 14;
+
+/// Stages 10 and 11, which go through directories and links.
+///
+/// # Errors
+///
+/// `NoMemory` where memory runs out, `Device` where a block can't be read, `Damaged` with the first stage that fails.
+fn check_objects<D: SectorDevice>(
+    alloc: Global,
+    device: &mut D,
+    map: &InodeMap,
+    headers: &[Option<Header>],
+    names: &mut NameTables,
+) -> Result<(), MountFault>
+    requires whole { length headers.now ≡ 4096 }
+    requires sizes { AreTables names.old }
+    ensures done { OnOk result ((k : CheckpointValue) (m : LogMap) → Sees (D.state device.old) (D.state device.new) k m
+        → Leads (D.state device.old).content k map.now → TellsHeaders m headers.now 4096 → AreEmpty names.old
+        → AreSlots m × AreTexts m × AreNamed m headers.now names.new 4096) }
+    ensures reason { IfErr result (λ e. (k : CheckpointValue) (m : LogMap) → Sees (D.state device.old) (D.state device.new) k m
+        → Leads (D.state device.old).content k map.now → TellsHeaders m headers.now 4096 → AreEmpty names.old
+        → IsFaultOf ((D.state device.old).failures < (D.state device.new).failures) (IsTreeDamage k.segments m) e) }
+    ensures sizes { AreTables names.new }
+    ensures looks { Looks (D.state device.old) (D.state device.new) }
+{
+    match stage_slots(alloc, device, map, headers, names) {
+        Ok(true) => {}
+        Ok(false) => return Err(MountFault::Damaged(SLOTS)),
+        Err(CheckFault::NoMemory) => return Err(MountFault::NoMemory),
+        Err(CheckFault::Device) => return Err(MountFault::Device),
+    }
+    match stage_texts(device, map, headers) {
+        Ok(true) => Ok(()),
+        Ok(false) => Err(MountFault::Damaged(TEXTS)),
+        Err(_) => Err(MountFault::Device),
+    }
+}
+
+/// Stages 12 to 14, which look at tables, where the stages before hold.
+///
+/// # Errors
+///
+/// `NoMemory` where memory runs out, `Damaged` with the first stage that fails.
+fn check_names(
+    alloc: Global,
+    tables: &Tables,
+    headers: &[Option<Header>],
+    names: &NameTables,
+) -> Result<(), MountFault>
+    requires whole { length headers.now ≡ 4096 }
+    requires sizes { AreTables names.now }
+    ensures done { OnOk result ((c : Content) (k : CheckpointValue) (m : LogMap) → IsGathered c k m headers.now names.now tables.now → IsTree k.segments m) }
+    ensures reason { IfErr result (λ e. (c : Content) (k : CheckpointValue) (m : LogMap) → IsGathered c k m headers.now names.now tables.now
+        → IsFaultOf ⊥ (IsTreeDamage k.segments m) e) }
+{
+    match stage_reached(alloc, headers, names) {
+        Ok(true) => {}
+        Ok(false) => return Err(MountFault::Damaged(REACHED)),
+        Err(_) => return Err(MountFault::NoMemory),
+    }
+    if !stage_links(headers, names) {
+        return Err(MountFault::Damaged(LINKS));
+    }
+    if !stage_room(tables.data_blocks, tables.meta_blocks, tables.segments) {
+        return Err(MountFault::Damaged(ROOM));
+    }
+    Ok(())
+}
+
+/// All five stages, with tables that are empty.
+///
+/// # Errors
+///
+/// As those of `check_tree`.
+fn check_stages<D: SectorDevice>(
+    alloc: Global,
+    device: &mut D,
+    tables: &Tables,
+    headers: &mut [Option<Header>],
+    names: &mut NameTables,
+) -> Result<(), MountFault>
+    requires whole { length headers.old ≡ 4096 }
+    requires sizes { AreTables names.old }
+    ensures done { OnOk result ((k : CheckpointValue) (m : LogMap) → Sees (D.state device.old) (D.state device.new) k m
+        → IsOfLog (D.state device.old).content k m tables.now → AreEmpty names.old → IsTree k.segments m) }
+    ensures reason { IfErr result (λ e. (k : CheckpointValue) (m : LogMap) → Sees (D.state device.old) (D.state device.new) k m
+        → IsOfLog (D.state device.old).content k m tables.now → AreEmpty names.old
+        → IsFaultOf ((D.state device.old).failures < (D.state device.new).failures) (IsTreeDamage k.segments m) e) }
+    ensures looks { Looks (D.state device.old) (D.state device.new) }
+{
+    match read_headers(device, &tables.map, headers) {
+        Ok(()) => {}
+        Err(_) => return Err(MountFault::Device),
+    }
+    match check_objects(alloc, device, &tables.map, headers, names) {
+        Ok(()) => {}
+        Err(fault) => return Err(fault),
+    }
+    match check_names(alloc, tables, headers, names) {
+        Ok(()) => Ok(()),
+        Err(fault) => Err(fault),
+    }
+}
+
+/// A table of no headers.
+///
+/// # Errors
+///
+/// Where memory runs out.
+fn no_headers(alloc: Global) -> Result<Vec<Option<Header>>, AllocError>
+    ensures { IfOk result (λ v. length v.items ≡ 4096) }
+{
+    let headers = Vec::from_elem(alloc, None, NUMBERS as usize)?;
+    Ok(headers)
+}
+
+/// Checks the tree of the log map to which the tables of a volume lead: its stages in order, each inode read once for all headers, and
+/// once more with the blocks of a directory or a link. It writes nothing.
+///
+/// # Errors
+///
+/// `NoMemory` where memory is refused, `Device` where a call of the device failed or what the walk over the log read can't be
+/// read any more, `Damaged` with the first of the stages 10 to 14 that fails.
+pub fn check_tree<D: SectorDevice>(
+    alloc: Global,
+    device: &mut D,
+    tables: &Tables,
+) -> Result<(), MountFault>
+    ensures tree { OnOk result ((D.state device.new).keeps_model → (has : HasTables (D.state device.old).content tables.now)
+        → TreeOf has.checkpoint.segments has.log (tree_in has.log)) }
+    ensures reason { IfErr result (λ e. (D.state device.new).keeps_model → HasTables (D.state device.old).content tables.now
+        → IsRefusedTree (D.state device.old) (D.state device.new) e) }
+    ensures looks { Looks (D.state device.old) (D.state device.new) }
+{
+    let Ok(mut headers) = no_headers(alloc) else {
+        return Err(MountFault::NoMemory);
+    };
+    let Ok(mut names) = NameTables::new(alloc) else {
+        return Err(MountFault::NoMemory);
+    };
+    match check_stages(alloc, device, tables, &mut headers, &mut names) {
+        Ok(()) => Ok(()),
+        Err(fault) => Err(fault),
+    }
+}
