@@ -1,14 +1,13 @@
 -- Going up from one number after the other, with marks.
 use Rattle.std.specs.Prelude.{◌==◌, nat_eq, not}
-use Rattle.std.proofs.Common.{◌≡◌, ◌≢◌, ◌<◌, ◌≤◌, ◌⊎◌, inl, inr, ⊎_elim, ◌+◌, cond, true, false, Bool, eqb, ℕ, zero, suc, List, length, get_or, set, Option, refl, sym, ◌∙◌, ap, subst, arith, slice_index}
-use Rattle.std.proofs.lemmas.Bool.{cases_eq, cases_lt}
+use Rattle.std.proofs.Common.{◌≡◌, ◌≢◌, ◌<◌, ◌≤◌, ◌⊎◌, inl, inr, ⊎_elim, ◌+◌, cond, true, false, Bool, eqb, ℕ, zero, suc, List, length, set, Option, refl, sym, ◌∙◌, ap, subst, arith, slice_index}
+use Rattle.std.proofs.lemmas.Bool.{cases_eq}
 use Rattle.std.proofs.lemmas.Bool.Decides.{nat_tests}
 use Rattle.std.proofs.lemmas.List.{get_or-set_other, get_or-set_same}
 use Rattle.lfs_tree.specs.Objects.{sum_below}
 use Rattle.lfs_files.specs.declared.header.Header.{Header}
 use Rattle.lfs_tree.specs.Naming.{leads}
 use Rattle.lfs_tree.specs.Reaching.{Climbs, Marked, MarksDirectory, MarksUp, more, root}
-use Rattle.lfs_tree.proofs.Named.{sum_more, sum_none}
 
 -- ---- how many have no mark yet
 abbrev pub unmarked : List ℕ → ℕ → ℕ

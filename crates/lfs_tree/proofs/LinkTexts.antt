@@ -1,6 +1,6 @@
 -- The texts of links, by their blocks, and in the tree.
 use Rattle.std.specs.Prelude.{min}
-use Rattle.std.proofs.Common.{◌≡◌, ◌≢◌, ◌<◌, ◌≤◌, ⊎_elim, ◌+◌, ◌-◌, ◌*◌, ◌/◌, ◌%◌, ℕ, true, false, Bool, List, length, get_or, Option, Some, None, refl, sym, ◌∙◌, ap, subst, arith, slice_index}
+use Rattle.std.proofs.Common.{◌≡◌, ◌≢◌, ◌<◌, ◌≤◌, ⊎_elim, ◌+◌, ◌-◌, ◌*◌, ℕ, true, false, Bool, List, get_or, Option, Some, None, refl, sym, ◌∙◌, ap, subst, arith, slice_index}
 use Rattle.std.proofs.lemmas.Bool.{cases_lt}
 use Rattle.std.specs.List.{AllByRecursion}
 use Rattle.std.specs.Option.{option_map}
@@ -9,7 +9,7 @@ use Rattle.lfs_model.specs.declared.Kind.TheVariants as kind
 use Rattle.lfs_model.specs.Entry as entry
 use Rattle.lfs_model.specs.Objects.{byte_in}
 use Rattle.lfs_model.specs.Stands.{LogMap}
-use Rattle.lfs_model.specs.Tree.{Link, Node, node}
+use Rattle.lfs_model.specs.Tree.{Link, node}
 use Rattle.lfs_model.specs.TreeOf.{AreTexts, node_by, node_of, object, tree_in}
 use Rattle.lfs_model.proofs.ObjectBytes.{object_byte}
 use Rattle.lfs_model.proofs.ObjectNeeds.{block_byte}

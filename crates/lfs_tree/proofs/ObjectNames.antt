@@ -1,6 +1,6 @@
 -- The names of a log map's objects, and those in its tree.
 use Rattle.std.specs.Prelude.{unwrap_or}
-use Rattle.std.proofs.Common.{◌≡◌, ◌≢◌, ◌<◌, ◌≤◌, ⊎_elim, ◌+◌, ℕ, zero, suc, true, false, Bool, List, [], ◌∷◌, length, get_or, Option, Some, None, refl, sym, ◌∙◌, ap, subst, arith}
+use Rattle.std.proofs.Common.{◌≡◌, ◌≢◌, ◌<◌, ◌≤◌, ⊎_elim, ℕ, zero, suc, true, false, Bool, List, [], ◌∷◌, length, get_or, Option, Some, None, refl, sym, ◌∙◌, ap, subst, arith}
 use Rattle.std.proofs.lemmas.Bool.{cases_lt}
 use Rattle.std.specs.List.{AllByRecursion}
 use Rattle.std.specs.FinMap.{find}
@@ -17,10 +17,10 @@ use Rattle.lfs_model.proofs.Standing.{IsHeader}
 use Rattle.lfs_model.proofs.Volume.{no_node_0, no_node_past, node_in}
 use Rattle.lfs_files.specs.declared.header.Header.{Header}
 use Rattle.lfs_files.specs.Headers.{as_header}
-use Rattle.lfs_dirs.specs.Directory.{IsSlotAt, slots_at}
+use Rattle.lfs_dirs.specs.Directory.{slots_at}
 use Rattle.lfs_dirs.proofs.SlotsGive.{slot_gives}
 use Rattle.lfs_tree.specs.declared.tables.NameTables.{NameTables}
-use Rattle.lfs_tree.specs.Naming.{AreGoodSlots, Base, IsGoodSlot, IsNoted, TakesNames, is_directory, is_directory_kind}
+use Rattle.lfs_tree.specs.Naming.{AreGoodSlots, Base, IsGoodSlot, IsNoted, TakesNames, is_directory_kind}
 use Rattle.lfs_tree.specs.Objects.{IsGoodObject, TakesObject, names_at}
 use Rattle.lfs_tree.specs.Reading.{TellsHeaders}
 

@@ -1,6 +1,6 @@
 -- What the tables say of the tree: numbers that are named, directories that are reached, and links.
 use Rattle.std.specs.Prelude.{T, count_by, unwrap_or}
-use Rattle.std.proofs.Common.{◌≡◌, ◌≢◌, ◌<◌, ◌≤◌, ◌↔◌, ⊎_elim, ◌+◌, cond, true, false, Bool, ℕ, zero, suc, List, [], ◌∷◌, length, get_or, Option, Some, None, refl, sym, ◌∙◌, ap, subst, arith, slice_index}
+use Rattle.std.proofs.Common.{◌≡◌, ◌≢◌, ◌<◌, ◌≤◌, ◌↔◌, ⊎_elim, ◌+◌, cond, true, false, Bool, ℕ, List, [], ◌∷◌, length, get_or, Option, Some, None, refl, sym, ◌∙◌, ap, subst, arith, slice_index}
 use Rattle.std.proofs.lemmas.Bool.{cases_eq, cases_lt}
 use Rattle.std.proofs.lemmas.List.{get_or_past}
 use Rattle.std.proofs.lemmas.List.Sums.{sum_by-cons}
@@ -11,7 +11,7 @@ use Rattle.lfs_model.specs.declared.Kind.TheVariants as kind
 use Rattle.lfs_model.specs.Entry as entry
 use Rattle.lfs_model.specs.Sound.{Reached, below, root}
 use Rattle.lfs_model.specs.Stands.{LogMap}
-use Rattle.lfs_model.specs.Tree.{Dir, File, Link, Names, Node, byte_cmp, entry as entry_in, is_dir, links, links_at, names, names_in, names_of, node}
+use Rattle.lfs_model.specs.Tree.{Dir, File, Link, Names, Node, byte_cmp, entry as entry_in, is_dir, links, links_at, names, names_of, node}
 use Rattle.lfs_model.specs.TreeOf.{AreLinks, AreReached, node_by, node_of, slots, tree_in}
 use Rattle.lfs_model.proofs.Volume.{no_node_past}
 use Rattle.lfs_files.specs.declared.header.Header.{Header}
@@ -20,7 +20,7 @@ use Rattle.lfs_dirs.proofs.SlotNames.{sorted_names}
 use Rattle.lfs_tree.specs.declared.tables.NameTables.{NameTables}
 use Rattle.lfs_tree.specs.Linking.{AreLinksFit, FitsLinks}
 use Rattle.lfs_tree.specs.Naming.{AreTables, capped, giving, is_directory, is_directory_kind, leads}
-use Rattle.lfs_tree.specs.Objects.{AreNamed, given_below, names_at}
+use Rattle.lfs_tree.specs.Objects.{AreNamed, names_at}
 use Rattle.lfs_tree.specs.Reaching.{AllClimb, AreNamesFit, Climbs, FitsNames}
 use Rattle.lfs_tree.specs.Reaching as way
 use Rattle.lfs_tree.specs.Reading.{TellsHeaders}

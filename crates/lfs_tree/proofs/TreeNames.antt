@@ -1,6 +1,6 @@
 -- How often the tree's directories give a number, and which.
 use Rattle.std.specs.Prelude.{T, sum_by, unwrap_or}
-use Rattle.std.proofs.Common.{◌≡◌, ◌≢◌, ◌<◌, ◌≤◌, ⊎_elim, ◌+◌, cond, true, false, Bool, eqb, ℕ, zero, suc, List, [], ◌∷◌, Option, Some, None, refl, sym, ◌∙◌, ap, subst, arith}
+use Rattle.std.proofs.Common.{◌≡◌, ◌<◌, ◌≤◌, ⊎_elim, ◌+◌, cond, true, false, Bool, eqb, ℕ, zero, suc, List, [], ◌∷◌, Option, Some, None, refl, ◌∙◌, ap, arith}
 use Rattle.std.proofs.lemmas.Bool.{cases_eq}
 use Rattle.std.proofs.lemmas.List.Sums.{sum_by-cons}
 use Rattle.std.specs.Cmp.Lexicographic.{nat_list_cmp_total}
@@ -12,7 +12,6 @@ use Rattle.lfs_model.specs.Stands.{LogMap}
 use Rattle.lfs_model.specs.Tree.{File, Names, Node, Tree, byte_cmp, names, names_of}
 use Rattle.lfs_model.specs.TreeOf.{node_of, nodes_from, tree_in, with_object}
 use Rattle.lfs_model.proofs.Sums.{T_right, find_after, find_first, weight-le-total}
-use Rattle.lfs_model.proofs.Standing.{IsHeader}
 use Rattle.lfs_tree.specs.Naming.{giving}
 use Rattle.lfs_tree.specs.Objects.{given_below, names_at, sum_below}
 use Rattle.lfs_tree.proofs.Named.{sum_more, sum_none}

@@ -1,15 +1,14 @@
 -- The stages of a tree by number, and the room that it needs.
-use Rattle.std.proofs.Common.{◌≡◌, ◌<◌, ◌≤◌, ◌+◌, ◌*◌, ◌%◌, ◌/◌, ◌==◌, nat_le, nat_lt, true, false, Bool, ℕ, zero, suc, List, [], length, Option, Some, None, refl, sym, ◌∙◌, ap, subst, arith, ⊎_elim}
+use Rattle.std.proofs.Common.{◌≡◌, ◌≤◌, ◌+◌, ◌*◌, ◌%◌, ◌==◌, nat_le, true, false, Bool, ℕ, zero, suc, length, Option, Some, None, refl, sym, ◌∙◌, ap, subst, arith}
 use Rattle.std.specs.Prelude.{sum_by}
 use Rattle.std.proofs.lemmas.Bool.{and_parts, eqb-true, ltb-true}
-use Rattle.std.proofs.lemmas.Bool.Decides.{nat_tests}
 use Rattle.lfs_model.specs.declared.Kind.{Kind}
 use Rattle.lfs_model.specs.declared.Kind.TheVariants as kind
 use Rattle.lfs_model.specs.Checkpoint.{CheckpointValue}
-use Rattle.lfs_model.specs.Content.{Content, block}
+use Rattle.lfs_model.specs.Content.{Content}
 use Rattle.lfs_model.specs.Damage.{IsDamaged, stage}
 use Rattle.lfs_model.specs.Decodes.{IsSized}
-use Rattle.lfs_model.specs.Encodes.{Encodes, HasData, IsLogMap}
+use Rattle.lfs_model.specs.Encodes.{Encodes, IsLogMap}
 use Rattle.lfs_model.specs.Entry.{Data, Header}
 use Rattle.lfs_model.specs.Inode.{is_size}
 use Rattle.lfs_model.specs.Need.{data_blocks, data_of, meta_blocks, meta_of, need, pointers}
@@ -18,16 +17,14 @@ use Rattle.lfs_model.specs.Reach.{View, address, view}
 use Rattle.lfs_model.specs.Stands.{LogMap, Stages, StandsAt, log_in}
 use Rattle.lfs_model.specs.Totals.{IsCounted, data_of_file, meta_of_file, sum_upto}
 use Rattle.lfs_model.specs.Tree.{Node, slot_len}
-use Rattle.lfs_model.specs.TreeOf.{AreFormed, HasRoom, node_by, node_of, tree_in}
+use Rattle.lfs_model.specs.TreeOf.{AreFormed, node_by, node_of, tree_in}
 use Rattle.lfs_model.proofs.Decodes.{decoding}
 use Rattle.lfs_model.proofs.ObjectNeeds.{filter_none, object_costs}
 use Rattle.lfs_model.proofs.Standing.{headers_are}
 use Rattle.lfs_verify.specs.Codes.{HoldsBelow}
 use Rattle.lfs_verify.proofs.CodeSteps.{below_1, below_next, stage_1, stage_2, stage_3, stage_4, stage_5, stage_6, stage_7, stage_8, stage_9}
 use Rattle.lfs_tree.specs.Checking.{IsTreeDamage, links_fail, reached_fail, room_fail, slots_fail, texts_fail}
-use Rattle.lfs_tree.specs.Linking.{FitsRoom}
 use Rattle.lfs_tree.specs.Objects.{sum_below}
-use Rattle.lfs_tree.proofs.Named.{sum_more, sum_none}
 use Rattle.lfs_tree.proofs.TreeNames.{tree_sum}
 
 -- ---- stages by number

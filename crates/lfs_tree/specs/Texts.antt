@@ -1,11 +1,10 @@
 -- The texts of links, byte by byte.
 -- All of it is an own choice.
-use Rattle.std.specs.Prelude.{◌≡◌, ◌≢◌, ◌<◌, ◌+◌, ◌*◌, ℕ, Bool, Some, MatchBool}
+use Rattle.std.specs.Prelude.{◌≡◌, ◌≢◌, ◌<◌, ℕ, Bool, Some, MatchBool}
 use Rattle.lfs_model.specs.declared.Kind.TheVariants as kind
 use Rattle.lfs_model.specs.Entry as entry
 use Rattle.lfs_model.specs.Objects.{byte_in}
 use Rattle.lfs_model.specs.Stands.{LogMap}
-use Rattle.lfs_model.specs.TreeOf.{AreTexts}
 
 -- no byte of object n before this place is zero
 abbrev pub HasNoZero : LogMap → ℕ → ℕ → Type 0

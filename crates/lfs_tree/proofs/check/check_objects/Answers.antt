@@ -1,5 +1,5 @@
 use Rattle.std.specs.Prelude.{Err}
-use Rattle.std.proofs.Common.{Bool, ap, refl, subst, arith}
+use Rattle.std.proofs.Common.{ap, refl, subst, arith}
 use Rattle.lfs_model.specs.TreeOf.{AreTexts}
 use Rattle.lfs_tree.specs.Checking.{slots_fail, texts_fail}
 use Rattle.lfs_tree.specs.Objects.{SlotStage}

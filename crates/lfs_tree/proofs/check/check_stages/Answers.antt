@@ -1,4 +1,4 @@
-use Rattle.std.proofs.Common.{◌<◌, ◌∙◌, ℕ, arith}
+use Rattle.std.proofs.Common.{◌<◌}
 use Rattle.lfs_tree.specs.Checking.{IsTreeDamage}
 use Rattle.lfs_tree.proofs.CheckSteps.{fault_after, gathered, no_failure}
 use Rattle.lfs_tree.proofs.Seeing.{leads_then, sees_first, sees_then}

@@ -1,5 +1,5 @@
 use Rattle.std.specs.Prelude.{min}
-use Rattle.std.proofs.Common.{◌≡◌, ◌<◌, ◌-◌, ◌+◌, ◌*◌, ◌/◌, true, false, Bool, refl, subst, arith}
+use Rattle.std.proofs.Common.{◌≡◌, ◌<◌, ◌-◌, ◌*◌, ◌/◌, subst, arith}
 use Rattle.lfs_dirs.specs.Directory.{first_slots}
 use Rattle.lfs_tree.specs.Naming.{TakesSlots}
 use Rattle.lfs_verify.proofs.Takes.{looks_none, looks_then}

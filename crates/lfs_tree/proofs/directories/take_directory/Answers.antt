@@ -1,6 +1,4 @@
-use Rattle.std.proofs.Common.{◌≡◌, ◌∙◌, Bool, Some, None, ap, sym, subst, arith, Vec, Global, ℕ}
-use Rattle.std.specs.Prelude.{Err}
-use Rattle.std.specs.BTreeSet.{BTreeSet}
+use Rattle.std.proofs.Common.{◌≡◌, ◌∙◌, Bool, Some, None, sym, subst, arith}
 use Rattle.lfs_files.specs.Headers.{as_header}
 use Rattle.lfs_tree.specs.Reading.{InodeAnswer}
 use Rattle.lfs_tree.proofs.GoodBlocks.{names_none, nothing_taken}

@@ -1,4 +1,3 @@
-use Rattle.std.proofs.Common.{sym}
 use Rattle.lfs_tree.proofs.SetNames.{name_more}
 use Rattle.lfs_tree.proofs.slots.insert_name.Goals as goal
 

@@ -1,7 +1,6 @@
 use Rattle.std.specs.Prelude.{min}
-use Rattle.std.proofs.Common.{◌≡◌, ◌≢◌, ◌<◌, ◌≤◌, ◌-◌, ◌+◌, ◌*◌, ℕ, arith, subst, slice_index}
+use Rattle.std.proofs.Common.{◌≡◌, ◌<◌, ◌-◌, ◌*◌, arith}
 use Rattle.lfs_verify.proofs.Takes.{looks_none, looks_then}
-use Rattle.lfs_tree.specs.Texts.{HasNoZero}
 use Rattle.lfs_tree.proofs.LinkTexts.{texts_fail, texts_go_on}
 use Rattle.lfs_tree.proofs.Seeing.{inode_then, sees_first, sees_then}
 use Rattle.lfs_tree.proofs.texts.check_bytes.Goals as goal

@@ -1,4 +1,4 @@
-use Rattle.lfs_tree.proofs.LinkTexts.{text_decided, text_none, text_other}
+use Rattle.lfs_tree.proofs.LinkTexts.{text_decided}
 use Rattle.lfs_tree.proofs.ObjectNames.{head_told}
 use Rattle.lfs_tree.proofs.texts.check_object.Goals as goal
 

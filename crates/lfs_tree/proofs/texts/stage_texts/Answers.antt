@@ -1,4 +1,4 @@
-use Rattle.std.proofs.Common.{◌≡◌, ◌≤◌, below_more, arith, ℕ}
+use Rattle.std.proofs.Common.{below_more, arith}
 use Rattle.lfs_model.proofs.Standing.{headers_are}
 use Rattle.lfs_verify.proofs.Takes.{looks_none, looks_then}
 use Rattle.lfs_tree.specs.Texts.{IsGoodText}
