@@ -85,11 +85,7 @@ fn drop_slot<F: Files>(
 }
 
 /// The bytes of a slot of a directory.
-fn slot_at<F: Files>(
-    files: &mut F,
-    directory: u16,
-    place: u32,
-) -> Result<[u8; 64], LogFault>
+fn slot_at<F: Files>(files: &mut F, directory: u16, place: u32) -> Result<[u8; 64], LogFault>
     requires { directory < 4096 }
     ensures reads { Reads (F.state files.old) (F.state files.new) }
     ensures answer { IfOk result (ReadsSlot (F.state files.old) (F.state files.new) directory place) }

@@ -9,7 +9,9 @@ use crate::header::Header;
 /// The files of a volume, and a draft of changes to them, which reads see.
 pub trait Files {
     ghost Staged: { Type 0 };
+
     ghost Draft: { Type 0 };
+
     ghost state: { Self → FilesState Staged Draft };
 
     /// What the inode of a file says of it, if the file is there.

@@ -10,7 +10,7 @@ use crate::error::FsError;
 use crate::handles::Handles;
 use crate::rows::Space;
 use lfs_device::SectorDevice;
-use lfs_store::{Header, Store, BlockTotals};
+use lfs_store::{BlockTotals, Header, Store};
 use std::alloc::Global;
 
 /// The root's number.

@@ -3,9 +3,9 @@
 use crate::volume::store_with;
 use lfs_device::MemDevice;
 use lfs_path::last::{Above, before_last};
-use lfs_store::Store;
 use lfs_path::text::{check_text, first_name};
 use lfs_path::{Last, PathFault, parent, resolve};
+use lfs_store::Store;
 use std::alloc::Global;
 use std::test::Fail;
 

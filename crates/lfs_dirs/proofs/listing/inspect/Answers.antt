@@ -22,7 +22,7 @@ loop-index-preserved g c =
     let is : c.min-count.result ≡ min (c.args.header.size / 64 - 8 * (c.loop-index.index - 1)) 8 = omega (arith, m) in (
       omega (arith, low),
       list_goes_on c.args.directory c.args.header (g.F.Files.state c.args.files.now) (g.F.Files.state c.loop-index.files) (g.F.Files.state c.list_block.new.files)
-    c.loop-index.index (c.loop-index.index - 1) c.min-count.result c.loop-index.entries.items is low c.loop-index.invariant.1
+          c.loop-index.index (c.loop-index.index - 1) c.min-count.result c.loop-index.entries.items is low c.loop-index.invariant.1
           c.list_block.new.entries.items (g.met.F.Files.lawful c.args.files.now) t refl c.list_block.ensures.reads c.in-Ok.ensures.done,
     )
 
