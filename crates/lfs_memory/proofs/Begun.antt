@@ -1,5 +1,5 @@
 -- A block that gets the next place: the chunk that it goes to, as the log runs.
-use Rattle.std.proofs.Common.{◌≡◌, ◌<◌, ⊎_elim, ◌⊎◌, inl, inr, ◌+◌, ◌*◌, ℕ, zero, suc, Bool, not, List, [], ◌∷◌, ◌++◌, length, Some, refl, sym, ◌∙◌, ap, subst, arith}
+use Rattle.std.proofs.Common.{◌≡◌, ◌<◌, ⊎_elim, ◌⊎◌, inl, inr, ◌+◌, ◌*◌, ◌/◌, ℕ, zero, suc, Bool, true, not, List, [], ◌∷◌, ◌++◌, length, Some, refl, sym, ◌∙◌, ap, subst, arith}
 use Rattle.std.specs.Prelude.{map}
 use Rattle.std.proofs.lemmas.List.{length-append, length-map, map-append}
 use Rattle.lfs_model.specs.Checkpoint.{CheckpointValue, IsSegmentCount}
@@ -12,7 +12,7 @@ use Rattle.lfs_model.specs.Memory.{is_shown}
 use Rattle.lfs_model.specs.Running.{Tables, Running, IsAddressed, IsNoted, IsTakenFrom, CountsUp}
 use Rattle.lfs_model.specs.Committing.{place_of}
 use Rattle.lfs_model.proofs.Leaving.{beginning}
-use Rattle.lfs_segments.specs.Table.{UsageTable, live_of, held_of}
+use Rattle.lfs_segments.specs.Table.{UsageTable, live_of, held_of, stale_of}
 use Rattle.lfs_segments.specs.Chunk.{entries_of}
 use Rattle.lfs_segments.specs.Steps.{Takes}
 use Rattle.lfs_segments.specs.Emptied.{IsEmptied}
@@ -22,6 +22,7 @@ use Rattle.lfs_inodes.specs.MapValue.{MapValue}
 use Rattle.lfs_memory.specs.declared.memory.LogMemory.{LogMemory}
 use Rattle.lfs_memory.specs.Memory.{IsMemory, IsMemoryUpTo, IsLog, Places, tables_by, tables_of, segment_in, chunk_in}
 use Rattle.lfs_memory.proofs.Opened.{is_open, is_closed, as_chunk, open_segment, open_chunk, taken_free}
+use Rattle.lfs_memory.proofs.Stales.{stays_stale}
 
 pub zero_or_more : (n : ℕ) → (n ≡ 0) ⊎ (0 < n)
 zero_or_more zero = inl refl
@@ -74,6 +75,12 @@ module _ (v v' : LogMemory) (name : BlockNameValue) (lives : Bool) (age place : 
       (λ (some : 0 < length v.chunk.names). p.noted.blocks.address j ∙ ap (λ (u : UsageTable). (tables_by v.map u).at (Usage j)) (p.went_on some).0)
       (zero_or_more (length v.chunk.names))
 
+  stale_still : (j : ℕ) → stale_of v.usage j ≡ true → stale_of v'.usage j ≡ true
+  stale_still j on = ⊎_elim
+      (λ (none : length v.chunk.names ≡ 0). stays_stale p.middle v'.usage (v'.chunk.segment / 64) j p.noted.blocks (((p.begun none).blocks j).0 ∙ on))
+      (λ (some : 0 < length v.chunk.names). stays_stale p.middle v'.usage (v'.chunk.segment / 64) j p.noted.blocks (ap (λ (u : UsageTable). stale_of u j) (p.went_on some).0 ∙ on))
+      (zero_or_more (length v.chunk.names))
+
   pub long_names : length v'.chunk.names ≡ suc (length v.chunk.names)
   long_names = ap length p.names ∙ length-append v.chunk.names (name ∷ []) ∙ omega arith
 
@@ -91,7 +98,7 @@ module _ (v v' : LogMemory) (name : BlockNameValue) (lives : Bool) (age place : 
     count = subst (λ (n : ℕ). IsSegmentCount n) (sym segments_same) memory.count;
     opened = λ some. p.opened;
     short = let long = long_names in let short = memory.short in omega (arith, long, short);
-    usages = λ j one. memory.usages j (sym (addresses_same j) ∙ one);
+    usages = λ j one. stale_still j (memory.usages j (sym (addresses_same j) ∙ one));
     few = let few = memory.few in let c = ap (λ (c : Capacity). c.limit) same in let size = segments_same in omega (arith, few, c, size);
   }
 

@@ -26,6 +26,7 @@ use Rattle.lfs_memory.specs.Removing.{AreUncovered, counts_in}
 use Rattle.lfs_memory.specs.Cutting.{cut_from, HasEdge, IsFormed, ClearsPointers, DropsPast, Cuts}
 use Rattle.lfs_memory.proofs.CutEdges.{inside_at, root_at, leaf_at}
 use Rattle.lfs_memory.proofs.Lifted.{kept_memory}
+use Rattle.lfs_memory.proofs.Stales.{never_fresh}
 use Rattle.lfs_memory.proofs.Presents.{inode_at, nobody_at, data_none, no_block, looks_then, still_log}
 use Rattle.lfs_memory.proofs.Taken.{counts_covered, named_counts, nameless_counts}
 
@@ -136,7 +137,7 @@ module _ (a b c : DeviceState) (v mid v' : LogMemory) (n first : ℕ) (counts : 
   pub file_cut : Cuts a c v v' n first
   file_cut = record {
     looks = looks_then a b c lawful one.looks two;
-    memory = kept_memory mid v' one.memory go.usage.size go.chunk go.usage.used go.usage.taken go.usage.address go.capacity;
+    memory = kept_memory mid v' one.memory go.usage.size go.chunk go.usage.used go.usage.taken go.usage.address (never_fresh mid.usage v'.usage go.usage.stale) go.capacity;
     segments = go.usage.size ∙ one.segments;
     clean = go.usage.clean ∙ one.clean;
     chunk = go.chunk ∙ one.chunk;

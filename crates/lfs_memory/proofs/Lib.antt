@@ -1,3 +1,4 @@
+pub mod Stales
 pub mod Rooms
 pub mod Opened
 pub mod Going
@@ -8,6 +9,7 @@ pub mod LeafPresents
 pub mod Lifted
 pub mod LiftedKeys
 pub mod LiftedWays
+pub mod Gathered
 pub mod LogMaps
 pub mod Keys
 pub mod Looses
@@ -29,3 +31,4 @@ pub mod Staged
 pub mod SegmentsTaken
 pub mod Pressed
 pub use Rattle.lfs_segments.proofs as of_segments
+pub use Rattle.lfs_inodes.proofs as of_inodes

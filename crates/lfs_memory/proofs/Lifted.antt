@@ -30,6 +30,7 @@ use Rattle.lfs_memory.specs.Memory.{IsMemory, IsLoose, AreHidden, tables_of, seg
 use Rattle.lfs_memory.specs.Present.{Looks, IsMissing, IsExcused}
 use Rattle.lfs_memory.specs.Lifting.{IsInMemory, Prepares, IsCounted, Brings, MapLifts, IsMapLost}
 use Rattle.lfs_memory.proofs.Presents.{looks_none, looks_then, still_log, not_missing}
+use Rattle.lfs_memory.proofs.Stales.{stays_stale}
 
 -- ---- a block that came stays in memory, and so does what was there
 pub brought : (v v' : LogMemory) (x : Entry) (bytes : List ℕ) → Fetches (blocks_of v.dirty) (blocks_of v'.dirty) x bytes → (y : Entry) → IsInMemory v y → IsInMemory v' y
@@ -63,8 +64,9 @@ top_is_inode (Usage j) file top = absurd (usage_table j file)
 
 -- ---- memory
 pub kept_memory : (v v' : LogMemory) → IsMemory v → length v'.usage.segments ≡ length v.usage.segments → v'.chunk ≡ v.chunk → ((s : ℕ) → used_of v'.usage s ≡ used_of v.usage s)
-    → ((s : ℕ) → taken_of v'.usage s ≡ taken_of v.usage s) → ((j : ℕ) → address_of v'.usage j ≡ address_of v.usage j) → v'.dirty.capacity ≡ v.dirty.capacity → IsMemory v'
-kept_memory v v' memory size chunk used taken address capacity = record {
+    → ((s : ℕ) → taken_of v'.usage s ≡ taken_of v.usage s) → ((j : ℕ) → address_of v'.usage j ≡ address_of v.usage j) → ((j : ℕ) → stale_of v.usage j ≡ true → stale_of v'.usage j ≡ true)
+    → v'.dirty.capacity ≡ v.dirty.capacity → IsMemory v'
+kept_memory v v' memory size chunk used taken address stale capacity = record {
   count = let c = memory.count in record {
     least = let l = c.least in omega (arith, l, size);
     most = let l = c.most in omega (arith, l, size);
@@ -80,7 +82,7 @@ kept_memory v v' memory size chunk used taken address capacity = record {
         taken = ap (taken_of v'.usage) s ∙ taken v.chunk.segment ∙ o.taken;
       };
   short = let s = memory.short in let n : length v'.chunk.names ≡ length v.chunk.names = ap (λ (c : Chunk). length c.names) chunk in omega (arith, s, n);
-  usages = λ j one. memory.usages j (sym (address j) ∙ one);
+  usages = λ j one. stale j (memory.usages j (sym (address j) ∙ one));
   few = let f = memory.few in let c = ap (λ (c : Capacity). c.limit) capacity in omega (arith, f, c, size);
 }
 
@@ -88,7 +90,7 @@ with_chunk : (d : DeviceState) (dirty : Dirty) (t : Tables) (k : CheckpointValue
     → Running d dirty t k m0 m (segment_in c) (chunk_in c) → Running d dirty t k m0 m (segment_in c') (chunk_in c')
 with_chunk d dirty t k m0 m c c' e w = subst (λ (c : Chunk). Running d dirty t k m0 m (segment_in c) (chunk_in c)) (sym e) w
 
-same_hidden : (map map' : MapValue) (m : LogMap) → map'.hidden ≡ map.hidden → AreHidden map m → AreHidden map' m
+pub same_hidden : (map map' : MapValue) (m : LogMap) → map'.hidden ≡ map.hidden → AreHidden map m → AreHidden map' m
 same_hidden map map' m e is n low = is n low ∙ ap (λ (l : List Bool). get_or l n false) (sym e)
 
 -- ---- a block of a file
@@ -159,7 +161,7 @@ module _ (d : DeviceState) (v : LogMemory) (k : CheckpointValue) (m0 m : LogMap)
 
     module _ (there : block d.content address ≡ bytes)
         (mapped : (n : ℕ) → x ≡ Inode n → is_hidden_in v.map n ≡ false → block_in v.map (n / 128) ≡ 1) where
-      is_named : (n : ℕ) → x ≡ Inode n → is_shown m x ≡ true → block_in v.map (n / 128) ≡ 1
+      pub is_named : (n : ℕ) → x ≡ Inode n → is_shown m x ≡ true → block_in v.map (n / 128) ≡ 1
       is_named n e on =
           let same : Some n ≡ Some f = sym (ap file_of e) ∙ file in
           let own : n ≡ f = cc in
@@ -225,7 +227,7 @@ module _ (d : DeviceState) (v : LogMemory) (k : CheckpointValue) (m0 m : LogMap)
     map_tables usages (Map i) ne = go.blocks.others i (λ h. ne (ap Map h))
     map_tables usages (Usage i) ne = usages i
 
-    map_addressed : ((i : ℕ) → address_of v'.usage i ≡ address_of v.usage i) → IsAddressed (tables_of v) (tables_of v') (Map j) 1
+    pub map_addressed : ((i : ℕ) → address_of v'.usage i ≡ address_of v.usage i) → IsAddressed (tables_of v) (tables_of v') (Map j) 1
     map_addressed usages = record { own = λ top. go.blocks.own; others = λ y top ne. map_tables usages y ne }
 
     two_or_less : (n : ℕ) → (2 ≤ n) ⊎ (n < 2)
@@ -338,8 +340,15 @@ prepares_excused a b c v v' n one two failed k m0 m keeps is =
     omega (arith, rose, before)
 
 -- ---- what a call that brings a block does
+pub on_device : (content : Content) (dirty : Dirty) (x : Entry) (a : ℕ) → (a ≡ 1 → ⊥) → present content dirty x a ≡ block content a
+on_device content dirty x a ne = cond-false _ _ _ (not_one a ne)
+  where
+    not_one : (a : ℕ) → (a ≡ 1 → ⊥) → (a == 1) ≡ false
+    not_one a ne = grind (arith, nat_tests)
+
 pub brings_memory : (v v' : LogMemory) (x : Entry) (address : ℕ) (lives : Bool) (bytes : List ℕ) → IsMemory v → Brings v v' x address lives bytes → IsMemory v'
-brings_memory v v' x address lives bytes memory go = kept_memory v v' memory go.usage.size go.chunk go.usage.used go.usage.taken go.usage.blocks.address go.capacity
+brings_memory v v' x address lives bytes memory go = kept_memory v v' memory go.usage.size go.chunk go.usage.used go.usage.taken go.usage.blocks.address
+    (λ j. stays_stale v.usage v'.usage (segment_of address / 64) j go.usage.blocks) go.capacity
 
 pub bring_prepares : (d d' : DeviceState) (v v' : LogMemory) (x : Entry) (f address : ℕ) (lives : Bool) (bytes : List ℕ) → IsLawful d → IsMemory v → Looks d d'
     → file_of x ≡ Some f → f < 4096 → IsAt (blocks_of v.dirty) (tables_of v) x address → 2 ≤ address → lives ≡ not (is_hidden_in v.map f)
@@ -369,12 +378,6 @@ bring_prepares d d' v v' x f address lives bytes lawful memory looks file low at
   log = λ k m0 m keeps is. log_brought d' v k m0 m (still_log d d' v k m0 m looks is) x f address lives file low at above is_lives v' bytes go
       (ap (λ (c : Content). block c address) looks.untouched.content ∙ sym (read keeps ∙ on_device d.content (blocks_of v.dirty) x address (omega (arith, above)))) mapped;
 }
-  where
-    on_device : (content : Content) (dirty : Dirty) (x : Entry) (a : ℕ) → (a ≡ 1 → ⊥) → present content dirty x a ≡ block content a
-    on_device content dirty x a ne = cond-false _ _ _ (not_one a ne)
-      where
-        not_one : (a : ℕ) → (a ≡ 1 → ⊥) → (a == 1) ≡ false
-        not_one a ne = grind (arith, nat_tests)
 
 -- where the block isn't counted, or isn't read, a call of the device failed
 pub bring_lost : (d : DeviceState) (v : LogMemory) (x : Entry) (f address : ℕ) (lives : Bool) → file_of x ≡ Some f → f < 4096 → IsAt (blocks_of v.dirty) (tables_of v) x address → 2 ≤ address
@@ -392,12 +395,13 @@ pub map_prepares : (d : DeviceState) (v v' : LogMemory) (j : ℕ) → IsLawful d
 map_prepares d v v' j lawful memory go = ⊎_elim
     (λ (above : 2 ≤ block_in v.map j).
     let l = go.lifted above in
-    made (kept_memory v v' memory l.size go.chunk l.used l.taken l.blocks.address capacity) l.size l.clean)
+    made (kept_memory v v' memory l.size go.chunk l.used l.taken l.blocks.address (λ i. stays_stale v.usage v'.usage (segment_of (block_in v.map j) / 64) i l.blocks) capacity) l.size l.clean)
     (λ (small : block_in v.map j < 2). ⊎_elim
     (λ (none : block_in v.map j ≡ 0).
     let e = go.added none in
     let size = ap (λ (u : UsageTable). length u.segments) e in
-    made (kept_memory v v' memory size go.chunk (λ s. ap (λ (u : UsageTable). used_of u s) e) (λ s. ap (λ (u : UsageTable). taken_of u s) e) (λ i. ap (λ (u : UsageTable). address_of u i) e) capacity)
+    made (kept_memory v v' memory size go.chunk (λ s. ap (λ (u : UsageTable). used_of u s) e) (λ s. ap (λ (u : UsageTable). taken_of u s) e) (λ i. ap (λ (u : UsageTable). address_of u i) e)
+    (λ i on. ap (λ (u : UsageTable). stale_of u i) e ∙ on) capacity)
     size (ap (λ (u : UsageTable). clean_in u.segments) e))
     (λ (some : block_in v.map j ≡ 0 → ⊥). subst (λ (w : LogMemory). Prepares d d v w 0) (sym (go.same (omega (arith, small, some)))) (prepares_looks d d v lawful memory (looks_none d)))
     (cases_eq (block_in v.map j) 0))

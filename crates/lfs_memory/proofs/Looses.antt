@@ -1,5 +1,5 @@
 -- What holds of the log while files change in memory.
-use Rattle.std.proofs.Common.{◌≡◌, ◌<◌, ◌≤◌, ◌+◌, not, ℕ, zero, suc, Bool, true, length, Some, refl, sym, ◌∙◌, ap, subst, arith}
+use Rattle.std.proofs.Common.{◌≡◌, ◌<◌, ◌≤◌, ◌+◌, ◌/◌, not, ℕ, zero, suc, Bool, true, length, Some, refl, sym, ◌∙◌, ap, subst, arith}
 use Rattle.lfs_model.specs.Checkpoint.{CheckpointValue, IsSegmentCount}
 use Rattle.lfs_model.specs.Counting.{segment_of}
 use Rattle.lfs_model.specs.Device.{DeviceState}
@@ -12,7 +12,7 @@ use Rattle.lfs_model.proofs.Counting.{taken_counts}
 use Rattle.lfs_model.proofs.Replacing.{address_at}
 use Rattle.lfs_model.proofs.Running.{taken_memory, is_taken}
 use Rattle.lfs_segments.specs.Chunk.{Chunk, IsOpen}
-use Rattle.lfs_segments.specs.Table.{UsageTable, live_of, held_of, clean_in}
+use Rattle.lfs_segments.specs.Table.{UsageTable, live_of, held_of, stale_of, clean_in}
 use Rattle.lfs_segments.specs.Steps.{Lifts}
 use Rattle.lfs_inodes.specs.Blocks.{Capacity, blocks_of}
 use Rattle.lfs_inodes.specs.MapValue.{MapValue, is_hidden_in}
@@ -20,6 +20,7 @@ use Rattle.lfs_memory.specs.declared.memory.LogMemory.{LogMemory}
 use Rattle.lfs_memory.specs.Memory.{IsMemory, IsLog, IsLoose, table_at, tables_by, tables_of, segment_in, chunk_in}
 use Rattle.lfs_memory.specs.Changing.{IsCounted, IsMiscounted, IsPointedIn, Departs, Stays}
 use Rattle.lfs_memory.proofs.FileSteps.{shows}
+use Rattle.lfs_memory.proofs.Stales.{stays_stale}
 
 pub loose : (d : DeviceState) (v : LogMemory) (k : CheckpointValue) (m0 m : LogMap) → IsLog d v k m0 m → IsLoose d v k m0 m
 loose d v k m0 m is = record { running = is.running; hidden = is.hidden; segments = is.segments }
@@ -29,18 +30,20 @@ tight_again d v k m0 m is tight = record { running = is.running; hidden = is.hid
 
 -- ---- memory
 pub stays_memory : (v v' : LogMemory) → IsMemory v → v'.chunk ≡ v.chunk → length v'.usage.segments ≡ length v.usage.segments
-    → (IsOpen v.chunk v.usage → IsOpen v.chunk v'.usage) → ((j : ℕ) → (tables_of v').at (Usage j) ≡ (tables_of v).at (Usage j)) → v'.dirty.capacity ≡ v.dirty.capacity → IsMemory v'
-stays_memory v v' memory chunk segments opened same capacity = record {
+    → (IsOpen v.chunk v.usage → IsOpen v.chunk v'.usage) → ((j : ℕ) → (tables_of v').at (Usage j) ≡ (tables_of v).at (Usage j)) → ((j : ℕ) → stale_of v.usage j ≡ true → stale_of v'.usage j ≡ true)
+    → v'.dirty.capacity ≡ v.dirty.capacity → IsMemory v'
+stays_memory v v' memory chunk segments opened same stale capacity = record {
   count = subst IsSegmentCount (sym segments) memory.count;
   opened = λ some. subst (λ (c : Chunk). IsOpen c v'.usage) (sym chunk) (opened (memory.opened (subst (λ (c : Chunk). 0 < length c.names) chunk some)));
   short = subst (λ (c : Chunk). length c.names ≤ 62) (sym chunk) memory.short;
-  usages = λ j one. memory.usages j (sym (same j) ∙ one);
+  usages = λ j one. stale j (memory.usages j (sym (same j) ∙ one));
   few = let f = memory.few in let c = ap (λ (c : Capacity). c.limit) capacity in omega (arith, f, c, segments);
 }
 
 pub stays_same : (v v' : LogMemory) → v'.chunk ≡ v.chunk → v'.usage ≡ v.usage → v'.dirty.capacity ≡ v.dirty.capacity → IsMemory v → IsMemory v'
 stays_same v v' chunk usage capacity memory =
-    stays_memory v v' memory chunk (ap (λ (u : UsageTable). length u.segments) usage) (subst (λ (u : UsageTable). IsOpen v.chunk u) (sym usage)) (λ j. ap (λ (u : UsageTable). table_at v.map u (Usage j)) usage) capacity
+    stays_memory v v' memory chunk (ap (λ (u : UsageTable). length u.segments) usage) (subst (λ (u : UsageTable). IsOpen v.chunk u) (sym usage)) (λ j. ap (λ (u : UsageTable). table_at v.map u (Usage j)) usage)
+    (λ j on. ap (λ (u : UsageTable). stale_of u j) usage ∙ on) capacity
 
 lifted_open : (c : Chunk) (old new : UsageTable) (s : ℕ) (lives : Bool) → Lifts old new s lives → IsOpen c old → IsOpen c new
 lifted_open c old new s lives go is = record {
@@ -62,6 +65,10 @@ departs_address : (map : MapValue) (old new : UsageTable) (a : ℕ) (lives : Boo
 departs_address map old new a lives go j =
     below_or a (table_at map new (Usage j) ≡ table_at map old (Usage j)) (λ low. ap (λ (u : UsageTable). table_at map u (Usage j)) (go.none low)) (λ high. (go.lifts high).blocks.address j)
 
+departs_stale : (old new : UsageTable) (a : ℕ) (lives : Bool) → Departs old new a lives → (j : ℕ) → stale_of old j ≡ true → stale_of new j ≡ true
+departs_stale old new a lives go j on =
+    below_or a (stale_of new j ≡ true) (λ low. ap (λ (u : UsageTable). stale_of u j) (go.none low) ∙ on) (λ high. stays_stale old new (segment_of a / 64) j (go.lifts high).blocks on)
+
 departs_open : (c : Chunk) (old new : UsageTable) (a : ℕ) (lives : Bool) → Departs old new a lives → IsOpen c old → IsOpen c new
 departs_open c old new a lives go is =
     below_or a (IsOpen c new) (λ low. subst (λ (u : UsageTable). IsOpen c u) (sym (go.none low)) is) (λ high. lifted_open c old new (segment_of a) lives (go.lifts high) is)
@@ -69,7 +76,8 @@ departs_open c old new a lives go is =
 pub departed : (n : ℕ) (v v' : LogMemory) (a : ℕ) (lives : Bool) → Departs v.usage v'.usage a lives → v'.chunk ≡ v.chunk → v'.dirty.capacity ≡ v.dirty.capacity
     → length v'.dirty.blocks ≤ length v.dirty.blocks + n → Stays n v v'
 departed n v v' a lives go chunk capacity blocks = record {
-  memory = λ memory. stays_memory v v' memory chunk (departs_size v.usage v'.usage a lives go) (departs_open v.chunk v.usage v'.usage a lives go) (departs_address v.map v.usage v'.usage a lives go) capacity;
+  memory = λ memory. stays_memory v v' memory chunk (departs_size v.usage v'.usage a lives go) (departs_open v.chunk v.usage v'.usage a lives go) (departs_address v.map v.usage v'.usage a lives go)
+      (departs_stale v.usage v'.usage a lives go) capacity;
   chunk = chunk;
   segments = departs_size v.usage v'.usage a lives go;
   clean = below_or a (clean_in v'.usage.segments ≡ clean_in v.usage.segments) (λ low. ap (λ (u : UsageTable). clean_in u.segments) (go.none low)) (λ high. (go.lifts high).clean);

@@ -23,6 +23,7 @@ use Rattle.lfs_memory.specs.Lifting.{Prepares}
 use Rattle.lfs_memory.specs.Counting.{CountsFile}
 use Rattle.lfs_memory.specs.Removing.{without_file, counted_in, AreCovered, AreUncovered, counts_in, Drops, Removes}
 use Rattle.lfs_memory.proofs.Lifted.{kept_memory}
+use Rattle.lfs_memory.proofs.Stales.{never_fresh}
 use Rattle.lfs_memory.proofs.Presents.{still_log}
 use Rattle.lfs_memory.proofs.Taken.{counts_covered, named_counts, nameless_counts}
 
@@ -109,7 +110,7 @@ module _ (a b : DeviceState) (v mid : LogMemory) (n : ℕ) (lives : Bool) (count
   pub file_removed : (v' : LogMemory) → Drops mid v' n lives counts → (is_hidden_in mid.map n ≡ false → block_in mid.map (n / 128) ≡ 1) → Removes a b v v' n
   file_removed v' go mapped = record {
     looks = looks;
-    memory = kept_memory mid v' first.memory go.usage.size go.chunk go.usage.used go.usage.taken go.usage.address go.capacity;
+    memory = kept_memory mid v' first.memory go.usage.size go.chunk go.usage.used go.usage.taken go.usage.address (never_fresh mid.usage v'.usage go.usage.stale) go.capacity;
     segments = go.usage.size ∙ first.segments;
     clean = go.usage.clean ∙ first.clean;
     chunk = go.chunk ∙ first.chunk;

@@ -24,6 +24,7 @@ use Rattle.lfs_memory.specs.Hiding.{LosesLinks, Hides, IsLinkExcused}
 use Rattle.lfs_memory.proofs.Heads.{holds_headed, headed_words, header_headed}
 use Rattle.lfs_memory.proofs.HeaderSteps.{inode_held, hidden_with, nameless_with}
 use Rattle.lfs_memory.proofs.Lifted.{kept_memory}
+use Rattle.lfs_memory.proofs.Stales.{never_fresh}
 use Rattle.lfs_memory.proofs.LogMaps.{is_with_header}
 use Rattle.lfs_memory.proofs.Looses.{as_memory}
 use Rattle.lfs_memory.proofs.Presents.{looks_then, still_log}
@@ -82,7 +83,7 @@ module _ (a b c : DeviceState) (v mid : LogMemory) (n : ℕ) (counts : List ℕ)
   pub file_hidden : (v' : LogMemory) (kind : Kind) (size : ℕ) → LosesLinks mid v' n kind size counts → Hides a c v v' n kind size
   file_hidden v' kind size go = record {
     looks = looks_then a b c lawful first.looks looks;
-    memory = kept_memory mid v' first.memory go.usage.size go.chunk go.usage.used go.usage.taken go.usage.address go.capacity;
+    memory = kept_memory mid v' first.memory go.usage.size go.chunk go.usage.used go.usage.taken go.usage.address (never_fresh mid.usage v'.usage go.usage.stale) go.capacity;
     segments = go.usage.size ∙ first.segments;
     clean = go.usage.clean ∙ first.clean;
     chunk = go.chunk ∙ first.chunk;

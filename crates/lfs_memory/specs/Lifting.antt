@@ -4,11 +4,11 @@ use Rattle.lfs_model.specs.Checkpoint.{CheckpointValue}
 use Rattle.lfs_model.specs.Counting.{segment_of}
 use Rattle.lfs_model.specs.Device.{DeviceState}
 use Rattle.lfs_model.specs.Entry.{Entry, Data, Leaf, Inode}
-use Rattle.lfs_model.specs.Memory.{parent}
+use Rattle.lfs_model.specs.Memory.{Memory, parent}
 use Rattle.lfs_model.specs.Running.{IsSet}
 use Rattle.lfs_model.specs.Staging.{Fetches}
 use Rattle.lfs_model.specs.Stands.{LogMap}
-use Rattle.lfs_segments.specs.Table.{UsageTable, live_of, held_of, clean_in}
+use Rattle.lfs_segments.specs.Table.{UsageTable, used_of, live_of, held_of, taken_of, clean_in}
 use Rattle.lfs_segments.specs.Steps.{Lifts}
 use Rattle.lfs_inodes.specs.Blocks.{blocks_of}
 use Rattle.lfs_inodes.specs.MapValue.{address_in, block_in}
@@ -33,6 +33,16 @@ pub record Prepares (d d' : DeviceState) (v v' : LogMemory) (most : ℕ) : Type 
   pub mapped : (j : ℕ) → block_in v.map j ≡ 1 → block_in v'.map j ≡ 1
   pub absent : (l : ℕ) → address_in v.map l ≡ 0 → address_in v'.map l ≡ 0
   pub log : (k : CheckpointValue) (m0 m : LogMap) → d'.keeps_model → IsLoose d v k m0 m → IsLoose d' v' k m0 m
+
+-- no block has an address that it hadn't before
+abbrev pub HasTraces : Memory → Memory → Type 0
+HasTraces M M' = (y : Entry) → 2 ≤ M'.at y → M.at y ≡ M'.at y
+
+-- Blocks leave their addresses for memory alone: no segment gets another one.
+pub record Gathers (d d' : DeviceState) (v v' : LogMemory) : Type 0 where
+  pub used : (s : ℕ) → used_of v'.usage s ≡ used_of v.usage s
+  pub taken : (s : ℕ) → taken_of v'.usage s ≡ taken_of v.usage s
+  pub traces : (k : CheckpointValue) (m0 m : LogMap) → d'.keeps_model → (is : IsLoose d v k m0 m) → (is' : IsLoose d' v' k m0 m) × HasTraces is.running.memory is'.running.memory
 
 -- the block at this address is counted where it stands, among those that live there or those that hold the segment
 pub record IsCounted (usage : UsageTable) (at : ℕ) (lives : Bool) : Type 0 where

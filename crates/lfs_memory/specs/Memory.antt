@@ -1,5 +1,5 @@
 -- What the log holds in memory, and what that and the device stand for.
-use Rattle.std.specs.Prelude.{◌≡◌, ◌<◌, ◌≤◌, ◌+◌, ◌*◌, ◌-◌, ◌/◌, ◌==◌, cond, ℕ, suc, Bool, List, [], ◌∷◌, ◌++◌, length, Option, Some, None}
+use Rattle.std.specs.Prelude.{◌≡◌, ◌<◌, ◌≤◌, ◌+◌, ◌*◌, ◌-◌, ◌/◌, ◌==◌, cond, ℕ, suc, Bool, true, List, [], ◌∷◌, ◌++◌, length, Option, Some, None}
 use Rattle.lfs_model.specs.Entry.{Entry, Data, Leaf, Double, Inode, Map, Usage}
 use Rattle.lfs_model.specs.Checkpoint.{CheckpointValue, IsSegmentCount}
 use Rattle.lfs_model.specs.Crash.{StandsOn}
@@ -59,7 +59,8 @@ pub record IsMemoryUpTo (most : ℕ) (v : LogMemory) : Type 0 where
   pub count : IsSegmentCount (length v.usage.segments)
   pub opened : 0 < length v.chunk.names → IsOpen v.chunk v.usage
   pub short : length v.chunk.names ≤ most
-  pub usages : (j : ℕ) → address_of v.usage j ≡ 1 → ⊥
+  -- a usage block that left its address isn't as the device has it
+  pub usages : (j : ℕ) → address_of v.usage j ≡ 1 → stale_of v.usage j ≡ true
   -- no more blocks of files than a cleaning pass may write into the segments that it may take
   pub few : v.dirty.capacity.limit + 48 ≤ 63 * (length v.usage.segments / 8)
 

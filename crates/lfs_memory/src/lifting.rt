@@ -9,7 +9,7 @@ ghost use Rattle.lfs_inodes.specs.Blocks.{blocks_of};
 ghost use Rattle.lfs_inodes.specs.MapValue.{address_in, is_hidden_in, block_in};
 ghost use Rattle.lfs_memory.specs.Memory.{IsMemory, tables_of};
 ghost use Rattle.lfs_memory.specs.Present.{IsExcused, AnswersBlock};
-ghost use Rattle.lfs_memory.specs.Lifting.{IsInMemory, Prepares, IsCounted, Brings, MapLifts, IsMapLost, IsAbsent, IsLeafAbsent};
+ghost use Rattle.lfs_memory.specs.Lifting.{IsInMemory, Prepares, Gathers, IsCounted, Brings, MapLifts, IsMapLost, IsAbsent, IsLeafAbsent};
 
 use crate::memory::LogMemory;
 use crate::present::read_present;
@@ -132,6 +132,7 @@ pub fn lift<D: SectorDevice>(
     requires above { 2 ≤ address }
     requires mapped { (n : ℕ) → entry_of key ≡ Inode n → is_hidden_in memory.old.map n ≡ false → block_in memory.old.map (n / 128) ≡ 1 }
     ensures prepares { Prepares (D.state device.old) (D.state device.new) memory.old memory.new 1 }
+    ensures gathers { Gathers (D.state device.old) (D.state device.new) memory.old memory.new }
     ensures inside { OnOk result (IsInMemory memory.new (entry_of key)) }
     ensures same { OnErr result (memory.new ≡ memory.old) }
     ensures full { IsErrOf result LiftFault.Full → memory.new.dirty.capacity.limit ≤ length memory.new.dirty.blocks }
@@ -175,6 +176,7 @@ pub fn lift_inode<D: SectorDevice>(
     requires memory { IsMemory memory.old }
     requires number { number < 4096 }
     ensures prepares { Prepares (D.state device.old) (D.state device.new) memory.old memory.new 1 }
+    ensures gathers { Gathers (D.state device.old) (D.state device.new) memory.old memory.new }
     ensures inside { IfOk result (λ found. IsTrue found → (1 ≤ number) × IsInMemory memory.new (Inode number)) }
     ensures none { IfOk result (λ found. IsFalse found → (number ≡ 0) ⊎ (address_in memory.old.map number ≡ 0)) }
     ensures same { IfOk result (λ found. IsFalse found → memory.new ≡ memory.old) }
@@ -233,6 +235,7 @@ pub fn lift_child<D: SectorDevice>(
     requires below { parent (entry_of key) ≡ entry_of key → ⊥ }
     requires above { IsInMemory memory.old (parent (entry_of key)) }
     ensures prepares { Prepares (D.state device.old) (D.state device.new) memory.old memory.new 1 }
+    ensures gathers { Gathers (D.state device.old) (D.state device.new) memory.old memory.new }
     ensures inside { IfOk result (λ found. IsTrue found → IsInMemory memory.new (entry_of key)) }
     ensures none { IfOk result (λ found. IsFalse found → IsAt (blocks_of memory.new.dirty) (tables_of memory.new) (entry_of key) 0) }
     ensures same { IfOk result (λ found. IsFalse found → memory.new ≡ memory.old) }
@@ -274,6 +277,7 @@ pub fn lift_leaf<D: SectorDevice>(
     requires index { index ≤ 128 }
     requires above { IsInMemory memory.old (Inode number) }
     ensures prepares { Prepares (D.state device.old) (D.state device.new) memory.old memory.new 2 }
+    ensures gathers { Gathers (D.state device.old) (D.state device.new) memory.old memory.new }
     ensures inside { IfOk result (λ found. IsTrue found → IsInMemory memory.new (Leaf number index)) }
     ensures absent { IfOk result (λ found. IsFalse found → IsLeafAbsent (D.state device.old) (D.state device.new) memory.old number index) }
     ensures full { IsErrOf result LiftFault.Full → memory.new.dirty.capacity.limit ≤ length memory.new.dirty.blocks }
@@ -308,6 +312,7 @@ pub fn lift_way<D: SectorDevice>(
     requires number { number < 4096 }
     requires index { index ≤ 16623 }
     ensures prepares { Prepares (D.state device.old) (D.state device.new) memory.old memory.new 3 }
+    ensures gathers { Gathers (D.state device.old) (D.state device.new) memory.old memory.new }
     ensures inside { IfOk result (λ found. IsTrue found → (1 ≤ number) × IsInMemory memory.new (parent (Data number index))) }
     ensures absent { IfOk result (λ found. IsFalse found → AnswersBlock (D.state device.old) (D.state device.new) memory.old number index [] false) }
     ensures full { IsErrOf result LiftFault.Full → memory.new.dirty.capacity.limit ≤ length memory.new.dirty.blocks }

@@ -2,6 +2,8 @@ use Rattle.std.proofs.Common.{rules, refl, subst}
 use Rattle.lfs_model.specs.Staging.{IsAt}
 use Rattle.lfs_memory.proofs.Lifted.{prepares_none, not_inside}
 use Rattle.lfs_memory.proofs.LiftedKeys.{file_is}
+use Rattle.lfs_memory.proofs.Gathered.{gathers_looks}
+use Rattle.lfs_memory.proofs.Presents.{looks_none}
 use Rattle.lfs_memory.proofs.lifting.lift_child.Goals as goal
 
 pub returns-then-address-eq0-clause-prepares : goal.returns-then-address-eq0-clause-prepares
@@ -19,3 +21,12 @@ returns-then-address-eq-IN_MEMORY-clause-failed g c is =
 
 pub returns-in-Err-clause-failed : goal.returns-in-Err-clause-failed
 returns-in-Err-clause-failed g c is = c.in-Err.ensures.failed (search rules)
+
+pub returns-then-address-eq0-clause-gathers : goal.returns-then-address-eq0-clause-gathers
+returns-then-address-eq0-clause-gathers g c = gathers_looks (g.D.SectorDevice.state c.args.device.now) (g.D.SectorDevice.state c.args.device.now) c.args.memory.now (looks_none (g.D.SectorDevice.state c.args.device.now))
+
+pub returns-then-has_block-clause-gathers : goal.returns-then-has_block-clause-gathers
+returns-then-has_block-clause-gathers g c = gathers_looks (g.D.SectorDevice.state c.args.device.now) (g.D.SectorDevice.state c.args.device.now) c.args.memory.now (looks_none (g.D.SectorDevice.state c.args.device.now))
+
+pub returns-then-address-eq-IN_MEMORY-clause-gathers : goal.returns-then-address-eq-IN_MEMORY-clause-gathers
+returns-then-address-eq-IN_MEMORY-clause-gathers g c = gathers_looks (g.D.SectorDevice.state c.args.device.now) (g.D.SectorDevice.state c.args.device.now) c.args.memory.now (looks_none (g.D.SectorDevice.state c.args.device.now))

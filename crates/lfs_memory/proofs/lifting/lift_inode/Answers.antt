@@ -2,6 +2,8 @@ use Rattle.std.proofs.Common.{rules, ◌/◌, ◌∙◌, sym, ap, refl}
 use Rattle.lfs_memory.proofs.Presents.{nobody, no_inode}
 use Rattle.lfs_memory.proofs.Lifted.{prepares_none, prepares_then, prepares_excused, map_of_prepares, map_lost, inode_stands, not_inside}
 use Rattle.lfs_memory.proofs.LiftedKeys.{file_is}
+use Rattle.lfs_memory.proofs.Gathered.{gathers_looks, gathers_none, gathers_then, map_of_gathers}
+use Rattle.lfs_memory.proofs.Presents.{looks_none}
 use Rattle.lfs_memory.proofs.lifting.lift_inode.Goals as goal
 
 pub returns-then-number-eq0-clause-prepares : goal.returns-then-number-eq0-clause-prepares
@@ -48,3 +50,28 @@ returns-in-Err-lift-clause-failed g c is =
     prepares_excused (g.D.SectorDevice.state c.args.device.now) (g.D.SectorDevice.state c.args.device.now) (g.D.SectorDevice.state c.lift.new.device) c.args.memory.now c.lift_map_of.new.memory 0
     (map_of_prepares (g.D.SectorDevice.state c.args.device.now) c.args.memory.now c.lift_map_of.new.memory (c.args.number / 128) (g.met.D.SectorDevice.lawful c.args.device.now) c.requires.memory c.in-Ok.ensures.done) c.lift.ensures.prepares.looks
     (c.in-Err-lift.ensures.failed (search rules))
+
+pub returns-then-number-eq0-clause-gathers : goal.returns-then-number-eq0-clause-gathers
+returns-then-number-eq0-clause-gathers g c = gathers_looks (g.D.SectorDevice.state c.args.device.now) (g.D.SectorDevice.state c.args.device.now) c.args.memory.now (looks_none (g.D.SectorDevice.state c.args.device.now))
+
+pub returns-then-address-eq0-clause-gathers : goal.returns-then-address-eq0-clause-gathers
+returns-then-address-eq0-clause-gathers g c = gathers_looks (g.D.SectorDevice.state c.args.device.now) (g.D.SectorDevice.state c.args.device.now) c.args.memory.now (looks_none (g.D.SectorDevice.state c.args.device.now))
+
+pub returns-then-has_block-clause-gathers : goal.returns-then-has_block-clause-gathers
+returns-then-has_block-clause-gathers g c = gathers_looks (g.D.SectorDevice.state c.args.device.now) (g.D.SectorDevice.state c.args.device.now) c.args.memory.now (looks_none (g.D.SectorDevice.state c.args.device.now))
+
+pub returns-then-address-eq-IN_MEMORY-clause-gathers : goal.returns-then-address-eq-IN_MEMORY-clause-gathers
+returns-then-address-eq-IN_MEMORY-clause-gathers g c = gathers_looks (g.D.SectorDevice.state c.args.device.now) (g.D.SectorDevice.state c.args.device.now) c.args.memory.now (looks_none (g.D.SectorDevice.state c.args.device.now))
+
+pub returns-in-Err-clause-gathers : goal.returns-in-Err-clause-gathers
+returns-in-Err-clause-gathers g c = gathers_none (g.D.SectorDevice.state c.args.device.now) c.args.memory.now c.lift_map_of.new.memory c.in-Err.ensures.same
+
+pub returns-in-Ok-lift-clause-gathers : goal.returns-in-Ok-lift-clause-gathers
+returns-in-Ok-lift-clause-gathers g c = 
+    gathers_then (g.D.SectorDevice.state c.args.device.now) (g.D.SectorDevice.state c.args.device.now) (g.D.SectorDevice.state c.lift.new.device) c.args.memory.now c.lift_map_of.new.memory c.lift.new.memory c.lift.ensures.prepares.looks.carries.kept_before
+    (map_of_gathers (g.D.SectorDevice.state c.args.device.now) c.args.memory.now c.lift_map_of.new.memory (c.args.number / 128) c.in-Ok.ensures.done) c.lift.ensures.gathers
+
+pub returns-in-Err-lift-clause-gathers : goal.returns-in-Err-lift-clause-gathers
+returns-in-Err-lift-clause-gathers g c = 
+    gathers_then (g.D.SectorDevice.state c.args.device.now) (g.D.SectorDevice.state c.args.device.now) (g.D.SectorDevice.state c.lift.new.device) c.args.memory.now c.lift_map_of.new.memory c.lift.new.memory c.lift.ensures.prepares.looks.carries.kept_before
+    (map_of_gathers (g.D.SectorDevice.state c.args.device.now) c.args.memory.now c.lift_map_of.new.memory (c.args.number / 128) c.in-Ok.ensures.done) c.lift.ensures.gathers

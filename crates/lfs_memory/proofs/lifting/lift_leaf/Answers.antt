@@ -1,6 +1,7 @@
 use Rattle.std.proofs.Common.{rules}
 use Rattle.lfs_memory.proofs.Lifted.{prepares_then, prepares_excused}
 use Rattle.lfs_memory.proofs.LiftedWays.{no_leaf, no_double, leaf_absent_then, if_ok}
+use Rattle.lfs_memory.proofs.Gathered.{gathers_then}
 use Rattle.lfs_memory.proofs.lifting.lift_leaf.Goals as goal
 
 pub returns-then-index-eq0-clause-absent : goal.returns-then-index-eq0-clause-absent
@@ -23,3 +24,8 @@ returns-clause-absent g c =
 pub returns-clause-failed : goal.returns-clause-failed
 returns-clause-failed g c is =
     prepares_excused (g.D.SectorDevice.state c.args.device.now) (g.D.SectorDevice.state c.lift_child-2.new.device) (g.D.SectorDevice.state c.lift_child-3.new.device) c.args.memory.now c.lift_child-2.new.memory 1 c.lift_child-2.ensures.prepares c.lift_child-3.ensures.prepares.looks (c.lift_child-3.ensures.failed is)
+
+pub returns-clause-gathers : goal.returns-clause-gathers
+returns-clause-gathers g c = 
+    gathers_then (g.D.SectorDevice.state c.args.device.now) (g.D.SectorDevice.state c.lift_child-2.new.device) (g.D.SectorDevice.state c.lift_child-3.new.device) c.args.memory.now c.lift_child-2.new.memory c.lift_child-3.new.memory
+    c.lift_child-3.ensures.prepares.looks.carries.kept_before c.lift_child-2.ensures.gathers c.lift_child-3.ensures.gathers

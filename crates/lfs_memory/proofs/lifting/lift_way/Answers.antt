@@ -1,6 +1,7 @@
 use Rattle.std.proofs.Common.{rules, ◌≤◌}
 use Rattle.lfs_memory.proofs.Lifted.{prepares_then, prepares_excused}
 use Rattle.lfs_memory.proofs.LiftedWays.{no_inode_way, no_leaf_way, if_ok}
+use Rattle.lfs_memory.proofs.Gathered.{gathers_then}
 use Rattle.lfs_memory.proofs.lifting.lift_way.Goals as goal
 
 pub returns-in-Ok-false-clause-absent : goal.returns-in-Ok-false-clause-absent
@@ -19,3 +20,8 @@ returns-clause-absent g c =
 pub returns-clause-failed : goal.returns-clause-failed
 returns-clause-failed g c is =
     prepares_excused (g.D.SectorDevice.state c.args.device.now) (g.D.SectorDevice.state c.lift_inode.new.device) (g.D.SectorDevice.state c.lift_leaf.new.device) c.args.memory.now c.lift_inode.new.memory 1 c.lift_inode.ensures.prepares c.lift_leaf.ensures.prepares.looks (c.lift_leaf.ensures.failed is)
+
+pub returns-clause-gathers : goal.returns-clause-gathers
+returns-clause-gathers g c = 
+    gathers_then (g.D.SectorDevice.state c.args.device.now) (g.D.SectorDevice.state c.lift_inode.new.device) (g.D.SectorDevice.state c.lift_leaf.new.device) c.args.memory.now c.lift_inode.new.memory c.lift_leaf.new.memory
+    c.lift_leaf.ensures.prepares.looks.carries.kept_before c.lift_inode.ensures.gathers c.lift_leaf.ensures.gathers
