@@ -8,5 +8,11 @@ pub mod Saves
 pub mod Opens
 pub mod Volumes
 pub mod StoredBlocks
+pub mod Relocated
+pub mod TableBlocks
+pub mod RowLabels
+pub mod Vacated
+pub mod Cleaned
+pub mod Passes
 pub use Rattle.lfs_memory.proofs as of_memory
 pub use Rattle.lfs_verify.proofs as of_verify

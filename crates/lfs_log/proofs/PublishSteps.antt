@@ -73,7 +73,7 @@ module _ (v : LogMemory) (u : UsageTable) (go : Releases v.usage u) where
     count = subst IsSegmentCount (sym go.size) good.count;
     opened = λ some. let e = ap length none in absurd (omega arith);
     short = good.short;
-    usages = λ j one. good.usages j (sym (places_same (λ b. b.address) j) ∙ one);
+    usages = λ j one. places_same (λ b. b.stale) j ∙ good.usages j (sym (places_same (λ b. b.address) j) ∙ one);
     few = let few = good.few in let size = go.size in omega (arith, few, size);
   }
 
@@ -148,11 +148,23 @@ module _ (d d1 : DeviceState) (v : LogMemory) (number : ℕ) (lawful : IsLawful 
       running : Running d1 (blocks_of v.dirty) (tables_of v) k m0 m 1024 None
       running = as_chunk d1 (blocks_of v.dirty) (tables_of v) k m0 m (segment_in v.chunk) 1024 (chunk_in v.chunk) None (closed_segment v.chunk no_chunk) (closed_chunk v.chunk no_chunk) (synced k m0 m held.log).running
 
+      log : Running d (blocks_of v.dirty) (tables_of v) k m0 m (segment_in v.chunk) (chunk_in v.chunk)
+      log = held.log.running
+
       all_out : IsOut (blocks_of v.dirty) (tables_of v) k.segments
       all_out = record {
         empty = λ x. ap (λ (es : Blocks). blocks_in es x) out.dirty;
         maps = out.maps;
-        usages = good.usages;
+        usages = λ j one. ⊎_elim
+            (λ (low : j < (length v.usage.segments + 63) / 64). let bad : true ≡ false = sym (good.usages j one) ∙ out.fresh j low in absurd (cc))
+            (λ (high : (length v.usage.segments + 63) / 64 ≤ j).
+            let at : log.memory.at (Usage j) ≡ address_of v.usage j = log.tables.at (Usage j) refl in
+            let some : 0 < log.memory.at (Usage j) = omega (arith, at, one) in
+            let low = (log.laid.usages j).1 some in
+            let size = log.segments in
+            let count = held.log.segments in
+            absurd (omega (arith, low, high, size, count)))
+            (cases_lt j ((length v.usage.segments + 63) / 64));
         fresh = λ j lt. out.fresh j (subst (λ (n : ℕ). j < (n + 63) / 64) (sym held.log.segments) lt);
       }
 

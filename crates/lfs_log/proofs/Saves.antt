@@ -18,6 +18,7 @@ use Rattle.lfs_log.specs.Publishing.{IsAcknowledged, Publishes, PublishFails, Le
 use Rattle.lfs_log.specs.Saving.{Commits, CommitFails, segments_for}
 use Rattle.lfs_memory.proofs.Begun.{zero_or_more}
 use Rattle.lfs_memory.proofs.Rooms.{room_none, room_some}
+use Rattle.lfs_log.proofs.Cleaned.{emptied_clean}
 
 -- a commit of so many blocks, begun with no chunk, takes no more segments than these want
 pub segments_taken : (v v' : LogMemory) (blocks : ℕ) → v.chunk.names ≡ [] → IsMemory v' → room_of v ≤ room_of v' + (blocks + 48) → clean_in v.usage.segments ≤ clean_in v'.usage.segments + segments_for blocks
@@ -80,6 +81,7 @@ commits a b c v v' v'' n number goes done taken spare chunk dirty capacity = rec
   segments = done.segments ∙ goes.segments;
   gains = gains;
   many = let size = done.segments ∙ goes.segments in omega (arith, size, spare, gains);
+  cleaned = λ s is. emptied_clean v'.usage v''.usage s done.released (goes.emptied s is);
   no_failure = done.no_failure ∙ goes.no_failure;
   log = λ k m0 m keeps is. done.log k m0 m keeps (acknowledged_on a b v v' n number goes (done.carries.kept_before keeps) k m0 m is);
   moment = either_then a b c v v' n number goes done.carries.kept_before done.moment;

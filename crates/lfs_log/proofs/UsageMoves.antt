@@ -1,5 +1,6 @@
 -- A usage block gets a new place: what that leaves of the log.
 use Rattle.std.proofs.Common.{◌≡◌, ◌<◌, ◌≤◌, ⊎_elim, ◌+◌, ◌*◌, ◌/◌, true, false, ℕ, suc, List, [], ◌∷◌, ◌++◌, length, map, get_or, Option, Some, None, refl, sym, ◌∙◌, ap, subst, arith, length-append, Result, Ok, Err, OnOk}
+use Rattle.std.proofs.Math.Path.{fun_ext}
 use Rattle.std.proofs.lemmas.List.{length-map}
 use Rattle.std.proofs.lemmas.Bool.{cases_eq}
 use Rattle.lfs_model.specs.Entry.{Entry, Data, Leaf, Double, Inode, Map, Usage, entry_of}
@@ -19,16 +20,17 @@ use Rattle.lfs_model.proofs.Leaving.{beginning, usage_leaving}
 use Rattle.lfs_model.proofs.Stepping.{usage_settling}
 use Rattle.lfs_memory.specs.segments.Table.{SegmentNumbers, UsageTable, no_segment, used_of, live_of, held_of, age_of, taken_of, address_of, stale_of, clean_in}
 use Rattle.lfs_memory.specs.segments.Chunk.{Chunk, IsOpen, entries_of}
-use Rattle.lfs_memory.specs.segments.Steps.{Takes}
+use Rattle.lfs_memory.specs.segments.Steps.{Lifts, Takes}
 use Rattle.lfs_memory.specs.segments.Emptied.{IsEmptied}
 use Rattle.lfs_memory.proofs.of_segments.StaysEmptied.{stays_emptied}
 use Rattle.lfs_memory.specs.inodes.Blocks.{TableValue, blocks_of}
 use Rattle.lfs_memory.specs.inodes.MapValue.{MapValue, address_in, block_in}
 use Rattle.lfs_memory.specs.declared.memory.LogMemory.{LogMemory}
-use Rattle.lfs_memory.specs.Memory.{table_at, tables_of, segment_in, chunk_in, room_of, IsMemoryUpTo, IsMemory, AreHidden, IsLog, Goes, Stops}
+use Rattle.lfs_memory.specs.Memory.{table_at, tables_by, tables_of, segment_in, chunk_in, room_of, IsMemoryUpTo, IsMemory, AreHidden, IsLog, Goes, Stops}
 use Rattle.lfs_memory.proofs.Opened.{open_segment, open_chunk, closed_segment, closed_chunk, as_chunk}
 use Rattle.lfs_memory.proofs.Rooms.{room_none, room_some}
-use Rattle.lfs_log.specs.Settling.{IsThere, Resettles, IsResettled, usage_name}
+use Rattle.lfs_memory.proofs.Stales.{stays_stale}
+use Rattle.lfs_log.specs.Settling.{IsNowhere, IsThere, Resettles, IsResettled, usage_name}
 
 -- ---- facts of a result
 pub all_ok : {A E : Type 0} (r : Result A E) (P : Type 0) → P → OnOk r P
@@ -96,6 +98,19 @@ without_same v u u' j same y = ⊎_elim
     pick_no (same_entry y (Usage j)) 1 (table_at v u' y) ne ∙ table_other v v u u' j refl (λ i away. same i) y ne ∙ sym (pick_no (same_entry y (Usage j)) 1 (table_at v u y) ne))
     (same_entry y (Usage j))
 
+-- where usage block j has left its address, that changes nothing
+without_left : (map : MapValue) (usage : UsageTable) (j : ℕ) → address_of usage j ≡ 1 → tables_by map usage ≡ without map usage j
+without_left map usage j one = ap (λ (at : Entry → ℕ). by_at at) (fun_ext (λ x. sym (same x)))
+  where
+    by_at : (Entry → ℕ) → Tables
+    by_at at = record { at = at; used = used_of usage; live = live_of usage; held = held_of usage; age = age_of usage; taken = taken_of usage; stale = stale_of usage }
+
+    same : (x : Entry) → pick (same_entry x (Usage j)) 1 (table_at map usage x) ≡ table_at map usage x
+    same x = ⊎_elim
+        (λ (here : x ≡ Usage j). pick_yes (same_entry x (Usage j)) 1 (table_at map usage x) here ∙ sym one ∙ ap (table_at map usage) (sym here))
+        (λ (ne : x ≡ Usage j → ⊥). pick_no (same_entry x (Usage j)) 1 (table_at map usage x) ne)
+        (same_entry x (Usage j))
+
 module _ (v v' : LogMemory) (j number : ℕ) (good : IsMemory v) (old : stale_of v.usage j ≡ true) (r : Resettles v v' j number) where
   seg : ℕ
   seg = r.placed.chunk.segment
@@ -111,29 +126,63 @@ module _ (v v' : LogMemory) (j number : ℕ) (good : IsMemory v) (old : stale_of
       (λ (ne : length v.chunk.names ≡ 0 → ⊥). let lt : 0 < length v.chunk.names = omega arith in let g = r.places.went_on lt in on lt g.0 g.1)
       (cases_eq (length v.chunk.names) 0)
 
+  -- it has left its address before, or leaves it now
+  if_left : (P : Type 0) → (r.lifted ≡ v.usage → P) → (2 ≤ address_of v.usage j → Lifts v.usage r.lifted (segment_of (address_of v.usage j)) true → P) → P
+  if_left P before now = ⊎_elim
+      (λ (one : address_of v.usage j ≡ 1). before (r.leaves.left one))
+      (λ (ne : address_of v.usage j ≡ 1 → ⊥). now (r.leaves.above ne) (r.leaves.lifts ne))
+      (cases_eq (address_of v.usage j) 1)
+
+  lifted_size : length r.lifted.segments ≡ length v.usage.segments
+  lifted_size = if_left (length r.lifted.segments ≡ length v.usage.segments) (λ same. ap (λ (u : UsageTable). length u.segments) same) (λ above go. go.size)
+
+  lifted_address : (i : ℕ) → address_of r.lifted i ≡ address_of v.usage i
+  lifted_address i = if_left (address_of r.lifted i ≡ address_of v.usage i) (λ same. ap (λ (u : UsageTable). address_of u i) same) (λ above go. go.blocks.address i)
+
+  lifted_clean : clean_in r.lifted.segments ≡ clean_in v.usage.segments
+  lifted_clean = if_left (clean_in r.lifted.segments ≡ clean_in v.usage.segments) (λ same. ap (λ (u : UsageTable). clean_in u.segments) same) (λ above go. go.clean)
+
+  lifted_taken : (i : ℕ) → taken_of r.lifted i ≡ taken_of v.usage i
+  lifted_taken i = if_left (taken_of r.lifted i ≡ taken_of v.usage i) (λ same. ap (λ (u : UsageTable). taken_of u i) same) (λ above go. go.taken i)
+
   mid_size : length r.places.middle.segments ≡ length v.usage.segments
   mid_size = by_case (length r.places.middle.segments ≡ length v.usage.segments)
-      (λ z takes. takes.size ∙ r.leaves.lifts.size)
-      (λ lt same on. ap (λ (u : UsageTable). length u.segments) same ∙ r.leaves.lifts.size)
+      (λ z takes. takes.size ∙ lifted_size)
+      (λ lt same on. ap (λ (u : UsageTable). length u.segments) same ∙ lifted_size)
 
   pub new_size : length v'.usage.segments ≡ length v.usage.segments
   new_size = ap length r.puts.segments ∙ r.places.noted.size ∙ mid_size
 
   mid_address : (i : ℕ) → address_of r.places.middle i ≡ address_of v.usage i
   mid_address i = by_case (address_of r.places.middle i ≡ address_of v.usage i)
-      (λ z takes. (takes.blocks i).1 ∙ r.leaves.lifts.blocks.address i)
-      (λ lt same on. ap (λ (u : UsageTable). address_of u i) same ∙ r.leaves.lifts.blocks.address i)
+      (λ z takes. (takes.blocks i).1 ∙ lifted_address i)
+      (λ lt same on. ap (λ (u : UsageTable). address_of u i) same ∙ lifted_address i)
 
   lifted_stale : stale_of r.lifted j ≡ true
-  lifted_stale = ⊎_elim
-      (λ (here : j ≡ segment_of (address_of v.usage j) / 64). ap (stale_of r.lifted) here ∙ r.leaves.lifts.blocks.stale.own)
-      (λ (away : j ≡ segment_of (address_of v.usage j) / 64 → ⊥). r.leaves.lifts.blocks.stale.others j away ∙ old)
-      (cases_eq j (segment_of (address_of v.usage j) / 64))
+  lifted_stale = if_left (stale_of r.lifted j ≡ true)
+      (λ same. ap (λ (u : UsageTable). stale_of u j) same ∙ old)
+      (λ above go. stays_stale v.usage r.lifted (segment_of (address_of v.usage j) / 64) j go.blocks old)
 
   mid_stale : stale_of r.places.middle j ≡ true
   mid_stale = by_case (stale_of r.places.middle j ≡ true)
       (λ z takes. (takes.blocks j).0 ∙ lifted_stale)
       (λ lt same on. ap (λ (u : UsageTable). stale_of u j) same ∙ lifted_stale)
+
+  new_stale : (i : ℕ) → stale_of v.usage i ≡ true → stale_of v'.usage i ≡ true
+  new_stale i on = ⊎_elim
+      (λ (here : i ≡ j). ap (stale_of v'.usage) here ∙ r.puts.stale.own)
+      (λ (ne : i ≡ j → ⊥).
+      r.puts.stale.others i ne
+      ∙ stays_stale r.places.middle r.placed.usage (r.placed.chunk.segment / 64) i r.places.noted.blocks
+      (by_case (stale_of r.places.middle i ≡ true)
+      (λ z takes. (takes.blocks i).0 ∙ still)
+      (λ lt same went. ap (λ (u : UsageTable). stale_of u i) same ∙ still)))
+      (cases_eq i j)
+    where
+      still : stale_of r.lifted i ≡ true
+      still = if_left (stale_of r.lifted i ≡ true)
+          (λ same. ap (λ (u : UsageTable). stale_of u i) same ∙ on)
+          (λ above go. stays_stale v.usage r.lifted (segment_of (address_of v.usage j) / 64) i go.blocks on)
 
   pub new_names : v'.chunk.names ≡ v.chunk.names ++ usage_name j ∷ []
   new_names = ap (λ (c : Chunk). c.names) r.chunk ∙ r.places.names
@@ -173,7 +222,7 @@ module _ (v v' : LogMemory) (j number : ℕ) (good : IsMemory v) (old : stale_of
     short = let l = new_length in let s = good.short in omega arith;
     usages = λ i one. ⊎_elim
         (λ (here : i ≡ j). let a = r.puts.address.own in let b = r.places.address in let c = ap (address_of v'.usage) here in absurd (omega arith))
-        (λ (ne : i ≡ j → ⊥). good.usages i (sym (mid_address i) ∙ sym (other_address i ne) ∙ one))
+        (λ (ne : i ≡ j → ⊥). new_stale i (good.usages i (sym (mid_address i) ∙ sym (other_address i ne) ∙ one)))
         (cases_eq i j);
     few = let f = good.few in let c = ap (λ (t : TableValue). t.capacity.limit) new_dirty in let size = new_size in omega (arith, f, c, size);
   }
@@ -183,7 +232,7 @@ module _ (v v' : LogMemory) (j number : ℕ) (good : IsMemory v) (old : stale_of
       let l = new_length in
       let s = good.short in
       let c : clean_in v'.usage.segments ≡ clean_in r.places.middle.segments = ap clean_in r.puts.segments ∙ r.places.noted.clean in
-      let u = r.leaves.lifts.clean in
+      let u = lifted_clean in
       let n = room_some v'.chunk.names new_some in
       by_case (room_of v ≤ room_of v' + 1)
       (λ z takes. let e = takes.count in let o = room_none v.chunk.names z in omega arith)
@@ -204,24 +253,24 @@ module _ (v v' : LogMemory) (j number : ℕ) (good : IsMemory v) (old : stale_of
             ∙ by_case (taken_of r.places.middle i ≡ true)
             (λ z takes. ⊎_elim
             (λ (here : i ≡ r.placed.chunk.segment). ap (taken_of r.places.middle) here ∙ takes.taken.own)
-            (λ (away : i ≡ r.placed.chunk.segment → ⊥). takes.taken.others i away ∙ r.leaves.lifts.taken i ∙ on)
+            (λ (away : i ≡ r.placed.chunk.segment → ⊥). takes.taken.others i away ∙ lifted_taken i ∙ on)
             (cases_eq i r.placed.chunk.segment))
-            (λ lt same went. ap (λ (u : UsageTable). taken_of u i) same ∙ r.leaves.lifts.taken i ∙ on);
+            (λ lt same went. ap (λ (u : UsageTable). taken_of u i) same ∙ lifted_taken i ∙ on);
       }
 
   module _ (m : LogMap) where
-    lifts_now : IsLifted m (tables_of v) (without v.map r.lifted j) (Usage j) 1 (segment_of (address_of v.usage j))
-    lifts_now = record {
+    lifts_now : Lifts v.usage r.lifted (segment_of (address_of v.usage j)) true → IsLifted m (tables_of v) (without v.map r.lifted j) (Usage j) 1 (segment_of (address_of v.usage j))
+    lifts_now go = record {
       at = record {
         own = λ top. pick_yes (same_entry (Usage j) (Usage j)) 1 (table_at v.map r.lifted (Usage j)) refl;
-        others = λ y top ne. pick_no (same_entry y (Usage j)) 1 (table_at v.map r.lifted y) ne ∙ table_other v.map v.map v.usage r.lifted j refl (λ i away. r.leaves.lifts.blocks.address i) y ne;
+        others = λ y top ne. pick_no (same_entry y (Usage j)) 1 (table_at v.map r.lifted y) ne ∙ table_other v.map v.map v.usage r.lifted j refl (λ i away. go.blocks.address i) y ne;
       };
-      used = r.leaves.lifts.used;
-      live = r.leaves.lifts.live;
-      held = r.leaves.lifts.held;
-      age = r.leaves.lifts.age;
-      taken = r.leaves.lifts.taken;
-      stale = r.leaves.lifts.blocks.stale;
+      used = go.used;
+      live = go.live;
+      held = go.held;
+      age = go.age;
+      taken = go.taken;
+      stale = go.blocks.stale;
     }
 
     takes_now : Takes r.lifted r.places.middle r.placed.chunk.segment number → IsTakenFrom (without v.map r.lifted j) (without v.map r.places.middle j) r.placed.chunk.segment
@@ -264,14 +313,20 @@ module _ (v v' : LogMemory) (j number : ℕ) (good : IsMemory v) (old : stale_of
 
     module _ (d : DeviceState) (k : CheckpointValue) (m0 : LogMap) (log : IsLog d v k m0 m) where
       left_now : Running d (blocks_of v.dirty) (without v.map r.lifted j) k m0 m (segment_in v.chunk) (chunk_in v.chunk)
-      left_now = usage_leaving d (blocks_of v.dirty) (tables_of v) (without v.map r.lifted j) k m0 m (segment_in v.chunk) (chunk_in v.chunk) j log.running r.leaves.above old lifts_now
+      left_now = ⊎_elim
+          (λ (one : address_of v.usage j ≡ 1).
+          subst (λ (u : UsageTable). Running d (blocks_of v.dirty) (without v.map u j) k m0 m (segment_in v.chunk) (chunk_in v.chunk)) (sym (r.leaves.left one))
+          (subst (λ (t : Tables). Running d (blocks_of v.dirty) t k m0 m (segment_in v.chunk) (chunk_in v.chunk)) (without_left v.map v.usage j one) log.running))
+          (λ (ne : address_of v.usage j ≡ 1 → ⊥).
+          usage_leaving d (blocks_of v.dirty) (tables_of v) (without v.map r.lifted j) k m0 m (segment_in v.chunk) (chunk_in v.chunk) j log.running (r.leaves.above ne) old (lifts_now (r.leaves.lifts ne)))
+          (cases_eq (address_of v.usage j) 1)
 
       open_now : Running d (blocks_of v.dirty) (without v.map r.places.middle j) k m0 m r.placed.chunk.segment (Some (entries_of v.chunk))
       open_now = goes_into d (blocks_of v.dirty) (without v.map r.lifted j) (without v.map r.places.middle j) k m0 m v.chunk r.placed.chunk.segment left_now
           (λ z.
           let t = r.places.begun z in
           let s = log.segments in
-          let e = r.leaves.lifts.size in
+          let e = lifted_size in
           let i = t.inside in
           (omega arith, takes_now t))
           (λ ne. let g = r.places.went_on (omega arith) in (ap (λ (u : UsageTable). without v.map u j) g.0, g.1))
@@ -302,7 +357,8 @@ module _ (v v' : LogMemory) (j number : ℕ) (good : IsMemory v) (old : stale_of
   -- a segment that was emptied stays so
   pub resettled_emptied : (s : ℕ) → IsEmptied v.usage s → IsEmptied v'.usage s
   resettled_emptied s is =
-      let lifted : IsEmptied r.lifted s = (stays_emptied v.usage r.lifted s is).2 (segment_of (address_of v.usage j)) true r.leaves.lifts in
+      let lifted : IsEmptied r.lifted s = if_left (IsEmptied r.lifted s) (λ same. subst (λ (u : UsageTable). IsEmptied u s) (sym same) is)
+      (λ above go. (stays_emptied v.usage r.lifted s is).2 (segment_of (address_of v.usage j)) true go) in
       let middle : IsEmptied r.places.middle s = by_case (IsEmptied r.places.middle s)
       (λ z takes. (stays_emptied r.lifted r.places.middle s lifted).0 r.placed.chunk.segment number takes)
       (λ lt same on. subst (λ (u : UsageTable). IsEmptied u s) (sym same) lifted) in
@@ -330,14 +386,13 @@ module _ (v v' : LogMemory) (j number : ℕ) (good : IsMemory v) (old : stale_of
     quiet = λ k m0 m keeps log. s.quiet k m0 m keeps (resettled_log m d k m0 log);
   }
 
--- ---- a usage block of the volume lives on the device
-pub usage_there : (d : DeviceState) (v : LogMemory) (k : CheckpointValue) (m0 m : LogMap) (j : ℕ) → IsMemory v → j < (length v.usage.segments + 63) / 64 → IsLog d v k m0 m → IsThere v.usage j
-usage_there d v k m0 m j good low log =
+-- ---- a usage block of the volume lives on the device, where it hasn't left its address
+pub usage_there : (d : DeviceState) (v : LogMemory) (k : CheckpointValue) (m0 m : LogMap) (j : ℕ) → (address_of v.usage j ≡ 1 → ⊥) → j < (length v.usage.segments + 63) / 64 → IsLog d v k m0 m → IsThere v.usage j
+usage_there d v k m0 m j not_one low log =
     let w = log.running in
     let same : w.memory.at (Usage j) ≡ address_of v.usage j = w.tables.at (Usage j) refl in
     let size : w.memory.segments ≡ length v.usage.segments = w.segments ∙ sym log.segments in
     let some : 0 < w.memory.at (Usage j) = (w.laid.usages j).0 (omega arith) in
-    let not_one = good.usages j in
     let above : 2 ≤ address_of v.usage j = omega arith in
     let there : 2 ≤ w.memory.at (Usage j) = omega arith in
     let within = w.laid.within (Usage j) there in
@@ -350,12 +405,12 @@ usage_there d v k m0 m j good low log =
     }
 
 -- so a part of a commit doesn't end where it would not
-pub not_there : (d : DeviceState) (v : LogMemory) (j : ℕ) → IsMemory v → j < (length v.usage.segments + 63) / 64 → (IsThere v.usage j → ⊥) → Carries d d → Stops d d v
-not_there d v j good low none carries = record {
+pub not_there : (d : DeviceState) (v : LogMemory) (j : ℕ) → j < (length v.usage.segments + 63) / 64 → IsNowhere v.usage j → Carries d d → Stops d d v
+not_there d v j low none carries = record {
   carries = carries;
-  cause = λ k m0 m keeps log. absurd (none (usage_there d v k m0 m j good low log));
-  settled = λ k m0 m keeps log. absurd (none (usage_there d v k m0 m j good low log));
-  quiet = λ k m0 m keeps log. absurd (none (usage_there d v k m0 m j good low log));
+  cause = λ k m0 m keeps log. absurd (none.lost (usage_there d v k m0 m j none.stayed low log));
+  settled = λ k m0 m keeps log. absurd (none.lost (usage_there d v k m0 m j none.stayed low log));
+  quiet = λ k m0 m keeps log. absurd (none.lost (usage_there d v k m0 m j none.stayed low log));
 }
 
 pub usage_placed : (j : ℕ) → j ≤ 15 → IsPlaced kind.Usage 0 j

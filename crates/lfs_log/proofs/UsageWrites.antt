@@ -68,7 +68,10 @@ module _ (v : LogMemory) (j : ℕ) (u : UsageTable) (good : IsMemory v) (is : Is
           taken = same_numbers (λ n. n.taken) v.chunk.segment ∙ o.taken;
         };
     short = good.short;
-    usages = λ i one. good.usages i (sym (put_address i) ∙ one);
+    usages = λ i one. ⊎_elim
+        (λ (here : i ≡ j). let own = is.0 in let there = put_address i ∙ ap (address_of v.usage) here in absurd (omega (arith, own, there, one)))
+        (λ (ne : i ≡ j → ⊥). puts.stale.others i ne ∙ good.usages i (sym (put_address i) ∙ one))
+        (cases_eq i j);
     few = subst (λ (x : List SegmentNumbers). v.dirty.capacity.limit + 48 ≤ 63 * (length x / 8)) (sym puts.segments) good.few;
   }
 

@@ -123,8 +123,13 @@ pub record IsRunning (d : DeviceState) (v : LogMemory) : Type 0 where
   -- memory for all that a cleaning pass may bring there
   pub reserved : v.dirty.capacity.room + 48 ≡ 63 * (length v.usage.segments / 8)
 
-abbrev pub IsHeld : DeviceState → LogMemory → Bool → Type 0
-IsHeld d v halted = halted ≡ false → IsRunning d v
+-- and it has memory to keep the tables in, while a pass of the cleaner runs
+pub record IsReady (d : DeviceState) (v : LogMemory) (before : UsageTable) : Type 0 where
+  pub running : IsRunning d v
+  pub saved : length before.segments ≡ length v.usage.segments
+
+abbrev pub IsHeld : DeviceState → LogMemory → UsageTable → Bool → Type 0
+IsHeld d v before halted = halted ≡ false → IsReady d v before
 
 module _ {D : Type 0} (state : D → DeviceState) where
   -- The log holds log map m, and the acknowledged checkpoint k, whose number it knows, stands for m0.

@@ -3,6 +3,8 @@ pub mod Publishing
 pub mod Saving
 pub mod Opening
 pub mod Held
+pub mod Relocating
+pub mod Cleaning
 pub use Rattle.lfs_memory.specs as memory
 pub use Rattle.lfs_memory.specs.files
 pub use Rattle.lfs_memory.specs.inodes

@@ -5,7 +5,8 @@ use Rattle.lfs_model.specs.Crash.{StandsForOn}
 use Rattle.lfs_model.specs.Device.{DeviceState, Carries, AllLeft}
 use Rattle.lfs_model.specs.Stands.{LogMap}
 use Rattle.lfs_model.specs.TreeOf.{dropped}
-use Rattle.lfs_memory.specs.segments.Table.{clean_in}
+use Rattle.lfs_memory.specs.segments.Emptied.{IsEmptied}
+use Rattle.lfs_memory.specs.segments.Table.{used_of, clean_in}
 use Rattle.lfs_memory.specs.segments.Spare.{emptied_in}
 use Rattle.lfs_memory.specs.declared.memory.LogMemory.{LogMemory}
 use Rattle.lfs_memory.specs.Memory.{IsMemory, IsLog}
@@ -30,6 +31,7 @@ pub record Commits (d d' : DeviceState) (v v' : LogMemory) (number : ℕ) : Type
   pub segments : length v'.usage.segments ≡ length v.usage.segments
   pub gains : clean_in v.usage.segments + emptied_in v.usage.segments ≤ clean_in v'.usage.segments + segments_for (length v.dirty.blocks)
   pub many : length v'.usage.segments ≤ 8 * clean_in v'.usage.segments
+  pub cleaned : (s : ℕ) → IsEmptied v.usage s → used_of v'.usage s ≡ 0
   pub no_failure : d'.failures ≡ d.failures
   pub log : (k : CheckpointValue) (m0 m : LogMap) → d'.keeps_model → IsAcknowledged d v number k m0 m → (next : CheckpointValue) × (next.number ≡ number + 1) × IsLog d' v' next (dropped m) m
   pub moment : LeavesEither d d' v number

@@ -15,10 +15,16 @@ pub record IsThere (t : UsageTable) (j : ℕ) : Type 0 where
   pub inside : segment_of (address_of t j) < length t.segments
   pub live : 0 < live_of t (segment_of (address_of t j))
 
--- it lives no more at its address
+-- it neither lives there nor has left its address before
+pub record IsNowhere (t : UsageTable) (j : ℕ) : Type 0 where
+  pub stayed : address_of t j ≡ 1 → ⊥
+  pub lost : IsThere t j → ⊥
+
+-- it lives no more at its address, which it may have left before
 pub record Leaves (old new : UsageTable) (j : ℕ) : Type 0 where
-  pub above : 2 ≤ address_of old j
-  pub lifts : Lifts old new (segment_of (address_of old j)) true
+  pub left : address_of old j ≡ 1 → new ≡ old
+  pub above : (address_of old j ≡ 1 → ⊥) → 2 ≤ address_of old j
+  pub lifts : (address_of old j ≡ 1 → ⊥) → Lifts old new (segment_of (address_of old j)) true
 
 abbrev pub usage_name : ℕ → BlockNameValue
 usage_name j = record { file = 0; kind = kind.Usage; index = j }

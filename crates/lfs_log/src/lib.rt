@@ -1,12 +1,14 @@
 //! The log of a volume: what memory holds is saved in segments, and survives any stop.
 #![tactic(auto)]
 
+pub mod cleaning;
 pub mod committing;
 mod log;
 pub mod mapping;
 pub mod opening;
 pub mod placing;
 pub mod publishing;
+pub mod relocating;
 pub mod settling;
 
 pub use lfs_memory as memory;

@@ -2,6 +2,7 @@
 ghost use Rattle.std.specs.Prelude.{[], ◌≡◌, ◌≢◌, ◌<◌, ◌≤◌, ◌+◌, ◌-◌, ◌*◌, ◌^◌, true, false, length, IfSome, IfNone, IfOk, IfErr, OnOk, OnErr, IsErrOf, MatchResult, IsTrue, IsFalse};
 ghost use Rattle.lfs_model.specs.Device.{Only, IsUntouched, Carries, LeavesOnly};
 ghost use Rattle.lfs_model.specs.Fields.{zeros};
+ghost use Rattle.lfs_model.specs.Members.{AreApart};
 ghost use Rattle.lfs_memory.specs.segments.Table.{clean_in};
 ghost use Rattle.lfs_verify.specs.Faults.{IsOpenFault};
 ghost use Rattle.lfs_verify.specs.Verified.{HasLogMap, IsRefusedLog};
@@ -9,10 +10,12 @@ ghost use Rattle.lfs_log.specs.Opening.{CountsOpened};
 ghost use Rattle.lfs_memory.specs.Preparing.{LacksRoom};
 ghost use Rattle.lfs_memory.specs.Batch.{room_for};
 
+use crate::cleaning::{SavedTables, may_clean, most_of, relocate};
 use crate::committing::save;
-use crate::opening::open_memory;
+use crate::opening::{MOST_DIRTY, open_memory};
 use lfs_device::SectorDevice;
 use lfs_memory::counting::SegmentCounts;
+use lfs_memory::lifting::LiftFault;
 use lfs_memory::present::{locate_block, locate_leaf, read_block, read_header};
 use lfs_memory::segments::Usage;
 use lfs_memory::staging::{has_room, remove_tight, stage_tight};
@@ -32,6 +35,8 @@ pub struct Log<D: SectorDevice> {
     totals: BlockTotals,
     /// What a file loses is counted here.
     counts: SegmentCounts,
+    /// A cleaning pass keeps the tables that it found here.
+    before: SavedTables,
 }
 
 impl<D: SectorDevice> Model for Log<D> {
@@ -49,10 +54,11 @@ impl<D: SectorDevice> Model for Log<D> {
       totals = l.totals;
     } };
 
-    ghost invariant = { λ l. IsHeld (D.SectorDevice.state l.device) l.memory l.halted };
+    ghost invariant = { λ l. IsHeld (D.SectorDevice.state l.device) l.memory l.before.usage l.halted };
 }
 
 impl<D: SectorDevice> Log<D> {
+    ghost use Rattle.lfs_log.specs.Cleaning.{Cleans};
     ghost use Rattle.lfs_log.specs.Held.{Mounts, Saves, Halts, Reads, ReadsHeader, ReadsBlock, TellsBlock, TellsLeaf, IsReadFault, IsFull, IsVacant, HasAll, IsStaged, IsRefused, IsStageFault, IsRemoved, IsKept, HoldsOne};
 
     /// The volume that the newest checkpoint of the device leads to, with the totals of its files; else why there is none, and
@@ -93,6 +99,7 @@ impl<D: SectorDevice> Log<D> {
                 halted: false,
                 totals: opened.totals,
                 counts,
+                before: opened.before,
             }),
             Err(fault) => Err((fault, device)),
         }
@@ -366,6 +373,56 @@ impl<D: SectorDevice> Log<D> {
         }
         match save(&mut self.device, &mut self.memory, self.number) {
             Ok(()) => {
+                self.number += 1;
+                Ok(())
+            }
+            Err(_) => {
+                self.halted = true;
+                Err(LogFault::Halted)
+            }
+        }
+    }
+
+    /// A pass of the cleaner: all that lives in these segments goes elsewhere, the blocks of files without a name and those of the
+    /// tables too, and is saved. No block is left in them then, and fewer were taken for it. They are 2 at least, and an eighth of
+    /// all and one at most. It takes no memory.
+    ///
+    /// # Errors
+    ///
+    /// `Full` where something is unsaved, fewer than an eighth of the segments are clean, one of these is clean or wasn't there before
+    /// the acknowledged checkpoint, no number is left, or their blocks, with the inodes and blocks of pointers above them and the 48
+    /// of the tables, fill as many segments: nothing changed. `Device` where a call of the device failed before anything was written:
+    /// nothing changed. `Halted` where one failed later, or in a commit before.
+    pub fn clean(&mut self, victims: &[u16]) -> Result<(), LogFault>
+        requires { AreApart victims.now }
+        ensures done { OnOk result (Cleans D.SectorDevice.state self.old self.new victims.now) }
+        ensures full { IsErrOf result LogFault.Full → Reads D.SectorDevice.state self.old self.new }
+        ensures kept { IsErrOf result LogFault.Device → Reads D.SectorDevice.state self.old self.new }
+        ensures failed { IsErrOf result LogFault.Device → IsReadFault D.SectorDevice.state self.old self.new }
+        ensures halted { IsErrOf result LogFault.Halted → self.old.halted ≢ true → Halts D.SectorDevice.state self.old self.new }
+        ensures still { self.old.halted ≡ true → (self.new ≡ self.old) × IsErrOf result LogFault.Halted }
+    {
+        if self.halted {
+            return Err(LogFault::Halted);
+        }
+        if self.number == u64::MAX || !may_clean(&self.memory, victims) {
+            return Err(LogFault::Full);
+        }
+        let most = most_of(victims.len());
+        match relocate(
+            &mut self.device,
+            &mut self.memory,
+            &mut self.before,
+            victims,
+            most,
+        ) {
+            Ok(()) => {}
+            Err(LiftFault::Full) => return Err(LogFault::Full),
+            Err(LiftFault::Device) => return Err(LogFault::Device),
+        }
+        match save(&mut self.device, &mut self.memory, self.number) {
+            Ok(()) => {
+                self.memory.dirty.set_limit(MOST_DIRTY);
                 self.number += 1;
                 Ok(())
             }

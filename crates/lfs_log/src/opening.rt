@@ -7,6 +7,7 @@ ghost use Rattle.lfs_verify.specs.Take.{Looks};
 ghost use Rattle.lfs_verify.specs.Verified.{HasLogMap, IsRefusedLog};
 ghost use Rattle.lfs_log.specs.Opening.{CountsOpened, IsOpened, Opens};
 
+use crate::cleaning::SavedTables;
 use lfs_device::SectorDevice;
 use lfs_memory::LogMemory;
 use lfs_memory::inodes::DirtyTable;
@@ -16,7 +17,7 @@ use lfs_verify::{BlockTotals, MountFault};
 use std::alloc::Global;
 
 /// How many blocks of files may be in memory: with all blocks of the tables, eight chunks of them.
-const MOST_DIRTY: u32 = 456;
+pub const MOST_DIRTY: u32 = 456;
 
 /// How many blocks the tables have: 32 of the inode map, and 16 of usage.
 const TABLE_BLOCKS: u32 = 48;
@@ -39,6 +40,8 @@ pub struct OpenedLog {
     pub number: u64,
     /// How many blocks the files have.
     pub totals: BlockTotals,
+    /// Memory in which a cleaning pass keeps the tables that it found.
+    pub before: SavedTables,
 }
 
 /// The memory of the volume that a device holds, the number of its newest checkpoint, and how many blocks its files have. It writes
@@ -49,6 +52,7 @@ pub struct OpenedLog {
 /// `NoMemory` where memory is refused, `Device` where a call of the device failed; else the device holds no log map.
 pub fn open_memory<D: SectorDevice>(alloc: Global, device: &mut D) -> Result<OpenedLog, MountFault>
     ensures opened { IfOk result (λ r. IsOpened r.memory (D.state device.new).size) }
+    ensures saved { IfOk result (λ r. length r.before.usage.segments ≡ length r.memory.usage.segments) }
     ensures log { IfOk result (λ r. Opens (D.state device.old) (D.state device.new) r.memory r.number) }
     ensures counts { IfOk result (λ r. CountsOpened (D.state device.old) (D.state device.new) r.totals) }
     ensures found { OnOk result (HasLogMap (D.state device.old) (D.state device.new)) }
@@ -62,6 +66,9 @@ pub fn open_memory<D: SectorDevice>(alloc: Global, device: &mut D) -> Result<Ope
     let tables = match verify(alloc, device) {
         Ok(tables) => tables,
         Err(fault) => return Err(fault),
+    };
+    let Ok(before) = SavedTables::with_segments(alloc, tables.segments) else {
+        return Err(MountFault::NoMemory);
     };
     let Ok(dirty) = DirtyTable::new(alloc, most_cleaned(tables.segments), MOST_DIRTY) else {
         return Err(MountFault::NoMemory);
@@ -78,5 +85,6 @@ pub fn open_memory<D: SectorDevice>(alloc: Global, device: &mut D) -> Result<Ope
             data_blocks: tables.data_blocks,
             meta_blocks: tables.meta_blocks,
         },
+        before,
     })
 }

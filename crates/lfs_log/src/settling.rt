@@ -2,22 +2,27 @@
 ghost use Rattle.std.specs.Prelude.{◌≡◌, ◌≢◌, ◌<◌, ◌≤◌, ◌+◌, ◌/◌, ℕ, true, false, length, IfSome, IfNone, OnOk, OnErr};
 ghost use Rattle.lfs_memory.specs.segments.Table.{address_of, stale_of};
 ghost use Rattle.lfs_memory.specs.Memory.{IsMemory, IsMemoryUpTo, HasRoom, Goes, Stops, room_of};
-ghost use Rattle.lfs_log.specs.Settling.{IsThere, Leaves, Resettles, IsResettled, IsAnew, AreAnew, IsFilled, blocks_in};
+ghost use Rattle.lfs_log.specs.Settling.{IsNowhere, Leaves, Resettles, IsResettled, IsAnew, AreAnew, IsFilled, blocks_in};
 
 use crate::placing::seal_full;
 use lfs_device::{DeviceFault, SectorDevice};
 use lfs_layout::BlockName;
 use lfs_memory::LogMemory;
+use lfs_memory::inodes::IN_MEMORY;
 use lfs_memory::segments::{Usage, write};
 use lfs_model::BlockKind;
 
-/// The usage block lives no more at its address. Only under a device that broke its word it doesn't live there.
+/// The usage block lives no more at its address, which it may have left before. Only under a device that broke its word it doesn't
+/// live there.
 fn leave(usage: &mut Usage, index: u32) -> Result<(), DeviceFault>
     requires { index < 16 }
     ensures left { OnOk result (Leaves usage.old usage.new index) }
-    ensures nowhere { OnErr result (IsThere usage.old index → ⊥) }
+    ensures nowhere { OnErr result (IsNowhere usage.old index) }
 {
     let address = usage.block(index).address;
+    if address == IN_MEMORY {
+        return Ok(());
+    }
     if address < 2 {
         return Err(DeviceFault);
     }
@@ -38,7 +43,7 @@ fn resettle(memory: &mut LogMemory, index: u32, age: u32) -> Result<(), DeviceFa
     requires room { 0 < room_of memory.old }
     requires index { index < blocks_in memory.old.usage }
     ensures done { OnOk result (Resettles memory.old memory.new index age) }
-    ensures nowhere { OnErr result (IsThere memory.old.usage index → ⊥) }
+    ensures nowhere { OnErr result (IsNowhere memory.old.usage index) }
     ensures map { memory.new.map ≡ memory.old.map }
     ensures dirty { memory.new.dirty ≡ memory.old.dirty }
 {

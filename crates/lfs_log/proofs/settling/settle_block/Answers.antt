@@ -10,7 +10,7 @@ use Rattle.lfs_log.proofs.settling.settle_block.Goals as goal
 pub returns-in_err-resettle-clause-stopped : goal.returns-in_err-resettle-clause-stopped
 returns-in_err-resettle-clause-stopped g c =
     let d = g.D.SectorDevice.state c.args.device.now in
-    on_err _ _ (not_there d c.args.memory.now c.args.index c.requires.memory c.requires.index c.in_err-resettle.ensures.nowhere (carries_none d))
+    on_err _ _ (not_there d c.args.memory.now c.args.index c.requires.index c.in_err-resettle.ensures.nowhere (carries_none d))
 
 pub seal_full-requires-clause-memory : goal.seal_full-requires-clause-memory
 seal_full-requires-clause-memory g c = resettled_memory c.args.memory.now c.resettle.new.memory c.args.index c.args.age c.requires.memory c.requires.stale c.in_ok-resettle.ensures.done

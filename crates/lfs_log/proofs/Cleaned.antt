@@ -1,0 +1,145 @@
+-- Segments whose blocks came into memory: nothing lives there, and a commit makes them clean.
+use Rattle.std.proofs.Common.{◌≡◌, ◌<◌, ◌≤◌, ⊎_elim, inl, inr, ◌+◌, ◌-◌, ◌*◌, ◌/◌, ℕ, zero, suc, Bool, true, false, List, [], ◌∷◌, length, get_or, refl, sym, ◌∙◌, ap, ap₂, subst, arith, ◌==◌, ◌&&◌, cond, eq-eqb}
+use Rattle.std.specs.List.{AllByRecursion}
+use Rattle.std.proofs.lemmas.Bool.{cond-true}
+use Rattle.lfs_model.specs.Checkpoint.{CheckpointValue, IsSegmentCount}
+use Rattle.lfs_model.specs.Counting.{segment_of}
+use Rattle.lfs_model.specs.Device.{DeviceState}
+use Rattle.lfs_model.specs.Entry.{Entry}
+use Rattle.lfs_model.specs.Members.{IsIn, AreApart}
+use Rattle.lfs_model.specs.Memory.{live_of, held_of}
+use Rattle.lfs_model.specs.Running.{Running, IsTight}
+use Rattle.lfs_model.specs.Stands.{LogMap, count_up}
+use Rattle.lfs_model.proofs.EmptySegment.{empty_segment}
+use Rattle.lfs_model.proofs.Live.{count_up_none, count_up_more}
+use Rattle.lfs_memory.specs.segments.Emptied.{IsEmptied}
+use Rattle.lfs_memory.specs.segments.Spare.{is_emptied, emptied_in}
+use Rattle.lfs_memory.specs.segments.Steps.{Releases, released, is_empty}
+use Rattle.lfs_memory.specs.segments.Table.{SegmentNumbers, UsageTable, no_segment, used_of, clean_in}
+use Rattle.lfs_memory.specs.inodes.Blocks.{Blocks, Capacity, TableValue, blocks_in, blocks_of}
+use Rattle.lfs_memory.specs.declared.memory.LogMemory.{LogMemory}
+use Rattle.lfs_memory.specs.Changing.{Tightens}
+use Rattle.lfs_memory.specs.Memory.{IsLog, IsLoose, IsMemory, tables_of, segment_in, chunk_in}
+use Rattle.lfs_memory.specs.Present.{IsExcused}
+use Rattle.lfs_memory.proofs.BlockSteps.{tightened_log}
+use Rattle.lfs_memory.proofs.Looses.{loose}
+use Rattle.lfs_memory.proofs.of_segments.EmptiedGained.{count_gained}
+use Rattle.lfs_memory.proofs.of_segments.Spare.{passes}
+use Rattle.lfs_log.specs.Cleaning.{AreCleanable, AreEmptied, Empties}
+use Rattle.lfs_log.specs.Relocating.{Relocates, VacatesAll}
+
+-- ---- nothing lives where no block stands
+module _ (a b : DeviceState) (v v' : LogMemory) (vs : List ℕ) (one : Relocates a b v v') (vacates : VacatesAll a b v v' vs (length vs)) (victims : AreCleanable v.usage vs) where
+  emptied_there : (k : CheckpointValue) (m0 m : LogMap) → b.keeps_model → IsLoose a v k m0 m → AreEmptied v'.usage vs
+  emptied_there k m0 m keeps is i lt =
+      let s = get_or vs i 0 in
+      let now = vacates k m0 m keeps is in
+      let laid = now.0.running.laid in
+      let empty = empty_segment b.content m now.0.running.memory (segment_in v'.chunk) (get_or vs i 0) laid
+      (λ y above same. now.2 i lt y (omega (arith, above, same)) (omega (arith, above, same))) in
+      let was = victims i lt in
+      record {
+        used = subst (λ (n : ℕ). 0 < n) (sym (one.gathers.used (get_or vs i 0))) was.used;
+        before = one.gathers.taken (get_or vs i 0) ∙ was.before;
+        live = now.0.running.tables.live (get_or vs i 0) ∙ empty.0;
+        held = now.0.running.tables.held (get_or vs i 0) ∙ empty.1;
+      }
+
+  pub not_emptied : (AreEmptied v'.usage vs → ⊥) → IsExcused a b v
+  not_emptied never k m0 m keeps is = absurd (never (emptied_there k m0 m keeps is))
+
+pub empties : (a b : DeviceState) (v v' v'' : LogMemory) (vs : List ℕ) → Relocates a b v v' → AreEmptied v'.usage vs → Tightens v' v'' → Empties a b v v'' vs
+empties a b v v' v'' vs one emptied go = record {
+  looks = one.looks;
+  memory = go.stays.memory one.memory;
+  segments = go.stays.segments ∙ one.segments;
+  clean = go.stays.clean ∙ one.clean;
+  chunk = go.stays.chunk ∙ one.chunk;
+  emptied = subst (λ (u : UsageTable). AreEmptied u vs) (sym go.usage) emptied;
+  log = λ k m0 m keeps is. tightened_log b v' v'' k m0 m go (one.gathers.traces k m0 m keeps (loose a v k m0 m is)).0;
+}
+
+-- ---- another limit of the table of blocks
+module _ (v : LogMemory) (t : TableValue) (same : t.blocks ≡ v.dirty.blocks) where
+  abbrev limited : LogMemory
+  limited = record { map = v.map; usage = v.usage; dirty = t; chunk = v.chunk }
+
+  pub limited_memory : t.capacity.limit + 48 ≤ 63 * (length v.usage.segments / 8) → IsMemory v → IsMemory (record { map = v.map; usage = v.usage; dirty = t; chunk = v.chunk })
+  limited_memory few is = record { count = is.count; opened = is.opened; short = is.short; usages = is.usages; few = few }
+
+  pub limited_log : (d : DeviceState) (k : CheckpointValue) (m0 m : LogMap) → IsLog d v k m0 m → IsLog d (record { map = v.map; usage = v.usage; dirty = t; chunk = v.chunk }) k m0 m
+  limited_log d k m0 m is = record {
+    running = subst (λ (bs : Blocks). Running d (blocks_in bs) (tables_of v) k m0 m (segment_in v.chunk) (chunk_in v.chunk)) (sym same) is.running;
+    hidden = is.hidden;
+    segments = is.segments;
+    tight = subst (λ (bs : Blocks). IsTight (blocks_in bs)) (sym same) is.tight;
+  }
+
+  pub limited_excused : (a b : DeviceState) → IsExcused a b (record { map = v.map; usage = v.usage; dirty = t; chunk = v.chunk }) → IsExcused a b v
+  limited_excused a b failed k m0 m keeps is = failed k m0 m keeps (record {
+    running = subst (λ (bs : Blocks). Running a (blocks_in bs) (tables_of v) k m0 m (segment_in v.chunk) (chunk_in v.chunk)) (sym same) is.running;
+    hidden = is.hidden;
+    segments = is.segments;
+  })
+
+  pub limited_empties : (a b : DeviceState) (v' : LogMemory) (vs : List ℕ) → Empties a b (record { map = v.map; usage = v.usage; dirty = t; chunk = v.chunk }) v' vs → Empties a b v v' vs
+  limited_empties a b v' vs one = record {
+    looks = one.looks;
+    memory = one.memory;
+    segments = one.segments;
+    clean = one.clean;
+    chunk = one.chunk;
+    emptied = one.emptied;
+    log = λ k m0 m keeps is. one.log k m0 m keeps (limited_log a k m0 m is);
+  }
+
+-- ---- a memory that is put back
+pub same_memory : (v v' : LogMemory) → v'.map ≡ v.map → v'.usage ≡ v.usage → v'.dirty.blocks ≡ v.dirty.blocks → v'.dirty.capacity.limit ≡ v.dirty.capacity.limit
+    → v'.dirty.capacity.room ≡ v.dirty.capacity.room → v'.chunk ≡ v.chunk → v' ≡ v
+same_memory v v' map usage blocks limit room chunk =
+    let capacity : v'.dirty.capacity ≡ v.dirty.capacity = ap₂ (λ (l r : ℕ). by_both l r) limit room in
+    let dirty : v'.dirty ≡ v.dirty = ap₂ (λ (b : Blocks) (c : Capacity). by_parts b c) blocks capacity in
+    ap (λ m. record v' { map = m }) map ∙ ap (λ (u : UsageTable). record v' { map = v.map; usage = u }) usage
+    ∙ ap (λ (t : TableValue). record v' { map = v.map; usage = v.usage; dirty = t }) dirty ∙ ap (λ c. record { map = v.map; usage = v.usage; dirty = v.dirty; chunk = c }) chunk
+  where
+    by_both : ℕ → ℕ → Capacity
+    by_both l r = record { limit = l; room = r }
+
+    by_parts : Blocks → Capacity → TableValue
+    by_parts b c = record { blocks = b; capacity = c }
+
+-- ---- how many were emptied
+no_test : ℕ → Bool
+no_test s = false
+
+none_pass : (n : ℕ) → count_up no_test n ≡ 0
+unfolding no_test
+none_pass zero = count_up_none no_test
+none_pass (suc n) = let rest = none_pass n in let more = count_up_more no_test n in omega (arith, rest, more)
+
+in_each : (P : ℕ → Type 0) (vs : List ℕ) → ((i : ℕ) → i < length vs → P (get_or vs i 0)) → AllByRecursion P vs
+in_each P [] each = tt
+in_each P (v ∷ vs) each = (each 0 (omega arith), in_each P vs (λ i lt. each (suc i) (omega (arith, lt))))
+
+pub at_one : (P : ℕ → Type 0) (vs : List ℕ) (s : ℕ) → ((i : ℕ) → i < length vs → P (get_or vs i 0)) → IsIn vs s → P s
+at_one P [] s each is = absurd is
+at_one P (v ∷ vs) s each is = ⊎_elim
+    (λ (here : s ≡ v). subst P (sym here) (each 0 (omega arith)))
+    (λ (there : IsIn vs s). at_one P vs s (λ i lt. each (suc i) (omega (arith, lt))) there)
+    is
+
+pub emptied_least : (t : UsageTable) (vs : List ℕ) → AreApart vs → ((i : ℕ) → i < length vs → get_or vs i 0 < length t.segments) → AreEmptied t vs → length vs ≤ emptied_in t.segments
+unfolding emptied_in no_test
+emptied_least t vs apart low emptied =
+    let gained = count_gained vs no_test (λ s. is_emptied (get_or t.segments s no_segment)) (length t.segments) apart
+    (in_each (λ s. s < length t.segments) vs low)
+    (in_each (λ s. (no_test s ≡ false) × (is_emptied (get_or t.segments s no_segment) ≡ true)) vs (λ i lt. (refl, passes t (get_or vs i 0) (emptied i lt))))
+    (λ s lt on. let bad : false ≡ true = on in absurd (cc)) in
+    let none = none_pass (length t.segments) in
+    omega (arith, gained, none)
+
+-- what was emptied is clean once the checkpoint is acknowledged
+pub emptied_clean : (t t' : UsageTable) (s : ℕ) → Releases t t' → IsEmptied t s → used_of t' s ≡ 0
+emptied_clean t t' s go is =
+    ap (λ (n : SegmentNumbers). n.used) (go.each s)
+    ∙ cond-true (is_empty (get_or t.segments s no_segment)) 0 (used_of t s) (ap₂ (λ (a b : Bool). a && b) (eq-eqb _ 0 is.live) (eq-eqb _ 0 is.held))

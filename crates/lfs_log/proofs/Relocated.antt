@@ -1,0 +1,117 @@
+-- Blocks that come into memory from where they stand: what calls one after the other do.
+use Rattle.std.proofs.Common.{◌≡◌, ◌<◌, ◌≤◌, ◌⊎◌, ⊎_elim, ◌+◌, ◌*◌, ◌/◌, ◌%◌, ℕ, List, Some, None, refl, sym, ◌∙◌, ap, subst, arith}
+use Rattle.lfs_model.specs.Checkpoint.{CheckpointValue}
+use Rattle.lfs_model.specs.Content.{Content}
+use Rattle.lfs_model.specs.Device.{DeviceState, IsLawful}
+use Rattle.lfs_model.specs.Entry.{Entry, Data, Leaf, Double, Inode, Map, Usage, word}
+use Rattle.lfs_model.specs.Memory.{Memory, parent, pointer, file_of, IsOfFile}
+use Rattle.lfs_model.specs.Staging.{IsAt}
+use Rattle.lfs_model.specs.Stands.{LogMap}
+use Rattle.lfs_model.proofs.Entries.{data_below, leaf_below, double_below}
+use Rattle.lfs_model.proofs.Reading.{reading}
+use Rattle.lfs_model.proofs.Replacing.{address_at}
+use Rattle.lfs_memory.specs.inodes.Blocks.{blocks_of}
+use Rattle.lfs_memory.specs.inodes.Code.{IsCode, entry_at}
+use Rattle.lfs_memory.specs.inodes.MapValue.{address_in}
+use Rattle.lfs_memory.specs.inodes.Present.{present}
+use Rattle.lfs_memory.specs.declared.memory.LogMemory.{LogMemory}
+use Rattle.lfs_memory.specs.Lifting.{Gathers, HasTraces, IsInMemory, Prepares}
+use Rattle.lfs_memory.specs.Memory.{IsLoose, IsMemory, tables_of, segment_in, chunk_in}
+use Rattle.lfs_memory.specs.Present.{AnswersAddress, IsExcused, IsMissing, Looks}
+use Rattle.lfs_memory.proofs.Gathered.{gathers_looks, gathers_then}
+use Rattle.lfs_memory.proofs.Presents.{excused_then, inode_at, is_there, looks_then, not_missing}
+use Rattle.lfs_memory.proofs.of_inodes.Moving.{differ}
+use Rattle.lfs_log.specs.Relocating.{HasLeft, IsNoBlock, Relocates}
+
+-- ---- one call after the other
+pub relocates_looks : (d d' : DeviceState) (v : LogMemory) → IsMemory v → Looks d d' → Relocates d d' v v
+relocates_looks d d' v memory looks = record { looks = looks; memory = memory; segments = refl; clean = refl; chunk = refl; capacity = refl; gathers = gathers_looks d d' v looks }
+
+pub relocates_of : (d d' : DeviceState) (v v' : LogMemory) (n : ℕ) → Prepares d d' v v' n → Gathers d d' v v' → Relocates d d' v v'
+relocates_of d d' v v' n one gathers = record {
+  looks = one.looks;
+  memory = one.memory;
+  segments = one.segments;
+  clean = one.clean;
+  chunk = one.chunk;
+  capacity = one.capacity;
+  gathers = gathers;
+}
+
+pub relocates_then : (a b c : DeviceState) (v v' v'' : LogMemory) → IsLawful a → Relocates a b v v' → Relocates b c v' v'' → Relocates a c v v''
+relocates_then a b c v v' v'' lawful one two = record {
+  looks = looks_then a b c lawful one.looks two.looks;
+  memory = two.memory;
+  segments = two.segments ∙ one.segments;
+  clean = two.clean ∙ one.clean;
+  chunk = two.chunk ∙ one.chunk;
+  capacity = two.capacity ∙ one.capacity;
+  gathers = gathers_then a b c v v' v'' two.looks.carries.kept_before one.gathers two.gathers;
+}
+
+pub relocated_excused : (a b c : DeviceState) (v v' : LogMemory) → Relocates a b v v' → Looks b c → IsExcused b c v' → IsExcused a c v
+relocated_excused a b c v v' one two failed k m0 m keeps is =
+    let rose = failed k m0 m keeps (one.gathers.traces k m0 m (two.carries.kept_before keeps) is).0 in
+    let before = one.looks.carries.failures in
+    omega (arith, rose, before)
+
+-- ---- where a block of a file stands
+pub top_inode : (x : Entry) (f : ℕ) → file_of x ≡ Some f → parent x ≡ x → x ≡ Inode f
+top_inode (Data n i) f file top = absurd (data_below n i top)
+top_inode (Leaf n q) f file top = absurd (leaf_below n q top)
+top_inode (Double n) f file top = absurd (double_below n top)
+top_inode (Inode n) f file top = let same : n ≡ f = cc in ap Inode same
+top_inode (Map j) f file top = absurd (cc)
+top_inode (Usage j) f file top = absurd (cc)
+
+pub below_above : (c up : ℕ) → IsCode c → IsCode up → c < up → entry_at up ≡ parent (entry_at c) → parent (entry_at c) ≡ entry_at c → ⊥
+below_above c up formed formed_up less named top = differ c up formed formed_up less (sym top ∙ sym named)
+
+pub located_top : (d : DeviceState) (v : LogMemory) (x : Entry) (f a : ℕ) → file_of x ≡ Some f → parent x ≡ x → a ≡ address_in v.map f → AnswersAddress d d v x a
+located_top d v x f a file top found k m0 m keeps is = ap is.running.memory.at (top_inode x f file top) ∙ inode_at d v k m0 m is f ∙ sym found
+
+pub located_none : (a b : DeviceState) (v : LogMemory) (x up : Entry) (address : ℕ) → up ≡ parent x → address ≡ 0 → AnswersAddress a b v up address → AnswersAddress a b v x 0
+located_none a b v x up address named none answer k m0 m keeps is =
+    (reading a.content m is.running.memory (segment_in v.chunk) is.running.laid).no_pointer x (ap is.running.memory.at (sym named) ∙ answer k m0 m keeps is ∙ none)
+
+module _ (a b c : DeviceState) (v : LogMemory) (up : Entry) (address : ℕ) (one : Looks a b) (two : Looks b c) (file : IsOfFile up) (answer : AnswersAddress a b v up address) (some : 0 < address) where
+  pub located_found : (x : Entry) (out : List ℕ) (r : ℕ) → up ≡ parent x → (parent x ≡ x → ⊥) → ((n q : ℕ) → x ≡ Leaf n q → q ≤ 128)
+      → (c.keeps_model → out ≡ present b.content (blocks_of v.dirty) up address) → word out (pointer x) ≡ r → AnswersAddress a c v x r
+  located_found x out r named below low read found k m0 m keeps is =
+      let there = answer k m0 m (two.carries.kept_before keeps) is in
+      let bytes : out ≡ is.running.memory.bytes (parent x) =
+      read keeps ∙ ap (λ (e : Content). present e (blocks_of v.dirty) up address) one.untouched.content
+      ∙ is_there a v k m0 m is up address file there some ∙ ap is.running.memory.bytes named in
+      let above = ap is.running.memory.at (sym named) ∙ there in
+      sym ((reading a.content m is.running.memory (segment_in v.chunk) is.running.laid).pointer x below low (omega (arith, above, some)))
+      ∙ ap (λ (b : List ℕ). word b (pointer x)) (sym bytes) ∙ found
+
+  pub located_failed : (c.keeps_model → (b.failures < c.failures) ⊎ IsMissing b.content (blocks_of v.dirty) up address) → IsExcused a c v
+  located_failed unread k m0 m keeps is = ⊎_elim
+      (λ (failed : b.failures < c.failures). excused_then a b c v one two failed k m0 m keeps is)
+      (λ (missing : IsMissing b.content (blocks_of v.dirty) up address).
+      absurd (not_missing a v k m0 m is up address file (answer k m0 m (two.carries.kept_before keeps) is) some
+      (subst (λ (e : Content). IsMissing e (blocks_of v.dirty) up address) one.untouched.content missing)))
+      (unread keeps)
+
+-- ---- a block that isn't stored
+pub no_inode_there : (d : DeviceState) (v : LogMemory) (x : Entry) (f : ℕ) → file_of x ≡ Some f → parent x ≡ x → address_in v.map f ≡ 0 → IsNoBlock d v x
+no_inode_there d v x f file top none k m0 m keeps is = ap is.running.memory.at (top_inode x f file top) ∙ inode_at d v k m0 m is f ∙ none
+
+pub no_block_above : (d : DeviceState) (v : LogMemory) (x up : Entry) → up ≡ parent x → IsNoBlock d v up → IsNoBlock d v x
+no_block_above d v x up named none k m0 m keeps is =
+    (reading d.content m is.running.memory (segment_in v.chunk) is.running.laid).no_pointer x (ap is.running.memory.at (sym named) ∙ none k m0 m keeps is)
+
+pub no_pointer_there : (d : DeviceState) (v : LogMemory) (x : Entry) → IsAt (blocks_of v.dirty) (tables_of v) x 0 → IsNoBlock d v x
+no_pointer_there d v x at k m0 m keeps is = address_at d (blocks_of v.dirty) (tables_of v) k m0 m (segment_in v.chunk) (chunk_in v.chunk) x 0 is.running at
+
+-- ---- a block that has left its address
+pub elsewhere : (d d' : DeviceState) (v v' : LogMemory) (x : Entry) (there address : ℕ) → AnswersAddress d d' v x there → (there ≡ address → ⊥) → 2 ≤ address → HasLeft d d' v v' x address
+elsewhere d d' v v' x there address answer ne above k m0 m keeps is is' traces at =
+    ne (sym (answer k m0 m keeps is) ∙ traces x (omega (arith, above, at)) ∙ at)
+
+pub left_inside : (d d' : DeviceState) (v v' : LogMemory) (x : Entry) (address : ℕ) → IsInMemory v' x → 2 ≤ address → HasLeft d d' v v' x address
+left_inside d d' v v' x address inside above k m0 m keeps is is' traces at = let one = (is'.running.cached.cached x inside.0 inside.1).1 in absurd (omega (arith, one, at, above))
+
+pub left_nowhere : (d d' : DeviceState) (v v' : LogMemory) (x : Entry) (address : ℕ) → IsNoBlock d' v' x → 2 ≤ address → HasLeft d d' v v' x address
+left_nowhere d d' v v' x address none above k m0 m keeps is is' traces at = let zero_there = none k m0 m keeps is' in absurd (omega (arith, zero_there, at, above))

@@ -1,0 +1,216 @@
+-- Blocks of the tables that leave their addresses, to be written by the next commit.
+use Rattle.std.proofs.Common.{◌≡◌, ◌<◌, ◌≤◌, ◌⊎◌, ⊎_elim, ◌+◌, ◌*◌, ◌/◌, ℕ, Bool, true, false, List, length, get_or, Option, Some, None, refl, sym, ◌∙◌, ap, subst, suc, arith}
+use Rattle.std.proofs.lemmas.Bool.{cases_eq}
+use Rattle.lfs_model.specs.Checkpoint.{CheckpointValue, IsSegmentCount}
+use Rattle.lfs_model.specs.Counting.{segment_of}
+use Rattle.lfs_model.specs.Device.{DeviceState, IsLawful}
+use Rattle.lfs_model.specs.Entry.{Entry, Data, Leaf, Double, Inode, Map, Usage}
+use Rattle.lfs_model.specs.Memory.{Memory, is_shown, count_of}
+use Rattle.lfs_model.specs.Running.{Tables, Running, IsSet, IsLifted, IsTables, SpellsUsage, CountsDown}
+use Rattle.lfs_model.specs.Stands.{LogMap}
+use Rattle.lfs_model.proofs.Counting.{taken_counts}
+use Rattle.lfs_model.proofs.Leaving.{left_memory, left_taken, left_cached, still_open}
+use Rattle.lfs_model.proofs.Outgoing.{usage_lifting}
+use Rattle.lfs_model.proofs.Running.{pick, pick_yes, pick_no, taken_memory, is_taken, lifted_tables, lifted_fresh}
+use Rattle.lfs_model.proofs.Tables.{usage_table}
+use Rattle.lfs_memory.specs.segments.Chunk.{Chunk}
+use Rattle.lfs_memory.specs.segments.Table.{SegmentNumbers, UsageTable, no_segment, used_of, live_of, held_of, age_of, taken_of, address_of, stale_of, clean_in}
+use Rattle.lfs_memory.specs.inodes.Blocks.{TableValue, blocks_of}
+use Rattle.lfs_memory.specs.inodes.MapValue.{MapValue, address_in, block_in}
+use Rattle.lfs_memory.specs.declared.memory.LogMemory.{LogMemory}
+use Rattle.lfs_memory.specs.Lifting.{Gathers, HasTraces, IsCounted, MapLifts}
+use Rattle.lfs_memory.specs.Memory.{AreHidden, IsLoose, IsMemory, table_at, tables_of, segment_in, chunk_in}
+use Rattle.lfs_memory.specs.Present.{IsExcused}
+use Rattle.lfs_memory.proofs.Gathered.{gathers_looks, loose_traced, map_of_gathers, taken_traced, TracedIn}
+use Rattle.lfs_memory.proofs.Lifted.{map_of_prepares}
+use Rattle.lfs_memory.proofs.Presents.{looks_none}
+use Rattle.lfs_memory.proofs.Stales.{stays_stale}
+use Rattle.lfs_log.specs.Relocating.{HasLeft, IsUsageLost, Relocates, UsageLeaves, UsageLeavesIn}
+use Rattle.lfs_log.proofs.Relocated.{relocates_looks, relocates_of}
+
+pub map_relocates : (d : DeviceState) (v v' : LogMemory) (j : ℕ) → IsLawful d → IsMemory v → (v' ≡ v) ⊎ MapLifts v v' j → Relocates d d v v'
+map_relocates d v v' j lawful memory go = relocates_of d d v v' 0 (map_of_prepares d v v' j lawful memory go) (map_of_gathers d v v' j go)
+
+pub map_left : (d d' : DeviceState) (v v' : LogMemory) (j address : ℕ) → (block_in v'.map j ≡ address → ⊥) → HasLeft d d' v v' (Map j) address
+map_left d d' v v' j address ne k m0 m keeps is is' traces at = ne (sym (is'.running.tables.at (Map j) refl) ∙ at)
+
+pub usage_left : (d d' : DeviceState) (v v' : LogMemory) (j address : ℕ) → (address_of v'.usage j ≡ address → ⊥) → HasLeft d d' v v' (Usage j) address
+usage_left d d' v v' j address ne k m0 m keeps is is' traces at = ne (sym (is'.running.tables.at (Usage j) refl) ∙ at)
+
+-- ---- a usage block
+pub usage_lost : (d : DeviceState) (v : LogMemory) (j : ℕ) → IsUsageLost v j → IsExcused d d v
+usage_lost d v j gone k m0 m keeps is = absurd (gone.lost (record {
+  above = gone.above;
+  inside = let s = at in let w = is.running.laid.within (Usage j) there in let n = is.running.segments in let l = is.segments in let up = gone.above in omega (arith, s, w, n, l, up);
+  live = λ on. let c = counts in let e = ap (λ (a : ℕ). count_of (is_shown m) is.running.memory (segment_of a)) at in let t = is.running.tables.live (segment_of (address_of v.usage j)) in omega (arith, c, e, t);
+  held = λ off. absurd (cc);
+}))
+  where
+    at : is.running.memory.at (Usage j) ≡ address_of v.usage j
+    at = is.running.tables.at (Usage j) refl
+
+    there : 2 ≤ is.running.memory.at (Usage j)
+    there = let s = at in let up = gone.above in omega (arith, s, up)
+
+    counts : 0 < count_of (is_shown m) is.running.memory (segment_of (is.running.memory.at (Usage j)))
+    counts =
+        let c = (taken_counts d.content m is.running.memory (segment_in v.chunk) (Usage j) 1 (taken_memory is.running.memory (Usage j) 1 is.running.memory.bytes) is.running.laid there
+        (is_taken is.running.memory (Usage j) 1 is.running.memory.bytes (omega arith)) (is_shown m)).0 refl in
+        omega (arith, c)
+
+module _ (v v' : LogMemory) (j : ℕ) (go : UsageLeavesIn v v' j) where
+  abbrev lifted : UsageTable
+  lifted = go.usage.lifted
+
+  seg : ℕ
+  seg = segment_of (address_of v.usage j)
+
+  numbers : {X : Type 0} (f : SegmentNumbers → X) (s : ℕ) → f (get_or v'.usage.segments s no_segment) ≡ f (get_or go.usage.lifted.segments s no_segment)
+  numbers f s = ap (λ (x : List SegmentNumbers). f (get_or x s no_segment)) go.usage.puts.segments
+
+  size : length v'.usage.segments ≡ length v.usage.segments
+  size = ap length go.usage.puts.segments ∙ go.usage.lifts.size
+
+  stale_still : (i : ℕ) → stale_of v.usage i ≡ true → stale_of v'.usage i ≡ true
+  stale_still i on = ⊎_elim
+      (λ (here : i ≡ j). ap (stale_of v'.usage) here ∙ go.usage.puts.stale.own)
+      (λ (ne : i ≡ j → ⊥). go.usage.puts.stale.others i ne ∙ stays_stale v.usage go.usage.lifted (segment_of (address_of v.usage j) / 64) i go.usage.lifts.blocks on)
+      (cases_eq i j)
+
+  address_other : (i : ℕ) → (i ≡ j → ⊥) → address_of v'.usage i ≡ address_of v.usage i
+  address_other i ne = go.usage.puts.address.others i ne ∙ go.usage.lifts.blocks.address i
+
+  usage_memory : IsMemory v → IsMemory v'
+  usage_memory memory = record {
+    count = subst IsSegmentCount (sym size) memory.count;
+    opened = λ some.
+        let o = memory.opened (subst (λ (c : Chunk). 0 < length c.names) go.chunk some) in
+        let s = ap (λ (c : Chunk). c.segment) go.chunk in
+        let n = ap (λ (c : Chunk). length c.names) go.chunk in
+        record {
+          inside = let i = o.inside in let l = size in omega (arith, i, s, l);
+          used = ap (used_of v'.usage) s ∙ numbers (λ x. x.used) v.chunk.segment ∙ go.usage.lifts.used v.chunk.segment ∙ o.used ∙ ap suc (sym n);
+          taken = ap (taken_of v'.usage) s ∙ numbers (λ x. x.taken) v.chunk.segment ∙ go.usage.lifts.taken v.chunk.segment ∙ o.taken;
+        };
+    short = let s = memory.short in let n = ap (λ (c : Chunk). length c.names) go.chunk in omega (arith, s, n);
+    usages = λ i one. ⊎_elim
+        (λ (here : i ≡ j). ap (stale_of v'.usage) here ∙ go.usage.puts.stale.own)
+        (λ (ne : i ≡ j → ⊥). stale_still i (memory.usages i (sym (address_other i ne) ∙ one)))
+        (cases_eq i j);
+    few = let f = memory.few in let c = ap (λ (t : TableValue). t.capacity.limit) go.dirty in let l = size in omega (arith, f, c, l);
+  }
+
+  -- the tables in which block j isn't as the device has it, and stands where it stood
+  abbrev marked : Tables
+  marked = record {
+    at = table_at v.map v.usage;
+    used = used_of v.usage;
+    live = live_of v.usage;
+    held = held_of v.usage;
+    age = age_of v.usage;
+    taken = taken_of v.usage;
+    stale = λ i. pick (cases_eq i j) true (stale_of v.usage i);
+  }
+
+  table_other : (y : Entry) → (y ≡ Usage j → ⊥) → (tables_of v').at y ≡ table_at v.map v.usage y
+  table_other (Data n i) ne = refl
+  table_other (Leaf n q) ne = refl
+  table_other (Double n) ne = refl
+  table_other (Inode n) ne = ap (λ (m : MapValue). address_in m n) go.map
+  table_other (Map i) ne = ap (λ (m : MapValue). block_in m i) go.map
+  table_other (Usage i) ne = address_other i (λ h. ne (ap Usage h))
+
+  stale_now : IsSet marked.stale (stale_of v'.usage) (segment_of (address_of v.usage j) / 64) true
+  stale_now = record {
+    own = ⊎_elim
+        (λ (here : segment_of (address_of v.usage j) / 64 ≡ j). ap (stale_of v'.usage) here ∙ go.usage.puts.stale.own)
+        (λ (ne : segment_of (address_of v.usage j) / 64 ≡ j → ⊥). go.usage.puts.stale.others (segment_of (address_of v.usage j) / 64) ne ∙ go.usage.lifts.blocks.stale.own)
+        (cases_eq (segment_of (address_of v.usage j) / 64) j);
+    others = λ i away. ⊎_elim
+        (λ (here : i ≡ j). ap (stale_of v'.usage) here ∙ go.usage.puts.stale.own ∙ sym (pick_yes (cases_eq i j) true (stale_of v.usage i) here))
+        (λ (ne : i ≡ j → ⊥). go.usage.puts.stale.others i ne ∙ go.usage.lifts.blocks.stale.others i away ∙ sym (pick_no (cases_eq i j) true (stale_of v.usage i) ne))
+        (cases_eq i j);
+  }
+
+  lifts_now : (m : LogMap) → IsLifted m marked (tables_of v') (Usage j) 1 (segment_of (address_of v.usage j))
+  lifts_now m = record {
+    at = record { own = λ top. go.usage.puts.address.own; others = λ y top ne. table_other y ne };
+    used = λ i. numbers (λ x. x.used) i ∙ go.usage.lifts.used i;
+    live = subst (λ (x : List SegmentNumbers). CountsDown true (live_of v.usage) (λ i. (get_or x i no_segment).live) (segment_of (address_of v.usage j))) (sym go.usage.puts.segments) go.usage.lifts.live;
+    held = subst (λ (x : List SegmentNumbers). CountsDown false (held_of v.usage) (λ i. (get_or x i no_segment).held) (segment_of (address_of v.usage j))) (sym go.usage.puts.segments) go.usage.lifts.held;
+    age = λ i. numbers (λ x. x.age) i ∙ go.usage.lifts.age i;
+    taken = λ i. numbers (λ x. x.taken) i ∙ go.usage.lifts.taken i;
+    stale = stale_now;
+  }
+
+  module _ (d : DeviceState) (k : CheckpointValue) (m0 m : LogMap) (is : IsLoose d v k m0 m) where
+    abbrev w : Running d (blocks_of v.dirty) (tables_of v) k m0 m (segment_in v.chunk) (chunk_in v.chunk)
+    w = is.running
+
+    same : w.memory.at (Usage j) ≡ address_of v.usage j
+    same = w.tables.at (Usage j) refl
+
+    was_there : 2 ≤ w.memory.at (Usage j)
+    was_there = let s = same in let up = go.usage.above in omega (arith, s, up)
+
+    marked_tables : IsTables marked m w.memory
+    marked_tables = record { at = w.tables.at; used = w.tables.used; live = w.tables.live; held = w.tables.held }
+
+    marked_spells : (i : ℕ) (bytes : List ℕ) → SpellsUsage (tables_of v) i bytes → SpellsUsage marked i bytes
+    marked_spells i bytes s = record { long = s.long; used = s.used; live = s.live; age = s.age }
+
+    never_marked : (i : ℕ) → marked.stale i ≡ false → stale_of v.usage i ≡ false
+    never_marked i off = ⊎_elim
+        (λ (here : i ≡ j). let bad : true ≡ false = sym (pick_yes (cases_eq i j) true (stale_of v.usage i) here) ∙ off in absurd (cc))
+        (λ (ne : i ≡ j → ⊥). sym (pick_no (cases_eq i j) true (stale_of v.usage i) ne) ∙ off)
+        (cases_eq i j)
+
+    gone : (w' : Running d (blocks_of v.dirty) (tables_of v') k m0 m (segment_in v.chunk) (chunk_in v.chunk)) × HasTraces w.memory w'.memory
+    unfolding left_memory taken_memory
+    gone =
+        let p = left_taken d (blocks_of v.dirty) (tables_of v) (tables_of v') k m0 m (segment_in v.chunk) (chunk_in v.chunk) w (Usage j) (usage_table j) 1 (omega arith) in
+        let next = left_memory d (blocks_of v.dirty) (tables_of v) (tables_of v') k m0 m (segment_in v.chunk) (chunk_in v.chunk) w (Usage j) (usage_table j) 1 (omega arith) in
+        let there = was_there in
+        let go_now = lifts_now m in (
+          record {
+            memory = next;
+            laid = usage_lifting d.content m w.memory (segment_in v.chunk) j next w.laid (record { taken = p; was = there; bytes = refl });
+            segments = w.segments;
+            settled = w.settled;
+            cached = left_cached d (blocks_of v.dirty) (tables_of v) (tables_of v') k m0 m (segment_in v.chunk) (chunk_in v.chunk) w (Usage j) (usage_table j) 1 (omega arith);
+            tables = lifted_tables d.content m w.memory (segment_in v.chunk) (Usage j) 1 next marked (tables_of v') w.laid there p marked_tables
+                (subst (λ (a : ℕ). IsLifted m marked (tables_of v') (Usage j) 1 (segment_of a)) (sym same) go_now);
+            fresh = λ i off low.
+                let no = lifted_fresh m marked (tables_of v') (Usage j) 1 (segment_of (address_of v.usage j)) go_now i off in
+                no.1 (w.memory.bytes (Usage i)) (marked_spells i (w.memory.bytes (Usage i)) (w.fresh i (never_marked i no.0) low));
+            clean = λ s low z. w.clean s low (sym (go_now.used s) ∙ z);
+            taken = λ s on. w.taken s (sym (go_now.taken s) ∙ on);
+            opened = still_open d (blocks_of v.dirty) (tables_of v) (tables_of v') k m0 m (segment_in v.chunk) (chunk_in v.chunk) w (Usage j) (usage_table j) 1 (omega arith) (chunk_in v.chunk) w.opened go_now.taken;
+          },
+          taken_traced w.memory (Usage j) next p,
+        )
+
+    usage_traced : (is' : IsLoose d v' k m0 m) × HasTraces is.running.memory is'.running.memory
+    usage_traced = loose_traced d v v' k m0 m is go.chunk (ap (λ (m : MapValue). m.hidden) go.map) size
+        (subst (λ (t : TableValue). TracedIn d v v' k m0 m is (blocks_of t) v.chunk) (sym go.dirty) gone)
+
+  usage_gone : (d : DeviceState) → IsMemory v → Relocates d d v v'
+  usage_gone d memory = record {
+    looks = looks_none d;
+    memory = usage_memory memory;
+    segments = size;
+    clean = ap clean_in go.usage.puts.segments ∙ go.usage.lifts.clean;
+    chunk = go.chunk;
+    capacity = ap (λ (t : TableValue). t.capacity) go.dirty;
+    gathers = record {
+      used = λ s. numbers (λ x. x.used) s ∙ go.usage.lifts.used s;
+      taken = λ s. numbers (λ x. x.taken) s ∙ go.usage.lifts.taken s;
+      traces = λ k m0 m keeps is. usage_traced d k m0 m is;
+    };
+  }
+
+pub usage_relocates : (d : DeviceState) (v v' : LogMemory) (j : ℕ) → IsMemory v → (v' ≡ v) ⊎ UsageLeavesIn v v' j → Relocates d d v v'
+usage_relocates d v v' j memory go = ⊎_elim
+    (λ (same : v' ≡ v). subst (λ (w : LogMemory). Relocates d d v w) (sym same) (relocates_looks d d v memory (looks_none d)))
+    (λ (leaves : UsageLeavesIn v v' j). usage_gone v v' j leaves d memory)
+    go

@@ -1,0 +1,204 @@
+-- The blocks of a segment come into memory chunk by chunk: none is left there in the end.
+use Rattle.std.proofs.Common.{◌≡◌, ◌<◌, ◌≤◌, ⊎_elim, ◌⊎◌, ◌+◌, ◌-◌, ◌*◌, ◌/◌, ◌%◌, ℕ, suc, List, [], length, get_or, Option, Some, None, refl, sym, ◌∙◌, ap, subst, arith}
+use Rattle.std.proofs.lemmas.Bool.{cases_eq, cases_lt}
+use Rattle.lfs_model.specs.Checkpoint.{CheckpointValue}
+use Rattle.lfs_model.specs.Content.{Content, block, bytes_of}
+use Rattle.lfs_model.specs.Device.{DeviceState, IsLawful, cell_at}
+use Rattle.lfs_model.specs.Entry.{Entry, entry_of, entries_in}
+use Rattle.lfs_model.specs.Memory.{Memory}
+use Rattle.lfs_model.specs.Reach.{Row, row_by, place_in}
+use Rattle.lfs_model.specs.Stands.{LogMap}
+use Rattle.lfs_model.specs.Summary.{BlockNameValue, no_block, summary_in}
+use Rattle.lfs_model.proofs.Tables.{block_at}
+use Rattle.lfs_memory.specs.segments.Chunk.{Chunk}
+use Rattle.lfs_memory.specs.segments.Table.{used_of}
+use Rattle.lfs_memory.specs.declared.memory.LogMemory.{LogMemory}
+use Rattle.lfs_memory.specs.Lifting.{HasTraces}
+use Rattle.lfs_memory.specs.Memory.{HasRoom, IsLoose, segment_in}
+use Rattle.lfs_memory.specs.Present.{IsExcused, Looks}
+use Rattle.lfs_memory.proofs.Gathered.{still_traced, traces_none, traces_then}
+use Rattle.lfs_memory.proofs.Opened.{closed_segment}
+use Rattle.lfs_log.specs.Relocating.{AreVacant, HasLeft, IsVacantTo, LeavesNames, NamesLeft, Relocates, Traced, Vacates, VacatesAll}
+use Rattle.lfs_log.specs.verify.Rows.{HasRow}
+use Rattle.lfs_log.proofs.of_verify.RowSteps.{cut_chunk, entries_none, names_of, no_chunk, no_entries}
+use Rattle.lfs_log.proofs.RowLabels.{IsRowFrom, label_is, row_end, row_next, row_start, summary_place}
+
+-- ---- the blocks of a chunk
+pub leaves_none : (d : DeviceState) (v : LogMemory) (names : List BlockNameValue) (first : ℕ) → LeavesNames d d v v names first 0
+leaves_none d v names first k m0 m keeps is = (is, traces_none is.running.memory, λ i lt at. absurd (omega (arith, lt)))
+
+pub leaves_more : (a b c : DeviceState) (v v' v'' : LogMemory) (names : List BlockNameValue) (first place : ℕ) → 2 ≤ first → Relocates b c v' v''
+    → HasLeft b c v' v'' (entry_of (get_or names place no_block)) (first + place) → LeavesNames a b v v' names first place → LeavesNames a c v v'' names first (place + 1)
+leaves_more a b c v v' v'' names first place above one left was k m0 m keeps is =
+    let so_far = was k m0 m (one.looks.carries.kept_before keeps) is in
+    let now = one.gathers.traces k m0 m keeps so_far.0 in (
+      now.0,
+      traces_then is.running.memory so_far.0.running.memory now.0.running.memory so_far.1 now.1,
+      λ i lt at. ⊎_elim
+          (λ (before : i < place). so_far.2 i before (now.1 (entry_of (get_or names i no_block)) (omega (arith, at, above)) ∙ at))
+          (λ (last : place ≤ i).
+          let same : i ≡ place = omega (arith, lt, last) in
+          left k m0 m keeps so_far.0 now.0 now.1 (subst (λ (j : ℕ). now.0.running.memory.at (entry_of (get_or names j no_block)) ≡ first + j) same at))
+          (cases_lt i place),
+    )
+
+-- ---- a segment
+-- Up to a place of it all blocks have left it, and there are whole chunks behind.
+abbrev pub ClearsTo : DeviceState → DeviceState → LogMemory → LogMemory → ℕ → ℕ → ℕ → Type 0
+ClearsTo d d' v v' segment used at = (k : CheckpointValue) (m0 m : LogMap) → d'.keeps_model → (is : IsLoose d v k m0 m)
+    → Traced d' v' k m0 m is.running.memory (IsVacantTo (2 + 64 * segment) (2 + 64 * segment + at)) × IsRowFrom d.content used segment at
+
+module _ (d : DeviceState) (v : LogMemory) (k : CheckpointValue) (m0 m : LogMap) (is : IsLoose d v k m0 m) (segment : ℕ) (closed : v.chunk.names ≡ []) (low : segment < length v.usage.segments) where
+  abbrev M : Memory
+  M = is.running.memory
+
+  row_known : row_by d.content (used_of v.usage segment) segment ≡ Some (M.rows segment)
+  row_known =
+      let none = closed_segment v.chunk (ap length closed) in
+      let few = is.running.laid.few in
+      let size = is.running.segments in
+      let same = is.segments in
+      let used = is.running.tables.used segment in
+      ap (λ (n : ℕ). row_by d.content n segment) used
+      ∙ is.running.laid.sealed segment (λ h. omega (arith, h, none, few, size, same, low))
+
+  pub has_row : HasRow (row_by d.content (used_of v.usage segment) segment)
+  has_row = (M.rows segment, row_known)
+
+  pub stands_named : (y : Entry) → 2 + 64 * segment ≤ M.at y → M.at y < 66 + 64 * segment
+      → place_in (row_by d.content (used_of v.usage segment) segment) (M.at y - (2 + 64 * segment)) ≡ Some y
+  stands_named y from to =
+      let s : (M.at y - 2) / 64 ≡ segment = omega (arith, from, to) in
+      let o : (M.at y - 2) % 64 ≡ M.at y - (2 + 64 * segment) = omega (arith, from, to) in
+      ap (λ (r : Option Row). place_in r (M.at y - (2 + 64 * segment))) row_known
+      ∙ ap (λ (i : ℕ). get_or (M.rows segment) i None) (sym o)
+      ∙ ap (λ (j : ℕ). get_or (M.rows j) ((M.at y - 2) % 64) None) (sym s)
+      ∙ is.running.laid.named y (omega (arith, from))
+
+pub clears_start : (d : DeviceState) (v : LogMemory) (segment : ℕ) → v.chunk.names ≡ [] → segment < length v.usage.segments → ClearsTo d d v v segment (used_of v.usage segment) 0
+clears_start d v segment closed low k m0 m keeps is =
+    ((is, traces_none is.running.memory, λ y from to. absurd (omega (arith, from, to))), row_start d.content (used_of v.usage segment) segment (has_row d v k m0 m is segment closed low))
+
+-- ---- a summary is read
+module _ (a b c : DeviceState) (v v' : LogMemory) (segment used at : ℕ) (was : ClearsTo a b v v' segment used at) (here : Relocates a b v v') (looks : Looks b c)
+    (long : 2 + 64 * segment + used ≤ length a.content) (lt : at < used) where
+  row_then : (k : CheckpointValue) (m0 m : LogMap) → c.keeps_model → IsLoose a v k m0 m → IsRowFrom a.content used segment at
+  row_then k m0 m keeps is = (was k m0 m (looks.carries.kept_before keeps) is).1
+
+  pub summary_missing : (c.keeps_model → (b.failures < c.failures) ⊎ (cell_at b.content (2 + 64 * segment + at) ≡ None)) → IsExcused a c v
+  summary_missing unread k m0 m keeps is = ⊎_elim
+      (λ (failed : b.failures < c.failures). let before = here.looks.carries.failures in omega (arith, failed, before))
+      (λ (missing : cell_at b.content (2 + 64 * segment + at) ≡ None).
+      let none : block a.content (2 + 64 * segment + at) ≡ [] =
+      ap (λ (e : Content). block e (2 + 64 * segment + at)) (sym here.looks.untouched.content)
+      ∙ block_at b.content (2 + 64 * segment + at) (omega arith) ∙ ap bytes_of missing in
+      absurd (no_chunk a.content used segment at long lt (ap entries_in none ∙ no_entries) (row_then k m0 m keeps is).rest))
+      (unread keeps)
+
+  module _ (bytes : List ℕ) (read : c.keeps_model → block b.content (2 + 64 * segment + at) ≡ bytes) where
+    bytes_there : c.keeps_model → block a.content (2 + 64 * segment + at) ≡ bytes
+    bytes_there keeps = ap (λ (e : Content). block e (2 + 64 * segment + at)) (sym here.looks.untouched.content) ∙ read keeps
+
+    pub no_summary : None ≡ summary_in bytes → IsExcused a c v
+    no_summary none k m0 m keeps is =
+        absurd (no_chunk a.content used segment at long lt (ap entries_in (bytes_there keeps) ∙ entries_none bytes none) (row_then k m0 m keeps is).rest)
+
+    module _ (names : List BlockNameValue) (exact : Some names ≡ summary_in bytes) where
+      pub too_long : (count : ℕ) → count ≡ length names → used ≤ at + count → IsExcused a c v
+      too_long count is_count high k m0 m keeps is =
+          absurd (cut_chunk a.content used segment at long lt count
+          (subst (λ (b : List ℕ). (es : List Entry) × (entries_in b ≡ Some es) × (length es ≡ count)) (sym (bytes_there keeps)) (names_of bytes names count exact is_count))
+          high (row_then k m0 m keeps is).rest)
+
+      -- and its blocks come into memory
+      pub clears_more : v.chunk.names ≡ [] → segment < length v.usage.segments → used ≡ used_of v.usage segment → used ≤ 64 → at + length names < used
+          → (e : DeviceState) (w : LogMemory) → Relocates c e v' w → (first next : ℕ) → first ≡ 2 + 64 * segment + at + 1 → next ≡ at + 1 + length names → LeavesNames c e v' w names first (length names)
+          → ClearsTo a e v w segment used next
+      clears_more closed low is_used few room e w one first next is_first is_next left k m0 m keeps is =
+          let back = one.looks.carries.kept_before keeps in
+          let before = was k m0 m (looks.carries.kept_before back) is in
+          let so_far = before.0 in
+          let row = before.1 in
+          let still = still_traced b c v' k m0 m looks so_far.0 in
+          let now = left k m0 m keeps still.0 in
+          let between = traces_then so_far.0.running.memory still.0.running.memory now.0.running.memory still.1 now.1 in
+          let all = traces_then is.running.memory so_far.0.running.memory now.0.running.memory so_far.1 between in
+          let there = bytes_there back in (
+            (
+              now.0,
+              all,
+              λ y from to.
+                  let up : 2 ≤ now.0.running.memory.at y = omega (arith, from) in
+                  let same = all y up in
+                  let place : place_in (row_by a.content used segment) (now.0.running.memory.at y - (2 + 64 * segment)) ≡ Some y =
+                  subst (λ (u : ℕ). place_in (row_by a.content u segment) (now.0.running.memory.at y - (2 + 64 * segment)) ≡ Some y) (sym is_used)
+                  (subst (λ (x : ℕ). place_in (row_by a.content (used_of v.usage segment) segment) (x - (2 + 64 * segment)) ≡ Some y) same
+                  (stands_named a v k m0 m is segment closed low y (omega (arith, same, from)) (omega (arith, same, to, is_next, room, few)))) in
+                  ⊎_elim
+                  (λ (earlier : now.0.running.memory.at y < 2 + 64 * segment + at).
+                  let was_there = between y up in
+                  so_far.2 y (omega (arith, was_there, from)) (omega (arith, was_there, earlier)))
+                  (λ (later : 2 + 64 * segment + at ≤ now.0.running.memory.at y). ⊎_elim
+                  (λ (summary : now.0.running.memory.at y ≡ 2 + 64 * segment + at).
+                  let o : now.0.running.memory.at y - (2 + 64 * segment) ≡ at = omega (arith, summary) in
+                  let bad : Some y ≡ None = sym place ∙ ap (place_in (row_by a.content used segment)) o ∙ summary_place a.content used segment at long lt row in
+                  absurd (cc))
+                  (λ (other : now.0.running.memory.at y ≡ 2 + 64 * segment + at → ⊥).
+                  let i = now.0.running.memory.at y - first in
+                  let small : now.0.running.memory.at y - first < length names = omega (arith, later, other, to, is_first, is_next) in
+                  let o : now.0.running.memory.at y - (2 + 64 * segment) ≡ at + 1 + (now.0.running.memory.at y - first) = omega (arith, later, other, is_first) in
+                  let label : Some y ≡ Some (entry_of (get_or names (now.0.running.memory.at y - first) no_block)) =
+                  sym place ∙ ap (place_in (row_by a.content used segment)) o ∙ label_is a.content used segment at long lt row bytes there names exact room (now.0.running.memory.at y - first) small in
+                  let own : y ≡ entry_of (get_or names (now.0.running.memory.at y - first) no_block) = cc in
+                  let whole : now.0.running.memory.at y ≡ first + (now.0.running.memory.at y - first) = omega (arith, later, other, is_first) in
+                  now.2 (now.0.running.memory.at y - first) small (ap now.0.running.memory.at (sym own) ∙ whole))
+                  (cases_eq (now.0.running.memory.at y) (2 + 64 * segment + at)))
+                  (cases_lt (now.0.running.memory.at y) (2 + 64 * segment + at)),
+            ),
+            row_next a.content used segment at long lt row bytes there names exact room next is_next,
+          )
+
+-- ---- the whole of it
+pub all_cleared : (a b : DeviceState) (v v' : LogMemory) (segment used : ℕ) → v.chunk.names ≡ [] → segment < length v.usage.segments → used ≡ used_of v.usage segment
+    → 2 + 64 * segment + used ≤ length a.content → ClearsTo a b v v' segment used used → Vacates a b v v' (2 + 64 * segment) (66 + 64 * segment)
+all_cleared a b v v' segment used closed low is_used long was k m0 m keeps is =
+    let here = was k m0 m keeps is in
+    let now = here.0 in (
+      now.0,
+      now.1,
+      λ y from to. ⊎_elim
+          (λ (inside : now.0.running.memory.at y < 2 + 64 * segment + used). now.2 y from inside)
+          (λ (past : 2 + 64 * segment + used ≤ now.0.running.memory.at y).
+          let same = now.1 y (omega (arith, from)) in
+          let place : place_in (row_by a.content used segment) (now.0.running.memory.at y - (2 + 64 * segment)) ≡ Some y =
+          subst (λ (u : ℕ). place_in (row_by a.content u segment) (now.0.running.memory.at y - (2 + 64 * segment)) ≡ Some y) (sym is_used)
+          (subst (λ (x : ℕ). place_in (row_by a.content (used_of v.usage segment) segment) (x - (2 + 64 * segment)) ≡ Some y) same
+          (stands_named a v k m0 m is segment closed low y (omega (arith, same, from)) (omega (arith, same, to)))) in
+          let bad : Some y ≡ None = sym place ∙ row_end a.content used segment long here.1 (now.0.running.memory.at y - (2 + 64 * segment)) (omega (arith, past)) in
+          absurd (cc))
+          (cases_lt (now.0.running.memory.at y) (2 + 64 * segment + used)),
+    )
+
+pub long_there : (d : DeviceState) (v : LogMemory) (segment used : ℕ) → IsLawful d → HasRoom d v → segment < length v.usage.segments → used ≤ 64 → 2 + 64 * segment + used ≤ length d.content
+long_there d v segment used lawful room low few = let size = lawful.size in omega (arith, room, low, few, size)
+
+-- ---- one segment after the other
+pub vacates_none : (d : DeviceState) (v : LogMemory) (segments : List ℕ) → VacatesAll d d v v segments 0
+vacates_none d v segments k m0 m keeps is = (is, traces_none is.running.memory, λ i lt y from to. absurd (omega (arith, lt)))
+
+pub vacates_more : (a b c : DeviceState) (v v' v'' : LogMemory) (segments : List ℕ) (at segment : ℕ) → segment ≡ get_or segments at 0 → (c.keeps_model → b.keeps_model)
+    → Vacates b c v' v'' (2 + 64 * segment) (66 + 64 * segment) → VacatesAll a b v v' segments at → VacatesAll a c v v'' segments (at + 1)
+vacates_more a b c v v' v'' segments at segment is_segment back one was k m0 m keeps is =
+    let so_far = was k m0 m (back keeps) is in
+    let now = one k m0 m keeps so_far.0 in (
+      now.0,
+      traces_then is.running.memory so_far.0.running.memory now.0.running.memory so_far.1 now.1,
+      λ i lt y from to. ⊎_elim
+          (λ (before : i < at).
+          let same = now.1 y (omega (arith, from)) in
+          so_far.2 i before y (omega (arith, same, from)) (omega (arith, same, to)))
+          (λ (last : at ≤ i).
+          let here : get_or segments i 0 ≡ segment = ap (λ (j : ℕ). get_or segments j 0) (omega (arith, lt, last)) ∙ sym is_segment in
+          now.2 y (omega (arith, here, from)) (omega (arith, here, to)))
+          (cases_lt i at),
+    )

@@ -1,0 +1,6 @@
+use Rattle.std.proofs.Common.{ℕ, ◌<◌, get_or}
+use Rattle.lfs_memory.specs.segments.Emptied.{IsEmptied}
+use Rattle.lfs_log.proofs.cleaning.are_emptied.Given as goal
+
+abbrev pub invariant-loop-victim : goal.invariant-loop-victim
+invariant-loop-victim l = (i : ℕ) → i < l.victim-index → IsEmptied l.usage (get_or l.victims i 0)

@@ -1,0 +1,14 @@
+use Rattle.std.proofs.Common.{◌≡◌, length}
+use Rattle.lfs_log.specs.Relocating.{LeavesNames, Relocates}
+use Rattle.lfs_log.proofs.relocating.relocate_chunk.Given as goal
+
+abbrev pub invariant-loop-place : goal.invariant-loop-place
+invariant-loop-place g l =
+    let old = g.D.SectorDevice.state l.initial.device in
+    let now = g.D.SectorDevice.state l.device in
+    record {
+      relocates : Relocates old now l.initial.memory l.memory;
+      left : LeavesNames old now l.initial.memory l.memory l.names l.first l.place;
+      no_failure : now.failures ≡ old.failures;
+      end : l.place-end ≡ length l.names;
+    }

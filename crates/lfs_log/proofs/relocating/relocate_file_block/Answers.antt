@@ -1,0 +1,52 @@
+use Rattle.std.proofs.Common.{rules}
+use Rattle.lfs_memory.specs.inodes.Key.{entry_of}
+use Rattle.lfs_log.proofs.Relocated.{elsewhere, left_inside, left_nowhere, relocated_excused, relocates_looks, relocates_then}
+use Rattle.lfs_log.proofs.relocating.relocate_file_block.Goals as goal
+
+pub returns-in-Err-clause-relocates : goal.returns-in-Err-clause-relocates
+returns-in-Err-clause-relocates g c =
+    relocates_looks (g.D.SectorDevice.state c.args.device.now) (g.D.SectorDevice.state c.locate.new.device) c.args.memory.now c.requires.memory c.locate.ensures.looks
+
+pub returns-then-there-address-clause-relocates : goal.returns-then-there-address-clause-relocates
+returns-then-there-address-clause-relocates g c =
+    relocates_looks (g.D.SectorDevice.state c.args.device.now) (g.D.SectorDevice.state c.locate.new.device) c.args.memory.now c.requires.memory c.locate.ensures.looks
+
+pub returns-then-there-address-clause-left : goal.returns-then-there-address-clause-left
+returns-then-there-address-clause-left g c =
+    elsewhere (g.D.SectorDevice.state c.args.device.now) (g.D.SectorDevice.state c.locate.new.device) c.args.memory.now c.args.memory.now (entry_of c.args.key) c.in-Ok.there c.args.address
+    c.in-Ok.ensures.answer c.if-there-address.true c.requires.above
+
+pub returns-in-Ok-true-clause-relocates : goal.returns-in-Ok-true-clause-relocates
+returns-in-Ok-true-clause-relocates g c =
+    relocates_then (g.D.SectorDevice.state c.args.device.now) (g.D.SectorDevice.state c.locate.new.device) (g.D.SectorDevice.state c.bring_block.new.device)
+    c.args.memory.now c.args.memory.now c.bring_block.new.memory (g.met.D.SectorDevice.lawful c.args.device.now)
+    (relocates_looks (g.D.SectorDevice.state c.args.device.now) (g.D.SectorDevice.state c.locate.new.device) c.args.memory.now c.requires.memory c.locate.ensures.looks) c.bring_block.ensures.relocates
+
+pub returns-in-Ok-false-clause-relocates : goal.returns-in-Ok-false-clause-relocates
+returns-in-Ok-false-clause-relocates g c =
+    relocates_then (g.D.SectorDevice.state c.args.device.now) (g.D.SectorDevice.state c.locate.new.device) (g.D.SectorDevice.state c.bring_block.new.device)
+    c.args.memory.now c.args.memory.now c.bring_block.new.memory (g.met.D.SectorDevice.lawful c.args.device.now)
+    (relocates_looks (g.D.SectorDevice.state c.args.device.now) (g.D.SectorDevice.state c.locate.new.device) c.args.memory.now c.requires.memory c.locate.ensures.looks) c.bring_block.ensures.relocates
+
+pub returns-in-Ok-true-clause-left : goal.returns-in-Ok-true-clause-left
+returns-in-Ok-true-clause-left g c =
+    left_inside (g.D.SectorDevice.state c.args.device.now) (g.D.SectorDevice.state c.bring_block.new.device) c.args.memory.now c.bring_block.new.memory (entry_of c.args.key) c.args.address
+    (c.in-Ok-true.ensures.inside (search rules)) c.requires.above
+
+pub returns-in-Ok-false-clause-left : goal.returns-in-Ok-false-clause-left
+returns-in-Ok-false-clause-left g c =
+    left_nowhere (g.D.SectorDevice.state c.args.device.now) (g.D.SectorDevice.state c.bring_block.new.device) c.args.memory.now c.bring_block.new.memory (entry_of c.args.key) c.args.address
+    (c.in-Ok-false.ensures.none (search rules)) c.requires.above
+
+pub returns-in-Err-bring_block-clause-relocates : goal.returns-in-Err-bring_block-clause-relocates
+returns-in-Err-bring_block-clause-relocates g c =
+    relocates_then (g.D.SectorDevice.state c.args.device.now) (g.D.SectorDevice.state c.locate.new.device) (g.D.SectorDevice.state c.bring_block.new.device)
+    c.args.memory.now c.args.memory.now c.bring_block.new.memory (g.met.D.SectorDevice.lawful c.args.device.now)
+    (relocates_looks (g.D.SectorDevice.state c.args.device.now) (g.D.SectorDevice.state c.locate.new.device) c.args.memory.now c.requires.memory c.locate.ensures.looks) c.bring_block.ensures.relocates
+
+pub returns-in-Err-bring_block-clause-failed : goal.returns-in-Err-bring_block-clause-failed
+returns-in-Err-bring_block-clause-failed g c is =
+    relocated_excused (g.D.SectorDevice.state c.args.device.now) (g.D.SectorDevice.state c.locate.new.device) (g.D.SectorDevice.state c.bring_block.new.device)
+    c.args.memory.now c.args.memory.now
+    (relocates_looks (g.D.SectorDevice.state c.args.device.now) (g.D.SectorDevice.state c.locate.new.device) c.args.memory.now c.requires.memory c.locate.ensures.looks)
+    c.bring_block.ensures.relocates.looks (c.in-Err-bring_block.ensures.failed (search rules))

@@ -1,0 +1,66 @@
+-- What a pass of the cleaner does: all that lives in some segments goes elsewhere, and they are clean.
+use Rattle.std.specs.Prelude.{◌≡◌, ◌<◌, ◌≤◌, ◌+◌, ◌*◌, ◌-◌, ◌/◌, ◌^◌, ℕ, false, List, [], length, get_or}
+use Rattle.lfs_model.specs.Checkpoint.{CheckpointValue}
+use Rattle.lfs_model.specs.Crash.{StandsOn}
+use Rattle.lfs_model.specs.Device.{DeviceState, Carries, AllLeft}
+use Rattle.lfs_model.specs.Encodes.{IsLogMap}
+use Rattle.lfs_model.specs.Members.{IsIn}
+use Rattle.lfs_model.specs.Stands.{LogMap}
+use Rattle.lfs_model.specs.TreeOf.{dropped}
+use Rattle.lfs_memory.specs.segments.Emptied.{IsEmptied}
+use Rattle.lfs_memory.specs.segments.Table.{UsageTable, used_of, taken_of, clean_in}
+use Rattle.lfs_memory.specs.declared.memory.LogMemory.{LogMemory}
+use Rattle.lfs_memory.specs.Memory.{IsLog, IsMemory}
+use Rattle.lfs_memory.specs.Present.{Looks}
+use Rattle.lfs_log.specs.Held.{Held, Holds, LeavesSaved}
+
+-- a segment that is in use, and was before the acknowledged checkpoint
+pub record IsCleanable (t : UsageTable) (s : ℕ) : Type 0 where
+  pub inside : s < length t.segments
+  pub used : 0 < used_of t s
+  pub before : taken_of t s ≡ false
+
+abbrev pub AreCleanable : UsageTable → List ℕ → Type 0
+AreCleanable t vs = (i : ℕ) → i < length vs → IsCleanable t (get_or vs i 0)
+
+abbrev pub AreEmptied : UsageTable → List ℕ → Type 0
+AreEmptied t vs = (i : ℕ) → i < length vs → IsEmptied t (get_or vs i 0)
+
+-- All blocks of these segments are in memory, and nothing lives there any more; the log map is the same.
+pub record Empties (d d' : DeviceState) (v v' : LogMemory) (vs : List ℕ) : Type 0 where
+  pub looks : Looks d d'
+  pub memory : IsMemory v'
+  pub segments : length v'.usage.segments ≡ length v.usage.segments
+  pub clean : clean_in v'.usage.segments ≡ clean_in v.usage.segments
+  pub chunk : v'.chunk ≡ v.chunk
+  pub emptied : AreEmptied v'.usage vs
+  pub log : (k : CheckpointValue) (m0 m : LogMap) → d'.keeps_model → IsLog d v k m0 m → IsLog d' v' k m0 m
+
+-- how many blocks of files a pass over so many segments may bring into memory: with all blocks of the tables they fill fewer segments
+abbrev pub most_brought : ℕ → ℕ
+most_brought count = 63 * (count - 1) - 48
+
+-- What a pass asks of memory: nothing is unsaved, an eighth of the segments is clean, and the pass takes no more than these.
+pub record MayClean (v : LogMemory) (vs : List ℕ) : Type 0 where
+  pub nothing : v.dirty.blocks ≡ []
+  pub many : length v.usage.segments ≤ 8 * clean_in v.usage.segments
+  pub least : 2 ≤ length vs
+  pub most : length vs ≤ length v.usage.segments / 8 + 1
+  pub each : AreCleanable v.usage vs
+
+module _ {D : Type 0} (state : D → DeviceState) where
+  -- A pass that is done: the log map is the same and all of it is saved, none of these segments has a block any more, fewer were taken than
+  -- these, and a stop meanwhile left what was acknowledged, or the present map without its files of no links.
+  pub record Cleans (h h' : Held D) (vs : List ℕ) : Type 0 where
+    pub carries : Carries (state h.device) (state h'.device)
+    pub running : h'.halted ≡ false
+    pub number : h'.number ≡ h.number + 1
+    pub segments : length h'.memory.usage.segments ≡ length h.memory.usage.segments
+    pub cleaned : (s : ℕ) → IsIn vs s → used_of h'.memory.usage s ≡ 0
+    pub gains : clean_in h.memory.usage.segments < clean_in h'.memory.usage.segments
+    pub many : length h'.memory.usage.segments ≤ 8 * clean_in h'.memory.usage.segments
+    pub empty : h'.memory.dirty.blocks ≡ []
+    pub no_failure : (state h'.device).failures ≡ (state h.device).failures
+    pub holds : (k : CheckpointValue) (m0 m : LogMap) → (state h'.device).keeps_model → Holds state h k m0 m → IsLogMap (dropped m) → (next : CheckpointValue) × Holds state h' next (dropped m) m
+    pub left : (k : CheckpointValue) (m0 m : LogMap) → (state h'.device).keeps_model → Holds state h k m0 m → IsLogMap (dropped m) → AllLeft (state h'.device) (λ c. StandsOn k.segments c (dropped m))
+    pub moment : LeavesSaved state h h'

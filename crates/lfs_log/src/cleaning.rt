@@ -1,0 +1,235 @@
+//! A pass of the cleaner: all that lives in some segments comes into memory, whole or not at all, and a commit writes it elsewhere.
+//! After the cleaner of the Sprite LFS paper (1992, section 3.3).
+ghost use Rattle.std.specs.Prelude.{◌≡◌, ◌<◌, ◌≤◌, ◌+◌, ◌*◌, ◌-◌, ◌/◌, ℕ, [], length, get_or, IfOk, OnOk, OnErr, IfSome, IsErrOf, IsTrue, IsFalse};
+ghost use Rattle.lfs_memory.specs.segments.Emptied.{IsEmptied};
+ghost use Rattle.lfs_memory.specs.Memory.{HasRoom, IsMemory};
+ghost use Rattle.lfs_memory.specs.Present.{IsExcused, Looks};
+ghost use Rattle.lfs_log.specs.Cleaning.{AreCleanable, AreEmptied, Empties, IsCleanable, MayClean, most_brought};
+ghost use Rattle.lfs_log.specs.Relocating.{Relocates, VacatesAll};
+
+use crate::relocating::relocate_segment;
+use lfs_device::SectorDevice;
+use lfs_memory::LogMemory;
+use lfs_memory::changing::tighten;
+use lfs_memory::inodes::InodeMap;
+use lfs_memory::lifting::LiftFault;
+use lfs_memory::segments::Usage;
+use std::alloc::{AllocError, Global};
+
+/// The tables as a pass found them, to be put back where it fails.
+#[derive(Drop)]
+pub struct SavedTables {
+    pub map: InodeMap,
+    pub usage: Usage,
+}
+
+impl SavedTables {
+    /// Memory for the tables of so many segments.
+    ///
+    /// # Errors
+    ///
+    /// Where memory runs out.
+    pub fn with_segments(alloc: Global, segments: u32) -> Result<SavedTables, AllocError>
+        requires { segments ≤ 1024 }
+        ensures { IfOk result (λ t. length t.usage.segments ≡ segments) }
+    {
+        let map = InodeMap::new(alloc)?;
+        let usage = Usage::new(alloc, segments)?;
+        Ok(SavedTables { map, usage })
+    }
+}
+
+/// The blocks of segments come into memory with all above them.
+///
+/// # Errors
+///
+/// As those of `relocate_segment`.
+fn relocate_all<D: SectorDevice>(
+    device: &mut D,
+    memory: &mut LogMemory,
+    victims: &[u16],
+) -> Result<(), LiftFault>
+    requires memory { IsMemory memory.old }
+    requires size { HasRoom (D.state device.old) memory.old }
+    requires closed { memory.old.chunk.names ≡ [] }
+    requires inside { (i : ℕ) → i < length victims.now → get_or victims.now i 0 < length memory.old.usage.segments }
+    ensures relocates { Relocates (D.state device.old) (D.state device.new) memory.old memory.new }
+    ensures vacates { OnOk result (VacatesAll (D.state device.old) (D.state device.new) memory.old memory.new victims.now (length victims.now)) }
+    ensures full { IsErrOf result LiftFault.Full → memory.new.dirty.capacity.limit ≤ length memory.new.dirty.blocks }
+    ensures failed { IsErrOf result LiftFault.Device → IsExcused (D.state device.old) (D.state device.new) memory.old }
+    ensures no_failure { OnOk result ((D.state device.new).failures ≡ (D.state device.old).failures) }
+{
+    for victim in victims {
+        match relocate_segment(device, memory, u32::from(*victim)) {
+            Ok(()) => {}
+            Err(fault) => return Err(fault),
+        }
+    }
+    Ok(())
+}
+
+/// Whether nothing lives in a segment and nothing holds it, though it isn't clean before a checkpoint is acknowledged.
+fn is_emptied(usage: &Usage, segment: u32) -> bool
+    requires { segment < length usage.now.segments }
+    ensures yes { IsTrue result → IsEmptied usage.now segment }
+    ensures no { IsFalse result → IsEmptied usage.now segment → ⊥ }
+{
+    let state = usage.state(segment);
+    if state.used == 0 {
+        return false;
+    }
+    if state.taken {
+        return false;
+    }
+    if state.live != 0 {
+        return false;
+    }
+    state.held == 0
+}
+
+/// Whether that is so of each of these segments.
+fn are_emptied(usage: &Usage, victims: &[u16]) -> bool
+    requires { (i : ℕ) → i < length victims.now → get_or victims.now i 0 < length usage.now.segments }
+    ensures yes { IsTrue result → AreEmptied usage.now victims.now }
+    ensures no { IsFalse result → AreEmptied usage.now victims.now → ⊥ }
+{
+    for victim in victims {
+        if !is_emptied(usage, u32::from(*victim)) {
+            return false;
+        }
+    }
+    true
+}
+
+/// All that lives in these segments comes into memory.
+///
+/// # Errors
+///
+/// As those of `relocate_all`.
+fn empty_segments<D: SectorDevice>(
+    device: &mut D,
+    memory: &mut LogMemory,
+    victims: &[u16],
+) -> Result<(), LiftFault>
+    requires memory { IsMemory memory.old }
+    requires size { HasRoom (D.state device.old) memory.old }
+    requires closed { memory.old.chunk.names ≡ [] }
+    requires victims { AreCleanable memory.old.usage victims.now }
+    ensures done { OnOk result (Empties (D.state device.old) (D.state device.new) memory.old memory.new victims.now) }
+    ensures looks { Looks (D.state device.old) (D.state device.new) }
+    ensures segments { length memory.new.usage.segments ≡ length memory.old.usage.segments }
+    ensures chunk { memory.new.chunk ≡ memory.old.chunk }
+    ensures capacity { memory.new.dirty.capacity ≡ memory.old.dirty.capacity }
+    ensures failed { IsErrOf result LiftFault.Device → IsExcused (D.state device.old) (D.state device.new) memory.old }
+    ensures no_failure { OnOk result ((D.state device.new).failures ≡ (D.state device.old).failures) }
+{
+    match relocate_all(device, memory, victims) {
+        Ok(()) => {}
+        Err(fault) => return Err(fault),
+    }
+    if !are_emptied(&memory.usage, victims) {
+        return Err(LiftFault::Device);
+    }
+    tighten(memory);
+    Ok(())
+}
+
+/// All that lives in these segments comes into memory, whole or not at all: at most so many blocks of files. What is put back after
+/// a fault is kept in `before`. Nothing is unsaved as it begins.
+///
+/// # Errors
+///
+/// With memory as it was: `Full` where more blocks would come, `Device` where a call of the device failed.
+pub fn relocate<D: SectorDevice>(
+    device: &mut D,
+    memory: &mut LogMemory,
+    before: &mut SavedTables,
+    victims: &[u16],
+    most: u32,
+) -> Result<(), LiftFault>
+    requires memory { IsMemory memory.old }
+    requires size { HasRoom (D.state device.old) memory.old }
+    requires closed { memory.old.chunk.names ≡ [] }
+    requires nothing { memory.old.dirty.blocks ≡ [] }
+    requires victims { AreCleanable memory.old.usage victims.now }
+    requires same_size { length before.old.usage.segments ≡ length memory.old.usage.segments }
+    requires few { most + 48 ≤ 63 * (length memory.old.usage.segments / 8) }
+    requires room { most ≤ memory.old.dirty.capacity.room }
+    ensures done { OnOk result (Empties (D.state device.old) (D.state device.new) memory.old memory.new victims.now) }
+    ensures few { OnOk result (length memory.new.dirty.blocks ≤ most) }
+    ensures room { OnOk result (memory.new.dirty.capacity.room ≡ memory.old.dirty.capacity.room) }
+    ensures same { OnErr result (memory.new ≡ memory.old) }
+    ensures kept { length before.new.usage.segments ≡ length before.old.usage.segments }
+    ensures looks { Looks (D.state device.old) (D.state device.new) }
+    ensures failed { IsErrOf result LiftFault.Device → IsExcused (D.state device.old) (D.state device.new) memory.old }
+    ensures no_failure { OnOk result ((D.state device.new).failures ≡ (D.state device.old).failures) }
+{
+    let limit = memory.dirty.capacity() as u32;
+    before.map.copy_from(&memory.map);
+    before.usage.copy_from(&memory.usage);
+    memory.dirty.set_limit(most);
+    match empty_segments(device, memory, victims) {
+        Ok(()) => {
+            let _few = memory.dirty.len();
+            Ok(())
+        }
+        Err(fault) => {
+            memory.map.copy_from(&before.map);
+            memory.usage.copy_from(&before.usage);
+            memory.dirty.clear();
+            memory.dirty.set_limit(limit);
+            Err(fault)
+        }
+    }
+}
+
+/// Whether a segment is in use, and was before the acknowledged checkpoint.
+fn is_cleanable(usage: &Usage, segment: u32) -> bool
+    ensures { IsTrue result → IsCleanable usage.now segment }
+{
+    if segment >= usage.segments() {
+        return false;
+    }
+    let state = usage.state(segment);
+    state.used != 0 && !state.taken
+}
+
+/// Whether that is so of each of these segments.
+fn are_cleanable(usage: &Usage, victims: &[u16]) -> bool
+    ensures { IsTrue result → AreCleanable usage.now victims.now }
+{
+    for victim in victims {
+        if !is_cleanable(usage, u32::from(*victim)) {
+            return false;
+        }
+    }
+    true
+}
+
+/// Whether a pass over these segments may begin: nothing is unsaved, and enough segments are clean for it.
+pub fn may_clean(memory: &LogMemory, victims: &[u16]) -> bool
+    ensures { IsTrue result → MayClean memory.now victims.now }
+{
+    if memory.dirty.len() != 0 {
+        return false;
+    }
+    let segments = memory.usage.segments();
+    if 8 * u64::from(memory.usage.clean()) < u64::from(segments) {
+        return false;
+    }
+    let count = victims.len();
+    if count < 2 || count > segments as usize / 8 + 1 {
+        return false;
+    }
+    are_cleanable(&memory.usage, victims)
+}
+
+/// How many blocks of files a pass over so many segments may bring into memory: with all blocks of the tables they fill fewer
+/// segments.
+pub fn most_of(count: usize) -> u32
+    requires least { 2 ≤ count }
+    requires most { count ≤ 129 }
+    ensures { result ≡ most_brought count }
+{
+    63 * (count as u32 - 1) - 48
+}

@@ -1,0 +1,354 @@
+//! The blocks of segments come into memory, so that the next commit writes them elsewhere.
+ghost use Rattle.std.specs.Prelude.{◌≡◌, ◌<◌, ◌≤◌, ◌⊎◌, ◌+◌, ◌*◌, [], true, false, None, length, OnOk, OnErr, IfOk, IsErrOf, IsTrue, IsFalse};
+ghost use Rattle.lfs_model.specs.Content.{block};
+ghost use Rattle.lfs_model.specs.Device.{cell_at};
+ghost use Rattle.lfs_model.specs.Entry as entry;
+ghost use Rattle.lfs_model.specs.Memory.{parent};
+ghost use Rattle.lfs_model.specs.Summary.{FitsSummary, IsPlaced};
+ghost use Rattle.lfs_memory.specs.Lifting.{IsCounted, IsInMemory, IsMapLost, MapLifts};
+ghost use Rattle.lfs_memory.specs.Memory.{HasRoom, IsMemory};
+ghost use Rattle.lfs_memory.specs.Present.{AnswersAddress, IsExcused, Looks};
+ghost use Rattle.lfs_memory.specs.inodes.Key.{entry_of};
+ghost use Rattle.lfs_memory.specs.inodes.MapValue.{block_in};
+ghost use Rattle.lfs_memory.specs.segments.Table.{address_of};
+ghost use Rattle.lfs_log.specs.Relocating.{HasLeft, IsNoBlock, IsUsageLost, LeavesNames, Relocates, UsageLeaves, UsageLeavesIn, Vacates};
+
+use lfs_device::{DeviceFault, SectorDevice};
+use lfs_layout::{BlockName, SummaryView, word};
+use lfs_memory::LogMemory;
+use lfs_memory::inodes::{BlockKey, IN_MEMORY};
+use lfs_memory::lifting::{LiftFault, is_counted, lift_child, lift_inode, lift_map};
+use lfs_memory::present::read_present;
+use lfs_memory::segments::Usage;
+use lfs_model::BlockKind;
+
+/// The address at which a block of a file stands: 0 where it isn't stored, `IN_MEMORY` for one in memory.
+///
+/// # Errors
+///
+/// Where a block above it can't be read.
+fn locate<D: SectorDevice>(
+    device: &mut D,
+    memory: &LogMemory,
+    key: BlockKey,
+) -> Result<u32, DeviceFault>
+    ensures answer { IfOk result (AnswersAddress (D.state device.old) (D.state device.new) memory.now (entry_of key)) }
+    ensures failed { OnErr result (IsExcused (D.state device.old) (D.state device.new) memory.now) }
+    ensures no_failure { OnOk result ((D.state device.new).failures ≡ (D.state device.old).failures) }
+    ensures looks { Looks (D.state device.old) (D.state device.new) }
+{
+    let Some(above) = key.parent() else {
+        return Ok(memory.map.address(key.file()));
+    };
+    let address = match locate(device, memory, above) {
+        Ok(address) => address,
+        Err(fault) => return Err(fault),
+    };
+    if address == 0 {
+        return Ok(0);
+    }
+    let mut bytes = [0; 512];
+    match read_present(device, memory, above, address, &mut bytes) {
+        Ok(()) => Ok(word(&bytes, key.pointer())),
+        Err(fault) => Err(fault),
+    }
+}
+
+/// Brings the inode of this key into memory, if the file is there: whether it is there then.
+///
+/// # Errors
+///
+/// As those of `lift`.
+fn bring_inode<D: SectorDevice>(
+    device: &mut D,
+    memory: &mut LogMemory,
+    key: BlockKey,
+) -> Result<bool, LiftFault>
+    requires memory { IsMemory memory.old }
+    requires top { parent (entry_of key) ≡ entry_of key }
+    ensures relocates { Relocates (D.state device.old) (D.state device.new) memory.old memory.new }
+    ensures inside { IfOk result (λ found. IsTrue found → IsInMemory memory.new (entry_of key)) }
+    ensures none { IfOk result (λ found. IsFalse found → IsNoBlock (D.state device.new) memory.new (entry_of key)) }
+    ensures full { IsErrOf result LiftFault.Full → memory.new.dirty.capacity.limit ≤ length memory.new.dirty.blocks }
+    ensures failed { IsErrOf result LiftFault.Device → IsExcused (D.state device.old) (D.state device.new) memory.old }
+    ensures no_failure { OnOk result ((D.state device.new).failures ≡ (D.state device.old).failures) }
+{
+    match lift_inode(device, memory, key.file()) {
+        Ok(true) => Ok(true),
+        Ok(false) => Ok(false),
+        Err(fault) => Err(fault),
+    }
+}
+
+/// Brings a block of a file into memory with all blocks above it, where they are stored: whether it is there then.
+///
+/// # Errors
+///
+/// As those of `lift`.
+fn bring_block<D: SectorDevice>(
+    device: &mut D,
+    memory: &mut LogMemory,
+    key: BlockKey,
+) -> Result<bool, LiftFault>
+    requires { IsMemory memory.old }
+    ensures relocates { Relocates (D.state device.old) (D.state device.new) memory.old memory.new }
+    ensures inside { IfOk result (λ found. IsTrue found → IsInMemory memory.new (entry_of key)) }
+    ensures none { IfOk result (λ found. IsFalse found → IsNoBlock (D.state device.new) memory.new (entry_of key)) }
+    ensures full { IsErrOf result LiftFault.Full → memory.new.dirty.capacity.limit ≤ length memory.new.dirty.blocks }
+    ensures failed { IsErrOf result LiftFault.Device → IsExcused (D.state device.old) (D.state device.new) memory.old }
+    ensures no_failure { OnOk result ((D.state device.new).failures ≡ (D.state device.old).failures) }
+{
+    let Some(above) = key.parent() else {
+        return bring_inode(device, memory, key);
+    };
+    match bring_block(device, memory, above) {
+        Ok(true) => {}
+        Ok(false) => return Ok(false),
+        Err(fault) => return Err(fault),
+    }
+    match lift_child(device, memory, key) {
+        Ok(true) => Ok(true),
+        Ok(false) => Ok(false),
+        Err(fault) => Err(fault),
+    }
+}
+
+/// A block of a file comes into memory with all above it, if it is at this address that it stands.
+///
+/// # Errors
+///
+/// As those of `lift`.
+fn relocate_file_block<D: SectorDevice>(
+    device: &mut D,
+    memory: &mut LogMemory,
+    key: BlockKey,
+    address: u32,
+) -> Result<(), LiftFault>
+    requires memory { IsMemory memory.old }
+    requires above { 2 ≤ address }
+    ensures relocates { Relocates (D.state device.old) (D.state device.new) memory.old memory.new }
+    ensures left { OnOk result (HasLeft (D.state device.old) (D.state device.new) memory.old memory.new (entry_of key) address) }
+    ensures full { IsErrOf result LiftFault.Full → memory.new.dirty.capacity.limit ≤ length memory.new.dirty.blocks }
+    ensures failed { IsErrOf result LiftFault.Device → IsExcused (D.state device.old) (D.state device.new) memory.old }
+    ensures no_failure { OnOk result ((D.state device.new).failures ≡ (D.state device.old).failures) }
+{
+    let there = match locate(device, memory, key) {
+        Ok(there) => there,
+        Err(_) => return Err(LiftFault::Device),
+    };
+    if there != address {
+        return Ok(());
+    }
+    match bring_block(device, memory, key) {
+        Ok(true) => Ok(()),
+        Ok(false) => Ok(()),
+        Err(fault) => Err(fault),
+    }
+}
+
+/// A block of the inode map will be written, if it is at this address that it stands.
+///
+/// # Errors
+///
+/// Where it isn't counted there.
+fn relocate_map(memory: &mut LogMemory, index: u32, address: u32) -> Result<(), DeviceFault>
+    requires index { index ≤ 31 }
+    requires above { 2 ≤ address }
+    ensures done { OnOk result ((memory.new ≡ memory.old) ⊎ MapLifts memory.old memory.new index) }
+    ensures left { OnOk result (block_in memory.new.map index ≡ address → ⊥) }
+    ensures same { OnErr result (memory.new ≡ memory.old) }
+    ensures lost { OnErr result (IsMapLost memory.old index) }
+{
+    if memory.map.block_address(index as usize) != address {
+        return Ok(());
+    }
+    lift_map(memory, index as usize)
+}
+
+/// A usage block leaves its address, to be written elsewhere.
+///
+/// # Errors
+///
+/// Where it isn't counted there.
+fn leave_usage(usage: &mut Usage, index: u32, address: u32) -> Result<(), DeviceFault>
+    requires index { index ≤ 15 }
+    requires above { 2 ≤ address }
+    requires at { address_of usage.old index ≡ address }
+    ensures left { OnOk result (UsageLeaves usage.old usage.new index) }
+    ensures same { OnErr result (usage.new ≡ usage.old) }
+    ensures lost { OnErr result (IsCounted usage.old address true → ⊥) }
+{
+    if !is_counted(usage, address, true) {
+        return Err(DeviceFault);
+    }
+    usage.lift((address - 2) / 64, true);
+    usage.set_block(index, IN_MEMORY, true);
+    Ok(())
+}
+
+/// A usage block will be written elsewhere, if it is at this address that it stands.
+///
+/// # Errors
+///
+/// Where it isn't counted there.
+fn relocate_usage(memory: &mut LogMemory, index: u32, address: u32) -> Result<(), DeviceFault>
+    requires index { index ≤ 15 }
+    requires above { 2 ≤ address }
+    ensures done { OnOk result ((memory.new ≡ memory.old) ⊎ UsageLeavesIn memory.old memory.new index) }
+    ensures left { OnOk result (address_of memory.new.usage index ≡ address → ⊥) }
+    ensures same { OnErr result (memory.new ≡ memory.old) }
+    ensures lost { OnErr result (IsUsageLost memory.old index) }
+{
+    if memory.usage.block(index).address != address {
+        return Ok(());
+    }
+    leave_usage(&mut memory.usage, index, address)?;
+    Ok(())
+}
+
+/// The key of a block of a file.
+#[tactic(auto, unfolding(lfs_model::specs::Summary::IsPlaced))]
+fn key_of(name: BlockName) -> BlockKey
+    requires placed { IsPlaced name.kind name.file name.index }
+    requires file { 1 ≤ name.file }
+    ensures { entry_of result ≡ entry.entry_of name }
+{
+    match name.kind {
+        BlockKind::Data => BlockKey::data(name.file, name.index),
+        BlockKind::Leaf => BlockKey::leaf(name.file, name.index),
+        BlockKind::Double => BlockKey::double(name.file),
+        _ => BlockKey::inode(name.file),
+    }
+}
+
+/// The block that a summary names comes into memory with all above it, if it is at this address that it stands.
+///
+/// # Errors
+///
+/// As those of `lift`, and where the block isn't counted there.
+#[tactic(auto, unfolding(lfs_model::specs::Summary::IsPlaced))]
+fn relocate_block<D: SectorDevice>(
+    device: &mut D,
+    memory: &mut LogMemory,
+    name: BlockName,
+    address: u32,
+) -> Result<(), LiftFault>
+    requires memory { IsMemory memory.old }
+    requires placed { IsPlaced name.kind name.file name.index }
+    requires above { 2 ≤ address }
+    ensures relocates { Relocates (D.state device.old) (D.state device.new) memory.old memory.new }
+    ensures left { OnOk result (HasLeft (D.state device.old) (D.state device.new) memory.old memory.new (entry.entry_of name) address) }
+    ensures full { IsErrOf result LiftFault.Full → memory.new.dirty.capacity.limit ≤ length memory.new.dirty.blocks }
+    ensures failed { IsErrOf result LiftFault.Device → IsExcused (D.state device.old) (D.state device.new) memory.old }
+    ensures no_failure { OnOk result ((D.state device.new).failures ≡ (D.state device.old).failures) }
+{
+    match name.kind {
+        BlockKind::Map => match relocate_map(memory, name.index, address) {
+            Ok(()) => Ok(()),
+            Err(_) => Err(LiftFault::Device),
+        },
+        BlockKind::Usage => match relocate_usage(memory, name.index, address) {
+            Ok(()) => Ok(()),
+            Err(_) => Err(LiftFault::Device),
+        },
+        _ => relocate_file_block(device, memory, key_of(name), address),
+    }
+}
+
+/// The blocks of a chunk come into memory with all above them, those that stand there.
+///
+/// # Errors
+///
+/// As those of `relocate_block`.
+fn relocate_chunk<D: SectorDevice>(
+    device: &mut D,
+    memory: &mut LogMemory,
+    names: &SummaryView<'_>,
+    first: u32,
+) -> Result<(), LiftFault>
+    requires memory { IsMemory memory.old }
+    requires fits { FitsSummary names.now }
+    requires above { 2 ≤ first }
+    requires few { first ≤ 65602 }
+    ensures relocates { Relocates (D.state device.old) (D.state device.new) memory.old memory.new }
+    ensures left { OnOk result (LeavesNames (D.state device.old) (D.state device.new) memory.old memory.new names.now first (length names.now)) }
+    ensures full { IsErrOf result LiftFault.Full → memory.new.dirty.capacity.limit ≤ length memory.new.dirty.blocks }
+    ensures failed { IsErrOf result LiftFault.Device → IsExcused (D.state device.old) (D.state device.new) memory.old }
+    ensures no_failure { OnOk result ((D.state device.new).failures ≡ (D.state device.old).failures) }
+{
+    for place in 0..names.len() {
+        match relocate_block(device, memory, names.get(place), first + place as u32) {
+            Ok(()) => {}
+            Err(fault) => return Err(fault),
+        }
+    }
+    Ok(())
+}
+
+/// Reads a sector of a segment.
+///
+/// # Errors
+///
+/// Where it can't be read, or a call of the device failed.
+fn read_sector<D: SectorDevice>(
+    device: &mut D,
+    address: u32,
+    out: &mut [u8; 512],
+) -> Result<(), DeviceFault>
+    requires some { 1 ≤ address }
+    requires inside { address < (D.state device.old).size }
+    ensures read { OnOk result ((D.state device.new).keeps_model → block (D.state device.old).content address ≡ out.new) }
+    ensures unread { OnErr result ((D.state device.new).keeps_model → (D.state device.old).failures < (D.state device.new).failures ⊎ (cell_at (D.state device.old).content address ≡ None)) }
+    ensures no_failure { OnOk result ((D.state device.new).failures ≡ (D.state device.old).failures) }
+    ensures looks { Looks (D.state device.old) (D.state device.new) }
+{
+    match device.read(address, out) {
+        Ok(()) => Ok(()),
+        Err(_) => Err(DeviceFault),
+    }
+}
+
+/// The blocks of a segment come into memory with all above them, chunk by chunk.
+///
+/// # Errors
+///
+/// As those of `relocate_block`, and where the segment's used part isn't whole chunks.
+pub fn relocate_segment<D: SectorDevice>(
+    device: &mut D,
+    memory: &mut LogMemory,
+    segment: u32,
+) -> Result<(), LiftFault>
+    requires memory { IsMemory memory.old }
+    requires size { HasRoom (D.state device.old) memory.old }
+    requires closed { memory.old.chunk.names ≡ [] }
+    requires inside { segment < length memory.old.usage.segments }
+    ensures relocates { Relocates (D.state device.old) (D.state device.new) memory.old memory.new }
+    ensures vacates { OnOk result (Vacates (D.state device.old) (D.state device.new) memory.old memory.new (2 + 64 * segment) (66 + 64 * segment)) }
+    ensures full { IsErrOf result LiftFault.Full → memory.new.dirty.capacity.limit ≤ length memory.new.dirty.blocks }
+    ensures failed { IsErrOf result LiftFault.Device → IsExcused (D.state device.old) (D.state device.new) memory.old }
+    ensures no_failure { OnOk result ((D.state device.new).failures ≡ (D.state device.old).failures) }
+{
+    let mut sector = [0; 512];
+    let first = 2 + 64 * segment;
+    let used = u32::from(memory.usage.state(segment).used);
+    let mut at = 0;
+    while at < used {
+        match read_sector(device, first + at, &mut sector) {
+            Ok(()) => {}
+            Err(_) => return Err(LiftFault::Device),
+        }
+        let Some(names) = SummaryView::decode(&sector) else {
+            return Err(LiftFault::Device);
+        };
+        let count = names.len() as u32;
+        if count >= used - at {
+            return Err(LiftFault::Device);
+        }
+        match relocate_chunk(device, memory, &names, first + at + 1) {
+            Ok(()) => {}
+            Err(fault) => return Err(fault),
+        }
+        at += 1 + count;
+    }
+    Ok(())
+}
