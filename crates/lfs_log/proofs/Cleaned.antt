@@ -25,7 +25,7 @@ use Rattle.lfs_memory.proofs.BlockSteps.{tightened_log}
 use Rattle.lfs_memory.proofs.Looses.{loose}
 use Rattle.lfs_memory.proofs.of_segments.EmptiedGained.{count_gained}
 use Rattle.lfs_memory.proofs.of_segments.Spare.{passes}
-use Rattle.lfs_log.specs.Cleaning.{AreCleanable, AreEmptied, Empties}
+use Rattle.lfs_log.specs.Cleaning.{AreCleanable, AreEmptied, Empties, Overfills}
 use Rattle.lfs_log.specs.Relocating.{Relocates, VacatesAll}
 
 -- ---- nothing lives where no block stands
@@ -93,20 +93,23 @@ module _ (v : LogMemory) (t : TableValue) (same : t.blocks ≡ v.dirty.blocks) w
     log = λ k m0 m keeps is. one.log k m0 m keeps (limited_log a k m0 m is);
   }
 
--- ---- a memory that is put back
-pub same_memory : (v v' : LogMemory) → v'.map ≡ v.map → v'.usage ≡ v.usage → v'.dirty.blocks ≡ v.dirty.blocks → v'.dirty.capacity.limit ≡ v.dirty.capacity.limit
-    → v'.dirty.capacity.room ≡ v.dirty.capacity.room → v'.chunk ≡ v.chunk → v' ≡ v
-same_memory v v' map usage blocks limit room chunk =
-    let capacity : v'.dirty.capacity ≡ v.dirty.capacity = ap₂ (λ (l r : ℕ). by_both l r) limit room in
-    let dirty : v'.dirty ≡ v.dirty = ap₂ (λ (b : Blocks) (c : Capacity). by_parts b c) blocks capacity in
-    ap (λ m. record v' { map = m }) map ∙ ap (λ (u : UsageTable). record v' { map = v.map; usage = u }) usage
-    ∙ ap (λ (t : TableValue). record v' { map = v.map; usage = v.usage; dirty = t }) dirty ∙ ap (λ c. record { map = v.map; usage = v.usage; dirty = v.dirty; chunk = c }) chunk
+-- a table by its parts
+pub table_by : (t : TableValue) (bs : Blocks) (l r : ℕ) → t.blocks ≡ bs → t.capacity.limit ≡ l → t.capacity.room ≡ r → t ≡ record { blocks = bs; capacity = record { limit = l; room = r } }
+table_by t bs l r blocks limit room =
+    ap (λ (b : Blocks). record t { blocks = b }) blocks ∙ ap (λ (n : ℕ). by_limit n) limit ∙ ap (λ (n : ℕ). by_room n) room
   where
-    by_both : ℕ → ℕ → Capacity
-    by_both l r = record { limit = l; room = r }
+    by_limit : ℕ → TableValue
+    by_limit n = record { blocks = bs; capacity = record { limit = n; room = t.capacity.room } }
 
-    by_parts : Blocks → Capacity → TableValue
-    by_parts b c = record { blocks = b; capacity = c }
+    by_room : ℕ → TableValue
+    by_room n = record { blocks = bs; capacity = record { limit = l; room = n } }
+
+pub overfills : (a b : DeviceState) (v : LogMemory) (t : TableValue) (most : ℕ) (w : LogMemory) → t.blocks ≡ v.dirty.blocks → t.capacity.limit ≡ most → t.capacity.room ≡ v.dirty.capacity.room
+    → Relocates a b (record { map = v.map; usage = v.usage; dirty = t; chunk = v.chunk }) w → w.dirty.capacity.limit ≤ length w.dirty.blocks → Overfills a b v most
+overfills a b v t most w blocks limit room one full =
+    let same = table_by t v.dirty.blocks most v.dirty.capacity.room blocks limit room in
+    let kept = ap (λ (c : Capacity). c.limit) one.capacity in
+    (w, subst (λ (t : TableValue). Relocates a b (record { map = v.map; usage = v.usage; dirty = t; chunk = v.chunk }) w) same one, omega (arith, kept, limit, full))
 
 -- ---- how many were emptied
 no_test : ℕ → Bool

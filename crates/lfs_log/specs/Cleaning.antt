@@ -13,6 +13,7 @@ use Rattle.lfs_memory.specs.declared.memory.LogMemory.{LogMemory}
 use Rattle.lfs_memory.specs.Memory.{IsLog, IsMemory}
 use Rattle.lfs_memory.specs.Present.{Looks}
 use Rattle.lfs_log.specs.Held.{Held, Holds, LeavesSaved}
+use Rattle.lfs_log.specs.Relocating.{Relocates}
 
 -- a segment that is in use, and was before the acknowledged checkpoint
 pub record IsCleanable (t : UsageTable) (s : ℕ) : Type 0 where
@@ -39,6 +40,14 @@ pub record Empties (d d' : DeviceState) (v v' : LogMemory) (vs : List ℕ) : Typ
 -- how many blocks of files a pass over so many segments may bring into memory: with all blocks of the tables they fill fewer segments
 abbrev pub most_brought : ℕ → ℕ
 most_brought count = 63 * (count - 1) - 48
+
+-- memory that takes so many blocks of files
+abbrev pub limited : LogMemory → ℕ → LogMemory
+limited v most = record v { dirty = record { blocks = v.dirty.blocks; capacity = record { limit = most; room = v.dirty.capacity.room } } }
+
+-- As blocks of the segments came into memory, with those above them, it had so many that it took no more.
+abbrev pub Overfills : DeviceState → DeviceState → LogMemory → ℕ → Type 0
+Overfills d d' v most = (w : LogMemory) × Relocates d d' (limited v most) w × (most ≤ length w.dirty.blocks)
 
 -- What a pass asks of memory: nothing is unsaved, an eighth of the segments is clean, and the pass takes no more than these.
 pub record MayClean (v : LogMemory) (vs : List ℕ) : Type 0 where

@@ -4,7 +4,7 @@ ghost use Rattle.std.specs.Prelude.{◌≡◌, ◌<◌, ◌≤◌, ◌+◌, ◌*
 ghost use Rattle.lfs_memory.specs.segments.Emptied.{IsEmptied};
 ghost use Rattle.lfs_memory.specs.Memory.{HasRoom, IsMemory};
 ghost use Rattle.lfs_memory.specs.Present.{IsExcused, Looks};
-ghost use Rattle.lfs_log.specs.Cleaning.{AreCleanable, AreEmptied, Empties, IsCleanable, MayClean, most_brought};
+ghost use Rattle.lfs_log.specs.Cleaning.{AreCleanable, AreEmptied, Empties, IsCleanable, MayClean, Overfills, most_brought};
 ghost use Rattle.lfs_log.specs.Relocating.{Relocates, VacatesAll};
 
 use crate::relocating::relocate_segment;
@@ -120,6 +120,7 @@ fn empty_segments<D: SectorDevice>(
     ensures segments { length memory.new.usage.segments ≡ length memory.old.usage.segments }
     ensures chunk { memory.new.chunk ≡ memory.old.chunk }
     ensures capacity { memory.new.dirty.capacity ≡ memory.old.dirty.capacity }
+    ensures full { IsErrOf result LiftFault.Full → Relocates (D.state device.old) (D.state device.new) memory.old memory.new × (memory.new.dirty.capacity.limit ≤ length memory.new.dirty.blocks) }
     ensures failed { IsErrOf result LiftFault.Device → IsExcused (D.state device.old) (D.state device.new) memory.old }
     ensures no_failure { OnOk result ((D.state device.new).failures ≡ (D.state device.old).failures) }
 {
@@ -161,6 +162,7 @@ pub fn relocate<D: SectorDevice>(
     ensures same { OnErr result (memory.new ≡ memory.old) }
     ensures kept { length before.new.usage.segments ≡ length before.old.usage.segments }
     ensures looks { Looks (D.state device.old) (D.state device.new) }
+    ensures full { IsErrOf result LiftFault.Full → Overfills (D.state device.old) (D.state device.new) memory.old most }
     ensures failed { IsErrOf result LiftFault.Device → IsExcused (D.state device.old) (D.state device.new) memory.old }
     ensures no_failure { OnOk result ((D.state device.new).failures ≡ (D.state device.old).failures) }
 {
@@ -185,18 +187,23 @@ pub fn relocate<D: SectorDevice>(
 
 /// Whether a segment is in use, and was before the acknowledged checkpoint.
 fn is_cleanable(usage: &Usage, segment: u32) -> bool
-    ensures { IsTrue result → IsCleanable usage.now segment }
+    ensures yes { IsTrue result → IsCleanable usage.now segment }
+    ensures no { IsFalse result → IsCleanable usage.now segment → ⊥ }
 {
     if segment >= usage.segments() {
         return false;
     }
     let state = usage.state(segment);
-    state.used != 0 && !state.taken
+    if state.used == 0 {
+        return false;
+    }
+    !state.taken
 }
 
 /// Whether that is so of each of these segments.
 fn are_cleanable(usage: &Usage, victims: &[u16]) -> bool
-    ensures { IsTrue result → AreCleanable usage.now victims.now }
+    ensures yes { IsTrue result → AreCleanable usage.now victims.now }
+    ensures no { IsFalse result → AreCleanable usage.now victims.now → ⊥ }
 {
     for victim in victims {
         if !is_cleanable(usage, u32::from(*victim)) {
@@ -208,7 +215,8 @@ fn are_cleanable(usage: &Usage, victims: &[u16]) -> bool
 
 /// Whether a pass over these segments may begin: nothing is unsaved, and enough segments are clean for it.
 pub fn may_clean(memory: &LogMemory, victims: &[u16]) -> bool
-    ensures { IsTrue result → MayClean memory.now victims.now }
+    ensures yes { IsTrue result → MayClean memory.now victims.now }
+    ensures no { IsFalse result → MayClean memory.now victims.now → ⊥ }
 {
     if memory.dirty.len() != 0 {
         return false;
@@ -218,7 +226,10 @@ pub fn may_clean(memory: &LogMemory, victims: &[u16]) -> bool
         return false;
     }
     let count = victims.len();
-    if count < 2 || count > segments as usize / 8 + 1 {
+    if count < 2 {
+        return false;
+    }
+    if count > segments as usize / 8 + 1 {
         return false;
     }
     are_cleanable(&memory.usage, victims)

@@ -58,7 +58,7 @@ impl<D: SectorDevice> Model for Log<D> {
 }
 
 impl<D: SectorDevice> Log<D> {
-    ghost use Rattle.lfs_log.specs.Cleaning.{Cleans};
+    ghost use Rattle.lfs_log.specs.Cleaning.{Cleans, MayClean, Overfills, most_brought};
     ghost use Rattle.lfs_log.specs.Held.{Mounts, Saves, Halts, Reads, ReadsHeader, ReadsBlock, TellsBlock, TellsLeaf, IsReadFault, IsFull, IsVacant, HasAll, IsStaged, IsRefused, IsStageFault, IsRemoved, IsKept, HoldsOne};
 
     /// The volume that the newest checkpoint of the device leads to, with the totals of its files; else why there is none, and
@@ -397,6 +397,8 @@ impl<D: SectorDevice> Log<D> {
         requires { AreApart victims.now }
         ensures done { OnOk result (Cleans D.SectorDevice.state self.old self.new victims.now) }
         ensures full { IsErrOf result LogFault.Full → Reads D.SectorDevice.state self.old self.new }
+        ensures lacks { IsErrOf result LogFault.Full → MayClean self.old.memory victims.now → self.old.number < 2 ^ 64 - 1
+            → Overfills (D.state self.old.device) (D.state self.new.device) self.old.memory (most_brought (length victims.now)) }
         ensures kept { IsErrOf result LogFault.Device → Reads D.SectorDevice.state self.old self.new }
         ensures failed { IsErrOf result LogFault.Device → IsReadFault D.SectorDevice.state self.old self.new }
         ensures halted { IsErrOf result LogFault.Halted → self.old.halted ≢ true → Halts D.SectorDevice.state self.old self.new }

@@ -1,5 +1,5 @@
 use Rattle.std.proofs.Common.{rules}
-use Rattle.lfs_log.proofs.Cleaned.{limited_empties, limited_excused}
+use Rattle.lfs_log.proofs.Cleaned.{limited_empties, limited_excused, overfills}
 use Rattle.lfs_log.proofs.cleaning.relocate.Goals as goal
 
 pub returns-in-Ok-clause-done : goal.returns-in-Ok-clause-done
@@ -11,3 +11,9 @@ pub returns-in-Err-clause-failed : goal.returns-in-Err-clause-failed
 returns-in-Err-clause-failed g c is =
     limited_excused c.args.memory.now c.set_limit.new.self c.set_limit.ensures.blocks (g.D.SectorDevice.state c.args.device.now) (g.D.SectorDevice.state c.empty_segments.new.device)
     (c.in-Err.ensures.failed (search rules))
+
+pub returns-in-Err-clause-full : goal.returns-in-Err-clause-full
+returns-in-Err-clause-full g c is =
+    let over = c.in-Err.ensures.full (search rules) in
+    overfills (g.D.SectorDevice.state c.args.device.now) (g.D.SectorDevice.state c.empty_segments.new.device) c.args.memory.now c.set_limit.new.self c.args.most c.empty_segments.new.memory
+    c.set_limit.ensures.blocks c.set_limit.ensures.limit c.set_limit.ensures.room over.0 over.1

@@ -17,7 +17,7 @@ pub save-requires-clause-spare : goal.save-requires-clause-spare
 save-requires-clause-spare g c =
     let few : length c.relocate.new.memory.dirty.blocks ≤ most_brought (length c.args.victims.now) = let f = c.in-Ok.ensures.few in let most = c.most_of-most.ensures in omega (arith, f, most) in
     pass_spared (g.D.SectorDevice.state c.self.inside.device) (g.D.SectorDevice.state c.relocate.new.device) c.self.inside.memory c.relocate.new.memory c.args.victims.now
-    (c.if-not-may_clean.ensures (search rules)) c.requires c.in-Ok.ensures.done few
+    (c.if-not-may_clean.ensures.yes (search rules)) c.requires c.in-Ok.ensures.done few
 
 pub returns-in-Ok-save-clause-done : goal.returns-in-Ok-save-clause-done
 returns-in-Ok-save-clause-done g c =
@@ -27,7 +27,7 @@ returns-in-Ok-save-clause-done g c =
     let few : length c.relocate.new.memory.dirty.blocks ≤ most_brought (length c.args.victims.now) = let f = c.in-Ok.ensures.few in let most = c.most_of-most.ensures in omega (arith, f, most) in
     subst (λ (h : Held g.row.D.Denot). Cleans g.D.SectorDevice.state h after c.args.victims.now) c.self.view_is
     (pass_done g.D.SectorDevice.state before (g.D.SectorDevice.state c.relocate.new.device) c.relocate.new.memory c.args.victims.now (g.met.D.SectorDevice.lawful c.self.inside.device) c.in-Ok.ensures.done
-    (c.if-not-may_clean.ensures (search rules)) c.requires few c.save.new.device c.save.new.memory c.set_limit.new.self c.self.inside.halted c.if-self.false c.set_limit.ensures.blocks
+    (c.if-not-may_clean.ensures.yes (search rules)) c.requires few c.save.new.device c.save.new.memory c.set_limit.new.self c.self.inside.halted c.if-self.false c.set_limit.ensures.blocks
     c.in-Ok.ensures.no_failure c.in-Ok-save.ensures.done)
 
 pub returns-in-Err-clause-halted : goal.returns-in-Err-clause-halted
