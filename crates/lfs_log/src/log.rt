@@ -422,16 +422,12 @@ impl<D: SectorDevice> Log<D> {
             Err(LiftFault::Full) => return Err(LogFault::Full),
             Err(LiftFault::Device) => return Err(LogFault::Device),
         }
-        match save(&mut self.device, &mut self.memory, self.number) {
-            Ok(()) => {
-                self.memory.dirty.set_limit(MOST_DIRTY);
-                self.number += 1;
-                Ok(())
-            }
-            Err(_) => {
-                self.halted = true;
-                Err(LogFault::Halted)
-            }
-        }
+        let Ok(()) = save(&mut self.device, &mut self.memory, self.number) else {
+            self.halted = true;
+            return Err(LogFault::Halted);
+        };
+        self.memory.dirty.set_limit(MOST_DIRTY);
+        self.number += 1;
+        Ok(())
     }
 }

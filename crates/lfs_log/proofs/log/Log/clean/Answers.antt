@@ -19,8 +19,8 @@ save-requires-clause-spare g c =
     pass_spared (g.D.SectorDevice.state c.self.inside.device) (g.D.SectorDevice.state c.relocate.new.device) c.self.inside.memory c.relocate.new.memory c.args.victims.now
     (c.if-not-may_clean.ensures.yes (search rules)) c.requires c.in-Ok.ensures.done few
 
-pub returns-in-Ok-save-clause-done : goal.returns-in-Ok-save-clause-done
-returns-in-Ok-save-clause-done g c =
+pub returns-clause-done : goal.returns-clause-done
+returns-clause-done g c =
     let before : Held g.row.D.Denot = record { device = c.self.inside.device; memory = c.self.inside.memory; number = c.self.inside.number; halted = c.self.inside.halted } in
     let memory : LogMemory = record { map = c.save.new.memory.map; usage = c.save.new.memory.usage; dirty = c.set_limit.new.self; chunk = c.save.new.memory.chunk } in
     let after : Held g.row.D.Denot = record { device = c.save.new.device; memory = memory; number = c.self.inside.number + 1; halted = c.self.inside.halted } in
@@ -30,10 +30,10 @@ returns-in-Ok-save-clause-done g c =
     (c.if-not-may_clean.ensures.yes (search rules)) c.requires few c.save.new.device c.save.new.memory c.set_limit.new.self c.self.inside.halted c.if-self.false c.set_limit.ensures.blocks
     c.in-Ok.ensures.no_failure c.in-Ok-save.ensures.done)
 
-pub returns-in-Err-clause-halted : goal.returns-in-Err-clause-halted
-returns-in-Err-clause-halted g c is ne =
+pub returns-in_default-clause-halted : goal.returns-in_default-clause-halted
+returns-in_default-clause-halted g c is ne =
     let before : Held g.row.D.Denot = record { device = c.self.inside.device; memory = c.self.inside.memory; number = c.self.inside.number; halted = c.self.inside.halted } in
     let after : Held g.row.D.Denot = record { device = c.save.new.device; memory = c.save.new.memory; number = c.self.inside.number; halted = true } in
     subst (λ (h : Held g.row.D.Denot). Halts g.D.SectorDevice.state h after) c.self.view_is
     (pass_halts g.D.SectorDevice.state before (g.D.SectorDevice.state c.relocate.new.device) c.relocate.new.memory c.args.victims.now (g.met.D.SectorDevice.lawful c.self.inside.device) c.in-Ok.ensures.done
-    c.save.new.device c.save.new.memory c.in-Ok.ensures.no_failure c.in-Err.ensures.stopped)
+    c.save.new.device c.save.new.memory c.in-Ok.ensures.no_failure c.in_default.ensures.stopped)
