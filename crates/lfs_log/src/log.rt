@@ -396,6 +396,7 @@ impl<D: SectorDevice> Log<D> {
     pub fn clean(&mut self, victims: &[u16]) -> Result<(), LogFault>
         requires { AreApart victims.now }
         ensures done { OnOk result (Cleans D.SectorDevice.state self.old self.new victims.now) }
+        ensures totals { self.new.totals ≡ self.old.totals }
         ensures full { IsErrOf result LogFault.Full → Reads D.SectorDevice.state self.old self.new }
         ensures lacks { IsErrOf result LogFault.Full → MayClean self.old.memory victims.now → self.old.number < 2 ^ 64 - 1
             → Overfills (D.state self.old.device) (D.state self.new.device) self.old.memory (most_brought (length victims.now)) }
