@@ -11,3 +11,4 @@ pub mod SlotsTaken
 pub mod Takings
 pub mod PlacesOfNames
 pub mod Lists
+pub mod InTrees

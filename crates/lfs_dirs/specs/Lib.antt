@@ -6,3 +6,4 @@ pub mod Searching
 pub mod Repointing
 pub mod Taking
 pub mod Keeping
+pub mod InTree

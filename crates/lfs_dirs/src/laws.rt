@@ -2,6 +2,7 @@
 ghost use Rattle.lfs_dirs.specs.Directory.{SlotsOfBlock, SlotInBlock, NamesMany, SlotGives, FirstGives, SlotAppended, SlotReplaced, LastSlotTaken, SlotTaken};
 ghost use Rattle.lfs_dirs.specs.Adding.{SlotWritten};
 ghost use Rattle.lfs_dirs.specs.Keeping.{SlotsStay, DirectoryStays, EmptyDirectory};
+ghost use Rattle.lfs_dirs.specs.InTree.{DirectoryMade, DirectoryNode, NameInTree, NameOffTree};
 
 /// A directory's slots are those of its blocks, eight a block.
 pub fn slots_of_block()
@@ -54,4 +55,16 @@ pub fn directory_stays()
 /// An object of no bytes is a directory of no names.
 pub fn empty_directory()
     ensures { EmptyDirectory }
+{}
+
+/// The tree's directory has the names that its slots give.
+pub fn directory_in_tree()
+    ensures node { DirectoryNode }
+    ensures made { DirectoryMade }
+{}
+
+/// With one name more, one that gives another number, or one less, the tree is what the calls make of it.
+pub fn name_in_tree()
+    ensures more { NameInTree }
+    ensures less { NameOffTree }
 {}
