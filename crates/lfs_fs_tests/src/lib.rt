@@ -14,4 +14,6 @@ mod steps;
 #[cfg(test)]
 mod stops;
 #[cfg(test)]
+mod tree;
+#[cfg(test)]
 mod volume;

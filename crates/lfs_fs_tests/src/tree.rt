@@ -1,0 +1,176 @@
+//! Walks over a tree of directories, files and symbolic links.
+
+use crate::volume::store_with;
+use lfs_device::MemDevice;
+use lfs_layout::is_name;
+use lfs_model::Kind;
+use lfs_path::dirs::add;
+use lfs_path::tree::{parent, resolve};
+use lfs_path::{Last, WalkFault};
+use lfs_store::{Header, Store};
+use std::alloc::Global;
+use std::test::Fail;
+
+/// An object of a tree.
+#[derive(Clone, Copy)]
+enum Object<'a> {
+    Directory,
+    File,
+    Link(&'a [u8]),
+}
+
+/// Drafts a new object.
+fn make(store: &mut Store<MemDevice>, number: u16, object: Object) -> Result<(), Fail> {
+    if number == 0 || number > 4_095 {
+        return Err(Fail::from("no number"));
+    }
+    match object {
+        Object::Directory => store.create(number, Kind::Directory)?,
+        Object::File => store.create(number, Kind::File)?,
+        Object::Link(text) => make_link(store, number, text)?,
+    }
+    Ok(())
+}
+
+/// Drafts a new link of this text.
+fn make_link(store: &mut Store<MemDevice>, number: u16, text: &[u8]) -> Result<(), Fail> {
+    if number == 0 || number > 4_095 || text.is_empty() || text.len() > 1_023 {
+        return Err(Fail::from("no link"));
+    }
+    let size = text.len() as u32;
+    let header = Header {
+        kind: Kind::Link,
+        links: 1,
+        size,
+    };
+    store.create_link(number, size)?;
+    store.write_at(number, header, 0, text)?;
+    Ok(())
+}
+
+/// Drafts a name in a directory.
+fn name(
+    store: &mut Store<MemDevice>,
+    directory: u16,
+    name: &[u8],
+    number: u16,
+) -> Result<(), Fail> {
+    if directory == 0 || directory > 4_095 || number == 0 || number > 4_095 || !is_name(name) {
+        return Err(Fail::from("no name"));
+    }
+    match store.header(directory)? {
+        Some(header) if header.size <= 65_472 => {
+            add(store, directory, header, number, name)?;
+            Ok(())
+        }
+        _ => Err(Fail::from("no directory")),
+    }
+}
+
+/// The files of a new volume with these objects from number 2 on, each named in a directory.
+fn tree_of(alloc: Global, objects: &[(u16, &[u8], Object)]) -> Result<Box<Store<MemDevice>>, Fail> {
+    let mut store = store_with(alloc, b"")?;
+    for (number, (directory, text, object)) in (2..99u16).zip(objects) {
+        make(&mut store, number, *object)?;
+        name(&mut store, *directory, text, number)?;
+    }
+    Ok(store)
+}
+
+/// The directory `d` (2) with the directory `x` (3) with the file `f` (4), and links in the root and in `d`.
+fn small_tree(alloc: Global) -> Result<Box<Store<MemDevice>>, Fail> {
+    tree_of(
+        alloc,
+        &[
+            (1, b"d", Object::Directory),
+            (2, b"x", Object::Directory),
+            (3, b"f", Object::File),
+            (1, b"s", Object::Link(b"d/../d/")),
+            (2, b"up", Object::Link(b"../d/x")),
+            (1, b"l", Object::Link(b"/l")),
+            (2, b"abs", Object::Link(b"/d/x/f")),
+            (1, b"slash", Object::Link(b"d/x/f/")),
+        ],
+    )
+}
+
+#[test]
+fn directories_and_links_are_walked(rt: HostRuntime) -> Result<(), Fail> {
+    let mut store = small_tree(rt.alloc())?;
+    for (path, follow, want) in [
+        (b"/d/x/..".as_slice(), true, Ok(2)),
+        (b"d/x/../../..".as_slice(), true, Ok(1)),
+        (b"/d//x/./f".as_slice(), true, Ok(4)),
+        (b"/s".as_slice(), false, Ok(5)),
+        (b"/s".as_slice(), true, Ok(2)),
+        (b"/s/".as_slice(), false, Ok(2)),
+        (b"/s/x".as_slice(), true, Ok(3)),
+        (b"/d/up/f".as_slice(), true, Ok(4)),
+        (b"/d/up/..".as_slice(), true, Ok(2)),
+        (b"/d/abs".as_slice(), true, Ok(4)),
+        (b"/d/abs/".as_slice(), false, Err(WalkFault::NotDir)),
+        (b"/d/x/f/..".as_slice(), true, Err(WalkFault::NotDir)),
+        (b"/slash".as_slice(), true, Err(WalkFault::NotDir)),
+        (b"/l".as_slice(), true, Err(WalkFault::Loop)),
+        (b"/l".as_slice(), false, Ok(7)),
+        (b"/d/q".as_slice(), true, Err(WalkFault::NoEntry)),
+        (b"".as_slice(), true, Err(WalkFault::NoEntry)),
+    ] {
+        assert!(rt; resolve(rt.alloc(), &mut *store, path, follow) == want);
+    }
+    Ok(())
+}
+
+/// Whether a path is walked to its last piece, which is this name in the directory, or none.
+fn ends_in(
+    alloc: Global,
+    store: &mut Store<MemDevice>,
+    path: &[u8],
+    directory: u16,
+    name: Option<&[u8]>,
+) -> bool {
+    match parent(alloc, store, path) {
+        Ok(place) => place.chain.directory() == directory && is_last(place.last, name),
+        Err(_) => false,
+    }
+}
+
+/// Whether the last piece of a path is this name, or there is none.
+fn is_last(last: Option<Last>, name: Option<&[u8]>) -> bool {
+    match (last, name) {
+        (Some(last), Some(name)) => last.name == name,
+        (None, None) => true,
+        _ => false,
+    }
+}
+
+#[test]
+fn the_directory_of_the_last_piece_is_walked(rt: HostRuntime) -> Result<(), Fail> {
+    let mut store = small_tree(rt.alloc())?;
+    for (path, directory, name) in [
+        (b"/d/x/new".as_slice(), 3, Some(b"new".as_slice())),
+        (b"/s/up/new/".as_slice(), 3, Some(b"new".as_slice())),
+        (b"/s/x/../..".as_slice(), 2, Some(b"..".as_slice())),
+        (b"new".as_slice(), 1, Some(b"new".as_slice())),
+        (b"//".as_slice(), 1, None),
+    ] {
+        assert!(rt; ends_in(rt.alloc(), &mut store, path, directory, name));
+    }
+    Ok(())
+}
+
+#[test]
+fn forty_links_are_followed(rt: HostRuntime) -> Result<(), Fail> {
+    let alloc = rt.alloc();
+    let mut store = tree_of(alloc, &[(1, b"l", Object::File)])?;
+    let mut text = [b'l'; 42];
+    for links in 1..42u16 {
+        let end = links as usize;
+        make(&mut store, 2 + links, Object::Link(&text[..end]))?;
+        name(&mut store, 1, &text[..end + 1], 2 + links)?;
+    }
+    text[0] = b'l';
+    assert!(rt; resolve(alloc, &mut *store, &text[..41], true) == Ok(2));
+    assert!(rt; resolve(alloc, &mut *store, &text, true) == Err(WalkFault::Loop));
+    Ok(())
+}
