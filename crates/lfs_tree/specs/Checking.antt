@@ -14,8 +14,9 @@ use Rattle.lfs_verify.specs.declared.fault.MountFault.TheVariants.{NoMemory, Dev
 use Rattle.lfs_verify.specs.declared.tables.Tables.{Tables}
 use Rattle.lfs_verify.specs.Verified.{IsDamagedIn}
 use Rattle.lfs_tree.specs.declared.tables.NameTables.{NameTables}
+use Rattle.lfs_tree.specs.Naming.{AreEmpty}
 use Rattle.lfs_tree.specs.Objects.{AreNamed}
-use Rattle.lfs_tree.specs.Reading.{Leads, TellsHeaders}
+use Rattle.lfs_tree.specs.Reading.{Leads, Sees, TellsHeaders}
 
 -- the tables of a volume are those of a log map
 pub record IsOfLog (c : Content) (k : CheckpointValue) (m : LogMap) (t : Tables) : Type 0 where
@@ -56,3 +57,7 @@ IsDamagedTree c code = (10 ≤ code) × (code ≤ 14) × IsDamagedIn c code
 -- why a tree is refused, by fault
 abbrev pub IsRefusedTree : DeviceState → DeviceState → MountFault → Type 0
 IsRefusedTree old new = IsFaultOf (old.failures < new.failures) (IsDamagedTree old.content)
+
+-- Of each log map that the device holds, and whose tables these are, this is so, with tables of names that were empty.
+abbrev pub OfTables : DeviceState → DeviceState → Tables → NameTables → (CheckpointValue → LogMap → Type 0) → Type 0
+OfTables old new t names P = (k : CheckpointValue) (m : LogMap) → Sees old new k m → IsOfLog old.content k m t → AreEmpty names → P k m

@@ -36,3 +36,25 @@ InodeAnswer c k m n bytes false = m.header n ≡ None
 -- the headers of the files below a number, by number
 abbrev pub TellsHeaders : LogMap → List (Option Header) → ℕ → Type 0
 TellsHeaders m headers upto = (n : ℕ) → n < upto → m.header n ≡ option_map as_header (get_or headers n None)
+
+-- ---- what calls say
+
+-- a call of the device failed
+abbrev pub Fails : DeviceState → DeviceState → Type 0
+Fails old new = old.failures < new.failures
+
+-- Of each log map that the device holds, and to which the inode map leads, this is so.
+abbrev pub OfLog : DeviceState → DeviceState → MapValue → (CheckpointValue → LogMap → Type 0) → Type 0
+OfLog old new map P = (k : CheckpointValue) (m : LogMap) → Sees old new k m → Leads old.content k map → P k m
+
+-- The same where these are its headers.
+abbrev pub OfHeaders : DeviceState → DeviceState → MapValue → List (Option Header) → (CheckpointValue → LogMap → Type 0) → Type 0
+OfHeaders old new map headers P = (k : CheckpointValue) (m : LogMap) → Sees old new k m → Leads old.content k map → TellsHeaders m headers 4096 → P k m
+
+-- Of each log map that the device holds, and a file of it that has this inode, this is so.
+abbrev pub OfInode : DeviceState → DeviceState → List ℕ → (LogMap → ℕ → Type 0) → Type 0
+OfInode old new inode P = (k : CheckpointValue) (m : LogMap) (n : ℕ) → Sees old new k m → inode ≡ block old.content (address old.content k (Inode n)) → P m n
+
+-- The same of one file.
+abbrev pub OfInodeAt : DeviceState → DeviceState → List ℕ → ℕ → (LogMap → Type 0) → Type 0
+OfInodeAt old new inode n P = (k : CheckpointValue) (m : LogMap) → Sees old new k m → inode ≡ block old.content (address old.content k (Inode n)) → P m

@@ -1,15 +1,15 @@
 //! The stages of a tree in order, with the number of the first that fails.
-ghost use Rattle.std.specs.Prelude.{◌≡◌, ◌<◌, ℕ, length, OnOk, IfOk, IfErr};
+ghost use Rattle.std.specs.Prelude.{◌≡◌, ◌<◌, length, OnOk, IfOk, IfErr};
 ghost use Rattle.lfs_model.specs.Checkpoint.{CheckpointValue};
 ghost use Rattle.lfs_model.specs.Content.{Content};
 ghost use Rattle.lfs_model.specs.Stands.{LogMap};
 ghost use Rattle.lfs_model.specs.TreeOf.{AreSlots, AreTexts, IsTree, TreeOf, tree_in};
 ghost use Rattle.lfs_verify.specs.Loading.{HasTables};
 ghost use Rattle.lfs_verify.specs.Take.{Looks};
-ghost use Rattle.lfs_tree.specs.Checking.{IsFaultOf, IsGathered, IsOfLog, IsRefusedTree, IsTreeDamage};
+ghost use Rattle.lfs_tree.specs.Checking.{IsFaultOf, IsGathered, IsRefusedTree, IsTreeDamage, OfTables};
 ghost use Rattle.lfs_tree.specs.Naming.{AreEmpty, AreTables};
 ghost use Rattle.lfs_tree.specs.Objects.{AreNamed};
-ghost use Rattle.lfs_tree.specs.Reading.{Leads, Sees, TellsHeaders};
+ghost use Rattle.lfs_tree.specs.Reading.{Fails, OfHeaders};
 
 use crate::fault::CheckFault;
 use crate::headers::{NUMBERS, read_headers};
@@ -49,12 +49,15 @@ fn check_objects<D: SectorDevice>(
 ) -> Result<(), MountFault>
     requires whole { length headers.now ≡ 4096 }
     requires sizes { AreTables names.old }
-    ensures done { OnOk result ((k : CheckpointValue) (m : LogMap) → Sees (D.state device.old) (D.state device.new) k m
-        → Leads (D.state device.old).content k map.now → TellsHeaders m headers.now 4096 → AreEmpty names.old
-        → AreSlots m × AreTexts m × AreNamed m headers.now names.new 4096) }
-    ensures reason { IfErr result (λ e. (k : CheckpointValue) (m : LogMap) → Sees (D.state device.old) (D.state device.new) k m
-        → Leads (D.state device.old).content k map.now → TellsHeaders m headers.now 4096 → AreEmpty names.old
-        → IsFaultOf ((D.state device.old).failures < (D.state device.new).failures) (IsTreeDamage k.segments m) e) }
+    ensures done { OnOk result (OfHeaders (D.state device.old) (D.state device.new)
+        map.now headers.now
+        (λ k m. AreEmpty names.old
+        → AreSlots m × AreTexts m × AreNamed m headers.now names.new 4096)) }
+    ensures reason { IfErr result (λ e. OfHeaders (D.state device.old) (D.state device.new)
+        map.now headers.now
+        (λ k m. AreEmpty names.old
+        → IsFaultOf (Fails (D.state device.old) (D.state device.new))
+        (IsTreeDamage k.segments m) e)) }
     ensures sizes { AreTables names.new }
     ensures looks { Looks (D.state device.old) (D.state device.new) }
 {
@@ -84,8 +87,10 @@ fn check_names(
 ) -> Result<(), MountFault>
     requires whole { length headers.now ≡ 4096 }
     requires sizes { AreTables names.now }
-    ensures done { OnOk result ((c : Content) (k : CheckpointValue) (m : LogMap) → IsGathered c k m headers.now names.now tables.now → IsTree k.segments m) }
-    ensures reason { IfErr result (λ e. (c : Content) (k : CheckpointValue) (m : LogMap) → IsGathered c k m headers.now names.now tables.now
+    ensures done { OnOk result ((c : Content) (k : CheckpointValue) (m : LogMap)
+        → IsGathered c k m headers.now names.now tables.now → IsTree k.segments m) }
+    ensures reason { IfErr result (λ e. (c : Content) (k : CheckpointValue) (m : LogMap)
+        → IsGathered c k m headers.now names.now tables.now
         → IsFaultOf ⊥ (IsTreeDamage k.segments m) e) }
 {
     match stage_reached(alloc, headers, names) {
@@ -116,11 +121,13 @@ fn check_stages<D: SectorDevice>(
 ) -> Result<(), MountFault>
     requires whole { length headers.old ≡ 4096 }
     requires sizes { AreTables names.old }
-    ensures done { OnOk result ((k : CheckpointValue) (m : LogMap) → Sees (D.state device.old) (D.state device.new) k m
-        → IsOfLog (D.state device.old).content k m tables.now → AreEmpty names.old → IsTree k.segments m) }
-    ensures reason { IfErr result (λ e. (k : CheckpointValue) (m : LogMap) → Sees (D.state device.old) (D.state device.new) k m
-        → IsOfLog (D.state device.old).content k m tables.now → AreEmpty names.old
-        → IsFaultOf ((D.state device.old).failures < (D.state device.new).failures) (IsTreeDamage k.segments m) e) }
+    ensures done { OnOk result (OfTables (D.state device.old) (D.state device.new)
+        tables.now names.old
+        (λ k m. IsTree k.segments m)) }
+    ensures reason { IfErr result (λ e. OfTables (D.state device.old) (D.state device.new)
+        tables.now names.old
+        (λ k m. IsFaultOf (Fails (D.state device.old) (D.state device.new))
+        (IsTreeDamage k.segments m) e)) }
     ensures looks { Looks (D.state device.old) (D.state device.new) }
 {
     match read_headers(device, &tables.map, headers) {
@@ -161,9 +168,11 @@ pub fn check_tree<D: SectorDevice>(
     device: &mut D,
     tables: &Tables,
 ) -> Result<(), MountFault>
-    ensures tree { OnOk result ((D.state device.new).keeps_model → (has : HasTables (D.state device.old).content tables.now)
+    ensures tree { OnOk result ((D.state device.new).keeps_model
+        → (has : HasTables (D.state device.old).content tables.now)
         → TreeOf has.checkpoint.segments has.log (tree_in has.log)) }
-    ensures reason { IfErr result (λ e. (D.state device.new).keeps_model → HasTables (D.state device.old).content tables.now
+    ensures reason { IfErr result (λ e. (D.state device.new).keeps_model
+        → HasTables (D.state device.old).content tables.now
         → IsRefusedTree (D.state device.old) (D.state device.new) e) }
     ensures looks { Looks (D.state device.old) (D.state device.new) }
 {

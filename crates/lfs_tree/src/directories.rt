@@ -1,17 +1,11 @@
 //! The directories of a log map, gone through one by one.
-ghost use Rattle.std.specs.Prelude.{◌≡◌, ◌<◌, ◌/◌, [], length, Some, IfOk, IsErrOf, MatchBool};
-ghost use Rattle.lfs_model.specs.Checkpoint.{CheckpointValue};
+ghost use Rattle.std.specs.Prelude.{◌≡◌, ◌<◌, ◌/◌, [], length, Some, IfOk, IsErrOf};
 ghost use Rattle.lfs_model.specs.Content.{block};
-ghost use Rattle.lfs_model.specs.Entry.{Inode};
-ghost use Rattle.lfs_model.specs.Reach.{address};
-ghost use Rattle.lfs_model.specs.Stands.{LogMap};
-ghost use Rattle.lfs_model.specs.TreeOf.{AreSlots};
 ghost use Rattle.lfs_dirs.specs.Directory.{slots_at};
 ghost use Rattle.lfs_files.specs.Headers.{as_header};
 ghost use Rattle.lfs_verify.specs.Take.{Looks};
-ghost use Rattle.lfs_tree.specs.Naming.{AreEmpty, AreGoodSlots, AreTables, Base, IsNoted, IsTaken, TakesNames};
-ghost use Rattle.lfs_tree.specs.Objects.{AreNamed, TakesObject};
-ghost use Rattle.lfs_tree.specs.Reading.{Leads, Sees, TellsHeaders};
+ghost use Rattle.lfs_tree.specs.Naming.{AreTables, Base, IsNoted, IsTaken, TakesNames};
+ghost use Rattle.lfs_tree.specs.Reading.{Fails, OfInodeAt, OfLog};
 
 use crate::fault::CheckFault;
 use crate::headers::NUMBERS;
@@ -47,13 +41,13 @@ fn take_blocks<D: SectorDevice>(
     requires whole { length headers.now ≡ 4096 }
     requires directory { directory < 4096 }
     requires sizes { AreTables tables.old }
-    ensures takes { IfOk result (λ taken. (k : CheckpointValue) (m : LogMap) → Sees (D.state device.old) (D.state device.new) k m
-        → inode.now ≡ block (D.state device.old).content (address (D.state device.old).content k (Inode directory))
-        → (base : Base) → IsTaken headers.now directory base [] names.old tables.old
-        → TakesNames headers.now directory base (slots_at m directory header) tables.new taken) }
-    ensures failed { IsErrOf result CheckFault.Device → (k : CheckpointValue) (m : LogMap) → Sees (D.state device.old) (D.state device.new) k m
-        → inode.now ≡ block (D.state device.old).content (address (D.state device.old).content k (Inode directory))
-        → (D.state device.old).failures < (D.state device.new).failures }
+    ensures takes { IfOk result (λ taken. OfInodeAt (D.state device.old) (D.state device.new)
+        inode.now directory
+        (λ m. (base : Base) → IsTaken headers.now directory base [] names.old tables.old
+        → TakesNames headers.now directory base (slots_at m directory header) tables.new taken)) }
+    ensures failed { IsErrOf result CheckFault.Device
+        → OfInodeAt (D.state device.old) (D.state device.new) inode.now directory
+        (λ m. Fails (D.state device.old) (D.state device.new)) }
     ensures sizes { AreTables tables.new }
     ensures looks { Looks (D.state device.old) (D.state device.new) }
 {
@@ -93,12 +87,13 @@ pub(crate) fn take_directory<D: SectorDevice>(
     requires whole { length headers.now ≡ 4096 }
     requires directory { directory < 4096 }
     requires sizes { AreTables tables.old }
-    ensures takes { IfOk result (λ taken. (k : CheckpointValue) (m : LogMap) → Sees (D.state device.old) (D.state device.new) k m
-        → Leads (D.state device.old).content k map.now → (base : Base) → IsNoted headers.now directory base [] tables.old
-        → TakesNames headers.now directory base (slots_at m directory header) tables.new taken) }
-    ensures failed { IsErrOf result CheckFault.Device → (k : CheckpointValue) (m : LogMap) → Sees (D.state device.old) (D.state device.new) k m
-        → Leads (D.state device.old).content k map.now → m.header directory ≡ Some (as_header header)
-        → (D.state device.old).failures < (D.state device.new).failures }
+    ensures takes { IfOk result (λ taken. OfLog (D.state device.old) (D.state device.new) map.now
+        (λ k m. (base : Base) → IsNoted headers.now directory base [] tables.old
+        → TakesNames headers.now directory base (slots_at m directory header) tables.new taken)) }
+    ensures failed { IsErrOf result CheckFault.Device
+        → OfLog (D.state device.old) (D.state device.new) map.now
+        (λ k m. m.header directory ≡ Some (as_header header)
+        → Fails (D.state device.old) (D.state device.new)) }
     ensures sizes { AreTables tables.new }
     ensures looks { Looks (D.state device.old) (D.state device.new) }
 {

@@ -1,13 +1,11 @@
 //! The headers of all files.
 ghost use Rattle.std.specs.Prelude.{◌≡◌, ◌<◌, length, IfOk, OnOk, OnErr};
 ghost use Rattle.std.specs.Option.{option_map};
-ghost use Rattle.lfs_model.specs.Checkpoint.{CheckpointValue};
 ghost use Rattle.lfs_model.specs.Entry.{header};
 ghost use Rattle.lfs_model.specs.Inode.{kind_of};
-ghost use Rattle.lfs_model.specs.Stands.{LogMap};
 ghost use Rattle.lfs_files.specs.Headers.{as_header};
 ghost use Rattle.lfs_verify.specs.Take.{Looks};
-ghost use Rattle.lfs_tree.specs.Reading.{Sees, Leads, TellsHeaders};
+ghost use Rattle.lfs_tree.specs.Reading.{Fails, OfLog, TellsHeaders};
 
 use crate::reading::read_inode;
 use lfs_device::{DeviceFault, SectorDevice};
@@ -53,10 +51,10 @@ fn read_header<D: SectorDevice>(
     inode: &mut [u8; 512],
 ) -> Result<Option<Header>, DeviceFault>
     requires { number < 4096 }
-    ensures answer { IfOk result (λ found. (k : CheckpointValue) (m : LogMap) → Sees (D.state device.old) (D.state device.new) k m
-        → Leads (D.state device.old).content k map.now → m.header number ≡ option_map as_header found) }
-    ensures failed { OnErr result ((k : CheckpointValue) (m : LogMap) → Sees (D.state device.old) (D.state device.new) k m
-        → Leads (D.state device.old).content k map.now → (D.state device.old).failures < (D.state device.new).failures) }
+    ensures answer { IfOk result (λ found. OfLog (D.state device.old) (D.state device.new) map.now
+        (λ k m. m.header number ≡ option_map as_header found)) }
+    ensures failed { OnErr result (OfLog (D.state device.old) (D.state device.new) map.now
+        (λ k m. Fails (D.state device.old) (D.state device.new))) }
     ensures looks { Looks (D.state device.old) (D.state device.new) }
 {
     match read_inode(device, map, number, inode) {
@@ -77,10 +75,10 @@ pub fn read_headers<D: SectorDevice>(
     headers: &mut [Option<Header>],
 ) -> Result<(), DeviceFault>
     requires { length headers.old ≡ 4096 }
-    ensures told { OnOk result ((k : CheckpointValue) (m : LogMap) → Sees (D.state device.old) (D.state device.new) k m
-        → Leads (D.state device.old).content k map.now → TellsHeaders m headers.new 4096) }
-    ensures failed { OnErr result ((k : CheckpointValue) (m : LogMap) → Sees (D.state device.old) (D.state device.new) k m
-        → Leads (D.state device.old).content k map.now → (D.state device.old).failures < (D.state device.new).failures) }
+    ensures told { OnOk result (OfLog (D.state device.old) (D.state device.new) map.now
+        (λ k m. TellsHeaders m headers.new 4096)) }
+    ensures failed { OnErr result (OfLog (D.state device.old) (D.state device.new) map.now
+        (λ k m. Fails (D.state device.old) (D.state device.new))) }
     ensures size { length headers.new ≡ length headers.old }
     ensures looks { Looks (D.state device.old) (D.state device.new) }
 {

@@ -1,5 +1,5 @@
 //! Stage 13: each inode's links are those of the tree. Stage 14: the tree's need is within the limit.
-ghost use Rattle.std.specs.Prelude.{◌≡◌, ◌<◌, ◌≤◌, ◌↔◌, length, IsTrue};
+ghost use Rattle.std.specs.Prelude.{◌≡◌, ◌<◌, ◌↔◌, length, IsTrue};
 ghost use Rattle.lfs_tree.specs.Linking.{AreLinksFit, FitsLinks, FitsRoom};
 ghost use Rattle.lfs_tree.specs.Naming.{AreTables};
 

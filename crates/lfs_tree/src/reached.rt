@@ -51,7 +51,8 @@ fn climb(up: &[u16], marks: &mut Vec<u16>, start: u16) -> bool
     requires size { length marks.old.items ≡ 4096 }
     requires some { 2 ≤ start }
     requires few { start < 4096 }
-    ensures marks { Marked up.now marks.old.items start → MarksUp up.now marks.new.items start result }
+    ensures marks { Marked up.now marks.old.items start
+        → MarksUp up.now marks.new.items start result }
     ensures size { length marks.new.items ≡ 4096 }
 {
     let mut at = start;
@@ -75,7 +76,8 @@ fn climb_directory(
     requires size { length marks.old.items ≡ 4096 }
     requires some { 2 ≤ number }
     requires few { number < 4096 }
-    ensures marks { Marked up.now marks.old.items number → MarksDirectory headers.now up.now marks.new.items number result }
+    ensures marks { Marked up.now marks.old.items number
+        → MarksDirectory headers.now up.now marks.new.items number result }
     ensures size { length marks.new.items ≡ 4096 }
 {
     if !leads(headers, number) {
@@ -129,7 +131,8 @@ pub fn stage_reached(
 ) -> Result<bool, AllocError>
     requires whole { length headers.now ≡ 4096 }
     requires sizes { AreTables tables.now }
-    ensures { IfOk result (λ holds. IsTrue holds ↔ (AreNamesFit headers.now tables.now × AllClimb headers.now tables.now.up.items)) }
+    ensures { IfOk result (λ holds. IsTrue holds ↔
+        (AreNamesFit headers.now tables.now × AllClimb headers.now tables.now.up.items)) }
 {
     if !are_named(headers, tables) {
         return Ok(false);

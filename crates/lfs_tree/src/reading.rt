@@ -1,13 +1,10 @@
 //! Inodes and blocks of files, read where a content stands for a log map.
-ghost use Rattle.std.specs.Prelude.{◌≡◌, ◌<◌, ℕ, length, IfOk, OnOk, OnErr};
-ghost use Rattle.lfs_model.specs.Checkpoint.{CheckpointValue};
+ghost use Rattle.std.specs.Prelude.{◌≡◌, ◌<◌, length, IfOk, OnOk, OnErr};
 ghost use Rattle.lfs_model.specs.Content.{Content, block};
-ghost use Rattle.lfs_model.specs.Entry.{Inode};
 ghost use Rattle.lfs_model.specs.Reach.{address};
-ghost use Rattle.lfs_model.specs.Stands.{LogMap};
 ghost use Rattle.lfs_files.specs.Files.{HoldsBlock};
 ghost use Rattle.lfs_verify.specs.Take.{Looks, Reads};
-ghost use Rattle.lfs_tree.specs.Reading.{Sees, Leads, InodeAnswer};
+ghost use Rattle.lfs_tree.specs.Reading.{Fails, InodeAnswer, OfInode, OfLog};
 
 use lfs_device::{DeviceFault, ReadFault, SectorDevice};
 use lfs_inodes::{InodeMap, locate};
@@ -23,9 +20,11 @@ fn read_sector<D: SectorDevice>(
     out: &mut [u8; 512],
 ) -> Result<(), DeviceFault>
     requires { 0 < address }
-    ensures block { OnOk result ((c : Content) → Reads (D.state device.old) (D.state device.new) c → block c address ≡ out.new) }
+    ensures block { OnOk result ((c : Content)
+        → Reads (D.state device.old) (D.state device.new) c → block c address ≡ out.new) }
     ensures failed { OnErr result ((c : Content) → Reads (D.state device.old) (D.state device.new) c
-        → address < length c → 0 < length (block c address) → (D.state device.old).failures < (D.state device.new).failures) }
+        → address < length c → 0 < length (block c address)
+        → (D.state device.old).failures < (D.state device.new).failures) }
     ensures looks { Looks (D.state device.old) (D.state device.new) }
 {
     if address >= device.sectors() {
@@ -50,10 +49,10 @@ pub fn read_inode<D: SectorDevice>(
     out: &mut [u8; 512],
 ) -> Result<bool, DeviceFault>
     requires { number < 4096 }
-    ensures answer { IfOk result (λ found. (k : CheckpointValue) (m : LogMap) → Sees (D.state device.old) (D.state device.new) k m
-        → Leads (D.state device.old).content k map.now → InodeAnswer (D.state device.old).content k m number out.new found) }
-    ensures failed { OnErr result ((k : CheckpointValue) (m : LogMap) → Sees (D.state device.old) (D.state device.new) k m
-        → Leads (D.state device.old).content k map.now → (D.state device.old).failures < (D.state device.new).failures) }
+    ensures answer { IfOk result (λ found. OfLog (D.state device.old) (D.state device.new) map.now
+        (λ k m. InodeAnswer (D.state device.old).content k m number out.new found)) }
+    ensures failed { OnErr result (OfLog (D.state device.old) (D.state device.new) map.now
+        (λ k m. Fails (D.state device.old) (D.state device.new))) }
     ensures looks { Looks (D.state device.old) (D.state device.new) }
 {
     let address = map.address(number);
@@ -77,11 +76,10 @@ pub fn read_block<D: SectorDevice>(
     index: u32,
     out: &mut [u8; 512],
 ) -> Result<(), DeviceFault>
-    ensures answer { OnOk result ((k : CheckpointValue) (m : LogMap) (n : ℕ) → Sees (D.state device.old) (D.state device.new) k m
-        → inode.now ≡ block (D.state device.old).content (address (D.state device.old).content k (Inode n)) → HoldsBlock m n index out.new) }
-    ensures failed { OnErr result ((k : CheckpointValue) (m : LogMap) (n : ℕ) → Sees (D.state device.old) (D.state device.new) k m
-        → inode.now ≡ block (D.state device.old).content (address (D.state device.old).content k (Inode n))
-        → (D.state device.old).failures < (D.state device.new).failures) }
+    ensures answer { OnOk result (OfInode (D.state device.old) (D.state device.new) inode.now
+        (λ m n. HoldsBlock m n index out.new)) }
+    ensures failed { OnErr result (OfInode (D.state device.old) (D.state device.new) inode.now
+        (λ m n. Fails (D.state device.old) (D.state device.new))) }
     ensures looks { Looks (D.state device.old) (D.state device.new) }
 {
     let address = match locate(device, inode, index) {

@@ -1,12 +1,9 @@
 //! Stage 10: each directory's slots are well-formed, its names differ, and its numbers are there.
-ghost use Rattle.std.specs.Prelude.{◌≡◌, ◌<◌, [], length, IfOk, IsErrOf, MatchBool};
-ghost use Rattle.lfs_model.specs.Checkpoint.{CheckpointValue};
-ghost use Rattle.lfs_model.specs.Stands.{LogMap};
-ghost use Rattle.lfs_model.specs.TreeOf.{AreSlots};
+ghost use Rattle.std.specs.Prelude.{◌≡◌, ◌<◌, [], length, IfOk, IsErrOf};
 ghost use Rattle.lfs_verify.specs.Take.{Looks};
 ghost use Rattle.lfs_tree.specs.Naming.{AreEmpty, AreTables, Base, IsNoted};
 ghost use Rattle.lfs_tree.specs.Objects.{SlotStage, TakesObject};
-ghost use Rattle.lfs_tree.specs.Reading.{Leads, Sees, TellsHeaders};
+ghost use Rattle.lfs_tree.specs.Reading.{Fails, OfHeaders};
 
 use crate::directories::take_directory;
 use crate::fault::CheckFault;
@@ -34,12 +31,13 @@ fn take_object<D: SectorDevice>(
     requires whole { length headers.now ≡ 4096 }
     requires number { number < 4096 }
     requires sizes { AreTables tables.old }
-    ensures takes { IfOk result (λ taken. (k : CheckpointValue) (m : LogMap) → Sees (D.state device.old) (D.state device.new) k m
-        → Leads (D.state device.old).content k map.now → TellsHeaders m headers.now 4096
-        → (base : Base) → IsNoted headers.now number base [] tables.old → TakesObject m headers.now number base tables.new taken) }
-    ensures failed { IsErrOf result CheckFault.Device → (k : CheckpointValue) (m : LogMap) → Sees (D.state device.old) (D.state device.new) k m
-        → Leads (D.state device.old).content k map.now → TellsHeaders m headers.now 4096
-        → (D.state device.old).failures < (D.state device.new).failures }
+    ensures takes { IfOk result (λ taken. OfHeaders (D.state device.old) (D.state device.new)
+        map.now headers.now
+        (λ k m. (base : Base) → IsNoted headers.now number base [] tables.old
+        → TakesObject m headers.now number base tables.new taken)) }
+    ensures failed { IsErrOf result CheckFault.Device
+        → OfHeaders (D.state device.old) (D.state device.new) map.now headers.now
+        (λ k m. Fails (D.state device.old) (D.state device.new)) }
     ensures sizes { AreTables tables.new }
     ensures looks { Looks (D.state device.old) (D.state device.new) }
 {
@@ -69,12 +67,12 @@ pub fn stage_slots<D: SectorDevice>(
 ) -> Result<bool, CheckFault>
     requires whole { length headers.now ≡ 4096 }
     requires sizes { AreTables tables.old }
-    ensures holds { IfOk result (λ holds. (k : CheckpointValue) (m : LogMap) → Sees (D.state device.old) (D.state device.new) k m
-        → Leads (D.state device.old).content k map.now → TellsHeaders m headers.now 4096
-        → AreEmpty tables.old → SlotStage m headers.now tables.new holds) }
-    ensures failed { IsErrOf result CheckFault.Device → (k : CheckpointValue) (m : LogMap) → Sees (D.state device.old) (D.state device.new) k m
-        → Leads (D.state device.old).content k map.now → TellsHeaders m headers.now 4096
-        → (D.state device.old).failures < (D.state device.new).failures }
+    ensures holds { IfOk result (λ holds. OfHeaders (D.state device.old) (D.state device.new)
+        map.now headers.now
+        (λ k m. AreEmpty tables.old → SlotStage m headers.now tables.new holds)) }
+    ensures failed { IsErrOf result CheckFault.Device
+        → OfHeaders (D.state device.old) (D.state device.new) map.now headers.now
+        (λ k m. Fails (D.state device.old) (D.state device.new)) }
     ensures sizes { AreTables tables.new }
     ensures looks { Looks (D.state device.old) (D.state device.new) }
 {

@@ -34,8 +34,10 @@ fn insert_name(
     names: &mut BTreeSet<Vec<u8>>,
     name: &[u8],
 ) -> Result<bool, AllocError>
-    ensures new { IfOk result (λ new. (ms : Names) → HasNames names.old ms → IsTrue new ↔ (find byte_cmp name.now ms ≡ None)) }
-    ensures more { IfOk result (λ new. (ms : Names) (v : ℕ) → HasNames names.old ms → HasNames names.new (put byte_cmp name.now v ms)) }
+    ensures new { IfOk result (λ new. (ms : Names) → HasNames names.old ms
+        → IsTrue new ↔ (find byte_cmp name.now ms ≡ None)) }
+    ensures more { IfOk result (λ new. (ms : Names) (v : ℕ) → HasNames names.old ms
+        → HasNames names.new (put byte_cmp name.now v ms)) }
 {
     let name = name.to_vec(alloc)?;
     let Ok(new) = names.insert(name) else {
@@ -60,7 +62,8 @@ fn take_slot(
     requires whole { length headers.now ≡ 4096 }
     requires directory { directory < 4096 }
     requires sizes { AreTables tables.old }
-    ensures takes { IfOk result (λ taken. TakesSlots headers.now directory (slot.now ∷ []) names.old names.new tables.old tables.new taken) }
+    ensures takes { IfOk result (λ taken. TakesSlots headers.now directory (slot.now ∷ [])
+        names.old names.new tables.old tables.new taken) }
     ensures sizes { AreTables tables.new }
 {
     let Some(view) = SlotView::decode(slot) else {
@@ -95,7 +98,8 @@ pub(crate) fn take_slots(
     requires whole { length headers.now ≡ 4096 }
     requires directory { directory < 4096 }
     requires sizes { AreTables tables.old }
-    ensures takes { IfOk result (λ taken. TakesSlots headers.now directory (first_slots block.now count) names.old names.new tables.old tables.new taken) }
+    ensures takes { IfOk result (λ taken. TakesSlots headers.now directory (first_slots block.now count)
+        names.old names.new tables.old tables.new taken) }
     ensures sizes { AreTables tables.new }
 {
     let mut place = count;

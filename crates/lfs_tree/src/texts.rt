@@ -1,14 +1,10 @@
 //! Stage 11: no link's text has a zero byte.
 ghost use Rattle.std.specs.Prelude.{◌≡◌, ◌≢◌, ◌<◌, ◌≤◌, ◌↔◌, ℕ, length, slice_index, Some, IfOk, OnErr, IsTrue};
-ghost use Rattle.lfs_model.specs.Checkpoint.{CheckpointValue};
 ghost use Rattle.lfs_model.specs.Content.{block};
-ghost use Rattle.lfs_model.specs.Entry.{Inode};
-ghost use Rattle.lfs_model.specs.Reach.{address};
-ghost use Rattle.lfs_model.specs.Stands.{LogMap};
 ghost use Rattle.lfs_model.specs.TreeOf.{AreTexts};
 ghost use Rattle.lfs_files.specs.Headers.{as_header};
 ghost use Rattle.lfs_verify.specs.Take.{Looks};
-ghost use Rattle.lfs_tree.specs.Reading.{Leads, Sees, TellsHeaders};
+ghost use Rattle.lfs_tree.specs.Reading.{Fails, OfHeaders, OfInode, OfLog};
 ghost use Rattle.lfs_tree.specs.Texts.{Decides, HasNoZero, IsGoodText};
 
 use crate::headers::NUMBERS;
@@ -44,11 +40,11 @@ fn check_bytes<D: SectorDevice>(
     inode: &[u8; 512],
     size: u32,
 ) -> Result<bool, DeviceFault>
-    ensures holds { IfOk result (λ holds. (k : CheckpointValue) (m : LogMap) (n : ℕ) → Sees (D.state device.old) (D.state device.new) k m
-        → inode.now ≡ block (D.state device.old).content (address (D.state device.old).content k (Inode n)) → Decides (HasNoZero m n size) holds) }
-    ensures failed { OnErr result ((k : CheckpointValue) (m : LogMap) (n : ℕ) → Sees (D.state device.old) (D.state device.new) k m
-        → inode.now ≡ block (D.state device.old).content (address (D.state device.old).content k (Inode n))
-        → (D.state device.old).failures < (D.state device.new).failures) }
+    ensures holds { IfOk result (λ holds. OfInode (D.state device.old) (D.state device.new)
+        inode.now
+        (λ m n. Decides (HasNoZero m n size) holds)) }
+    ensures failed { OnErr result (OfInode (D.state device.old) (D.state device.new) inode.now
+        (λ m n. Fails (D.state device.old) (D.state device.new))) }
     ensures looks { Looks (D.state device.old) (D.state device.new) }
 {
     let mut block = [0; 512];
@@ -77,11 +73,11 @@ fn check_text<D: SectorDevice>(
     header: Header,
 ) -> Result<bool, DeviceFault>
     requires { number < 4096 }
-    ensures holds { IfOk result (λ holds. (k : CheckpointValue) (m : LogMap) → Sees (D.state device.old) (D.state device.new) k m
-        → Leads (D.state device.old).content k map.now → Decides (HasNoZero m number header.size) holds) }
-    ensures failed { OnErr result ((k : CheckpointValue) (m : LogMap) → Sees (D.state device.old) (D.state device.new) k m
-        → Leads (D.state device.old).content k map.now → m.header number ≡ Some (as_header header)
-        → (D.state device.old).failures < (D.state device.new).failures) }
+    ensures holds { IfOk result (λ holds. OfLog (D.state device.old) (D.state device.new) map.now
+        (λ k m. Decides (HasNoZero m number header.size) holds)) }
+    ensures failed { OnErr result (OfLog (D.state device.old) (D.state device.new) map.now
+        (λ k m. m.header number ≡ Some (as_header header)
+        → Fails (D.state device.old) (D.state device.new))) }
     ensures looks { Looks (D.state device.old) (D.state device.new) }
 {
     let mut inode = [0; 512];
@@ -120,11 +116,12 @@ fn check_object<D: SectorDevice>(
 ) -> Result<bool, DeviceFault>
     requires whole { length headers.now ≡ 4096 }
     requires number { number < 4096 }
-    ensures holds { IfOk result (λ holds. (k : CheckpointValue) (m : LogMap) → Sees (D.state device.old) (D.state device.new) k m
-        → Leads (D.state device.old).content k map.now → TellsHeaders m headers.now 4096 → Decides (IsGoodText m number) holds) }
-    ensures failed { OnErr result ((k : CheckpointValue) (m : LogMap) → Sees (D.state device.old) (D.state device.new) k m
-        → Leads (D.state device.old).content k map.now → TellsHeaders m headers.now 4096
-        → (D.state device.old).failures < (D.state device.new).failures) }
+    ensures holds { IfOk result (λ holds. OfHeaders (D.state device.old) (D.state device.new)
+        map.now headers.now
+        (λ k m. Decides (IsGoodText m number) holds)) }
+    ensures failed { OnErr result (OfHeaders (D.state device.old) (D.state device.new)
+        map.now headers.now
+        (λ k m. Fails (D.state device.old) (D.state device.new))) }
     ensures looks { Looks (D.state device.old) (D.state device.new) }
 {
     let Some(header) = headers[number as usize] else {
@@ -150,11 +147,12 @@ pub fn stage_texts<D: SectorDevice>(
     headers: &[Option<Header>],
 ) -> Result<bool, DeviceFault>
     requires { length headers.now ≡ 4096 }
-    ensures holds { IfOk result (λ holds. (k : CheckpointValue) (m : LogMap) → Sees (D.state device.old) (D.state device.new) k m
-        → Leads (D.state device.old).content k map.now → TellsHeaders m headers.now 4096 → Decides (AreTexts m) holds) }
-    ensures failed { OnErr result ((k : CheckpointValue) (m : LogMap) → Sees (D.state device.old) (D.state device.new) k m
-        → Leads (D.state device.old).content k map.now → TellsHeaders m headers.now 4096
-        → (D.state device.old).failures < (D.state device.new).failures) }
+    ensures holds { IfOk result (λ holds. OfHeaders (D.state device.old) (D.state device.new)
+        map.now headers.now
+        (λ k m. Decides (AreTexts m) holds)) }
+    ensures failed { OnErr result (OfHeaders (D.state device.old) (D.state device.new)
+        map.now headers.now
+        (λ k m. Fails (D.state device.old) (D.state device.new))) }
     ensures looks { Looks (D.state device.old) (D.state device.new) }
 {
     for number in 0..NUMBERS {
