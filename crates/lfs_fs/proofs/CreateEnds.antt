@@ -19,7 +19,7 @@ use Rattle.lfs_store.specs.declared.store.Store.{Store}
 use Rattle.lfs_store.proofs.LogReads.{reads_more}
 use Rattle.lfs_path.specs.declared.last.Last.{Last}
 use Rattle.lfs_path.specs.Walking.{HasLast, Parents}
-use Rattle.lfs_fs.specs.Drafted.{WalksTo}
+use Rattle.lfs_fs.specs.Drafted.{FlatWalksTo}
 use Rattle.lfs_path.proofs.FlatTrees.{last_says}
 use Rattle.lfs_fs.specs.declared.fs.Fs.{Fs}
 use Rattle.lfs_fs.specs.Naming.{Reaches}
@@ -67,7 +67,7 @@ bytes_of (x ∷ xs) fits = (let first = (fits 0).fits in omega (arith, first), b
 module _ {D : Type 0} (state : D → DeviceState) (lawful : (d : D) → IsLawful (state d)) (old begun : Fs D) (begins : Begins old begun) (store : Store D) (reads : Reads state begun.store.log store.log)
     (saved : store.saved ≡ begun.store.saved) (totals : store.log.totals ≡ begun.store.log.totals) (draft : store.draft ≡ begun.store.draft) (drafted : store.drafted ≡ begun.store.drafted) where
   -- the call came to the directory of the last piece
-  pub reaches : (p : List ℕ) → AreBytes p → (d : ℕ) → d ≡ 1 → (piece : Option Last) → HasLast p piece → WalksTo state begun.store.log store.log begun.store.draft.changes (Parents p) (At d)
+  pub reaches : (p : List ℕ) → AreBytes p → (d : ℕ) → d ≡ 1 → (piece : Option Last) → HasLast p piece → FlatWalksTo state begun.store.log store.log begun.store.draft.changes (Parents p) (At d)
       → Reaches state (seen begun) (record { alloc = begun.alloc; store = store; handles = begun.handles }) p d piece
   reaches p bytes d root piece last walks = record {
     still = still;

@@ -32,7 +32,9 @@ mod WritingDrafts
 mod WritingExits
 mod SavingEnds
 mod ReadingEnds
+mod WalkEnds
 mod PathEnds
+mod OpenEnds
 mod RowEnds
 mod NamingEnds
 mod NameLooks

@@ -1,9 +1,6 @@
 -- The ends of the calls of paths: what each makes of a volume.
-use Rattle.std.proofs.Common.{◌≡◌, ◌≢◌, ◌<◌, ◌≤◌, ℕ, true, false, List, Result, Ok, Err, refl, sym, ◌∙◌, ap, subst, inl, inr, arith}
-use Rattle.std.specs.Prelude.{IfErr, IfOk}
-use Rattle.std.specs.Ordering.{nat_cmp}
-use Rattle.std.specs.FinMap.{put}
-use Rattle.lfs_model.specs.Call.{Answer, Call, Handle, Open, Refuse, cleans, commits}
+use Rattle.std.proofs.Common.{◌≡◌, ℕ, true, false, refl, sym, ◌∙◌, ap, subst, inl, inr, arith}
+use Rattle.lfs_model.specs.Call.{Answer, Call, Refuse, cleans, commits}
 use Rattle.lfs_model.specs.Checkpoint.{CheckpointValue}
 use Rattle.lfs_model.specs.Device.{DeviceState, IsLawful}
 use Rattle.lfs_model.specs.Refusal as refusals
@@ -11,9 +8,9 @@ use Rattle.lfs_model.specs.Refusal.{Refusal, Device, Halted}
 use Rattle.lfs_model.specs.Sound.{NamesGive}
 use Rattle.lfs_model.specs.Stands.{LogMap}
 use Rattle.lfs_model.specs.Step.{Step}
-use Rattle.lfs_model.specs.Tree.{State, Tree, is_dir, least_handle, names, node}
+use Rattle.lfs_model.specs.Tree.{State, Tree, names}
 use Rattle.lfs_model.specs.TreeOf.{tree_in}
-use Rattle.lfs_model.specs.Walk.{At, End, Refused, Resolve}
+use Rattle.lfs_model.specs.Walk.{End, Refused}
 use Rattle.lfs_store.specs.memory.declared.changes.Changes.{Changes}
 use Rattle.lfs_files.specs.declared.fault.LogFault.TheVariants as log
 use Rattle.lfs_store.specs.memory.Batch.{IsNoChange, staged}
@@ -23,26 +20,21 @@ use Rattle.lfs_store.specs.log.verify.declared.totals.BlockTotals.{BlockTotals}
 use Rattle.lfs_store.proofs.Apart.{draft_empty}
 use Rattle.lfs_path.specs.declared.fault.PathFault.{PathFault}
 use Rattle.lfs_path.specs.declared.fault.PathFault.TheVariants as path
-use Rattle.lfs_path.specs.Walking.{HasFlatTree, IsFlat, Resolves}
-use Rattle.lfs_fs.specs.Drafted.{EndsRefused, WalksTo}
+use Rattle.lfs_path.specs.Walking.{HasFlatTree, IsFlat}
+use Rattle.lfs_fs.specs.Drafted.{FlatEndsRefused, FlatWalksTo}
 use Rattle.lfs_path.proofs.FlatTrees.{flat_maps}
 use Rattle.lfs_fs.specs.declared.error.FsError.{FsError}
 use Rattle.lfs_fs.specs.declared.error.FsError.TheVariants as error
 use Rattle.lfs_fs.specs.declared.fs.Fs.{Fs}
 use Rattle.lfs_fs.specs.Faults.{error_of_path}
-use Rattle.lfs_fs.specs.Handles.{handles_of}
-use Rattle.lfs_fs.specs.Naming.{OpensNone, OpensNumber}
 use Rattle.lfs_fs.specs.Refusals.{refusal_of}
-use Rattle.lfs_fs.specs.Seen.{Begins, answer_by, seen}
+use Rattle.lfs_fs.specs.Seen.{Begins, seen}
 use Rattle.lfs_fs.specs.Volume.{IsIn, IsStill, Mounted, Serves, segments_of}
 use Rattle.lfs_fs.proofs.Behaving.{IsOrdinary}
-use Rattle.lfs_fs.proofs.CallSteps.{never_worn, refused_not_worn}
-use Rattle.lfs_fs.proofs.Files.{resolved_there}
-use Rattle.lfs_fs.proofs.Holding.{file_no_dir, headers_of_volume, map_of_volume, opened_map, walked_file}
-use Rattle.lfs_fs.proofs.PathSteps.{open_directory, open_file, open_too_many, with_handle}
+use Rattle.lfs_fs.proofs.CallSteps.{refused_not_worn}
+use Rattle.lfs_fs.proofs.Holding.{headers_of_volume}
 use Rattle.lfs_fs.proofs.Serving.{served_halted, served_still}
 use Rattle.lfs_fs.proofs.Ending.{not_acknowledged}
-use Rattle.lfs_fs.proofs.Turning.{table_serves}
 
 -- ---- walks
 
@@ -66,18 +58,18 @@ module _ {D : Type 0} (state : D → DeviceState) (v : Mounted D) (k : Checkpoin
 module _ {D : Type 0} (state : D → DeviceState) (old new : Mounted D) (lawful : IsLawful (state old.log.device)) (still : IsStill state old new) (was : old.log.halted ≡ false)
     (c : Changes) (none : IsNoChange c) (W : Tree → End → Type 0) where
   -- where a walk ends
-  pub walked : (e : End) → WalksTo state old.log new.log c W e → (k : CheckpointValue) (m0 m : LogMap) (s : State) → (state new.log.device).keeps_model → IsIn state old k m0 m s → W s.tree e
+  pub walked : (e : End) → FlatWalksTo state old.log new.log c W e → (k : CheckpointValue) (m0 m : LogMap) (s : State) → (state new.log.device).keeps_model → IsIn state old k m0 m s → W s.tree e
   walked e walks k m0 m s keeps is = subst (λ (t : Tree). W t e) (tree_drafted state old k m0 m s is c none) (walks k m0 m keeps is.stores.holds (flat_drafted state old k m0 m s is c none))
 
   -- a walk without an end refuses the call
   module _ (call : Call) (free : commits call ≡ false) (unclean : cleans call ≡ false) (steps : (N : ℕ) (s : State) (r : Refusal) → W s.tree (Refused r) → Step N s call (Refuse r) s) where
-    walk_refused : (r : Refusal) → IsOrdinary (Refuse r) → WalksTo state old.log new.log c W (Refused r) → Serves state old new call (Refuse r)
+    walk_refused : (r : Refusal) → IsOrdinary (Refuse r) → FlatWalksTo state old.log new.log c W (Refused r) → Serves state old new call (Refuse r)
     walk_refused r ordinary walks = served_still state old new call (Refuse r) lawful still was ordinary (λ p keeps here k m0 m is. (
         let step = steps (segments_of old) p.state r (walked (Refused r) walks k m0 m p.state keeps is) in
         inl (step, refused_not_worn (segments_of old) call p r p.state step unclean)))
         (not_acknowledged call r)
 
-    pub walk_ends : (fault : PathFault) → (fault ≡ path.Log log.Halted → old.log.halted ≡ true) → (fault ≡ path.Log log.Full → ⊥) → EndsRefused state old.log new.log c W fault
+    pub walk_ends : (fault : PathFault) → (fault ≡ path.Log log.Halted → old.log.halted ≡ true) → (fault ≡ path.Log log.Full → ⊥) → FlatEndsRefused state old.log new.log c W fault
         → Serves state old new call (Refuse (refusal_of (error_of_path fault)))
     walk_ends path.NoEntry halted other ends = walk_refused refusals.NoEntry tt ends
     walk_ends path.NotDir halted other ends = walk_refused refusals.NotDir tt ends
@@ -89,50 +81,6 @@ module _ {D : Type 0} (state : D → DeviceState) (old new : Mounted D) (lawful 
         let rose = ends k m0 m keeps is.stores.holds (flat_drafted state old k m0 m p.state is c none) in
         inr (Device, refl, (free, (let f = here.failures in omega (arith, f, rose))), refl)))
         (not_acknowledged call Device)
-
--- ---- open
-
-module _ {D : Type 0} (state : D → DeviceState) (lawful : (d : D) → IsLawful (state d)) where
-  -- a file of a path gets a handle
-  module _ (old new : Mounted D) (reads : Reads state old.log new.log) (saved : new.saved ≡ old.saved) (blocks : new.blocks ≡ old.blocks) (others : new.others ≡ old.others) (was : old.log.halted ≡ false)
-      (p : List ℕ) (n : ℕ) (walks : (k : CheckpointValue) (m0 m : LogMap) (s : State) → (state new.log.device).keeps_model → IsIn state old k m0 m s → Resolve s.tree p true (At n)) where
-    pub open_gives : n ≢ 1 → (h : ℕ) → h < 64 → least_handle (handles_of old.table) ≡ h → (n ≢ 0 → handles_of new.table ≡ put nat_cmp h n (handles_of old.table)) → Serves state old new (Open p) (Handle h)
-    open_gives other h some first table =
-        table_serves state old new (lawful old.log.device) (lawful new.log.device) was (Open p) (Handle h) reads saved blocks others refl refl (λ e. cc) (λ q keeps here k m0 m is. (
-        let walk = walks k m0 m q.state keeps is in
-        let map = map_of_volume state old k m0 m q.state is in
-        let file = file_no_dir q.state.tree n (walked_file (segments_of old) m q.state map is.plain p true n walk other) in
-        let first_is : least_handle q.state.handles ≡ h = ap least_handle is.handles ∙ first in
-        let few = subst (λ (x : ℕ). x < 64) (sym first_is) some in
-        let low = is.log.sound.numbers n (resolved_there (segments_of old) q.state is.log.sound p true n walk) in
-        let opened = table (λ e. omega (arith, e, low)) in record {
-          next = with_handle (segments_of old) q.state p n walk;
-          map = opened_map (segments_of old) m q.state map p n walk file few;
-          plain = is.plain;
-          version = is.version;
-          handles = ap (λ (x : ℕ). put nat_cmp x n q.state.handles) first_is ∙ ap (put nat_cmp h n) is.handles ∙ sym opened;
-          steps = inl (
-            subst (λ (x : ℕ). Step (segments_of old) q.state (Open p) (Handle x) (with_handle (segments_of old) q.state p n walk)) first_is (open_file (segments_of old) q.state p n walk file few),
-            never_worn (segments_of old) (Open p) q refl refl,
-          );
-        }))
-
-  -- or none
-  module _ (old new : Mounted D) (still : IsStill state old new) (was : old.log.halted ≡ false) (p : List ℕ) (n : ℕ)
-      (walks : (k : CheckpointValue) (m0 m : LogMap) (s : State) → (state new.log.device).keeps_model → IsIn state old k m0 m s → Resolve s.tree p true (At n)) where
-    open_refuses : (r : Refusal) → IsOrdinary (Refuse r) → ((k : CheckpointValue) (m0 m : LogMap) (s : State) → IsIn state old k m0 m s → Resolve s.tree p true (At n) → Step (segments_of old) s (Open p) (Refuse r) s)
-        → Serves state old new (Open p) (Refuse r)
-    open_refuses r ordinary steps = served_still state old new (Open p) (Refuse r) (lawful old.log.device) still was ordinary (λ q keeps here k m0 m is. (
-        let step = steps k m0 m q.state is (walks k m0 m q.state keeps is) in
-        inl (step, refused_not_worn (segments_of old) (Open p) q r q.state step refl)))
-        (not_acknowledged (Open p) r)
-
-    pub open_root : n ≡ 1 → Serves state old new (Open p) (Refuse refusals.IsDir)
-    open_root one = open_refuses refusals.IsDir tt (λ k m0 m s is walk. open_directory (segments_of old) s p n walk (subst (λ (x : ℕ). is_dir (node s.tree x) ≡ true) (sym one) is.log.sound.root))
-
-    pub open_many : n ≢ 1 → 64 ≤ least_handle (handles_of old.table) → Serves state old new (Open p) (Refuse refusals.TooManyOpen)
-    open_many other many = open_refuses refusals.TooManyOpen tt (λ k m0 m s is walk.
-        open_too_many (segments_of old) s p n walk (file_no_dir s.tree n (walked_file (segments_of old) m s (map_of_volume state old k m0 m s is) is.plain p true n walk other)) (subst (λ hs. 64 ≤ least_handle hs) (sym is.handles) many))
 
 -- ---- the code of the calls of paths
 
@@ -160,49 +108,9 @@ module _ {D : Type 0} (state : D → DeviceState) (lawful : (d : D) → IsLawful
 
     -- a path that isn't walked to its end
     pub path_ends : (W : Tree → End → Type 0) (call : Call) → commits call ≡ false → cleans call ≡ false → ((N : ℕ) (s : State) (r : Refusal) → W s.tree (Refused r) → Step N s call (Refuse r) s)
-        → (fault : PathFault) → (fault ≡ path.Log log.Halted → begun.store.log.halted ≡ true) → (fault ≡ path.Log log.Full → ⊥) → EndsRefused state begun.store.log store.log begun.store.draft.changes W fault
+        → (fault : PathFault) → (fault ≡ path.Log log.Halted → begun.store.log.halted ≡ true) → (fault ≡ path.Log log.Full → ⊥) → FlatEndsRefused state begun.store.log store.log begun.store.draft.changes W fault
         → (e : FsError) → e ≡ error_of_path fault → Serves state (seen old) (seen read) call (Refuse (refusal_of e))
     path_ends W call free unclean steps fault halted other ends e is =
         subst (λ (x : FsError). Serves state (seen old) (seen read) call (Refuse (refusal_of x))) (sym is)
         (from_begin (seen read) call (Refuse (refusal_of (error_of_path fault)))
         (walk_ends state (seen begun) (seen read) (lawful begun.store.log.device) still_read was_running begun.store.draft.changes begins.empty W call free unclean steps fault halted other ends))
-
-    -- ---- open
-    module _ (p : List ℕ) (n : ℕ) (walks : WalksTo state begun.store.log store.log begun.store.draft.changes (Resolves p) (At n)) where
-      resolved : (k : CheckpointValue) (m0 m : LogMap) (s : State) → (state store.log.device).keeps_model → IsIn state (seen begun) k m0 m s → Resolve s.tree p true (At n)
-      resolved = walked state (seen begun) (seen read) (lawful begun.store.log.device) still_read was_running begun.store.draft.changes begins.empty (Resolves p) (At n) walks
-
-      opened : (new : Fs D) (h : ℕ) → OpensNumber read new n h → Serves state (seen begun) (seen new) (Open p) (Handle h)
-      opened new h opens =
-          let numbers : List ℕ = new.handles.numbers.items in
-          subst (λ (s : Store D). Serves state (seen begun) (record { log = s.log; saved = s.saved; blocks = s.log.totals.data_blocks; others = s.log.totals.meta_blocks; table = numbers }) (Open p) (Handle h)) (sym opens.store)
-          (open_gives state lawful (seen begun) (record { log = store.log; saved = store.saved; blocks = store.log.totals.data_blocks; others = store.log.totals.meta_blocks; table = numbers }) reads saved still_read.blocks still_read.others was_running
-          p n resolved opens.other h opens.few opens.first opens.opened)
-
-      not_opened : (new : Fs D) (fault : FsError) → OpensNone read new n fault → Serves state (seen begun) (seen new) (Open p) (Refuse (refusal_of fault))
-      not_opened new error.IsDir none = subst (λ (f : Fs D). Serves state (seen begun) (seen f) (Open p) (Refuse refusals.IsDir)) (sym none.0) (open_root state lawful (seen begun) (seen read) still_read was_running p n resolved none.1)
-      not_opened new error.TooManyOpen none = subst (λ (f : Fs D). Serves state (seen begun) (seen f) (Open p) (Refuse refusals.TooManyOpen)) (sym none.0) (open_many state lawful (seen begun) (seen read) still_read was_running p n resolved none.1 none.2)
-      not_opened new error.NoEntry none = absurd none
-      not_opened new error.NotDir none = absurd none
-      not_opened new error.Exist none = absurd none
-      not_opened new error.NotEmpty none = absurd none
-      not_opened new error.Inval none = absurd none
-      not_opened new error.NameTooLong none = absurd none
-      not_opened new error.Loop none = absurd none
-      not_opened new error.Perm none = absurd none
-      not_opened new error.Busy none = absurd none
-      not_opened new error.BadHandle none = absurd none
-      not_opened new error.TooManyLinks none = absurd none
-      not_opened new error.FileTooBig none = absurd none
-      not_opened new error.NoSpace none = absurd none
-      not_opened new error.NoNumber none = absurd none
-      not_opened new error.DirFull none = absurd none
-      not_opened new error.NoMemory none = absurd none
-      not_opened new error.Device none = absurd none
-      not_opened new error.Halted none = absurd none
-      not_opened new error.Stuck none = absurd none
-      not_opened new error.Worn none = absurd none
-
-      pub open_ends : (new : Fs D) (r : Result ℕ FsError) → IfOk r (OpensNumber read new n) → IfErr r (OpensNone read new n) → Serves state (seen old) (seen new) (Open p) (answer_by Handle r)
-      open_ends new (Ok h) some none = from_begin (seen new) (Open p) (Handle h) (opened new h some)
-      open_ends new (Err fault) some none = from_begin (seen new) (Open p) (Refuse (refusal_of fault)) (not_opened new fault none)

@@ -1,57 +1,41 @@
 -- The ends of a call that walks a path and then tells what is there.
-use Rattle.std.proofs.Common.{◌≡◌, ◌≢◌, ◌≤◌, ℕ, true, false, List, None, Result, Ok, Err, refl, sym, ◌∙◌, ap, subst, inl, inr, ⊎_elim, arith}
+use Rattle.std.proofs.Common.{◌≡◌, ◌≢◌, ◌≤◌, ℕ, Bool, true, false, List, None, Result, Ok, Err, refl, sym, ◌∙◌, ap, subst, inl, inr, ⊎_elim, arith}
 use Rattle.std.specs.Prelude.{IfErr, IfOk}
 use Rattle.lfs_model.specs.Call as call
-use Rattle.lfs_model.specs.Call.{Answer, Call, Refuse, StatOf, Status, changes, cleans, commits}
+use Rattle.lfs_model.specs.Call.{Call, Refuse, StatOf, Status, cleans, commits, takes_no_memory}
 use Rattle.lfs_model.specs.Checkpoint.{CheckpointValue}
 use Rattle.lfs_model.specs.Device.{DeviceState, IsLawful}
-use Rattle.lfs_model.specs.Refusal as model
-use Rattle.lfs_model.specs.Refusal.{Halted, Refusal}
-use Rattle.lfs_model.specs.Sound.{NamesGive}
+use Rattle.lfs_model.specs.Refusal.{Refusal}
 use Rattle.lfs_model.specs.Stands.{LogMap}
 use Rattle.lfs_model.specs.Step.{Step}
-use Rattle.lfs_model.specs.Tree.{State, Tree, names}
-use Rattle.lfs_model.specs.TreeOf.{tree_in}
+use Rattle.lfs_model.specs.Tree.{State, Tree}
 use Rattle.lfs_model.specs.Walk.{At, End, Refused, Resolve}
 use Rattle.lfs_files.specs.declared.fault.LogFault.TheVariants as log
 use Rattle.lfs_files.specs.declared.header.Header.{Header}
 use Rattle.lfs_store.specs.memory.Batch.{IsNoChange, staged}
 use Rattle.lfs_store.specs.memory.Present.{as_header}
 use Rattle.lfs_store.specs.log.Held.{Reads}
-use Rattle.lfs_store.proofs.Apart.{no_change}
 use Rattle.lfs_store.proofs.LogReads.{held_still, reads_more}
-use Rattle.lfs_path.specs.declared.fault.PathFault.{PathFault}
-use Rattle.lfs_path.specs.declared.fault.PathFault.TheVariants as path
-use Rattle.lfs_path.specs.Walking.{HasFlatTree, IsFlat, Resolves}
+use Rattle.lfs_path.specs.declared.walk_fault.WalkFault.{WalkFault}
+use Rattle.lfs_path.specs.declared.walk_fault.WalkFault.TheVariants as walk
+use Rattle.lfs_path.specs.Reaching.{EndsResolve}
 use Rattle.lfs_fs.specs.Drafted.{EndsRefused, WalksTo}
-use Rattle.lfs_path.proofs.FlatTrees.{flat_maps}
 use Rattle.lfs_fs.specs.declared.error.FsError.{FsError}
 use Rattle.lfs_fs.specs.declared.fs.Fs.{Fs}
 use Rattle.lfs_fs.specs.declared.rows.Stat.{Stat}
 use Rattle.lfs_fs.specs.Answers.{status_of}
-use Rattle.lfs_fs.specs.Faults.{error_of_path}
+use Rattle.lfs_fs.specs.Faults.{error_of_walk}
 use Rattle.lfs_fs.specs.Reading.{LacksBytes, LacksObject, TellsStat}
 use Rattle.lfs_fs.specs.Refusals.{refusal_of}
 use Rattle.lfs_fs.specs.Seen.{HasHeader, LacksHeader, OnlyReads, answer_by, seen}
-use Rattle.lfs_fs.specs.Volume.{IsIn, IsPlain, Mounted, Serves, segments_of}
-use Rattle.lfs_fs.proofs.Behaving.{IsOrdinary}
+use Rattle.lfs_fs.specs.Volume.{IsIn, Serves, segments_of}
 use Rattle.lfs_fs.proofs.CallSteps.{stat_step}
 use Rattle.lfs_fs.proofs.Files.{no_header_none, resolved_there}
 use Rattle.lfs_fs.proofs.Holding.{headers_of_volume, map_of_volume}
-use Rattle.lfs_fs.proofs.PathSteps.{stat_refused}
-use Rattle.lfs_fs.proofs.ReadingEnds.{failed_serves, header_there, lacks_object, step_serves}
-
--- ---- a volume's tree is a root and files
-
-flat_of_plain : (t : Tree) → IsPlain t → IsFlat t
-flat_of_plain t plain = record { root = (plain.names, plain.root); files = plain.files }
+use Rattle.lfs_fs.proofs.ReadingEnds.{header_there, lacks_object, step_serves}
+use Rattle.lfs_fs.proofs.WalkEnds.{walk_ends, walked}
 
 module _ {D : Type 0} (state : D → DeviceState) where
-  pub flat_of_volume : (v : Mounted D) (k : CheckpointValue) (m0 m : LogMap) (s : State) → IsIn state v k m0 m s → HasFlatTree m
-  flat_of_volume v k m0 m s is =
-      flat_maps m (subst IsFlat is.log.is (flat_of_plain s.tree is.plain)) (headers_of_volume state v k m0 m s is) is.log.formed (subst NamesGive is.log.is is.log.sound.named)
-      (ap (λ (t : Tree). names t 1) (sym is.log.is) ∙ is.log.sound.root_unnamed)
-
   -- ---- one read after another
 
   -- a layer below only reads
@@ -101,56 +85,44 @@ module _ {D : Type 0} (state : D → DeviceState) where
     pub lacks_bytes_again : (n : ℕ) (fault : FsError) → LacksBytes state mid new n fault → LacksBytes state old new n fault
     lacks_bytes_again n fault lacks = ⊎_elim (λ memory. inl memory) (λ object. inr (lacks_object_again n fault object)) lacks
 
--- ---- stat
+-- ---- a walk, and what it comes to
 
 module _ {D : Type 0} (state : D → DeviceState) (old mid : Fs D) (lawful : IsLawful (state old.store.log.device)) (was : old.store.log.halted ≡ false) (empty : IsNoChange old.store.draft.changes)
-    (first : OnlyReads state old mid) (p : List ℕ) where
-  -- a walk of the log map is one of the state
-  pub walks_in : (e : End) → WalksTo state old.store.log mid.store.log old.store.draft.changes (Resolves p) e → (k : CheckpointValue) (m0 m : LogMap) (s : State) → (state mid.store.log.device).keeps_model
-      → IsIn state (seen old) k m0 m s → Resolve s.tree p true e
-  walks_in e walk k m0 m s keeps is =
-      let same : staged old.store.draft.changes m ≡ m = no_change old.store.draft.changes m empty in
-      subst (λ (t : Tree). Resolve t p true e) (ap tree_in same ∙ sym is.log.is)
-      (walk k m0 m keeps is.stores.holds (subst HasFlatTree (sym same) (flat_of_volume state (seen old) k m0 m s is)))
+    (first : OnlyReads state old mid) where
+  -- a path that isn't walked to its end
+  pub path_without : (W : Tree → End → Type 0) (call : Call) → commits call ≡ false → cleans call ≡ false → takes_no_memory call ≡ false
+      → ((N : ℕ) (s : State) (r : Refusal) → W s.tree (Refused r) → Step N s call (Refuse r) s)
+      → (fault : WalkFault) (e : FsError) → e ≡ error_of_walk fault → EndsRefused state old.store.log mid.store.log old.store.draft.changes W fault
+      → (fault ≡ walk.Log log.Halted → old.store.log.halted ≡ true) → (fault ≡ walk.Log log.Full → ⊥) → Serves state (seen old) (seen mid) call (Refuse (refusal_of e))
+  path_without W call free unclean memory steps fault e is ends halted other =
+      subst (λ (f : FsError). Serves state (seen old) (seen mid) call (Refuse (refusal_of f))) (sym is)
+      (walk_ends state (seen old) (seen mid) lawful first.still was old.store.draft.changes empty W call free unclean memory steps fault halted other ends)
 
-  -- what it comes to is there
-  pub walked_has : (n : ℕ) → WalksTo state old.store.log mid.store.log old.store.draft.changes (Resolves p) (At n) → (k : CheckpointValue) (m0 m : LogMap) (s : State) → (state mid.store.log.device).keeps_model
-      → IsIn state (seen old) k m0 m s → (n ≤ 4095) × (m.header n ≢ None)
-  walked_has n walk k m0 m s keeps is =
-      let there = resolved_there (segments_of (seen old)) s is.log.sound p true n (walks_in (At n) walk k m0 m s keeps is) in
-      ((is.log.sound.numbers n there).1, λ none. there (no_header_none (segments_of (seen old)) m s is.log n none))
+  module _ (p : List ℕ) (follow : Bool) (n : ℕ) (walk : WalksTo state old.store.log mid.store.log old.store.draft.changes (EndsResolve p follow) (At n)) where
+    -- a walk of the log map is one of the state
+    pub walks_in : (k : CheckpointValue) (m0 m : LogMap) (s : State) → (state mid.store.log.device).keeps_model → IsIn state (seen old) k m0 m s → Resolve s.tree p follow (At n)
+    walks_in = walked state (seen old) (seen mid) lawful first.still was old.store.draft.changes empty (EndsResolve p follow) (At n) walk
 
-  pub stat_without : (fault : PathFault) (e : FsError) → e ≡ error_of_path fault → EndsRefused state old.store.log mid.store.log old.store.draft.changes (Resolves p) fault
-      → (fault ≡ path.Log log.Halted → old.store.log.halted ≡ true) → (fault ≡ path.Log log.Full → ⊥) → Serves state (seen old) (seen mid) (StatOf p) (Refuse (refusal_of e))
-  stat_without fault e is ends halted other = subst (λ (f : FsError). Serves state (seen old) (seen mid) (StatOf p) (Refuse (refusal_of f))) (sym is) (by fault ends halted other)
-    where
-      refused : (r : Refusal) → IsOrdinary (Refuse r) → WalksTo state old.store.log mid.store.log old.store.draft.changes (Resolves p) (Refused r) → Serves state (seen old) (seen mid) (StatOf p) (Refuse r)
-      refused r ordinary walk = step_serves state (seen old) (seen mid) (StatOf p) lawful first.still was (Refuse r) ordinary refl refl refl
-          (λ k m0 m s keeps is. stat_refused (segments_of (seen old)) s p r (walks_in (Refused r) walk k m0 m s keeps is))
+    -- what it comes to is there
+    pub walked_has : (k : CheckpointValue) (m0 m : LogMap) (s : State) → (state mid.store.log.device).keeps_model → IsIn state (seen old) k m0 m s → (n ≤ 4095) × (m.header n ≢ None)
+    walked_has k m0 m s keeps is =
+        let there = resolved_there (segments_of (seen old)) s is.log.sound p follow n (walks_in k m0 m s keeps is) in
+        ((is.log.sound.numbers n there).1, λ none. there (no_header_none (segments_of (seen old)) m s is.log n none))
 
-      by : (fault : PathFault) → EndsRefused state old.store.log mid.store.log old.store.draft.changes (Resolves p) fault → (fault ≡ path.Log log.Halted → old.store.log.halted ≡ true) → (fault ≡ path.Log log.Full → ⊥)
-          → Serves state (seen old) (seen mid) (StatOf p) (Refuse (refusal_of (error_of_path fault)))
-      by path.NoEntry ends halted other = refused model.NoEntry tt ends
-      by path.NotDir ends halted other = refused model.NotDir tt ends
-      by path.NameTooLong ends halted other = refused model.NameTooLong tt ends
-      by path.Inval ends halted other = refused model.Inval tt ends
-      by (path.Log log.Device) ends halted other = failed_serves state (seen old) (seen mid) (StatOf p) lawful first.still was refl
-          (λ k m0 m s keeps is. ends k m0 m keeps is.stores.holds (subst HasFlatTree (sym (no_change old.store.draft.changes m empty)) (flat_of_volume state (seen old) k m0 m s is)))
-      by (path.Log log.Halted) ends halted other = absurd (let no = was in let on = halted refl in cc)
-      by (path.Log log.Full) ends halted other = absurd (other refl)
+  -- ---- stat
+  module _ (p : List ℕ) (n : ℕ) (walk : WalksTo state old.store.log mid.store.log old.store.draft.changes (EndsResolve p true) (At n)) where
+    pub stat_ends : (new : Fs D) → OnlyReads state mid new → (r : Result Stat FsError)
+        → IfOk r (λ stat. TellsStat state mid new n stat) → IfErr r (λ fault. LacksObject state mid new n fault) → Serves state (seen old) (seen new) (StatOf p) (answer_by (λ stat. Status (status_of stat)) r)
+    stat_ends new next (Ok stat) tells missing = step_serves state (seen old) (seen new) (StatOf p) lawful both.still was (Status (status_of stat)) tt refl refl refl (λ k m0 m s keeps is. (
+        let here = header_there state old new (StatOf p) lawful was empty both refl n told.head told.there k m0 m s keeps is in
+        subst (λ (x : call.Stat). Step (segments_of (seen old)) s (StatOf p) (Status x) s) (λ i. record { number = sym told.number i; kind = sym told.kind i; links = sym told.links i; size = sym told.size i })
+        (stat_step (segments_of (seen old)) m s (map_of_volume state (seen old) k m0 m s is) p n (walks_in p true n walk k m0 m s (next.still.reads.looks.carries.kept_before keeps) is) (as_header told.head) here
+        (headers_of_volume state (seen old) k m0 m s is n (as_header told.head) here))))
+      where
+        both : OnlyReads state old new
+        both = reads_again state old mid new first lawful next
 
-  pub stat_ends : (n : ℕ) → WalksTo state old.store.log mid.store.log old.store.draft.changes (Resolves p) (At n) → (new : Fs D) → OnlyReads state mid new → (r : Result Stat FsError)
-      → IfOk r (λ stat. TellsStat state mid new n stat) → IfErr r (λ fault. LacksObject state mid new n fault) → Serves state (seen old) (seen new) (StatOf p) (answer_by (λ stat. Status (status_of stat)) r)
-  stat_ends n walk new next (Ok stat) tells missing = step_serves state (seen old) (seen new) (StatOf p) lawful both.still was (Status (status_of stat)) tt refl refl refl (λ k m0 m s keeps is. (
-      let here = header_there state old new (StatOf p) lawful was empty both refl n told.head told.there k m0 m s keeps is in
-      subst (λ (x : call.Stat). Step (segments_of (seen old)) s (StatOf p) (Status x) s) (λ i. record { number = sym told.number i; kind = sym told.kind i; links = sym told.links i; size = sym told.size i })
-      (stat_step (segments_of (seen old)) m s (map_of_volume state (seen old) k m0 m s is) p n (walks_in (At n) walk k m0 m s (next.still.reads.looks.carries.kept_before keeps) is) (as_header told.head) here
-      (headers_of_volume state (seen old) k m0 m s is n (as_header told.head) here))))
-    where
-      both : OnlyReads state old new
-      both = reads_again state old mid new first lawful next
-
-      told : TellsStat state old new n stat
-      told = tells_again state old mid new first n stat tells
-  stat_ends n walk new next (Err fault) tells missing = lacks_object state old new (StatOf p) lawful was empty (reads_again state old mid new first lawful next) refl n fault
-      (λ k m0 m s keeps is. walked_has n walk k m0 m s (next.still.reads.looks.carries.kept_before keeps) is) (lacks_object_again state old mid new first n fault missing)
+        told : TellsStat state old new n stat
+        told = tells_again state old mid new first n stat tells
+    stat_ends new next (Err fault) tells missing = lacks_object state old new (StatOf p) lawful was empty (reads_again state old mid new first lawful next) refl n fault
+        (λ k m0 m s keeps is. walked_has p true n walk k m0 m s (next.still.reads.looks.carries.kept_before keeps) is) (lacks_object_again state old mid new first n fault missing)

@@ -1,12 +1,14 @@
 -- Calls on files are calls on a store.
-use Rattle.std.proofs.Common.{◌≡◌, ℕ, List, Option, Some, None, refl, ◌∙◌, ap, subst}
+use Rattle.std.proofs.Common.{◌≡◌, ◌<◌, ℕ, List, Option, Some, None, refl, ◌∙◌, ap, subst}
 use Rattle.std.specs.FinMap.{find}
 use Rattle.std.specs.Prelude.{MatchOption}
 use Rattle.lfs_model.specs.Device.{DeviceState}
 use Rattle.lfs_model.specs.Objects.{IsDirectory}
+use Rattle.lfs_model.specs.Refusal as model
 use Rattle.lfs_model.specs.Refusal.{Refusal}
 use Rattle.lfs_model.specs.Stands.{LogMap}
 use Rattle.lfs_model.specs.Tree.{Tree, byte_cmp}
+use Rattle.lfs_model.specs.TreeOf.{tree_in}
 use Rattle.lfs_model.specs.Walk.{End, Refused}
 use Rattle.lfs_files.specs.declared.header.Header.{Header}
 use Rattle.lfs_files.specs.Files as files
@@ -21,6 +23,10 @@ use Rattle.lfs_store.specs.Seen.{StagedLog}
 use Rattle.lfs_store.proofs.LogReads.{held_still}
 use Rattle.lfs_path.specs.declared.fault.PathFault.{PathFault}
 use Rattle.lfs_path.specs.Refusals.{refusal_of}
+use Rattle.lfs_path.specs.declared.walk_fault.WalkFault.{WalkFault}
+use Rattle.lfs_path.specs.declared.walk_fault.WalkFault.TheVariants as walk
+use Rattle.lfs_path.specs.Telling.{Refuses}
+use Rattle.lfs_path.specs.Trees.{HasTree}
 use Rattle.lfs_path.specs.Walking as walking
 use Rattle.lfs_path.specs.dirs.Adding as adding
 use Rattle.lfs_path.specs.dirs.Adding.{AddsName, grown, slot_for}
@@ -28,7 +34,7 @@ use Rattle.lfs_path.specs.dirs.Directory.{names_at}
 use Rattle.lfs_fs.specs.declared.fs.Fs.{Fs}
 use Rattle.lfs_fs.specs.Seen.{seen}
 use Rattle.lfs_fs.specs.Volume.{IsStill}
-use Rattle.lfs_fs.specs.Drafted.{Adds, EachDrafted, EndsRefused, IsPathFault, WalksTo, files_of}
+use Rattle.lfs_fs.specs.Drafted.{Adds, EachDrafted, EndsRefused, FlatEndsRefused, FlatWalksTo, IsPathFault, files_of}
 
 -- two numbers as totals
 abbrev totals_of : Counted → BlockTotals
@@ -60,11 +66,26 @@ module _ {D : Type 0} (state : D → DeviceState) (a b : Store D) where
     same_drafted = ap totals_of reads.drafted
 
   -- ---- walks of a path
-  pub ends_refused : (W : Tree → End → Type 0) (fault : PathFault) → walking.EndsRefused (files_of state a) (files_of state b) W fault → EndsRefused state a.log b.log a.draft.changes W fault
-  ends_refused W fault = by (refusal_of fault)
+  pub ends_refused : (W : Tree → End → Type 0) (fault : WalkFault) → Refuses (files_of state a) (files_of state b) HasTree W fault → EndsRefused state a.log b.log a.draft.changes W fault
+  ends_refused W = by
+    where
+      each : (P : LogMap → Type 0) → ((m m' : LogMap) → (files_of state b).device.keeps_model → (files_of state a).has m m' → HasTree m' → P m') → EachDrafted state a.log b.log a.draft.changes (λ m. HasTree m → P m)
+      each P all = each_drafted (λ m. HasTree m → P m) all
+
+      by : (fault : WalkFault) → Refuses (files_of state a) (files_of state b) HasTree W fault → EndsRefused state a.log b.log a.draft.changes W fault
+      by walk.NoEntry ends = each (λ m. W (tree_in m) (Refused model.NoEntry)) ends
+      by walk.NotDir ends = each (λ m. W (tree_in m) (Refused model.NotDir)) ends
+      by walk.NameTooLong ends = each (λ m. W (tree_in m) (Refused model.NameTooLong)) ends
+      by walk.Inval ends = each (λ m. W (tree_in m) (Refused model.Inval)) ends
+      by walk.Loop ends = each (λ m. W (tree_in m) (Refused model.Loop)) ends
+      by walk.NoMemory ends = tt
+      by (walk.Log fault) ends = each (λ m. (state a.log.device).failures < (state b.log.device).failures) ends
+
+  pub flat_ends_refused : (W : Tree → End → Type 0) (fault : PathFault) → walking.EndsRefused (files_of state a) (files_of state b) W fault → FlatEndsRefused state a.log b.log a.draft.changes W fault
+  flat_ends_refused W fault = by (refusal_of fault)
     where
       by : (o : Option Refusal) → MatchOption o (walking.IsPathFault (files_of state a) (files_of state b)) (λ r. walking.WalksTo (files_of state a) (files_of state b) W (Refused r))
-          → MatchOption o (IsPathFault state a.log b.log a.draft.changes) (λ r. WalksTo state a.log b.log a.draft.changes W (Refused r))
+          → MatchOption o (IsPathFault state a.log b.log a.draft.changes) (λ r. FlatWalksTo state a.log b.log a.draft.changes W (Refused r))
       by None failed = λ k m0 m keeps holds. failed m (staged a.draft.changes m) keeps record { checkpoint = k; acknowledged = m0; holds = holds; draft = refl }
       by (Some r) ends = λ k m0 m keeps holds. ends m (staged a.draft.changes m) keeps record { checkpoint = k; acknowledged = m0; holds = holds; draft = refl }
 

@@ -37,7 +37,7 @@ use Rattle.lfs_fs.specs.Seen.{HasHeader, LacksHeader, OnlyReads, answer_by, seen
 use Rattle.lfs_fs.specs.Volume.{IsIn, Serves, segments_of}
 use Rattle.lfs_fs.proofs.CallSteps.{tree_step}
 use Rattle.lfs_fs.proofs.Holding.{headers_of_volume, map_of_volume}
-use Rattle.lfs_fs.proofs.PathEnds.{flat_of_volume, reads_again}
+use Rattle.lfs_fs.proofs.PathEnds.{reads_again}
 use Rattle.lfs_fs.proofs.ReadingEnds.{failed_serves, header_there, lacks_header, step_serves}
 use Rattle.lfs_fs.proofs.Rooted.{directory_root, names_in_root}
 use Rattle.lfs_fs.proofs.Serving.{still_in}
@@ -54,7 +54,7 @@ are_names t all (e ∷ es) gives order = (
 module _ {D : Type 0} (state : D → DeviceState) (old : Fs D) (lawful : IsLawful (state old.store.log.device)) (was : old.store.log.halted ≡ false) (empty : IsNoChange old.store.draft.changes) where
   -- the root is there
   root_has : (k : CheckpointValue) (m0 m : LogMap) (s : State) → IsIn state (seen old) k m0 m s → (1 ≤ 4095) × (m.header 1 ≢ None)
-  root_has k m0 m s is = let flat = flat_of_volume state (seen old) k m0 m s is in (omega arith, λ none. absurd (let both : None ≡ Some flat.head = sym none ∙ flat.header in cc))
+  root_has k m0 m s is = let root = is.map.root in (omega arith, λ none. absurd (let both : None ≡ Some root.0 = sym none ∙ root.1 in cc))
 
   pub tree_without : (mid : Fs D) (reads : OnlyReads state old mid) (fault : FsError) → LacksHeader state old mid 1 fault → Serves state (seen old) (seen mid) ListTree (Refuse (refusal_of fault))
   tree_without mid reads fault lacks = lacks_header state old mid ListTree lawful was empty reads refl 1 fault (λ k m0 m s keeps is. root_has k m0 m s is) lacks

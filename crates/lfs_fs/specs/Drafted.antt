@@ -21,6 +21,9 @@ use Rattle.lfs_store.specs.Writing.{TakesWrite}
 use Rattle.lfs_path.specs.declared.fault.PathFault.{PathFault}
 use Rattle.lfs_path.specs.Refusals.{refusal_of}
 use Rattle.lfs_path.specs.Walking.{HasFlatTree}
+use Rattle.lfs_path.specs.declared.walk_fault.WalkFault.{WalkFault}
+use Rattle.lfs_path.specs.Telling.{ByFault}
+use Rattle.lfs_path.specs.Trees.{HasTree}
 use Rattle.lfs_path.specs.dirs.declared.entry.Entry.{Entry}
 use Rattle.lfs_path.specs.dirs.Adding.{AddsName, grown, slot_for}
 use Rattle.lfs_path.specs.dirs.Directory.{names_at, slots_at}
@@ -56,14 +59,24 @@ module _ {D : Type 0} (state : D → DeviceState) where
 
   -- a walk ends there
   abbrev pub WalksTo : Held D → Held D → Changes → (Tree → End → Type 0) → End → Type 0
-  WalksTo h h' c W e = EachDrafted h h' c (λ m. HasFlatTree m → W (tree_in m) e)
+  WalksTo h h' c W e = EachDrafted h h' c (λ m. HasTree m → W (tree_in m) e)
 
   -- it ends refused; or there is no answer, since a call of the device failed
+  abbrev pub FailsWalk : Held D → Held D → Changes → Type 0
+  FailsWalk h h' c = EachDrafted h h' c (λ m. HasTree m → (state h.device).failures < (state h'.device).failures)
+
+  abbrev pub EndsRefused : Held D → Held D → Changes → (Tree → End → Type 0) → WalkFault → Type 0
+  EndsRefused h h' c W fault = ByFault fault (FailsWalk h h' c) (λ r. WalksTo h h' c W (Refused r))
+
+  -- the same of trees whose only directory is the root
+  abbrev pub FlatWalksTo : Held D → Held D → Changes → (Tree → End → Type 0) → End → Type 0
+  FlatWalksTo h h' c W e = EachDrafted h h' c (λ m. HasFlatTree m → W (tree_in m) e)
+
   abbrev pub IsPathFault : Held D → Held D → Changes → Type 0
   IsPathFault h h' c = EachDrafted h h' c (λ m. HasFlatTree m → (state h.device).failures < (state h'.device).failures)
 
-  abbrev pub EndsRefused : Held D → Held D → Changes → (Tree → End → Type 0) → PathFault → Type 0
-  EndsRefused h h' c W fault = MatchOption (refusal_of fault) (IsPathFault h h' c) (λ r. WalksTo h h' c W (Refused r))
+  abbrev pub FlatEndsRefused : Held D → Held D → Changes → (Tree → End → Type 0) → PathFault → Type 0
+  FlatEndsRefused h h' c W fault = MatchOption (refusal_of fault) (IsPathFault h h' c) (λ r. FlatWalksTo h h' c W (Refused r))
 
   -- A name is drafted into directory d.
   pub record Adds (h h' : Held D) (c c' : Changes) (d : ℕ) (head : Header) (n : ℕ) (name : List ℕ) : Type 0 where

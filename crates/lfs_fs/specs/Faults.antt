@@ -5,6 +5,8 @@ use Rattle.lfs_files.specs.declared.fault.StoreFault.{StoreFault}
 use Rattle.lfs_files.specs.declared.fault.StoreFault.TheVariants as store
 use Rattle.lfs_path.specs.declared.fault.PathFault.{PathFault}
 use Rattle.lfs_path.specs.declared.fault.PathFault.TheVariants as path
+use Rattle.lfs_path.specs.declared.walk_fault.WalkFault.{WalkFault}
+use Rattle.lfs_path.specs.declared.walk_fault.WalkFault.TheVariants as walk
 use Rattle.lfs_fs.specs.declared.error.FsError.{FsError}
 use Rattle.lfs_fs.specs.declared.error.FsError.TheVariants as error
 
@@ -23,3 +25,12 @@ error_of_path path.NotDir = error.NotDir
 error_of_path path.NameTooLong = error.NameTooLong
 error_of_path path.Inval = error.Inval
 error_of_path (path.Log fault) = error_of_log fault
+
+abbrev pub error_of_walk : WalkFault → FsError
+error_of_walk walk.NoEntry = error.NoEntry
+error_of_walk walk.NotDir = error.NotDir
+error_of_walk walk.NameTooLong = error.NameTooLong
+error_of_walk walk.Inval = error.Inval
+error_of_walk walk.Loop = error.Loop
+error_of_walk walk.NoMemory = error.NoMemory
+error_of_walk (walk.Log fault) = error_of_log fault

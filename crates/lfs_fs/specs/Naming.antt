@@ -29,25 +29,41 @@ use Rattle.lfs_fs.specs.declared.error.FsError.TheVariants as error
 use Rattle.lfs_fs.specs.declared.fs.Fs.{Fs}
 use Rattle.lfs_fs.specs.Accepting.{Stages, TurnsDown}
 use Rattle.lfs_fs.specs.Handles.{handles_of}
-use Rattle.lfs_fs.specs.Seen.{seen}
+use Rattle.lfs_fs.specs.Reading.{LacksObject, TellsStat}
+use Rattle.lfs_fs.specs.Seen.{OnlyReads, seen}
+use Rattle.lfs_fs.specs.declared.rows.Stat.{Stat}
 use Rattle.lfs_fs.specs.Volume.{IsIn, IsStill, Mounted}
 
-module _ {D : Type 0} where
-  -- File n gets a handle, the least that is free; it isn't the root.
-  pub record OpensNumber (old new : Fs D) (n handle : ℕ) : Type 0 where
-    pub store : new.store ≡ old.store
-    pub other : n ≢ 1
-    pub few : handle < 64
-    pub first : least_handle (handles_of old.handles.numbers.items) ≡ handle
-    pub opened : n ≢ 0 → handles_of new.handles.numbers.items ≡ put nat_cmp handle n (handles_of old.handles.numbers.items)
-
-  -- It gets none: it is the root, or all handles are open.
-  abbrev pub OpensNone : Fs D → Fs D → ℕ → FsError → Type 0
-  OpensNone old new n error.IsDir = (new ≡ old) × (n ≡ 1)
-  OpensNone old new n error.TooManyOpen = (new ≡ old) × (n ≢ 1) × (64 ≤ least_handle (handles_of old.handles.numbers.items))
-  OpensNone old new n _ = ⊥
-
 module _ {D : Type 0} (state : D → DeviceState) where
+  -- ---- a handle on the object of a number
+
+  -- Object n was looked at; its kind is no directory's.
+  pub record IsNoDirectory (old new : Fs D) (n : ℕ) : Type 0 where
+    pub stat : Stat
+    pub told : TellsStat state old new n stat
+    pub other : stat.kind ≢ kind.Directory
+
+  -- Object n, which is no directory, gets a handle, the least that is free.
+  pub record OpensNumber (old new : Fs D) (n handle : ℕ) : Type 0 where
+    pub mid : Fs D
+    pub reads : OnlyReads state old mid
+    pub looked : IsNoDirectory old mid n
+    pub store : new.store ≡ mid.store
+    pub few : handle < 64
+    pub first : least_handle (handles_of mid.handles.numbers.items) ≡ handle
+    pub opened : n ≢ 0 → handles_of new.handles.numbers.items ≡ put nat_cmp handle n (handles_of mid.handles.numbers.items)
+
+  -- It is a directory.
+  pub record IsDirectoryTold (old new : Fs D) (n : ℕ) : Type 0 where
+    pub stat : Stat
+    pub told : TellsStat state old new n stat
+    pub is : stat.kind ≡ kind.Directory
+
+  -- why it gets none: it is a directory, or all handles are open, or nothing is told of it
+  abbrev pub OpensNone : Fs D → Fs D → ℕ → FsError → Type 0
+  OpensNone old new n fault = OnlyReads state old new × (((fault ≡ error.IsDir) × IsDirectoryTold old new n)
+      ⊎ (((fault ≡ error.TooManyOpen) × IsNoDirectory old new n × (64 ≤ least_handle (handles_of new.handles.numbers.items))) ⊎ LacksObject state old new n fault))
+
   -- ---- a name is looked up in directory d
 
   -- d has this header, and the name gives that in it

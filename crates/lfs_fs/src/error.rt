@@ -2,9 +2,9 @@
 ghost use Rattle.std.specs.Prelude.{◌≡◌};
 ghost use Rattle.lfs_model.specs.Script.{refusal_name};
 ghost use Rattle.lfs_fs.specs.Refusals.{refusal_of};
-ghost use Rattle.lfs_fs.specs.Faults.{error_of_log, error_of_store, error_of_path};
+ghost use Rattle.lfs_fs.specs.Faults.{error_of_log, error_of_store, error_of_path, error_of_walk};
 
-use lfs_path::PathFault;
+use lfs_path::{PathFault, WalkFault};
 use lfs_store::{LogFault, StoreFault};
 use std::alloc::AllocError;
 
@@ -129,6 +129,22 @@ impl From<PathFault> for FsError {
             PathFault::NameTooLong => FsError::NameTooLong,
             PathFault::Inval => FsError::Inval,
             PathFault::Log(fault) => FsError::from(fault),
+        }
+    }
+}
+
+impl From<WalkFault> for FsError {
+    fn from(fault: WalkFault) -> FsError
+        ensures { result ≡ error_of_walk fault }
+    {
+        match fault {
+            WalkFault::NoEntry => FsError::NoEntry,
+            WalkFault::NotDir => FsError::NotDir,
+            WalkFault::NameTooLong => FsError::NameTooLong,
+            WalkFault::Inval => FsError::Inval,
+            WalkFault::Loop => FsError::Loop,
+            WalkFault::NoMemory => FsError::NoMemory,
+            WalkFault::Log(fault) => FsError::from(fault),
         }
     }
 }

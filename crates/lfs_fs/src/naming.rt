@@ -1,5 +1,5 @@
 //! Calls that find a file by its path, or make one.
-ghost use Rattle.std.specs.Prelude.{◌≡◌, ◌≤◌, ◌<◌, ℕ, List, false, IfOk, IfErr, OnOk};
+ghost use Rattle.std.specs.Prelude.{◌≡◌, ◌≤◌, ◌<◌, ℕ, List, false, IfOk, IfErr, OnOk, OnErr};
 ghost use Rattle.lfs_model.specs.Call.{Open, Create, Handle};
 ghost use Rattle.lfs_model.specs.Slot.{IsName};
 ghost use Rattle.lfs_fs.specs.Volume.{IsStill, Mounted, Serves};
@@ -7,13 +7,14 @@ ghost use Rattle.lfs_fs.specs.Seen.{seen, answer_by, OnlyReads};
 ghost use Rattle.lfs_fs.specs.Naming.{DraftsNew, DraftsNone, LooksNone, LooksUp, MakesFile, MakesNone, OpensNone, OpensNumber, Reaches, RefusesEntry, TakesEntry};
 
 use crate::error::FsError;
-use crate::fs::{Fs, ROOT};
+use crate::fs::Fs;
 use lfs_device::SectorDevice;
 use lfs_layout::is_name;
 use lfs_model::Kind;
 use lfs_path::dirs::{add, find};
 use lfs_path::text::is_dots;
-use lfs_path::{Last, Place, parent, resolve};
+use lfs_path::tree::resolve;
+use lfs_path::{Last, Place, parent};
 use lfs_store::Header;
 
 /// The most bytes of a name.
@@ -35,7 +36,7 @@ impl<D: SectorDevice> Fs<D> {
             Ok(()) => {}
             Err(fault) => return Err(fault),
         }
-        match resolve(&mut self.store, path) {
+        match resolve(self.alloc, &mut self.store, path, true) {
             Ok(number) => self.open_number(number),
             Err(fault) => Err(FsError::from(fault)),
         }
@@ -43,11 +44,16 @@ impl<D: SectorDevice> Fs<D> {
 
     /// A handle on the file of a number.
     fn open_number(&mut self, number: u16) -> Result<u32, FsError>
-        ensures opened { IfOk result (OpensNumber self.old self.new number) }
-        ensures refused { IfErr result (OpensNone self.old self.new number) }
+        ensures opened { IfOk result (OpensNumber D.SectorDevice.state self.old self.new number) }
+        ensures refused { IfErr result (OpensNone D.SectorDevice.state self.old self.new number) }
     {
-        if number == ROOT {
-            return Err(FsError::IsDir);
+        let stat = match self.stat_of(number) {
+            Ok(stat) => stat,
+            Err(fault) => return Err(fault),
+        };
+        match check_file(stat.kind) {
+            Ok(()) => {}
+            Err(fault) => return Err(fault),
         }
         let Some(handle) = self.handles.least_free() else {
             return Err(FsError::TooManyOpen);
@@ -208,5 +214,18 @@ impl<D: SectorDevice> Fs<D> {
             Ok(()) => Ok(()),
             Err(fault) => Err(FsError::from(fault)),
         }
+    }
+}
+
+/// Refuses a directory.
+fn check_file(kind: Kind) -> Result<(), FsError>
+    ensures done { OnOk result (kind ≡ Kind.Directory → ⊥) }
+    ensures refused { OnErr result (kind ≡ Kind.Directory) }
+    ensures fault { IfErr result (λ fault. fault ≡ FsError.IsDir) }
+{
+    match kind {
+        Kind::Directory => Err(FsError::IsDir),
+        Kind::File => Ok(()),
+        Kind::Link => Ok(()),
     }
 }

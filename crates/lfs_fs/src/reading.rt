@@ -12,7 +12,7 @@ use crate::fs::{Fs, ROOT};
 use crate::rows::{Space, Stat, TreeRow};
 use lfs_device::SectorDevice;
 use lfs_path::dirs::{Entry, list};
-use lfs_path::resolve;
+use lfs_path::tree::resolve;
 
 /// The most bytes of one read or write.
 pub const LONGEST_TRANSFER: u32 = 65_536;
@@ -85,14 +85,14 @@ impl<D: SectorDevice> Fs<D> {
             Ok(()) => {}
             Err(fault) => return Err(fault),
         }
-        match resolve(&mut self.store, path) {
+        match resolve(self.alloc, &mut self.store, path, true) {
             Ok(number) => self.stat_of(number),
             Err(fault) => Err(FsError::from(fault)),
         }
     }
 
     /// What is told of an object that is there.
-    fn stat_of(&mut self, number: u16) -> Result<Stat, FsError>
+    pub(crate) fn stat_of(&mut self, number: u16) -> Result<Stat, FsError>
         ensures reads { OnlyReads D.SectorDevice.state self.old self.new }
         ensures answer { IfOk result (λ stat. TellsStat D.SectorDevice.state self.old self.new number stat) }
         ensures missing { IfErr result (λ fault. LacksObject D.SectorDevice.state self.old self.new number fault) }

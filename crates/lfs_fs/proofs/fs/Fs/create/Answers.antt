@@ -5,7 +5,7 @@ use Rattle.lfs_fs.specs.Seen.{answer_by, seen}
 use Rattle.lfs_fs.proofs.CreateEnds.{bytes_of, reaches}
 use Rattle.lfs_fs.proofs.NamingEnds.{begin_ends, from_begin, path_ends}
 use Rattle.lfs_fs.proofs.PathSteps.{create_refused}
-use Rattle.lfs_fs.proofs.StoreCalls.{each_drafted, ends_refused, log_reads, same_drafted, same_totals}
+use Rattle.lfs_fs.proofs.StoreCalls.{each_drafted, flat_ends_refused, log_reads, same_drafted, same_totals}
 use Rattle.lfs_fs.proofs.fs.Fs.create.Goals as goal
 
 pub returns-in-Err : goal.returns-in-Err
@@ -26,4 +26,4 @@ returns-in-Err-parent g c =
     let err = c.in-Err-parent.ensures in
     path_ends g.D.SectorDevice.state g.met.D.SectorDevice.lawful c.args.self.now c.begin.new.self c.in-Ok.ensures.done c.parent.new.files (log_reads g.D.SectorDevice.state c.begin.new.self.store c.parent.new.files err.reads) err.reads.saved (same_totals g.D.SectorDevice.state c.begin.new.self.store c.parent.new.files err.reads)
     (Parents c.args.path.now) (Create c.args.path.now) refl refl (λ N s r walk. create_refused N s c.args.path.now r walk)
-    c.in-Err-parent.fault (λ e. err.halted (ap Err e)) (λ e. err.other (ap Err e)) (ends_refused g.D.SectorDevice.state c.begin.new.self.store c.parent.new.files (Parents c.args.path.now) c.in-Err-parent.fault err.refused) c.from.result c.from.ensures
+    c.in-Err-parent.fault (λ e. err.halted (ap Err e)) (λ e. err.other (ap Err e)) (flat_ends_refused g.D.SectorDevice.state c.begin.new.self.store c.parent.new.files (Parents c.args.path.now) c.in-Err-parent.fault err.refused) c.from.result c.from.ensures

@@ -1,24 +1,40 @@
-use Rattle.std.proofs.Common.{ap, refl, Err}
-use Rattle.lfs_model.specs.Call.{Open}
-use Rattle.lfs_path.specs.Walking.{Resolves}
-use Rattle.lfs_fs.proofs.NamingEnds.{begin_ends, open_ends, path_ends}
+use Rattle.std.proofs.Common.{true, ap, refl, Err}
+use Rattle.lfs_model.specs.Call.{Handle, Open, Refuse}
+use Rattle.lfs_path.specs.Reaching.{EndsResolve}
+use Rattle.lfs_fs.specs.declared.fs.Fs.{Fs}
+use Rattle.lfs_fs.specs.Refusals.{refusal_of}
+use Rattle.lfs_fs.specs.Seen.{answer_by, seen}
+use Rattle.lfs_fs.proofs.OpenEnds.{open_ends}
+use Rattle.lfs_fs.proofs.PathEnds.{path_without, store_reads}
 use Rattle.lfs_fs.proofs.PathSteps.{open_refused}
-use Rattle.lfs_fs.proofs.StoreCalls.{each_drafted, ends_refused, log_reads, same_totals}
+use Rattle.lfs_fs.proofs.ReadingEnds.{begun_running, begun_serves, halted_serves}
+use Rattle.lfs_fs.proofs.StoreCalls.{each_drafted, ends_refused, log_reads, same_drafted, same_totals}
 use Rattle.lfs_fs.proofs.fs.Fs.open.Goals as goal
 
 pub returns-in-Err : goal.returns-in-Err
 returns-in-Err g c =
-    begin_ends g.D.SectorDevice.state g.met.D.SectorDevice.lawful c.args.self.now c.begin.new.self (Open c.args.path.now) c.in-Err.fault c.in-Err.ensures.same c.in-Err.ensures.halted c.in-Err.ensures.fault
+    halted_serves g.D.SectorDevice.state c.args.self.now c.begin.new.self (Open c.args.path.now) c.in-Err.fault (g.met.D.SectorDevice.lawful c.args.self.now.store.log.device) c.in-Err.ensures.same c.in-Err.ensures.halted
+    c.in-Err.ensures.fault
 
 pub returns-in-Ok-resolve : goal.returns-in-Ok-resolve
 returns-in-Ok-resolve g c =
-    let ok = c.in-Ok-resolve.ensures in
-    open_ends g.D.SectorDevice.state g.met.D.SectorDevice.lawful c.args.self.now c.begin.new.self c.in-Ok.ensures.done c.resolve.new.files (log_reads g.D.SectorDevice.state c.begin.new.self.store c.resolve.new.files ok.reads) ok.reads.saved (same_totals g.D.SectorDevice.state c.begin.new.self.store c.resolve.new.files ok.reads)
-    c.args.path.now c.in-Ok-resolve.number (each_drafted g.D.SectorDevice.state c.begin.new.self.store c.resolve.new.files _ ok.answer) c.open_number.new.self c.open_number.result c.open_number.ensures.opened c.open_number.ensures.refused
+    let state = g.D.SectorDevice.state in
+    let begun = c.in-Ok.ensures.done in
+    let walk = c.in-Ok-resolve.ensures in
+    let mid : Fs g.row.D.Denot = record { alloc = c.begin.new.self.alloc; store = c.resolve.new.files; handles = c.begin.new.self.handles } in
+    let first = store_reads state c.begin.new.self mid (log_reads state c.begin.new.self.store c.resolve.new.files walk.reads) walk.reads.draft walk.reads.saved (same_totals state c.begin.new.self.store c.resolve.new.files walk.reads) (same_drafted state c.begin.new.self.store c.resolve.new.files walk.reads) refl in
+    begun_serves state c.args.self.now c.begin.new.self (seen c.open_number.new.self) (Open c.args.path.now) (answer_by Handle c.open_number.result) begun
+    (open_ends state g.met.D.SectorDevice.lawful c.begin.new.self mid (begun_running state c.args.self.now c.begin.new.self begun) begun.empty first c.args.path.now
+    c.in-Ok-resolve.number (each_drafted state c.begin.new.self.store c.resolve.new.files _ walk.answer) c.open_number.new.self c.open_number.result c.open_number.ensures.opened c.open_number.ensures.refused)
 
 pub returns-in-Err-resolve : goal.returns-in-Err-resolve
 returns-in-Err-resolve g c =
-    let err = c.in-Err-resolve.ensures in
-    path_ends g.D.SectorDevice.state g.met.D.SectorDevice.lawful c.args.self.now c.begin.new.self c.in-Ok.ensures.done c.resolve.new.files (log_reads g.D.SectorDevice.state c.begin.new.self.store c.resolve.new.files err.reads) err.reads.saved (same_totals g.D.SectorDevice.state c.begin.new.self.store c.resolve.new.files err.reads)
-    (Resolves c.args.path.now) (Open c.args.path.now) refl refl (λ N s r walk. open_refused N s c.args.path.now r walk)
-    c.in-Err-resolve.fault (λ e. err.halted (ap Err e)) (λ e. err.other (ap Err e)) (ends_refused g.D.SectorDevice.state c.begin.new.self.store c.resolve.new.files (Resolves c.args.path.now) c.in-Err-resolve.fault err.refused) c.from.result c.from.ensures
+    let state = g.D.SectorDevice.state in
+    let begun = c.in-Ok.ensures.done in
+    let walk = c.in-Err-resolve.ensures in
+    let mid : Fs g.row.D.Denot = record { alloc = c.begin.new.self.alloc; store = c.resolve.new.files; handles = c.begin.new.self.handles } in
+    let first = store_reads state c.begin.new.self mid (log_reads state c.begin.new.self.store c.resolve.new.files walk.reads) walk.reads.draft walk.reads.saved (same_totals state c.begin.new.self.store c.resolve.new.files walk.reads) (same_drafted state c.begin.new.self.store c.resolve.new.files walk.reads) refl in
+    begun_serves state c.args.self.now c.begin.new.self (seen mid) (Open c.args.path.now) (Refuse (refusal_of c.from.result)) begun
+    (path_without state c.begin.new.self mid (g.met.D.SectorDevice.lawful c.begin.new.self.store.log.device) (begun_running state c.args.self.now c.begin.new.self begun) begun.empty first
+    (EndsResolve c.args.path.now true) (Open c.args.path.now) refl refl refl (λ N s r w. open_refused N s c.args.path.now r w)
+    c.in-Err-resolve.fault c.from.result c.from.ensures (ends_refused state c.begin.new.self.store c.resolve.new.files (EndsResolve c.args.path.now true) c.in-Err-resolve.fault walk.refused) (λ e. walk.halted (ap Err e)) (λ e. walk.other (ap Err e)))

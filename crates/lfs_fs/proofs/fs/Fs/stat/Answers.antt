@@ -1,11 +1,12 @@
-use Rattle.std.proofs.Common.{ap, refl, Err}
+use Rattle.std.proofs.Common.{true, ap, refl, Err}
 use Rattle.lfs_model.specs.Call.{StatOf, Status, Refuse}
-use Rattle.lfs_path.specs.Walking.{Resolves}
+use Rattle.lfs_path.specs.Reaching.{EndsResolve}
 use Rattle.lfs_fs.specs.declared.fs.Fs.{Fs}
 use Rattle.lfs_fs.specs.Answers.{status_of}
 use Rattle.lfs_fs.specs.Refusals.{refusal_of}
 use Rattle.lfs_fs.specs.Seen.{answer_by, seen}
-use Rattle.lfs_fs.proofs.PathEnds.{stat_ends, stat_without, store_reads}
+use Rattle.lfs_fs.proofs.PathEnds.{path_without, stat_ends, store_reads}
+use Rattle.lfs_fs.proofs.PathSteps.{stat_refused}
 use Rattle.lfs_fs.proofs.ReadingEnds.{begun_running, begun_serves, halted_serves}
 use Rattle.lfs_fs.proofs.StoreCalls.{each_drafted, ends_refused, log_reads, same_drafted, same_totals}
 use Rattle.lfs_fs.proofs.fs.Fs.stat.Goals as goal
@@ -34,5 +35,6 @@ returns-in-Err-resolve g c =
     let mid : Fs g.row.D.Denot = record { alloc = c.begin.new.self.alloc; store = c.resolve.new.files; handles = c.begin.new.self.handles } in
     let first = store_reads state c.begin.new.self mid (log_reads state c.begin.new.self.store c.resolve.new.files walk.reads) walk.reads.draft walk.reads.saved (same_totals state c.begin.new.self.store c.resolve.new.files walk.reads) (same_drafted state c.begin.new.self.store c.resolve.new.files walk.reads) refl in
     begun_serves state c.args.self.now c.begin.new.self (seen mid) (StatOf c.args.path.now) (Refuse (refusal_of c.from.result)) begun
-    (stat_without state c.begin.new.self mid (g.met.D.SectorDevice.lawful c.begin.new.self.store.log.device) (begun_running state c.args.self.now c.begin.new.self begun) begun.empty first c.args.path.now
-    c.in-Err-resolve.fault c.from.result c.from.ensures (ends_refused state c.begin.new.self.store c.resolve.new.files (Resolves c.args.path.now) c.in-Err-resolve.fault walk.refused) (λ e. walk.halted (ap Err e)) (λ e. walk.other (ap Err e)))
+    (path_without state c.begin.new.self mid (g.met.D.SectorDevice.lawful c.begin.new.self.store.log.device) (begun_running state c.args.self.now c.begin.new.self begun) begun.empty first
+    (EndsResolve c.args.path.now true) (StatOf c.args.path.now) refl refl refl (λ N s r w. stat_refused N s c.args.path.now r w)
+    c.in-Err-resolve.fault c.from.result c.from.ensures (ends_refused state c.begin.new.self.store c.resolve.new.files (EndsResolve c.args.path.now true) c.in-Err-resolve.fault walk.refused) (λ e. walk.halted (ap Err e)) (λ e. walk.other (ap Err e)))
