@@ -11,3 +11,4 @@ pub mod TreeNames
 pub mod ReachStages
 pub mod TreeStages
 pub mod CheckSteps
+pub mod VolumeEnds

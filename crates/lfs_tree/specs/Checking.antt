@@ -7,12 +7,15 @@ use Rattle.lfs_model.specs.Decodes.{IsSized}
 use Rattle.lfs_model.specs.Device.{DeviceState}
 use Rattle.lfs_model.specs.Stands.{LogMap, StandsAt}
 use Rattle.lfs_model.specs.Totals.{IsCounted}
-use Rattle.lfs_model.specs.TreeOf.{AreLinks, AreReached, AreSlots, AreTexts, HasRoom}
+use Rattle.lfs_model.specs.Tree.{State}
+use Rattle.lfs_model.specs.TreeOf.{AreLinks, AreReached, AreSlots, AreTexts, HasRoom, Stands, TreeOf, tree_in}
+use Rattle.lfs_model.specs.Volume.{IsTooSmall, IsWithoutCheckpoint}
 use Rattle.lfs_files.specs.declared.header.Header.{Header}
 use Rattle.lfs_verify.specs.declared.fault.MountFault.{MountFault}
 use Rattle.lfs_verify.specs.declared.fault.MountFault.TheVariants.{NoMemory, Device, TooSmall, NoCheckpoint, Damaged}
 use Rattle.lfs_verify.specs.declared.tables.Tables.{Tables}
-use Rattle.lfs_verify.specs.Verified.{IsDamagedIn}
+use Rattle.lfs_verify.specs.Loading.{HasTables}
+use Rattle.lfs_verify.specs.Verified.{IsDamagedIn, IsLogDamage}
 use Rattle.lfs_tree.specs.declared.tables.NameTables.{NameTables}
 use Rattle.lfs_tree.specs.Naming.{AreEmpty}
 use Rattle.lfs_tree.specs.Objects.{AreNamed}
@@ -61,3 +64,27 @@ IsRefusedTree old new = IsFaultOf (old.failures < new.failures) (IsDamagedTree o
 -- Of each log map that the device holds, and whose tables these are, this is so, with tables of names that were empty.
 abbrev pub OfTables : DeviceState → DeviceState → Tables → NameTables → (CheckpointValue → LogMap → Type 0) → Type 0
 OfTables old new t names P = (k : CheckpointValue) (m : LogMap) → Sees old new k m → IsOfLog old.content k m t → AreEmpty names → P k m
+
+-- ---- a whole volume
+
+-- The content stands for a log map that has its tree, and the tables are those of that map.
+pub record HasTree (c : Content) (t : Tables) : Type 0 where
+  pub tables : HasTables c t
+  pub tree : TreeOf tables.checkpoint.segments tables.log (tree_in tables.log)
+
+-- What a code of damage says of a volume: the first of the stages 1 to 14 that fails, or, where the stages 1 to 9 hold, that too few segments are clean.
+pub data IsVolumeDamage (c : Content) (code : ℕ) : Type 0 where
+  of_log : IsLogDamage c code → IsVolumeDamage c code
+  of_tree : IsDamagedTree c code → IsVolumeDamage c code
+
+-- why a volume is refused, by fault: a call of the device failed, or this is so of the content that was there
+abbrev pub IsRefusedVolume : DeviceState → DeviceState → MountFault → Type 0
+IsRefusedVolume old new NoMemory = Unit {0}
+IsRefusedVolume old new Device = new.keeps_model → old.failures < new.failures
+IsRefusedVolume old new TooSmall = new.keeps_model → IsTooSmall old.content
+IsRefusedVolume old new NoCheckpoint = new.keeps_model → IsWithoutCheckpoint old.content
+IsRefusedVolume old new (Damaged code) = new.keeps_model → IsVolumeDamage old.content code
+
+-- where the content stands for a tree, a call of the device failed
+abbrev pub IsTreeFault : DeviceState → DeviceState → Type 0
+IsTreeFault old new = (s : State) → new.keeps_model → Stands old.content s → old.failures < new.failures

@@ -12,6 +12,8 @@ pub mod slot_stage;
 mod slots;
 pub mod tables;
 pub mod texts;
+mod volume;
 
 pub use check::check_tree;
 pub use fault::CheckFault;
+pub use volume::verify_tree;
