@@ -100,8 +100,8 @@ fn what_is_not_synced_is_gone(rt: HostRuntime) -> Result<(), Fail> {
 fn a_failed_sync_halts_until_the_next_mount(rt: HostRuntime) -> Result<(), Fail> {
     for left in [Left::Old, Left::New, Left::Bad] {
         let mut device = formatted(rt.alloc(), 64)?;
-        // The mount syncs twice, and a commit before and after its checkpoint.
-        device.fail(DeviceCall::Sync, 3);
+        // The mount syncs once, and a commit before and after its checkpoint.
+        device.fail(DeviceCall::Sync, 2);
         let steps = [
             Step::Create(b"/a", Ok(0)),
             Step::Sync(Err(FsError::Halted)),
