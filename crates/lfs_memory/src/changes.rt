@@ -88,7 +88,6 @@ impl Changes {
 
 /// How many blocks may come into memory as the blocks above these are brought there.
 pub fn ways_to(blocks: &[BlockEdit]) -> usize
-    requires { length blocks.now ≤ 456 }
     ensures value { result ≡ ways blocks.now }
     ensures most { result ≤ 3 * length blocks.now }
 {

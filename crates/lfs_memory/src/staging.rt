@@ -24,7 +24,6 @@ use lfs_files::LogFault;
 /// Whether memory has room for a batch.
 pub fn has_room(memory: &LogMemory, changes: &Changes) -> bool
     requires memory { IsMemory memory.now }
-    requires limit { memory.now.dirty.capacity.limit ≤ 456 }
     ensures few { length memory.now.dirty.blocks ≤ memory.now.dirty.capacity.limit }
     ensures room { IsTrue result → length memory.now.dirty.blocks + room_for changes.now ≤ memory.now.dirty.capacity.limit }
     ensures lacks { IsFalse result → LacksRoom memory.now (room_for changes.now) }
@@ -109,7 +108,6 @@ fn stage_batch<D: SectorDevice>(
     counts: &mut SegmentCounts,
 ) -> Result<(), LogFault>
     requires memory { IsMemory memory.old }
-    requires limit { memory.old.dirty.capacity.limit ≤ 456 }
     ensures done { OnOk result (Stages (D.state device.old) (D.state device.new) memory.old memory.new changes.now.loss changes.now.headers.items changes.now.blocks.items) }
     ensures refused { OnErr result (Refuses (D.state device.old) (D.state device.new) memory.old memory.new changes.now.loss changes.now.headers.items changes.now.blocks.items) }
     ensures full { IsErrOf result LogFault.Full → LacksRoom memory.old (room_for changes.now) }
@@ -140,13 +138,12 @@ pub fn stage_tight<D: SectorDevice>(
     counts: &mut SegmentCounts,
 ) -> Result<(), LogFault>
     requires memory { IsMemory memory.old }
-    requires limit { memory.old.dirty.capacity.limit ≤ 456 }
     ensures done { OnOk result (StagesTight (D.state device.old) (D.state device.new) memory.old memory.new changes.now) }
     ensures refused { OnErr result (RefusesTight (D.state device.old) (D.state device.new) memory.old memory.new changes.now) }
     ensures full { IsErrOf result LogFault.Full → LacksRoom memory.old (room_for changes.now) }
     ensures failed { IsErrOf result LogFault.Device → IsBatchExcused (D.state device.old) (D.state device.new) memory.old changes.now.loss changes.now.headers.items changes.now.blocks.items }
     ensures other { IsErrOf result LogFault.Halted → ⊥ }
-    ensures few { length memory.new.dirty.blocks ≤ 456 }
+    ensures few { length memory.new.dirty.blocks ≤ memory.new.dirty.capacity.limit }
     ensures no_failure { OnOk result ((D.state device.new).failures ≡ (D.state device.old).failures) }
 {
     let staged = stage_batch(device, memory, changes, counts);
