@@ -1,9 +1,9 @@
 // Rows of commands over image files and over volumes in memory, carried out one after another.
 use crate::command;
 use std::alloc::{AllocError, Global};
-use std::fs::File;
+use std::fs::{File, Permissions};
 use std::io::Write;
-use std::os::unix::fs::FileExt;
+use std::os::unix::fs::{FileExt, PermissionsExt};
 use std::process::Abort;
 use std::rt::Files;
 use std::{fs, io};
@@ -11,8 +11,10 @@ use std::{fs, io};
 /// What a command line has to say.
 #[derive(Clone, Copy)]
 enum Said<'a> {
-    /// These bytes on standard output alone.
+    /// These bytes on standard output, and a text on standard error exactly where the status isn't 0.
     Reply(&'a [u8]),
+    /// These bytes on standard output, and these on standard error.
+    Tells(&'a [u8], &'a [u8]),
     /// A text on standard output alone.
     Help,
     /// A text on standard error alone.
@@ -20,9 +22,10 @@ enum Said<'a> {
 }
 
 impl Said<'_> {
-    fn is(self, output: &[u8], errors: &[u8]) -> bool {
+    fn is(self, status: u8, output: &[u8], errors: &[u8]) -> bool {
         match self {
-            Said::Reply(reply) => output == reply && errors.is_empty(),
+            Said::Reply(reply) => output == reply && errors.is_empty() == (status == 0),
+            Said::Tells(reply, text) => output == reply && errors == text,
             Said::Help => !output.is_empty() && errors.is_empty(),
             Said::Fault => output.is_empty() && !errors.is_empty(),
         }
@@ -51,6 +54,10 @@ enum Step<'a> {
     Same(&'a str, &'a str),
     Lacks(&'a str),
     Remove(&'a str),
+    /// Takes the lock of a file while such command lines are read, each of which ends and speaks so.
+    Locked(&'a str, &'a [&'a str], u8, Said<'a>),
+    /// Lets nobody write a file.
+    Protect(&'a str),
 }
 
 fn words(alloc: Global, line: &str) -> Result<Vec<String>, AllocError> {
@@ -83,7 +90,7 @@ fn says<R: Files<File = File> + AllocGlobal>(
         &mut output,
         &mut errors,
     );
-    found == status && said.is(output.as_slice(), errors.as_slice())
+    found == status && said.is(status, output.as_slice(), errors.as_slice())
 }
 
 fn each_says<R: Files<File = File> + AllocGlobal>(
@@ -185,6 +192,19 @@ fn same<R: Files<File = File> + AllocGlobal>(rt: &R, one: &str, other: &str) -> 
     }
 }
 
+fn locked<R: Files<File = File> + AllocGlobal>(
+    rt: &R,
+    path: &str,
+    lines: &[&str],
+    status: u8,
+    said: Said<'_>,
+) -> bool {
+    let Ok(file) = File::open(rt, path) else {
+        return false;
+    };
+    file.try_lock().is_ok() && each_says(rt, lines, b"space\n", status, said)
+}
+
 fn is_well<R: Files<File = File> + AllocGlobal>(rt: &R, step: Step<'_>) -> bool {
     match step {
         Step::Says(lines, input, status, said) => each_says(rt, lines, input, status, said),
@@ -196,6 +216,10 @@ fn is_well<R: Files<File = File> + AllocGlobal>(rt: &R, step: Step<'_>) -> bool 
         Step::Same(one, other) => same(rt, one, other),
         Step::Lacks(path) => matches!(fs::exists(rt, path), Ok(false)),
         Step::Remove(path) => fs::remove_file(rt, path).is_ok(),
+        Step::Locked(path, lines, status, said) => locked(rt, path, lines, status, said),
+        Step::Protect(path) => {
+            fs::set_permissions(rt, path, Permissions::from_mode(0o444)).is_ok()
+        }
     }
 }
 
@@ -574,6 +598,7 @@ const LINES: &[Step] = &[
         &[
             "lfs --help",
             "lfs -h",
+            "lfs --version",
             "lfs mkfs --help",
             "lfs run -h",
             "lfs sim -h",
@@ -589,6 +614,68 @@ const LINES: &[Step] = &[
 #[test]
 fn command_lines(rt: HostRuntime) {
     want(&rt, LINES);
+}
+
+const IN_USE: Said = Said::Tells(
+    b"err Image\n",
+    b"lfs: e.img: it is in use: another program holds its lock\n",
+);
+
+// What writes an image is refused while another holds its lock, and what only looks at it isn't.
+const MEDIA: &[Step] = &[
+    Step::Says(&["lfs mkfs e.img --segments 64"], b"", 0, OK),
+    Step::Change("e.want", 0, &[]),
+    Step::Change("e.want", LEN, NEW),
+    Step::Locked(
+        "e.img",
+        &["lfs run e.img", "lfs mkfs e.img --segments 72"],
+        1,
+        IN_USE,
+    ),
+    Step::Locked("e.img", &["lfs mount e.img"], 0, EMPTY),
+    Step::Same("e.img", "e.want"),
+    Step::Protect("e.img"),
+    Step::Says(&["lfs mount e.img"], b"", 0, EMPTY),
+    Step::Same("e.img", "e.want"),
+    Step::Remove("e.img"),
+    Step::Remove("e.want"),
+    Step::Says(
+        &[
+            "lfs mount .",
+            "lfs run .",
+            "lfs mkfs . --segments 64",
+            "lfs mkfs --force . --segments 64",
+        ],
+        b"space\n",
+        1,
+        Said::Tells(b"err Image\n", b"lfs: .: it is a folder\n"),
+    ),
+    Step::Says(
+        &[
+            "lfs mount /dev/null",
+            "lfs run /dev/null",
+            "lfs mkfs /dev/null --segments 64",
+            "lfs mkfs /dev/null --segments 64 --force",
+        ],
+        b"space\n",
+        1,
+        Said::Tells(
+            b"err Image\n",
+            b"lfs: /dev/null: it is neither a regular file nor a block device\n",
+        ),
+    ),
+    Step::Says(
+        &["lfs mount none.img", "lfs run none.img"],
+        b"space\n",
+        1,
+        Said::Tells(b"err Image\n", b"lfs: none.img: there is no such file\n"),
+    ),
+    Step::Lacks("none.img"),
+];
+
+#[test]
+fn images_that_others_use(rt: HostRuntime) {
+    want(&rt, MEDIA);
 }
 
 // The sync makes seven writes: a summary, the root's slots, two inodes, a block of the inode map, one of usage, the checkpoint.

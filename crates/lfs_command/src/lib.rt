@@ -3,7 +3,10 @@
 
 mod commands;
 mod fault;
+mod grammar;
 mod image;
+mod printing;
+mod reason;
 mod request;
 mod simulation;
 
