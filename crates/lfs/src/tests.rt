@@ -42,13 +42,15 @@ enum Step<'a> {
     Says(&'a [&'a str], &'a [u8], u8, Said<'a>),
     /// A command line that is given so many letters, its exit status, and what it says.
     Reads(&'a str, usize, u8, Said<'a>),
+    /// A command line that prints so many zeros, and these bytes behind them.
+    Copies(&'a str, usize, &'a [u8]),
     /// Makes the files /y1, /y2, .. up to this number by a command line, each in a mount of its own.
     Fills(&'a str, u32),
     /// Gives a file this length and these pieces. Where it isn't there it is made; what is new in it is zero.
     Change(&'a str, u64, &'a [Piece<'a>]),
     /// Makes a file of so many sectors of noise.
     Noise(&'a str, u32),
-    /// Changes a byte in a copy of `whole.img`, at a place of a sector: `mount` refuses the copy with this reply.
+    /// Changes a byte in a copy of `whole.img`, at a place of a sector: `mount` and `check` refuse the copy with this reply.
     Damage(u64, u64, u8, &'a [u8]),
     /// The files have one length, and the same bytes as far as a volume of 64 segments goes.
     Same(&'a str, &'a str),
@@ -121,6 +123,18 @@ fn reads<R: Files<File = File> + AllocGlobal>(
     }
 }
 
+fn copies<R: Files<File = File> + AllocGlobal>(
+    rt: &R,
+    line: &str,
+    zeros: usize,
+    last: &[u8],
+) -> bool {
+    let Ok(mut wanted) = vec![in rt.alloc(); 0; zeros] else {
+        return false;
+    };
+    wanted.extend_from_slice(last).is_ok() && says(rt, line, b"", 0, Said::Reply(wanted.as_slice()))
+}
+
 fn fills<R: Files<File = File> + AllocGlobal>(rt: &R, line: &str, last: u32) -> bool {
     for number in 1..=last {
         let Ok(script) = format!(in rt.alloc(); "create /y{number}\nsync\n") else {
@@ -171,10 +185,10 @@ fn is_refused<R: Files<File = File> + AllocGlobal>(
     damage: Piece<'_>,
     reply: &[u8],
 ) -> bool {
-    let line = "lfs mount damaged.img";
+    let lines = ["lfs mount damaged.img", "lfs check damaged.img"];
     fs::copy(rt, "whole.img", "damaged.img").is_ok()
         && change(rt, "damaged.img", LEN, &[damage]).is_ok()
-        && says(rt, line, b"", 1, Said::Reply(reply))
+        && each_says(rt, &lines, b"", 1, Said::Reply(reply))
 }
 
 // The length of an image of 64 segments.
@@ -209,6 +223,7 @@ fn is_well<R: Files<File = File> + AllocGlobal>(rt: &R, step: Step<'_>) -> bool 
     match step {
         Step::Says(lines, input, status, said) => each_says(rt, lines, input, status, said),
         Step::Reads(line, letters, status, said) => reads(rt, line, letters, status, said),
+        Step::Copies(line, zeros, last) => copies(rt, line, zeros, last),
         Step::Fills(line, last) => fills(rt, line, last),
         Step::Change(path, len, pieces) => change(rt, path, len, pieces).is_ok(),
         Step::Noise(path, sectors) => write_noise(rt, path, sectors).is_ok(),
@@ -486,10 +501,14 @@ const ONE_BYTE: &[Piece] = &[
     (8, 0, &[0x61]),
 ];
 
+// What `check` says of a new volume of 64 segments.
+const NEW_SPACE: Said = Said::Reply(b"ok 64 0 1 727 3008\n");
+
 const DAMAGED: &[Step] = &[
     Step::Change("whole.img", 0, &[]),
     Step::Change("whole.img", LEN, NEW),
     Step::Says(&["lfs mount whole.img"], b"", 0, EMPTY),
+    Step::Says(&["lfs check whole.img"], b"", 0, NEW_SPACE),
     Step::Damage(1, 0, 0, b"err NoCheckpoint\n"),
     Step::Damage(5, 8, 1, b"err Damaged 1\n"),
     Step::Damage(2, 0, 4, b"err Damaged 2\n"),
@@ -587,6 +606,15 @@ const LINES: &[Step] = &[
             "lfs sim --segments 64 --stop 0 --left other",
             "lfs sim --segments 64 --stop 0 --left=",
             "lfs sim --segments 63 --stop 0 --left other",
+            "lfs check",
+            "lfs check kept.img /f",
+            "lfs tree",
+            "lfs info",
+            "lfs ls",
+            "lfs ls kept.img / /",
+            "lfs ls kept.img \\2f",
+            "lfs cat kept.img",
+            "lfs cat kept.img \\2F",
         ],
         ONE_FILE,
         2,
@@ -602,6 +630,7 @@ const LINES: &[Step] = &[
             "lfs mkfs --help",
             "lfs run -h",
             "lfs sim -h",
+            "lfs ls --help",
         ],
         b"",
         0,
@@ -676,6 +705,78 @@ const MEDIA: &[Step] = &[
 #[test]
 fn images_that_others_use(rt: HostRuntime) {
     want(&rt, MEDIA);
+}
+
+const NOT_THERE: Said = Said::Tells(
+    b"err NoEntry\n",
+    b"lfs: l.img: the volume has nothing of this name\n",
+);
+
+// Four blocks of data, three inodes, a leaf, and a block each of the inode map and of usage live in segment 1: ten. Segment 0 is clean again.
+const FULLNESS: Said = Said::Reply(
+    b"checkpoint 2\nsegments 64\nclean 63\ndata blocks 4\nmeta blocks 4\nneed 752\nlimit 3008\n\
+    live blocks of each segment:\n\
+    .2..............................................................\n",
+);
+
+// A file of more than one read, and one whose name is a word with an escape.
+const LOOKS: &[Step] = &[
+    Step::Says(&["lfs mkfs l.img --segments 64"], b"", 0, OK),
+    Step::Says(&["lfs check l.img"], b"", 0, NEW_SPACE),
+    Step::Says(&["lfs tree l.img"], b"", 0, Said::Reply(b"/\n")),
+    Step::Says(
+        &["lfs ls l.img", "lfs ls l.img /", "lfs ls l.img //"],
+        b"",
+        0,
+        Said::Reply(b""),
+    ),
+    Step::Says(
+        &["lfs run l.img"],
+        b"create /b\npwrite 0 0 0061ff\ncreate /a\\20c\nfill 1 65535 2 98\nsync\n",
+        0,
+        Said::Reply(b"ok 0\nok 3\nok 1\nok 2\nok\n"),
+    ),
+    Step::Says(
+        &["lfs tree l.img"],
+        b"",
+        0,
+        Said::Reply(b"/\n  a\\20c  65537\n  b  3\n"),
+    ),
+    Step::Says(
+        &["lfs ls l.img", "lfs ls l.img /"],
+        b"",
+        0,
+        Said::Reply(b"a\\20c\nb\n"),
+    ),
+    Step::Says(&["lfs ls l.img /a\\20c"], b"", 0, Said::Reply(b"/a\\20c\n")),
+    Step::Says(&["lfs cat l.img /b"], b"", 0, Said::Reply(b"\x00a\xff")),
+    Step::Copies("lfs cat l.img /a\\20c", 65_535, b"bb"),
+    Step::Says(&["lfs ls l.img /c", "lfs cat l.img /c"], b"", 1, NOT_THERE),
+    Step::Says(
+        &["lfs cat l.img /"],
+        b"",
+        1,
+        Said::Tells(b"err IsDir\n", b"lfs: l.img: this is a directory\n"),
+    ),
+    Step::Says(&["lfs info l.img"], b"", 0, FULLNESS),
+    Step::Remove("l.img"),
+    Step::Says(
+        &[
+            "lfs check none.img",
+            "lfs tree none.img",
+            "lfs info none.img",
+            "lfs ls none.img",
+            "lfs cat none.img /",
+        ],
+        b"",
+        1,
+        Said::Tells(b"err Image\n", b"lfs: none.img: there is no such file\n"),
+    ),
+];
+
+#[test]
+fn looks_at_a_volume(rt: HostRuntime) {
+    want(&rt, LOOKS);
 }
 
 // The sync makes seven writes: a summary, the root's slots, two inodes, a block of the inode map, one of usage, the checkpoint.

@@ -5,14 +5,15 @@ ghost use Rattle.lfs_model.specs.Device.{Carries};
 ghost use Rattle.lfs_device.specs.MemoryDevice.{device_state};
 ghost use Rattle.lfs_command.specs.Playing.{Plays};
 
+use crate::describing::describe;
 use crate::fault::{Ending, Fault, Refusal, Told};
-use crate::printing::{flush, print, refuse};
+use crate::looking::{Look, look_at, path_of, show};
+use crate::printing::{flush, print, put_count, refuse};
 use crate::request::{Action, Request, read_request};
 use crate::simulation::{Plan, read_plan};
 use crate::{image, simulation};
 use lfs_device::{Left, MemDevice, SectorDevice, ThisWorld, World};
-use lfs_script::fs::{Fs, TreeRow};
-use lfs_script::{Answer, ScriptEnd, put_number, put_reply, read_u32, use_and_stop, use_volume};
+use lfs_script::{ScriptEnd, read_u32, use_and_stop, use_volume};
 use std::alloc::{AllocError, Global};
 use std::fs::File;
 use std::io::{BufWriter, Read, Write};
@@ -40,33 +41,44 @@ fn mkfs<Here: World, R: Files<File = File>, W: Write>(
     }
 }
 
-// Prints the reply that has these rows.
-fn put_rows<W: Write>(rows: Vec<TreeRow>, output: &mut W) -> Result<(), Fault> {
-    match put_reply(output, &Ok(Answer::Tree(rows))) {
-        Ok(()) => flush(output),
-        Err(_) => Err(Fault::Output),
+// Looks at the volume of an image, at a path whose bytes these are.
+fn look_in<Here: World, R: Files<File = File>, W: Write>(
+    rt: &R,
+    alloc: Global,
+    image: &str,
+    look: Look<'_>,
+    path: &[u8],
+    output: &mut W,
+) -> Result<Ending, Fault> {
+    match image::mount::<Here, R>(rt, alloc, image) {
+        Ok(mut fs) => look_at(&mut fs, look, path, output),
+        Err(refusal) => refuse(output, refusal),
     }
 }
 
-// Prints a volume's tree.
-fn show<D: SectorDevice, W: Write>(fs: &mut Fs<D>, output: &mut W) -> Result<Ending, Fault> {
-    match fs.tree() {
-        Ok(rows) => {
-            put_rows(rows, output)?;
-            Ok(Ending::Done)
-        }
-        Err(refusal) => refuse(output, Refusal::Call(refusal)),
+// Looks at a volume. The spelling of a path comes before the image.
+fn look<Here: World, R: Files<File = File>, W: Write>(
+    rt: &R,
+    alloc: Global,
+    image: &str,
+    look: Look<'_>,
+    output: &mut W,
+) -> Result<Ending, Fault> {
+    match path_of(alloc, look) {
+        Ok(path) => look_in::<Here, R, W>(rt, alloc, image, look, path.as_slice(), output),
+        Err(fault) => Err(fault),
     }
 }
 
-fn mount<Here: World, R: Files<File = File>, W: Write>(
+// Describes the volume of an image.
+fn info<Here: World, R: Files<File = File>, W: Write>(
     rt: &R,
     alloc: Global,
     image: &str,
     output: &mut W,
 ) -> Result<Ending, Fault> {
     match image::mount::<Here, R>(rt, alloc, image) {
-        Ok(mut fs) => show(&mut fs, output),
+        Ok(fs) => describe(alloc, fs, output),
         Err(refusal) => refuse(output, refusal),
     }
 }
@@ -145,12 +157,7 @@ fn play_and_stop<I: Read, W: Write>(
 
 // Prints the number of writes that a device was asked for.
 fn print_writes<W: Write>(writes: u64, output: &mut W) -> Result<(), Fault> {
-    let Ok(()) = output.write_all(b"writes ") else {
-        return Err(Fault::Output);
-    };
-    let Ok(()) = put_number(output, writes) else {
-        return Err(Fault::Output);
-    };
+    put_count(output, b"writes ", writes)?;
     print(output, "\n")
 }
 
@@ -206,7 +213,8 @@ fn act<Here: World, R: Files<File = File>, I: Read, W: Write>(
         Action::Mkfs { segments, force } => {
             mkfs::<Here, R, W>(rt, image, segments, force, output)
         }
-        Action::Mount => mount::<Here, R, W>(rt, alloc, image, output),
+        Action::Info => info::<Here, R, W>(rt, alloc, image, output),
+        Action::Look(asked) => look::<Here, R, W>(rt, alloc, image, asked, output),
         Action::Run => run::<Here, R, I, W>(rt, alloc, image, input, output),
     }
 }

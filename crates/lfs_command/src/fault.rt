@@ -173,6 +173,8 @@ pub enum Fault {
     Stop,
     #[error("lfs: what a stop leaves is none of old, new and bad")]
     Left,
+    #[error("lfs: PATH is no word of the script language, whose escapes are a backslash and two digits")]
+    Path,
     #[error("lfs: standard input can't be read")]
     Input,
     #[error("lfs: standard output can't be written")]
@@ -187,7 +189,7 @@ impl Fault {
         ensures { (result ≡ 1) ⊎ (result ≡ 2) }
     {
         match self {
-            Fault::Line(_) | Fault::Segments | Fault::Stop | Fault::Left => 2,
+            Fault::Line(_) | Fault::Segments | Fault::Stop | Fault::Left | Fault::Path => 2,
             Fault::Input | Fault::Output | Fault::Memory(_) => 1,
         }
     }

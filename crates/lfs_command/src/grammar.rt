@@ -6,9 +6,14 @@ use std::alloc::{AllocError, Global};
 #[derive(Clone, Copy, PartialEq, Eq)]
 pub enum Verb {
     Mkfs,
+    Check,
     Mount,
     Run,
     Sim,
+    Ls,
+    Tree,
+    Cat,
+    Info,
 }
 
 /// How a parameter is given.
@@ -16,6 +21,8 @@ pub enum Verb {
 enum Form {
     /// A word in its place.
     Word,
+    /// A word in its place, which may be left out.
+    OptionalWord,
     /// An option with a value, which has to be given.
     Value,
     /// An option without a value.
@@ -46,6 +53,8 @@ struct Usage<'a> {
 
 pub const IMAGE: &str = "IMAGE";
 
+pub const PATH: &str = "PATH";
+
 pub const SEGMENTS: &str = "segments";
 
 pub const FORCE: &str = "force";
@@ -63,6 +72,20 @@ const THE_IMAGE: Parameter = Parameter {
     form: Form::Word,
     value: IMAGE,
     help: "The image file or block device that holds the volume",
+};
+
+const THE_PATH: Parameter = Parameter {
+    name: PATH,
+    form: Form::Word,
+    value: PATH,
+    help: "A path in the volume, as a word of the script language",
+};
+
+const A_PATH: Parameter = Parameter {
+    name: PATH,
+    form: Form::OptionalWord,
+    value: PATH,
+    help: "A path in the volume, as a word of the script language. Without one it is the root",
 };
 
 const THE_SEGMENTS: Parameter = Parameter {
@@ -103,6 +126,14 @@ const USAGES: &[Usage] = &[
         parameters: &[THE_IMAGE, THE_SEGMENTS, BY_FORCE],
     },
     Usage {
+        verb: Verb::Check,
+        name: "check",
+        about: "Check the whole volume, and print its segments and space",
+        details: "Check the whole volume, and print `ok N DATA META NEED LIMIT`: its segments, the \
+            blocks of its files, what a change may need of it, and the most that this may be.",
+        parameters: &[THE_IMAGE],
+    },
+    Usage {
         verb: Verb::Mount,
         name: "mount",
         about: "Print the tree as a script's reply",
@@ -126,12 +157,46 @@ const USAGES: &[Usage] = &[
             within write K, and print the number of writes and the tree that a mount finds then.",
         parameters: &[THE_SEGMENTS, THE_STOP, WHAT_IS_LEFT],
     },
+    Usage {
+        verb: Verb::Ls,
+        name: "ls",
+        about: "Print the names in a directory, or in the root",
+        details: "Print the names in a directory, one a line, as words of the script language, a \
+            directory's with a slash behind it. Of anything else the path itself is printed.",
+        parameters: &[THE_IMAGE, A_PATH],
+    },
+    Usage {
+        verb: Verb::Tree,
+        name: "tree",
+        about: "Print the tree for people, with sizes in bytes",
+        details: "Print the tree for people: a line for each name, indented below its directory, \
+            with the size in bytes.",
+        parameters: &[THE_IMAGE],
+    },
+    Usage {
+        verb: Verb::Cat,
+        name: "cat",
+        about: "Print the bytes of a file",
+        details: "Print the bytes of a file. Where the device fails behind the first bytes, the \
+            command ends with status 1 and prints no line between them.",
+        parameters: &[THE_IMAGE, THE_PATH],
+    },
+    Usage {
+        verb: Verb::Info,
+        name: "info",
+        about: "Print what the volume is, and how full each segment is",
+        details: "Print the number of the newest checkpoint, the segments and the space, and a \
+            picture with a sign for each segment: a dot for one with no live block, else 1 to 9 \
+            for up to 7 to 63 of them.",
+        parameters: &[THE_IMAGE],
+    },
 ];
 
 fn argument<'a>(alloc: Global, parameter: Parameter<'a>) -> Arg<'a> {
     let argument = Arg::new(alloc, parameter.name).help(parameter.help);
     match parameter.form {
         Form::Word => argument.required(true).action(ArgAction::Set),
+        Form::OptionalWord => argument.action(ArgAction::Set),
         Form::Value => argument
             .long(parameter.name)
             .value_name(parameter.value)

@@ -2,9 +2,11 @@
 #![tactic(auto)]
 
 mod commands;
+mod describing;
 mod fault;
 mod grammar;
 mod image;
+mod looking;
 mod printing;
 mod reason;
 mod request;

@@ -1,15 +1,20 @@
 //! What a command line asks for.
 use crate::fault::Fault;
-use crate::grammar::{FORCE, IMAGE, LEFT, SEGMENTS, STOP, Verb, program, verb_of};
+use crate::grammar::{FORCE, IMAGE, LEFT, PATH, SEGMENTS, STOP, Verb, program, verb_of};
+use crate::looking::Look;
 use clap::error::ErrorKind;
 use clap::{ArgMatches, Error};
 use std::alloc::{AllocError, Global};
 
-/// What is done with an image. Numbers are words still.
+/// The path that is listed where none is given.
+const ROOT: &str = "/";
+
+/// What is done with an image. Numbers and paths are words still.
 #[derive(Clone, Copy)]
 pub enum Action<'a> {
     Mkfs { segments: &'a str, force: bool },
-    Mount,
+    Look(Look<'a>),
+    Info,
     Run,
 }
 
@@ -51,10 +56,19 @@ fn on_image<'a>(action: Option<Action<'a>>, found: &ArgMatches<'a>) -> Option<Re
     })
 }
 
+fn looks<'a>(look: Look<'a>, found: &ArgMatches<'a>) -> Option<Request<'a>> {
+    on_image(Some(Action::Look(look)), found)
+}
+
 fn asked<'a>(verb: Verb, found: &ArgMatches<'a>) -> Option<Request<'a>> {
     match verb {
         Verb::Mkfs => on_image(read_mkfs(found), found),
-        Verb::Mount => on_image(Some(Action::Mount), found),
+        Verb::Mount => looks(Look::Mount, found),
+        Verb::Check => looks(Look::Check, found),
+        Verb::Tree => looks(Look::Tree, found),
+        Verb::Ls => looks(Look::List(found.get_str(PATH).unwrap_or(ROOT)), found),
+        Verb::Cat => looks(Look::Cat(found.get_str(PATH)?), found),
+        Verb::Info => on_image(Some(Action::Info), found),
         Verb::Run => on_image(Some(Action::Run), found),
         Verb::Sim => read_sim(found),
     }
