@@ -1,9 +1,9 @@
 // Rows of commands over image files and over volumes in memory, carried out one after another.
 use crate::command;
 use std::alloc::{AllocError, Global};
-use std::fs::File;
+use std::fs::{File, Permissions};
 use std::io::Write;
-use std::os::unix::fs::FileExt;
+use std::os::unix::fs::{FileExt, PermissionsExt};
 use std::process::Abort;
 use std::rt::Files;
 use std::{fs, io};
@@ -11,8 +11,10 @@ use std::{fs, io};
 /// What a command line has to say.
 #[derive(Clone, Copy)]
 enum Said<'a> {
-    /// These bytes on standard output alone.
+    /// These bytes on standard output, and a text on standard error exactly where the status isn't 0.
     Reply(&'a [u8]),
+    /// These bytes on standard output, and these on standard error.
+    Tells(&'a [u8], &'a [u8]),
     /// A text on standard output alone.
     Help,
     /// A text on standard error alone.
@@ -20,9 +22,10 @@ enum Said<'a> {
 }
 
 impl Said<'_> {
-    fn is(self, output: &[u8], errors: &[u8]) -> bool {
+    fn is(self, status: u8, output: &[u8], errors: &[u8]) -> bool {
         match self {
-            Said::Reply(reply) => output == reply && errors.is_empty(),
+            Said::Reply(reply) => output == reply && errors.is_empty() == (status == 0),
+            Said::Tells(reply, text) => output == reply && errors == text,
             Said::Help => !output.is_empty() && errors.is_empty(),
             Said::Fault => output.is_empty() && !errors.is_empty(),
         }
@@ -39,18 +42,24 @@ enum Step<'a> {
     Says(&'a [&'a str], &'a [u8], u8, Said<'a>),
     /// A command line that is given so many letters, its exit status, and what it says.
     Reads(&'a str, usize, u8, Said<'a>),
+    /// A command line that prints so many zeros, and these bytes behind them.
+    Copies(&'a str, usize, &'a [u8]),
     /// Makes the files /y1, /y2, .. up to this number by a command line, each in a mount of its own.
     Fills(&'a str, u32),
     /// Gives a file this length and these pieces. Where it isn't there it is made; what is new in it is zero.
     Change(&'a str, u64, &'a [Piece<'a>]),
     /// Makes a file of so many sectors of noise.
     Noise(&'a str, u32),
-    /// Changes a byte in a copy of `whole.img`, at a place of a sector: `mount` refuses the copy with this reply.
+    /// Changes a byte in a copy of `whole.img`, at a place of a sector: `mount` and `check` refuse the copy with this reply.
     Damage(u64, u64, u8, &'a [u8]),
     /// The files have one length, and the same bytes as far as a volume of 64 segments goes.
     Same(&'a str, &'a str),
     Lacks(&'a str),
     Remove(&'a str),
+    /// Takes the lock of a file while such command lines are read, each of which ends and speaks so.
+    Locked(&'a str, &'a [&'a str], u8, Said<'a>),
+    /// Lets nobody write a file.
+    Protect(&'a str),
 }
 
 fn words(alloc: Global, line: &str) -> Result<Vec<String>, AllocError> {
@@ -83,7 +92,7 @@ fn says<R: Files<File = File> + AllocGlobal>(
         &mut output,
         &mut errors,
     );
-    found == status && said.is(output.as_slice(), errors.as_slice())
+    found == status && said.is(status, output.as_slice(), errors.as_slice())
 }
 
 fn each_says<R: Files<File = File> + AllocGlobal>(
@@ -112,6 +121,18 @@ fn reads<R: Files<File = File> + AllocGlobal>(
         Ok(input) => says(rt, line, input.as_slice(), status, said),
         Err(_) => false,
     }
+}
+
+fn copies<R: Files<File = File> + AllocGlobal>(
+    rt: &R,
+    line: &str,
+    zeros: usize,
+    last: &[u8],
+) -> bool {
+    let Ok(mut wanted) = vec![in rt.alloc(); 0; zeros] else {
+        return false;
+    };
+    wanted.extend_from_slice(last).is_ok() && says(rt, line, b"", 0, Said::Reply(wanted.as_slice()))
 }
 
 fn fills<R: Files<File = File> + AllocGlobal>(rt: &R, line: &str, last: u32) -> bool {
@@ -164,10 +185,10 @@ fn is_refused<R: Files<File = File> + AllocGlobal>(
     damage: Piece<'_>,
     reply: &[u8],
 ) -> bool {
-    let line = "lfs mount damaged.img";
+    let lines = ["lfs mount damaged.img", "lfs check damaged.img"];
     fs::copy(rt, "whole.img", "damaged.img").is_ok()
         && change(rt, "damaged.img", LEN, &[damage]).is_ok()
-        && says(rt, line, b"", 1, Said::Reply(reply))
+        && each_says(rt, &lines, b"", 1, Said::Reply(reply))
 }
 
 // The length of an image of 64 segments.
@@ -185,10 +206,24 @@ fn same<R: Files<File = File> + AllocGlobal>(rt: &R, one: &str, other: &str) -> 
     }
 }
 
+fn locked<R: Files<File = File> + AllocGlobal>(
+    rt: &R,
+    path: &str,
+    lines: &[&str],
+    status: u8,
+    said: Said<'_>,
+) -> bool {
+    let Ok(file) = File::open(rt, path) else {
+        return false;
+    };
+    file.try_lock().is_ok() && each_says(rt, lines, b"space\n", status, said)
+}
+
 fn is_well<R: Files<File = File> + AllocGlobal>(rt: &R, step: Step<'_>) -> bool {
     match step {
         Step::Says(lines, input, status, said) => each_says(rt, lines, input, status, said),
         Step::Reads(line, letters, status, said) => reads(rt, line, letters, status, said),
+        Step::Copies(line, zeros, last) => copies(rt, line, zeros, last),
         Step::Fills(line, last) => fills(rt, line, last),
         Step::Change(path, len, pieces) => change(rt, path, len, pieces).is_ok(),
         Step::Noise(path, sectors) => write_noise(rt, path, sectors).is_ok(),
@@ -196,6 +231,10 @@ fn is_well<R: Files<File = File> + AllocGlobal>(rt: &R, step: Step<'_>) -> bool 
         Step::Same(one, other) => same(rt, one, other),
         Step::Lacks(path) => matches!(fs::exists(rt, path), Ok(false)),
         Step::Remove(path) => fs::remove_file(rt, path).is_ok(),
+        Step::Locked(path, lines, status, said) => locked(rt, path, lines, status, said),
+        Step::Protect(path) => {
+            fs::set_permissions(rt, path, Permissions::from_mode(0o444)).is_ok()
+        }
     }
 }
 
@@ -462,10 +501,14 @@ const ONE_BYTE: &[Piece] = &[
     (8, 0, &[0x61]),
 ];
 
+// What `check` says of a new volume of 64 segments.
+const NEW_SPACE: Said = Said::Reply(b"ok 64 0 1 727 3008\n");
+
 const DAMAGED: &[Step] = &[
     Step::Change("whole.img", 0, &[]),
     Step::Change("whole.img", LEN, NEW),
     Step::Says(&["lfs mount whole.img"], b"", 0, EMPTY),
+    Step::Says(&["lfs check whole.img"], b"", 0, NEW_SPACE),
     Step::Damage(1, 0, 0, b"err NoCheckpoint\n"),
     Step::Damage(5, 8, 1, b"err Damaged 1\n"),
     Step::Damage(2, 0, 4, b"err Damaged 2\n"),
@@ -563,6 +606,15 @@ const LINES: &[Step] = &[
             "lfs sim --segments 64 --stop 0 --left other",
             "lfs sim --segments 64 --stop 0 --left=",
             "lfs sim --segments 63 --stop 0 --left other",
+            "lfs check",
+            "lfs check kept.img /f",
+            "lfs tree",
+            "lfs info",
+            "lfs ls",
+            "lfs ls kept.img / /",
+            "lfs ls kept.img \\2f",
+            "lfs cat kept.img",
+            "lfs cat kept.img \\2F",
         ],
         ONE_FILE,
         2,
@@ -574,9 +626,11 @@ const LINES: &[Step] = &[
         &[
             "lfs --help",
             "lfs -h",
+            "lfs --version",
             "lfs mkfs --help",
             "lfs run -h",
             "lfs sim -h",
+            "lfs ls --help",
         ],
         b"",
         0,
@@ -589,6 +643,140 @@ const LINES: &[Step] = &[
 #[test]
 fn command_lines(rt: HostRuntime) {
     want(&rt, LINES);
+}
+
+const IN_USE: Said = Said::Tells(
+    b"err Image\n",
+    b"lfs: e.img: it is in use: another program holds its lock\n",
+);
+
+// What writes an image is refused while another holds its lock, and what only looks at it isn't.
+const MEDIA: &[Step] = &[
+    Step::Says(&["lfs mkfs e.img --segments 64"], b"", 0, OK),
+    Step::Change("e.want", 0, &[]),
+    Step::Change("e.want", LEN, NEW),
+    Step::Locked(
+        "e.img",
+        &["lfs run e.img", "lfs mkfs e.img --segments 72"],
+        1,
+        IN_USE,
+    ),
+    Step::Locked("e.img", &["lfs mount e.img"], 0, EMPTY),
+    Step::Same("e.img", "e.want"),
+    Step::Protect("e.img"),
+    Step::Says(&["lfs mount e.img"], b"", 0, EMPTY),
+    Step::Same("e.img", "e.want"),
+    Step::Remove("e.img"),
+    Step::Remove("e.want"),
+    Step::Says(
+        &[
+            "lfs mount .",
+            "lfs run .",
+            "lfs mkfs . --segments 64",
+            "lfs mkfs --force . --segments 64",
+        ],
+        b"space\n",
+        1,
+        Said::Tells(b"err Image\n", b"lfs: .: it is a folder\n"),
+    ),
+    Step::Says(
+        &[
+            "lfs mount /dev/null",
+            "lfs run /dev/null",
+            "lfs mkfs /dev/null --segments 64",
+            "lfs mkfs /dev/null --segments 64 --force",
+        ],
+        b"space\n",
+        1,
+        Said::Tells(
+            b"err Image\n",
+            b"lfs: /dev/null: it is neither a regular file nor a block device\n",
+        ),
+    ),
+    Step::Says(
+        &["lfs mount none.img", "lfs run none.img"],
+        b"space\n",
+        1,
+        Said::Tells(b"err Image\n", b"lfs: none.img: there is no such file\n"),
+    ),
+    Step::Lacks("none.img"),
+];
+
+#[test]
+fn images_that_others_use(rt: HostRuntime) {
+    want(&rt, MEDIA);
+}
+
+const NOT_THERE: Said = Said::Tells(
+    b"err NoEntry\n",
+    b"lfs: l.img: the volume has nothing of this name\n",
+);
+
+// Four blocks of data, three inodes, a leaf, and a block each of the inode map and of usage live in segment 1: ten. Segment 0 is clean again.
+const FULLNESS: Said = Said::Reply(
+    b"checkpoint 2\nsegments 64\nclean 63\ndata blocks 4\nmeta blocks 4\nneed 752\nlimit 3008\n\
+    live blocks of each segment:\n\
+    .2..............................................................\n",
+);
+
+// A file of more than one read, and one whose name is a word with an escape.
+const LOOKS: &[Step] = &[
+    Step::Says(&["lfs mkfs l.img --segments 64"], b"", 0, OK),
+    Step::Says(&["lfs check l.img"], b"", 0, NEW_SPACE),
+    Step::Says(&["lfs tree l.img"], b"", 0, Said::Reply(b"/\n")),
+    Step::Says(
+        &["lfs ls l.img", "lfs ls l.img /", "lfs ls l.img //"],
+        b"",
+        0,
+        Said::Reply(b""),
+    ),
+    Step::Says(
+        &["lfs run l.img"],
+        b"create /b\npwrite 0 0 0061ff\ncreate /a\\20c\nfill 1 65535 2 98\nsync\n",
+        0,
+        Said::Reply(b"ok 0\nok 3\nok 1\nok 2\nok\n"),
+    ),
+    Step::Says(
+        &["lfs tree l.img"],
+        b"",
+        0,
+        Said::Reply(b"/\n  a\\20c  65537\n  b  3\n"),
+    ),
+    Step::Says(
+        &["lfs ls l.img", "lfs ls l.img /"],
+        b"",
+        0,
+        Said::Reply(b"a\\20c\nb\n"),
+    ),
+    Step::Says(&["lfs ls l.img /a\\20c"], b"", 0, Said::Reply(b"/a\\20c\n")),
+    Step::Says(&["lfs cat l.img /b"], b"", 0, Said::Reply(b"\x00a\xff")),
+    Step::Copies("lfs cat l.img /a\\20c", 65_535, b"bb"),
+    Step::Says(&["lfs ls l.img /c", "lfs cat l.img /c"], b"", 1, NOT_THERE),
+    Step::Says(
+        &["lfs cat l.img /"],
+        b"",
+        1,
+        Said::Tells(b"err IsDir\n", b"lfs: l.img: this is a directory\n"),
+    ),
+    Step::Says(&["lfs info l.img"], b"", 0, FULLNESS),
+    Step::Remove("l.img"),
+    Step::Says(
+        &[
+            "lfs check none.img",
+            "lfs tree none.img",
+            "lfs info none.img",
+            "lfs ls none.img",
+            "lfs cat none.img /",
+        ],
+        b"",
+        1,
+        Said::Tells(b"err Image\n", b"lfs: none.img: there is no such file\n"),
+    ),
+];
+
+#[test]
+fn looks_at_a_volume(rt: HostRuntime) {
+    want(&rt, LOOKS);
 }
 
 // The sync makes seven writes: a summary, the root's slots, two inodes, a block of the inode map, one of usage, the checkpoint.

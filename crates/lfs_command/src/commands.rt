@@ -1,141 +1,119 @@
 //! The commands, over words and streams that are handed in.
-ghost use Rattle.std.specs.Prelude.{◌≡◌, ◌≤◌, IfOk};
+ghost use Rattle.std.specs.Prelude.{◌≡◌, ◌≤◌};
 ghost use Rattle.std.specs.Io.KnownBytes.{Keeps};
+ghost use Rattle.lfs_model.specs.Device.{Carries};
 ghost use Rattle.lfs_device.specs.MemoryDevice.{device_state};
 ghost use Rattle.lfs_command.specs.Playing.{Plays};
 
-use crate::fault::{Fault, Refusal};
-use crate::request::{Request, read_request};
+use crate::describing::describe;
+use crate::fault::{Ending, Fault, Refusal, Told};
+use crate::looking::{Look, look_at, path_of, show};
+use crate::printing::{flush, print, put_count, refuse};
+use crate::request::{Action, Request, read_request};
 use crate::simulation::{Plan, read_plan};
 use crate::{image, simulation};
 use lfs_device::{Left, MemDevice, SectorDevice, ThisWorld, World};
-use lfs_script::fs::Fs;
-use lfs_script::{Answer, ScriptEnd, put_reply, read_u32, use_and_stop, use_volume};
+use lfs_script::{ScriptEnd, read_u32, use_and_stop, use_volume};
 use std::alloc::{AllocError, Global};
 use std::fs::File;
 use std::io::{BufWriter, Read, Write};
 use std::rt::Files;
 
-/// The work is done, whatever the replies were.
-const DONE: u8 = 0;
-
-/// A command is refused.
-const REFUSED: u8 = 1;
-
-/// A line of the script is bad.
-const BAD_LINE: u8 = 2;
-
-fn print<W: Write>(output: &mut W, text: &str) -> Result<(), Fault> {
-    let Ok(()) = output.write_all(text.as_bytes()) else {
-        return Err(Fault::Output);
-    };
-    flush(output)
-}
-
-fn flush<W: Write>(output: &mut W) -> Result<(), Fault>
-    ensures { Keeps (W.contents output.old) (W.contents output.new) }
-{
-    let Ok(()) = output.flush() else {
-        return Err(Fault::Output);
-    };
-    Ok(())
-}
-
-// Prints the line of a refused command.
-fn refuse<W: Write>(output: &mut W, refusal: Refusal) -> Result<u8, Fault>
-    ensures { IfOk result (λ status. status ≤ 2) }
-{
-    let Ok(()) = output.writeln(refusal) else {
-        return Err(Fault::Output);
-    };
-    flush(output)?;
-    Ok(REFUSED)
-}
+/// What a command is about that has no image.
+const IN_MEMORY: &str = "a volume in memory";
 
 fn mkfs<Here: World, R: Files<File = File>, W: Write>(
     rt: &R,
     image: &str,
     segments: &str,
+    force: bool,
     output: &mut W,
-) -> Result<u8, Fault>
-    ensures { IfOk result (λ status. status ≤ 2) }
-{
+) -> Result<Ending, Fault> {
     let Some(segments) = read_u32(segments.as_bytes()) else {
         return Err(Fault::Segments);
     };
-    match image::make::<Here, R>(rt, image, segments) {
+    match image::make::<Here, R>(rt, image, segments, force) {
         Ok(()) => {
             print(output, "ok\n")?;
-            Ok(DONE)
+            Ok(Ending::Done)
         }
         Err(refusal) => refuse(output, refusal),
     }
 }
 
-// Prints a volume's tree.
-fn show<D: SectorDevice, W: Write>(fs: &mut Fs<D>, output: &mut W) -> Result<u8, Fault>
-    ensures { IfOk result (λ status. status ≤ 2) }
-{
-    match fs.tree() {
-        Ok(rows) => {
-            let Ok(()) = put_reply(output, &Ok(Answer::Tree(rows))) else {
-                return Err(Fault::Output);
-            };
-            flush(output)?;
-            Ok(DONE)
-        }
-        Err(refusal) => refuse(output, Refusal::Call(refusal)),
+// Looks at the volume of an image, at a path whose bytes these are.
+fn look_in<Here: World, R: Files<File = File>, W: Write>(
+    rt: &R,
+    alloc: Global,
+    image: &str,
+    look: Look<'_>,
+    path: &[u8],
+    output: &mut W,
+) -> Result<Ending, Fault> {
+    match image::mount::<Here, R>(rt, alloc, image) {
+        Ok(mut fs) => look_at(&mut fs, look, path, output),
+        Err(refusal) => refuse(output, refusal),
     }
 }
 
-fn mount<Here: World, R: Files<File = File>, W: Write>(
+// Looks at a volume. The spelling of a path comes before the image.
+fn look<Here: World, R: Files<File = File>, W: Write>(
+    rt: &R,
+    alloc: Global,
+    image: &str,
+    look: Look<'_>,
+    output: &mut W,
+) -> Result<Ending, Fault> {
+    match path_of(alloc, look) {
+        Ok(path) => look_in::<Here, R, W>(rt, alloc, image, look, path.as_slice(), output),
+        Err(fault) => Err(fault),
+    }
+}
+
+// Describes the volume of an image.
+fn info<Here: World, R: Files<File = File>, W: Write>(
     rt: &R,
     alloc: Global,
     image: &str,
     output: &mut W,
-) -> Result<u8, Fault>
-    ensures { IfOk result (λ status. status ≤ 2) }
-{
+) -> Result<Ending, Fault> {
     match image::mount::<Here, R>(rt, alloc, image) {
-        Ok(mut fs) => show(&mut fs, output),
+        Ok(fs) => describe(alloc, fs, output),
         Err(refusal) => refuse(output, refusal),
     }
 }
 
-// The exit status of a script that ended so.
-fn status_of(end: ScriptEnd) -> Result<u8, Fault>
-    ensures { IfOk result (λ status. status ≤ 2) }
-{
+// How a command ends whose script ended so.
+fn ending_of(end: ScriptEnd) -> Result<Ending, Fault> {
     match end {
-        ScriptEnd::Done => Ok(DONE),
-        ScriptEnd::BadLine(_) => Ok(BAD_LINE),
+        ScriptEnd::Done => Ok(Ending::Done),
+        ScriptEnd::BadLine(line) => Ok(Ending::BadLine(line)),
         ScriptEnd::Read => Err(Fault::Input),
         ScriptEnd::Write => Err(Fault::Output),
         ScriptEnd::Memory => Err(Fault::Memory(AllocError)),
     }
 }
 
-// Ends a script: the status that tells how it ended, with all of its replies on their way.
-fn end_script<W: Write>(end: ScriptEnd, output: &mut W) -> Result<u8, Fault>
-    ensures status { IfOk result (λ status. status ≤ 2) }
+// Ends a script, with all of its replies on their way.
+fn end_script<W: Write>(end: ScriptEnd, output: &mut W) -> Result<Ending, Fault>
     ensures kept { Keeps (W.contents output.old) (W.contents output.new) }
 {
     let flushed = flush(output);
-    let status = status_of(end)?;
+    let ending = ending_of(end)?;
     flushed?;
-    Ok(status)
+    Ok(ending)
 }
 
-// Runs a script on the volume of a device. Where it can't be mounted its line is printed, and the status is `REFUSED`, which no script has.
+// Runs a script on the volume of a device. Where it can't be mounted its line is printed, and the ending is `Refused`, which no script has.
 fn play<D: SectorDevice, I: Read, W: Write>(
     alloc: Global,
     device: D,
     input: &mut I,
     output: &mut W,
-) -> (Result<u8, Fault>, D)
-    ensures status { IfOk result.0 (λ status. status ≤ 2) }
+) -> (Result<Ending, Fault>, D)
     ensures plays { Plays (I.remaining input.old) (I.remaining input.new)
         (W.contents output.old) (W.contents output.new) (D.state device) (D.state result.1) }
+    ensures carries { Carries (D.state device) (D.state result.1) }
 {
     match use_volume(alloc, input, output, device) {
         (Ok(end), device) => (end_script(end, output), device),
@@ -149,15 +127,13 @@ fn run<Here: World, R: Files<File = File>, I: Read, W: Write>(
     image: &str,
     input: &mut I,
     output: &mut W,
-) -> Result<u8, Fault>
-    ensures { IfOk result (λ status. status ≤ 2) }
-{
-    match image::open::<Here, R>(rt, image) {
+) -> Result<Ending, Fault> {
+    match image::open_to_write::<Here, R>(rt, image) {
         Ok(device) => {
-            let (status, _) = play(alloc, device, input, output);
-            status
+            let (ending, _) = play(alloc, device, input, output);
+            ending
         }
-        Err(refusal) => refuse(output, refusal),
+        Err(fault) => refuse(output, Refusal::Image(fault)),
     }
 }
 
@@ -168,15 +144,41 @@ fn play_and_stop<I: Read, W: Write>(
     left: Left,
     input: &mut I,
     output: &mut W,
-) -> (Result<u8, Fault>, MemDevice)
-    ensures status { IfOk result.0 (λ status. status ≤ 2) }
+) -> (Result<Ending, Fault>, MemDevice)
     ensures plays { Plays (I.remaining input.old) (I.remaining input.new)
         (W.contents output.old) (W.contents output.new) (device_state device) (device_state result.1) }
+    ensures carries { Carries (device_state device) (device_state result.1) }
 {
     match use_and_stop(alloc, input, output, device, left) {
         (Ok(end), device) => (end_script(end, output), device),
         (Err(fault), device) => (refuse(output, Refusal::from(fault)), device),
     }
+}
+
+// Prints the number of writes that a device was asked for.
+fn print_writes<W: Write>(writes: u64, output: &mut W) -> Result<(), Fault> {
+    put_count(output, b"writes ", writes)?;
+    print(output, "\n")
+}
+
+// Prints the tree of what a stop left on a device in memory.
+fn show_left<W: Write>(alloc: Global, device: MemDevice, output: &mut W) -> Result<Ending, Fault> {
+    match simulation::mount(alloc, device) {
+        Ok(mut fs) => show(&mut fs, output),
+        Err(refusal) => refuse(output, refusal),
+    }
+}
+
+// Prints the number of writes and the tree that a mount finds, behind a script that ended so.
+fn finish_sim<W: Write>(
+    alloc: Global,
+    played: Ending,
+    device: MemDevice,
+    output: &mut W,
+) -> Result<Ending, Fault> {
+    print_writes(device.writes(), output)?;
+    let shown = show_left(alloc, device, output)?;
+    Ok(played.worse(shown))
 }
 
 // Runs a script on a volume in memory, prints the number of writes, and the tree after a stop.
@@ -185,82 +187,107 @@ fn sim<I: Read, W: Write>(
     plan: Plan,
     input: &mut I,
     output: &mut W,
-) -> Result<u8, Fault>
-    ensures { IfOk result (λ status. status ≤ 2) }
-{
+) -> Result<Ending, Fault> {
     let device = match simulation::start(alloc, plan) {
         Ok(device) => device,
         Err(refusal) => return refuse(output, refusal),
     };
     let (played, device) = play_and_stop(alloc, device, plan.left, input, output);
-    let played = played?;
-    if played == REFUSED {
-        return Ok(REFUSED);
+    match played {
+        Ok(Ending::Refused(refusal)) => Ok(Ending::Refused(refusal)),
+        Ok(played) => finish_sim(alloc, played, device, output),
+        Err(fault) => Err(fault),
     }
-    let writes = format!(in alloc; "writes {}\n", device.writes())?;
-    print(output, writes.as_str())?;
-    let shown = match simulation::mount(alloc, device) {
-        Ok(mut fs) => show(&mut fs, output)?,
-        Err(refusal) => refuse(output, refusal)?,
-    };
-    Ok(played.max(shown))
 }
 
-// In any world, which only contracts see.
-fn answer<Here: World, R: Files<File = File>, I: Read, W: Write>(
+// Does what is asked for with an image, in any world, which only contracts see.
+fn act<Here: World, R: Files<File = File>, I: Read, W: Write>(
     rt: &R,
     alloc: Global,
-    words: &[String],
+    image: &str,
+    action: Action<'_>,
     input: &mut I,
     output: &mut W,
-) -> Result<u8, Fault>
-    ensures { IfOk result (λ status. status ≤ 2) }
-{
-    match read_request(alloc, words)? {
-        Request::Help(text) => {
-            print(output, text.as_str())?;
-            Ok(DONE)
+) -> Result<Ending, Fault> {
+    match action {
+        Action::Mkfs { segments, force } => {
+            mkfs::<Here, R, W>(rt, image, segments, force, output)
         }
-        Request::Mkfs { image, segments } => mkfs::<Here, R, W>(rt, image, segments, output),
-        Request::Mount { image } => mount::<Here, R, W>(rt, alloc, image, output),
-        Request::Run { image } => run::<Here, R, I, W>(rt, alloc, image, input, output),
+        Action::Info => info::<Here, R, W>(rt, alloc, image, output),
+        Action::Look(asked) => look::<Here, R, W>(rt, alloc, image, asked, output),
+        Action::Run => run::<Here, R, I, W>(rt, alloc, image, input, output),
+    }
+}
+
+// Tells what a command was about that ended so.
+fn told<'a>(subject: &'a str, ending: Result<Ending, Fault>) -> Result<Told<'a>, Fault> {
+    match ending {
+        Ok(ending) => Ok(Told { subject, ending }),
+        Err(fault) => Err(fault),
+    }
+}
+
+fn help<W: Write>(text: &str, output: &mut W) -> Result<Ending, Fault> {
+    print(output, text)?;
+    Ok(Ending::Done)
+}
+
+fn answer<'a, R: Files<File = File>, I: Read, W: Write>(
+    rt: &R,
+    alloc: Global,
+    words: &'a [String],
+    input: &mut I,
+    output: &mut W,
+) -> Result<Told<'a>, Fault> {
+    match read_request(alloc, words)? {
+        Request::Help(text) => told(IN_MEMORY, help(text.as_str(), output)),
+        Request::Image { image, action } => {
+            let ending = act::<ThisWorld, R, I, W>(rt, alloc, image, action, input, output);
+            told(image, ending)
+        }
         Request::Sim {
             segments,
             stop,
             left,
-        } => sim(alloc, read_plan(segments, stop, left)?, input, output),
+        } => match read_plan(segments, stop, left) {
+            Ok(plan) => told(IN_MEMORY, sim(alloc, plan, input, output)),
+            Err(fault) => Err(fault),
+        },
     }
 }
 
-// Hands the command a buffer before the output. Each part of a command flushes what it wrote, and a script its replies before each read.
-fn answer_buffered<R: Files<File = File>, I: Read, O: Write>(
+// What came before a fault goes out before its text.
+fn answer_and_flush<'a, R: Files<File = File>, I: Read, W: Write>(
     rt: &R,
     alloc: Global,
-    words: &[String],
+    words: &'a [String],
+    input: &mut I,
+    output: &mut W,
+) -> Result<Told<'a>, Fault> {
+    let answered = answer(rt, alloc, words, input, output);
+    let flushed = flush(output);
+    let told = answered?;
+    flushed?;
+    Ok(told)
+}
+
+// Hands the command a buffer before the output. Each part of a command flushes what it wrote, and a script its replies before each read.
+fn answer_buffered<'a, R: Files<File = File>, I: Read, O: Write>(
+    rt: &R,
+    alloc: Global,
+    words: &'a [String],
     input: &mut I,
     output: &mut O,
-) -> Result<u8, Fault>
-    ensures { IfOk result (λ status. status ≤ 2) }
-{
-    let Ok(mut buffered) = BufWriter::new(alloc, output) else {
-        return Err(Fault::Memory(AllocError));
-    };
-    let answered = answer::<ThisWorld, R, I, BufWriter<&mut O>>(
-        rt,
-        alloc,
-        words,
-        input,
-        &mut buffered,
-    );
-    // What came before a fault goes out before its text.
-    let flushed = flush(&mut buffered);
-    let status = answered?;
-    flushed?;
-    Ok(status)
+) -> Result<Told<'a>, Fault> {
+    match BufWriter::new(alloc, output) {
+        Ok(mut buffered) => answer_and_flush(rt, alloc, words, input, &mut buffered),
+        Err(_) => Err(Fault::Memory(AllocError)),
+    }
 }
 
 /// Runs a command line, whose first word is the program's name, and answers the exit status: 0 done, 1 a command
-/// refused, or input, output or memory failed, 2 a bad line of the script or a bad command line.
+/// refused, or input, output or memory failed, 2 a bad line of the script or a bad command line. Where it isn't 0,
+/// a text for people goes to `errors`.
 pub fn command<R: Files<File = File>, I: Read, O: Write, E: Write>(
     rt: &R,
     alloc: Global,
@@ -272,7 +299,13 @@ pub fn command<R: Files<File = File>, I: Read, O: Write, E: Write>(
     ensures { result ≤ 2 }
 {
     match answer_buffered(rt, alloc, words, input, output) {
-        Ok(status) => status,
+        Ok(told) => {
+            let status = told.ending.status();
+            if status != 0 {
+                let _ = errors.writeln(told);
+            }
+            status
+        }
         Err(fault) => {
             let status = fault.status();
             let _ = errors.writeln(fault);

@@ -1,26 +1,100 @@
 //! Why a command ends.
-ghost use Rattle.std.specs.Prelude.{◌≡◌, ◌⊎◌};
+ghost use Rattle.std.specs.Prelude.{◌≡◌, ◌≤◌, ◌⊎◌};
 
+use crate::reason;
 use lfs_script::fs::{FormatFault, FsError, MountFault};
 use std::alloc::AllocError;
+use std::fmt::{Display, Formatter};
+use std::io::ErrorKind;
+use std::{fmt, io};
 use thiserror::Error;
 
+/// Why an image isn't used.
+#[derive(Clone, Copy)]
+pub enum ImageFault {
+    /// Nothing has this name.
+    Missing,
+    /// The system's permissions forbid it.
+    Denied,
+    /// It stands in a file system that isn't written.
+    ReadOnly,
+    Folder,
+    /// A pipe, a socket or a device that has no blocks.
+    NoBlocks,
+    /// A block device, which is formatted only where that is asked for.
+    Unforced,
+    /// Another program holds its lock.
+    InUse,
+    /// The file can't have the length of the volume.
+    Length,
+    /// The system refuses a call on it.
+    System,
+}
+
+impl From<io::Error> for ImageFault {
+    fn from(error: io::Error) -> ImageFault {
+        match error.kind() {
+            ErrorKind::NotFound => ImageFault::Missing,
+            ErrorKind::PermissionDenied => ImageFault::Denied,
+            ErrorKind::ReadOnlyFilesystem => ImageFault::ReadOnly,
+            _ => ImageFault::System,
+        }
+    }
+}
+
 /// Why a command is refused. Its text is the line that is printed.
-#[derive(Clone, Copy, Debug, Error)]
+#[derive(Clone, Copy)]
 pub enum Refusal {
-    #[error("err Inval")]
+    /// No volume has so many segments.
     Inval,
-    /// The file can't be opened, made or sized.
-    #[error("err Image")]
-    Image,
-    #[error("err {}", .0.name())]
+    /// The image can't be opened, made or sized.
+    Image(ImageFault),
     Format(FormatFault),
-    #[error("err Damaged {0}")]
+    /// The first stage that the volume fails.
     Damaged(u8),
-    #[error("err {}", .0.name())]
     Mount(MountFault),
-    #[error("err {}", .0.name())]
     Call(FsError),
+}
+
+impl Refusal {
+    /// Its name, without the stage of damage.
+    pub fn name(self) -> &'static str {
+        match self {
+            Refusal::Inval => "Inval",
+            Refusal::Image(_) => "Image",
+            Refusal::Format(fault) => fault.name(),
+            Refusal::Damaged(_) => "Damaged",
+            Refusal::Mount(fault) => fault.name(),
+            Refusal::Call(fault) => fault.name(),
+        }
+    }
+
+    /// What people are told of it.
+    pub fn reason(self) -> &'static str {
+        match self {
+            Refusal::Inval => reason::of_format(FormatFault::Inval),
+            Refusal::Image(fault) => reason::of_image(fault),
+            Refusal::Format(fault) => reason::of_format(fault),
+            Refusal::Damaged(code) => reason::of_damage(code),
+            Refusal::Mount(fault) => reason::of_mount(fault),
+            Refusal::Call(fault) => reason::of_call(fault),
+        }
+    }
+}
+
+impl Display for Refusal {
+    fn fmt<W: fmt::Write>(&self, f: &mut Formatter<W>) -> fmt::Result {
+        match self {
+            Refusal::Damaged(stage) => write!(f, "err Damaged {stage}"),
+            refusal => write!(f, "err {}", refusal.name()),
+        }
+    }
+}
+
+impl From<ImageFault> for Refusal {
+    fn from(fault: ImageFault) -> Refusal {
+        Refusal::Image(fault)
+    }
 }
 
 impl From<MountFault> for Refusal {
@@ -29,6 +103,62 @@ impl From<MountFault> for Refusal {
             MountFault::Damaged(code) => Refusal::Damaged(code),
             fault => Refusal::Mount(fault),
         }
+    }
+}
+
+/// How a command ends that said on standard output all that it had to.
+#[derive(Clone, Copy)]
+pub enum Ending {
+    /// The work is done, whatever the replies were.
+    Done,
+    Refused(Refusal),
+    /// The script's line of this number, counted from 1, is bad.
+    BadLine(u64),
+}
+
+impl Ending {
+    /// The exit status.
+    pub fn status(self) -> u8
+        ensures { result ≤ 2 }
+    {
+        match self {
+            Ending::Done => 0,
+            Ending::Refused(_) => 1,
+            Ending::BadLine(_) => 2,
+        }
+    }
+
+    /// Of two endings the one with the greater status.
+    pub fn worse(self, other: Ending) -> Ending {
+        if self.status() < other.status() {
+            other
+        } else {
+            self
+        }
+    }
+}
+
+/// What people are told of an ending.
+#[derive(Clone, Copy)]
+pub struct Told<'a> {
+    /// What the command was about.
+    pub subject: &'a str,
+    pub ending: Ending,
+}
+
+impl Display for Ending {
+    fn fmt<W: fmt::Write>(&self, f: &mut Formatter<W>) -> fmt::Result {
+        match self {
+            Ending::Done => f.write_str("done"),
+            Ending::Refused(refusal) => f.write_str(refusal.reason()),
+            Ending::BadLine(line) => write!(f, "line {line} of the script is bad"),
+        }
+    }
+}
+
+impl Display for Told<'_> {
+    fn fmt<W: fmt::Write>(&self, f: &mut Formatter<W>) -> fmt::Result {
+        write!(f, "lfs: {}: {}", self.subject, self.ending)
     }
 }
 
@@ -43,6 +173,8 @@ pub enum Fault {
     Stop,
     #[error("lfs: what a stop leaves is none of old, new and bad")]
     Left,
+    #[error("lfs: PATH is no word of the script language, whose escapes are a backslash and two digits")]
+    Path,
     #[error("lfs: standard input can't be read")]
     Input,
     #[error("lfs: standard output can't be written")]
@@ -57,7 +189,7 @@ impl Fault {
         ensures { (result ≡ 1) ⊎ (result ≡ 2) }
     {
         match self {
-            Fault::Line(_) | Fault::Segments | Fault::Stop | Fault::Left => 2,
+            Fault::Line(_) | Fault::Segments | Fault::Stop | Fault::Left | Fault::Path => 2,
             Fault::Input | Fault::Output | Fault::Memory(_) => 1,
         }
     }

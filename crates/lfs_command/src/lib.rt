@@ -2,8 +2,13 @@
 #![tactic(auto)]
 
 mod commands;
+mod describing;
 mod fault;
+mod grammar;
 mod image;
+mod looking;
+mod printing;
+mod reason;
 mod request;
 mod simulation;
 

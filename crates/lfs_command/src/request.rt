@@ -1,22 +1,31 @@
-//! The command line, read from words that are handed in.
+//! What a command line asks for.
 use crate::fault::Fault;
+use crate::grammar::{FORCE, IMAGE, LEFT, PATH, SEGMENTS, STOP, Verb, program, verb_of};
+use crate::looking::Look;
 use clap::error::ErrorKind;
-use clap::{Arg, ArgAction, ArgMatches, Command, Error};
+use clap::{ArgMatches, Error};
 use std::alloc::{AllocError, Global};
+
+/// The path that is listed where none is given.
+const ROOT: &str = "/";
+
+/// What is done with an image. Numbers and paths are words still.
+#[derive(Clone, Copy)]
+pub enum Action<'a> {
+    Mkfs { segments: &'a str, force: bool },
+    Look(Look<'a>),
+    Info,
+    Run,
+}
 
 /// What a command line asks for. Numbers are words still.
 #[derive(Drop)]
 pub enum Request<'a> {
+    /// A text that is to be printed.
     Help(String),
-    Mkfs {
+    Image {
         image: &'a str,
-        segments: &'a str,
-    },
-    Mount {
-        image: &'a str,
-    },
-    Run {
-        image: &'a str,
+        action: Action<'a>,
     },
     Sim {
         segments: &'a str,
@@ -25,71 +34,49 @@ pub enum Request<'a> {
     },
 }
 
-fn image<'a>(alloc: Global) -> Arg<'a> {
-    Arg::new(alloc, "IMAGE")
-        .required(true)
-        .action(ArgAction::Set)
+fn read_sim<'a>(found: &ArgMatches<'a>) -> Option<Request<'a>> {
+    Some(Request::Sim {
+        segments: found.get_str(SEGMENTS)?,
+        stop: found.get_str(STOP)?,
+        left: found.get_str(LEFT)?,
+    })
 }
 
-// An option that has to be given, with a value.
-fn option<'a>(alloc: Global, name: &'a str) -> Arg<'a> {
-    Arg::new(alloc, name)
-        .long(name)
-        .required(true)
-        .action(ArgAction::Set)
+fn read_mkfs<'a>(found: &ArgMatches<'a>) -> Option<Action<'a>> {
+    Some(Action::Mkfs {
+        segments: found.get_str(SEGMENTS)?,
+        force: found.get_flag(FORCE),
+    })
 }
 
-fn mkfs<'a>(alloc: Global) -> Result<Command<'a>, AllocError> {
-    Command::new(alloc, "mkfs")
-        .arg(image(alloc))?
-        .arg(option(alloc, "segments"))
+fn on_image<'a>(action: Option<Action<'a>>, found: &ArgMatches<'a>) -> Option<Request<'a>> {
+    Some(Request::Image {
+        image: found.get_str(IMAGE)?,
+        action: action?,
+    })
 }
 
-fn sim<'a>(alloc: Global) -> Result<Command<'a>, AllocError> {
-    Command::new(alloc, "sim")
-        .arg(option(alloc, "segments"))?
-        .arg(option(alloc, "stop"))?
-        .arg(option(alloc, "left"))
+fn looks<'a>(look: Look<'a>, found: &ArgMatches<'a>) -> Option<Request<'a>> {
+    on_image(Some(Action::Look(look)), found)
 }
 
-// A subcommand on an image, with no option.
-fn plain<'a>(alloc: Global, name: &'a str) -> Result<Command<'a>, AllocError> {
-    Command::new(alloc, name).arg(image(alloc))
-}
-
-fn program<'a>(alloc: Global) -> Result<Command<'a>, AllocError> {
-    let mkfs = mkfs(alloc)?;
-    let mount = plain(alloc, "mount")?;
-    let run = plain(alloc, "run")?;
-    let sim = sim(alloc)?;
-    Command::new(alloc, "lfs")
-        .subcommand_required(true)
-        .disable_help_subcommand(true)
-        .subcommand(mkfs)?
-        .subcommand(mount)?
-        .subcommand(run)?
-        .subcommand(sim)
-}
-
-fn asked<'a>(name: &str, found: &ArgMatches<'a>) -> Option<Request<'a>> {
-    match name {
-        "mkfs" => Some(Request::Mkfs {
-            image: found.get_str("IMAGE")?,
-            segments: found.get_str("segments")?,
-        }),
-        "mount" => Some(Request::Mount {
-            image: found.get_str("IMAGE")?,
-        }),
-        "run" => Some(Request::Run {
-            image: found.get_str("IMAGE")?,
-        }),
-        "sim" => Some(Request::Sim {
-            segments: found.get_str("segments")?,
-            stop: found.get_str("stop")?,
-            left: found.get_str("left")?,
-        }),
-        _ => None,
+fn asked<'a>(verb: Verb, found: &ArgMatches<'a>) -> Option<Request<'a>> {
+    match verb {
+        Verb::Mkfs => on_image(read_mkfs(found), found),
+        Verb::Mount => looks(Look::Mount, found),
+        Verb::Check => looks(Look::Check, found),
+        Verb::Tree => looks(Look::Tree, found),
+        Verb::Ls => looks(Look::List(found.get_str(PATH).unwrap_or(ROOT)), found),
+        Verb::Cat => looks(Look::Cat(found.get_str(PATH)?), found),
+        Verb::Info => on_image(Some(Action::Info), found),
+        Verb::Run => on_image(Some(Action::Run), found),
+        Verb::Sim => read_sim(found),
     }
+}
+
+fn request_of<'a>(matches: &ArgMatches<'a>) -> Option<Request<'a>> {
+    let (name, found) = matches.subcommand()?;
+    asked(verb_of(name)?, found)
 }
 
 fn refused<'a>(alloc: Global, error: &Error) -> Result<Request<'a>, Fault> {
@@ -107,13 +94,7 @@ fn refused<'a>(alloc: Global, error: &Error) -> Result<Request<'a>, Fault> {
 /// Reads a command line, whose first word is the program's name.
 pub fn read_request<'a>(alloc: Global, words: &'a [String]) -> Result<Request<'a>, Fault> {
     match program(alloc)?.try_get_matches_from(words) {
-        Ok(matches) => {
-            let request = match matches.subcommand() {
-                Some((name, found)) => asked(name, found),
-                None => None,
-            };
-            request.ok_or(Fault::Memory(AllocError))
-        }
+        Ok(matches) => request_of(&matches).ok_or(Fault::Memory(AllocError)),
         Err(error) => refused(alloc, &error),
     }
 }

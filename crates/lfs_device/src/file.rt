@@ -6,6 +6,7 @@ ghost use Rattle.lfs_device.specs.History.{calls_of};
 use crate::history::{Call, History, note};
 use crate::{DeviceFault, ReadFault, SectorDevice, ThisWorld, World};
 use std::fs::{File, Metadata};
+use std::io::{Seek, SeekFrom};
 use std::marker::PhantomData;
 use std::os::unix::fs::FileExt;
 use std::snapshot::Snapshot;
@@ -38,11 +39,12 @@ impl<W: World> FileDeviceIn<W> {
     ghost use Rattle.std.specs.Prelude.{◌≡◌, IfOk};
     ghost use Rattle.lfs_device.specs.FileDevice.{state_of_file};
 
-    /// The file's whole sectors, as many as it has now, at most `u32::MAX`. No call was made on them yet.
+    /// The whole sectors of a file or of a block device, as many as there are now, at most `u32::MAX`. No call was made on
+    /// them yet. Their length is what seeking to the end says, since the metadata of a block device have none.
     ///
     /// # Errors
     ///
-    /// The fault where the file's length can't be had.
+    /// The fault where the metadata or the length can't be had.
     pub fn new(file: File) -> Result<FileDeviceIn<W>, DeviceFault>
         ensures opened { IfOk result (λ d. (state_of_file d).moment ≡ 0) }
         ensures failures { IfOk result (λ d. (state_of_file d).failures ≡ 0) }
@@ -51,10 +53,14 @@ impl<W: World> FileDeviceIn<W> {
         let Ok(metadata) = file.metadata() else {
             return Err(DeviceFault);
         };
+        let mut file = file;
+        let Ok(len) = file.seek(SeekFrom::End(0)) else {
+            return Err(DeviceFault);
+        };
         Ok(FileDeviceIn {
             file,
             world: PhantomData,
-            sectors: u32::try_from(metadata.len() / 512).unwrap_or(u32::MAX),
+            sectors: u32::try_from(len / 512).unwrap_or(u32::MAX),
             opened: Snapshot::of(&metadata),
             history: Snapshot::of(&History::Opened),
         })

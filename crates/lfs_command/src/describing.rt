@@ -1,0 +1,86 @@
+//! What a volume is, for people: its space, and what a walk over it finds of its segments.
+use crate::fault::{Ending, Fault, Refusal};
+use crate::printing::{print, put, put_count, refuse};
+use lfs_device::SectorDevice;
+use lfs_script::fs::{Fs, Space};
+use lfs_verify::Tables;
+use lfs_verify::verify::verify;
+use std::alloc::Global;
+use std::io::Write;
+
+/// How many segments a line of the picture has.
+const ROW: u32 = 64;
+
+/// How many live blocks more give the next sign.
+const STEP: u16 = 7;
+
+const SIGNS: &[u8] = b".123456789";
+
+// The sign of a segment with so many live blocks.
+fn sign(live: u16) -> u8 {
+    let steps = live.div_ceil(STEP);
+    match SIGNS.get(usize::from(steps)) {
+        Some(sign) => *sign,
+        None => b'9',
+    }
+}
+
+// Writes a sign for each segment.
+fn put_picture<W: Write>(tables: &Tables, output: &mut W) -> Result<(), Fault> {
+    for segment in 0..tables.usage.segments() {
+        if segment % ROW == 0 {
+            put(output, b"\n")?;
+        }
+        put(output, &[sign(tables.usage.state(segment).live)])?;
+    }
+    print(output, "\n")
+}
+
+// Writes what there is to say in numbers.
+fn put_numbers<W: Write>(tables: &Tables, space: &Space, output: &mut W) -> Result<(), Fault> {
+    let counts = [
+        (b"checkpoint ".as_slice(), tables.number),
+        (b"\nsegments ", u64::from(tables.segments)),
+        (b"\nclean ", u64::from(tables.usage.clean())),
+        (b"\ndata blocks ", space.data_blocks),
+        (b"\nmeta blocks ", space.meta_blocks),
+        (b"\nneed ", space.need),
+        (b"\nlimit ", space.limit),
+    ];
+    for (text, count) in counts {
+        put_count(output, text, count)?;
+    }
+    put(output, b"\nlive blocks of each segment:")
+}
+
+fn put_description<D: SectorDevice, W: Write>(
+    alloc: Global,
+    device: &mut D,
+    space: &Space,
+    output: &mut W,
+) -> Result<Ending, Fault> {
+    match verify(alloc, device) {
+        Ok(tables) => {
+            put_numbers(&tables, space, output)?;
+            put_picture(&tables, output)?;
+            Ok(Ending::Done)
+        }
+        Err(fault) => refuse(output, Refusal::from(fault)),
+    }
+}
+
+/// Describes a mounted volume.
+pub fn describe<D: SectorDevice + Drop, W: Write>(
+    alloc: Global,
+    fs: Fs<D>,
+    output: &mut W,
+) -> Result<Ending, Fault> {
+    let mut fs = fs;
+    match fs.space() {
+        Ok(space) => {
+            let mut device = fs.into_device();
+            put_description(alloc, &mut device, &space, output)
+        }
+        Err(refusal) => refuse(output, Refusal::Call(refusal)),
+    }
+}

@@ -1,0 +1,235 @@
+//! Commands that look at a mounted volume, over its calls alone.
+use crate::fault::{Ending, Fault, Refusal};
+use crate::printing::{flush, print, put, put_count, put_word, refuse};
+use lfs_device::SectorDevice;
+use lfs_model::Kind;
+use lfs_script::fs::{Fs, FsError, Space, TreeRow};
+use lfs_script::{Answer, WordFault, put_reply, read_escaped};
+use std::alloc::{AllocError, Global};
+use std::io::Write;
+
+/// What is looked at. A path is a word of scripts still.
+#[derive(Clone, Copy)]
+pub enum Look<'a> {
+    /// The segments and the space.
+    Check,
+    /// The tree, as a script's reply.
+    Mount,
+    /// The tree, for people.
+    Tree,
+    /// The names in a directory, or a file's own.
+    List(&'a str),
+    /// The bytes of a file.
+    Cat(&'a str),
+}
+
+/// The limit of the need, for each segment.
+const SEGMENT_LIMIT: u64 = 47;
+
+/// The most bytes of one read.
+const PART: u32 = 65_536;
+
+/// How many such reads the longest file takes.
+const PARTS: u64 = 130;
+
+// Prints the reply that has these rows.
+fn put_rows<W: Write>(rows: Vec<TreeRow>, output: &mut W) -> Result<(), Fault> {
+    match put_reply(output, &Ok(Answer::Tree(rows))) {
+        Ok(()) => flush(output),
+        Err(_) => Err(Fault::Output),
+    }
+}
+
+// Prints a volume's tree as a script's reply.
+pub fn show<D: SectorDevice, W: Write>(fs: &mut Fs<D>, output: &mut W) -> Result<Ending, Fault> {
+    match fs.tree() {
+        Ok(rows) => {
+            put_rows(rows, output)?;
+            Ok(Ending::Done)
+        }
+        Err(refusal) => refuse(output, Refusal::Call(refusal)),
+    }
+}
+
+fn put_space<W: Write>(space: &Space, output: &mut W) -> Result<(), Fault> {
+    put_count(output, b"ok ", space.limit / SEGMENT_LIMIT)?;
+    let counts = [
+        space.data_blocks,
+        space.meta_blocks,
+        space.need,
+        space.limit,
+    ];
+    for count in counts {
+        put_count(output, b" ", count)?;
+    }
+    print(output, "\n")
+}
+
+// Prints the number of segments and the space of a volume.
+fn check<D: SectorDevice, W: Write>(fs: &mut Fs<D>, output: &mut W) -> Result<Ending, Fault> {
+    match fs.space() {
+        Ok(space) => {
+            put_space(&space, output)?;
+            Ok(Ending::Done)
+        }
+        Err(refusal) => refuse(output, Refusal::Call(refusal)),
+    }
+}
+
+// Writes an entry's name as a word of scripts, a directory's with a slash behind it.
+fn put_name<W: Write>(output: &mut W, row: &TreeRow) -> Result<(), Fault> {
+    put_word(output, row.name.as_slice())?;
+    match row.kind {
+        Kind::Directory => put(output, b"/"),
+        Kind::File | Kind::Link => Ok(()),
+    }
+}
+
+// Writes an entry of the root with its size.
+fn put_entry<W: Write>(output: &mut W, row: &TreeRow) -> Result<(), Fault> {
+    put(output, b"  ")?;
+    put_name(output, row)?;
+    put_count(output, b"  ", row.size)?;
+    put(output, b"\n")
+}
+
+fn put_tree<W: Write>(output: &mut W, rows: &[TreeRow]) -> Result<(), Fault> {
+    put(output, b"/\n")?;
+    for row in rows {
+        put_entry(output, row)?;
+    }
+    flush(output)
+}
+
+// Prints the tree, indented, with sizes in bytes. All entries stand in the root.
+fn tree<D: SectorDevice, W: Write>(fs: &mut Fs<D>, output: &mut W) -> Result<Ending, Fault> {
+    match fs.tree() {
+        Ok(rows) => {
+            put_tree(output, rows.as_slice())?;
+            Ok(Ending::Done)
+        }
+        Err(refusal) => refuse(output, Refusal::Call(refusal)),
+    }
+}
+
+fn put_names<W: Write>(output: &mut W, rows: &[TreeRow], directory: u32) -> Result<(), Fault> {
+    for row in rows {
+        if row.directory == directory {
+            put_name(output, row)?;
+            put(output, b"\n")?;
+        }
+    }
+    flush(output)
+}
+
+// Prints the names in a directory.
+fn list_directory<D: SectorDevice, W: Write>(
+    fs: &mut Fs<D>,
+    directory: u32,
+    output: &mut W,
+) -> Result<Ending, Fault> {
+    match fs.tree() {
+        Ok(rows) => {
+            put_names(output, rows.as_slice(), directory)?;
+            Ok(Ending::Done)
+        }
+        Err(refusal) => refuse(output, Refusal::Call(refusal)),
+    }
+}
+
+// Prints the word of a path that is no directory's.
+fn list_path<W: Write>(path: &[u8], output: &mut W) -> Result<Ending, Fault> {
+    put_word(output, path)?;
+    print(output, "\n")?;
+    Ok(Ending::Done)
+}
+
+// Prints the names in a directory, one a line, or the word of what is none.
+fn list<D: SectorDevice, W: Write>(
+    fs: &mut Fs<D>,
+    path: &[u8],
+    output: &mut W,
+) -> Result<Ending, Fault> {
+    match fs.stat(path) {
+        Ok(stat) => match stat.kind {
+            Kind::Directory => list_directory(fs, stat.number, output),
+            Kind::File | Kind::Link => list_path(path, output),
+        },
+        Err(refusal) => refuse(output, Refusal::Call(refusal)),
+    }
+}
+
+// Ends a copy at a read that is refused. Its line doesn't go between the bytes of the file.
+fn end_copy<W: Write>(offset: u64, refusal: FsError, output: &mut W) -> Result<Ending, Fault> {
+    if offset == 0 {
+        return refuse(output, Refusal::Call(refusal));
+    }
+    flush(output)?;
+    Ok(Ending::Refused(Refusal::Call(refusal)))
+}
+
+// Prints the bytes of an open file of this size.
+fn copy_out<D: SectorDevice, W: Write>(
+    fs: &mut Fs<D>,
+    handle: u32,
+    size: u64,
+    output: &mut W,
+) -> Result<Ending, Fault> {
+    for part in 0..PARTS {
+        let offset = part * u64::from(PART);
+        if offset >= size {
+            break;
+        }
+        match fs.pread(handle, offset, PART) {
+            Ok(bytes) => put(output, bytes.as_slice())?,
+            Err(refusal) => return end_copy(offset, refusal, output),
+        }
+    }
+    flush(output)?;
+    Ok(Ending::Done)
+}
+
+// Prints the bytes of a file.
+fn cat<D: SectorDevice, W: Write>(
+    fs: &mut Fs<D>,
+    path: &[u8],
+    output: &mut W,
+) -> Result<Ending, Fault> {
+    let size = match fs.stat(path) {
+        Ok(stat) => stat.size,
+        Err(refusal) => return refuse(output, Refusal::Call(refusal)),
+    };
+    match fs.open(path) {
+        Ok(handle) => copy_out(fs, handle, size, output),
+        Err(refusal) => refuse(output, Refusal::Call(refusal)),
+    }
+}
+
+/// The bytes of the path that is looked at, none where there is no path.
+pub fn path_of(alloc: Global, look: Look<'_>) -> Result<Vec<u8>, Fault> {
+    let word = match look {
+        Look::List(word) | Look::Cat(word) => word,
+        Look::Check | Look::Mount | Look::Tree => return Ok(Vec::new(alloc)),
+    };
+    match read_escaped(alloc, word.as_bytes()) {
+        Ok(path) => Ok(path),
+        Err(WordFault::Memory) => Err(Fault::Memory(AllocError)),
+        Err(WordFault::Spelling) => Err(Fault::Path),
+    }
+}
+
+/// Looks at a mounted volume.
+pub fn look_at<D: SectorDevice, W: Write>(
+    fs: &mut Fs<D>,
+    look: Look<'_>,
+    path: &[u8],
+    output: &mut W,
+) -> Result<Ending, Fault> {
+    match look {
+        Look::Check => check(fs, output),
+        Look::Mount => show(fs, output),
+        Look::Tree => tree(fs, output),
+        Look::List(_) => list(fs, path, output),
+        Look::Cat(_) => cat(fs, path, output),
+    }
+}
