@@ -81,19 +81,21 @@ module _ (d : DeviceState) (dirty : Dirty) (t t' : Tables) (k : CheckpointValue)
       let p = left_taken d dirty t t' k m0 m seg chunk w (Map j) (map_table j) 1 (omega arith) in
       let next = left_memory d dirty t t' k m0 m seg chunk w (Map j) (map_table j) 1 (omega arith) in
       let same : w.memory.at (Map j) ≡ t.at (Map j) = w.tables.at (Map j) refl in
-      let was : 2 ≤ w.memory.at (Map j) = omega arith in
-      (record {
-        memory = next;
-        laid = map_lifting d.content m w.memory seg j next w.laid (record { taken = p; bytes = refl });
-        segments = w.segments;
-        settled = w.settled;
-        cached = left_cached d dirty t t' k m0 m seg chunk w (Map j) (map_table j) 1 (omega arith);
-        tables = lifted_tables d.content m w.memory seg (Map j) 1 next t t' w.laid was p w.tables (subst (λ (a : ℕ). IsLifted m t t' (Map j) 1 (segment_of a)) (sym same) go);
-        fresh = λ i off low. let no = lifted_fresh m t t' (Map j) 1 (segment_of (t.at (Map j))) go i off in no.1 (w.memory.bytes (Usage i)) (w.fresh i no.0 low);
-        clean = λ s low z. w.clean s low (sym (go.used s) ∙ z);
-        taken = λ s on. w.taken s (sym (go.taken s) ∙ on);
-        opened = still_open d dirty t t' k m0 m seg chunk w (Map j) (map_table j) 1 (omega arith) chunk w.opened go.taken;
-      }, taken_traced w.memory (Map j) next p)
+      let was : 2 ≤ w.memory.at (Map j) = omega arith in (
+        record {
+          memory = next;
+          laid = map_lifting d.content m w.memory seg j next w.laid (record { taken = p; bytes = refl });
+          segments = w.segments;
+          settled = w.settled;
+          cached = left_cached d dirty t t' k m0 m seg chunk w (Map j) (map_table j) 1 (omega arith);
+          tables = lifted_tables d.content m w.memory seg (Map j) 1 next t t' w.laid was p w.tables (subst (λ (a : ℕ). IsLifted m t t' (Map j) 1 (segment_of a)) (sym same) go);
+          fresh = λ i off low. let no = lifted_fresh m t t' (Map j) 1 (segment_of (t.at (Map j))) go i off in no.1 (w.memory.bytes (Usage i)) (w.fresh i no.0 low);
+          clean = λ s low z. w.clean s low (sym (go.used s) ∙ z);
+          taken = λ s on. w.taken s (sym (go.taken s) ∙ on);
+          opened = still_open d dirty t t' k m0 m seg chunk w (Map j) (map_table j) 1 (omega arith) chunk w.opened go.taken;
+        },
+        taken_traced w.memory (Map j) next p,
+      )
 
   map_added : t.at (Map j) ≡ 0 → IsReaddressed t t' (Map j) 1 → Traced
   unfolding left_memory taken_memory
@@ -101,24 +103,26 @@ module _ (d : DeviceState) (dirty : Dirty) (t t' : Tables) (k : CheckpointValue)
       let p = left_taken d dirty t t' k m0 m seg chunk w (Map j) (map_table j) 1 (omega arith) in
       let next = left_memory d dirty t t' k m0 m seg chunk w (Map j) (map_table j) 1 (omega arith) in
       let was : w.memory.at (Map j) ≡ 0 = w.tables.at (Map j) refl ∙ none in
-      let counts = unplaced_counts d.content m w.memory seg (Map j) 1 next w.laid (omega (arith, was)) p in
-      (record {
-        memory = next;
-        laid = map_lifting d.content m w.memory seg j next w.laid (record { taken = p; bytes = refl });
-        segments = w.segments;
-        settled = w.settled;
-        cached = left_cached d dirty t t' k m0 m seg chunk w (Map j) (map_table j) 1 (omega arith);
-        tables = record {
-          at = addressed t t' (Map j) 1 w.memory next go.at p.at p.others w.tables.at;
-          used = λ s. go.used s ∙ w.tables.used s;
-          live = λ s. go.live s ∙ w.tables.live s ∙ sym (counts (is_shown m) s);
-          held = λ s. go.held s ∙ w.tables.held s ∙ sym (counts (is_held m) s);
-        };
-        fresh = λ i off low. usage_kept t t' i (w.memory.bytes (Usage i)) (λ q lt. (go.used (64 * i + q), go.live (64 * i + q), go.age (64 * i + q))) (w.fresh i (sym (go.stale i) ∙ off) low);
-        clean = λ s low z. w.clean s low (sym (go.used s) ∙ z);
-        taken = λ s on. w.taken s (sym (go.taken s) ∙ on);
-        opened = still_open d dirty t t' k m0 m seg chunk w (Map j) (map_table j) 1 (omega arith) chunk w.opened go.taken;
-      }, taken_traced w.memory (Map j) next p)
+      let counts = unplaced_counts d.content m w.memory seg (Map j) 1 next w.laid (omega (arith, was)) p in (
+        record {
+          memory = next;
+          laid = map_lifting d.content m w.memory seg j next w.laid (record { taken = p; bytes = refl });
+          segments = w.segments;
+          settled = w.settled;
+          cached = left_cached d dirty t t' k m0 m seg chunk w (Map j) (map_table j) 1 (omega arith);
+          tables = record {
+            at = addressed t t' (Map j) 1 w.memory next go.at p.at p.others w.tables.at;
+            used = λ s. go.used s ∙ w.tables.used s;
+            live = λ s. go.live s ∙ w.tables.live s ∙ sym (counts (is_shown m) s);
+            held = λ s. go.held s ∙ w.tables.held s ∙ sym (counts (is_held m) s);
+          };
+          fresh = λ i off low. usage_kept t t' i (w.memory.bytes (Usage i)) (λ q lt. (go.used (64 * i + q), go.live (64 * i + q), go.age (64 * i + q))) (w.fresh i (sym (go.stale i) ∙ off) low);
+          clean = λ s low z. w.clean s low (sym (go.used s) ∙ z);
+          taken = λ s on. w.taken s (sym (go.taken s) ∙ on);
+          opened = still_open d dirty t t' k m0 m seg chunk w (Map j) (map_table j) 1 (omega arith) chunk w.opened go.taken;
+        },
+        taken_traced w.memory (Map j) next p,
+      )
 
 -- ---- as memory has it
 module _ (d : DeviceState) (v v' : LogMemory) (k : CheckpointValue) (m0 m : LogMap) (is : IsLoose d v k m0 m) where

@@ -56,7 +56,7 @@ pub returns-in-Err-clause-gathers : goal.returns-in-Err-clause-gathers
 returns-in-Err-clause-gathers g c = gathers_looks (g.D.SectorDevice.state c.args.device.now) (g.D.SectorDevice.state c.read_present.new.device) c.args.memory.now c.in-Err.ensures.looks
 
 pub returns-clause-gathers : goal.returns-clause-gathers
-returns-clause-gathers g c = 
+returns-clause-gathers g c =
     bring_gathers (g.D.SectorDevice.state c.args.device.now) (g.D.SectorDevice.state c.read_present.new.device) c.args.memory.now c.bring.new.memory _ c.file.result c.args.address
     (not c.is_hidden-lives.result) c.read_present.new.out c.in-Ok.ensures.looks
     (file_is c.args.key.code c.file.result c.file.ensures.file) (omega (arith, c.file.ensures.few)) c.requires.at c.requires.above (ap not c.is_hidden-lives.ensures) c.requires.mapped c.in-Ok.ensures.read

@@ -67,11 +67,11 @@ pub returns-in-Err-clause-gathers : goal.returns-in-Err-clause-gathers
 returns-in-Err-clause-gathers g c = gathers_none (g.D.SectorDevice.state c.args.device.now) c.args.memory.now c.lift_map_of.new.memory c.in-Err.ensures.same
 
 pub returns-in-Ok-lift-clause-gathers : goal.returns-in-Ok-lift-clause-gathers
-returns-in-Ok-lift-clause-gathers g c = 
+returns-in-Ok-lift-clause-gathers g c =
     gathers_then (g.D.SectorDevice.state c.args.device.now) (g.D.SectorDevice.state c.args.device.now) (g.D.SectorDevice.state c.lift.new.device) c.args.memory.now c.lift_map_of.new.memory c.lift.new.memory c.lift.ensures.prepares.looks.carries.kept_before
     (map_of_gathers (g.D.SectorDevice.state c.args.device.now) c.args.memory.now c.lift_map_of.new.memory (c.args.number / 128) c.in-Ok.ensures.done) c.lift.ensures.gathers
 
 pub returns-in-Err-lift-clause-gathers : goal.returns-in-Err-lift-clause-gathers
-returns-in-Err-lift-clause-gathers g c = 
+returns-in-Err-lift-clause-gathers g c =
     gathers_then (g.D.SectorDevice.state c.args.device.now) (g.D.SectorDevice.state c.args.device.now) (g.D.SectorDevice.state c.lift.new.device) c.args.memory.now c.lift_map_of.new.memory c.lift.new.memory c.lift.ensures.prepares.looks.carries.kept_before
     (map_of_gathers (g.D.SectorDevice.state c.args.device.now) c.args.memory.now c.lift_map_of.new.memory (c.args.number / 128) c.in-Ok.ensures.done) c.lift.ensures.gathers

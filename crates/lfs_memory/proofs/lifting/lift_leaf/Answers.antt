@@ -26,6 +26,6 @@ returns-clause-failed g c is =
     prepares_excused (g.D.SectorDevice.state c.args.device.now) (g.D.SectorDevice.state c.lift_child-2.new.device) (g.D.SectorDevice.state c.lift_child-3.new.device) c.args.memory.now c.lift_child-2.new.memory 1 c.lift_child-2.ensures.prepares c.lift_child-3.ensures.prepares.looks (c.lift_child-3.ensures.failed is)
 
 pub returns-clause-gathers : goal.returns-clause-gathers
-returns-clause-gathers g c = 
+returns-clause-gathers g c =
     gathers_then (g.D.SectorDevice.state c.args.device.now) (g.D.SectorDevice.state c.lift_child-2.new.device) (g.D.SectorDevice.state c.lift_child-3.new.device) c.args.memory.now c.lift_child-2.new.memory c.lift_child-3.new.memory
     c.lift_child-3.ensures.prepares.looks.carries.kept_before c.lift_child-2.ensures.gathers c.lift_child-3.ensures.gathers

@@ -22,6 +22,6 @@ returns-clause-failed g c is =
     prepares_excused (g.D.SectorDevice.state c.args.device.now) (g.D.SectorDevice.state c.lift_inode.new.device) (g.D.SectorDevice.state c.lift_leaf.new.device) c.args.memory.now c.lift_inode.new.memory 1 c.lift_inode.ensures.prepares c.lift_leaf.ensures.prepares.looks (c.lift_leaf.ensures.failed is)
 
 pub returns-clause-gathers : goal.returns-clause-gathers
-returns-clause-gathers g c = 
+returns-clause-gathers g c =
     gathers_then (g.D.SectorDevice.state c.args.device.now) (g.D.SectorDevice.state c.lift_inode.new.device) (g.D.SectorDevice.state c.lift_leaf.new.device) c.args.memory.now c.lift_inode.new.memory c.lift_leaf.new.memory
     c.lift_leaf.ensures.prepares.looks.carries.kept_before c.lift_inode.ensures.gathers c.lift_leaf.ensures.gathers
