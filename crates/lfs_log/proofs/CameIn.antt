@@ -1,12 +1,12 @@
 -- Which blocks come into memory: what calls one after the other bring, and that these blocks stood on the device before.
-use Rattle.std.proofs.Common.{◌≡◌, ◌<◌, ◌≤◌, ◌⊎◌, ⊎_elim, ◌+◌, ◌*◌, ℕ, zero, suc, List, [], ◌∷◌, length, get_or, ◌/◌, ◌-◌, Option, Some, None, refl, sym, ◌∙◌, ap, subst, arith, inl, inr}
-use Rattle.std.proofs.lemmas.Bool.{cases_eq, cases_lt}
+use Rattle.std.proofs.Common.{◌≡◌, ◌<◌, ◌≤◌, ◌⊎◌, ⊎_elim, ◌+◌, ◌*◌, ℕ, zero, suc, List, [], ◌∷◌, length, get_or, ◌/◌, ◌-◌, Some, None, refl, sym, ◌∙◌, ap, subst, arith, inl, inr}
+use Rattle.std.proofs.lemmas.Bool.{cases_eq}
 use Rattle.lfs_model.specs.Checkpoint.{CheckpointValue}
 use Rattle.lfs_model.specs.Counting.{segment_of}
 use Rattle.lfs_model.specs.Device.{DeviceState}
 use Rattle.lfs_model.specs.Entry.{Entry, Data, Leaf, Double, Inode, Map, Usage}
 use Rattle.lfs_model.specs.Members.{IsIn}
-use Rattle.lfs_model.specs.Memory.{Memory, file_of, IsOfFile, parent}
+use Rattle.lfs_model.specs.Memory.{Memory, IsOfFile, parent}
 use Rattle.lfs_model.specs.Stands.{LogMap}
 use Rattle.lfs_model.proofs.Entries.{file_of_parent, no_data_parent}
 use Rattle.lfs_memory.specs.inodes.Blocks.{TableValue, blocks_of}
@@ -14,7 +14,7 @@ use Rattle.lfs_memory.specs.inodes.Code.{IsCode, entry_at}
 use Rattle.lfs_memory.specs.declared.memory.LogMemory.{LogMemory}
 use Rattle.lfs_memory.specs.Lifting.{IsInMemory}
 use Rattle.lfs_memory.specs.Memory.{IsLoose}
-use Rattle.lfs_memory.specs.Present.{AnswersAddress, Looks}
+use Rattle.lfs_memory.specs.Present.{AnswersAddress}
 use Rattle.lfs_log.specs.Relocating.{BringsOne, BringsWay, CameFrom, IsAmong, IsBetween, IsDataBlock, IsInOrder, IsOnWay, LacksOnWay, Misses, Relocates, StandsWhere, climb}
 use Rattle.lfs_log.proofs.TableEntries.{one_came}
 

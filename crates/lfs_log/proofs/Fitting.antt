@@ -1,13 +1,13 @@
 -- What a pass of the cleaner brings into memory fits: its blocks of data stood in the victims, and of inodes and blocks of pointers there are
 -- no more than the log map has.
-use Rattle.std.proofs.Common.{◌≡◌, ◌<◌, ◌≤◌, ◌⊎◌, ⊎_elim, ◌+◌, ◌*◌, ◌-◌, ℕ, suc, List, [], ◌∷◌, length, Some, None, refl, sym, ◌∙◌, ap, subst, arith, inl, inr}
+use Rattle.std.proofs.Common.{◌≡◌, ◌<◌, ◌≤◌, ◌⊎◌, ⊎_elim, ◌+◌, ◌*◌, ◌-◌, ℕ, List, [], ◌∷◌, length, Some, None, refl, sym, ◌∙◌, ap, subst, arith, inl, inr}
 use Rattle.std.specs.Prelude.{sum_by}
 use Rattle.lfs_model.specs.Checkpoint.{CheckpointValue}
 use Rattle.lfs_model.specs.Device.{DeviceState}
 use Rattle.lfs_model.specs.Encodes.{IsLogMap}
 use Rattle.lfs_model.specs.Entry.{Entry, Data, Leaf, Double, Inode, Map, Usage}
 use Rattle.lfs_model.specs.Members.{IsIn, AreApart}
-use Rattle.lfs_model.specs.Memory.{Memory, IsOfFile, IsPointers, file_of}
+use Rattle.lfs_model.specs.Memory.{Memory, IsOfFile, IsPointers}
 use Rattle.lfs_model.specs.Stands.{LogMap}
 use Rattle.lfs_model.specs.Totals.{meta_in}
 use Rattle.lfs_model.proofs.MetasCounted.{IsMeta, metas_counted}
