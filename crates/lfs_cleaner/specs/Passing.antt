@@ -15,8 +15,9 @@ module _ {D : Type 0} (state : D → DeviceState) where
   abbrev pub Passes : Held D → Held D → Type 0
   Passes h h' = (vs : List ℕ) × Cleans state h h' vs
 
-  -- The log holds a log map for which a pass may be made: all is saved, an eighth of the segments is clean at least, but fewer than a
-  -- quarter, and the blocks of the files are within the volume. No segment counts as taken, as is so after a mount and a commit.
+  -- The log holds a log map for which a pass may be made. All is saved. An eighth of the segments
+  -- is clean at least, but fewer than a quarter. The blocks of the files are within the volume. No
+  -- segment counts as taken, as is so after a mount and a commit.
   pub record CanPass (h : Held D) (k : CheckpointValue) (m0 m : LogMap) : Type 0 where
     pub holds : Holds state h k m0 m
     pub map : IsLogMap m
@@ -30,4 +31,5 @@ module _ {D : Type 0} (state : D → DeviceState) where
 
   -- there is no such log map, where the device keeps the model
   abbrev pub IsUnfit : Held D → Held D → Type 0
-  IsUnfit h h' = (k : CheckpointValue) (m0 m : LogMap) → (state h'.device).keeps_model → CanPass h k m0 m → ⊥
+  IsUnfit h h' = (k : CheckpointValue) (m0 m : LogMap) → (state h'.device).keeps_model
+      → CanPass h k m0 m → ⊥

@@ -46,8 +46,9 @@ most_brought count = 63 * (count - 1) - 48
 abbrev pub limited : LogMemory → ℕ → LogMemory
 limited v most = record v { dirty = record { blocks = v.dirty.blocks; capacity = record { limit = most; room = v.dirty.capacity.room } } }
 
--- As blocks of the segments came into memory, with those above them, it had so many that it took no more, and one more was to come.
--- No other blocks came: where memory and device hold a log map, each stood on the device, and those of data in the segments.
+-- As blocks of the segments came into memory, with those above them, it had so many that it took
+-- no more, and one more was to come. No others came: where memory and device hold a log map, each
+-- stood on the device before, and those of data in the segments.
 pub record Crowds (d d' : DeviceState) (v v' : LogMemory) (vs : List ℕ) : Type 0 where
   pub relocates : Relocates d d' v v'
   pub order : IsInOrder v'.dirty

@@ -79,7 +79,8 @@ StandsWhere P M x = (2 ≤ M.at x) × (IsDataBlock x → P (M.at x))
 
 -- each block that came into memory stood so before
 abbrev pub CameFrom : DeviceState → DeviceState → LogMemory → LogMemory → (ℕ → Type 0) → Type 0
-CameFrom d d' v v' P = (k : CheckpointValue) (m0 m : LogMap) → d'.keeps_model → (is : IsLoose d v k m0 m) (x : Entry) → IsInMemory v' x
+CameFrom d d' v v' P = (k : CheckpointValue) (m0 m : LogMap) → d'.keeps_model
+    → (is : IsLoose d v k m0 m) (x : Entry) → IsInMemory v' x
     → IsInMemory v x ⊎ StandsWhere P is.running.memory x
 
 -- and one that stood so isn't in memory
@@ -87,7 +88,8 @@ pub record Misses (d d' : DeviceState) (v v' : LogMemory) (P : ℕ → Type 0) :
   pub block : Entry
   pub file : IsOfFile block
   pub outside : IsInMemory v' block → ⊥
-  pub stood : (k : CheckpointValue) (m0 m : LogMap) → d'.keeps_model → (is : IsLoose d v k m0 m) → StandsWhere P is.running.memory block
+  pub stood : (k : CheckpointValue) (m0 m : LogMap) → d'.keeps_model
+      → (is : IsLoose d v k m0 m) → StandsWhere P is.running.memory block
 
 -- where memory and device hold a log map, this block isn't stored
 abbrev pub IsNoBlock : DeviceState → LogMemory → Entry → Type 0

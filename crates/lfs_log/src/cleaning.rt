@@ -55,8 +55,11 @@ fn relocate_all<D: SectorDevice>(
     requires inside { (i : ℕ) → i < length victims.now → get_or victims.now i 0 < length memory.old.usage.segments }
     ensures relocates { Relocates (D.state device.old) (D.state device.new) memory.old memory.new }
     ensures vacates { OnOk result (VacatesAll (D.state device.old) (D.state device.new) memory.old memory.new victims.now (length victims.now)) }
-    ensures came { CameFrom (D.state device.old) (D.state device.new) memory.old memory.new (IsAmong victims.now) }
-    ensures misses { IsErrOf result LiftFault.Full → Misses (D.state device.old) (D.state device.new) memory.old memory.new (IsAmong victims.now) }
+    ensures came { CameFrom (D.state device.old) (D.state device.new) memory.old memory.new
+        (IsAmong victims.now) }
+    ensures misses { IsErrOf result LiftFault.Full
+        → Misses (D.state device.old) (D.state device.new) memory.old memory.new
+        (IsAmong victims.now) }
     ensures full { IsErrOf result LiftFault.Full → memory.new.dirty.capacity.limit ≤ length memory.new.dirty.blocks }
     ensures failed { IsErrOf result LiftFault.Device → IsExcused (D.state device.old) (D.state device.new) memory.old }
     ensures no_failure { OnOk result ((D.state device.new).failures ≡ (D.state device.old).failures) }
@@ -122,7 +125,8 @@ fn empty_segments<D: SectorDevice>(
     ensures segments { length memory.new.usage.segments ≡ length memory.old.usage.segments }
     ensures chunk { memory.new.chunk ≡ memory.old.chunk }
     ensures capacity { memory.new.dirty.capacity ≡ memory.old.dirty.capacity }
-    ensures full { IsErrOf result LiftFault.Full → Crowds (D.state device.old) (D.state device.new) memory.old memory.new victims.now }
+    ensures full { IsErrOf result LiftFault.Full
+        → Crowds (D.state device.old) (D.state device.new) memory.old memory.new victims.now }
     ensures failed { IsErrOf result LiftFault.Device → IsExcused (D.state device.old) (D.state device.new) memory.old }
     ensures no_failure { OnOk result ((D.state device.new).failures ≡ (D.state device.old).failures) }
 {
@@ -167,7 +171,8 @@ pub fn relocate<D: SectorDevice>(
     ensures same { OnErr result (memory.new ≡ memory.old) }
     ensures kept { length before.new.usage.segments ≡ length before.old.usage.segments }
     ensures looks { Looks (D.state device.old) (D.state device.new) }
-    ensures full { IsErrOf result LiftFault.Full → Overfills (D.state device.old) (D.state device.new) memory.old victims.now most }
+    ensures full { IsErrOf result LiftFault.Full
+        → Overfills (D.state device.old) (D.state device.new) memory.old victims.now most }
     ensures failed { IsErrOf result LiftFault.Device → IsExcused (D.state device.old) (D.state device.new) memory.old }
     ensures no_failure { OnOk result ((D.state device.new).failures ≡ (D.state device.old).failures) }
 {

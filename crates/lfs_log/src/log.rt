@@ -77,7 +77,8 @@ impl<D: SectorDevice> Log<D> {
         ensures counts { IfOk result (λ log. CountsOpened (D.state device) (D.state log.device) log.totals) }
         ensures found { IfOk result (λ log. HasLogMap (D.state device) (D.state log.device)) }
         ensures empty { IfOk result (λ log. log.memory.dirty.blocks ≡ []) }
-        ensures untaken { IfOk result (λ log. (D.state log.device).keeps_model → AreUntaken log.memory.usage) }
+        ensures untaken { IfOk result (λ log. (D.state log.device).keeps_model
+            → AreUntaken log.memory.usage) }
         ensures durable { IfOk result (λ log. (D.state log.device).keeps_model
             → Only (D.state device).content (D.state log.device)) }
         ensures cause { IfErr result (λ e. (e.0 ≡ MountFault.NoMemory → ⊥)

@@ -34,7 +34,8 @@ fn locate<D: SectorDevice>(
 ) -> Result<u32, DeviceFault>
     ensures answer { IfOk result (AnswersAddress (D.state device.old) (D.state device.new) memory.now (entry_of key)) }
     ensures failed { OnErr result (IsExcused (D.state device.old) (D.state device.new) memory.now) }
-    ensures no_failure { OnOk result ((D.state device.new).failures ≡ (D.state device.old).failures) }
+    ensures no_failure { OnOk result ((D.state device.new).failures
+        ≡ (D.state device.old).failures) }
     ensures looks { Looks (D.state device.old) (D.state device.new) }
 {
     let Some(above) = key.parent() else {
@@ -77,10 +78,14 @@ fn bring_inode<D: SectorDevice>(
     ensures came { BringsOne memory.old memory.new (entry_of key) }
     ensures lacks { IsErrOf result LiftFault.Full → IsInMemory memory.new (entry_of key) → ⊥ }
     ensures inside { IfOk result (λ found. IsTrue found → IsInMemory memory.new (entry_of key)) }
-    ensures none { IfOk result (λ found. IsFalse found → IsNoBlock (D.state device.new) memory.new (entry_of key)) }
-    ensures full { IsErrOf result LiftFault.Full → memory.new.dirty.capacity.limit ≤ length memory.new.dirty.blocks }
-    ensures failed { IsErrOf result LiftFault.Device → IsExcused (D.state device.old) (D.state device.new) memory.old }
-    ensures no_failure { OnOk result ((D.state device.new).failures ≡ (D.state device.old).failures) }
+    ensures none { IfOk result (λ found. IsFalse found
+        → IsNoBlock (D.state device.new) memory.new (entry_of key)) }
+    ensures full { IsErrOf result LiftFault.Full → memory.new.dirty.capacity.limit
+        ≤ length memory.new.dirty.blocks }
+    ensures failed { IsErrOf result LiftFault.Device
+        → IsExcused (D.state device.old) (D.state device.new) memory.old }
+    ensures no_failure { OnOk result ((D.state device.new).failures
+        ≡ (D.state device.old).failures) }
 {
     if has_block(memory, key) {
         return Ok(true);
@@ -113,10 +118,14 @@ fn bring_child<D: SectorDevice>(
     ensures came { BringsOne memory.old memory.new (entry_of key) }
     ensures lacks { IsErrOf result LiftFault.Full → IsInMemory memory.new (entry_of key) → ⊥ }
     ensures inside { IfOk result (λ found. IsTrue found → IsInMemory memory.new (entry_of key)) }
-    ensures none { IfOk result (λ found. IsFalse found → IsNoBlock (D.state device.new) memory.new (entry_of key)) }
-    ensures full { IsErrOf result LiftFault.Full → memory.new.dirty.capacity.limit ≤ length memory.new.dirty.blocks }
-    ensures failed { IsErrOf result LiftFault.Device → IsExcused (D.state device.old) (D.state device.new) memory.old }
-    ensures no_failure { OnOk result ((D.state device.new).failures ≡ (D.state device.old).failures) }
+    ensures none { IfOk result (λ found. IsFalse found
+        → IsNoBlock (D.state device.new) memory.new (entry_of key)) }
+    ensures full { IsErrOf result LiftFault.Full → memory.new.dirty.capacity.limit
+        ≤ length memory.new.dirty.blocks }
+    ensures failed { IsErrOf result LiftFault.Device
+        → IsExcused (D.state device.old) (D.state device.new) memory.old }
+    ensures no_failure { OnOk result ((D.state device.new).failures
+        ≡ (D.state device.old).failures) }
 {
     if has_block(memory, key) {
         return Ok(true);
@@ -147,10 +156,14 @@ fn bring_block<D: SectorDevice>(
     ensures came { BringsWay memory.old memory.new (entry_of key) }
     ensures lacks { IsErrOf result LiftFault.Full → LacksOnWay memory.new (entry_of key) }
     ensures inside { IfOk result (λ found. IsTrue found → IsInMemory memory.new (entry_of key)) }
-    ensures none { IfOk result (λ found. IsFalse found → IsNoBlock (D.state device.new) memory.new (entry_of key)) }
-    ensures full { IsErrOf result LiftFault.Full → memory.new.dirty.capacity.limit ≤ length memory.new.dirty.blocks }
-    ensures failed { IsErrOf result LiftFault.Device → IsExcused (D.state device.old) (D.state device.new) memory.old }
-    ensures no_failure { OnOk result ((D.state device.new).failures ≡ (D.state device.old).failures) }
+    ensures none { IfOk result (λ found. IsFalse found
+        → IsNoBlock (D.state device.new) memory.new (entry_of key)) }
+    ensures full { IsErrOf result LiftFault.Full → memory.new.dirty.capacity.limit
+        ≤ length memory.new.dirty.blocks }
+    ensures failed { IsErrOf result LiftFault.Device
+        → IsExcused (D.state device.old) (D.state device.new) memory.old }
+    ensures no_failure { OnOk result ((D.state device.new).failures
+        ≡ (D.state device.old).failures) }
 {
     let Some(above) = key.parent() else {
         return bring_inode(device, memory, key);
@@ -178,11 +191,17 @@ fn relocate_file_block<D: SectorDevice>(
     requires above { 2 ≤ address }
     ensures relocates { Relocates (D.state device.old) (D.state device.new) memory.old memory.new }
     ensures left { OnOk result (HasLeft (D.state device.old) (D.state device.new) memory.old memory.new (entry_of key) address) }
-    ensures came { CameFrom (D.state device.old) (D.state device.new) memory.old memory.new (IsBetween address (address + 1)) }
-    ensures misses { IsErrOf result LiftFault.Full → Misses (D.state device.old) (D.state device.new) memory.old memory.new (IsBetween address (address + 1)) }
-    ensures full { IsErrOf result LiftFault.Full → memory.new.dirty.capacity.limit ≤ length memory.new.dirty.blocks }
-    ensures failed { IsErrOf result LiftFault.Device → IsExcused (D.state device.old) (D.state device.new) memory.old }
-    ensures no_failure { OnOk result ((D.state device.new).failures ≡ (D.state device.old).failures) }
+    ensures came { CameFrom (D.state device.old) (D.state device.new) memory.old memory.new
+        (IsBetween address (address + 1)) }
+    ensures misses { IsErrOf result LiftFault.Full
+        → Misses (D.state device.old) (D.state device.new) memory.old memory.new
+        (IsBetween address (address + 1)) }
+    ensures full { IsErrOf result LiftFault.Full → memory.new.dirty.capacity.limit
+        ≤ length memory.new.dirty.blocks }
+    ensures failed { IsErrOf result LiftFault.Device
+        → IsExcused (D.state device.old) (D.state device.new) memory.old }
+    ensures no_failure { OnOk result ((D.state device.new).failures
+        ≡ (D.state device.old).failures) }
 {
     let there = match locate(device, memory, key) {
         Ok(there) => there,
@@ -290,11 +309,17 @@ fn relocate_block<D: SectorDevice>(
     requires above { 2 ≤ address }
     ensures relocates { Relocates (D.state device.old) (D.state device.new) memory.old memory.new }
     ensures left { OnOk result (HasLeft (D.state device.old) (D.state device.new) memory.old memory.new (entry.entry_of name) address) }
-    ensures came { CameFrom (D.state device.old) (D.state device.new) memory.old memory.new (IsBetween address (address + 1)) }
-    ensures misses { IsErrOf result LiftFault.Full → Misses (D.state device.old) (D.state device.new) memory.old memory.new (IsBetween address (address + 1)) }
-    ensures full { IsErrOf result LiftFault.Full → memory.new.dirty.capacity.limit ≤ length memory.new.dirty.blocks }
-    ensures failed { IsErrOf result LiftFault.Device → IsExcused (D.state device.old) (D.state device.new) memory.old }
-    ensures no_failure { OnOk result ((D.state device.new).failures ≡ (D.state device.old).failures) }
+    ensures came { CameFrom (D.state device.old) (D.state device.new) memory.old memory.new
+        (IsBetween address (address + 1)) }
+    ensures misses { IsErrOf result LiftFault.Full
+        → Misses (D.state device.old) (D.state device.new) memory.old memory.new
+        (IsBetween address (address + 1)) }
+    ensures full { IsErrOf result LiftFault.Full → memory.new.dirty.capacity.limit
+        ≤ length memory.new.dirty.blocks }
+    ensures failed { IsErrOf result LiftFault.Device
+        → IsExcused (D.state device.old) (D.state device.new) memory.old }
+    ensures no_failure { OnOk result ((D.state device.new).failures
+        ≡ (D.state device.old).failures) }
 {
     match name.kind {
         BlockKind::Map => match relocate_map(memory, name.index, address) {
@@ -326,11 +351,17 @@ fn relocate_chunk<D: SectorDevice>(
     requires few { first ≤ 65602 }
     ensures relocates { Relocates (D.state device.old) (D.state device.new) memory.old memory.new }
     ensures left { OnOk result (LeavesNames (D.state device.old) (D.state device.new) memory.old memory.new names.now first (length names.now)) }
-    ensures came { CameFrom (D.state device.old) (D.state device.new) memory.old memory.new (IsBetween first (first + length names.now)) }
-    ensures misses { IsErrOf result LiftFault.Full → Misses (D.state device.old) (D.state device.new) memory.old memory.new (IsBetween first (first + length names.now)) }
-    ensures full { IsErrOf result LiftFault.Full → memory.new.dirty.capacity.limit ≤ length memory.new.dirty.blocks }
-    ensures failed { IsErrOf result LiftFault.Device → IsExcused (D.state device.old) (D.state device.new) memory.old }
-    ensures no_failure { OnOk result ((D.state device.new).failures ≡ (D.state device.old).failures) }
+    ensures came { CameFrom (D.state device.old) (D.state device.new) memory.old memory.new
+        (IsBetween first (first + length names.now)) }
+    ensures misses { IsErrOf result LiftFault.Full
+        → Misses (D.state device.old) (D.state device.new) memory.old memory.new
+        (IsBetween first (first + length names.now)) }
+    ensures full { IsErrOf result LiftFault.Full → memory.new.dirty.capacity.limit
+        ≤ length memory.new.dirty.blocks }
+    ensures failed { IsErrOf result LiftFault.Device
+        → IsExcused (D.state device.old) (D.state device.new) memory.old }
+    ensures no_failure { OnOk result ((D.state device.new).failures
+        ≡ (D.state device.old).failures) }
 {
     for place in 0..names.len() {
         match relocate_block(device, memory, names.get(place), first + place as u32) {
@@ -355,7 +386,8 @@ fn read_sector<D: SectorDevice>(
     requires inside { address < (D.state device.old).size }
     ensures read { OnOk result ((D.state device.new).keeps_model → block (D.state device.old).content address ≡ out.new) }
     ensures unread { OnErr result ((D.state device.new).keeps_model → (D.state device.old).failures < (D.state device.new).failures ⊎ (cell_at (D.state device.old).content address ≡ None)) }
-    ensures no_failure { OnOk result ((D.state device.new).failures ≡ (D.state device.old).failures) }
+    ensures no_failure { OnOk result ((D.state device.new).failures
+        ≡ (D.state device.old).failures) }
     ensures looks { Looks (D.state device.old) (D.state device.new) }
 {
     match device.read(address, out) {
@@ -380,11 +412,17 @@ pub fn relocate_segment<D: SectorDevice>(
     requires inside { segment < length memory.old.usage.segments }
     ensures relocates { Relocates (D.state device.old) (D.state device.new) memory.old memory.new }
     ensures vacates { OnOk result (Vacates (D.state device.old) (D.state device.new) memory.old memory.new (2 + 64 * segment) (66 + 64 * segment)) }
-    ensures came { CameFrom (D.state device.old) (D.state device.new) memory.old memory.new (IsBetween (2 + 64 * segment) (66 + 64 * segment)) }
-    ensures misses { IsErrOf result LiftFault.Full → Misses (D.state device.old) (D.state device.new) memory.old memory.new (IsBetween (2 + 64 * segment) (66 + 64 * segment)) }
-    ensures full { IsErrOf result LiftFault.Full → memory.new.dirty.capacity.limit ≤ length memory.new.dirty.blocks }
-    ensures failed { IsErrOf result LiftFault.Device → IsExcused (D.state device.old) (D.state device.new) memory.old }
-    ensures no_failure { OnOk result ((D.state device.new).failures ≡ (D.state device.old).failures) }
+    ensures came { CameFrom (D.state device.old) (D.state device.new) memory.old memory.new
+        (IsBetween (2 + 64 * segment) (66 + 64 * segment)) }
+    ensures misses { IsErrOf result LiftFault.Full
+        → Misses (D.state device.old) (D.state device.new) memory.old memory.new
+        (IsBetween (2 + 64 * segment) (66 + 64 * segment)) }
+    ensures full { IsErrOf result LiftFault.Full → memory.new.dirty.capacity.limit
+        ≤ length memory.new.dirty.blocks }
+    ensures failed { IsErrOf result LiftFault.Device
+        → IsExcused (D.state device.old) (D.state device.new) memory.old }
+    ensures no_failure { OnOk result ((D.state device.new).failures
+        ≡ (D.state device.old).failures) }
 {
     let mut sector = [0; 512];
     let first = 2 + 64 * segment;
