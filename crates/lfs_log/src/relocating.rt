@@ -11,13 +11,13 @@ ghost use Rattle.lfs_memory.specs.Present.{AnswersAddress, IsExcused, Looks};
 ghost use Rattle.lfs_memory.specs.inodes.Key.{entry_of};
 ghost use Rattle.lfs_memory.specs.inodes.MapValue.{block_in};
 ghost use Rattle.lfs_memory.specs.segments.Table.{address_of};
-ghost use Rattle.lfs_log.specs.Relocating.{HasLeft, IsNoBlock, IsUsageLost, LeavesNames, Relocates, UsageLeaves, UsageLeavesIn, Vacates};
+ghost use Rattle.lfs_log.specs.Relocating.{BringsOne, BringsWay, CameFrom, HasLeft, IsBetween, IsInOrder, IsNoBlock, IsUsageLost, LacksOnWay, LeavesNames, Misses, Relocates, UsageLeaves, UsageLeavesIn, Vacates};
 
 use lfs_device::{DeviceFault, SectorDevice};
 use lfs_layout::{BlockName, SummaryView, word};
 use lfs_memory::LogMemory;
 use lfs_memory::inodes::{BlockKey, IN_MEMORY};
-use lfs_memory::lifting::{LiftFault, is_counted, lift_child, lift_inode, lift_map};
+use lfs_memory::lifting::{LiftFault, has_block, is_counted, lift_child, lift_inode, lift_map};
 use lfs_memory::present::read_present;
 use lfs_memory::segments::Usage;
 use lfs_model::BlockKind;
@@ -34,7 +34,8 @@ fn locate<D: SectorDevice>(
 ) -> Result<u32, DeviceFault>
     ensures answer { IfOk result (AnswersAddress (D.state device.old) (D.state device.new) memory.now (entry_of key)) }
     ensures failed { OnErr result (IsExcused (D.state device.old) (D.state device.new) memory.now) }
-    ensures no_failure { OnOk result ((D.state device.new).failures ≡ (D.state device.old).failures) }
+    ensures no_failure { OnOk result ((D.state device.new).failures
+        ≡ (D.state device.old).failures) }
     ensures looks { Looks (D.state device.old) (D.state device.new) }
 {
     let Some(above) = key.parent() else {
@@ -54,6 +55,13 @@ fn locate<D: SectorDevice>(
     }
 }
 
+/// The blocks in memory stand in the order of their keys: a law of their table.
+pub fn are_in_order(memory: &LogMemory)
+    ensures { IsInOrder memory.now.dirty }
+{
+    let _count = memory.dirty.len();
+}
+
 /// Brings the inode of this key into memory, if the file is there: whether it is there then.
 ///
 /// # Errors
@@ -67,14 +75,67 @@ fn bring_inode<D: SectorDevice>(
     requires memory { IsMemory memory.old }
     requires top { parent (entry_of key) ≡ entry_of key }
     ensures relocates { Relocates (D.state device.old) (D.state device.new) memory.old memory.new }
+    ensures came { BringsOne memory.old memory.new (entry_of key) }
+    ensures lacks { IsErrOf result LiftFault.Full → IsInMemory memory.new (entry_of key) → ⊥ }
     ensures inside { IfOk result (λ found. IsTrue found → IsInMemory memory.new (entry_of key)) }
-    ensures none { IfOk result (λ found. IsFalse found → IsNoBlock (D.state device.new) memory.new (entry_of key)) }
-    ensures full { IsErrOf result LiftFault.Full → memory.new.dirty.capacity.limit ≤ length memory.new.dirty.blocks }
-    ensures failed { IsErrOf result LiftFault.Device → IsExcused (D.state device.old) (D.state device.new) memory.old }
-    ensures no_failure { OnOk result ((D.state device.new).failures ≡ (D.state device.old).failures) }
+    ensures none { IfOk result (λ found. IsFalse found
+        → IsNoBlock (D.state device.new) memory.new (entry_of key)) }
+    ensures full { IsErrOf result LiftFault.Full → memory.new.dirty.capacity.limit
+        ≤ length memory.new.dirty.blocks }
+    ensures failed { IsErrOf result LiftFault.Device
+        → IsExcused (D.state device.old) (D.state device.new) memory.old }
+    ensures no_failure { OnOk result ((D.state device.new).failures
+        ≡ (D.state device.old).failures) }
 {
+    if has_block(memory, key) {
+        return Ok(true);
+    }
+    are_in_order(memory);
     match lift_inode(device, memory, key.file()) {
-        Ok(true) => Ok(true),
+        Ok(true) => {
+            are_in_order(memory);
+            Ok(true)
+        }
+        Ok(false) => Ok(false),
+        Err(fault) => Err(fault),
+    }
+}
+
+/// Brings a block of a file into memory, if it is stored: whether it is there then. The block above it is there.
+///
+/// # Errors
+///
+/// As those of `lift`.
+fn bring_child<D: SectorDevice>(
+    device: &mut D,
+    memory: &mut LogMemory,
+    key: BlockKey,
+) -> Result<bool, LiftFault>
+    requires memory { IsMemory memory.old }
+    requires below { parent (entry_of key) ≡ entry_of key → ⊥ }
+    requires above { IsInMemory memory.old (parent (entry_of key)) }
+    ensures relocates { Relocates (D.state device.old) (D.state device.new) memory.old memory.new }
+    ensures came { BringsOne memory.old memory.new (entry_of key) }
+    ensures lacks { IsErrOf result LiftFault.Full → IsInMemory memory.new (entry_of key) → ⊥ }
+    ensures inside { IfOk result (λ found. IsTrue found → IsInMemory memory.new (entry_of key)) }
+    ensures none { IfOk result (λ found. IsFalse found
+        → IsNoBlock (D.state device.new) memory.new (entry_of key)) }
+    ensures full { IsErrOf result LiftFault.Full → memory.new.dirty.capacity.limit
+        ≤ length memory.new.dirty.blocks }
+    ensures failed { IsErrOf result LiftFault.Device
+        → IsExcused (D.state device.old) (D.state device.new) memory.old }
+    ensures no_failure { OnOk result ((D.state device.new).failures
+        ≡ (D.state device.old).failures) }
+{
+    if has_block(memory, key) {
+        return Ok(true);
+    }
+    are_in_order(memory);
+    match lift_child(device, memory, key) {
+        Ok(true) => {
+            are_in_order(memory);
+            Ok(true)
+        }
         Ok(false) => Ok(false),
         Err(fault) => Err(fault),
     }
@@ -92,11 +153,17 @@ fn bring_block<D: SectorDevice>(
 ) -> Result<bool, LiftFault>
     requires { IsMemory memory.old }
     ensures relocates { Relocates (D.state device.old) (D.state device.new) memory.old memory.new }
+    ensures came { BringsWay memory.old memory.new (entry_of key) }
+    ensures lacks { IsErrOf result LiftFault.Full → LacksOnWay memory.new (entry_of key) }
     ensures inside { IfOk result (λ found. IsTrue found → IsInMemory memory.new (entry_of key)) }
-    ensures none { IfOk result (λ found. IsFalse found → IsNoBlock (D.state device.new) memory.new (entry_of key)) }
-    ensures full { IsErrOf result LiftFault.Full → memory.new.dirty.capacity.limit ≤ length memory.new.dirty.blocks }
-    ensures failed { IsErrOf result LiftFault.Device → IsExcused (D.state device.old) (D.state device.new) memory.old }
-    ensures no_failure { OnOk result ((D.state device.new).failures ≡ (D.state device.old).failures) }
+    ensures none { IfOk result (λ found. IsFalse found
+        → IsNoBlock (D.state device.new) memory.new (entry_of key)) }
+    ensures full { IsErrOf result LiftFault.Full → memory.new.dirty.capacity.limit
+        ≤ length memory.new.dirty.blocks }
+    ensures failed { IsErrOf result LiftFault.Device
+        → IsExcused (D.state device.old) (D.state device.new) memory.old }
+    ensures no_failure { OnOk result ((D.state device.new).failures
+        ≡ (D.state device.old).failures) }
 {
     let Some(above) = key.parent() else {
         return bring_inode(device, memory, key);
@@ -106,11 +173,7 @@ fn bring_block<D: SectorDevice>(
         Ok(false) => return Ok(false),
         Err(fault) => return Err(fault),
     }
-    match lift_child(device, memory, key) {
-        Ok(true) => Ok(true),
-        Ok(false) => Ok(false),
-        Err(fault) => Err(fault),
-    }
+    bring_child(device, memory, key)
 }
 
 /// A block of a file comes into memory with all above it, if it is at this address that it stands.
@@ -128,9 +191,17 @@ fn relocate_file_block<D: SectorDevice>(
     requires above { 2 ≤ address }
     ensures relocates { Relocates (D.state device.old) (D.state device.new) memory.old memory.new }
     ensures left { OnOk result (HasLeft (D.state device.old) (D.state device.new) memory.old memory.new (entry_of key) address) }
-    ensures full { IsErrOf result LiftFault.Full → memory.new.dirty.capacity.limit ≤ length memory.new.dirty.blocks }
-    ensures failed { IsErrOf result LiftFault.Device → IsExcused (D.state device.old) (D.state device.new) memory.old }
-    ensures no_failure { OnOk result ((D.state device.new).failures ≡ (D.state device.old).failures) }
+    ensures came { CameFrom (D.state device.old) (D.state device.new) memory.old memory.new
+        (IsBetween address (address + 1)) }
+    ensures misses { IsErrOf result LiftFault.Full
+        → Misses (D.state device.old) (D.state device.new) memory.old memory.new
+        (IsBetween address (address + 1)) }
+    ensures full { IsErrOf result LiftFault.Full → memory.new.dirty.capacity.limit
+        ≤ length memory.new.dirty.blocks }
+    ensures failed { IsErrOf result LiftFault.Device
+        → IsExcused (D.state device.old) (D.state device.new) memory.old }
+    ensures no_failure { OnOk result ((D.state device.new).failures
+        ≡ (D.state device.old).failures) }
 {
     let there = match locate(device, memory, key) {
         Ok(there) => there,
@@ -238,9 +309,17 @@ fn relocate_block<D: SectorDevice>(
     requires above { 2 ≤ address }
     ensures relocates { Relocates (D.state device.old) (D.state device.new) memory.old memory.new }
     ensures left { OnOk result (HasLeft (D.state device.old) (D.state device.new) memory.old memory.new (entry.entry_of name) address) }
-    ensures full { IsErrOf result LiftFault.Full → memory.new.dirty.capacity.limit ≤ length memory.new.dirty.blocks }
-    ensures failed { IsErrOf result LiftFault.Device → IsExcused (D.state device.old) (D.state device.new) memory.old }
-    ensures no_failure { OnOk result ((D.state device.new).failures ≡ (D.state device.old).failures) }
+    ensures came { CameFrom (D.state device.old) (D.state device.new) memory.old memory.new
+        (IsBetween address (address + 1)) }
+    ensures misses { IsErrOf result LiftFault.Full
+        → Misses (D.state device.old) (D.state device.new) memory.old memory.new
+        (IsBetween address (address + 1)) }
+    ensures full { IsErrOf result LiftFault.Full → memory.new.dirty.capacity.limit
+        ≤ length memory.new.dirty.blocks }
+    ensures failed { IsErrOf result LiftFault.Device
+        → IsExcused (D.state device.old) (D.state device.new) memory.old }
+    ensures no_failure { OnOk result ((D.state device.new).failures
+        ≡ (D.state device.old).failures) }
 {
     match name.kind {
         BlockKind::Map => match relocate_map(memory, name.index, address) {
@@ -272,9 +351,17 @@ fn relocate_chunk<D: SectorDevice>(
     requires few { first ≤ 65602 }
     ensures relocates { Relocates (D.state device.old) (D.state device.new) memory.old memory.new }
     ensures left { OnOk result (LeavesNames (D.state device.old) (D.state device.new) memory.old memory.new names.now first (length names.now)) }
-    ensures full { IsErrOf result LiftFault.Full → memory.new.dirty.capacity.limit ≤ length memory.new.dirty.blocks }
-    ensures failed { IsErrOf result LiftFault.Device → IsExcused (D.state device.old) (D.state device.new) memory.old }
-    ensures no_failure { OnOk result ((D.state device.new).failures ≡ (D.state device.old).failures) }
+    ensures came { CameFrom (D.state device.old) (D.state device.new) memory.old memory.new
+        (IsBetween first (first + length names.now)) }
+    ensures misses { IsErrOf result LiftFault.Full
+        → Misses (D.state device.old) (D.state device.new) memory.old memory.new
+        (IsBetween first (first + length names.now)) }
+    ensures full { IsErrOf result LiftFault.Full → memory.new.dirty.capacity.limit
+        ≤ length memory.new.dirty.blocks }
+    ensures failed { IsErrOf result LiftFault.Device
+        → IsExcused (D.state device.old) (D.state device.new) memory.old }
+    ensures no_failure { OnOk result ((D.state device.new).failures
+        ≡ (D.state device.old).failures) }
 {
     for place in 0..names.len() {
         match relocate_block(device, memory, names.get(place), first + place as u32) {
@@ -299,7 +386,8 @@ fn read_sector<D: SectorDevice>(
     requires inside { address < (D.state device.old).size }
     ensures read { OnOk result ((D.state device.new).keeps_model → block (D.state device.old).content address ≡ out.new) }
     ensures unread { OnErr result ((D.state device.new).keeps_model → (D.state device.old).failures < (D.state device.new).failures ⊎ (cell_at (D.state device.old).content address ≡ None)) }
-    ensures no_failure { OnOk result ((D.state device.new).failures ≡ (D.state device.old).failures) }
+    ensures no_failure { OnOk result ((D.state device.new).failures
+        ≡ (D.state device.old).failures) }
     ensures looks { Looks (D.state device.old) (D.state device.new) }
 {
     match device.read(address, out) {
@@ -324,9 +412,17 @@ pub fn relocate_segment<D: SectorDevice>(
     requires inside { segment < length memory.old.usage.segments }
     ensures relocates { Relocates (D.state device.old) (D.state device.new) memory.old memory.new }
     ensures vacates { OnOk result (Vacates (D.state device.old) (D.state device.new) memory.old memory.new (2 + 64 * segment) (66 + 64 * segment)) }
-    ensures full { IsErrOf result LiftFault.Full → memory.new.dirty.capacity.limit ≤ length memory.new.dirty.blocks }
-    ensures failed { IsErrOf result LiftFault.Device → IsExcused (D.state device.old) (D.state device.new) memory.old }
-    ensures no_failure { OnOk result ((D.state device.new).failures ≡ (D.state device.old).failures) }
+    ensures came { CameFrom (D.state device.old) (D.state device.new) memory.old memory.new
+        (IsBetween (2 + 64 * segment) (66 + 64 * segment)) }
+    ensures misses { IsErrOf result LiftFault.Full
+        → Misses (D.state device.old) (D.state device.new) memory.old memory.new
+        (IsBetween (2 + 64 * segment) (66 + 64 * segment)) }
+    ensures full { IsErrOf result LiftFault.Full → memory.new.dirty.capacity.limit
+        ≤ length memory.new.dirty.blocks }
+    ensures failed { IsErrOf result LiftFault.Device
+        → IsExcused (D.state device.old) (D.state device.new) memory.old }
+    ensures no_failure { OnOk result ((D.state device.new).failures
+        ≡ (D.state device.old).failures) }
 {
     let mut sector = [0; 512];
     let first = 2 + 64 * segment;

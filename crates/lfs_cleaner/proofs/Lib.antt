@@ -1,0 +1,2 @@
+pub mod Pressing
+pub use Rattle.lfs_log.proofs as of_log

@@ -1,0 +1,2 @@
+pub mod Passing
+pub use Rattle.lfs_log.specs as log

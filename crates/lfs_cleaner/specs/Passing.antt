@@ -1,0 +1,35 @@
+-- A pass of the cleaner, and where one may be made.
+use Rattle.std.specs.Prelude.{◌≡◌, ◌<◌, ◌≤◌, ◌+◌, ◌-◌, ◌*◌, ◌^◌, ℕ, List, [], length}
+use Rattle.lfs_model.specs.Checkpoint.{CheckpointValue}
+use Rattle.lfs_model.specs.Device.{DeviceState}
+use Rattle.lfs_model.specs.Encodes.{IsLogMap}
+use Rattle.lfs_model.specs.Stands.{LogMap}
+use Rattle.lfs_model.specs.Totals.{data_in, meta_in}
+use Rattle.lfs_log.specs.segments.Table.{clean_in}
+use Rattle.lfs_log.specs.Cleaning.{Cleans}
+use Rattle.lfs_log.specs.Held.{Held, Holds}
+use Rattle.lfs_log.specs.Publishing.{AreUntaken}
+
+module _ {D : Type 0} (state : D → DeviceState) where
+  -- some segments are clean then
+  abbrev pub Passes : Held D → Held D → Type 0
+  Passes h h' = (vs : List ℕ) × Cleans state h h' vs
+
+  -- The log holds a log map for which a pass may be made. All is saved. An eighth of the segments
+  -- is clean at least, but fewer than a quarter. The blocks of the files are within the volume. No
+  -- segment counts as taken, as is so after a mount and a commit.
+  pub record CanPass (h : Held D) (k : CheckpointValue) (m0 m : LogMap) : Type 0 where
+    pub holds : Holds state h k m0 m
+    pub map : IsLogMap m
+    pub nothing : h.memory.dirty.blocks ≡ []
+    pub untaken : AreUntaken h.memory.usage
+    pub few : 4 * clean_in h.memory.usage.segments < length h.memory.usage.segments
+    pub many : length h.memory.usage.segments ≤ 8 * clean_in h.memory.usage.segments
+    pub counted : h.totals.meta_blocks ≡ meta_in m
+    pub need : data_in m + 7 * meta_in m + 720 ≤ 47 * length h.memory.usage.segments
+    pub number : h.number < 2 ^ 64 - 1
+
+  -- there is no such log map, where the device keeps the model
+  abbrev pub IsUnfit : Held D → Held D → Type 0
+  IsUnfit h h' = (k : CheckpointValue) (m0 m : LogMap) → (state h'.device).keeps_model
+      → CanPass h k m0 m → ⊥
