@@ -1,0 +1,9 @@
+//! The cleaner of a log: it empties segments with few blocks, so that they are clean.
+//! After the Sprite LFS paper (1992, section 3.3).
+#![tactic(auto)]
+
+pub mod passing;
+pub mod room;
+
+pub use passing::pass;
+pub use room::make_room;

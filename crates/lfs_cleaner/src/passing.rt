@@ -1,0 +1,36 @@
+//! One pass of the cleaner.
+ghost use Rattle.std.specs.Prelude.{◌≡◌, ◌≢◌, true, OnOk, IsErrOf};
+ghost use Rattle.lfs_log.specs.Held.{Halts, IsReadFault, Reads};
+ghost use Rattle.lfs_cleaner.specs.Passing.{MayNotPass, Passes};
+
+use lfs_device::SectorDevice;
+use lfs_log::memory::segments::victims::victims;
+use lfs_log::{Log, LogFault};
+
+/// Empties the segments with the least blocks, the fewest by which one is gained.
+///
+/// # Errors
+///
+/// As those of `Log::clean`, and `Full` where no list of an eighth of the segments and one at most gains one.
+pub fn pass<D: SectorDevice>(log: &mut Log<D>) -> Result<(), LogFault>
+    ensures done { OnOk result (Passes D.SectorDevice.state log.old log.new) }
+    ensures totals { log.new.totals ≡ log.old.totals }
+    ensures full { IsErrOf result LogFault.Full → Reads D.SectorDevice.state log.old log.new }
+    ensures lacks { IsErrOf result LogFault.Full → MayNotPass D.SectorDevice.state log.old log.new }
+    ensures kept { IsErrOf result LogFault.Device → Reads D.SectorDevice.state log.old log.new }
+    ensures failed { IsErrOf result LogFault.Device
+        → IsReadFault D.SectorDevice.state log.old log.new }
+    ensures halted { IsErrOf result LogFault.Halted → log.old.halted ≢ true
+        → Halts D.SectorDevice.state log.old log.new }
+    ensures still { log.old.halted ≡ true → (log.new ≡ log.old)
+        × IsErrOf result LogFault.Halted }
+{
+    if log.is_halted() {
+        return Err(LogFault::Halted);
+    }
+    let most = log.usage().segments() / 8 + 1;
+    let Some(chosen) = victims(log.usage(), log.meta(), most) else {
+        return Err(LogFault::Full);
+    };
+    log.clean(chosen.as_slice())
+}
