@@ -42,7 +42,7 @@ module _ {D : Type 0} (state : D → DeviceState) where
     gains = (let g = done.gains in let g' = one.gains in omega (arith, g, g'));
   }
 
-  same_need : (h now : Held D) → now.totals ≡ h.totals → length now.memory.usage.segments ≡ length h.memory.usage.segments → IsWithin h → IsWithin now
+  pub same_need : (h now : Held D) → now.totals ≡ h.totals → length now.memory.usage.segments ≡ length h.memory.usage.segments → IsWithin h → IsWithin now
   same_need h now totals size need =
       let stored = ap (λ (t : BlockTotals). t.data_blocks) totals in
       let above = ap (λ (t : BlockTotals). t.meta_blocks) totals in

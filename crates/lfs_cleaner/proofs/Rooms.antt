@@ -21,7 +21,7 @@ use Rattle.lfs_cleaner.specs.Room.{HaltsLater, HoldsOver, IsRoomFault, KeepsMap,
 
 module _ {D : Type 0} (state : D → DeviceState) where
   -- ---- one step
-  acknowledged : (h : Held D) (k : CheckpointValue) (m0 m : LogMap) → Holds state h k m0 m → AllLeft (state h.device) (λ c. StandsOn k.segments c m0)
+  pub acknowledged : (h : Held D) (k : CheckpointValue) (m0 m : LogMap) → Holds state h k m0 m → AllLeft (state h.device) (λ c. StandsOn k.segments c m0)
   acknowledged h k m0 m is = settled_stands (state h.device) k m0 is.log.running.settled
 
   -- nothing happens
@@ -117,7 +117,7 @@ module _ {D : Type 0} (state : D → DeviceState) where
   -- ---- one step after another
   -- what is one of the two for the log map in the middle is one of the two for that at the start
   module _ (a b : Held D) (k : CheckpointValue) (m0 m : LogMap) (over : HoldsOver state k.segments m0 m b) where
-    saved_still : (c : Content) → IsSaved state over.checkpoint.segments over.acknowledged m c → IsSaved state k.segments m0 m c
+    pub saved_still : (c : Content) → IsSaved state over.checkpoint.segments over.acknowledged m c → IsSaved state k.segments m0 m c
     saved_still c is = ⊎_elim
         (λ (first : StandsOn over.checkpoint.segments c over.acknowledged).
         let here : StandsOn k.segments c over.acknowledged = subst (λ (n : ℕ). StandsOn n c over.acknowledged) over.segments first in

@@ -37,14 +37,16 @@ module _ {D : Type 0} (state : D → DeviceState) where
     pub segments : length h'.memory.usage.segments ≡ length h.memory.usage.segments
     pub totals : h'.totals ≡ h.totals
     pub holds : (k : CheckpointValue) (m0 m : LogMap) → (state h'.device).keeps_model
-        → Holds state h k m0 m → IsLogMap (dropped m) → HoldsOver k.segments m0 m h'
+        → Holds state h k m0 m → IsLogMap (dropped m)
+        → HoldsOver k.segments m0 m h'
     pub moment : LeavesSaved state h h'
 
   -- The log map, without its files of no links, is acknowledged, and nothing of it is unsaved.
   pub record SavesAll (h h' : Held D) : Type 0 where
     pub empty : h'.memory.dirty.blocks ≡ []
     pub holds : (k : CheckpointValue) (m0 m : LogMap) → (state h'.device).keeps_model
-        → Holds state h k m0 m → IsLogMap (dropped m) → (next : CheckpointValue) × Holds state h' next (dropped m) m
+        → Holds state h k m0 m → IsLogMap (dropped m)
+        → (next : CheckpointValue) × Holds state h' next (dropped m) m
 
   -- Commits and passes that are done, if any.
   pub record Repeats (h h' : Held D) (most : ℕ) : Type 0 where
@@ -68,15 +70,18 @@ module _ {D : Type 0} (state : D → DeviceState) where
     pub later : h.number ≤ h'.number
     pub number : h'.number ≤ h.number + most
     pub cause : (k : CheckpointValue) (m0 m : LogMap) → (state h'.device).keeps_model
-        → Holds state h k m0 m → IsLogMap (dropped m) → (state h.device).failures < (state h'.device).failures
+        → Holds state h k m0 m → IsLogMap (dropped m)
+        → (state h.device).failures < (state h'.device).failures
     pub left : (k : CheckpointValue) (m0 m : LogMap) → (state h'.device).keeps_model
-        → Holds state h k m0 m → IsLogMap (dropped m) → AllLeft (state h'.device) (IsSaved state k.segments m0 m)
+        → Holds state h k m0 m → IsLogMap (dropped m)
+        → AllLeft (state h'.device) (IsSaved state k.segments m0 m)
     pub moment : LeavesSaved state h h'
 
   -- a call of the device failed, where the log holds a map
   abbrev pub IsRoomFault : Held D → Held D → Type 0
   IsRoomFault h h' = (k : CheckpointValue) (m0 m : LogMap) → (state h'.device).keeps_model
-      → Holds state h k m0 m → IsLogMap (dropped m) → (state h.device).failures < (state h'.device).failures
+      → Holds state h k m0 m → IsLogMap (dropped m)
+      → (state h.device).failures < (state h'.device).failures
 
   -- Where room can be made: the need of log map m is within the volume, an eighth of the segments is clean, so many that a commit may come
   -- where anything is unsaved, and numbers are left for the checkpoints.

@@ -6,4 +6,4 @@ pub mod passing;
 pub mod room;
 
 pub use passing::pass;
-pub use room::make_room;
+pub use room::{has_quarter, make_room};

@@ -9,7 +9,7 @@ use lfs_device::SectorDevice;
 use lfs_log::{Log, LogFault};
 
 /// Whether a quarter of the segments is clean.
-fn has_quarter<D: SectorDevice>(log: &Log<D>) -> bool
+pub fn has_quarter<D: SectorDevice>(log: &Log<D>) -> bool
     ensures yes { IsTrue result → HasQuarter log.now }
     ensures no { IsFalse result → 4 * clean_in log.now.memory.usage.segments
         < length log.now.memory.usage.segments }
@@ -28,6 +28,7 @@ fn pass_until_quarter<D: SectorDevice>(log: &mut Log<D>) -> Result<(), LogFault>
     ensures done { OnOk result (Repeats D.SectorDevice.state log.old log.new
         (length log.old.memory.usage.segments / 8)) }
     ensures enough { OnOk result (HasQuarter log.new) }
+    ensures totals { log.new.totals ≡ log.old.totals }
     ensures full { IsErrOf result LogFault.Full → KeepsMap D.SectorDevice.state log.old log.new
         (length log.old.memory.usage.segments / 8) }
     ensures lacks { IsErrOf result LogFault.Full
@@ -37,7 +38,8 @@ fn pass_until_quarter<D: SectorDevice>(log: &mut Log<D>) -> Result<(), LogFault>
     ensures failed { IsErrOf result LogFault.Device
         → IsRoomFault D.SectorDevice.state log.old log.new }
     ensures halted { IsErrOf result LogFault.Halted
-        → HaltsLater D.SectorDevice.state log.old log.new (length log.old.memory.usage.segments / 8) }
+        → HaltsLater D.SectorDevice.state log.old log.new
+        (length log.old.memory.usage.segments / 8) }
 {
     let most = log.segments() / 8;
     for _ in 0..most {
@@ -63,6 +65,7 @@ fn pass_until_quarter<D: SectorDevice>(log: &mut Log<D>) -> Result<(), LogFault>
 fn commit_unsaved<D: SectorDevice>(log: &mut Log<D>) -> Result<(), LogFault>
     requires { log.old.halted ≡ false }
     ensures done { OnOk result (IsReadied D.SectorDevice.state log.old log.new) }
+    ensures totals { log.new.totals ≡ log.old.totals }
     ensures full { IsErrOf result LogFault.Full → (log.new ≡ log.old) × IsFull log.old }
     ensures unsaved { IsErrOf result LogFault.Full → 0 < length log.old.memory.dirty.blocks }
     ensures halted { IsErrOf result LogFault.Halted → Halts D.SectorDevice.state log.old log.new }
@@ -86,6 +89,7 @@ fn commit_unsaved<D: SectorDevice>(log: &mut Log<D>) -> Result<(), LogFault>
 /// failed before anything more was written. `Halted` where one failed later, or in a commit before.
 pub fn make_room<D: SectorDevice>(log: &mut Log<D>) -> Result<(), LogFault>
     ensures done { OnOk result (CleansQuarter D.SectorDevice.state log.old log.new) }
+    ensures totals { log.new.totals ≡ log.old.totals }
     ensures full { IsErrOf result LogFault.Full → KeepsMap D.SectorDevice.state log.old log.new
         (most_checkpoints log.old) }
     ensures lacks { IsErrOf result LogFault.Full

@@ -56,3 +56,6 @@ returns-clause-failed g c is =
 pub returns-clause-halted : goal.returns-clause-halted
 returns-clause-halted g c is ne =
     halts_after g.D.SectorDevice.state c.args.log.now c.commit_unsaved.new.log c.pass_until_quarter.new.log c.in-Ok.ensures.done (c.pass_until_quarter.ensures.halted is)
+
+pub returns-clause-totals : goal.returns-clause-totals
+returns-clause-totals g c = c.pass_until_quarter.ensures.totals ∙ c.commit_unsaved.ensures.totals

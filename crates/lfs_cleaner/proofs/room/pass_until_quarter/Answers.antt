@@ -1,4 +1,4 @@
-use Rattle.std.proofs.Common.{rules, ◌≡◌, ◌≤◌, ◌+◌, ◌/◌, true, false, length, arith}
+use Rattle.std.proofs.Common.{rules, ◌≡◌, ◌≤◌, ◌+◌, ◌/◌, true, false, length, ◌∙◌, arith}
 use Rattle.lfs_cleaner.proofs.Rooms.{fault_then, halts_at_once, halts_then, halts_weaker, keeps_reads, keeps_then, keeps_weaker, read_fault}
 use Rattle.lfs_cleaner.proofs.RoomBounds.{may_pass, passes_more, passes_none, passes_suffice}
 use Rattle.lfs_cleaner.proofs.room.pass_until_quarter.Goals as goal
@@ -62,3 +62,12 @@ returns-clause-lacks g c is k m0 m keeps may =
     let most = c.segments-most.ensures in
     passes_suffice g.D.SectorDevice.state c.args.log.now c.loop.log c.loop.counter c.requires.nothing c.loop.invariant (c.if-has_quarter-2.ensures.no (search rules)) k m0 m keeps may
     (g.met.D.SectorDevice.lawful c.args.log.now.device) (omega (arith, low, high, most))
+
+pub returns-in-Err-clause-totals : goal.returns-in-Err-clause-totals
+returns-in-Err-clause-totals g c = c.pass.ensures.totals ∙ c.loop.invariant.repeats.keeps.totals
+
+pub returns-then-has_quarter-clause-totals : goal.returns-then-has_quarter-clause-totals
+returns-then-has_quarter-clause-totals g c = c.loop.invariant.repeats.keeps.totals
+
+pub returns-clause-totals : goal.returns-clause-totals
+returns-clause-totals g c = c.loop.invariant.repeats.keeps.totals
