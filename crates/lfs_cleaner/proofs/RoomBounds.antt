@@ -9,10 +9,11 @@ use Rattle.lfs_model.specs.TreeOf.{dropped}
 use Rattle.lfs_model.proofs.Newest.{newest_fits}
 use Rattle.lfs_log.specs.memory.segments.Table.{clean_in}
 use Rattle.lfs_log.specs.verify.declared.totals.BlockTotals.{BlockTotals}
+use Rattle.lfs_log.specs.Publishing.{AreUntaken}
 use Rattle.lfs_log.specs.Cleaning.{Cleans}
 use Rattle.lfs_log.specs.Held.{Held, Halts, Holds, IsFull, Saves}
-use Rattle.lfs_cleaner.specs.Passing.{IsWithin, MayPass}
-use Rattle.lfs_cleaner.specs.Room.{CleansQuarter, HaltsLater, HasQuarter, IsReadied, IsRoomFault, KeepsMap, MayMakeRoom, MayNotMakeRoom, PassesDone, Repeats, most_checkpoints}
+use Rattle.lfs_cleaner.specs.Passing.{CanPass}
+use Rattle.lfs_cleaner.specs.Room.{CleansQuarter, HaltsLater, HasQuarter, IsReadied, IsRoomFault, IsWithin, KeepsMap, MayMakeRoom, MayNotMakeRoom, PassesDone, Repeats, most_checkpoints}
 use Rattle.lfs_cleaner.proofs.Rooms.{fault_then, halts_at_once, halts_then, halts_weaker, keeps_then, keeps_weaker, repeats_cleans, repeats_none, repeats_saves, repeats_then, repeats_weaker}
 
 -- a list without length is empty
@@ -51,25 +52,29 @@ module _ {D : Type 0} (state : D → DeviceState) where
   module _ (h now : Held D) (count : ℕ) (nothing : h.memory.dirty.blocks ≡ []) (done : PassesDone state h now count) (few : 4 * clean_in now.memory.usage.segments < length now.memory.usage.segments)
       (k : CheckpointValue) (m0 m : LogMap) (keeps : (state now.device).keeps_model) (may : MayMakeRoom state h k m0 m) where
     -- the next pass may begin
-    pub may_pass : count < length h.memory.usage.segments / 8 → (next : CheckpointValue) × MayPass state now next m
+    pub may_pass : count < length h.memory.usage.segments / 8 → (next : CheckpointValue) × (m1 : LogMap) × CanPass state now next m1 m
     may_pass lt =
         let over = done.repeats.keeps.holds k m0 m keeps may.holds may.shown in
-        let saved : over.acknowledged ≡ dropped m = ⊎_elim (λ (old : over.acknowledged ≡ m0). old ∙ may.nothing_new nothing) (λ (new : over.acknowledged ≡ dropped m). new) over.either in
-        let totals = done.repeats.keeps.totals in
+        let above = ap (λ (t : BlockTotals). t.meta_blocks) done.repeats.keeps.totals in
         let size = done.repeats.keeps.segments in
         let gains = done.gains in
         let many = may.many in
         let number = done.repeats.keeps.number in
-        let most = may.number in (
+        let most = may.number in
+        let need = may.need in
+        let all_stored = may.counted.stored in
+        let all_above = may.counted.above in (
           over.checkpoint,
+          over.acknowledged,
           record {
-            holds = subst (λ (l : LogMap). Holds state now over.checkpoint l m) saved over.holds;
+            holds = over.holds;
             map = may.map;
             nothing = ⊎_elim (λ (same : now ≡ h). subst (λ (x : Held D). x.memory.dirty.blocks ≡ []) (sym same) nothing) (λ all. all.empty) done.repeats.saved;
-            counted = subst (λ (t : BlockTotals). IsCounted m t.data_blocks t.meta_blocks) (sym totals) may.counted;
-            need = same_need h now totals size may.need;
+            untaken = ⊎_elim (λ (same : now ≡ h). subst (λ (x : Held D). AreUntaken x.memory.usage) (sym same) (may.untaken nothing)) (λ all. all.untaken) done.repeats.saved;
             few = few;
             many = omega (arith, size, gains, many);
+            counted = above ∙ all_above;
+            need = omega (arith, size, need, all_stored, all_above);
             number = omega (arith, number, most, lt);
           },
         )
@@ -101,7 +106,7 @@ module _ {D : Type 0} (state : D → DeviceState) where
           need = same_need h now totals size may.need;
           many = s.many;
           enough = λ (lt : 0 < length now.memory.dirty.blocks). absurd (omega (arith, lt, none));
-          nothing_new = λ e. refl;
+          untaken = λ e. s.untaken;
           number = omega (arith, none, size, rose, most, some);
         },
       )

@@ -61,10 +61,10 @@ module _ {D : Type 0} (state : D → DeviceState) where
   }
 
   pub saves_all : (h h' : Held D) → Saves state h h' → SavesAll state h h'
-  saves_all h h' s = record { empty = s.empty; holds = s.holds }
+  saves_all h h' s = record { empty = s.empty; untaken = s.untaken; holds = s.holds }
 
   pub cleans_all : (h h' : Held D) (vs : List ℕ) → Cleans state h h' vs → SavesAll state h h'
-  cleans_all h h' vs s = record { empty = s.empty; holds = s.holds }
+  cleans_all h h' vs s = record { empty = s.empty; untaken = s.untaken; holds = s.holds }
 
   saved_over : (h h' : Held D) → length h'.memory.usage.segments ≡ length h.memory.usage.segments → SavesAll state h h'
       → (k : CheckpointValue) (m0 m : LogMap) → (state h'.device).keeps_model → Holds state h k m0 m → IsLogMap (dropped m) → HoldsOver state k.segments m0 m h'
@@ -166,6 +166,7 @@ module _ {D : Type 0} (state : D → DeviceState) where
     pub saved_then : Carries (state b.device) (state c.device) → SavesAll state b c → SavesAll state a c
     saved_then after all = record {
       empty = all.empty;
+      untaken = all.untaken;
       holds = λ k m0 m keeps is map.
           let over = one.holds k m0 m (after.kept_before keeps) is map in
           all.holds over.checkpoint over.acknowledged m keeps over.holds map;

@@ -8,7 +8,12 @@ use Rattle.lfs_model.specs.Totals.{IsCounted}
 use Rattle.lfs_model.specs.TreeOf.{dropped}
 use Rattle.lfs_log.specs.memory.segments.Table.{clean_in}
 use Rattle.lfs_log.specs.Held.{Held, Holds, IsSaved, LeavesSaved}
-use Rattle.lfs_cleaner.specs.Passing.{IsWithin}
+use Rattle.lfs_log.specs.Publishing.{AreUntaken}
+
+-- the need of the files, by the totals of the log, is within the volume
+abbrev pub IsWithin : {D : Type 0} → Held D → Type 0
+IsWithin h =
+    h.totals.data_blocks + 7 * h.totals.meta_blocks + 720 ≤ 47 * length h.memory.usage.segments
 
 -- a quarter of the segments is clean
 abbrev pub HasQuarter : {D : Type 0} → Held D → Type 0
@@ -44,6 +49,7 @@ module _ {D : Type 0} (state : D → DeviceState) where
   -- The log map, without its files of no links, is acknowledged, and nothing of it is unsaved.
   pub record SavesAll (h h' : Held D) : Type 0 where
     pub empty : h'.memory.dirty.blocks ≡ []
+    pub untaken : AreUntaken h'.memory.usage
     pub holds : (k : CheckpointValue) (m0 m : LogMap) → (state h'.device).keeps_model
         → Holds state h k m0 m → IsLogMap (dropped m)
         → (next : CheckpointValue) × Holds state h' next (dropped m) m
@@ -94,7 +100,7 @@ module _ {D : Type 0} (state : D → DeviceState) where
     pub many : length h.memory.usage.segments ≤ 8 * clean_in h.memory.usage.segments
     pub enough : 0 < length h.memory.dirty.blocks
         → length h.memory.usage.segments / 8 + 8 ≤ clean_in h.memory.usage.segments
-    pub nothing_new : h.memory.dirty.blocks ≡ [] → m0 ≡ dropped m
+    pub untaken : h.memory.dirty.blocks ≡ [] → AreUntaken h.memory.usage
     pub number : h.number + most_checkpoints h ≤ 2 ^ 64 - 1
 
   -- the log held no map that room can be made beside

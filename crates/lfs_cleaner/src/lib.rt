@@ -5,5 +5,6 @@
 pub mod passing;
 pub mod room;
 
+pub use lfs_log::{Log, LogFault};
 pub use passing::pass;
 pub use room::{has_quarter, make_room};

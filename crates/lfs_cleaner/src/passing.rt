@@ -1,7 +1,7 @@
 //! One pass of the cleaner.
 ghost use Rattle.std.specs.Prelude.{◌≡◌, ◌≢◌, true, OnOk, IsErrOf};
 ghost use Rattle.lfs_log.specs.Held.{Halts, IsReadFault, Reads};
-ghost use Rattle.lfs_cleaner.specs.Passing.{MayNotPass, Passes};
+ghost use Rattle.lfs_cleaner.specs.Passing.{IsUnfit, Passes};
 
 use lfs_device::SectorDevice;
 use lfs_log::memory::segments::victims::victims;
@@ -11,12 +11,14 @@ use lfs_log::{Log, LogFault};
 ///
 /// # Errors
 ///
-/// As those of `Log::clean`, and `Full` where no list of an eighth of the segments and one at most gains one.
+/// `Full` where no list of an eighth of the segments and one at most gains one, or where `Log::clean` refuses it: nothing changed. That
+/// is never so where the log holds a log map for which a pass may be made. `Device` where a call of the device failed before anything
+/// was written: nothing changed. `Halted` where one failed later, or in a commit before.
 pub fn pass<D: SectorDevice>(log: &mut Log<D>) -> Result<(), LogFault>
     ensures done { OnOk result (Passes D.SectorDevice.state log.old log.new) }
     ensures totals { log.new.totals ≡ log.old.totals }
     ensures full { IsErrOf result LogFault.Full → Reads D.SectorDevice.state log.old log.new }
-    ensures lacks { IsErrOf result LogFault.Full → MayNotPass D.SectorDevice.state log.old log.new }
+    ensures lacks { IsErrOf result LogFault.Full → IsUnfit D.SectorDevice.state log.old log.new }
     ensures kept { IsErrOf result LogFault.Device → Reads D.SectorDevice.state log.old log.new }
     ensures failed { IsErrOf result LogFault.Device
         → IsReadFault D.SectorDevice.state log.old log.new }
@@ -28,6 +30,7 @@ pub fn pass<D: SectorDevice>(log: &mut Log<D>) -> Result<(), LogFault>
     if log.is_halted() {
         return Err(LogFault::Halted);
     }
+    log.are_tables_whole();
     let most = log.usage().segments() / 8 + 1;
     let Some(chosen) = victims(log.usage(), log.meta(), most) else {
         return Err(LogFault::Full);

@@ -25,7 +25,7 @@ use Rattle.lfs_memory.proofs.BlockSteps.{tightened_log}
 use Rattle.lfs_memory.proofs.Looses.{loose}
 use Rattle.lfs_memory.proofs.of_segments.EmptiedGained.{count_gained}
 use Rattle.lfs_memory.proofs.of_segments.Spare.{passes}
-use Rattle.lfs_log.specs.Cleaning.{AreCleanable, AreEmptied, Empties, Overfills}
+use Rattle.lfs_log.specs.Cleaning.{AreCleanable, AreEmptied, Crowds, Empties, Overfills}
 use Rattle.lfs_log.specs.Relocating.{Relocates, VacatesAll}
 
 -- ---- nothing lives where no block stands
@@ -105,11 +105,10 @@ table_by t bs l r blocks limit room =
     by_room n = record { blocks = bs; capacity = record { limit = l; room = n } }
 
 pub overfills : (a b : DeviceState) (v : LogMemory) (t : TableValue) (most : ℕ) (w : LogMemory) → t.blocks ≡ v.dirty.blocks → t.capacity.limit ≡ most → t.capacity.room ≡ v.dirty.capacity.room
-    → Relocates a b (record { map = v.map; usage = v.usage; dirty = t; chunk = v.chunk }) w → w.dirty.capacity.limit ≤ length w.dirty.blocks → Overfills a b v most
-overfills a b v t most w blocks limit room one full =
+    → (vs : List ℕ) → Crowds a b (record { map = v.map; usage = v.usage; dirty = t; chunk = v.chunk }) w vs → Overfills a b v vs most
+overfills a b v t most w blocks limit room vs one =
     let same = table_by t v.dirty.blocks most v.dirty.capacity.room blocks limit room in
-    let kept = ap (λ (c : Capacity). c.limit) one.capacity in
-    (w, subst (λ (t : TableValue). Relocates a b (record { map = v.map; usage = v.usage; dirty = t; chunk = v.chunk }) w) same one, omega (arith, kept, limit, full))
+    (w, subst (λ (t : TableValue). Crowds a b (record { map = v.map; usage = v.usage; dirty = t; chunk = v.chunk }) w vs) same one)
 
 -- ---- how many were emptied
 no_test : ℕ → Bool

@@ -14,5 +14,9 @@ pub mod RowLabels
 pub mod Vacated
 pub mod Cleaned
 pub mod Passes
+pub mod StoodBlocks
+pub mod TableEntries
+pub mod CameIn
+pub mod Fitting
 pub use Rattle.lfs_memory.proofs as of_memory
 pub use Rattle.lfs_verify.proofs as of_verify

@@ -34,6 +34,7 @@ use Rattle.lfs_verify.specs.Loading.{HasTables, IsLoaded, IsUsageUpTo, SaysUsage
 use Rattle.lfs_verify.specs.Take.{Looks}
 use Rattle.lfs_verify.specs.Verified.{HasLogMap}
 use Rattle.lfs_log.specs.Opening.{CountsOpened, Opens}
+use Rattle.lfs_log.specs.Publishing.{AreUntaken}
 use Rattle.lfs_memory.proofs.Opened.{closed_segment, closed_chunk, as_chunk}
 
 -- ---- the newest checkpoint
@@ -173,6 +174,14 @@ module _ (d d' : DeviceState) (lawful : IsLawful d') (lawful_first : IsLawful d)
         subst (λ (x : CheckpointValue). IsLog d' v x m m) (sym one) (log_at keeps m (subst (λ (x : CheckpointValue). StandsAt d.content x m) one is.stands)),
         ap (λ (x : CheckpointValue). x.number) one ∙ (has keeps).says.number,
       )
+
+  -- no segment counts as taken
+  pub untaken : d'.keeps_model → AreUntaken v.usage
+  untaken keeps =
+      let h = has keeps in
+      (mounted_tables d.content h.checkpoint h.fits h.log h.stands v.map v.usage (usages keeps h.log)
+      (subst (SaysUsage d.content h.checkpoint ((h.checkpoint.segments + 63) / 64)) (sym usage) h.says.usage) (maps keeps h.log)
+      (subst (SaysMap d.content h.checkpoint 32) (sym map) h.says.map)).taken
 
   -- and these are its totals
   pub counts_opened : (totals : BlockTotals) → totals.data_blocks ≡ t.data_blocks → totals.meta_blocks ≡ t.meta_blocks → CountsOpened d d' totals

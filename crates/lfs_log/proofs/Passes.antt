@@ -110,6 +110,7 @@ module _ {D : Type 0} (state : D → DeviceState) where
           omega (arith, gained, gone, taken, least, clean);
       many = done.many;
       empty = same ∙ done.dirty;
+      untaken = done.untaken;
       no_failure = done.no_failure ∙ unfailed;
       holds = holds;
       left = λ k m0 m keeps is map.

@@ -25,7 +25,7 @@ use Rattle.lfs_log.specs.Relocating.{HasLeft, IsNoBlock, Relocates}
 
 -- ---- one call after the other
 pub relocates_looks : (d d' : DeviceState) (v : LogMemory) → IsMemory v → Looks d d' → Relocates d d' v v
-relocates_looks d d' v memory looks = record { looks = looks; memory = memory; segments = refl; clean = refl; chunk = refl; capacity = refl; gathers = gathers_looks d d' v looks }
+relocates_looks d d' v memory looks = record { looks = looks; memory = memory; segments = refl; clean = refl; chunk = refl; capacity = refl; stay = λ x there. there; gathers = gathers_looks d d' v looks }
 
 pub relocates_of : (d d' : DeviceState) (v v' : LogMemory) (n : ℕ) → Prepares d d' v v' n → Gathers d d' v v' → Relocates d d' v v'
 relocates_of d d' v v' n one gathers = record {
@@ -35,6 +35,7 @@ relocates_of d d' v v' n one gathers = record {
   clean = one.clean;
   chunk = one.chunk;
   capacity = one.capacity;
+  stay = one.stay;
   gathers = gathers;
 }
 
@@ -46,6 +47,7 @@ relocates_then a b c v v' v'' lawful one two = record {
   clean = two.clean ∙ one.clean;
   chunk = two.chunk ∙ one.chunk;
   capacity = two.capacity ∙ one.capacity;
+  stay = λ x there. two.stay x (one.stay x there);
   gathers = gathers_then a b c v v' v'' two.looks.carries.kept_before one.gathers two.gathers;
 }
 

@@ -8,7 +8,7 @@ use Rattle.lfs_model.specs.Stands.{LogMap}
 use Rattle.lfs_model.specs.TreeOf.{dropped}
 use Rattle.lfs_model.proofs.Moments.{carries_then, joined, weaker}
 use Rattle.lfs_model.proofs.Settled.{settled_stands}
-use Rattle.lfs_memory.specs.segments.Table.{clean_in}
+use Rattle.lfs_memory.specs.segments.Table.{SegmentNumbers, clean_in}
 use Rattle.lfs_memory.specs.segments.Emptied.{IsEmptied}
 use Rattle.lfs_memory.specs.segments.Spare.{emptied_in, spare_in}
 use Rattle.lfs_memory.proofs.of_segments.Spare.{emptied_stay, spare_there, emptied_given}
@@ -77,6 +77,7 @@ commits a b c v v' v'' n number goes done taken spare chunk dirty capacity = rec
   memory = done.memory;
   chunk = chunk;
   dirty = dirty;
+  untaken = λ s. ap (λ (n : SegmentNumbers). n.taken) (done.released.each s);
   capacity = capacity;
   segments = done.segments ∙ goes.segments;
   gains = gains;

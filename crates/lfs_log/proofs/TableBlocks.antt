@@ -31,6 +31,12 @@ use Rattle.lfs_log.proofs.Relocated.{relocates_looks, relocates_of}
 pub map_relocates : (d : DeviceState) (v v' : LogMemory) (j : ℕ) → IsLawful d → IsMemory v → (v' ≡ v) ⊎ MapLifts v v' j → Relocates d d v v'
 map_relocates d v v' j lawful memory go = relocates_of d d v v' 0 (map_of_prepares d v v' j lawful memory go) (map_of_gathers d v v' j go)
 
+pub map_dirty : (v v' : LogMemory) (j : ℕ) → (v' ≡ v) ⊎ MapLifts v v' j → v'.dirty ≡ v.dirty
+map_dirty v v' j go = ⊎_elim (λ (same : v' ≡ v). ap (λ (v : LogMemory). v.dirty) same) (λ (lifts : MapLifts v v' j). lifts.dirty) go
+
+pub usage_dirty : (v v' : LogMemory) (j : ℕ) → (v' ≡ v) ⊎ UsageLeavesIn v v' j → v'.dirty ≡ v.dirty
+usage_dirty v v' j go = ⊎_elim (λ (same : v' ≡ v). ap (λ (v : LogMemory). v.dirty) same) (λ (leaves : UsageLeavesIn v v' j). leaves.dirty) go
+
 pub map_left : (d d' : DeviceState) (v v' : LogMemory) (j address : ℕ) → (block_in v'.map j ≡ address → ⊥) → HasLeft d d' v v' (Map j) address
 map_left d d' v v' j address ne k m0 m keeps is is' traces at = ne (sym (is'.running.tables.at (Map j) refl) ∙ at)
 
@@ -202,6 +208,7 @@ module _ (v v' : LogMemory) (j : ℕ) (go : UsageLeavesIn v v' j) where
     clean = ap clean_in go.usage.puts.segments ∙ go.usage.lifts.clean;
     chunk = go.chunk;
     capacity = ap (λ (t : TableValue). t.capacity) go.dirty;
+    stay = λ x there. subst (λ (t : TableValue). (b : List ℕ) × (blocks_of t x ≡ Some b)) (sym go.dirty) there;
     gathers = record {
       used = λ s. numbers (λ x. x.used) s ∙ go.usage.lifts.used s;
       taken = λ s. numbers (λ x. x.taken) s ∙ go.usage.lifts.taken s;

@@ -48,6 +48,7 @@ module _ {D : Type 0} (state : D → DeviceState) where
     clean = let more = c.gains in omega (arith, more, few);
     many = c.many;
     empty = c.dirty;
+    untaken = c.untaken;
     no_failure = c.no_failure;
     holds = holds;
     left = λ k m0 m keeps is map. (

@@ -13,7 +13,8 @@ use Rattle.lfs_memory.specs.declared.memory.LogMemory.{LogMemory}
 use Rattle.lfs_memory.specs.Memory.{IsLog, IsMemory}
 use Rattle.lfs_memory.specs.Present.{Looks}
 use Rattle.lfs_log.specs.Held.{Held, Holds, LeavesSaved}
-use Rattle.lfs_log.specs.Relocating.{Relocates}
+use Rattle.lfs_log.specs.Publishing.{AreUntaken}
+use Rattle.lfs_log.specs.Relocating.{CameFrom, IsAmong, IsInOrder, Misses, Relocates}
 
 -- a segment that is in use, and was before the acknowledged checkpoint
 pub record IsCleanable (t : UsageTable) (s : ℕ) : Type 0 where
@@ -45,9 +46,18 @@ most_brought count = 63 * (count - 1) - 48
 abbrev pub limited : LogMemory → ℕ → LogMemory
 limited v most = record v { dirty = record { blocks = v.dirty.blocks; capacity = record { limit = most; room = v.dirty.capacity.room } } }
 
--- As blocks of the segments came into memory, with those above them, it had so many that it took no more.
-abbrev pub Overfills : DeviceState → DeviceState → LogMemory → ℕ → Type 0
-Overfills d d' v most = (w : LogMemory) × Relocates d d' (limited v most) w × (most ≤ length w.dirty.blocks)
+-- As blocks of the segments came into memory, with those above them, it had so many that it took no more, and one more was to come.
+-- No other blocks came: where memory and device hold a log map, each stood on the device, and those of data in the segments.
+pub record Crowds (d d' : DeviceState) (v v' : LogMemory) (vs : List ℕ) : Type 0 where
+  pub relocates : Relocates d d' v v'
+  pub order : IsInOrder v'.dirty
+  pub came : CameFrom d d' v v' (IsAmong vs)
+  pub misses : Misses d d' v v' (IsAmong vs)
+  pub full : v'.dirty.capacity.limit ≤ length v'.dirty.blocks
+
+-- so where memory takes so many
+abbrev pub Overfills : DeviceState → DeviceState → LogMemory → List ℕ → ℕ → Type 0
+Overfills d d' v vs most = (w : LogMemory) × Crowds d d' (limited v most) w vs
 
 -- What a pass asks of memory: nothing is unsaved, an eighth of the segments is clean, and the pass takes no more than these.
 pub record MayClean (v : LogMemory) (vs : List ℕ) : Type 0 where
@@ -69,6 +79,7 @@ module _ {D : Type 0} (state : D → DeviceState) where
     pub gains : clean_in h.memory.usage.segments < clean_in h'.memory.usage.segments
     pub many : length h'.memory.usage.segments ≤ 8 * clean_in h'.memory.usage.segments
     pub empty : h'.memory.dirty.blocks ≡ []
+    pub untaken : AreUntaken h'.memory.usage
     pub no_failure : (state h'.device).failures ≡ (state h.device).failures
     pub holds : (k : CheckpointValue) (m0 m : LogMap) → (state h'.device).keeps_model → Holds state h k m0 m → IsLogMap (dropped m) → (next : CheckpointValue) × Holds state h' next (dropped m) m
     pub left : (k : CheckpointValue) (m0 m : LogMap) → (state h'.device).keeps_model → Holds state h k m0 m → IsLogMap (dropped m) → AllLeft (state h'.device) (λ c. StandsOn k.segments c (dropped m))

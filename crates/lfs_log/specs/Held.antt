@@ -26,6 +26,7 @@ use Rattle.lfs_memory.specs.Present.{Looks, HeaderAnswer, BlockAnswer}
 use Rattle.lfs_memory.specs.Removing.{without_file}
 use Rattle.lfs_memory.specs.Batch.{room_for, staged, FitsBatch}
 use Rattle.lfs_verify.specs.declared.totals.BlockTotals.{BlockTotals}
+use Rattle.lfs_log.specs.Publishing.{AreUntaken}
 
 pub record Held (D : Type 0) : Type 0 where
   pub device : D
@@ -161,6 +162,7 @@ module _ {D : Type 0} (state : D → DeviceState) where
     pub clean : clean_in h.memory.usage.segments ≤ clean_in h'.memory.usage.segments + 8
     pub many : length h'.memory.usage.segments ≤ 8 * clean_in h'.memory.usage.segments
     pub empty : h'.memory.dirty.blocks ≡ []
+    pub untaken : AreUntaken h'.memory.usage
     pub no_failure : (state h'.device).failures ≡ (state h.device).failures
     pub holds : (k : CheckpointValue) (m0 m : LogMap) → (state h'.device).keeps_model → Holds h k m0 m → IsLogMap (dropped m) → (next : CheckpointValue) × Holds h' next (dropped m) m
     pub left : (k : CheckpointValue) (m0 m : LogMap) → (state h'.device).keeps_model → Holds h k m0 m → IsLogMap (dropped m) → AllLeft (state h'.device) (λ c. StandsOn k.segments c (dropped m))

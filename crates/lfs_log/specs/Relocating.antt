@@ -1,16 +1,21 @@
 -- Blocks of segments come into memory, so that the next commit writes them elsewhere.
-use Rattle.std.specs.Prelude.{◌≡◌, ◌<◌, ◌≤◌, ◌+◌, ◌*◌, ℕ, true, List, length, get_or}
+use Rattle.std.specs.Prelude.{◌≡◌, ◌<◌, ◌≤◌, ◌⊎◌, ◌+◌, ◌*◌, T, ℕ, zero, suc, true, List, length, get_or}
+use Rattle.std.specs.FinMap.{is_sorted}
+use Rattle.std.specs.Ordering.{nat_cmp}
 use Rattle.lfs_model.specs.Checkpoint.{CheckpointValue}
 use Rattle.lfs_model.specs.Counting.{segment_of}
 use Rattle.lfs_model.specs.Device.{DeviceState}
-use Rattle.lfs_model.specs.Entry.{Entry, entry_of}
-use Rattle.lfs_model.specs.Memory.{Memory}
+use Rattle.lfs_model.specs.Entry.{Entry, Data, Leaf, Double, Inode, Map, Usage, entry_of}
+use Rattle.lfs_model.specs.Members.{IsIn}
+use Rattle.lfs_model.specs.Memory.{Memory, IsOfFile, parent}
 use Rattle.lfs_model.specs.Stands.{LogMap}
 use Rattle.lfs_model.specs.Summary.{BlockNameValue, no_block}
+use Rattle.lfs_memory.specs.inodes.Blocks.{TableValue, number_at}
+use Rattle.lfs_memory.specs.inodes.Code.{IsCode}
 use Rattle.lfs_memory.specs.segments.Steps.{Lifts, Puts}
 use Rattle.lfs_memory.specs.segments.Table.{UsageTable, address_of, clean_in}
 use Rattle.lfs_memory.specs.declared.memory.LogMemory.{LogMemory}
-use Rattle.lfs_memory.specs.Lifting.{Gathers, HasTraces, IsCounted}
+use Rattle.lfs_memory.specs.Lifting.{Gathers, HasTraces, IsCounted, IsInMemory}
 use Rattle.lfs_memory.specs.Memory.{IsLoose, IsMemory}
 use Rattle.lfs_memory.specs.Present.{Looks}
 
@@ -22,7 +27,67 @@ pub record Relocates (d d' : DeviceState) (v v' : LogMemory) : Type 0 where
   pub clean : clean_in v'.usage.segments ≡ clean_in v.usage.segments
   pub chunk : v'.chunk ≡ v.chunk
   pub capacity : v'.dirty.capacity ≡ v.dirty.capacity
+  pub stay : (x : Entry) → IsInMemory v x → IsInMemory v' x
   pub gathers : Gathers d d' v v'
+
+-- ---- which blocks come into memory
+
+-- the numbers of a table of blocks rise, and each is a block's
+pub record IsInOrder (t : TableValue) : Type 0 where
+  pub sorted : T (is_sorted nat_cmp t.blocks)
+  pub codes : (i : ℕ) → i < length t.blocks → IsCode (number_at t.blocks i)
+
+-- this block at most comes in
+abbrev pub BringsOne : LogMemory → LogMemory → Entry → Type 0
+BringsOne v v' x = (y : Entry) → IsInMemory v' y → IsInMemory v y ⊎ (y ≡ x)
+
+-- the block so many steps above one
+abbrev pub climb : ℕ → Entry → Entry
+climb zero x = x
+climb (suc n) x = climb n (parent x)
+
+-- y is x or above it
+abbrev pub IsOnWay : Entry → Entry → Type 0
+IsOnWay x y = (n : ℕ) × (y ≡ climb n x)
+
+-- this block and those above it at most come in
+abbrev pub BringsWay : LogMemory → LogMemory → Entry → Type 0
+BringsWay v v' x = (y : Entry) → IsInMemory v' y → IsInMemory v y ⊎ IsOnWay x y
+
+-- it isn't in memory, or one above it isn't
+abbrev pub LacksOnWay : LogMemory → Entry → Type 0
+LacksOnWay v x = (y : Entry) × IsOnWay x y × (IsInMemory v y → ⊥)
+
+abbrev pub IsDataBlock : Entry → Type 0
+IsDataBlock (Data n i) = Unit {0}
+IsDataBlock (Leaf n q) = ⊥
+IsDataBlock (Double n) = ⊥
+IsDataBlock (Inode n) = ⊥
+IsDataBlock (Map j) = ⊥
+IsDataBlock (Usage j) = ⊥
+
+-- addresses from this one on, to before that one, and those in some segments
+abbrev pub IsBetween : ℕ → ℕ → ℕ → Type 0
+IsBetween from to at = (from ≤ at) × (at < to)
+
+abbrev pub IsAmong : List ℕ → ℕ → Type 0
+IsAmong segments at = IsIn segments (segment_of at)
+
+-- the block stands on the device, at such an address if it is one of data
+abbrev pub StandsWhere : (ℕ → Type 0) → Memory → Entry → Type 0
+StandsWhere P M x = (2 ≤ M.at x) × (IsDataBlock x → P (M.at x))
+
+-- each block that came into memory stood so before
+abbrev pub CameFrom : DeviceState → DeviceState → LogMemory → LogMemory → (ℕ → Type 0) → Type 0
+CameFrom d d' v v' P = (k : CheckpointValue) (m0 m : LogMap) → d'.keeps_model → (is : IsLoose d v k m0 m) (x : Entry) → IsInMemory v' x
+    → IsInMemory v x ⊎ StandsWhere P is.running.memory x
+
+-- and one that stood so isn't in memory
+pub record Misses (d d' : DeviceState) (v v' : LogMemory) (P : ℕ → Type 0) : Type 0 where
+  pub block : Entry
+  pub file : IsOfFile block
+  pub outside : IsInMemory v' block → ⊥
+  pub stood : (k : CheckpointValue) (m0 m : LogMap) → d'.keeps_model → (is : IsLoose d v k m0 m) → StandsWhere P is.running.memory block
 
 -- where memory and device hold a log map, this block isn't stored
 abbrev pub IsNoBlock : DeviceState → LogMemory → Entry → Type 0

@@ -10,7 +10,7 @@ use Rattle.lfs_memory.specs.segments.Table.{used_of, clean_in}
 use Rattle.lfs_memory.specs.segments.Spare.{emptied_in}
 use Rattle.lfs_memory.specs.declared.memory.LogMemory.{LogMemory}
 use Rattle.lfs_memory.specs.Memory.{IsMemory, IsLog}
-use Rattle.lfs_log.specs.Publishing.{IsAcknowledged, LeavesEither}
+use Rattle.lfs_log.specs.Publishing.{AreUntaken, IsAcknowledged, LeavesEither}
 
 -- how many segments a commit takes at most that places so many blocks of files, and all blocks of the tables
 abbrev pub segments_for : ℕ → ℕ
@@ -27,6 +27,7 @@ pub record Commits (d d' : DeviceState) (v v' : LogMemory) (number : ℕ) : Type
   pub memory : IsMemory v'
   pub chunk : v'.chunk.names ≡ []
   pub dirty : v'.dirty.blocks ≡ []
+  pub untaken : AreUntaken v'.usage
   pub capacity : v'.dirty.capacity ≡ v.dirty.capacity
   pub segments : length v'.usage.segments ≡ length v.usage.segments
   pub gains : clean_in v.usage.segments + emptied_in v.usage.segments ≤ clean_in v'.usage.segments + segments_for (length v.dirty.blocks)

@@ -4,10 +4,10 @@ ghost use Rattle.std.specs.Prelude.{◌≡◌, ◌<◌, ◌≤◌, ◌+◌, ◌*
 ghost use Rattle.lfs_memory.specs.segments.Emptied.{IsEmptied};
 ghost use Rattle.lfs_memory.specs.Memory.{HasRoom, IsMemory};
 ghost use Rattle.lfs_memory.specs.Present.{IsExcused, Looks};
-ghost use Rattle.lfs_log.specs.Cleaning.{AreCleanable, AreEmptied, Empties, IsCleanable, MayClean, Overfills, most_brought};
-ghost use Rattle.lfs_log.specs.Relocating.{Relocates, VacatesAll};
+ghost use Rattle.lfs_log.specs.Cleaning.{AreCleanable, AreEmptied, Crowds, Empties, IsCleanable, MayClean, Overfills, most_brought};
+ghost use Rattle.lfs_log.specs.Relocating.{CameFrom, IsAmong, Misses, Relocates, VacatesAll};
 
-use crate::relocating::relocate_segment;
+use crate::relocating::{are_in_order, relocate_segment};
 use lfs_device::SectorDevice;
 use lfs_memory::LogMemory;
 use lfs_memory::changing::tighten;
@@ -55,6 +55,8 @@ fn relocate_all<D: SectorDevice>(
     requires inside { (i : ℕ) → i < length victims.now → get_or victims.now i 0 < length memory.old.usage.segments }
     ensures relocates { Relocates (D.state device.old) (D.state device.new) memory.old memory.new }
     ensures vacates { OnOk result (VacatesAll (D.state device.old) (D.state device.new) memory.old memory.new victims.now (length victims.now)) }
+    ensures came { CameFrom (D.state device.old) (D.state device.new) memory.old memory.new (IsAmong victims.now) }
+    ensures misses { IsErrOf result LiftFault.Full → Misses (D.state device.old) (D.state device.new) memory.old memory.new (IsAmong victims.now) }
     ensures full { IsErrOf result LiftFault.Full → memory.new.dirty.capacity.limit ≤ length memory.new.dirty.blocks }
     ensures failed { IsErrOf result LiftFault.Device → IsExcused (D.state device.old) (D.state device.new) memory.old }
     ensures no_failure { OnOk result ((D.state device.new).failures ≡ (D.state device.old).failures) }
@@ -120,13 +122,16 @@ fn empty_segments<D: SectorDevice>(
     ensures segments { length memory.new.usage.segments ≡ length memory.old.usage.segments }
     ensures chunk { memory.new.chunk ≡ memory.old.chunk }
     ensures capacity { memory.new.dirty.capacity ≡ memory.old.dirty.capacity }
-    ensures full { IsErrOf result LiftFault.Full → Relocates (D.state device.old) (D.state device.new) memory.old memory.new × (memory.new.dirty.capacity.limit ≤ length memory.new.dirty.blocks) }
+    ensures full { IsErrOf result LiftFault.Full → Crowds (D.state device.old) (D.state device.new) memory.old memory.new victims.now }
     ensures failed { IsErrOf result LiftFault.Device → IsExcused (D.state device.old) (D.state device.new) memory.old }
     ensures no_failure { OnOk result ((D.state device.new).failures ≡ (D.state device.old).failures) }
 {
     match relocate_all(device, memory, victims) {
         Ok(()) => {}
-        Err(fault) => return Err(fault),
+        Err(fault) => {
+            are_in_order(memory);
+            return Err(fault);
+        }
     }
     if !are_emptied(&memory.usage, victims) {
         return Err(LiftFault::Device);
@@ -162,7 +167,7 @@ pub fn relocate<D: SectorDevice>(
     ensures same { OnErr result (memory.new ≡ memory.old) }
     ensures kept { length before.new.usage.segments ≡ length before.old.usage.segments }
     ensures looks { Looks (D.state device.old) (D.state device.new) }
-    ensures full { IsErrOf result LiftFault.Full → Overfills (D.state device.old) (D.state device.new) memory.old most }
+    ensures full { IsErrOf result LiftFault.Full → Overfills (D.state device.old) (D.state device.new) memory.old victims.now most }
     ensures failed { IsErrOf result LiftFault.Device → IsExcused (D.state device.old) (D.state device.new) memory.old }
     ensures no_failure { OnOk result ((D.state device.new).failures ≡ (D.state device.old).failures) }
 {

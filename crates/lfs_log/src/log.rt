@@ -9,6 +9,9 @@ ghost use Rattle.lfs_verify.specs.Verified.{HasLogMap, IsRefusedLog};
 ghost use Rattle.lfs_log.specs.Opening.{CountsOpened};
 ghost use Rattle.lfs_memory.specs.Preparing.{LacksRoom};
 ghost use Rattle.lfs_memory.specs.Batch.{room_for};
+ghost use Rattle.lfs_memory.specs.Memory.{IsMemory};
+ghost use Rattle.lfs_memory.specs.inodes.MapValue.{IsMap};
+ghost use Rattle.lfs_log.specs.Publishing.{AreUntaken};
 
 use crate::cleaning::{SavedTables, may_clean, most_of, relocate};
 use crate::committing::save;
@@ -74,6 +77,7 @@ impl<D: SectorDevice> Log<D> {
         ensures counts { IfOk result (λ log. CountsOpened (D.state device) (D.state log.device) log.totals) }
         ensures found { IfOk result (λ log. HasLogMap (D.state device) (D.state log.device)) }
         ensures empty { IfOk result (λ log. log.memory.dirty.blocks ≡ []) }
+        ensures untaken { IfOk result (λ log. (D.state log.device).keeps_model → AreUntaken log.memory.usage) }
         ensures durable { IfOk result (λ log. (D.state log.device).keeps_model
             → Only (D.state device).content (D.state log.device)) }
         ensures cause { IfErr result (λ e. (e.0 ≡ MountFault.NoMemory → ⊥)
@@ -109,6 +113,14 @@ impl<D: SectorDevice> Log<D> {
     pub fn holds_one_map(&self)
         ensures { HoldsOne D.SectorDevice.state self.now }
     {}
+
+    /// The inode map has a place for each file, and the usage table one for each segment: a law of what the log keeps.
+    pub fn are_tables_whole(&self)
+        ensures map { IsMap self.now.memory.map }
+        ensures memory { self.now.halted ≡ false → IsMemory self.now.memory }
+    {
+        let _first = self.memory.map.block_address(0);
+    }
 
     /// The device as it is; what wasn't saved is gone.
     pub fn into_device(self) -> D
@@ -399,7 +411,7 @@ impl<D: SectorDevice> Log<D> {
         ensures totals { self.new.totals ≡ self.old.totals }
         ensures full { IsErrOf result LogFault.Full → Reads D.SectorDevice.state self.old self.new }
         ensures lacks { IsErrOf result LogFault.Full → MayClean self.old.memory victims.now → self.old.number < 2 ^ 64 - 1
-            → Overfills (D.state self.old.device) (D.state self.new.device) self.old.memory (most_brought (length victims.now)) }
+            → Overfills (D.state self.old.device) (D.state self.new.device) self.old.memory victims.now (most_brought (length victims.now)) }
         ensures kept { IsErrOf result LogFault.Device → Reads D.SectorDevice.state self.old self.new }
         ensures failed { IsErrOf result LogFault.Device → IsReadFault D.SectorDevice.state self.old self.new }
         ensures halted { IsErrOf result LogFault.Halted → self.old.halted ≢ true → Halts D.SectorDevice.state self.old self.new }

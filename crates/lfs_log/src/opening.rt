@@ -6,6 +6,7 @@ ghost use Rattle.lfs_verify.specs.Faults.{IsOpenFault};
 ghost use Rattle.lfs_verify.specs.Take.{Looks};
 ghost use Rattle.lfs_verify.specs.Verified.{HasLogMap, IsRefusedLog};
 ghost use Rattle.lfs_log.specs.Opening.{CountsOpened, IsOpened, Opens};
+ghost use Rattle.lfs_log.specs.Publishing.{AreUntaken};
 
 use crate::cleaning::SavedTables;
 use lfs_device::SectorDevice;
@@ -54,6 +55,7 @@ pub fn open_memory<D: SectorDevice>(alloc: Global, device: &mut D) -> Result<Ope
     ensures opened { IfOk result (λ r. IsOpened r.memory (D.state device.new).size) }
     ensures saved { IfOk result (λ r. length r.before.usage.segments ≡ length r.memory.usage.segments) }
     ensures log { IfOk result (λ r. Opens (D.state device.old) (D.state device.new) r.memory r.number) }
+    ensures untaken { IfOk result (λ r. (D.state device.new).keeps_model → AreUntaken r.memory.usage) }
     ensures counts { IfOk result (λ r. CountsOpened (D.state device.old) (D.state device.new) r.totals) }
     ensures found { OnOk result (HasLogMap (D.state device.old) (D.state device.new)) }
     ensures durable { OnOk result ((D.state device.new).keeps_model → Only (D.state device.old).content (D.state device.new)) }

@@ -11,13 +11,13 @@ ghost use Rattle.lfs_memory.specs.Present.{AnswersAddress, IsExcused, Looks};
 ghost use Rattle.lfs_memory.specs.inodes.Key.{entry_of};
 ghost use Rattle.lfs_memory.specs.inodes.MapValue.{block_in};
 ghost use Rattle.lfs_memory.specs.segments.Table.{address_of};
-ghost use Rattle.lfs_log.specs.Relocating.{HasLeft, IsNoBlock, IsUsageLost, LeavesNames, Relocates, UsageLeaves, UsageLeavesIn, Vacates};
+ghost use Rattle.lfs_log.specs.Relocating.{BringsOne, BringsWay, CameFrom, HasLeft, IsBetween, IsInOrder, IsNoBlock, IsUsageLost, LacksOnWay, LeavesNames, Misses, Relocates, UsageLeaves, UsageLeavesIn, Vacates};
 
 use lfs_device::{DeviceFault, SectorDevice};
 use lfs_layout::{BlockName, SummaryView, word};
 use lfs_memory::LogMemory;
 use lfs_memory::inodes::{BlockKey, IN_MEMORY};
-use lfs_memory::lifting::{LiftFault, is_counted, lift_child, lift_inode, lift_map};
+use lfs_memory::lifting::{LiftFault, has_block, is_counted, lift_child, lift_inode, lift_map};
 use lfs_memory::present::read_present;
 use lfs_memory::segments::Usage;
 use lfs_model::BlockKind;
@@ -54,6 +54,13 @@ fn locate<D: SectorDevice>(
     }
 }
 
+/// The blocks in memory stand in the order of their keys: a law of their table.
+pub fn are_in_order(memory: &LogMemory)
+    ensures { IsInOrder memory.now.dirty }
+{
+    let _count = memory.dirty.len();
+}
+
 /// Brings the inode of this key into memory, if the file is there: whether it is there then.
 ///
 /// # Errors
@@ -67,14 +74,59 @@ fn bring_inode<D: SectorDevice>(
     requires memory { IsMemory memory.old }
     requires top { parent (entry_of key) ≡ entry_of key }
     ensures relocates { Relocates (D.state device.old) (D.state device.new) memory.old memory.new }
+    ensures came { BringsOne memory.old memory.new (entry_of key) }
+    ensures lacks { IsErrOf result LiftFault.Full → IsInMemory memory.new (entry_of key) → ⊥ }
     ensures inside { IfOk result (λ found. IsTrue found → IsInMemory memory.new (entry_of key)) }
     ensures none { IfOk result (λ found. IsFalse found → IsNoBlock (D.state device.new) memory.new (entry_of key)) }
     ensures full { IsErrOf result LiftFault.Full → memory.new.dirty.capacity.limit ≤ length memory.new.dirty.blocks }
     ensures failed { IsErrOf result LiftFault.Device → IsExcused (D.state device.old) (D.state device.new) memory.old }
     ensures no_failure { OnOk result ((D.state device.new).failures ≡ (D.state device.old).failures) }
 {
+    if has_block(memory, key) {
+        return Ok(true);
+    }
+    are_in_order(memory);
     match lift_inode(device, memory, key.file()) {
-        Ok(true) => Ok(true),
+        Ok(true) => {
+            are_in_order(memory);
+            Ok(true)
+        }
+        Ok(false) => Ok(false),
+        Err(fault) => Err(fault),
+    }
+}
+
+/// Brings a block of a file into memory, if it is stored: whether it is there then. The block above it is there.
+///
+/// # Errors
+///
+/// As those of `lift`.
+fn bring_child<D: SectorDevice>(
+    device: &mut D,
+    memory: &mut LogMemory,
+    key: BlockKey,
+) -> Result<bool, LiftFault>
+    requires memory { IsMemory memory.old }
+    requires below { parent (entry_of key) ≡ entry_of key → ⊥ }
+    requires above { IsInMemory memory.old (parent (entry_of key)) }
+    ensures relocates { Relocates (D.state device.old) (D.state device.new) memory.old memory.new }
+    ensures came { BringsOne memory.old memory.new (entry_of key) }
+    ensures lacks { IsErrOf result LiftFault.Full → IsInMemory memory.new (entry_of key) → ⊥ }
+    ensures inside { IfOk result (λ found. IsTrue found → IsInMemory memory.new (entry_of key)) }
+    ensures none { IfOk result (λ found. IsFalse found → IsNoBlock (D.state device.new) memory.new (entry_of key)) }
+    ensures full { IsErrOf result LiftFault.Full → memory.new.dirty.capacity.limit ≤ length memory.new.dirty.blocks }
+    ensures failed { IsErrOf result LiftFault.Device → IsExcused (D.state device.old) (D.state device.new) memory.old }
+    ensures no_failure { OnOk result ((D.state device.new).failures ≡ (D.state device.old).failures) }
+{
+    if has_block(memory, key) {
+        return Ok(true);
+    }
+    are_in_order(memory);
+    match lift_child(device, memory, key) {
+        Ok(true) => {
+            are_in_order(memory);
+            Ok(true)
+        }
         Ok(false) => Ok(false),
         Err(fault) => Err(fault),
     }
@@ -92,6 +144,8 @@ fn bring_block<D: SectorDevice>(
 ) -> Result<bool, LiftFault>
     requires { IsMemory memory.old }
     ensures relocates { Relocates (D.state device.old) (D.state device.new) memory.old memory.new }
+    ensures came { BringsWay memory.old memory.new (entry_of key) }
+    ensures lacks { IsErrOf result LiftFault.Full → LacksOnWay memory.new (entry_of key) }
     ensures inside { IfOk result (λ found. IsTrue found → IsInMemory memory.new (entry_of key)) }
     ensures none { IfOk result (λ found. IsFalse found → IsNoBlock (D.state device.new) memory.new (entry_of key)) }
     ensures full { IsErrOf result LiftFault.Full → memory.new.dirty.capacity.limit ≤ length memory.new.dirty.blocks }
@@ -106,11 +160,7 @@ fn bring_block<D: SectorDevice>(
         Ok(false) => return Ok(false),
         Err(fault) => return Err(fault),
     }
-    match lift_child(device, memory, key) {
-        Ok(true) => Ok(true),
-        Ok(false) => Ok(false),
-        Err(fault) => Err(fault),
-    }
+    bring_child(device, memory, key)
 }
 
 /// A block of a file comes into memory with all above it, if it is at this address that it stands.
@@ -128,6 +178,8 @@ fn relocate_file_block<D: SectorDevice>(
     requires above { 2 ≤ address }
     ensures relocates { Relocates (D.state device.old) (D.state device.new) memory.old memory.new }
     ensures left { OnOk result (HasLeft (D.state device.old) (D.state device.new) memory.old memory.new (entry_of key) address) }
+    ensures came { CameFrom (D.state device.old) (D.state device.new) memory.old memory.new (IsBetween address (address + 1)) }
+    ensures misses { IsErrOf result LiftFault.Full → Misses (D.state device.old) (D.state device.new) memory.old memory.new (IsBetween address (address + 1)) }
     ensures full { IsErrOf result LiftFault.Full → memory.new.dirty.capacity.limit ≤ length memory.new.dirty.blocks }
     ensures failed { IsErrOf result LiftFault.Device → IsExcused (D.state device.old) (D.state device.new) memory.old }
     ensures no_failure { OnOk result ((D.state device.new).failures ≡ (D.state device.old).failures) }
@@ -238,6 +290,8 @@ fn relocate_block<D: SectorDevice>(
     requires above { 2 ≤ address }
     ensures relocates { Relocates (D.state device.old) (D.state device.new) memory.old memory.new }
     ensures left { OnOk result (HasLeft (D.state device.old) (D.state device.new) memory.old memory.new (entry.entry_of name) address) }
+    ensures came { CameFrom (D.state device.old) (D.state device.new) memory.old memory.new (IsBetween address (address + 1)) }
+    ensures misses { IsErrOf result LiftFault.Full → Misses (D.state device.old) (D.state device.new) memory.old memory.new (IsBetween address (address + 1)) }
     ensures full { IsErrOf result LiftFault.Full → memory.new.dirty.capacity.limit ≤ length memory.new.dirty.blocks }
     ensures failed { IsErrOf result LiftFault.Device → IsExcused (D.state device.old) (D.state device.new) memory.old }
     ensures no_failure { OnOk result ((D.state device.new).failures ≡ (D.state device.old).failures) }
@@ -272,6 +326,8 @@ fn relocate_chunk<D: SectorDevice>(
     requires few { first ≤ 65602 }
     ensures relocates { Relocates (D.state device.old) (D.state device.new) memory.old memory.new }
     ensures left { OnOk result (LeavesNames (D.state device.old) (D.state device.new) memory.old memory.new names.now first (length names.now)) }
+    ensures came { CameFrom (D.state device.old) (D.state device.new) memory.old memory.new (IsBetween first (first + length names.now)) }
+    ensures misses { IsErrOf result LiftFault.Full → Misses (D.state device.old) (D.state device.new) memory.old memory.new (IsBetween first (first + length names.now)) }
     ensures full { IsErrOf result LiftFault.Full → memory.new.dirty.capacity.limit ≤ length memory.new.dirty.blocks }
     ensures failed { IsErrOf result LiftFault.Device → IsExcused (D.state device.old) (D.state device.new) memory.old }
     ensures no_failure { OnOk result ((D.state device.new).failures ≡ (D.state device.old).failures) }
@@ -324,6 +380,8 @@ pub fn relocate_segment<D: SectorDevice>(
     requires inside { segment < length memory.old.usage.segments }
     ensures relocates { Relocates (D.state device.old) (D.state device.new) memory.old memory.new }
     ensures vacates { OnOk result (Vacates (D.state device.old) (D.state device.new) memory.old memory.new (2 + 64 * segment) (66 + 64 * segment)) }
+    ensures came { CameFrom (D.state device.old) (D.state device.new) memory.old memory.new (IsBetween (2 + 64 * segment) (66 + 64 * segment)) }
+    ensures misses { IsErrOf result LiftFault.Full → Misses (D.state device.old) (D.state device.new) memory.old memory.new (IsBetween (2 + 64 * segment) (66 + 64 * segment)) }
     ensures full { IsErrOf result LiftFault.Full → memory.new.dirty.capacity.limit ≤ length memory.new.dirty.blocks }
     ensures failed { IsErrOf result LiftFault.Device → IsExcused (D.state device.old) (D.state device.new) memory.old }
     ensures no_failure { OnOk result ((D.state device.new).failures ≡ (D.state device.old).failures) }

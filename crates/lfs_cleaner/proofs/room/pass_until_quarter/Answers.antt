@@ -31,7 +31,7 @@ returns-in-Err-clause-lacks g c is k m0 m keeps may =
     let full = c.in-Err.ensures.full (search rules) in
     let next = may_pass g.D.SectorDevice.state c.args.log.now c.loop.log c.loop.counter c.requires.nothing c.loop.invariant (c.if-has_quarter.ensures.no (search rules)) k m0 m
     (full.looks.carries.kept_before keeps) may (omega (arith, lt, most)) in
-    c.in-Err.ensures.lacks (search rules) next.0 m keeps next.1
+    c.in-Err.ensures.lacks (search rules) next.0 next.1 m keeps next.2
 
 pub returns-in-Err-clause-failed : goal.returns-in-Err-clause-failed
 returns-in-Err-clause-failed g c is =

@@ -11,3 +11,12 @@ pub returns-clause-done : goal.returns-clause-done
 returns-clause-done g c =
     empties (g.D.SectorDevice.state c.args.device.now) (g.D.SectorDevice.state c.relocate_all.new.device) c.args.memory.now c.relocate_all.new.memory c.tighten.new.memory c.args.victims.now
     c.relocate_all.ensures.relocates (c.if-not-are_emptied.ensures.yes (search rules)) c.tighten.ensures
+
+pub returns-in-Err-clause-full : goal.returns-in-Err-clause-full
+returns-in-Err-clause-full g c is = record {
+  relocates = c.relocate_all.ensures.relocates;
+  order = c.are_in_order.ensures;
+  came = c.relocate_all.ensures.came;
+  misses = c.in-Err.ensures.misses (search rules);
+  full = c.in-Err.ensures.full (search rules);
+}

@@ -16,4 +16,4 @@ pub returns-in-Err-clause-full : goal.returns-in-Err-clause-full
 returns-in-Err-clause-full g c is =
     let over = c.in-Err.ensures.full (search rules) in
     overfills (g.D.SectorDevice.state c.args.device.now) (g.D.SectorDevice.state c.empty_segments.new.device) c.args.memory.now c.set_limit.new.self c.args.most c.empty_segments.new.memory
-    c.set_limit.ensures.blocks c.set_limit.ensures.limit c.set_limit.ensures.room over.0 over.1
+    c.set_limit.ensures.blocks c.set_limit.ensures.limit c.set_limit.ensures.room c.args.victims.now over

@@ -1,7 +1,8 @@
 use Rattle.std.proofs.Common.{rules, ◌≡◌, refl, subst, ◌∙◌, sym, ap, length, arith}
 use Rattle.lfs_memory.specs.declared.memory.LogMemory.{LogMemory}
 use Rattle.lfs_memory.proofs.Presents.{looks_none}
-use Rattle.lfs_log.specs.Relocating.{VacatesAll}
+use Rattle.lfs_log.specs.Relocating.{IsAmong, VacatesAll}
+use Rattle.lfs_log.proofs.CameIn.{came_among, came_none, came_then, misses_among, misses_then}
 use Rattle.lfs_log.proofs.Relocated.{relocated_excused, relocates_looks, relocates_then}
 use Rattle.lfs_log.proofs.Vacated.{vacates_more, vacates_none}
 use Rattle.lfs_log.proofs.cleaning.relocate_all.Goals as goal
@@ -12,6 +13,7 @@ loop-victim-init g c =
     record {
       relocates = relocates_looks old old c.args.memory.now c.requires.memory (looks_none old);
       vacates = vacates_none old c.args.memory.now c.args.victims.now;
+      came = came_none old old c.args.memory.now c.args.memory.now (IsAmong c.args.victims.now) refl;
       no_failure = refl;
     }
 
@@ -35,6 +37,9 @@ loop-victim-preserved g c =
           c.relocate_segment.ensures.relocates;
       vacates = vacates_more old now next c.args.memory.now c.loop-victim.memory c.relocate_segment.new.memory c.args.victims.now c.loop-victim.victim-index _ (search rules)
           c.relocate_segment.ensures.relocates.looks.carries.kept_before c.in-Ok.ensures.vacates c.loop-victim.invariant.vacates;
+      came = came_then old now next c.args.memory.now c.loop-victim.memory c.relocate_segment.new.memory (IsAmong c.args.victims.now) c.loop-victim.invariant.relocates
+          c.relocate_segment.ensures.relocates.looks.carries.kept_before c.loop-victim.invariant.came
+          (came_among now next c.loop-victim.memory c.relocate_segment.new.memory c.args.victims.now c.loop-victim.victim-index _ (search rules) c.loop-victim-test.true c.relocate_segment.ensures.came);
       no_failure = c.in-Ok.ensures.no_failure ∙ c.loop-victim.invariant.no_failure;
     }
 
@@ -43,3 +48,21 @@ returns-clause-vacates g c k m0 m keeps is =
     let all = c.loop-victim.invariant.vacates k m0 m keeps is in
     let high = c.loop-victim-test.false in
     (all.0, all.1, λ i lt. all.2 i (omega (arith, lt, high)))
+
+pub returns-in-Err-clause-came : goal.returns-in-Err-clause-came
+returns-in-Err-clause-came g c =
+    let old = g.D.SectorDevice.state c.args.device.now in
+    let now = g.D.SectorDevice.state c.loop-victim.device in
+    let next = g.D.SectorDevice.state c.relocate_segment.new.device in
+    came_then old now next c.args.memory.now c.loop-victim.memory c.relocate_segment.new.memory (IsAmong c.args.victims.now) c.loop-victim.invariant.relocates
+    c.relocate_segment.ensures.relocates.looks.carries.kept_before c.loop-victim.invariant.came
+    (came_among now next c.loop-victim.memory c.relocate_segment.new.memory c.args.victims.now c.loop-victim.victim-index _ (search rules) c.loop-victim-test.true c.relocate_segment.ensures.came)
+
+pub returns-in-Err-clause-misses : goal.returns-in-Err-clause-misses
+returns-in-Err-clause-misses g c is =
+    let old = g.D.SectorDevice.state c.args.device.now in
+    let now = g.D.SectorDevice.state c.loop-victim.device in
+    let next = g.D.SectorDevice.state c.relocate_segment.new.device in
+    misses_then old now next c.args.memory.now c.loop-victim.memory c.relocate_segment.new.memory (IsAmong c.args.victims.now) c.loop-victim.invariant.relocates
+    c.relocate_segment.ensures.relocates.looks.carries.kept_before
+    (misses_among now next c.loop-victim.memory c.relocate_segment.new.memory c.args.victims.now c.loop-victim.victim-index _ (search rules) c.loop-victim-test.true (c.in-Err.ensures.misses (search rules)))

@@ -1,5 +1,5 @@
 use Rattle.std.proofs.Common.{◌≡◌}
-use Rattle.lfs_log.specs.Relocating.{Relocates, VacatesAll}
+use Rattle.lfs_log.specs.Relocating.{CameFrom, IsAmong, Relocates, VacatesAll}
 use Rattle.lfs_log.proofs.cleaning.relocate_all.Given as goal
 
 abbrev pub invariant-loop-victim : goal.invariant-loop-victim
@@ -9,5 +9,6 @@ invariant-loop-victim g l =
     record {
       relocates : Relocates old now l.initial.memory l.memory;
       vacates : VacatesAll old now l.initial.memory l.memory l.victims l.victim-index;
+      came : CameFrom old now l.initial.memory l.memory (IsAmong l.victims);
       no_failure : now.failures ≡ old.failures;
     }

@@ -1,9 +1,11 @@
-use Rattle.std.proofs.Common.{inl, subst}
+use Rattle.std.proofs.Common.{inl, subst, ◌+◌, ap}
 use Rattle.lfs_model.specs.Entry.{Entry}
 use Rattle.lfs_memory.proofs.Going.{ok_then}
 use Rattle.lfs_memory.proofs.Lifted.{map_lost}
-use Rattle.lfs_log.specs.Relocating.{HasLeft}
-use Rattle.lfs_log.proofs.TableBlocks.{map_relocates, usage_lost, usage_relocates}
+use Rattle.lfs_memory.specs.declared.memory.LogMemory.{LogMemory}
+use Rattle.lfs_log.specs.Relocating.{HasLeft, IsBetween}
+use Rattle.lfs_log.proofs.CameIn.{came_none}
+use Rattle.lfs_log.proofs.TableBlocks.{map_dirty, map_relocates, usage_dirty, usage_lost, usage_relocates}
 use Rattle.lfs_log.proofs.relocating.relocate_block.Goals as goal
 
 pub returns-in-Ok-clause-relocates : goal.returns-in-Ok-clause-relocates
@@ -33,3 +35,23 @@ returns-in_default-clause-left g c =
     ok_then c.relocate_file_block.result _ _
     (subst (λ (x : Entry). HasLeft (g.D.SectorDevice.state c.args.device.now) (g.D.SectorDevice.state c.relocate_file_block.new.device) c.args.memory.now c.relocate_file_block.new.memory x c.args.address) c.key_of.ensures)
     c.relocate_file_block.ensures.left
+
+pub returns-in-Ok-clause-came : goal.returns-in-Ok-clause-came
+returns-in-Ok-clause-came g c =
+    came_none (g.D.SectorDevice.state c.args.device.now) (g.D.SectorDevice.state c.args.device.now) c.args.memory.now c.relocate_map.new.memory (IsBetween c.args.address (c.args.address + 1))
+    (map_dirty c.args.memory.now c.relocate_map.new.memory c.name.inside.index c.in-Ok.ensures.done)
+
+pub returns-in-Err-clause-came : goal.returns-in-Err-clause-came
+returns-in-Err-clause-came g c =
+    came_none (g.D.SectorDevice.state c.args.device.now) (g.D.SectorDevice.state c.args.device.now) c.args.memory.now c.relocate_map.new.memory (IsBetween c.args.address (c.args.address + 1))
+    (ap (λ (v : LogMemory). v.dirty) c.in-Err.ensures.same)
+
+pub returns-in-Ok-relocate_usage-clause-came : goal.returns-in-Ok-relocate_usage-clause-came
+returns-in-Ok-relocate_usage-clause-came g c =
+    came_none (g.D.SectorDevice.state c.args.device.now) (g.D.SectorDevice.state c.args.device.now) c.args.memory.now c.relocate_usage.new.memory (IsBetween c.args.address (c.args.address + 1))
+    (usage_dirty c.args.memory.now c.relocate_usage.new.memory c.name.inside.index c.in-Ok-relocate_usage.ensures.done)
+
+pub returns-in-Err-relocate_usage-clause-came : goal.returns-in-Err-relocate_usage-clause-came
+returns-in-Err-relocate_usage-clause-came g c =
+    came_none (g.D.SectorDevice.state c.args.device.now) (g.D.SectorDevice.state c.args.device.now) c.args.memory.now c.relocate_usage.new.memory (IsBetween c.args.address (c.args.address + 1))
+    (ap (λ (v : LogMemory). v.dirty) c.in-Err-relocate_usage.ensures.same)

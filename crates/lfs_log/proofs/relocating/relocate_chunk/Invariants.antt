@@ -1,5 +1,5 @@
-use Rattle.std.proofs.Common.{◌≡◌, length}
-use Rattle.lfs_log.specs.Relocating.{LeavesNames, Relocates}
+use Rattle.std.proofs.Common.{◌≡◌, ◌+◌, length}
+use Rattle.lfs_log.specs.Relocating.{CameFrom, IsBetween, LeavesNames, Relocates}
 use Rattle.lfs_log.proofs.relocating.relocate_chunk.Given as goal
 
 abbrev pub invariant-loop-place : goal.invariant-loop-place
@@ -9,6 +9,7 @@ invariant-loop-place g l =
     record {
       relocates : Relocates old now l.initial.memory l.memory;
       left : LeavesNames old now l.initial.memory l.memory l.names l.first l.place;
+      came : CameFrom old now l.initial.memory l.memory (IsBetween l.first (l.first + length l.names));
       no_failure : now.failures ≡ old.failures;
       end : l.place-end ≡ length l.names;
     }

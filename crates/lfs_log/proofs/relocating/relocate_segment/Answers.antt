@@ -1,6 +1,8 @@
 use Rattle.std.proofs.Common.{rules, ◌≡◌, ◌<◌, ◌≤◌, ◌+◌, ◌*◌, refl, sym, ◌∙◌, ap, subst, length, arith}
 use Rattle.lfs_memory.specs.segments.Table.{used_of}
 use Rattle.lfs_memory.proofs.Presents.{looks_none}
+use Rattle.lfs_log.specs.Relocating.{IsBetween}
+use Rattle.lfs_log.proofs.CameIn.{came_looked, came_none, came_then, came_wider, misses_then, misses_wider}
 use Rattle.lfs_log.proofs.Relocated.{relocated_excused, relocates_looks, relocates_then}
 use Rattle.lfs_log.proofs.Vacated.{ClearsTo, all_cleared, clears_more, clears_start, long_there, no_summary, summary_missing, too_long}
 use Rattle.lfs_log.proofs.relocating.relocate_segment.Goals as goal
@@ -13,6 +15,7 @@ loop-at-init g c =
     record {
       relocates = relocates_looks old old c.args.memory.now c.requires.memory (looks_none old);
       clears = subst (λ u. ClearsTo old old c.args.memory.now c.args.memory.now c.args.segment u 0) (sym used_is) (clears_start old c.args.memory.now c.args.segment c.requires.closed c.requires.inside);
+      came = came_none old old c.args.memory.now c.args.memory.now (IsBetween (2 + 64 * c.args.segment) (66 + 64 * c.args.segment)) refl;
       no_failure = refl;
       within = omega arith;
       used_is = used_is;
@@ -96,6 +99,7 @@ loop-at-preserved g c =
     let small = c.if-count-used.false in
     let lt = c.loop-at-test.true in
     let count = c.len-count.ensures in
+    let few = so_far.few in
     record {
       relocates = relocates_then old mid next c.args.memory.now c.loop-at.memory c.relocate_chunk.new.memory lawful
           (relocates_then old now mid c.args.memory.now c.loop-at.memory c.loop-at.memory lawful so_far.relocates (relocates_looks now mid c.loop-at.memory so_far.relocates.memory c.read_sector.ensures.looks))
@@ -105,6 +109,12 @@ loop-at-preserved g c =
           c.loop-at-test.true c.read_sector.new.out c.in-Ok.ensures.read c.in-Some.names c.in-Some.ensures.exact c.requires.closed c.requires.inside so_far.used_is so_far.few
           (omega (arith, small, lt, count)) next c.relocate_chunk.new.memory c.relocate_chunk.ensures.relocates (2 + 64 * c.args.segment + c.loop-at.at + 1) (c.loop-at.at + (1 + c.len-count.result)) refl
           (omega (arith, count)) c.in-Ok-relocate_chunk.ensures.left;
+      came = came_then old mid next c.args.memory.now c.loop-at.memory c.relocate_chunk.new.memory (IsBetween (2 + 64 * c.args.segment) (66 + 64 * c.args.segment))
+          (relocates_then old now mid c.args.memory.now c.loop-at.memory c.loop-at.memory lawful so_far.relocates (relocates_looks now mid c.loop-at.memory so_far.relocates.memory c.read_sector.ensures.looks))
+          c.relocate_chunk.ensures.relocates.looks.carries.kept_before
+          (came_looked old now mid c.args.memory.now c.loop-at.memory (IsBetween (2 + 64 * c.args.segment) (66 + 64 * c.args.segment)) c.read_sector.ensures.looks.carries.kept_before so_far.came)
+          (came_wider mid next c.loop-at.memory c.relocate_chunk.new.memory (IsBetween (2 + 64 * c.args.segment + c.loop-at.at + 1) (2 + 64 * c.args.segment + c.loop-at.at + 1 + length c.in-Some.names)) (IsBetween (2 + 64 * c.args.segment) (66 + 64 * c.args.segment))
+          (λ at between. let low = between.0 in let high = between.1 in (omega (arith, low), omega (arith, high, small, lt, count, few))) c.relocate_chunk.ensures.came);
       no_failure = c.in-Ok-relocate_chunk.ensures.no_failure ∙ c.in-Ok.ensures.no_failure ∙ so_far.no_failure;
       within = omega (arith, small, lt, count);
       used_is = so_far.used_is;
@@ -121,3 +131,55 @@ returns-clause-vacates g c =
     all_cleared old (g.D.SectorDevice.state c.loop-at.device) c.args.memory.now c.loop-at.memory c.args.segment c.from-used.result c.requires.closed c.requires.inside so_far.used_is
     (long_there old c.args.memory.now c.args.segment c.from-used.result (g.met.D.SectorDevice.lawful c.args.device.now) c.requires.size c.requires.inside so_far.few)
     (subst (ClearsTo old (g.D.SectorDevice.state c.loop-at.device) c.args.memory.now c.loop-at.memory c.args.segment c.from-used.result) end so_far.clears)
+
+pub returns-in-Err-clause-came : goal.returns-in-Err-clause-came
+returns-in-Err-clause-came g c =
+    came_looked (g.D.SectorDevice.state c.args.device.now) (g.D.SectorDevice.state c.loop-at.device) (g.D.SectorDevice.state c.read_sector.new.device) c.args.memory.now c.loop-at.memory
+    (IsBetween (2 + 64 * c.args.segment) (66 + 64 * c.args.segment)) c.read_sector.ensures.looks.carries.kept_before c.loop-at.invariant.came
+
+pub returns-in_default-clause-came : goal.returns-in_default-clause-came
+returns-in_default-clause-came g c =
+    came_looked (g.D.SectorDevice.state c.args.device.now) (g.D.SectorDevice.state c.loop-at.device) (g.D.SectorDevice.state c.read_sector.new.device) c.args.memory.now c.loop-at.memory
+    (IsBetween (2 + 64 * c.args.segment) (66 + 64 * c.args.segment)) c.read_sector.ensures.looks.carries.kept_before c.loop-at.invariant.came
+
+pub returns-then-count-used-clause-came : goal.returns-then-count-used-clause-came
+returns-then-count-used-clause-came g c =
+    came_looked (g.D.SectorDevice.state c.args.device.now) (g.D.SectorDevice.state c.loop-at.device) (g.D.SectorDevice.state c.read_sector.new.device) c.args.memory.now c.loop-at.memory
+    (IsBetween (2 + 64 * c.args.segment) (66 + 64 * c.args.segment)) c.read_sector.ensures.looks.carries.kept_before c.loop-at.invariant.came
+
+pub returns-in-Err-relocate_chunk-clause-came : goal.returns-in-Err-relocate_chunk-clause-came
+returns-in-Err-relocate_chunk-clause-came g c =
+    let old = g.D.SectorDevice.state c.args.device.now in
+    let now = g.D.SectorDevice.state c.loop-at.device in
+    let mid = g.D.SectorDevice.state c.read_sector.new.device in
+    let next = g.D.SectorDevice.state c.relocate_chunk.new.device in
+    let so_far = c.loop-at.invariant in
+    let lawful = g.met.D.SectorDevice.lawful c.args.device.now in
+    let small = c.if-count-used.false in
+    let lt = c.loop-at-test.true in
+    let count = c.len-count.ensures in
+    let few = so_far.few in
+    came_then old mid next c.args.memory.now c.loop-at.memory c.relocate_chunk.new.memory (IsBetween (2 + 64 * c.args.segment) (66 + 64 * c.args.segment))
+    (relocates_then old now mid c.args.memory.now c.loop-at.memory c.loop-at.memory lawful so_far.relocates (relocates_looks now mid c.loop-at.memory so_far.relocates.memory c.read_sector.ensures.looks))
+    c.relocate_chunk.ensures.relocates.looks.carries.kept_before
+    (came_looked old now mid c.args.memory.now c.loop-at.memory (IsBetween (2 + 64 * c.args.segment) (66 + 64 * c.args.segment)) c.read_sector.ensures.looks.carries.kept_before so_far.came)
+    (came_wider mid next c.loop-at.memory c.relocate_chunk.new.memory (IsBetween (2 + 64 * c.args.segment + c.loop-at.at + 1) (2 + 64 * c.args.segment + c.loop-at.at + 1 + length c.in-Some.names)) (IsBetween (2 + 64 * c.args.segment) (66 + 64 * c.args.segment))
+    (λ at between. let low = between.0 in let high = between.1 in (omega (arith, low), omega (arith, high, small, lt, count, few))) c.relocate_chunk.ensures.came)
+
+pub returns-in-Err-relocate_chunk-clause-misses : goal.returns-in-Err-relocate_chunk-clause-misses
+returns-in-Err-relocate_chunk-clause-misses g c is =
+    let old = g.D.SectorDevice.state c.args.device.now in
+    let now = g.D.SectorDevice.state c.loop-at.device in
+    let mid = g.D.SectorDevice.state c.read_sector.new.device in
+    let next = g.D.SectorDevice.state c.relocate_chunk.new.device in
+    let so_far = c.loop-at.invariant in
+    let lawful = g.met.D.SectorDevice.lawful c.args.device.now in
+    let small = c.if-count-used.false in
+    let lt = c.loop-at-test.true in
+    let count = c.len-count.ensures in
+    let few = so_far.few in
+    misses_then old mid next c.args.memory.now c.loop-at.memory c.relocate_chunk.new.memory (IsBetween (2 + 64 * c.args.segment) (66 + 64 * c.args.segment))
+    (relocates_then old now mid c.args.memory.now c.loop-at.memory c.loop-at.memory lawful so_far.relocates (relocates_looks now mid c.loop-at.memory so_far.relocates.memory c.read_sector.ensures.looks))
+    c.relocate_chunk.ensures.relocates.looks.carries.kept_before
+    (misses_wider mid next c.loop-at.memory c.relocate_chunk.new.memory (IsBetween (2 + 64 * c.args.segment + c.loop-at.at + 1) (2 + 64 * c.args.segment + c.loop-at.at + 1 + length c.in-Some.names)) (IsBetween (2 + 64 * c.args.segment) (66 + 64 * c.args.segment))
+    (λ at between. let low = between.0 in let high = between.1 in (omega (arith, low), omega (arith, high, small, lt, count, few))) (c.in-Err-relocate_chunk.ensures.misses (search rules)))

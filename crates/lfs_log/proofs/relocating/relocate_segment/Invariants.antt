@@ -1,6 +1,6 @@
-use Rattle.std.proofs.Common.{◌≡◌, ◌≤◌, ◌-◌}
+use Rattle.std.proofs.Common.{◌≡◌, ◌≤◌, ◌+◌, ◌*◌, ◌-◌}
 use Rattle.lfs_memory.specs.segments.Table.{used_of}
-use Rattle.lfs_log.specs.Relocating.{Relocates}
+use Rattle.lfs_log.specs.Relocating.{CameFrom, IsBetween, Relocates}
 use Rattle.lfs_log.proofs.Vacated.{ClearsTo}
 use Rattle.lfs_log.proofs.relocating.relocate_segment.Given as goal
 
@@ -11,6 +11,7 @@ invariant-loop-at g l =
     record {
       relocates : Relocates old now l.initial.memory l.memory;
       clears : ClearsTo old now l.initial.memory l.memory l.segment l.used l.at;
+      came : CameFrom old now l.initial.memory l.memory (IsBetween (2 + 64 * l.segment) (66 + 64 * l.segment));
       no_failure : now.failures ≡ old.failures;
       within : l.at ≤ l.used;
       used_is : l.used ≡ used_of l.initial.memory.usage l.segment;

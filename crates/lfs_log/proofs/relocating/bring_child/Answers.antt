@@ -1,0 +1,43 @@
+use Rattle.std.proofs.Common.{rules, ◌≡◌, ap, refl}
+use Rattle.std.specs.Prelude.{None}
+use Rattle.lfs_memory.specs.declared.memory.LogMemory.{LogMemory}
+use Rattle.lfs_memory.specs.inodes.Blocks.{blocks_of}
+use Rattle.lfs_memory.specs.inodes.Key.{entry_of}
+use Rattle.lfs_memory.proofs.Presents.{looks_none}
+use Rattle.lfs_log.specs.Relocating.{IsInOrder}
+use Rattle.lfs_log.proofs.CameIn.{brings_one, brings_same, still_out}
+use Rattle.lfs_log.proofs.Relocated.{no_pointer_there, relocates_looks}
+use Rattle.lfs_log.proofs.relocating.bring_child.Goals as goal
+
+pub returns-then-has_block-clause-relocates : goal.returns-then-has_block-clause-relocates
+returns-then-has_block-clause-relocates g c =
+    let old = g.D.SectorDevice.state c.args.device.now in
+    relocates_looks old old c.args.memory.now c.requires.memory (looks_none old)
+
+pub returns-then-has_block-clause-came : goal.returns-then-has_block-clause-came
+returns-then-has_block-clause-came g c = brings_same c.args.memory.now c.args.memory.now (entry_of c.args.key) refl
+
+pub returns-in-Ok-true-clause-came : goal.returns-in-Ok-true-clause-came
+returns-in-Ok-true-clause-came g c =
+    let none : blocks_of c.args.memory.now.dirty (entry_of c.args.key) ≡ None = search rules in
+    let before : IsInOrder c.args.memory.now.dirty = search rules in
+    let after : IsInOrder c.lift_child.new.memory.dirty = search rules in
+    brings_one c.args.memory.now c.lift_child.new.memory c.args.key.code c.args.key.formed before after none c.lift_child.ensures.prepares.stay
+    (c.in-Ok-true.ensures.inside (search rules)) c.lift_child.ensures.prepares.few
+
+pub returns-in-Ok-false-clause-came : goal.returns-in-Ok-false-clause-came
+returns-in-Ok-false-clause-came g c =
+    let same = c.in-Ok-false.ensures.same (search rules) in
+    brings_same c.args.memory.now c.lift_child.new.memory (entry_of c.args.key) (ap (λ (v : LogMemory). v.dirty) same)
+
+pub returns-in-Ok-false-clause-none : goal.returns-in-Ok-false-clause-none
+returns-in-Ok-false-clause-none g c _ =
+    no_pointer_there (g.D.SectorDevice.state c.lift_child.new.device) c.lift_child.new.memory _ (c.in-Ok-false.ensures.none (search rules))
+
+pub returns-in-Err-clause-came : goal.returns-in-Err-clause-came
+returns-in-Err-clause-came g c = brings_same c.args.memory.now c.lift_child.new.memory (entry_of c.args.key) (ap (λ (v : LogMemory). v.dirty) c.in-Err.ensures.kept)
+
+pub returns-in-Err-clause-lacks : goal.returns-in-Err-clause-lacks
+returns-in-Err-clause-lacks g c is =
+    let none : blocks_of c.args.memory.now.dirty (entry_of c.args.key) ≡ None = search rules in
+    still_out c.args.memory.now c.lift_child.new.memory (entry_of c.args.key) (ap (λ (v : LogMemory). v.dirty) c.in-Err.ensures.kept) none
