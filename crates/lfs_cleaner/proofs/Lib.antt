@@ -1,2 +1,4 @@
 pub mod Pressing
 pub use Rattle.lfs_log.proofs as of_log
+pub mod Rooms
+pub mod RoomBounds

@@ -3,6 +3,8 @@
 #![tactic(auto)]
 
 pub mod passing;
+pub mod room;
 
 pub use lfs_log::{Log, LogFault};
 pub use passing::pass;
+pub use room::{has_quarter, make_room};

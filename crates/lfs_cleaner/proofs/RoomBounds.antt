@@ -1,0 +1,161 @@
+-- Where room can be made each pass may begin, and an eighth of the segments of them suffice.
+use Rattle.std.proofs.Common.{◌≡◌, ◌<◌, ◌≤◌, ◌+◌, ◌-◌, ◌*◌, ◌/◌, ◌^◌, ⊎_elim, ℕ, suc, false, List, [], ◌∷◌, length, refl, sym, ◌∙◌, ap, subst, arith}
+use Rattle.std.specs.Prelude.{Result, Ok, Err, OnOk, min}
+use Rattle.lfs_model.specs.Checkpoint.{CheckpointValue, IsSegmentCount}
+use Rattle.lfs_model.specs.Device.{DeviceState, IsLawful, Carries}
+use Rattle.lfs_model.specs.Stands.{LogMap}
+use Rattle.lfs_model.specs.Totals.{IsCounted}
+use Rattle.lfs_model.specs.TreeOf.{dropped}
+use Rattle.lfs_model.proofs.Newest.{newest_fits}
+use Rattle.lfs_log.specs.memory.segments.Table.{clean_in}
+use Rattle.lfs_log.specs.verify.declared.totals.BlockTotals.{BlockTotals}
+use Rattle.lfs_log.specs.Publishing.{AreUntaken}
+use Rattle.lfs_log.specs.Cleaning.{Cleans}
+use Rattle.lfs_log.specs.Held.{Held, Halts, Holds, IsFull, Saves}
+use Rattle.lfs_cleaner.specs.Passing.{CanPass}
+use Rattle.lfs_cleaner.specs.Room.{CleansQuarter, HaltsLater, HasQuarter, IsReadied, IsRoomFault, IsWithin, KeepsMap, MayMakeRoom, MayNotMakeRoom, PassesDone, Repeats, most_checkpoints}
+use Rattle.lfs_cleaner.proofs.Rooms.{fault_then, halts_at_once, halts_then, halts_weaker, keeps_then, keeps_weaker, repeats_cleans, repeats_none, repeats_saves, repeats_then, repeats_weaker}
+
+-- a list without length is empty
+pub none_left : {T : Type 0} (xs : List T) → length xs ≤ 0 → xs ≡ []
+none_left [] le = refl
+none_left (x ∷ xs) le = absurd (omega (arith, le))
+
+-- what two facts of a success give, holds of it
+pub on_success : {T E : Type 0} (r : Result T E) (P Q R : Type 0) → (P → Q → R) → OnOk r P → OnOk r Q → OnOk r R
+on_success (Ok x) P Q R give p q = give p q
+on_success (Err f) P Q R give p q = tt
+
+module _ {D : Type 0} (state : D → DeviceState) where
+  -- a log that holds a map has as many segments as a volume may have
+  pub segment_count : (h : Held D) (k : CheckpointValue) (m0 m : LogMap) → IsLawful (state h.device) → Holds state h k m0 m → IsSegmentCount (length h.memory.usage.segments)
+  segment_count h k m0 m lawful is =
+      let fits = ((newest_fits (state h.device).content lawful.now).0 k).0 is.log.running.settled.newest in
+      subst IsSegmentCount (sym is.log.segments) fits.held.fits.segments
+
+  pub passes_none : (h : Held D) → IsLawful (state h.device) → h.halted ≡ false → PassesDone state h h 0
+  passes_none h lawful running = record { repeats = repeats_none state h lawful running; gains = omega arith }
+
+  -- a pass more
+  pub passes_more : (h now next : Held D) (count : ℕ) (vs : List ℕ) → PassesDone state h now count → Cleans state now next vs → next.totals ≡ now.totals → PassesDone state h next (count + 1)
+  passes_more h now next count vs done one totals = record {
+    repeats = repeats_then state h now next count 1 done.repeats (repeats_cleans state now next vs one totals);
+    gains = (let g = done.gains in let g' = one.gains in omega (arith, g, g'));
+  }
+
+  pub same_need : (h now : Held D) → now.totals ≡ h.totals → length now.memory.usage.segments ≡ length h.memory.usage.segments → IsWithin h → IsWithin now
+  same_need h now totals size need =
+      let stored = ap (λ (t : BlockTotals). t.data_blocks) totals in
+      let above = ap (λ (t : BlockTotals). t.meta_blocks) totals in
+      omega (arith, stored, above, size, need)
+
+  module _ (h now : Held D) (count : ℕ) (nothing : h.memory.dirty.blocks ≡ []) (done : PassesDone state h now count) (few : 4 * clean_in now.memory.usage.segments < length now.memory.usage.segments)
+      (k : CheckpointValue) (m0 m : LogMap) (keeps : (state now.device).keeps_model) (may : MayMakeRoom state h k m0 m) where
+    -- the next pass may begin
+    pub may_pass : count < length h.memory.usage.segments / 8 → (next : CheckpointValue) × (m1 : LogMap) × CanPass state now next m1 m
+    may_pass lt =
+        let over = done.repeats.keeps.holds k m0 m keeps may.holds may.shown in
+        let above = ap (λ (t : BlockTotals). t.meta_blocks) done.repeats.keeps.totals in
+        let size = done.repeats.keeps.segments in
+        let gains = done.gains in
+        let many = may.many in
+        let number = done.repeats.keeps.number in
+        let most = may.number in
+        let need = may.need in
+        let all_stored = may.counted.stored in
+        let all_above = may.counted.above in (
+          over.checkpoint,
+          over.acknowledged,
+          record {
+            holds = over.holds;
+            map = may.map;
+            nothing = ⊎_elim (λ (same : now ≡ h). subst (λ (x : Held D). x.memory.dirty.blocks ≡ []) (sym same) nothing) (λ all. all.empty) done.repeats.saved;
+            untaken = ⊎_elim (λ (same : now ≡ h). subst (λ (x : Held D). AreUntaken x.memory.usage) (sym same) (may.untaken nothing)) (λ all. all.untaken) done.repeats.saved;
+            few = few;
+            many = omega (arith, size, gains, many);
+            counted = above ∙ all_above;
+            need = omega (arith, size, need, all_stored, all_above);
+            number = omega (arith, number, most, lt);
+          },
+        )
+
+    -- an eighth of the segments of them suffice
+    pub passes_suffice : IsLawful (state h.device) → count ≡ length h.memory.usage.segments / 8 → ⊥
+    passes_suffice lawful all =
+        let size = done.repeats.keeps.segments in
+        let gains = done.gains in
+        let many = may.many in
+        let eighths = (segment_count h k m0 m lawful may.holds).eighths in
+        omega (arith, all, size, gains, many, few, eighths)
+
+  -- what is unsaved is saved, and room can be made still
+  pub room_saved : (h now : Held D) (k : CheckpointValue) (m0 m : LogMap) → Saves state h now → now.totals ≡ h.totals → 0 < length h.memory.dirty.blocks
+      → (state now.device).keeps_model → MayMakeRoom state h k m0 m → (next : CheckpointValue) × MayMakeRoom state now next (dropped m) m
+  room_saved h now k m0 m s totals some keeps may =
+      let next = s.holds k m0 m keeps may.holds may.shown in
+      let none : length now.memory.dirty.blocks ≡ 0 = ap length s.empty in
+      let size = s.segments in
+      let rose = s.number in
+      let most = may.number in (
+        next.0,
+        record {
+          holds = next.1;
+          map = may.map;
+          shown = may.shown;
+          counted = subst (λ (t : BlockTotals). IsCounted m t.data_blocks t.meta_blocks) (sym totals) may.counted;
+          need = same_need h now totals size may.need;
+          many = s.many;
+          enough = λ (lt : 0 < length now.memory.dirty.blocks). absurd (omega (arith, lt, none));
+          untaken = λ e. s.untaken;
+          number = omega (arith, none, size, rose, most, some);
+        },
+      )
+
+  -- where room can be made a commit finds enough clean segments
+  pub commit_fits : (h : Held D) (k : CheckpointValue) (m0 m : LogMap) → IsLawful (state h.device) → 0 < length h.memory.dirty.blocks → IsFull h → MayMakeRoom state h k m0 m → ⊥
+  commit_fits h k m0 m lawful some full may =
+      let enough = may.enough some in
+      let most = may.number in
+      let eighths = (segment_count h k m0 m lawful may.holds).eighths in
+      ⊎_elim
+      (λ (few : 8 * clean_in h.memory.usage.segments < length h.memory.usage.segments + 64). omega (arith, enough, eighths, few))
+      (λ (high : 2 ^ 64 - 1 ≤ h.number). omega (arith, most, high, some))
+      full
+
+  -- ---- what is unsaved is saved first
+  pub readied_none : (h : Held D) → IsLawful (state h.device) → h.halted ≡ false → length h.memory.dirty.blocks ≡ 0 → IsReadied state h h
+  readied_none h lawful running none = record {
+    repeats = repeats_weaker state h h 0 (min 1 (length h.memory.dirty.blocks)) (repeats_none state h lawful running) (omega arith);
+    nothing = none_left h.memory.dirty.blocks (omega (arith, none));
+    room = λ k m0 m keeps may. (k, m0, may);
+  }
+
+  pub readied_saves : (h now : Held D) → Saves state h now → now.totals ≡ h.totals → 0 < length h.memory.dirty.blocks → IsReadied state h now
+  readied_saves h now s totals some = record {
+    repeats = repeats_weaker state h now 1 (min 1 (length h.memory.dirty.blocks)) (repeats_saves state h now s totals) (omega (arith, some));
+    nothing = s.empty;
+    room = λ k m0 m keeps may. let next = room_saved h now k m0 m s totals some keeps may in (next.0, dropped m, next.1);
+  }
+
+  module _ (a b c : Held D) (ready : IsReadied state a b) where
+    few_more : min 1 (length a.memory.dirty.blocks) + length b.memory.usage.segments / 8 ≤ most_checkpoints a
+    few_more = let size = ready.repeats.keeps.segments in omega (arith, size)
+
+    pub quarter_after : Repeats state b c (length b.memory.usage.segments / 8) → HasQuarter c → CleansQuarter state a c
+    quarter_after passes enough = (repeats_weaker state a c _ _ (repeats_then state a b c _ _ ready.repeats passes) few_more, enough)
+
+    pub keeps_after : KeepsMap state b c (length b.memory.usage.segments / 8) → KeepsMap state a c (most_checkpoints a)
+    keeps_after passes = keeps_weaker state a c _ _ (keeps_then state a b c _ ready.repeats.keeps _ passes) few_more
+
+    pub lacks_after : Carries (state b.device) (state c.device) → MayNotMakeRoom state b c → MayNotMakeRoom state a c
+    lacks_after after lacks k m0 m keeps may = let next = ready.room k m0 m (after.kept_before keeps) may in lacks next.0 next.1 m keeps next.2
+
+    pub fault_after : Carries (state b.device) (state c.device) → IsRoomFault state b c → IsRoomFault state a c
+    fault_after after failed = fault_then state a b c _ ready.repeats.keeps after failed
+
+    pub halts_after : HaltsLater state b c (length b.memory.usage.segments / 8) → HaltsLater state a c (most_checkpoints a)
+    halts_after halts = halts_weaker state a c _ _ (halts_then state a b c _ ready.repeats.keeps _ halts) few_more
+
+  -- a failed commit
+  pub halts_first : (a b : Held D) → Halts state a b → HaltsLater state a b (most_checkpoints a)
+  halts_first a b halts = halts_weaker state a b 0 _ (halts_at_once state a b halts) (omega arith)

@@ -1,0 +1,242 @@
+-- Commits and passes, one after the other: the log map stays, and what a stop leaves is the one or the other.
+use Rattle.std.proofs.Common.{◌≡◌, ◌≤◌, ◌+◌, inl, inr, ⊎_elim, ℕ, false, List, length, refl, sym, ◌∙◌, subst, arith}
+use Rattle.std.specs.Prelude.{◌⊎◌}
+use Rattle.lfs_model.specs.Checkpoint.{CheckpointValue}
+use Rattle.lfs_model.specs.Content.{Content}
+use Rattle.lfs_model.specs.Crash.{StandsOn}
+use Rattle.lfs_model.specs.Device.{DeviceState, IsLawful, Carries, AllLeft}
+use Rattle.lfs_model.specs.Encodes.{IsLogMap}
+use Rattle.lfs_model.specs.Stands.{LogMap}
+use Rattle.lfs_model.specs.TreeOf.{dropped}
+use Rattle.lfs_model.proofs.Moments.{carries_none, carries_then, started, joined, weaker}
+use Rattle.lfs_model.proofs.Settled.{settled_stands}
+use Rattle.lfs_log.specs.memory.declared.memory.LogMemory.{LogMemory}
+use Rattle.lfs_log.specs.memory.Memory.{IsLog}
+use Rattle.lfs_log.proofs.of_memory.Looses.{loose, tight_again}
+use Rattle.lfs_log.proofs.of_memory.Presents.{looks_quiet, still_log}
+use Rattle.lfs_log.proofs.Volumes.{same_segments}
+use Rattle.lfs_log.specs.Cleaning.{Cleans}
+use Rattle.lfs_log.specs.Held.{Held, Halts, Holds, IsReadFault, IsSaved, LeavesSaved, Reads, Saves}
+use Rattle.lfs_cleaner.specs.Room.{HaltsLater, HoldsOver, IsRoomFault, KeepsMap, Repeats, SavesAll}
+
+module _ {D : Type 0} (state : D → DeviceState) where
+  -- ---- one step
+  pub acknowledged : (h : Held D) (k : CheckpointValue) (m0 m : LogMap) → Holds state h k m0 m → AllLeft (state h.device) (λ c. StandsOn k.segments c m0)
+  acknowledged h k m0 m is = settled_stands (state h.device) k m0 is.log.running.settled
+
+  -- nothing happens
+  pub keeps_none : (h : Held D) → IsLawful (state h.device) → h.halted ≡ false → KeepsMap state h h 0
+  keeps_none h lawful running = record {
+    carries = carries_none (state h.device);
+    running = running;
+    later = omega arith;
+    number = omega arith;
+    segments = refl;
+    totals = refl;
+    holds = λ k m0 m keeps is map. record { checkpoint = k; acknowledged = m0; either = inl refl; segments = refl; holds = is };
+    moment = λ k m0 m keeps is map. started (state h.device) (IsSaved state k.segments m0 m) lawful (λ c left. inl (acknowledged h k m0 m is c left));
+  }
+
+  -- the device was only read
+  held_still : (a b : Held D) (k : CheckpointValue) (m0 m : LogMap) → Reads state a b → Holds state a k m0 m → Holds state b k m0 m
+  held_still a b k m0 m reads is = record {
+    log = subst (λ (v : LogMemory). IsLog (state b.device) v k m0 m) (sym reads.memory)
+        (let s = still_log (state a.device) (state b.device) a.memory k m0 m reads.looks (loose (state a.device) a.memory k m0 m is.log) in tight_again (state b.device) a.memory k m0 m s is.log.tight);
+    number = is.number ∙ sym reads.number;
+    running = reads.halted ∙ is.running;
+  }
+
+  pub keeps_reads : (a b : Held D) → IsLawful (state a.device) → a.halted ≡ false → Reads state a b → KeepsMap state a b 0
+  keeps_reads a b lawful running reads = record {
+    carries = reads.looks.carries;
+    running = reads.halted ∙ running;
+    later = (let same = reads.number in omega (arith, same));
+    number = (let same = reads.number in omega (arith, same));
+    segments = subst (λ (v : LogMemory). length v.usage.segments ≡ length a.memory.usage.segments) (sym reads.memory) refl;
+    totals = reads.totals;
+    holds = λ k m0 m keeps is map. record { checkpoint = k; acknowledged = m0; either = inl refl; segments = refl; holds = held_still a b k m0 m reads is };
+    moment = λ k m0 m keeps is map.
+        weaker (state a.device) (state b.device) (λ c. StandsOn k.segments c m0) (IsSaved state k.segments m0 m) (λ c there. inl there)
+        (looks_quiet (state a.device) (state b.device) a.memory k m0 m lawful reads.looks (loose (state a.device) a.memory k m0 m is.log));
+  }
+
+  pub saves_all : (h h' : Held D) → Saves state h h' → SavesAll state h h'
+  saves_all h h' s = record { empty = s.empty; untaken = s.untaken; holds = s.holds }
+
+  pub cleans_all : (h h' : Held D) (vs : List ℕ) → Cleans state h h' vs → SavesAll state h h'
+  cleans_all h h' vs s = record { empty = s.empty; untaken = s.untaken; holds = s.holds }
+
+  saved_over : (h h' : Held D) → length h'.memory.usage.segments ≡ length h.memory.usage.segments → SavesAll state h h'
+      → (k : CheckpointValue) (m0 m : LogMap) → (state h'.device).keeps_model → Holds state h k m0 m → IsLogMap (dropped m) → HoldsOver state k.segments m0 m h'
+  saved_over h h' same all k m0 m keeps is map =
+      let next = all.holds k m0 m keeps is map in
+      record {
+        checkpoint = next.0;
+        acknowledged = dropped m;
+        either = inr refl;
+        segments = same_segments state h h' k next.0 m0 m (dropped m) m same is next.1;
+        holds = next.1;
+      }
+
+  pub keeps_saves : (h h' : Held D) → Saves state h h' → h'.totals ≡ h.totals → KeepsMap state h h' 1
+  keeps_saves h h' s totals = record {
+    carries = s.carries;
+    running = s.running;
+    later = (let n = s.number in omega (arith, n));
+    number = (let n = s.number in omega (arith, n));
+    segments = s.segments;
+    totals = totals;
+    holds = saved_over h h' s.segments (saves_all h h' s);
+    moment = s.moment;
+  }
+
+  pub keeps_cleans : (h h' : Held D) (vs : List ℕ) → Cleans state h h' vs → h'.totals ≡ h.totals → KeepsMap state h h' 1
+  keeps_cleans h h' vs s totals = record {
+    carries = s.carries;
+    running = s.running;
+    later = (let n = s.number in omega (arith, n));
+    number = (let n = s.number in omega (arith, n));
+    segments = s.segments;
+    totals = totals;
+    holds = saved_over h h' s.segments (cleans_all h h' vs s);
+    moment = s.moment;
+  }
+
+  pub keeps_weaker : (a b : Held D) (x y : ℕ) → KeepsMap state a b x → x ≤ y → KeepsMap state a b y
+  keeps_weaker a b x y one le = record {
+    carries = one.carries;
+    running = one.running;
+    later = one.later;
+    number = (let n = one.number in omega (arith, n, le));
+    segments = one.segments;
+    totals = one.totals;
+    holds = one.holds;
+    moment = one.moment;
+  }
+
+  -- ---- one step after another
+  -- what is one of the two for the log map in the middle is one of the two for that at the start
+  module _ (a b : Held D) (k : CheckpointValue) (m0 m : LogMap) (over : HoldsOver state k.segments m0 m b) where
+    pub saved_still : (c : Content) → IsSaved state over.checkpoint.segments over.acknowledged m c → IsSaved state k.segments m0 m c
+    saved_still c is = ⊎_elim
+        (λ (first : StandsOn over.checkpoint.segments c over.acknowledged).
+        let here : StandsOn k.segments c over.acknowledged = subst (λ (n : ℕ). StandsOn n c over.acknowledged) over.segments first in
+        ⊎_elim
+        (λ (old : over.acknowledged ≡ m0). inl (subst (λ (l : LogMap). StandsOn k.segments c l) old here))
+        (λ (new : over.acknowledged ≡ dropped m). inr (subst (λ (l : LogMap). StandsOn k.segments c l) new here))
+        over.either)
+        (λ (second : StandsOn over.checkpoint.segments c (dropped m)). inr (subst (λ (n : ℕ). StandsOn n c (dropped m)) over.segments second))
+        is
+
+    over_then : (c : Held D) → HoldsOver state over.checkpoint.segments over.acknowledged m c → HoldsOver state k.segments m0 m c
+    over_then c next = record {
+      checkpoint = next.checkpoint;
+      acknowledged = next.acknowledged;
+      either = ⊎_elim
+          (λ (same : next.acknowledged ≡ over.acknowledged). ⊎_elim (λ (old : over.acknowledged ≡ m0). inl (same ∙ old)) (λ (new : over.acknowledged ≡ dropped m). inr (same ∙ new)) over.either)
+          (λ (new : next.acknowledged ≡ dropped m). inr new)
+          next.either;
+      segments = next.segments ∙ over.segments;
+      holds = next.holds;
+    }
+
+  module _ (a b c : Held D) (x : ℕ) (one : KeepsMap state a b x) where
+    module _ (after : Carries (state b.device) (state c.device)) (moment : LeavesSaved state b c) where
+      moment_then : LeavesSaved state a c
+      moment_then k m0 m keeps is map =
+          let back = after.kept_before keeps in
+          let over = one.holds k m0 m back is map in
+          joined (state a.device) (state b.device) (state c.device) (IsSaved state k.segments m0 m) (IsSaved state over.checkpoint.segments over.acknowledged m) (IsSaved state k.segments m0 m)
+          (one.moment k m0 m back is map) (moment over.checkpoint over.acknowledged m keeps over.holds map) (λ x p. p) (saved_still a b k m0 m over)
+
+    pub keeps_then : (y : ℕ) → KeepsMap state b c y → KeepsMap state a c (x + y)
+    keeps_then y two = record {
+      carries = carries_then (state a.device) (state b.device) (state c.device) one.carries two.carries;
+      running = two.running;
+      later = (let l = one.later in let l' = two.later in omega (arith, l, l'));
+      number = (let n = one.number in let n' = two.number in omega (arith, n, n'));
+      segments = two.segments ∙ one.segments;
+      totals = two.totals ∙ one.totals;
+      holds = λ k m0 m keeps is map.
+          let over = one.holds k m0 m (two.carries.kept_before keeps) is map in
+          over_then a b k m0 m over c (two.holds over.checkpoint over.acknowledged m keeps over.holds map);
+      moment = moment_then two.carries two.moment;
+    }
+
+    pub saved_then : Carries (state b.device) (state c.device) → SavesAll state b c → SavesAll state a c
+    saved_then after all = record {
+      empty = all.empty;
+      untaken = all.untaken;
+      holds = λ k m0 m keeps is map.
+          let over = one.holds k m0 m (after.kept_before keeps) is map in
+          all.holds over.checkpoint over.acknowledged m keeps over.holds map;
+    }
+
+    -- ---- a failure ends it
+    pub fault_then : Carries (state b.device) (state c.device) → IsRoomFault state b c → IsRoomFault state a c
+    fault_then after failed k m0 m keeps is map =
+        let over = one.holds k m0 m (after.kept_before keeps) is map in
+        let rose = failed over.checkpoint over.acknowledged m keeps over.holds map in
+        let before = one.carries.failures in
+        omega (arith, rose, before)
+
+    pub halts_then : (y : ℕ) → HaltsLater state b c y → HaltsLater state a c (x + y)
+    halts_then y two = record {
+      carries = carries_then (state a.device) (state b.device) (state c.device) one.carries two.carries;
+      halted = two.halted;
+      later = (let l = one.later in let l' = two.later in omega (arith, l, l'));
+      number = (let n = one.number in let n' = two.number in omega (arith, n, n'));
+      cause = fault_then two.carries two.cause;
+      left = λ k m0 m keeps is map.
+          let over = one.holds k m0 m (two.carries.kept_before keeps) is map in
+          λ content left. saved_still a b k m0 m over content (two.left over.checkpoint over.acknowledged m keeps over.holds map content left);
+      moment = moment_then two.carries two.moment;
+    }
+
+  pub halts_at_once : (a b : Held D) → Halts state a b → HaltsLater state a b 0
+  halts_at_once a b halts = record {
+    carries = halts.carries;
+    halted = halts.halted;
+    later = (let n = halts.number in omega (arith, n));
+    number = (let n = halts.number in omega (arith, n));
+    cause = λ k m0 m keeps is map. halts.cause k m0 m keeps is;
+    left = halts.left;
+    moment = halts.moment;
+  }
+
+  pub halts_weaker : (a b : Held D) (x y : ℕ) → HaltsLater state a b x → x ≤ y → HaltsLater state a b y
+  halts_weaker a b x y one le = record {
+    carries = one.carries;
+    halted = one.halted;
+    later = one.later;
+    number = (let n = one.number in omega (arith, n, le));
+    cause = one.cause;
+    left = one.left;
+    moment = one.moment;
+  }
+
+  pub read_fault : (a b : Held D) → IsReadFault state a b → IsRoomFault state a b
+  read_fault a b failed k m0 m keeps is map = failed k m0 m keeps is
+
+  -- ---- commits and passes that are done
+  pub repeats_none : (h : Held D) → IsLawful (state h.device) → h.halted ≡ false → Repeats state h h 0
+  repeats_none h lawful running = record { keeps = keeps_none h lawful running; no_failure = refl; saved = inl refl }
+
+  pub repeats_saves : (h h' : Held D) → Saves state h h' → h'.totals ≡ h.totals → Repeats state h h' 1
+  repeats_saves h h' s totals = record { keeps = keeps_saves h h' s totals; no_failure = s.no_failure; saved = inr (saves_all h h' s) }
+
+  pub repeats_cleans : (h h' : Held D) (vs : List ℕ) → Cleans state h h' vs → h'.totals ≡ h.totals → Repeats state h h' 1
+  repeats_cleans h h' vs s totals = record { keeps = keeps_cleans h h' vs s totals; no_failure = s.no_failure; saved = inr (cleans_all h h' vs s) }
+
+  pub repeats_weaker : (a b : Held D) (x y : ℕ) → Repeats state a b x → x ≤ y → Repeats state a b y
+  repeats_weaker a b x y one le = record { keeps = keeps_weaker a b x y one.keeps le; no_failure = one.no_failure; saved = one.saved }
+
+  pub repeats_then : (a b c : Held D) (x y : ℕ) → Repeats state a b x → Repeats state b c y → Repeats state a c (x + y)
+  repeats_then a b c x y one two = record {
+    keeps = keeps_then a b c x one.keeps y two.keeps;
+    no_failure = two.no_failure ∙ one.no_failure;
+    saved = ⊎_elim
+        (λ (same : c ≡ b). subst (λ (h : Held D). (h ≡ a) ⊎ SavesAll state a h) (sym same) one.saved)
+        (λ (all : SavesAll state b c). inr (saved_then a b c x one.keeps two.keeps.carries all))
+        two.saved;
+  }

@@ -1,0 +1,73 @@
+use Rattle.std.proofs.Common.{rules, ◌≡◌, ◌≤◌, ◌+◌, ◌/◌, true, false, length, ◌∙◌, arith}
+use Rattle.lfs_cleaner.proofs.Rooms.{fault_then, halts_at_once, halts_then, halts_weaker, keeps_reads, keeps_then, keeps_weaker, read_fault}
+use Rattle.lfs_cleaner.proofs.RoomBounds.{may_pass, passes_more, passes_none, passes_suffice}
+use Rattle.lfs_cleaner.proofs.room.pass_until_quarter.Goals as goal
+
+pub loop-init : goal.loop-init
+loop-init g c = passes_none g.D.SectorDevice.state c.args.log.now (g.met.D.SectorDevice.lawful c.args.log.now.device) c.requires.running
+
+pub returns-in-Err-clause-full : goal.returns-in-Err-clause-full
+returns-in-Err-clause-full g c is =
+    let done = c.loop.invariant.repeats.keeps in
+    let lt = c.loop-test.true in
+    let most = c.segments-most.ensures in
+    let le : c.loop.counter + 0 ≤ length c.args.log.now.memory.usage.segments / 8 = omega (arith, lt, most) in
+    let reads = keeps_reads g.D.SectorDevice.state c.loop.log c.pass.new.log (g.met.D.SectorDevice.lawful c.loop.log.device) done.running (c.in-Err.ensures.full (search rules)) in
+    keeps_weaker g.D.SectorDevice.state c.args.log.now c.pass.new.log (c.loop.counter + 0) _ (keeps_then g.D.SectorDevice.state c.args.log.now c.loop.log c.pass.new.log c.loop.counter done 0 reads) le
+
+pub returns-in-Err-clause-kept : goal.returns-in-Err-clause-kept
+returns-in-Err-clause-kept g c is =
+    let done = c.loop.invariant.repeats.keeps in
+    let lt = c.loop-test.true in
+    let most = c.segments-most.ensures in
+    let le : c.loop.counter + 0 ≤ length c.args.log.now.memory.usage.segments / 8 = omega (arith, lt, most) in
+    let reads = keeps_reads g.D.SectorDevice.state c.loop.log c.pass.new.log (g.met.D.SectorDevice.lawful c.loop.log.device) done.running (c.in-Err.ensures.kept (search rules)) in
+    keeps_weaker g.D.SectorDevice.state c.args.log.now c.pass.new.log (c.loop.counter + 0) _ (keeps_then g.D.SectorDevice.state c.args.log.now c.loop.log c.pass.new.log c.loop.counter done 0 reads) le
+
+pub returns-in-Err-clause-lacks : goal.returns-in-Err-clause-lacks
+returns-in-Err-clause-lacks g c is k m0 m keeps may =
+    let lt = c.loop-test.true in
+    let most = c.segments-most.ensures in
+    let full = c.in-Err.ensures.full (search rules) in
+    let next = may_pass g.D.SectorDevice.state c.args.log.now c.loop.log c.loop.counter c.requires.nothing c.loop.invariant (c.if-has_quarter.ensures.no (search rules)) k m0 m
+    (full.looks.carries.kept_before keeps) may (omega (arith, lt, most)) in
+    c.in-Err.ensures.lacks (search rules) next.0 next.1 m keeps next.2
+
+pub returns-in-Err-clause-failed : goal.returns-in-Err-clause-failed
+returns-in-Err-clause-failed g c is =
+    let kept = c.in-Err.ensures.kept (search rules) in
+    fault_then g.D.SectorDevice.state c.args.log.now c.loop.log c.pass.new.log c.loop.counter c.loop.invariant.repeats.keeps kept.looks.carries
+    (read_fault g.D.SectorDevice.state c.loop.log c.pass.new.log (c.in-Err.ensures.failed (search rules)))
+
+pub returns-in-Err-clause-halted : goal.returns-in-Err-clause-halted
+returns-in-Err-clause-halted g c is =
+    let done = c.loop.invariant.repeats.keeps in
+    let lt = c.loop-test.true in
+    let most = c.segments-most.ensures in
+    let le : c.loop.counter + 0 ≤ length c.args.log.now.memory.usage.segments / 8 = omega (arith, lt, most) in
+    let running : c.loop.log.halted ≡ false = done.running in
+    let halts = c.in-Err.ensures.halted (search rules) (λ (is : c.loop.log.halted ≡ true). absurd (cc)) in
+    halts_weaker g.D.SectorDevice.state c.args.log.now c.pass.new.log (c.loop.counter + 0) _
+    (halts_then g.D.SectorDevice.state c.args.log.now c.loop.log c.pass.new.log c.loop.counter done 0 (halts_at_once g.D.SectorDevice.state c.loop.log c.pass.new.log halts)) le
+
+pub loop-preserved : goal.loop-preserved
+loop-preserved g c =
+    let done = c.in-Ok.ensures.done in
+    passes_more g.D.SectorDevice.state c.args.log.now c.loop.log c.pass.new.log c.loop.counter done.0 c.loop.invariant done.1 c.in-Ok.ensures.totals
+
+pub returns-clause-lacks : goal.returns-clause-lacks
+returns-clause-lacks g c is k m0 m keeps may =
+    let low = c.loop-test.false in
+    let high = c.loop.auto.counter-end in
+    let most = c.segments-most.ensures in
+    passes_suffice g.D.SectorDevice.state c.args.log.now c.loop.log c.loop.counter c.requires.nothing c.loop.invariant (c.if-has_quarter-2.ensures.no (search rules)) k m0 m keeps may
+    (g.met.D.SectorDevice.lawful c.args.log.now.device) (omega (arith, low, high, most))
+
+pub returns-in-Err-clause-totals : goal.returns-in-Err-clause-totals
+returns-in-Err-clause-totals g c = c.pass.ensures.totals ∙ c.loop.invariant.repeats.keeps.totals
+
+pub returns-then-has_quarter-clause-totals : goal.returns-then-has_quarter-clause-totals
+returns-then-has_quarter-clause-totals g c = c.loop.invariant.repeats.keeps.totals
+
+pub returns-clause-totals : goal.returns-clause-totals
+returns-clause-totals g c = c.loop.invariant.repeats.keeps.totals

@@ -1,0 +1,116 @@
+-- What is left where the cleaner makes room: it commits what is unsaved, and passes until a quarter of the segments is clean.
+use Rattle.std.specs.Prelude.{◌≡◌, ◌⊎◌, ◌<◌, ◌≤◌, ◌+◌, ◌-◌, ◌*◌, ◌/◌, ◌^◌, ℕ, true, false, [], length, min}
+use Rattle.lfs_model.specs.Checkpoint.{CheckpointValue}
+use Rattle.lfs_model.specs.Device.{DeviceState, Carries, AllLeft}
+use Rattle.lfs_model.specs.Encodes.{IsLogMap}
+use Rattle.lfs_model.specs.Stands.{LogMap}
+use Rattle.lfs_model.specs.Totals.{IsCounted}
+use Rattle.lfs_model.specs.TreeOf.{dropped}
+use Rattle.lfs_log.specs.memory.segments.Table.{clean_in}
+use Rattle.lfs_log.specs.Held.{Held, Holds, IsSaved, LeavesSaved}
+use Rattle.lfs_log.specs.Publishing.{AreUntaken}
+
+-- the need of the files, by the totals of the log, is within the volume
+abbrev pub IsWithin : {D : Type 0} → Held D → Type 0
+IsWithin h =
+    h.totals.data_blocks + 7 * h.totals.meta_blocks + 720 ≤ 47 * length h.memory.usage.segments
+
+-- a quarter of the segments is clean
+abbrev pub HasQuarter : {D : Type 0} → Held D → Type 0
+HasQuarter h = length h.memory.usage.segments ≤ 4 * clean_in h.memory.usage.segments
+
+-- how many checkpoints are written at most: one where anything is unsaved, and one for each pass
+abbrev pub most_checkpoints : {D : Type 0} → Held D → ℕ
+most_checkpoints h = length h.memory.usage.segments / 8 + min 1 (length h.memory.dirty.blocks)
+
+module _ {D : Type 0} (state : D → DeviceState) where
+  -- The log has log map m, over what was acknowledged before, m0, or over m without its files of no links. It has N segments.
+  pub record HoldsOver (N : ℕ) (m0 m : LogMap) (h : Held D) : Type 0 where
+    pub checkpoint : CheckpointValue
+    pub acknowledged : LogMap
+    pub either : (acknowledged ≡ m0) ⊎ (acknowledged ≡ dropped m)
+    pub segments : checkpoint.segments ≡ N
+    pub holds : Holds state h checkpoint acknowledged m
+
+  -- At most so many checkpoints were written, and the log map is the same. A stop meanwhile left what was acknowledged, or the log map
+  -- without its files of no links.
+  pub record KeepsMap (h h' : Held D) (most : ℕ) : Type 0 where
+    pub carries : Carries (state h.device) (state h'.device)
+    pub running : h'.halted ≡ false
+    pub later : h.number ≤ h'.number
+    pub number : h'.number ≤ h.number + most
+    pub segments : length h'.memory.usage.segments ≡ length h.memory.usage.segments
+    pub totals : h'.totals ≡ h.totals
+    pub holds : (k : CheckpointValue) (m0 m : LogMap) → (state h'.device).keeps_model
+        → Holds state h k m0 m → IsLogMap (dropped m)
+        → HoldsOver k.segments m0 m h'
+    pub moment : LeavesSaved state h h'
+
+  -- The log map, without its files of no links, is acknowledged, and nothing of it is unsaved.
+  pub record SavesAll (h h' : Held D) : Type 0 where
+    pub empty : h'.memory.dirty.blocks ≡ []
+    pub untaken : AreUntaken h'.memory.usage
+    pub holds : (k : CheckpointValue) (m0 m : LogMap) → (state h'.device).keeps_model
+        → Holds state h k m0 m → IsLogMap (dropped m)
+        → (next : CheckpointValue) × Holds state h' next (dropped m) m
+
+  -- Commits and passes that are done, if any.
+  pub record Repeats (h h' : Held D) (most : ℕ) : Type 0 where
+    pub keeps : KeepsMap h h' most
+    pub no_failure : (state h'.device).failures ≡ (state h.device).failures
+    pub saved : (h' ≡ h) ⊎ SavesAll h h'
+
+  -- So many passes are done, of which each gained a segment.
+  pub record PassesDone (h h' : Held D) (count : ℕ) : Type 0 where
+    pub repeats : Repeats h h' count
+    pub gains : clean_in h.memory.usage.segments + count ≤ clean_in h'.memory.usage.segments
+
+  -- A quarter of the segments is clean.
+  abbrev pub CleansQuarter : Held D → Held D → Type 0
+  CleansQuarter h h' = Repeats h h' (most_checkpoints h) × HasQuarter h'
+
+  -- A failure of the device ended a commit or a pass, after at most so many checkpoints.
+  pub record HaltsLater (h h' : Held D) (most : ℕ) : Type 0 where
+    pub carries : Carries (state h.device) (state h'.device)
+    pub halted : h'.halted ≡ true
+    pub later : h.number ≤ h'.number
+    pub number : h'.number ≤ h.number + most
+    pub cause : (k : CheckpointValue) (m0 m : LogMap) → (state h'.device).keeps_model
+        → Holds state h k m0 m → IsLogMap (dropped m)
+        → (state h.device).failures < (state h'.device).failures
+    pub left : (k : CheckpointValue) (m0 m : LogMap) → (state h'.device).keeps_model
+        → Holds state h k m0 m → IsLogMap (dropped m)
+        → AllLeft (state h'.device) (IsSaved state k.segments m0 m)
+    pub moment : LeavesSaved state h h'
+
+  -- a call of the device failed, where the log holds a map
+  abbrev pub IsRoomFault : Held D → Held D → Type 0
+  IsRoomFault h h' = (k : CheckpointValue) (m0 m : LogMap) → (state h'.device).keeps_model
+      → Holds state h k m0 m → IsLogMap (dropped m)
+      → (state h.device).failures < (state h'.device).failures
+
+  -- Where room can be made: the need of log map m is within the volume, an eighth of the segments is clean, so many that a commit may come
+  -- where anything is unsaved, and numbers are left for the checkpoints.
+  pub record MayMakeRoom (h : Held D) (k : CheckpointValue) (m0 m : LogMap) : Type 0 where
+    pub holds : Holds state h k m0 m
+    pub map : IsLogMap m
+    pub shown : IsLogMap (dropped m)
+    pub counted : IsCounted m h.totals.data_blocks h.totals.meta_blocks
+    pub need : IsWithin h
+    pub many : length h.memory.usage.segments ≤ 8 * clean_in h.memory.usage.segments
+    pub enough : 0 < length h.memory.dirty.blocks
+        → length h.memory.usage.segments / 8 + 8 ≤ clean_in h.memory.usage.segments
+    pub untaken : h.memory.dirty.blocks ≡ [] → AreUntaken h.memory.usage
+    pub number : h.number + most_checkpoints h ≤ 2 ^ 64 - 1
+
+  -- the log held no map that room can be made beside
+  abbrev pub MayNotMakeRoom : Held D → Held D → Type 0
+  MayNotMakeRoom h h' = (k : CheckpointValue) (m0 m : LogMap) → (state h'.device).keeps_model
+      → MayMakeRoom h k m0 m → ⊥
+
+  -- What was unsaved is saved, and room can be made still.
+  pub record IsReadied (h h' : Held D) : Type 0 where
+    pub repeats : Repeats h h' (min 1 (length h.memory.dirty.blocks))
+    pub nothing : h'.memory.dirty.blocks ≡ []
+    pub room : (k : CheckpointValue) (m0 m : LogMap) → (state h'.device).keeps_model
+        → MayMakeRoom h k m0 m → (next : CheckpointValue) × (m1 : LogMap) × MayMakeRoom h' next m1 m

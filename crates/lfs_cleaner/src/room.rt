@@ -1,0 +1,117 @@
+//! Room in the log: what is unsaved is committed, and passes of the cleaner follow until a quarter of the segments is clean.
+ghost use Rattle.std.specs.Prelude.{◌≡◌, ◌≢◌, ◌<◌, ◌≤◌, ◌+◌, ◌*◌, ◌/◌, true, false, [], length, OnOk, IsErrOf, IsTrue, IsFalse};
+ghost use Rattle.lfs_log.specs.memory.segments.Table.{clean_in};
+ghost use Rattle.lfs_log.specs.Held.{Halts, IsFull};
+ghost use Rattle.lfs_cleaner.specs.Room.{CleansQuarter, HaltsLater, HasQuarter, IsReadied, IsRoomFault, KeepsMap, MayNotMakeRoom, Repeats, most_checkpoints};
+
+use crate::passing::pass;
+use lfs_device::SectorDevice;
+use lfs_log::{Log, LogFault};
+
+/// Whether a quarter of the segments is clean.
+pub fn has_quarter<D: SectorDevice>(log: &Log<D>) -> bool
+    ensures yes { IsTrue result → HasQuarter log.now }
+    ensures no { IsFalse result → 4 * clean_in log.now.memory.usage.segments
+        < length log.now.memory.usage.segments }
+{
+    u64::from(log.segments()) <= 4 * u64::from(log.clean_segments())
+}
+
+/// Passes until a quarter of the segments is clean, an eighth of them times at most, for each pass gains a segment.
+///
+/// # Errors
+///
+/// As those of `pass`, and `Full` where they don't suffice. With each the log map is the same, and what earlier passes did stays.
+fn pass_until_quarter<D: SectorDevice>(log: &mut Log<D>) -> Result<(), LogFault>
+    requires running { log.old.halted ≡ false }
+    requires nothing { log.old.memory.dirty.blocks ≡ [] }
+    ensures done { OnOk result (Repeats D.SectorDevice.state log.old log.new
+        (length log.old.memory.usage.segments / 8)) }
+    ensures enough { OnOk result (HasQuarter log.new) }
+    ensures totals { log.new.totals ≡ log.old.totals }
+    ensures full { IsErrOf result LogFault.Full → KeepsMap D.SectorDevice.state log.old log.new
+        (length log.old.memory.usage.segments / 8) }
+    ensures lacks { IsErrOf result LogFault.Full
+        → MayNotMakeRoom D.SectorDevice.state log.old log.new }
+    ensures kept { IsErrOf result LogFault.Device → KeepsMap D.SectorDevice.state log.old log.new
+        (length log.old.memory.usage.segments / 8) }
+    ensures failed { IsErrOf result LogFault.Device
+        → IsRoomFault D.SectorDevice.state log.old log.new }
+    ensures halted { IsErrOf result LogFault.Halted
+        → HaltsLater D.SectorDevice.state log.old log.new
+        (length log.old.memory.usage.segments / 8) }
+{
+    let most = log.segments() / 8;
+    for _ in 0..most {
+        if has_quarter(log) {
+            return Ok(());
+        }
+        match pass(log) {
+            Ok(()) => {}
+            Err(fault) => return Err(fault),
+        }
+    }
+    if has_quarter(log) {
+        return Ok(());
+    }
+    Err(LogFault::Full)
+}
+
+/// Commits what is unsaved, where anything is.
+///
+/// # Errors
+///
+/// As those of `Log::commit`.
+fn commit_unsaved<D: SectorDevice>(log: &mut Log<D>) -> Result<(), LogFault>
+    requires { log.old.halted ≡ false }
+    ensures done { OnOk result (IsReadied D.SectorDevice.state log.old log.new) }
+    ensures totals { log.new.totals ≡ log.old.totals }
+    ensures full { IsErrOf result LogFault.Full → (log.new ≡ log.old) × IsFull log.old }
+    ensures unsaved { IsErrOf result LogFault.Full → 0 < length log.old.memory.dirty.blocks }
+    ensures halted { IsErrOf result LogFault.Halted → Halts D.SectorDevice.state log.old log.new }
+    ensures other { IsErrOf result LogFault.Device → ⊥ }
+{
+    if log.unsaved() == 0 {
+        return Ok(());
+    }
+    match log.commit() {
+        Ok(()) => Ok(()),
+        Err(fault) => Err(fault),
+    }
+}
+
+/// Makes a quarter of the segments clean, where fewer are: a commit saves what is unsaved, and passes of the cleaner follow, each of
+/// which gains a segment, an eighth of all segments times at most. It takes no memory.
+///
+/// # Errors
+///
+/// With the log map as it was: `Full` where a commit finds too few clean segments, or no pass gains one, `Device` where a call of the device
+/// failed before anything more was written. `Halted` where one failed later, or in a commit before.
+pub fn make_room<D: SectorDevice>(log: &mut Log<D>) -> Result<(), LogFault>
+    ensures done { OnOk result (CleansQuarter D.SectorDevice.state log.old log.new) }
+    ensures totals { log.new.totals ≡ log.old.totals }
+    ensures full { IsErrOf result LogFault.Full → KeepsMap D.SectorDevice.state log.old log.new
+        (most_checkpoints log.old) }
+    ensures lacks { IsErrOf result LogFault.Full
+        → MayNotMakeRoom D.SectorDevice.state log.old log.new }
+    ensures kept { IsErrOf result LogFault.Device → KeepsMap D.SectorDevice.state log.old log.new
+        (most_checkpoints log.old) }
+    ensures failed { IsErrOf result LogFault.Device
+        → IsRoomFault D.SectorDevice.state log.old log.new }
+    ensures halted { IsErrOf result LogFault.Halted → log.old.halted ≢ true
+        → HaltsLater D.SectorDevice.state log.old log.new (most_checkpoints log.old) }
+    ensures still { log.old.halted ≡ true → (log.new ≡ log.old)
+        × IsErrOf result LogFault.Halted }
+{
+    if log.is_halted() {
+        return Err(LogFault::Halted);
+    }
+    if has_quarter(log) {
+        return Ok(());
+    }
+    match commit_unsaved(log) {
+        Ok(()) => {}
+        Err(fault) => return Err(fault),
+    }
+    pass_until_quarter(log)
+}
