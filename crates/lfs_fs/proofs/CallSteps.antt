@@ -119,24 +119,24 @@ module _ (N : ℕ) (m : LogMap) (s : State) (is : IsMapOf N m s) where
           pwrite_map bytes = written_map N m m' s h n is opens head there at w writes end bytes fits_in
 
       -- a new file
-      module _ (p : List ℕ) (walk : Parent s.tree p (At 1)) (m1 : LogMap) (n : ℕ) (first : least s.tree ≡ n) (top : n ≤ 4095) (new : is_there s.tree 1 p ≡ false) (head : Header) (size at : ℕ) (w : List ℕ)
-          (does : NamesFile m m1 m' n head size at w (name p))
-          (named : (no_last p || last_dots p) ≡ false) (short : is_long s.tree 1 p ≡ false) (plain : slash p ≡ false) (space : is_full s.tree 1 ≡ false) (some : least_handle s.handles < 64) where
-        needs_file : need (with_new s.tree 1 p (File [])) ≡ blocks + 7 * others + 720
-        needs_file = created_need N m m1 m' s is p walk n first top new head size at w does totals shaped blocks others counted
+      module _ (p : List ℕ) (d : ℕ) (walk : Parent s.tree p (At d)) (m1 : LogMap) (n : ℕ) (first : least s.tree ≡ n) (top : n ≤ 4095) (new : is_there s.tree d p ≡ false) (head : Header) (size at : ℕ) (w : List ℕ)
+          (does : NamesFile m m1 m' d n head size at w (name p))
+          (named : (no_last p || last_dots p) ≡ false) (short : is_long s.tree d p ≡ false) (plain : slash p ≡ false) (space : is_full s.tree d ≡ false) (some : least_handle s.handles < 64) where
+        needs_file : need (with_new s.tree d p (File [])) ≡ blocks + 7 * others + 720
+        needs_file = created_need N m m1 m' s is p d walk n first top new head size at w does totals shaped blocks others counted
 
         number : least s.tree ≤ 4095
         number = omega (arith, first, top)
 
         pub create_full : 47 * N < blocks + 7 * others + 720 → Step N s (Create p) (Refuse NoSpace) s
-        create_full lacks = create_no_space N s p 1 walk named short new plain space some number (let same = needs_file in omega (arith, same, lacks))
+        create_full lacks = create_no_space N s p d walk named short new plain space some number (let same = needs_file in omega (arith, same, lacks))
 
         module _ (room : blocks + 7 * others + 720 ≤ 47 * N) where
-          file_fits : need (with_new s.tree 1 p (File [])) ≤ 47 * N
+          file_fits : need (with_new s.tree d p (File [])) ≤ 47 * N
           file_fits = let same = needs_file in omega (arith, same, room)
 
-          pub create_step : Step N s (Create p) (Handle (least_handle s.handles)) (with_file N s p 1 walk)
-          create_step = create_done N s p 1 walk named short new plain space some number file_fits
+          pub create_step : Step N s (Create p) (Handle (least_handle s.handles)) (with_file N s p d walk)
+          create_step = create_done N s p d walk named short new plain space some number file_fits
 
-          pub create_map : AreBytes p → IsMapOf N m' (with_file N s p 1 walk)
-          create_map bytes = created_map N m m1 m' s is p walk n first top new head size at w does bytes named short plain space some file_fits
+          pub create_map : AreBytes p → IsMapOf N m' (with_file N s p d walk)
+          create_map bytes = created_map N m m1 m' s is p d walk n first top new head size at w does bytes named short plain space some file_fits

@@ -76,7 +76,7 @@ module _ (N : ℕ) (s : State) (sound : Sound N s) (plain : IsPlain s.tree) (p :
   after_others : (q : ℕ) → q ≢ least s.tree → q ≢ 1 → node t' q ≡ node s.tree q
   after_others = at_other s.tree 1 (least s.tree) (form_of (node s.tree 1)) (names_in s.tree 1) (name p) (File []) refl sound.in_order root_is root_order free absent
 
-  pub plain_created : IsPlain (with_new s.tree 1 p (File []))
+  plain_created : IsPlain (with_new s.tree 1 p (File []))
   plain_created = record {
     names = put byte_cmp (name p) (least s.tree) (names_in s.tree 1);
     root = after_root ∙ ap (λ (f : ℕ). Some (Dir f (put byte_cmp (name p) (least s.tree) (names_in s.tree 1)))) (ap form_of plain.root);
@@ -85,3 +85,8 @@ module _ (N : ℕ) (s : State) (sound : Sound N s) (plain : IsPlain s.tree) (p :
         (λ (a : q ≡ least s.tree → ⊥). plain.files q x (sym (after_others q a ne) ∙ there) ne)
         (cases_eq q (least s.tree));
   }
+
+-- the only directory that takes a name is the root
+pub plain_named : (N : ℕ) (s : State) → Sound N s → (plain : IsPlain s.tree) → (p : List ℕ) (d : ℕ) → is_dir (node s.tree d) ≡ true → is_there s.tree d p ≡ false → IsPlain (with_new s.tree d p (File []))
+plain_named N s sound plain p d dir =
+    subst (λ (q : ℕ). is_there s.tree q p ≡ false → IsPlain (with_new s.tree q p (File []))) (sym (plain_dir s.tree plain d dir)) (λ new. plain_created N s sound plain p new)

@@ -39,7 +39,7 @@ use Rattle.lfs_fs.proofs.CallSteps.{tree_step}
 use Rattle.lfs_fs.proofs.Holding.{headers_of_volume, map_of_volume}
 use Rattle.lfs_fs.proofs.PathEnds.{reads_again}
 use Rattle.lfs_fs.proofs.ReadingEnds.{failed_serves, header_there, lacks_header, step_serves}
-use Rattle.lfs_fs.proofs.Rooted.{directory_root, names_in_root}
+use Rattle.lfs_fs.proofs.InDirectories.{directory_formed, names_in_directory}
 use Rattle.lfs_fs.proofs.Serving.{still_in}
 use Rattle.lfs_fs.proofs.Told.{memory_serves}
 
@@ -79,7 +79,7 @@ module _ {D : Type 0} (state : D → DeviceState) (old : Fs D) (lawful : IsLawfu
         by (store.Log log.Device) failed halted other = failed_serves state (seen old) (seen listed) ListTree lawful both.still was refl (λ k m0 m s keeps is. (
             let here = header_is k m0 m s keeps is in
             let map = map_of_volume state (seen old) k m0 m s is in
-            let dir = directory_root (segments_of (seen old)) m s map root here (headers_of_volume state (seen old) k m0 m s is 1 (as_header root) here) in
+            let dir = directory_formed (segments_of (seen old)) m s map 1 is.log.sound.root root here (headers_of_volume state (seen old) k m0 m s is 1 (as_header root) here) in
             let rose = failed (λ no. cc) k m0 m keeps (held_still state old.store.log mid.store.log k m0 m first.still.reads is.stores.holds) (subst (λ (x : LogMap). IsDirectory x 1 (as_header root)) (sym (same_map m)) dir) in
             let before = first.still.reads.looks.carries.failures in
             omega (arith, rose, before)))
@@ -101,7 +101,7 @@ module _ {D : Type 0} (state : D → DeviceState) (old : Fs D) (lawful : IsLawfu
         names_are = lists k m0 m before (held_still state old.store.log mid.store.log k m0 m first.still.reads is.stores.holds) ∙ ap (λ (x : LogMap). names_at x 1 root) (same_map m)
 
         in_root : names_in s.tree 1 ≡ pairs es
-        in_root = names_in_root (segments_of (seen old)) m s (map_of_volume state (seen old) k m0 m s is) root (header_is k m0 m s before is) ∙ sym names_are
+        in_root = names_in_directory (segments_of (seen old)) m s (map_of_volume state (seen old) k m0 m s is) 1 is.log.sound.root root (header_is k m0 m s before is) ∙ sym names_are
 
         names : AreNames s.tree es
         names = are_names s.tree (pairs es) es (λ name n found. ap (find byte_cmp name) in_root ∙ found) (subst (λ ms. T (is_sorted byte_cmp ms)) (sym names_are) (sorted_names (slots_at m 1 root)))
