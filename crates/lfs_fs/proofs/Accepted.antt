@@ -1,5 +1,5 @@
 -- Writes, cuts and new files that were drafted and staged, as steps of the model.
-use Rattle.std.proofs.Common.{◌≡◌, ◌≢◌, ◌<◌, ◌≤◌, ◌+◌, ◌*◌, ◌^◌, ◌||◌, ℕ, false, List, length, Some, refl, sym, ◌∙◌, ap, subst, inl, arith}
+use Rattle.std.proofs.Common.{◌≡◌, ◌<◌, ◌≤◌, ◌+◌, ◌*◌, ◌^◌, ◌||◌, ℕ, false, List, length, Some, refl, sym, ◌∙◌, ap, subst, inl, arith}
 use Rattle.std.specs.Prelude.{max}
 use Rattle.std.specs.Ordering.{nat_cmp}
 use Rattle.std.specs.FinMap.{find, put}
@@ -13,10 +13,7 @@ use Rattle.lfs_model.specs.Run.{IsPastLast, Point}
 use Rattle.lfs_model.specs.Stands.{LogMap}
 use Rattle.lfs_model.specs.Step.{Step, is_full, is_long, is_there, last_dots, name, no_last, with_tree}
 use Rattle.lfs_model.specs.Tree.{State, least, least_handle}
-use Rattle.lfs_model.specs.TreeOf.{object}
-use Rattle.lfs_model.specs.Volume.{IsLogOf}
 use Rattle.lfs_model.specs.Walk.{At, Parent}
-use Rattle.lfs_model.proofs.Keeps.{parent_dir}
 use Rattle.lfs_store.specs.memory.declared.changes.Changes.{Changes}
 use Rattle.lfs_files.specs.declared.header.Header.{Header}
 use Rattle.lfs_store.specs.memory.Batch.{staged, FitsBatch}
@@ -31,11 +28,9 @@ use Rattle.lfs_fs.proofs.Behaving.{makes_behaves, write_behaves}
 use Rattle.lfs_fs.proofs.CallSteps.{create_map, create_step, not_worn, pwrite_map, pwrite_step}
 use Rattle.lfs_fs.proofs.Created.{NamesFile, created_log}
 use Rattle.lfs_fs.proofs.Ending.{accepts_by}
-use Rattle.lfs_fs.proofs.Files.{opened_file}
 use Rattle.lfs_fs.proofs.HandleSteps.{cut_all_done, shortened, written}
 use Rattle.lfs_fs.proofs.Holding.{map_of_volume, shape_of_volume}
 use Rattle.lfs_fs.proofs.PathSteps.{with_file}
-use Rattle.lfs_fs.proofs.PlainTrees.{file_not_root, plain_named, plain_shortened, plain_written}
 use Rattle.lfs_fs.proofs.Shortened.{shortened_log, shortened_map}
 use Rattle.lfs_fs.proofs.Written.{written_log}
 
@@ -77,9 +72,6 @@ module _ {D : Type 0} (state : D → DeviceState) where
       opened : (s : State) → s.handles ≡ handles_of old.table → find nat_cmp h s.handles ≡ Some n
       opened s same = ap (find nat_cmp h) same ∙ opens
 
-      not_the_root : (m : LogMap) (s : State) → IsLogOf (segments_of old) m s → find nat_cmp h s.handles ≡ Some n → n ≢ 1
-      not_the_root m s log file = let was = opened_file (segments_of old) m s log h n file in file_not_root s.tree log.sound.root n (object m n was.head) was.node
-
       pub pwrite_serves : TotalsOfTree → (at : ℕ) (w : List ℕ) → OfEach old (λ m. WritesFile m (staged c m) n head (resized head (max head.size (at + length w))) at w)
           → 0 < length w → length w ≤ 65536 → at + length w ≤ 8511488 → AreBytes w → new.blocks + 7 * new.others + 720 ≤ 47 * segments_of old → new.table ≡ old.table
           → Serves state old new (Pwrite h at w) (Count (length w))
@@ -97,7 +89,6 @@ module _ {D : Type 0} (state : D → DeviceState) where
             next = with_tree p.state (written (segments_of old) p.state h at w);
             fits = drafted.fits k m0 m before holds is.map log;
             map = pwrite_map (segments_of old) m p.state map totals shaped (staged c m) new.blocks new.others counted h n file head header at w changed some few end room bytes;
-            plain = plain_written (segments_of old) p.state is.plain h n file (not_the_root m p.state is.log file) at w;
             version = is.version;
             handles = is.handles ∙ ap handles_of (sym table);
             counted = counted;
@@ -118,7 +109,6 @@ module _ {D : Type 0} (state : D → DeviceState) where
             next = with_tree p.state (shortened (segments_of old) p.state h len);
             fits = drafted.fits k m0 m before holds is.map log;
             map = shortened_map (segments_of old) m (staged c m) p.state h n map file head header len changed end;
-            plain = plain_shortened (segments_of old) p.state is.plain h n file (not_the_root m p.state is.log file) len;
             version = is.version;
             handles = is.handles ∙ ap handles_of (sym table);
             counted = drafted.counted k m0 m before holds is.map log is.counted;
@@ -147,7 +137,6 @@ module _ {D : Type 0} (state : D → DeviceState) where
           next = with_file (segments_of old) q.state p d walk;
           fits = drafted.fits k m0 m before is.stores.holds is.map log;
           map = create_map (segments_of old) m q.state map totals shaped (staged c m) new.blocks new.others counted p d walk (made m) n first drafts.top absent head size at w does drafts.named short drafts.plain space some room bytes;
-          plain = plain_named (segments_of old) q.state is.log.sound is.plain p d (parent_dir (segments_of old) q.state is.log.sound p d walk).0 absent;
           version = is.version;
           handles = (λ i. put nat_cmp (least_handle (is.handles i)) (first i) (is.handles i)) ∙ sym table;
           counted = counted;

@@ -1,11 +1,11 @@
 -- The model's steps of the calls, from what the log map says: headers, bytes read, and totals for room.
-use Rattle.std.proofs.Common.{◌≡◌, ◌<◌, ◌≤◌, ◌+◌, ◌-◌, ◌*◌, ◌^◌, ◌||◌, ℕ, true, false, List, [], length, map, take, drop, Some, sym, ◌∙◌, ap, subst, inr, ⊎_elim, arith}
+use Rattle.std.proofs.Common.{◌≡◌, ◌<◌, ◌≤◌, ◌+◌, ◌-◌, ◌*◌, ◌^◌, ◌||◌, ℕ, true, false, List, [], length, take, drop, Some, sym, ◌∙◌, ap, subst, inr, ⊎_elim, arith}
 use Rattle.std.specs.Prelude.{max, min}
 use Rattle.std.proofs.lemmas.List.{drop_min, length-drop, take_min}
 use Rattle.std.specs.Ordering.{nat_cmp}
 use Rattle.std.specs.FinMap.{find}
 use Rattle.lfs_model.specs.Bytes.{AreBytes, part}
-use Rattle.lfs_model.specs.Call.{Answer, Call, Count, Create, Data, Handle, ListTree, Pread, Pwrite, Refuse, Room, Rows, Space, Stat, StatOf, Status, changes, cleans, is_ok}
+use Rattle.lfs_model.specs.Call.{Answer, Call, Count, Create, Data, Handle, Pread, Pwrite, Refuse, Room, Space, Stat, StatOf, Status, changes, cleans, is_ok}
 use Rattle.lfs_model.specs.Entry as entry
 use Rattle.lfs_model.specs.Need.{need}
 use Rattle.lfs_model.specs.Objects.{IsHeaderOf}
@@ -23,12 +23,10 @@ use Rattle.lfs_files.specs.declared.header.Header.{Header}
 use Rattle.lfs_store.specs.memory.Present.{as_header}
 use Rattle.lfs_model.specs.Totals.{IsCounted, TotalsOfTree}
 use Rattle.lfs_store.specs.Writing.{WritesFile, resized}
-use Rattle.lfs_fs.specs.Volume.{IsPlain}
 use Rattle.lfs_fs.proofs.Created.{NamesFile, created_map, created_need}
 use Rattle.lfs_fs.proofs.Files.{IsFileOf, IsMapOf, IsShaped, opened_file, room_counted, stat_is}
 use Rattle.lfs_fs.proofs.HandleSteps.{read_done, write_done, write_no_space, written}
-use Rattle.lfs_fs.proofs.Listed.{plain_rows, row_in}
-use Rattle.lfs_fs.proofs.PathSteps.{create_done, create_no_space, space_done, stat_done, tree_done, with_file}
+use Rattle.lfs_fs.proofs.PathSteps.{create_done, create_no_space, space_done, stat_done, with_file}
 use Rattle.lfs_fs.proofs.Written.{written_map, written_need}
 
 -- ---- the last number
@@ -88,9 +86,6 @@ module _ (N : ℕ) (m : LogMap) (s : State) (is : IsMapOf N m s) where
   pub stat_step : (p : List ℕ) (n : ℕ) → Resolve s.tree p true (At n) → (h : entry.Header) → m.header n ≡ Some h → IsHeaderOf n h
       → Step N s (StatOf p) (Status (record { number = n; kind = h.kind; links = h.links; size = h.size })) s
   stat_step p n walk h there fits = subst (λ (x : Stat). Step N s (StatOf p) (Status x) s) (stat_is N m s is.log n h there fits) (stat_done N s p n walk)
-
-  pub tree_step : (plain : IsPlain s.tree) → Step N s ListTree (Rows (map (row_in s.tree) plain.names)) s
-  tree_step plain = subst (λ rows. Step N s ListTree (Rows rows) s) (plain_rows s.tree is.log.sound.in_order plain) (tree_done N s)
 
   -- ---- room
   module _ (totals : TotalsOfTree) where
