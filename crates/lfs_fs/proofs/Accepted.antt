@@ -1,5 +1,5 @@
 -- Writes, cuts and new files that were drafted and staged, as steps of the model.
-use Rattle.std.proofs.Common.{◌≡◌, ◌≢◌, ◌<◌, ◌≤◌, ◌+◌, ◌*◌, ◌^◌, ◌||◌, ℕ, false, List, length, Some, refl, sym, ◌∙◌, ap, subst, inl, arith}
+use Rattle.std.proofs.Common.{◌≡◌, ◌<◌, ◌≤◌, ◌+◌, ◌*◌, ◌^◌, ◌||◌, ℕ, false, List, length, Some, refl, sym, ◌∙◌, ap, subst, inl, arith}
 use Rattle.std.specs.Prelude.{max}
 use Rattle.std.specs.Ordering.{nat_cmp}
 use Rattle.std.specs.FinMap.{find, put}
@@ -13,8 +13,6 @@ use Rattle.lfs_model.specs.Run.{IsPastLast, Point}
 use Rattle.lfs_model.specs.Stands.{LogMap}
 use Rattle.lfs_model.specs.Step.{Step, is_full, is_long, is_there, last_dots, name, no_last, with_tree}
 use Rattle.lfs_model.specs.Tree.{State, least, least_handle}
-use Rattle.lfs_model.specs.TreeOf.{object}
-use Rattle.lfs_model.specs.Volume.{IsLogOf}
 use Rattle.lfs_model.specs.Walk.{At, Parent}
 use Rattle.lfs_store.specs.memory.declared.changes.Changes.{Changes}
 use Rattle.lfs_files.specs.declared.header.Header.{Header}
@@ -30,11 +28,9 @@ use Rattle.lfs_fs.proofs.Behaving.{makes_behaves, write_behaves}
 use Rattle.lfs_fs.proofs.CallSteps.{create_map, create_step, not_worn, pwrite_map, pwrite_step}
 use Rattle.lfs_fs.proofs.Created.{NamesFile, created_log}
 use Rattle.lfs_fs.proofs.Ending.{accepts_by}
-use Rattle.lfs_fs.proofs.Files.{opened_file}
 use Rattle.lfs_fs.proofs.HandleSteps.{cut_all_done, shortened, written}
 use Rattle.lfs_fs.proofs.Holding.{map_of_volume, shape_of_volume}
 use Rattle.lfs_fs.proofs.PathSteps.{with_file}
-use Rattle.lfs_fs.proofs.PlainTrees.{file_not_root, plain_created, plain_shortened, plain_written}
 use Rattle.lfs_fs.proofs.Shortened.{shortened_log, shortened_map}
 use Rattle.lfs_fs.proofs.Written.{written_log}
 
@@ -52,18 +48,18 @@ module _ {D : Type 0} (state : D → DeviceState) where
   abbrev pub InEach : Mounted D → (LogMap → State → Type 0) → Type 0
   InEach v P = (k : CheckpointValue) (m0 m : LogMap) (s : State) → (state v.log.device).keeps_model → IsIn state v k m0 m s → P m s
 
-  -- A draft that makes file n, and then names it in the root; no refusal of create stands in its way.
-  pub record DraftsFile (v : Mounted D) (c : Changes) (p : List ℕ) (n : ℕ) (made : LogMap → LogMap) (head : Header) (size at : ℕ) (w : List ℕ) : Type 0 where
+  -- A draft that makes file n, and then names it in directory d; no refusal of create stands in its way.
+  pub record DraftsFile (v : Mounted D) (c : Changes) (p : List ℕ) (d n : ℕ) (made : LogMap → LogMap) (head : Header) (size at : ℕ) (w : List ℕ) : Type 0 where
     pub top : n ≤ 4095
     pub named : (no_last p || last_dots p) ≡ false
     pub plain : slash p ≡ false
     pub some : least_handle (handles_of v.table) < 64
-    pub walk : InEach v (λ m s. Parent s.tree p (At 1))
+    pub walk : InEach v (λ m s. Parent s.tree p (At d))
     pub first : InEach v (λ m s. least s.tree ≡ n)
-    pub new_name : InEach v (λ m s. is_there s.tree 1 p ≡ false)
-    pub short : InEach v (λ m s. is_long s.tree 1 p ≡ false)
-    pub space : InEach v (λ m s. is_full s.tree 1 ≡ false)
-    pub does : InEach v (λ m s. NamesFile m (made m) (staged c m) n head size at w (name p))
+    pub new_name : InEach v (λ m s. is_there s.tree d p ≡ false)
+    pub short : InEach v (λ m s. is_long s.tree d p ≡ false)
+    pub space : InEach v (λ m s. is_full s.tree d ≡ false)
+    pub does : InEach v (λ m s. NamesFile m (made m) (staged c m) d n head size at w (name p))
 
   -- A volume whose draft is staged: its totals are those of the draft.
   module _ (old new : Mounted D) (lawful : IsLawful (state old.log.device)) (after : IsLawful (state new.log.device)) (was : old.log.halted ≡ false) (later : old.log.number ≤ new.log.number)
@@ -75,9 +71,6 @@ module _ {D : Type 0} (state : D → DeviceState) where
     module _ (h n : ℕ) (opens : find nat_cmp h (handles_of old.table) ≡ Some n) (head : Header) (there : OfEach old (λ m. m.header n ≡ Some (as_header head))) where
       opened : (s : State) → s.handles ≡ handles_of old.table → find nat_cmp h s.handles ≡ Some n
       opened s same = ap (find nat_cmp h) same ∙ opens
-
-      not_the_root : (m : LogMap) (s : State) → IsLogOf (segments_of old) m s → find nat_cmp h s.handles ≡ Some n → n ≢ 1
-      not_the_root m s log file = let was = opened_file (segments_of old) m s log h n file in file_not_root s.tree log.sound.root n (object m n was.head) was.node
 
       pub pwrite_serves : TotalsOfTree → (at : ℕ) (w : List ℕ) → OfEach old (λ m. WritesFile m (staged c m) n head (resized head (max head.size (at + length w))) at w)
           → 0 < length w → length w ≤ 65536 → at + length w ≤ 8511488 → AreBytes w → new.blocks + 7 * new.others + 720 ≤ 47 * segments_of old → new.table ≡ old.table
@@ -96,7 +89,6 @@ module _ {D : Type 0} (state : D → DeviceState) where
             next = with_tree p.state (written (segments_of old) p.state h at w);
             fits = drafted.fits k m0 m before holds is.map log;
             map = pwrite_map (segments_of old) m p.state map totals shaped (staged c m) new.blocks new.others counted h n file head header at w changed some few end room bytes;
-            plain = plain_written (segments_of old) p.state is.plain h n file (not_the_root m p.state is.log file) at w;
             version = is.version;
             handles = is.handles ∙ ap handles_of (sym table);
             counted = counted;
@@ -117,7 +109,6 @@ module _ {D : Type 0} (state : D → DeviceState) where
             next = with_tree p.state (shortened (segments_of old) p.state h len);
             fits = drafted.fits k m0 m before holds is.map log;
             map = shortened_map (segments_of old) m (staged c m) p.state h n map file head header len changed end;
-            plain = plain_shortened (segments_of old) p.state is.plain h n file (not_the_root m p.state is.log file) len;
             version = is.version;
             handles = is.handles ∙ ap handles_of (sym table);
             counted = drafted.counted k m0 m before holds is.map log is.counted;
@@ -125,10 +116,10 @@ module _ {D : Type 0} (state : D → DeviceState) where
           }))
 
     -- ---- a new file
-    pub create_serves : TotalsOfTree → (p : List ℕ) (n : ℕ) (made : LogMap → LogMap) (head : Header) (size at : ℕ) (w : List ℕ) → DraftsFile old c p n made head size at w
+    pub create_serves : TotalsOfTree → (p : List ℕ) (d n : ℕ) (made : LogMap → LogMap) (head : Header) (size at : ℕ) (w : List ℕ) → DraftsFile old c p d n made head size at w
         → AreBytes p → new.blocks + 7 * new.others + 720 ≤ 47 * segments_of old → handles_of new.table ≡ put nat_cmp (least_handle (handles_of old.table)) n (handles_of old.table)
         → Serves state old new (Create p) (Handle (least_handle (handles_of old.table)))
-    create_serves totals p n made head size at w drafts bytes room table =
+    create_serves totals p d n made head size at w drafts bytes room table =
         accepts_by state old new (Create p) lawful after done.carries done.segments was later c done low (Handle (least_handle (handles_of old.table))) (λ e. cc) (λ e. cc)
         (makes_behaves state old new (Create p) (Handle (least_handle (handles_of old.table))) refl refl refl) (λ q keeps here k m0 m is. (
         let before = done.carries.kept_before keeps in
@@ -141,18 +132,17 @@ module _ {D : Type 0} (state : D → DeviceState) where
         let space = drafts.space k m0 m q.state before is in
         let does = drafts.does k m0 m q.state before is in
         let some = subst (λ hs. least_handle hs < 64) (sym is.handles) drafts.some in
-        let log = created_log (segments_of old) m (made m) (staged c m) q.state map p walk n first drafts.top absent head size at w does in
+        let log = created_log (segments_of old) m (made m) (staged c m) q.state map p d walk n first drafts.top absent head size at w does in
         let counted = drafted.counted k m0 m before is.stores.holds is.map log is.counted in record {
-          next = with_file (segments_of old) q.state p 1 walk;
+          next = with_file (segments_of old) q.state p d walk;
           fits = drafted.fits k m0 m before is.stores.holds is.map log;
-          map = create_map (segments_of old) m q.state map totals shaped (staged c m) new.blocks new.others counted p walk (made m) n first drafts.top absent head size at w does drafts.named short drafts.plain space some room bytes;
-          plain = plain_created (segments_of old) q.state is.log.sound is.plain p absent;
+          map = create_map (segments_of old) m q.state map totals shaped (staged c m) new.blocks new.others counted p d walk (made m) n first drafts.top absent head size at w does drafts.named short drafts.plain space some room bytes;
           version = is.version;
           handles = (λ i. put nat_cmp (least_handle (is.handles i)) (first i) (is.handles i)) ∙ sym table;
           counted = counted;
           steps = inl (
-            subst (λ hs. Step (segments_of old) q.state (Create p) (Handle (least_handle hs)) (with_file (segments_of old) q.state p 1 walk)) is.handles
-                (create_step (segments_of old) m q.state map totals shaped (staged c m) new.blocks new.others counted p walk (made m) n first drafts.top absent head size at w does drafts.named short drafts.plain space some room),
+            subst (λ hs. Step (segments_of old) q.state (Create p) (Handle (least_handle hs)) (with_file (segments_of old) q.state p d walk)) is.handles
+                (create_step (segments_of old) m q.state map totals shaped (staged c m) new.blocks new.others counted p d walk (made m) n first drafts.top absent head size at w does drafts.named short drafts.plain space some room),
             not_past (Create p) q here,
           );
         }))

@@ -1,11 +1,11 @@
 -- The model's steps of the calls, from what the log map says: headers, bytes read, and totals for room.
-use Rattle.std.proofs.Common.{◌≡◌, ◌<◌, ◌≤◌, ◌+◌, ◌-◌, ◌*◌, ◌^◌, ◌||◌, ℕ, true, false, List, [], length, map, take, drop, Some, sym, ◌∙◌, ap, subst, inr, ⊎_elim, arith}
+use Rattle.std.proofs.Common.{◌≡◌, ◌<◌, ◌≤◌, ◌+◌, ◌-◌, ◌*◌, ◌^◌, ◌||◌, ℕ, true, false, List, [], length, take, drop, Some, sym, ◌∙◌, ap, subst, inr, ⊎_elim, arith}
 use Rattle.std.specs.Prelude.{max, min}
 use Rattle.std.proofs.lemmas.List.{drop_min, length-drop, take_min}
 use Rattle.std.specs.Ordering.{nat_cmp}
 use Rattle.std.specs.FinMap.{find}
 use Rattle.lfs_model.specs.Bytes.{AreBytes, part}
-use Rattle.lfs_model.specs.Call.{Answer, Call, Count, Create, Data, Handle, ListTree, Pread, Pwrite, Refuse, Room, Rows, Space, Stat, StatOf, Status, changes, cleans, is_ok}
+use Rattle.lfs_model.specs.Call.{Answer, Call, Count, Create, Data, Handle, Pread, Pwrite, Refuse, Room, Space, Stat, StatOf, Status, changes, cleans, is_ok}
 use Rattle.lfs_model.specs.Entry as entry
 use Rattle.lfs_model.specs.Need.{need}
 use Rattle.lfs_model.specs.Objects.{IsHeaderOf}
@@ -23,12 +23,10 @@ use Rattle.lfs_files.specs.declared.header.Header.{Header}
 use Rattle.lfs_store.specs.memory.Present.{as_header}
 use Rattle.lfs_model.specs.Totals.{IsCounted, TotalsOfTree}
 use Rattle.lfs_store.specs.Writing.{WritesFile, resized}
-use Rattle.lfs_fs.specs.Volume.{IsPlain}
 use Rattle.lfs_fs.proofs.Created.{NamesFile, created_map, created_need}
 use Rattle.lfs_fs.proofs.Files.{IsFileOf, IsMapOf, IsShaped, opened_file, room_counted, stat_is}
 use Rattle.lfs_fs.proofs.HandleSteps.{read_done, write_done, write_no_space, written}
-use Rattle.lfs_fs.proofs.Listed.{plain_rows, row_in}
-use Rattle.lfs_fs.proofs.PathSteps.{create_done, create_no_space, space_done, stat_done, tree_done, with_file}
+use Rattle.lfs_fs.proofs.PathSteps.{create_done, create_no_space, space_done, stat_done, with_file}
 use Rattle.lfs_fs.proofs.Written.{written_map, written_need}
 
 -- ---- the last number
@@ -89,9 +87,6 @@ module _ (N : ℕ) (m : LogMap) (s : State) (is : IsMapOf N m s) where
       → Step N s (StatOf p) (Status (record { number = n; kind = h.kind; links = h.links; size = h.size })) s
   stat_step p n walk h there fits = subst (λ (x : Stat). Step N s (StatOf p) (Status x) s) (stat_is N m s is.log n h there fits) (stat_done N s p n walk)
 
-  pub tree_step : (plain : IsPlain s.tree) → Step N s ListTree (Rows (map (row_in s.tree) plain.names)) s
-  tree_step plain = subst (λ rows. Step N s ListTree (Rows rows) s) (plain_rows s.tree is.log.sound.in_order plain) (tree_done N s)
-
   -- ---- room
   module _ (totals : TotalsOfTree) where
     pub space_step : ((n : ℕ) (h : entry.Header) → m.header n ≡ Some h → IsHeaderOf n h) → (blocks others : ℕ) → IsCounted m blocks others
@@ -119,24 +114,24 @@ module _ (N : ℕ) (m : LogMap) (s : State) (is : IsMapOf N m s) where
           pwrite_map bytes = written_map N m m' s h n is opens head there at w writes end bytes fits_in
 
       -- a new file
-      module _ (p : List ℕ) (walk : Parent s.tree p (At 1)) (m1 : LogMap) (n : ℕ) (first : least s.tree ≡ n) (top : n ≤ 4095) (new : is_there s.tree 1 p ≡ false) (head : Header) (size at : ℕ) (w : List ℕ)
-          (does : NamesFile m m1 m' n head size at w (name p))
-          (named : (no_last p || last_dots p) ≡ false) (short : is_long s.tree 1 p ≡ false) (plain : slash p ≡ false) (space : is_full s.tree 1 ≡ false) (some : least_handle s.handles < 64) where
-        needs_file : need (with_new s.tree 1 p (File [])) ≡ blocks + 7 * others + 720
-        needs_file = created_need N m m1 m' s is p walk n first top new head size at w does totals shaped blocks others counted
+      module _ (p : List ℕ) (d : ℕ) (walk : Parent s.tree p (At d)) (m1 : LogMap) (n : ℕ) (first : least s.tree ≡ n) (top : n ≤ 4095) (new : is_there s.tree d p ≡ false) (head : Header) (size at : ℕ) (w : List ℕ)
+          (does : NamesFile m m1 m' d n head size at w (name p))
+          (named : (no_last p || last_dots p) ≡ false) (short : is_long s.tree d p ≡ false) (plain : slash p ≡ false) (space : is_full s.tree d ≡ false) (some : least_handle s.handles < 64) where
+        needs_file : need (with_new s.tree d p (File [])) ≡ blocks + 7 * others + 720
+        needs_file = created_need N m m1 m' s is p d walk n first top new head size at w does totals shaped blocks others counted
 
         number : least s.tree ≤ 4095
         number = omega (arith, first, top)
 
         pub create_full : 47 * N < blocks + 7 * others + 720 → Step N s (Create p) (Refuse NoSpace) s
-        create_full lacks = create_no_space N s p 1 walk named short new plain space some number (let same = needs_file in omega (arith, same, lacks))
+        create_full lacks = create_no_space N s p d walk named short new plain space some number (let same = needs_file in omega (arith, same, lacks))
 
         module _ (room : blocks + 7 * others + 720 ≤ 47 * N) where
-          file_fits : need (with_new s.tree 1 p (File [])) ≤ 47 * N
+          file_fits : need (with_new s.tree d p (File [])) ≤ 47 * N
           file_fits = let same = needs_file in omega (arith, same, room)
 
-          pub create_step : Step N s (Create p) (Handle (least_handle s.handles)) (with_file N s p 1 walk)
-          create_step = create_done N s p 1 walk named short new plain space some number file_fits
+          pub create_step : Step N s (Create p) (Handle (least_handle s.handles)) (with_file N s p d walk)
+          create_step = create_done N s p d walk named short new plain space some number file_fits
 
-          pub create_map : AreBytes p → IsMapOf N m' (with_file N s p 1 walk)
-          create_map bytes = created_map N m m1 m' s is p walk n first top new head size at w does bytes named short plain space some file_fits
+          pub create_map : AreBytes p → IsMapOf N m' (with_file N s p d walk)
+          create_map bytes = created_map N m m1 m' s is p d walk n first top new head size at w does bytes named short plain space some file_fits

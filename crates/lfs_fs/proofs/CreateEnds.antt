@@ -18,8 +18,9 @@ use Rattle.lfs_store.specs.declared.draft.Draft.{Draft}
 use Rattle.lfs_store.specs.declared.store.Store.{Store}
 use Rattle.lfs_store.proofs.LogReads.{reads_more}
 use Rattle.lfs_path.specs.declared.last.Last.{Last}
-use Rattle.lfs_path.specs.Walking.{HasLast, Parents}
-use Rattle.lfs_fs.specs.Drafted.{FlatWalksTo}
+use Rattle.lfs_path.specs.Walking.{HasLast}
+use Rattle.lfs_path.specs.Reaching.{EndsParent}
+use Rattle.lfs_fs.specs.Drafted.{WalksTo}
 use Rattle.lfs_path.proofs.FlatTrees.{last_says}
 use Rattle.lfs_fs.specs.declared.fs.Fs.{Fs}
 use Rattle.lfs_fs.specs.Naming.{Reaches}
@@ -29,8 +30,11 @@ use Rattle.lfs_fs.proofs.Accepted.{InEach, OfEach}
 use Rattle.lfs_fs.proofs.Behaving.{IsOrdinary}
 use Rattle.lfs_fs.proofs.CallSteps.{refused_not_worn}
 use Rattle.lfs_fs.proofs.Ending.{not_acknowledged}
+use Rattle.lfs_fs.proofs.Files.{dir_there}
+use Rattle.lfs_model.proofs.Keeps.{parent_dir}
 use Rattle.lfs_fs.proofs.NameLooks.{only_none}
-use Rattle.lfs_fs.proofs.NamingEnds.{still_read, walked, was_running}
+use Rattle.lfs_fs.proofs.NamingEnds.{still_read, was_running}
+use Rattle.lfs_fs.proofs.WalkEnds.{walked}
 use Rattle.lfs_fs.proofs.PathSteps.{create_dots}
 use Rattle.lfs_fs.proofs.Serving.{served_still}
 
@@ -67,16 +71,15 @@ bytes_of (x ∷ xs) fits = (let first = (fits 0).fits in omega (arith, first), b
 module _ {D : Type 0} (state : D → DeviceState) (lawful : (d : D) → IsLawful (state d)) (old begun : Fs D) (begins : Begins old begun) (store : Store D) (reads : Reads state begun.store.log store.log)
     (saved : store.saved ≡ begun.store.saved) (totals : store.log.totals ≡ begun.store.log.totals) (draft : store.draft ≡ begun.store.draft) (drafted : store.drafted ≡ begun.store.drafted) where
   -- the call came to the directory of the last piece
-  pub reaches : (p : List ℕ) → AreBytes p → (d : ℕ) → d ≡ 1 → (piece : Option Last) → HasLast p piece → FlatWalksTo state begun.store.log store.log begun.store.draft.changes (Parents p) (At d)
+  pub reaches : (p : List ℕ) → AreBytes p → (d : ℕ) → (piece : Option Last) → HasLast p piece → WalksTo state begun.store.log store.log begun.store.draft.changes (EndsParent p) (At d)
       → Reaches state (seen begun) (record { alloc = begun.alloc; store = store; handles = begun.handles }) p d piece
-  reaches p bytes d root piece last walks = record {
+  reaches p bytes d piece last walks = record {
     still = still;
     empty = subst (λ (x : Draft). IsNoChange x.changes) (sym draft) begins.empty;
     drafted = drafted ∙ begins.drafted ∙ sym totals;
     bytes = bytes;
-    root = root;
     last = last;
-    walk = λ k m0 m s keeps is. subst (λ (n : ℕ). Parent s.tree p (At n)) root (walked state (seen begun) _ (lawful begun.store.log.device) still was begun.store.draft.changes begins.empty (Parents p) (At d) walks k m0 m s keeps is);
+    walk = walked state (seen begun) _ (lawful begun.store.log.device) still was begun.store.draft.changes begins.empty (EndsParent p) (At d) walks;
   }
     where
       still : IsStill state (seen begun) (seen (record { alloc = begun.alloc; store = store; handles = begun.handles }))
@@ -89,7 +92,7 @@ module _ {D : Type 0} (state : D → DeviceState) (lawful : (d : D) → IsLawful
 
 module _ {D : Type 0} (state : D → DeviceState) (lawful : (d : D) → IsLawful (state d)) (v : Mounted D) (old : Fs D) (path : List ℕ) (d : ℕ) (piece : Option Last) (reached : Reaches state v old path d piece) (running : old.store.log.halted ≡ false) where
   pub create_refuses : (new : Fs D) → IsStill state (seen old) (seen new) → (r : Refusal) → IsOrdinary (Refuse r)
-      → ((k : CheckpointValue) (m0 m : LogMap) (s : State) → (state new.store.log.device).keeps_model → IsIn state v k m0 m s → Parent s.tree path (At 1) → Step (segments_of v) s (Create path) (Refuse r) s)
+      → ((k : CheckpointValue) (m0 m : LogMap) (s : State) → (state new.store.log.device).keeps_model → IsIn state v k m0 m s → Parent s.tree path (At d) → Step (segments_of v) s (Create path) (Refuse r) s)
       → Serves state v (seen new) (Create path) (Refuse r)
   create_refuses new still r ordinary steps = served_still state v (seen new) (Create path) (Refuse r) (lawful v.log.device) (still_more state v (seen old) (seen new) (lawful v.log.device) reached.still still) (sym reached.still.reads.halted ∙ running)
       ordinary (λ p keeps here k m0 m is. (
@@ -102,4 +105,12 @@ module _ {D : Type 0} (state : D → DeviceState) (lawful : (d : D) → IsLawful
   pub no_piece_ends : piece ≡ None → Serves state v (seen old) (Create path) (Refuse refusals.Exist)
   no_piece_ends none =
       let says : no_last path ≡ true = last_says path None (subst (HasLast path) none reached.last) in
-      create_refuses old (only_none state old).still refusals.Exist tt (λ k m0 m s keeps is walk. create_dots (segments_of v) s path 1 walk (ap (λ (b : Bool). b || last_dots path) says))
+      create_refuses old (only_none state old).still refusals.Exist tt (λ k m0 m s keeps is walk. create_dots (segments_of v) s path d walk (ap (λ (b : Bool). b || last_dots path) says))
+
+  -- no directory has number 0
+  pub zero_ends : d ≡ 0 → Serves state v (seen old) (Create path) (Refuse refusals.Device)
+  zero_ends zero_is = served_still state v (seen old) (Create path) (Refuse refusals.Device) (lawful v.log.device) reached.still (sym reached.still.reads.halted ∙ running) tt (λ p keeps here k m0 m is. absurd (
+      let dir = (parent_dir (segments_of v) p.state is.log.sound path d (reached.walk k m0 m p.state keeps is)).0 in
+      let low = (is.log.sound.numbers d (dir_there p.state.tree d dir)).0 in
+      omega (arith, zero_is, low)))
+      (not_acknowledged (Create path) refusals.Device)

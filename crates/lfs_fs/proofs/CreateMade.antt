@@ -1,5 +1,5 @@
 -- A file drafted under the last piece of a path, from what was read and drafted to the call as a step of the model.
-use Rattle.std.proofs.Common.{◌≡◌, ◌≢◌, ◌<◌, ◌≤◌, ◌+◌, ◌*◌, ◌||◌, ℕ, Bool, false, List, length, Some, None, refl, sym, ◌∙◌, ap, subst, arith}
+use Rattle.std.proofs.Common.{◌≡◌, ◌≢◌, ◌<◌, ◌≤◌, ◌+◌, ◌*◌, ◌||◌, ℕ, Bool, true, false, List, length, Some, None, refl, sym, ◌∙◌, ap, subst, arith}
 use Rattle.std.specs.Ordering.{nat_cmp}
 use Rattle.std.specs.FinMap.{find, put}
 use Rattle.lfs_model.specs.Call.{Create, Handle, Refuse}
@@ -11,7 +11,8 @@ use Rattle.lfs_model.specs.Entry.{Inode}
 use Rattle.lfs_model.specs.Objects.{IsHeaderOf}
 use Rattle.lfs_model.specs.Stands.{LogMap}
 use Rattle.lfs_model.specs.Step.{is_full, is_long, is_there, last_dots, name, no_last}
-use Rattle.lfs_model.specs.Tree.{State, byte_cmp, least, least_handle}
+use Rattle.lfs_model.specs.Tree.{State, byte_cmp, is_dir, least, least_handle, node}
+use Rattle.lfs_model.proofs.Keeps.{parent_dir}
 use Rattle.lfs_store.specs.memory.declared.batch.Loss.{Loss}
 use Rattle.lfs_store.specs.memory.declared.changes.Changes.{Changes}
 use Rattle.lfs_files.specs.declared.header.Header.{Header}
@@ -50,15 +51,15 @@ use Rattle.lfs_fs.proofs.Created.{NamesFile, new_file}
 use Rattle.lfs_fs.proofs.CreateEnds.{of_each}
 use Rattle.lfs_fs.proofs.Declined.{create_fits}
 use Rattle.lfs_fs.proofs.Files.{IsMapOf}
-use Rattle.lfs_fs.proofs.Headers.{new_file_fits, root_grows}
+use Rattle.lfs_fs.proofs.Headers.{new_file_fits, directory_grows}
 use Rattle.lfs_fs.proofs.Holding.{headers_of_volume, map_of_volume}
 use Rattle.lfs_fs.proofs.Lacking.{create_lacks, create_worn}
-use Rattle.lfs_fs.proofs.Rooted.{free_root, least_number, made_directory, made_names, made_root, names_file, new_in_root, root_kind, short_in_root}
+use Rattle.lfs_fs.proofs.InDirectories.{free_directory, least_number, made_directory, made_names, made_header, names_file, new_in_directory, directory_kind, short_in_directory}
 use Rattle.lfs_fs.proofs.WritingEnds.{accepts_old, by_fault, low_old, still_more, when_in}
 
-module _ {D : Type 0} (state : D → DeviceState) (lawful : (d : D) → IsLawful (state d)) (v : Mounted D) (old mid ready : Fs D) (path : List ℕ) (last : Last) (reached : Reaches state v old path 1 (Some last))
-    (running : old.store.log.halted ≡ false) (only : OnlyReads state old mid) (head : Header) (takes : TakesEntry state old mid 1 last.name.now last.slash head) (n : ℕ) (vacant : IsVacant state mid.store.log n)
-    (handle : ℕ) (few : handle < 64) (first : least_handle (handles_of mid.handles.numbers.items) ≡ handle) (is_ready : IsReady state mid ready 1 head n last.name.now) where
+module _ {D : Type 0} (state : D → DeviceState) (lawful : (d : D) → IsLawful (state d)) (v : Mounted D) (old mid ready : Fs D) (path : List ℕ) (d : ℕ) (last : Last) (reached : Reaches state v old path d (Some last))
+    (running : old.store.log.halted ≡ false) (only : OnlyReads state old mid) (head : Header) (takes : TakesEntry state old mid d last.name.now last.slash head) (n : ℕ) (vacant : IsVacant state mid.store.log n)
+    (handle : ℕ) (few : handle < 64) (first : least_handle (handles_of mid.handles.numbers.items) ≡ handle) (is_ready : IsReady state mid ready d head n last.name.now) where
   abbrev c : Changes
   c = ready.store.draft.changes
 
@@ -111,15 +112,19 @@ module _ {D : Type 0} (state : D → DeviceState) (lawful : (d : D) → IsLawful
       map : IsMapOf (segments_of v) m s
       map = map_of_volume state v k m0 m s is
 
+      -- the directory is one
+      dir : is_dir (node s.tree d) ≡ true
+      dir = (parent_dir (segments_of v) s is.log.sound path d (reached.walk k m0 m s kept_old is)).0
+
       in_mid : Holds state mid.store.log k m0 m
       in_mid = held_still state v.log mid.store.log k m0 m still_mid.reads is.stores.holds
 
-      looks : (m.header 1 ≡ Some (as_header head)) × (None ≡ find byte_cmp last.name.now (names_at m 1 head))
-      looks = subst (λ (x : LogMap). (x.header 1 ≡ Some (as_header head)) × (None ≡ find byte_cmp last.name.now (names_at x 1 head))) (same_old m)
+      looks : (m.header d ≡ Some (as_header head)) × (None ≡ find byte_cmp last.name.now (names_at m d head))
+      looks = subst (λ (x : LogMap). (x.header d ≡ Some (as_header head)) × (None ≡ find byte_cmp last.name.now (names_at x d head))) (same_old m)
           (takes.looks k m0 m kept_mid (held_still state v.log old.store.log k m0 m reached.still.reads is.stores.holds))
 
-      root_fits : IsHeaderOf 1 (as_header head)
-      root_fits = headers_of_volume state v k m0 m s is 1 (as_header head) looks.0
+      dir_fits : IsHeaderOf d (as_header head)
+      dir_fits = headers_of_volume state v k m0 m s is d (as_header head) looks.0
 
       low : head.size < 65536
       low = let room = takes.room in omega (arith, room)
@@ -127,36 +132,36 @@ module _ {D : Type 0} (state : D → DeviceState) (lawful : (d : D) → IsLawful
       free : m.header n ≡ None
       free = vacant.free k m0 m in_mid
 
-      other : n ≢ 1
+      other : n ≢ d
       other e = let here : m.header n ≡ Some (as_header head) = ap m.header e ∙ looks.0 in let none = free in cc
 
       least_is : least s.tree ≡ n
       least_is = least_number (segments_of v) m s map n vacant.some vacant.few free (λ l low below. vacant.least k m0 m in_mid l low below)
 
-      absent : is_there s.tree 1 path ≡ false
-      absent = new_in_root (segments_of v) m s map head looks.0 path (ap (λ (x : List ℕ). find byte_cmp x (names_at m 1 head)) says.1 ∙ sym looks.1)
+      absent : is_there s.tree d path ≡ false
+      absent = new_in_directory (segments_of v) m s map d dir head looks.0 path (ap (λ (x : List ℕ). find byte_cmp x (names_at m d head)) says.1 ∙ sym looks.1)
 
-      short : is_long s.tree 1 path ≡ false
-      short = short_in_root (segments_of v) m s map head looks.0 path (subst (λ (x : List ℕ). length x ≤ 59) (sym says.1) takes.is_name.short)
+      short : is_long s.tree d path ≡ false
+      short = short_in_directory (segments_of v) m s map d dir head looks.0 path (subst (λ (x : List ℕ). length x ≤ 59) (sym says.1) takes.is_name.short)
 
-      space : is_full s.tree 1 ≡ false
-      space = free_root (segments_of v) m s map head looks.0 root_fits low
+      space : is_full s.tree d ≡ false
+      space = free_directory (segments_of v) m s map d dir head looks.0 dir_fits low
 
       -- the file is made
       made : IsWithHeader m n (Some (as_header new_file)) (between m)
       made = header_put m (between m) n new_file (is_ready.drafts.makes.map m ∙ ap (λ (x : LogMap). with_header x n (Some (as_header new_file))) (same_mid m))
 
       -- and named
-      writes : WritesFile (between m) (staged c m) 1 head (grown head) head.size slot
+      writes : WritesFile (between m) (staged c m) d head (grown head) head.size slot
       writes = is_ready.drafts.adds.file k m0 m keeps in_mid
 
-      adds : AddsName (between m) (staged c m) 1 head n last.name.now
-      adds = is_ready.drafts.adds.more k m0 m keeps in_mid (made_directory (segments_of v) m s map head looks.0 (between m) n other made root_fits)
-          (ap (find byte_cmp last.name.now) (made_names (segments_of v) m s map head looks.0 (between m) n other made) ∙ sym looks.1)
+      adds : AddsName (between m) (staged c m) d head n last.name.now
+      adds = is_ready.drafts.adds.more k m0 m keeps in_mid (made_directory (segments_of v) m s map d dir head looks.0 (between m) n other made dir_fits)
+          (ap (find byte_cmp last.name.now) (made_names (segments_of v) m s map d dir head looks.0 (between m) n other made) ∙ sym looks.1)
 
-      does : NamesFile m (between m) (staged c m) n head (head.size + 64) head.size slot (name path)
-      does = names_file (segments_of v) m s map head looks.0 (between m) n other made (staged c m) (head.size + 64) head.size slot (name path) writes (let few_bytes = low in omega (arith, few_bytes)) adds.directory
-          (adds.names ∙ ap (λ (x : List ℕ). put byte_cmp x n (names_at (between m) 1 head)) (sym says.1))
+      does : NamesFile m (between m) (staged c m) d n head (head.size + 64) head.size slot (name path)
+      does = names_file (segments_of v) m s map d dir head looks.0 (between m) n other made (staged c m) (head.size + 64) head.size slot (name path) writes (let few_bytes = low in omega (arith, few_bytes)) adds.directory
+          (adds.names ∙ ap (λ (x : List ℕ). put byte_cmp x n (names_at (between m) d head)) (sym says.1))
 
       -- the draft fits
       fits_here : IsLogMap m → IsLogMap (staged c m) → FitsBatch m c
@@ -164,10 +169,10 @@ module _ {D : Type 0} (state : D → DeviceState) (lawful : (d : D) → IsLawful
           is_ready.drafts.adds.fits k m0 m in_mid
           (is_ready.drafts.makes.fits m (draft_empty mid.store.draft.changes m none_drafted).1 (ap (λ (x : LogMap). x.header n) (same_mid m) ∙ free) (ap (λ (x : Loss). is_lost x (Inode n)) none_drafted.loss) new_file_fits)
           record {
-            there = made_root (segments_of v) m s map head looks.0 (between m) n other made;
-            apart = subst (λ (x : Loss). IsApart x 1) (sym (is_ready.drafts.makes.loss ∙ none_drafted.loss)) (nothing_apart 1);
+            there = made_header (segments_of v) m s map d dir head looks.0 (between m) n other made;
+            apart = subst (λ (x : Loss). IsApart x d) (sym (is_ready.drafts.makes.loss ∙ none_drafted.loss)) (nothing_apart d);
             within = λ none. absurd (let there = looks.0 in cc);
-            header = subst (λ (z : ℕ). FitsHeader head.kind head.links z) writes.bytes.size (root_grows head root_fits (root_kind (segments_of v) m s map head looks.0) low);
+            header = subst (λ (z : ℕ). FitsHeader head.kind head.links z) writes.bytes.size (directory_grows d head dir_fits (directory_kind (segments_of v) m s map d dir head looks.0) low);
           }
 
       -- and its totals are those of its log map
@@ -187,7 +192,7 @@ module _ {D : Type 0} (state : D → DeviceState) (lawful : (d : D) → IsLawful
             (λ x. IsLogMap x → IsLogMap (staged c x) → IsCounted x v.blocks v.others → IsCounted (staged c x) ready.store.drafted.data_blocks ready.store.drafted.meta_blocks) counted_here;
       }
 
-    drafts_file : DraftsFile state v c path n between head (head.size + 64) head.size slot
+    drafts_file : DraftsFile state v c path d n between head (head.size + 64) head.size slot
     drafts_file = record {
       top = (let most = vacant.few in omega (arith, most));
       named = named;
@@ -210,13 +215,13 @@ module _ {D : Type 0} (state : D → DeviceState) (lawful : (d : D) → IsLawful
   turned_serves new rest fault down =
       by_fault state lawful v ready new (Create path) (Handle handle) still_ready was rest refl refl refl
       (λ keeps k m0 m s is.
-      create_fits state v c ready.store.drafted.data_blocks ready.store.drafted.meta_blocks (drafted keeps k m0 m s is) path n between head (head.size + 64) head.size slot (drafts_file keeps))
+      create_fits state v c ready.store.drafted.data_blocks ready.store.drafted.meta_blocks (drafted keeps k m0 m s is) path d n between head (head.size + 64) head.size slot (drafts_file keeps))
       (λ same lacks keeps k m0 m s is.
       create_lacks state v (seen new) (lawful v.log.device) same was c ready.store.drafted.data_blocks ready.store.drafted.meta_blocks (drafted keeps k m0 m s is) totals_of_tree
-      path n between head (head.size + 64) head.size slot (drafts_file keeps) (subst (λ (x : ℕ). x < need_of ready) limit_same lacks))
+      path d n between head (head.size + 64) head.size slot (drafts_file keeps) (subst (λ (x : ℕ). x < need_of ready) limit_same lacks))
       (λ same high room keeps k m0 m s is.
       create_worn state v (seen new) (lawful v.log.device) same was c ready.store.drafted.data_blocks ready.store.drafted.meta_blocks (drafted keeps k m0 m s is) totals_of_tree
-      path n between head (head.size + 64) head.size slot (drafts_file keeps) high (subst (λ (x : ℕ). need_of ready ≤ x) limit_same room))
+      path d n between head (head.size + 64) head.size slot (drafts_file keeps) high (subst (λ (x : ℕ). need_of ready ≤ x) limit_same room))
       fault down
 
   -- it is, and a handle is opened on the file
@@ -238,6 +243,6 @@ module _ {D : Type 0} (state : D → DeviceState) (lawful : (d : D) → IsLawful
         let keeps = stages.accepts.carries.kept_before kept in
         create_serves state v with_table (lawful v.log.device) (lawful new.store.log.device) was accepts.once.number (low_old state lawful v ready new (Create path) (Handle handle) still_ready was rest stages.young) c accepts
         (subst (λ (t : BlockTotals). IsDrafted state v c t.data_blocks t.meta_blocks) (sym stages.totals) (drafted keeps k m0 m s is)) totals_of_tree
-        path n between head (head.size + 64) head.size slot (drafts_file keeps) reached.bytes
+        path d n between head (head.size + 64) head.size slot (drafts_file keeps) reached.bytes
         (subst (λ (t : BlockTotals). t.data_blocks + 7 * t.meta_blocks + 720 ≤ 47 * segments_of v) (sym stages.totals) (let room = stages.room in subst (λ (x : ℕ). need_of ready ≤ x) limit_same room))
         table_is)))

@@ -12,7 +12,7 @@ use Rattle.lfs_model.specs.Slot.{IsName}
 use Rattle.lfs_model.specs.Sound.{IsGoodName, Sound}
 use Rattle.lfs_model.specs.Stands.{LogMap}
 use Rattle.lfs_model.specs.Step.{Step, is_full, is_long, is_there, last_dots, name, no_last}
-use Rattle.lfs_model.specs.Tree.{Node, State, Tree, byte_cmp, form_of, least_handle, name_len, name_limit}
+use Rattle.lfs_model.specs.Tree.{State, Tree, byte_cmp, is_dir, least_handle, name_limit, node}
 use Rattle.lfs_model.specs.Walk.{At, Parent}
 use Rattle.lfs_model.proofs.GoodNames.{good_name}
 use Rattle.lfs_model.proofs.Keeps.{good_text, parent_dir}
@@ -27,6 +27,7 @@ use Rattle.lfs_path.specs.Laws.{SaysLast}
 use Rattle.lfs_path.specs.Pieces.{is_dots}
 use Rattle.lfs_path.specs.Walking.{HasLast}
 use Rattle.lfs_path.proofs.FlatTrees.{last_says}
+use Rattle.lfs_path.proofs.InTrees.{limit}
 use Rattle.lfs_fs.specs.declared.error.FsError.{FsError}
 use Rattle.lfs_fs.specs.declared.error.FsError.TheVariants as error
 use Rattle.lfs_fs.specs.declared.fs.Fs.{Fs}
@@ -34,16 +35,17 @@ use Rattle.lfs_fs.specs.Handles.{handles_of}
 use Rattle.lfs_fs.specs.Naming.{FailsLook, LooksUp, Reaches, RefusesEntry, TakesEntry}
 use Rattle.lfs_fs.specs.Refusals.{refusal_of}
 use Rattle.lfs_fs.specs.Seen.{OnlyReads, seen}
-use Rattle.lfs_fs.specs.Volume.{IsIn, IsPlain, IsStill, Mounted, Serves, segments_of}
+use Rattle.lfs_fs.specs.Volume.{IsIn, IsStill, Mounted, Serves, segments_of}
 use Rattle.lfs_fs.proofs.Behaving.{IsOrdinary}
 use Rattle.lfs_fs.proofs.Checks.{below, not_below}
 use Rattle.lfs_fs.proofs.CreateEnds.{create_refuses, still_more}
-use Rattle.lfs_fs.proofs.Files.{IsMapOf}
+use Rattle.lfs_fs.proofs.Files.{IsMapOf, dir_there, no_header_none}
 use Rattle.lfs_fs.proofs.Holding.{headers_of_volume, map_of_volume}
 use Rattle.lfs_fs.proofs.PathSteps.{create_dots, create_full, create_long, create_no_number, create_slash, create_there, create_too_many}
 use Rattle.lfs_fs.proofs.ReadingEnds.{failed_serves}
-use Rattle.lfs_fs.proofs.Rooted.{directory_root, free_root, full_root, new_in_root, no_least, root_kind, there_in_root}
+use Rattle.lfs_fs.proofs.InDirectories.{directory_formed, free_directory, full_directory, new_in_directory, no_least, directory_kind, there_in_directory}
 use Rattle.lfs_fs.proofs.Serving.{still_in}
+use Rattle.lfs_fs.proofs.WalkEnds.{tree_of_volume}
 
 -- ---- the last piece of a path is a name
 
@@ -61,21 +63,18 @@ name_of_good limit w good = record {
   dotdot = good.not_dot_dot;
 }
 
--- the names of the root have at most 59 bytes
-limit_of_root : (t : Tree) → IsPlain t → name_limit t 1 ≡ 59
-limit_of_root t plain = ap (λ (o : Option Node). name_len (form_of o)) plain.root
+-- where a directory's names have at most 59 bytes
+long_there : (t : Tree) (d : ℕ) (p : List ℕ) → name_limit t d ≡ 59 → 59 < length (name p) → is_long t d p ≡ true
+long_there t d p limit long = ap (λ (k : ℕ). nat_lt k (length (name p))) limit ∙ below 59 (length (name p)) long
 
-long_of_root : (t : Tree) (p : List ℕ) → IsPlain t → 59 < length (name p) → is_long t 1 p ≡ true
-long_of_root t p plain long = ap (λ (k : ℕ). nat_lt k (length (name p))) (limit_of_root t plain) ∙ below 59 (length (name p)) long
+short_there : (t : Tree) (d : ℕ) (p : List ℕ) → name_limit t d ≡ 59 → length (name p) ≤ 59 → is_long t d p ≡ false
+short_there t d p limit short = ap (λ (k : ℕ). nat_lt k (length (name p))) limit ∙ not_below 59 (length (name p)) short
 
-short_of_root : (t : Tree) (p : List ℕ) → IsPlain t → length (name p) ≤ 59 → is_long t 1 p ≡ false
-short_of_root t p plain short = ap (λ (k : ℕ). nat_lt k (length (name p))) (limit_of_root t plain) ∙ not_below 59 (length (name p)) short
-
-pub last_is_name : (N : ℕ) (s : State) → Sound N s → IsPlain s.tree → (p : List ℕ) → AreBytes p → Parent s.tree p (At 1) → (no_last p || last_dots p) ≡ false → length (name p) ≤ 59 → IsName 59 (name p)
-last_is_name N s sound plain p bytes walk named short =
-    let text = good_text p (parent_dir N s sound p 1 walk).1 in
+last_is_name : (N : ℕ) (s : State) → Sound N s → (p : List ℕ) (d : ℕ) → name_limit s.tree d ≡ 59 → AreBytes p → Parent s.tree p (At d) → (no_last p || last_dots p) ≡ false → length (name p) ≤ 59 → IsName 59 (name p)
+last_is_name N s sound p d limit_is bytes walk named short =
+    let text = good_text p (parent_dir N s sound p d walk).1 in
     name_of_good 59 (name p)
-    (subst (λ (k : ℕ). IsGoodName k (name p)) (limit_of_root s.tree plain) (good_name s.tree 1 p bytes text.0 named (short_of_root s.tree p plain short)))
+    (subst (λ (k : ℕ). IsGoodName k (name p)) limit_is (good_name s.tree d p bytes text.0 named (short_there s.tree d p limit_is short)))
 
 module _ {D : Type 0} (state : D → DeviceState) (lawful : (d : D) → IsLawful (state d)) (v : Mounted D) (old : Fs D) (path : List ℕ) (d : ℕ) (piece : Option Last) (reached : Reaches state v old path d piece) (running : old.store.log.halted ≡ false)
     (l : Last) (is_last : piece ≡ Some l) (new : Fs D) (only : OnlyReads state old new) where
@@ -93,7 +92,7 @@ module _ {D : Type 0} (state : D → DeviceState) (lawful : (d : D) → IsLawful
   dots_are b are = (λ i. says.0 i || says.2 i) ∙ are
 
   -- ---- in one state
-  module _ (k : CheckpointValue) (m0 m : LogMap) (s : State) (is : IsIn state v k m0 m s) where
+  module _ (k : CheckpointValue) (m0 m : LogMap) (s : State) (is : IsIn state v k m0 m s) (walk : Parent s.tree path (At d)) where
     volume : IsMapOf (segments_of v) m s
     volume = map_of_volume state v k m0 m s is
 
@@ -103,97 +102,103 @@ module _ {D : Type 0} (state : D → DeviceState) (lawful : (d : D) → IsLawful
     holds : Holds state old.store.log k m0 m
     holds = (still_in state v (seen old) k m0 m s reached.still is).stores.holds
 
-    header_is : m.header 1 ≡ (staged old.store.draft.changes m).header d
-    header_is i = (same i).header (sym reached.root i)
+    header_is : m.header d ≡ (staged old.store.draft.changes m).header d
+    header_is i = (same i).header d
 
-    fits : (head : Header) → m.header 1 ≡ Some (as_header head) → IsHeaderOf 1 (as_header head)
-    fits head there = headers_of_volume state v k m0 m s is 1 (as_header head) there
+    dir : is_dir (node s.tree d) ≡ true
+    dir = (parent_dir (segments_of v) s is.log.sound path d walk).0
 
-    short_is : length l.name.now ≤ 59 → is_long s.tree 1 path ≡ false
-    short_is short = short_of_root s.tree path is.plain (let same_length = ap length says.1 in omega (arith, same_length, short))
+    limit_is : name_limit s.tree d ≡ 59
+    limit_is = ap (λ (t : Tree). name_limit t d) is.log.is
+        ∙ limit m d record { tree = tree_of_volume state v k m0 m s is; directory = subst (λ (t : Tree). is_dir (node t d) ≡ true) is.log.is dir }
 
-    long_is : 59 < length l.name.now → is_long s.tree 1 path ≡ true
-    long_is long = long_of_root s.tree path is.plain (let same_length = ap length says.1 in omega (arith, same_length, long))
+    fits : (head : Header) → m.header d ≡ Some (as_header head) → IsHeaderOf d (as_header head)
+    fits head there = headers_of_volume state v k m0 m s is d (as_header head) there
 
-    -- a name looked up in the root
-    looked : (state new.store.log.device).keeps_model → (head : Header) (o : Option ℕ) → LooksUp state old new d l.name.now head o → (m.header 1 ≡ Some (as_header head)) × (find byte_cmp (name path) (names_at m 1 head) ≡ o)
+    short_is : length l.name.now ≤ 59 → is_long s.tree d path ≡ false
+    short_is short = short_there s.tree d path limit_is (let same_length = ap length says.1 in omega (arith, same_length, short))
+
+    long_is : 59 < length l.name.now → is_long s.tree d path ≡ true
+    long_is long = long_there s.tree d path limit_is (let same_length = ap length says.1 in omega (arith, same_length, long))
+
+    -- a name looked up in the directory
+    looked : (state new.store.log.device).keeps_model → (head : Header) (o : Option ℕ) → LooksUp state old new d l.name.now head o → (m.header d ≡ Some (as_header head)) × (find byte_cmp (name path) (names_at m d head) ≡ o)
     looked keeps head o looks =
         let found = looks k m0 m keeps holds in
-        (header_is ∙ found.0, (λ i. find byte_cmp (says.1 i) (names_at (same i) (sym reached.root i) head)) ∙ sym found.1)
+        (header_is ∙ found.0, (λ i. find byte_cmp (says.1 i) (names_at (same i) d head)) ∙ sym found.1)
 
-    is_new : (state new.store.log.device).keeps_model → (head : Header) → LooksUp state old new d l.name.now head None → is_there s.tree 1 path ≡ false
-    is_new keeps head looks = let found = looked keeps head None looks in new_in_root (segments_of v) m s volume head found.0 path found.1
+    is_new : (state new.store.log.device).keeps_model → (head : Header) → LooksUp state old new d l.name.now head None → is_there s.tree d path ≡ false
+    is_new keeps head looks = let found = looked keeps head None looks in new_in_directory (segments_of v) m s volume d dir head found.0 path found.1
 
-    -- where the root couldn't be looked at, a call of the device failed
+    -- where it couldn't be looked at, a call of the device failed
     rises : (state new.store.log.device).keeps_model → FailsLook state old new d → (state v.log.device).failures < (state new.store.log.device).failures
     rises keeps fails =
-        let rose : (state old.store.log.device).failures < (state new.store.log.device).failures = fails k m0 m keeps holds has_root root_directory in
+        let rose : (state old.store.log.device).failures < (state new.store.log.device).failures = fails k m0 m keeps holds has_one formed in
         let before = reached.still.reads.looks.carries.failures in
         omega (arith, rose, before)
       where
-        has_root : (staged old.store.draft.changes m).header d ≢ None
-        has_root none = let root = is.map.root in let both : Some root.0 ≡ None = sym root.1 ∙ header_is ∙ none in cc
+        has_one : (staged old.store.draft.changes m).header d ≢ None
+        has_one none = dir_there s.tree d dir (no_header_none (segments_of v) m s is.log d (header_is ∙ none))
 
-        root_directory : (head : Header) → (staged old.store.draft.changes m).header d ≡ Some (as_header head) → IsDirectory (staged old.store.draft.changes m) d (as_header head)
-        root_directory head there =
+        formed : (head : Header) → (staged old.store.draft.changes m).header d ≡ Some (as_header head) → IsDirectory (staged old.store.draft.changes m) d (as_header head)
+        formed head there =
             let here = header_is ∙ there in
-            subst (λ (x : LogMap). IsDirectory x d (as_header head)) same
-            (subst (λ (n : ℕ). IsDirectory m n (as_header head)) (sym reached.root) (directory_root (segments_of v) m s volume head here (fits head here)))
+            subst (λ (x : LogMap). IsDirectory x d (as_header head)) same (directory_formed (segments_of v) m s volume d dir head here (fits head here))
 
   -- ---- the rule of a new entry
-  module _ (k : CheckpointValue) (m0 m : LogMap) (s : State) (keeps : (state new.store.log.device).keeps_model) (is : IsIn state v k m0 m s) (walk : Parent s.tree path (At 1)) where
+  module _ (k : CheckpointValue) (m0 m : LogMap) (s : State) (keeps : (state new.store.log.device).keeps_model) (is : IsIn state v k m0 m s) (walk : Parent s.tree path (At d)) where
     dots_step : is_dots l.name.now ≡ true → Step (segments_of v) s (Create path) (Refuse refusals.Exist) s
-    dots_step dots = create_dots (segments_of v) s path 1 walk (dots_are true dots)
+    dots_step dots = create_dots (segments_of v) s path d walk (dots_are true dots)
 
     long_step : is_dots l.name.now ≡ false → 59 < length l.name.now → Step (segments_of v) s (Create path) (Refuse refusals.NameTooLong) s
-    long_step named long = create_long (segments_of v) s path 1 walk (dots_are false named) (long_is k m0 m s is long)
+    long_step named long = create_long (segments_of v) s path d walk (dots_are false named) (long_is k m0 m s is walk long)
 
     is_named : is_dots l.name.now ≡ false → length l.name.now ≤ 59 → IsName 59 l.name.now
     is_named named short =
         subst (IsName 59) says.1
-        (last_is_name (segments_of v) s is.log.sound is.plain path reached.bytes walk (dots_are false named) (let same_length = ap length says.1 in omega (arith, same_length, short)))
+        (last_is_name (segments_of v) s is.log.sound path d (limit_is k m0 m s is walk) reached.bytes walk (dots_are false named) (let same_length = ap length says.1 in omega (arith, same_length, short)))
 
     module _ (named : is_dots l.name.now ≡ false) (short : length l.name.now ≤ 59) (head : Header) where
       there_step : (n : ℕ) → LooksUp state old new d l.name.now head (Some n) → Step (segments_of v) s (Create path) (Refuse refusals.Exist) s
       there_step n looks =
-          let found = looked k m0 m s is keeps head (Some n) looks in
-          create_there (segments_of v) s path 1 walk (dots_are false named) (short_is k m0 m s is short) (there_in_root (segments_of v) m s (volume k m0 m s is) head found.0 path n found.1)
+          let found = looked k m0 m s is walk keeps head (Some n) looks in
+          create_there (segments_of v) s path d walk (dots_are false named) (short_is k m0 m s is walk short) (there_in_directory (segments_of v) m s (volume k m0 m s is walk) d (dir k m0 m s is walk) head found.0 path n found.1)
 
       slash_step : l.slash ≡ true → LooksUp state old new d l.name.now head None → Step (segments_of v) s (Create path) (Refuse refusals.NoEntry) s
-      slash_step ends looks = create_slash (segments_of v) s path 1 walk (dots_are false named) (short_is k m0 m s is short) (is_new k m0 m s is keeps head looks) (has_last.1 ∙ ends)
+      slash_step ends looks = create_slash (segments_of v) s path d walk (dots_are false named) (short_is k m0 m s is walk short) (is_new k m0 m s is walk keeps head looks) (has_last.1 ∙ ends)
 
       full_step : l.slash ≡ false → 65472 < head.size → LooksUp state old new d l.name.now head None → Step (segments_of v) s (Create path) (Refuse refusals.DirFull) s
       full_step plain large looks =
-          let there = (looked k m0 m s is keeps head None looks).0 in
-          let right = fits k m0 m s is head there in
-          let whole : head.size % 64 ≡ 0 = right.slots (root_kind (segments_of v) m s (volume k m0 m s is) head there) in
-          create_full (segments_of v) s path 1 walk (dots_are false named) (short_is k m0 m s is short) (is_new k m0 m s is keeps head looks) (has_last.1 ∙ plain)
-          (full_root (segments_of v) m s (volume k m0 m s is) head there right (omega (arith, whole, large)))
+          let there = (looked k m0 m s is walk keeps head None looks).0 in
+          let right = fits k m0 m s is walk head there in
+          let whole : head.size % 64 ≡ 0 = right.slots (directory_kind (segments_of v) m s (volume k m0 m s is walk) d (dir k m0 m s is walk) head there) in
+          create_full (segments_of v) s path d walk (dots_are false named) (short_is k m0 m s is walk short) (is_new k m0 m s is walk keeps head looks) (has_last.1 ∙ plain)
+          (full_directory (segments_of v) m s (volume k m0 m s is walk) d (dir k m0 m s is walk) head there right (omega (arith, whole, large)))
 
     -- what comes after it
     module _ (head : Header) (takes : TakesEntry state old new d l.name.now l.slash head) where
-      has_room : is_full s.tree 1 ≡ false
+      has_room : is_full s.tree d ≡ false
       has_room =
-          let there = (looked k m0 m s is keeps head None takes.looks).0 in
-          free_root (segments_of v) m s (volume k m0 m s is) head there (fits k m0 m s is head there) (let room = takes.room in omega (arith, room))
+          let there = (looked k m0 m s is walk keeps head None takes.looks).0 in
+          free_directory (segments_of v) m s (volume k m0 m s is walk) d (dir k m0 m s is walk) head there (fits k m0 m s is walk head there) (let room = takes.room in omega (arith, room))
 
       handles_are : s.handles ≡ handles_of new.handles.numbers.items
       handles_are = is.handles ∙ ap handles_of (sym still.table)
 
       handle_step : 64 ≤ least_handle (handles_of new.handles.numbers.items) → Step (segments_of v) s (Create path) (Refuse refusals.TooManyOpen) s
       handle_step many =
-          create_too_many (segments_of v) s path 1 walk (dots_are false takes.named) (short_is k m0 m s is takes.is_name.short) (is_new k m0 m s is keeps head takes.looks) (has_last.1 ∙ takes.plain) has_room
+          create_too_many (segments_of v) s path d walk (dots_are false takes.named) (short_is k m0 m s is walk takes.is_name.short) (is_new k m0 m s is walk keeps head takes.looks) (has_last.1 ∙ takes.plain) has_room
           (subst (λ hs. 64 ≤ least_handle hs) (sym handles_are) many)
 
       number_step : least_handle (handles_of new.handles.numbers.items) < 64 → HasAll state new.store.log → Step (segments_of v) s (Create path) (Refuse refusals.NoNumber) s
       number_step some all =
-          create_no_number (segments_of v) s path 1 walk (dots_are false takes.named) (short_is k m0 m s is takes.is_name.short) (is_new k m0 m s is keeps head takes.looks) (has_last.1 ∙ takes.plain) has_room
+          create_no_number (segments_of v) s path d walk (dots_are false takes.named) (short_is k m0 m s is walk takes.is_name.short) (is_new k m0 m s is walk keeps head takes.looks) (has_last.1 ∙ takes.plain) has_room
           (subst (λ hs. least_handle hs < 64) (sym handles_are) some)
-          (no_least (segments_of v) m s (volume k m0 m s is) (all k m0 m (still_in state v (seen new) k m0 m s still is).stores.holds))
+          (no_least (segments_of v) m s (volume k m0 m s is walk) (all k m0 m (still_in state v (seen new) k m0 m s still is).stores.holds))
 
   -- ---- the calls
   refused : (r : refusals.Refusal) → IsOrdinary (Refuse r)
-      → ((k : CheckpointValue) (m0 m : LogMap) (s : State) → (state new.store.log.device).keeps_model → IsIn state v k m0 m s → Parent s.tree path (At 1) → Step (segments_of v) s (Create path) (Refuse r) s)
+      → ((k : CheckpointValue) (m0 m : LogMap) (s : State) → (state new.store.log.device).keeps_model → IsIn state v k m0 m s → Parent s.tree path (At d) → Step (segments_of v) s (Create path) (Refuse r) s)
       → Serves state v (seen new) (Create path) (Refuse r)
   refused = create_refuses state lawful v old path d piece reached running new only.still
 
@@ -218,7 +223,7 @@ module _ {D : Type 0} (state : D → DeviceState) (lawful : (d : D) → IsLawful
   entry_refused error.DirFull why = refused refusals.DirFull tt (λ k m0 m s keeps is walk. full_step k m0 m s keeps is walk why.0 why.1 why.3.0 why.2 why.3.1 why.3.2)
   entry_refused error.Halted why = absurd (let on = why in let off = running in cc)
   entry_refused error.Device why =
-      failed_serves state v (seen new) (Create path) (lawful v.log.device) still (sym reached.still.reads.halted ∙ running) refl (λ k m0 m s keeps is. rises k m0 m s is keeps why)
+      failed_serves state v (seen new) (Create path) (lawful v.log.device) still (sym reached.still.reads.halted ∙ running) refl (λ k m0 m s keeps is. rises k m0 m s is (reached.walk k m0 m s (only.still.reads.looks.carries.kept_before keeps) is) keeps why)
   entry_refused error.NotDir why = absurd why
   entry_refused error.IsDir why = absurd why
   entry_refused error.NotEmpty why = absurd why

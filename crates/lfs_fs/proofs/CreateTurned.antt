@@ -23,15 +23,9 @@ use Rattle.lfs_fs.proofs.WritingEnds.{still_more}
 module _ {D : Type 0} (state : D → DeviceState) (lawful : (d : D) → IsLawful (state d)) (v : Mounted D) (old mid : Fs D) (path : List ℕ) (d : ℕ) (piece : Option Last) (reached : Reaches state v old path d piece)
     (running : old.store.log.halted ≡ false) (last : Last) (some : piece ≡ Some last) (only : OnlyReads state old mid) (head : Header) (takes : TakesEntry state old mid d last.name.now last.slash head)
     (handle : ℕ) (few : handle < 64) (first : least_handle (handles_of mid.handles.numbers.items) ≡ handle) (n : ℕ) (vacant : IsVacant state mid.store.log n) where
-  -- the directory is the root
-  in_root : Reaches state v old path 1 (Some last)
-  in_root = subst (λ (x : ℕ). Reaches state v old path x (Some last)) reached.root (subst (λ (o : Option Last). Reaches state v old path d o) some reached)
-
-  takes_root : TakesEntry state old mid 1 last.name.now last.slash head
-  takes_root = subst (λ (x : ℕ). TakesEntry state old mid x last.name.now last.slash head) reached.root takes
-
-  ready_root : (ready : Fs D) → IsReady state mid ready d head n last.name.now → IsReady state mid ready 1 head n last.name.now
-  ready_root ready is = subst (λ (x : ℕ). IsReady state mid ready x head n last.name.now) reached.root is
+  -- the path has this last piece
+  with_last : Reaches state v old path d (Some last)
+  with_last = subst (λ (o : Option Last). Reaches state v old path d o) some reached
 
   still : IsStill state v (seen mid)
   still = still_more state lawful v (seen old) (seen mid) reached.still only.still
@@ -50,7 +44,7 @@ module _ {D : Type 0} (state : D → DeviceState) (lawful : (d : D) → IsLawful
 
   pub unmade_ends : (new : Fs D) (fault : FsError) → MakesNone state mid new d head n last.name.now fault → Serves state v (seen new) (Create path) (Refuse (refusal_of fault))
   unmade_ends new fault none = ⊎_elim
-      (λ turned. turned_serves state lawful v old mid turned.mid path last in_root running only head takes_root n vacant handle few first (ready_root turned.mid turned.ready) new turned.table fault turned.turns)
+      (λ turned. turned_serves state lawful v old mid turned.mid path d last with_last running only head takes n vacant handle few first turned.ready new turned.table fault turned.turns)
       (λ undrafted. undrafted_ends new undrafted.0 fault undrafted.1)
       none
 
@@ -58,4 +52,4 @@ module _ {D : Type 0} (state : D → DeviceState) (lawful : (d : D) → IsLawful
   pub made_ends : (new : Fs D) → MakesFile state mid new d head n last.name.now → (table : List ℕ) → (n ≢ 0 → handles_of table ≡ put nat_cmp handle n (handles_of new.handles.numbers.items))
       → Serves state v record { log = new.store.log; saved = new.store.saved; blocks = new.store.log.totals.data_blocks; others = new.store.log.totals.meta_blocks; table = table } (Create path) (Handle handle)
   made_ends new makes table opened =
-      made_serves state lawful v old mid makes.mid path last in_root running only head takes_root n vacant handle few first (ready_root makes.mid makes.ready) new makes.table makes.stages table opened
+      made_serves state lawful v old mid makes.mid path d last with_last running only head takes n vacant handle few first makes.ready new makes.table makes.stages table opened

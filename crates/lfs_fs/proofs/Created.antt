@@ -1,5 +1,5 @@
--- A new file with a name in the root, from the headers and blocks of the log map to the state after the call.
-use Rattle.std.proofs.Common.{◌≡◌, ◌≢◌, ◌<◌, ◌≤◌, ◌+◌, ◌*◌, ◌/◌, ◌%◌, ◌||◌, ℕ, false, List, [], length, Option, Some, None, refl, sym, ◌∙◌, ap, subst, ⊎_elim, arith, slice_index}
+-- A new file with a name in a directory, from the headers and blocks of the log map to the state after the call.
+use Rattle.std.proofs.Common.{◌≡◌, ◌≢◌, ◌<◌, ◌≤◌, ◌+◌, ◌*◌, ◌/◌, ◌%◌, ◌||◌, ℕ, true, false, List, [], length, Option, Some, None, refl, sym, ◌∙◌, ap, subst, ⊎_elim, arith, slice_index}
 use Rattle.std.specs.Prelude.{T, unwrap_or}
 use Rattle.std.proofs.lemmas.Bool.{cases_eq, cases_lt}
 use Rattle.std.proofs.lemmas.List.{nil_from_length}
@@ -21,7 +21,7 @@ use Rattle.lfs_model.specs.Tree.{Dir, File, Names, Node, State, Tree, byte_cmp, 
 use Rattle.lfs_model.specs.TreeOf.{AreFormed, map_of, node_by, node_of, object, slots, tree_in}
 use Rattle.lfs_model.specs.Walk.{At, Parent}
 use Rattle.lfs_model.proofs.Growing.{after_order, at_dir, at_new, at_other, links_dir, links_new, links_other}
-use Rattle.lfs_model.proofs.Keeps.{create_keeps}
+use Rattle.lfs_model.proofs.Keeps.{create_keeps, parent_dir}
 use Rattle.lfs_model.proofs.Leasts.{least_free}
 use Rattle.lfs_model.proofs.Makes.{dir_at, not_some, starts_one, unnamed}
 use Rattle.lfs_model.proofs.ObjectBytes.{write_ends}
@@ -34,8 +34,13 @@ use Rattle.lfs_store.specs.memory.Present.{as_header}
 use Rattle.lfs_model.specs.Totals.{IsCounted, TotalsOfTree}
 use Rattle.lfs_store.specs.Writing.{WritesFile, resized}
 use Rattle.lfs_fs.proofs.Changed.{IsFormed, formed_same, long_kept, not_directory, shape_kept}
-use Rattle.lfs_fs.proofs.Files.{IsMapOf, IsShaped, need_shaped, node_by_header, none_no_header}
+use Rattle.lfs_fs.proofs.Files.{IsMapOf, IsShaped, dir_there, need_shaped, node_by_header, none_no_header}
 use Rattle.lfs_fs.proofs.PathSteps.{create_done, with_file}
+
+pub kind_by_node : (m : LogMap) (n : ℕ) (h : entry.Header) (k : Kind) → is_dir (Some (node_by m k n h)) ≡ true → k ≡ kind.Directory
+kind_by_node m n h kind.File dir = absurd (cc)
+kind_by_node m n h kind.Directory dir = refl
+kind_by_node m n h kind.Link dir = absurd (cc)
 
 -- the header of a new file
 abbrev pub new_file : Header
@@ -97,19 +102,19 @@ module _ (N : ℕ) (m m1 : LogMap) (s : State) (is : IsMapOf N m s) (n : ℕ) (i
   pub made_elsewhere : (q : ℕ) → (q ≡ n → ⊥) → node (tree_in m1) q ≡ node s.tree q
   made_elsewhere q ne = node_elsewhere m m1 n q changed ne ∙ ap (λ (t : Tree). node t q) (sym is.log.is)
 
--- ---- its name is written into the root
+-- ---- its name is written into directory d
 
--- The root's bytes with one more slot, which gives the new file this name.
-pub record NamesFile (m m1 m' : LogMap) (n : ℕ) (head : Header) (size at : ℕ) (w nm : List ℕ) : Type 0 where
-  pub there : m.header 1 ≡ Some (as_header head)
+-- The directory's bytes with one more slot, which gives the new file this name.
+pub record NamesFile (m m1 m' : LogMap) (d n : ℕ) (head : Header) (size at : ℕ) (w nm : List ℕ) : Type 0 where
+  pub there : m.header d ≡ Some (as_header head)
   pub made : IsWithHeader m n (Some (as_header new_file)) m1
-  pub writes : WritesFile m1 m' 1 head (resized head size) at w
+  pub writes : WritesFile m1 m' d head (resized head size) at w
   pub small : size ≤ 8511488
-  pub directory : IsDirectory m' 1 (as_header (resized head size))
-  pub names : map_of 0 (slots m' 1 (as_header (resized head size))) ≡ put byte_cmp nm n (map_of 0 (slots m 1 (as_header head)))
+  pub directory : IsDirectory m' d (as_header (resized head size))
+  pub names : map_of 0 (slots m' d (as_header (resized head size))) ≡ put byte_cmp nm n (map_of 0 (slots m d (as_header head)))
 
-module _ (N : ℕ) (m m1 m' : LogMap) (s : State) (is : IsMapOf N m s) (p : List ℕ) (walk : Parent s.tree p (At 1)) (n : ℕ) (first : least s.tree ≡ n) (top : n ≤ 4095)
-    (new : is_there s.tree 1 p ≡ false) (head : Header) (size at : ℕ) (w : List ℕ) (does : NamesFile m m1 m' n head size at w (name p)) where
+module _ (N : ℕ) (m m1 m' : LogMap) (s : State) (is : IsMapOf N m s) (p : List ℕ) (d : ℕ) (walk : Parent s.tree p (At d)) (n : ℕ) (first : least s.tree ≡ n) (top : n ≤ 4095)
+    (new : is_there s.tree d p ≡ false) (head : Header) (size at : ℕ) (w : List ℕ) (does : NamesFile m m1 m' d n head size at w (name p)) where
   least_is : (1 ≤ least s.tree) × (node s.tree (least s.tree) ≡ None)
   least_is = least_free 1 s.tree is.log.sound.in_order (starts_one s.tree is.log.sound.numbers)
 
@@ -119,79 +124,86 @@ module _ (N : ℕ) (m m1 m' : LogMap) (s : State) (is : IsMapOf N m s) (p : List
   free : node s.tree n ≡ None
   free = ap (node s.tree) (sym first) ∙ least_is.1
 
-  other : n ≢ 1
-  other = not_root N m m1 s is n in_range free does.made
+  -- it is a directory
+  dir : is_dir (node s.tree d) ≡ true
+  dir = (parent_dir N s is.log.sound p d walk).0
 
-  -- the root before
-  there_1 : m1.header 1 ≡ Some (as_header head)
-  there_1 = does.made.others 1 (λ e. other (sym e)) ∙ does.there
+  in_range_d : (1 ≤ d) × (d ≤ 4095)
+  in_range_d = is.log.sound.numbers d (dir_there s.tree d dir)
+
+  other : n ≢ d
+  other same = let none : node s.tree d ≡ None = ap (node s.tree) (sym same) ∙ free in let no : is_dir (node s.tree d) ≡ false = ap is_dir none in let yes_dir = dir in cc
+
+  -- the directory before
+  there_1 : m1.header d ≡ Some (as_header head)
+  there_1 = does.made.others d (λ e. other (sym e)) ∙ does.there
 
   is_directory : head.kind ≡ kind.Directory
-  is_directory = let root = is.map.root in let both : Some root.0 ≡ Some (as_header head) = sym root.1 ∙ does.there in let same : root.0 ≡ as_header head = cc in sym (ap (λ (x : entry.Header). x.kind) same) ∙ root.2
+  is_directory = kind_by_node m d (as_header head) head.kind (ap is_dir (sym (node_by_header N m s is.log d (as_header head) in_range_d does.there)) ∙ dir)
 
   abbrev old_names : Names
-  old_names = map_of 0 (slots m 1 (as_header head))
+  old_names = map_of 0 (slots m d (as_header head))
 
-  root_was : node s.tree 1 ≡ Some (Dir 0 old_names)
-  root_was = node_by_header N m s is.log 1 (as_header head) (omega arith, omega arith) does.there ∙ ap (λ (k : Kind). Some (node_by m k 1 (as_header head))) is_directory
+  dir_was : node s.tree d ≡ Some (Dir 0 old_names)
+  dir_was = node_by_header N m s is.log d (as_header head) in_range_d does.there ∙ ap (λ (k : Kind). Some (node_by m k d (as_header head))) is_directory
 
-  form_is : form_of (node s.tree 1) ≡ 0
-  form_is = ap form_of root_was
+  form_is : form_of (node s.tree d) ≡ 0
+  form_is = ap form_of dir_was
 
-  names_are : names_in s.tree 1 ≡ old_names
-  names_are = ap (λ (o : Option Node). names_of (unwrap_or o (File []))) root_was
+  names_are : names_in s.tree d ≡ old_names
+  names_are = ap (λ (o : Option Node). names_of (unwrap_or o (File []))) dir_was
 
   -- the tree after the call, node by node
-  root_is : node s.tree 1 ≡ Some (Dir (form_of (node s.tree 1)) (names_in s.tree 1))
-  root_is = dir_at (node s.tree 1) (ap is_dir root_was)
+  dir_is : node s.tree d ≡ Some (Dir (form_of (node s.tree d)) (names_in s.tree d))
+  dir_is = dir_at (node s.tree d) (ap is_dir dir_was)
 
-  root_order : T (is_sorted byte_cmp (names_in s.tree 1))
-  root_order = (is.log.sound.limits 1 (Dir (form_of (node s.tree 1)) (names_in s.tree 1)) root_is).0
+  dir_order : T (is_sorted byte_cmp (names_in s.tree d))
+  dir_order = (is.log.sound.limits d (Dir (form_of (node s.tree d)) (names_in s.tree d)) dir_is).0
 
-  absent : find byte_cmp (name p) (names_in s.tree 1) ≡ None
-  absent = not_some (entry_in s.tree 1 (name p)) new
+  absent : find byte_cmp (name p) (names_in s.tree d) ≡ None
+  absent = not_some (entry_in s.tree d (name p)) new
 
   abbrev t' : Tree
-  t' = with_new s.tree 1 p (File [])
+  t' = with_new s.tree d p (File [])
 
   after_new : node t' (least s.tree) ≡ Some (File [])
-  after_new = at_new s.tree 1 (least s.tree) (form_of (node s.tree 1)) (names_in s.tree 1) (name p) (File []) refl is.log.sound.in_order root_is root_order least_is.1 absent
+  after_new = at_new s.tree d (least s.tree) (form_of (node s.tree d)) (names_in s.tree d) (name p) (File []) refl is.log.sound.in_order dir_is dir_order least_is.1 absent
 
-  after_root : node t' 1 ≡ Some (Dir (form_of (node s.tree 1)) (put byte_cmp (name p) (least s.tree) (names_in s.tree 1)))
-  after_root = at_dir s.tree 1 (least s.tree) (form_of (node s.tree 1)) (names_in s.tree 1) (name p) (File []) refl is.log.sound.in_order root_is root_order least_is.1 absent
+  after_dir : node t' d ≡ Some (Dir (form_of (node s.tree d)) (put byte_cmp (name p) (least s.tree) (names_in s.tree d)))
+  after_dir = at_dir s.tree d (least s.tree) (form_of (node s.tree d)) (names_in s.tree d) (name p) (File []) refl is.log.sound.in_order dir_is dir_order least_is.1 absent
 
-  after_others : (q : ℕ) → q ≢ least s.tree → q ≢ 1 → node t' q ≡ node s.tree q
-  after_others = at_other s.tree 1 (least s.tree) (form_of (node s.tree 1)) (names_in s.tree 1) (name p) (File []) refl is.log.sound.in_order root_is root_order least_is.1 absent
+  after_others : (q : ℕ) → q ≢ least s.tree → q ≢ d → node t' q ≡ node s.tree q
+  after_others = at_other s.tree d (least s.tree) (form_of (node s.tree d)) (names_in s.tree d) (name p) (File []) refl is.log.sound.in_order dir_is dir_order least_is.1 absent
 
   -- and that of the log map
   now_new : node (tree_in m') n ≡ Some (File [])
-  now_new = node_elsewhere m1 m' 1 n does.writes.only other ∙ made_node N m m1 s is n in_range free does.made
+  now_new = node_elsewhere m1 m' d n does.writes.only other ∙ made_node N m m1 s is n in_range free does.made
 
-  now_root : node (tree_in m') 1 ≡ Some (Dir 0 (put byte_cmp (name p) n old_names))
-  now_root =
-      node_in m' 1 (omega arith) (omega arith) ∙ ap (node_of m' 1) does.writes.header
-      ∙ ap (λ (k : Kind). Some (node_by m' k 1 (as_header (resized head size)))) is_directory
+  now_dir : node (tree_in m') d ≡ Some (Dir 0 (put byte_cmp (name p) n old_names))
+  now_dir =
+      node_in m' d in_range_d.0 in_range_d.1 ∙ ap (node_of m' d) does.writes.header
+      ∙ ap (λ (k : Kind). Some (node_by m' k d (as_header (resized head size)))) is_directory
       ∙ ap (λ (ms : Names). Some (Dir 0 ms)) does.names
 
-  now_others : (q : ℕ) → q ≢ n → q ≢ 1 → node (tree_in m') q ≡ node s.tree q
-  now_others q a b = node_elsewhere m1 m' 1 q does.writes.only b ∙ made_elsewhere N m m1 s is n in_range free does.made q a
+  now_others : (q : ℕ) → q ≢ n → q ≢ d → node (tree_in m') q ≡ node s.tree q
+  now_others q a b = node_elsewhere m1 m' d q does.writes.only b ∙ made_elsewhere N m m1 s is n in_range free does.made q a
 
-  root_same : Some (Dir 0 (put byte_cmp (name p) n old_names)) ≡ Some (Dir (form_of (node s.tree 1)) (put byte_cmp (name p) (least s.tree) (names_in s.tree 1)))
-  root_same = λ i. Some (Dir (sym form_is i) (put byte_cmp (name p) (sym first i) (sym names_are i)))
+  dir_same : Some (Dir 0 (put byte_cmp (name p) n old_names)) ≡ Some (Dir (form_of (node s.tree d)) (put byte_cmp (name p) (least s.tree) (names_in s.tree d)))
+  dir_same = λ i. Some (Dir (sym form_is i) (put byte_cmp (name p) (sym first i) (sym names_are i)))
 
   same_nodes : (q : ℕ) → node (tree_in m') q ≡ node t' q
   same_nodes q = ⊎_elim
       (λ (here : q ≡ n). ap (node (tree_in m')) here ∙ now_new ∙ sym after_new ∙ ap (node t') (first ∙ sym here))
       (λ (a : q ≡ n → ⊥). ⊎_elim
-      (λ (root : q ≡ 1). ap (node (tree_in m')) root ∙ now_root ∙ root_same ∙ sym after_root ∙ ap (node t') (sym root))
-      (λ (b : q ≡ 1 → ⊥). now_others q a b ∙ sym (after_others q (λ e. a (e ∙ first)) b))
-      (cases_eq q 1))
+      (λ (here : q ≡ d). ap (node (tree_in m')) here ∙ now_dir ∙ dir_same ∙ sym after_dir ∙ ap (node t') (sym here))
+      (λ (b : q ≡ d → ⊥). now_others q a b ∙ sym (after_others q (λ e. a (e ∙ first)) b))
+      (cases_eq q d))
       (cases_eq q n)
 
   -- the tree after the call
-  pub created_tree : tree_in m' ≡ with_new s.tree 1 p (File [])
+  pub created_tree : tree_in m' ≡ with_new s.tree d p (File [])
   created_tree = same_trees (tree_in m') t' (in_order m')
-      (after_order s.tree 1 (least s.tree) (form_of (node s.tree 1)) (names_in s.tree 1) (name p) (File []) refl is.log.sound.in_order root_is root_order least_is.1 absent) same_nodes
+      (after_order s.tree d (least s.tree) (form_of (node s.tree d)) (names_in s.tree d) (name p) (File []) refl is.log.sound.in_order dir_is dir_order least_is.1 absent) same_nodes
 
   -- ---- the log map after it
   map_1 : IsLogMap m1
@@ -200,50 +212,50 @@ module _ (N : ℕ) (m m1 m' : LogMap) (s : State) (is : IsMapOf N m s) (p : List
   long_1 : (k : ℕ) → AreLong m1 k
   long_1 = made_long N m m1 s is n in_range free does.made
 
-  root_fits_1 : IsObject m1 1 (as_header head)
-  root_fits_1 = object_fits m1 1 (as_header head) map_1 (long_1 1) there_1 (let grows = does.writes.bytes.size in let most = does.small in omega arith)
+  dir_fits_1 : IsObject m1 d (as_header head)
+  dir_fits_1 = object_fits m1 d (as_header head) map_1 (long_1 d) there_1 (let grows = does.writes.bytes.size in let most = does.small in omega arith)
 
-  root_fits : IsObject m' 1 (as_header (resized head size))
-  root_fits = record {
-    number = omega arith;
+  dir_fits : IsObject m' d (as_header (resized head size))
+  dir_fits = record {
+    number = in_range_d.0;
     root = λ e. is_directory;
     size = does.small;
-    whole = does.writes.whole root_fits_1.whole;
-    ends = write_ends m1 m' 1 (as_header head) (as_header (resized head size)) map_1 there_1 at w does.writes.bytes;
+    whole = does.writes.whole dir_fits_1.whole;
+    ends = write_ends m1 m' d (as_header head) (as_header (resized head size)) map_1 there_1 at w does.writes.bytes;
   }
 
-  header_root : (h : entry.Header) → m'.header 1 ≡ Some h → as_header (resized head size) ≡ h
-  header_root h there = let both : Some (as_header (resized head size)) ≡ Some h = sym does.writes.header ∙ there in cc
+  header_dir : (h : entry.Header) → m'.header d ≡ Some h → as_header (resized head size) ≡ h
+  header_dir h there = let both : Some (as_header (resized head size)) ≡ Some h = sym does.writes.header ∙ there in cc
 
   -- whether it has room or not
   pub created_log : IsLogMap m'
-  created_log = object_kept m1 m' 1 (as_header (resized head size)) map_1 does.writes.only does.writes.header root_fits
+  created_log = object_kept m1 m' d (as_header (resized head size)) map_1 does.writes.only does.writes.header dir_fits
 
   pub created_shape : IsShaped m → IsShaped m'
-  created_shape shaped = shape_kept m1 m' 1 does.writes.only (made_shape N m m1 s is n in_range free does.made shaped) created_log root_fits.whole.long
-      (λ h there dir. subst (IsDirectory m' 1) (header_root h there) does.directory)
+  created_shape shaped = shape_kept m1 m' d does.writes.only (made_shape N m m1 s is n in_range free does.made shaped) created_log dir_fits.whole.long
+      (λ h there dir. subst (IsDirectory m' d) (header_dir h there) does.directory)
 
   -- and what its tree needs
-  pub created_need : TotalsOfTree → IsShaped m → (blocks others : ℕ) → IsCounted m' blocks others → need (with_new s.tree 1 p (File [])) ≡ blocks + 7 * others + 720
+  pub created_need : TotalsOfTree → IsShaped m → (blocks others : ℕ) → IsCounted m' blocks others → need (with_new s.tree d p (File [])) ≡ blocks + 7 * others + 720
   created_need totals shaped blocks others counted = ap need (sym created_tree) ∙ (need_shaped totals m' (created_shape shaped) blocks others counted).0
 
   formed_after : AreFormed m'
   formed_after k h there dir = ⊎_elim
-      (λ (here : k ≡ 1).
-      subst (λ (x : entry.Header). IsFormed m' k x) (header_root h (ap m'.header (sym here) ∙ there)) (subst (λ (q : ℕ). IsFormed m' q (as_header (resized head size))) (sym here) (does.directory.formed, does.directory.apart)))
-      (λ (ne : k ≡ 1 → ⊥). formed_same m1 m' 1 does.writes.only (made_formed N m m1 s is n in_range free does.made) k h ne there dir)
-      (cases_eq k 1)
+      (λ (here : k ≡ d).
+      subst (λ (x : entry.Header). IsFormed m' k x) (header_dir h (ap m'.header (sym here) ∙ there)) (subst (λ (q : ℕ). IsFormed m' q (as_header (resized head size))) (sym here) (does.directory.formed, does.directory.apart)))
+      (λ (ne : k ≡ d → ⊥). formed_same m1 m' d does.writes.only (made_formed N m m1 s is n in_range free does.made) k h ne there dir)
+      (cases_eq k d)
 
   -- links
-  links_root : links t' 1 ≡ links s.tree 1
-  links_root = links_dir s.tree 1 (least s.tree) (form_of (node s.tree 1)) (names_in s.tree 1) (name p) (File []) refl is.log.sound.in_order root_is root_order least_is.1 absent
+  links_here : links t' d ≡ links s.tree d
+  links_here = links_dir s.tree d (least s.tree) (form_of (node s.tree d)) (names_in s.tree d) (name p) (File []) refl is.log.sound.in_order dir_is dir_order least_is.1 absent
 
-  links_others : (q : ℕ) → q ≢ least s.tree → q ≢ 1 → links t' q ≡ links s.tree q
-  links_others = links_other s.tree 1 (least s.tree) (form_of (node s.tree 1)) (names_in s.tree 1) (name p) (File []) refl is.log.sound.in_order root_is root_order least_is.1 absent
+  links_others : (q : ℕ) → q ≢ least s.tree → q ≢ d → links t' q ≡ links s.tree q
+  links_others = links_other s.tree d (least s.tree) (form_of (node s.tree d)) (names_in s.tree d) (name p) (File []) refl is.log.sound.in_order dir_is dir_order least_is.1 absent
 
   links_one : links t' n ≡ 1
   links_one =
-      let one = links_new s.tree 1 (least s.tree) (form_of (node s.tree 1)) (names_in s.tree 1) (name p) (File []) refl is.log.sound.in_order root_is root_order least_is.1 absent in
+      let one = links_new s.tree d (least s.tree) (form_of (node s.tree d)) (names_in s.tree d) (name p) (File []) refl is.log.sound.in_order dir_is dir_order least_is.1 absent in
       let none = unnamed s.tree (least s.tree) is.log.sound.in_order is.log.sound.limits is.log.sound.named least_is.1 in
       ap (links t') (sym first) ∙ omega (arith, one, none)
 
@@ -254,27 +266,27 @@ module _ (N : ℕ) (m m1 m' : LogMap) (s : State) (is : IsMapOf N m s) (p : List
   links_at k h there = ⊎_elim
       (λ (here : k ≡ n). sym (ap (λ (x : entry.Header). x.links) (header_new h (ap m'.header (sym here) ∙ there))) ∙ sym links_one ∙ ap (links t') (sym here))
       (λ (a : k ≡ n → ⊥). ⊎_elim
-      (λ (root : k ≡ 1).
-      sym (ap (λ (x : entry.Header). x.links) (header_root h (ap m'.header (sym root) ∙ there))) ∙ is.log.links 1 (as_header head) does.there
-      ∙ ap (λ (t : Tree). links t 1) (sym is.log.is) ∙ sym links_root ∙ ap (links t') (sym root))
-      (λ (b : k ≡ 1 → ⊥).
+      (λ (root : k ≡ d).
+      sym (ap (λ (x : entry.Header). x.links) (header_dir h (ap m'.header (sym root) ∙ there))) ∙ is.log.links d (as_header head) does.there
+      ∙ ap (λ (t : Tree). links t d) (sym is.log.is) ∙ sym links_here ∙ ap (links t') (sym root))
+      (λ (b : k ≡ d → ⊥).
       is.log.links k h (sym (does.writes.only.headers k b ∙ does.made.others k a) ∙ there) ∙ ap (λ (t : Tree). links t k) (sym is.log.is) ∙ sym (links_others k (λ e. a (e ∙ first)) b))
-      (cases_eq k 1))
+      (cases_eq k d))
       (cases_eq k n)
 
   -- the volume's log map after the call
-  module _ (bytes : AreBytes p) (named : (no_last p || last_dots p) ≡ false) (short : is_long s.tree 1 p ≡ false) (plain : slash p ≡ false) (space : is_full s.tree 1 ≡ false)
-      (some : least_handle s.handles < 64) (room : need (with_new s.tree 1 p (File [])) ≤ 47 * N) where
+  module _ (bytes : AreBytes p) (named : (no_last p || last_dots p) ≡ false) (short : is_long s.tree d p ≡ false) (plain : slash p ≡ false) (space : is_full s.tree d ≡ false)
+      (some : least_handle s.handles < 64) (room : need (with_new s.tree d p (File [])) ≤ 47 * N) where
     number : least s.tree ≤ 4095
     number = omega (arith, first, top)
 
-    sound_after : Sound N (with_file N s p 1 walk)
-    sound_after = create_keeps N s (with_file N s p 1 walk) p (Handle (least_handle s.handles)) is.log.sound bytes (create_done N s p 1 walk named short new plain space some number room)
+    sound_after : Sound N (with_file N s p d walk)
+    sound_after = create_keeps N s (with_file N s p d walk) p (Handle (least_handle s.handles)) is.log.sound bytes (create_done N s p d walk named short new plain space some number room)
 
-    pub created_map : IsMapOf N m' (with_file N s p 1 walk)
+    pub created_map : IsMapOf N m' (with_file N s p d walk)
     created_map = record {
       map = created_log;
-      long = long_kept m1 m' 1 does.writes.only long_1 root_fits.whole.long;
+      long = long_kept m1 m' d does.writes.only long_1 dir_fits.whole.long;
       log = record {
         sound = sound_after;
         is = sym created_tree;

@@ -81,7 +81,7 @@ module _ {D : Type 0} (state : D → DeviceState) (old : Mounted D) (c : Changes
         drafted.fits k m0 m keeps is.stores.holds is.map (shortened_log (segments_of old) m (staged c m) s h n (map_of_volume state old k m0 m s is) (ap (find nat_cmp h) is.handles ∙ opens) head (there k m0 m keeps is.stores.holds) len
         (sizes k m0 m keeps is.stores.holds) end)
 
-  pub create_fits : (p : List ℕ) (n : ℕ) (made : LogMap → LogMap) (head : Header) (size at : ℕ) (w : List ℕ) → DraftsFile state old c p n made head size at w → InEach state old (λ m s. FitsBatch m c)
-  create_fits p n made head size at w drafts k m0 m s keeps is =
-      drafted.fits k m0 m keeps is.stores.holds is.map (created_log (segments_of old) m (made m) (staged c m) s (map_of_volume state old k m0 m s is) p (drafts.walk k m0 m s keeps is) n (drafts.first k m0 m s keeps is) drafts.top
+  pub create_fits : (p : List ℕ) (d n : ℕ) (made : LogMap → LogMap) (head : Header) (size at : ℕ) (w : List ℕ) → DraftsFile state old c p d n made head size at w → InEach state old (λ m s. FitsBatch m c)
+  create_fits p d n made head size at w drafts k m0 m s keeps is =
+      drafted.fits k m0 m keeps is.stores.holds is.map (created_log (segments_of old) m (made m) (staged c m) s (map_of_volume state old k m0 m s is) p d (drafts.walk k m0 m s keeps is) n (drafts.first k m0 m s keeps is) drafts.top
       (drafts.new_name k m0 m s keeps is) head size at w (drafts.does k m0 m s keeps is))

@@ -15,7 +15,7 @@ use Rattle.lfs_store.specs.memory.Batch.{staged, FitsBatch}
 use Rattle.lfs_store.specs.Accepting.{Accepts, Commits, Declines, Stores, StoresOver}
 use Rattle.lfs_model.specs.Totals.{IsCounted}
 use Rattle.lfs_fs.specs.Handles.{handles_of}
-use Rattle.lfs_fs.specs.Volume.{IsPlain, Behaves, IsAt, IsIn, Mounted, Runs, Serves, segments_of}
+use Rattle.lfs_fs.specs.Volume.{Behaves, IsAt, IsIn, Mounted, Runs, Serves, segments_of}
 use Rattle.lfs_fs.proofs.Files.{IsMapOf}
 use Rattle.lfs_fs.proofs.Holding.{map_of_volume, runs_over}
 use Rattle.lfs_fs.proofs.Leaving.{stands_dropped}
@@ -73,7 +73,6 @@ module _ {D : Type 0} (state : D → DeviceState) where
         pub next : State
         pub fits : FitsBatch m c
         pub map : IsMapOf (segments_of old) (staged c m) next
-        pub plain : IsPlain next.tree
         pub version : next.version ≡ 1
         pub handles : next.handles ≡ handles_of new.table
         pub counted : IsCounted (staged c m) new.blocks new.others
@@ -84,7 +83,7 @@ module _ {D : Type 0} (state : D → DeviceState) where
           let drafts = each p keeps at k m0 m is in
           let log = map_dropped state old new keeps lawful after carries k m0 m p.state is in record {
             next = drafts.next;
-            runs = runs_over state old new k m0 m p.state is (staged c m) drafts.next (done.stores k m0 m keeps is.stores drafts.fits log) segments drafts.map drafts.plain drafts.version drafts.handles drafts.counted (λ e. (done.enough, (let o = done.once.once in omega (arith, o, low))));
+            runs = runs_over state old new k m0 m p.state is (staged c m) drafts.next (done.stores k m0 m keeps is.stores drafts.fits log) segments drafts.map drafts.version drafts.handles drafts.counted (λ e. (done.enough, (let o = done.once.once in omega (arith, o, low))));
             steps = drafts.steps;
             moment = done.moment k m0 m keeps is.stores log;
             saves = λ e. absurd (none e);
@@ -113,7 +112,7 @@ module _ {D : Type 0} (state : D → DeviceState) where
       commits_by a fine behaves each = runs_on a fine behaves done.running (λ p keeps at k m0 m is. (
           let log = map_dropped state old new keeps lawful after carries k m0 m p.state is in record {
             next = p.state;
-            runs = runs_over state old new k m0 m p.state is m p.state (over k m0 m keeps is.stores log) segments (map_of_volume state old k m0 m p.state is) is.plain is.version
+            runs = runs_over state old new k m0 m p.state is m p.state (over k m0 m keeps is.stores log) segments (map_of_volume state old k m0 m p.state is) is.version
                 (is.handles ∙ ap handles_of (sym rest.table)) (counted_still old new m rest is.counted) (λ e. absurd (let s = saved in cc));
             steps = each p keeps at;
             moment = done.moment k m0 m keeps is.stores log;
@@ -131,7 +130,7 @@ module _ {D : Type 0} (state : D → DeviceState) where
           let both = each p keeps at k m0 m is in
           let log = map_dropped state old new keeps lawful after carries k m0 m p.state is in record {
             next = p.state;
-            runs = runs_over state old new k m0 m p.state is m p.state (declines.stores k m0 m keeps is.stores both.0 log) segments (map_of_volume state old k m0 m p.state is) is.plain is.version
+            runs = runs_over state old new k m0 m p.state is m p.state (declines.stores k m0 m keeps is.stores both.0 log) segments (map_of_volume state old k m0 m p.state is) is.version
                 (is.handles ∙ ap handles_of (sym rest.table)) (counted_still old new m rest is.counted)
                 (λ e. (declines.once.ready (λ f. (is.ready f).0) e, (let o = declines.once.once in omega (arith, o, low))));
             steps = both.1;

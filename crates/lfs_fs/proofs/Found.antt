@@ -44,12 +44,11 @@ module _ {D : Type 0} (state : D → DeviceState) (d : D) (v : Mounted D) (mount
   same_segments : segments_of v ≡ is.checkpoint.segments
   same_segments = found_stores.holds.log.segments
 
-  pub found_in : IsPlain s.tree → handles_of v.table ≡ [] → IsCounted is.log v.blocks v.others → v.saved ≡ true → IsIn state v is.checkpoint is.log is.log s
-  found_in plain closed counted saved = record {
+  pub found_in : handles_of v.table ≡ [] → IsCounted is.log v.blocks v.others → v.saved ≡ true → IsIn state v is.checkpoint is.log is.log s
+  found_in closed counted saved = record {
     stores = found_stores;
     map = found_map;
     log = subst (λ (n : ℕ). IsLogOf n is.log s) (sym same_segments) (mounted_log (state d).content all s is);
-    plain = plain;
     version = is.version;
     handles = is.closed ∙ sym closed;
     counted = counted;
@@ -58,12 +57,12 @@ module _ {D : Type 0} (state : D → DeviceState) (d : D) (v : Mounted D) (mount
   }
 
   -- where a stop leaves what was there
-  pub found_at : IsPlain s.tree → handles_of v.table ≡ [] → IsCounted is.log v.blocks v.others → v.saved ≡ true → Only (state d).content (state v.log.device) → IsAt state v (point_of state v s)
-  found_at plain closed counted saved only = record {
+  pub found_at : handles_of v.table ≡ [] → IsCounted is.log v.blocks v.others → v.saved ≡ true → Only (state d).content (state v.log.device) → IsAt state v (point_of state v s)
+  found_at closed counted saved only = record {
     halted = refl;
     number = refl;
     failures = refl;
-    running = λ e. record { checkpoint = is.checkpoint; saved = is.log; present = is.log; is = found_in plain closed counted saved };
+    running = λ e. record { checkpoint = is.checkpoint; saved = is.log; present = is.log; is = found_in closed counted saved };
     leaves = λ c left. (s, subst (λ x. Stands x s) (sym (only c left)) is);
   }
 

@@ -1,4 +1,4 @@
--- The headers that calls give to files and to the root fit an inode.
+-- The headers that calls give to files and to directories fit an inode.
 use Rattle.std.proofs.Common.{◌≡◌, ◌<◌, ◌≤◌, ◌+◌, ◌-◌, ◌%◌, ℕ, sym, subst, arith}
 use Rattle.lfs_model.specs.declared.Kind.{Kind}
 use Rattle.lfs_model.specs.declared.Kind.TheVariants as kind
@@ -22,17 +22,17 @@ new_file_fits = record { links_few = omega arith; size_fits = omega arith }
 pub links_fit : (n : ℕ) (head : Header) → IsHeaderOf n (as_header head) → (links : ℕ) → links ≤ head.links → FitsHeader head.kind links head.size
 links_fit n head fits links le = record { links_few = (let few = fits.links in omega (arith, few, le)); size_fits = fits.size }
 
--- the root with a slot more, where it has fewer than 1,024
-pub root_grows : (head : Header) → IsHeaderOf 1 (as_header head) → head.kind ≡ kind.Directory → head.size < 65536 → FitsHeader head.kind head.links (head.size + 64)
+-- a directory with a slot more, where it has fewer than 1,024
+pub directory_grows : (d : ℕ) (head : Header) → IsHeaderOf d (as_header head) → head.kind ≡ kind.Directory → head.size < 65536 → FitsHeader head.kind head.links (head.size + 64)
 unfolding IsSize
-root_grows head fits dir free =
+directory_grows d head fits dir free =
     let whole : head.size % 64 ≡ 0 = fits.slots dir in
     record { links_few = fits.links; size_fits = subst (λ (k : Kind). IsSize 0 k (head.size + 64)) (sym dir) (omega (arith, whole), omega (arith, whole, free)) }
 
 -- and with one less
-pub root_shrinks : (head : Header) → IsHeaderOf 1 (as_header head) → head.kind ≡ kind.Directory → 64 ≤ head.size → FitsHeader head.kind head.links (head.size - 64)
+pub directory_shrinks : (d : ℕ) (head : Header) → IsHeaderOf d (as_header head) → head.kind ≡ kind.Directory → 64 ≤ head.size → FitsHeader head.kind head.links (head.size - 64)
 unfolding IsSize
-root_shrinks head fits dir some =
+directory_shrinks d head fits dir some =
     let sized : IsSize 0 kind.Directory head.size = subst (λ (k : Kind). IsSize 0 k head.size) dir fits.size in
     let whole = sized.0 in
     let most = sized.1 in

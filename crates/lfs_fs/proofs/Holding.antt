@@ -1,5 +1,5 @@
 -- What a mounted volume's log map is, how a volume that runs on is put together again after a call, and what an open leaves.
-use Rattle.std.proofs.Common.{◌≡◌, ◌≢◌, ◌⊎◌, ◌≤◌, ◌<◌, ◌^◌, ℕ, Bool, true, false, List, Option, Some, None, refl, sym, ◌∙◌, ap, subst, ⊎_elim}
+use Rattle.std.proofs.Common.{◌≡◌, ◌⊎◌, ◌≤◌, ◌<◌, ◌^◌, ℕ, true, false, List, Some, sym, ap, subst, ⊎_elim}
 use Rattle.lfs_model.specs.Call.{Handle}
 use Rattle.lfs_model.specs.Checkpoint.{CheckpointValue}
 use Rattle.lfs_model.specs.Device.{DeviceState}
@@ -7,7 +7,7 @@ use Rattle.lfs_model.specs.Entry.{Header}
 use Rattle.lfs_model.specs.Objects.{IsHeaderOf}
 use Rattle.lfs_model.specs.Sound.{IsFile}
 use Rattle.lfs_model.specs.Stands.{LogMap}
-use Rattle.lfs_model.specs.Tree.{Node, State, Tree, is_dir, least_handle, node}
+use Rattle.lfs_model.specs.Tree.{State, Tree, is_dir, least_handle, node}
 use Rattle.lfs_model.specs.TreeOf.{IsTree, dropped}
 use Rattle.lfs_model.specs.Walk.{At, Resolve}
 use Rattle.lfs_model.proofs.Committed.{dropped_tree}
@@ -17,8 +17,8 @@ use Rattle.lfs_model.proofs.ObjectNeeds.{laid_long}
 use Rattle.lfs_store.specs.Accepting.{HasClean, StoresOver}
 use Rattle.lfs_model.specs.Totals.{IsCounted}
 use Rattle.lfs_fs.specs.Handles.{handles_of}
-use Rattle.lfs_fs.specs.Volume.{IsIn, IsPlain, Mounted, Runs, segments_of}
-use Rattle.lfs_fs.proofs.Files.{IsMapOf, IsShaped, resolved_there, shape_of}
+use Rattle.lfs_fs.specs.Volume.{IsIn, Mounted, Runs, segments_of}
+use Rattle.lfs_fs.proofs.Files.{IsMapOf, IsShaped, shape_of}
 use Rattle.lfs_fs.proofs.PathSteps.{open_file, with_handle}
 
 -- ---- the log map of a volume
@@ -48,9 +48,9 @@ module _ {D : Type 0} (state : D → DeviceState) (old new : Mounted D) (k : Che
       (λ (e : next ≡ dropped m). subst (IsTree (segments_of old)) (sym e) (dropped_tree (segments_of old) m s is.log).tree)
       either
 
-  pub runs_over : (m' : LogMap) (next : State) → StoresOver state k.segments m0 m new.log new.saved m' → segments_of new ≡ segments_of old → IsMapOf (segments_of old) m' next → IsPlain next.tree
+  pub runs_over : (m' : LogMap) (next : State) → StoresOver state k.segments m0 m new.log new.saved m' → segments_of new ≡ segments_of old → IsMapOf (segments_of old) m' next
       → next.version ≡ 1 → next.handles ≡ handles_of new.table → IsCounted m' new.blocks new.others → (new.saved ≡ false → HasClean new.log × (new.log.number ≤ 2 ^ 62)) → Runs state new next
-  runs_over m' next over same map plain version handles counted ready = record {
+  runs_over m' next over same map version handles counted ready = record {
     checkpoint = over.checkpoint;
     saved = over.acknowledged;
     present = m';
@@ -58,7 +58,6 @@ module _ {D : Type 0} (state : D → DeviceState) (old new : Mounted D) (k : Che
       stores = over.stores;
       map = map.map;
       log = (subst (λ (n : ℕ). IsMapOf n m' next) (sym same) map).log;
-      plain = plain;
       version = version;
       handles = handles;
       counted = counted;
@@ -68,18 +67,6 @@ module _ {D : Type 0} (state : D → DeviceState) (old new : Mounted D) (k : Che
   }
 
 -- ---- open
-
--- what a walk comes to in a plain tree, besides the root, is a file
-pub walked_file : (N : ℕ) (m : LogMap) (s : State) → IsMapOf N m s → IsPlain s.tree → (p : List ℕ) (follow : Bool) (n : ℕ) → Resolve s.tree p follow (At n) → n ≢ 1 → IsFile (node s.tree n)
-walked_file N m s is plain p follow n walk other = by (node s.tree n) refl
-  where
-    by : (o : Option Node) → node s.tree n ≡ o → IsFile (node s.tree n)
-    by None none = absurd (resolved_there N s is.log.sound p follow n walk none)
-    by (Some x) there = let file = plain.files n x there other in (file.0, there ∙ ap Some file.1)
-
--- it is no directory
-pub file_no_dir : (t : Tree) (n : ℕ) → IsFile (node t n) → is_dir (node t n) ≡ false
-file_no_dir t n file = ap is_dir file.1
 
 -- a handle more leaves the log map
 pub opened_map : (N : ℕ) (m : LogMap) (s : State) → IsMapOf N m s → (p : List ℕ) (n : ℕ) (walk : Resolve s.tree p true (At n)) → is_dir (node s.tree n) ≡ false → least_handle s.handles < 64

@@ -74,7 +74,7 @@ module _ {D : Type 0} (state : D → DeviceState) (old new : Mounted D) (lawful 
         (λ e. cc)
 
   -- ---- a new file
-  module _ (p : List ℕ) (n : ℕ) (made : LogMap → LogMap) (head : Header) (size at : ℕ) (w : List ℕ) (drafts : DraftsFile state old c p n made head size at w) where
+  module _ (p : List ℕ) (d n : ℕ) (made : LogMap → LogMap) (head : Header) (size at : ℕ) (w : List ℕ) (drafts : DraftsFile state old c p d n made head size at w) where
     pub create_lacks : 47 * segments_of old < blocks + 7 * others + 720 → Serves state old new (Create p) (Refuse NoSpace)
     create_lacks lacks = served_still state old new (Create p) (Refuse NoSpace) lawful still was tt (λ q keeps here k m0 m is. (
         let before = kept keeps in
@@ -83,9 +83,9 @@ module _ {D : Type 0} (state : D → DeviceState) (old new : Mounted D) (lawful 
         let first = drafts.first k m0 m q.state before is in
         let absent = drafts.new_name k m0 m q.state before is in
         let does = drafts.does k m0 m q.state before is in
-        let log = created_log N m (made m) (staged c m) q.state map p walk n first drafts.top absent head size at w does in
+        let log = created_log N m (made m) (staged c m) q.state map p d walk n first drafts.top absent head size at w does in
         let step = create_full N m q.state map totals (shape_of_volume state old k m0 m q.state is) (staged c m) blocks others (drafted.counted k m0 m before is.stores.holds is.map log is.counted)
-        p walk (made m) n first drafts.top absent head size at w does drafts.named (drafts.short k m0 m q.state before is) drafts.plain (drafts.space k m0 m q.state before is)
+        p d walk (made m) n first drafts.top absent head size at w does drafts.named (drafts.short k m0 m q.state before is) drafts.plain (drafts.space k m0 m q.state before is)
         (subst (λ hs. least_handle hs < 64) (sym is.handles) drafts.some) lacks in
         inl (step, refused_not_worn N (Create p) q NoSpace q.state step refl)))
         (λ e. cc)
@@ -98,10 +98,10 @@ module _ {D : Type 0} (state : D → DeviceState) (old new : Mounted D) (lawful 
         let first = drafts.first k m0 m q.state before is in
         let absent = drafts.new_name k m0 m q.state before is in
         let does = drafts.does k m0 m q.state before is in
-        let log = created_log N m (made m) (staged c m) q.state map p walk n first drafts.top absent head size at w does in
-        past_last (Create p) q here high refl (Handle (least_handle q.state.handles)) (with_file N q.state p 1 walk)
+        let log = created_log N m (made m) (staged c m) q.state map p d walk n first drafts.top absent head size at w does in
+        past_last (Create p) q here high refl (Handle (least_handle q.state.handles)) (with_file N q.state p d walk)
         (create_step N m q.state map totals (shape_of_volume state old k m0 m q.state is) (staged c m) blocks others (drafted.counted k m0 m before is.stores.holds is.map log is.counted)
-        p walk (made m) n first drafts.top absent head size at w does drafts.named (drafts.short k m0 m q.state before is) drafts.plain (drafts.space k m0 m q.state before is)
+        p d walk (made m) n first drafts.top absent head size at w does drafts.named (drafts.short k m0 m q.state before is) drafts.plain (drafts.space k m0 m q.state before is)
         (subst (λ hs. least_handle hs < 64) (sym is.handles) drafts.some) room) refl))
         (λ e. cc)
 

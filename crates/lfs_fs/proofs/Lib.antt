@@ -13,7 +13,7 @@ mod Written
 mod Shortened
 mod Created
 mod Listed
-mod Rooted
+mod InDirectories
 mod Resized
 mod Headers
 mod RowFacts

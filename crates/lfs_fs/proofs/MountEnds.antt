@@ -141,7 +141,7 @@ module _ {D : Type 0} (state : D → DeviceState) (lawful : (d : D) → IsLawful
           point = point_of state (seen v) s;
           same = refl;
           running = found_running state d (seen v) after kept s is (lawful d).now;
-          at = found_at state d (seen v) after kept s is (lawful d).now plain closed
+          at = found_at state d (seen v) after kept s is (lawful d).now closed
               (totals is.log (reads.looks.carries.kept_before keeps) (found_log s is)) saved
               (subst (λ (x : Held D). Only (state d).content (state x.device)) (sym same) (durable_after durable keeps));
         })

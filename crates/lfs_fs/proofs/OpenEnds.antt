@@ -44,7 +44,7 @@ use Rattle.lfs_fs.proofs.Turning.{table_serves}
 dir_by : (m : LogMap) (k : Kind) (n : ℕ) (h : Header) → k ≡ kind.Directory → is_dir (Some (node_by m k n h)) ≡ true
 dir_by m k n h is = ap (λ (x : Kind). is_dir (Some (node_by m x n h))) is
 
-no_dir_by : (m : LogMap) (k : Kind) (n : ℕ) (h : Header) → k ≢ kind.Directory → is_dir (Some (node_by m k n h)) ≡ false
+pub no_dir_by : (m : LogMap) (k : Kind) (n : ℕ) (h : Header) → k ≢ kind.Directory → is_dir (Some (node_by m k n h)) ≡ false
 no_dir_by m kind.File n h other = refl
 no_dir_by m kind.Directory n h other = absurd (other refl)
 no_dir_by m kind.Link n h other = refl
@@ -74,7 +74,6 @@ module _ {D : Type 0} (state : D → DeviceState) (lawful : (d : D) → IsLawful
         let opened = table (λ e. omega (arith, e, low)) in record {
           next = with_handle (segments_of old) q.state p n walk;
           map = opened_map (segments_of old) m q.state map p n walk file few;
-          plain = is.plain;
           version = is.version;
           handles = ap (λ (x : ℕ). put nat_cmp x n q.state.handles) first_is ∙ ap (put nat_cmp h n) is.handles ∙ sym opened;
           steps = inl (

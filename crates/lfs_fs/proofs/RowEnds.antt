@@ -1,6 +1,8 @@
--- The rows of entries of the root, from what is told and read of their files.
-use Rattle.std.proofs.Common.{◌≡◌, ◌≢◌, ◌≤◌, ◌+◌, ◌-◌, ℕ, List, [], ◌∷◌, ◌++◌, Some, None, Result, Ok, Err, sym, ◌∙◌, ap, inl, inr, ⊎_elim, arith}
+-- The rows of entries of a directory, from what is told and read of what they give.
+use Rattle.std.proofs.Common.{◌≡◌, ◌≢◌, ◌≤◌, ◌+◌, ◌-◌, ℕ, List, [], ◌∷◌, ◌++◌, Some, None, Result, Ok, Err, sym, ◌∙◌, ap, subst, inl, inr, ⊎_elim, arith}
 use Rattle.std.specs.Prelude.{IfErr, OnOk, min}
+use Rattle.lfs_model.specs.declared.Kind.{Kind}
+use Rattle.lfs_model.specs.declared.Kind.TheVariants as kinds
 use Rattle.lfs_model.specs.Bytes.{part}
 use Rattle.lfs_model.specs.Call as call
 use Rattle.lfs_model.specs.Checkpoint.{CheckpointValue}
@@ -20,71 +22,81 @@ use Rattle.lfs_fs.specs.declared.error.FsError.TheVariants as error
 use Rattle.lfs_fs.specs.declared.fs.Fs.{Fs}
 use Rattle.lfs_fs.specs.declared.rows.Stat.{Stat}
 use Rattle.lfs_fs.specs.declared.rows.TreeRow.{TreeRow}
-use Rattle.lfs_fs.specs.Reading.{LacksBytes, LacksRow, ReadsFile, TellsRow, TellsStat, row_at}
+use Rattle.lfs_fs.specs.Reading.{LacksBytes, LacksRow, ReadsFile, ReadsHead, TellsRow, TellsStat, row_at}
 use Rattle.lfs_fs.specs.Seen.{OnlyReads, seen}
 use Rattle.lfs_fs.specs.Volume.{IsIn, segments_of}
 use Rattle.lfs_fs.proofs.Files.{no_header_none}
 use Rattle.lfs_fs.proofs.Holding.{headers_of_volume, map_of_volume}
-use Rattle.lfs_fs.proofs.RowFacts.{head_clipped, row_by}
+use Rattle.lfs_fs.proofs.RowFacts.{ShowsHead, head_clipped, row_by}
 
 module _ {D : Type 0} (state : D → DeviceState) where
-  module _ (old mid new : Fs D) (first : OnlyReads state old mid) (next : OnlyReads state mid new) (e : Entry) (stat : Stat) (out : List ℕ) (told : TellsStat state old mid e.number stat)
-      (read : ReadsFile state mid new e.number 0 16 out) (dir : ℕ) (dir_is : dir ≡ 1) where
+  module _ (old mid new : Fs D) (first : OnlyReads state old mid) (next : OnlyReads state mid new) (d : ℕ) (e : Entry) (stat : Stat) (out : List ℕ) (told : TellsStat state old mid e.number stat)
+      (read : ReadsHead state mid new e.number stat.kind out) (dir : ℕ) (dir_is : dir ≡ d) where
     abbrev row : call.TreeRow
     row = record { directory = dir; name = e.name.items; stat = record { number = stat.number; kind = stat.kind; links = stat.links; size = stat.size }; head = out }
 
     module _ (empty : IsNoChange old.store.draft.changes) (k : CheckpointValue) (m0 m : LogMap) (s : State) (keeps : (state new.store.log.device).keeps_model) (is : IsIn state (seen old) k m0 m s)
-        (found : entry_in s.tree 1 e.name.items ≡ Some e.number) where
+        (found : entry_in s.tree d e.name.items ≡ Some e.number) where
       staged_mid : staged mid.store.draft.changes m ≡ m
       staged_mid = ap (λ d. staged d.changes m) first.draft ∙ no_change old.store.draft.changes m empty
 
       there : m.header e.number ≡ Some (as_header told.head)
       there = ap (λ (x : LogMap). x.header e.number) (sym (no_change old.store.draft.changes m empty)) ∙ told.there k m0 m (next.still.reads.looks.carries.kept_before keeps) is.stores.holds
 
-      also : m.header e.number ≡ Some (as_header read.head)
-      also = ap (λ (x : LogMap). x.header e.number) (sym staged_mid) ∙ read.there k m0 m keeps (held_still state old.store.log mid.store.log k m0 m first.still.reads is.stores.holds)
+      -- so many bytes are read of it
+      module _ (count : ℕ) (file : ReadsFile state mid new e.number 0 count out) where
+        also : m.header e.number ≡ Some (as_header file.head)
+        also = ap (λ (x : LogMap). x.header e.number) (sym staged_mid) ∙ file.there k m0 m keeps (held_still state old.store.log mid.store.log k m0 m first.still.reads is.stores.holds)
 
-      same : as_header read.head ≡ as_header told.head
-      same = let both : Some (as_header read.head) ≡ Some (as_header told.head) = sym also ∙ there in cc
+        same : as_header file.head ≡ as_header told.head
+        same = let both : Some (as_header file.head) ≡ Some (as_header told.head) = sym also ∙ there in cc
 
-      size : read.head.size ≡ told.head.size
-      size = ap (λ (x : entry.Header). x.size) same
+        size : file.head.size ≡ told.head.size
+        size = ap (λ (x : entry.Header). x.size) same
 
-      from_start : min 0 read.head.size ≡ 0
-      from_start = omega arith
+        from_start : min 0 file.head.size ≡ 0
+        from_start = omega arith
 
-      so_many : min (0 + 16) read.head.size - min 0 read.head.size ≡ min 16 told.head.size
-      so_many = omega (arith, size)
+        so_many : min (0 + count) file.head.size - min 0 file.head.size ≡ min count told.head.size
+        so_many = omega (arith, size)
 
-      head_is : out ≡ part (object m e.number (as_header told.head)) 0 16
-      head_is =
-          read.bytes k m0 m keeps (held_still state old.store.log mid.store.log k m0 m first.still.reads is.stores.holds)
-          ∙ (λ i. part (object (staged_mid i) e.number (same i)) (from_start i) (so_many i))
-          ∙ head_clipped m e.number (as_header told.head)
+        bytes_are : out ≡ part (object m e.number (as_header told.head)) 0 count
+        bytes_are =
+            file.bytes k m0 m keeps (held_still state old.store.log mid.store.log k m0 m first.still.reads is.stores.holds)
+            ∙ (λ i. part (object (staged_mid i) e.number (same i)) (from_start i) (so_many i))
+            ∙ head_clipped m e.number (as_header told.head) count
 
-      pub row_is : row ≡ row_at s.tree (pair e)
+      shown_by : (k : Kind) → ReadsHead state mid new e.number k out → ShowsHead m e.number (as_header told.head) k out
+      shown_by kinds.File file = bytes_are 16 file
+      shown_by kinds.Directory none = none
+      shown_by kinds.Link file = bytes_are 1023 file
+
+      shown : ShowsHead m e.number (as_header told.head) told.head.kind out
+      shown = shown_by told.head.kind (subst (λ (x : Kind). ReadsHead state mid new e.number x out) told.kind read)
+
+      pub row_is : row ≡ row_at s.tree d (pair e)
       row_is =
-          (λ i. record { directory = dir_is i; name = e.name.items; stat = record { number = told.number i; kind = told.kind i; links = told.links i; size = told.size i }; head = head_is i })
-          ∙ sym (row_by (segments_of (seen old)) m s (map_of_volume state (seen old) k m0 m s is) is.plain e.name.items e.number found told.head there (headers_of_volume state (seen old) k m0 m s is e.number (as_header told.head) there))
+          (λ i. record { directory = dir_is i; name = e.name.items; stat = record { number = told.number i; kind = told.kind i; links = told.links i; size = told.size i }; head = out })
+          ∙ sym (row_by (segments_of (seen old)) m s (map_of_volume state (seen old) k m0 m s is) e.number told.head there (headers_of_volume state (seen old) k m0 m s is e.number (as_header told.head) there) d e.name.items out shown)
 
-  -- a name of the root gives an object
-  named_there : (v : Fs D) (k : CheckpointValue) (m0 m : LogMap) (s : State) → IsIn state (seen v) k m0 m s → (e : Entry) → entry_in s.tree 1 e.name.items ≡ Some e.number → (e.number ≤ 4095) × (m.header e.number ≢ None)
-  named_there v k m0 m s is e found =
-      let there = is.log.sound.named 1 e.name.items e.number found in
+  -- a name gives an object
+  named_there : (v : Fs D) (k : CheckpointValue) (m0 m : LogMap) (s : State) → IsIn state (seen v) k m0 m s → (d : ℕ) (e : Entry) → entry_in s.tree d e.name.items ≡ Some e.number → (e.number ≤ 4095) × (m.header e.number ≢ None)
+  named_there v k m0 m s is d e found =
+      let there = is.log.sound.named d e.name.items e.number found in
       ((is.log.sound.numbers e.number there).1, λ none. there (no_header_none (segments_of (seen v)) m s is.log e.number none))
 
-  pub lacks_row : (old new : Fs D) (e : Entry) (fault : FsError) → LacksBytes state old new e.number fault → LacksRow state old new e fault
-  lacks_row old new e fault lacks = ⊎_elim
+  pub lacks_row : (old new : Fs D) (d : ℕ) (e : Entry) (fault : FsError) → LacksBytes state old new e.number fault → LacksRow state old new d e fault
+  lacks_row old new d e fault lacks = ⊎_elim
       (λ memory. inl memory)
       (λ object. ⊎_elim
-      (λ past. inr (inr (past.0, λ empty k m0 m s keeps is found. absurd (let few = (named_there old k m0 m s is e found).0 in let many = past.1 in omega (arith, few, many)))))
+      (λ past. inr (inr (past.0, λ empty k m0 m s keeps is found. absurd (let few = (named_there old k m0 m s is d e found).0 in let many = past.1 in omega (arith, few, many)))))
       (λ header. ⊎_elim
       (λ halted. inr (inl halted))
       (λ failed. inr (inr (
         failed.0,
         λ empty k m0 m s keeps is found. ⊎_elim
             (λ rose. rose)
-            (λ none. absurd ((named_there old k m0 m s is e found).1 (ap (λ (x : LogMap). x.header e.number) (sym (no_change old.store.draft.changes m empty)) ∙ none)))
+            (λ none. absurd ((named_there old k m0 m s is d e found).1 (ap (λ (x : LogMap). x.header e.number) (sym (no_change old.store.draft.changes m empty)) ∙ none)))
             (failed.1 k m0 m keeps is.stores.holds),
       )))
       header)
@@ -92,11 +104,11 @@ module _ {D : Type 0} (state : D → DeviceState) where
       lacks
 
   -- ---- put behind others
-  pub put_tells : (old new : Fs D) (e : Entry) (row : TreeRow) (was now : List TreeRow) (r : Result (Unit {0}) FsError) → OnOk r (now ≡ was ++ row ∷ []) → TellsRow state old new e row
-      → OnOk r ((x : TreeRow) × (now ≡ was ++ x ∷ []) × TellsRow state old new e x)
-  put_tells old new e row was now (Ok u) put tells = (row, put, tells)
-  put_tells old new e row was now (Err f) put tells = tt
+  pub put_tells : (old new : Fs D) (d : ℕ) (e : Entry) (one : TreeRow) (was now : List TreeRow) (r : Result (Unit {0}) FsError) → OnOk r (now ≡ was ++ one ∷ []) → TellsRow state old new d e one
+      → OnOk r ((x : TreeRow) × (now ≡ was ++ x ∷ []) × TellsRow state old new d e x)
+  put_tells old new d e one was now (Ok u) put tells = (one, put, tells)
+  put_tells old new d e one was now (Err f) put tells = tt
 
-  pub put_lacks : (old new : Fs D) (e : Entry) (r : Result (Unit {0}) FsError) → IfErr r (λ fault. fault ≡ error.NoMemory) → IfErr r (λ fault. LacksRow state old new e fault)
-  put_lacks old new e (Ok u) fault = tt
-  put_lacks old new e (Err f) fault = inl fault
+  pub put_lacks : (old new : Fs D) (d : ℕ) (e : Entry) (r : Result (Unit {0}) FsError) → IfErr r (λ fault. fault ≡ error.NoMemory) → IfErr r (λ fault. LacksRow state old new d e fault)
+  put_lacks old new d e (Ok u) fault = tt
+  put_lacks old new d e (Err f) fault = inl fault

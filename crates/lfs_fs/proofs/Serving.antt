@@ -47,7 +47,6 @@ module _ {D : Type 0} (state : D → DeviceState) where
     };
     map = is.map;
     log = subst (λ (n : ℕ). IsLogOf n m s) same is.log;
-    plain = is.plain;
     version = is.version;
     handles = is.handles ∙ ap handles_of (sym still.table);
     counted = record { stored = still.blocks ∙ is.counted.stored; above = still.others ∙ is.counted.above };

@@ -1,7 +1,6 @@
 -- Calls on files are calls on a store.
-use Rattle.std.proofs.Common.{◌≡◌, ◌<◌, ℕ, List, Option, Some, None, refl, ◌∙◌, ap, subst}
+use Rattle.std.proofs.Common.{◌≡◌, ◌<◌, ℕ, List, Option, Some, None, refl, sym, ◌∙◌, ap, subst}
 use Rattle.std.specs.FinMap.{find}
-use Rattle.std.specs.Prelude.{MatchOption}
 use Rattle.lfs_model.specs.Device.{DeviceState}
 use Rattle.lfs_model.specs.Objects.{IsDirectory}
 use Rattle.lfs_model.specs.Refusal as model
@@ -9,7 +8,7 @@ use Rattle.lfs_model.specs.Refusal.{Refusal}
 use Rattle.lfs_model.specs.Stands.{LogMap}
 use Rattle.lfs_model.specs.Tree.{Tree, byte_cmp}
 use Rattle.lfs_model.specs.TreeOf.{tree_in}
-use Rattle.lfs_model.specs.Walk.{End, Refused}
+use Rattle.lfs_model.specs.Walk.{At, End, Refused}
 use Rattle.lfs_files.specs.declared.header.Header.{Header}
 use Rattle.lfs_files.specs.Files as files
 use Rattle.lfs_files.specs.Files.{Counted, WritesFile}
@@ -21,20 +20,18 @@ use Rattle.lfs_store.specs.memory.Batch.{staged}
 use Rattle.lfs_store.specs.Recounting.{Counts}
 use Rattle.lfs_store.specs.Seen.{StagedLog}
 use Rattle.lfs_store.proofs.LogReads.{held_still}
-use Rattle.lfs_path.specs.declared.fault.PathFault.{PathFault}
-use Rattle.lfs_path.specs.Refusals.{refusal_of}
 use Rattle.lfs_path.specs.declared.walk_fault.WalkFault.{WalkFault}
 use Rattle.lfs_path.specs.declared.walk_fault.WalkFault.TheVariants as walk
-use Rattle.lfs_path.specs.Telling.{Refuses}
-use Rattle.lfs_path.specs.Trees.{HasTree}
-use Rattle.lfs_path.specs.Walking as walking
+use Rattle.lfs_path.specs.Reaching.{EndsParent, IsParent}
+use Rattle.lfs_path.specs.Telling.{Refuses, Tells}
+use Rattle.lfs_path.specs.Trees.{HasTree, here}
 use Rattle.lfs_path.specs.dirs.Adding as adding
 use Rattle.lfs_path.specs.dirs.Adding.{AddsName, grown, slot_for}
 use Rattle.lfs_path.specs.dirs.Directory.{names_at}
 use Rattle.lfs_fs.specs.declared.fs.Fs.{Fs}
 use Rattle.lfs_fs.specs.Seen.{seen}
 use Rattle.lfs_fs.specs.Volume.{IsStill}
-use Rattle.lfs_fs.specs.Drafted.{Adds, EachDrafted, EndsRefused, FlatEndsRefused, FlatWalksTo, IsPathFault, files_of}
+use Rattle.lfs_fs.specs.Drafted.{Adds, EachDrafted, EndsRefused, WalksTo, files_of}
 
 -- two numbers as totals
 abbrev totals_of : Counted → BlockTotals
@@ -81,13 +78,9 @@ module _ {D : Type 0} (state : D → DeviceState) (a b : Store D) where
       by walk.NoMemory ends = tt
       by (walk.Log fault) ends = each (λ m. (state a.log.device).failures < (state b.log.device).failures) ends
 
-  pub flat_ends_refused : (W : Tree → End → Type 0) (fault : PathFault) → walking.EndsRefused (files_of state a) (files_of state b) W fault → FlatEndsRefused state a.log b.log a.draft.changes W fault
-  flat_ends_refused W fault = by (refusal_of fault)
-    where
-      by : (o : Option Refusal) → MatchOption o (walking.IsPathFault (files_of state a) (files_of state b)) (λ r. walking.WalksTo (files_of state a) (files_of state b) W (Refused r))
-          → MatchOption o (IsPathFault state a.log b.log a.draft.changes) (λ r. FlatWalksTo state a.log b.log a.draft.changes W (Refused r))
-      by None failed = λ k m0 m keeps holds. failed m (staged a.draft.changes m) keeps record { checkpoint = k; acknowledged = m0; holds = holds; draft = refl }
-      by (Some r) ends = λ k m0 m keeps holds. ends m (staged a.draft.changes m) keeps record { checkpoint = k; acknowledged = m0; holds = holds; draft = refl }
+  pub ends_parent : (path chain : List ℕ) (d : ℕ) → d ≡ here chain → Tells (files_of state a) (files_of state b) HasTree (IsParent path chain) → WalksTo state a.log b.log a.draft.changes (EndsParent path) (At d)
+  ends_parent path chain d same tells k m0 m keeps holds tree = subst (λ (n : ℕ). EndsParent path (tree_in (staged a.draft.changes m)) (At n)) (sym same)
+      (tells m (staged a.draft.changes m) keeps record { checkpoint = k; acknowledged = m0; holds = holds; draft = refl } tree).ends
 
   -- ---- calls that change the draft
   module _ (redrafts : files.Redrafts (files_of state a) (files_of state b)) where

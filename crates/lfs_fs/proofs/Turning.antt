@@ -15,7 +15,7 @@ use Rattle.lfs_store.specs.memory.declared.memory.LogMemory.{LogMemory}
 use Rattle.lfs_store.specs.memory.Present.{Looks}
 use Rattle.lfs_store.specs.log.Held.{Reads}
 use Rattle.lfs_fs.specs.Handles.{handles_of}
-use Rattle.lfs_fs.specs.Volume.{IsPlain, IsStill, IsAt, IsIn, Mounted, Serves, changes_handles, segments_of}
+use Rattle.lfs_fs.specs.Volume.{IsStill, IsAt, IsIn, Mounted, Serves, changes_handles, segments_of}
 use Rattle.lfs_fs.proofs.Behaving.{ok_refuses_none, opens_behaves}
 use Rattle.lfs_fs.proofs.Ending.{runs_on}
 use Rattle.lfs_fs.proofs.Files.{IsMapOf}
@@ -46,7 +46,6 @@ module _ {D : Type 0} (state : D → DeviceState) (old new : Mounted D) (lawful 
     pub record Turns (p : Point) (m : LogMap) : Type 0 where
       pub next : State
       pub map : IsMapOf (segments_of old) m next
-      pub plain : IsPlain next.tree
       pub version : next.version ≡ 1
       pub handles : next.handles ≡ handles_of new.table
       pub steps : StepsOr (segments_of old) call p a (point_of state new next)
@@ -66,7 +65,6 @@ module _ {D : Type 0} (state : D → DeviceState) (old new : Mounted D) (lawful 
               stores = now.stores;
               map = now.map;
               log = (subst (λ (l : ℕ). IsMapOf l m turns.next) (sym segments_same) turns.map).log;
-              plain = turns.plain;
               version = turns.version;
               handles = turns.handles;
               counted = now.counted;

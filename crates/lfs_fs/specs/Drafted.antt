@@ -1,5 +1,5 @@
 -- What calls on files tell of a store: of each log map that its log holds, with the draft.
-use Rattle.std.specs.Prelude.{◌≡◌, ◌<◌, ℕ, List, Option, None, MatchOption}
+use Rattle.std.specs.Prelude.{◌≡◌, ◌<◌, ℕ, List, Option, None}
 use Rattle.std.specs.FinMap.{find}
 use Rattle.lfs_model.specs.Checkpoint.{CheckpointValue}
 use Rattle.lfs_model.specs.Device.{DeviceState}
@@ -18,9 +18,6 @@ use Rattle.lfs_store.specs.memory.Batch.{FitsBatch, staged}
 use Rattle.lfs_store.specs.memory.declared.changes.Changes.{Changes}
 use Rattle.lfs_store.specs.Seen.{StagedLog, state_of}
 use Rattle.lfs_store.specs.Writing.{TakesWrite}
-use Rattle.lfs_path.specs.declared.fault.PathFault.{PathFault}
-use Rattle.lfs_path.specs.Refusals.{refusal_of}
-use Rattle.lfs_path.specs.Walking.{HasFlatTree}
 use Rattle.lfs_path.specs.declared.walk_fault.WalkFault.{WalkFault}
 use Rattle.lfs_path.specs.Telling.{ByFault}
 use Rattle.lfs_path.specs.Trees.{HasTree}
@@ -67,16 +64,6 @@ module _ {D : Type 0} (state : D → DeviceState) where
 
   abbrev pub EndsRefused : Held D → Held D → Changes → (Tree → End → Type 0) → WalkFault → Type 0
   EndsRefused h h' c W fault = ByFault fault (FailsWalk h h' c) (λ r. WalksTo h h' c W (Refused r))
-
-  -- the same of trees whose only directory is the root
-  abbrev pub FlatWalksTo : Held D → Held D → Changes → (Tree → End → Type 0) → End → Type 0
-  FlatWalksTo h h' c W e = EachDrafted h h' c (λ m. HasFlatTree m → W (tree_in m) e)
-
-  abbrev pub IsPathFault : Held D → Held D → Changes → Type 0
-  IsPathFault h h' c = EachDrafted h h' c (λ m. HasFlatTree m → (state h.device).failures < (state h'.device).failures)
-
-  abbrev pub FlatEndsRefused : Held D → Held D → Changes → (Tree → End → Type 0) → PathFault → Type 0
-  FlatEndsRefused h h' c W fault = MatchOption (refusal_of fault) (IsPathFault h h' c) (λ r. FlatWalksTo h h' c W (Refused r))
 
   -- A name is drafted into directory d.
   pub record Adds (h h' : Held D) (c c' : Changes) (d : ℕ) (head : Header) (n : ℕ) (name : List ℕ) : Type 0 where

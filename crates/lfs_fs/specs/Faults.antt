@@ -3,8 +3,6 @@ use Rattle.lfs_files.specs.declared.fault.LogFault.{LogFault}
 use Rattle.lfs_files.specs.declared.fault.LogFault.TheVariants as log
 use Rattle.lfs_files.specs.declared.fault.StoreFault.{StoreFault}
 use Rattle.lfs_files.specs.declared.fault.StoreFault.TheVariants as store
-use Rattle.lfs_path.specs.declared.fault.PathFault.{PathFault}
-use Rattle.lfs_path.specs.declared.fault.PathFault.TheVariants as path
 use Rattle.lfs_path.specs.declared.walk_fault.WalkFault.{WalkFault}
 use Rattle.lfs_path.specs.declared.walk_fault.WalkFault.TheVariants as walk
 use Rattle.lfs_fs.specs.declared.error.FsError.{FsError}
@@ -18,13 +16,6 @@ error_of_log log.Full = error.Stuck
 abbrev pub error_of_store : StoreFault → FsError
 error_of_store store.NoMemory = error.NoMemory
 error_of_store (store.Log fault) = error_of_log fault
-
-abbrev pub error_of_path : PathFault → FsError
-error_of_path path.NoEntry = error.NoEntry
-error_of_path path.NotDir = error.NotDir
-error_of_path path.NameTooLong = error.NameTooLong
-error_of_path path.Inval = error.Inval
-error_of_path (path.Log fault) = error_of_log fault
 
 abbrev pub error_of_walk : WalkFault → FsError
 error_of_walk walk.NoEntry = error.NoEntry

@@ -140,12 +140,11 @@ module _ {D : Type 0} (state : D → DeviceState) where
   abbrev pub MakesNone : Fs D → Fs D → ℕ → Header → ℕ → List ℕ → FsError → Type 0
   MakesNone old new d head n name fault = TurnsFile old new d head n name fault ⊎ (IsStill state (seen old) (seen new) × DraftsNone old new fault)
 
-  -- A call that makes a file began at volume v, read, and came to the directory of a path's last piece, the root.
+  -- A call that makes a file began at volume v, read, and came to directory d, where a path's last piece stands.
   pub record Reaches (v : Mounted D) (old : Fs D) (path : List ℕ) (d : ℕ) (piece : Option Last) : Type 0 where
     pub still : IsStill state v (seen old)
     pub empty : IsNoChange old.store.draft.changes
     pub drafted : old.store.drafted ≡ old.store.log.totals
     pub bytes : AreBytes path
-    pub root : d ≡ 1
     pub last : HasLast path piece
-    pub walk : (k : CheckpointValue) (m0 m : LogMap) (s : State) → (state old.store.log.device).keeps_model → IsIn state v k m0 m s → Parent s.tree path (At 1)
+    pub walk : (k : CheckpointValue) (m0 m : LogMap) (s : State) → (state old.store.log.device).keeps_model → IsIn state v k m0 m s → Parent s.tree path (At d)

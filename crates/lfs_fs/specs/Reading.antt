@@ -1,12 +1,14 @@
 -- What the calls that read get of an object of a volume, and why they get nothing.
-use Rattle.std.specs.Prelude.{◌≡◌, ◌⊎◌, ◌<◌, ◌+◌, ◌-◌, ℕ, true, List, [], ◌∷◌, map, min, Some}
+use Rattle.std.specs.Prelude.{◌≡◌, ◌⊎◌, ◌<◌, ◌+◌, ◌-◌, ℕ, zero, suc, true, List, [], ◌∷◌, ◌++◌, map, min, Some}
+use Rattle.lfs_model.specs.declared.Kind.{Kind}
+use Rattle.lfs_model.specs.declared.Kind.TheVariants as kinds
 use Rattle.lfs_model.specs.Bytes.{part}
 use Rattle.lfs_model.specs.Checkpoint.{CheckpointValue}
 use Rattle.lfs_model.specs.Device.{DeviceState}
 use Rattle.lfs_model.specs.Call as call
 use Rattle.lfs_model.specs.Stands.{LogMap}
-use Rattle.lfs_model.specs.Step.{head_of, stat_of, the_node}
-use Rattle.lfs_model.specs.Tree.{State, Tree, entry}
+use Rattle.lfs_model.specs.Step.{head_of, rows_of, stat_of, the_node}
+use Rattle.lfs_model.specs.Tree.{State, Tree, entry, names_in}
 use Rattle.lfs_model.specs.TreeOf.{object}
 use Rattle.lfs_store.specs.log.Held.{Holds}
 use Rattle.lfs_files.specs.declared.header.Header.{Header}
@@ -23,14 +25,32 @@ use Rattle.lfs_fs.specs.Answers.{row_of}
 use Rattle.lfs_fs.specs.Seen.{HasHeader, LacksHeader, seen}
 use Rattle.lfs_fs.specs.Volume.{IsIn}
 
--- the model's row of an entry of the root
-abbrev pub row_at : Tree → List ℕ × ℕ → call.TreeRow
-row_at t e = record { directory = 1; name = e.0; stat = stat_of t e.1; head = head_of (the_node t e.1) }
+-- the model's row of an entry of directory d
+abbrev pub row_at : Tree → ℕ → List ℕ × ℕ → call.TreeRow
+row_at t d e = record {
+  directory = d;
+  name = e.0;
+  stat = stat_of t e.1;
+  head = head_of (the_node t e.1);
+}
 
--- entries are names of the root
-abbrev pub AreNames : Tree → List Entry → Type 0
-AreNames t [] = Unit {0}
-AreNames t (e ∷ es) = (entry t 1 e.name.items ≡ Some e.number) × AreNames t es
+-- the rows of directory d; none where no directory is
+abbrev pub rows_at : Tree → ℕ → List call.TreeRow
+rows_at t d = map (row_at t d) (names_in t d)
+
+-- the rows of the count numbers from a on
+unfoldable pub rows_from : Tree → ℕ → ℕ → List call.TreeRow
+rows_from t zero a = []
+rows_from t (suc count) a = rows_at t a ++ rows_from t count (a + 1)
+
+-- number d has this header, which is a directory's
+abbrev pub HasDirectory : LogMap → ℕ → Header → Type 0
+HasDirectory m d head = (m.header d ≡ Some (as_header head)) × (head.kind ≡ kinds.Directory)
+
+-- entries are names of directory d
+abbrev pub AreNames : Tree → ℕ → List Entry → Type 0
+AreNames t d [] = Unit {0}
+AreNames t d (e ∷ es) = (entry t d e.name.items ≡ Some e.number) × AreNames t d es
 
 module _ {D : Type 0} (state : D → DeviceState) where
   -- The bytes of object n from a place on, at most so many.
@@ -57,23 +77,60 @@ module _ {D : Type 0} (state : D → DeviceState) where
   abbrev pub LacksBytes : Fs D → Fs D → ℕ → FsError → Type 0
   LacksBytes old new n fault = (fault ≡ error.NoMemory) ⊎ LacksObject old new n fault
 
-  -- What holds of each state that the volume may be in, where nothing is drafted.
-  abbrev pub Undrafted : Fs D → Fs D → (State → Type 0) → Type 0
-  Undrafted old new P = IsNoChange old.store.draft.changes → (k : CheckpointValue) (m0 m : LogMap) (s : State) → (state new.store.log.device).keeps_model → IsIn state (seen old) k m0 m s → P s
+  -- What holds of each log map and state that the volume may be in, where nothing is drafted.
+  abbrev pub UndraftedMap : Fs D → Fs D → (LogMap → State → Type 0) → Type 0
+  UndraftedMap old new P = IsNoChange old.store.draft.changes
+      → (k : CheckpointValue) (m0 m : LogMap) (s : State)
+      → (state new.store.log.device).keeps_model → IsIn state (seen old) k m0 m s → P m s
 
-  -- the row of a name of the root
-  abbrev pub TellsRow : Fs D → Fs D → Entry → TreeRow → Type 0
-  TellsRow old new e row = Undrafted old new (λ s. entry s.tree 1 e.name.items ≡ Some e.number → row_of row ≡ row_at s.tree (pair e))
+  -- the same of each state
+  abbrev pub Undrafted : Fs D → Fs D → (State → Type 0) → Type 0
+  Undrafted old new P = UndraftedMap old new (λ m s. P s)
+
+  -- the first bytes of an object of this kind: of a link all of its text, of a directory none
+  abbrev pub ReadsHead : Fs D → Fs D → ℕ → Kind → List ℕ → Type 0
+  ReadsHead old new n kinds.File out = ReadsFile old new n 0 16 out
+  ReadsHead old new n kinds.Directory out = out ≡ []
+  ReadsHead old new n kinds.Link out = ReadsFile old new n 0 1023 out
+
+  -- the row of a name of directory d
+  abbrev pub TellsRow : Fs D → Fs D → ℕ → Entry → TreeRow → Type 0
+  TellsRow old new d e row = Undrafted old new (λ s. entry s.tree d e.name.items ≡ Some e.number
+      → row_of row ≡ row_at s.tree d (pair e))
 
   -- the rows of such names
-  abbrev pub TellsRows : Fs D → Fs D → List Entry → List TreeRow → Type 0
-  TellsRows old new es rows = Undrafted old new (λ s. AreNames s.tree es → map row_of rows ≡ map (row_at s.tree) (pairs es))
+  abbrev pub TellsRows : Fs D → Fs D → ℕ → List Entry → List TreeRow → Type 0
+  TellsRows old new d es rows = Undrafted old new (λ s. AreNames s.tree d es
+      → map row_of rows ≡ map (row_at s.tree d) (pairs es))
 
-  -- why there is none: memory was refused, a commit failed, or a call of the device did
-  abbrev pub LacksRow : Fs D → Fs D → Entry → FsError → Type 0
-  LacksRow old new e fault = (fault ≡ error.NoMemory) ⊎ (((fault ≡ error.Halted) × (old.store.log.halted ≡ true))
-      ⊎ ((fault ≡ error.Device) × Undrafted old new (λ s. entry s.tree 1 e.name.items ≡ Some e.number → (state old.store.log.device).failures < (state new.store.log.device).failures)))
+  -- the rows of all names of directory d, which has this header
+  abbrev pub TellsDirectory : Fs D → Fs D → ℕ → Header → List TreeRow → Type 0
+  TellsDirectory old new d head rows = UndraftedMap old new (λ m s. HasDirectory m d head
+      → map row_of rows ≡ rows_at s.tree d)
 
-  abbrev pub LacksRows : Fs D → Fs D → List Entry → FsError → Type 0
-  LacksRows old new es fault = (fault ≡ error.NoMemory) ⊎ (((fault ≡ error.Halted) × (old.store.log.halted ≡ true))
-      ⊎ ((fault ≡ error.Device) × Undrafted old new (λ s. AreNames s.tree es → (state old.store.log.device).failures < (state new.store.log.device).failures)))
+  -- the rows of all names of what stands at number d
+  abbrev pub TellsNames : Fs D → Fs D → ℕ → List TreeRow → Type 0
+  TellsNames old new d rows = Undrafted old new (λ s. map row_of rows ≡ rows_at s.tree d)
+
+  -- the rows of the tree
+  abbrev pub TellsTree : Fs D → Fs D → List TreeRow → Type 0
+  TellsTree old new rows = Undrafted old new (λ s. map row_of rows ≡ rows_of s.tree)
+
+  -- why there is none: memory was refused, a commit failed, or, where this is so of a state, a call of the device did
+  abbrev pub LacksWhere : Fs D → Fs D → (LogMap → State → Type 0) → FsError → Type 0
+  LacksWhere old new P fault = (fault ≡ error.NoMemory)
+      ⊎ (((fault ≡ error.Halted) × (old.store.log.halted ≡ true))
+      ⊎ ((fault ≡ error.Device) × UndraftedMap old new (λ m s. P m s
+      → (state old.store.log.device).failures < (state new.store.log.device).failures)))
+
+  abbrev pub LacksRow : Fs D → Fs D → ℕ → Entry → FsError → Type 0
+  LacksRow old new d e = LacksWhere old new (λ m s. entry s.tree d e.name.items ≡ Some e.number)
+
+  abbrev pub LacksRows : Fs D → Fs D → ℕ → List Entry → FsError → Type 0
+  LacksRows old new d es = LacksWhere old new (λ m s. AreNames s.tree d es)
+
+  abbrev pub LacksDirectory : Fs D → Fs D → ℕ → Header → FsError → Type 0
+  LacksDirectory old new d head = LacksWhere old new (λ m s. HasDirectory m d head)
+
+  abbrev pub LacksNames : Fs D → Fs D → FsError → Type 0
+  LacksNames old new = LacksWhere old new (λ m s. Unit {0})

@@ -39,7 +39,7 @@ changes_handles (Create p) = true
 changes_handles (Close h) = true
 changes_handles _ = false
 
--- The tree is the root and files in it: what the calls that are built make.
+-- The tree is the root and files in it: what a mount takes.
 pub record IsPlain (t : Tree) : Type 0 where
   pub names : Names
   pub root : node t 1 ≡ Some (Dir 0 names)
@@ -51,7 +51,6 @@ module _ {D : Type 0} (state : D → DeviceState) where
     pub stores : Stores state v.log v.saved k m0 m
     pub map : IsLogMap m
     pub log : IsLogOf (segments_of v) m s
-    pub plain : IsPlain s.tree
     pub version : s.version ≡ 1
     pub handles : s.handles ≡ handles_of v.table
     pub counted : IsCounted m v.blocks v.others

@@ -2,9 +2,9 @@
 ghost use Rattle.std.specs.Prelude.{◌≡◌};
 ghost use Rattle.lfs_model.specs.Script.{refusal_name};
 ghost use Rattle.lfs_fs.specs.Refusals.{refusal_of};
-ghost use Rattle.lfs_fs.specs.Faults.{error_of_log, error_of_store, error_of_path, error_of_walk};
+ghost use Rattle.lfs_fs.specs.Faults.{error_of_log, error_of_store, error_of_walk};
 
-use lfs_path::{PathFault, WalkFault};
+use lfs_path::WalkFault;
 use lfs_store::{LogFault, StoreFault};
 use std::alloc::AllocError;
 
@@ -115,20 +115,6 @@ impl From<StoreFault> for FsError {
         match fault {
             StoreFault::NoMemory => FsError::NoMemory,
             StoreFault::Log(fault) => FsError::from(fault),
-        }
-    }
-}
-
-impl From<PathFault> for FsError {
-    fn from(fault: PathFault) -> FsError
-        ensures { result ≡ error_of_path fault }
-    {
-        match fault {
-            PathFault::NoEntry => FsError::NoEntry,
-            PathFault::NotDir => FsError::NotDir,
-            PathFault::NameTooLong => FsError::NameTooLong,
-            PathFault::Inval => FsError::Inval,
-            PathFault::Log(fault) => FsError::from(fault),
         }
     }
 }

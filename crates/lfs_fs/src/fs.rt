@@ -4,7 +4,7 @@ ghost use Rattle.std.specs.FinMap.{find};
 ghost use Rattle.std.specs.Ordering.{nat_cmp};
 ghost use Rattle.lfs_fs.specs.Handles.{handles_of};
 ghost use Rattle.lfs_fs.specs.Accepting.{Stages, TurnsDown};
-ghost use Rattle.lfs_fs.specs.Seen.{Begins, OnlyReads, GivesNone, HasHeader, LacksHeader};
+ghost use Rattle.lfs_fs.specs.Seen.{Begins, FindsHeader, OnlyReads, GivesNone, HasHeader, LacksAnswer, LacksHeader};
 
 use crate::error::FsError;
 use crate::handles::Handles;
@@ -58,6 +58,21 @@ impl<D: SectorDevice> Fs<D> {
                 Ok(number)
             }
             None => Err(FsError::BadHandle),
+        }
+    }
+
+    /// The header of what stands at a number, if something does.
+    pub(crate) fn find_header(&mut self, number: u16) -> Result<Option<Header>, FsError>
+        requires { number < 4096 }
+        ensures reads { OnlyReads D.SectorDevice.state self.old self.new }
+        ensures answer { IfOk result (λ found. FindsHeader D.SectorDevice.state self.old self.new
+            number found) }
+        ensures missing { IfErr result (λ fault. LacksAnswer D.SectorDevice.state self.old self.new
+            fault) }
+    {
+        match self.store.header(number) {
+            Ok(found) => Ok(found),
+            Err(fault) => Err(FsError::from(fault)),
         }
     }
 

@@ -11,10 +11,10 @@ use crate::fs::Fs;
 use lfs_device::SectorDevice;
 use lfs_layout::is_name;
 use lfs_model::Kind;
+use lfs_path::Last;
 use lfs_path::dirs::{add, find};
 use lfs_path::text::is_dots;
-use lfs_path::tree::resolve;
-use lfs_path::{Last, Place, parent};
+use lfs_path::tree::{parent, resolve};
 use lfs_store::Header;
 
 /// The most bytes of a name.
@@ -75,25 +75,28 @@ impl<D: SectorDevice> Fs<D> {
             Ok(()) => {}
             Err(fault) => return Err(fault),
         }
-        match parent(&mut self.store, path) {
-            Ok(place) => self.create_at(place),
+        match parent(self.alloc, &mut self.store, path) {
+            Ok(place) => self.create_at(place.chain.directory(), place.last),
             Err(fault) => Err(FsError::from(fault)),
         }
     }
 
-    /// Makes an empty file under the last piece of a path.
-    fn create_at(&mut self, place: Place<'_>) -> Result<u32, FsError>
-        requires some { 1 ≤ place.directory }
-        requires few { place.directory ≤ 4095 }
+    /// Makes an empty file under the last piece of a path, which stands in this directory.
+    fn create_at(&mut self, directory: u16, last: Option<Last<'_>>) -> Result<u32, FsError>
+        requires few { directory ≤ 4095 }
         requires running { self.old.store.log.halted ≡ false }
-        ensures { (v : Mounted D) (path : List ℕ) → Reaches D.SectorDevice.state v self.old path place.entry.directory place.entry.last
+        ensures { (v : Mounted D) (path : List ℕ) → Reaches D.SectorDevice.state v self.old path directory last.entry
             → Serves D.SectorDevice.state v (seen self.new) (Create path) (answer_by Handle result) }
     {
-        let Some(last) = place.last else {
+        // No volume has an object of this number.
+        if directory == 0 {
+            return Err(FsError::Device);
+        }
+        let Some(last) = last else {
             return Err(FsError::Exist);
         };
-        let root = match self.check_new_entry(place.directory, last) {
-            Ok(root) => root,
+        let header = match self.check_new_entry(directory, last) {
+            Ok(header) => header,
             Err(fault) => return Err(fault),
         };
         let Some(handle) = self.handles.least_free() else {
@@ -102,7 +105,7 @@ impl<D: SectorDevice> Fs<D> {
         let Some(number) = self.store.least_free() else {
             return Err(FsError::NoNumber);
         };
-        match self.make_file(place.directory, root, number, last.name) {
+        match self.make_file(directory, header, number, last.name) {
             Ok(()) => {}
             Err(fault) => return Err(fault),
         }

@@ -1,24 +1,32 @@
 //! Calls that read: bytes of a file, what is told of an object, of the volume, and of each entry.
-ghost use Rattle.std.specs.Prelude.{◌≡◌, ◌≤◌, ◌<◌, ◌++◌, ◌∷◌, [], map, IfOk, IfErr, OnOk};
+ghost use Rattle.std.specs.Prelude.{◌≡◌, ◌≤◌, ◌<◌, ◌++◌, ◌∷◌, List, [], map, IfOk, IfErr, OnOk};
 ghost use Rattle.lfs_model.specs.Call as call;
 ghost use Rattle.lfs_model.specs.Call.{Pread, StatOf, ListTree, Data, Status, Rows};
 ghost use Rattle.lfs_fs.specs.Volume.{Serves};
 ghost use Rattle.lfs_fs.specs.Seen.{seen, answer_by, OnlyReads};
-ghost use Rattle.lfs_fs.specs.Reading.{ReadsFile, TellsStat, TellsRow, TellsRows, LacksObject, LacksBytes, LacksRow, LacksRows};
+ghost use Rattle.lfs_fs.specs.Reading.{LacksBytes, LacksDirectory, LacksNames, LacksObject, LacksRow, LacksRows, ReadsFile, ReadsHead, TellsDirectory, TellsNames, TellsRow, TellsRows, TellsStat, TellsTree};
 ghost use Rattle.lfs_fs.specs.Answers.{status_of, room_of, row_of};
 
 use crate::error::FsError;
-use crate::fs::{Fs, ROOT};
+use crate::fs::Fs;
 use crate::rows::{Space, Stat, TreeRow};
 use lfs_device::SectorDevice;
+use lfs_model::Kind;
 use lfs_path::dirs::{Entry, list};
 use lfs_path::tree::resolve;
+use lfs_store::Header;
 
 /// The most bytes of one read or write.
 pub const LONGEST_TRANSFER: u32 = 65_536;
 
 /// The most bytes of a file that `tree` shows.
 const LONGEST_HEAD: u32 = 16;
+
+/// The most bytes of a link's text.
+const LONGEST_TEXT: u32 = 1_023;
+
+/// One more than the greatest number of an object.
+const NUMBERS: u16 = 4_096;
 
 impl<D: SectorDevice> Fs<D> {
     /// The bytes of a file from `offset` on, at most `len`; none at or past its end (POSIX.1-2017, pread).
@@ -139,27 +147,20 @@ impl<D: SectorDevice> Fs<D> {
             Ok(()) => {}
             Err(fault) => return Err(fault),
         }
-        let root = match self.header(ROOT) {
-            Ok(root) => root,
-            Err(fault) => return Err(fault),
-        };
-        match list(self.alloc, &mut self.store, ROOT, root) {
-            Ok(entries) => self.rows(entries),
-            Err(fault) => Err(FsError::from(fault)),
-        }
+        self.rows()
     }
 
-    /// The rows of entries of the root.
-    fn rows(&mut self, entries: Vec<Entry>) -> Result<Vec<TreeRow>, FsError>
+    /// The rows of each directory, by their numbers.
+    fn rows(&mut self) -> Result<Vec<TreeRow>, FsError>
         ensures reads { OnlyReads D.SectorDevice.state self.old self.new }
-        ensures answer { IfOk result (λ rows. TellsRows D.SectorDevice.state self.old self.new entries.items rows.items) }
-        ensures missing { IfErr result (λ fault. LacksRows D.SectorDevice.state self.old self.new entries.items fault) }
+        ensures answer { IfOk result (λ rows. TellsTree D.SectorDevice.state self.old self.new
+            rows.items) }
+        ensures missing { IfErr result (λ fault. LacksNames D.SectorDevice.state self.old self.new
+            fault) }
     {
-        let Ok(mut rows) = Vec::with_capacity(self.alloc, entries.len()) else {
-            return Err(FsError::NoMemory);
-        };
-        for entry in entries {
-            match self.push_row(entry, &mut rows) {
+        let mut rows = Vec::new(self.alloc);
+        for number in 1..NUMBERS {
+            match self.push_rows(number, &mut rows) {
                 Ok(()) => {}
                 Err(fault) => return Err(fault),
             }
@@ -167,35 +168,115 @@ impl<D: SectorDevice> Fs<D> {
         Ok(rows)
     }
 
-    /// Puts the row of an entry of the root behind others.
-    fn push_row(&mut self, entry: Entry, rows: &mut Vec<TreeRow>) -> Result<(), FsError>
+    /// Puts the rows of what stands at a number behind others.
+    fn push_rows(&mut self, number: u16, rows: &mut Vec<TreeRow>) -> Result<(), FsError>
+        requires { number < 4096 }
         ensures reads { OnlyReads D.SectorDevice.state self.old self.new }
-        ensures answer { OnOk result ((row : TreeRow) × (rows.new.items ≡ rows.old.items ++ row ∷ []) × TellsRow D.SectorDevice.state self.old self.new entry row) }
-        ensures missing { IfErr result (λ fault. LacksRow D.SectorDevice.state self.old self.new entry fault) }
+        ensures answer { OnOk result ((more : List TreeRow) × (rows.new.items ≡ rows.old.items ++
+            more) × TellsNames D.SectorDevice.state self.old self.new number more) }
+        ensures missing { IfErr result (λ fault. LacksNames D.SectorDevice.state self.old self.new
+            fault) }
     {
-        let row = match self.row(entry) {
+        let more = match self.rows_at(number) {
+            Ok(more) => more,
+            Err(fault) => return Err(fault),
+        };
+        put_rows(rows, more)
+    }
+
+    /// The rows of the names in what stands at a number: only a directory has some.
+    fn rows_at(&mut self, number: u16) -> Result<Vec<TreeRow>, FsError>
+        requires { number < 4096 }
+        ensures reads { OnlyReads D.SectorDevice.state self.old self.new }
+        ensures answer { IfOk result (λ rows. TellsNames D.SectorDevice.state self.old self.new
+            number rows.items) }
+        ensures missing { IfErr result (λ fault. LacksNames D.SectorDevice.state self.old self.new
+            fault) }
+    {
+        match self.find_header(number) {
+            Ok(Some(header)) => match header.kind {
+                Kind::Directory => self.rows_in(number, header),
+                Kind::File => Ok(Vec::new(self.alloc)),
+                Kind::Link => Ok(Vec::new(self.alloc)),
+            },
+            Ok(None) => Ok(Vec::new(self.alloc)),
+            Err(fault) => Err(fault),
+        }
+    }
+
+    /// The rows of the names in a directory of this header.
+    fn rows_in(&mut self, directory: u16, header: Header) -> Result<Vec<TreeRow>, FsError>
+        requires { directory < 4096 }
+        ensures reads { OnlyReads D.SectorDevice.state self.old self.new }
+        ensures answer { IfOk result (λ rows. TellsDirectory D.SectorDevice.state self.old self.new
+            directory header rows.items) }
+        ensures missing { IfErr result (λ fault. LacksDirectory D.SectorDevice.state self.old
+            self.new directory header fault) }
+    {
+        match list(self.alloc, &mut self.store, directory, header) {
+            Ok(entries) => self.entry_rows(directory, entries),
+            Err(fault) => Err(FsError::from(fault)),
+        }
+    }
+
+    /// The rows of entries of a directory.
+    fn entry_rows(&mut self, directory: u16, entries: Vec<Entry>) -> Result<Vec<TreeRow>, FsError>
+        ensures reads { OnlyReads D.SectorDevice.state self.old self.new }
+        ensures answer { IfOk result (λ rows. TellsRows D.SectorDevice.state self.old self.new
+            directory entries.items rows.items) }
+        ensures missing { IfErr result (λ fault. LacksRows D.SectorDevice.state self.old self.new
+            directory entries.items fault) }
+    {
+        let Ok(mut rows) = Vec::with_capacity(self.alloc, entries.len()) else {
+            return Err(FsError::NoMemory);
+        };
+        for entry in entries {
+            match self.push_row(directory, entry, &mut rows) {
+                Ok(()) => {}
+                Err(fault) => return Err(fault),
+            }
+        }
+        Ok(rows)
+    }
+
+    /// Puts the row of an entry of a directory behind others.
+    fn push_row(
+        &mut self,
+        directory: u16,
+        entry: Entry,
+        rows: &mut Vec<TreeRow>,
+    ) -> Result<(), FsError>
+        ensures reads { OnlyReads D.SectorDevice.state self.old self.new }
+        ensures answer { OnOk result ((row : TreeRow) × (rows.new.items ≡ rows.old.items ++ row ∷
+            []) × TellsRow D.SectorDevice.state self.old self.new directory entry row) }
+        ensures missing { IfErr result (λ fault. LacksRow D.SectorDevice.state self.old self.new
+            directory entry fault) }
+    {
+        let row = match self.row(directory, entry) {
             Ok(row) => row,
             Err(fault) => return Err(fault),
         };
         put_row(rows, row)
     }
 
-    /// The row of an entry of the root.
-    fn row(&mut self, entry: Entry) -> Result<TreeRow, FsError>
+    /// The row of an entry of a directory.
+    fn row(&mut self, directory: u16, entry: Entry) -> Result<TreeRow, FsError>
         ensures reads { OnlyReads D.SectorDevice.state self.old self.new }
-        ensures answer { IfOk result (λ row. TellsRow D.SectorDevice.state self.old self.new entry row) }
-        ensures missing { IfErr result (λ fault. LacksRow D.SectorDevice.state self.old self.new entry fault) }
+        ensures answer { IfOk result (λ row. TellsRow D.SectorDevice.state self.old self.new
+            directory entry row) }
+        ensures missing { IfErr result (λ fault. LacksRow D.SectorDevice.state self.old self.new
+            directory entry fault) }
     {
         let stat = match self.stat_of(entry.number) {
             Ok(stat) => stat,
             Err(fault) => return Err(fault),
         };
-        let head = match self.read_file(entry.number, 0, LONGEST_HEAD) {
+        let head = match self.head_of(entry.number, stat.kind) {
             Ok(head) => head,
             Err(fault) => return Err(fault),
         };
         Ok(TreeRow {
-            directory: u32::from(ROOT),
+            directory: u32::from(directory),
             name: entry.name,
             kind: stat.kind,
             number: stat.number,
@@ -203,6 +284,21 @@ impl<D: SectorDevice> Fs<D> {
             size: stat.size,
             head,
         })
+    }
+
+    /// What `tree` shows of an object of this kind: the first bytes of a file, the text of a link.
+    fn head_of(&mut self, number: u16, kind: Kind) -> Result<Vec<u8>, FsError>
+        ensures reads { OnlyReads D.SectorDevice.state self.old self.new }
+        ensures answer { IfOk result (λ head. ReadsHead D.SectorDevice.state self.old self.new
+            number kind head.items) }
+        ensures missing { IfErr result (λ fault. LacksBytes D.SectorDevice.state self.old self.new
+            number fault) }
+    {
+        match kind {
+            Kind::File => self.read_file(number, 0, LONGEST_HEAD),
+            Kind::Directory => Ok(Vec::new(self.alloc)),
+            Kind::Link => self.read_file(number, 0, LONGEST_TEXT),
+        }
     }
 }
 
@@ -212,6 +308,17 @@ fn put_row(rows: &mut Vec<TreeRow>, row: TreeRow) -> Result<(), FsError>
     ensures fault { IfErr result (λ fault. fault ≡ FsError.NoMemory) }
 {
     match rows.push(row) {
+        Ok(()) => Ok(()),
+        Err(_) => Err(FsError::NoMemory),
+    }
+}
+
+/// Puts rows behind others.
+fn put_rows(rows: &mut Vec<TreeRow>, mut more: Vec<TreeRow>) -> Result<(), FsError>
+    ensures done { OnOk result (rows.new.items ≡ rows.old.items ++ more.items) }
+    ensures fault { IfErr result (λ fault. fault ≡ FsError.NoMemory) }
+{
+    match rows.append(&mut more) {
         Ok(()) => Ok(()),
         Err(_) => Err(FsError::NoMemory),
     }

@@ -1,36 +1,33 @@
-use Rattle.std.proofs.Common.{◌∙◌, ap, sym, length, arith}
-use Rattle.std.specs.Vec.Iter.{into_iter_items, into_iter_len}
+use Rattle.std.proofs.Common.{◌≡◌, arith}
 use Rattle.lfs_fs.proofs.PathEnds.{reads_again}
-use Rattle.lfs_fs.proofs.RowLoops.{rows_all, rows_lack, rows_more, rows_none}
+use Rattle.lfs_fs.proofs.RowLoops.{tree_all, tree_lacks, tree_more, tree_none}
 use Rattle.lfs_fs.proofs.fs.Fs.rows.Goals as goal
 
-pub loop-entry-init : goal.loop-entry-init
-loop-entry-init g c =
-    rows_none g.D.SectorDevice.state c.args.self.now c.args.entries.items (into_iter_items c.into_iter-entry-iterator.result) (into_iter_len c.into_iter-entry-iterator.result) c.in-Ok.rows.items
-    c.into_iter-entry-iterator.ensures.into_iter_gives.0 (c.into_iter-entry-iterator.ensures.into_iter_gives.1 ∙ c.args.entries.ok.0 ∙ sym (ap length c.into_iter-entry-iterator.ensures.into_iter_gives.0)) c.in-Ok.ensures.items
+pub loop-number-init : goal.loop-number-init
+loop-number-init g c = tree_none g.D.SectorDevice.state c.args.self.now c.new-rows.result.items c.new-rows.ensures.items
 
-pub loop-entry-preserved : goal.loop-entry-preserved
-loop-entry-preserved g c =
-    let at = c.loop-entry in
-    let put = c.in-Ok-push_row.ensures.answer in
-    rows_more g.D.SectorDevice.state c.args.self.now at.self c.push_row.new.self c.args.entries.items at.yielded (into_iter_items at.entry-iterator) (into_iter_items c.next.new.self) (into_iter_len at.entry-iterator)
-    at.rows.items at.invariant c.in-Some.entry c.in-Some.ensures.steps.0 (g.met.D.SectorDevice.lawful c.args.self.now.store.log.device) c.in-Ok-push_row.ensures.reads (into_iter_len c.next.new.self) (let gone = c.in-Some.ensures.steps.1 in omega (arith, gone)) put.0
-    c.push_row.new.rows.items put.1 put.2
+pub loop-number-preserved : goal.loop-number-preserved
+loop-number-preserved g c =
+    let at = c.loop-number in
+    let put = c.in-Ok.ensures.answer in
+    tree_more g.D.SectorDevice.state c.args.self.now at.self c.push_rows.new.self at.number at.rows.items at.invariant (g.met.D.SectorDevice.lawful c.args.self.now.store.log.device) c.in-Ok.ensures.reads c.loop-number-test.true
+    put.0 c.push_rows.new.rows.items put.1 put.2
 
 pub returns-in-Err-clause-reads : goal.returns-in-Err-clause-reads
 returns-in-Err-clause-reads g c =
-    reads_again g.D.SectorDevice.state c.args.self.now c.loop-entry.self c.push_row.new.self c.loop-entry.invariant.reads (g.met.D.SectorDevice.lawful c.args.self.now.store.log.device) c.in-Err.ensures.reads
+    reads_again g.D.SectorDevice.state c.args.self.now c.loop-number.self c.push_rows.new.self c.loop-number.invariant.reads (g.met.D.SectorDevice.lawful c.args.self.now.store.log.device) c.in-Err.ensures.reads
 
 pub returns-in-Err-clause-missing : goal.returns-in-Err-clause-missing
 returns-in-Err-clause-missing g c =
-    let at = c.loop-entry in
-    rows_lack g.D.SectorDevice.state c.args.self.now at.self c.push_row.new.self c.args.entries.items at.yielded (into_iter_items at.entry-iterator) (into_iter_items c.next.new.self) (into_iter_len at.entry-iterator)
-    at.rows.items at.invariant c.in-Some.entry c.in-Some.ensures.steps.0 c.in-Err.fault c.in-Err.ensures.reads c.in-Err.ensures.missing
+    let at = c.loop-number in
+    tree_lacks g.D.SectorDevice.state c.args.self.now at.self c.push_rows.new.self at.number at.rows.items at.invariant c.in-Err.fault c.in-Err.ensures.reads c.in-Err.ensures.missing
 
 pub returns-clause-reads : goal.returns-clause-reads
-returns-clause-reads g c = c.loop-entry.invariant.reads
+returns-clause-reads g c = c.loop-number.invariant.reads
 
 pub returns-clause-answer : goal.returns-clause-answer
 returns-clause-answer g c =
-    let at = c.loop-entry in
-    rows_all g.D.SectorDevice.state c.args.self.now at.self c.args.entries.items at.yielded (into_iter_items at.entry-iterator) (into_iter_len at.entry-iterator) at.rows.items at.invariant c.in-None.ensures.steps.0
+    let at = c.loop-number in
+    let high = at.auto.number-end (omega arith) in
+    let ended = c.loop-number-test.false in
+    tree_all g.D.SectorDevice.state c.args.self.now at.self at.number at.rows.items at.invariant (omega (arith, high, ended))

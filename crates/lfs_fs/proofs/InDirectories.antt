@@ -1,0 +1,146 @@
+-- A directory of a volume: its names as the model sees them, the same with a new file made, and the least number that is free.
+use Rattle.std.proofs.Common.{◌≡◌, ◌≢◌, ◌<◌, ◌≤◌, ◌*◌, ◌/◌, ◌%◌, ℕ, true, false, List, [], length, Option, Some, None, sym, ◌∙◌, ap, subst, ⊎_elim, arith, nat_lt}
+use Rattle.std.specs.Prelude.{is_some, unwrap_or}
+use Rattle.std.proofs.lemmas.Bool.{cases_lt}
+use Rattle.std.specs.List.{AllByRecursion}
+use Rattle.std.specs.FinMap.{find, put}
+use Rattle.lfs_model.specs.declared.Kind.{Kind}
+use Rattle.lfs_model.specs.declared.Kind.TheVariants as kind
+use Rattle.lfs_model.specs.Changing.{IsWithHeader}
+use Rattle.lfs_model.specs.Encodes.{HasInode}
+use Rattle.lfs_model.specs.Entry as entry
+use Rattle.lfs_model.specs.Objects.{IsChangedAt, IsDirectory, IsHeaderOf}
+use Rattle.lfs_model.specs.Slot.{slot_in}
+use Rattle.lfs_model.specs.Stands.{LogMap}
+use Rattle.lfs_model.specs.Step.{is_full, is_long, is_there, name}
+use Rattle.lfs_model.specs.Tree.{Dir, File, Names, Node, State, byte_cmp, entry as entry_in, form_of, is_dir, least, name_limit, name_len, names_in, names_of, node}
+use Rattle.lfs_model.specs.TreeOf.{map_of, node_by, slots}
+use Rattle.lfs_model.proofs.Leasts.{least_free, least_taken}
+use Rattle.lfs_model.proofs.Makes.{starts_one}
+use Rattle.lfs_model.proofs.ObjectTrees.{with_header_at}
+use Rattle.lfs_model.proofs.Standing.{slots_length}
+use Rattle.lfs_files.specs.declared.header.Header.{Header}
+use Rattle.lfs_store.specs.memory.Present.{as_header}
+use Rattle.lfs_store.specs.Writing.{WritesFile, resized}
+use Rattle.lfs_fs.proofs.Changed.{slots_same}
+use Rattle.lfs_fs.proofs.Checks.{below, not_below, at_most, not_at_most}
+use Rattle.lfs_fs.proofs.Created.{NamesFile, kind_by_node, new_file}
+use Rattle.lfs_fs.proofs.Files.{IsMapOf, dir_there, no_header_none, node_by_header}
+
+module _ (N : ℕ) (m : LogMap) (s : State) (is : IsMapOf N m s) (d : ℕ) (dir : is_dir (node s.tree d) ≡ true) (head : Header) (there : m.header d ≡ Some (as_header head)) where
+  in_range : (1 ≤ d) × (d ≤ 4095)
+  in_range = is.log.sound.numbers d (dir_there s.tree d dir)
+
+  -- so says its header
+  pub directory_kind : head.kind ≡ kind.Directory
+  directory_kind = kind_by_node m d (as_header head) head.kind (ap is_dir (sym (node_by_header N m s is.log d (as_header head) in_range there)) ∙ dir)
+
+  -- the names in it
+  abbrev pub names_there : Names
+  names_there = map_of 0 (slots m d (as_header head))
+
+  pub directory_node : node s.tree d ≡ Some (Dir 0 names_there)
+  directory_node = node_by_header N m s is.log d (as_header head) in_range there ∙ ap (λ (k : Kind). Some (node_by m k d (as_header head))) directory_kind
+
+  pub names_in_directory : names_in s.tree d ≡ names_there
+  names_in_directory = ap (λ (o : Option Node). names_of (unwrap_or o (File []))) directory_node
+
+  pub entry_in_directory : (piece : List ℕ) → entry_in s.tree d piece ≡ find byte_cmp piece names_there
+  entry_in_directory piece = ap (find byte_cmp piece) names_in_directory
+
+  pub limit_in_directory : name_limit s.tree d ≡ 59
+  limit_in_directory = ap (λ (o : Option Node). name_len (form_of o)) directory_node
+
+  -- so many bytes
+  pub size_of_directory : IsHeaderOf d (as_header head) → 64 * length (names_in s.tree d) ≡ head.size
+  size_of_directory fits =
+      let many : length (names_in s.tree d) ≡ head.size / 64 = ap length names_in_directory ∙ (is.log.formed d (as_header head) there directory_kind).1 ∙ slots_length m d (as_header head) in
+      let whole : head.size % 64 ≡ 0 = fits.slots directory_kind in
+      omega (arith, many, whole)
+
+  -- ---- what create asks of it
+  module _ (p : List ℕ) where
+    pub long_in_directory : 59 < length (name p) → is_long s.tree d p ≡ true
+    long_in_directory long = ap (λ (k : ℕ). nat_lt k (length (name p))) limit_in_directory ∙ below 59 (length (name p)) long
+
+    pub short_in_directory : length (name p) ≤ 59 → is_long s.tree d p ≡ false
+    short_in_directory short = ap (λ (k : ℕ). nat_lt k (length (name p))) limit_in_directory ∙ not_below 59 (length (name p)) short
+
+    pub there_in_directory : (n : ℕ) → find byte_cmp (name p) names_there ≡ Some n → is_there s.tree d p ≡ true
+    there_in_directory n found = ap is_some (entry_in_directory (name p) ∙ found)
+
+    pub new_in_directory : find byte_cmp (name p) names_there ≡ None → is_there s.tree d p ≡ false
+    new_in_directory none = ap is_some (entry_in_directory (name p) ∙ none)
+
+  pub full_directory : IsHeaderOf d (as_header head) → 65536 ≤ head.size → is_full s.tree d ≡ true
+  full_directory fits full = let many = size_of_directory fits in at_most 1024 (length (names_in s.tree d)) (omega arith)
+
+  pub free_directory : IsHeaderOf d (as_header head) → head.size < 65536 → is_full s.tree d ≡ false
+  free_directory fits free = let many = size_of_directory fits in not_at_most 1024 (length (names_in s.tree d)) (omega arith)
+
+  pub directory_formed : IsHeaderOf d (as_header head) → IsDirectory m d (as_header head)
+  directory_formed fits = let formed = is.log.formed d (as_header head) there directory_kind in record { whole = fits.slots directory_kind; formed = formed.0; apart = formed.1 }
+
+  -- ---- with a new file made it is as it was
+  module _ (m1 : LogMap) (n : ℕ) (other : n ≢ d) (made : IsWithHeader m n (Some (as_header new_file)) m1) where
+    changed : IsChangedAt m n m1
+    changed = with_header_at m m1 n (Some (as_header new_file)) made
+
+    pub made_header : m1.header d ≡ Some (as_header head)
+    made_header = made.others d (λ e. other (sym e)) ∙ there
+
+    slots_1 : slots m1 d (as_header head) ≡ slots m d (as_header head)
+    slots_1 = slots_same m m1 n changed d (as_header head) (λ e. other (sym e))
+
+    pub made_names : map_of 0 (slots m1 d (as_header head)) ≡ names_there
+    made_names = ap (map_of 0) slots_1
+
+    pub made_directory : IsHeaderOf d (as_header head) → IsDirectory m1 d (as_header head)
+    made_directory fits =
+        let was = directory_formed fits in record {
+          whole = was.whole;
+          formed = subst (AllByRecursion (λ b. slot_in 0 b ≢ None)) (sym slots_1) was.formed;
+          apart = ap length made_names ∙ was.apart ∙ ap length (sym slots_1);
+        }
+
+    -- a slot added to it there names the file
+    pub names_file : (m' : LogMap) (size at : ℕ) (w nm : List ℕ) → WritesFile m1 m' d head (resized head size) at w → size ≤ 8511488 → IsDirectory m' d (as_header (resized head size))
+        → map_of 0 (slots m' d (as_header (resized head size))) ≡ put byte_cmp nm n (map_of 0 (slots m1 d (as_header head))) → NamesFile m m1 m' d n head size at w nm
+    names_file m' size at w nm writes small directory names = record {
+      there = there;
+      made = made;
+      writes = writes;
+      small = small;
+      directory = directory;
+      names = names ∙ ap (put byte_cmp nm n) made_names;
+    }
+
+-- ---- the least number
+
+module _ (N : ℕ) (m : LogMap) (s : State) (is : IsMapOf N m s) where
+  least_is : (1 ≤ least s.tree) × (node s.tree (least s.tree) ≡ None)
+  least_is = least_free 1 s.tree is.log.sound.in_order (starts_one s.tree is.log.sound.numbers)
+
+  taken : (k : ℕ) → 1 ≤ k → k < least s.tree → node s.tree k ≢ None
+  taken k low below = least_taken 1 s.tree is.log.sound.in_order (starts_one s.tree is.log.sound.numbers) k low below
+
+  -- a file has a node
+  inode_node : (k : ℕ) → (1 ≤ k) × (k ≤ 4095) → HasInode m k → node s.tree k ≢ None
+  inode_node k in_range has none = let both : None ≡ Some (node_by m has.0.kind k has.0) = sym none ∙ node_by_header N m s is.log k has.0 in_range has.1 in cc
+
+  -- the least that has no header
+  pub least_number : (n : ℕ) → 1 ≤ n → n < 4096 → m.header n ≡ None → ((k : ℕ) → 1 ≤ k → k < n → HasInode m k) → least s.tree ≡ n
+  least_number n some few free below_n = ⊎_elim
+      (λ (lower : least s.tree < n). absurd (inode_node (least s.tree) (least_is.0, omega arith) (below_n (least s.tree) least_is.0 lower) least_is.1))
+      (λ (le : n ≤ least s.tree). ⊎_elim
+      (λ (higher : n < least s.tree). absurd (taken n some higher (no_header_none N m s is.log n free)))
+      (λ (ge : least s.tree ≤ n). omega arith)
+      (cases_lt n (least s.tree)))
+      (cases_lt (least s.tree) n)
+
+  -- there is none
+  pub no_least : ((k : ℕ) → 1 ≤ k → k < 4096 → HasInode m k) → 4095 < least s.tree
+  no_least all = ⊎_elim
+      (λ (past : 4095 < least s.tree). past)
+      (λ (low : least s.tree ≤ 4095). absurd (inode_node (least s.tree) (least_is.0, low) (all (least s.tree) least_is.0 (omega arith)) least_is.1))
+      (cases_lt 4095 (least s.tree))
