@@ -470,7 +470,7 @@ fn is_read_as_file_is_hidden(alloc: Global, read: u64) -> Result<bool, Wrong> {
 #[test]
 fn a_failed_read_leaves_the_link(rt: HostRuntime) -> Result<(), Wrong> {
     let mut failed = 0u32;
-    for read in 0..16u64 {
+    for read in 0..64u64 {
         if is_read_as_file_is_hidden(rt.alloc(), read)? {
             failed = failed.saturating_add(1);
         }
