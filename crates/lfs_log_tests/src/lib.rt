@@ -4,6 +4,8 @@
 #[cfg(test)]
 mod accepting;
 #[cfg(test)]
+mod cleaning;
+#[cfg(test)]
 mod devices;
 #[cfg(test)]
 mod drafts;

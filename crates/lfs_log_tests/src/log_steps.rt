@@ -27,6 +27,8 @@ pub enum Act {
     /// Files from number 2 to before this one are made, each with a commit of its own.
     MakeTo(u16),
     Commit,
+    /// A pass of the cleaner over two segments.
+    Empty(u16, u16),
 }
 
 /// What is seen of a log.
@@ -146,6 +148,14 @@ fn make_to(log: &mut Log<MemDevice>, alloc: Global, end: u16) -> Result<(), LogF
     Ok(())
 }
 
+/// A pass of the cleaner over two segments.
+fn empty(log: &mut Log<MemDevice>, one: u16, other: u16) -> Result<(), LogFault> {
+    if one == other {
+        return Err(LogFault::Full);
+    }
+    log.clean(&[one, other])
+}
+
 fn carry_out(log: &mut Log<MemDevice>, alloc: Global, act: Act) -> Result<(), LogFault> {
     let totals = log.totals();
     match act {
@@ -154,6 +164,7 @@ fn carry_out(log: &mut Log<MemDevice>, alloc: Global, act: Act) -> Result<(), Lo
         Act::FillTo(end, byte) => fill_to(log, alloc, end, byte),
         Act::FillEdges => fill_edges(log, alloc),
         Act::MakeTo(end) => make_to(log, alloc, end),
+        Act::Empty(one, other) => empty(log, one, other),
         _ => stage(log, alloc, act),
     }
 }
