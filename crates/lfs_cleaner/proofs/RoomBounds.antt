@@ -1,5 +1,5 @@
 -- Where room can be made each pass may begin, and an eighth of the segments of them suffice.
-use Rattle.std.proofs.Common.{◌≡◌, ◌<◌, ◌≤◌, ◌+◌, ◌-◌, ◌*◌, ◌/◌, ◌^◌, ⊎_elim, ℕ, suc, false, List, [], ◌∷◌, length, refl, sym, ◌∙◌, ap, subst, arith}
+use Rattle.std.proofs.Common.{◌≡◌, ◌<◌, ◌≤◌, ◌+◌, ◌-◌, ◌*◌, ◌/◌, ◌^◌, ⊎_elim, ℕ, false, List, [], ◌∷◌, length, refl, sym, ◌∙◌, ap, subst, arith}
 use Rattle.std.specs.Prelude.{Result, Ok, Err, OnOk, min}
 use Rattle.lfs_model.specs.Checkpoint.{CheckpointValue, IsSegmentCount}
 use Rattle.lfs_model.specs.Device.{DeviceState, IsLawful, Carries}
