@@ -18,10 +18,10 @@ use Rattle.lfs_store.specs.declared.draft.Draft.{Draft}
 use Rattle.lfs_store.specs.declared.store.Store.{Store}
 use Rattle.lfs_store.proofs.LogReads.{reads_more}
 use Rattle.lfs_path.specs.declared.last.Last.{Last}
-use Rattle.lfs_path.specs.Walking.{HasLast}
+use Rattle.lfs_path.specs.Lasts.{HasLast}
 use Rattle.lfs_path.specs.Reaching.{EndsParent}
 use Rattle.lfs_fs.specs.Drafted.{WalksTo}
-use Rattle.lfs_path.proofs.FlatTrees.{last_says}
+use Rattle.lfs_path.proofs.LastPieces.{last_says}
 use Rattle.lfs_fs.specs.declared.fs.Fs.{Fs}
 use Rattle.lfs_fs.specs.Naming.{Reaches}
 use Rattle.lfs_fs.specs.Seen.{Begins, seen}

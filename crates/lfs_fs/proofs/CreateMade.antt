@@ -35,7 +35,7 @@ use Rattle.lfs_path.specs.dirs.Adding.{AddsName, grown, slot_for}
 use Rattle.lfs_path.specs.dirs.Directory.{names_at}
 use Rattle.lfs_path.specs.declared.last.Last.{Last}
 use Rattle.lfs_path.specs.Laws.{SaysLast}
-use Rattle.lfs_path.proofs.FlatTrees.{last_says}
+use Rattle.lfs_path.proofs.LastPieces.{last_says}
 use Rattle.lfs_fs.specs.declared.error.FsError.{FsError}
 use Rattle.lfs_fs.specs.declared.fs.Fs.{Fs}
 use Rattle.lfs_fs.specs.declared.handles.Handles.{Handles}

@@ -25,8 +25,8 @@ use Rattle.lfs_path.specs.dirs.Directory.{names_at}
 use Rattle.lfs_path.specs.declared.last.Last.{Last}
 use Rattle.lfs_path.specs.Laws.{SaysLast}
 use Rattle.lfs_path.specs.Pieces.{is_dots}
-use Rattle.lfs_path.specs.Walking.{HasLast}
-use Rattle.lfs_path.proofs.FlatTrees.{last_says}
+use Rattle.lfs_path.specs.Lasts.{HasLast}
+use Rattle.lfs_path.proofs.LastPieces.{last_says}
 use Rattle.lfs_path.proofs.InTrees.{limit}
 use Rattle.lfs_fs.specs.declared.error.FsError.{FsError}
 use Rattle.lfs_fs.specs.declared.error.FsError.TheVariants as error

@@ -23,7 +23,7 @@ use Rattle.lfs_fs.specs.Drafted.{Adds}
 use Rattle.lfs_path.specs.dirs.Directory.{names_at}
 use Rattle.lfs_path.specs.declared.last.Last.{Last}
 use Rattle.lfs_path.specs.Pieces.{is_dots}
-use Rattle.lfs_path.specs.Walking.{HasLast}
+use Rattle.lfs_path.specs.Lasts.{HasLast}
 use Rattle.lfs_fs.specs.declared.error.FsError.{FsError}
 use Rattle.lfs_fs.specs.declared.error.FsError.TheVariants as error
 use Rattle.lfs_fs.specs.declared.fs.Fs.{Fs}

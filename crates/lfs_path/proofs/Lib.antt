@@ -1,9 +1,4 @@
-pub mod FlatTrees
-pub mod FlatWalks
-pub mod Lasts
 pub mod Splits
-pub mod Lookups
-pub mod PathEnds
 pub mod InTrees
 pub mod Sights
 pub mod LinkTexts
@@ -15,4 +10,5 @@ pub mod PathWalks
 pub mod Places
 pub mod TreeLaws
 pub mod Texts
+pub mod LastPieces
 pub use Rattle.lfs_dirs.proofs as of_dirs

@@ -1,4 +1,4 @@
--- What is known of trees of a root and files, and of the last piece of a path.
+-- What is known of trees that are walked, and of the last piece of a path.
 use Rattle.std.specs.Prelude.{◌≡◌, ◌≢◌, ◌==◌, ℕ, true, false, List, [], ◌∷◌, Option, Some, None}
 use Rattle.std.specs.Ordering.{nat_cmp}
 use Rattle.lfs_model.specs.Entry.{Header}
@@ -15,31 +15,7 @@ use Rattle.lfs_path.specs.declared.last.Last.{Last}
 use Rattle.lfs_path.specs.Pieces.{is_dots}
 use Rattle.lfs_path.specs.Seeing.{HasHeader}
 use Rattle.lfs_path.specs.Trees.{HasTree, InChain, InDirectory, here}
-use Rattle.lfs_path.specs.Walking.{HasFlatTree, HasLast, IsFlat}
-
--- What a volume's log map keeps makes a map of such a tree one that is walked.
-abbrev pub FlatMaps : Type 0
-FlatMaps = (m : LogMap) → IsFlat (tree_in m) → ((n : ℕ) (h : Header) → m.header n ≡ Some h → IsHeaderOf n h) → AreFormed m → NamesGive (tree_in m) → names (tree_in m) 1 ≡ 0 → HasFlatTree m
-
--- A new volume's tree is one, and calls that make, change and take away files and their names leave it one.
-pub record FlatKept : Type 0 where
-  pub new : IsFlat ((1, Dir 0 []) ∷ [])
-  pub with_file : (t : Tree) (n : ℕ) (b : List ℕ) → IsFlat t → n ≢ 1 → IsFlat (with_node t n (File b))
-  pub named : (t : Tree) (name : List ℕ) (n : ℕ) → IsFlat t → IsFlat (with_name t 1 name n)
-  pub unnamed : (t : Tree) (name : List ℕ) → IsFlat t → IsFlat (without_name t 1 name)
-  pub without_file : (t : Tree) (n : ℕ) → IsFlat t → n ≢ 1 → IsFlat (without nat_cmp n t)
-
--- What it is for the rows of the calls: the root alone is a directory, and its names have at most 59 bytes.
-pub record FlatRows (t : Tree) : Type 0 where
-  pub directories : (n : ℕ) → is_dir (node t n) ≡ (n == 1)
-  pub longest : name_limit t 1 ≡ 59
-
-abbrev pub FlatSays : Type 0
-FlatSays = (t : Tree) → IsFlat t → FlatRows t
-
--- The names of the root are those that its slots give.
-abbrev pub RootNames : Type 0
-RootNames = (m : LogMap) (head : HeaderValue) → HasFlatTree m → m.header 1 ≡ Some (as_header head) → names_in (tree_in m) 1 ≡ names_at m 1 head
+use Rattle.lfs_path.specs.Lasts.{HasLast}
 
 -- what the rows of the calls say of a path's last piece
 abbrev pub SaysLast : List ℕ → Option Last → Type 0

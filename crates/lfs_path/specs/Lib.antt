@@ -1,8 +1,6 @@
 pub mod Lasts
 pub mod Laws
 pub mod Pieces
-pub mod Refusals
-pub mod Walking
 pub mod Trees
 pub mod Telling
 pub mod Seeing

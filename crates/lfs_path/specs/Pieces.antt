@@ -12,11 +12,6 @@ is_slash c = c == 47
 abbrev pub is_dots : List ℕ → Bool
 is_dots piece = same_name piece dot || same_name piece dot_dot
 
--- the pieces from the first on that is a name
-abbrev pub from_name : List (List ℕ) → List (List ℕ)
-from_name [] = []
-from_name (p ∷ ps) = if is_dots p then from_name ps else p ∷ ps
-
 -- The first piece of a path, and the text behind it.
 pub record IsNextPiece (path piece rest : List ℕ) : Type 0 where
   pub pieces : comps path ≡ piece ∷ comps rest
@@ -27,9 +22,3 @@ pub record IsNextPiece (path piece rest : List ℕ) : Type 0 where
   -- the text behind it is the path's end, and is empty or begins with a slash
   pub behind : rest ≡ drop (length path - length rest) path
   pub begins : from_root rest ≡ nat_lt 0 (length rest)
-
--- The first piece that is a name, and the text behind it.
-pub record IsFirstName (path name rest : List ℕ) : Type 0 where
-  pub pieces : from_name (comps path) ≡ name ∷ comps rest
-  pub plain : is_dots name ≡ false
-  pub goes_on : more (comps rest) (slash path) ≡ nat_lt 0 (length rest)

@@ -2,27 +2,27 @@
 ghost use Rattle.std.specs.Prelude.{◌≡◌, ◌≤◌, ◌<◌, ◌+◌, not, [], IfSome, IfNone, IfErr, OnOk, None, length, nat_lt};
 ghost use Rattle.std.specs.List.{list_any, prefix_len};
 ghost use Rattle.lfs_model.specs.PathText as model;
-ghost use Rattle.lfs_path.specs.Pieces.{is_slash, is_dots as are_dots, from_name, IsNextPiece, IsFirstName};
-ghost use Rattle.lfs_path.specs.Refusals.{IsRefusedText};
+ghost use Rattle.lfs_path.specs.Pieces.{is_slash, is_dots as are_dots, IsNextPiece};
+ghost use Rattle.lfs_path.specs.Reaching.{IsTextFault};
 
-use crate::fault::PathFault;
+use crate::walk_fault::WalkFault;
 
 /// The most bytes of a path.
 const LONGEST_PATH: usize = 1_023;
 
 /// Refuses a path for its text alone.
-pub fn check_text(path: &[u8]) -> Result<(), PathFault>
+pub fn check_text(path: &[u8]) -> Result<(), WalkFault>
     ensures taken { OnOk result (model.text_refusal path.now ≡ None) }
-    ensures refused { IfErr result (IsRefusedText path.now) }
+    ensures refused { IfErr result (IsTextFault path.now) }
 {
     if path.is_empty() {
-        return Err(PathFault::NoEntry);
+        return Err(WalkFault::NoEntry);
     }
     if path.len() > LONGEST_PATH {
-        return Err(PathFault::NameTooLong);
+        return Err(WalkFault::NameTooLong);
     }
     if has_zero(path) {
-        return Err(PathFault::Inval);
+        return Err(WalkFault::Inval);
     }
     Ok(())
 }
@@ -86,19 +86,4 @@ pub fn is_dots(piece: &[u8]) -> bool
     } else {
         piece == b"..".as_slice()
     }
-}
-
-/// The first piece that is neither dot nor dot-dot, and the text behind it.
-pub fn first_name(path: &[u8]) -> Option<(&[u8], &[u8])>
-    ensures name { IfSome result (λ next. IsFirstName path.now next.0.now next.1.now) }
-    ensures none { IfNone result (from_name (model.comps path.now) ≡ []) }
-{
-    let mut rest = path;
-    while let Some((piece, after)) = next_piece(rest) {
-        if !is_dots(piece) {
-            return Some((piece, after));
-        }
-        rest = after;
-    }
-    None
 }

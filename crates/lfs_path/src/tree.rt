@@ -1,14 +1,12 @@
 //! The walk of a path over any tree of directories, files and symbolic links.
-ghost use Rattle.std.specs.Prelude.{◌≡◌, None, true, IfOk, IfErr, OnOk, IsErrOf};
-ghost use Rattle.lfs_model.specs.PathText.{text_refusal};
+ghost use Rattle.std.specs.Prelude.{◌≡◌, true, IfOk, IfErr, IsErrOf};
 ghost use Rattle.lfs_files.specs.Files.{Reads};
-ghost use Rattle.lfs_path.specs.Reaching.{EndsParent, EndsResolve, IsParent, IsTextFault, ResolvesTo};
+ghost use Rattle.lfs_path.specs.Reaching.{EndsParent, EndsResolve, IsParent, ResolvesTo};
 ghost use Rattle.lfs_path.specs.Telling.{Refuses, Tells};
 ghost use Rattle.lfs_path.specs.Trees.{HasTree};
-ghost use Rattle.lfs_path.specs.Walking.{HasLast};
+ghost use Rattle.lfs_path.specs.Lasts.{HasLast};
 
 use crate::chain::Chain;
-use crate::fault::PathFault;
 use crate::last::Last;
 use crate::split::split_last;
 use crate::text::check_text;
@@ -42,7 +40,7 @@ pub fn resolve<F: Files>(
     ensures halted { IsErrOf result (WalkFault.Log LogFault.Halted) → (F.state files.old).halted ≡ true }
     ensures other { IsErrOf result (WalkFault.Log LogFault.Full) → ⊥ }
 {
-    match check(path) {
+    match check_text(path) {
         Ok(()) => {}
         Err(fault) => return Err(fault),
     }
@@ -70,7 +68,7 @@ pub fn parent<'a, F: Files>(
     ensures halted { IsErrOf result (WalkFault.Log LogFault.Halted) → (F.state files.old).halted ≡ true }
     ensures other { IsErrOf result (WalkFault.Log LogFault.Full) → ⊥ }
 {
-    match check(path) {
+    match check_text(path) {
         Ok(()) => {}
         Err(fault) => return Err(fault),
     }
@@ -84,20 +82,5 @@ pub fn parent<'a, F: Files>(
             last: Some(last),
         }),
         Err(fault) => Err(fault),
-    }
-}
-
-/// Refuses a path for its text alone.
-fn check(path: &[u8]) -> Result<(), WalkFault>
-    ensures taken { OnOk result (text_refusal path.now ≡ None) }
-    ensures refused { IfErr result (IsTextFault path.now) }
-{
-    match check_text(path) {
-        Ok(()) => Ok(()),
-        Err(PathFault::NoEntry) => Err(WalkFault::NoEntry),
-        Err(PathFault::NotDir) => Err(WalkFault::NotDir),
-        Err(PathFault::NameTooLong) => Err(WalkFault::NameTooLong),
-        Err(PathFault::Inval) => Err(WalkFault::Inval),
-        Err(PathFault::Log(fault)) => Err(WalkFault::Log(fault)),
     }
 }

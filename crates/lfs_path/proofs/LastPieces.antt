@@ -1,0 +1,12 @@
+-- What the rows of the calls say of a path's last piece.
+use Rattle.std.proofs.Common.{◌≡◌, ap, Some, None, [], ℕ, List}
+use Rattle.std.specs.Prelude.{is_none, unwrap_or}
+use Rattle.lfs_model.specs.Step.{name}
+use Rattle.lfs_path.specs.Laws.{LastSays}
+use Rattle.lfs_path.specs.Pieces.{is_dots}
+
+pub last_says : LastSays
+last_says path None none = ap is_none none
+last_says path (Some l) is =
+    let named : name path ≡ l.name.now = ap (λ o. unwrap_or o []) is.0 in
+    (ap is_none is.0, named, ap is_dots named)
