@@ -16,4 +16,5 @@ mod walking;
 pub use chain::Chain;
 pub use last::Last;
 pub use lfs_dirs as dirs;
+pub use tree::{Place, parent, resolve};
 pub use walk_fault::WalkFault;
