@@ -1,7 +1,6 @@
 -- What a store holds as it commits, makes room and stages its draft.
-use Rattle.std.specs.Prelude.{Result, Ok, Err, OnErr, OnOk, cond, min}
-use Rattle.std.proofs.Common.{◌≡◌, ◌<◌, ◌≤◌, ◌+◌, ◌-◌, ◌*◌, ◌/◌, ◌^◌, inl, inr, ⊎_elim, Bool, true, false, ℕ, [], length, refl, sym, ◌∙◌, ap, subst, arith}
-use Rattle.std.specs.Prelude.{◌⊎◌}
+use Rattle.std.specs.Prelude.{Result, Ok, Err, OnErr, OnOk, min}
+use Rattle.std.proofs.Common.{◌≡◌, ◌<◌, ◌≤◌, ◌+◌, ◌-◌, ◌*◌, ◌/◌, ◌^◌, inl, inr, ⊎_elim, Bool, true, false, ℕ, length, refl, sym, ◌∙◌, ap, subst, arith}
 use Rattle.lfs_model.specs.Checkpoint.{CheckpointValue}
 use Rattle.lfs_model.specs.Crash.{StandsOn}
 use Rattle.lfs_model.specs.Device.{DeviceState, IsLawful, Carries, AllLeft, LeavesOnly}
@@ -19,10 +18,10 @@ use Rattle.lfs_log.proofs.of_memory.Presents.{looks_quiet}
 use Rattle.lfs_log.proofs.Volumes.{same_segments}
 use Rattle.lfs_log.specs.verify.declared.totals.BlockTotals.{BlockTotals}
 use Rattle.lfs_log.specs.Held.{Held, Halts, Holds, IsFull, IsSaved, Saves, Alters, IsStaged, IsRefused, IsStageFault}
-use Rattle.lfs_cleaner.specs.Room.{CleansQuarter, HaltsLater, HasQuarter, HoldsOver, IsRoomFault, KeepsMap, MayMakeRoom, MayNotMakeRoom, most_checkpoints}
+use Rattle.lfs_cleaner.specs.Room.{HaltsLater, HasQuarter, IsRoomFault, KeepsMap, MayNotMakeRoom, most_checkpoints}
 use Rattle.lfs_cleaner.proofs.RoomBounds.{same_need, segment_count}
 use Rattle.lfs_cleaner.proofs.Rooms.{fault_then, halts_at_once, halts_then, halts_weaker, keeps_none, keeps_saves, keeps_then, keeps_weaker}
-use Rattle.lfs_store.specs.Accepting.{HasClean, Stores, StoresOver, LeavesEither, Commits, Acknowledges, CanMakeRoom, CannotMakeRoom, MakesRoom, Readies, SavesFew, Accepts, Declines, IsAcceptFault, most_written}
+use Rattle.lfs_store.specs.Accepting.{HasClean, Stores, StoresOver, LeavesEither, Commits, Acknowledges, CannotMakeRoom, MakesRoom, Readies, SavesFew, Accepts, Declines, IsAcceptFault, most_written}
 
 -- where anything isn't saved a checkpoint is written
 written_most : (D : Type 0) (h : Held D) (saved : Bool) → most_written h saved ≤ length h.memory.usage.segments / 8 + 1

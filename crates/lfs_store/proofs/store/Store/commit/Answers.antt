@@ -1,4 +1,4 @@
-use Rattle.std.proofs.Common.{◌≡◌, Bool, true, false, sym, ◌∙◌, subst}
+use Rattle.std.proofs.Common.{Bool, true, sym, ◌∙◌, subst}
 use Rattle.lfs_store.specs.Accepting.{Commits, Readies}
 use Rattle.lfs_store.proofs.Acceptings.{commits_none, commits_log, readies_none, readies_saves}
 use Rattle.lfs_store.proofs.store.Store.commit.Goals as goal
