@@ -241,7 +241,7 @@ module _ {D : Type 0} (state : D → DeviceState) (lawful : (d : D) → IsLawful
         (when_in state lawful v with_table (Create path) was (Handle (least_handle (handles_of v.table))) accepts.carries accepts.segments (λ e. cc)
         (makes_behaves state v with_table (Create path) (Handle (least_handle (handles_of v.table))) refl refl refl) (λ kept k m0 m s is. (
         let keeps = stages.accepts.carries.kept_before kept in
-        create_serves state v with_table (lawful v.log.device) (lawful new.store.log.device) was accepts.once.number (low_old state lawful v ready new (Create path) (Handle handle) still_ready was rest stages.young) c accepts
+        create_serves state v with_table (lawful v.log.device) (lawful new.store.log.device) was accepts.saves.number (low_old state lawful v ready new (Create path) (Handle handle) still_ready was rest stages.young) c accepts
         (subst (λ (t : BlockTotals). IsDrafted state v c t.data_blocks t.meta_blocks) (sym stages.totals) (drafted keeps k m0 m s is)) totals_of_tree
         path d n between head (head.size + 64) head.size slot (drafts_file keeps) reached.bytes
         (subst (λ (t : BlockTotals). t.data_blocks + 7 * t.meta_blocks + 720 ≤ 47 * segments_of v) (sym stages.totals) (let room = stages.room in subst (λ (x : ℕ). need_of ready ≤ x) limit_same room))

@@ -83,7 +83,7 @@ module _ {D : Type 0} (state : D → DeviceState) where
           let drafts = each p keeps at k m0 m is in
           let log = map_dropped state old new keeps lawful after carries k m0 m p.state is in record {
             next = drafts.next;
-            runs = runs_over state old new k m0 m p.state is (staged c m) drafts.next (done.stores k m0 m keeps is.stores drafts.fits log) segments drafts.map drafts.version drafts.handles drafts.counted (λ e. (done.enough, (let o = done.once.once in omega (arith, o, low))));
+            runs = runs_over state old new k m0 m p.state is (staged c m) drafts.next (done.stores k m0 m keeps is.stores drafts.fits log) segments drafts.map drafts.version drafts.handles drafts.counted (λ e. (done.enough, (let o = done.saves.few in let size = segments in omega (arith, o, low, size))));
             steps = drafts.steps;
             moment = done.moment k m0 m keeps is.stores log;
             saves = λ e. absurd (none e);
@@ -132,7 +132,7 @@ module _ {D : Type 0} (state : D → DeviceState) where
             next = p.state;
             runs = runs_over state old new k m0 m p.state is m p.state (declines.stores k m0 m keeps is.stores both.0 log) segments (map_of_volume state old k m0 m p.state is) is.version
                 (is.handles ∙ ap handles_of (sym rest.table)) (counted_still old new m rest is.counted)
-                (λ e. (declines.once.ready (λ f. (is.ready f).0) e, (let o = declines.once.once in omega (arith, o, low))));
+                (λ e. (declines.saves.ready (λ f. (is.ready f).0) e, (let o = declines.saves.few in let size = segments in omega (arith, o, low, size))));
             steps = both.1;
             moment = declines.moment k m0 m keeps is.stores log;
             saves = λ e. absurd (not_acknowledged call r e);

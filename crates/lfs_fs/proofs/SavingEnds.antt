@@ -8,6 +8,7 @@ use Rattle.lfs_store.specs.log.Held.{Halts, IsFull}
 use Rattle.lfs_store.specs.declared.store.Store.{Store}
 use Rattle.lfs_store.specs.log.verify.declared.totals.BlockTotals.{BlockTotals}
 use Rattle.lfs_store.specs.Accepting.{Commits}
+use Rattle.lfs_store.proofs.of_cleaner.Rooms.{halts_at_once}
 use Rattle.lfs_fs.specs.declared.error.FsError.{FsError}
 use Rattle.lfs_fs.specs.declared.fs.Fs.{Fs}
 use Rattle.lfs_fs.specs.Faults.{error_of_log}
@@ -37,7 +38,7 @@ module _ {D : Type 0} (state : D → DeviceState) (lawful : (d : D) → IsLawful
         → Serves state (seen old) (seen new) Sync (Refuse (refusal_of (error_of_log fault)))
     sync_fault log.Full full unsaved halted device =
         subst (λ (v : Mounted D). Serves state (seen old) v Sync (Refuse (refusal_of (error_of_log log.Full)))) (sym (same_seen (full refl).0)) (full_serves state (seen old) (lawful old.store.log.device) was (unsaved refl) (full refl).1)
-    sync_fault log.Halted full unsaved halted device = halts_serves state lawful (seen old) (seen new) Sync was refl refl (halted refl)
+    sync_fault log.Halted full unsaved halted device = halts_serves state lawful (seen old) (seen new) Sync was refl refl 0 (halts_at_once state old.store.log store.log (halted refl))
     sync_fault log.Device full unsaved halted device = absurd (device refl)
 
     pub sync_fails : (fault : LogFault) (e : FsError) → e ≡ error_of_log fault → (fault ≡ log.Full → (store.log ≡ old.store.log) × IsFull old.store.log) → (fault ≡ log.Full → old.store.saved ≡ false) → (fault ≡ log.Halted → Halts state old.store.log store.log) → (fault ≡ log.Device → ⊥)

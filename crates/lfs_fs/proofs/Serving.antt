@@ -53,7 +53,7 @@ module _ {D : Type 0} (state : D → DeviceState) where
     acknowledged = subst (λ (n : ℕ). IsTree n m0) same is.acknowledged;
     ready = λ e. (
         let r = is.ready (sym still.saved ∙ e) in
-        (subst (λ (v : LogMemory). length v.usage.segments / 8 + 8 ≤ clean_in v.usage.segments) (sym still.reads.memory) r.0, subst (λ (n : ℕ). n ≤ 2 ^ 62) (sym still.reads.number) r.1));
+        (subst (λ (v : LogMemory). length v.usage.segments / 8 + 8 ≤ clean_in v.usage.segments) (sym still.reads.memory) r.0, (let low = r.1 in let number = still.reads.number in omega (arith, low, number, same))));
   }
     where
       same : segments_of old ≡ segments_of new

@@ -1,6 +1,7 @@
 -- A sync never finds too few clean segments, and never lacks a number.
-use Rattle.std.proofs.Common.{◌≡◌, ◌<◌, ◌≤◌, ◌+◌, ◌-◌, ◌*◌, ◌%◌, ◌^◌, ℕ, false, length, refl, sym, subst, ⊎_elim, arith}
+use Rattle.std.proofs.Common.{◌≡◌, ◌<◌, ◌≤◌, ◌+◌, ◌-◌, ◌*◌, ◌/◌, ◌%◌, ◌^◌, false, length, refl, sym, subst, ⊎_elim, arith}
 use Rattle.lfs_model.specs.Call.{Refuse, Sync}
+use Rattle.lfs_model.specs.Checkpoint.{IsSegmentCount}
 use Rattle.lfs_model.specs.Device.{DeviceState, IsLawful}
 use Rattle.lfs_model.specs.Refusal.{Stuck}
 use Rattle.lfs_model.specs.Tree.{State}
@@ -20,10 +21,12 @@ module _ {D : Type 0} (state : D → DeviceState) (v : Mounted D) (lawful : IsLa
       let ready = r.is.ready unsaved in
       let clean = ready.0 in
       let low = ready.1 in
-      let eighths : length v.log.memory.usage.segments % 8 ≡ 0 = subst (λ (n : ℕ). n % 8 ≡ 0) (sym same) fits.held.fits.segments.eighths in
+      let count : IsSegmentCount (length v.log.memory.usage.segments) = subst IsSegmentCount (sym same) fits.held.fits.segments in
+      let eighths = count.eighths in
+      let most = count.most in
       ⊎_elim
       (λ (few : 8 * clean_in v.log.memory.usage.segments < length v.log.memory.usage.segments + 64). omega (arith, eighths, clean, few))
-      (λ (high : 2 ^ 64 - 1 ≤ v.log.number). omega (arith, low, high))
+      (λ (high : 2 ^ 64 - 1 ≤ v.log.number). omega (arith, low, high, most))
       full
 
   pub full_serves : Serves state v v Sync (Refuse Stuck)

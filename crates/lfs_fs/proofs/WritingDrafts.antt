@@ -161,7 +161,7 @@ module _ {D : Type 0} (state : D → DeviceState) (lawful : (d : D) → IsLawful
         (λ keeps k m0 m s is. write_in keeps k m0 m s is at w end writes counts)
         (λ stages keeps k m0 m s is. (
         let accepts = accepts_old state lawful (seen old) ready new (Pwrite h at w) (Count (length w)) still was rest stages in
-        pwrite_serves state (seen old) (seen new) (lawful old.store.log.device) (lawful new.store.log.device) was accepts.once.number (low_old state lawful (seen old) ready new (Pwrite h at w) (Count (length w)) still was rest stages.young) c accepts
+        pwrite_serves state (seen old) (seen new) (lawful old.store.log.device) (lawful new.store.log.device) was accepts.saves.number (low_old state lawful (seen old) ready new (Pwrite h at w) (Count (length w)) still was rest stages.young) c accepts
         (subst (λ (t : BlockTotals). IsDrafted state (seen old) c t.data_blocks t.meta_blocks) (sym stages.totals) (write_drafted keeps k m0 m s is at w end writes counts))
         h n opens head (header_each keeps k m0 m s is) totals_of_tree at w (writes_each keeps k m0 m s is at w end writes counts) some few end bytes
         (subst (λ (t : BlockTotals). t.data_blocks + 7 * t.meta_blocks + 720 ≤ 47 * segments_of (seen old)) (sym stages.totals) (let room = stages.room in subst (λ (x : ℕ). need_of ready ≤ x) limit_same room))
@@ -180,7 +180,7 @@ module _ {D : Type 0} (state : D → DeviceState) (lawful : (d : D) → IsLawful
         (λ keeps k m0 m s is. cut_in keeps k m0 m s is len end sets counts)
         (λ stages keeps k m0 m s is. (
         let accepts = accepts_old state lawful (seen old) ready new (Truncate h len) Done still was rest stages in
-        truncate_serves state (seen old) (seen new) (lawful old.store.log.device) (lawful new.store.log.device) was accepts.once.number (low_old state lawful (seen old) ready new (Truncate h len) Done still was rest stages.young) c accepts
+        truncate_serves state (seen old) (seen new) (lawful old.store.log.device) (lawful new.store.log.device) was accepts.saves.number (low_old state lawful (seen old) ready new (Truncate h len) Done still was rest stages.young) c accepts
         (subst (λ (t : BlockTotals). IsDrafted state (seen old) c t.data_blocks t.meta_blocks) (sym stages.totals) (cut_drafted keeps k m0 m s is len end sets counts))
         h n opens head (header_each keeps k m0 m s is) len (sizes_each keeps k m0 m s is len end sets counts) end
         (table_same state lawful (seen old) ready new (Truncate h len) Done still was rest)))

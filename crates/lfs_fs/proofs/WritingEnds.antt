@@ -18,12 +18,13 @@ use Rattle.lfs_files.specs.declared.fault.LogFault.TheVariants as log
 use Rattle.lfs_store.specs.memory.declared.memory.LogMemory.{LogMemory}
 use Rattle.lfs_store.specs.memory.Batch.{FitsBatch, IsNoChange}
 use Rattle.lfs_store.specs.segments.Table.{clean_in}
-use Rattle.lfs_store.specs.log.Held.{Halts, Held, Holds, IsFull, IsReadFault, Reads}
+use Rattle.lfs_store.specs.cleaner.Room.{HaltsLater}
+use Rattle.lfs_store.specs.log.Held.{Held, Holds, IsFull, IsReadFault, Reads}
 use Rattle.lfs_files.specs.declared.fault.StoreFault.{StoreFault}
 use Rattle.lfs_files.specs.declared.fault.StoreFault.TheVariants as store
 use Rattle.lfs_store.specs.declared.store.Store.{Store}
 use Rattle.lfs_store.specs.log.verify.declared.totals.BlockTotals.{BlockTotals}
-use Rattle.lfs_store.specs.Accepting.{Accepts, Declines, HasClean, IsAcceptFault, LeavesEither, SavesOnce, Stores}
+use Rattle.lfs_store.specs.Accepting.{Accepts, Declines, HasClean, IsAcceptFault, LeavesEither, SavesFew, Stores, most_written}
 use Rattle.lfs_store.proofs.Apart.{draft_empty}
 use Rattle.lfs_store.proofs.LogReads.{fault_more, held_still, reads_more, reads_none}
 use Rattle.lfs_fs.specs.declared.error.FsError.{FsError}
@@ -51,7 +52,7 @@ pub turned_down : {D : Type 0} (state : D → DeviceState) (old new : Fs D) (fau
     → (fault ≡ store.NoMemory → Declines state old.store.log old.store.saved new.store.log new.store.saved old.store.draft.changes)
     → (fault ≡ store.Log log.Device → Declines state old.store.log old.store.saved new.store.log new.store.saved old.store.draft.changes)
     → (fault ≡ store.Log log.Device → IsAcceptFault state old.store.log old.store.saved new.store.log old.store.draft.changes)
-    → (fault ≡ store.Log log.Halted → (old.store.log.halted ≡ true → ⊥) → Halts state old.store.log new.store.log) → TurnsDown state old new e
+    → (fault ≡ store.Log log.Halted → (old.store.log.halted ≡ true → ⊥) → HaltsLater state old.store.log new.store.log (most_written old.store.log old.store.saved)) → TurnsDown state old new e
 turned_down state old new store.NoMemory e is was young totals full lacks memory device failed halted =
     subst (TurnsDown state old new) (sym is) record { declines = memory refl; totals = totals; young = young }
 turned_down state old new (store.Log log.Full) e is was young totals full lacks memory device failed halted =
@@ -87,11 +88,11 @@ module _ {D : Type 0} (state : D → DeviceState) (lawful : (d : D) → IsLawful
           joined (state a.device) (state b.device) (state h.device) (StandsForOn k.segments m0 (dropped m)) (StandsForOn k.segments m0 (dropped m)) (StandsForOn k.segments m0 (dropped m))
           (quiet_reads k m0 m stores.holds) (leaves k m0 m keeps (stores_still saved k m0 m stores) log) (λ c x. x) (λ c x. x)
 
-      once_after : (saved saved' : Bool) → SavesOnce b saved h saved' → SavesOnce a saved h saved'
-      once_after saved saved' once = record {
-        number = (let more = once.number in let same = reads.number in omega (arith, more, same));
-        once = (let most = once.once in let same = reads.number in omega (arith, most, same));
-        ready = λ clean now. once.ready (λ e. clean_still (clean e)) now;
+      saves_after : (saved saved' : Bool) → SavesFew b saved h saved' → SavesFew a saved h saved'
+      saves_after saved saved' saves = record {
+        number = (let more = saves.number in let same = reads.number in omega (arith, more, same));
+        few = (let most = saves.few in let same = reads.number in let size = same_segments in omega (arith, most, same, size));
+        ready = λ clean now. saves.ready (λ e. clean_still (clean e)) now;
       }
 
       pub accepts_after : (saved saved' : Bool) (c : Changes) → Accepts state b saved h saved' c → Accepts state a saved h saved' c
@@ -101,7 +102,7 @@ module _ {D : Type 0} (state : D → DeviceState) (lawful : (d : D) → IsLawful
         segments = done.segments ∙ same_segments;
         enough = done.enough;
         unsaved = done.unsaved;
-        once = once_after saved saved' done.once;
+        saves = saves_after saved saved' done.saves;
         stores = λ k m0 m keeps stores. done.stores k m0 m keeps (stores_still saved k m0 m stores);
         moment = leaves_after saved done.moment;
       }
@@ -111,7 +112,7 @@ module _ {D : Type 0} (state : D → DeviceState) (lawful : (d : D) → IsLawful
         carries = carries_then (state a.device) (state b.device) (state h.device) reads.looks.carries done.carries;
         halted = done.halted ∙ reads.halted;
         segments = done.segments ∙ same_segments;
-        once = once_after saved saved' done.once;
+        saves = saves_after saved saved' done.saves;
         stores = λ k m0 m keeps stores. done.stores k m0 m keeps (stores_still saved k m0 m stores);
         moment = leaves_after saved done.moment;
       }
@@ -122,13 +123,14 @@ module _ {D : Type 0} (state : D → DeviceState) (lawful : (d : D) → IsLawful
           let before = reads.looks.carries.failures in
           omega (arith, rose, before)
 
-      pub halts_after : Halts state b h → Halts state a h
-      halts_after halts = record {
+      pub halts_after : (most : ℕ) → HaltsLater state b h most → HaltsLater state a h most
+      halts_after most halts = record {
         carries = carries_then (state a.device) (state b.device) (state h.device) reads.looks.carries halts.carries;
         halted = halts.halted;
-        number = halts.number ∙ reads.number;
-        cause = λ k m0 m keeps is. (
-            let rose = halts.cause k m0 m keeps (held_still state a b k m0 m reads is) in
+        later = (let later = halts.later in let same = reads.number in omega (arith, later, same));
+        number = (let few = halts.number in let same = reads.number in omega (arith, few, same));
+        cause = λ k m0 m keeps is log. (
+            let rose = halts.cause k m0 m keeps (held_still state a b k m0 m reads is) log in
             let before = reads.looks.carries.failures in
             omega (arith, rose, before));
         left = λ k m0 m keeps is log. halts.left k m0 m keeps (held_still state a b k m0 m reads is) log;
@@ -166,9 +168,9 @@ module _ {D : Type 0} (state : D → DeviceState) (lawful : (d : D) → IsLawful
       model = λ p keeps at. (let r = at.running was in (each keeps r.checkpoint r.saved r.present p.state r.is).model p keeps at);
     }
 
-    -- a commit failed
-    pub halts_serves : IsTrue (may_write call) → new.table ≡ old.table → Halts state old.log new.log → Serves state old new call (Refuse refusal.Halted)
-    halts_serves may table halts = record {
+    -- a commit failed, or a pass
+    pub halts_serves : IsTrue (may_write call) → new.table ≡ old.table → (most : ℕ) → HaltsLater state old.log new.log most → Serves state old new call (Refuse refusal.Halted)
+    halts_serves may table most halts = record {
       carries = halts.carries;
       segments = λ e. absurd (let is = halts.halted in cc);
       orderly = λ e. absurd (let is = was in cc);
@@ -177,8 +179,8 @@ module _ {D : Type 0} (state : D → DeviceState) (lawful : (d : D) → IsLawful
       model = λ p keeps at. (
           let r = at.running was in
           halts_at state old new keeps (lawful old.log.device) (lawful new.log.device) halts.carries r.checkpoint r.saved r.present p.state r.is call p at refl was halts.halted
-          (let same = halts.number in omega (arith, same))
-          (halts.cause r.checkpoint r.saved r.present keeps r.is.stores.holds)
+          halts.later
+          (halts.cause r.checkpoint r.saved r.present keeps r.is.stores.holds (map_dropped state old new keeps (lawful old.log.device) (lawful new.log.device) halts.carries r.checkpoint r.saved r.present p.state r.is))
           (halts.moment r.checkpoint r.saved r.present keeps r.is.stores.holds (map_dropped state old new keeps (lawful old.log.device) (lawful new.log.device) halts.carries r.checkpoint r.saved r.present p.state r.is)));
     }
 
@@ -301,15 +303,16 @@ module _ {D : Type 0} (state : D → DeviceState) (lawful : (d : D) → IsLawful
       by_fault error.NoSpace down = same_by (Refuse refusal.NoSpace) tt down.0 (lacks_ends (still_new down.0) down.1)
       by_fault error.Worn down = same_by (Refuse refusal.Worn) tt down.0 (worn_ends (still_new down.0) (let same = still.reads.number in let high = down.1 in omega (arith, same, high)) down.2)
       by_fault error.Stuck down = declined_by (Refuse refusal.Stuck) (λ e. cc) (λ e. down.1) down.0 (λ keeps k m0 m s is.
-          stuck_serves state v (seen new) call (lawful v.log.device) (lawful new.store.log.device) was (declines_old down.0).once.number c (rest_old down.0) (declines_old down.0) (low_old down.0.young)
+          stuck_serves state v (seen new) call (lawful v.log.device) (lawful new.store.log.device) was (declines_old down.0).saves.number c (rest_old down.0) (declines_old down.0) (low_old down.0.young)
           (fits keeps k m0 m s is) change down.1)
       by_fault error.NoMemory down = declined_by (Refuse refusal.NoMemory) (λ e. cc) (λ e. absurd (cc)) down (λ keeps k m0 m s is.
-          no_room_serves state v (seen new) call (lawful v.log.device) (lawful new.store.log.device) was (declines_old down).once.number c (rest_old down) (declines_old down) (low_old down.young)
+          no_room_serves state v (seen new) call (lawful v.log.device) (lawful new.store.log.device) was (declines_old down).saves.number c (rest_old down) (declines_old down) (low_old down.young)
           (fits keeps k m0 m s is) change takes)
       by_fault error.Device down = declined_by (Refuse refusal.Device) (λ e. cc) (λ e. absurd (cc)) down.0 (λ keeps k m0 m s is.
-          accept_fault_serves state v (seen new) call (lawful v.log.device) (lawful new.store.log.device) was (declines_old down.0).once.number c (rest_old down.0) (declines_old down.0) (low_old down.0.young)
+          accept_fault_serves state v (seen new) call (lawful v.log.device) (lawful new.store.log.device) was (declines_old down.0).saves.number c (rest_old down.0) (declines_old down.0) (low_old down.0.young)
           (fits keeps k m0 m s is) change free (fault_old down.1))
-      by_fault error.Halted down = halts_serves v (seen new) call was (change_writes call change) table_same (halts_after v.log ready.store.log still.reads new.store.log down)
+      by_fault error.Halted down =
+          halts_serves v (seen new) call was (change_writes call change) table_same _ (halts_after v.log ready.store.log still.reads new.store.log (most_written ready.store.log ready.store.saved) down)
       by_fault error.NoEntry down = absurd down
       by_fault error.NotDir down = absurd down
       by_fault error.IsDir down = absurd down

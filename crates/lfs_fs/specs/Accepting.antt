@@ -1,8 +1,9 @@
 -- What becomes of a call's draft: it is staged where the volume has the space for it, or it isn't.
 use Rattle.std.specs.Prelude.{◌≡◌, ◌<◌, ◌≤◌, ◌+◌, ◌*◌, ◌^◌, ℕ, length}
 use Rattle.lfs_model.specs.Device.{DeviceState}
-use Rattle.lfs_store.specs.log.Held.{Halts, IsFull}
-use Rattle.lfs_store.specs.Accepting.{Accepts, Declines, IsAcceptFault}
+use Rattle.lfs_store.specs.cleaner.Room.{HaltsLater}
+use Rattle.lfs_store.specs.log.Held.{IsFull}
+use Rattle.lfs_store.specs.Accepting.{Accepts, Declines, IsAcceptFault, most_written}
 use Rattle.lfs_fs.specs.declared.error.FsError.{FsError}
 use Rattle.lfs_fs.specs.declared.error.FsError.TheVariants as error
 use Rattle.lfs_fs.specs.declared.fs.Fs.{Fs}
@@ -36,5 +37,5 @@ module _ {D : Type 0} (state : D → DeviceState) where
   TurnsDown old new error.Stuck = IsDeclined old new × IsFull new.store.log
   TurnsDown old new error.NoMemory = IsDeclined old new
   TurnsDown old new error.Device = IsDeclined old new × IsAcceptFault state old.store.log old.store.saved new.store.log old.store.draft.changes
-  TurnsDown old new error.Halted = Halts state old.store.log new.store.log
+  TurnsDown old new error.Halted = HaltsLater state old.store.log new.store.log (most_written old.store.log old.store.saved)
   TurnsDown old new _ = ⊥

@@ -1,6 +1,6 @@
 -- What contracts see of a mounted volume, the state that it is in, and what its calls do.
 -- The calls are those of POSIX.1-2017; which refusals are excused and what a stop leaves is an own choice.
-use Rattle.std.specs.Prelude.{◌≡◌, ◌≢◌, ◌⊎◌, ◌≤◌, ◌^◌, ℕ, Bool, true, false, ◌||◌, IsTrue, List, [], ◌∷◌, length, Some}
+use Rattle.std.specs.Prelude.{◌≡◌, ◌≢◌, ◌⊎◌, ◌≤◌, ◌+◌, ◌/◌, ◌^◌, ℕ, Bool, true, false, ◌||◌, IsTrue, List, [], ◌∷◌, length, Some}
 use Rattle.lfs_model.specs.Call.{Call, Open, Create, Close, Answer, Refuse, changes, cleans, commits}
 use Rattle.lfs_model.specs.Checkpoint.{CheckpointValue}
 use Rattle.lfs_model.specs.Device.{DeviceState, Carries, AllLeft, IsUntouched}
@@ -55,8 +55,8 @@ module _ {D : Type 0} (state : D → DeviceState) where
     pub handles : s.handles ≡ handles_of v.table
     pub counted : IsCounted m v.blocks v.others
     pub acknowledged : IsTree (segments_of v) m0
-    -- what isn't saved can be saved
-    pub ready : v.saved ≡ false → HasClean v.log × (v.log.number ≤ 2 ^ 62)
+    -- what isn't saved can be saved: the change began below the last number, and room was made for it
+    pub ready : v.saved ≡ false → HasClean v.log × (v.log.number ≤ 2 ^ 62 + segments_of v / 8)
 
   -- there are such log maps
   pub record Runs (v : Mounted D) (s : State) : Type 0 where

@@ -1,9 +1,11 @@
 -- What a store holds as it commits, makes room and stages its draft.
-use Rattle.std.specs.Prelude.{Result, Ok, Err, OnErr}
-use Rattle.std.proofs.Common.{◌≡◌, ◌≤◌, ◌+◌, ◌/◌, inl, inr, ⊎_elim, Bool, true, false, cond, ℕ, refl, sym, ◌∙◌, subst, arith}
+use Rattle.std.specs.Prelude.{Result, Ok, Err, OnErr, OnOk, min}
+use Rattle.std.proofs.Common.{◌≡◌, ◌<◌, ◌≤◌, ◌+◌, ◌-◌, ◌*◌, ◌/◌, ◌^◌, inl, inr, ⊎_elim, Bool, true, false, ℕ, length, refl, sym, ◌∙◌, ap, subst, arith}
 use Rattle.lfs_model.specs.Checkpoint.{CheckpointValue}
 use Rattle.lfs_model.specs.Crash.{StandsOn}
 use Rattle.lfs_model.specs.Device.{DeviceState, IsLawful, Carries, AllLeft, LeavesOnly}
+use Rattle.lfs_model.specs.Encodes.{IsLogMap}
+use Rattle.lfs_model.specs.Totals.{IsCounted}
 use Rattle.lfs_model.specs.Stands.{LogMap}
 use Rattle.lfs_model.specs.TreeOf.{dropped}
 use Rattle.lfs_model.proofs.Moments.{carries_none, carries_then, started, joined, weaker}
@@ -14,13 +16,21 @@ use Rattle.lfs_log.specs.memory.Batch.{room_for}
 use Rattle.lfs_log.proofs.of_memory.Looses.{loose}
 use Rattle.lfs_log.proofs.of_memory.Presents.{looks_quiet}
 use Rattle.lfs_log.proofs.Volumes.{same_segments}
-use Rattle.lfs_log.specs.Held.{Held, Holds, IsSaved, Saves, Alters, IsStaged, IsRefused, IsStageFault}
-use Rattle.lfs_store.specs.Accepting.{HasClean, Stores, StoresOver, LeavesEither, Commits, MakesRoom, Accepts, Declines, IsAcceptFault}
+use Rattle.lfs_log.specs.verify.declared.totals.BlockTotals.{BlockTotals}
+use Rattle.lfs_log.specs.Held.{Held, Halts, Holds, IsFull, IsSaved, Saves, Alters, IsStaged, IsRefused, IsStageFault}
+use Rattle.lfs_cleaner.specs.Room.{HaltsLater, HasQuarter, IsRoomFault, KeepsMap, MayNotMakeRoom, most_checkpoints}
+use Rattle.lfs_cleaner.proofs.RoomBounds.{same_need, segment_count}
+use Rattle.lfs_cleaner.proofs.Rooms.{fault_then, halts_at_once, halts_then, halts_weaker, keeps_none, keeps_saves, keeps_then, keeps_weaker}
+use Rattle.lfs_store.specs.Accepting.{HasClean, Stores, StoresOver, LeavesEither, Commits, Acknowledges, CannotMakeRoom, MakesRoom, Readies, SavesFew, Accepts, Declines, IsAcceptFault, most_written}
 
--- a commit writes one checkpoint, or none where all is saved
-pub one_more : (saved : Bool) (n n' : ℕ) → n' ≡ cond saved n (n + 1) → (n ≤ n') × (n' ≤ n + 1)
-one_more true n n' e = (omega (arith, e), omega (arith, e))
-one_more false n n' e = (omega (arith, e), omega (arith, e))
+-- where anything isn't saved a checkpoint is written
+written_most : (D : Type 0) (h : Held D) (saved : Bool) → most_written h saved ≤ length h.memory.usage.segments / 8 + 1
+written_most D h true = let le : length h.memory.usage.segments / 8 + min 1 (length h.memory.dirty.blocks) ≤ length h.memory.usage.segments / 8 + 1 = omega arith in le
+written_most D h false = let le : length h.memory.usage.segments / 8 + 1 ≤ length h.memory.usage.segments / 8 + 1 = omega arith in le
+
+written_least : (D : Type 0) (h : Held D) (saved : Bool) → length h.memory.usage.segments / 8 ≤ most_written h saved
+written_least D h true = let le : length h.memory.usage.segments / 8 ≤ length h.memory.usage.segments / 8 + min 1 (length h.memory.dirty.blocks) = omega arith in le
+written_least D h false = let le : length h.memory.usage.segments / 8 ≤ length h.memory.usage.segments / 8 + 1 = omega arith in le
 
 module _ {D : Type 0} (state : D → DeviceState) where
   -- what is left now stands for what is acknowledged
@@ -63,32 +73,217 @@ module _ {D : Type 0} (state : D → DeviceState) where
   }
 
   -- ---- room
-  pub room_none : (h : Held D) (saved : Bool) → IsLawful (state h.device) → MakesRoom state h saved h saved
-  room_none h saved lawful = record {
-    carries = carries_none (state h.device);
-    halted = refl;
-    segments = refl;
-    no_failure = refl;
-    once = record { number = omega arith; once = omega arith; ready = λ r. r };
-    stores = λ k m0 m keeps is map. record { checkpoint = k; acknowledged = m0; either = inl refl; segments = refl; stores = is };
-    moment = quiet h saved lawful;
+  pub room_none : (h : Held D) (saved : Bool) → IsLawful (state h.device) → h.halted ≡ false → MakesRoom state h saved h saved
+  room_none h saved lawful running = record {
+    keeps = keeps_weaker state h h 0 (most_written h saved) (keeps_none state h lawful running) (omega arith);
+    unsaved = λ e. (e, refl);
+    all = λ e. inl e;
   }
 
-  pub room_commit : (h h' : Held D) (saved : Bool) → Commits state h saved h' → MakesRoom state h saved h' true
-  room_commit h h' saved c = record {
-    carries = c.carries;
-    halted = c.running ∙ sym c.was_running;
-    segments = c.segments;
-    no_failure = c.no_failure;
-    once = (let n = one_more saved h.number h'.number c.number in record { number = n.0; once = n.1; ready = λ r never. absurd (cc) });
-    stores = λ k m0 m keeps is map. (
-        let n = c.stores k m0 m keeps is map in
-        record { checkpoint = n.0; acknowledged = dropped m; either = inr refl; segments = same_segments state h h' k n.0 m0 m (dropped m) m c.segments is.holds n.1.holds; stores = n.1 });
-    moment = c.moment;
+  pub readies_none : (h : Held D) (saved : Bool) → IsLawful (state h.device) → h.halted ≡ false → Readies state h saved h saved
+  readies_none h saved lawful running = record {
+    room = room_none h saved lawful running;
+    spent = omega arith;
+    able = λ k m0 m keeps can. (k, m0, can);
   }
+
+  pub readies_saves : (h h' : Held D) → Saves state h h' → h'.totals ≡ h.totals → Readies state h false h' true
+  readies_saves h h' s totals =
+      let none : length h'.memory.dirty.blocks ≡ 0 = ap length s.empty in
+      let size = s.segments in
+      let rose = s.number in
+      record {
+        room = record {
+          keeps = keeps_weaker state h h' 1 (most_written h false) (keeps_saves state h h' s totals) (omega arith);
+          unsaved = λ never. absurd (cc);
+          all = λ e. inr s.holds;
+        };
+        spent = (let spent : h'.number + (length h'.memory.usage.segments / 8 + min 1 (length h'.memory.dirty.blocks)) ≤ h.number + (length h.memory.usage.segments / 8 + 1) = omega (arith, none, size, rose) in spent);
+        able = λ k m0 m keeps can.
+            let next = s.holds k m0 m keeps can.stores.holds can.shown in
+            let most : h.number + (length h.memory.usage.segments / 8 + 1) ≤ 2 ^ 64 - 1 = can.number in (
+              next.0,
+              dropped m,
+              record {
+                stores = record { holds = next.1; nothing_new = λ e. refl };
+                map = can.map;
+                shown = can.shown;
+                counted = subst (λ (t : BlockTotals). IsCounted m t.data_blocks t.meta_blocks) (sym totals) can.counted;
+                need = same_need state h h' totals size can.need;
+                many = s.many;
+                enough = λ never. absurd (cc);
+                nothing = λ e. s.empty;
+                untaken = λ e. s.untaken;
+                number = (let fits : h'.number + (length h'.memory.usage.segments / 8 + min 1 (length h'.memory.dirty.blocks)) ≤ 2 ^ 64 - 1 = omega (arith, none, size, rose, most) in fits);
+              },
+            );
+      }
+
+  -- what is acknowledged stays so
+  acks_then : (a b c : Held D) (x : ℕ) → Acknowledges state a b → KeepsMap state b c x → Acknowledges state a c
+  acks_then a b c x acks two k m0 m keeps is map =
+      let one = acks k m0 m (two.carries.kept_before keeps) is map in
+      let over = two.holds one.0 (dropped m) m keeps one.1 map in
+      let same : over.acknowledged ≡ dropped m = ⊎_elim (λ (e : over.acknowledged ≡ dropped m). e) (λ (e : over.acknowledged ≡ dropped m). e) over.either in
+      (over.checkpoint, subst (λ (l : LogMap). Holds state c over.checkpoint l m) same over.holds)
+
+  acks_before : (a b c : Held D) (x : ℕ) → KeepsMap state a b x → Carries (state b.device) (state c.device) → Acknowledges state b c → Acknowledges state a c
+  acks_before a b c x one after acks k m0 m keeps is map =
+      let over = one.holds k m0 m (after.kept_before keeps) is map in
+      acks over.checkpoint over.acknowledged m keeps over.holds map
+
+  keeps_numbered : (a b : Held D) (x y : ℕ) → KeepsMap state a b x → b.number ≤ a.number + y → KeepsMap state a b y
+  keeps_numbered a b x y one few = record {
+    carries = one.carries;
+    running = one.running;
+    later = one.later;
+    number = few;
+    segments = one.segments;
+    totals = one.totals;
+    holds = one.holds;
+    moment = one.moment;
+  }
+
+  halts_numbered : (a b : Held D) (x y : ℕ) → HaltsLater state a b x → b.number ≤ a.number + y → HaltsLater state a b y
+  halts_numbered a b x y one few = record {
+    carries = one.carries;
+    halted = one.halted;
+    later = one.later;
+    number = few;
+    cause = one.cause;
+    left = one.left;
+    moment = one.moment;
+  }
+
+  -- ---- behind a commit, or nothing
+  module _ (a b c : Held D) (saved kept : Bool) (ready : Readies state a saved b kept) where
+    pub room_then : (after : Bool) → MakesRoom state b kept c after → MakesRoom state a saved c after
+    room_then after two =
+        let number = two.keeps.number in
+        let spent = ready.spent in
+        record {
+          keeps = keeps_numbered a c _ (most_written a saved) (keeps_then state a b c _ ready.room.keeps _ two.keeps) (omega (arith, number, spent));
+          unsaved = λ e. (let second = two.unsaved e in let first = ready.room.unsaved second.0 in (first.0, second.1 ∙ first.1));
+          all = λ e. ⊎_elim
+              (λ (was : kept ≡ true). ⊎_elim (λ (first : saved ≡ true). inl first) (λ (acks : Acknowledges state a b). inr (acks_then a b c _ acks two.keeps)) (ready.room.all was))
+              (λ (acks : Acknowledges state b c). inr (acks_before a b c _ ready.room.keeps two.keeps.carries acks))
+              (two.all e);
+        }
+
+    pub halts_after : HaltsLater state b c (most_written b kept) → HaltsLater state a c (most_written a saved)
+    halts_after halts =
+        let number = halts.number in
+        let spent = ready.spent in
+        halts_numbered a c _ (most_written a saved) (halts_then state a b c _ ready.room.keeps _ halts) (omega (arith, number, spent))
+
+    pub cannot_after : Carries (state b.device) (state c.device) → CannotMakeRoom state b kept c → CannotMakeRoom state a saved c
+    cannot_after after cannot k m0 m keeps can = let next = ready.able k m0 m (after.kept_before keeps) can in cannot next.0 next.1 m keeps next.2
+
+    pub fault_after : Carries (state b.device) (state c.device) → IsRoomFault state b c → IsRoomFault state a c
+    fault_after after failed = fault_then state a b c _ ready.room.keeps after failed
+
+  -- passes where all is saved
+  pub room_cleaned : (b c : Held D) → KeepsMap state b c (most_checkpoints b) → MakesRoom state b true c true
+  room_cleaned b c keeps = record { keeps = keeps; unsaved = λ never. absurd (cc); all = λ e. inl refl }
+
+  pub cannot_pass : (b c : Held D) → MayNotMakeRoom state b c → CannotMakeRoom state b true c
+  cannot_pass b c lacks k m0 m keeps can =
+      let none : length b.memory.dirty.blocks ≡ 0 = ap length (can.nothing refl) in
+      lacks k m0 m keeps (record {
+        holds = can.stores.holds;
+        map = can.map;
+        shown = can.shown;
+        counted = can.counted;
+        need = can.need;
+        many = can.many;
+        enough = λ (lt : 0 < length b.memory.dirty.blocks). absurd (omega (arith, lt, none));
+        untaken = λ e. can.untaken refl;
+        number = can.number;
+      })
+
+  -- they come behind a commit
+  module _ (a b c : Held D) (saved kept : Bool) (all : kept ≡ true) (ready : Readies state a saved b kept) where
+    ready_all : Readies state a saved b true
+    ready_all = subst (λ (flag : Bool). Readies state a saved b flag) all ready
+
+    pub clean_room : KeepsMap state b c (most_checkpoints b) → MakesRoom state a saved c kept
+    clean_room keeps = subst (λ (flag : Bool). MakesRoom state a saved c flag) (sym all) (room_then a b c saved true ready_all true (room_cleaned b c keeps))
+
+    pub clean_cannot : Carries (state b.device) (state c.device) → MayNotMakeRoom state b c → CannotMakeRoom state a saved c
+    clean_cannot after lacks = cannot_after a b c saved true ready_all after (cannot_pass b c lacks)
+
+    pub clean_halts : HaltsLater state b c (most_checkpoints b) → HaltsLater state a c (most_written a saved)
+    clean_halts halts = halts_after a b c saved true ready_all halts
+
+  -- nothing happened
+  pub room_same : (a b : Held D) (saved kept : Bool) → IsLawful (state a.device) → a.halted ≡ false → b ≡ a → kept ≡ saved → MakesRoom state a saved b kept
+  room_same a b saved kept lawful running same flag =
+      subst (λ (f : Bool). MakesRoom state a saved b f) (sym flag) (subst (λ (h : Held D). MakesRoom state a saved h saved) (sym same) (room_none a saved lawful running))
+
+  -- where room can be made a commit finds enough clean segments
+  pub cannot_commit : (h after : Held D) (saved : Bool) → IsLawful (state h.device) → saved ≡ false → IsFull h → CannotMakeRoom state h saved after
+  cannot_commit h after saved lawful unsaved full k m0 m keeps can =
+      let clean = can.enough unsaved in
+      let count = segment_count state h k m0 m lawful can.stores.holds in
+      let eighths = count.eighths in
+      let size = count.least in
+      let most = can.number in
+      let least = written_least D h saved in
+      ⊎_elim
+      (λ (few : 8 * clean_in h.memory.usage.segments < length h.memory.usage.segments + 64). omega (arith, eighths, clean, few))
+      (λ (high : 2 ^ 64 - 1 ≤ h.number). omega (arith, most, high, least, size))
+      full
+
+  -- and a quarter of the segments is enough for one
+  pub cannot_lack : (h after : Held D) (saved kept : Bool) → IsLawful (state after.device) → MakesRoom state h saved after kept → HasQuarter after
+      → clean_in after.memory.usage.segments < length after.memory.usage.segments / 8 + 8 → CannotMakeRoom state h saved after
+  cannot_lack h after saved kept lawful room quarter few k m0 m keeps can =
+      let over = room.keeps.holds k m0 m keeps can.stores.holds can.shown in
+      let least = (segment_count state after over.checkpoint over.acknowledged m lawful over.holds).least in
+      omega (arith, quarter, few, least)
+
+  -- a failed commit
+  pub halts_first : (a b : Held D) (saved : Bool) → Halts state a b → HaltsLater state a b (most_written a saved)
+  halts_first a b saved halts = halts_weaker state a b 0 _ (halts_at_once state a b halts) (omega arith)
+
+  -- ---- what room is to the store's log map
+  module _ (h : Held D) (saved : Bool) (h' : Held D) (saved' : Bool) (room : MakesRoom state h saved h' saved') where
+    pub saves_few : SavesFew h saved h' saved'
+    saves_few = record {
+      number = room.keeps.later;
+      few = (let number = room.keeps.number in let most = written_most D h saved in omega (arith, number, most));
+      ready = λ ready e. (let none = room.unsaved e in subst (λ (x : Held D). HasClean x) (sym none.1) (ready none.0));
+    }
+
+    pub room_stores : (k : CheckpointValue) (m0 m : LogMap) → (state h'.device).keeps_model → Stores state h saved k m0 m → IsLogMap (dropped m) → StoresOver state k.segments m0 m h' saved' m
+    room_stores k m0 m keeps is map = by_flag saved' refl
+      where
+        by_flag : (flag : Bool) → saved' ≡ flag → StoresOver state k.segments m0 m h' saved' m
+        by_flag true e =
+            ⊎_elim
+            (λ (was : saved ≡ true).
+            let over = room.keeps.holds k m0 m keeps is.holds map in
+            let new : over.acknowledged ≡ dropped m = ⊎_elim (λ (old : over.acknowledged ≡ m0). old ∙ is.nothing_new was) (λ (new : over.acknowledged ≡ dropped m). new) over.either in
+            record { checkpoint = over.checkpoint; acknowledged = over.acknowledged; either = over.either; segments = over.segments; stores = record { holds = over.holds; nothing_new = λ t. new } })
+            (λ (acks : Acknowledges state h h').
+            let next = acks k m0 m keeps is.holds map in
+            record {
+              checkpoint = next.0;
+              acknowledged = dropped m;
+              either = inr refl;
+              segments = same_segments state h h' k next.0 m0 m (dropped m) m room.keeps.segments is.holds next.1;
+              stores = record { holds = next.1; nothing_new = λ t. refl };
+            })
+            (room.all e)
+        by_flag false e =
+            let over = room.keeps.holds k m0 m keeps is.holds map in
+            record { checkpoint = over.checkpoint; acknowledged = over.acknowledged; either = over.either; segments = over.segments; stores = record { holds = over.holds; nothing_new = λ (t : saved' ≡ true). absurd (cc) } }
+
+    pub room_moment : LeavesEither state h saved h'
+    room_moment k m0 m keeps is map = room.keeps.moment k m0 m keeps is.holds map
 
   -- ---- the draft is staged, or refused
-  module _ (h mid h' : Held D) (saved kept : Bool) (c : Changes) (lawful : IsLawful (state mid.device)) (room : MakesRoom state h saved mid kept) (alters : Alters state mid h' (room_for c)) where
+  module _ (h mid h' : Held D) (saved kept : Bool) (c : Changes) (lawful : IsLawful (state mid.device)) (running : h.halted ≡ false) (room : MakesRoom state h saved mid kept) (alters : Alters state mid h' (room_for c)) where
     before : (state h'.device).keeps_model → (state mid.device).keeps_model
     before = alters.looks.carries.kept_before
 
@@ -107,30 +302,38 @@ module _ {D : Type 0} (state : D → DeviceState) where
     moments : LeavesEither state h saved h'
     moments k m0 m keeps is map =
         joined (state h.device) (state mid.device) (state h'.device) (IsSaved state k.segments m0 m) (IsSaved state k.segments m0 m) (IsSaved state k.segments m0 m)
-        (room.moment k m0 m (before keeps) is map) (still_either k.segments m0 m (room.stores k m0 m (before keeps) is map)) (λ x p. p) (λ x p. p)
+        (room_moment h saved mid kept room k m0 m (before keeps) is map) (still_either k.segments m0 m (room_stores h saved mid kept room k m0 m (before keeps) is map)) (λ x p. p) (λ x p. p)
 
     carried : Carries (state h.device) (state h'.device)
-    carried = carries_then (state h.device) (state mid.device) (state h'.device) room.carries alters.looks.carries
+    carried = carries_then (state h.device) (state mid.device) (state h'.device) room.keeps.carries alters.looks.carries
 
     enough_after : HasClean mid → HasClean h'
     enough_after enough =
         let same = alters.clean in
         subst (λ (n : ℕ). n / 8 + 8 ≤ clean_in h'.memory.usage.segments) (sym alters.segments) (omega (arith, enough, same))
 
+    saved_after : HasClean mid → SavesFew h saved h' false
+    saved_after enough =
+        let same = alters.number in
+        let few = saves_few h saved mid kept room in
+        let later = few.number in
+        let most = few.few in
+        record {
+          number = omega (arith, later, same);
+          few = omega (arith, most, same);
+          ready = λ r e. enough_after enough;
+        }
+
     pub accepts : HasClean mid → IsStaged state mid h' c → Accepts state h saved h' false c
     accepts enough s = record {
       carries = carried;
-      halted = alters.halted ∙ room.halted;
-      segments = alters.segments ∙ room.segments;
+      halted = alters.halted ∙ room.keeps.running ∙ sym running;
+      segments = alters.segments ∙ room.keeps.segments;
       enough = enough_after enough;
       unsaved = refl;
-      once = record {
-        number = (let n = room.once.number in let same = alters.number in omega (arith, n, same));
-        once = (let n = room.once.once in let same = alters.number in omega (arith, n, same));
-        ready = λ r e. enough_after enough;
-      };
+      saves = saved_after enough;
       stores = λ k m0 m keeps is fits map. (
-          let over = room.stores k m0 m (before keeps) is map in
+          let over = room_stores h saved mid kept room k m0 m (before keeps) is map in
           record {
             checkpoint = over.checkpoint;
             acknowledged = over.acknowledged;
@@ -144,15 +347,11 @@ module _ {D : Type 0} (state : D → DeviceState) where
     pub declines : HasClean mid → IsRefused state mid h' c → Declines state h saved h' false c
     declines enough s = record {
       carries = carried;
-      halted = alters.halted ∙ room.halted;
-      segments = alters.segments ∙ room.segments;
-      once = record {
-        number = (let n = room.once.number in let same = alters.number in omega (arith, n, same));
-        once = (let n = room.once.once in let same = alters.number in omega (arith, n, same));
-        ready = λ r e. enough_after enough;
-      };
+      halted = alters.halted ∙ room.keeps.running ∙ sym running;
+      segments = alters.segments ∙ room.keeps.segments;
+      saves = saved_after enough;
       stores = λ k m0 m keeps is fits map. (
-          let over = room.stores k m0 m (before keeps) is map in
+          let over = room_stores h saved mid kept room k m0 m (before keeps) is map in
           record {
             checkpoint = over.checkpoint;
             acknowledged = over.acknowledged;
@@ -165,23 +364,31 @@ module _ {D : Type 0} (state : D → DeviceState) where
 
     pub accept_fault : IsStageFault state mid h' c → IsAcceptFault state h saved h' c
     accept_fault failed k m0 m keeps is fits map =
-        let over = room.stores k m0 m (before keeps) is map in
+        let over = room_stores h saved mid kept room k m0 m (before keeps) is map in
         let more = failed over.checkpoint over.acknowledged m keeps over.stores.holds fits in
-        let same = room.no_failure in
-        omega (arith, more, same)
+        let before = room.keeps.carries.failures in
+        omega (arith, more, before)
 
   -- no room is made
-  pub declines_full : (h h' : Held D) (saved kept : Bool) (c : Changes) → MakesRoom state h saved h' kept → Declines state h saved h' kept c
-  declines_full h h' saved kept c room = record {
-    carries = room.carries;
-    halted = room.halted;
-    segments = room.segments;
-    once = room.once;
-    stores = λ k m0 m keeps is fits map. room.stores k m0 m keeps is map;
-    moment = room.moment;
+  pub declines_room : (h h' : Held D) (saved kept : Bool) (c : Changes) → h.halted ≡ false → MakesRoom state h saved h' kept → Declines state h saved h' kept c
+  declines_room h h' saved kept c running room = record {
+    carries = room.keeps.carries;
+    halted = room.keeps.running ∙ sym running;
+    segments = room.keeps.segments;
+    saves = saves_few h saved h' kept room;
+    stores = λ k m0 m keeps is fits map. room_stores h saved h' kept room k m0 m keeps is map;
+    moment = room_moment h saved h' kept room;
   }
+
+  pub room_fault : (h h' : Held D) (saved : Bool) (c : Changes) → IsRoomFault state h h' → IsAcceptFault state h saved h' c
+  room_fault h h' saved c failed k m0 m keeps is fits map = failed k m0 m keeps is.holds map
 
 -- what holds of any error holds of this one
 pub where_err : {T E : Type 0} (r : Result T E) (P : Type 0) (e : E) → r ≡ Err e → OnErr r P → P
 where_err (Ok x) P e is p = absurd (cc)
 where_err (Err f) P e is p = p
+
+-- what holds anyhow holds of a success
+pub where_ok : {T E : Type 0} (r : Result T E) (P : Type 0) → P → OnOk r P
+where_ok (Ok x) P p = p
+where_ok (Err f) P p = tt

@@ -27,4 +27,5 @@ pub mod Forgotten
 pub mod TreeTotals
 pub mod StoreSeen
 pub use Rattle.lfs_log.proofs as of_log
+pub use Rattle.lfs_cleaner.proofs as of_cleaner
 pub use Rattle.lfs_log.proofs.of_memory

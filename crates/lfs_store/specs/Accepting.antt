@@ -1,5 +1,5 @@
 -- A store over its log: what it holds from a mount on, as drafts are staged and commits save them.
-use Rattle.std.specs.Prelude.{◌≡◌, ◌⊎◌, ◌<◌, ◌≤◌, ◌+◌, ◌/◌, ℕ, Bool, true, false, cond, length}
+use Rattle.std.specs.Prelude.{◌≡◌, ◌⊎◌, ◌<◌, ◌≤◌, ◌+◌, ◌-◌, ◌*◌, ◌/◌, ◌^◌, ℕ, Bool, true, false, cond, min, [], length}
 use Rattle.lfs_model.specs.Checkpoint.{CheckpointValue}
 use Rattle.lfs_model.specs.Crash.{StandsOn}
 use Rattle.lfs_model.specs.Device.{DeviceState, Carries, LeavesOnly, AllLeft}
@@ -14,6 +14,9 @@ use Rattle.lfs_log.specs.memory.Batch.{room_for, staged, FitsBatch}
 use Rattle.lfs_log.specs.memory.Removing.{without_file}
 use Rattle.lfs_log.specs.segments.Table.{clean_in}
 use Rattle.lfs_log.specs.Held.{Held, Holds, IsSaved}
+use Rattle.lfs_model.specs.Totals.{IsCounted}
+use Rattle.lfs_log.specs.Publishing.{AreUntaken}
+use Rattle.lfs_cleaner.specs.Room.{IsWithin, KeepsMap}
 
 -- A mount's refusal that isn't of memory. Where the content stands for a log map it is Device, and a call of the device failed.
 abbrev pub IsMountRefusal : DeviceState → DeviceState → MountFault → Type 0
@@ -28,10 +31,15 @@ HasClean h = length h.memory.usage.segments / 8 + 8 ≤ clean_in h.memory.usage.
 abbrev pub HasRoomFor : {D : Type 0} → Held D → Changes → Type 0
 HasRoomFor h c = (h.halted ≡ false) × (length h.memory.dirty.blocks + room_for c ≤ 456)
 
--- At most one checkpoint is written, and where there was room for what isn't saved there still is.
-pub record SavesOnce {D : Type 0} (h : Held D) (saved : Bool) (h' : Held D) (saved' : Bool) : Type 0 where
+-- how many checkpoints are written at most as room is made: one where anything isn't saved, and one for each pass of the cleaner
+abbrev pub most_written : {D : Type 0} → Held D → Bool → ℕ
+most_written h saved =
+    length h.memory.usage.segments / 8 + cond saved (min 1 (length h.memory.dirty.blocks)) 1
+
+-- At most so many checkpoints are written, and where there was room for what isn't saved there still is.
+pub record SavesFew {D : Type 0} (h : Held D) (saved : Bool) (h' : Held D) (saved' : Bool) : Type 0 where
   pub number : h.number ≤ h'.number
-  pub once : h'.number ≤ h.number + 1
+  pub few : h'.number ≤ h.number + length h.memory.usage.segments / 8 + 1
   pub ready : (saved ≡ false → HasClean h) → saved' ≡ false → HasClean h'
 
 module _ {D : Type 0} (state : D → DeviceState) where
@@ -70,15 +78,44 @@ module _ {D : Type 0} (state : D → DeviceState) where
     pub segments : checkpoint.segments ≡ N
     pub stores : Stores h saved checkpoint acknowledged m'
 
-  -- Room for a draft is made by a commit, or was there.
+  -- the log map, without its files of no links, is acknowledged then
+  abbrev pub Acknowledges : Held D → Held D → Type 0
+  Acknowledges h h' = (k : CheckpointValue) (m0 m : LogMap) → (state h'.device).keeps_model
+      → Holds state h k m0 m → IsLogMap (dropped m)
+      → (next : CheckpointValue) × Holds state h' next (dropped m) m
+
+  -- Room is made by a commit and by passes of the cleaner, or nothing is done. What isn't saved after it wasn't before.
   pub record MakesRoom (h : Held D) (saved : Bool) (h' : Held D) (saved' : Bool) : Type 0 where
-    pub carries : Carries (state h.device) (state h'.device)
-    pub halted : h'.halted ≡ h.halted
-    pub segments : length h'.memory.usage.segments ≡ length h.memory.usage.segments
-    pub no_failure : (state h'.device).failures ≡ (state h.device).failures
-    pub once : SavesOnce h saved h' saved'
-    pub stores : (k : CheckpointValue) (m0 m : LogMap) → (state h'.device).keeps_model → Stores h saved k m0 m → IsLogMap (dropped m) → StoresOver k.segments m0 m h' saved' m
-    pub moment : LeavesEither h saved h'
+    pub keeps : KeepsMap state h h' (most_written h saved)
+    pub unsaved : saved' ≡ false → (saved ≡ false) × (h' ≡ h)
+    pub all : saved' ≡ true → (saved ≡ true) ⊎ Acknowledges h h'
+
+  -- Where room can be made: the need of log map m is within the volume, an eighth of the segments is clean, and enough for a commit
+  -- where anything isn't saved, and numbers are left for the checkpoints.
+  pub record CanMakeRoom (h : Held D) (saved : Bool) (k : CheckpointValue) (m0 m : LogMap) : Type 0 where
+    pub stores : Stores h saved k m0 m
+    pub map : IsLogMap m
+    pub shown : IsLogMap (dropped m)
+    pub counted : IsCounted m h.totals.data_blocks h.totals.meta_blocks
+    pub need : IsWithin h
+    pub many : length h.memory.usage.segments ≤ 8 * clean_in h.memory.usage.segments
+    pub enough : saved ≡ false → HasClean h
+    pub nothing : saved ≡ true → h.memory.dirty.blocks ≡ []
+    pub untaken : saved ≡ true → AreUntaken h.memory.usage
+    pub number : h.number + most_written h saved ≤ 2 ^ 64 - 1
+
+  -- the store had no log map beside which room can be made
+  abbrev pub CannotMakeRoom : Held D → Bool → Held D → Type 0
+  CannotMakeRoom h saved h' = (k : CheckpointValue) (m0 m : LogMap) → (state h'.device).keeps_model
+      → CanMakeRoom h saved k m0 m → ⊥
+
+  -- What isn't saved is committed, or nothing is done: room can be made still.
+  pub record Readies (h : Held D) (saved : Bool) (h' : Held D) (saved' : Bool) : Type 0 where
+    pub room : MakesRoom h saved h' saved'
+    pub spent : h'.number + most_written h' saved' ≤ h.number + most_written h saved
+    pub able : (k : CheckpointValue) (m0 m : LogMap) → (state h'.device).keeps_model
+        → CanMakeRoom h saved k m0 m
+        → (next : CheckpointValue) × (m1 : LogMap) × CanMakeRoom h' saved' next m1 m
 
   -- A draft is staged: the store has the log map with all its changes, and enough segments are clean for a commit.
   pub record Accepts (h : Held D) (saved : Bool) (h' : Held D) (saved' : Bool) (c : Changes) : Type 0 where
@@ -87,7 +124,7 @@ module _ {D : Type 0} (state : D → DeviceState) where
     pub segments : length h'.memory.usage.segments ≡ length h.memory.usage.segments
     pub enough : HasClean h'
     pub unsaved : saved' ≡ false
-    pub once : SavesOnce h saved h' saved'
+    pub saves : SavesFew h saved h' saved'
     pub stores : (k : CheckpointValue) (m0 m : LogMap) → (state h'.device).keeps_model → Stores h saved k m0 m → FitsBatch m c → IsLogMap (dropped m) → StoresOver k.segments m0 m h' saved' (staged c m)
     pub moment : LeavesEither h saved h'
 
@@ -96,7 +133,7 @@ module _ {D : Type 0} (state : D → DeviceState) where
     pub carries : Carries (state h.device) (state h'.device)
     pub halted : h'.halted ≡ h.halted
     pub segments : length h'.memory.usage.segments ≡ length h.memory.usage.segments
-    pub once : SavesOnce h saved h' saved'
+    pub saves : SavesFew h saved h' saved'
     pub stores : (k : CheckpointValue) (m0 m : LogMap) → (state h'.device).keeps_model → Stores h saved k m0 m → FitsBatch m c → IsLogMap (dropped m) → StoresOver k.segments m0 m h' saved' m
     pub moment : LeavesEither h saved h'
 

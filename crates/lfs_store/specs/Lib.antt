@@ -8,5 +8,6 @@ pub mod Measuring
 pub mod Recounting
 pub mod Seen
 pub use Rattle.lfs_log.specs as log
+pub use Rattle.lfs_cleaner.specs as cleaner
 pub use Rattle.lfs_log.specs.memory
 pub use Rattle.lfs_log.specs.segments

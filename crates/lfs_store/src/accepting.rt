@@ -1,5 +1,5 @@
 //! A store from its mount on: a draft is staged after room is made for it, and a commit saves what was staged.
-ghost use Rattle.std.specs.Prelude.{◌≡◌, ◌≢◌, ◌<◌, ◌≤◌, ◌+◌, ◌/◌, true, false, length, IfOk, IfErr, OnOk, OnErr, IsErrOf, ◌⊎◌, MatchResult, IsTrue, IsFalse};
+ghost use Rattle.std.specs.Prelude.{◌≡◌, ◌≢◌, ◌<◌, ◌≤◌, ◌+◌, ◌*◌, ◌/◌, true, false, length, IfOk, IfErr, OnOk, OnErr, IsErrOf, ◌⊎◌, MatchResult, IsTrue, IsFalse};
 ghost use Rattle.lfs_model.specs.Device.{Only, IsUntouched, Carries, LeavesOnly};
 ghost use Rattle.lfs_log.specs.segments.Table.{clean_in};
 ghost use Rattle.lfs_log.specs.verify.Verified.{HasLogMap, IsRefusedLog};
@@ -8,6 +8,7 @@ ghost use Rattle.lfs_log.specs.memory.Batch.{IsNoChange, room_for};
 
 use crate::draft::Draft;
 use crate::store::Store;
+use lfs_cleaner::{has_quarter, make_room};
 use lfs_device::SectorDevice;
 use lfs_files::StoreFault;
 use lfs_log::{Log, LogFault, MountFault};
@@ -21,8 +22,9 @@ const MOST_BLOCKS: usize = 140;
 
 impl<D: SectorDevice> Store<D> {
     ghost use Rattle.lfs_log.specs.Held.{Halts, IsFull};
+    ghost use Rattle.lfs_cleaner.specs.Room.{HaltsLater, HasQuarter, IsRoomFault};
     ghost use Rattle.lfs_store.specs.Recounting.{MountsTotals};
-    ghost use Rattle.lfs_store.specs.Accepting.{MountsStore, Commits, MakesRoom, Accepts, Declines, IsAcceptFault, HasClean, HasRoomFor};
+    ghost use Rattle.lfs_store.specs.Accepting.{MountsStore, Commits, MakesRoom, Readies, CannotMakeRoom, Accepts, Declines, IsAcceptFault, HasClean, HasRoomFor, most_written};
 
     /// The volume that the newest checkpoint of the device leads to, with its totals and an empty draft; else why there is none, and the
     /// device. It writes nothing, and takes the memory that later calls need.
@@ -77,6 +79,8 @@ impl<D: SectorDevice> Store<D> {
     /// here or in a commit before.
     pub fn commit(&mut self) -> Result<(), LogFault>
         ensures done { OnOk result (Commits D.SectorDevice.state self.old.log self.old.saved self.new.log) }
+        ensures ready { OnOk result (Readies D.SectorDevice.state self.old.log self.old.saved
+            self.new.log self.new.saved) }
         ensures saved { OnOk result (self.new.saved ≡ true) }
         ensures same { OnErr result (self.new.saved ≡ self.old.saved) }
         ensures draft { self.new.draft ≡ self.old.draft }
@@ -110,9 +114,55 @@ impl<D: SectorDevice> Store<D> {
         self.drafted = self.log.totals();
     }
 
+    /// Makes a quarter of the segments clean, where fewer are: a commit saves what isn't saved, and passes of the cleaner follow, an
+    /// eighth of the segments times at most. The draft stays as it is. It takes no memory.
+    ///
+    /// # Errors
+    ///
+    /// With the files as they were: `Full` where too few segments are clean for the commit or a pass, `Device` where a call of the
+    /// device failed before anything more was written. `Halted` where one failed later, or in a commit before.
+    pub fn clean(&mut self) -> Result<(), LogFault>
+        ensures done { OnOk result (MakesRoom D.SectorDevice.state self.old.log self.old.saved
+            self.new.log self.new.saved) }
+        ensures enough { OnOk result (HasQuarter self.new.log) }
+        ensures draft { self.new.draft ≡ self.old.draft }
+        ensures totals { self.new.log.totals ≡ self.old.log.totals }
+        ensures drafted { self.new.drafted ≡ self.old.drafted }
+        ensures full { IsErrOf result LogFault.Full →
+            MakesRoom D.SectorDevice.state self.old.log self.old.saved self.new.log self.new.saved }
+        ensures never { IsErrOf result LogFault.Full
+            → CannotMakeRoom D.SectorDevice.state self.old.log self.old.saved self.new.log }
+        ensures kept { IsErrOf result LogFault.Device →
+            MakesRoom D.SectorDevice.state self.old.log self.old.saved self.new.log self.new.saved }
+        ensures failed { IsErrOf result LogFault.Device
+            → IsRoomFault D.SectorDevice.state self.old.log self.new.log }
+        ensures halted { IsErrOf result LogFault.Halted → self.old.log.halted ≢ true
+            → HaltsLater D.SectorDevice.state self.old.log self.new.log
+            (most_written self.old.log self.old.saved) }
+        ensures still { self.old.log.halted ≡ true → (self.new.log ≡ self.old.log)
+            × (self.new.saved ≡ self.old.saved) × IsErrOf result LogFault.Halted }
+    {
+        if self.log.is_halted() {
+            return Err(LogFault::Halted);
+        }
+        if has_quarter(&self.log) {
+            return Ok(());
+        }
+        match self.commit() {
+            Ok(()) => {}
+            Err(fault) => return Err(fault),
+        }
+        match make_room(&mut self.log) {
+            Ok(()) => Ok(()),
+            Err(fault) => Err(fault),
+        }
+    }
+
     /// Whether so few segments are clean that a commit might find too few.
     fn lacks_segments(&self) -> bool
         ensures few { IsTrue result → IsFull self.now.log }
+        ensures lacks { IsTrue result → clean_in self.now.log.memory.usage.segments
+            < length self.now.log.memory.usage.segments / 8 + 8 }
         ensures enough { IsFalse result → length self.now.log.memory.usage.segments / 8 + 8 ≤ clean_in self.now.log.memory.usage.segments }
     {
         self.log.clean_segments() < self.log.segments() / 8 + 8
@@ -120,54 +170,117 @@ impl<D: SectorDevice> Store<D> {
 
     /// Commits where memory has no room for the draft, and only there.
     fn find_room(&mut self) -> Result<(), LogFault>
-        ensures done { OnOk result (MakesRoom D.SectorDevice.state self.old.log self.old.saved
+        requires { self.old.log.halted ≡ false }
+        ensures done { OnOk result (Readies D.SectorDevice.state self.old.log self.old.saved
             self.new.log self.new.saved) }
         ensures room { OnOk result (self.new.saved ≡ false →
             length self.new.log.memory.dirty.blocks + room_for self.new.draft.changes
             ≤ self.new.log.memory.dirty.capacity.limit) }
         ensures quiet { HasRoomFor self.old.log self.old.draft.changes → self.new.log ≡ self.old.log }
         ensures draft { self.new.draft ≡ self.old.draft }
-        ensures totals { self.new.log.totals ≡ self.old.log.totals }
         ensures drafted { self.new.drafted ≡ self.old.drafted }
-        ensures full { IsErrOf result LogFault.Full →
-            MakesRoom D.SectorDevice.state self.old.log self.old.saved self.new.log self.new.saved }
-        ensures lacks { IsErrOf result LogFault.Full → IsFull self.new.log }
-        ensures halted { IsErrOf result LogFault.Halted → self.old.log.halted ≢ true →
+        ensures full { IsErrOf result LogFault.Full → (self.new.log ≡ self.old.log)
+            × (self.new.saved ≡ self.old.saved) }
+        ensures lacks { IsErrOf result LogFault.Full → IsFull self.old.log }
+        ensures unsaved { IsErrOf result LogFault.Full → self.old.saved ≡ false }
+        ensures halted { IsErrOf result LogFault.Halted →
             Halts D.SectorDevice.state self.old.log self.new.log }
+        ensures totals { self.new.log.totals ≡ self.old.log.totals }
         ensures other { IsErrOf result LogFault.Device → ⊥ }
     {
         if self.log.has_room(&self.draft.changes) {
             return Ok(());
         }
-        self.commit()?;
+        match self.commit() {
+            Ok(()) => Ok(()),
+            Err(fault) => Err(fault),
+        }
+    }
+
+    /// Tells whether enough segments are clean for a commit.
+    fn check_segments(&self) -> Result<(), LogFault>
+        ensures enough { OnOk result (HasClean self.now.log) }
+        ensures full { IsErrOf result LogFault.Full → IsFull self.now.log }
+        ensures lacks { IsErrOf result LogFault.Full → clean_in self.now.log.memory.usage.segments
+            < length self.now.log.memory.usage.segments / 8 + 8 }
+        ensures device { IsErrOf result LogFault.Device → ⊥ }
+        ensures halted { IsErrOf result LogFault.Halted → ⊥ }
+    {
+        if self.lacks_segments() {
+            return Err(LogFault::Full);
+        }
         Ok(())
     }
 
+    /// Cleans segments, and tells whether enough are clean for a commit then.
+    fn find_segments(&mut self) -> Result<(), LogFault>
+        requires { self.old.log.halted ≡ false }
+        ensures done { OnOk result (MakesRoom D.SectorDevice.state self.old.log self.old.saved
+            self.new.log self.new.saved) }
+        ensures enough { OnOk result (HasClean self.new.log) }
+        ensures draft { self.new.draft ≡ self.old.draft }
+        ensures totals { self.new.log.totals ≡ self.old.log.totals }
+        ensures drafted { self.new.drafted ≡ self.old.drafted }
+        ensures full { IsErrOf result LogFault.Full →
+            MakesRoom D.SectorDevice.state self.old.log self.old.saved self.new.log self.new.saved }
+        ensures lacks { IsErrOf result LogFault.Full → IsFull self.new.log }
+        ensures never { IsErrOf result LogFault.Full
+            → CannotMakeRoom D.SectorDevice.state self.old.log self.old.saved self.new.log }
+        ensures kept { IsErrOf result LogFault.Device →
+            MakesRoom D.SectorDevice.state self.old.log self.old.saved self.new.log self.new.saved }
+        ensures failed { IsErrOf result LogFault.Device
+            → IsRoomFault D.SectorDevice.state self.old.log self.new.log }
+        ensures halted { IsErrOf result LogFault.Halted
+            → HaltsLater D.SectorDevice.state self.old.log self.new.log
+            (most_written self.old.log self.old.saved) }
+    {
+        match self.clean() {
+            Ok(()) => self.check_segments(),
+            Err(LogFault::Full) => self.check_segments(),
+            Err(LogFault::Device) => Err(LogFault::Device),
+            Err(LogFault::Halted) => Err(LogFault::Halted),
+        }
+    }
+
     /// Readies the log for a change, the only place that knows when one may begin: memory has room for the draft, else a commit makes it;
-    /// and enough segments are clean for the commit that saves it.
+    /// and enough segments are clean for the commit that saves it, else the cleaner makes them so.
     fn prepare_change(&mut self) -> Result<(), LogFault>
+        requires { self.old.log.halted ≡ false }
         ensures done { OnOk result (MakesRoom D.SectorDevice.state self.old.log self.old.saved
             self.new.log self.new.saved) }
         ensures enough { OnOk result (HasClean self.new.log) }
         ensures room { OnOk result (self.new.saved ≡ false →
             length self.new.log.memory.dirty.blocks + room_for self.new.draft.changes
             ≤ self.new.log.memory.dirty.capacity.limit) }
-        ensures quiet { HasRoomFor self.old.log self.old.draft.changes → self.new.log ≡ self.old.log }
+        ensures quiet { HasRoomFor self.old.log self.old.draft.changes → HasClean self.old.log
+            → self.new.log ≡ self.old.log }
         ensures draft { self.new.draft ≡ self.old.draft }
         ensures totals { self.new.log.totals ≡ self.old.log.totals }
         ensures drafted { self.new.drafted ≡ self.old.drafted }
         ensures full { IsErrOf result LogFault.Full →
             MakesRoom D.SectorDevice.state self.old.log self.old.saved self.new.log self.new.saved }
         ensures lacks { IsErrOf result LogFault.Full → IsFull self.new.log }
-        ensures halted { IsErrOf result LogFault.Halted → self.old.log.halted ≢ true →
-            Halts D.SectorDevice.state self.old.log self.new.log }
-        ensures other { IsErrOf result LogFault.Device → ⊥ }
+        ensures never { IsErrOf result LogFault.Full
+            → CannotMakeRoom D.SectorDevice.state self.old.log self.old.saved self.new.log }
+        ensures kept { IsErrOf result LogFault.Device →
+            MakesRoom D.SectorDevice.state self.old.log self.old.saved self.new.log self.new.saved }
+        ensures failed { IsErrOf result LogFault.Device
+            → IsRoomFault D.SectorDevice.state self.old.log self.new.log }
+        ensures halted { IsErrOf result LogFault.Halted
+            → HaltsLater D.SectorDevice.state self.old.log self.new.log
+            (most_written self.old.log self.old.saved) }
     {
-        self.find_room()?;
-        if self.lacks_segments() {
-            return Err(LogFault::Full);
+        match self.find_room() {
+            Ok(()) => {}
+            Err(fault) => return Err(fault),
         }
-        Ok(())
+        if !self.lacks_segments() {
+            return Ok(());
+        }
+        match self.find_segments() {
+            Ok(()) => Ok(()),
+            Err(fault) => Err(fault),
+        }
     }
 
     /// Stages the draft, and leaves it as it is.
@@ -178,12 +291,16 @@ impl<D: SectorDevice> Store<D> {
         ensures done { OnOk result (Accepts D.SectorDevice.state self.old.log self.old.saved self.new.log self.new.saved self.old.draft.changes) }
         ensures full { IsErrOf result (StoreFault.Log LogFault.Full) → Declines D.SectorDevice.state self.old.log self.old.saved self.new.log self.new.saved self.old.draft.changes }
         ensures lacks { IsErrOf result (StoreFault.Log LogFault.Full) → IsFull self.new.log }
+        ensures never { IsErrOf result (StoreFault.Log LogFault.Full)
+            → CannotMakeRoom D.SectorDevice.state self.old.log self.old.saved self.new.log }
         ensures memory { IsErrOf result StoreFault.NoMemory → Declines D.SectorDevice.state self.old.log self.old.saved self.new.log self.new.saved self.old.draft.changes }
         ensures device { IsErrOf result (StoreFault.Log LogFault.Device) → Declines D.SectorDevice.state self.old.log self.old.saved self.new.log self.new.saved self.old.draft.changes }
         ensures failed { IsErrOf result (StoreFault.Log LogFault.Device) → IsAcceptFault D.SectorDevice.state self.old.log self.old.saved self.new.log self.old.draft.changes }
-        ensures halted { IsErrOf result (StoreFault.Log LogFault.Halted) → self.old.log.halted ≢ true → Halts D.SectorDevice.state self.old.log self.new.log }
-        ensures quiet { HasRoomFor self.old.log self.old.draft.changes →
-            self.new.log.number ≡ self.old.log.number }
+        ensures halted { IsErrOf result (StoreFault.Log LogFault.Halted) → self.old.log.halted ≢ true
+            → HaltsLater D.SectorDevice.state self.old.log self.new.log
+            (most_written self.old.log self.old.saved) }
+        ensures quiet { HasRoomFor self.old.log self.old.draft.changes → HasClean self.old.log
+            → self.new.log.number ≡ self.old.log.number }
         ensures still { self.old.log.halted ≡ true → (self.new.log ≡ self.old.log) × (self.new.saved ≡ self.old.saved) × IsErrOf result (StoreFault.Log LogFault.Halted) }
     {
         if self.log.is_halted() {
@@ -205,11 +322,12 @@ impl<D: SectorDevice> Store<D> {
         }
     }
 
-    /// Stages the draft whole, or not at all; a commit comes before it where memory has no room for it, and only there. The draft is empty afterwards.
+    /// Stages the draft whole, or not at all. A commit comes before it where memory has no room for it, and passes of the cleaner where
+    /// too few segments are clean, and only there. The draft is empty afterwards.
     ///
     /// # Errors
     ///
-    /// With the files as they were: `Full` where too few segments are clean, `NoMemory` where memory has no room though all is saved (then
+    /// With the files as they were: `Full` where too few segments are clean even so, `NoMemory` where memory has no room though all is saved (then
     /// the next call commits first), `Device` where a call of the device failed. `Halted` once a commit failed, in this call or before.
     pub fn accept(&mut self) -> Result<(), StoreFault>
         ensures counted { OnOk result (self.new.log.totals ≡ self.old.drafted) }
@@ -219,12 +337,16 @@ impl<D: SectorDevice> Store<D> {
         ensures draft { IsNoChange self.new.draft.changes }
         ensures full { IsErrOf result (StoreFault.Log LogFault.Full) → Declines D.SectorDevice.state self.old.log self.old.saved self.new.log self.new.saved self.old.draft.changes }
         ensures lacks { IsErrOf result (StoreFault.Log LogFault.Full) → IsFull self.new.log }
+        ensures never { IsErrOf result (StoreFault.Log LogFault.Full)
+            → CannotMakeRoom D.SectorDevice.state self.old.log self.old.saved self.new.log }
         ensures memory { IsErrOf result StoreFault.NoMemory → Declines D.SectorDevice.state self.old.log self.old.saved self.new.log self.new.saved self.old.draft.changes }
         ensures device { IsErrOf result (StoreFault.Log LogFault.Device) → Declines D.SectorDevice.state self.old.log self.old.saved self.new.log self.new.saved self.old.draft.changes }
         ensures failed { IsErrOf result (StoreFault.Log LogFault.Device) → IsAcceptFault D.SectorDevice.state self.old.log self.old.saved self.new.log self.old.draft.changes }
-        ensures halted { IsErrOf result (StoreFault.Log LogFault.Halted) → self.old.log.halted ≢ true → Halts D.SectorDevice.state self.old.log self.new.log }
-        ensures quiet { HasRoomFor self.old.log self.old.draft.changes →
-            self.new.log.number ≡ self.old.log.number }
+        ensures halted { IsErrOf result (StoreFault.Log LogFault.Halted) → self.old.log.halted ≢ true
+            → HaltsLater D.SectorDevice.state self.old.log self.new.log
+            (most_written self.old.log self.old.saved) }
+        ensures quiet { HasRoomFor self.old.log self.old.draft.changes → HasClean self.old.log
+            → self.new.log.number ≡ self.old.log.number }
         ensures still { self.old.log.halted ≡ true → (self.new.log ≡ self.old.log) × (self.new.saved ≡ self.old.saved) × IsErrOf result (StoreFault.Log LogFault.Halted) }
     {
         let outcome = self.stage_draft();
