@@ -127,7 +127,8 @@ module _ {D : Type 0} (state : D → DeviceState) where
 
   -- ---- a new object
 
-  -- An empty object n of a kind is drafted, and then its name in directory d, whose links are those with it.
+  -- An empty object n of a kind is drafted, and then its name in directory d, which gets the links
+  -- that it has with it.
   pub record DraftsNew (old new : Fs D) (d : ℕ) (head : Header) (n : ℕ) (k : Kind)
       (name : List ℕ) : Type 0 where
     pub between : Changes
@@ -172,11 +173,14 @@ module _ {D : Type 0} (state : D → DeviceState) where
   MakesNone old new d head n k name fault = TurnsNew old new d head n k name fault
       ⊎ (IsStill state (seen old) (seen new) × DraftsNone old new fault)
 
-  -- A call that makes an entry began at volume v, read, and came to directory d, where a path's last piece stands.
+  -- A call that makes an entry began at volume v, read, and came to directory d, where the last
+  -- piece of a path stands.
   pub record Reaches (v : Mounted D) (old : Fs D) (path : List ℕ) (d : ℕ) (piece : Option Last) : Type 0 where
     pub still : IsStill state v (seen old)
     pub empty : IsNoChange old.store.draft.changes
     pub drafted : old.store.drafted ≡ old.store.log.totals
     pub bytes : AreBytes path
     pub last : HasLast path piece
-    pub walk : (k : CheckpointValue) (m0 m : LogMap) (s : State) → (state old.store.log.device).keeps_model → IsIn state v k m0 m s → Parent s.tree path (At d)
+    pub walk : (k : CheckpointValue) (m0 m : LogMap) (s : State)
+        → (state old.store.log.device).keeps_model → IsIn state v k m0 m s
+        → Parent s.tree path (At d)

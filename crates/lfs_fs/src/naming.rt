@@ -121,8 +121,8 @@ impl<D: SectorDevice> Fs<D> {
     ///
     /// # Errors
     ///
-    /// In this order: those of the path; of the new name `Exist`, `NameTooLong`, `Exist`, `DirFull`; `TooManyLinks` where the directory
-    /// that is to have it has 1,000 links; `NoNumber`; `NoSpace`.
+    /// In this order: those of the path; of the new name `Exist`, `NameTooLong`, `Exist`, `DirFull`;
+    /// `TooManyLinks` where the directory that is to have it has 1,000 links; `NoNumber`; `NoSpace`.
     pub fn mkdir(&mut self, path: &[u8]) -> Result<(), FsError>
         ensures { Serves D.SectorDevice.state (seen self.old) (seen self.new) (Mkdir path.now)
             (answer_by (λ _. Done) result) }
@@ -141,9 +141,10 @@ impl<D: SectorDevice> Fs<D> {
     fn mkdir_at(&mut self, directory: u16, last: Option<Last<'_>>) -> Result<(), FsError>
         requires few { directory ≤ 4095 }
         requires running { self.old.store.log.halted ≡ false }
-        ensures { (v : Mounted D) (path : List ℕ) → Reaches D.SectorDevice.state v self.old path
-            directory last.entry
-            → Serves D.SectorDevice.state v (seen self.new) (Mkdir path) (answer_by (λ _. Done) result) }
+        ensures { (v : Mounted D) (path : List ℕ)
+            → Reaches D.SectorDevice.state v self.old path directory last.entry
+            → Serves D.SectorDevice.state v (seen self.new) (Mkdir path)
+            (answer_by (λ _. Done) result) }
     {
         // No volume has an object of this number.
         if directory == 0 {
@@ -182,7 +183,8 @@ impl<D: SectorDevice> Fs<D> {
         }
     }
 
-    /// The rule of a new entry of a directory, whose header it gives. A slash may follow the name of a directory that is to be made.
+    /// The rule of a new entry of a directory, whose header it gives. A slash may follow the name of a
+    /// directory that is to be made.
     fn check_new_entry(
         &mut self,
         directory: u16,
