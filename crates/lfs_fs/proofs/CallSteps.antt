@@ -1,11 +1,12 @@
 -- The model's steps of the calls, from what the log map says: headers, bytes read, and totals for room.
-use Rattle.std.proofs.Common.{◌≡◌, ◌<◌, ◌≤◌, ◌+◌, ◌-◌, ◌*◌, ◌^◌, ◌||◌, ℕ, true, false, List, [], length, take, drop, Some, sym, ◌∙◌, ap, subst, inr, ⊎_elim, arith}
+use Rattle.std.proofs.Common.{Bool, not, ◌&&◌, ◌≡◌, ◌<◌, ◌≤◌, ◌+◌, ◌-◌, ◌*◌, ◌^◌, ◌||◌, ℕ, true, false, List, length, take, drop, Some, sym, ◌∙◌, ap, subst, inr, ⊎_elim, arith}
 use Rattle.std.specs.Prelude.{max, min}
 use Rattle.std.proofs.lemmas.List.{drop_min, length-drop, take_min}
 use Rattle.std.specs.Ordering.{nat_cmp}
 use Rattle.std.specs.FinMap.{find}
+use Rattle.lfs_model.specs.declared.Kind.{Kind}
 use Rattle.lfs_model.specs.Bytes.{AreBytes, part}
-use Rattle.lfs_model.specs.Call.{Answer, Call, Count, Create, Data, Handle, Pread, Pwrite, Refuse, Room, Space, Stat, StatOf, Status, changes, cleans, is_ok}
+use Rattle.lfs_model.specs.Call.{Answer, AreArguments, Call, Count, Data, Pread, Pwrite, Refuse, Room, Space, Stat, StatOf, Status, changes, cleans, is_ok}
 use Rattle.lfs_model.specs.Entry as entry
 use Rattle.lfs_model.specs.Need.{need}
 use Rattle.lfs_model.specs.Objects.{IsHeaderOf}
@@ -14,7 +15,7 @@ use Rattle.lfs_model.specs.Refusal.{NoSpace, Refusal, Worn}
 use Rattle.lfs_model.specs.Run.{IsExcused, IsPastLast, Point}
 use Rattle.lfs_model.specs.Stands.{LogMap}
 use Rattle.lfs_model.specs.Step.{Step, is_full, is_long, is_there, last_dots, name, no_last, with_new, with_tree}
-use Rattle.lfs_model.specs.Tree.{File, State, least, least_handle}
+use Rattle.lfs_model.specs.Tree.{State, least}
 use Rattle.lfs_model.specs.TreeOf.{object}
 use Rattle.lfs_model.specs.Walk.{At, Parent, Resolve}
 use Rattle.lfs_model.proofs.StepsAre.{step_unique}
@@ -23,10 +24,11 @@ use Rattle.lfs_files.specs.declared.header.Header.{Header}
 use Rattle.lfs_store.specs.memory.Present.{as_header}
 use Rattle.lfs_model.specs.Totals.{IsCounted, TotalsOfTree}
 use Rattle.lfs_store.specs.Writing.{WritesFile, resized}
-use Rattle.lfs_fs.proofs.Created.{NamesFile, created_map, created_need}
+use Rattle.lfs_fs.proofs.Created.{NamesNew, created_map, created_need}
+use Rattle.lfs_fs.proofs.EntrySteps.{MakesEntry, new_done, new_no_space, new_node, with_entry}
 use Rattle.lfs_fs.proofs.Files.{IsFileOf, IsMapOf, IsShaped, opened_file, room_counted, stat_is}
 use Rattle.lfs_fs.proofs.HandleSteps.{read_done, write_done, write_no_space, written}
-use Rattle.lfs_fs.proofs.PathSteps.{create_done, create_no_space, space_done, stat_done, with_file}
+use Rattle.lfs_fs.proofs.PathSteps.{space_done, stat_done}
 use Rattle.lfs_fs.proofs.Written.{written_map, written_need}
 
 -- ---- the last number
@@ -113,25 +115,25 @@ module _ (N : ℕ) (m : LogMap) (s : State) (is : IsMapOf N m s) where
           pub pwrite_map : AreBytes w → IsMapOf N m' (with_tree s (written N s h at w))
           pwrite_map bytes = written_map N m m' s h n is opens head there at w writes end bytes fits_in
 
-      -- a new file
-      module _ (p : List ℕ) (d : ℕ) (walk : Parent s.tree p (At d)) (m1 : LogMap) (n : ℕ) (first : least s.tree ≡ n) (top : n ≤ 4095) (new : is_there s.tree d p ≡ false) (head : Header) (size at : ℕ) (w : List ℕ)
-          (does : NamesFile m m1 m' d n head size at w (name p))
-          (named : (no_last p || last_dots p) ≡ false) (short : is_long s.tree d p ≡ false) (plain : slash p ≡ false) (space : is_full s.tree d ≡ false) (some : least_handle s.handles < 64) where
-        needs_file : need (with_new s.tree d p (File [])) ≡ blocks + 7 * others + 720
-        needs_file = created_need N m m1 m' s is p d walk n first top new head size at w does totals shaped blocks others counted
+      -- a new entry
+      module _ (version : s.version ≡ 1) (p : List ℕ) (d : ℕ) (walk : Parent s.tree p (At d)) (m1 : LogMap) (n : ℕ) (first : least s.tree ≡ n) (top : n ≤ 4095) (new : is_there s.tree d p ≡ false)
+          (k : Kind) (head : Header) (size at : ℕ) (w : List ℕ) (does : NamesNew m m1 m' d n k head size at w (name p)) (call : Call) (is_mkdir : Bool) (e : MakesEntry N s p d call k is_mkdir)
+          (named : (no_last p || last_dots p) ≡ false) (short : is_long s.tree d p ≡ false) (plain : (slash p && not is_mkdir) ≡ false) (space : is_full s.tree d ≡ false) (allowed : e.own ≡ false) where
+        needs_entry : need (with_new s.tree d p (new_node k)) ≡ blocks + 7 * others + 720
+        needs_entry = created_need N m m1 m' s is version p d walk n first top new k head size at w does totals shaped blocks others counted
 
         number : least s.tree ≤ 4095
         number = omega (arith, first, top)
 
-        pub create_full : 47 * N < blocks + 7 * others + 720 → Step N s (Create p) (Refuse NoSpace) s
-        create_full lacks = create_no_space N s p d walk named short new plain space some number (let same = needs_file in omega (arith, same, lacks))
+        pub entry_full : 47 * N < blocks + 7 * others + 720 → Step N s call (Refuse NoSpace) s
+        entry_full lacks = new_no_space N s p d call k is_mkdir e named short new plain space allowed number (let same = needs_entry in omega (arith, same, lacks))
 
         module _ (room : blocks + 7 * others + 720 ≤ 47 * N) where
-          file_fits : need (with_new s.tree d p (File [])) ≤ 47 * N
-          file_fits = let same = needs_file in omega (arith, same, room)
+          entry_fits : need (with_new s.tree d p (new_node k)) ≤ 47 * N
+          entry_fits = let same = needs_entry in omega (arith, same, room)
 
-          pub create_step : Step N s (Create p) (Handle (least_handle s.handles)) (with_file N s p d walk)
-          create_step = create_done N s p d walk named short new plain space some number file_fits
+          pub entry_step : Step N s call e.answer (with_entry N s p d call k is_mkdir e)
+          entry_step = new_done N s p d call k is_mkdir e named short new plain space allowed number entry_fits
 
-          pub create_map : AreBytes p → IsMapOf N m' (with_file N s p d walk)
-          create_map bytes = created_map N m m1 m' s is p d walk n first top new head size at w does bytes named short plain space some file_fits
+          pub entry_map : AreArguments call → IsMapOf N m' (with_entry N s p d call k is_mkdir e)
+          entry_map arguments = created_map N m m1 m' s is version p d walk n first top new k head size at w does call is_mkdir e arguments named short plain space allowed entry_fits

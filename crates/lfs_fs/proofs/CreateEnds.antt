@@ -1,6 +1,6 @@
--- The ends of create, from what its steps tell to the call as a step of the model.
-use Rattle.std.proofs.Common.{◌≡◌, ◌||◌, ℕ, suc, Bool, true, false, List, [], ◌∷◌, slice_index_or, Fits, w8, Option, None, refl, sym, ◌∙◌, ap, subst, inl, arith}
-use Rattle.lfs_model.specs.Call.{Create, Refuse}
+-- The ends of a call that makes an entry, from what its steps tell to the call as a step of the model.
+use Rattle.std.proofs.Common.{◌≡◌, ◌||◌, ℕ, suc, Bool, true, false, List, [], ◌∷◌, slice_index_or, Fits, w8, Option, None, sym, ◌∙◌, ap, subst, inl, arith}
+use Rattle.lfs_model.specs.Call.{Refuse}
 use Rattle.lfs_model.specs.Bytes.{AreBytes}
 use Rattle.lfs_model.specs.Checkpoint.{CheckpointValue}
 use Rattle.lfs_model.specs.Device.{DeviceState, IsLawful}
@@ -29,13 +29,13 @@ use Rattle.lfs_fs.specs.Volume.{IsIn, IsStill, Mounted, Serves, segments_of}
 use Rattle.lfs_fs.proofs.Accepted.{InEach, OfEach}
 use Rattle.lfs_fs.proofs.Behaving.{IsOrdinary}
 use Rattle.lfs_fs.proofs.CallSteps.{refused_not_worn}
+use Rattle.lfs_fs.proofs.EntrySteps.{NewCall, new_dots}
 use Rattle.lfs_fs.proofs.Ending.{not_acknowledged}
 use Rattle.lfs_fs.proofs.Files.{dir_there}
 use Rattle.lfs_model.proofs.Keeps.{parent_dir}
 use Rattle.lfs_fs.proofs.NameLooks.{only_none}
 use Rattle.lfs_fs.proofs.NamingEnds.{still_read, was_running}
 use Rattle.lfs_fs.proofs.WalkEnds.{walked}
-use Rattle.lfs_fs.proofs.PathSteps.{create_dots}
 use Rattle.lfs_fs.proofs.Serving.{served_still}
 
 module _ {D : Type 0} (state : D → DeviceState) where
@@ -90,27 +90,29 @@ module _ {D : Type 0} (state : D → DeviceState) (lawful : (d : D) → IsLawful
 
 -- ---- refusals that the log map and the state tell
 
-module _ {D : Type 0} (state : D → DeviceState) (lawful : (d : D) → IsLawful (state d)) (v : Mounted D) (old : Fs D) (path : List ℕ) (d : ℕ) (piece : Option Last) (reached : Reaches state v old path d piece) (running : old.store.log.halted ≡ false) where
-  pub create_refuses : (new : Fs D) → IsStill state (seen old) (seen new) → (r : Refusal) → IsOrdinary (Refuse r)
-      → ((k : CheckpointValue) (m0 m : LogMap) (s : State) → (state new.store.log.device).keeps_model → IsIn state v k m0 m s → Parent s.tree path (At d) → Step (segments_of v) s (Create path) (Refuse r) s)
-      → Serves state v (seen new) (Create path) (Refuse r)
-  create_refuses new still r ordinary steps = served_still state v (seen new) (Create path) (Refuse r) (lawful v.log.device) (still_more state v (seen old) (seen new) (lawful v.log.device) reached.still still) (sym reached.still.reads.halted ∙ running)
+module _ {D : Type 0} (state : D → DeviceState) (lawful : (d : D) → IsLawful (state d)) (v : Mounted D) (old : Fs D) (path : List ℕ) (d : ℕ) (of : NewCall (segments_of v) path d)
+    (piece : Option Last) (reached : Reaches state v old path d piece) (running : old.store.log.halted ≡ false) where
+  pub entry_refuses : (new : Fs D) → IsStill state (seen old) (seen new) → (r : Refusal) → IsOrdinary (Refuse r)
+      → ((k : CheckpointValue) (m0 m : LogMap) (s : State) → (state new.store.log.device).keeps_model → (is : IsIn state v k m0 m s) → Parent s.tree path (At d) → Step (segments_of v) s of.call (Refuse r) s)
+      → Serves state v (seen new) of.call (Refuse r)
+  entry_refuses new still r ordinary steps = served_still state v (seen new) of.call (Refuse r) (lawful v.log.device) (still_more state v (seen old) (seen new) (lawful v.log.device) reached.still still) (sym reached.still.reads.halted ∙ running)
       ordinary (λ p keeps here k m0 m is. (
       let walk = reached.walk k m0 m p.state (still.reads.looks.carries.kept_before keeps) is in
       let step = steps k m0 m p.state keeps is walk in
-      inl (step, refused_not_worn (segments_of v) (Create path) p r p.state step refl)))
-      (not_acknowledged (Create path) r)
+      inl (step, refused_not_worn (segments_of v) of.call p r p.state step of.unclean)))
+      (not_acknowledged of.call r)
 
   -- a path without a piece
-  pub no_piece_ends : piece ≡ None → Serves state v (seen old) (Create path) (Refuse refusals.Exist)
+  pub no_piece_ends : piece ≡ None → Serves state v (seen old) of.call (Refuse refusals.Exist)
   no_piece_ends none =
       let says : no_last path ≡ true = last_says path None (subst (HasLast path) none reached.last) in
-      create_refuses old (only_none state old).still refusals.Exist tt (λ k m0 m s keeps is walk. create_dots (segments_of v) s path d walk (ap (λ (b : Bool). b || last_dots path) says))
+      entry_refuses old (only_none state old).still refusals.Exist tt
+      (λ k m0 m s keeps is walk. new_dots (segments_of v) s path d of.call of.kind of.is_mkdir (of.makes s is.version walk) (ap (λ (b : Bool). b || last_dots path) says))
 
   -- no directory has number 0
-  pub zero_ends : d ≡ 0 → Serves state v (seen old) (Create path) (Refuse refusals.Device)
-  zero_ends zero_is = served_still state v (seen old) (Create path) (Refuse refusals.Device) (lawful v.log.device) reached.still (sym reached.still.reads.halted ∙ running) tt (λ p keeps here k m0 m is. absurd (
+  pub zero_ends : d ≡ 0 → Serves state v (seen old) of.call (Refuse refusals.Device)
+  zero_ends zero_is = served_still state v (seen old) of.call (Refuse refusals.Device) (lawful v.log.device) reached.still (sym reached.still.reads.halted ∙ running) tt (λ p keeps here k m0 m is. absurd (
       let dir = (parent_dir (segments_of v) p.state is.log.sound path d (reached.walk k m0 m p.state keeps is)).0 in
       let low = (is.log.sound.numbers d (dir_there p.state.tree d dir)).0 in
       omega (arith, zero_is, low)))
-      (not_acknowledged (Create path) refusals.Device)
+      (not_acknowledged of.call refusals.Device)

@@ -1,8 +1,10 @@
--- A file drafted under the last piece of a path, from what was read and drafted to the call as a step of the model.
-use Rattle.std.proofs.Common.{◌≡◌, ◌≢◌, ◌<◌, ◌≤◌, ◌+◌, ◌*◌, ◌||◌, ℕ, Bool, true, false, List, length, Some, None, refl, sym, ◌∙◌, ap, subst, arith}
-use Rattle.std.specs.Ordering.{nat_cmp}
+-- An object drafted under the last piece of a path, from what was read and drafted to the call as a step of the model.
+use Rattle.std.proofs.Common.{◌≡◌, ◌≢◌, ◌<◌, ◌≤◌, ◌+◌, ◌*◌, ◌||◌, ◌&&◌, not, ℕ, Bool, true, false, List, length, Some, None, refl, sym, ◌∙◌, ap, subst, arith}
+use Rattle.std.specs.Prelude.{count_by, max}
 use Rattle.std.specs.FinMap.{find, put}
-use Rattle.lfs_model.specs.Call.{Create, Handle, Refuse}
+use Rattle.lfs_model.specs.declared.Kind.{Kind}
+use Rattle.lfs_model.specs.declared.Kind.TheVariants as kind
+use Rattle.lfs_model.specs.Call.{Answer, Done, Refuse, is_ok}
 use Rattle.lfs_model.specs.Changing.{IsWithHeader}
 use Rattle.lfs_model.specs.Checkpoint.{CheckpointValue}
 use Rattle.lfs_model.specs.Device.{DeviceState, IsLawful}
@@ -11,9 +13,12 @@ use Rattle.lfs_model.specs.Entry.{Inode}
 use Rattle.lfs_model.specs.Objects.{IsHeaderOf}
 use Rattle.lfs_model.specs.Stands.{LogMap}
 use Rattle.lfs_model.specs.Step.{is_full, is_long, is_there, last_dots, name, no_last}
-use Rattle.lfs_model.specs.Tree.{State, byte_cmp, is_dir, least, least_handle, node}
+use Rattle.lfs_model.specs.Refusal.{Halted}
+use Rattle.lfs_model.specs.Tree.{State, Tree, byte_cmp, is_dir, least, links, links_at, node}
+use Rattle.lfs_model.specs.Walk.{At, Parent}
 use Rattle.lfs_model.proofs.Keeps.{parent_dir}
 use Rattle.lfs_store.specs.memory.declared.batch.Loss.{Loss}
+use Rattle.lfs_store.specs.memory.declared.batch.Loss.TheVariants.{Nothing}
 use Rattle.lfs_store.specs.memory.declared.changes.Changes.{Changes}
 use Rattle.lfs_files.specs.declared.header.Header.{Header}
 use Rattle.lfs_store.specs.memory.declared.memory.LogMemory.{LogMemory}
@@ -24,6 +29,7 @@ use Rattle.lfs_store.specs.log.Held.{Holds, IsVacant}
 use Rattle.lfs_store.specs.declared.draft.Draft.{Draft}
 use Rattle.lfs_store.specs.log.verify.declared.totals.BlockTotals.{BlockTotals}
 use Rattle.lfs_store.specs.Drafting.{IsApart}
+use Rattle.lfs_store.specs.Making.{relinked}
 use Rattle.lfs_store.specs.Recounting.{AreTotals}
 use Rattle.lfs_model.specs.Totals.{IsCounted}
 use Rattle.lfs_store.specs.Writing.{WritesFile}
@@ -38,34 +44,77 @@ use Rattle.lfs_path.specs.Laws.{SaysLast}
 use Rattle.lfs_path.proofs.LastPieces.{last_says}
 use Rattle.lfs_fs.specs.declared.error.FsError.{FsError}
 use Rattle.lfs_fs.specs.declared.fs.Fs.{Fs}
-use Rattle.lfs_fs.specs.declared.handles.Handles.{Handles}
 use Rattle.lfs_fs.specs.Accepting.{Stages, TurnsDown, limit_of, need_of}
 use Rattle.lfs_fs.specs.Handles.{handles_of}
-use Rattle.lfs_fs.specs.Naming.{IsReady, Reaches, TakesEntry}
+use Rattle.lfs_fs.specs.Naming.{IsReady, Reaches, RelinksParent, TakesEntry, more_links}
 use Rattle.lfs_fs.specs.Refusals.{refusal_of}
 use Rattle.lfs_fs.specs.Seen.{OnlyReads, seen}
-use Rattle.lfs_fs.specs.Volume.{IsIn, IsStill, Mounted, Serves, segments_of}
-use Rattle.lfs_fs.proofs.Accepted.{DraftsFile, IsDrafted, create_serves}
-use Rattle.lfs_fs.proofs.Behaving.{makes_behaves}
-use Rattle.lfs_fs.proofs.Created.{NamesFile, new_file}
+use Rattle.lfs_fs.specs.Volume.{Behaves, IsIn, IsStill, Mounted, Serves, segments_of}
+use Rattle.lfs_fs.proofs.Accepted.{DraftsEntry, IsDrafted, entry_serves}
+use Rattle.lfs_fs.proofs.Behaving.{ok_refuses_none}
+use Rattle.lfs_fs.proofs.Created.{NamesNew, new_header}
 use Rattle.lfs_fs.proofs.CreateEnds.{of_each}
-use Rattle.lfs_fs.proofs.Declined.{create_fits}
+use Rattle.lfs_fs.proofs.Declined.{entry_fits}
+use Rattle.lfs_fs.proofs.EntrySteps.{NewCall}
 use Rattle.lfs_fs.proofs.Files.{IsMapOf}
-use Rattle.lfs_fs.proofs.Headers.{new_file_fits, directory_grows}
+use Rattle.lfs_fs.proofs.Headers.{directory_grows}
 use Rattle.lfs_fs.proofs.Holding.{headers_of_volume, map_of_volume}
-use Rattle.lfs_fs.proofs.Lacking.{create_lacks, create_worn}
-use Rattle.lfs_fs.proofs.InDirectories.{free_directory, least_number, made_directory, made_names, made_header, names_file, new_in_directory, directory_kind, short_in_directory}
+use Rattle.lfs_fs.proofs.Lacking.{entry_lacks, entry_worn}
+use Rattle.lfs_fs.proofs.InDirectories.{directory_kind, directory_node, free_directory, least_number, linked_directory, linked_names, made_header, names_new, names_there, new_in_directory, short_in_directory}
 use Rattle.lfs_fs.proofs.WritingEnds.{accepts_old, by_fault, low_old, still_more, when_in}
 
-module _ {D : Type 0} (state : D → DeviceState) (lawful : (d : D) → IsLawful (state d)) (v : Mounted D) (old mid ready : Fs D) (path : List ℕ) (d : ℕ) (last : Last) (reached : Reaches state v old path d (Some last))
-    (running : old.store.log.halted ≡ false) (only : OnlyReads state old mid) (head : Header) (takes : TakesEntry state old mid d last.name.now last.slash head) (n : ℕ) (vacant : IsVacant state mid.store.log n)
-    (handle : ℕ) (few : handle < 64) (first : least_handle (handles_of mid.handles.numbers.items) ≡ handle) (is_ready : IsReady state mid ready d head n last.name.now) where
+-- ---- the links of the directory, as they are drafted
+
+module _ (c c' : Changes) (d : ℕ) (head : Header) (t : BlockTotals) where
+  abbrev links_of : Kind → Header
+  links_of k = relinked head (more_links k head.links)
+
+  same_header : (m : LogMap) → (staged c m).header d ≡ Some (as_header head) → IsWithHeader (staged c m) d (Some (as_header head)) (staged c m)
+  same_header m there = record { own = there; others = λ q ne. refl; block = λ q i. refl }
+
+  linked_map : (k : Kind) → RelinksParent c c' d head t k → (m : LogMap) → (staged c m).header d ≡ Some (as_header head) → IsWithHeader (staged c m) d (Some (as_header (links_of k))) (staged c' m)
+  linked_map kind.File same m there = subst (λ (x : Changes). IsWithHeader (staged c m) d (Some (as_header head)) (staged x m)) (sym same) (same_header m there)
+  linked_map kind.Directory sets m there = header_put (staged c m) (staged c' m) d (relinked head (head.links + 1)) (sets.0.map m)
+  linked_map kind.Link same m there = subst (λ (x : Changes). IsWithHeader (staged c m) d (Some (as_header head)) (staged x m)) (sym same) (same_header m there)
+
+  linked_fits : (k : Kind) → RelinksParent c c' d head t k → (m : LogMap) → FitsBatch m c → (staged c m).header d ≡ Some (as_header head) → 0 < head.links → is_lost c.loss (Inode d) ≡ false
+      → FitsHeader head.kind (more_links k head.links) head.size → FitsBatch m c'
+  linked_fits kind.File same m fits there some apart header = subst (FitsBatch m) (sym same) fits
+  linked_fits kind.Directory sets m fits there some apart header = sets.0.fits m fits there some apart header
+  linked_fits kind.Link same m fits there some apart header = subst (FitsBatch m) (sym same) fits
+
+  linked_keeps : (k : Kind) → RelinksParent c c' d head t k → (m : LogMap) → IsLogMap (staged c m) → (staged c m).header d ≡ Some (as_header head) → IsLogMap (staged c' m)
+  linked_keeps kind.File same m log there = subst (λ (x : Changes). IsLogMap (staged x m)) (sym same) log
+  linked_keeps kind.Directory sets m log there = sets.0.keeps m log there
+  linked_keeps kind.Link same m log there = subst (λ (x : Changes). IsLogMap (staged x m)) (sym same) log
+
+  linked_counts : (k : Kind) → RelinksParent c c' d head t k → (m : LogMap) → (staged c m).header d ≡ Some (as_header head) → AreTotals (staged c m) t → AreTotals (staged c' m) t
+  linked_counts kind.File same m there totals = subst (λ (x : Changes). AreTotals (staged x m) t) (sym same) totals
+  linked_counts kind.Directory sets m there totals = sets.1 m there totals
+  linked_counts kind.Link same m there totals = subst (λ (x : Changes). AreTotals (staged x m) t) (sym same) totals
+
+  linked_loss : (k : Kind) → RelinksParent c c' d head t k → c'.loss ≡ c.loss
+  linked_loss kind.File same = ap (λ (x : Changes). x.loss) same
+  linked_loss kind.Directory sets = sets.0.loss (omega arith)
+  linked_loss kind.Link same = ap (λ (x : Changes). x.loss) same
+
+module _ {D : Type 0} (state : D → DeviceState) (lawful : (d : D) → IsLawful (state d)) (v : Mounted D) (old mid ready : Fs D) (path : List ℕ) (d : ℕ) (of : NewCall (segments_of v) path d) (last : Last)
+    (reached : Reaches state v old path d (Some last)) (running : old.store.log.halted ≡ false) (only : OnlyReads state old mid) (head : Header) (takes : TakesEntry state old mid d last.name.now last.slash of.is_mkdir head)
+    (few : of.kind ≡ kind.Directory → head.links < 1000) (n : ℕ) (vacant : IsVacant state mid.store.log n) (is_ready : IsReady state mid ready d head n of.kind last.name.now)
+    (allowed : (k : CheckpointValue) (m0 m : LogMap) (s : State) → (state mid.store.log.device).keeps_model → (is : IsIn state v k m0 m s) → (walk : Parent s.tree path (At d)) → (of.makes s is.version walk).own ≡ false) where
   abbrev c : Changes
   c = ready.store.draft.changes
 
-  -- the log map with the file, before it has its name
+  -- the log map with the object, before it has its name; and then with the links of the directory
   abbrev between : LogMap → LogMap
   between m = staged is_ready.drafts.between m
+
+  abbrev linked : LogMap → LogMap
+  linked m = staged is_ready.drafts.linked m
+
+  -- the directory's header with it
+  abbrev head' : Header
+  head' = relinked head (more_links of.kind head.links)
 
   abbrev slot : List ℕ
   slot = slot_for n last.name.now
@@ -94,10 +143,6 @@ module _ {D : Type 0} (state : D → DeviceState) (lawful : (d : D) → IsLawful
 
   named : (no_last path || last_dots path) ≡ false
   named = ap (λ (b : Bool). b || last_dots path) says.0 ∙ says.2 ∙ takes.named
-
-  -- the least handle, of the volume that the call began with
-  first_is : least_handle (handles_of v.table) ≡ handle
-  first_is = ap (λ (t : List ℕ). least_handle (handles_of t)) (sym still_mid.table) ∙ first
 
   -- ---- where the device keeps the model to the end
   module _ (keeps : (state ready.store.log.device).keeps_model) where
@@ -147,33 +192,70 @@ module _ {D : Type 0} (state : D → DeviceState) (lawful : (d : D) → IsLawful
       space : is_full s.tree d ≡ false
       space = free_directory (segments_of v) m s map d dir head looks.0 dir_fits low
 
-      -- the file is made
-      made : IsWithHeader m n (Some (as_header new_file)) (between m)
-      made = header_put m (between m) n new_file (is_ready.drafts.makes.map m ∙ ap (λ (x : LogMap). with_header x n (Some (as_header new_file))) (same_mid m))
+      -- the object is made
+      made : IsWithHeader m n (Some (as_header (new_header of.kind))) (between m)
+      made = header_put m (between m) n (new_header of.kind) (is_ready.drafts.makes.map m ∙ ap (λ (x : LogMap). with_header x n (Some (as_header (new_header of.kind)))) (same_mid m))
 
-      -- and named
-      writes : WritesFile (between m) (staged c m) d head (grown head) head.size slot
+      there_1 : (between m).header d ≡ Some (as_header head)
+      there_1 = made_header (segments_of v) m s map d dir head looks.0 (between m) n of.kind other made
+
+      -- the directory has the links with it
+      links_made : IsWithHeader (between m) d (Some (as_header head')) (linked m)
+      links_made = linked_map is_ready.drafts.between is_ready.drafts.linked d head is_ready.drafts.half of.kind is_ready.drafts.relinks m there_1
+
+      -- and it is named
+      writes : WritesFile (linked m) (staged c m) d head' (grown head') head.size slot
       writes = is_ready.drafts.adds.file k m0 m keeps in_mid
 
-      adds : AddsName (between m) (staged c m) d head n last.name.now
-      adds = is_ready.drafts.adds.more k m0 m keeps in_mid (made_directory (segments_of v) m s map d dir head looks.0 (between m) n other made dir_fits)
-          (ap (find byte_cmp last.name.now) (made_names (segments_of v) m s map d dir head looks.0 (between m) n other made) ∙ sym looks.1)
+      adds : AddsName (linked m) (staged c m) d head' n last.name.now
+      adds = is_ready.drafts.adds.more k m0 m keeps in_mid
+          (linked_directory (segments_of v) m s map d dir head looks.0 (between m) n of.kind other made (more_links of.kind head.links) (linked m) links_made dir_fits)
+          (ap (find byte_cmp last.name.now) (linked_names (segments_of v) m s map d dir head looks.0 (between m) n of.kind other made (more_links of.kind head.links) (linked m) links_made) ∙ sym looks.1)
 
-      does : NamesFile m (between m) (staged c m) d n head (head.size + 64) head.size slot (name path)
-      does = names_file (segments_of v) m s map d dir head looks.0 (between m) n other made (staged c m) (head.size + 64) head.size slot (name path) writes (let few_bytes = low in omega (arith, few_bytes)) adds.directory
-          (adds.names ∙ ap (λ (x : List ℕ). put byte_cmp x n (names_at (between m) d head)) (sym says.1))
+      does : NamesNew m (between m) (staged c m) d n of.kind head (head.size + 64) head.size slot (name path)
+      does = names_new (segments_of v) m s map d dir head looks.0 (between m) n of.kind other made (more_links of.kind head.links) (linked m) links_made (staged c m) (head.size + 64) head.size slot writes (name path)
+          refl (let few_bytes = low in omega (arith, few_bytes)) adds.directory (adds.names ∙ ap (λ (x : List ℕ). put byte_cmp x n (names_at (linked m) d head')) (sym says.1))
+
+      -- the directory is linked, and stays within 1,000 links
+      some_links : 0 < head.links
+      some_links =
+          let at = directory_node (segments_of v) m s map d dir head looks.0 in
+          let counted : links s.tree d ≡ 2 + count_by (λ x. is_dir (node s.tree x.1)) (names_there (segments_of v) m s map d dir head looks.0) = ap (links_at s.tree d) at in
+          let same : head.links ≡ links s.tree d = is.log.links d (as_header head) looks.0 ∙ ap (λ (t : Tree). links t d) (sym is.log.is) in
+          omega (arith, counted, same)
+
+      links_fit : FitsHeader head.kind (more_links of.kind head.links) head.size
+      links_fit = record { links_few = few_links of.kind few; size_fits = dir_fits.size }
+        where
+          few_links : (k : Kind) → (k ≡ kind.Directory → head.links < 1000) → more_links k head.links ≤ 1000
+          few_links kind.File below = dir_fits.links
+          few_links kind.Directory below = let lt = below refl in omega (arith, lt)
+          few_links kind.Link below = dir_fits.links
 
       -- the draft fits
       fits_here : IsLogMap m → IsLogMap (staged c m) → FitsBatch m c
       fits_here log after =
           is_ready.drafts.adds.fits k m0 m in_mid
-          (is_ready.drafts.makes.fits m (draft_empty mid.store.draft.changes m none_drafted).1 (ap (λ (x : LogMap). x.header n) (same_mid m) ∙ free) (ap (λ (x : Loss). is_lost x (Inode n)) none_drafted.loss) new_file_fits)
+          (linked_fits is_ready.drafts.between is_ready.drafts.linked d head is_ready.drafts.half of.kind is_ready.drafts.relinks m
+          (is_ready.drafts.makes.fits m (draft_empty mid.store.draft.changes m none_drafted).1 (ap (λ (x : LogMap). x.header n) (same_mid m) ∙ free) (ap (λ (x : Loss). is_lost x (Inode n)) none_drafted.loss) of.sized)
+          there_1 some_links (ap (λ (x : Loss). is_lost x (Inode d)) none_lost) links_fit)
           record {
-            there = made_header (segments_of v) m s map d dir head looks.0 (between m) n other made;
-            apart = subst (λ (x : Loss). IsApart x d) (sym (is_ready.drafts.makes.loss ∙ none_drafted.loss)) (nothing_apart d);
+            there = links_made.own;
+            apart = subst (λ (x : Loss). IsApart x d) (sym (loss_same ∙ none_lost)) (nothing_apart d);
             within = λ none. absurd (let there = looks.0 in cc);
-            header = subst (λ (z : ℕ). FitsHeader head.kind head.links z) writes.bytes.size (directory_grows d head dir_fits (directory_kind (segments_of v) m s map d dir head looks.0) low);
+            header = grows;
           }
+        where
+          none_lost : is_ready.drafts.between.loss ≡ Nothing
+          none_lost = is_ready.drafts.makes.loss ∙ none_drafted.loss
+
+          loss_same : is_ready.drafts.linked.loss ≡ is_ready.drafts.between.loss
+          loss_same = linked_loss is_ready.drafts.between is_ready.drafts.linked d head is_ready.drafts.half of.kind is_ready.drafts.relinks
+
+          grows : FitsHeader head.kind (more_links of.kind head.links) (max head.size (head.size + length slot))
+          grows =
+              let larger = directory_grows d head dir_fits (directory_kind (segments_of v) m s map d dir head looks.0) low in
+              subst (λ (z : ℕ). FitsHeader head.kind (more_links of.kind head.links) z) writes.bytes.size record { links_few = links_fit.links_few; size_fits = larger.size_fits }
 
       -- and its totals are those of its log map
       counted_here : IsLogMap m → IsLogMap (staged c m) → IsCounted m v.blocks v.others → IsCounted (staged c m) ready.store.drafted.data_blocks ready.store.drafted.meta_blocks
@@ -183,7 +265,9 @@ module _ {D : Type 0} (state : D → DeviceState) (lawful : (d : D) → IsLawful
           let before : AreTotals m old.store.log.totals = record { stored = reached.still.blocks ∙ counted.stored; above = reached.still.others ∙ counted.above } in
           let totals_mid : AreTotals (staged mid.store.draft.changes m) mid.store.drafted =
           subst (λ (x : LogMap). AreTotals x mid.store.drafted) (sym (same_mid m)) (subst (λ (t : BlockTotals). AreTotals m t) (sym (only.drafted ∙ reached.drafted)) before) in
-          is_ready.drafts.recounts k m0 m keeps in_mid (is_ready.drafts.makes.keeps m log_mid none) after (is_ready.drafts.counts m log_mid none totals_mid)
+          is_ready.drafts.recounts k m0 m keeps in_mid
+          (linked_keeps is_ready.drafts.between is_ready.drafts.linked d head is_ready.drafts.half of.kind is_ready.drafts.relinks m (is_ready.drafts.makes.keeps m log_mid none) there_1) after
+          (linked_counts is_ready.drafts.between is_ready.drafts.linked d head is_ready.drafts.half of.kind is_ready.drafts.relinks m there_1 (is_ready.drafts.counts m log_mid none totals_mid))
 
       drafted : IsDrafted state v c ready.store.drafted.data_blocks ready.store.drafted.meta_blocks
       drafted = record {
@@ -192,17 +276,17 @@ module _ {D : Type 0} (state : D → DeviceState) (lawful : (d : D) → IsLawful
             (λ x. IsLogMap x → IsLogMap (staged c x) → IsCounted x v.blocks v.others → IsCounted (staged c x) ready.store.drafted.data_blocks ready.store.drafted.meta_blocks) counted_here;
       }
 
-    drafts_file : DraftsFile state v c path d n between head (head.size + 64) head.size slot
-    drafts_file = record {
+    drafts_entry : DraftsEntry state v c path d of n between head (head.size + 64) head.size slot
+    drafts_entry = record {
       top = (let most = vacant.few in omega (arith, most));
       named = named;
-      plain = reached.last.1 ∙ takes.plain;
-      some = subst (λ (h : ℕ). h < 64) (sym first_is) few;
+      plain = ap (λ (b : Bool). b && not of.is_mkdir) reached.last.1 ∙ takes.plain;
       walk = λ k m0 m s before is. reached.walk k m0 m s kept_old is;
       first = λ k m0 m s before is. least_is k m0 m s is;
       new_name = λ k m0 m s before is. absent k m0 m s is;
       short = λ k m0 m s before is. short k m0 m s is;
       space = λ k m0 m s before is. space k m0 m s is;
+      allowed = λ k m0 m s before is walk. allowed k m0 m s kept_mid is walk;
       does = λ k m0 m s before is. does k m0 m s is;
     }
 
@@ -211,38 +295,36 @@ module _ {D : Type 0} (state : D → DeviceState) (lawful : (d : D) → IsLawful
   limit_same = ap (λ (x : LogMemory). 47 * length x.usage.segments) still_ready.reads.memory
 
   -- the draft isn't staged
-  pub turned_serves : (new : Fs D) → new.handles ≡ ready.handles → (fault : FsError) → TurnsDown state ready new fault → Serves state v (seen new) (Create path) (Refuse (refusal_of fault))
+  pub turned_serves : (new : Fs D) → new.handles ≡ ready.handles → (fault : FsError) → TurnsDown state ready new fault → Serves state v (seen new) of.call (Refuse (refusal_of fault))
   turned_serves new rest fault down =
-      by_fault state lawful v ready new (Create path) (Handle handle) still_ready was rest refl refl refl
+      by_fault state lawful v ready new of.call Done still_ready was rest of.changing of.uncommitted of.remembering
       (λ keeps k m0 m s is.
-      create_fits state v c ready.store.drafted.data_blocks ready.store.drafted.meta_blocks (drafted keeps k m0 m s is) path d n between head (head.size + 64) head.size slot (drafts_file keeps))
+      entry_fits state v c ready.store.drafted.data_blocks ready.store.drafted.meta_blocks (drafted keeps k m0 m s is) path d of n between head (head.size + 64) head.size slot (drafts_entry keeps))
       (λ same lacks keeps k m0 m s is.
-      create_lacks state v (seen new) (lawful v.log.device) same was c ready.store.drafted.data_blocks ready.store.drafted.meta_blocks (drafted keeps k m0 m s is) totals_of_tree
-      path d n between head (head.size + 64) head.size slot (drafts_file keeps) (subst (λ (x : ℕ). x < need_of ready) limit_same lacks))
+      entry_lacks state v (seen new) (lawful v.log.device) same was c ready.store.drafted.data_blocks ready.store.drafted.meta_blocks (drafted keeps k m0 m s is) totals_of_tree
+      path d of n between head (head.size + 64) head.size slot (drafts_entry keeps) (subst (λ (x : ℕ). x < need_of ready) limit_same lacks))
       (λ same high room keeps k m0 m s is.
-      create_worn state v (seen new) (lawful v.log.device) same was c ready.store.drafted.data_blocks ready.store.drafted.meta_blocks (drafted keeps k m0 m s is) totals_of_tree
-      path d n between head (head.size + 64) head.size slot (drafts_file keeps) high (subst (λ (x : ℕ). need_of ready ≤ x) limit_same room))
+      entry_worn state v (seen new) (lawful v.log.device) same was c ready.store.drafted.data_blocks ready.store.drafted.meta_blocks (drafted keeps k m0 m s is) totals_of_tree
+      path d of n between head (head.size + 64) head.size slot (drafts_entry keeps) high (subst (λ (x : ℕ). need_of ready ≤ x) limit_same room))
       fault down
 
-  -- it is, and a handle is opened on the file
-  module _ (new : Fs D) (rest : new.handles ≡ ready.handles) (stages : Stages state ready new) (table : List ℕ) (opened : n ≢ 0 → handles_of table ≡ put nat_cmp handle n (handles_of new.handles.numbers.items)) where
-    abbrev with_table : Mounted D
+  -- it is, and the table of open files is this one then
+  module _ (new : Fs D) (rest : new.handles ≡ ready.handles) (stages : Stages state ready new) (table : List ℕ) where
+    abbrev pub with_table : Mounted D
     with_table = record { log = new.store.log; saved = new.store.saved; blocks = new.store.log.totals.data_blocks; others = new.store.log.totals.meta_blocks; table = table }
 
-    table_is : handles_of table ≡ put nat_cmp (least_handle (handles_of v.table)) n (handles_of v.table)
-    table_is =
-        let same : new.handles.numbers.items ≡ v.table = ap (λ (x : Handles). x.numbers.items) rest ∙ still_ready.table in
-        opened (λ e. (let some = vacant.some in omega (arith, e, some))) ∙ ap (λ (t : List ℕ). put nat_cmp handle n (handles_of t)) same ∙ ap (λ (h : ℕ). put nat_cmp h n (handles_of v.table)) (sym first_is)
+    -- what the answer is, and the open files, in each state that the volume may be in
+    abbrev pub EndsWith : Answer → Type 0
+    EndsWith a = (s : State) (version : s.version ≡ 1) (walk : Parent s.tree path (At d)) → s.handles ≡ handles_of v.table → least s.tree ≡ n → ((of.makes s version walk).answer ≡ a) × ((of.makes s version walk).handles ≡ handles_of table)
 
-    pub made_serves : Serves state v with_table (Create path) (Handle handle)
-    made_serves =
-        let accepts = accepts_old state lawful v ready new (Create path) (Handle handle) still_ready was rest stages in
-        subst (λ (h : ℕ). Serves state v with_table (Create path) (Handle h)) first_is
-        (when_in state lawful v with_table (Create path) was (Handle (least_handle (handles_of v.table))) accepts.carries accepts.segments (λ e. cc)
-        (makes_behaves state v with_table (Create path) (Handle (least_handle (handles_of v.table))) refl refl refl) (λ kept k m0 m s is. (
+    pub made_serves : (a : Answer) → is_ok a ≡ true → Behaves state v with_table of.call a → EndsWith a → Serves state v with_table of.call a
+    made_serves a ok behaves ends =
+        let accepts = accepts_old state lawful v ready new of.call a still_ready was rest stages in
+        when_in state lawful v with_table of.call was a accepts.carries accepts.segments (ok_refuses_none a Halted ok) behaves (λ kept k m0 m s is. (
         let keeps = stages.accepts.carries.kept_before kept in
-        create_serves state v with_table (lawful v.log.device) (lawful new.store.log.device) was accepts.saves.number (low_old state lawful v ready new (Create path) (Handle handle) still_ready was rest stages.young) c accepts
+        entry_serves state v with_table (lawful v.log.device) (lawful new.store.log.device) was accepts.saves.number (low_old state lawful v ready new of.call a still_ready was rest stages.young) c accepts
         (subst (λ (t : BlockTotals). IsDrafted state v c t.data_blocks t.meta_blocks) (sym stages.totals) (drafted keeps k m0 m s is)) totals_of_tree
-        path d n between head (head.size + 64) head.size slot (drafts_file keeps) reached.bytes
+        path d of n between head (head.size + 64) head.size slot (drafts_entry keeps)
         (subst (λ (t : BlockTotals). t.data_blocks + 7 * t.meta_blocks + 720 ≤ 47 * segments_of v) (sym stages.totals) (let room = stages.room in subst (λ (x : ℕ). need_of ready ≤ x) limit_same room))
-        table_is)))
+        a ok behaves
+        (λ k m0 m s before is walk. ends s is.version walk is.handles (least_is keeps k m0 m s is))))

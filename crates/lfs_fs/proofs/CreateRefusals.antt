@@ -1,18 +1,19 @@
--- The refusals of create: those of the rule of a new entry, and those for want of a handle or of a number.
-use Rattle.std.proofs.Common.{◌≡◌, ◌≢◌, ◌<◌, ◌≤◌, ◌%◌, ◌||◌, ℕ, zero, suc, Bool, true, false, List, [], ◌∷◌, length, get_or, Option, Some, None, refl, sym, ◌∙◌, ap, subst, ⊎_elim, nat_lt, arith}
+-- The refusals of a call that makes an entry: those of the rule of a new entry, its own, and that for want of a number.
+use Rattle.std.proofs.Common.{not, ◌&&◌, ◌≡◌, ◌≢◌, ◌<◌, ◌≤◌, ◌%◌, ◌||◌, ℕ, zero, suc, Bool, true, false, List, [], ◌∷◌, length, get_or, Option, Some, None, refl, sym, ◌∙◌, ap, subst, ⊎_elim, nat_lt, arith}
 use Rattle.std.specs.FinMap.{find}
 use Rattle.std.specs.List.{AllByRecursion}
 use Rattle.lfs_model.specs.Bytes.{AreBytes}
-use Rattle.lfs_model.specs.Call.{Create, Refuse}
+use Rattle.lfs_model.specs.Call.{Create, Mkdir, Refuse}
 use Rattle.lfs_model.specs.Checkpoint.{CheckpointValue}
 use Rattle.lfs_model.specs.Device.{DeviceState, IsLawful}
 use Rattle.lfs_model.specs.Objects.{IsDirectory, IsHeaderOf}
+use Rattle.lfs_model.specs.PathText.{slash}
 use Rattle.lfs_model.specs.Refusal as refusals
 use Rattle.lfs_model.specs.Slot.{IsName}
 use Rattle.lfs_model.specs.Sound.{IsGoodName, Sound}
 use Rattle.lfs_model.specs.Stands.{LogMap}
 use Rattle.lfs_model.specs.Step.{Step, is_full, is_long, is_there, last_dots, name, no_last}
-use Rattle.lfs_model.specs.Tree.{State, Tree, byte_cmp, is_dir, least_handle, name_limit, node}
+use Rattle.lfs_model.specs.Tree.{State, Tree, byte_cmp, is_dir, least_handle, links, name_limit, node}
 use Rattle.lfs_model.specs.Walk.{At, Parent}
 use Rattle.lfs_model.proofs.GoodNames.{good_name}
 use Rattle.lfs_model.proofs.Keeps.{good_text, parent_dir}
@@ -37,11 +38,11 @@ use Rattle.lfs_fs.specs.Refusals.{refusal_of}
 use Rattle.lfs_fs.specs.Seen.{OnlyReads, seen}
 use Rattle.lfs_fs.specs.Volume.{IsIn, IsStill, Mounted, Serves, segments_of}
 use Rattle.lfs_fs.proofs.Behaving.{IsOrdinary}
-use Rattle.lfs_fs.proofs.Checks.{below, not_below}
-use Rattle.lfs_fs.proofs.CreateEnds.{create_refuses, still_more}
+use Rattle.lfs_fs.proofs.Checks.{at_most, below, not_at_most, not_below}
+use Rattle.lfs_fs.proofs.CreateEnds.{entry_refuses, still_more}
+use Rattle.lfs_fs.proofs.EntrySteps.{MakesEntry, NewCall, create_call, mkdir_call, new_dots, new_full, new_long, new_no_number, new_own, new_slash, new_there}
 use Rattle.lfs_fs.proofs.Files.{IsMapOf, dir_there, no_header_none}
 use Rattle.lfs_fs.proofs.Holding.{headers_of_volume, map_of_volume}
-use Rattle.lfs_fs.proofs.PathSteps.{create_dots, create_full, create_long, create_no_number, create_slash, create_there, create_too_many}
 use Rattle.lfs_fs.proofs.ReadingEnds.{failed_serves}
 use Rattle.lfs_fs.proofs.InDirectories.{directory_formed, free_directory, full_directory, new_in_directory, no_least, directory_kind, there_in_directory}
 use Rattle.lfs_fs.proofs.Serving.{still_in}
@@ -76,7 +77,7 @@ last_is_name N s sound p d limit_is bytes walk named short =
     name_of_good 59 (name p)
     (subst (λ (k : ℕ). IsGoodName k (name p)) limit_is (good_name s.tree d p bytes text.0 named (short_there s.tree d p limit_is short)))
 
-module _ {D : Type 0} (state : D → DeviceState) (lawful : (d : D) → IsLawful (state d)) (v : Mounted D) (old : Fs D) (path : List ℕ) (d : ℕ) (piece : Option Last) (reached : Reaches state v old path d piece) (running : old.store.log.halted ≡ false)
+module _ {D : Type 0} (state : D → DeviceState) (lawful : (d : D) → IsLawful (state d)) (v : Mounted D) (old : Fs D) (path : List ℕ) (d : ℕ) (of : NewCall (segments_of v) path d) (piece : Option Last) (reached : Reaches state v old path d piece) (running : old.store.log.halted ≡ false)
     (l : Last) (is_last : piece ≡ Some l) (new : Fs D) (only : OnlyReads state old new) where
   has_last : HasLast path (Some l)
   has_last = subst (HasLast path) is_last reached.last
@@ -147,72 +148,93 @@ module _ {D : Type 0} (state : D → DeviceState) (lawful : (d : D) → IsLawful
 
   -- ---- the rule of a new entry
   module _ (k : CheckpointValue) (m0 m : LogMap) (s : State) (keeps : (state new.store.log.device).keeps_model) (is : IsIn state v k m0 m s) (walk : Parent s.tree path (At d)) where
-    dots_step : is_dots l.name.now ≡ true → Step (segments_of v) s (Create path) (Refuse refusals.Exist) s
-    dots_step dots = create_dots (segments_of v) s path d walk (dots_are true dots)
+    abbrev makes : MakesEntry (segments_of v) s path d of.call of.kind of.is_mkdir
+    makes = of.makes s is.version walk
 
-    long_step : is_dots l.name.now ≡ false → 59 < length l.name.now → Step (segments_of v) s (Create path) (Refuse refusals.NameTooLong) s
-    long_step named long = create_long (segments_of v) s path d walk (dots_are false named) (long_is k m0 m s is walk long)
+    dots_step : is_dots l.name.now ≡ true → Step (segments_of v) s of.call (Refuse refusals.Exist) s
+    dots_step dots = new_dots (segments_of v) s path d of.call of.kind of.is_mkdir makes (dots_are true dots)
+
+    long_step : is_dots l.name.now ≡ false → 59 < length l.name.now → Step (segments_of v) s of.call (Refuse refusals.NameTooLong) s
+    long_step named long = new_long (segments_of v) s path d of.call of.kind of.is_mkdir makes (dots_are false named) (long_is k m0 m s is walk long)
 
     is_named : is_dots l.name.now ≡ false → length l.name.now ≤ 59 → IsName 59 l.name.now
     is_named named short =
         subst (IsName 59) says.1
         (last_is_name (segments_of v) s is.log.sound path d (limit_is k m0 m s is walk) reached.bytes walk (dots_are false named) (let same_length = ap length says.1 in omega (arith, same_length, short)))
 
+    -- a slash behind it, as the path has it
+    slash_is : (b : Bool) → (l.slash && not of.is_mkdir) ≡ b → (slash path && not of.is_mkdir) ≡ b
+    slash_is b is = ap (λ (x : Bool). x && not of.is_mkdir) has_last.1 ∙ is
+
     module _ (named : is_dots l.name.now ≡ false) (short : length l.name.now ≤ 59) (head : Header) where
-      there_step : (n : ℕ) → LooksUp state old new d l.name.now head (Some n) → Step (segments_of v) s (Create path) (Refuse refusals.Exist) s
+      there_step : (n : ℕ) → LooksUp state old new d l.name.now head (Some n) → Step (segments_of v) s of.call (Refuse refusals.Exist) s
       there_step n looks =
           let found = looked k m0 m s is walk keeps head (Some n) looks in
-          create_there (segments_of v) s path d walk (dots_are false named) (short_is k m0 m s is walk short) (there_in_directory (segments_of v) m s (volume k m0 m s is walk) d (dir k m0 m s is walk) head found.0 path n found.1)
+          new_there (segments_of v) s path d of.call of.kind of.is_mkdir makes (dots_are false named) (short_is k m0 m s is walk short)
+          (there_in_directory (segments_of v) m s (volume k m0 m s is walk) d (dir k m0 m s is walk) head found.0 path n found.1)
 
-      slash_step : l.slash ≡ true → LooksUp state old new d l.name.now head None → Step (segments_of v) s (Create path) (Refuse refusals.NoEntry) s
-      slash_step ends looks = create_slash (segments_of v) s path d walk (dots_are false named) (short_is k m0 m s is walk short) (is_new k m0 m s is walk keeps head looks) (has_last.1 ∙ ends)
+      slash_step : (l.slash && not of.is_mkdir) ≡ true → LooksUp state old new d l.name.now head None → Step (segments_of v) s of.call (Refuse refusals.NoEntry) s
+      slash_step ends looks =
+          new_slash (segments_of v) s path d of.call of.kind of.is_mkdir makes (dots_are false named) (short_is k m0 m s is walk short) (is_new k m0 m s is walk keeps head looks) (slash_is true ends)
 
-      full_step : l.slash ≡ false → 65472 < head.size → LooksUp state old new d l.name.now head None → Step (segments_of v) s (Create path) (Refuse refusals.DirFull) s
+      full_step : (l.slash && not of.is_mkdir) ≡ false → 65472 < head.size → LooksUp state old new d l.name.now head None → Step (segments_of v) s of.call (Refuse refusals.DirFull) s
       full_step plain large looks =
           let there = (looked k m0 m s is walk keeps head None looks).0 in
           let right = fits k m0 m s is walk head there in
           let whole : head.size % 64 ≡ 0 = right.slots (directory_kind (segments_of v) m s (volume k m0 m s is walk) d (dir k m0 m s is walk) head there) in
-          create_full (segments_of v) s path d walk (dots_are false named) (short_is k m0 m s is walk short) (is_new k m0 m s is walk keeps head looks) (has_last.1 ∙ plain)
+          new_full (segments_of v) s path d of.call of.kind of.is_mkdir makes (dots_are false named) (short_is k m0 m s is walk short) (is_new k m0 m s is walk keeps head looks) (slash_is false plain)
           (full_directory (segments_of v) m s (volume k m0 m s is walk) d (dir k m0 m s is walk) head there right (omega (arith, whole, large)))
 
     -- what comes after it
-    module _ (head : Header) (takes : TakesEntry state old new d l.name.now l.slash head) where
+    module _ (head : Header) (takes : TakesEntry state old new d l.name.now l.slash of.is_mkdir head) where
+      head_is : m.header d ≡ Some (as_header head)
+      head_is = (looked k m0 m s is walk keeps head None takes.looks).0
+
       has_room : is_full s.tree d ≡ false
       has_room =
-          let there = (looked k m0 m s is walk keeps head None takes.looks).0 in
-          free_directory (segments_of v) m s (volume k m0 m s is walk) d (dir k m0 m s is walk) head there (fits k m0 m s is walk head there) (let room = takes.room in omega (arith, room))
+          free_directory (segments_of v) m s (volume k m0 m s is walk) d (dir k m0 m s is walk) head head_is (fits k m0 m s is walk head head_is) (let room = takes.room in omega (arith, room))
 
-      handles_are : s.handles ≡ handles_of new.handles.numbers.items
+      pub handles_are : s.handles ≡ handles_of new.handles.numbers.items
       handles_are = is.handles ∙ ap handles_of (sym still.table)
 
-      handle_step : 64 ≤ least_handle (handles_of new.handles.numbers.items) → Step (segments_of v) s (Create path) (Refuse refusals.TooManyOpen) s
-      handle_step many =
-          create_too_many (segments_of v) s path d walk (dots_are false takes.named) (short_is k m0 m s is walk takes.is_name.short) (is_new k m0 m s is walk keeps head takes.looks) (has_last.1 ∙ takes.plain) has_room
-          (subst (λ hs. 64 ≤ least_handle hs) (sym handles_are) many)
+      pub links_are : head.links ≡ links s.tree d
+      links_are = is.log.links d (as_header head) head_is ∙ ap (λ (t : Tree). links t d) (sym is.log.is)
 
-      number_step : least_handle (handles_of new.handles.numbers.items) < 64 → HasAll state new.store.log → Step (segments_of v) s (Create path) (Refuse refusals.NoNumber) s
-      number_step some all =
-          create_no_number (segments_of v) s path d walk (dots_are false takes.named) (short_is k m0 m s is walk takes.is_name.short) (is_new k m0 m s is walk keeps head takes.looks) (has_last.1 ∙ takes.plain) has_room
-          (subst (λ hs. least_handle hs < 64) (sym handles_are) some)
+      own_step : makes.own ≡ true → Step (segments_of v) s of.call (Refuse makes.why) s
+      own_step own =
+          new_own (segments_of v) s path d of.call of.kind of.is_mkdir makes (dots_are false takes.named) (short_is k m0 m s is walk takes.is_name.short) (is_new k m0 m s is walk keeps head takes.looks)
+          (slash_is false takes.plain) has_room own
+
+      number_step : makes.own ≡ false → HasAll state new.store.log → Step (segments_of v) s of.call (Refuse refusals.NoNumber) s
+      number_step allowed all =
+          new_no_number (segments_of v) s path d of.call of.kind of.is_mkdir makes (dots_are false takes.named) (short_is k m0 m s is walk takes.is_name.short) (is_new k m0 m s is walk keeps head takes.looks)
+          (slash_is false takes.plain) has_room allowed
           (no_least (segments_of v) m s (volume k m0 m s is walk) (all k m0 m (still_in state v (seen new) k m0 m s still is).stores.holds))
 
   -- ---- the calls
   refused : (r : refusals.Refusal) → IsOrdinary (Refuse r)
-      → ((k : CheckpointValue) (m0 m : LogMap) (s : State) → (state new.store.log.device).keeps_model → IsIn state v k m0 m s → Parent s.tree path (At d) → Step (segments_of v) s (Create path) (Refuse r) s)
-      → Serves state v (seen new) (Create path) (Refuse r)
-  refused = create_refuses state lawful v old path d piece reached running new only.still
+      → ((k : CheckpointValue) (m0 m : LogMap) (s : State) → (state new.store.log.device).keeps_model → IsIn state v k m0 m s → Parent s.tree path (At d) → Step (segments_of v) s of.call (Refuse r) s)
+      → Serves state v (seen new) of.call (Refuse r)
+  refused = entry_refuses state lawful v old path d of piece reached running new only.still
 
-  -- no handle is free
-  pub handle_refused : (head : Header) → TakesEntry state old new d l.name.now l.slash head → 64 ≤ least_handle (handles_of new.handles.numbers.items) → Serves state v (seen new) (Create path) (Refuse refusals.TooManyOpen)
-  handle_refused head takes many = refused refusals.TooManyOpen tt (λ k m0 m s keeps is walk. handle_step k m0 m s keeps is walk head takes many)
+  -- What holds of each state that the volume may be in, at the end of the walk.
+  abbrev pub AtParent : ((s : State) → MakesEntry (segments_of v) s path d of.call of.kind of.is_mkdir → Type 0) → Type 0
+  AtParent P = (k : CheckpointValue) (m0 m : LogMap) (s : State) → (state new.store.log.device).keeps_model → (is : IsIn state v k m0 m s) → (walk : Parent s.tree path (At d)) → P s (of.makes s is.version walk)
+
+  -- the call is refused for its own reason
+  pub own_refused : (head : Header) → TakesEntry state old new d l.name.now l.slash of.is_mkdir head → (r : refusals.Refusal) → IsOrdinary (Refuse r) → AtParent (λ s e. (e.own ≡ true) × (e.why ≡ r))
+      → Serves state v (seen new) of.call (Refuse r)
+  own_refused head takes r ordinary own = refused r ordinary (λ k m0 m s keeps is walk. (
+      let here = own k m0 m s keeps is walk in
+      subst (λ (x : refusals.Refusal). Step (segments_of v) s of.call (Refuse x) s) here.1 (own_step k m0 m s keeps is walk head takes here.0)))
 
   -- no number is free
-  pub number_refused : (head : Header) → TakesEntry state old new d l.name.now l.slash head → least_handle (handles_of new.handles.numbers.items) < 64 → HasAll state new.store.log
-      → Serves state v (seen new) (Create path) (Refuse refusals.NoNumber)
-  number_refused head takes some all = refused refusals.NoNumber tt (λ k m0 m s keeps is walk. number_step k m0 m s keeps is walk head takes some all)
+  pub number_refused : (head : Header) → TakesEntry state old new d l.name.now l.slash of.is_mkdir head → AtParent (λ s e. e.own ≡ false) → HasAll state new.store.log
+      → Serves state v (seen new) of.call (Refuse refusals.NoNumber)
+  number_refused head takes allowed all = refused refusals.NoNumber tt (λ k m0 m s keeps is walk. number_step k m0 m s keeps is walk head takes (allowed k m0 m s keeps is walk) all)
 
   -- the directory doesn't take the entry
-  pub entry_refused : (fault : FsError) → RefusesEntry state old new d l.name.now l.slash fault → Serves state v (seen new) (Create path) (Refuse (refusal_of fault))
+  pub entry_refused : (fault : FsError) → RefusesEntry state old new d l.name.now l.slash of.is_mkdir fault → Serves state v (seen new) of.call (Refuse (refusal_of fault))
   entry_refused error.Exist why = ⊎_elim
       (λ dots. refused refusals.Exist tt (λ k m0 m s keeps is walk. dots_step k m0 m s keeps is walk dots))
       (λ there. refused refusals.Exist tt (λ k m0 m s keeps is walk. there_step k m0 m s keeps is walk there.0 there.1 there.2.0 there.2.1.0 there.2.1.1))
@@ -223,7 +245,7 @@ module _ {D : Type 0} (state : D → DeviceState) (lawful : (d : D) → IsLawful
   entry_refused error.DirFull why = refused refusals.DirFull tt (λ k m0 m s keeps is walk. full_step k m0 m s keeps is walk why.0 why.1 why.3.0 why.2 why.3.1 why.3.2)
   entry_refused error.Halted why = absurd (let on = why in let off = running in cc)
   entry_refused error.Device why =
-      failed_serves state v (seen new) (Create path) (lawful v.log.device) still (sym reached.still.reads.halted ∙ running) refl (λ k m0 m s keeps is. rises k m0 m s is (reached.walk k m0 m s (only.still.reads.looks.carries.kept_before keeps) is) keeps why)
+      failed_serves state v (seen new) of.call (lawful v.log.device) still (sym reached.still.reads.halted ∙ running) of.uncommitted (λ k m0 m s keeps is. rises k m0 m s is (reached.walk k m0 m s (only.still.reads.looks.carries.kept_before keeps) is) keeps why)
   entry_refused error.NotDir why = absurd why
   entry_refused error.IsDir why = absurd why
   entry_refused error.NotEmpty why = absurd why
@@ -239,3 +261,37 @@ module _ {D : Type 0} (state : D → DeviceState) (lawful : (d : D) → IsLawful
   entry_refused error.NoMemory why = absurd why
   entry_refused error.Stuck why = absurd why
   entry_refused error.Worn why = absurd why
+
+-- ---- create: no handle is free
+
+module _ {D : Type 0} (state : D → DeviceState) (lawful : (d : D) → IsLawful (state d)) (v : Mounted D) (old : Fs D) (path : List ℕ) (d : ℕ) (piece : Option Last) (reached : Reaches state v old path d piece)
+    (running : old.store.log.halted ≡ false) (l : Last) (is_last : piece ≡ Some l) (new : Fs D) (only : OnlyReads state old new) (head : Header) (takes : TakesEntry state old new d l.name.now l.slash false head) where
+  abbrev pub creates : NewCall (segments_of v) path d
+  creates = create_call (segments_of v) path d reached.bytes
+
+  handles_in : (k : CheckpointValue) (m0 m : LogMap) (s : State) → (state new.store.log.device).keeps_model → IsIn state v k m0 m s → Parent s.tree path (At d) → s.handles ≡ handles_of new.handles.numbers.items
+  handles_in k m0 m s keeps is walk = handles_are state lawful v old path d creates piece reached running l is_last new only k m0 m s keeps is walk head takes
+
+  pub handle_refused : 64 ≤ least_handle (handles_of new.handles.numbers.items) → Serves state v (seen new) (Create path) (Refuse refusals.TooManyOpen)
+  handle_refused many = own_refused state lawful v old path d creates piece reached running l is_last new only head takes refusals.TooManyOpen tt
+      (λ k m0 m s keeps is walk. (at_most 64 (least_handle s.handles) (subst (λ hs. 64 ≤ least_handle hs) (sym (handles_in k m0 m s keeps is walk)) many), refl))
+
+  pub handle_allowed : least_handle (handles_of new.handles.numbers.items) < 64 → AtParent state lawful v old path d creates piece reached running l is_last new only (λ s e. e.own ≡ false)
+  handle_allowed some k m0 m s keeps is walk = not_at_most 64 (least_handle s.handles) (subst (λ hs. least_handle hs < 64) (sym (handles_in k m0 m s keeps is walk)) some)
+
+-- ---- mkdir: the directory has all the links that it may have
+
+module _ {D : Type 0} (state : D → DeviceState) (lawful : (d : D) → IsLawful (state d)) (v : Mounted D) (old : Fs D) (path : List ℕ) (d : ℕ) (piece : Option Last) (reached : Reaches state v old path d piece)
+    (running : old.store.log.halted ≡ false) (l : Last) (is_last : piece ≡ Some l) (new : Fs D) (only : OnlyReads state old new) (head : Header) (takes : TakesEntry state old new d l.name.now l.slash true head) where
+  abbrev pub mkdirs : NewCall (segments_of v) path d
+  mkdirs = mkdir_call (segments_of v) path d reached.bytes
+
+  links_in : (k : CheckpointValue) (m0 m : LogMap) (s : State) → (state new.store.log.device).keeps_model → IsIn state v k m0 m s → Parent s.tree path (At d) → head.links ≡ links s.tree d
+  links_in k m0 m s keeps is walk = links_are state lawful v old path d mkdirs piece reached running l is_last new only k m0 m s keeps is walk head takes
+
+  pub links_refused : 1000 ≤ head.links → Serves state v (seen new) (Mkdir path) (Refuse refusals.TooManyLinks)
+  links_refused many = own_refused state lawful v old path d mkdirs piece reached running l is_last new only head takes refusals.TooManyLinks tt
+      (λ k m0 m s keeps is walk. (at_most 1000 (links s.tree d) (let same = links_in k m0 m s keeps is walk in omega (arith, same, many)), refl))
+
+  pub links_allowed : head.links < 1000 → AtParent state lawful v old path d mkdirs piece reached running l is_last new only (λ s e. e.own ≡ false)
+  links_allowed few k m0 m s keeps is walk = not_at_most 1000 (links s.tree d) (let same = links_in k m0 m s keeps is walk in omega (arith, same, few))

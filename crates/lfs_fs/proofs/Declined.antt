@@ -16,10 +16,11 @@ use Rattle.lfs_store.specs.Accepting.{Commits, Declines, IsAcceptFault}
 use Rattle.lfs_store.specs.Writing.{SizesFile, WritesFile, resized}
 use Rattle.lfs_fs.specs.Handles.{handles_of}
 use Rattle.lfs_fs.specs.Volume.{Mounted, Serves, segments_of}
-use Rattle.lfs_fs.proofs.Accepted.{DraftsFile, InEach, IsDrafted, OfEach}
+use Rattle.lfs_fs.proofs.Accepted.{DraftsEntry, InEach, IsDrafted, OfEach}
 use Rattle.lfs_fs.proofs.Behaving.{change_writes, write_behaves}
 use Rattle.lfs_fs.proofs.CallSteps.{never_worn}
 use Rattle.lfs_fs.proofs.Created.{created_log}
+use Rattle.lfs_fs.proofs.EntrySteps.{NewCall}
 use Rattle.lfs_fs.proofs.Ending.{IsRest, commits_by, declines_by}
 use Rattle.lfs_fs.proofs.Holding.{map_of_volume}
 use Rattle.lfs_fs.proofs.PathSteps.{sync_done}
@@ -81,7 +82,8 @@ module _ {D : Type 0} (state : D → DeviceState) (old : Mounted D) (c : Changes
         drafted.fits k m0 m keeps is.stores.holds is.map (shortened_log (segments_of old) m (staged c m) s h n (map_of_volume state old k m0 m s is) (ap (find nat_cmp h) is.handles ∙ opens) head (there k m0 m keeps is.stores.holds) len
         (sizes k m0 m keeps is.stores.holds) end)
 
-  pub create_fits : (p : List ℕ) (d n : ℕ) (made : LogMap → LogMap) (head : Header) (size at : ℕ) (w : List ℕ) → DraftsFile state old c p d n made head size at w → InEach state old (λ m s. FitsBatch m c)
-  create_fits p d n made head size at w drafts k m0 m s keeps is =
-      drafted.fits k m0 m keeps is.stores.holds is.map (created_log (segments_of old) m (made m) (staged c m) s (map_of_volume state old k m0 m s is) p d (drafts.walk k m0 m s keeps is) n (drafts.first k m0 m s keeps is) drafts.top
-      (drafts.new_name k m0 m s keeps is) head size at w (drafts.does k m0 m s keeps is))
+  pub entry_fits : (p : List ℕ) (d : ℕ) (of : NewCall (segments_of old) p d) (n : ℕ) (made : LogMap → LogMap) (head : Header) (size at : ℕ) (w : List ℕ) → DraftsEntry state old c p d of n made head size at w
+      → InEach state old (λ m s. FitsBatch m c)
+  entry_fits p d of n made head size at w drafts k m0 m s keeps is =
+      drafted.fits k m0 m keeps is.stores.holds is.map (created_log (segments_of old) m (made m) (staged c m) s (map_of_volume state old k m0 m s is) is.version p d (drafts.walk k m0 m s keeps is) n
+      (drafts.first k m0 m s keeps is) drafts.top (drafts.new_name k m0 m s keeps is) of.kind head size at w (drafts.does k m0 m s keeps is))

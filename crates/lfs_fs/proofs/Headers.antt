@@ -13,11 +13,6 @@ pub file_fits : (n : ℕ) (head : Header) → IsHeaderOf n (as_header head) → 
 unfolding IsSize
 file_fits n head fits file size small = record { links_few = fits.links; size_fits = subst (λ (k : Kind). IsSize 0 k size) (sym file) small }
 
--- a new one
-pub new_file_fits : FitsHeader kind.File 1 0
-unfolding IsSize
-new_file_fits = record { links_few = omega arith; size_fits = omega arith }
-
 -- a file with another number of links, at most as many
 pub links_fit : (n : ℕ) (head : Header) → IsHeaderOf n (as_header head) → (links : ℕ) → links ≤ head.links → FitsHeader head.kind links head.size
 links_fit n head fits links le = record { links_few = (let few = fits.links in omega (arith, few, le)); size_fits = fits.size }

@@ -5,9 +5,8 @@ use Rattle.lfs_model.specs.Checkpoint.{CheckpointValue}
 use Rattle.lfs_model.specs.Device.{DeviceState}
 use Rattle.lfs_model.specs.Entry.{Header}
 use Rattle.lfs_model.specs.Objects.{IsHeaderOf}
-use Rattle.lfs_model.specs.Sound.{IsFile}
 use Rattle.lfs_model.specs.Stands.{LogMap}
-use Rattle.lfs_model.specs.Tree.{State, Tree, is_dir, least_handle, node}
+use Rattle.lfs_model.specs.Tree.{State, is_dir, least_handle, node}
 use Rattle.lfs_model.specs.TreeOf.{IsTree, dropped}
 use Rattle.lfs_model.specs.Walk.{At, Resolve}
 use Rattle.lfs_model.proofs.Committed.{dropped_tree}

@@ -1,15 +1,15 @@
 -- Drafts that aren't staged, since the tree would need more than there is, or the last number is reached: nothing has changed.
-use Rattle.std.proofs.Common.{◌≡◌, ◌<◌, ◌≤◌, ◌+◌, ◌*◌, ◌^◌, ℕ, true, false, List, length, Some, refl, sym, ◌∙◌, ap, subst, inl, inr, arith}
+use Rattle.std.proofs.Common.{◌≡◌, ◌<◌, ◌≤◌, ◌+◌, ◌*◌, ◌^◌, ℕ, true, false, List, length, Some, refl, ◌∙◌, ap, inl, inr, arith}
 use Rattle.std.specs.Prelude.{max}
 use Rattle.std.specs.Ordering.{nat_cmp}
 use Rattle.std.specs.FinMap.{find}
-use Rattle.lfs_model.specs.Call.{Answer, Call, Count, Create, Done, Handle, Pwrite, Refuse, Truncate, changes, is_ok}
+use Rattle.lfs_model.specs.Call.{Answer, Call, Count, Done, Pwrite, Refuse, Truncate, changes, is_ok}
 use Rattle.lfs_model.specs.Device.{DeviceState, IsLawful}
 use Rattle.lfs_model.specs.Refusal.{NoSpace, Worn}
 use Rattle.lfs_model.specs.Run.{Point, StepsOr}
 use Rattle.lfs_model.specs.Stands.{LogMap}
 use Rattle.lfs_model.specs.Step.{Step, with_tree}
-use Rattle.lfs_model.specs.Tree.{State, least_handle}
+use Rattle.lfs_model.specs.Tree.{State}
 use Rattle.lfs_store.specs.memory.declared.changes.Changes.{Changes}
 use Rattle.lfs_files.specs.declared.header.Header.{Header}
 use Rattle.lfs_store.specs.memory.Batch.{staged}
@@ -18,12 +18,13 @@ use Rattle.lfs_model.specs.Totals.{TotalsOfTree}
 use Rattle.lfs_store.specs.Writing.{WritesFile, resized}
 use Rattle.lfs_fs.specs.Handles.{handles_of}
 use Rattle.lfs_fs.specs.Volume.{IsStill, IsAt, Mounted, Serves, segments_of}
-use Rattle.lfs_fs.proofs.Accepted.{DraftsFile, IsDrafted, OfEach}
-use Rattle.lfs_fs.proofs.CallSteps.{create_full, create_step, refused_not_worn, pwrite_full, pwrite_step, worn}
+use Rattle.lfs_fs.proofs.Accepted.{DraftsEntry, IsDrafted, OfEach}
+use Rattle.lfs_fs.proofs.CallSteps.{entry_full, entry_step, refused_not_worn, pwrite_full, pwrite_step, worn}
 use Rattle.lfs_fs.proofs.Created.{created_log}
+use Rattle.lfs_fs.proofs.Ending.{not_acknowledged}
+use Rattle.lfs_fs.proofs.EntrySteps.{NewCall, with_entry}
 use Rattle.lfs_fs.proofs.HandleSteps.{cut_all_done, shortened, written}
 use Rattle.lfs_fs.proofs.Holding.{map_of_volume, shape_of_volume}
-use Rattle.lfs_fs.proofs.PathSteps.{with_file}
 use Rattle.lfs_fs.proofs.Serving.{point_of, served_still}
 use Rattle.lfs_fs.proofs.Written.{written_log}
 
@@ -73,37 +74,38 @@ module _ {D : Type 0} (state : D → DeviceState) (old new : Mounted D) (lawful 
         h n file head header at w changed some few end room) refl))
         (λ e. cc)
 
-  -- ---- a new file
-  module _ (p : List ℕ) (d n : ℕ) (made : LogMap → LogMap) (head : Header) (size at : ℕ) (w : List ℕ) (drafts : DraftsFile state old c p d n made head size at w) where
-    pub create_lacks : 47 * segments_of old < blocks + 7 * others + 720 → Serves state old new (Create p) (Refuse NoSpace)
-    create_lacks lacks = served_still state old new (Create p) (Refuse NoSpace) lawful still was tt (λ q keeps here k m0 m is. (
+  -- ---- a new entry
+  module _ (p : List ℕ) (d : ℕ) (of : NewCall (segments_of old) p d) (n : ℕ) (made : LogMap → LogMap) (head : Header) (size at : ℕ) (w : List ℕ) (drafts : DraftsEntry state old c p d of n made head size at w) where
+    pub entry_lacks : 47 * segments_of old < blocks + 7 * others + 720 → Serves state old new of.call (Refuse NoSpace)
+    entry_lacks lacks = served_still state old new of.call (Refuse NoSpace) lawful still was tt (λ q keeps here k m0 m is. (
         let before = kept keeps in
         let map = map_of_volume state old k m0 m q.state is in
         let walk = drafts.walk k m0 m q.state before is in
         let first = drafts.first k m0 m q.state before is in
         let absent = drafts.new_name k m0 m q.state before is in
         let does = drafts.does k m0 m q.state before is in
-        let log = created_log N m (made m) (staged c m) q.state map p d walk n first drafts.top absent head size at w does in
-        let step = create_full N m q.state map totals (shape_of_volume state old k m0 m q.state is) (staged c m) blocks others (drafted.counted k m0 m before is.stores.holds is.map log is.counted)
-        p d walk (made m) n first drafts.top absent head size at w does drafts.named (drafts.short k m0 m q.state before is) drafts.plain (drafts.space k m0 m q.state before is)
-        (subst (λ hs. least_handle hs < 64) (sym is.handles) drafts.some) lacks in
-        inl (step, refused_not_worn N (Create p) q NoSpace q.state step refl)))
-        (λ e. cc)
+        let log = created_log N m (made m) (staged c m) q.state map is.version p d walk n first drafts.top absent of.kind head size at w does in
+        let step = entry_full N m q.state map totals (shape_of_volume state old k m0 m q.state is) (staged c m) blocks others (drafted.counted k m0 m before is.stores.holds is.map log is.counted)
+        is.version p d walk (made m) n first drafts.top absent of.kind head size at w does of.call of.is_mkdir (of.makes q.state is.version walk) drafts.named (drafts.short k m0 m q.state before is) drafts.plain
+        (drafts.space k m0 m q.state before is) (drafts.allowed k m0 m q.state before is walk) lacks in
+        inl (step, refused_not_worn N of.call q NoSpace q.state step of.unclean)))
+        (not_acknowledged of.call NoSpace)
 
-    pub create_worn : 2 ^ 62 ≤ old.log.number → blocks + 7 * others + 720 ≤ 47 * segments_of old → Serves state old new (Create p) (Refuse Worn)
-    create_worn high room = served_still state old new (Create p) (Refuse Worn) lawful still was tt (λ q keeps here k m0 m is. (
+    pub entry_worn : 2 ^ 62 ≤ old.log.number → blocks + 7 * others + 720 ≤ 47 * segments_of old → Serves state old new of.call (Refuse Worn)
+    entry_worn high room = served_still state old new of.call (Refuse Worn) lawful still was tt (λ q keeps here k m0 m is. (
         let before = kept keeps in
         let map = map_of_volume state old k m0 m q.state is in
         let walk = drafts.walk k m0 m q.state before is in
         let first = drafts.first k m0 m q.state before is in
         let absent = drafts.new_name k m0 m q.state before is in
         let does = drafts.does k m0 m q.state before is in
-        let log = created_log N m (made m) (staged c m) q.state map p d walk n first drafts.top absent head size at w does in
-        past_last (Create p) q here high refl (Handle (least_handle q.state.handles)) (with_file N q.state p d walk)
-        (create_step N m q.state map totals (shape_of_volume state old k m0 m q.state is) (staged c m) blocks others (drafted.counted k m0 m before is.stores.holds is.map log is.counted)
-        p d walk (made m) n first drafts.top absent head size at w does drafts.named (drafts.short k m0 m q.state before is) drafts.plain (drafts.space k m0 m q.state before is)
-        (subst (λ hs. least_handle hs < 64) (sym is.handles) drafts.some) room) refl))
-        (λ e. cc)
+        let makes = of.makes q.state is.version walk in
+        let log = created_log N m (made m) (staged c m) q.state map is.version p d walk n first drafts.top absent of.kind head size at w does in
+        past_last of.call q here high of.changing makes.answer (with_entry N q.state p d of.call of.kind of.is_mkdir makes)
+        (entry_step N m q.state map totals (shape_of_volume state old k m0 m q.state is) (staged c m) blocks others (drafted.counted k m0 m before is.stores.holds is.map log is.counted)
+        is.version p d walk (made m) n first drafts.top absent of.kind head size at w does of.call of.is_mkdir makes drafts.named (drafts.short k m0 m q.state before is) drafts.plain
+        (drafts.space k m0 m q.state before is) (drafts.allowed k m0 m q.state before is walk) room) makes.ok))
+        (not_acknowledged of.call Worn)
 
 -- ---- a cut
 module _ {D : Type 0} (state : D → DeviceState) (old new : Mounted D) (lawful : IsLawful (state old.log.device)) (still : IsStill state old new) (was : old.log.halted ≡ false) where

@@ -5,6 +5,8 @@ mod Serving
 mod Checks
 mod HandleSteps
 mod PathSteps
+mod EntrySteps
+mod Growth
 mod Looking
 mod Files
 mod PlainTrees

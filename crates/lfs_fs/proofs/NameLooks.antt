@@ -1,6 +1,7 @@
 -- A name looked up in a directory, and the rule of a new entry.
 use Rattle.std.proofs.Common.{◌≡◌, ℕ, Bool, true, false, List, Option, Some, None, Result, Ok, Err, refl, sym, ◌∙◌, ap₂, subst, inl, inr, ⊎_elim, arith}
 use Rattle.std.specs.Prelude.{IfErr, is_some}
+use Rattle.lfs_model.specs.declared.Kind.{Kind}
 use Rattle.lfs_model.specs.Device.{DeviceState}
 use Rattle.lfs_files.specs.declared.fault.LogFault.{LogFault}
 use Rattle.lfs_files.specs.declared.fault.LogFault.TheVariants as log
@@ -56,10 +57,10 @@ module _ {D : Type 0} (state : D → DeviceState) where
     )
 
   -- no answer refuses the entry
-  pub refuses_look : (old new : Fs D) (d : ℕ) (name : List ℕ) (ends : Bool) (fault : FsError) → LooksNone state old new d fault → RefusesEntry state old new d name ends fault
-  refuses_look old new d name ends fault none = ⊎_elim
-      (λ halted. subst (λ (e : FsError). RefusesEntry state old new d name ends e) (sym halted.0) halted.1)
-      (λ failed. subst (λ (e : FsError). RefusesEntry state old new d name ends e) (sym failed.0) failed.1)
+  pub refuses_look : (old new : Fs D) (d : ℕ) (name : List ℕ) (ends is_mkdir : Bool) (fault : FsError) → LooksNone state old new d fault → RefusesEntry state old new d name ends is_mkdir fault
+  refuses_look old new d name ends is_mkdir fault none = ⊎_elim
+      (λ halted. subst (λ (e : FsError). RefusesEntry state old new d name ends is_mkdir e) (sym halted.0) halted.1)
+      (λ failed. subst (λ (e : FsError). RefusesEntry state old new d name ends is_mkdir e) (sym failed.0) failed.1)
       none
 
   -- ---- whether a name was found
@@ -80,9 +81,9 @@ module _ {D : Type 0} (state : D → DeviceState) where
   none_drafted old new was (store.Log log.Full) failed halted other e is = absurd (other refl)
 
   -- ---- a draft that is given up
-  pub none_made : (old mid new : Fs D) (d : ℕ) (head : Header) (n : ℕ) (name : List ℕ) (fault : FsError) → IsStill state (seen old) (seen mid) → seen new ≡ seen mid → DraftsNone state old mid fault
-      → MakesNone state old new d head n name fault
-  none_made old mid new d head n name fault still same none = inr (
+  pub none_made : (old mid new : Fs D) (d : ℕ) (head : Header) (n : ℕ) (k : Kind) (name : List ℕ) (fault : FsError) → IsStill state (seen old) (seen mid) → seen new ≡ seen mid → DraftsNone state old mid fault
+      → MakesNone state old new d head n k name fault
+  none_made old mid new d head n k name fault still same none = inr (
     subst (λ (v : Mounted D). IsStill state (seen old) v) (sym same) still,
     ⊎_elim
         (λ memory. inl memory)

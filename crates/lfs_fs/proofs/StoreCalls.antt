@@ -1,5 +1,5 @@
 -- Calls on files are calls on a store.
-use Rattle.std.proofs.Common.{◌≡◌, ◌<◌, ℕ, List, Option, Some, None, refl, sym, ◌∙◌, ap, subst}
+use Rattle.std.proofs.Common.{◌≡◌, ◌<◌, ℕ, List, None, refl, sym, ◌∙◌, ap, subst}
 use Rattle.std.specs.FinMap.{find}
 use Rattle.lfs_model.specs.Device.{DeviceState}
 use Rattle.lfs_model.specs.Objects.{IsDirectory}
@@ -19,7 +19,7 @@ use Rattle.lfs_store.specs.log.Held.{Held, IsReadFault, Reads}
 use Rattle.lfs_store.specs.memory.Batch.{staged}
 use Rattle.lfs_store.specs.Recounting.{Counts}
 use Rattle.lfs_store.specs.Seen.{StagedLog}
-use Rattle.lfs_store.proofs.LogReads.{held_still}
+use Rattle.lfs_store.proofs.LogReads.{held_still, reads_none}
 use Rattle.lfs_path.specs.declared.walk_fault.WalkFault.{WalkFault}
 use Rattle.lfs_path.specs.declared.walk_fault.WalkFault.TheVariants as walk
 use Rattle.lfs_path.specs.Reaching.{EndsParent, IsParent}
@@ -29,6 +29,7 @@ use Rattle.lfs_path.specs.dirs.Adding as adding
 use Rattle.lfs_path.specs.dirs.Adding.{AddsName, grown, slot_for}
 use Rattle.lfs_path.specs.dirs.Directory.{names_at}
 use Rattle.lfs_fs.specs.declared.fs.Fs.{Fs}
+use Rattle.lfs_fs.specs.declared.handles.Handles.{Handles}
 use Rattle.lfs_fs.specs.Seen.{seen}
 use Rattle.lfs_fs.specs.Volume.{IsStill}
 use Rattle.lfs_fs.specs.Drafted.{Adds, EachDrafted, EndsRefused, WalksTo, files_of}
@@ -125,4 +126,19 @@ still_drafted {D} state old a b log saved redrafts = record {
   blocks = ap (λ (t : BlockTotals). t.data_blocks) (ap totals_of redrafts.totals ∙ ap (λ (h : Held D). h.totals) log);
   others = ap (λ (t : BlockTotals). t.meta_blocks) (ap totals_of redrafts.totals ∙ ap (λ (h : Held D). h.totals) log);
   table = refl;
+}
+
+-- the same of a volume whose handles are those before
+pub still_with : {D : Type 0} (state : D → DeviceState) (old mid : Fs D) (b : Store D) → mid.handles ≡ old.handles
+    → IsStill state (seen old) (seen record { alloc = old.alloc; store = b; handles = old.handles }) → IsStill state (seen old) (seen record { alloc = mid.alloc; store = b; handles = mid.handles })
+still_with state old mid b handles still = subst (λ (h : Handles). IsStill state (seen old) (seen record { alloc = old.alloc; store = b; handles = h })) (sym handles) still
+
+-- a volume whose log is as it was
+pub still_logged : {D : Type 0} (state : D → DeviceState) (old new : Fs D) → new.store.log ≡ old.store.log → new.store.saved ≡ old.store.saved → new.handles ≡ old.handles → IsStill state (seen old) (seen new)
+still_logged {D} state old new log saved handles = record {
+  reads = subst (λ (h : Held D). Reads state old.store.log h) (sym log) (reads_none state old.store.log);
+  saved = saved;
+  blocks = ap (λ (h : Held D). h.totals.data_blocks) log;
+  others = ap (λ (h : Held D). h.totals.meta_blocks) log;
+  table = ap (λ (h : Handles). h.numbers.items) handles;
 }

@@ -1,7 +1,8 @@
 -- What the steps of the calls of paths do, each for itself.
-use Rattle.std.specs.Prelude.{◌≡◌, ◌≢◌, ◌⊎◌, ◌≤◌, ◌<◌, ℕ, Bool, true, false, List, length, Option, Some, None}
+use Rattle.std.specs.Prelude.{◌≡◌, ◌≢◌, ◌⊎◌, ◌≤◌, ◌<◌, ◌+◌, ◌&&◌, not, ℕ, Bool, true, false, List, length, Option, Some, None}
 use Rattle.std.specs.Ordering.{nat_cmp}
 use Rattle.std.specs.FinMap.{find, put}
+use Rattle.lfs_model.specs.declared.Kind.{Kind}
 use Rattle.lfs_model.specs.declared.Kind.TheVariants as kind
 use Rattle.lfs_model.specs.Bytes.{AreBytes}
 use Rattle.lfs_model.specs.Checkpoint.{CheckpointValue}
@@ -17,8 +18,8 @@ use Rattle.lfs_store.specs.memory.Batch.{IsNoChange, staged}
 use Rattle.lfs_store.specs.memory.Present.{as_header}
 use Rattle.lfs_store.specs.log.Held.{Holds, IsReadFault}
 use Rattle.lfs_store.specs.log.verify.declared.totals.BlockTotals.{BlockTotals}
-use Rattle.lfs_store.specs.Making.{Makes, first_header}
-use Rattle.lfs_store.specs.Recounting.{Counts, CountsMade}
+use Rattle.lfs_store.specs.Making.{Makes, SetsLinks, first_header, relinked}
+use Rattle.lfs_store.specs.Recounting.{Counts, CountsMade, CountsRelinked}
 use Rattle.lfs_fs.specs.Drafted.{Adds}
 use Rattle.lfs_path.specs.dirs.Directory.{names_at}
 use Rattle.lfs_path.specs.declared.last.Last.{Last}
@@ -33,6 +34,19 @@ use Rattle.lfs_fs.specs.Reading.{LacksObject, TellsStat}
 use Rattle.lfs_fs.specs.Seen.{OnlyReads, seen}
 use Rattle.lfs_fs.specs.declared.rows.Stat.{Stat}
 use Rattle.lfs_fs.specs.Volume.{IsIn, IsStill, Mounted}
+
+-- the links of a directory with a new object of this kind in it
+abbrev pub more_links : Kind → ℕ → ℕ
+more_links kind.File l = l
+more_links kind.Directory l = l + 1
+more_links kind.Link l = l
+
+-- Directory d gets the links that it has with the new object; the totals stay.
+abbrev pub RelinksParent : Changes → Changes → ℕ → Header → BlockTotals → Kind → Type 0
+RelinksParent c c' d head t kind.File = c' ≡ c
+RelinksParent c c' d head t kind.Directory = SetsLinks c c' d head (head.links + 1)
+    × CountsRelinked c c' d head t
+RelinksParent c c' d head t kind.Link = c' ≡ c
 
 module _ {D : Type 0} (state : D → DeviceState) where
   -- ---- a handle on the object of a number
@@ -83,68 +97,90 @@ module _ {D : Type 0} (state : D → DeviceState) where
 
   -- ---- a new entry of directory d
 
-  -- It takes one of this name.
-  pub record TakesEntry (old new : Fs D) (d : ℕ) (name : List ℕ) (ends : Bool) (head : Header) : Type 0 where
+  -- It takes one of this name, which a slash may follow where it is to be a directory's.
+  pub record TakesEntry (old new : Fs D) (d : ℕ) (name : List ℕ) (ends is_mkdir : Bool)
+      (head : Header) : Type 0 where
     pub looks : LooksUp old new d name head None
     pub named : is_dots name ≡ false
     pub is_name : IsName 59 name
-    pub plain : ends ≡ false
+    pub plain : (ends && not is_mkdir) ≡ false
     pub room : head.size ≤ 65472
 
   -- why it doesn't
-  abbrev pub RefusesEntry : Fs D → Fs D → ℕ → List ℕ → Bool → FsError → Type 0
-  RefusesEntry old new d name ends error.Exist = (is_dots name ≡ true) ⊎ ((is_dots name ≡ false) × (length name ≤ 59) × ((head : Header) × ((n : ℕ) × LooksUp old new d name head (Some n))))
-  RefusesEntry old new d name ends error.NameTooLong = (is_dots name ≡ false) × (59 < length name)
-  RefusesEntry old new d name ends error.Inval = (is_dots name ≡ false) × (length name ≤ 59) × (IsName 59 name → ⊥)
-  RefusesEntry old new d name ends error.NoEntry = (is_dots name ≡ false) × (length name ≤ 59) × (ends ≡ true) × ((head : Header) × LooksUp old new d name head None)
-  RefusesEntry old new d name ends error.DirFull = (is_dots name ≡ false) × (length name ≤ 59) × (ends ≡ false) × ((head : Header) × (65472 < head.size) × LooksUp old new d name head None)
-  RefusesEntry old new d name ends error.Halted = old.store.log.halted ≡ true
-  RefusesEntry old new d name ends error.Device = FailsLook old new d
-  RefusesEntry old new d name ends _ = ⊥
+  abbrev pub RefusesEntry : Fs D → Fs D → ℕ → List ℕ → Bool → Bool → FsError → Type 0
+  RefusesEntry old new d name ends is_mkdir error.Exist = (is_dots name ≡ true)
+      ⊎ ((is_dots name ≡ false) × (length name ≤ 59)
+      × ((head : Header) × ((n : ℕ) × LooksUp old new d name head (Some n))))
+  RefusesEntry old new d name ends is_mkdir error.NameTooLong = (is_dots name ≡ false)
+      × (59 < length name)
+  RefusesEntry old new d name ends is_mkdir error.Inval = (is_dots name ≡ false)
+      × (length name ≤ 59) × (IsName 59 name → ⊥)
+  RefusesEntry old new d name ends is_mkdir error.NoEntry = (is_dots name ≡ false)
+      × (length name ≤ 59) × ((ends && not is_mkdir) ≡ true)
+      × ((head : Header) × LooksUp old new d name head None)
+  RefusesEntry old new d name ends is_mkdir error.DirFull = (is_dots name ≡ false)
+      × (length name ≤ 59) × ((ends && not is_mkdir) ≡ false)
+      × ((head : Header) × (65472 < head.size) × LooksUp old new d name head None)
+  RefusesEntry old new d name ends is_mkdir error.Halted = old.store.log.halted ≡ true
+  RefusesEntry old new d name ends is_mkdir error.Device = FailsLook old new d
+  RefusesEntry old new d name ends is_mkdir _ = ⊥
 
-  -- ---- a new file
+  -- ---- a new object
 
-  -- An empty file n is drafted, and then its name in directory d.
-  pub record DraftsNew (old new : Fs D) (d : ℕ) (head : Header) (n : ℕ) (name : List ℕ) : Type 0 where
+  -- An empty object n of a kind is drafted, and then its name in directory d, which gets the links
+  -- that it has with it.
+  pub record DraftsNew (old new : Fs D) (d : ℕ) (head : Header) (n : ℕ) (k : Kind)
+      (name : List ℕ) : Type 0 where
     pub between : Changes
+    pub linked : Changes
     pub half : BlockTotals
-    pub makes : Makes old.store.draft.changes between n (first_header kind.File 0)
+    pub makes : Makes old.store.draft.changes between n (first_header k 0)
     pub counts : CountsMade old.store.draft.changes between n old.store.drafted half
-    pub adds : Adds state old.store.log new.store.log between new.store.draft.changes d head n name
-    pub recounts : Counts state old.store.log new.store.log between new.store.draft.changes half new.store.drafted
+    pub relinks : RelinksParent between linked d head half k
+    pub adds : Adds state old.store.log new.store.log linked new.store.draft.changes d
+        (relinked head (more_links k head.links)) n name
+    pub recounts : Counts state old.store.log new.store.log linked new.store.draft.changes half
+        new.store.drafted
 
   -- why it isn't: memory was refused, or a call of the device failed
   abbrev pub DraftsNone : Fs D → Fs D → FsError → Type 0
   DraftsNone old new fault = (fault ≡ error.NoMemory) ⊎ ((fault ≡ error.Device) × IsReadFault state old.store.log new.store.log)
 
   -- A volume with the draft, before it is accepted.
-  pub record IsReady (old mid : Fs D) (d : ℕ) (head : Header) (n : ℕ) (name : List ℕ) : Type 0 where
+  pub record IsReady (old mid : Fs D) (d : ℕ) (head : Header) (n : ℕ) (k : Kind)
+      (name : List ℕ) : Type 0 where
     pub still : IsStill state (seen old) (seen mid)
-    pub drafts : DraftsNew old mid d head n name
+    pub drafts : DraftsNew old mid d head n k name
 
-  -- The file is made.
-  pub record MakesFile (old new : Fs D) (d : ℕ) (head : Header) (n : ℕ) (name : List ℕ) : Type 0 where
+  -- The object is made.
+  pub record MakesNew (old new : Fs D) (d : ℕ) (head : Header) (n : ℕ) (k : Kind)
+      (name : List ℕ) : Type 0 where
     pub mid : Fs D
-    pub ready : IsReady old mid d head n name
+    pub ready : IsReady old mid d head n k name
     pub stages : Stages state mid new
     pub table : new.handles ≡ mid.handles
 
   -- It isn't, where it was drafted.
-  pub record TurnsFile (old new : Fs D) (d : ℕ) (head : Header) (n : ℕ) (name : List ℕ) (fault : FsError) : Type 0 where
+  pub record TurnsNew (old new : Fs D) (d : ℕ) (head : Header) (n : ℕ) (k : Kind)
+      (name : List ℕ) (fault : FsError) : Type 0 where
     pub mid : Fs D
-    pub ready : IsReady old mid d head n name
+    pub ready : IsReady old mid d head n k name
     pub turns : TurnsDown state mid new fault
     pub table : new.handles ≡ mid.handles
 
   -- or nothing was
-  abbrev pub MakesNone : Fs D → Fs D → ℕ → Header → ℕ → List ℕ → FsError → Type 0
-  MakesNone old new d head n name fault = TurnsFile old new d head n name fault ⊎ (IsStill state (seen old) (seen new) × DraftsNone old new fault)
+  abbrev pub MakesNone : Fs D → Fs D → ℕ → Header → ℕ → Kind → List ℕ → FsError → Type 0
+  MakesNone old new d head n k name fault = TurnsNew old new d head n k name fault
+      ⊎ (IsStill state (seen old) (seen new) × DraftsNone old new fault)
 
-  -- A call that makes a file began at volume v, read, and came to directory d, where a path's last piece stands.
+  -- A call that makes an entry began at volume v, read, and came to directory d, where the last
+  -- piece of a path stands.
   pub record Reaches (v : Mounted D) (old : Fs D) (path : List ℕ) (d : ℕ) (piece : Option Last) : Type 0 where
     pub still : IsStill state v (seen old)
     pub empty : IsNoChange old.store.draft.changes
     pub drafted : old.store.drafted ≡ old.store.log.totals
     pub bytes : AreBytes path
     pub last : HasLast path piece
-    pub walk : (k : CheckpointValue) (m0 m : LogMap) (s : State) → (state old.store.log.device).keeps_model → IsIn state v k m0 m s → Parent s.tree path (At d)
+    pub walk : (k : CheckpointValue) (m0 m : LogMap) (s : State)
+        → (state old.store.log.device).keeps_model → IsIn state v k m0 m s
+        → Parent s.tree path (At d)

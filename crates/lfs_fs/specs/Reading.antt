@@ -116,7 +116,8 @@ module _ {D : Type 0} (state : D → DeviceState) where
   abbrev pub TellsTree : Fs D → Fs D → List TreeRow → Type 0
   TellsTree old new rows = Undrafted old new (λ s. map row_of rows ≡ rows_of s.tree)
 
-  -- why there is none: memory was refused, a commit failed, or, where this is so of a state, a call of the device did
+  -- why there is none: memory was refused, a commit failed, or, where this is so of a state, a call
+  -- of the device did
   abbrev pub LacksWhere : Fs D → Fs D → (LogMap → State → Type 0) → FsError → Type 0
   LacksWhere old new P fault = (fault ≡ error.NoMemory)
       ⊎ (((fault ≡ error.Halted) × (old.store.log.halted ≡ true))

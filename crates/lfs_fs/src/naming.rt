@@ -1,10 +1,11 @@
 //! Calls that find a file by its path, or make one.
-ghost use Rattle.std.specs.Prelude.{◌≡◌, ◌≤◌, ◌<◌, ℕ, List, false, IfOk, IfErr, OnOk, OnErr};
-ghost use Rattle.lfs_model.specs.Call.{Open, Create, Handle};
+ghost use Rattle.std.specs.Prelude.{◌≡◌, ◌≤◌, ◌<◌, ◌+◌, ◌&&◌, not, ℕ, List, false, IfOk, IfErr, OnOk, OnErr};
+ghost use Rattle.lfs_model.specs.Call.{Open, Create, Done, Handle, Mkdir};
 ghost use Rattle.lfs_model.specs.Slot.{IsName};
+ghost use Rattle.lfs_store.specs.Making.{relinked};
 ghost use Rattle.lfs_fs.specs.Volume.{IsStill, Mounted, Serves};
 ghost use Rattle.lfs_fs.specs.Seen.{seen, answer_by, OnlyReads};
-ghost use Rattle.lfs_fs.specs.Naming.{DraftsNew, DraftsNone, LooksNone, LooksUp, MakesFile, MakesNone, OpensNone, OpensNumber, Reaches, RefusesEntry, TakesEntry};
+ghost use Rattle.lfs_fs.specs.Naming.{DraftsNew, DraftsNone, LooksNone, LooksUp, MakesNew, MakesNone, OpensNone, OpensNumber, Reaches, RefusesEntry, RelinksParent, TakesEntry, more_links};
 
 use crate::error::FsError;
 use crate::fs::Fs;
@@ -22,6 +23,9 @@ const LONGEST_NAME: usize = 59;
 
 /// The most bytes of a directory that takes a further entry: 1,023 slots.
 const MOST_SLOTS: u32 = 65_472;
+
+/// The most links of a directory: 2, and one for each directory in it.
+const MOST_LINKS: u32 = 1_000;
 
 impl<D: SectorDevice> Fs<D> {
     /// A handle on the file of a path: the least that is free (POSIX.1-2017, open).
@@ -95,7 +99,7 @@ impl<D: SectorDevice> Fs<D> {
         let Some(last) = last else {
             return Err(FsError::Exist);
         };
-        let header = match self.check_new_entry(directory, last) {
+        let header = match self.check_new_entry(directory, last, false) {
             Ok(header) => header,
             Err(fault) => return Err(fault),
         };
@@ -105,12 +109,61 @@ impl<D: SectorDevice> Fs<D> {
         let Some(number) = self.store.least_free() else {
             return Err(FsError::NoNumber);
         };
-        match self.make_file(directory, header, number, last.name) {
+        match self.make_entry(directory, header, number, Kind::File, last.name) {
             Ok(()) => {}
             Err(fault) => return Err(fault),
         }
         self.handles.open(handle, number);
         Ok(handle)
+    }
+
+    /// Makes an empty directory (POSIX.1-2017, mkdir).
+    ///
+    /// # Errors
+    ///
+    /// In this order: those of the path; of the new name `Exist`, `NameTooLong`, `Exist`, `DirFull`;
+    /// `TooManyLinks` where the directory that is to have it has 1,000 links; `NoNumber`; `NoSpace`.
+    pub fn mkdir(&mut self, path: &[u8]) -> Result<(), FsError>
+        ensures { Serves D.SectorDevice.state (seen self.old) (seen self.new) (Mkdir path.now)
+            (answer_by (λ _. Done) result) }
+    {
+        match self.begin() {
+            Ok(()) => {}
+            Err(fault) => return Err(fault),
+        }
+        match parent(self.alloc, &mut self.store, path) {
+            Ok(place) => self.mkdir_at(place.chain.directory(), place.last),
+            Err(fault) => Err(FsError::from(fault)),
+        }
+    }
+
+    /// Makes an empty directory under the last piece of a path, which stands in this directory.
+    fn mkdir_at(&mut self, directory: u16, last: Option<Last<'_>>) -> Result<(), FsError>
+        requires few { directory ≤ 4095 }
+        requires running { self.old.store.log.halted ≡ false }
+        ensures { (v : Mounted D) (path : List ℕ)
+            → Reaches D.SectorDevice.state v self.old path directory last.entry
+            → Serves D.SectorDevice.state v (seen self.new) (Mkdir path)
+            (answer_by (λ _. Done) result) }
+    {
+        // No volume has an object of this number.
+        if directory == 0 {
+            return Err(FsError::Device);
+        }
+        let Some(last) = last else {
+            return Err(FsError::Exist);
+        };
+        let header = match self.check_new_entry(directory, last, true) {
+            Ok(header) => header,
+            Err(fault) => return Err(fault),
+        };
+        if header.links >= MOST_LINKS {
+            return Err(FsError::TooManyLinks);
+        }
+        let Some(number) = self.store.least_free() else {
+            return Err(FsError::NoNumber);
+        };
+        self.make_entry(directory, header, number, Kind::Directory, last.name)
     }
 
     /// The header of a directory, and the number that a name gives in it.
@@ -130,12 +183,20 @@ impl<D: SectorDevice> Fs<D> {
         }
     }
 
-    /// The rule of a new entry of a directory, whose header it gives.
-    fn check_new_entry(&mut self, directory: u16, last: Last<'_>) -> Result<Header, FsError>
+    /// The rule of a new entry of a directory, whose header it gives. A slash may follow the name of a
+    /// directory that is to be made.
+    fn check_new_entry(
+        &mut self,
+        directory: u16,
+        last: Last<'_>,
+        is_mkdir: bool,
+    ) -> Result<Header, FsError>
         requires { directory ≤ 4095 }
         ensures reads { OnlyReads D.SectorDevice.state self.old self.new }
-        ensures taken { IfOk result (TakesEntry D.SectorDevice.state self.old self.new directory last.entry.name.now last.entry.slash) }
-        ensures refused { IfErr result (RefusesEntry D.SectorDevice.state self.old self.new directory last.entry.name.now last.entry.slash) }
+        ensures taken { IfOk result (TakesEntry D.SectorDevice.state self.old self.new directory
+            last.entry.name.now last.entry.slash is_mkdir) }
+        ensures refused { IfErr result (RefusesEntry D.SectorDevice.state self.old self.new
+            directory last.entry.name.now last.entry.slash is_mkdir) }
     {
         if is_dots(last.name) {
             return Err(FsError::Exist);
@@ -154,7 +215,7 @@ impl<D: SectorDevice> Fs<D> {
         if found.is_some() {
             return Err(FsError::Exist);
         }
-        if last.slash {
+        if refuses_slash(last.slash, is_mkdir) {
             return Err(FsError::NoEntry);
         }
         if header.size > MOST_SLOTS {
@@ -163,25 +224,29 @@ impl<D: SectorDevice> Fs<D> {
         Ok(header)
     }
 
-    /// Makes an empty file of this number, with this name in a directory.
-    fn make_file(
+    /// Makes an empty object of this number, with this name in a directory.
+    fn make_entry(
         &mut self,
         directory: u16,
         header: Header,
         number: u16,
+        kind: Kind,
         name: &[u8],
     ) -> Result<(), FsError>
         requires some { 1 ≤ directory }
         requires few { directory ≤ 4095 }
         requires room { header.size ≤ 65472 }
+        requires linked { kind ≡ Kind.Directory → header.links < 1000 }
         requires first { 1 ≤ number }
         requires last { number ≤ 4095 }
         requires name { IsName 59 name.now }
         requires running { self.old.store.log.halted ≡ false }
-        ensures made { OnOk result (MakesFile D.SectorDevice.state self.old self.new directory header number name.now) }
-        ensures refused { IfErr result (MakesNone D.SectorDevice.state self.old self.new directory header number name.now) }
+        ensures made { OnOk result (MakesNew D.SectorDevice.state self.old self.new directory header
+            number kind name.now) }
+        ensures refused { IfErr result (MakesNone D.SectorDevice.state self.old self.new directory
+            header number kind name.now) }
     {
-        match self.draft_file(directory, header, number, name) {
+        match self.draft_entry(directory, header, number, kind, name) {
             Ok(()) => self.accept(),
             Err(fault) => {
                 self.store.give_up();
@@ -190,34 +255,99 @@ impl<D: SectorDevice> Fs<D> {
         }
     }
 
-    /// Drafts an empty file and its name.
-    fn draft_file(
+    /// Drafts an empty object and its name.
+    fn draft_entry(
         &mut self,
         directory: u16,
         header: Header,
         number: u16,
+        kind: Kind,
         name: &[u8],
     ) -> Result<(), FsError>
         requires some { 1 ≤ directory }
         requires few { directory ≤ 4095 }
         requires room { header.size ≤ 65472 }
+        requires linked { kind ≡ Kind.Directory → header.links < 1000 }
         requires first { 1 ≤ number }
         requires last { number ≤ 4095 }
         requires name { IsName 59 name.now }
         requires running { self.old.store.log.halted ≡ false }
         ensures still { IsStill D.SectorDevice.state (seen self.old) (seen self.new) }
-        ensures drafted { OnOk result (DraftsNew D.SectorDevice.state self.old self.new directory header number name.now) }
+        ensures drafted { OnOk result (DraftsNew D.SectorDevice.state self.old self.new directory
+            header number kind name.now) }
         ensures refused { IfErr result (DraftsNone D.SectorDevice.state self.old self.new) }
     {
-        match self.store.create(number, Kind::File) {
+        match self.store.create(number, kind) {
             Ok(()) => {}
             Err(_) => return Err(FsError::NoMemory),
         }
+        let header = match self.relink_parent(directory, header, kind) {
+            Ok(header) => header,
+            Err(fault) => return Err(fault),
+        };
         match add(&mut self.store, directory, header, number, name) {
             Ok(()) => Ok(()),
             Err(fault) => Err(FsError::from(fault)),
         }
     }
+
+    /// Drafts the links of a directory that gets an entry of this kind, and gives its header.
+    fn relink_parent(
+        &mut self,
+        directory: u16,
+        header: Header,
+        kind: Kind,
+    ) -> Result<Header, FsError>
+        requires some { 1 ≤ directory }
+        requires few { directory ≤ 4095 }
+        requires linked { kind ≡ Kind.Directory → header.links < 1000 }
+        ensures log { self.new.store.log ≡ self.old.store.log }
+        ensures saved { self.new.store.saved ≡ self.old.store.saved }
+        ensures drafted { self.new.store.drafted ≡ self.old.store.drafted }
+        ensures handles { self.new.handles ≡ self.old.handles }
+        ensures header { IfOk result (λ now. now ≡ relinked header (more_links kind header.links)) }
+        ensures done { OnOk result (RelinksParent self.old.store.draft.changes
+            self.new.store.draft.changes directory header self.new.store.drafted kind) }
+        ensures fault { IfErr result (λ fault. fault ≡ FsError.NoMemory) }
+    {
+        match kind {
+            Kind::File => Ok(header),
+            Kind::Directory => self.add_link(directory, header),
+            Kind::Link => Ok(header),
+        }
+    }
+
+    /// Drafts one link more of a directory.
+    fn add_link(&mut self, directory: u16, header: Header) -> Result<Header, FsError>
+        requires some { 1 ≤ directory }
+        requires few { directory ≤ 4095 }
+        requires linked { header.links < 1000 }
+        ensures log { self.new.store.log ≡ self.old.store.log }
+        ensures saved { self.new.store.saved ≡ self.old.store.saved }
+        ensures drafted { self.new.store.drafted ≡ self.old.store.drafted }
+        ensures handles { self.new.handles ≡ self.old.handles }
+        ensures header { IfOk result (λ now. now ≡ relinked header (header.links + 1)) }
+        ensures done { OnOk result (RelinksParent self.old.store.draft.changes
+            self.new.store.draft.changes directory header self.new.store.drafted Kind.Directory) }
+        ensures fault { IfErr result (λ fault. fault ≡ FsError.NoMemory) }
+    {
+        let links = header.links + 1;
+        match self.store.set_links(directory, header, links) {
+            Ok(()) => Ok(Header {
+                kind: header.kind,
+                links,
+                size: header.size,
+            }),
+            Err(_) => Err(FsError::NoMemory),
+        }
+    }
+}
+
+/// Whether a slash behind a new name refuses it: it may follow that of a directory.
+fn refuses_slash(slash: bool, is_mkdir: bool) -> bool
+    ensures { result ≡ (slash && not is_mkdir) }
+{
+    slash && !is_mkdir
 }
 
 /// Refuses a directory.

@@ -15,12 +15,12 @@ returns-then-is_some-clause-refused g c =
       ),
     )
 
-pub returns-then-last-clause-refused : goal.returns-then-last-clause-refused
-returns-then-last-clause-refused g c =
+pub returns-then-refuses_slash-clause-refused : goal.returns-then-refuses_slash-clause-refused
+returns-then-refuses_slash-clause-refused g c =
     let short : length c.args.last.name.now ≤ 59 = search in (
       sym c.is_dots.ensures ∙ c.if-is_dots.false,
       short,
-      c.if-last.true,
+      sym c.refuses_slash.ensures ∙ c.if-refuses_slash.true,
       (
         c.in-Ok.found.0,
         none_is g.D.SectorDevice.state c.args.self.now c.look_in.new.self c.args.directory c.args.last.name.now c.in-Ok.found.0 c.in-Ok.found.1 (sym c.is_some.ensures ∙ c.if-is_some.false) c.in-Ok.ensures.answer,
@@ -32,7 +32,7 @@ returns-then-header-gt-MOST_SLOTS-clause-refused g c =
     let short : length c.args.last.name.now ≤ 59 = search in (
       sym c.is_dots.ensures ∙ c.if-is_dots.false,
       short,
-      c.if-last.false,
+      sym c.refuses_slash.ensures ∙ c.if-refuses_slash.false,
       (
         c.in-Ok.found.0,
         c.if-header-gt-MOST_SLOTS.true,
@@ -46,6 +46,6 @@ returns-clause-taken g c =
       looks = none_is g.D.SectorDevice.state c.args.self.now c.look_in.new.self c.args.directory c.args.last.name.now c.in-Ok.found.0 c.in-Ok.found.1 (sym c.is_some.ensures ∙ c.if-is_some.false) c.in-Ok.ensures.answer;
       named = sym c.is_dots.ensures ∙ c.if-is_dots.false;
       is_name = named;
-      plain = c.if-last.false;
+      plain = sym c.refuses_slash.ensures ∙ c.if-refuses_slash.false;
       room = c.if-header-gt-MOST_SLOTS.false;
     }

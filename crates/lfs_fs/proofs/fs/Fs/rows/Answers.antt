@@ -1,4 +1,4 @@
-use Rattle.std.proofs.Common.{◌≡◌, arith}
+use Rattle.std.proofs.Common.{arith}
 use Rattle.lfs_fs.proofs.PathEnds.{reads_again}
 use Rattle.lfs_fs.proofs.RowLoops.{tree_all, tree_lacks, tree_more, tree_none}
 use Rattle.lfs_fs.proofs.fs.Fs.rows.Goals as goal

@@ -1,0 +1,205 @@
+-- The calls that make a new entry of a directory, exit by exit.
+use Rattle.std.proofs.Common.{◌≡◌, ◌<◌, ◌≤◌, ◌*◌, ◌-◌, ℕ, Bool, true, false, not, ◌&&◌, ◌||◌, List, [], ◌∷◌, ◌++◌, refl, ◌∙◌, ap, arith, nat_lt, nat_le}
+use Rattle.std.specs.Ordering.{nat_cmp}
+use Rattle.std.specs.FinMap.{put}
+use Rattle.lfs_model.specs.declared.Kind.{Kind}
+use Rattle.lfs_model.specs.declared.Kind.TheVariants as kinds
+use Rattle.lfs_model.specs.Bytes.{AreBytes}
+use Rattle.lfs_model.specs.Call.{Answer, AreArguments, Call, Create, Done, Handle, Mkdir, Refuse, changes, cleans, commits, is_ok, takes_no_memory}
+use Rattle.lfs_model.specs.Inode.{IsSize}
+use Rattle.lfs_model.specs.Need.{need}
+use Rattle.lfs_model.specs.PathText.{slash}
+use Rattle.lfs_model.specs.Refusal.{Refusal, DirFull, Exist, NameTooLong, NoEntry, NoNumber, NoSpace, TooManyLinks, TooManyOpen}
+use Rattle.lfs_model.specs.Step.{PathEnds, Step, checked, is_full, is_long, is_there, last_dots, new_entry, no_last, no_number, no_space, outcome, path_of, second_path_of, when, with_new, with_tree}
+use Rattle.lfs_model.specs.Tree.{Dir, File, Handles, Link, Node, State, Tree, least, least_handle, links}
+use Rattle.lfs_model.specs.Walk.{At, Parent}
+use Rattle.lfs_store.specs.Making.{first_links}
+use Rattle.lfs_store.specs.memory.Changing.{FitsHeader}
+use Rattle.lfs_fs.proofs.Checks.{below, not_below, passes, refuses}
+
+-- a new object of a kind
+abbrev pub new_node : Kind → Node
+new_node kinds.File = File []
+new_node kinds.Directory = Dir 0 []
+new_node kinds.Link = Link []
+
+-- A call that makes an object of this kind under the last piece of a path, in directory d. What refuses it is the rule of a new entry, then a
+-- reason of its own, then the want of a number and of space.
+pub record MakesEntry (N : ℕ) (s : State) (p : List ℕ) (d : ℕ) (call : Call) (k : Kind) (is_mkdir : Bool) : Type 0 where
+  pub own : Bool
+  pub why : Refusal
+  pub answer : Answer
+  pub handles : Handles
+  pub first : PathEnds s.tree (path_of call) (At d)
+  pub second : PathEnds s.tree (second_path_of call) (At 1)
+  pub ok : is_ok answer ≡ true
+  pub is : outcome N s call (At d) (At 1)
+      ≡ checked s (new_entry s.tree d p is_mkdir ++ when own why ∷ no_number s.tree ∷ no_space N (with_new s.tree d p (new_node k)) ∷ []) (answer, record { tree = with_new s.tree d p (new_node k); handles = handles; version = s.version })
+
+module _ (N : ℕ) (s : State) (p : List ℕ) (d : ℕ) (walk : Parent s.tree p (At d)) where
+  abbrev pub create_makes : MakesEntry N s p d (Create p) kinds.File false
+  create_makes = record {
+    own = nat_le 64 (least_handle s.handles);
+    why = TooManyOpen;
+    answer = Handle (least_handle s.handles);
+    handles = put nat_cmp (least_handle s.handles) (least s.tree) s.handles;
+    first = walk;
+    second = refl;
+    ok = refl;
+    is = refl;
+  }
+
+  abbrev pub mkdir_makes : s.version ≡ 1 → MakesEntry N s p d (Mkdir p) kinds.Directory true
+  mkdir_makes version = record {
+    own = nat_le 1000 (links s.tree d);
+    why = TooManyLinks;
+    answer = Done;
+    handles = s.handles;
+    first = walk;
+    second = refl;
+    ok = refl;
+    is = ap (λ (v : ℕ). checked s (new_entry s.tree d p true ++ when (nat_le 1000 (links s.tree d)) TooManyLinks ∷ no_number s.tree ∷ no_space N (with_new s.tree d p (Dir (v - 1) [])) ∷ [])
+        (Done, with_tree s (with_new s.tree d p (Dir (v - 1) [])))) version;
+  }
+
+-- The same in each state of a volume.
+pub record NewCall (N : ℕ) (p : List ℕ) (d : ℕ) : Type 0 where
+  pub call : Call
+  pub kind : Kind
+  pub is_mkdir : Bool
+  pub makes : (s : State) → s.version ≡ 1 → Parent s.tree p (At d) → MakesEntry N s p d call kind is_mkdir
+  pub arguments : AreArguments call
+  pub sized : FitsHeader kind (first_links kind) 0
+  pub changing : changes call ≡ true
+  pub uncommitted : commits call ≡ false
+  pub unclean : cleans call ≡ false
+  pub remembering : takes_no_memory call ≡ false
+
+-- the headers of an empty file and of an empty directory
+pub file_sized : FitsHeader kinds.File 1 0
+unfolding IsSize
+file_sized = record { links_few = omega arith; size_fits = omega arith }
+
+pub directory_sized : FitsHeader kinds.Directory 2 0
+unfolding IsSize
+directory_sized = record { links_few = omega arith; size_fits = (refl, omega arith) }
+
+abbrev pub create_call : (N : ℕ) (p : List ℕ) (d : ℕ) → AreBytes p → NewCall N p d
+create_call N p d bytes = record {
+  call = Create p;
+  kind = kinds.File;
+  is_mkdir = false;
+  makes = λ s version walk. create_makes N s p d walk;
+  arguments = bytes;
+  sized = file_sized;
+  changing = refl;
+  uncommitted = refl;
+  unclean = refl;
+  remembering = refl;
+}
+
+abbrev pub mkdir_call : (N : ℕ) (p : List ℕ) (d : ℕ) → AreBytes p → NewCall N p d
+mkdir_call N p d bytes = record {
+  call = Mkdir p;
+  kind = kinds.Directory;
+  is_mkdir = true;
+  makes = λ s version walk. mkdir_makes N s p d walk version;
+  arguments = bytes;
+  sized = directory_sized;
+  changing = refl;
+  uncommitted = refl;
+  unclean = refl;
+  remembering = refl;
+}
+
+-- ---- its exits
+
+module _ (N : ℕ) (s : State) (p : List ℕ) (d : ℕ) (call : Call) (k : Kind) (is_mkdir : Bool) (e : MakesEntry N s p d call k is_mkdir) where
+  abbrev pub grown : Tree
+  grown = with_new s.tree d p (new_node k)
+
+  -- the state after it
+  abbrev pub with_entry : State
+  with_entry = record { tree = grown; handles = e.handles; version = s.version }
+
+  abbrev made : Answer × State
+  made = (e.answer, with_entry)
+
+  step_new : (a : Answer) (s' : State) → outcome N s call (At d) (At 1) ≡ (a, s') → Step N s call a s'
+  step_new a s' is = record { first_end = At d; second_end = At 1; first = e.first; second = e.second; answer = ap (λ r. r.0) is; state = ap (λ r. r.1) is }
+
+  abbrev from_space : List (Bool × Answer)
+  from_space = no_space N grown ∷ []
+
+  abbrev from_number : List (Bool × Answer)
+  from_number = no_number s.tree ∷ from_space
+
+  abbrev from_own : List (Bool × Answer)
+  from_own = when e.own e.why ∷ from_number
+
+  abbrev from_full : List (Bool × Answer)
+  from_full = when (is_full s.tree d) DirFull ∷ from_own
+
+  abbrev from_slash : List (Bool × Answer)
+  from_slash = when (slash p && not is_mkdir) NoEntry ∷ from_full
+
+  abbrev from_there : List (Bool × Answer)
+  from_there = when (is_there s.tree d p) Exist ∷ from_slash
+
+  abbrev from_long : List (Bool × Answer)
+  from_long = when (is_long s.tree d p) NameTooLong ∷ from_there
+
+  pub new_dots : (no_last p || last_dots p) ≡ true → Step N s call (Refuse Exist) s
+  new_dots dots = step_new (Refuse Exist) s (e.is ∙ refuses s (no_last p || last_dots p) (Refuse Exist) from_long made dots)
+
+  module _ (named : (no_last p || last_dots p) ≡ false) where
+    a_name : outcome N s call (At d) (At 1) ≡ checked s from_long made
+    a_name = e.is ∙ passes s (no_last p || last_dots p) (Refuse Exist) from_long made named
+
+    pub new_long : is_long s.tree d p ≡ true → Step N s call (Refuse NameTooLong) s
+    new_long long = step_new (Refuse NameTooLong) s (a_name ∙ refuses s (is_long s.tree d p) (Refuse NameTooLong) from_there made long)
+
+    module _ (short : is_long s.tree d p ≡ false) where
+      a_short : outcome N s call (At d) (At 1) ≡ checked s from_there made
+      a_short = a_name ∙ passes s (is_long s.tree d p) (Refuse NameTooLong) from_there made short
+
+      pub new_there : is_there s.tree d p ≡ true → Step N s call (Refuse Exist) s
+      new_there there = step_new (Refuse Exist) s (a_short ∙ refuses s (is_there s.tree d p) (Refuse Exist) from_slash made there)
+
+      module _ (new : is_there s.tree d p ≡ false) where
+        a_new : outcome N s call (At d) (At 1) ≡ checked s from_slash made
+        a_new = a_short ∙ passes s (is_there s.tree d p) (Refuse Exist) from_slash made new
+
+        pub new_slash : (slash p && not is_mkdir) ≡ true → Step N s call (Refuse NoEntry) s
+        new_slash ends = step_new (Refuse NoEntry) s (a_new ∙ refuses s (slash p && not is_mkdir) (Refuse NoEntry) from_full made ends)
+
+        module _ (plain : (slash p && not is_mkdir) ≡ false) where
+          a_plain : outcome N s call (At d) (At 1) ≡ checked s from_full made
+          a_plain = a_new ∙ passes s (slash p && not is_mkdir) (Refuse NoEntry) from_full made plain
+
+          pub new_full : is_full s.tree d ≡ true → Step N s call (Refuse DirFull) s
+          new_full full = step_new (Refuse DirFull) s (a_plain ∙ refuses s (is_full s.tree d) (Refuse DirFull) from_own made full)
+
+          module _ (free : is_full s.tree d ≡ false) where
+            a_free : outcome N s call (At d) (At 1) ≡ checked s from_own made
+            a_free = a_plain ∙ passes s (is_full s.tree d) (Refuse DirFull) from_own made free
+
+            pub new_own : e.own ≡ true → Step N s call (Refuse e.why) s
+            new_own own = step_new (Refuse e.why) s (a_free ∙ refuses s e.own (Refuse e.why) from_number made own)
+
+            module _ (allowed : e.own ≡ false) where
+              an_allowed : outcome N s call (At d) (At 1) ≡ checked s from_number made
+              an_allowed = a_free ∙ passes s e.own (Refuse e.why) from_number made allowed
+
+              pub new_no_number : 4095 < least s.tree → Step N s call (Refuse NoNumber) s
+              new_no_number all = step_new (Refuse NoNumber) s (an_allowed ∙ refuses s (nat_lt 4095 (least s.tree)) (Refuse NoNumber) from_space made (below 4095 (least s.tree) all))
+
+              module _ (number : least s.tree ≤ 4095) where
+                a_number : outcome N s call (At d) (At 1) ≡ checked s from_space made
+                a_number = an_allowed ∙ passes s (nat_lt 4095 (least s.tree)) (Refuse NoNumber) from_space made (not_below 4095 (least s.tree) number)
+
+                pub new_no_space : 47 * N < need grown → Step N s call (Refuse NoSpace) s
+                new_no_space lacks = step_new (Refuse NoSpace) s (a_number ∙ refuses s (nat_lt (47 * N) (need grown)) (Refuse NoSpace) [] made (below (47 * N) (need grown) lacks))
+
+                pub new_done : need grown ≤ 47 * N → Step N s call e.answer with_entry
+                new_done room = step_new e.answer with_entry (a_number ∙ passes s (nat_lt (47 * N) (need grown)) (Refuse NoSpace) [] made (not_below (47 * N) (need grown) room))
