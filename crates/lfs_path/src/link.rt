@@ -23,9 +23,11 @@ pub fn follow_link<F: Files>(
 ) -> Result<Vec<u8>, WalkFault>
     requires { link.number < 4096 }
     ensures reads { Reads (F.state files.old) (F.state files.new) }
-    ensures answer { IfOk result (λ text. Follows (F.state files.old) (F.state files.new) link rest.now chain.old chain.new text.items) }
+    ensures answer { IfOk result (λ text. Follows (F.state files.old) (F.state files.new) link
+        rest.now chain.old chain.new text.items) }
     ensures failed { IfErr result (IsReadFault (F.state files.old) (F.state files.new)) }
-    ensures halted { IsErrOf result (WalkFault.Log LogFault.Halted) → (F.state files.old).halted ≡ true }
+    ensures halted { IsErrOf result (WalkFault.Log LogFault.Halted)
+        → (F.state files.old).halted ≡ true }
     ensures other { IsErrOf result (WalkFault.Log LogFault.Full) → ⊥ }
 {
     let mut text = match read_text(alloc, files, link) {
@@ -55,9 +57,11 @@ fn begins_with_slash(text: &[u8]) -> bool
 fn read_text<F: Files>(alloc: Global, files: &mut F, link: Link) -> Result<Vec<u8>, WalkFault>
     requires { link.number < 4096 }
     ensures reads { Reads (F.state files.old) (F.state files.new) }
-    ensures answer { IfOk result (λ text. ReadsText (F.state files.old) (F.state files.new) link text.items) }
+    ensures answer { IfOk result (λ text. ReadsText (F.state files.old) (F.state files.new) link
+        text.items) }
     ensures failed { IfErr result (IsReadFault (F.state files.old) (F.state files.new)) }
-    ensures halted { IsErrOf result (WalkFault.Log LogFault.Halted) → (F.state files.old).halted ≡ true }
+    ensures halted { IsErrOf result (WalkFault.Log LogFault.Halted)
+        → (F.state files.old).halted ≡ true }
     ensures other { IsErrOf result (WalkFault.Log LogFault.Full) → ⊥ }
 {
     let size = link.header.size;
@@ -83,9 +87,11 @@ fn read_block<F: Files>(
     requires number { number < 4096 }
     requires few { count ≤ 512 }
     ensures reads { Reads (F.state files.old) (F.state files.new) }
-    ensures done { OnOk result (TakesBytes (F.state files.old) (F.state files.new) number index count text.old.items text.new.items) }
+    ensures done { OnOk result (TakesBytes (F.state files.old) (F.state files.new) number index
+        count text.old.items text.new.items) }
     ensures failed { IfErr result (IsReadFault (F.state files.old) (F.state files.new)) }
-    ensures halted { IsErrOf result (WalkFault.Log LogFault.Halted) → (F.state files.old).halted ≡ true }
+    ensures halted { IsErrOf result (WalkFault.Log LogFault.Halted)
+        → (F.state files.old).halted ≡ true }
     ensures other { IsErrOf result (WalkFault.Log LogFault.Full) → ⊥ }
 {
     let mut block = [0; 512];

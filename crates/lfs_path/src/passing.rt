@@ -44,9 +44,12 @@ pub fn walk_text<'a, F: Files>(
 ) -> Result<Stop<'a>, WalkFault>
     ensures reads { Reads (F.state files.old) (F.state files.new) }
     ensures fits { IfOk result (FitsStop slash_end) }
-    ensures answer { IfOk result (λ stop. Tells (F.state files.old) (F.state files.new) (InChain chain.old) (Stops slash_end follow chain.old text.now chain.new stop)) }
-    ensures refused { IfErr result (Refuses (F.state files.old) (F.state files.new) (InChain chain.old) (EndsText slash_end follow (here chain.old) text.now)) }
-    ensures halted { IsErrOf result (WalkFault.Log LogFault.Halted) → (F.state files.old).halted ≡ true }
+    ensures answer { IfOk result (λ stop. Tells (F.state files.old) (F.state files.new)
+        (InChain chain.old) (Stops slash_end follow chain.old text.now chain.new stop)) }
+    ensures refused { IfErr result (Refuses (F.state files.old) (F.state files.new)
+        (InChain chain.old) (EndsText slash_end follow (here chain.old) text.now)) }
+    ensures halted { IsErrOf result (WalkFault.Log LogFault.Halted)
+        → (F.state files.old).halted ≡ true }
     ensures other { IsErrOf result (WalkFault.Log LogFault.Full) → ⊥ }
 {
     let mut rest = text;
@@ -65,9 +68,12 @@ pub fn walk_text<'a, F: Files>(
 fn pass<F: Files>(files: &mut F, chain: &mut Chain, piece: &[u8]) -> Result<Option<Met>, WalkFault>
     ensures reads { Reads (F.state files.old) (F.state files.new) }
     ensures number { IfOk result HasLinkNumber }
-    ensures answer { IfOk result (λ met. Tells (F.state files.old) (F.state files.new) (InChain chain.old) (Passes piece.now chain.old chain.new met)) }
-    ensures refused { IfErr result (Refuses (F.state files.old) (F.state files.new) (InChain chain.old) (EndsAtPiece (here chain.old) piece.now)) }
-    ensures halted { IsErrOf result (WalkFault.Log LogFault.Halted) → (F.state files.old).halted ≡ true }
+    ensures answer { IfOk result (λ met. Tells (F.state files.old) (F.state files.new)
+        (InChain chain.old) (Passes piece.now chain.old chain.new met)) }
+    ensures refused { IfErr result (Refuses (F.state files.old) (F.state files.new)
+        (InChain chain.old) (EndsAtPiece (here chain.old) piece.now)) }
+    ensures halted { IsErrOf result (WalkFault.Log LogFault.Halted)
+        → (F.state files.old).halted ≡ true }
     ensures other { IsErrOf result (WalkFault.Log LogFault.Full) → ⊥ }
 {
     let seen = match look(files, chain.directory(), piece) {

@@ -45,9 +45,12 @@ pub fn look<F: Files>(files: &mut F, directory: u16, piece: &[u8]) -> Result<See
     requires { directory < 4096 }
     ensures reads { Reads (F.state files.old) (F.state files.new) }
     ensures number { IfOk result HasNumber }
-    ensures answer { IfOk result (λ seen. Tells (F.state files.old) (F.state files.new) (InDirectory directory) (IsSeen directory piece.now seen)) }
-    ensures refused { IfErr result (Refuses (F.state files.old) (F.state files.new) (InDirectory directory) (EndsAtPiece directory piece.now)) }
-    ensures halted { IsErrOf result (WalkFault.Log LogFault.Halted) → (F.state files.old).halted ≡ true }
+    ensures answer { IfOk result (λ seen. Tells (F.state files.old) (F.state files.new)
+        (InDirectory directory) (IsSeen directory piece.now seen)) }
+    ensures refused { IfErr result (Refuses (F.state files.old) (F.state files.new)
+        (InDirectory directory) (EndsAtPiece directory piece.now)) }
+    ensures halted { IsErrOf result (WalkFault.Log LogFault.Halted)
+        → (F.state files.old).halted ≡ true }
     ensures other { IsErrOf result (WalkFault.Log LogFault.Full) → ⊥ }
 {
     if piece == b".".as_slice() {
@@ -75,8 +78,10 @@ pub fn look<F: Files>(files: &mut F, directory: u16, piece: &[u8]) -> Result<See
 fn header_of<F: Files>(files: &mut F, number: u16) -> Result<Header, LogFault>
     requires { number < 4096 }
     ensures reads { Reads (F.state files.old) (F.state files.new) }
-    ensures answer { IfOk result (λ header. Tells (F.state files.old) (F.state files.new) (λ m. Unit {0}) (HasHeader number header)) }
-    ensures failed { OnErr result (Fails (F.state files.old) (F.state files.new) (HasObject number)) }
+    ensures answer { IfOk result (λ header. Tells (F.state files.old) (F.state files.new)
+        (λ m. Unit {0}) (HasHeader number header)) }
+    ensures failed { OnErr result (Fails (F.state files.old) (F.state files.new)
+        (HasObject number)) }
     ensures halted { IsErrOf result LogFault.Halted → (F.state files.old).halted ≡ true }
     ensures other { IsErrOf result LogFault.Full → ⊥ }
 {
@@ -93,9 +98,12 @@ fn entry_in<F: Files>(files: &mut F, directory: u16, name: &[u8]) -> Result<u16,
     requires dots { (name.now ≢ dot) × (name.now ≢ dot_dot) }
     ensures reads { Reads (F.state files.old) (F.state files.new) }
     ensures number { IfOk result (λ n. n < 4096) }
-    ensures answer { IfOk result (λ n. Tells (F.state files.old) (F.state files.new) (InDirectory directory) (NamesObject directory name.now n)) }
-    ensures refused { IfErr result (Refuses (F.state files.old) (F.state files.new) (InDirectory directory) (EndsAtPiece directory name.now)) }
-    ensures halted { IsErrOf result (WalkFault.Log LogFault.Halted) → (F.state files.old).halted ≡ true }
+    ensures answer { IfOk result (λ n. Tells (F.state files.old) (F.state files.new)
+        (InDirectory directory) (NamesObject directory name.now n)) }
+    ensures refused { IfErr result (Refuses (F.state files.old) (F.state files.new)
+        (InDirectory directory) (EndsAtPiece directory name.now)) }
+    ensures halted { IsErrOf result (WalkFault.Log LogFault.Halted)
+        → (F.state files.old).halted ≡ true }
     ensures other { IsErrOf result (WalkFault.Log LogFault.Full) → ⊥ }
 {
     if name.len() > LONGEST_NAME {

@@ -68,7 +68,8 @@ fn piece_length(text: &[u8]) -> usize
 pub fn next_piece(path: &[u8]) -> Option<(&[u8], &[u8])>
     ensures piece { IfSome result (λ next. IsNextPiece path.now next.0.now next.1.now) }
     ensures none { IfNone result (model.comps path.now ≡ []) }
-    ensures within { IfSome result (λ next. 0 < length next.0.now × length next.0.now + length next.1.now ≤ length path.now) }
+    ensures within { IfSome result (λ next. 0 < length next.0.now
+        × length next.0.now + length next.1.now ≤ length path.now) }
 {
     let path = &path[leading_slashes(path)..];
     if path.is_empty() {

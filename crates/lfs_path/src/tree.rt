@@ -35,9 +35,12 @@ pub fn resolve<F: Files>(
     follow: bool,
 ) -> Result<u16, WalkFault>
     ensures reads { Reads (F.state files.old) (F.state files.new) }
-    ensures answer { IfOk result (λ n. Tells (F.state files.old) (F.state files.new) HasTree (ResolvesTo path.now follow n)) }
-    ensures refused { IfErr result (Refuses (F.state files.old) (F.state files.new) HasTree (EndsResolve path.now follow)) }
-    ensures halted { IsErrOf result (WalkFault.Log LogFault.Halted) → (F.state files.old).halted ≡ true }
+    ensures answer { IfOk result (λ n. Tells (F.state files.old) (F.state files.new) HasTree
+        (ResolvesTo path.now follow n)) }
+    ensures refused { IfErr result (Refuses (F.state files.old) (F.state files.new) HasTree
+        (EndsResolve path.now follow)) }
+    ensures halted { IsErrOf result (WalkFault.Log LogFault.Halted)
+        → (F.state files.old).halted ≡ true }
     ensures other { IsErrOf result (WalkFault.Log LogFault.Full) → ⊥ }
 {
     match check_text(path) {
@@ -63,9 +66,12 @@ pub fn parent<'a, F: Files>(
 ) -> Result<Place<'a>, WalkFault>
     ensures reads { Reads (F.state files.old) (F.state files.new) }
     ensures last { IfOk result (λ p. HasLast path.now p.last) }
-    ensures answer { IfOk result (λ p. Tells (F.state files.old) (F.state files.new) HasTree (IsParent path.now p.chain)) }
-    ensures refused { IfErr result (Refuses (F.state files.old) (F.state files.new) HasTree (EndsParent path.now)) }
-    ensures halted { IsErrOf result (WalkFault.Log LogFault.Halted) → (F.state files.old).halted ≡ true }
+    ensures answer { IfOk result (λ p. Tells (F.state files.old) (F.state files.new) HasTree
+        (IsParent path.now p.chain)) }
+    ensures refused { IfErr result (Refuses (F.state files.old) (F.state files.new) HasTree
+        (EndsParent path.now)) }
+    ensures halted { IsErrOf result (WalkFault.Log LogFault.Halted)
+        → (F.state files.old).halted ≡ true }
     ensures other { IsErrOf result (WalkFault.Log LogFault.Full) → ⊥ }
 {
     match check_text(path) {

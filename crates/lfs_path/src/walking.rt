@@ -31,9 +31,12 @@ pub fn walk<F: Files>(
     requires { chain.old ≡ 1 ∷ [] }
     ensures reads { Reads (F.state files.old) (F.state files.new) }
     ensures last { IfOk result (λ n. slash_end ≡ true → n ≡ here chain.new) }
-    ensures answer { IfOk result (λ n. Tells (F.state files.old) (F.state files.new) HasTree (Reaches slash_end follow path.now chain.new n)) }
-    ensures refused { IfErr result (Refuses (F.state files.old) (F.state files.new) HasTree (EndsPath slash_end follow path.now)) }
-    ensures halted { IsErrOf result (WalkFault.Log LogFault.Halted) → (F.state files.old).halted ≡ true }
+    ensures answer { IfOk result (λ n. Tells (F.state files.old) (F.state files.new) HasTree
+        (Reaches slash_end follow path.now chain.new n)) }
+    ensures refused { IfErr result (Refuses (F.state files.old) (F.state files.new) HasTree
+        (EndsPath slash_end follow path.now)) }
+    ensures halted { IsErrOf result (WalkFault.Log LogFault.Halted)
+        → (F.state files.old).halted ≡ true }
     ensures other { IsErrOf result (WalkFault.Log LogFault.Full) → ⊥ }
 {
     let mut text = Vec::new(alloc);
