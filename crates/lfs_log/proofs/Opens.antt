@@ -1,5 +1,5 @@
 -- A mount: what it took in is a log that runs.
-use Rattle.std.proofs.Common.{◌≡◌, ◌<◌, ◌≤◌, ⊎_elim, ◌⊎◌, inl, inr, ◌+◌, ◌*◌, ◌/◌, ◌%◌, ℕ, zero, suc, false, [], length, get_or, Some, None, refl, sym, ◌∙◌, ap, subst, arith}
+use Rattle.std.proofs.Common.{◌≡◌, ◌<◌, ◌≤◌, ⊎_elim, ◌⊎◌, inl, inr, ◌+◌, ◌*◌, ◌/◌, ◌%◌, ◌==◌, ℕ, zero, suc, false, [], length, get_or, Some, None, refl, sym, ◌∙◌, ap, subst, arith}
 use Rattle.std.proofs.lemmas.Bool.{cases_lt}
 use Rattle.std.proofs.lemmas.List.{get_or_past}
 use Rattle.lfs_model.specs.Checkpoint.{CheckpointValue, FitsCheckpoint}
@@ -13,17 +13,18 @@ use Rattle.lfs_model.specs.Reach.{address, view, map_block, inode_address}
 use Rattle.lfs_model.specs.Running.{Running}
 use Rattle.lfs_model.specs.Settled.{IsSettled}
 use Rattle.lfs_model.specs.Slots.{IsNewest, HasNoCheckpoint}
-use Rattle.lfs_model.specs.Stands.{LogMap, StandsAt, StandsLog, used_in, live_in, age_in}
+use Rattle.lfs_model.specs.Stands.{LogMap, StandsAt, StandsLog, count_up, is_clean, used_in, live_in, age_in}
 use Rattle.lfs_model.proofs.Decodes.{are_sized}
 use Rattle.lfs_model.proofs.Encodes.{word_nil}
 use Rattle.lfs_model.proofs.Entries.{data_below, leaf_below, double_below}
+use Rattle.lfs_model.proofs.Live.{count_up_same}
 use Rattle.lfs_model.proofs.Mounting.{mounting}
 use Rattle.lfs_model.proofs.Newest.{newest_fits}
 use Rattle.lfs_model.proofs.Settled.{keeps_itself}
 use Rattle.lfs_model.proofs.Starting.{starting}
 use Rattle.lfs_memory.specs.inodes.Blocks.{Blocks, blocks_of, blocks_in}
 use Rattle.lfs_memory.specs.inodes.MapValue.{MapValue, address_in, block_in}
-use Rattle.lfs_memory.specs.segments.Table.{SegmentNumbers, UsageTable, no_segment, address_of, stale_of}
+use Rattle.lfs_memory.specs.segments.Table.{SegmentNumbers, UsageTable, no_segment, address_of, clean_in, is_clean_in, stale_of}
 use Rattle.lfs_memory.specs.declared.memory.LogMemory.{LogMemory}
 use Rattle.lfs_memory.specs.Memory.{IsLog, tables_by, tables_of, segment_in, chunk_in}
 use Rattle.lfs_model.specs.Totals.{IsCounted}
@@ -182,6 +183,19 @@ module _ (d d' : DeviceState) (lawful : IsLawful d') (lawful_first : IsLawful d)
       (mounted_tables d.content h.checkpoint h.fits h.log h.stands v.map v.usage (usages keeps h.log)
       (subst (SaysUsage d.content h.checkpoint ((h.checkpoint.segments + 63) / 64)) (sym usage) h.says.usage) (maps keeps h.log)
       (subst (SaysMap d.content h.checkpoint 32) (sym map) h.says.map)).taken
+
+  -- and an eighth of the segments is clean at least
+  pub many : d'.keeps_model → length v.usage.segments ≤ 8 * clean_in v.usage.segments
+  unfolding clean_in
+  many keeps =
+      let h = has keeps in
+      let tables = mounted_tables d.content h.checkpoint h.fits h.log h.stands v.map v.usage (usages keeps h.log)
+      (subst (SaysUsage d.content h.checkpoint ((h.checkpoint.segments + 63) / 64)) (sym usage) h.says.usage) (maps keeps h.log)
+      (subst (SaysMap d.content h.checkpoint 32) (sym map) h.says.map) in
+      let size = (usages keeps h.log).size in
+      let same = count_up_same (is_clean_in v.usage.segments) (is_clean (view d.content h.checkpoint)) h.checkpoint.segments (λ s low. ap (λ (n : ℕ). n == 0) (tables.used s)) in
+      let enough = subst (λ (n : ℕ). h.checkpoint.segments ≤ 8 * n) (sym same) h.stands.stages.clean in
+      subst (λ (n : ℕ). n ≤ 8 * count_up (is_clean_in v.usage.segments) n) (sym size) enough
 
   -- and these are its totals
   pub counts_opened : (totals : BlockTotals) → totals.data_blocks ≡ t.data_blocks → totals.meta_blocks ≡ t.meta_blocks → CountsOpened d d' totals

@@ -230,11 +230,13 @@ module _ {D : Type 0} (state : D → DeviceState) where
   -- A file is gone.
   pub record IsRemoved (h h' : Held D) (n : ℕ) : Type 0 where
     pub alters : Alters h h' 0
+    pub untaken : AreUntaken h.memory.usage → AreUntaken h'.memory.usage
     pub holds : (k : CheckpointValue) (m0 m : LogMap) → (state h'.device).keeps_model → Holds h k m0 m → Holds h' k m0 (without_file n m)
 
   -- Or nothing is.
   pub record IsKept (h h' : Held D) : Type 0 where
     pub alters : Alters h h' 0
+    pub untaken : AreUntaken h.memory.usage → AreUntaken h'.memory.usage
     pub holds : (k : CheckpointValue) (m0 m : LogMap) → (state h'.device).keeps_model → Holds h k m0 m → Holds h' k m0 m
 
   -- n is the least number that no file has

@@ -79,6 +79,8 @@ impl<D: SectorDevice> Log<D> {
         ensures empty { IfOk result (λ log. log.memory.dirty.blocks ≡ []) }
         ensures untaken { IfOk result (λ log. (D.state log.device).keeps_model
             → AreUntaken log.memory.usage) }
+        ensures many { IfOk result (λ log. (D.state log.device).keeps_model
+            → length log.memory.usage.segments ≤ 8 * clean_in log.memory.usage.segments) }
         ensures durable { IfOk result (λ log. (D.state log.device).keeps_model
             → Only (D.state device).content (D.state log.device)) }
         ensures cause { IfErr result (λ e. (e.0 ≡ MountFault.NoMemory → ⊥)

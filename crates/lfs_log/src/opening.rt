@@ -5,6 +5,7 @@ ghost use Rattle.lfs_model.specs.Device.{Only};
 ghost use Rattle.lfs_verify.specs.Faults.{IsOpenFault};
 ghost use Rattle.lfs_verify.specs.Take.{Looks};
 ghost use Rattle.lfs_verify.specs.Verified.{HasLogMap, IsRefusedLog};
+ghost use Rattle.lfs_memory.specs.segments.Table.{clean_in};
 ghost use Rattle.lfs_log.specs.Opening.{CountsOpened, IsOpened, Opens};
 ghost use Rattle.lfs_log.specs.Publishing.{AreUntaken};
 
@@ -57,6 +58,8 @@ pub fn open_memory<D: SectorDevice>(alloc: Global, device: &mut D) -> Result<Ope
     ensures log { IfOk result (λ r. Opens (D.state device.old) (D.state device.new) r.memory r.number) }
     ensures untaken { IfOk result (λ r. (D.state device.new).keeps_model
         → AreUntaken r.memory.usage) }
+    ensures many { IfOk result (λ r. (D.state device.new).keeps_model
+        → length r.memory.usage.segments ≤ 8 * clean_in r.memory.usage.segments) }
     ensures counts { IfOk result (λ r. CountsOpened (D.state device.old) (D.state device.new) r.totals) }
     ensures found { OnOk result (HasLogMap (D.state device.old) (D.state device.new)) }
     ensures durable { OnOk result ((D.state device.new).keeps_model → Only (D.state device.old).content (D.state device.new)) }

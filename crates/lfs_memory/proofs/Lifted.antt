@@ -285,6 +285,7 @@ prepares_looks d d' v lawful memory looks = record {
   memory = memory;
   segments = refl;
   clean = refl;
+  taken = λ s. refl;
   chunk = refl;
   capacity = refl;
   few = omega arith;
@@ -303,6 +304,7 @@ prepares_then a b c v v' v'' n l lawful one two =
       memory = two.memory;
       segments = two.segments ∙ one.segments;
       clean = two.clean ∙ one.clean;
+      taken = λ s. two.taken s ∙ one.taken s;
       chunk = two.chunk ∙ one.chunk;
       capacity = two.capacity ∙ one.capacity;
       few = let x = one.few in let y = two.few in omega (arith, x, y);
@@ -319,6 +321,7 @@ prepares_at_most a b v v' n l le one = record {
   memory = one.memory;
   segments = one.segments;
   clean = one.clean;
+  taken = one.taken;
   chunk = one.chunk;
   capacity = one.capacity;
   few = let x = one.few in omega (arith, x, le);
@@ -359,6 +362,7 @@ bring_prepares d d' v v' x f address lives bytes lawful memory looks file low at
   memory = brings_memory v v' x address lives bytes memory go;
   segments = go.usage.size;
   clean = go.usage.clean;
+  taken = go.usage.taken;
   chunk = go.chunk;
   capacity = go.capacity;
   few = go.few;
@@ -395,14 +399,14 @@ pub map_prepares : (d : DeviceState) (v v' : LogMemory) (j : ℕ) → IsLawful d
 map_prepares d v v' j lawful memory go = ⊎_elim
     (λ (above : 2 ≤ block_in v.map j).
     let l = go.lifted above in
-    made (kept_memory v v' memory l.size go.chunk l.used l.taken l.blocks.address (λ i. stays_stale v.usage v'.usage (segment_of (block_in v.map j) / 64) i l.blocks) capacity) l.size l.clean)
+    made (kept_memory v v' memory l.size go.chunk l.used l.taken l.blocks.address (λ i. stays_stale v.usage v'.usage (segment_of (block_in v.map j) / 64) i l.blocks) capacity) l.size l.clean l.taken)
     (λ (small : block_in v.map j < 2). ⊎_elim
     (λ (none : block_in v.map j ≡ 0).
     let e = go.added none in
     let size = ap (λ (u : UsageTable). length u.segments) e in
     made (kept_memory v v' memory size go.chunk (λ s. ap (λ (u : UsageTable). used_of u s) e) (λ s. ap (λ (u : UsageTable). taken_of u s) e) (λ i. ap (λ (u : UsageTable). address_of u i) e)
     (λ i on. ap (λ (u : UsageTable). stale_of u i) e ∙ on) capacity)
-    size (ap (λ (u : UsageTable). clean_in u.segments) e))
+    size (ap (λ (u : UsageTable). clean_in u.segments) e) (λ s. ap (λ (u : UsageTable). taken_of u s) e))
     (λ (some : block_in v.map j ≡ 0 → ⊥). subst (λ (w : LogMemory). Prepares d d v w 0) (sym (go.same (omega (arith, small, some)))) (prepares_looks d d v lawful memory (looks_none d)))
     (cases_eq (block_in v.map j) 0))
     (two_or_less (block_in v.map j))
@@ -415,12 +419,13 @@ map_prepares d v v' j lawful memory go = ⊎_elim
     capacity : v'.dirty.capacity ≡ v.dirty.capacity
     capacity = ap (λ (t : TableValue). t.capacity) go.dirty
 
-    made : IsMemory v' → length v'.usage.segments ≡ length v.usage.segments → clean_in v'.usage.segments ≡ clean_in v.usage.segments → Prepares d d v v' 0
-    made memory' size clean = record {
+    made : IsMemory v' → length v'.usage.segments ≡ length v.usage.segments → clean_in v'.usage.segments ≡ clean_in v.usage.segments → ((s : ℕ) → taken_of v'.usage s ≡ taken_of v.usage s) → Prepares d d v v' 0
+    made memory' size clean taken = record {
       looks = looks_none d;
       memory = memory';
       segments = size;
       clean = clean;
+      taken = taken;
       chunk = go.chunk;
       capacity = capacity;
       few = let e = ap (λ (t : TableValue). length t.blocks) go.dirty in omega (arith, e);

@@ -25,6 +25,7 @@ pub record Prepares (d d' : DeviceState) (v v' : LogMemory) (most : ℕ) : Type 
   pub memory : IsMemory v'
   pub segments : length v'.usage.segments ≡ length v.usage.segments
   pub clean : clean_in v'.usage.segments ≡ clean_in v.usage.segments
+  pub taken : (s : ℕ) → taken_of v'.usage s ≡ taken_of v.usage s
   pub chunk : v'.chunk ≡ v.chunk
   pub capacity : v'.dirty.capacity ≡ v.dirty.capacity
   pub few : length v'.dirty.blocks ≤ length v.dirty.blocks + most
