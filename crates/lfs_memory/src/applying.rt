@@ -41,7 +41,8 @@ pub fn apply_header(memory: &mut LogMemory, edit: &HeaderEdit) -> Result<(), Dev
 /// Where the block above isn't in memory, or the block isn't counted at its address. Memory stays as it was.
 pub fn apply_block(memory: &mut LogMemory, edit: &BlockEdit) -> Result<(), DeviceFault>
     requires room { length memory.old.dirty.blocks < memory.old.dirty.capacity.limit }
-    ensures done { OnOk result (ChangesBlock memory.old memory.new edit.now.number edit.now.index edit.now.bytes) }
+    ensures done { OnOk result (ChangesBlock memory.old memory.new edit.now.number edit.now.index
+        edit.now.bytes) }
     ensures away { OnErr result (IsBlockAway memory.old edit.now.number edit.now.index) }
     ensures same { OnErr result (memory.new ≡ memory.old) }
 {
@@ -58,7 +59,8 @@ pub fn apply_block(memory: &mut LogMemory, edit: &BlockEdit) -> Result<(), Devic
 ///
 /// Where an inode stands on the device when its turn comes.
 pub fn apply_headers(memory: &mut LogMemory, edits: &[HeaderEdit]) -> Result<(), DeviceFault>
-    requires room { length memory.old.dirty.blocks + length edits.now ≤ memory.old.dirty.capacity.limit }
+    requires room { length memory.old.dirty.blocks + length edits.now
+        ≤ memory.old.dirty.capacity.limit }
     ensures done { OnOk result (AppliesHeaders memory.old edits.now memory.new) }
     ensures failed { OnErr result (FailsHeaders memory.old edits.now) }
     ensures stays { Stays (length edits.now) memory.old memory.new }
@@ -75,7 +77,8 @@ pub fn apply_headers(memory: &mut LogMemory, edits: &[HeaderEdit]) -> Result<(),
 ///
 /// Where the block above one isn't in memory when its turn comes, or it isn't counted at its address.
 pub fn apply_blocks(memory: &mut LogMemory, edits: &[BlockEdit]) -> Result<(), DeviceFault>
-    requires room { length memory.old.dirty.blocks + length edits.now ≤ memory.old.dirty.capacity.limit }
+    requires room { length memory.old.dirty.blocks + length edits.now
+        ≤ memory.old.dirty.capacity.limit }
     ensures done { OnOk result (AppliesBlocks memory.old edits.now memory.new) }
     ensures failed { OnErr result (FailsBlocks memory.old edits.now) }
     ensures stays { Stays (length edits.now) memory.old memory.new }
@@ -96,7 +99,8 @@ pub fn apply_batch(
     headers: &[HeaderEdit],
     blocks: &[BlockEdit],
 ) -> Result<(), DeviceFault>
-    requires room { length memory.old.dirty.blocks + length headers.now + length blocks.now ≤ memory.old.dirty.capacity.limit }
+    requires room { length memory.old.dirty.blocks + length headers.now + length blocks.now
+        ≤ memory.old.dirty.capacity.limit }
     ensures done { OnOk result (Applies memory.old headers.now blocks.now memory.new) }
     ensures failed { OnErr result (FailsToApply memory.old headers.now blocks.now) }
     ensures stays { Stays (length headers.now + length blocks.now) memory.old memory.new }

@@ -18,8 +18,10 @@ use lfs_segments::Usage;
 /// The pointer to a block, by the block above it in memory: 0 for no block, `IN_MEMORY` for one in memory, else its address.
 #[tactic(auto, unfolding(lfs_model::specs::Entry::word))]
 pub fn pointer_to(dirty: &DirtyTable, key: BlockKey) -> Option<u32>
-    ensures some { IfSome result (λ address. IsPointedIn (blocks_of dirty.now) (entry_of key) address) }
-    ensures none { IfNone result (parent (entry_of key) ≢ entry_of key → blocks_of dirty.now (parent (entry_of key)) ≡ None) }
+    ensures some { IfSome result (λ address. IsPointedIn (blocks_of dirty.now) (entry_of key)
+        address) }
+    ensures none { IfNone result (parent (entry_of key) ≢ entry_of key
+        → blocks_of dirty.now (parent (entry_of key)) ≡ None) }
 {
     let above = key.parent()?;
     let block = dirty.block(above)?;
@@ -56,8 +58,10 @@ fn store_block(
     bytes: &[u8; 512],
 ) -> Result<(), DeviceFault>
     requires room { length memory.old.dirty.blocks < memory.old.dirty.capacity.limit }
-    ensures done { OnOk result (Stores memory.old memory.new (key.code / 32768 % 4096) (entry_of key) address bytes.now) }
-    ensures miscounted { OnErr result (IsMiscounted memory.old.usage address (not (is_hidden_in memory.old.map (key.code / 32768 % 4096)))) }
+    ensures done { OnOk result (Stores memory.old memory.new (key.code / 32768 % 4096)
+        (entry_of key) address bytes.now) }
+    ensures miscounted { OnErr result (IsMiscounted memory.old.usage address
+        (not (is_hidden_in memory.old.map (key.code / 32768 % 4096)))) }
     ensures same { OnErr result (memory.new ≡ memory.old) }
 {
     let lives = !memory.map.is_hidden(key.file());
@@ -72,8 +76,10 @@ fn store_block(
 
 /// A data block that this pointer leads to is there no more.
 fn drop_block(memory: &mut LogMemory, key: BlockKey, address: u32) -> Result<(), DeviceFault>
-    ensures done { OnOk result (Drops memory.old memory.new (key.code / 32768 % 4096) (entry_of key) address) }
-    ensures miscounted { OnErr result (IsMiscounted memory.old.usage address (not (is_hidden_in memory.old.map (key.code / 32768 % 4096)))) }
+    ensures done { OnOk result (Drops memory.old memory.new (key.code / 32768 % 4096) (entry_of key)
+        address) }
+    ensures miscounted { OnErr result (IsMiscounted memory.old.usage address
+        (not (is_hidden_in memory.old.map (key.code / 32768 % 4096)))) }
     ensures same { OnErr result (memory.new ≡ memory.old) }
 {
     if address == 0 {
@@ -98,7 +104,8 @@ fn put_block(
     requires index { index ≤ 16623 }
     requires room { length memory.old.dirty.blocks < memory.old.dirty.capacity.limit }
     ensures done { OnOk result (PutsBlock memory.old memory.new file index address bytes.now) }
-    ensures miscounted { OnErr result (IsMiscounted memory.old.usage address (not (is_hidden_in memory.old.map file))) }
+    ensures miscounted { OnErr result (IsMiscounted memory.old.usage address
+        (not (is_hidden_in memory.old.map file))) }
     ensures same { OnErr result (memory.new ≡ memory.old) }
 {
     let key = BlockKey::data(file, index);

@@ -149,9 +149,12 @@ fn count_leaf<D: SectorDevice>(
     requires some { 1 ≤ number }
     requires number { number ≤ 4095 }
     requires index { index ≤ 128 }
-    ensures done { OnOk result (CountsLeaf (D.state device.old) (D.state device.new) memory.now number index address first counts.old counts.new) }
-    ensures failed { OnErr result (FailsLeaf (D.state device.old) (D.state device.new) memory.now number index address first counts.old) }
-    ensures no_failure { OnOk result ((D.state device.new).failures ≡ (D.state device.old).failures) }
+    ensures done { OnOk result (CountsLeaf (D.state device.old) (D.state device.new) memory.now
+        number index address first counts.old counts.new) }
+    ensures failed { OnErr result (FailsLeaf (D.state device.old) (D.state device.new) memory.now
+        number index address first counts.old) }
+    ensures no_failure { OnOk result ((D.state device.new).failures
+        ≡ (D.state device.old).failures) }
     ensures looks { Looks (D.state device.old) (D.state device.new) }
 {
     let start = pointers_before(first, DIRECT + POINTERS * index, POINTERS);
@@ -183,9 +186,12 @@ fn count_leaves<D: SectorDevice>(
 ) -> Result<(), DeviceFault>
     requires some { 1 ≤ number }
     requires number { number ≤ 4095 }
-    ensures done { OnOk result (CountsLeaves (D.state device.old) (D.state device.new) memory.now number root.now 128 first counts.old counts.new) }
-    ensures failed { OnErr result (FailsLeaves (D.state device.old) (D.state device.new) memory.now number root.now 128 first counts.old) }
-    ensures no_failure { OnOk result ((D.state device.new).failures ≡ (D.state device.old).failures) }
+    ensures done { OnOk result (CountsLeaves (D.state device.old) (D.state device.new) memory.now
+        number root.now 128 first counts.old counts.new) }
+    ensures failed { OnErr result (FailsLeaves (D.state device.old) (D.state device.new) memory.now
+        number root.now 128 first counts.old) }
+    ensures no_failure { OnOk result ((D.state device.new).failures
+        ≡ (D.state device.old).failures) }
     ensures looks { Looks (D.state device.old) (D.state device.new) }
 {
     for index in 0..POINTERS {
@@ -206,9 +212,12 @@ fn count_double<D: SectorDevice>(
 ) -> Result<(), DeviceFault>
     requires some { 1 ≤ number }
     requires number { number ≤ 4095 }
-    ensures done { OnOk result (CountsDouble (D.state device.old) (D.state device.new) memory.now number address first counts.old counts.new) }
-    ensures failed { OnErr result (FailsDouble (D.state device.old) (D.state device.new) memory.now number address first counts.old) }
-    ensures no_failure { OnOk result ((D.state device.new).failures ≡ (D.state device.old).failures) }
+    ensures done { OnOk result (CountsDouble (D.state device.old) (D.state device.new) memory.now
+        number address first counts.old counts.new) }
+    ensures failed { OnErr result (FailsDouble (D.state device.old) (D.state device.new) memory.now
+        number address first counts.old) }
+    ensures no_failure { OnOk result ((D.state device.new).failures
+        ≡ (D.state device.old).failures) }
     ensures looks { Looks (D.state device.old) (D.state device.new) }
 {
     if address == 0 {
@@ -233,9 +242,12 @@ fn count_inode<D: SectorDevice>(
 ) -> Result<(), DeviceFault>
     requires some { 1 ≤ number }
     requires number { number ≤ 4095 }
-    ensures done { OnOk result (CountsInode (D.state device.old) (D.state device.new) memory.now number inode.now first counts.old counts.new) }
-    ensures failed { OnErr result (FailsInode (D.state device.old) (D.state device.new) memory.now number inode.now first counts.old) }
-    ensures no_failure { OnOk result ((D.state device.new).failures ≡ (D.state device.old).failures) }
+    ensures done { OnOk result (CountsInode (D.state device.old) (D.state device.new) memory.now
+        number inode.now first counts.old counts.new) }
+    ensures failed { OnErr result (FailsInode (D.state device.old) (D.state device.new) memory.now
+        number inode.now first counts.old) }
+    ensures no_failure { OnOk result ((D.state device.new).failures
+        ≡ (D.state device.old).failures) }
     ensures looks { Looks (D.state device.old) (D.state device.new) }
 {
     let direct = pointers_before(first, 0, DIRECT) as usize;
@@ -270,9 +282,11 @@ pub fn count_past<D: SectorDevice>(
     counts: &mut SegmentCounts,
 ) -> Result<(), DeviceFault>
     requires number { number < 4096 }
-    ensures counted { OnOk result (CountsPast (D.state device.old) (D.state device.new) memory.now number first counts.new) }
+    ensures counted { OnOk result (CountsPast (D.state device.old) (D.state device.new) memory.now
+        number first counts.new) }
     ensures failed { OnErr result (IsExcused (D.state device.old) (D.state device.new) memory.now) }
-    ensures no_failure { OnOk result ((D.state device.new).failures ≡ (D.state device.old).failures) }
+    ensures no_failure { OnOk result ((D.state device.new).failures
+        ≡ (D.state device.old).failures) }
     ensures looks { Looks (D.state device.old) (D.state device.new) }
 {
     counts.clear();
@@ -295,9 +309,11 @@ pub fn count_file<D: SectorDevice>(
     counts: &mut SegmentCounts,
 ) -> Result<(), DeviceFault>
     requires number { number < 4096 }
-    ensures counted { OnOk result (CountsFile (D.state device.old) (D.state device.new) memory.now number counts.new) }
+    ensures counted { OnOk result (CountsFile (D.state device.old) (D.state device.new) memory.now
+        number counts.new) }
     ensures failed { OnErr result (IsExcused (D.state device.old) (D.state device.new) memory.now) }
-    ensures no_failure { OnOk result ((D.state device.new).failures ≡ (D.state device.old).failures) }
+    ensures no_failure { OnOk result ((D.state device.new).failures
+        ≡ (D.state device.old).failures) }
     ensures looks { Looks (D.state device.old) (D.state device.new) }
 {
     count_past(device, memory, number, 0, counts)?;

@@ -39,9 +39,12 @@ fn lift_part<D: SectorDevice>(
     requires above { (q : ℕ) → IsCutLeaf first q → IsInMemory memory.old (parent (Leaf number q)) }
     ensures prepares { Prepares (D.state device.old) (D.state device.new) memory.old memory.new 1 }
     ensures leaf { OnOk result ((q : ℕ) → IsCutLeaf first q → IsReady memory.new (Leaf number q)) }
-    ensures full { IsErrOf result LiftFault.Full → memory.new.dirty.capacity.limit ≤ length memory.new.dirty.blocks }
-    ensures failed { IsErrOf result LiftFault.Device → IsExcused (D.state device.old) (D.state device.new) memory.old }
-    ensures no_failure { OnOk result ((D.state device.new).failures ≡ (D.state device.old).failures) }
+    ensures full { IsErrOf result LiftFault.Full
+        → memory.new.dirty.capacity.limit ≤ length memory.new.dirty.blocks }
+    ensures failed { IsErrOf result LiftFault.Device
+        → IsExcused (D.state device.old) (D.state device.new) memory.old }
+    ensures no_failure { OnOk result ((D.state device.new).failures
+        ≡ (D.state device.old).failures) }
 {
     if first <= DIRECT {
         return Ok(());
@@ -74,9 +77,12 @@ fn lift_edge<D: SectorDevice>(
     requires above { IsInMemory memory.old (Inode number) }
     ensures prepares { Prepares (D.state device.old) (D.state device.new) memory.old memory.new 2 }
     ensures edge { OnOk result (HasEdge memory.new number first) }
-    ensures full { IsErrOf result LiftFault.Full → memory.new.dirty.capacity.limit ≤ length memory.new.dirty.blocks }
-    ensures failed { IsErrOf result LiftFault.Device → IsExcused (D.state device.old) (D.state device.new) memory.old }
-    ensures no_failure { OnOk result ((D.state device.new).failures ≡ (D.state device.old).failures) }
+    ensures full { IsErrOf result LiftFault.Full
+        → memory.new.dirty.capacity.limit ≤ length memory.new.dirty.blocks }
+    ensures failed { IsErrOf result LiftFault.Device
+        → IsExcused (D.state device.old) (D.state device.new) memory.old }
+    ensures no_failure { OnOk result ((D.state device.new).failures
+        ≡ (D.state device.old).failures) }
 {
     if first <= DIRECT + POINTERS {
         return lift_part(device, memory, number, first);
@@ -182,11 +188,14 @@ fn drop_counted<D: SectorDevice>(
     requires number { number ≤ 4095 }
     requires first { first ≤ 16624 }
     ensures looks { Looks (D.state device.old) (D.state device.new) }
-    ensures counted { OnOk result (CountsPast (D.state device.old) (D.state device.new) memory.old number first counts.new) }
-    ensures drops { OnOk result (DropsPast memory.old memory.new number first (not (is_hidden_in memory.old.map number)) counts.new) }
+    ensures counted { OnOk result (CountsPast (D.state device.old) (D.state device.new) memory.old
+        number first counts.new) }
+    ensures drops { OnOk result (DropsPast memory.old memory.new number first
+        (not (is_hidden_in memory.old.map number)) counts.new) }
     ensures same { OnErr result (memory.new ≡ memory.old) }
     ensures failed { OnErr result (IsExcused (D.state device.old) (D.state device.new) memory.old) }
-    ensures no_failure { OnOk result ((D.state device.new).failures ≡ (D.state device.old).failures) }
+    ensures no_failure { OnOk result ((D.state device.new).failures
+        ≡ (D.state device.old).failures) }
 {
     match count_past(device, memory, number, first, counts) {
         Ok(()) => {}
@@ -216,11 +225,16 @@ pub fn cut_file<D: SectorDevice>(
     requires memory { IsMemory memory.old }
     requires number { number < 4096 }
     requires first { first ≤ 16624 }
-    ensures cuts { OnOk result (Cuts (D.state device.old) (D.state device.new) memory.old memory.new number first) }
-    ensures prepares { OnErr result (Prepares (D.state device.old) (D.state device.new) memory.old memory.new 3) }
-    ensures full { IsErrOf result LiftFault.Full → memory.new.dirty.capacity.limit ≤ length memory.new.dirty.blocks }
-    ensures failed { IsErrOf result LiftFault.Device → IsExcused (D.state device.old) (D.state device.new) memory.old }
-    ensures no_failure { OnOk result ((D.state device.new).failures ≡ (D.state device.old).failures) }
+    ensures cuts { OnOk result (Cuts (D.state device.old) (D.state device.new) memory.old memory.new
+        number first) }
+    ensures prepares { OnErr result (Prepares (D.state device.old) (D.state device.new) memory.old
+        memory.new 3) }
+    ensures full { IsErrOf result LiftFault.Full
+        → memory.new.dirty.capacity.limit ≤ length memory.new.dirty.blocks }
+    ensures failed { IsErrOf result LiftFault.Device
+        → IsExcused (D.state device.old) (D.state device.new) memory.old }
+    ensures no_failure { OnOk result ((D.state device.new).failures
+        ≡ (D.state device.old).failures) }
 {
     match lift_inode(device, memory, number) {
         Ok(true) => {}

@@ -59,11 +59,16 @@ pub fn hide_file<D: SectorDevice>(
     requires memory { IsMemory memory.old }
     requires some { 1 ≤ number }
     requires number { number < 4096 }
-    ensures hides { OnOk result (Hides (D.state device.old) (D.state device.new) memory.old memory.new number kind size) }
-    ensures no_failure { OnOk result ((D.state device.new).failures ≡ (D.state device.old).failures) }
-    ensures prepares { OnErr result (Prepares (D.state device.old) (D.state device.new) memory.old memory.new 1) }
-    ensures full { IsErrOf result LiftFault.Full → memory.new.dirty.capacity.limit ≤ length memory.new.dirty.blocks }
-    ensures failed { IsErrOf result LiftFault.Device → IsLinkExcused (D.state device.old) (D.state device.new) memory.old number }
+    ensures hides { OnOk result (Hides (D.state device.old) (D.state device.new) memory.old
+        memory.new number kind size) }
+    ensures no_failure { OnOk result ((D.state device.new).failures
+        ≡ (D.state device.old).failures) }
+    ensures prepares { OnErr result (Prepares (D.state device.old) (D.state device.new) memory.old
+        memory.new 1) }
+    ensures full { IsErrOf result LiftFault.Full
+        → memory.new.dirty.capacity.limit ≤ length memory.new.dirty.blocks }
+    ensures failed { IsErrOf result LiftFault.Device
+        → IsLinkExcused (D.state device.old) (D.state device.new) memory.old number }
 {
     if memory.map.is_hidden(number) {
         return Err(LiftFault::Device);

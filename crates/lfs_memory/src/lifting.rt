@@ -70,8 +70,10 @@ pub fn lift_map(memory: &mut LogMemory, index: usize) -> Result<(), DeviceFault>
 /// As those of `lift_map`.
 pub(crate) fn lift_map_of(memory: &mut LogMemory, number: u16) -> Result<(), DeviceFault>
     requires number { number < 4096 }
-    ensures done { OnOk result ((memory.new ≡ memory.old) ⊎ MapLifts memory.old memory.new (number / 128)) }
-    ensures mapped { OnOk result (is_hidden_in memory.new.map number ≡ false → block_in memory.new.map (number / 128) ≡ 1) }
+    ensures done { OnOk result ((memory.new ≡ memory.old)
+        ⊎ MapLifts memory.old memory.new (number / 128)) }
+    ensures mapped { OnOk result (is_hidden_in memory.new.map number ≡ false
+        → block_in memory.new.map (number / 128) ≡ 1) }
     ensures addresses { OnOk result (memory.new.map.addresses ≡ memory.old.map.addresses) }
     ensures dirty { OnOk result (memory.new.dirty ≡ memory.old.dirty) }
     ensures same { OnErr result (memory.new ≡ memory.old) }
@@ -98,7 +100,8 @@ pub fn bring(memory: &mut LogMemory, key: BlockKey, address: u32, lives: bool, b
 fn mark(map: &mut InodeMap, key: BlockKey)
     ensures hidden { map.new.hidden ≡ map.old.hidden }
     ensures blocks { map.new.blocks ≡ map.old.blocks }
-    ensures inode { (n : ℕ) → entry_of key ≡ Inode n → IsSet (address_in map.old) (address_in map.new) n 1 }
+    ensures inode { (n : ℕ) → entry_of key ≡ Inode n
+        → IsSet (address_in map.old) (address_in map.new) n 1 }
     ensures others { ((n : ℕ) → entry_of key ≡ Inode n → ⊥) → map.new ≡ map.old }
 {
     match key.kind() {
@@ -130,14 +133,18 @@ pub fn lift<D: SectorDevice>(
     requires memory { IsMemory memory.old }
     requires at { IsAt (blocks_of memory.old.dirty) (tables_of memory.old) (entry_of key) address }
     requires above { 2 ≤ address }
-    requires mapped { (n : ℕ) → entry_of key ≡ Inode n → is_hidden_in memory.old.map n ≡ false → block_in memory.old.map (n / 128) ≡ 1 }
+    requires mapped { (n : ℕ) → entry_of key ≡ Inode n → is_hidden_in memory.old.map n ≡ false
+        → block_in memory.old.map (n / 128) ≡ 1 }
     ensures prepares { Prepares (D.state device.old) (D.state device.new) memory.old memory.new 1 }
     ensures gathers { Gathers (D.state device.old) (D.state device.new) memory.old memory.new }
     ensures inside { OnOk result (IsInMemory memory.new (entry_of key)) }
     ensures same { OnErr result (memory.new ≡ memory.old) }
-    ensures full { IsErrOf result LiftFault.Full → memory.new.dirty.capacity.limit ≤ length memory.new.dirty.blocks }
-    ensures failed { IsErrOf result LiftFault.Device → IsExcused (D.state device.old) (D.state device.new) memory.old }
-    ensures no_failure { OnOk result ((D.state device.new).failures ≡ (D.state device.old).failures) }
+    ensures full { IsErrOf result LiftFault.Full
+        → memory.new.dirty.capacity.limit ≤ length memory.new.dirty.blocks }
+    ensures failed { IsErrOf result LiftFault.Device
+        → IsExcused (D.state device.old) (D.state device.new) memory.old }
+    ensures no_failure { OnOk result ((D.state device.new).failures
+        ≡ (D.state device.old).failures) }
 {
     if memory.dirty.len() >= memory.dirty.capacity() {
         return Err(LiftFault::Full);
@@ -177,14 +184,20 @@ pub fn lift_inode<D: SectorDevice>(
     requires number { number < 4096 }
     ensures prepares { Prepares (D.state device.old) (D.state device.new) memory.old memory.new 1 }
     ensures gathers { Gathers (D.state device.old) (D.state device.new) memory.old memory.new }
-    ensures inside { IfOk result (λ found. IsTrue found → (1 ≤ number) × IsInMemory memory.new (Inode number)) }
-    ensures none { IfOk result (λ found. IsFalse found → (number ≡ 0) ⊎ (address_in memory.old.map number ≡ 0)) }
+    ensures inside { IfOk result (λ found. IsTrue found
+        → (1 ≤ number) × IsInMemory memory.new (Inode number)) }
+    ensures none { IfOk result (λ found. IsFalse found
+        → (number ≡ 0) ⊎ (address_in memory.old.map number ≡ 0)) }
     ensures same { IfOk result (λ found. IsFalse found → memory.new ≡ memory.old) }
-    ensures absent { IfOk result (λ found. IsFalse found → IsAbsent (D.state device.old) (D.state device.new) memory.old number) }
+    ensures absent { IfOk result (λ found. IsFalse found
+        → IsAbsent (D.state device.old) (D.state device.new) memory.old number) }
     ensures kept { OnErr result (memory.new.dirty ≡ memory.old.dirty) }
-    ensures full { IsErrOf result LiftFault.Full → memory.new.dirty.capacity.limit ≤ length memory.new.dirty.blocks }
-    ensures failed { IsErrOf result LiftFault.Device → IsExcused (D.state device.old) (D.state device.new) memory.old }
-    ensures no_failure { OnOk result ((D.state device.new).failures ≡ (D.state device.old).failures) }
+    ensures full { IsErrOf result LiftFault.Full
+        → memory.new.dirty.capacity.limit ≤ length memory.new.dirty.blocks }
+    ensures failed { IsErrOf result LiftFault.Device
+        → IsExcused (D.state device.old) (D.state device.new) memory.old }
+    ensures no_failure { OnOk result ((D.state device.new).failures
+        ≡ (D.state device.old).failures) }
 {
     if number == 0 {
         return Ok(false);
@@ -237,12 +250,16 @@ pub fn lift_child<D: SectorDevice>(
     ensures prepares { Prepares (D.state device.old) (D.state device.new) memory.old memory.new 1 }
     ensures gathers { Gathers (D.state device.old) (D.state device.new) memory.old memory.new }
     ensures inside { IfOk result (λ found. IsTrue found → IsInMemory memory.new (entry_of key)) }
-    ensures none { IfOk result (λ found. IsFalse found → IsAt (blocks_of memory.new.dirty) (tables_of memory.new) (entry_of key) 0) }
+    ensures none { IfOk result (λ found. IsFalse found
+        → IsAt (blocks_of memory.new.dirty) (tables_of memory.new) (entry_of key) 0) }
     ensures same { IfOk result (λ found. IsFalse found → memory.new ≡ memory.old) }
     ensures kept { OnErr result (memory.new ≡ memory.old) }
-    ensures full { IsErrOf result LiftFault.Full → memory.new.dirty.capacity.limit ≤ length memory.new.dirty.blocks }
-    ensures failed { IsErrOf result LiftFault.Device → IsExcused (D.state device.old) (D.state device.new) memory.old }
-    ensures no_failure { OnOk result ((D.state device.new).failures ≡ (D.state device.old).failures) }
+    ensures full { IsErrOf result LiftFault.Full
+        → memory.new.dirty.capacity.limit ≤ length memory.new.dirty.blocks }
+    ensures failed { IsErrOf result LiftFault.Device
+        → IsExcused (D.state device.old) (D.state device.new) memory.old }
+    ensures no_failure { OnOk result ((D.state device.new).failures
+        ≡ (D.state device.old).failures) }
 {
     let address = pointer_to(memory, key);
     if address == 0 {
@@ -278,11 +295,16 @@ pub fn lift_leaf<D: SectorDevice>(
     requires above { IsInMemory memory.old (Inode number) }
     ensures prepares { Prepares (D.state device.old) (D.state device.new) memory.old memory.new 2 }
     ensures gathers { Gathers (D.state device.old) (D.state device.new) memory.old memory.new }
-    ensures inside { IfOk result (λ found. IsTrue found → IsInMemory memory.new (Leaf number index)) }
-    ensures absent { IfOk result (λ found. IsFalse found → IsLeafAbsent (D.state device.old) (D.state device.new) memory.old number index) }
-    ensures full { IsErrOf result LiftFault.Full → memory.new.dirty.capacity.limit ≤ length memory.new.dirty.blocks }
-    ensures failed { IsErrOf result LiftFault.Device → IsExcused (D.state device.old) (D.state device.new) memory.old }
-    ensures no_failure { OnOk result ((D.state device.new).failures ≡ (D.state device.old).failures) }
+    ensures inside { IfOk result (λ found. IsTrue found
+        → IsInMemory memory.new (Leaf number index)) }
+    ensures absent { IfOk result (λ found. IsFalse found
+        → IsLeafAbsent (D.state device.old) (D.state device.new) memory.old number index) }
+    ensures full { IsErrOf result LiftFault.Full
+        → memory.new.dirty.capacity.limit ≤ length memory.new.dirty.blocks }
+    ensures failed { IsErrOf result LiftFault.Device
+        → IsExcused (D.state device.old) (D.state device.new) memory.old }
+    ensures no_failure { OnOk result ((D.state device.new).failures
+        ≡ (D.state device.old).failures) }
 {
     let leaf = BlockKey::leaf(number, index);
     if index == 0 {
@@ -313,11 +335,16 @@ pub fn lift_way<D: SectorDevice>(
     requires index { index ≤ 16623 }
     ensures prepares { Prepares (D.state device.old) (D.state device.new) memory.old memory.new 3 }
     ensures gathers { Gathers (D.state device.old) (D.state device.new) memory.old memory.new }
-    ensures inside { IfOk result (λ found. IsTrue found → (1 ≤ number) × IsInMemory memory.new (parent (Data number index))) }
-    ensures absent { IfOk result (λ found. IsFalse found → AnswersBlock (D.state device.old) (D.state device.new) memory.old number index [] false) }
-    ensures full { IsErrOf result LiftFault.Full → memory.new.dirty.capacity.limit ≤ length memory.new.dirty.blocks }
-    ensures failed { IsErrOf result LiftFault.Device → IsExcused (D.state device.old) (D.state device.new) memory.old }
-    ensures no_failure { OnOk result ((D.state device.new).failures ≡ (D.state device.old).failures) }
+    ensures inside { IfOk result (λ found. IsTrue found
+        → (1 ≤ number) × IsInMemory memory.new (parent (Data number index))) }
+    ensures absent { IfOk result (λ found. IsFalse found
+        → AnswersBlock (D.state device.old) (D.state device.new) memory.old number index [] false) }
+    ensures full { IsErrOf result LiftFault.Full
+        → memory.new.dirty.capacity.limit ≤ length memory.new.dirty.blocks }
+    ensures failed { IsErrOf result LiftFault.Device
+        → IsExcused (D.state device.old) (D.state device.new) memory.old }
+    ensures no_failure { OnOk result ((D.state device.new).failures
+        ≡ (D.state device.old).failures) }
 {
     match lift_inode(device, memory, number) {
         Ok(true) => {}

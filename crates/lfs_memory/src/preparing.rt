@@ -32,9 +32,12 @@ fn prepare_pointers<D: SectorDevice>(
     ensures prepares { Prepares (D.state device.old) (D.state device.new) memory.old memory.new 1 }
     ensures inside { OnOk result (IsInMemory memory.new (entry_of key)) }
     ensures same { OnErr result (memory.new ≡ memory.old) }
-    ensures full { IsErrOf result LiftFault.Full → memory.new.dirty.capacity.limit ≤ length memory.new.dirty.blocks }
-    ensures failed { IsErrOf result LiftFault.Device → IsExcused (D.state device.old) (D.state device.new) memory.old }
-    ensures no_failure { OnOk result ((D.state device.new).failures ≡ (D.state device.old).failures) }
+    ensures full { IsErrOf result LiftFault.Full
+        → memory.new.dirty.capacity.limit ≤ length memory.new.dirty.blocks }
+    ensures failed { IsErrOf result LiftFault.Device
+        → IsExcused (D.state device.old) (D.state device.new) memory.old }
+    ensures no_failure { OnOk result ((D.state device.new).failures
+        ≡ (D.state device.old).failures) }
 {
     match lift_child(device, memory, key) {
         Ok(true) => return Ok(()),
@@ -66,10 +69,13 @@ fn prepare_leaf<D: SectorDevice>(
     requires above { IsInMemory memory.old (Inode number) }
     ensures prepares { Prepares (D.state device.old) (D.state device.new) memory.old memory.new 2 }
     ensures inside { OnOk result (IsInMemory memory.new (Leaf number index)) }
-    ensures full { IsErrOf result LiftFault.Full → memory.new.dirty.capacity.limit ≤ length memory.new.dirty.blocks }
+    ensures full { IsErrOf result LiftFault.Full
+        → memory.new.dirty.capacity.limit ≤ length memory.new.dirty.blocks }
     ensures short { IsErrOf result LiftFault.Full → LacksRoom memory.old 2 }
-    ensures failed { IsErrOf result LiftFault.Device → IsExcused (D.state device.old) (D.state device.new) memory.old }
-    ensures no_failure { OnOk result ((D.state device.new).failures ≡ (D.state device.old).failures) }
+    ensures failed { IsErrOf result LiftFault.Device
+        → IsExcused (D.state device.old) (D.state device.new) memory.old }
+    ensures no_failure { OnOk result ((D.state device.new).failures
+        ≡ (D.state device.old).failures) }
 {
     let leaf = BlockKey::leaf(number, index);
     if index == 0 {
@@ -99,10 +105,13 @@ fn prepare_way<D: SectorDevice>(
     requires index { index ≤ 16623 }
     ensures prepares { Prepares (D.state device.old) (D.state device.new) memory.old memory.new 3 }
     ensures ready { OnOk result (IsReady memory.new number index) }
-    ensures full { IsErrOf result LiftFault.Full → memory.new.dirty.capacity.limit ≤ length memory.new.dirty.blocks }
+    ensures full { IsErrOf result LiftFault.Full
+        → memory.new.dirty.capacity.limit ≤ length memory.new.dirty.blocks }
     ensures short { IsErrOf result LiftFault.Full → LacksRoom memory.old 3 }
-    ensures failed { IsErrOf result LiftFault.Device → IsExcusedWithin (D.state device.old) (D.state device.new) memory.old number index }
-    ensures no_failure { OnOk result ((D.state device.new).failures ≡ (D.state device.old).failures) }
+    ensures failed { IsErrOf result LiftFault.Device
+        → IsExcusedWithin (D.state device.old) (D.state device.new) memory.old number index }
+    ensures no_failure { OnOk result ((D.state device.new).failures
+        ≡ (D.state device.old).failures) }
 {
     let found = match lift_inode(device, memory, number) {
         Ok(found) => found,
@@ -151,10 +160,13 @@ pub fn prepare_block<D: SectorDevice>(
     ensures ready { OnOk result (IsReady memory.new number index) }
     ensures same { IsReady memory.old number index → memory.new ≡ memory.old }
     ensures away { OnErr result (IsReady memory.old number index → ⊥) }
-    ensures full { IsErrOf result LiftFault.Full → memory.new.dirty.capacity.limit ≤ length memory.new.dirty.blocks }
+    ensures full { IsErrOf result LiftFault.Full
+        → memory.new.dirty.capacity.limit ≤ length memory.new.dirty.blocks }
     ensures short { IsErrOf result LiftFault.Full → LacksRoom memory.old 3 }
-    ensures failed { IsErrOf result LiftFault.Device → IsExcusedWithin (D.state device.old) (D.state device.new) memory.old number index }
-    ensures no_failure { OnOk result ((D.state device.new).failures ≡ (D.state device.old).failures) }
+    ensures failed { IsErrOf result LiftFault.Device
+        → IsExcusedWithin (D.state device.old) (D.state device.new) memory.old number index }
+    ensures no_failure { OnOk result ((D.state device.new).failures
+        ≡ (D.state device.old).failures) }
 {
     if is_ready(memory, number, index) {
         return Ok(());
@@ -165,7 +177,8 @@ pub fn prepare_block<D: SectorDevice>(
 /// The block of the inode map that has the file's inode will be written, if the file is to have links.
 fn prepare_name(memory: &mut LogMemory, number: u16, links: u32) -> Result<(), DeviceFault>
     requires few { number ≤ 4095 }
-    ensures done { OnOk result ((memory.new ≡ memory.old) ⊎ MapLifts memory.old memory.new (number / 128)) }
+    ensures done { OnOk result ((memory.new ≡ memory.old)
+        ⊎ MapLifts memory.old memory.new (number / 128)) }
     ensures mapped { OnOk result (0 < links → block_in memory.new.map (number / 128) ≡ 1) }
     ensures dirty { OnOk result (memory.new.dirty ≡ memory.old.dirty) }
     ensures same { OnErr result (memory.new ≡ memory.old) }
@@ -193,10 +206,13 @@ pub fn prepare_header<D: SectorDevice>(
     requires few { number ≤ 4095 }
     ensures prepares { Prepares (D.state device.old) (D.state device.new) memory.old memory.new 1 }
     ensures ready { OnOk result (IsHeaderReady memory.new number links) }
-    ensures full { IsErrOf result LiftFault.Full → memory.new.dirty.capacity.limit ≤ length memory.new.dirty.blocks }
+    ensures full { IsErrOf result LiftFault.Full
+        → memory.new.dirty.capacity.limit ≤ length memory.new.dirty.blocks }
     ensures short { IsErrOf result LiftFault.Full → LacksRoom memory.old 1 }
-    ensures failed { IsErrOf result LiftFault.Device → IsExcused (D.state device.old) (D.state device.new) memory.old }
-    ensures no_failure { OnOk result ((D.state device.new).failures ≡ (D.state device.old).failures) }
+    ensures failed { IsErrOf result LiftFault.Device
+        → IsExcused (D.state device.old) (D.state device.new) memory.old }
+    ensures no_failure { OnOk result ((D.state device.new).failures
+        ≡ (D.state device.old).failures) }
 {
     match prepare_name(memory, number, links) {
         Ok(()) => {}
@@ -219,11 +235,14 @@ pub fn prepare_headers<D: SectorDevice>(
     edits: &[HeaderEdit],
 ) -> Result<(), LiftFault>
     requires memory { IsMemory memory.old }
-    ensures prepares { Prepares (D.state device.old) (D.state device.new) memory.old memory.new (length edits.now) }
+    ensures prepares { Prepares (D.state device.old) (D.state device.new) memory.old memory.new
+        (length edits.now) }
     ensures ready { OnOk result (AreHeadersReady memory.new edits.now) }
     ensures full { IsErrOf result LiftFault.Full → LacksRoom memory.old (length edits.now) }
-    ensures failed { IsErrOf result LiftFault.Device → IsExcused (D.state device.old) (D.state device.new) memory.old }
-    ensures no_failure { OnOk result ((D.state device.new).failures ≡ (D.state device.old).failures) }
+    ensures failed { IsErrOf result LiftFault.Device
+        → IsExcused (D.state device.old) (D.state device.new) memory.old }
+    ensures no_failure { OnOk result ((D.state device.new).failures
+        ≡ (D.state device.old).failures) }
 {
     for edit in edits {
         match prepare_header(device, memory, edit.number, edit.header.links) {
@@ -245,11 +264,14 @@ pub fn prepare_blocks<D: SectorDevice>(
     edits: &[BlockEdit],
 ) -> Result<(), LiftFault>
     requires memory { IsMemory memory.old }
-    ensures prepares { Prepares (D.state device.old) (D.state device.new) memory.old memory.new (ways edits.now) }
+    ensures prepares { Prepares (D.state device.old) (D.state device.new) memory.old memory.new
+        (ways edits.now) }
     ensures ready { OnOk result (AreBlocksReady memory.new edits.now) }
     ensures full { IsErrOf result LiftFault.Full → LacksRoom memory.old (ways edits.now) }
-    ensures failed { IsErrOf result LiftFault.Device → AreExcusedWithin (D.state device.old) (D.state device.new) memory.old edits.now }
-    ensures no_failure { OnOk result ((D.state device.new).failures ≡ (D.state device.old).failures) }
+    ensures failed { IsErrOf result LiftFault.Device
+        → AreExcusedWithin (D.state device.old) (D.state device.new) memory.old edits.now }
+    ensures no_failure { OnOk result ((D.state device.new).failures
+        ≡ (D.state device.old).failures) }
 {
     for edit in edits {
         match prepare_block(device, memory, edit.number, edit.index) {
@@ -272,12 +294,16 @@ pub fn prepare_batch<D: SectorDevice>(
     blocks: &[BlockEdit],
 ) -> Result<(), LiftFault>
     requires memory { IsMemory memory.old }
-    ensures prepares { Prepares (D.state device.old) (D.state device.new) memory.old memory.new (length headers.now + ways blocks.now) }
+    ensures prepares { Prepares (D.state device.old) (D.state device.new) memory.old memory.new
+        (length headers.now + ways blocks.now) }
     ensures headers { OnOk result (AreHeadersReady memory.new headers.now) }
     ensures blocks { OnOk result (AreBlocksReady memory.new blocks.now) }
-    ensures full { IsErrOf result LiftFault.Full → LacksRoom memory.old (length headers.now + ways blocks.now) }
-    ensures failed { IsErrOf result LiftFault.Device → AreExcusedWithin (D.state device.old) (D.state device.new) memory.old blocks.now }
-    ensures no_failure { OnOk result ((D.state device.new).failures ≡ (D.state device.old).failures) }
+    ensures full { IsErrOf result LiftFault.Full
+        → LacksRoom memory.old (length headers.now + ways blocks.now) }
+    ensures failed { IsErrOf result LiftFault.Device
+        → AreExcusedWithin (D.state device.old) (D.state device.new) memory.old blocks.now }
+    ensures no_failure { OnOk result ((D.state device.new).failures
+        ≡ (D.state device.old).failures) }
 {
     match prepare_headers(device, memory, headers) {
         Ok(()) => {}

@@ -34,9 +34,15 @@ pub fn read_present<D: SectorDevice>(
     out: &mut [u8; 512],
 ) -> Result<(), DeviceFault>
     requires stored { 1 ≤ address }
-    ensures read { OnOk result ((D.state device.new).keeps_model → out.new ≡ present (D.state device.old).content (blocks_of memory.now.dirty) (entry_of key) address) }
-    ensures unread { OnErr result ((D.state device.new).keeps_model → (D.state device.old).failures < (D.state device.new).failures ⊎ IsMissing (D.state device.old).content (blocks_of memory.now.dirty) (entry_of key) address) }
-    ensures no_failure { OnOk result ((D.state device.new).failures ≡ (D.state device.old).failures) }
+    ensures read { OnOk result ((D.state device.new).keeps_model
+        → out.new ≡ present (D.state device.old).content (blocks_of memory.now.dirty) (entry_of key)
+        address) }
+    ensures unread { OnErr result ((D.state device.new).keeps_model
+        → (D.state device.old).failures < (D.state device.new).failures
+        ⊎ IsMissing (D.state device.old).content (blocks_of memory.now.dirty) (entry_of key)
+        address) }
+    ensures no_failure { OnOk result ((D.state device.new).failures
+        ≡ (D.state device.old).failures) }
     ensures looks { Looks (D.state device.old) (D.state device.new) }
 {
     if address == IN_MEMORY {
@@ -67,12 +73,18 @@ pub fn read_inode<D: SectorDevice>(
     out: &mut [u8; 512],
 ) -> Result<bool, DeviceFault>
     requires number { number < 4096 }
-    ensures answer { IfOk result (AnswersInode (D.state device.old) (D.state device.new) memory.now number out.new) }
-    ensures some { IfOk result (λ found. IsTrue found → (1 ≤ number) × (1 ≤ address_in memory.now.map number)) }
-    ensures none { IfOk result (λ found. IsFalse found → (number ≡ 0) ⊎ (address_in memory.now.map number ≡ 0)) }
-    ensures bytes { IfOk result (λ found. IsTrue found → (D.state device.new).keeps_model → out.new ≡ present (D.state device.old).content (blocks_of memory.now.dirty) (Inode number) (address_in memory.now.map number)) }
+    ensures answer { IfOk result (AnswersInode (D.state device.old) (D.state device.new) memory.now
+        number out.new) }
+    ensures some { IfOk result (λ found. IsTrue found
+        → (1 ≤ number) × (1 ≤ address_in memory.now.map number)) }
+    ensures none { IfOk result (λ found. IsFalse found
+        → (number ≡ 0) ⊎ (address_in memory.now.map number ≡ 0)) }
+    ensures bytes { IfOk result (λ found. IsTrue found → (D.state device.new).keeps_model
+        → out.new ≡ present (D.state device.old).content (blocks_of memory.now.dirty) (Inode number)
+        (address_in memory.now.map number)) }
     ensures failed { OnErr result (IsExcused (D.state device.old) (D.state device.new) memory.now) }
-    ensures no_failure { OnOk result ((D.state device.new).failures ≡ (D.state device.old).failures) }
+    ensures no_failure { OnOk result ((D.state device.new).failures
+        ≡ (D.state device.old).failures) }
     ensures looks { Looks (D.state device.old) (D.state device.new) }
 {
     if number == 0 {
@@ -100,9 +112,11 @@ pub fn read_header<D: SectorDevice>(
     number: u16,
 ) -> Result<Option<Header>, DeviceFault>
     requires number { number < 4096 }
-    ensures answer { IfOk result (AnswersHeader (D.state device.old) (D.state device.new) memory.now number) }
+    ensures answer { IfOk result (AnswersHeader (D.state device.old) (D.state device.new) memory.now
+        number) }
     ensures failed { OnErr result (IsExcused (D.state device.old) (D.state device.new) memory.now) }
-    ensures no_failure { OnOk result ((D.state device.new).failures ≡ (D.state device.old).failures) }
+    ensures no_failure { OnOk result ((D.state device.new).failures
+        ≡ (D.state device.old).failures) }
     ensures looks { Looks (D.state device.old) (D.state device.new) }
 {
     let mut inode = [0; 512];
@@ -147,10 +161,12 @@ pub fn locate_block<D: SectorDevice>(
     index: u32,
 ) -> Result<u32, DeviceFault>
     requires number { number < 4096 }
-    ensures answer { IfOk result (AnswersAddress (D.state device.old) (D.state device.new) memory.now (Data number index)) }
+    ensures answer { IfOk result (AnswersAddress (D.state device.old) (D.state device.new)
+        memory.now (Data number index)) }
     ensures some { IfOk result (λ address. (1 ≤ address) → (1 ≤ number) × (index ≤ 16623)) }
     ensures failed { OnErr result (IsExcused (D.state device.old) (D.state device.new) memory.now) }
-    ensures no_failure { OnOk result ((D.state device.new).failures ≡ (D.state device.old).failures) }
+    ensures no_failure { OnOk result ((D.state device.new).failures
+        ≡ (D.state device.old).failures) }
     ensures looks { Looks (D.state device.old) (D.state device.new) }
 {
     if index > MOST_INDEX {
@@ -180,9 +196,11 @@ pub fn locate_leaf<D: SectorDevice>(
 ) -> Result<u32, DeviceFault>
     requires number { number < 4096 }
     requires leaf { leaf ≤ 128 }
-    ensures answer { IfOk result (AnswersAddress (D.state device.old) (D.state device.new) memory.now (Leaf number leaf)) }
+    ensures answer { IfOk result (AnswersAddress (D.state device.old) (D.state device.new)
+        memory.now (Leaf number leaf)) }
     ensures failed { OnErr result (IsExcused (D.state device.old) (D.state device.new) memory.now) }
-    ensures no_failure { OnOk result ((D.state device.new).failures ≡ (D.state device.old).failures) }
+    ensures no_failure { OnOk result ((D.state device.new).failures
+        ≡ (D.state device.old).failures) }
     ensures looks { Looks (D.state device.old) (D.state device.new) }
 {
     let mut inode = [0; 512];
@@ -217,10 +235,12 @@ pub fn read_block<D: SectorDevice>(
     out: &mut [u8; 512],
 ) -> Result<bool, DeviceFault>
     requires number { number < 4096 }
-    ensures answer { IfOk result (AnswersBlock (D.state device.old) (D.state device.new) memory.now number index out.new) }
+    ensures answer { IfOk result (AnswersBlock (D.state device.old) (D.state device.new) memory.now
+        number index out.new) }
     ensures zeros { IfOk result (λ found. IsFalse found → out.new ≡ zeros 512) }
     ensures failed { OnErr result (IsExcused (D.state device.old) (D.state device.new) memory.now) }
-    ensures no_failure { OnOk result ((D.state device.new).failures ≡ (D.state device.old).failures) }
+    ensures no_failure { OnOk result ((D.state device.new).failures
+        ≡ (D.state device.old).failures) }
     ensures looks { Looks (D.state device.old) (D.state device.new) }
 {
     clear(out);

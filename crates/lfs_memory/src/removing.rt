@@ -74,10 +74,13 @@ pub fn remove_file<D: SectorDevice>(
 ) -> Result<(), DeviceFault>
     requires memory { IsMemory memory.old }
     requires number { number < 4096 }
-    ensures removed { OnOk result (Removes (D.state device.old) (D.state device.new) memory.old memory.new number) }
-    ensures prepares { OnErr result (Prepares (D.state device.old) (D.state device.new) memory.old memory.new 0) }
+    ensures removed { OnOk result (Removes (D.state device.old) (D.state device.new) memory.old
+        memory.new number) }
+    ensures prepares { OnErr result (Prepares (D.state device.old) (D.state device.new) memory.old
+        memory.new 0) }
     ensures failed { OnErr result (IsExcused (D.state device.old) (D.state device.new) memory.old) }
-    ensures no_failure { OnOk result ((D.state device.new).failures ≡ (D.state device.old).failures) }
+    ensures no_failure { OnOk result ((D.state device.new).failures
+        ≡ (D.state device.old).failures) }
 {
     match lift_map_of(memory, number) {
         Ok(()) => {}

@@ -25,7 +25,8 @@ use lfs_files::LogFault;
 pub fn has_room(memory: &LogMemory, changes: &Changes) -> bool
     requires memory { IsMemory memory.now }
     ensures few { length memory.now.dirty.blocks ≤ memory.now.dirty.capacity.limit }
-    ensures room { IsTrue result → length memory.now.dirty.blocks + room_for changes.now ≤ memory.now.dirty.capacity.limit }
+    ensures room { IsTrue result → length memory.now.dirty.blocks + room_for changes.now
+        ≤ memory.now.dirty.capacity.limit }
     ensures lacks { IsFalse result → LacksRoom memory.now (room_for changes.now) }
 {
     let present = memory.dirty.len();
@@ -47,11 +48,16 @@ fn lose<D: SectorDevice>(
     counts: &mut SegmentCounts,
 ) -> Result<(), LiftFault>
     requires memory { IsMemory memory.old }
-    ensures done { OnOk result (Loses (D.state device.old) (D.state device.new) memory.old memory.new loss) }
-    ensures prepares { OnErr result (Prepares (D.state device.old) (D.state device.new) memory.old memory.new 3) }
-    ensures full { IsErrOf result LiftFault.Full → memory.new.dirty.capacity.limit ≤ length memory.new.dirty.blocks }
-    ensures failed { IsErrOf result LiftFault.Device → IsLossExcused (D.state device.old) (D.state device.new) memory.old loss }
-    ensures no_failure { OnOk result ((D.state device.new).failures ≡ (D.state device.old).failures) }
+    ensures done { OnOk result (Loses (D.state device.old) (D.state device.new) memory.old
+        memory.new loss) }
+    ensures prepares { OnErr result (Prepares (D.state device.old) (D.state device.new) memory.old
+        memory.new 3) }
+    ensures full { IsErrOf result LiftFault.Full
+        → memory.new.dirty.capacity.limit ≤ length memory.new.dirty.blocks }
+    ensures failed { IsErrOf result LiftFault.Device
+        → IsLossExcused (D.state device.old) (D.state device.new) memory.old loss }
+    ensures no_failure { OnOk result ((D.state device.new).failures
+        ≡ (D.state device.old).failures) }
 {
     match loss {
         Loss::Nothing => Ok(()),
@@ -78,11 +84,16 @@ fn stage_edits<D: SectorDevice>(
     counts: &mut SegmentCounts,
 ) -> Result<(), DeviceFault>
     requires memory { IsMemory memory.old }
-    requires room { length memory.old.dirty.blocks + room_for_edits headers.now blocks.now ≤ memory.old.dirty.capacity.limit }
-    ensures done { OnOk result (Stages (D.state device.old) (D.state device.new) memory.old memory.new loss headers.now blocks.now) }
-    ensures refused { OnErr result (Refuses (D.state device.old) (D.state device.new) memory.old memory.new loss headers.now blocks.now) }
-    ensures failed { OnErr result (IsBatchExcused (D.state device.old) (D.state device.new) memory.old loss headers.now blocks.now) }
-    ensures no_failure { OnOk result ((D.state device.new).failures ≡ (D.state device.old).failures) }
+    requires room { length memory.old.dirty.blocks + room_for_edits headers.now blocks.now
+        ≤ memory.old.dirty.capacity.limit }
+    ensures done { OnOk result (Stages (D.state device.old) (D.state device.new) memory.old
+        memory.new loss headers.now blocks.now) }
+    ensures refused { OnErr result (Refuses (D.state device.old) (D.state device.new) memory.old
+        memory.new loss headers.now blocks.now) }
+    ensures failed { OnErr result (IsBatchExcused (D.state device.old) (D.state device.new)
+        memory.old loss headers.now blocks.now) }
+    ensures no_failure { OnOk result ((D.state device.new).failures
+        ≡ (D.state device.old).failures) }
 {
     match prepare_batch(device, memory, headers, blocks) {
         Ok(()) => {}
@@ -108,12 +119,17 @@ fn stage_batch<D: SectorDevice>(
     counts: &mut SegmentCounts,
 ) -> Result<(), LogFault>
     requires memory { IsMemory memory.old }
-    ensures done { OnOk result (Stages (D.state device.old) (D.state device.new) memory.old memory.new changes.now.loss changes.now.headers.items changes.now.blocks.items) }
-    ensures refused { OnErr result (Refuses (D.state device.old) (D.state device.new) memory.old memory.new changes.now.loss changes.now.headers.items changes.now.blocks.items) }
+    ensures done { OnOk result (Stages (D.state device.old) (D.state device.new) memory.old
+        memory.new changes.now.loss changes.now.headers.items changes.now.blocks.items) }
+    ensures refused { OnErr result (Refuses (D.state device.old) (D.state device.new) memory.old
+        memory.new changes.now.loss changes.now.headers.items changes.now.blocks.items) }
     ensures full { IsErrOf result LogFault.Full → LacksRoom memory.old (room_for changes.now) }
-    ensures failed { IsErrOf result LogFault.Device → IsBatchExcused (D.state device.old) (D.state device.new) memory.old changes.now.loss changes.now.headers.items changes.now.blocks.items }
+    ensures failed { IsErrOf result LogFault.Device
+        → IsBatchExcused (D.state device.old) (D.state device.new) memory.old changes.now.loss
+        changes.now.headers.items changes.now.blocks.items }
     ensures other { IsErrOf result LogFault.Halted → ⊥ }
-    ensures no_failure { OnOk result ((D.state device.new).failures ≡ (D.state device.old).failures) }
+    ensures no_failure { OnOk result ((D.state device.new).failures
+        ≡ (D.state device.old).failures) }
 {
     if !has_room(memory, changes) {
         return Err(LogFault::Full);
@@ -138,13 +154,18 @@ pub fn stage_tight<D: SectorDevice>(
     counts: &mut SegmentCounts,
 ) -> Result<(), LogFault>
     requires memory { IsMemory memory.old }
-    ensures done { OnOk result (StagesTight (D.state device.old) (D.state device.new) memory.old memory.new changes.now) }
-    ensures refused { OnErr result (RefusesTight (D.state device.old) (D.state device.new) memory.old memory.new changes.now) }
+    ensures done { OnOk result (StagesTight (D.state device.old) (D.state device.new) memory.old
+        memory.new changes.now) }
+    ensures refused { OnErr result (RefusesTight (D.state device.old) (D.state device.new)
+        memory.old memory.new changes.now) }
     ensures full { IsErrOf result LogFault.Full → LacksRoom memory.old (room_for changes.now) }
-    ensures failed { IsErrOf result LogFault.Device → IsBatchExcused (D.state device.old) (D.state device.new) memory.old changes.now.loss changes.now.headers.items changes.now.blocks.items }
+    ensures failed { IsErrOf result LogFault.Device
+        → IsBatchExcused (D.state device.old) (D.state device.new) memory.old changes.now.loss
+        changes.now.headers.items changes.now.blocks.items }
     ensures other { IsErrOf result LogFault.Halted → ⊥ }
     ensures few { length memory.new.dirty.blocks ≤ memory.new.dirty.capacity.limit }
-    ensures no_failure { OnOk result ((D.state device.new).failures ≡ (D.state device.old).failures) }
+    ensures no_failure { OnOk result ((D.state device.new).failures
+        ≡ (D.state device.old).failures) }
 {
     let staged = stage_batch(device, memory, changes, counts);
     tighten(memory);
@@ -165,10 +186,13 @@ pub fn remove_tight<D: SectorDevice>(
 ) -> Result<(), DeviceFault>
     requires memory { IsMemory memory.old }
     requires number { number < 4096 }
-    ensures done { OnOk result (RemovesTight (D.state device.old) (D.state device.new) memory.old memory.new number) }
-    ensures kept { OnErr result (PreparesTight (D.state device.old) (D.state device.new) memory.old memory.new) }
+    ensures done { OnOk result (RemovesTight (D.state device.old) (D.state device.new) memory.old
+        memory.new number) }
+    ensures kept { OnErr result (PreparesTight (D.state device.old) (D.state device.new) memory.old
+        memory.new) }
     ensures failed { OnErr result (IsExcused (D.state device.old) (D.state device.new) memory.old) }
-    ensures no_failure { OnOk result ((D.state device.new).failures ≡ (D.state device.old).failures) }
+    ensures no_failure { OnOk result ((D.state device.new).failures
+        ≡ (D.state device.old).failures) }
 {
     let removed = remove_file(device, memory, number, counts);
     tighten(memory);
