@@ -34,7 +34,8 @@ use Rattle.lfs_verify.specs.declared.totals.BlockTotals.{BlockTotals}
 use Rattle.lfs_verify.specs.Loading.{HasTables, IsLoaded, IsUsageUpTo, SaysUsage, IsMapUpTo, SaysMap, numbers_in}
 use Rattle.lfs_verify.specs.Take.{Looks}
 use Rattle.lfs_verify.specs.Verified.{HasLogMap}
-use Rattle.lfs_log.specs.Opening.{CountsOpened, Opens}
+use Rattle.lfs_log.specs.Held.{Held, Holds, IsReady, Mounts}
+use Rattle.lfs_log.specs.Opening.{CountsOpened, IsOpened, Opens}
 use Rattle.lfs_log.specs.Publishing.{AreUntaken}
 use Rattle.lfs_memory.proofs.Opened.{closed_segment, closed_chunk, as_chunk}
 
@@ -207,3 +208,41 @@ module _ (d d' : DeviceState) (lawful : IsLawful d') (lawful_first : IsLawful d)
 
 pub has_log_map : (d d' : DeviceState) (t : Tables) → (d'.keeps_model → HasTables d.content t) → HasLogMap d d'
 has_log_map d d' t has keeps = let h = has keeps in (h.log, record { checkpoint = h.checkpoint; newest = h.newest; stands = h.stands })
+
+-- the log that has it is ready
+pub ready : (d : DeviceState) (v : LogMemory) (before : UsageTable) → IsOpened v d.size → length before.segments ≡ length v.usage.segments → IsReady d v before
+ready d v before is saved = record {
+  running = record {
+    memory = is.memory;
+    room = is.room;
+    closed = is.chunk;
+    few = let none : length v.dirty.blocks ≡ 0 = ap length is.dirty in omega (arith, none);
+    wide = is.wide;
+    reserved = is.reserved;
+  };
+  saved = saved;
+}
+
+-- ---- behind a walk, which only read
+module _ {D : Type 0} (state : D → DeviceState) (d d' : D) (looks : Looks (state d) (state d')) where
+  -- what the walk's tables say of the device before it, they say of it after
+  pub tables_behind : (t : Tables) → ((state d').keeps_model → HasTables (state d).content t) → (state d').keeps_model → HasTables (state d').content t
+  tables_behind t has keeps = subst (λ (c : Content). HasTables c t) (sym looks.untouched.content) (has keeps)
+
+  pub only_behind : ((state d').keeps_model → Only (state d).content (state d')) → (state d').keeps_model → Only (state d').content (state d')
+  only_behind durable keeps = subst (λ (c : Content). Only c (state d')) (sym looks.untouched.content) (durable keeps)
+
+module _ {D : Type 0} (state : D → DeviceState) (d d' : D) (looks : Looks (state d) (state d')) (h : Held D) (same : h.device ≡ d') where
+  pub mounts_behind : Mounts state d' h → Mounts state d h
+  mounts_behind mounts =
+      subst (λ (c : Content). (m : LogMap) → (state h.device).keeps_model → (is : StandsLog c m) → Holds state h is.checkpoint m m) looks.untouched.content mounts
+
+  pub counts_behind : CountsOpened (state d') (state h.device) h.totals → CountsOpened (state d) (state h.device) h.totals
+  counts_behind counts =
+      subst (λ (c : Content). (m : LogMap) → (state h.device).keeps_model → StandsLog c m → IsCounted m h.totals.data_blocks h.totals.meta_blocks) looks.untouched.content counts
+
+  pub durable_behind : ((state d').keeps_model → Only (state d).content (state d')) → (state h.device).keeps_model → Only (state d).content (state h.device)
+  durable_behind durable = subst (λ (x : D). (state x).keeps_model → Only (state d).content (state x)) (sym same) durable
+
+  pub log_behind : (t : Tables) → ((state d').keeps_model → HasTables (state d).content t) → HasLogMap (state d) (state h.device)
+  log_behind t has = subst (λ (x : D). HasLogMap (state d) (state x)) (sym same) (has_log_map (state d) (state d') t has)

@@ -5,6 +5,7 @@ ghost use Rattle.lfs_model.specs.Fields.{zeros};
 ghost use Rattle.lfs_model.specs.Members.{AreApart};
 ghost use Rattle.lfs_memory.specs.segments.Table.{clean_in};
 ghost use Rattle.lfs_verify.specs.Faults.{IsOpenFault};
+ghost use Rattle.lfs_verify.specs.Loading.{HasTables, IsLoaded};
 ghost use Rattle.lfs_verify.specs.Verified.{HasLogMap, IsRefusedLog};
 ghost use Rattle.lfs_log.specs.Opening.{CountsOpened};
 ghost use Rattle.lfs_memory.specs.Preparing.{LacksRoom};
@@ -23,7 +24,8 @@ use lfs_memory::present::{locate_block, locate_leaf, read_block, read_header};
 use lfs_memory::segments::Usage;
 use lfs_memory::staging::{has_room, remove_tight, stage_tight};
 use lfs_memory::{Changes, Header, LogFault, LogMemory};
-use lfs_verify::{BlockTotals, MountFault};
+use lfs_verify::verify::verify;
+use lfs_verify::{BlockTotals, MountFault, Tables};
 use std::alloc::Global;
 use std::marker::Model;
 
@@ -94,11 +96,43 @@ impl<D: SectorDevice> Log<D> {
             (λ log. LeavesOnly (D.state device) (D.state log.device) (D.state device).may_leave)
             (λ e. LeavesOnly (D.state device) (D.state e.1) (D.state device).may_leave) }
     {
+        let mut device = device;
+        let tables = match verify(alloc, &mut device) {
+            Ok(tables) => tables,
+            Err(fault) => return Err((fault, device)),
+        };
+        match Log::with_tables(alloc, device, tables) {
+            Ok(log) => Ok(log),
+            Err(fault) => Err(fault),
+        }
+    }
+
+    /// The volume whose tables a walk over the device found, with the totals of its files. It takes the memory that later calls need,
+    /// and calls the device for nothing.
+    ///
+    /// # Errors
+    ///
+    /// `NoMemory` where memory is refused, with the device.
+    pub fn with_tables(alloc: Global, device: D, tables: Tables) -> Result<Log<D>, (MountFault, D)>
+        requires loaded { IsLoaded tables (D.state device).size }
+        requires found { (D.state device).keeps_model
+            → HasTables (D.state device).content tables }
+        requires durable { (D.state device).keeps_model
+            → Only (D.state device).content (D.state device) }
+        ensures holds { IfOk result (λ log. Mounts D.SectorDevice.state device log) }
+        ensures counts { IfOk result (λ log. CountsOpened (D.state device) (D.state log.device) log.totals) }
+        ensures empty { IfOk result (λ log. log.memory.dirty.blocks ≡ []) }
+        ensures untaken { IfOk result (λ log. (D.state log.device).keeps_model
+            → AreUntaken log.memory.usage) }
+        ensures many { IfOk result (λ log. (D.state log.device).keeps_model
+            → length log.memory.usage.segments ≤ 8 * clean_in log.memory.usage.segments) }
+        ensures refused { IfErr result (λ e. e.0 ≡ MountFault.NoMemory) }
+        ensures same { MatchResult result (λ log. log.device ≡ device) (λ e. e.1 ≡ device) }
+    {
         let Ok(counts) = SegmentCounts::new(alloc) else {
             return Err((MountFault::NoMemory, device));
         };
-        let mut device = device;
-        match open_memory(alloc, &mut device) {
+        match open_memory(alloc, tables) {
             Ok(opened) => Ok(Log {
                 device,
                 memory: opened.memory,
@@ -108,7 +142,7 @@ impl<D: SectorDevice> Log<D> {
                 counts,
                 before: opened.before,
             }),
-            Err(fault) => Err((fault, device)),
+            Err(_) => Err((MountFault::NoMemory, device)),
         }
     }
 

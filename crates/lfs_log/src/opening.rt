@@ -1,22 +1,15 @@
 //! What a mount takes into memory: the tables that a walk over the volume leads to.
-ghost use Rattle.std.specs.Prelude.{[], ◌≡◌, ◌<◌, ◌≤◌, ◌+◌, ◌*◌, ◌/◌, length, OnOk, IfOk, IfErr};
+ghost use Rattle.std.specs.Prelude.{◌≡◌, ◌≤◌, ◌+◌, ◌*◌, ◌/◌, ℕ, length, IfOk};
 ghost use Rattle.lfs_model.specs.Checkpoint.{IsSegmentCount};
-ghost use Rattle.lfs_model.specs.Device.{Only};
-ghost use Rattle.lfs_verify.specs.Faults.{IsOpenFault};
-ghost use Rattle.lfs_verify.specs.Take.{Looks};
-ghost use Rattle.lfs_verify.specs.Verified.{HasLogMap, IsRefusedLog};
-ghost use Rattle.lfs_memory.specs.segments.Table.{clean_in};
-ghost use Rattle.lfs_log.specs.Opening.{CountsOpened, IsOpened, Opens};
-ghost use Rattle.lfs_log.specs.Publishing.{AreUntaken};
+ghost use Rattle.lfs_verify.specs.Loading.{IsLoaded};
+ghost use Rattle.lfs_log.specs.Opening.{IsOpened};
 
 use crate::cleaning::SavedTables;
-use lfs_device::SectorDevice;
 use lfs_memory::LogMemory;
 use lfs_memory::inodes::DirtyTable;
 use lfs_memory::segments::ChunkWriter;
-use lfs_verify::verify::verify;
-use lfs_verify::{BlockTotals, MountFault};
-use std::alloc::Global;
+use lfs_verify::{BlockTotals, Tables};
+use std::alloc::{AllocError, Global};
 
 /// How many blocks of files may be in memory: with all blocks of the tables, eight chunks of them.
 pub const MOST_DIRTY: u32 = 456;
@@ -46,39 +39,25 @@ pub struct OpenedLog {
     pub before: SavedTables,
 }
 
-/// The memory of the volume that a device holds, the number of its newest checkpoint, and how many blocks its files have. It writes
-/// nothing, and all that the device holds is durable after `Ok`.
+/// The memory of a log, made of the tables that a walk over its device found.
 ///
 /// # Errors
 ///
-/// `NoMemory` where memory is refused, `Device` where a call of the device failed; else the device holds no log map.
-pub fn open_memory<D: SectorDevice>(alloc: Global, device: &mut D) -> Result<OpenedLog, MountFault>
-    ensures opened { IfOk result (λ r. IsOpened r.memory (D.state device.new).size) }
+/// Where memory is refused.
+pub fn open_memory(alloc: Global, tables: Tables) -> Result<OpenedLog, AllocError>
+    requires count { IsSegmentCount tables.segments }
+    requires whole { length tables.usage.segments ≡ tables.segments }
+    ensures opened { IfOk result (λ r. (size : ℕ) → IsLoaded tables size
+        → IsOpened r.memory size) }
     ensures saved { IfOk result (λ r. length r.before.usage.segments ≡ length r.memory.usage.segments) }
-    ensures log { IfOk result (λ r. Opens (D.state device.old) (D.state device.new) r.memory r.number) }
-    ensures untaken { IfOk result (λ r. (D.state device.new).keeps_model
-        → AreUntaken r.memory.usage) }
-    ensures many { IfOk result (λ r. (D.state device.new).keeps_model
-        → length r.memory.usage.segments ≤ 8 * clean_in r.memory.usage.segments) }
-    ensures counts { IfOk result (λ r. CountsOpened (D.state device.old) (D.state device.new) r.totals) }
-    ensures found { OnOk result (HasLogMap (D.state device.old) (D.state device.new)) }
-    ensures durable { OnOk result ((D.state device.new).keeps_model → Only (D.state device.old).content (D.state device.new)) }
-    ensures reason { IfErr result (IsRefusedLog (D.state device.old) (D.state device.new)) }
-    ensures cause { IfErr result (λ fault. (fault ≡ MountFault.NoMemory → ⊥)
-        → IsOpenFault (D.state device.old) (D.state device.new) fault) }
-    ensures no_failure { OnOk result ((D.state device.new).failures ≡ (D.state device.old).failures) }
-    ensures looks { Looks (D.state device.old) (D.state device.new) }
+    ensures map { IfOk result (λ r. r.memory.map ≡ tables.map) }
+    ensures usage { IfOk result (λ r. r.memory.usage ≡ tables.usage) }
+    ensures number { IfOk result (λ r. r.number ≡ tables.number) }
+    ensures data_blocks { IfOk result (λ r. r.totals.data_blocks ≡ tables.data_blocks) }
+    ensures meta_blocks { IfOk result (λ r. r.totals.meta_blocks ≡ tables.meta_blocks) }
 {
-    let tables = match verify(alloc, device) {
-        Ok(tables) => tables,
-        Err(fault) => return Err(fault),
-    };
-    let Ok(before) = SavedTables::with_segments(alloc, tables.segments) else {
-        return Err(MountFault::NoMemory);
-    };
-    let Ok(dirty) = DirtyTable::new(alloc, most_cleaned(tables.segments), MOST_DIRTY) else {
-        return Err(MountFault::NoMemory);
-    };
+    let before = SavedTables::with_segments(alloc, tables.segments)?;
+    let dirty = DirtyTable::new(alloc, most_cleaned(tables.segments), MOST_DIRTY)?;
     Ok(OpenedLog {
         memory: LogMemory {
             map: tables.map,

@@ -1,10 +1,26 @@
-use Rattle.std.proofs.Common.{false, refl}
-use Rattle.lfs_log.specs.Held.{Held}
+use Rattle.lfs_log.proofs.Opens.{counts_behind, durable_behind, log_behind, mounts_behind, only_behind, tables_behind}
 use Rattle.lfs_log.proofs.log.Log.open.Goals as goal
-use Rattle.lfs_log.proofs.Volumes.{mounts}
 
--- src/log.rt:49:5
-pub returns-in-Ok-open_memory-clause-holds : goal.returns-in-Ok-open_memory-clause-holds
-returns-in-Ok-open_memory-clause-holds g c =
-    let after : Held g.row.D.Denot = record { device = c.open_memory.new.device; memory = c.in-Ok-open_memory.opened.memory; number = c.in-Ok-open_memory.opened.number; halted = false; totals = c.in-Ok-open_memory.opened.totals } in
-    mounts g.D.SectorDevice.state c.args.device after c.in-Ok-open_memory.ensures.log refl
+pub with_tables-requires-clause-found : goal.with_tables-requires-clause-found
+with_tables-requires-clause-found g c =
+    tables_behind g.D.SectorDevice.state c.args.device c.verify.new.device c.in-Ok.ensures.looks c.in-Ok.tables c.in-Ok.ensures.found
+
+pub with_tables-requires-clause-durable : goal.with_tables-requires-clause-durable
+with_tables-requires-clause-durable g c =
+    only_behind g.D.SectorDevice.state c.args.device c.verify.new.device c.in-Ok.ensures.looks c.in-Ok.ensures.durable
+
+pub returns-in-Ok-with_tables-clause-holds : goal.returns-in-Ok-with_tables-clause-holds
+returns-in-Ok-with_tables-clause-holds g c =
+    mounts_behind g.D.SectorDevice.state c.args.device c.verify.new.device c.in-Ok.ensures.looks c.in-Ok-with_tables.log c.in-Ok-with_tables.ensures.same c.in-Ok-with_tables.ensures.holds
+
+pub returns-in-Ok-with_tables-clause-counts : goal.returns-in-Ok-with_tables-clause-counts
+returns-in-Ok-with_tables-clause-counts g c =
+    counts_behind g.D.SectorDevice.state c.args.device c.verify.new.device c.in-Ok.ensures.looks c.in-Ok-with_tables.log c.in-Ok-with_tables.ensures.same c.in-Ok-with_tables.ensures.counts
+
+pub returns-in-Ok-with_tables-clause-found : goal.returns-in-Ok-with_tables-clause-found
+returns-in-Ok-with_tables-clause-found g c =
+    log_behind g.D.SectorDevice.state c.args.device c.verify.new.device c.in-Ok.ensures.looks c.in-Ok-with_tables.log c.in-Ok-with_tables.ensures.same c.in-Ok.tables c.in-Ok.ensures.found
+
+pub returns-in-Ok-with_tables-clause-durable : goal.returns-in-Ok-with_tables-clause-durable
+returns-in-Ok-with_tables-clause-durable g c =
+    durable_behind g.D.SectorDevice.state c.args.device c.verify.new.device c.in-Ok.ensures.looks c.in-Ok-with_tables.log c.in-Ok-with_tables.ensures.same c.in-Ok.ensures.durable
