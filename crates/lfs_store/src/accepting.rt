@@ -2,6 +2,7 @@
 ghost use Rattle.std.specs.Prelude.{◌≡◌, ◌≢◌, ◌<◌, ◌≤◌, ◌+◌, ◌*◌, ◌/◌, true, false, length, IfOk, IfErr, OnOk, OnErr, IsErrOf, ◌⊎◌, MatchResult, IsTrue, IsFalse};
 ghost use Rattle.lfs_model.specs.Device.{Only, IsUntouched, Carries, LeavesOnly};
 ghost use Rattle.lfs_log.specs.segments.Table.{clean_in};
+ghost use Rattle.lfs_log.specs.verify.Loading.{HasTables, IsLoaded};
 ghost use Rattle.lfs_log.specs.verify.Verified.{HasLogMap, IsRefusedLog};
 ghost use Rattle.lfs_store.specs.Accepting.{IsMountRefusal};
 ghost use Rattle.lfs_log.specs.memory.Batch.{IsNoChange, room_for};
@@ -11,6 +12,7 @@ use crate::store::Store;
 use lfs_cleaner::{has_quarter, make_room};
 use lfs_device::SectorDevice;
 use lfs_files::StoreFault;
+use lfs_log::verify::Tables;
 use lfs_log::{Log, LogFault, MountFault};
 use std::alloc::Global;
 
@@ -52,6 +54,46 @@ impl<D: SectorDevice> Store<D> {
             return Err((MountFault::NoMemory, device));
         };
         let log = match Log::open(alloc, device) {
+            Ok(log) => log,
+            Err(fault) => return Err(fault),
+        };
+        let drafted = log.totals();
+        Ok(Store {
+            log,
+            draft,
+            saved: true,
+            drafted,
+        })
+    }
+
+    /// The volume whose tables a walk over the device found, with its totals and an empty draft. It takes the memory that later calls
+    /// need, and calls the device for nothing.
+    ///
+    /// # Errors
+    ///
+    /// `NoMemory` where memory is refused, with the device.
+    pub fn with_tables(
+        alloc: Global,
+        device: D,
+        tables: Tables,
+    ) -> Result<Store<D>, (MountFault, D)>
+        requires loaded { IsLoaded tables (D.state device).size }
+        requires found { (D.state device).keeps_model
+            → HasTables (D.state device).content tables }
+        requires durable { (D.state device).keeps_model
+            → Only (D.state device).content (D.state device) }
+        ensures stores { IfOk result (λ s. MountsStore D.SectorDevice.state device s.log s.saved) }
+        ensures counts { IfOk result (λ s. MountsTotals D.SectorDevice.state device s.log s.log.totals) }
+        ensures drafted { IfOk result (λ s. s.drafted ≡ s.log.totals) }
+        ensures saved { IfOk result (λ s. s.saved ≡ true) }
+        ensures draft { IfOk result (λ s. IsNoChange s.draft.changes) }
+        ensures refused { IfErr result (λ e. e.0 ≡ MountFault.NoMemory) }
+        ensures same { MatchResult result (λ s. s.log.device ≡ device) (λ e. e.1 ≡ device) }
+    {
+        let Ok(draft) = Draft::new(alloc, MOST_HEADERS, MOST_BLOCKS) else {
+            return Err((MountFault::NoMemory, device));
+        };
+        let log = match Log::with_tables(alloc, device, tables) {
             Ok(log) => log,
             Err(fault) => return Err(fault),
         };
