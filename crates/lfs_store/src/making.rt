@@ -1,5 +1,5 @@
 //! Files made in the draft, their links, and files that go.
-ghost use Rattle.std.specs.Prelude.{◌≡◌, ◌≤◌, IfSome, IfNone, IfErr, OnOk, OnErr};
+ghost use Rattle.std.specs.Prelude.{◌≡◌, ◌≤◌, true, IfSome, IfNone, IfErr, OnOk, OnErr, IsErrOf};
 ghost use Rattle.lfs_log.specs.memory.Batch.{IsNoChange};
 ghost use Rattle.lfs_store.specs.Recounting.{CountsMade, CountsRelinked};
 ghost use Rattle.lfs_store.specs.Making.{Makes, SetsLinks, Removes, first_links, first_header};
@@ -174,6 +174,8 @@ impl<D: SectorDevice> Store<D> {
         ensures done { OnOk result (Removes self.new.draft.changes number) }
         ensures counted { OnOk result (Counts D.SectorDevice.state self.old.log self.new.log self.old.draft.changes self.new.draft.changes self.old.drafted self.new.drafted) }
         ensures failed { OnErr result (IsReadFault D.SectorDevice.state self.old.log self.new.log) }
+        ensures halted { IsErrOf result LogFault.Halted → self.old.log.halted ≡ true }
+        ensures other { IsErrOf result LogFault.Full → ⊥ }
     {
         let before = match self.measure(number, 0, BLOCKS) {
             Ok(measure) => measure,
@@ -217,6 +219,8 @@ impl<D: SectorDevice> Store<D> {
         ensures same { OnErr result (self.new.log.totals ≡ self.old.log.totals) }
         ensures same_drafted { OnErr result (self.new.drafted ≡ self.old.drafted) }
         ensures failed { OnErr result (IsReadFault D.SectorDevice.state self.old.log self.new.log) }
+        ensures halted { IsErrOf result LogFault.Halted → self.old.log.halted ≡ true }
+        ensures other { IsErrOf result LogFault.Full → ⊥ }
     {
         let before = match self.measure(number, 0, BLOCKS) {
             Ok(measure) => measure,
