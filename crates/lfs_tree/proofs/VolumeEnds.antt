@@ -40,7 +40,9 @@ module _ (a b d : DeviceState) (one : Looks a b) (two : Looks b d) (t : Tables) 
   refused_by fault.Device keeps is = λ again. (let before = one.carries.failures in omega (arith, is, before))
   refused_by fault.TooSmall keeps is = absurd is
   refused_by fault.NoCheckpoint keeps is = absurd is
-  refused_by (fault.Damaged code) keeps is = λ again. of_tree (subst (λ (x : Content). IsDamagedTree x code) one.untouched.content is)
+  refused_by (fault.Damaged code) keeps is = λ again.
+      let has = found (two.carries.kept_before keeps) in
+      of_tree has.log record { checkpoint = has.checkpoint; newest = has.newest; stands = has.stands } (subst (λ (x : Content). IsDamagedTree x code) one.untouched.content is)
 
   pub refused_behind : (f : MountFault) → (d.keeps_model → HasTables b.content t → IsRefusedTree b d f) → IsRefusedVolume a d f
   refused_behind fault.NoMemory told = tt
@@ -64,12 +66,14 @@ undamaged c code damage s is =
     not_damaged (view c is.checkpoint) is.stands.stages
     (subst (IsTree is.checkpoint.segments) (same_log c is.checkpoint is.log is.stands) is.tree.tree) code here
 
-pub fault_of_volume : (old new : DeviceState) → IsLawful old → (f : MountFault) → IsRefusedVolume old new f → (f ≡ fault.NoMemory → ⊥) → IsTreeFault old new
-fault_of_volume old new lawful fault.NoMemory is other s keeps stands = absurd (other refl)
-fault_of_volume old new lawful fault.Device is other s keeps stands = is keeps
-fault_of_volume old new lawful fault.TooSmall is other s keeps stands = absurd (open_fault old new lawful fault.TooSmall is other stands.log keeps (log_of old.content s stands))
-fault_of_volume old new lawful fault.NoCheckpoint is other s keeps stands = absurd (open_fault old new lawful fault.NoCheckpoint is other stands.log keeps (log_of old.content s stands))
-fault_of_volume old new lawful (fault.Damaged code) is other s keeps stands = elim (is keeps) [
-  | of_log damage ↦ absurd (open_fault old new lawful (fault.Damaged code) (λ again. damage) other stands.log keeps (log_of old.content s stands))
-  | of_tree damage ↦ absurd (undamaged old.content code damage.2 s stands)
+pub fault_of_volume : (old new : DeviceState) → IsLawful old → (f : MountFault) → IsRefusedVolume old new f → (f ≡ fault.NoMemory → ⊥) → IsTreeFault old new f
+fault_of_volume old new lawful fault.NoMemory is other = absurd (other refl)
+fault_of_volume old new lawful fault.Device is other = λ s keeps stands. is keeps
+fault_of_volume old new lawful fault.TooSmall is other = λ s keeps stands.
+    open_fault old new lawful fault.TooSmall is other stands.log keeps (log_of old.content s stands)
+fault_of_volume old new lawful fault.NoCheckpoint is other = λ s keeps stands.
+    open_fault old new lawful fault.NoCheckpoint is other stands.log keeps (log_of old.content s stands)
+fault_of_volume old new lawful (fault.Damaged code) is other = λ s keeps stands. elim (is keeps) [
+  | of_log damage ↦ open_fault old new lawful (fault.Damaged code) (λ again. damage) other stands.log keeps (log_of old.content s stands)
+  | of_tree m has damage ↦ undamaged old.content code damage.2 s stands
 ]

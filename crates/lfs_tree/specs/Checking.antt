@@ -5,7 +5,7 @@ use Rattle.lfs_model.specs.Checkpoint.{CheckpointValue}
 use Rattle.lfs_model.specs.Content.{Content}
 use Rattle.lfs_model.specs.Decodes.{IsSized}
 use Rattle.lfs_model.specs.Device.{DeviceState}
-use Rattle.lfs_model.specs.Stands.{LogMap, StandsAt}
+use Rattle.lfs_model.specs.Stands.{LogMap, StandsAt, StandsLog}
 use Rattle.lfs_model.specs.Totals.{IsCounted}
 use Rattle.lfs_model.specs.Tree.{State}
 use Rattle.lfs_model.specs.TreeOf.{AreLinks, AreReached, AreSlots, AreTexts, HasRoom, Stands, TreeOf, tree_in}
@@ -14,6 +14,7 @@ use Rattle.lfs_files.specs.declared.header.Header.{Header}
 use Rattle.lfs_verify.specs.declared.fault.MountFault.{MountFault}
 use Rattle.lfs_verify.specs.declared.fault.MountFault.TheVariants.{NoMemory, Device, TooSmall, NoCheckpoint, Damaged}
 use Rattle.lfs_verify.specs.declared.tables.Tables.{Tables}
+use Rattle.lfs_verify.specs.Faults.{IsFault}
 use Rattle.lfs_verify.specs.Loading.{HasTables}
 use Rattle.lfs_verify.specs.Verified.{IsDamagedIn, IsLogDamage}
 use Rattle.lfs_tree.specs.declared.tables.NameTables.{NameTables}
@@ -72,10 +73,11 @@ pub record HasTree (c : Content) (t : Tables) : Type 0 where
   pub tables : HasTables c t
   pub tree : TreeOf tables.checkpoint.segments tables.log (tree_in tables.log)
 
--- What a code of damage says of a volume: the first of the stages 1 to 14 that fails, or, where the stages 1 to 9 hold, that too few segments are clean.
+-- What a code of damage says of a volume: the first stage that fails, where the stages are gone through in this order: 1 to 9, then 15, and then,
+-- of a content that stands for a log map, 10 to 14.
 pub data IsVolumeDamage (c : Content) (code : ℕ) : Type 0 where
   of_log : IsLogDamage c code → IsVolumeDamage c code
-  of_tree : IsDamagedTree c code → IsVolumeDamage c code
+  of_tree : (m : LogMap) → StandsLog c m → IsDamagedTree c code → IsVolumeDamage c code
 
 -- why a volume is refused, by fault: a call of the device failed, or this is so of the content that was there
 abbrev pub IsRefusedVolume : DeviceState → DeviceState → MountFault → Type 0
@@ -85,6 +87,10 @@ IsRefusedVolume old new TooSmall = new.keeps_model → IsTooSmall old.content
 IsRefusedVolume old new NoCheckpoint = new.keeps_model → IsWithoutCheckpoint old.content
 IsRefusedVolume old new (Damaged code) = new.keeps_model → IsVolumeDamage old.content code
 
--- where the content stands for a tree, a call of the device failed
-abbrev pub IsTreeFault : DeviceState → DeviceState → Type 0
-IsTreeFault old new = (s : State) → new.keeps_model → Stands old.content s → old.failures < new.failures
+-- the content stands for no tree
+abbrev pub LacksTree : DeviceState → DeviceState → Type 0
+LacksTree old new = (s : State) → new.keeps_model → Stands old.content s → ⊥
+
+-- A fault that isn't of memory. Where the content stands for a tree it is Device, and a call of the device failed.
+abbrev pub IsTreeFault : DeviceState → DeviceState → MountFault → Type 0
+IsTreeFault old new = IsFault ((s : State) → new.keeps_model → Stands old.content s → old.failures < new.failures) (LacksTree old new)

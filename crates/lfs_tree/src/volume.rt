@@ -17,7 +17,7 @@ use std::alloc::Global;
 /// # Errors
 ///
 /// `NoMemory` where memory is refused, `Device` where a call of the device failed; else the device holds no volume: it is too small, holds no
-/// checkpoint, or the first stage that fails is named, one of the stages 1 to 9, 15 where too few segments are clean, or one of 10 to 14.
+/// checkpoint, or the first stage that fails is named: of the stages 1 to 9, then 15, where too few segments are clean, then 10 to 14.
 pub fn verify_tree<D: SectorDevice>(alloc: Global, device: &mut D) -> Result<Tables, MountFault>
     ensures loaded { IfOk result (λ t. IsLoaded t (D.state device.new).size) }
     ensures found { IfOk result (λ t. (D.state device.new).keeps_model
@@ -26,7 +26,7 @@ pub fn verify_tree<D: SectorDevice>(alloc: Global, device: &mut D) -> Result<Tab
         → Only (D.state device.old).content (D.state device.new)) }
     ensures reason { IfErr result (IsRefusedVolume (D.state device.old) (D.state device.new)) }
     ensures cause { IfErr result (λ e. (e ≡ MountFault.NoMemory → ⊥)
-        → IsTreeFault (D.state device.old) (D.state device.new)) }
+        → IsTreeFault (D.state device.old) (D.state device.new) e) }
     ensures looks { Looks (D.state device.old) (D.state device.new) }
 {
     let tables = match verify(alloc, device) {
