@@ -2,7 +2,7 @@
 use Rattle.std.proofs.Common.{◌≡◌, ◌<◌, ◌≤◌, ◌*◌, ℕ, Bool, true, false, not, ◌&&◌, ◌||◌, List, [], ◌∷◌, refl, ◌∙◌, ap, nat_lt, nat_le}
 use Rattle.std.specs.Ordering.{nat_cmp}
 use Rattle.std.specs.FinMap.{put}
-use Rattle.lfs_model.specs.Call.{Open, Create, StatOf, Sync, Space, ListTree, Answer, Refuse, Handle, Status, Done, Rows}
+use Rattle.lfs_model.specs.Call.{Open, Create, StatOf, Clean, Sync, Space, ListTree, Answer, Refuse, Handle, Status, Done, Rows}
 use Rattle.lfs_model.specs.Need.{need}
 use Rattle.lfs_model.specs.PathText.{slash}
 use Rattle.lfs_model.specs.Refusal.{Refusal, IsDir, TooManyOpen, Exist, NameTooLong, NoEntry, DirFull, NoNumber, NoSpace}
@@ -14,6 +14,9 @@ use Rattle.lfs_fs.proofs.Checks.{refuses, passes, below, not_below, at_most, not
 -- ---- calls without arguments
 pub sync_done : (N : ℕ) (s : State) → Step N s Sync Done s
 sync_done N s = record { first_end = At 1; second_end = At 1; first = refl; second = refl; answer = refl; state = refl }
+
+pub clean_done : (N : ℕ) (s : State) → Step N s Clean Done s
+clean_done N s = record { first_end = At 1; second_end = At 1; first = refl; second = refl; answer = refl; state = refl }
 
 pub space_done : (N : ℕ) (s : State) → Step N s Space (room N s.tree) s
 space_done N s = record { first_end = At 1; second_end = At 1; first = refl; second = refl; answer = refl; state = refl }
