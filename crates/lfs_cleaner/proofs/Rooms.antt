@@ -1,5 +1,5 @@
 -- Commits and passes, one after the other: the log map stays, and what a stop leaves is the one or the other.
-use Rattle.std.proofs.Common.{◌≡◌, ◌≤◌, ◌+◌, inl, inr, ⊎_elim, ℕ, false, List, length, refl, sym, ◌∙◌, subst, arith}
+use Rattle.std.proofs.Common.{◌≡◌, ◌≤◌, ◌+◌, ◌*◌, inl, inr, ⊎_elim, ℕ, false, List, [], length, refl, sym, ◌∙◌, subst, arith}
 use Rattle.std.specs.Prelude.{◌⊎◌}
 use Rattle.lfs_model.specs.Checkpoint.{CheckpointValue}
 use Rattle.lfs_model.specs.Content.{Content}
@@ -11,13 +11,15 @@ use Rattle.lfs_model.specs.TreeOf.{dropped}
 use Rattle.lfs_model.proofs.Moments.{carries_none, carries_then, started, joined, weaker}
 use Rattle.lfs_model.proofs.Settled.{settled_stands}
 use Rattle.lfs_log.specs.memory.declared.memory.LogMemory.{LogMemory}
+use Rattle.lfs_log.specs.memory.segments.Table.{clean_in}
 use Rattle.lfs_log.specs.memory.Memory.{IsLog}
 use Rattle.lfs_log.proofs.of_memory.Looses.{loose, tight_again}
 use Rattle.lfs_log.proofs.of_memory.Presents.{looks_quiet, still_log}
 use Rattle.lfs_log.proofs.Volumes.{same_segments}
 use Rattle.lfs_log.specs.Cleaning.{Cleans}
 use Rattle.lfs_log.specs.Held.{Held, Halts, Holds, IsReadFault, IsSaved, LeavesSaved, Reads, Saves}
-use Rattle.lfs_cleaner.specs.Room.{HaltsLater, HoldsOver, IsRoomFault, KeepsMap, Repeats, SavesAll}
+use Rattle.lfs_log.specs.Publishing.{AreUntaken}
+use Rattle.lfs_cleaner.specs.Room.{HaltsLater, HoldsOver, IsAtRest, IsRoomFault, KeepsMap, Repeats, SavesAll}
 
 module _ {D : Type 0} (state : D → DeviceState) where
   -- ---- one step
@@ -33,6 +35,7 @@ module _ {D : Type 0} (state : D → DeviceState) where
     number = omega arith;
     segments = refl;
     totals = refl;
+    rest = λ rest. rest;
     holds = λ k m0 m keeps is map. record { checkpoint = k; acknowledged = m0; either = inl refl; segments = refl; holds = is };
     moment = λ k m0 m keeps is map. started (state h.device) (IsSaved state k.segments m0 m) lawful (λ c left. inl (acknowledged h k m0 m is c left));
   }
@@ -46,6 +49,21 @@ module _ {D : Type 0} (state : D → DeviceState) where
     running = reads.halted ∙ is.running;
   }
 
+  -- memory is as it was
+  pub rest_reads : (a b : Held D) → Reads state a b → IsAtRest a → IsAtRest b
+  rest_reads a b reads rest = record {
+    nothing = subst (λ (v : LogMemory). v.dirty.blocks ≡ []) (sym reads.memory) rest.nothing;
+    untaken = subst (λ (v : LogMemory). AreUntaken v.usage) (sym reads.memory) rest.untaken;
+    many = subst (λ (v : LogMemory). length v.usage.segments ≤ 8 * clean_in v.usage.segments) (sym reads.memory) rest.many;
+  }
+
+  -- after a commit, and after a pass
+  pub rest_saves : (h h' : Held D) → Saves state h h' → IsAtRest h'
+  rest_saves h h' s = record { nothing = s.empty; untaken = s.untaken; many = s.many }
+
+  pub rest_cleans : (h h' : Held D) (vs : List ℕ) → Cleans state h h' vs → IsAtRest h'
+  rest_cleans h h' vs s = record { nothing = s.empty; untaken = s.untaken; many = s.many }
+
   pub keeps_reads : (a b : Held D) → IsLawful (state a.device) → a.halted ≡ false → Reads state a b → KeepsMap state a b 0
   keeps_reads a b lawful running reads = record {
     carries = reads.looks.carries;
@@ -54,6 +72,7 @@ module _ {D : Type 0} (state : D → DeviceState) where
     number = (let same = reads.number in omega (arith, same));
     segments = subst (λ (v : LogMemory). length v.usage.segments ≡ length a.memory.usage.segments) (sym reads.memory) refl;
     totals = reads.totals;
+    rest = λ rest. rest_reads a b reads rest;
     holds = λ k m0 m keeps is map. record { checkpoint = k; acknowledged = m0; either = inl refl; segments = refl; holds = held_still a b k m0 m reads is };
     moment = λ k m0 m keeps is map.
         weaker (state a.device) (state b.device) (λ c. StandsOn k.segments c m0) (IsSaved state k.segments m0 m) (λ c there. inl there)
@@ -86,6 +105,7 @@ module _ {D : Type 0} (state : D → DeviceState) where
     number = (let n = s.number in omega (arith, n));
     segments = s.segments;
     totals = totals;
+    rest = λ rest. rest_saves h h' s;
     holds = saved_over h h' s.segments (saves_all h h' s);
     moment = s.moment;
   }
@@ -98,6 +118,7 @@ module _ {D : Type 0} (state : D → DeviceState) where
     number = (let n = s.number in omega (arith, n));
     segments = s.segments;
     totals = totals;
+    rest = λ rest. rest_cleans h h' vs s;
     holds = saved_over h h' s.segments (cleans_all h h' vs s);
     moment = s.moment;
   }
@@ -110,6 +131,7 @@ module _ {D : Type 0} (state : D → DeviceState) where
     number = (let n = one.number in omega (arith, n, le));
     segments = one.segments;
     totals = one.totals;
+    rest = one.rest;
     holds = one.holds;
     moment = one.moment;
   }
@@ -157,6 +179,7 @@ module _ {D : Type 0} (state : D → DeviceState) where
       number = (let n = one.number in let n' = two.number in omega (arith, n, n'));
       segments = two.segments ∙ one.segments;
       totals = two.totals ∙ one.totals;
+      rest = λ rest. two.rest (one.rest rest);
       holds = λ k m0 m keeps is map.
           let over = one.holds k m0 m (two.carries.kept_before keeps) is map in
           over_then a b k m0 m over c (two.holds over.checkpoint over.acknowledged m keeps over.holds map);

@@ -19,6 +19,13 @@ IsWithin h =
 abbrev pub HasQuarter : {D : Type 0} → Held D → Type 0
 HasQuarter h = length h.memory.usage.segments ≤ 4 * clean_in h.memory.usage.segments
 
+-- What holds where all is saved, after a mount, a commit or a pass. No block of a file is in memory, no
+-- segment counts as taken, and an eighth of the segments is clean at least.
+pub record IsAtRest {D : Type 0} (h : Held D) : Type 0 where
+  pub nothing : h.memory.dirty.blocks ≡ []
+  pub untaken : AreUntaken h.memory.usage
+  pub many : length h.memory.usage.segments ≤ 8 * clean_in h.memory.usage.segments
+
 -- how many checkpoints are written at most: one where anything is unsaved, and one for each pass
 abbrev pub most_checkpoints : {D : Type 0} → Held D → ℕ
 most_checkpoints h = length h.memory.usage.segments / 8 + min 1 (length h.memory.dirty.blocks)
@@ -41,6 +48,7 @@ module _ {D : Type 0} (state : D → DeviceState) where
     pub number : h'.number ≤ h.number + most
     pub segments : length h'.memory.usage.segments ≡ length h.memory.usage.segments
     pub totals : h'.totals ≡ h.totals
+    pub rest : IsAtRest h → IsAtRest h'
     pub holds : (k : CheckpointValue) (m0 m : LogMap) → (state h'.device).keeps_model
         → Holds state h k m0 m → IsLogMap (dropped m)
         → HoldsOver k.segments m0 m h'

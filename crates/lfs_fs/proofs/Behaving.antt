@@ -4,12 +4,12 @@ use Rattle.std.specs.Prelude.{IsTrue}
 use Rattle.lfs_model.specs.Call.{Answer, Call, Refuse, changes, cleans, commits, is_ok}
 use Rattle.lfs_model.specs.Device.{DeviceState}
 use Rattle.lfs_model.specs.Refusal.{Refusal, Halted, Stuck}
-use Rattle.lfs_store.specs.log.Held.{IsFull, Reads}
+use Rattle.lfs_store.specs.log.Held.{Reads}
 use Rattle.lfs_fs.specs.Volume.{Behaves, IsStill, Mounted, changes_handles, may_write}
 
 -- ---- answers and calls
 
--- the answer isn't Halted or Stuck, whose cause is in the log
+-- the answer isn't Halted, whose cause is in the log, nor Stuck, which never comes
 abbrev pub IsOrdinary : Answer → Type 0
 IsOrdinary (Refuse Halted) = ⊥
 IsOrdinary (Refuse Stuck) = ⊥
@@ -59,14 +59,14 @@ module _ {D : Type 0} (state : D → DeviceState) where
     }
 
     -- a call that may write, and leaves the open files
-    pub write_behaves : IsTrue (may_write call) → new.table ≡ old.table → (a ≡ Refuse Stuck → IsFull new.log) → Behaves state old new call a
-    write_behaves may table full = record {
+    pub write_behaves : IsTrue (may_write call) → new.table ≡ old.table → (a ≡ Refuse Stuck → ⊥) → Behaves state old new call a
+    write_behaves may table none = record {
       refused = λ r e. table;
       handles = λ e. table;
       first_halted = λ e. inr may;
       quiet = λ e. absurd (not_both (may_write call) may e);
       number = λ e. absurd (not_both (may_write call) may e);
-      stuck = full;
+      stuck = none;
     }
 
     -- a call that opens or closes a file

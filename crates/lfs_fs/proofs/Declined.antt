@@ -5,13 +5,12 @@ use Rattle.std.specs.Ordering.{nat_cmp}
 use Rattle.std.specs.FinMap.{find}
 use Rattle.lfs_model.specs.Call.{Call, Done, Refuse, Sync, changes, commits, takes_no_memory}
 use Rattle.lfs_model.specs.Device.{DeviceState, IsLawful}
-use Rattle.lfs_model.specs.Refusal.{Device, NoMemory, Stuck}
+use Rattle.lfs_model.specs.Refusal.{Device, NoMemory}
 use Rattle.lfs_model.specs.Stands.{LogMap}
 use Rattle.lfs_store.specs.memory.declared.changes.Changes.{Changes}
 use Rattle.lfs_files.specs.declared.header.Header.{Header}
 use Rattle.lfs_store.specs.memory.Batch.{staged, FitsBatch}
 use Rattle.lfs_store.specs.memory.Present.{as_header}
-use Rattle.lfs_store.specs.log.Held.{IsFull}
 use Rattle.lfs_store.specs.Accepting.{Commits, Declines, IsAcceptFault}
 use Rattle.lfs_store.specs.Writing.{SizesFile, WritesFile, resized}
 use Rattle.lfs_fs.specs.Handles.{handles_of}
@@ -47,12 +46,6 @@ module _ {D : Type 0} (state : D → DeviceState) (old new : Mounted D) (lawful 
 
 module _ {D : Type 0} (state : D → DeviceState) (old new : Mounted D) (call : Call) (lawful : IsLawful (state old.log.device)) (after : IsLawful (state new.log.device)) (was : old.log.halted ≡ false)
     (later : old.log.number ≤ new.log.number) (c : Changes) (rest : IsRest state old new) (declines : Declines state old.log old.saved new.log new.saved c) (low : old.log.number < 2 ^ 62) (fits : InEach state old (λ m s. FitsBatch m c)) where
-  -- too few segments are clean
-  pub stuck_serves : changes call ≡ true → IsFull new.log → Serves state old new call (Refuse Stuck)
-  stuck_serves change full = declines_by state old new call lawful after declines.carries declines.segments was later c rest declines low Stuck (λ e. cc)
-      (write_behaves state old new call (Refuse Stuck) (change_writes call change) rest.table (λ e. full)) (λ p keeps at k m0 m is.
-      (fits k m0 m p.state (declines.carries.kept_before keeps) is, inr (Stuck, refl, inl change, refl)))
-
   -- memory has no room
   pub no_room_serves : changes call ≡ true → takes_no_memory call ≡ false → Serves state old new call (Refuse NoMemory)
   no_room_serves change takes = declines_by state old new call lawful after declines.carries declines.segments was later c rest declines low NoMemory (λ e. cc)

@@ -29,10 +29,12 @@ mod Turning
 mod Told
 mod Declined
 mod Syncing
+mod RoomFound
 mod WritingEnds
 mod WritingDrafts
 mod WritingExits
 mod SavingEnds
+mod CleanEnds
 mod ReadingEnds
 mod WalkEnds
 mod PathEnds

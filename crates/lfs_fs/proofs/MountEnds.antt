@@ -18,7 +18,7 @@ use Rattle.lfs_store.specs.log.verify.declared.totals.BlockTotals.{BlockTotals}
 use Rattle.lfs_store.specs.Accepting.{IsMountRefusal, MountsStore}
 use Rattle.lfs_store.specs.Recounting.{MountsTotals}
 use Rattle.lfs_store.proofs.Apart.{no_change}
-use Rattle.lfs_store.proofs.LogReads.{held_still}
+use Rattle.lfs_store.proofs.LogReads.{stores_still}
 use Rattle.lfs_fs.specs.declared.fs.Fs.{Fs}
 use Rattle.lfs_fs.specs.Checking.{FindsTree, IsCountedMap, IsFlat, IsTreeFault, LacksTree}
 use Rattle.lfs_fs.specs.Handles.{handles_of}
@@ -39,8 +39,7 @@ module _ {D : Type 0} (state : D → DeviceState) (lawful : (d : D) → IsLawful
     -- the store after the objects were looked at
     mounts_after : MountsStore state d h' saved
     mounts_after m keeps is =
-        let stores = mounts m (reads.looks.carries.kept_before keeps) is in
-        record { holds = held_still state h h' is.checkpoint m m reads stores.holds; nothing_new = stores.nothing_new }
+        stores_still state h h' saved is.checkpoint m m reads (mounts m (reads.looks.carries.kept_before keeps) is)
 
     held_at : (m : LogMap) → (state h'.device).keeps_model → (is : StandsLog (state d).content m) → Holds state h is.checkpoint m m
     held_at m keeps is = (mounts m (reads.looks.carries.kept_before keeps) is).holds

@@ -2,7 +2,7 @@
 use Rattle.std.proofs.Common.{◌≡◌, ◌<◌, ◌≤◌, ℕ, true, false, List, [], ◌∷◌, refl, ◌∙◌, ap, nat_le}
 use Rattle.std.specs.Ordering.{nat_cmp}
 use Rattle.std.specs.FinMap.{put}
-use Rattle.lfs_model.specs.Call.{Open, Create, Mkdir, StatOf, Sync, Space, ListTree, Answer, Refuse, Handle, Status, Done, Rows}
+use Rattle.lfs_model.specs.Call.{Open, Create, Mkdir, StatOf, Clean, Sync, Space, ListTree, Answer, Refuse, Handle, Status, Done, Rows}
 use Rattle.lfs_model.specs.Refusal.{Refusal, IsDir, TooManyOpen}
 use Rattle.lfs_model.specs.Step.{Step, opens, no_handle, stat_of, room, rows_of}
 use Rattle.lfs_model.specs.Tree.{State, node, is_dir, least_handle}
@@ -12,6 +12,9 @@ use Rattle.lfs_fs.proofs.Checks.{refuses, passes, at_most, not_at_most}
 -- ---- calls without arguments
 pub sync_done : (N : ℕ) (s : State) → Step N s Sync Done s
 sync_done N s = record { first_end = At 1; second_end = At 1; first = refl; second = refl; answer = refl; state = refl }
+
+pub clean_done : (N : ℕ) (s : State) → Step N s Clean Done s
+clean_done N s = record { first_end = At 1; second_end = At 1; first = refl; second = refl; answer = refl; state = refl }
 
 pub space_done : (N : ℕ) (s : State) → Step N s Space (room N s.tree) s
 space_done N s = record { first_end = At 1; second_end = At 1; first = refl; second = refl; answer = refl; state = refl }

@@ -1,10 +1,11 @@
 -- Lines of a script on a volume, one after the other: a run of the model, and what a stop in it leaves.
-use Rattle.std.proofs.Common.{◌≡◌, ◌⊎◌, ◌<◌, ℕ, zero, suc, List, [], ◌∷◌, ◌++◌, length, map, slice_get, slice_index_or, refl, sym, ◌∙◌, ap, subst, inl, inr, arith}
+use Rattle.std.proofs.Common.{◌≡◌, ◌⊎◌, ◌<◌, ℕ, zero, suc, List, [], ◌∷◌, ◌++◌, length, map, slice_get, slice_index_or, refl, sym, ◌∙◌, ap, subst, inl, inr, ⊎_elim, arith}
 use Rattle.std.specs.List.{Contains}
 use Rattle.std.proofs.lemmas.List.Elements.{Contains-append_left, Contains-append_right}
-use Rattle.lfs_model.specs.Call.{Answer, Call}
+use Rattle.lfs_model.specs.Call.{Answer, Call, Refuse}
 use Rattle.lfs_model.specs.Content.{Content}
 use Rattle.lfs_model.specs.Device.{DeviceState, IsLawful, LeavesOnly}
+use Rattle.lfs_model.specs.Refusal.{Stuck}
 use Rattle.lfs_model.specs.Run.{LineAnswers, LineRun, Point, final}
 use Rattle.lfs_model.specs.Script.{Line, call_of}
 use Rattle.lfs_model.specs.Tree.{State, drop_nameless}
@@ -16,8 +17,8 @@ use Rattle.lfs_model.proofs.Moments.{carries_none, carries_then, joined, weaker}
 use Rattle.lfs_model.proofs.Pendings.{at_final}
 use Rattle.lfs_model.proofs.Volume.{single_state}
 use Rattle.lfs_model.specs.Use.{StandsForSome, left_states}
-use Rattle.lfs_fs.specs.Scripts.{RanAt, RunsLines, ServesLine}
-use Rattle.lfs_fs.specs.Volume.{IsAt, Mounted, segments_of}
+use Rattle.lfs_fs.specs.Scripts.{AreUnstuck, RanAt, RunsLines, ServesLine}
+use Rattle.lfs_fs.specs.Volume.{IsAt, Mounted, Serves, segments_of}
 use Rattle.lfs_fs.proofs.LineSteps.{StepsLine, left_none, line_carries, line_running, line_segments, line_steps}
 
 -- ---- the points of a run
@@ -134,11 +135,23 @@ module _ {D : Type 0} (state : D → DeviceState) (lawful : (d : D) → IsLawful
         pending = leaves_first d p;
       }
 
+  -- a line's answer isn't Stuck
+  line_unstuck : (old new : Mounted D) (line : Line) (answer : Answer) → ServesLine state old new line answer → answer ≡ Refuse Stuck → ⊥
+  line_unstuck old new line answer serves is = ⊎_elim
+      (λ (served : Serves state old new (call_of line) answer). served.behaves.stuck is)
+      (λ refused. absurd (let no = refused.1 in cc))
+      serves
+
+  unstuck_more : (answers : List Answer) (answer : Answer) → AreUnstuck answers → (answer ≡ Refuse Stuck → ⊥) → AreUnstuck (answers ++ answer ∷ [])
+  unstuck_more [] answer all one = (one, tt)
+  unstuck_more (first ∷ answers) answer all one = (all.0, unstuck_more answers answer all.1 one)
+
   -- no line
   pub ran_none : (old : Mounted D) → RunsLines state old old [] []
   ran_none old = record {
     carries = carries_none (state old.log.device);
     segments = λ e. refl;
+    unstuck = tt;
     model = λ p keeps at. none_at old p at;
   }
 
@@ -163,6 +176,7 @@ module _ {D : Type 0} (state : D → DeviceState) (lawful : (d : D) → IsLawful
         let carries = line_carries state lawful mid new line answer serves in record {
           carries = carries_then (state old.log.device) (state mid.log.device) (state new.log.device) runs.carries carries;
           segments = λ now. line_segments state lawful mid new line answer serves now ∙ runs.segments (line_running state lawful mid new line answer serves now);
+          unstuck = unstuck_more answers answer runs.unstuck (line_unstuck mid new line answer serves);
           model = λ p keeps at. (
               let ran = runs.model p (carries.kept_before keeps) at in
               more_at p ran (line_steps state lawful mid new line answer (segments_of old) (final p ran.points) runs.segments keeps ran.at serves));

@@ -19,7 +19,8 @@ use Rattle.lfs_model.proofs.Moments.{carries_none, started, goes_on}
 use Rattle.lfs_store.specs.memory.declared.memory.LogMemory.{LogMemory}
 use Rattle.lfs_store.specs.memory.Present.{Looks}
 use Rattle.lfs_store.specs.segments.Table.{clean_in}
-use Rattle.lfs_store.proofs.LogReads.{held_still}
+use Rattle.lfs_store.specs.Accepting.{Stores}
+use Rattle.lfs_store.proofs.LogReads.{stores_still}
 use Rattle.lfs_fs.specs.Handles.{handles_of}
 use Rattle.lfs_fs.specs.Volume.{IsStill, Mounted, segments_of, IsIn, Runs, IsAt, LeavesSome, ServesAt, Serves}
 use Rattle.lfs_fs.proofs.Behaving.{IsOrdinary, halted_behaves, not_halted, still_behaves}
@@ -41,10 +42,7 @@ module _ {D : Type 0} (state : D → DeviceState) where
 
   pub still_in : (old new : Mounted D) (k : CheckpointValue) (m0 m : LogMap) (s : State) → IsStill state old new → IsIn state old k m0 m s → IsIn state new k m0 m s
   still_in old new k m0 m s still is = record {
-    stores = record {
-      holds = held_still state old.log new.log k m0 m still.reads is.stores.holds;
-      nothing_new = λ e. is.stores.nothing_new (sym still.saved ∙ e);
-    };
+    stores = subst (λ (b : Bool). Stores state new.log b k m0 m) (sym still.saved) (stores_still state old.log new.log old.saved k m0 m still.reads is.stores);
     map = is.map;
     log = subst (λ (n : ℕ). IsLogOf n m s) same is.log;
     version = is.version;

@@ -3,7 +3,7 @@ use Rattle.std.proofs.Common.{◌≡◌, ◌<◌, ◌≤◌, ◌+◌, ◌-◌, �
 use Rattle.lfs_model.specs.Call.{Refuse, Sync}
 use Rattle.lfs_model.specs.Checkpoint.{IsSegmentCount}
 use Rattle.lfs_model.specs.Device.{DeviceState, IsLawful}
-use Rattle.lfs_model.specs.Refusal.{Stuck}
+use Rattle.lfs_model.specs.Refusal.{Device}
 use Rattle.lfs_model.specs.Tree.{State}
 use Rattle.lfs_model.proofs.Moments.{carries_none}
 use Rattle.lfs_model.proofs.Newest.{newest_fits}
@@ -29,12 +29,12 @@ module _ {D : Type 0} (state : D → DeviceState) (v : Mounted D) (lawful : IsLa
       (λ (high : 2 ^ 64 - 1 ≤ v.log.number). omega (arith, low, high, most))
       full
 
-  pub full_serves : Serves state v v Sync (Refuse Stuck)
+  pub full_serves : Serves state v v Sync (Refuse Device)
   full_serves = record {
     carries = carries_none (state v.log.device);
     segments = λ e. refl;
     orderly = λ e. absurd (cc);
     halts = λ e. absurd (cc);
-    behaves = write_behaves state v v Sync (Refuse Stuck) refl refl (λ e. full);
+    behaves = write_behaves state v v Sync (Refuse Device) refl refl (λ e. cc);
     model = λ p keeps at. absurd (never_full p.state (at.running was));
   }

@@ -19,14 +19,14 @@ use Rattle.lfs_store.specs.memory.declared.memory.LogMemory.{LogMemory}
 use Rattle.lfs_store.specs.memory.Batch.{FitsBatch, IsNoChange}
 use Rattle.lfs_store.specs.segments.Table.{clean_in}
 use Rattle.lfs_store.specs.cleaner.Room.{HaltsLater}
-use Rattle.lfs_store.specs.log.Held.{Held, Holds, IsFull, IsReadFault, Reads}
+use Rattle.lfs_store.specs.log.Held.{Held, Holds, IsReadFault, Reads}
 use Rattle.lfs_files.specs.declared.fault.StoreFault.{StoreFault}
 use Rattle.lfs_files.specs.declared.fault.StoreFault.TheVariants as store
 use Rattle.lfs_store.specs.declared.store.Store.{Store}
 use Rattle.lfs_store.specs.log.verify.declared.totals.BlockTotals.{BlockTotals}
-use Rattle.lfs_store.specs.Accepting.{Accepts, Declines, HasClean, IsAcceptFault, LeavesEither, SavesFew, Stores, most_written}
+use Rattle.lfs_store.specs.Accepting.{Accepts, CannotMakeRoom, Declines, HasClean, IsAcceptFault, LeavesEither, SavesFew, Stores, most_written}
 use Rattle.lfs_store.proofs.Apart.{draft_empty}
-use Rattle.lfs_store.proofs.LogReads.{fault_more, held_still, reads_more, reads_none}
+use Rattle.lfs_store.proofs.LogReads.{fault_more, held_still, reads_more, reads_none, stores_still}
 use Rattle.lfs_fs.specs.declared.error.FsError.{FsError}
 use Rattle.lfs_fs.specs.declared.error.FsError.TheVariants as error
 use Rattle.lfs_fs.specs.declared.fs.Fs.{Fs}
@@ -39,16 +39,17 @@ use Rattle.lfs_fs.specs.Seen.{LacksHeader, answer_by, seen}
 use Rattle.lfs_fs.specs.Volume.{Behaves, IsIn, IsStill, Mounted, Serves, may_write, segments_of}
 use Rattle.lfs_fs.proofs.Accepted.{InEach}
 use Rattle.lfs_fs.proofs.Behaving.{IsOrdinary, change_writes, not_halted, ok_refuses_none, still_behaves, write_behaves}
-use Rattle.lfs_fs.proofs.Declined.{accept_fault_serves, no_room_serves, stuck_serves}
+use Rattle.lfs_fs.proofs.Declined.{accept_fault_serves, no_room_serves}
 use Rattle.lfs_fs.proofs.Ending.{IsRest, not_acknowledged}
 use Rattle.lfs_fs.proofs.Files.{IsFileOf, opened_file}
-use Rattle.lfs_fs.proofs.Serving.{halts_at, map_dropped, served_still}
+use Rattle.lfs_fs.proofs.RoomFound.{has_room}
+use Rattle.lfs_fs.proofs.Serving.{halts_at, map_dropped, served_still, still_in}
 use Rattle.lfs_fs.proofs.Told.{fault_serves, memory_serves}
 
 -- why a draft isn't staged, by the fault of the store
 pub turned_down : {D : Type 0} (state : D → DeviceState) (old new : Fs D) (fault : StoreFault) (e : FsError) → e ≡ error_of_store fault → old.store.log.halted ≡ false → old.store.log.number < 2 ^ 62 → new.store.log.totals ≡ old.store.log.totals
     → (fault ≡ store.Log log.Full → Declines state old.store.log old.store.saved new.store.log new.store.saved old.store.draft.changes)
-    → (fault ≡ store.Log log.Full → IsFull new.store.log)
+    → (fault ≡ store.Log log.Full → CannotMakeRoom state old.store.log old.store.saved new.store.log)
     → (fault ≡ store.NoMemory → Declines state old.store.log old.store.saved new.store.log new.store.saved old.store.draft.changes)
     → (fault ≡ store.Log log.Device → Declines state old.store.log old.store.saved new.store.log new.store.saved old.store.draft.changes)
     → (fault ≡ store.Log log.Device → IsAcceptFault state old.store.log old.store.saved new.store.log old.store.draft.changes)
@@ -56,9 +57,9 @@ pub turned_down : {D : Type 0} (state : D → DeviceState) (old new : Fs D) (fau
 turned_down state old new store.NoMemory e is was young totals full lacks memory device failed halted =
     subst (TurnsDown state old new) (sym is) record { declines = memory refl; totals = totals; young = young }
 turned_down state old new (store.Log log.Full) e is was young totals full lacks memory device failed halted =
-    subst (TurnsDown state old new) (sym is) (record { declines = full refl; totals = totals; young = young }, lacks refl)
+    subst (TurnsDown state old new) (sym is) (record { declines = full refl; totals = totals; young = young }, inr (lacks refl))
 turned_down state old new (store.Log log.Device) e is was young totals full lacks memory device failed halted =
-    subst (TurnsDown state old new) (sym is) (record { declines = device refl; totals = totals; young = young }, failed refl)
+    subst (TurnsDown state old new) (sym is) (record { declines = device refl; totals = totals; young = young }, inl (failed refl))
 turned_down state old new (store.Log log.Halted) e is was young totals full lacks memory device failed halted = subst (TurnsDown state old new) (sym is) (halted refl (λ no. cc))
 
 module _ {D : Type 0} (state : D → DeviceState) (lawful : (d : D) → IsLawful (state d)) where
@@ -79,14 +80,14 @@ module _ {D : Type 0} (state : D → DeviceState) (lawful : (d : D) → IsLawful
     clean_still : HasClean a → HasClean b
     clean_still = subst (λ (v : LogMemory). length v.usage.segments / 8 + 8 ≤ clean_in v.usage.segments) (sym reads.memory)
 
-    stores_still : (saved : Bool) (k : CheckpointValue) (m0 m : LogMap) → Stores state a saved k m0 m → Stores state b saved k m0 m
-    stores_still saved k m0 m stores = record { holds = held_still state a b k m0 m reads stores.holds; nothing_new = stores.nothing_new }
+    stores_read : (saved : Bool) (k : CheckpointValue) (m0 m : LogMap) → Stores state a saved k m0 m → Stores state b saved k m0 m
+    stores_read saved k m0 m stores = stores_still state a b saved k m0 m reads stores
 
     module _ (h : Held D) where
       leaves_after : (saved : Bool) → LeavesEither state b saved h → LeavesEither state a saved h
       leaves_after saved leaves k m0 m keeps stores log =
           joined (state a.device) (state b.device) (state h.device) (StandsForOn k.segments m0 (dropped m)) (StandsForOn k.segments m0 (dropped m)) (StandsForOn k.segments m0 (dropped m))
-          (quiet_reads k m0 m stores.holds) (leaves k m0 m keeps (stores_still saved k m0 m stores) log) (λ c x. x) (λ c x. x)
+          (quiet_reads k m0 m stores.holds) (leaves k m0 m keeps (stores_read saved k m0 m stores) log) (λ c x. x) (λ c x. x)
 
       saves_after : (saved saved' : Bool) → SavesFew b saved h saved' → SavesFew a saved h saved'
       saves_after saved saved' saves = record {
@@ -103,7 +104,7 @@ module _ {D : Type 0} (state : D → DeviceState) (lawful : (d : D) → IsLawful
         enough = done.enough;
         unsaved = done.unsaved;
         saves = saves_after saved saved' done.saves;
-        stores = λ k m0 m keeps stores. done.stores k m0 m keeps (stores_still saved k m0 m stores);
+        stores = λ k m0 m keeps stores. done.stores k m0 m keeps (stores_read saved k m0 m stores);
         moment = leaves_after saved done.moment;
       }
 
@@ -113,13 +114,13 @@ module _ {D : Type 0} (state : D → DeviceState) (lawful : (d : D) → IsLawful
         halted = done.halted ∙ reads.halted;
         segments = done.segments ∙ same_segments;
         saves = saves_after saved saved' done.saves;
-        stores = λ k m0 m keeps stores. done.stores k m0 m keeps (stores_still saved k m0 m stores);
+        stores = λ k m0 m keeps stores. done.stores k m0 m keeps (stores_read saved k m0 m stores);
         moment = leaves_after saved done.moment;
       }
 
       pub fault_after : (saved : Bool) (c : Changes) → IsAcceptFault state b saved h c → IsAcceptFault state a saved h c
       fault_after saved c fault k m0 m keeps stores fits log =
-          let rose = fault k m0 m keeps (stores_still saved k m0 m stores) fits log in
+          let rose = fault k m0 m keeps (stores_read saved k m0 m stores) fits log in
           let before = reads.looks.carries.failures in
           omega (arith, rose, before)
 
@@ -295,22 +296,23 @@ module _ {D : Type 0} (state : D → DeviceState) (lawful : (d : D) → IsLawful
           (not_halted x ordinary) (still_behaves state v (seen new) call x (still_new same) ordinary)
           (λ keeps. each (subst (λ (x : Mounted D). (state x.log.device).keeps_model) same keeps))
 
-      declined_by : (x : Answer) → (x ≡ Refuse refusal.Halted → ⊥) → (x ≡ Refuse refusal.Stuck → IsFull new.store.log) → (done : IsDeclined state ready new) → InState x → Serves state v (seen new) call x
-      declined_by x other full done each = when_in v (seen new) call was x (declines_old done).carries (declines_old done).segments other
-          (write_behaves state v (seen new) call x (change_writes call change) table_same full) (λ keeps. each (done.declines.carries.kept_before keeps))
+      declined_by : (x : Answer) → (x ≡ Refuse refusal.Halted → ⊥) → (x ≡ Refuse refusal.Stuck → ⊥) → (done : IsDeclined state ready new) → ((state new.store.log.device).keeps_model → InState x) → Serves state v (seen new) call x
+      declined_by x other none done each = when_in v (seen new) call was x (declines_old done).carries (declines_old done).segments other
+          (write_behaves state v (seen new) call x (change_writes call change) table_same none) (λ keeps. each keeps (done.declines.carries.kept_before keeps))
 
       pub by_fault : (e : FsError) → TurnsDown state ready new e → Serves state v (seen new) call (Refuse (refusal_of e))
       by_fault error.NoSpace down = same_by (Refuse refusal.NoSpace) tt down.0 (lacks_ends (still_new down.0) down.1)
       by_fault error.Worn down = same_by (Refuse refusal.Worn) tt down.0 (worn_ends (still_new down.0) (let same = still.reads.number in let high = down.1 in omega (arith, same, high)) down.2)
-      by_fault error.Stuck down = declined_by (Refuse refusal.Stuck) (λ e. cc) (λ e. down.1) down.0 (λ keeps k m0 m s is.
-          stuck_serves state v (seen new) call (lawful v.log.device) (lawful new.store.log.device) was (declines_old down.0).saves.number c (rest_old down.0) (declines_old down.0) (low_old down.0.young)
-          (fits keeps k m0 m s is) change down.1)
-      by_fault error.NoMemory down = declined_by (Refuse refusal.NoMemory) (λ e. cc) (λ e. absurd (cc)) down (λ keeps k m0 m s is.
+      by_fault error.NoMemory down = declined_by (Refuse refusal.NoMemory) (λ e. cc) (λ e. cc) down (λ after keeps k m0 m s is.
           no_room_serves state v (seen new) call (lawful v.log.device) (lawful new.store.log.device) was (declines_old down).saves.number c (rest_old down) (declines_old down) (low_old down.young)
           (fits keeps k m0 m s is) change takes)
-      by_fault error.Device down = declined_by (Refuse refusal.Device) (λ e. cc) (λ e. absurd (cc)) down.0 (λ keeps k m0 m s is.
+      by_fault error.Device down = declined_by (Refuse refusal.Device) (λ e. cc) (λ e. cc) down.0 (λ after keeps k m0 m s is. ⊎_elim
+          (λ (failed : IsAcceptFault state ready.store.log ready.store.saved new.store.log c).
           accept_fault_serves state v (seen new) call (lawful v.log.device) (lawful new.store.log.device) was (declines_old down.0).saves.number c (rest_old down.0) (declines_old down.0) (low_old down.0.young)
-          (fits keeps k m0 m s is) change free (fault_old down.1))
+          (fits keeps k m0 m s is) change free (fault_old failed))
+          (λ (cannot : CannotMakeRoom state ready.store.log ready.store.saved new.store.log).
+          absurd (cannot k m0 m after (has_room state (seen ready) (lawful ready.store.log.device) refl refl down.0.young k m0 m s (still_in state v (seen ready) k m0 m s still is))))
+          down.1)
       by_fault error.Halted down =
           halts_serves v (seen new) call was (change_writes call change) table_same _ (halts_after v.log ready.store.log still.reads new.store.log (most_written ready.store.log ready.store.saved) down)
       by_fault error.NoEntry down = absurd down
@@ -324,6 +326,7 @@ module _ {D : Type 0} (state : D → DeviceState) (lawful : (d : D) → IsLawful
       by_fault error.Perm down = absurd down
       by_fault error.Busy down = absurd down
       by_fault error.BadHandle down = absurd down
+      by_fault error.Stuck down = absurd down
       by_fault error.TooManyOpen down = absurd down
       by_fault error.TooManyLinks down = absurd down
       by_fault error.FileTooBig down = absurd down
@@ -337,5 +340,5 @@ module _ {D : Type 0} (state : D → DeviceState) (lawful : (d : D) → IsLawful
         → (IsStill state v (seen new) → 2 ^ 62 ≤ v.log.number → need_of ready ≤ limit_of ready → InState (Refuse refusal.Worn))
         → {X : Type 0} (r : Result X FsError) → OnOk r (Stages state ready new) → IfErr r (TurnsDown state ready new) → Serves state v (seen new) call (answer_by (λ _. a) r)
     ends_by change free takes ok fits done_ends lacks_ends worn_ends (Ok x) done down = when_in v (seen new) call was a (accepts_old done).carries (accepts_old done).segments (ok_refuses_none a refusal.Halted ok)
-        (write_behaves state v (seen new) call a (change_writes call change) table_same (λ e. absurd (ok_refuses_none a refusal.Stuck ok e))) (λ keeps. done_ends done (done.accepts.carries.kept_before keeps))
+        (write_behaves state v (seen new) call a (change_writes call change) table_same (ok_refuses_none a refusal.Stuck ok)) (λ keeps. done_ends done (done.accepts.carries.kept_before keeps))
     ends_by change free takes ok fits done_ends lacks_ends worn_ends (Err e) done down = by_fault change free takes fits lacks_ends worn_ends e down

@@ -1,9 +1,8 @@
 -- What becomes of a call's draft: it is staged where the volume has the space for it, or it isn't.
-use Rattle.std.specs.Prelude.{◌≡◌, ◌<◌, ◌≤◌, ◌+◌, ◌*◌, ◌^◌, ℕ, length}
+use Rattle.std.specs.Prelude.{◌≡◌, ◌⊎◌, ◌<◌, ◌≤◌, ◌+◌, ◌*◌, ◌^◌, ℕ, length}
 use Rattle.lfs_model.specs.Device.{DeviceState}
 use Rattle.lfs_store.specs.cleaner.Room.{HaltsLater}
-use Rattle.lfs_store.specs.log.Held.{IsFull}
-use Rattle.lfs_store.specs.Accepting.{Accepts, Declines, IsAcceptFault, most_written}
+use Rattle.lfs_store.specs.Accepting.{Accepts, CannotMakeRoom, Declines, IsAcceptFault, most_written}
 use Rattle.lfs_fs.specs.declared.error.FsError.{FsError}
 use Rattle.lfs_fs.specs.declared.error.FsError.TheVariants as error
 use Rattle.lfs_fs.specs.declared.fs.Fs.{Fs}
@@ -30,12 +29,18 @@ module _ {D : Type 0} (state : D → DeviceState) where
     pub totals : new.store.log.totals ≡ old.store.log.totals
     pub young : old.store.log.number < 2 ^ 62
 
+  -- A call of the device failed, or no room could be made, as it can where the device keeps the model.
+  abbrev pub IsFailed : Fs D → Fs D → Type 0
+  IsFailed old new =
+      IsAcceptFault state old.store.log old.store.saved new.store.log old.store.draft.changes
+      ⊎ CannotMakeRoom state old.store.log old.store.saved new.store.log
+
   -- Why it isn't: no other fault comes.
   abbrev pub TurnsDown : Fs D → Fs D → FsError → Type 0
   TurnsDown old new error.NoSpace = (seen new ≡ seen old) × (limit_of old < need_of old)
   TurnsDown old new error.Worn = (seen new ≡ seen old) × (2 ^ 62 ≤ old.store.log.number) × (need_of old ≤ limit_of old)
-  TurnsDown old new error.Stuck = IsDeclined old new × IsFull new.store.log
   TurnsDown old new error.NoMemory = IsDeclined old new
-  TurnsDown old new error.Device = IsDeclined old new × IsAcceptFault state old.store.log old.store.saved new.store.log old.store.draft.changes
-  TurnsDown old new error.Halted = HaltsLater state old.store.log new.store.log (most_written old.store.log old.store.saved)
+  TurnsDown old new error.Device = IsDeclined old new × IsFailed old new
+  TurnsDown old new error.Halted =
+      HaltsLater state old.store.log new.store.log (most_written old.store.log old.store.saved)
   TurnsDown old new _ = ⊥

@@ -1,4 +1,5 @@
--- The errors of a call by the faults of the layers below.
+-- The errors of a call by the faults of the layers below. A volume has room that can be made; where a
+-- store finds none, the device contradicts what it held.
 use Rattle.lfs_files.specs.declared.fault.LogFault.{LogFault}
 use Rattle.lfs_files.specs.declared.fault.LogFault.TheVariants as log
 use Rattle.lfs_files.specs.declared.fault.StoreFault.{StoreFault}
@@ -11,7 +12,7 @@ use Rattle.lfs_fs.specs.declared.error.FsError.TheVariants as error
 abbrev pub error_of_log : LogFault → FsError
 error_of_log log.Device = error.Device
 error_of_log log.Halted = error.Halted
-error_of_log log.Full = error.Stuck
+error_of_log log.Full = error.Device
 
 abbrev pub error_of_store : StoreFault → FsError
 error_of_store store.NoMemory = error.NoMemory

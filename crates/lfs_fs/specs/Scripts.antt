@@ -1,8 +1,9 @@
 -- What the lines of a script do to a volume: a run of the model, and what a stop in it leaves. The language of scripts is an own choice.
 use Rattle.std.specs.Prelude.{◌≡◌, ◌⊎◌, IsTrue, false, List, ◌∷◌, map}
+use Rattle.std.specs.List.{AllByRecursion}
 use Rattle.lfs_model.specs.Call.{Answer, Refuse}
 use Rattle.lfs_model.specs.Device.{DeviceState, Carries, LeavesOnly}
-use Rattle.lfs_model.specs.Refusal.{NoMemory}
+use Rattle.lfs_model.specs.Refusal.{NoMemory, Stuck}
 use Rattle.lfs_model.specs.Run.{LineRun, Point, final, has_word}
 use Rattle.lfs_model.specs.Script.{Line, call_of}
 use Rattle.lfs_model.specs.Tree.{drop_nameless}
@@ -10,6 +11,10 @@ use Rattle.lfs_model.specs.TreeOf.{LeavesOne, LeavesStates}
 use Rattle.lfs_model.specs.Use.{StandsForSome, left_states}
 use Rattle.lfs_model.specs.Volume.{LeavesPrefix}
 use Rattle.lfs_fs.specs.Volume.{IsAt, Mounted, Serves, segments_of}
+
+-- none of the answers is Stuck
+abbrev pub AreUnstuck : List Answer → Type 0
+AreUnstuck = AllByRecursion (λ (a : Answer). a ≡ Refuse Stuck → ⊥)
 
 module _ {D : Type 0} (state : D → DeviceState) where
   -- a line's call; or nothing, where memory for its word was refused
@@ -27,8 +32,9 @@ module _ {D : Type 0} (state : D → DeviceState) where
     pub moments : LeavesOne (state old.log.device) (drop_nameless p.state) → LeavesOnly (state old.log.device) (state new.log.device) (StandsForSome (p ∷ points))
     pub pending : LeavesOne (state old.log.device) (drop_nameless p.state) → LeavesPrefix (state new.log.device) (p ∷ points) (map call_of lines) answers
 
-  -- The same, from any point where the device keeps the model.
+  -- The same, from any point where the device keeps the model. Over any device no call is stuck.
   pub record RunsLines (old new : Mounted D) (lines : List Line) (answers : List Answer) : Type 0 where
     pub carries : Carries (state old.log.device) (state new.log.device)
     pub segments : new.log.halted ≡ false → segments_of new ≡ segments_of old
+    pub unstuck : AreUnstuck answers
     pub model : (p : Point) → (state new.log.device).keeps_model → IsAt state old p → RanAt old new lines answers p

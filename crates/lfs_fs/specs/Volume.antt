@@ -11,7 +11,7 @@ use Rattle.lfs_model.specs.Stands.{LogMap}
 use Rattle.lfs_model.specs.Tree.{Tree, Node, File, Dir, Names, State, node, drop_nameless}
 use Rattle.lfs_model.specs.TreeOf.{IsTree, LeavesOne, LeavesStates, Stands}
 use Rattle.lfs_model.specs.Volume.{IsLogOf}
-use Rattle.lfs_store.specs.log.Held.{Held, IsFull, Reads}
+use Rattle.lfs_store.specs.log.Held.{Held, Reads}
 use Rattle.lfs_store.specs.Accepting.{Stores, HasClean}
 use Rattle.lfs_model.specs.Totals.{IsCounted}
 use Rattle.lfs_fs.specs.Handles.{handles_of}
@@ -95,8 +95,8 @@ module _ {D : Type 0} (state : D → DeviceState) where
     -- a call that may not write leaves the content, what a stop leaves, and the checkpoint's number
     pub quiet : may_write call ≡ false → IsUntouched (state old.log.device) (state new.log.device)
     pub number : may_write call ≡ false → new.log.number ≡ old.log.number
-    -- Stuck comes only where the log is full by its own test: too few segments are clean, or no number is left
-    pub stuck : answer ≡ Refuse Stuck → IsFull new.log
+    -- no call is stuck
+    pub stuck : answer ≡ Refuse Stuck → ⊥
 
   -- A call of a volume at a point: its answer is the model's, or an excused refusal; a stop at any moment leaves what it might have left
   -- before, or the state before or after the call, without files of no name; where the call saves, what is left is the state after it.

@@ -51,7 +51,7 @@ pub enum FsError {
     Device,
     /// A write, a sync or a commit failed: the volume answers this until it is mounted again.
     Halted,
-    /// Too few segments are clean.
+    /// Too few segments are clean: no call answers so, for the cleaner makes room.
     Stuck,
     /// The checkpoint's number is 2^62 or above.
     Worn,
@@ -103,7 +103,8 @@ impl From<LogFault> for FsError {
         match fault {
             LogFault::Device => FsError::Device,
             LogFault::Halted => FsError::Halted,
-            LogFault::Full => FsError::Stuck,
+            // A volume has room always: the device contradicts what it held.
+            LogFault::Full => FsError::Device,
         }
     }
 }

@@ -2,6 +2,7 @@
 #![tactic(auto)]
 
 mod checking;
+mod cleaning;
 mod error;
 mod fs;
 mod handles;

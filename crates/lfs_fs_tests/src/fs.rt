@@ -130,48 +130,44 @@ fn the_other_slot_is_mounted(rt: HostRuntime) -> Result<(), Fail> {
     Ok(())
 }
 
-/// Makes files one after the other, with a sync and a new mount behind each so many of them: how many are made before the
-/// volume is stuck, and its device.
-fn files_made(alloc: Global, segments: u32, count: u16, each: u16) -> Result<(u16, MemDevice), Fail>
+/// Makes files one after the other, with a sync and a new mount behind each so many of them: the device then.
+fn files_made(alloc: Global, segments: u32, count: u16, each: u16) -> Result<MemDevice, Fail>
     requires volume { segments ≤ 1024 }
     requires some { 0 < each }
 {
     let mut fs = mounted(alloc, formatted(alloc, segments)?)?;
     for file in 0..count {
-        if is_stuck(&mut fs, file)? {
-            return Ok((file, device_of(fs)));
-        }
+        make_file(&mut fs, file)?;
         if file % each == each - 1 {
             fs.sync()?;
             fs = mounted(alloc, device_of(fs))?;
         }
     }
     fs.sync()?;
-    Ok((count, device_of(fs)))
+    Ok(device_of(fs))
 }
 
-/// Whether no file is made for want of clean segments.
-fn is_stuck(fs: &mut Fs<MemDevice>, file: u16) -> Result<bool, FsError> {
+/// Makes the file of this number in a series.
+fn make_file(fs: &mut Fs<MemDevice>, file: u16) -> Result<(), FsError> {
     let [low, high] = file.to_le_bytes();
     match fs.create(&[b'a' + high % 4, b'a' + low / 16, b'a' + low % 16]) {
-        Ok(_) => Ok(false),
-        Err(FsError::Stuck) => Ok(true),
+        Ok(_) => Ok(()),
         Err(fault) => Err(fault),
     }
 }
 
 #[test]
-fn segments_run_out_without_a_cleaner(rt: HostRuntime) -> Result<(), Fail> {
-    // Each file's inode stays in a segment of its own, and 16 segments are kept clean.
-    let (files, _) = files_made(rt.alloc(), 64, 60, 1)?;
-    assert_eq!(rt; files, 49);
+fn segments_never_run_out(rt: HostRuntime) -> Result<(), Fail> {
+    // Each file's inode goes to a segment of its own, and there are 64: the cleaner brings them together.
+    let device = files_made(rt.alloc(), 64, 60, 1)?;
+    let steps = [Step::Clean(Ok(())), Step::Count(60)];
+    assert_eq!(rt; first_wrong(rt.alloc(), device, &steps)?, None);
     Ok(())
 }
 
 #[test]
 fn a_directory_of_1024_entries_is_full(rt: HostRuntime) -> Result<(), Fail> {
-    let (files, device) = files_made(rt.alloc(), 176, 1_023, 60)?;
-    assert_eq!(rt; files, 1_023);
+    let device = files_made(rt.alloc(), 176, 1_023, 60)?;
     // 128 blocks of the root, 1,025 inodes and a block of pointers.
     let space = Space {
         data_blocks: 128,

@@ -39,6 +39,7 @@ pub enum Step<'a> {
     Truncate(u32, u64, Result<(), FsError>),
     Stat(&'a [u8], Result<Stat, FsError>),
     Sync(Result<(), FsError>),
+    Clean(Result<(), FsError>),
     Space(Space),
     /// The files of the root.
     Tree(&'a [Row<'a>]),
@@ -121,6 +122,7 @@ fn is_well(fs: &mut Fs<MemDevice>, step: Step) -> bool {
         Step::Truncate(handle, len, want) => fs.truncate(handle, len) == want,
         Step::Stat(path, want) => fs.stat(path) == want,
         Step::Sync(want) => fs.sync() == want,
+        Step::Clean(want) => fs.clean() == want,
         Step::Space(want) => fs.space() == Ok(want),
         Step::Tree(rows) => has_rows(fs, rows),
         Step::Count(count) => has_entries(fs, count),

@@ -63,19 +63,18 @@ fn what_is_not_committed_is_gone(rt: HostRuntime) -> Result<(), Wrong> {
 }
 
 #[test]
-fn too_few_clean_segments_leave_all(rt: HostRuntime) -> Result<(), Wrong> {
+fn too_few_clean_segments_are_made_more(rt: HostRuntime) -> Result<(), Wrong> {
     let steps = [
         Calls(FilesTo(50)),
-        Drafts(File(50, 1)),
-        Accepts(Err(StoreFault::Log(LogFault::Full))),
         Counts(Clean(15)),
-        Counts(Saved(true)),
+        Drafts(File(50, 1)),
+        Accepts(Ok(())),
+        Counts(Saved(false)),
         Counts(Drafted(0)),
-        Sees(Lacks(50)),
-        Sees(HoldsTo(50)),
+        Sees(HoldsTo(51)),
+        Commits(Ok(())),
         On(Stop(Left::Old)),
-        Sees(Holds(49)),
-        Sees(Lacks(50)),
+        Sees(HoldsTo(51)),
     ];
     check(rt.alloc(), &steps)
 }

@@ -18,13 +18,13 @@ use Rattle.lfs_log.proofs.of_memory.Presents.{looks_quiet}
 use Rattle.lfs_log.proofs.Volumes.{same_segments}
 use Rattle.lfs_log.specs.verify.declared.totals.BlockTotals.{BlockTotals}
 use Rattle.lfs_log.specs.Held.{Held, Halts, Holds, IsFull, IsSaved, Saves, Alters, IsStaged, IsRefused, IsStageFault}
-use Rattle.lfs_cleaner.specs.Room.{HaltsLater, HasQuarter, IsRoomFault, KeepsMap, MayNotMakeRoom, most_checkpoints}
+use Rattle.lfs_cleaner.specs.Room.{HaltsLater, HasQuarter, IsAtRest, IsRoomFault, KeepsMap, MayNotMakeRoom, most_checkpoints}
 use Rattle.lfs_cleaner.proofs.RoomBounds.{same_need, segment_count}
-use Rattle.lfs_cleaner.proofs.Rooms.{fault_then, halts_at_once, halts_then, halts_weaker, keeps_none, keeps_saves, keeps_then, keeps_weaker}
+use Rattle.lfs_cleaner.proofs.Rooms.{fault_then, halts_at_once, halts_then, halts_weaker, keeps_none, keeps_saves, keeps_then, keeps_weaker, rest_saves}
 use Rattle.lfs_store.specs.Accepting.{HasClean, Stores, StoresOver, LeavesEither, Commits, Acknowledges, CannotMakeRoom, MakesRoom, Readies, SavesFew, Accepts, Declines, IsAcceptFault, most_written}
 
 -- where anything isn't saved a checkpoint is written
-written_most : (D : Type 0) (h : Held D) (saved : Bool) → most_written h saved ≤ length h.memory.usage.segments / 8 + 1
+pub written_most : (D : Type 0) (h : Held D) (saved : Bool) → most_written h saved ≤ length h.memory.usage.segments / 8 + 1
 written_most D h true = let le : length h.memory.usage.segments / 8 + min 1 (length h.memory.dirty.blocks) ≤ length h.memory.usage.segments / 8 + 1 = omega arith in le
 written_most D h false = let le : length h.memory.usage.segments / 8 + 1 ≤ length h.memory.usage.segments / 8 + 1 = omega arith in le
 
@@ -67,7 +67,7 @@ module _ {D : Type 0} (state : D → DeviceState) where
     segments = s.segments;
     clean = s.clean;
     no_failure = s.no_failure;
-    stores = λ k m0 m keeps is map. (let n = s.holds k m0 m keeps is.holds map in (n.0, record { holds = n.1; nothing_new = λ _. refl }));
+    stores = λ k m0 m keeps is map. (let n = s.holds k m0 m keeps is.holds map in (n.0, record { holds = n.1; nothing_new = λ _. refl; rest = λ _. rest_saves state h h' s }));
     left = λ k m0 m keeps is map. s.left k m0 m keeps is.holds map;
     moment = λ k m0 m keeps is map. s.moment k m0 m keeps is.holds map;
   }
@@ -78,6 +78,7 @@ module _ {D : Type 0} (state : D → DeviceState) where
     keeps = keeps_weaker state h h 0 (most_written h saved) (keeps_none state h lawful running) (omega arith);
     unsaved = λ e. (e, refl);
     all = λ e. inl e;
+    rest = λ e rest. rest e;
   }
 
   pub readies_none : (h : Held D) (saved : Bool) → IsLawful (state h.device) → h.halted ≡ false → Readies state h saved h saved
@@ -97,6 +98,7 @@ module _ {D : Type 0} (state : D → DeviceState) where
           keeps = keeps_weaker state h h' 1 (most_written h false) (keeps_saves state h h' s totals) (omega arith);
           unsaved = λ never. absurd (cc);
           all = λ e. inr s.holds;
+          rest = λ e rest. rest_saves state h h' s;
         };
         spent = (let spent : h'.number + (length h'.memory.usage.segments / 8 + min 1 (length h'.memory.dirty.blocks)) ≤ h.number + (length h.memory.usage.segments / 8 + 1) = omega (arith, none, size, rose) in spent);
         able = λ k m0 m keeps can.
@@ -105,15 +107,12 @@ module _ {D : Type 0} (state : D → DeviceState) where
               next.0,
               dropped m,
               record {
-                stores = record { holds = next.1; nothing_new = λ e. refl };
+                stores = record { holds = next.1; nothing_new = λ e. refl; rest = λ e. rest_saves state h h' s };
                 map = can.map;
                 shown = can.shown;
                 counted = subst (λ (t : BlockTotals). IsCounted m t.data_blocks t.meta_blocks) (sym totals) can.counted;
                 need = same_need state h h' totals size can.need;
-                many = s.many;
                 enough = λ never. absurd (cc);
-                nothing = λ e. s.empty;
-                untaken = λ e. s.untaken;
                 number = (let fits : h'.number + (length h'.memory.usage.segments / 8 + min 1 (length h'.memory.dirty.blocks)) ≤ 2 ^ 64 - 1 = omega (arith, none, size, rose, most) in fits);
               },
             );
@@ -140,6 +139,7 @@ module _ {D : Type 0} (state : D → DeviceState) where
     number = few;
     segments = one.segments;
     totals = one.totals;
+    rest = one.rest;
     holds = one.holds;
     moment = one.moment;
   }
@@ -168,6 +168,7 @@ module _ {D : Type 0} (state : D → DeviceState) where
               (λ (was : kept ≡ true). ⊎_elim (λ (first : saved ≡ true). inl first) (λ (acks : Acknowledges state a b). inr (acks_then a b c _ acks two.keeps)) (ready.room.all was))
               (λ (acks : Acknowledges state b c). inr (acks_before a b c _ ready.room.keeps two.keeps.carries acks))
               (two.all e);
+          rest = λ e rest. two.rest e (λ was. ready.room.rest was rest);
         }
 
     pub halts_after : HaltsLater state b c (most_written b kept) → HaltsLater state a c (most_written a saved)
@@ -184,20 +185,21 @@ module _ {D : Type 0} (state : D → DeviceState) where
 
   -- passes where all is saved
   pub room_cleaned : (b c : Held D) → KeepsMap state b c (most_checkpoints b) → MakesRoom state b true c true
-  room_cleaned b c keeps = record { keeps = keeps; unsaved = λ never. absurd (cc); all = λ e. inl refl }
+  room_cleaned b c keeps = record { keeps = keeps; unsaved = λ never. absurd (cc); all = λ e. inl refl; rest = λ e rest. keeps.rest (rest refl) }
 
   pub cannot_pass : (b c : Held D) → MayNotMakeRoom state b c → CannotMakeRoom state b true c
   cannot_pass b c lacks k m0 m keeps can =
-      let none : length b.memory.dirty.blocks ≡ 0 = ap length (can.nothing refl) in
+      let rest = can.stores.rest refl in
+      let none : length b.memory.dirty.blocks ≡ 0 = ap length rest.nothing in
       lacks k m0 m keeps (record {
         holds = can.stores.holds;
         map = can.map;
         shown = can.shown;
         counted = can.counted;
         need = can.need;
-        many = can.many;
+        many = rest.many;
         enough = λ (lt : 0 < length b.memory.dirty.blocks). absurd (omega (arith, lt, none));
-        untaken = λ e. can.untaken refl;
+        untaken = λ e. rest.untaken;
         number = can.number;
       })
 
@@ -258,13 +260,16 @@ module _ {D : Type 0} (state : D → DeviceState) where
     pub room_stores : (k : CheckpointValue) (m0 m : LogMap) → (state h'.device).keeps_model → Stores state h saved k m0 m → IsLogMap (dropped m) → StoresOver state k.segments m0 m h' saved' m
     room_stores k m0 m keeps is map = by_flag saved' refl
       where
+        rest : saved' ≡ true → IsAtRest h'
+        rest all = room.rest all (λ was. is.rest was)
+
         by_flag : (flag : Bool) → saved' ≡ flag → StoresOver state k.segments m0 m h' saved' m
         by_flag true e =
             ⊎_elim
             (λ (was : saved ≡ true).
             let over = room.keeps.holds k m0 m keeps is.holds map in
             let new : over.acknowledged ≡ dropped m = ⊎_elim (λ (old : over.acknowledged ≡ m0). old ∙ is.nothing_new was) (λ (new : over.acknowledged ≡ dropped m). new) over.either in
-            record { checkpoint = over.checkpoint; acknowledged = over.acknowledged; either = over.either; segments = over.segments; stores = record { holds = over.holds; nothing_new = λ t. new } })
+            record { checkpoint = over.checkpoint; acknowledged = over.acknowledged; either = over.either; segments = over.segments; stores = record { holds = over.holds; nothing_new = λ t. new; rest = rest } })
             (λ (acks : Acknowledges state h h').
             let next = acks k m0 m keeps is.holds map in
             record {
@@ -272,12 +277,12 @@ module _ {D : Type 0} (state : D → DeviceState) where
               acknowledged = dropped m;
               either = inr refl;
               segments = same_segments state h h' k next.0 m0 m (dropped m) m room.keeps.segments is.holds next.1;
-              stores = record { holds = next.1; nothing_new = λ t. refl };
+              stores = record { holds = next.1; nothing_new = λ t. refl; rest = rest };
             })
             (room.all e)
         by_flag false e =
             let over = room.keeps.holds k m0 m keeps is.holds map in
-            record { checkpoint = over.checkpoint; acknowledged = over.acknowledged; either = over.either; segments = over.segments; stores = record { holds = over.holds; nothing_new = λ (t : saved' ≡ true). absurd (cc) } }
+            record { checkpoint = over.checkpoint; acknowledged = over.acknowledged; either = over.either; segments = over.segments; stores = record { holds = over.holds; nothing_new = λ (t : saved' ≡ true). absurd (cc); rest = rest } }
 
     pub room_moment : LeavesEither state h saved h'
     room_moment k m0 m keeps is map = room.keeps.moment k m0 m keeps is.holds map
@@ -339,7 +344,7 @@ module _ {D : Type 0} (state : D → DeviceState) where
             acknowledged = over.acknowledged;
             either = over.either;
             segments = over.segments;
-            stores = record { holds = s.holds over.checkpoint over.acknowledged m keeps over.stores.holds fits; nothing_new = λ never. absurd (cc) };
+            stores = record { holds = s.holds over.checkpoint over.acknowledged m keeps over.stores.holds fits; nothing_new = λ never. absurd (cc); rest = λ never. absurd (cc) };
           });
       moment = moments;
     }
@@ -357,7 +362,7 @@ module _ {D : Type 0} (state : D → DeviceState) where
             acknowledged = over.acknowledged;
             either = over.either;
             segments = over.segments;
-            stores = record { holds = s.holds over.checkpoint over.acknowledged m keeps over.stores.holds fits; nothing_new = λ never. absurd (cc) };
+            stores = record { holds = s.holds over.checkpoint over.acknowledged m keeps over.stores.holds fits; nothing_new = λ never. absurd (cc); rest = λ never. absurd (cc) };
           });
       moment = moments;
     }

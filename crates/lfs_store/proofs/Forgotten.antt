@@ -1,5 +1,5 @@
 -- A file without a name goes: what a commit would save stays.
-use Rattle.std.proofs.Common.{◌≡◌, ◌==◌, nat_lt, cond, ℕ, Bool, true, false, List, [], Option, Some, None, refl, sym, ◌∙◌, ap, ap₂, arith}
+use Rattle.std.proofs.Common.{◌≡◌, ◌≤◌, ◌+◌, ◌*◌, ◌==◌, nat_lt, cond, ℕ, Bool, true, false, List, [], length, Option, Some, None, refl, sym, ◌∙◌, ap, ap₂, arith}
 use Rattle.std.proofs.Math.Path.{fun_ext}
 use Rattle.std.proofs.lemmas.Bool.{cond-false, eqb-true, le-ltb}
 use Rattle.lfs_model.specs.Device.{DeviceState}
@@ -9,6 +9,8 @@ use Rattle.lfs_model.specs.Stands.{LogMap}
 use Rattle.lfs_model.specs.TreeOf.{dropped, kept}
 use Rattle.lfs_log.specs.memory.Removing.{without_file}
 use Rattle.lfs_log.specs.Held.{Held, IsRemoved}
+use Rattle.lfs_log.specs.segments.Table.{clean_in}
+use Rattle.lfs_cleaner.proofs.RoomBounds.{none_left}
 use Rattle.lfs_store.specs.Accepting.{Forgets}
 
 not_kept : {X : Type 0} (o : Option Header) (some none : X) → is_unlinked o ≡ true → kept o some none ≡ none
@@ -35,4 +37,16 @@ pub forgets : {D : Type 0} (state : D → DeviceState) (h h' : Held D) (saved : 
 forgets state h h' saved n gone k m0 m keeps is off = record {
   holds = gone.holds k m0 m keeps is.holds;
   nothing_new = λ on. is.nothing_new on ∙ sym (same_dropped m n off);
+  rest = λ on.
+      let rest = is.rest on in
+      let none : length h.memory.dirty.blocks ≡ 0 = ap length rest.nothing in
+      let few = gone.alters.few in
+      let many = rest.many in
+      let segments = gone.alters.segments in
+      let clean = gone.alters.clean in
+      record {
+        nothing = none_left h'.memory.dirty.blocks (omega (arith, none, few));
+        untaken = gone.untaken rest.untaken;
+        many = omega (arith, many, segments, clean);
+      };
 }

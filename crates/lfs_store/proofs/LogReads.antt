@@ -1,5 +1,5 @@
 -- Calls that only read a log, one after the other.
-use Rattle.std.proofs.Common.{refl, sym, ◌∙◌, subst, arith}
+use Rattle.std.proofs.Common.{Bool, refl, sym, ◌∙◌, subst, arith}
 use Rattle.lfs_model.specs.Checkpoint.{CheckpointValue}
 use Rattle.lfs_model.specs.Device.{DeviceState, IsLawful}
 use Rattle.lfs_model.specs.Stands.{LogMap}
@@ -8,6 +8,8 @@ use Rattle.lfs_log.specs.memory.Memory.{IsLog}
 use Rattle.lfs_log.proofs.of_memory.Looses.{loose, tight_again}
 use Rattle.lfs_log.proofs.of_memory.Presents.{looks_none, looks_then, still_log}
 use Rattle.lfs_log.specs.Held.{Held, Holds, Reads, IsReadFault}
+use Rattle.lfs_cleaner.proofs.Rooms.{rest_reads}
+use Rattle.lfs_store.specs.Accepting.{Stores}
 
 module _ {D : Type 0} (state : D → DeviceState) where
   pub held_still : (a b : Held D) (k : CheckpointValue) (m0 m : LogMap) → Reads state a b → Holds state a k m0 m → Holds state b k m0 m
@@ -16,6 +18,14 @@ module _ {D : Type 0} (state : D → DeviceState) where
         (let s = still_log (state a.device) (state b.device) a.memory k m0 m reads.looks (loose (state a.device) a.memory k m0 m is.log) in tight_again (state b.device) a.memory k m0 m s is.log.tight);
     number = is.number ∙ sym reads.number;
     running = reads.halted ∙ is.running;
+  }
+
+  -- a store over a log that was only read
+  pub stores_still : (a b : Held D) (saved : Bool) (k : CheckpointValue) (m0 m : LogMap) → Reads state a b → Stores state a saved k m0 m → Stores state b saved k m0 m
+  stores_still a b saved k m0 m reads is = record {
+    holds = held_still a b k m0 m reads is.holds;
+    nothing_new = is.nothing_new;
+    rest = λ on. rest_reads state a b reads (is.rest on);
   }
 
   pub reads_none : (a : Held D) → Reads state a a

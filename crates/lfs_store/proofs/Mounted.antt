@@ -1,5 +1,5 @@
 -- A mounted log map has no file of no links.
-use Rattle.std.proofs.Common.{◌≡◌, ◌<◌, ◌≤◌, ⊎_elim, nat_lt, true, cond, ℕ, List, [], ◌∷◌, length, Option, Some, None, refl, sym, ◌∙◌, ap, ap₂, arith}
+use Rattle.std.proofs.Common.{◌≡◌, ◌<◌, ◌≤◌, ◌*◌, ⊎_elim, nat_lt, true, cond, ℕ, List, [], ◌∷◌, length, Option, Some, None, refl, sym, ◌∙◌, ap, ap₂, arith}
 use Rattle.std.proofs.Math.Path.{fun_ext}
 use Rattle.std.proofs.lemmas.Bool.{cases_eq, lt-ltb, and_parts, leb-true, cond-true}
 use Rattle.lfs_model.specs.Checkpoint.{CheckpointValue}
@@ -15,6 +15,8 @@ use Rattle.lfs_model.specs.TreeOf.{dropped, kept}
 use Rattle.lfs_model.proofs.Decodes.{are_sized, decoding}
 use Rattle.lfs_model.proofs.Decoding.{value_found}
 use Rattle.lfs_log.specs.Held.{Held, Mounts}
+use Rattle.lfs_log.specs.Publishing.{AreUntaken}
+use Rattle.lfs_log.specs.segments.Table.{clean_in}
 use Rattle.lfs_log.specs.verify.declared.fault.MountFault.{MountFault}
 use Rattle.lfs_log.specs.verify.Faults.{IsOpenFault, LacksLog}
 use Rattle.lfs_log.proofs.of_verify.FaultCases.{fault_on}
@@ -77,11 +79,13 @@ module _ (c : Content) (k : CheckpointValue) (m : LogMap) (sized : IsSized c) (s
   all_linked =
       ap₂ (λ (hs : ℕ → Option Header) (bs : ℕ → ℕ → List ℕ). record { header = hs; block = bs }) (fun_ext header_same) (fun_ext (λ n. fun_ext (λ i. block_same n i)))
 
-module _ {D : Type 0} (state : D → DeviceState) (d : D) (h : Held D) (lawful : IsLawful (state d)) (mounts : Mounts state d h) where
+module _ {D : Type 0} (state : D → DeviceState) (d : D) (h : Held D) (lawful : IsLawful (state d)) (mounts : Mounts state d h) (nothing : h.memory.dirty.blocks ≡ [])
+    (untaken : (state h.device).keeps_model → AreUntaken h.memory.usage) (many : (state h.device).keeps_model → length h.memory.usage.segments ≤ 8 * clean_in h.memory.usage.segments) where
   pub mounts_store : MountsStore state d h true
   mounts_store m keeps is = record {
     holds = mounts m keeps is;
     nothing_new = λ _. all_linked (state d).content is.checkpoint m (are_sized (state d).content lawful.now) is.stands;
+    rest = λ _. record { nothing = nothing; untaken = untaken keeps; many = many keeps };
   }
 
 -- the log isn't there

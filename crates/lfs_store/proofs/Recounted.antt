@@ -16,7 +16,9 @@ use Rattle.lfs_log.specs.memory.Removing.{without_file}
 use Rattle.lfs_log.proofs.of_memory.LogMaps.{is_with_header}
 use Rattle.lfs_log.proofs.of_memory.Presents.{looks_then}
 use Rattle.lfs_log.specs.segments.Table.{clean_in}
+use Rattle.lfs_log.specs.memory.declared.memory.LogMemory.{LogMemory}
 use Rattle.lfs_log.specs.Held.{Held, Reads, Alters, IsKept, IsRemoved}
+use Rattle.lfs_log.specs.Publishing.{AreUntaken}
 use Rattle.lfs_store.specs.declared.totals.Measure.{Measure}
 use Rattle.lfs_log.specs.verify.declared.totals.BlockTotals.{BlockTotals}
 use Rattle.lfs_store.specs.Measuring.{Measures}
@@ -174,11 +176,14 @@ module _ {D : Type 0} (state : D → DeviceState) where
     few = let same = ap (λ v. length v.dirty.blocks) reads.memory in let few = alters.few in omega (arith, same, few);
   }
 
+  untaken_read : (h a : Held D) → Reads state h a → AreUntaken h.memory.usage → AreUntaken a.memory.usage
+  untaken_read h a reads = subst (λ (v : LogMemory). AreUntaken v.usage) (sym reads.memory)
+
   pub kept_read : (h a : Held D) → Reads state h a → IsKept state h a
-  kept_read h a reads = record { alters = alters_read h a reads; holds = λ k m0 m keeps is. held_still state h a k m0 m reads is }
+  kept_read h a reads = record { alters = alters_read h a reads; untaken = untaken_read h a reads; holds = λ k m0 m keeps is. held_still state h a k m0 m reads is }
 
   pub kept_more : (h a h' : Held D) → IsLawful (state h.device) → Reads state h a → IsKept state a h' → IsKept state h h'
-  kept_more h a h' lawful reads kept = record { alters = alters_more h a h' lawful reads kept.alters; holds = λ k m0 m keeps is. kept.holds k m0 m keeps (held_still state h a k m0 m reads is) }
+  kept_more h a h' lawful reads kept = record { alters = alters_more h a h' lawful reads kept.alters; untaken = λ before. kept.untaken (untaken_read h a reads before); holds = λ k m0 m keeps is. kept.holds k m0 m keeps (held_still state h a k m0 m reads is) }
 
   pub removed_more : (h a h' : Held D) (n : ℕ) → IsLawful (state h.device) → Reads state h a → IsRemoved state a h' n → IsRemoved state h h' n
-  removed_more h a h' n lawful reads gone = record { alters = alters_more h a h' lawful reads gone.alters; holds = λ k m0 m keeps is. gone.holds k m0 m keeps (held_still state h a k m0 m reads is) }
+  removed_more h a h' n lawful reads gone = record { alters = alters_more h a h' lawful reads gone.alters; untaken = λ before. gone.untaken (untaken_read h a reads before); holds = λ k m0 m keeps is. gone.holds k m0 m keeps (held_still state h a k m0 m reads is) }

@@ -1,5 +1,5 @@
 -- A store over its log: what it holds from a mount on, as drafts are staged and commits save them.
-use Rattle.std.specs.Prelude.{◌≡◌, ◌⊎◌, ◌<◌, ◌≤◌, ◌+◌, ◌-◌, ◌*◌, ◌/◌, ◌^◌, ℕ, Bool, true, false, cond, min, [], length}
+use Rattle.std.specs.Prelude.{◌≡◌, ◌⊎◌, ◌<◌, ◌≤◌, ◌+◌, ◌-◌, ◌*◌, ◌/◌, ◌^◌, ℕ, Bool, true, false, cond, min, length}
 use Rattle.lfs_model.specs.Checkpoint.{CheckpointValue}
 use Rattle.lfs_model.specs.Crash.{StandsOn}
 use Rattle.lfs_model.specs.Device.{DeviceState, Carries, LeavesOnly, AllLeft}
@@ -15,8 +15,7 @@ use Rattle.lfs_log.specs.memory.Removing.{without_file}
 use Rattle.lfs_log.specs.segments.Table.{clean_in}
 use Rattle.lfs_log.specs.Held.{Held, Holds, IsSaved}
 use Rattle.lfs_model.specs.Totals.{IsCounted}
-use Rattle.lfs_log.specs.Publishing.{AreUntaken}
-use Rattle.lfs_cleaner.specs.Room.{IsWithin, KeepsMap}
+use Rattle.lfs_cleaner.specs.Room.{IsAtRest, IsWithin, KeepsMap}
 
 -- A mount's refusal that isn't of memory. Where the content stands for a log map it is Device, and a call of the device failed.
 abbrev pub IsMountRefusal : DeviceState → DeviceState → MountFault → Type 0
@@ -43,10 +42,12 @@ pub record SavesFew {D : Type 0} (h : Held D) (saved : Bool) (h' : Held D) (save
   pub ready : (saved ≡ false → HasClean h) → saved' ≡ false → HasClean h'
 
 module _ {D : Type 0} (state : D → DeviceState) where
-  -- The store has log map m over the acknowledged m0: its log holds them, and where it is saved, m0 is m without its files of no links.
+  -- The store has log map m over the acknowledged m0: its log holds them. Where it is saved, m0 is m without its files of no links, and
+  -- the log is at rest.
   pub record Stores (h : Held D) (saved : Bool) (k : CheckpointValue) (m0 m : LogMap) : Type 0 where
     pub holds : Holds state h k m0 m
     pub nothing_new : saved ≡ true → m0 ≡ dropped m
+    pub rest : saved ≡ true → IsAtRest h
 
   -- a mount gives the log map that the device stands for, which is saved
   abbrev pub MountsStore : D → Held D → Bool → Type 0
@@ -89,19 +90,17 @@ module _ {D : Type 0} (state : D → DeviceState) where
     pub keeps : KeepsMap state h h' (most_written h saved)
     pub unsaved : saved' ≡ false → (saved ≡ false) × (h' ≡ h)
     pub all : saved' ≡ true → (saved ≡ true) ⊎ Acknowledges h h'
+    pub rest : saved' ≡ true → (saved ≡ true → IsAtRest h) → IsAtRest h'
 
-  -- Where room can be made: the need of log map m is within the volume, an eighth of the segments is clean, and enough for a commit
-  -- where anything isn't saved, and numbers are left for the checkpoints.
+  -- Where room can be made: the need of log map m is within the volume, enough segments are clean for a commit where anything isn't
+  -- saved, and numbers are left for the checkpoints.
   pub record CanMakeRoom (h : Held D) (saved : Bool) (k : CheckpointValue) (m0 m : LogMap) : Type 0 where
     pub stores : Stores h saved k m0 m
     pub map : IsLogMap m
     pub shown : IsLogMap (dropped m)
     pub counted : IsCounted m h.totals.data_blocks h.totals.meta_blocks
     pub need : IsWithin h
-    pub many : length h.memory.usage.segments ≤ 8 * clean_in h.memory.usage.segments
     pub enough : saved ≡ false → HasClean h
-    pub nothing : saved ≡ true → h.memory.dirty.blocks ≡ []
-    pub untaken : saved ≡ true → AreUntaken h.memory.usage
     pub number : h.number + most_written h saved ≤ 2 ^ 64 - 1
 
   -- the store had no log map beside which room can be made
