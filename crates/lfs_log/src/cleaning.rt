@@ -52,17 +52,22 @@ fn relocate_all<D: SectorDevice>(
     requires memory { IsMemory memory.old }
     requires size { HasRoom (D.state device.old) memory.old }
     requires closed { memory.old.chunk.names ≡ [] }
-    requires inside { (i : ℕ) → i < length victims.now → get_or victims.now i 0 < length memory.old.usage.segments }
+    requires inside { (i : ℕ) → i < length victims.now
+        → get_or victims.now i 0 < length memory.old.usage.segments }
     ensures relocates { Relocates (D.state device.old) (D.state device.new) memory.old memory.new }
-    ensures vacates { OnOk result (VacatesAll (D.state device.old) (D.state device.new) memory.old memory.new victims.now (length victims.now)) }
+    ensures vacates { OnOk result (VacatesAll (D.state device.old) (D.state device.new) memory.old
+        memory.new victims.now (length victims.now)) }
     ensures came { CameFrom (D.state device.old) (D.state device.new) memory.old memory.new
         (IsAmong victims.now) }
     ensures misses { IsErrOf result LiftFault.Full
         → Misses (D.state device.old) (D.state device.new) memory.old memory.new
         (IsAmong victims.now) }
-    ensures full { IsErrOf result LiftFault.Full → memory.new.dirty.capacity.limit ≤ length memory.new.dirty.blocks }
-    ensures failed { IsErrOf result LiftFault.Device → IsExcused (D.state device.old) (D.state device.new) memory.old }
-    ensures no_failure { OnOk result ((D.state device.new).failures ≡ (D.state device.old).failures) }
+    ensures full { IsErrOf result LiftFault.Full
+        → memory.new.dirty.capacity.limit ≤ length memory.new.dirty.blocks }
+    ensures failed { IsErrOf result LiftFault.Device
+        → IsExcused (D.state device.old) (D.state device.new) memory.old }
+    ensures no_failure { OnOk result ((D.state device.new).failures
+        ≡ (D.state device.old).failures) }
 {
     for victim in victims {
         match relocate_segment(device, memory, u32::from(*victim)) {
@@ -94,7 +99,8 @@ fn is_emptied(usage: &Usage, segment: u32) -> bool
 
 /// Whether that is so of each of these segments.
 fn are_emptied(usage: &Usage, victims: &[u16]) -> bool
-    requires { (i : ℕ) → i < length victims.now → get_or victims.now i 0 < length usage.now.segments }
+    requires { (i : ℕ) → i < length victims.now
+        → get_or victims.now i 0 < length usage.now.segments }
     ensures yes { IsTrue result → AreEmptied usage.now victims.now }
     ensures no { IsFalse result → AreEmptied usage.now victims.now → ⊥ }
 {
@@ -120,15 +126,18 @@ fn empty_segments<D: SectorDevice>(
     requires size { HasRoom (D.state device.old) memory.old }
     requires closed { memory.old.chunk.names ≡ [] }
     requires victims { AreCleanable memory.old.usage victims.now }
-    ensures done { OnOk result (Empties (D.state device.old) (D.state device.new) memory.old memory.new victims.now) }
+    ensures done { OnOk result (Empties (D.state device.old) (D.state device.new) memory.old
+        memory.new victims.now) }
     ensures looks { Looks (D.state device.old) (D.state device.new) }
     ensures segments { length memory.new.usage.segments ≡ length memory.old.usage.segments }
     ensures chunk { memory.new.chunk ≡ memory.old.chunk }
     ensures capacity { memory.new.dirty.capacity ≡ memory.old.dirty.capacity }
     ensures full { IsErrOf result LiftFault.Full
         → Crowds (D.state device.old) (D.state device.new) memory.old memory.new victims.now }
-    ensures failed { IsErrOf result LiftFault.Device → IsExcused (D.state device.old) (D.state device.new) memory.old }
-    ensures no_failure { OnOk result ((D.state device.new).failures ≡ (D.state device.old).failures) }
+    ensures failed { IsErrOf result LiftFault.Device
+        → IsExcused (D.state device.old) (D.state device.new) memory.old }
+    ensures no_failure { OnOk result ((D.state device.new).failures
+        ≡ (D.state device.old).failures) }
 {
     match relocate_all(device, memory, victims) {
         Ok(()) => {}
@@ -165,7 +174,8 @@ pub fn relocate<D: SectorDevice>(
     requires same_size { length before.old.usage.segments ≡ length memory.old.usage.segments }
     requires few { most + 48 ≤ 63 * (length memory.old.usage.segments / 8) }
     requires room { most ≤ memory.old.dirty.capacity.room }
-    ensures done { OnOk result (Empties (D.state device.old) (D.state device.new) memory.old memory.new victims.now) }
+    ensures done { OnOk result (Empties (D.state device.old) (D.state device.new) memory.old
+        memory.new victims.now) }
     ensures few { OnOk result (length memory.new.dirty.blocks ≤ most) }
     ensures room { OnOk result (memory.new.dirty.capacity.room ≡ memory.old.dirty.capacity.room) }
     ensures same { OnErr result (memory.new ≡ memory.old) }
@@ -173,8 +183,10 @@ pub fn relocate<D: SectorDevice>(
     ensures looks { Looks (D.state device.old) (D.state device.new) }
     ensures full { IsErrOf result LiftFault.Full
         → Overfills (D.state device.old) (D.state device.new) memory.old victims.now most }
-    ensures failed { IsErrOf result LiftFault.Device → IsExcused (D.state device.old) (D.state device.new) memory.old }
-    ensures no_failure { OnOk result ((D.state device.new).failures ≡ (D.state device.old).failures) }
+    ensures failed { IsErrOf result LiftFault.Device
+        → IsExcused (D.state device.old) (D.state device.new) memory.old }
+    ensures no_failure { OnOk result ((D.state device.new).failures
+        ≡ (D.state device.old).failures) }
 {
     let limit = memory.dirty.capacity() as u32;
     before.map.copy_from(&memory.map);

@@ -41,7 +41,8 @@ fn place_all<D: SectorDevice>(
 fn seal_rest<D: SectorDevice>(device: &mut D, memory: &mut LogMemory) -> Result<(), DeviceFault>
     requires memory { IsMemory memory.old }
     requires size { HasRoom (D.state device.old) memory.old }
-    ensures done { OnOk result (Goes (D.state device.old) (D.state device.new) memory.old memory.new 62) }
+    ensures done { OnOk result (Goes (D.state device.old) (D.state device.new) memory.old memory.new
+        62) }
     ensures stopped { OnErr result (Stops (D.state device.old) (D.state device.new) memory.old) }
     ensures map { memory.new.map ≡ memory.old.map }
     ensures dirty { memory.new.dirty ≡ memory.old.dirty }
@@ -99,8 +100,10 @@ pub fn save<D: SectorDevice>(
     requires clean { segments_for (length memory.old.dirty.blocks)
         ≤ clean_in memory.old.usage.segments }
     requires spare { IsSpared memory.old }
-    ensures done { OnOk result (Commits (D.state device.old) (D.state device.new) memory.old memory.new number) }
-    ensures stopped { OnErr result (CommitFails (D.state device.old) (D.state device.new) memory.old number) }
+    ensures done { OnOk result (Commits (D.state device.old) (D.state device.new) memory.old
+        memory.new number) }
+    ensures stopped { OnErr result (CommitFails (D.state device.old) (D.state device.new) memory.old
+        number) }
 {
     let age = u32::try_from(number + 1).unwrap_or(u32::MAX);
     write_out(device, memory, age)?;

@@ -76,7 +76,8 @@ impl<D: SectorDevice> Log<D> {
     /// small, holds no checkpoint, or the first stage that fails is named, one of the stages 1 to 9, or 15 where too few segments are clean.
     pub fn open(alloc: Global, device: D) -> Result<Log<D>, (MountFault, D)>
         ensures holds { IfOk result (λ log. Mounts D.SectorDevice.state device log) }
-        ensures counts { IfOk result (λ log. CountsOpened (D.state device) (D.state log.device) log.totals) }
+        ensures counts { IfOk result (λ log. CountsOpened (D.state device) (D.state log.device)
+            log.totals) }
         ensures found { IfOk result (λ log. HasLogMap (D.state device) (D.state log.device)) }
         ensures empty { IfOk result (λ log. log.memory.dirty.blocks ≡ []) }
         ensures untaken { IfOk result (λ log. (D.state log.device).keeps_model
@@ -88,7 +89,8 @@ impl<D: SectorDevice> Log<D> {
         ensures cause { IfErr result (λ e. (e.0 ≡ MountFault.NoMemory → ⊥)
             → IsOpenFault (D.state device) (D.state e.1) e.0) }
         ensures reason { IfErr result (λ e. IsRefusedLog (D.state device) (D.state e.1) e.0) }
-        ensures untouched { MatchResult result (λ log. IsUntouched (D.state device) (D.state log.device))
+        ensures untouched { MatchResult result
+            (λ log. IsUntouched (D.state device) (D.state log.device))
             (λ e. IsUntouched (D.state device) (D.state e.1)) }
         ensures carries { MatchResult result (λ log. Carries (D.state device) (D.state log.device))
             (λ e. Carries (D.state device) (D.state e.1)) }
@@ -120,7 +122,8 @@ impl<D: SectorDevice> Log<D> {
         requires durable { (D.state device).keeps_model
             → Only (D.state device).content (D.state device) }
         ensures holds { IfOk result (λ log. Mounts D.SectorDevice.state device log) }
-        ensures counts { IfOk result (λ log. CountsOpened (D.state device) (D.state log.device) log.totals) }
+        ensures counts { IfOk result (λ log. CountsOpened (D.state device) (D.state log.device)
+            log.totals) }
         ensures empty { IfOk result (λ log. log.memory.dirty.blocks ≡ []) }
         ensures untaken { IfOk result (λ log. (D.state log.device).keeps_model
             → AreUntaken log.memory.usage) }
@@ -232,10 +235,14 @@ impl<D: SectorDevice> Log<D> {
 
     /// Whether memory has room for a batch of changes. After a commit it has for each that asks for 456 blocks at most.
     pub fn has_room(&self, changes: &Changes) -> bool
-        ensures room { IsTrue result → length self.now.memory.dirty.blocks + room_for changes.now ≤ self.now.memory.dirty.capacity.limit }
-        ensures fits { IsTrue result → length self.now.memory.dirty.blocks + room_for changes.now ≤ 456 }
-        ensures lacks { IsFalse result → self.now.halted ≡ false → LacksRoom self.now.memory (room_for changes.now) }
-        ensures narrow { IsFalse result → self.now.halted ≡ false → 456 < length self.now.memory.dirty.blocks + room_for changes.now }
+        ensures room { IsTrue result → length self.now.memory.dirty.blocks + room_for changes.now
+            ≤ self.now.memory.dirty.capacity.limit }
+        ensures fits { IsTrue result → length self.now.memory.dirty.blocks + room_for changes.now
+            ≤ 456 }
+        ensures lacks { IsFalse result → self.now.halted ≡ false
+            → LacksRoom self.now.memory (room_for changes.now) }
+        ensures narrow { IsFalse result → self.now.halted ≡ false
+            → 456 < length self.now.memory.dirty.blocks + room_for changes.now }
     {
         !self.halted && has_room(&self.memory, changes)
     }
@@ -270,7 +277,8 @@ impl<D: SectorDevice> Log<D> {
     pub fn block(&mut self, number: u16, index: u32, out: &mut [u8; 512]) -> Result<bool, LogFault>
         requires { number < 4096 }
         ensures reads { Reads D.SectorDevice.state self.old self.new }
-        ensures answer { IfOk result (ReadsBlock D.SectorDevice.state self.old self.new number index out.new) }
+        ensures answer { IfOk result (ReadsBlock D.SectorDevice.state self.old self.new number index
+            out.new) }
         ensures zeros { IfOk result (λ found. IsFalse found → out.new ≡ zeros 512) }
         ensures halted { IsErrOf result LogFault.Halted → self.old.halted ≡ true }
         ensures other { IsErrOf result LogFault.Full → ⊥ }
@@ -293,7 +301,8 @@ impl<D: SectorDevice> Log<D> {
     pub fn has_block(&mut self, number: u16, index: u32) -> Result<bool, LogFault>
         requires { number < 4096 }
         ensures reads { Reads D.SectorDevice.state self.old self.new }
-        ensures answer { IfOk result (TellsBlock D.SectorDevice.state self.old self.new number index) }
+        ensures answer { IfOk result (TellsBlock D.SectorDevice.state self.old self.new number
+            index) }
         ensures halted { IsErrOf result LogFault.Halted → self.old.halted ≡ true }
         ensures other { IsErrOf result LogFault.Full → ⊥ }
         ensures failed { OnErr result (IsReadFault D.SectorDevice.state self.old self.new) }
@@ -316,7 +325,8 @@ impl<D: SectorDevice> Log<D> {
         requires number { number < 4096 }
         requires leaf { leaf ≤ 128 }
         ensures reads { Reads D.SectorDevice.state self.old self.new }
-        ensures answer { IfOk result (TellsLeaf D.SectorDevice.state self.old self.new number leaf) }
+        ensures answer { IfOk result (TellsLeaf D.SectorDevice.state self.old self.new number
+            leaf) }
         ensures halted { IsErrOf result LogFault.Halted → self.old.halted ≡ true }
         ensures other { IsErrOf result LogFault.Full → ⊥ }
         ensures failed { OnErr result (IsReadFault D.SectorDevice.state self.old self.new) }
@@ -340,11 +350,16 @@ impl<D: SectorDevice> Log<D> {
         ensures done { OnOk result (IsStaged D.SectorDevice.state self.old self.new changes.now) }
         ensures counted { OnOk result (self.new.totals ≡ totals) }
         ensures kept { OnErr result (self.new.totals ≡ self.old.totals) }
-        ensures refused { OnErr result (IsRefused D.SectorDevice.state self.old self.new changes.now) }
-        ensures full { IsErrOf result LogFault.Full → LacksRoom self.old.memory (room_for changes.now) }
-        ensures narrow { IsErrOf result LogFault.Full → 456 < length self.old.memory.dirty.blocks + room_for changes.now }
-        ensures failed { IsErrOf result LogFault.Device → IsStageFault D.SectorDevice.state self.old self.new changes.now }
-        ensures halted { IsErrOf result LogFault.Halted → (self.new ≡ self.old) × (self.old.halted ≡ true) }
+        ensures refused { OnErr result (IsRefused D.SectorDevice.state self.old self.new
+            changes.now) }
+        ensures full { IsErrOf result LogFault.Full
+            → LacksRoom self.old.memory (room_for changes.now) }
+        ensures narrow { IsErrOf result LogFault.Full
+            → 456 < length self.old.memory.dirty.blocks + room_for changes.now }
+        ensures failed { IsErrOf result LogFault.Device
+            → IsStageFault D.SectorDevice.state self.old self.new changes.now }
+        ensures halted { IsErrOf result LogFault.Halted
+            → (self.new ≡ self.old) × (self.old.halted ≡ true) }
     {
         if self.halted {
             return Err(LogFault::Halted);
@@ -392,7 +407,8 @@ impl<D: SectorDevice> Log<D> {
     /// Whether so few segments are clean that a commit might leave fewer than an eighth of them, or no number is left.
     fn is_full(&self) -> bool
         ensures full { IsTrue result → IsFull self.now }
-        ensures room { IsFalse result → length self.now.memory.usage.segments + 64 ≤ 8 * clean_in self.now.memory.usage.segments }
+        ensures room { IsFalse result → length self.now.memory.usage.segments + 64
+            ≤ 8 * clean_in self.now.memory.usage.segments }
         ensures number { IsFalse result → self.now.number < 2 ^ 64 - 1 }
     {
         let clean = u64::from(self.memory.usage.clean());
@@ -410,8 +426,10 @@ impl<D: SectorDevice> Log<D> {
         ensures done { OnOk result (Saves D.SectorDevice.state self.old self.new) }
         ensures totals { self.new.totals ≡ self.old.totals }
         ensures full { IsErrOf result LogFault.Full → (self.new ≡ self.old) × IsFull self.old }
-        ensures halted { IsErrOf result LogFault.Halted → self.old.halted ≢ true → Halts D.SectorDevice.state self.old self.new }
-        ensures still { self.old.halted ≡ true → (self.new ≡ self.old) × IsErrOf result LogFault.Halted }
+        ensures halted { IsErrOf result LogFault.Halted → self.old.halted ≢ true
+            → Halts D.SectorDevice.state self.old self.new }
+        ensures still { self.old.halted ≡ true
+            → (self.new ≡ self.old) × IsErrOf result LogFault.Halted }
         ensures other { IsErrOf result LogFault.Device → ⊥ }
     {
         if self.halted {
@@ -447,12 +465,18 @@ impl<D: SectorDevice> Log<D> {
         ensures done { OnOk result (Cleans D.SectorDevice.state self.old self.new victims.now) }
         ensures totals { self.new.totals ≡ self.old.totals }
         ensures full { IsErrOf result LogFault.Full → Reads D.SectorDevice.state self.old self.new }
-        ensures lacks { IsErrOf result LogFault.Full → MayClean self.old.memory victims.now → self.old.number < 2 ^ 64 - 1
-            → Overfills (D.state self.old.device) (D.state self.new.device) self.old.memory victims.now (most_brought (length victims.now)) }
-        ensures kept { IsErrOf result LogFault.Device → Reads D.SectorDevice.state self.old self.new }
-        ensures failed { IsErrOf result LogFault.Device → IsReadFault D.SectorDevice.state self.old self.new }
-        ensures halted { IsErrOf result LogFault.Halted → self.old.halted ≢ true → Halts D.SectorDevice.state self.old self.new }
-        ensures still { self.old.halted ≡ true → (self.new ≡ self.old) × IsErrOf result LogFault.Halted }
+        ensures lacks { IsErrOf result LogFault.Full → MayClean self.old.memory victims.now
+            → self.old.number < 2 ^ 64 - 1
+            → Overfills (D.state self.old.device) (D.state self.new.device) self.old.memory
+            victims.now (most_brought (length victims.now)) }
+        ensures kept { IsErrOf result LogFault.Device
+            → Reads D.SectorDevice.state self.old self.new }
+        ensures failed { IsErrOf result LogFault.Device
+            → IsReadFault D.SectorDevice.state self.old self.new }
+        ensures halted { IsErrOf result LogFault.Halted → self.old.halted ≢ true
+            → Halts D.SectorDevice.state self.old self.new }
+        ensures still { self.old.halted ≡ true
+            → (self.new ≡ self.old) × IsErrOf result LogFault.Halted }
     {
         if self.halted {
             return Err(LogFault::Halted);

@@ -29,10 +29,13 @@ fn write_map_block<D: SectorDevice>(
     requires index { index < 32 }
     requires wanted { block_in memory.old.map index ≡ 1 }
     requires empty { (x : Entry) → blocks_of memory.old.dirty x ≡ None }
-    requires spelt { (m : LogMap) (t : Tables) → IsMapOf memory.old.map m t → AreSettled m t index → SpellsMap m t index bytes.now }
-    ensures done { OnOk result (GoesUpTo 63 (D.state device.old) (D.state device.new) memory.old memory.new 1) }
+    requires spelt { (m : LogMap) (t : Tables) → IsMapOf memory.old.map m t → AreSettled m t index
+        → SpellsMap m t index bytes.now }
+    ensures done { OnOk result (GoesUpTo 63 (D.state device.old) (D.state device.new) memory.old
+        memory.new 1) }
     ensures stopped { OnErr result (Stops (D.state device.old) (D.state device.new) memory.old) }
-    ensures placed { OnOk result (IsBlockAt memory.old.map memory.new.map index (block_in memory.new.map index)) }
+    ensures placed { OnOk result (IsBlockAt memory.old.map memory.new.map index
+        (block_in memory.new.map index)) }
     ensures known { OnOk result (2 ≤ block_in memory.new.map index) }
     ensures long { OnOk result (IsMap memory.new.map) }
     ensures dirty { memory.new.dirty ≡ memory.old.dirty }
@@ -60,9 +63,11 @@ fn save_map_block<D: SectorDevice>(
     requires room { 0 < room_of memory.old }
     requires index { index < 32 }
     requires empty { (x : Entry) → blocks_of memory.old.dirty x ≡ None }
-    ensures done { OnOk result (Goes (D.state device.old) (D.state device.new) memory.old memory.new 1) }
+    ensures done { OnOk result (Goes (D.state device.old) (D.state device.new) memory.old memory.new
+        1) }
     ensures stopped { OnErr result (Stops (D.state device.old) (D.state device.new) memory.old) }
-    ensures others { OnOk result ((j : ℕ) → (j ≡ index → ⊥) → block_in memory.new.map j ≡ block_in memory.old.map j) }
+    ensures others { OnOk result ((j : ℕ) → (j ≡ index → ⊥)
+        → block_in memory.new.map j ≡ block_in memory.old.map j) }
     ensures known { OnOk result (block_in memory.new.map index ≢ 1) }
     ensures long { OnOk result (IsMap memory.new.map) }
     ensures dirty { memory.new.dirty ≡ memory.old.dirty }
@@ -89,7 +94,8 @@ pub fn save_map<D: SectorDevice>(
     requires size { HasRoom (D.state device.old) memory.old }
     requires room { 32 ≤ room_of memory.old }
     requires empty { (x : Entry) → blocks_of memory.old.dirty x ≡ None }
-    ensures done { OnOk result (Goes (D.state device.old) (D.state device.new) memory.old memory.new 32) }
+    ensures done { OnOk result (Goes (D.state device.old) (D.state device.new) memory.old memory.new
+        32) }
     ensures stopped { OnErr result (Stops (D.state device.old) (D.state device.new) memory.old) }
     ensures known { OnOk result (AreMapsOut memory.new.map) }
     ensures dirty { memory.new.dirty ≡ memory.old.dirty }

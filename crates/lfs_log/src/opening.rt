@@ -49,7 +49,8 @@ pub fn open_memory(alloc: Global, tables: Tables) -> Result<OpenedLog, AllocErro
     requires whole { length tables.usage.segments ≡ tables.segments }
     ensures opened { IfOk result (λ r. (size : ℕ) → IsLoaded tables size
         → IsOpened r.memory size) }
-    ensures saved { IfOk result (λ r. length r.before.usage.segments ≡ length r.memory.usage.segments) }
+    ensures saved { IfOk result (λ r. length r.before.usage.segments
+        ≡ length r.memory.usage.segments) }
     ensures map { IfOk result (λ r. r.memory.map ≡ tables.map) }
     ensures usage { IfOk result (λ r. r.memory.usage ≡ tables.usage) }
     ensures number { IfOk result (λ r. r.number ≡ tables.number) }

@@ -16,7 +16,8 @@ pub fn seal<D: SectorDevice>(device: &mut D, memory: &mut LogMemory) -> Result<(
     requires memory { IsMemoryUpTo 63 memory.old }
     requires begun { 0 < length memory.old.chunk.names }
     requires size { HasRoom (D.state device.old) memory.old }
-    ensures done { OnOk result (Goes (D.state device.old) (D.state device.new) memory.old memory.new (room_in memory.old.chunk.names)) }
+    ensures done { OnOk result (Goes (D.state device.old) (D.state device.new) memory.old memory.new
+        (room_in memory.old.chunk.names)) }
     ensures stopped { OnErr result (Stops (D.state device.old) (D.state device.new) memory.old) }
     ensures map { memory.new.map ≡ memory.old.map }
     ensures dirty { memory.new.dirty ≡ memory.old.dirty }
@@ -31,7 +32,8 @@ pub fn seal<D: SectorDevice>(device: &mut D, memory: &mut LogMemory) -> Result<(
 pub fn seal_full<D: SectorDevice>(device: &mut D, memory: &mut LogMemory) -> Result<(), DeviceFault>
     requires memory { IsMemoryUpTo 63 memory.old }
     requires size { HasRoom (D.state device.old) memory.old }
-    ensures done { OnOk result (Goes (D.state device.old) (D.state device.new) memory.old memory.new 0) }
+    ensures done { OnOk result (Goes (D.state device.old) (D.state device.new) memory.old memory.new
+        0) }
     ensures stopped { OnErr result (Stops (D.state device.old) (D.state device.new) memory.old) }
     ensures map { memory.new.map ≡ memory.old.map }
     ensures dirty { memory.new.dirty ≡ memory.old.dirty }
@@ -54,9 +56,11 @@ fn write_block<D: SectorDevice>(
     requires size { HasRoom (D.state device.old) memory.old }
     requires room { 0 < room_of memory.old }
     requires lowest { IsLowest (blocks_of memory.old.dirty) (entry_of key) }
-    ensures done { OnOk result (GoesUpTo 63 (D.state device.old) (D.state device.new) memory.old memory.new 1) }
+    ensures done { OnOk result (GoesUpTo 63 (D.state device.old) (D.state device.new) memory.old
+        memory.new 1) }
     ensures stopped { OnErr result (Stops (D.state device.old) (D.state device.new) memory.old) }
-    ensures fewer { OnOk result (length memory.new.dirty.blocks + 1 ≡ length memory.old.dirty.blocks) }
+    ensures fewer { OnOk result (length memory.new.dirty.blocks + 1
+        ≡ length memory.old.dirty.blocks) }
     ensures capacity { OnOk result (memory.new.dirty.capacity ≡ memory.old.dirty.capacity) }
 {
     let bytes = *memory.dirty.block(key).unwrap();
@@ -79,9 +83,11 @@ fn save_block<D: SectorDevice>(
     requires size { HasRoom (D.state device.old) memory.old }
     requires room { 0 < room_of memory.old }
     requires lowest { IsLowest (blocks_of memory.old.dirty) (entry_of key) }
-    ensures done { OnOk result (Goes (D.state device.old) (D.state device.new) memory.old memory.new 1) }
+    ensures done { OnOk result (Goes (D.state device.old) (D.state device.new) memory.old memory.new
+        1) }
     ensures stopped { OnErr result (Stops (D.state device.old) (D.state device.new) memory.old) }
-    ensures fewer { OnOk result (length memory.new.dirty.blocks + 1 ≡ length memory.old.dirty.blocks) }
+    ensures fewer { OnOk result (length memory.new.dirty.blocks + 1
+        ≡ length memory.old.dirty.blocks) }
     ensures capacity { OnOk result (memory.new.dirty.capacity ≡ memory.old.dirty.capacity) }
 {
     write_block(device, memory, key, age)?;
@@ -98,7 +104,8 @@ pub fn save_files<D: SectorDevice>(
     requires memory { IsMemory memory.old }
     requires size { HasRoom (D.state device.old) memory.old }
     requires room { length memory.old.dirty.blocks ≤ room_of memory.old }
-    ensures done { OnOk result (Goes (D.state device.old) (D.state device.new) memory.old memory.new (length memory.old.dirty.blocks)) }
+    ensures done { OnOk result (Goes (D.state device.old) (D.state device.new) memory.old memory.new
+        (length memory.old.dirty.blocks)) }
     ensures stopped { OnErr result (Stops (D.state device.old) (D.state device.new) memory.old) }
     ensures empty { OnOk result ((x : Entry) → blocks_of memory.new.dirty x ≡ None) }
     ensures blocks { OnOk result (memory.new.dirty.blocks ≡ []) }

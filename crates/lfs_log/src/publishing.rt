@@ -53,8 +53,10 @@ fn next_checkpoint(memory: &LogMemory, number: u64) -> Checkpoint
 /// Makes all that was written durable.
 fn make_durable<D: SectorDevice>(device: &mut D) -> Result<(), DeviceFault>
     ensures looks { Looks (D.state device.old) (D.state device.new) }
-    ensures durable { OnOk result ((D.state device.new).keeps_model → Only (D.state device.new).content (D.state device.new)) }
-    ensures no_failure { OnOk result ((D.state device.new).failures ≡ (D.state device.old).failures) }
+    ensures durable { OnOk result ((D.state device.new).keeps_model
+        → Only (D.state device.new).content (D.state device.new)) }
+    ensures no_failure { OnOk result ((D.state device.new).failures
+        ≡ (D.state device.old).failures) }
     ensures failed { OnErr result ((D.state device.old).failures < (D.state device.new).failures) }
 {
     device.sync()?;
@@ -77,8 +79,10 @@ pub fn publish<D: SectorDevice>(
     requires size { HasRoom (D.state device.old) memory.old }
     requires number { number < 2 ^ 64 - 1 }
     requires out { IsAllOut memory.old }
-    ensures done { OnOk result (Publishes (D.state device.old) (D.state device.new) memory.old memory.new number) }
-    ensures stopped { OnErr result (PublishFails (D.state device.old) (D.state device.new) memory.old number) }
+    ensures done { OnOk result (Publishes (D.state device.old) (D.state device.new) memory.old
+        memory.new number) }
+    ensures stopped { OnErr result (PublishFails (D.state device.old) (D.state device.new)
+        memory.old number) }
     ensures map { memory.new.map ≡ memory.old.map }
     ensures dirty { memory.new.dirty ≡ memory.old.dirty }
     ensures chunk { memory.new.chunk ≡ memory.old.chunk }

@@ -32,7 +32,8 @@ fn locate<D: SectorDevice>(
     memory: &LogMemory,
     key: BlockKey,
 ) -> Result<u32, DeviceFault>
-    ensures answer { IfOk result (AnswersAddress (D.state device.old) (D.state device.new) memory.now (entry_of key)) }
+    ensures answer { IfOk result (AnswersAddress (D.state device.old) (D.state device.new)
+        memory.now (entry_of key)) }
     ensures failed { OnErr result (IsExcused (D.state device.old) (D.state device.new) memory.now) }
     ensures no_failure { OnOk result ((D.state device.new).failures
         ≡ (D.state device.old).failures) }
@@ -190,7 +191,8 @@ fn relocate_file_block<D: SectorDevice>(
     requires memory { IsMemory memory.old }
     requires above { 2 ≤ address }
     ensures relocates { Relocates (D.state device.old) (D.state device.new) memory.old memory.new }
-    ensures left { OnOk result (HasLeft (D.state device.old) (D.state device.new) memory.old memory.new (entry_of key) address) }
+    ensures left { OnOk result (HasLeft (D.state device.old) (D.state device.new) memory.old
+        memory.new (entry_of key) address) }
     ensures came { CameFrom (D.state device.old) (D.state device.new) memory.old memory.new
         (IsBetween address (address + 1)) }
     ensures misses { IsErrOf result LiftFault.Full
@@ -265,7 +267,8 @@ fn leave_usage(usage: &mut Usage, index: u32, address: u32) -> Result<(), Device
 fn relocate_usage(memory: &mut LogMemory, index: u32, address: u32) -> Result<(), DeviceFault>
     requires index { index ≤ 15 }
     requires above { 2 ≤ address }
-    ensures done { OnOk result ((memory.new ≡ memory.old) ⊎ UsageLeavesIn memory.old memory.new index) }
+    ensures done { OnOk result ((memory.new ≡ memory.old)
+        ⊎ UsageLeavesIn memory.old memory.new index) }
     ensures left { OnOk result (address_of memory.new.usage index ≡ address → ⊥) }
     ensures same { OnErr result (memory.new ≡ memory.old) }
     ensures lost { OnErr result (IsUsageLost memory.old index) }
@@ -308,7 +311,8 @@ fn relocate_block<D: SectorDevice>(
     requires placed { IsPlaced name.kind name.file name.index }
     requires above { 2 ≤ address }
     ensures relocates { Relocates (D.state device.old) (D.state device.new) memory.old memory.new }
-    ensures left { OnOk result (HasLeft (D.state device.old) (D.state device.new) memory.old memory.new (entry.entry_of name) address) }
+    ensures left { OnOk result (HasLeft (D.state device.old) (D.state device.new) memory.old
+        memory.new (entry.entry_of name) address) }
     ensures came { CameFrom (D.state device.old) (D.state device.new) memory.old memory.new
         (IsBetween address (address + 1)) }
     ensures misses { IsErrOf result LiftFault.Full
@@ -350,7 +354,8 @@ fn relocate_chunk<D: SectorDevice>(
     requires above { 2 ≤ first }
     requires few { first ≤ 65602 }
     ensures relocates { Relocates (D.state device.old) (D.state device.new) memory.old memory.new }
-    ensures left { OnOk result (LeavesNames (D.state device.old) (D.state device.new) memory.old memory.new names.now first (length names.now)) }
+    ensures left { OnOk result (LeavesNames (D.state device.old) (D.state device.new) memory.old
+        memory.new names.now first (length names.now)) }
     ensures came { CameFrom (D.state device.old) (D.state device.new) memory.old memory.new
         (IsBetween first (first + length names.now)) }
     ensures misses { IsErrOf result LiftFault.Full
@@ -384,8 +389,11 @@ fn read_sector<D: SectorDevice>(
 ) -> Result<(), DeviceFault>
     requires some { 1 ≤ address }
     requires inside { address < (D.state device.old).size }
-    ensures read { OnOk result ((D.state device.new).keeps_model → block (D.state device.old).content address ≡ out.new) }
-    ensures unread { OnErr result ((D.state device.new).keeps_model → (D.state device.old).failures < (D.state device.new).failures ⊎ (cell_at (D.state device.old).content address ≡ None)) }
+    ensures read { OnOk result ((D.state device.new).keeps_model
+        → block (D.state device.old).content address ≡ out.new) }
+    ensures unread { OnErr result ((D.state device.new).keeps_model
+        → (D.state device.old).failures < (D.state device.new).failures
+        ⊎ (cell_at (D.state device.old).content address ≡ None)) }
     ensures no_failure { OnOk result ((D.state device.new).failures
         ≡ (D.state device.old).failures) }
     ensures looks { Looks (D.state device.old) (D.state device.new) }
@@ -411,7 +419,8 @@ pub fn relocate_segment<D: SectorDevice>(
     requires closed { memory.old.chunk.names ≡ [] }
     requires inside { segment < length memory.old.usage.segments }
     ensures relocates { Relocates (D.state device.old) (D.state device.new) memory.old memory.new }
-    ensures vacates { OnOk result (Vacates (D.state device.old) (D.state device.new) memory.old memory.new (2 + 64 * segment) (66 + 64 * segment)) }
+    ensures vacates { OnOk result (Vacates (D.state device.old) (D.state device.new) memory.old
+        memory.new (2 + 64 * segment) (66 + 64 * segment)) }
     ensures came { CameFrom (D.state device.old) (D.state device.new) memory.old memory.new
         (IsBetween (2 + 64 * segment) (66 + 64 * segment)) }
     ensures misses { IsErrOf result LiftFault.Full

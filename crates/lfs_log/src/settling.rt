@@ -74,7 +74,8 @@ pub fn settle_block<D: SectorDevice>(
     requires room { 0 < room_of memory.old }
     requires index { index < blocks_in memory.old.usage }
     requires stale { stale_of memory.old.usage index ≡ true }
-    ensures done { OnOk result (Goes (D.state device.old) (D.state device.new) memory.old memory.new 1) }
+    ensures done { OnOk result (Goes (D.state device.old) (D.state device.new) memory.old memory.new
+        1) }
     ensures stopped { OnErr result (Stops (D.state device.old) (D.state device.new) memory.old) }
     ensures moved { OnOk result (IsResettled memory.old.usage memory.new.usage index) }
     ensures map { memory.new.map ≡ memory.old.map }
@@ -103,7 +104,8 @@ fn is_anew(usage: &Usage, index: u32) -> bool
 
 /// The first usage block that changed and doesn't stand in such a segment.
 fn next_out(usage: &Usage) -> Option<u32>
-    ensures some { IfSome result (λ j. (j < blocks_in usage.now) × (stale_of usage.now j ≡ true) × (IsAnew usage.now j → ⊥)) }
+    ensures some { IfSome result (λ j. (j < blocks_in usage.now) × (stale_of usage.now j ≡ true)
+        × (IsAnew usage.now j → ⊥)) }
     ensures none { IfNone result (AreAnew usage.now) }
 {
     for index in 0..(usage.segments() + 63) / 64 {
@@ -128,7 +130,8 @@ pub fn settle_usage<D: SectorDevice>(
     requires memory { IsMemory memory.old }
     requires size { HasRoom (D.state device.old) memory.old }
     requires room { 16 ≤ room_of memory.old }
-    ensures done { OnOk result (Goes (D.state device.old) (D.state device.new) memory.old memory.new 16) }
+    ensures done { OnOk result (Goes (D.state device.old) (D.state device.new) memory.old memory.new
+        16) }
     ensures stopped { OnErr result (Stops (D.state device.old) (D.state device.new) memory.old) }
     ensures anew { OnOk result (AreAnew memory.new.usage) }
     ensures map { memory.new.map ≡ memory.old.map }
@@ -153,7 +156,8 @@ fn fill_block<D: SectorDevice>(
     requires size { HasRoom (D.state device.old) memory.old }
     requires index { index < blocks_in memory.old.usage }
     requires anew { AreAnew memory.old.usage }
-    ensures done { OnOk result (Goes (D.state device.old) (D.state device.new) memory.old memory.new 0) }
+    ensures done { OnOk result (Goes (D.state device.old) (D.state device.new) memory.old memory.new
+        0) }
     ensures stopped { OnErr result (Stops (D.state device.old) (D.state device.new) memory.old) }
     ensures filled { OnOk result (IsFilled memory.old.usage memory.new.usage index) }
     ensures map { memory.new.map ≡ memory.old.map }
@@ -182,11 +186,14 @@ pub fn fill_usage<D: SectorDevice>(
     requires memory { IsMemory memory.old }
     requires size { HasRoom (D.state device.old) memory.old }
     requires anew { AreAnew memory.old.usage }
-    ensures done { OnOk result (Goes (D.state device.old) (D.state device.new) memory.old memory.new 0) }
+    ensures done { OnOk result (Goes (D.state device.old) (D.state device.new) memory.old memory.new
+        0) }
     ensures stopped { OnErr result (Stops (D.state device.old) (D.state device.new) memory.old) }
-    ensures fresh { OnOk result ((j : ℕ) → j < blocks_in memory.new.usage → stale_of memory.new.usage j ≡ false) }
+    ensures fresh { OnOk result ((j : ℕ) → j < blocks_in memory.new.usage
+        → stale_of memory.new.usage j ≡ false) }
     ensures segments { OnOk result (memory.new.usage.segments ≡ memory.old.usage.segments) }
-    ensures address { OnOk result ((j : ℕ) → address_of memory.new.usage j ≡ address_of memory.old.usage j) }
+    ensures address { OnOk result ((j : ℕ)
+        → address_of memory.new.usage j ≡ address_of memory.old.usage j) }
     ensures map { memory.new.map ≡ memory.old.map }
     ensures dirty { memory.new.dirty ≡ memory.old.dirty }
     ensures chunk { memory.new.chunk ≡ memory.old.chunk }

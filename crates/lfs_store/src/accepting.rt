@@ -37,18 +37,25 @@ impl<D: SectorDevice> Store<D> {
     /// small, holds no checkpoint, or the first stage that fails is named, one of the stages 1 to 9, or 15 where too few segments are clean.
     pub fn open(alloc: Global, device: D) -> Result<Store<D>, (MountFault, D)>
         ensures stores { IfOk result (λ s. MountsStore D.SectorDevice.state device s.log s.saved) }
-        ensures counts { IfOk result (λ s. MountsTotals D.SectorDevice.state device s.log s.log.totals) }
+        ensures counts { IfOk result (λ s. MountsTotals D.SectorDevice.state device s.log
+            s.log.totals) }
         ensures drafted { IfOk result (λ s. s.drafted ≡ s.log.totals) }
         ensures saved { IfOk result (λ s. s.saved ≡ true) }
         ensures draft { IfOk result (λ s. IsNoChange s.draft.changes) }
-        ensures durable { IfOk result (λ s. (D.state s.log.device).keeps_model → Only (D.state device).content (D.state s.log.device)) }
+        ensures durable { IfOk result (λ s. (D.state s.log.device).keeps_model
+            → Only (D.state device).content (D.state s.log.device)) }
         ensures cause { IfErr result (λ e. (e.0 ≡ MountFault.NoMemory → ⊥)
             → IsMountRefusal (D.state device) (D.state e.1) e.0) }
         ensures found { IfOk result (λ s. HasLogMap (D.state device) (D.state s.log.device)) }
         ensures reason { IfErr result (λ e. IsRefusedLog (D.state device) (D.state e.1) e.0) }
-        ensures untouched { MatchResult result (λ s. IsUntouched (D.state device) (D.state s.log.device)) (λ e. IsUntouched (D.state device) (D.state e.1)) }
-        ensures carries { MatchResult result (λ s. Carries (D.state device) (D.state s.log.device)) (λ e. Carries (D.state device) (D.state e.1)) }
-        ensures any_moment { MatchResult result (λ s. LeavesOnly (D.state device) (D.state s.log.device) (D.state device).may_leave) (λ e. LeavesOnly (D.state device) (D.state e.1) (D.state device).may_leave) }
+        ensures untouched { MatchResult result
+            (λ s. IsUntouched (D.state device) (D.state s.log.device))
+            (λ e. IsUntouched (D.state device) (D.state e.1)) }
+        ensures carries { MatchResult result (λ s. Carries (D.state device) (D.state s.log.device))
+            (λ e. Carries (D.state device) (D.state e.1)) }
+        ensures any_moment { MatchResult result
+            (λ s. LeavesOnly (D.state device) (D.state s.log.device) (D.state device).may_leave)
+            (λ e. LeavesOnly (D.state device) (D.state e.1) (D.state device).may_leave) }
     {
         let Ok(draft) = Draft::new(alloc, MOST_HEADERS, MOST_BLOCKS) else {
             return Err((MountFault::NoMemory, device));
@@ -83,7 +90,8 @@ impl<D: SectorDevice> Store<D> {
         requires durable { (D.state device).keeps_model
             → Only (D.state device).content (D.state device) }
         ensures stores { IfOk result (λ s. MountsStore D.SectorDevice.state device s.log s.saved) }
-        ensures counts { IfOk result (λ s. MountsTotals D.SectorDevice.state device s.log s.log.totals) }
+        ensures counts { IfOk result (λ s. MountsTotals D.SectorDevice.state device s.log
+            s.log.totals) }
         ensures drafted { IfOk result (λ s. s.drafted ≡ s.log.totals) }
         ensures saved { IfOk result (λ s. s.saved ≡ true) }
         ensures draft { IfOk result (λ s. IsNoChange s.draft.changes) }
@@ -120,7 +128,8 @@ impl<D: SectorDevice> Store<D> {
     /// As those of `Log::commit`: `Full` where too few segments are clean: nothing changed. `Halted` where a call of the device failed,
     /// here or in a commit before.
     pub fn commit(&mut self) -> Result<(), LogFault>
-        ensures done { OnOk result (Commits D.SectorDevice.state self.old.log self.old.saved self.new.log) }
+        ensures done { OnOk result (Commits D.SectorDevice.state self.old.log self.old.saved
+            self.new.log) }
         ensures ready { OnOk result (Readies D.SectorDevice.state self.old.log self.old.saved
             self.new.log self.new.saved) }
         ensures saved { OnOk result (self.new.saved ≡ true) }
@@ -128,10 +137,13 @@ impl<D: SectorDevice> Store<D> {
         ensures draft { self.new.draft ≡ self.old.draft }
         ensures totals { self.new.log.totals ≡ self.old.log.totals }
         ensures drafted { self.new.drafted ≡ self.old.drafted }
-        ensures full { IsErrOf result LogFault.Full → (self.new.log ≡ self.old.log) × IsFull self.old.log }
+        ensures full { IsErrOf result LogFault.Full
+            → (self.new.log ≡ self.old.log) × IsFull self.old.log }
         ensures unsaved { IsErrOf result LogFault.Full → self.old.saved ≡ false }
-        ensures halted { IsErrOf result LogFault.Halted → self.old.log.halted ≢ true → Halts D.SectorDevice.state self.old.log self.new.log }
-        ensures still { self.old.log.halted ≡ true → (self.new.log ≡ self.old.log) × IsErrOf result LogFault.Halted }
+        ensures halted { IsErrOf result LogFault.Halted → self.old.log.halted ≢ true
+            → Halts D.SectorDevice.state self.old.log self.new.log }
+        ensures still { self.old.log.halted ≡ true
+            → (self.new.log ≡ self.old.log) × IsErrOf result LogFault.Halted }
         ensures other { IsErrOf result LogFault.Device → ⊥ }
     {
         if self.log.is_halted() {
@@ -205,7 +217,8 @@ impl<D: SectorDevice> Store<D> {
         ensures few { IsTrue result → IsFull self.now.log }
         ensures lacks { IsTrue result → clean_in self.now.log.memory.usage.segments
             < length self.now.log.memory.usage.segments / 8 + 8 }
-        ensures enough { IsFalse result → length self.now.log.memory.usage.segments / 8 + 8 ≤ clean_in self.now.log.memory.usage.segments }
+        ensures enough { IsFalse result → length self.now.log.memory.usage.segments / 8 + 8
+            ≤ clean_in self.now.log.memory.usage.segments }
     {
         self.log.clean_segments() < self.log.segments() / 8 + 8
     }
@@ -218,7 +231,8 @@ impl<D: SectorDevice> Store<D> {
         ensures room { OnOk result (self.new.saved ≡ false →
             length self.new.log.memory.dirty.blocks + room_for self.new.draft.changes
             ≤ self.new.log.memory.dirty.capacity.limit) }
-        ensures quiet { HasRoomFor self.old.log self.old.draft.changes → self.new.log ≡ self.old.log }
+        ensures quiet { HasRoomFor self.old.log self.old.draft.changes
+            → self.new.log ≡ self.old.log }
         ensures draft { self.new.draft ≡ self.old.draft }
         ensures drafted { self.new.drafted ≡ self.old.drafted }
         ensures full { IsErrOf result LogFault.Full → (self.new.log ≡ self.old.log)
@@ -330,20 +344,32 @@ impl<D: SectorDevice> Store<D> {
         ensures counted { OnOk result (self.new.log.totals ≡ self.old.drafted) }
         ensures kept { OnErr result (self.new.log.totals ≡ self.old.log.totals) }
         ensures drafted { self.new.drafted ≡ self.old.drafted }
-        ensures done { OnOk result (Accepts D.SectorDevice.state self.old.log self.old.saved self.new.log self.new.saved self.old.draft.changes) }
-        ensures full { IsErrOf result (StoreFault.Log LogFault.Full) → Declines D.SectorDevice.state self.old.log self.old.saved self.new.log self.new.saved self.old.draft.changes }
+        ensures done { OnOk result (Accepts D.SectorDevice.state self.old.log self.old.saved
+            self.new.log self.new.saved self.old.draft.changes) }
+        ensures full { IsErrOf result (StoreFault.Log LogFault.Full)
+            → Declines D.SectorDevice.state self.old.log self.old.saved self.new.log self.new.saved
+            self.old.draft.changes }
         ensures lacks { IsErrOf result (StoreFault.Log LogFault.Full) → IsFull self.new.log }
         ensures never { IsErrOf result (StoreFault.Log LogFault.Full)
             → CannotMakeRoom D.SectorDevice.state self.old.log self.old.saved self.new.log }
-        ensures memory { IsErrOf result StoreFault.NoMemory → Declines D.SectorDevice.state self.old.log self.old.saved self.new.log self.new.saved self.old.draft.changes }
-        ensures device { IsErrOf result (StoreFault.Log LogFault.Device) → Declines D.SectorDevice.state self.old.log self.old.saved self.new.log self.new.saved self.old.draft.changes }
-        ensures failed { IsErrOf result (StoreFault.Log LogFault.Device) → IsAcceptFault D.SectorDevice.state self.old.log self.old.saved self.new.log self.old.draft.changes }
-        ensures halted { IsErrOf result (StoreFault.Log LogFault.Halted) → self.old.log.halted ≢ true
+        ensures memory { IsErrOf result StoreFault.NoMemory
+            → Declines D.SectorDevice.state self.old.log self.old.saved self.new.log self.new.saved
+            self.old.draft.changes }
+        ensures device { IsErrOf result (StoreFault.Log LogFault.Device)
+            → Declines D.SectorDevice.state self.old.log self.old.saved self.new.log self.new.saved
+            self.old.draft.changes }
+        ensures failed { IsErrOf result (StoreFault.Log LogFault.Device)
+            → IsAcceptFault D.SectorDevice.state self.old.log self.old.saved self.new.log
+            self.old.draft.changes }
+        ensures halted { IsErrOf result (StoreFault.Log LogFault.Halted)
+            → self.old.log.halted ≢ true
             → HaltsLater D.SectorDevice.state self.old.log self.new.log
             (most_written self.old.log self.old.saved) }
         ensures quiet { HasRoomFor self.old.log self.old.draft.changes → HasClean self.old.log
             → self.new.log.number ≡ self.old.log.number }
-        ensures still { self.old.log.halted ≡ true → (self.new.log ≡ self.old.log) × (self.new.saved ≡ self.old.saved) × IsErrOf result (StoreFault.Log LogFault.Halted) }
+        ensures still { self.old.log.halted ≡ true
+            → (self.new.log ≡ self.old.log) × (self.new.saved ≡ self.old.saved)
+            × IsErrOf result (StoreFault.Log LogFault.Halted) }
     {
         if self.log.is_halted() {
             return Err(StoreFault::Log(LogFault::Halted));
@@ -375,21 +401,33 @@ impl<D: SectorDevice> Store<D> {
         ensures counted { OnOk result (self.new.log.totals ≡ self.old.drafted) }
         ensures kept { OnErr result (self.new.log.totals ≡ self.old.log.totals) }
         ensures drafted { self.new.drafted ≡ self.new.log.totals }
-        ensures done { OnOk result (Accepts D.SectorDevice.state self.old.log self.old.saved self.new.log self.new.saved self.old.draft.changes) }
+        ensures done { OnOk result (Accepts D.SectorDevice.state self.old.log self.old.saved
+            self.new.log self.new.saved self.old.draft.changes) }
         ensures draft { IsNoChange self.new.draft.changes }
-        ensures full { IsErrOf result (StoreFault.Log LogFault.Full) → Declines D.SectorDevice.state self.old.log self.old.saved self.new.log self.new.saved self.old.draft.changes }
+        ensures full { IsErrOf result (StoreFault.Log LogFault.Full)
+            → Declines D.SectorDevice.state self.old.log self.old.saved self.new.log self.new.saved
+            self.old.draft.changes }
         ensures lacks { IsErrOf result (StoreFault.Log LogFault.Full) → IsFull self.new.log }
         ensures never { IsErrOf result (StoreFault.Log LogFault.Full)
             → CannotMakeRoom D.SectorDevice.state self.old.log self.old.saved self.new.log }
-        ensures memory { IsErrOf result StoreFault.NoMemory → Declines D.SectorDevice.state self.old.log self.old.saved self.new.log self.new.saved self.old.draft.changes }
-        ensures device { IsErrOf result (StoreFault.Log LogFault.Device) → Declines D.SectorDevice.state self.old.log self.old.saved self.new.log self.new.saved self.old.draft.changes }
-        ensures failed { IsErrOf result (StoreFault.Log LogFault.Device) → IsAcceptFault D.SectorDevice.state self.old.log self.old.saved self.new.log self.old.draft.changes }
-        ensures halted { IsErrOf result (StoreFault.Log LogFault.Halted) → self.old.log.halted ≢ true
+        ensures memory { IsErrOf result StoreFault.NoMemory
+            → Declines D.SectorDevice.state self.old.log self.old.saved self.new.log self.new.saved
+            self.old.draft.changes }
+        ensures device { IsErrOf result (StoreFault.Log LogFault.Device)
+            → Declines D.SectorDevice.state self.old.log self.old.saved self.new.log self.new.saved
+            self.old.draft.changes }
+        ensures failed { IsErrOf result (StoreFault.Log LogFault.Device)
+            → IsAcceptFault D.SectorDevice.state self.old.log self.old.saved self.new.log
+            self.old.draft.changes }
+        ensures halted { IsErrOf result (StoreFault.Log LogFault.Halted)
+            → self.old.log.halted ≢ true
             → HaltsLater D.SectorDevice.state self.old.log self.new.log
             (most_written self.old.log self.old.saved) }
         ensures quiet { HasRoomFor self.old.log self.old.draft.changes → HasClean self.old.log
             → self.new.log.number ≡ self.old.log.number }
-        ensures still { self.old.log.halted ≡ true → (self.new.log ≡ self.old.log) × (self.new.saved ≡ self.old.saved) × IsErrOf result (StoreFault.Log LogFault.Halted) }
+        ensures still { self.old.log.halted ≡ true
+            → (self.new.log ≡ self.old.log) × (self.new.saved ≡ self.old.saved)
+            × IsErrOf result (StoreFault.Log LogFault.Halted) }
     {
         let outcome = self.stage_draft();
         self.give_up();

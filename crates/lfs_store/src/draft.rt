@@ -78,7 +78,8 @@ impl Draft {
 
     /// The bytes that the draft gives a block of a file.
     pub fn find_block(&self, number: u16, index: u32) -> Option<&[u8; 512]>
-        ensures some { IfSome result (λ bytes. DraftsBlock self.now.changes number index bytes.now) }
+        ensures some { IfSome result (λ bytes. DraftsBlock self.now.changes number index
+            bytes.now) }
         ensures none { IfNone result (LeavesBlock self.now.changes number index) }
         ensures long { IfSome result (λ bytes. length bytes.now ≡ 512) }
     {
@@ -102,7 +103,8 @@ impl Draft {
         requires some { 1 ≤ number }
         requires few { number ≤ 4095 }
         requires low { index ≤ 16623 }
-        ensures done { OnOk result (PutsBlock self.old.changes self.new.changes number index bytes.now) }
+        ensures done { OnOk result (PutsBlock self.old.changes self.new.changes number index
+            bytes.now) }
         ensures same { OnErr result (IsAsBefore self.old.changes self.new.changes) }
     {
         let Some(place) = last_block(&self.changes.blocks, number, index) else {

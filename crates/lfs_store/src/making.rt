@@ -46,8 +46,10 @@ impl<D: SectorDevice> Store<D> {
         requires few { number ≤ 4095 }
         ensures log { self.new.log ≡ self.old.log }
         ensures saved { self.new.saved ≡ self.old.saved }
-        ensures done { OnOk result (Makes self.old.draft.changes self.new.draft.changes number (first_header kind 0)) }
-        ensures counted { OnOk result (CountsMade self.old.draft.changes self.new.draft.changes number self.old.drafted self.new.drafted) }
+        ensures done { OnOk result (Makes self.old.draft.changes self.new.draft.changes number
+            (first_header kind 0)) }
+        ensures counted { OnOk result (CountsMade self.old.draft.changes self.new.draft.changes
+            number self.old.drafted self.new.drafted) }
         ensures failed { IfErr result (λ fault. fault ≡ StoreFault.NoMemory) }
     {
         self.make(number, kind, 0)
@@ -64,8 +66,10 @@ impl<D: SectorDevice> Store<D> {
         requires most { size ≤ 1023 }
         ensures log { self.new.log ≡ self.old.log }
         ensures saved { self.new.saved ≡ self.old.saved }
-        ensures done { OnOk result (Makes self.old.draft.changes self.new.draft.changes number (first_header Kind.Link size)) }
-        ensures counted { OnOk result (CountsMade self.old.draft.changes self.new.draft.changes number self.old.drafted self.new.drafted) }
+        ensures done { OnOk result (Makes self.old.draft.changes self.new.draft.changes number
+            (first_header Kind.Link size)) }
+        ensures counted { OnOk result (CountsMade self.old.draft.changes self.new.draft.changes
+            number self.old.drafted self.new.drafted) }
         ensures failed { IfErr result (λ fault. fault ≡ StoreFault.NoMemory) }
     {
         self.make(number, Kind::Link, size)
@@ -78,8 +82,10 @@ impl<D: SectorDevice> Store<D> {
         requires most { size ≤ 8511488 }
         ensures log { self.new.log ≡ self.old.log }
         ensures saved { self.new.saved ≡ self.old.saved }
-        ensures done { OnOk result (Makes self.old.draft.changes self.new.draft.changes number (first_header kind size)) }
-        ensures counted { OnOk result (CountsMade self.old.draft.changes self.new.draft.changes number self.old.drafted self.new.drafted) }
+        ensures done { OnOk result (Makes self.old.draft.changes self.new.draft.changes number
+            (first_header kind size)) }
+        ensures counted { OnOk result (CountsMade self.old.draft.changes self.new.draft.changes
+            number self.old.drafted self.new.drafted) }
         ensures failed { IfErr result (λ fault. fault ≡ StoreFault.NoMemory) }
     {
         let header = Header {
@@ -110,8 +116,10 @@ impl<D: SectorDevice> Store<D> {
         ensures log { self.new.log ≡ self.old.log }
         ensures saved { self.new.saved ≡ self.old.saved }
         ensures drafted { self.new.drafted ≡ self.old.drafted }
-        ensures done { OnOk result (SetsLinks self.old.draft.changes self.new.draft.changes number header links) }
-        ensures counted { OnOk result (CountsRelinked self.old.draft.changes self.new.draft.changes number header self.new.drafted) }
+        ensures done { OnOk result (SetsLinks self.old.draft.changes self.new.draft.changes number
+            header links) }
+        ensures counted { OnOk result (CountsRelinked self.old.draft.changes self.new.draft.changes
+            number header self.new.drafted) }
         ensures failed { IfErr result (λ fault. fault ≡ StoreFault.NoMemory) }
     {
         if links == 0 {
@@ -146,7 +154,8 @@ impl<D: SectorDevice> Store<D> {
         ensures log { self.new.log ≡ self.old.log }
         ensures saved { self.new.saved ≡ self.old.saved }
         ensures drafted { self.new.drafted ≡ self.old.drafted }
-        ensures done { OnOk result (SetsLinks self.old.draft.changes self.new.draft.changes number header links) }
+        ensures done { OnOk result (SetsLinks self.old.draft.changes self.new.draft.changes number
+            header links) }
         ensures failed { IfErr result (λ fault. fault ≡ StoreFault.NoMemory) }
     {
         let header = Header {
@@ -172,7 +181,8 @@ impl<D: SectorDevice> Store<D> {
         ensures reads { Reads D.SectorDevice.state self.old.log self.new.log }
         ensures saved { self.new.saved ≡ self.old.saved }
         ensures done { OnOk result (Removes self.new.draft.changes number) }
-        ensures counted { OnOk result (Counts D.SectorDevice.state self.old.log self.new.log self.old.draft.changes self.new.draft.changes self.old.drafted self.new.drafted) }
+        ensures counted { OnOk result (Counts D.SectorDevice.state self.old.log self.new.log
+            self.old.draft.changes self.new.draft.changes self.old.drafted self.new.drafted) }
         ensures failed { OnErr result (IsReadFault D.SectorDevice.state self.old.log self.new.log) }
         ensures halted { IsErrOf result LogFault.Halted → self.old.log.halted ≡ true }
         ensures other { IsErrOf result LogFault.Full → ⊥ }
@@ -209,12 +219,15 @@ impl<D: SectorDevice> Store<D> {
         requires some { 1 ≤ number }
         requires few { number ≤ 4095 }
         requires empty { IsNoChange self.old.draft.changes }
-        ensures done { OnOk result (IsRemoved D.SectorDevice.state self.old.log self.new.log number) }
-        ensures stores { OnOk result (Forgets D.SectorDevice.state self.old.log self.old.saved self.new.log number) }
+        ensures done { OnOk result (IsRemoved D.SectorDevice.state self.old.log self.new.log
+            number) }
+        ensures stores { OnOk result (Forgets D.SectorDevice.state self.old.log self.old.saved
+            self.new.log number) }
         ensures kept { OnErr result (IsKept D.SectorDevice.state self.old.log self.new.log) }
         ensures draft { self.new.draft ≡ self.old.draft }
         ensures saved { self.new.saved ≡ self.old.saved }
-        ensures counted { OnOk result (CountsGone D.SectorDevice.state self.old.log self.new.log number self.old.log.totals self.new.log.totals) }
+        ensures counted { OnOk result (CountsGone D.SectorDevice.state self.old.log self.new.log
+            number self.old.log.totals self.new.log.totals) }
         ensures drafted { OnOk result (self.new.drafted ≡ self.new.log.totals) }
         ensures same { OnErr result (self.new.log.totals ≡ self.old.log.totals) }
         ensures same_drafted { OnErr result (self.new.drafted ≡ self.old.drafted) }

@@ -36,7 +36,8 @@ impl<D: SectorDevice> Store<D> {
         ensures reads { ReadsStore D.SectorDevice.state self.old self.new }
         ensures few { IfOk result (λ found. found.data_blocks ≤ to - from) }
         ensures few_above { IfOk result (λ found. found.meta_blocks ≤ 131) }
-        ensures answer { IfOk result (Measures D.SectorDevice.state self.old.log self.new.log self.old.draft.changes number from to) }
+        ensures answer { IfOk result (Measures D.SectorDevice.state self.old.log self.new.log
+            self.old.draft.changes number from to) }
         ensures failed { OnErr result (IsReadFault D.SectorDevice.state self.old.log self.new.log) }
         ensures halted { IsErrOf result LogFault.Halted → self.old.log.halted ≡ true }
         ensures other { IsErrOf result LogFault.Full → ⊥ }

@@ -44,7 +44,8 @@ pub fn append_part(
     to: u32,
 ) -> Result<(), AllocError>
     requires low { index ≤ 16623 }
-    ensures { out.new.items ≡ cond (is_ok result) (out.old.items ++ part_of_block from to index block.now) out.old.items }
+    ensures { out.new.items ≡ cond (is_ok result)
+        (out.old.items ++ part_of_block from to index block.now) out.old.items }
 {
     let start = place_in_block(from, index);
     let stop = place_in_block(to, index);

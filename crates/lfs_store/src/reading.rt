@@ -28,9 +28,12 @@ impl<D: SectorDevice> Store<D> {
         requires order { from ≤ to }
         ensures reads { ReadsStore D.SectorDevice.state self.old self.new }
         ensures long { IfOk result (λ bytes. from + length bytes.items ≡ to) }
-        ensures answer { IfOk result (λ bytes. ReadsPart D.SectorDevice.state self.old.log self.new.log self.old.draft.changes number from to bytes.items) }
-        ensures failed { IfErr result (λ fault. (fault ≡ StoreFault.NoMemory → ⊥) → IsReadFault D.SectorDevice.state self.old.log self.new.log) }
-        ensures halted { IsErrOf result (StoreFault.Log LogFault.Halted) → self.old.log.halted ≡ true }
+        ensures answer { IfOk result (λ bytes. ReadsPart D.SectorDevice.state self.old.log
+            self.new.log self.old.draft.changes number from to bytes.items) }
+        ensures failed { IfErr result (λ fault. (fault ≡ StoreFault.NoMemory → ⊥)
+            → IsReadFault D.SectorDevice.state self.old.log self.new.log) }
+        ensures halted { IsErrOf result (StoreFault.Log LogFault.Halted)
+            → self.old.log.halted ≡ true }
         ensures other { IsErrOf result (StoreFault.Log LogFault.Full) → ⊥ }
     {
         read_part(alloc, &mut self.log, &self.draft, number, from, to)

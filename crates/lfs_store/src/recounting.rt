@@ -55,7 +55,8 @@ impl<D: SectorDevice> Store<D> {
         ensures reads { Reads D.SectorDevice.state self.old.log self.new.log }
         ensures draft { self.new.draft ≡ self.old.draft }
         ensures saved { self.new.saved ≡ self.old.saved }
-        ensures done { OnOk result (Remeasures D.SectorDevice.state self.old.log self.new.log self.old.draft.changes number from to before self.old.drafted self.new.drafted) }
+        ensures done { OnOk result (Remeasures D.SectorDevice.state self.old.log self.new.log
+            self.old.draft.changes number from to before self.old.drafted self.new.drafted) }
         ensures failed { OnErr result (IsReadFault D.SectorDevice.state self.old.log self.new.log) }
         ensures halted { IsErrOf result LogFault.Halted → self.old.log.halted ≡ true }
         ensures other { IsErrOf result LogFault.Full → ⊥ }

@@ -30,7 +30,8 @@ impl<D: SectorDevice> Store<D> {
     pub fn header(&mut self, number: u16) -> Result<Option<Header>, LogFault>
         requires { number < 4096 }
         ensures reads { ReadsStore D.SectorDevice.state self.old self.new }
-        ensures answer { IfOk result (ReadsHeader D.SectorDevice.state self.old.log self.new.log self.old.draft.changes number) }
+        ensures answer { IfOk result (ReadsHeader D.SectorDevice.state self.old.log self.new.log
+            self.old.draft.changes number) }
         ensures failed { OnErr result (IsReadFault D.SectorDevice.state self.old.log self.new.log) }
         ensures halted { IsErrOf result LogFault.Halted → self.old.log.halted ≡ true }
         ensures other { IsErrOf result LogFault.Full → ⊥ }
@@ -49,7 +50,8 @@ impl<D: SectorDevice> Store<D> {
     pub fn block(&mut self, number: u16, index: u32, out: &mut [u8; 512]) -> Result<bool, LogFault>
         requires { number < 4096 }
         ensures reads { ReadsStore D.SectorDevice.state self.old self.new }
-        ensures answer { IfOk result (ReadsBlock D.SectorDevice.state self.old.log self.new.log self.old.draft.changes number index out.new) }
+        ensures answer { IfOk result (ReadsBlock D.SectorDevice.state self.old.log self.new.log
+            self.old.draft.changes number index out.new) }
         ensures zeros { IfOk result (λ found. IsFalse found → out.new ≡ zeros 512) }
         ensures failed { OnErr result (IsReadFault D.SectorDevice.state self.old.log self.new.log) }
         ensures halted { IsErrOf result LogFault.Halted → self.old.log.halted ≡ true }

@@ -75,10 +75,14 @@ impl<D: SectorDevice> Store<D> {
         requires end { at + length bytes.now ≤ 8511488 }
         ensures reads { Reads D.SectorDevice.state self.old.log self.new.log }
         ensures saved { self.new.saved ≡ self.old.saved }
-        ensures done { OnOk result (Writes D.SectorDevice.state self.old.log self.new.log self.old.draft.changes self.new.draft.changes number header at bytes.now) }
-        ensures counted { OnOk result (Counts D.SectorDevice.state self.old.log self.new.log self.old.draft.changes self.new.draft.changes self.old.drafted self.new.drafted) }
-        ensures failed { IfErr result (λ fault. (fault ≡ StoreFault.NoMemory → ⊥) → IsReadFault D.SectorDevice.state self.old.log self.new.log) }
-        ensures halted { IsErrOf result (StoreFault.Log LogFault.Halted) → self.old.log.halted ≡ true }
+        ensures done { OnOk result (Writes D.SectorDevice.state self.old.log self.new.log
+            self.old.draft.changes self.new.draft.changes number header at bytes.now) }
+        ensures counted { OnOk result (Counts D.SectorDevice.state self.old.log self.new.log
+            self.old.draft.changes self.new.draft.changes self.old.drafted self.new.drafted) }
+        ensures failed { IfErr result (λ fault. (fault ≡ StoreFault.NoMemory → ⊥)
+            → IsReadFault D.SectorDevice.state self.old.log self.new.log) }
+        ensures halted { IsErrOf result (StoreFault.Log LogFault.Halted)
+            → self.old.log.halted ≡ true }
         ensures other { IsErrOf result (StoreFault.Log LogFault.Full) → ⊥ }
     {
         let from = at / 512;
@@ -112,9 +116,12 @@ impl<D: SectorDevice> Store<D> {
         ensures reads { Reads D.SectorDevice.state self.old.log self.new.log }
         ensures saved { self.new.saved ≡ self.old.saved }
         ensures drafted { self.new.drafted ≡ self.old.drafted }
-        ensures done { OnOk result (Writes D.SectorDevice.state self.old.log self.new.log self.old.draft.changes self.new.draft.changes number header at bytes.now) }
-        ensures failed { IfErr result (λ fault. (fault ≡ StoreFault.NoMemory → ⊥) → IsReadFault D.SectorDevice.state self.old.log self.new.log) }
-        ensures halted { IsErrOf result (StoreFault.Log LogFault.Halted) → self.old.log.halted ≡ true }
+        ensures done { OnOk result (Writes D.SectorDevice.state self.old.log self.new.log
+            self.old.draft.changes self.new.draft.changes number header at bytes.now) }
+        ensures failed { IfErr result (λ fault. (fault ≡ StoreFault.NoMemory → ⊥)
+            → IsReadFault D.SectorDevice.state self.old.log self.new.log) }
+        ensures halted { IsErrOf result (StoreFault.Log LogFault.Halted)
+            → self.old.log.halted ≡ true }
         ensures other { IsErrOf result (StoreFault.Log LogFault.Full) → ⊥ }
     {
         let end = at + bytes.len() as u32;
@@ -139,9 +146,12 @@ impl<D: SectorDevice> Store<D> {
         ensures reads { Reads D.SectorDevice.state self.old.log self.new.log }
         ensures saved { self.new.saved ≡ self.old.saved }
         ensures drafted { self.new.drafted ≡ self.old.drafted }
-        ensures done { OnOk result (WritesBlock D.SectorDevice.state self.old.log self.new.log self.old.draft.changes self.new.draft.changes number index at bytes.now) }
-        ensures failed { IfErr result (λ fault. (fault ≡ StoreFault.NoMemory → ⊥) → IsReadFault D.SectorDevice.state self.old.log self.new.log) }
-        ensures halted { IsErrOf result (StoreFault.Log LogFault.Halted) → self.old.log.halted ≡ true }
+        ensures done { OnOk result (WritesBlock D.SectorDevice.state self.old.log self.new.log
+            self.old.draft.changes self.new.draft.changes number index at bytes.now) }
+        ensures failed { IfErr result (λ fault. (fault ≡ StoreFault.NoMemory → ⊥)
+            → IsReadFault D.SectorDevice.state self.old.log self.new.log) }
+        ensures halted { IsErrOf result (StoreFault.Log LogFault.Halted)
+            → self.old.log.halted ≡ true }
         ensures other { IsErrOf result (StoreFault.Log LogFault.Full) → ⊥ }
     {
         let mut block = [0; 512];
@@ -176,10 +186,14 @@ impl<D: SectorDevice> Store<D> {
         requires empty { IsNoChange self.old.draft.changes }
         ensures reads { Reads D.SectorDevice.state self.old.log self.new.log }
         ensures saved { self.new.saved ≡ self.old.saved }
-        ensures done { OnOk result (SetsLen D.SectorDevice.state self.old.log self.new.log self.new.draft.changes number header len) }
-        ensures counted { OnOk result (Counts D.SectorDevice.state self.old.log self.new.log self.old.draft.changes self.new.draft.changes self.old.drafted self.new.drafted) }
-        ensures failed { IfErr result (λ fault. (fault ≡ StoreFault.NoMemory → ⊥) → IsReadFault D.SectorDevice.state self.old.log self.new.log) }
-        ensures halted { IsErrOf result (StoreFault.Log LogFault.Halted) → self.old.log.halted ≡ true }
+        ensures done { OnOk result (SetsLen D.SectorDevice.state self.old.log self.new.log
+            self.new.draft.changes number header len) }
+        ensures counted { OnOk result (Counts D.SectorDevice.state self.old.log self.new.log
+            self.old.draft.changes self.new.draft.changes self.old.drafted self.new.drafted) }
+        ensures failed { IfErr result (λ fault. (fault ≡ StoreFault.NoMemory → ⊥)
+            → IsReadFault D.SectorDevice.state self.old.log self.new.log) }
+        ensures halted { IsErrOf result (StoreFault.Log LogFault.Halted)
+            → self.old.log.halted ≡ true }
         ensures other { IsErrOf result (StoreFault.Log LogFault.Full) → ⊥ }
     {
         let before = match self.measure(number, len / 512, BLOCKS) {
@@ -205,9 +219,12 @@ impl<D: SectorDevice> Store<D> {
         ensures reads { Reads D.SectorDevice.state self.old.log self.new.log }
         ensures saved { self.new.saved ≡ self.old.saved }
         ensures drafted { self.new.drafted ≡ self.old.drafted }
-        ensures done { OnOk result (SetsLen D.SectorDevice.state self.old.log self.new.log self.new.draft.changes number header len) }
-        ensures failed { IfErr result (λ fault. (fault ≡ StoreFault.NoMemory → ⊥) → IsReadFault D.SectorDevice.state self.old.log self.new.log) }
-        ensures halted { IsErrOf result (StoreFault.Log LogFault.Halted) → self.old.log.halted ≡ true }
+        ensures done { OnOk result (SetsLen D.SectorDevice.state self.old.log self.new.log
+            self.new.draft.changes number header len) }
+        ensures failed { IfErr result (λ fault. (fault ≡ StoreFault.NoMemory → ⊥)
+            → IsReadFault D.SectorDevice.state self.old.log self.new.log) }
+        ensures halted { IsErrOf result (StoreFault.Log LogFault.Halted)
+            → self.old.log.halted ≡ true }
         ensures other { IsErrOf result (StoreFault.Log LogFault.Full) → ⊥ }
     {
         if header.size <= len {
@@ -226,9 +243,12 @@ impl<D: SectorDevice> Store<D> {
         ensures reads { Reads D.SectorDevice.state self.old.log self.new.log }
         ensures saved { self.new.saved ≡ self.old.saved }
         ensures drafted { self.new.drafted ≡ self.old.drafted }
-        ensures done { OnOk result (CutsDraft D.SectorDevice.state self.old.log self.new.log self.new.draft.changes number len) }
-        ensures failed { IfErr result (λ fault. (fault ≡ StoreFault.NoMemory → ⊥) → IsReadFault D.SectorDevice.state self.old.log self.new.log) }
-        ensures halted { IsErrOf result (StoreFault.Log LogFault.Halted) → self.old.log.halted ≡ true }
+        ensures done { OnOk result (CutsDraft D.SectorDevice.state self.old.log self.new.log
+            self.new.draft.changes number len) }
+        ensures failed { IfErr result (λ fault. (fault ≡ StoreFault.NoMemory → ⊥)
+            → IsReadFault D.SectorDevice.state self.old.log self.new.log) }
+        ensures halted { IsErrOf result (StoreFault.Log LogFault.Halted)
+            → self.old.log.halted ≡ true }
         ensures other { IsErrOf result (StoreFault.Log LogFault.Full) → ⊥ }
     {
         self.lose_blocks(number, len);
@@ -264,9 +284,12 @@ impl<D: SectorDevice> Store<D> {
         ensures reads { Reads D.SectorDevice.state self.old.log self.new.log }
         ensures saved { self.new.saved ≡ self.old.saved }
         ensures drafted { self.new.drafted ≡ self.old.drafted }
-        ensures done { OnOk result (CutsDraft D.SectorDevice.state self.old.log self.new.log self.new.draft.changes number len) }
-        ensures failed { IfErr result (λ fault. (fault ≡ StoreFault.NoMemory → ⊥) → IsReadFault D.SectorDevice.state self.old.log self.new.log) }
-        ensures halted { IsErrOf result (StoreFault.Log LogFault.Halted) → self.old.log.halted ≡ true }
+        ensures done { OnOk result (CutsDraft D.SectorDevice.state self.old.log self.new.log
+            self.new.draft.changes number len) }
+        ensures failed { IfErr result (λ fault. (fault ≡ StoreFault.NoMemory → ⊥)
+            → IsReadFault D.SectorDevice.state self.old.log self.new.log) }
+        ensures halted { IsErrOf result (StoreFault.Log LogFault.Halted)
+            → self.old.log.halted ≡ true }
         ensures other { IsErrOf result (StoreFault.Log LogFault.Full) → ⊥ }
     {
         let mut block = [0; 512];
@@ -291,7 +314,8 @@ impl<D: SectorDevice> Store<D> {
         ensures log { self.new.log ≡ self.old.log }
         ensures saved { self.new.saved ≡ self.old.saved }
         ensures drafted { self.new.drafted ≡ self.old.drafted }
-        ensures done { OnOk result (PutsHeader self.old.draft.changes self.new.draft.changes number (resized header size)) }
+        ensures done { OnOk result (PutsHeader self.old.draft.changes self.new.draft.changes number
+            (resized header size)) }
         ensures failed { IfErr result (λ fault. fault ≡ StoreFault.NoMemory) }
     {
         let header = Header {
