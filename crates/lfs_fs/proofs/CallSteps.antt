@@ -4,9 +4,8 @@ use Rattle.std.specs.Prelude.{max, min}
 use Rattle.std.proofs.lemmas.List.{drop_min, length-drop, take_min}
 use Rattle.std.specs.Ordering.{nat_cmp}
 use Rattle.std.specs.FinMap.{find}
-use Rattle.lfs_model.specs.declared.Kind.{Kind}
 use Rattle.lfs_model.specs.Bytes.{AreBytes, part}
-use Rattle.lfs_model.specs.Call.{Answer, AreArguments, Call, Count, Data, Pread, Pwrite, Refuse, Room, Space, Stat, StatOf, Status, changes, cleans, is_ok}
+use Rattle.lfs_model.specs.Call.{Answer, AreArguments, Call, Count, Data, Pread, Pwrite, Refuse, Room, Space, Stat, Status, changes, cleans, is_ok}
 use Rattle.lfs_model.specs.Entry as entry
 use Rattle.lfs_model.specs.Need.{need}
 use Rattle.lfs_model.specs.Objects.{IsHeaderOf}
@@ -24,6 +23,8 @@ use Rattle.lfs_files.specs.declared.header.Header.{Header}
 use Rattle.lfs_store.specs.memory.Present.{as_header}
 use Rattle.lfs_model.specs.Totals.{IsCounted, TotalsOfTree}
 use Rattle.lfs_store.specs.Writing.{WritesFile, resized}
+use Rattle.lfs_fs.specs.Naming.{NewKind}
+use Rattle.lfs_fs.specs.Reading.{stat_call}
 use Rattle.lfs_fs.proofs.Created.{NamesNew, created_map, created_need}
 use Rattle.lfs_fs.proofs.EntrySteps.{MakesEntry, new_done, new_no_space, new_node, with_entry}
 use Rattle.lfs_fs.proofs.Files.{IsFileOf, IsMapOf, IsShaped, opened_file, room_counted, stat_is}
@@ -85,9 +86,9 @@ module _ (N : ℕ) (m : LogMap) (s : State) (is : IsMapOf N m s) where
         ∙ part_clipped (object m n (as_header head)) off count)
 
   -- ---- what is told
-  pub stat_step : (p : List ℕ) (n : ℕ) → Resolve s.tree p true (At n) → (h : entry.Header) → m.header n ≡ Some h → IsHeaderOf n h
-      → Step N s (StatOf p) (Status (record { number = n; kind = h.kind; links = h.links; size = h.size })) s
-  stat_step p n walk h there fits = subst (λ (x : Stat). Step N s (StatOf p) (Status x) s) (stat_is N m s is.log n h there fits) (stat_done N s p n walk)
+  pub stat_step : (p : List ℕ) (follow : Bool) (n : ℕ) → Resolve s.tree p follow (At n) → (h : entry.Header) → m.header n ≡ Some h → IsHeaderOf n h
+      → Step N s (stat_call follow p) (Status (record { number = n; kind = h.kind; links = h.links; size = h.size })) s
+  stat_step p follow n walk h there fits = subst (λ (x : Stat). Step N s (stat_call follow p) (Status x) s) (stat_is N m s is.log n h there fits) (stat_done N s p follow n walk)
 
   -- ---- room
   module _ (totals : TotalsOfTree) where
@@ -117,7 +118,7 @@ module _ (N : ℕ) (m : LogMap) (s : State) (is : IsMapOf N m s) where
 
       -- a new entry
       module _ (version : s.version ≡ 1) (p : List ℕ) (d : ℕ) (walk : Parent s.tree p (At d)) (m1 : LogMap) (n : ℕ) (first : least s.tree ≡ n) (top : n ≤ 4095) (new : is_there s.tree d p ≡ false)
-          (k : Kind) (head : Header) (size at : ℕ) (w : List ℕ) (does : NamesNew m m1 m' d n k head size at w (name p)) (call : Call) (is_mkdir : Bool) (e : MakesEntry N s p d call k is_mkdir)
+          (k : NewKind) (head : Header) (size at : ℕ) (w : List ℕ) (does : NamesNew m m1 m' d n k head size at w (name p)) (call : Call) (is_mkdir : Bool) (e : MakesEntry N s p d call k is_mkdir)
           (named : (no_last p || last_dots p) ≡ false) (short : is_long s.tree d p ≡ false) (plain : (slash p && not is_mkdir) ≡ false) (space : is_full s.tree d ≡ false) (allowed : e.own ≡ false) where
         needs_entry : need (with_new s.tree d p (new_node k)) ≡ blocks + 7 * others + 720
         needs_entry = created_need N m m1 m' s is version p d walk n first top new k head size at w does totals shaped blocks others counted

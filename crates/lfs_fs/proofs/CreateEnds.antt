@@ -1,9 +1,10 @@
 -- The ends of a call that makes an entry, from what its steps tell to the call as a step of the model.
-use Rattle.std.proofs.Common.{◌≡◌, ◌||◌, ℕ, suc, Bool, true, false, List, [], ◌∷◌, slice_index_or, Fits, w8, Option, None, sym, ◌∙◌, ap, subst, inl, arith}
-use Rattle.lfs_model.specs.Call.{Refuse}
+use Rattle.std.proofs.Common.{◌≡◌, ◌||◌, ℕ, suc, Bool, true, false, List, [], ◌∷◌, slice_index_or, Fits, w8, Option, Some, None, refl, sym, ◌∙◌, ap, subst, inl, arith}
+use Rattle.lfs_model.specs.Call.{Refuse, Symlink}
 use Rattle.lfs_model.specs.Bytes.{AreBytes}
 use Rattle.lfs_model.specs.Checkpoint.{CheckpointValue}
 use Rattle.lfs_model.specs.Device.{DeviceState, IsLawful}
+use Rattle.lfs_model.specs.PathText.{text_refusal}
 use Rattle.lfs_model.specs.Refusal as refusals
 use Rattle.lfs_model.specs.Refusal.{Refusal}
 use Rattle.lfs_model.specs.Stands.{LogMap}
@@ -35,6 +36,8 @@ use Rattle.lfs_fs.proofs.Files.{dir_there}
 use Rattle.lfs_model.proofs.Keeps.{parent_dir}
 use Rattle.lfs_fs.proofs.NameLooks.{only_none}
 use Rattle.lfs_fs.proofs.NamingEnds.{still_read, was_running}
+use Rattle.lfs_fs.proofs.PathSteps.{symlink_bad_text, text_ordinary}
+use Rattle.lfs_fs.proofs.Told.{refused_serves}
 use Rattle.lfs_fs.proofs.WalkEnds.{walked}
 use Rattle.lfs_fs.proofs.Serving.{served_still}
 
@@ -87,6 +90,14 @@ module _ {D : Type 0} (state : D → DeviceState) (lawful : (d : D) → IsLawful
 
       was : begun.store.log.halted ≡ false
       was = was_running state lawful old begun begins store reads saved totals
+
+-- ---- a link's text that is refused
+
+module _ {D : Type 0} (state : D → DeviceState) (lawful : (d : D) → IsLawful (state d)) (old begun : Fs D) (begins : Begins old begun) where
+  pub text_ends : (text path : List ℕ) (r : Refusal) → text_refusal text ≡ Some r → Serves state (seen begun) (seen begun) (Symlink text path) (Refuse r)
+  text_ends text path r bad = refused_serves state (seen begun) (seen begun) (Symlink text path) (lawful begun.store.log.device) (only_none state begun).still
+      (ap (λ (v : Mounted D). v.log.halted) begins.same ∙ begins.running) r (text_ordinary text r bad) refl
+      (λ k m0 m s keeps is. symlink_bad_text (segments_of (seen begun)) s path text is.log.sound.named r bad)
 
 -- ---- refusals that the log map and the state tell
 

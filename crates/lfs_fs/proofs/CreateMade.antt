@@ -23,7 +23,7 @@ use Rattle.lfs_store.specs.memory.declared.changes.Changes.{Changes}
 use Rattle.lfs_files.specs.declared.header.Header.{Header}
 use Rattle.lfs_store.specs.memory.declared.memory.LogMemory.{LogMemory}
 use Rattle.lfs_store.specs.memory.Batch.{is_lost, staged, FitsBatch, IsNoChange}
-use Rattle.lfs_store.specs.memory.Changing.{FitsHeader, with_header}
+use Rattle.lfs_store.specs.memory.Changing.{FitsHeader}
 use Rattle.lfs_store.specs.memory.Present.{as_header}
 use Rattle.lfs_store.specs.log.Held.{Holds, IsVacant}
 use Rattle.lfs_store.specs.declared.draft.Draft.{Draft}
@@ -46,17 +46,18 @@ use Rattle.lfs_fs.specs.declared.error.FsError.{FsError}
 use Rattle.lfs_fs.specs.declared.fs.Fs.{Fs}
 use Rattle.lfs_fs.specs.Accepting.{Stages, TurnsDown, limit_of, need_of}
 use Rattle.lfs_fs.specs.Handles.{handles_of}
-use Rattle.lfs_fs.specs.Naming.{IsReady, Reaches, RelinksParent, TakesEntry, more_links}
+use Rattle.lfs_fs.specs.Naming.{IsReady, Reaches, RelinksParent, TakesEntry, kind_of_new, more_links}
 use Rattle.lfs_fs.specs.Refusals.{refusal_of}
 use Rattle.lfs_fs.specs.Seen.{OnlyReads, seen}
 use Rattle.lfs_fs.specs.Volume.{Behaves, IsIn, IsStill, Mounted, Serves, segments_of}
 use Rattle.lfs_fs.proofs.Accepted.{DraftsEntry, IsDrafted, entry_serves}
 use Rattle.lfs_fs.proofs.Behaving.{ok_refuses_none}
-use Rattle.lfs_fs.proofs.Created.{NamesNew, new_header}
+use Rattle.lfs_fs.proofs.Created.{NamesNew}
 use Rattle.lfs_fs.proofs.CreateEnds.{of_each}
 use Rattle.lfs_fs.proofs.Declined.{entry_fits}
 use Rattle.lfs_fs.proofs.EntrySteps.{NewCall}
-use Rattle.lfs_fs.proofs.Files.{IsMapOf}
+use Rattle.lfs_fs.proofs.Files.{IsMapOf, no_header_none}
+use Rattle.lfs_fs.proofs.NewObjects.{IsMade, object_counted, object_fits, object_log, object_loss, object_made}
 use Rattle.lfs_fs.proofs.Headers.{directory_grows}
 use Rattle.lfs_fs.proofs.Holding.{headers_of_volume, map_of_volume}
 use Rattle.lfs_fs.proofs.Lacking.{entry_lacks, entry_worn}
@@ -100,7 +101,7 @@ module _ (c c' : Changes) (d : ℕ) (head : Header) (t : BlockTotals) where
 
 module _ {D : Type 0} (state : D → DeviceState) (lawful : (d : D) → IsLawful (state d)) (v : Mounted D) (old mid ready : Fs D) (path : List ℕ) (d : ℕ) (of : NewCall (segments_of v) path d) (last : Last)
     (reached : Reaches state v old path d (Some last)) (running : old.store.log.halted ≡ false) (only : OnlyReads state old mid) (head : Header) (takes : TakesEntry state old mid d last.name.now last.slash of.is_mkdir head)
-    (few : of.kind ≡ kind.Directory → head.links < 1000) (n : ℕ) (vacant : IsVacant state mid.store.log n) (is_ready : IsReady state mid ready d head n of.kind last.name.now)
+    (few : kind_of_new of.kind ≡ kind.Directory → head.links < 1000) (n : ℕ) (vacant : IsVacant state mid.store.log n) (is_ready : IsReady state mid ready d head n of.kind last.name.now)
     (allowed : (k : CheckpointValue) (m0 m : LogMap) (s : State) → (state mid.store.log.device).keeps_model → (is : IsIn state v k m0 m s) → (walk : Parent s.tree path (At d)) → (of.makes s is.version walk).own ≡ false) where
   abbrev c : Changes
   c = ready.store.draft.changes
@@ -114,7 +115,7 @@ module _ {D : Type 0} (state : D → DeviceState) (lawful : (d : D) → IsLawful
 
   -- the directory's header with it
   abbrev head' : Header
-  head' = relinked head (more_links of.kind head.links)
+  head' = relinked head (more_links (kind_of_new of.kind) head.links)
 
   abbrev slot : List ℕ
   slot = slot_for n last.name.now
@@ -192,16 +193,22 @@ module _ {D : Type 0} (state : D → DeviceState) (lawful : (d : D) → IsLawful
       space : is_full s.tree d ≡ false
       space = free_directory (segments_of v) m s map d dir head looks.0 dir_fits low
 
+      not_root : n ≢ 1
+      not_root root =
+          let dir_root = is.log.sound.root in
+          let none : node s.tree 1 ≡ None = ap (node s.tree) (sym root) ∙ no_header_none (segments_of v) m s is.log n free in
+          cc
+
       -- the object is made
-      made : IsWithHeader m n (Some (as_header (new_header of.kind))) (between m)
-      made = header_put m (between m) n (new_header of.kind) (is_ready.drafts.makes.map m ∙ ap (λ (x : LogMap). with_header x n (Some (as_header (new_header of.kind)))) (same_mid m))
+      made : IsMade m n of.kind (between m)
+      made = object_made state mid.store.log ready.store.log mid.store.draft.changes is_ready.drafts.between mid.store.drafted is_ready.drafts.half n k m0 m in_mid none_drafted (same_mid m) is.map vacant.some not_root free keeps of.kind of.short is_ready.drafts.object
 
       there_1 : (between m).header d ≡ Some (as_header head)
       there_1 = made_header (segments_of v) m s map d dir head looks.0 (between m) n of.kind other made
 
       -- the directory has the links with it
       links_made : IsWithHeader (between m) d (Some (as_header head')) (linked m)
-      links_made = linked_map is_ready.drafts.between is_ready.drafts.linked d head is_ready.drafts.half of.kind is_ready.drafts.relinks m there_1
+      links_made = linked_map is_ready.drafts.between is_ready.drafts.linked d head is_ready.drafts.half (kind_of_new of.kind) is_ready.drafts.relinks m there_1
 
       -- and it is named
       writes : WritesFile (linked m) (staged c m) d head' (grown head') head.size slot
@@ -209,11 +216,11 @@ module _ {D : Type 0} (state : D → DeviceState) (lawful : (d : D) → IsLawful
 
       adds : AddsName (linked m) (staged c m) d head' n last.name.now
       adds = is_ready.drafts.adds.more k m0 m keeps in_mid
-          (linked_directory (segments_of v) m s map d dir head looks.0 (between m) n of.kind other made (more_links of.kind head.links) (linked m) links_made dir_fits)
-          (ap (find byte_cmp last.name.now) (linked_names (segments_of v) m s map d dir head looks.0 (between m) n of.kind other made (more_links of.kind head.links) (linked m) links_made) ∙ sym looks.1)
+          (linked_directory (segments_of v) m s map d dir head looks.0 (between m) n of.kind other made (more_links (kind_of_new of.kind) head.links) (linked m) links_made dir_fits)
+          (ap (find byte_cmp last.name.now) (linked_names (segments_of v) m s map d dir head looks.0 (between m) n of.kind other made (more_links (kind_of_new of.kind) head.links) (linked m) links_made) ∙ sym looks.1)
 
       does : NamesNew m (between m) (staged c m) d n of.kind head (head.size + 64) head.size slot (name path)
-      does = names_new (segments_of v) m s map d dir head looks.0 (between m) n of.kind other made (more_links of.kind head.links) (linked m) links_made (staged c m) (head.size + 64) head.size slot writes (name path)
+      does = names_new (segments_of v) m s map d dir head looks.0 (between m) n of.kind other made (more_links (kind_of_new of.kind) head.links) (linked m) links_made (staged c m) (head.size + 64) head.size slot writes (name path)
           refl (let few_bytes = low in omega (arith, few_bytes)) adds.directory (adds.names ∙ ap (λ (x : List ℕ). put byte_cmp x n (names_at (linked m) d head')) (sym says.1))
 
       -- the directory is linked, and stays within 1,000 links
@@ -224,8 +231,8 @@ module _ {D : Type 0} (state : D → DeviceState) (lawful : (d : D) → IsLawful
           let same : head.links ≡ links s.tree d = is.log.links d (as_header head) looks.0 ∙ ap (λ (t : Tree). links t d) (sym is.log.is) in
           omega (arith, counted, same)
 
-      links_fit : FitsHeader head.kind (more_links of.kind head.links) head.size
-      links_fit = record { links_few = few_links of.kind few; size_fits = dir_fits.size }
+      links_fit : FitsHeader head.kind (more_links (kind_of_new of.kind) head.links) head.size
+      links_fit = record { links_few = few_links (kind_of_new of.kind) few; size_fits = dir_fits.size }
         where
           few_links : (k : Kind) → (k ≡ kind.Directory → head.links < 1000) → more_links k head.links ≤ 1000
           few_links kind.File below = dir_fits.links
@@ -236,8 +243,8 @@ module _ {D : Type 0} (state : D → DeviceState) (lawful : (d : D) → IsLawful
       fits_here : IsLogMap m → IsLogMap (staged c m) → FitsBatch m c
       fits_here log after =
           is_ready.drafts.adds.fits k m0 m in_mid
-          (linked_fits is_ready.drafts.between is_ready.drafts.linked d head is_ready.drafts.half of.kind is_ready.drafts.relinks m
-          (is_ready.drafts.makes.fits m (draft_empty mid.store.draft.changes m none_drafted).1 (ap (λ (x : LogMap). x.header n) (same_mid m) ∙ free) (ap (λ (x : Loss). is_lost x (Inode n)) none_drafted.loss) of.sized)
+          (linked_fits is_ready.drafts.between is_ready.drafts.linked d head is_ready.drafts.half (kind_of_new of.kind) is_ready.drafts.relinks m
+          (object_fits state mid.store.log ready.store.log mid.store.draft.changes is_ready.drafts.between mid.store.drafted is_ready.drafts.half n k m0 m in_mid none_drafted (same_mid m) is.map vacant.some not_root free (draft_empty mid.store.draft.changes m none_drafted).1 of.kind of.short of.sized is_ready.drafts.object)
           there_1 some_links (ap (λ (x : Loss). is_lost x (Inode d)) none_lost) links_fit)
           record {
             there = links_made.own;
@@ -247,27 +254,25 @@ module _ {D : Type 0} (state : D → DeviceState) (lawful : (d : D) → IsLawful
           }
         where
           none_lost : is_ready.drafts.between.loss ≡ Nothing
-          none_lost = is_ready.drafts.makes.loss ∙ none_drafted.loss
+          none_lost = object_loss state mid.store.log ready.store.log mid.store.draft.changes is_ready.drafts.between mid.store.drafted is_ready.drafts.half n k m0 m in_mid none_drafted (same_mid m) is.map vacant.some not_root free of.kind is_ready.drafts.object
 
           loss_same : is_ready.drafts.linked.loss ≡ is_ready.drafts.between.loss
-          loss_same = linked_loss is_ready.drafts.between is_ready.drafts.linked d head is_ready.drafts.half of.kind is_ready.drafts.relinks
+          loss_same = linked_loss is_ready.drafts.between is_ready.drafts.linked d head is_ready.drafts.half (kind_of_new of.kind) is_ready.drafts.relinks
 
-          grows : FitsHeader head.kind (more_links of.kind head.links) (max head.size (head.size + length slot))
+          grows : FitsHeader head.kind (more_links (kind_of_new of.kind) head.links) (max head.size (head.size + length slot))
           grows =
               let larger = directory_grows d head dir_fits (directory_kind (segments_of v) m s map d dir head looks.0) low in
-              subst (λ (z : ℕ). FitsHeader head.kind (more_links of.kind head.links) z) writes.bytes.size record { links_few = links_fit.links_few; size_fits = larger.size_fits }
+              subst (λ (z : ℕ). FitsHeader head.kind (more_links (kind_of_new of.kind) head.links) z) writes.bytes.size record { links_few = links_fit.links_few; size_fits = larger.size_fits }
 
       -- and its totals are those of its log map
       counted_here : IsLogMap m → IsLogMap (staged c m) → IsCounted m v.blocks v.others → IsCounted (staged c m) ready.store.drafted.data_blocks ready.store.drafted.meta_blocks
       counted_here log after counted =
-          let none : (staged mid.store.draft.changes m).header n ≡ None = ap (λ (x : LogMap). x.header n) (same_mid m) ∙ free in
-          let log_mid : IsLogMap (staged mid.store.draft.changes m) = subst IsLogMap (sym (same_mid m)) log in
           let before : AreTotals m old.store.log.totals = record { stored = reached.still.blocks ∙ counted.stored; above = reached.still.others ∙ counted.above } in
           let totals_mid : AreTotals (staged mid.store.draft.changes m) mid.store.drafted =
           subst (λ (x : LogMap). AreTotals x mid.store.drafted) (sym (same_mid m)) (subst (λ (t : BlockTotals). AreTotals m t) (sym (only.drafted ∙ reached.drafted)) before) in
           is_ready.drafts.recounts k m0 m keeps in_mid
-          (linked_keeps is_ready.drafts.between is_ready.drafts.linked d head is_ready.drafts.half of.kind is_ready.drafts.relinks m (is_ready.drafts.makes.keeps m log_mid none) there_1) after
-          (linked_counts is_ready.drafts.between is_ready.drafts.linked d head is_ready.drafts.half of.kind is_ready.drafts.relinks m there_1 (is_ready.drafts.counts m log_mid none totals_mid))
+          (linked_keeps is_ready.drafts.between is_ready.drafts.linked d head is_ready.drafts.half (kind_of_new of.kind) is_ready.drafts.relinks m (object_log state mid.store.log ready.store.log mid.store.draft.changes is_ready.drafts.between mid.store.drafted is_ready.drafts.half n k m0 m in_mid none_drafted (same_mid m) is.map vacant.some not_root free keeps of.kind of.short is_ready.drafts.object) there_1) after
+          (linked_counts is_ready.drafts.between is_ready.drafts.linked d head is_ready.drafts.half (kind_of_new of.kind) is_ready.drafts.relinks m there_1 (object_counted state mid.store.log ready.store.log mid.store.draft.changes is_ready.drafts.between mid.store.drafted is_ready.drafts.half n k m0 m in_mid none_drafted (same_mid m) is.map vacant.some not_root free keeps of.kind of.short is_ready.drafts.object totals_mid))
 
       drafted : IsDrafted state v c ready.store.drafted.data_blocks ready.store.drafted.meta_blocks
       drafted = record {

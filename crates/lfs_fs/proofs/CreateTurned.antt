@@ -1,12 +1,14 @@
 -- An object that was to be made under the last piece of a path: it is, it isn't staged, or it wasn't drafted.
-use Rattle.std.proofs.Common.{◌≢◌, refl, Result, Ok, Err, arith, ap, true, ◌≡◌, ◌<◌, ℕ, false, List, Option, Some, sym, ◌∙◌, subst, ⊎_elim}
+use Rattle.std.proofs.Common.{◌≢◌, refl, Result, Ok, Err, arith, ap, true, ◌≡◌, ◌<◌, ℕ, false, List, Option, Some, None, sym, ◌∙◌, subst, ⊎_elim}
 use Rattle.std.specs.Prelude.{IfErr, OnOk}
 use Rattle.std.specs.Ordering.{nat_cmp}
 use Rattle.std.specs.FinMap.{put}
 use Rattle.lfs_model.specs.declared.Kind.TheVariants as kind
-use Rattle.lfs_model.specs.Call.{Answer, Create, Done, Handle, Mkdir, Refuse, is_ok}
+use Rattle.lfs_model.specs.Call.{Answer, Create, Done, Handle, Mkdir, Refuse, Symlink, is_ok}
+use Rattle.lfs_model.specs.Bytes.{AreBytes}
 use Rattle.lfs_model.specs.Checkpoint.{CheckpointValue}
 use Rattle.lfs_model.specs.Device.{DeviceState, IsLawful}
+use Rattle.lfs_model.specs.PathText.{text_refusal}
 use Rattle.lfs_model.specs.Stands.{LogMap}
 use Rattle.lfs_model.specs.Tree.{State, least, least_handle}
 use Rattle.lfs_model.specs.Walk.{At, Parent}
@@ -18,20 +20,20 @@ use Rattle.lfs_fs.specs.declared.error.FsError.{FsError}
 use Rattle.lfs_fs.specs.declared.fs.Fs.{Fs}
 use Rattle.lfs_fs.specs.declared.handles.Handles.{Handles as FileTable}
 use Rattle.lfs_fs.specs.Handles.{handles_of}
-use Rattle.lfs_fs.specs.Naming.{DraftsNone, MakesNew, MakesNone, Reaches, TakesEntry}
+use Rattle.lfs_fs.specs.Naming.{DraftsNone, MakesNew, MakesNone, Reaches, TakesEntry, kind_of_new, new_directory, new_file, new_link}
 use Rattle.lfs_fs.specs.Refusals.{refusal_of}
 use Rattle.lfs_fs.specs.Seen.{OnlyReads, answer_by, seen}
 use Rattle.lfs_fs.specs.Volume.{Behaves, IsIn, IsStill, Mounted, Serves, segments_of}
 use Rattle.lfs_fs.proofs.CreateMade.{made_serves, turned_serves}
 use Rattle.lfs_fs.proofs.Behaving.{makes_behaves, write_behaves}
 use Rattle.lfs_fs.proofs.CreateRefusals.{handle_allowed, links_allowed}
-use Rattle.lfs_fs.proofs.EntrySteps.{NewCall, create_call, mkdir_call}
+use Rattle.lfs_fs.proofs.EntrySteps.{NewCall, create_call, mkdir_call, symlink_call}
 use Rattle.lfs_fs.proofs.Told.{fault_serves, memory_serves}
 use Rattle.lfs_fs.proofs.WritingEnds.{still_more}
 
 module _ {D : Type 0} (state : D → DeviceState) (lawful : (d : D) → IsLawful (state d)) (v : Mounted D) (old mid : Fs D) (path : List ℕ) (d : ℕ) (of : NewCall (segments_of v) path d) (piece : Option Last)
     (reached : Reaches state v old path d piece) (running : old.store.log.halted ≡ false) (last : Last) (some : piece ≡ Some last) (only : OnlyReads state old mid) (head : Header)
-    (takes : TakesEntry state old mid d last.name.now last.slash of.is_mkdir head) (few : of.kind ≡ kind.Directory → head.links < 1000) (n : ℕ) (vacant : IsVacant state mid.store.log n)
+    (takes : TakesEntry state old mid d last.name.now last.slash of.is_mkdir head) (few : kind_of_new of.kind ≡ kind.Directory → head.links < 1000) (n : ℕ) (vacant : IsVacant state mid.store.log n)
     (allowed : (k : CheckpointValue) (m0 m : LogMap) (s : State) → (state mid.store.log.device).keeps_model → (is : IsIn state v k m0 m s) → (walk : Parent s.tree path (At d)) → (of.makes s is.version walk).own ≡ false) where
   -- the path has this last piece
   with_last : Reaches state v old path d (Some last)
@@ -82,11 +84,11 @@ module _ {D : Type 0} (state : D → DeviceState) (lawful : (d : D) → IsLawful
   some_free : least_handle (handles_of mid.handles.numbers.items) < 64
   some_free = subst (λ (h : ℕ). h < 64) (sym first) free
 
-  pub create_unmade : (new : Fs D) (fault : FsError) → MakesNone state mid new d head n kind.File last.name.now fault → Serves state v (seen new) (Create path) (Refuse (refusal_of fault))
+  pub create_unmade : (new : Fs D) (fault : FsError) → MakesNone state mid new d head n new_file last.name.now fault → Serves state v (seen new) (Create path) (Refuse (refusal_of fault))
   create_unmade = unmade_ends state lawful v old mid path d (create_call (segments_of v) path d reached.bytes) piece reached running last some only head takes (λ e. absurd (cc)) n vacant
       (handle_allowed state lawful v old path d piece reached running last some mid only head takes some_free)
 
-  pub create_made : (new : Fs D) → MakesNew state mid new d head n kind.File last.name.now → (table : List ℕ) → (n ≢ 0 → handles_of table ≡ put nat_cmp handle n (handles_of new.handles.numbers.items))
+  pub create_made : (new : Fs D) → MakesNew state mid new d head n new_file last.name.now → (table : List ℕ) → (n ≢ 0 → handles_of table ≡ put nat_cmp handle n (handles_of new.handles.numbers.items))
       → Serves state v record { log = new.store.log; saved = new.store.saved; blocks = new.store.log.totals.data_blocks; others = new.store.log.totals.meta_blocks; table = table } (Create path) (Handle handle)
   create_made new makes table opened =
       made_ends state lawful v old mid path d (create_call (segments_of v) path d reached.bytes) piece reached running last some only head takes (λ e. absurd (cc)) n vacant
@@ -105,11 +107,11 @@ module _ {D : Type 0} (state : D → DeviceState) (lawful : (d : D) → IsLawful
 module _ {D : Type 0} (state : D → DeviceState) (lawful : (d : D) → IsLawful (state d)) (v : Mounted D) (old mid : Fs D) (path : List ℕ) (d : ℕ) (piece : Option Last)
     (reached : Reaches state v old path d piece) (running : old.store.log.halted ≡ false) (last : Last) (some : piece ≡ Some last) (only : OnlyReads state old mid) (head : Header)
     (takes : TakesEntry state old mid d last.name.now last.slash true head) (few : head.links < 1000) (n : ℕ) (vacant : IsVacant state mid.store.log n) (new : Fs D) where
-  mkdir_unmade : (fault : FsError) → MakesNone state mid new d head n kind.Directory last.name.now fault → Serves state v (seen new) (Mkdir path) (Refuse (refusal_of fault))
+  mkdir_unmade : (fault : FsError) → MakesNone state mid new d head n new_directory last.name.now fault → Serves state v (seen new) (Mkdir path) (Refuse (refusal_of fault))
   mkdir_unmade = unmade_ends state lawful v old mid path d (mkdir_call (segments_of v) path d reached.bytes) piece reached running last some only head takes (λ e. few) n vacant
       (links_allowed state lawful v old path d piece reached running last some mid only head takes few) new
 
-  mkdir_made : MakesNew state mid new d head n kind.Directory last.name.now → Serves state v (seen new) (Mkdir path) Done
+  mkdir_made : MakesNew state mid new d head n new_directory last.name.now → Serves state v (seen new) (Mkdir path) Done
   mkdir_made makes =
       let was : new.handles.numbers.items ≡ v.table = table_was state lawful v old mid path d (mkdir_call (segments_of v) path d reached.bytes) piece reached running last some only head takes (λ e. few) n vacant
       (links_allowed state lawful v old path d piece reached running last some mid only head takes few) new makes new.handles.numbers.items in
@@ -118,7 +120,31 @@ module _ {D : Type 0} (state : D → DeviceState) (lawful : (d : D) → IsLawful
       (write_behaves state v (seen new) (Mkdir path) Done refl was (λ e. cc))
       (λ s version walk handles least_is. (refl, handles ∙ ap handles_of (sym was)))
 
-  pub mkdir_ends : (r : Result (Unit {0}) FsError) → OnOk r (MakesNew state mid new d head n kind.Directory last.name.now) → IfErr r (MakesNone state mid new d head n kind.Directory last.name.now)
+  pub mkdir_ends : (r : Result (Unit {0}) FsError) → OnOk r (MakesNew state mid new d head n new_directory last.name.now) → IfErr r (MakesNone state mid new d head n new_directory last.name.now)
       → Serves state v (seen new) (Mkdir path) (answer_by (λ _. Done) r)
   mkdir_ends (Ok u) made none = mkdir_made made
   mkdir_ends (Err fault) made none = mkdir_unmade fault none
+
+-- ---- symlink
+
+module _ {D : Type 0} (state : D → DeviceState) (lawful : (d : D) → IsLawful (state d)) (v : Mounted D) (old mid : Fs D) (path : List ℕ) (d : ℕ) (piece : Option Last)
+    (reached : Reaches state v old path d piece) (running : old.store.log.halted ≡ false) (last : Last) (some : piece ≡ Some last) (only : OnlyReads state old mid) (head : Header)
+    (takes : TakesEntry state old mid d last.name.now last.slash false head) (text : List ℕ) (text_bytes : AreBytes text) (good : text_refusal text ≡ None) (n : ℕ) (vacant : IsVacant state mid.store.log n) (new : Fs D) where
+  abbrev links : NewCall (segments_of v) path d
+  links = symlink_call (segments_of v) path d reached.bytes text text_bytes good
+
+  symlink_unmade : (fault : FsError) → MakesNone state mid new d head n (new_link text) last.name.now fault → Serves state v (seen new) (Symlink text path) (Refuse (refusal_of fault))
+  symlink_unmade = unmade_ends state lawful v old mid path d links piece reached running last some only head takes (λ e. absurd (cc)) n vacant (λ k m0 m s keeps is walk. refl) new
+
+  symlink_made : MakesNew state mid new d head n (new_link text) last.name.now → Serves state v (seen new) (Symlink text path) Done
+  symlink_made makes =
+      let was : new.handles.numbers.items ≡ v.table =
+      table_was state lawful v old mid path d links piece reached running last some only head takes (λ e. absurd (cc)) n vacant (λ k m0 m s keeps is walk. refl) new makes new.handles.numbers.items in
+      made_ends state lawful v old mid path d links piece reached running last some only head takes (λ e. absurd (cc)) n vacant (λ k m0 m s keeps is walk. refl) new makes new.handles.numbers.items Done refl
+      (write_behaves state v (seen new) (Symlink text path) Done refl was (λ e. cc))
+      (λ s version walk handles least_is. (refl, handles ∙ ap handles_of (sym was)))
+
+  pub symlink_ends : (r : Result (Unit {0}) FsError) → OnOk r (MakesNew state mid new d head n (new_link text) last.name.now) → IfErr r (MakesNone state mid new d head n (new_link text) last.name.now)
+      → Serves state v (seen new) (Symlink text path) (answer_by (λ _. Done) r)
+  symlink_ends (Ok u) made none = symlink_made made
+  symlink_ends (Err fault) made none = symlink_unmade fault none

@@ -2,17 +2,15 @@
 use Rattle.std.proofs.Common.{◌≡◌, ◌≢◌, ◌<◌, ◌≤◌, ◌+◌, ◌*◌, ◌/◌, ◌%◌, ◌&&◌, ◌||◌, not, ℕ, Bool, true, false, List, [], length, Option, Some, None, refl, sym, ◌∙◌, ap, subst, ⊎_elim, arith, slice_index}
 use Rattle.std.specs.Prelude.{unwrap_or}
 use Rattle.std.specs.List.{AllByRecursion}
-use Rattle.std.proofs.lemmas.Bool.{cases_eq, cases_lt}
-use Rattle.std.proofs.lemmas.List.{nil_from_length}
+use Rattle.std.proofs.lemmas.Bool.{cases_eq}
 use Rattle.std.specs.FinMap.{find, put}
 use Rattle.lfs_model.specs.declared.Kind.{Kind}
 use Rattle.lfs_model.specs.declared.Kind.TheVariants as kind
 use Rattle.lfs_model.specs.Call.{AreArguments, Call}
-use Rattle.lfs_model.specs.Changing.{IsWithHeader}
-use Rattle.lfs_model.specs.Encodes.{HasData, IsLogMap}
+use Rattle.lfs_model.specs.Encodes.{IsLogMap}
 use Rattle.lfs_model.specs.Entry as entry
 use Rattle.lfs_model.specs.Need.{need}
-use Rattle.lfs_model.specs.Objects.{AreLong, IsChangedAt, IsDirectory, IsObject}
+use Rattle.lfs_model.specs.Objects.{AreLong, IsDirectory, IsObject}
 use Rattle.lfs_model.specs.PathText.{slash}
 use Rattle.lfs_model.specs.Slot.{slot_in}
 use Rattle.lfs_model.specs.Sound.{Sound}
@@ -27,18 +25,19 @@ use Rattle.lfs_model.proofs.Leasts.{least_free}
 use Rattle.lfs_model.proofs.Makes.{not_some, starts_one}
 use Rattle.lfs_model.proofs.ObjectBytes.{write_ends}
 use Rattle.lfs_model.proofs.ObjectMaps.{object_fits, object_kept}
-use Rattle.lfs_model.proofs.ObjectTrees.{node_elsewhere, same_trees, with_header_at}
+use Rattle.lfs_model.proofs.ObjectTrees.{node_elsewhere, same_trees}
 use Rattle.lfs_model.proofs.Standing.{in_order}
 use Rattle.lfs_model.proofs.Volume.{node_in}
 use Rattle.lfs_files.specs.declared.header.Header.{Header}
 use Rattle.lfs_store.specs.memory.Present.{as_header}
 use Rattle.lfs_model.specs.Totals.{IsCounted, TotalsOfTree}
-use Rattle.lfs_store.specs.Making.{first_header, relinked}
+use Rattle.lfs_store.specs.Making.{relinked}
 use Rattle.lfs_store.specs.Writing.{WritesFile, resized}
-use Rattle.lfs_fs.specs.Naming.{more_links}
+use Rattle.lfs_fs.specs.Naming.{NewKind, kind_of_new, more_links, new_directory, new_file, new_link, text_of_new}
 use Rattle.lfs_fs.proofs.Changed.{IsFormed, formed_same, long_kept, shape_kept}
 use Rattle.lfs_fs.proofs.EntrySteps.{MakesEntry, new_done, new_node, with_entry}
 use Rattle.lfs_fs.proofs.Files.{IsMapOf, IsShaped, dir_there, need_shaped, node_by_header, none_no_header}
+use Rattle.lfs_fs.proofs.NewObjects.{IsMade, made_object, new_header, no_slots}
 use Rattle.lfs_fs.proofs.Growth.{HasLinks, after_dir, after_new, after_order, after_others, links_after}
 
 pub kind_by_node : (m : LogMap) (n : ℕ) (h : entry.Header) (k : Kind) → is_dir (Some (node_by m k n h)) ≡ true → k ≡ kind.Directory
@@ -46,37 +45,25 @@ kind_by_node m n h kind.File dir = absurd (cc)
 kind_by_node m n h kind.Directory dir = refl
 kind_by_node m n h kind.Link dir = absurd (cc)
 
--- ---- the header of a new object
-abbrev pub new_header : Kind → Header
-new_header k = first_header k 0
+-- ---- what a new object is
 
-module _ (m : LogMap) (n : ℕ) (k : Kind) where
-  no_bytes : object m n (as_header (new_header k)) ≡ []
-  unfolding object
-  no_bytes = refl
+new_node_by : (m : LogMap) (n : ℕ) (k : NewKind) → object m n (as_header (new_header k)) ≡ text_of_new k → node_by m (kind_of_new k) n (as_header (new_header k)) ≡ new_node k
+new_node_by m n new_file bytes = ap File bytes
+new_node_by m n new_directory bytes = ap (λ (l : List (List ℕ)). Dir 0 (map_of 0 l)) (no_slots m n)
+new_node_by m n (new_link text) bytes = ap Link bytes
 
-  no_slots : slots m n (as_header (new_header k)) ≡ []
-  unfolding slots
-  no_slots = refl
-
-new_node_by : (m : LogMap) (n : ℕ) (k : Kind) → node_by m k n (as_header (new_header k)) ≡ new_node k
-new_node_by m n kind.File = ap File (no_bytes m n kind.File)
-new_node_by m n kind.Directory = ap (λ (l : List (List ℕ)). Dir 0 (map_of 0 l)) (no_slots m n kind.Directory)
-new_node_by m n kind.Link = ap Link (no_bytes m n kind.Link)
-
-new_directory : (m : LogMap) (n : ℕ) (k : Kind) → IsDirectory m n (as_header (new_header k))
-new_directory m n k = record {
+blank_directory : (m : LogMap) (n : ℕ) (k : NewKind) → kind_of_new k ≡ kind.Directory → IsDirectory m n (as_header (new_header k))
+blank_directory m n new_file dir = absurd (cc)
+blank_directory m n new_directory dir = record {
   whole = refl;
-  formed = subst (AllByRecursion (λ b. slot_in 0 b ≢ None)) (sym (no_slots m n k)) tt;
-  apart = ap (λ (l : List (List ℕ)). length (map_of 0 l)) (no_slots m n k) ∙ sym (ap length (no_slots m n k));
+  formed = subst (AllByRecursion (λ b. slot_in 0 b ≢ None)) (sym (no_slots m n)) tt;
+  apart = ap (λ (l : List (List ℕ)). length (map_of 0 l)) (no_slots m n) ∙ sym (ap length (no_slots m n));
 }
+blank_directory m n (new_link text) dir = absurd (cc)
 
 -- ---- the object is made, without a name
 
-module _ (N : ℕ) (m m1 : LogMap) (s : State) (is : IsMapOf N m s) (n : ℕ) (in_range : (1 ≤ n) × (n ≤ 4095)) (free : node s.tree n ≡ None) (k : Kind) (made : IsWithHeader m n (Some (as_header (new_header k))) m1) where
-  changed : IsChangedAt m n m1
-  changed = with_header_at m m1 n (Some (as_header (new_header k))) made
-
+module _ (N : ℕ) (m m1 : LogMap) (s : State) (is : IsMapOf N m s) (n : ℕ) (in_range : (1 ≤ n) × (n ≤ 4095)) (free : node s.tree n ≡ None) (k : NewKind) (made : IsMade m n k m1) where
   pub no_header : m.header n ≡ None
   no_header = none_no_header N m s is.log n in_range free
 
@@ -86,64 +73,48 @@ module _ (N : ℕ) (m m1 : LogMap) (s : State) (is : IsMapOf N m s) (n : ℕ) (i
   header_1 : (h : entry.Header) → m1.header n ≡ Some h → as_header (new_header k) ≡ h
   header_1 h there = let both : Some (as_header (new_header k)) ≡ Some h = sym made.own ∙ there in cc
 
-  -- what has no header has no block
-  no_data : (i : ℕ) → HasData m n i → ⊥
-  no_data i has = let there = is.map.within n i has in let both : None ≡ Some there.0 = sym no_header ∙ there.1 in absurd (cc)
-
-  no_block : (i : ℕ) → m1.block n i ≡ []
-  no_block i = made.block n i ∙ nil_from_length (m.block n i) (⊎_elim (λ (some : 0 < length (m.block n i)). absurd (no_data i some)) (λ (none : length (m.block n i) ≤ 0). omega arith) (cases_lt 0 (length (m.block n i))))
-
-  new_data : (i : ℕ) → HasData m1 n i → ⊥
-  new_data i has = let none = ap length (no_block i) in omega arith
-
   new_fits : IsObject m1 n (as_header (new_header k))
-  new_fits = record {
-    number = in_range.0;
-    root = λ e. absurd (not_root e);
-    size = omega arith;
-    whole = record { long = λ i has. absurd (new_data i has); nonzero = λ i has. absurd (new_data i has) };
-    ends = λ p le. ap (λ (b : List ℕ). slice_index b (p % 512)) (no_block (p / 512));
-  }
+  new_fits = made_object m m1 n k made in_range.0 not_root
 
   pub made_map : IsLogMap m1
-  made_map = object_kept m m1 n (as_header (new_header k)) is.map changed made.own new_fits
+  made_map = object_kept m m1 n (as_header (new_header k)) is.map made.changed made.own new_fits
 
   pub made_long : (q : ℕ) → AreLong m1 q
-  made_long = long_kept m m1 n changed is.long new_fits.whole.long
+  made_long = long_kept m m1 n made.changed is.long new_fits.whole.long
 
   pub made_formed : AreFormed m1
   made_formed q h at dir = ⊎_elim
       (λ (here : q ≡ n).
-      let is_dir = new_directory m1 n k in
+      let is_dir = blank_directory m1 n k (ap (λ (x : entry.Header). x.kind) (header_1 h (sym (ap m1.header here) ∙ at)) ∙ dir) in
       subst (λ (x : entry.Header). IsFormed m1 q x) (header_1 h (sym (ap m1.header here) ∙ at)) (subst (λ (x : ℕ). IsFormed m1 x (as_header (new_header k))) (sym here) (is_dir.formed, is_dir.apart)))
-      (λ (ne : q ≡ n → ⊥). formed_same m m1 n changed is.log.formed q h ne at dir)
+      (λ (ne : q ≡ n → ⊥). formed_same m m1 n made.changed is.log.formed q h ne at dir)
       (cases_eq q n)
 
   pub made_shape : IsShaped m → IsShaped m1
-  made_shape shaped = shape_kept m m1 n changed shaped made_map new_fits.whole.long (λ g here dir. subst (IsDirectory m1 n) (header_1 g here) (new_directory m1 n k))
+  made_shape shaped = shape_kept m m1 n made.changed shaped made_map new_fits.whole.long (λ g here dir. subst (IsDirectory m1 n) (header_1 g here) (blank_directory m1 n k (ap (λ (x : entry.Header). x.kind) (header_1 g here) ∙ dir)))
 
   pub made_node : node (tree_in m1) n ≡ Some (new_node k)
-  made_node = node_in m1 n in_range.0 in_range.1 ∙ ap (node_of m1 n) made.own ∙ ap (λ (x : Node). Some x) (new_node_by m1 n k)
+  made_node = node_in m1 n in_range.0 in_range.1 ∙ ap (node_of m1 n) made.own ∙ ap (λ (x : Node). Some x) (new_node_by m1 n k made.bytes)
 
   pub made_elsewhere : (q : ℕ) → (q ≡ n → ⊥) → node (tree_in m1) q ≡ node s.tree q
-  made_elsewhere q ne = node_elsewhere m m1 n q changed ne ∙ ap (λ (t : Tree). node t q) (sym is.log.is)
+  made_elsewhere q ne = node_elsewhere m m1 n q made.changed ne ∙ ap (λ (t : Tree). node t q) (sym is.log.is)
 
 -- ---- its name is written into directory d
 
 -- The directory's bytes with one more slot, which gives the new object this name; its links are those with the object.
-pub record NamesNew (m m1 m' : LogMap) (d n : ℕ) (k : Kind) (head : Header) (size at : ℕ) (w nm : List ℕ) : Type 0 where
+pub record NamesNew (m m1 m' : LogMap) (d n : ℕ) (k : NewKind) (head : Header) (size at : ℕ) (w nm : List ℕ) : Type 0 where
   pub there : m.header d ≡ Some (as_header head)
-  pub made : IsWithHeader m n (Some (as_header (new_header k))) m1
-  pub writes : WritesFile m1 m' d head (resized (relinked head (more_links k head.links)) size) at w
+  pub made : IsMade m n k m1
+  pub writes : WritesFile m1 m' d head (resized (relinked head (more_links (kind_of_new k) head.links)) size) at w
   pub small : size ≤ 8511488
-  pub directory : IsDirectory m' d (as_header (resized (relinked head (more_links k head.links)) size))
-  pub names : map_of 0 (slots m' d (as_header (resized (relinked head (more_links k head.links)) size))) ≡ put byte_cmp nm n (map_of 0 (slots m d (as_header head)))
+  pub directory : IsDirectory m' d (as_header (resized (relinked head (more_links (kind_of_new k) head.links)) size))
+  pub names : map_of 0 (slots m' d (as_header (resized (relinked head (more_links (kind_of_new k) head.links)) size))) ≡ put byte_cmp nm n (map_of 0 (slots m d (as_header head)))
 
 module _ (N : ℕ) (m m1 m' : LogMap) (s : State) (is : IsMapOf N m s) (version : s.version ≡ 1) (p : List ℕ) (d : ℕ) (walk : Parent s.tree p (At d)) (n : ℕ) (first : least s.tree ≡ n) (top : n ≤ 4095)
-    (new : is_there s.tree d p ≡ false) (k : Kind) (head : Header) (size at : ℕ) (w : List ℕ) (does : NamesNew m m1 m' d n k head size at w (name p)) where
+    (new : is_there s.tree d p ≡ false) (k : NewKind) (head : Header) (size at : ℕ) (w : List ℕ) (does : NamesNew m m1 m' d n k head size at w (name p)) where
   -- the directory's header after it
   abbrev head' : Header
-  head' = resized (relinked head (more_links k head.links)) size
+  head' = resized (relinked head (more_links (kind_of_new k) head.links)) size
 
   least_is : (1 ≤ least s.tree) × (node s.tree (least s.tree) ≡ None)
   least_is = least_free 1 s.tree is.log.sound.in_order (starts_one s.tree is.log.sound.numbers)
@@ -169,7 +140,7 @@ module _ (N : ℕ) (m m1 m' : LogMap) (s : State) (is : IsMapOf N m s) (version 
 
   -- the directory before
   there_1 : m1.header d ≡ Some (as_header head)
-  there_1 = does.made.others d (λ e. other (sym e)) ∙ does.there
+  there_1 = does.made.changed.headers d (λ e. other (sym e)) ∙ does.there
 
   is_directory : head.kind ≡ kind.Directory
   is_directory = kind_by_node m d (as_header head) head.kind (ap is_dir (sym (node_by_header N m s is.log d (as_header head) in_range_d does.there)) ∙ dir)
@@ -287,9 +258,9 @@ module _ (N : ℕ) (m m1 m' : LogMap) (s : State) (is : IsMapOf N m s) (version 
       (λ (here : q ≡ n). sym (ap (λ (x : entry.Header). x.links) (header_new h (ap m'.header (sym here) ∙ there))) ∙ sym (ap (links t') (sym first) ∙ links_tree.first) ∙ ap (links t') (sym here))
       (λ (a : q ≡ n → ⊥). ⊎_elim
       (λ (root : q ≡ d).
-      sym (ap (λ (x : entry.Header). x.links) (header_dir h (ap m'.header (sym root) ∙ there))) ∙ ap (more_links k) links_were ∙ sym links_tree.here ∙ ap (links t') (sym root))
+      sym (ap (λ (x : entry.Header). x.links) (header_dir h (ap m'.header (sym root) ∙ there))) ∙ ap (more_links (kind_of_new k)) links_were ∙ sym links_tree.here ∙ ap (links t') (sym root))
       (λ (b : q ≡ d → ⊥).
-      is.log.links q h (sym (does.writes.only.headers q b ∙ does.made.others q a) ∙ there) ∙ ap (λ (t : Tree). links t q) (sym is.log.is) ∙ sym (links_tree.others q (λ e. a (e ∙ first)) b))
+      is.log.links q h (sym (does.writes.only.headers q b ∙ does.made.changed.headers q a) ∙ there) ∙ ap (λ (t : Tree). links t q) (sym is.log.is) ∙ sym (links_tree.others q (λ e. a (e ∙ first)) b))
       (cases_eq q d))
       (cases_eq q n)
 

@@ -1,31 +1,33 @@
 -- The calls that make a new entry of a directory, exit by exit.
-use Rattle.std.proofs.Common.{◌≡◌, ◌<◌, ◌≤◌, ◌*◌, ◌-◌, ℕ, Bool, true, false, not, ◌&&◌, ◌||◌, List, [], ◌∷◌, ◌++◌, refl, ◌∙◌, ap, arith, nat_lt, nat_le}
+use Rattle.std.proofs.Common.{◌≡◌, ◌<◌, ◌≤◌, ◌*◌, ◌-◌, ℕ, Bool, true, false, not, ◌&&◌, ◌||◌, List, [], ◌∷◌, ◌++◌, length, Option, None, refl, ◌∙◌, ap, arith, nat_lt, nat_le}
+use Rattle.std.specs.Prelude.{option_map, unwrap_or}
 use Rattle.std.specs.Ordering.{nat_cmp}
 use Rattle.std.specs.FinMap.{put}
-use Rattle.lfs_model.specs.declared.Kind.{Kind}
 use Rattle.lfs_model.specs.declared.Kind.TheVariants as kinds
 use Rattle.lfs_model.specs.Bytes.{AreBytes}
-use Rattle.lfs_model.specs.Call.{Answer, AreArguments, Call, Create, Done, Handle, Mkdir, Refuse, changes, cleans, commits, is_ok, takes_no_memory}
+use Rattle.lfs_model.specs.Call.{Answer, AreArguments, Call, Create, Done, Handle, Mkdir, Refuse, Symlink, changes, cleans, commits, is_ok, takes_no_memory}
 use Rattle.lfs_model.specs.Inode.{IsSize}
 use Rattle.lfs_model.specs.Need.{need}
-use Rattle.lfs_model.specs.PathText.{slash}
+use Rattle.lfs_model.specs.PathText.{slash, text_refusal}
 use Rattle.lfs_model.specs.Refusal.{Refusal, DirFull, Exist, NameTooLong, NoEntry, NoNumber, NoSpace, TooManyLinks, TooManyOpen}
-use Rattle.lfs_model.specs.Step.{PathEnds, Step, checked, is_full, is_long, is_there, last_dots, new_entry, no_last, no_number, no_space, outcome, path_of, second_path_of, when, with_new, with_tree}
+use Rattle.lfs_model.specs.Step.{PathEnds, Step, checked, is_full, is_long, is_there, last_dots, makes_link, new_entry, no_last, no_number, no_space, outcome, path_of, second_path_of, text_check, when, with_new, with_tree}
 use Rattle.lfs_model.specs.Tree.{Dir, File, Handles, Link, Node, State, Tree, least, least_handle, links}
 use Rattle.lfs_model.specs.Walk.{At, Parent}
 use Rattle.lfs_store.specs.Making.{first_links}
 use Rattle.lfs_store.specs.memory.Changing.{FitsHeader}
+use Rattle.lfs_model.proofs.Keeps.{good_text}
+use Rattle.lfs_fs.specs.Naming.{NewKind, kind_of_new, new_directory, new_file, new_link, text_of_new}
 use Rattle.lfs_fs.proofs.Checks.{below, not_below, passes, refuses}
 
 -- a new object of a kind
-abbrev pub new_node : Kind → Node
-new_node kinds.File = File []
-new_node kinds.Directory = Dir 0 []
-new_node kinds.Link = Link []
+abbrev pub new_node : NewKind → Node
+new_node new_file = File []
+new_node new_directory = Dir 0 []
+new_node (new_link text) = Link text
 
 -- A call that makes an object of this kind under the last piece of a path, in directory d. What refuses it is the rule of a new entry, then a
 -- reason of its own, then the want of a number and of space.
-pub record MakesEntry (N : ℕ) (s : State) (p : List ℕ) (d : ℕ) (call : Call) (k : Kind) (is_mkdir : Bool) : Type 0 where
+pub record MakesEntry (N : ℕ) (s : State) (p : List ℕ) (d : ℕ) (call : Call) (k : NewKind) (is_mkdir : Bool) : Type 0 where
   pub own : Bool
   pub why : Refusal
   pub answer : Answer
@@ -37,7 +39,7 @@ pub record MakesEntry (N : ℕ) (s : State) (p : List ℕ) (d : ℕ) (call : Cal
       ≡ checked s (new_entry s.tree d p is_mkdir ++ when own why ∷ no_number s.tree ∷ no_space N (with_new s.tree d p (new_node k)) ∷ []) (answer, record { tree = with_new s.tree d p (new_node k); handles = handles; version = s.version })
 
 module _ (N : ℕ) (s : State) (p : List ℕ) (d : ℕ) (walk : Parent s.tree p (At d)) where
-  abbrev pub create_makes : MakesEntry N s p d (Create p) kinds.File false
+  abbrev pub create_makes : MakesEntry N s p d (Create p) new_file false
   create_makes = record {
     own = nat_le 64 (least_handle s.handles);
     why = TooManyOpen;
@@ -49,7 +51,7 @@ module _ (N : ℕ) (s : State) (p : List ℕ) (d : ℕ) (walk : Parent s.tree p 
     is = refl;
   }
 
-  abbrev pub mkdir_makes : s.version ≡ 1 → MakesEntry N s p d (Mkdir p) kinds.Directory true
+  abbrev pub mkdir_makes : s.version ≡ 1 → MakesEntry N s p d (Mkdir p) new_directory true
   mkdir_makes version = record {
     own = nat_le 1000 (links s.tree d);
     why = TooManyLinks;
@@ -62,20 +64,41 @@ module _ (N : ℕ) (s : State) (p : List ℕ) (d : ℕ) (walk : Parent s.tree p 
         (Done, with_tree s (with_new s.tree d p (Dir (v - 1) [])))) version;
   }
 
+  -- a text that isn't refused passes
+  pub text_passes : (text : List ℕ) → text_refusal text ≡ None → text_check text ≡ []
+  text_passes text good = ap (λ (o : Option Refusal). unwrap_or (option_map (λ r. when true r ∷ []) o) []) good
+
+  abbrev pub symlink_makes : (text : List ℕ) → text_refusal text ≡ None → MakesEntry N s p d (Symlink text p) (new_link text) false
+  symlink_makes text good = record {
+    own = false;
+    why = NoEntry;
+    answer = Done;
+    handles = s.handles;
+    first = walk;
+    second = refl;
+    ok = refl;
+    is = ap (λ (l : List (Bool × Answer)). checked s l (makes_link N s text p d)) (text_passes text good);
+  }
+
 -- The same in each state of a volume.
 pub record NewCall (N : ℕ) (p : List ℕ) (d : ℕ) : Type 0 where
   pub call : Call
-  pub kind : Kind
+  pub kind : NewKind
   pub is_mkdir : Bool
   pub makes : (s : State) → s.version ≡ 1 → Parent s.tree p (At d) → MakesEntry N s p d call kind is_mkdir
   pub arguments : AreArguments call
-  pub sized : FitsHeader kind (first_links kind) 0
+  pub sized : FitsHeader (kind_of_new kind) (first_links (kind_of_new kind)) (length (text_of_new kind))
+  pub short : length (text_of_new kind) ≤ 1023
   pub changing : changes call ≡ true
   pub uncommitted : commits call ≡ false
   pub unclean : cleans call ≡ false
   pub remembering : takes_no_memory call ≡ false
 
--- the headers of an empty file and of an empty directory
+-- no text is a short one
+pub none_short : 0 ≤ 1023
+none_short = omega arith
+
+-- the headers of an empty file, of an empty directory and of a link
 pub file_sized : FitsHeader kinds.File 1 0
 unfolding IsSize
 file_sized = record { links_few = omega arith; size_fits = omega arith }
@@ -84,14 +107,19 @@ pub directory_sized : FitsHeader kinds.Directory 2 0
 unfolding IsSize
 directory_sized = record { links_few = omega arith; size_fits = (refl, omega arith) }
 
+pub link_sized : (size : ℕ) → 1 ≤ size → size ≤ 1023 → FitsHeader kinds.Link 1 size
+unfolding IsSize
+link_sized size some few = record { links_few = omega arith; size_fits = (some, few) }
+
 abbrev pub create_call : (N : ℕ) (p : List ℕ) (d : ℕ) → AreBytes p → NewCall N p d
 create_call N p d bytes = record {
   call = Create p;
-  kind = kinds.File;
+  kind = new_file;
   is_mkdir = false;
   makes = λ s version walk. create_makes N s p d walk;
   arguments = bytes;
   sized = file_sized;
+  short = none_short;
   changing = refl;
   uncommitted = refl;
   unclean = refl;
@@ -101,11 +129,27 @@ create_call N p d bytes = record {
 abbrev pub mkdir_call : (N : ℕ) (p : List ℕ) (d : ℕ) → AreBytes p → NewCall N p d
 mkdir_call N p d bytes = record {
   call = Mkdir p;
-  kind = kinds.Directory;
+  kind = new_directory;
   is_mkdir = true;
   makes = λ s version walk. mkdir_makes N s p d walk version;
   arguments = bytes;
   sized = directory_sized;
+  short = none_short;
+  changing = refl;
+  uncommitted = refl;
+  unclean = refl;
+  remembering = refl;
+}
+
+abbrev pub symlink_call : (N : ℕ) (p : List ℕ) (d : ℕ) → AreBytes p → (text : List ℕ) → AreBytes text → text_refusal text ≡ None → NewCall N p d
+symlink_call N p d bytes text text_bytes good = record {
+  call = Symlink text p;
+  kind = new_link text;
+  is_mkdir = false;
+  makes = λ s version walk. symlink_makes N s p d walk text good;
+  arguments = (text_bytes, bytes);
+  sized = (let long = good_text text good in link_sized (length text) (omega (arith, long.1)) long.2);
+  short = (good_text text good).2;
   changing = refl;
   uncommitted = refl;
   unclean = refl;
@@ -114,7 +158,7 @@ mkdir_call N p d bytes = record {
 
 -- ---- its exits
 
-module _ (N : ℕ) (s : State) (p : List ℕ) (d : ℕ) (call : Call) (k : Kind) (is_mkdir : Bool) (e : MakesEntry N s p d call k is_mkdir) where
+module _ (N : ℕ) (s : State) (p : List ℕ) (d : ℕ) (call : Call) (k : NewKind) (is_mkdir : Bool) (e : MakesEntry N s p d call k is_mkdir) where
   abbrev pub grown : Tree
   grown = with_new s.tree d p (new_node k)
 

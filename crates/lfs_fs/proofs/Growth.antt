@@ -5,8 +5,6 @@ use Rattle.std.proofs.lemmas.Cmp.{nat_cmp_total}
 use Rattle.std.specs.Ordering.{nat_cmp}
 use Rattle.std.specs.FinMap.{find, is_sorted, put}
 use Rattle.std.specs.FinMap.Entries.{is_sorted-put}
-use Rattle.lfs_model.specs.declared.Kind.{Kind}
-use Rattle.lfs_model.specs.declared.Kind.TheVariants as kind
 use Rattle.lfs_model.specs.Sound.{Sound}
 use Rattle.lfs_model.specs.Tree.{Dir, File, Link, Names, Node, State, Tree, byte_cmp, form_of, is_dir, least, links, links_at, names_in, names_of, node, with_name, with_node}
 use Rattle.lfs_model.proofs.Detached.{same_links}
@@ -17,7 +15,7 @@ use Rattle.lfs_model.proofs.Makes.{dir_at, starts_one, unnamed}
 use Rattle.lfs_model.proofs.Swaps.{change_more}
 use Rattle.lfs_model.proofs.Trees.{find_here, find_other}
 use Rattle.lfs_store.specs.Making.{first_links}
-use Rattle.lfs_fs.specs.Naming.{more_links}
+use Rattle.lfs_fs.specs.Naming.{NewKind, kind_of_new, more_links, new_directory, new_file, new_link}
 use Rattle.lfs_fs.proofs.EntrySteps.{new_node}
 
 module _ (N : ℕ) (s : State) (sound : Sound N s) (version : s.version ≡ 1) (top : least s.tree ≤ 4095) (d : ℕ) (dir : is_dir (node s.tree d) ≡ true) (nm : List ℕ) (absent : find byte_cmp nm (names_in s.tree d) ≡ None) where
@@ -58,9 +56,9 @@ module _ (N : ℕ) (s : State) (sound : Sound N s) (version : s.version ≡ 1) (
 
   -- ---- their links
   -- The directory has the links of one directory more, if it is one; the new object has its first; the others have what they had.
-  pub record HasLinks (k : Kind) (t : Tree) : Type 0 where
-    pub here : links t d ≡ more_links k (links s.tree d)
-    pub first : links t n ≡ first_links k
+  pub record HasLinks (k : NewKind) (t : Tree) : Type 0 where
+    pub here : links t d ≡ more_links (kind_of_new k) (links s.tree d)
+    pub first : links t n ≡ first_links (kind_of_new k)
     pub others : (q : ℕ) → q ≢ n → q ≢ d → links t q ≡ links s.tree q
 
   -- a file or a link
@@ -133,7 +131,7 @@ module _ (N : ℕ) (s : State) (sound : Sound N s) (version : s.version ≡ 1) (
       ∙ gaining.links_other t1 d n (form_of (node t1 d)) (names_in t1 d) nm order_1 dir_1 dir_order_1 absent_1 q b (inl a)
       ∙ links_kept q a
 
-  pub links_after : (k : Kind) → HasLinks k (after (new_node k))
-  links_after kind.File = record { here = leaf_here (File []) refl; first = leaf_first (File []) refl; others = leaf_others (File []) refl }
-  links_after kind.Directory = record { here = directory_here; first = directory_first; others = directory_others }
-  links_after kind.Link = record { here = leaf_here (Link []) refl; first = leaf_first (Link []) refl; others = leaf_others (Link []) refl }
+  pub links_after : (k : NewKind) → HasLinks k (after (new_node k))
+  links_after new_file = record { here = leaf_here (File []) refl; first = leaf_first (File []) refl; others = leaf_others (File []) refl }
+  links_after new_directory = record { here = directory_here; first = directory_first; others = directory_others }
+  links_after (new_link text) = record { here = leaf_here (Link text) refl; first = leaf_first (Link text) refl; others = leaf_others (Link text) refl }

@@ -17,7 +17,6 @@ use Rattle.lfs_model.specs.TreeOf.{map_of, node_by, object, slots}
 use Rattle.lfs_model.proofs.Leasts.{least_free, least_taken}
 use Rattle.lfs_model.proofs.Makes.{starts_one}
 use Rattle.lfs_model.proofs.ObjectBytes.{same_objects}
-use Rattle.lfs_model.proofs.ObjectTrees.{with_header_at}
 use Rattle.lfs_model.proofs.Standing.{slots_length}
 use Rattle.lfs_files.specs.declared.header.Header.{Header}
 use Rattle.lfs_store.specs.memory.Present.{as_header}
@@ -25,8 +24,9 @@ use Rattle.lfs_store.specs.Making.{relinked}
 use Rattle.lfs_store.specs.Writing.{WritesFile, resized}
 use Rattle.lfs_fs.proofs.Changed.{slots_same}
 use Rattle.lfs_fs.proofs.Checks.{below, not_below, at_most, not_at_most}
-use Rattle.lfs_fs.specs.Naming.{more_links}
-use Rattle.lfs_fs.proofs.Created.{NamesNew, kind_by_node, new_header}
+use Rattle.lfs_fs.specs.Naming.{NewKind, kind_of_new, more_links}
+use Rattle.lfs_fs.proofs.Created.{NamesNew, kind_by_node}
+use Rattle.lfs_fs.proofs.NewObjects.{IsMade}
 use Rattle.lfs_fs.proofs.Files.{IsMapOf, dir_there, no_header_none, node_by_header}
 
 module _ (N : ℕ) (m : LogMap) (s : State) (is : IsMapOf N m s) (d : ℕ) (dir : is_dir (node s.tree d) ≡ true) (head : Header) (there : m.header d ≡ Some (as_header head)) where
@@ -84,12 +84,12 @@ module _ (N : ℕ) (m : LogMap) (s : State) (is : IsMapOf N m s) (d : ℕ) (dir 
   directory_formed fits = let formed = is.log.formed d (as_header head) there directory_kind in record { whole = fits.slots directory_kind; formed = formed.0; apart = formed.1 }
 
   -- ---- with a new object made it is as it was
-  module _ (m1 : LogMap) (n : ℕ) (k : Kind) (other : n ≢ d) (made : IsWithHeader m n (Some (as_header (new_header k))) m1) where
+  module _ (m1 : LogMap) (n : ℕ) (k : NewKind) (other : n ≢ d) (made : IsMade m n k m1) where
     changed : IsChangedAt m n m1
-    changed = with_header_at m m1 n (Some (as_header (new_header k))) made
+    changed = made.changed
 
     pub made_header : m1.header d ≡ Some (as_header head)
-    made_header = made.others d (λ e. other (sym e)) ∙ there
+    made_header = made.changed.headers d (λ e. other (sym e)) ∙ there
 
     slots_1 : slots m1 d (as_header head) ≡ slots m d (as_header head)
     slots_1 = slots_same m m1 n changed d (as_header head) (λ e. other (sym e))
@@ -148,7 +148,7 @@ module _ (N : ℕ) (m : LogMap) (s : State) (is : IsMapOf N m s) (d : ℕ) (dir 
         }
 
         -- a slot added to it there names the object
-        pub names_new : (nm : List ℕ) → links ≡ more_links k head.links → size ≤ 8511488 → IsDirectory m' d (as_header (resized head2 size))
+        pub names_new : (nm : List ℕ) → links ≡ more_links (kind_of_new k) head.links → size ≤ 8511488 → IsDirectory m' d (as_header (resized head2 size))
             → map_of 0 (slots m' d (as_header (resized head2 size))) ≡ put byte_cmp nm n (map_of 0 (slots m2 d (as_header head2))) → NamesNew m m1 m' d n k head size at w nm
         names_new nm right small directory names = record {
           there = there;

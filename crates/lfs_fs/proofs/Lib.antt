@@ -13,6 +13,7 @@ mod PlainTrees
 mod Changed
 mod Written
 mod Shortened
+mod NewObjects
 mod Created
 mod Listed
 mod InDirectories
@@ -40,6 +41,7 @@ mod WalkEnds
 mod PathEnds
 mod OpenEnds
 mod RowEnds
+mod TextEnds
 mod NamingEnds
 mod NameLooks
 mod CreateEnds
@@ -49,6 +51,7 @@ mod CreateTurned
 mod RowLoops
 mod StoreCalls
 mod TreeEnds
+mod ListingEnds
 mod LineSteps
 pub mod ScriptRuns
 pub mod Sessions

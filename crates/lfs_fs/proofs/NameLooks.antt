@@ -1,7 +1,6 @@
 -- A name looked up in a directory, and the rule of a new entry.
 use Rattle.std.proofs.Common.{◌≡◌, ℕ, Bool, true, false, List, Option, Some, None, Result, Ok, Err, refl, sym, ◌∙◌, ap₂, subst, inl, inr, ⊎_elim, arith}
 use Rattle.std.specs.Prelude.{IfErr, is_some}
-use Rattle.lfs_model.specs.declared.Kind.{Kind}
 use Rattle.lfs_model.specs.Device.{DeviceState}
 use Rattle.lfs_files.specs.declared.fault.LogFault.{LogFault}
 use Rattle.lfs_files.specs.declared.fault.LogFault.TheVariants as log
@@ -16,7 +15,7 @@ use Rattle.lfs_fs.specs.Drafted.{Finds, IsDirectoryFault}
 use Rattle.lfs_fs.specs.declared.error.FsError.{FsError}
 use Rattle.lfs_fs.specs.declared.fs.Fs.{Fs}
 use Rattle.lfs_fs.specs.Faults.{error_of_log, error_of_store}
-use Rattle.lfs_fs.specs.Naming.{DraftsNone, LooksNone, LooksUp, MakesNone, RefusesEntry}
+use Rattle.lfs_fs.specs.Naming.{DraftsNone, LooksNone, LooksUp, MakesNone, NewKind, RefusesEntry}
 use Rattle.lfs_fs.specs.Seen.{HasHeader, LacksHeader, OnlyReads, seen}
 use Rattle.lfs_fs.specs.Volume.{IsStill, Mounted}
 
@@ -81,7 +80,7 @@ module _ {D : Type 0} (state : D → DeviceState) where
   none_drafted old new was (store.Log log.Full) failed halted other e is = absurd (other refl)
 
   -- ---- a draft that is given up
-  pub none_made : (old mid new : Fs D) (d : ℕ) (head : Header) (n : ℕ) (k : Kind) (name : List ℕ) (fault : FsError) → IsStill state (seen old) (seen mid) → seen new ≡ seen mid → DraftsNone state old mid fault
+  pub none_made : (old mid new : Fs D) (d : ℕ) (head : Header) (n : ℕ) (k : NewKind) (name : List ℕ) (fault : FsError) → IsStill state (seen old) (seen mid) → seen new ≡ seen mid → DraftsNone state old mid fault
       → MakesNone state old new d head n k name fault
   none_made old mid new d head n k name fault still same none = inr (
     subst (λ (v : Mounted D). IsStill state (seen old) v) (sym same) still,

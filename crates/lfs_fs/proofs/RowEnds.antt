@@ -8,6 +8,7 @@ use Rattle.lfs_model.specs.Call as call
 use Rattle.lfs_model.specs.Checkpoint.{CheckpointValue}
 use Rattle.lfs_model.specs.Device.{DeviceState}
 use Rattle.lfs_model.specs.Entry as entry
+use Rattle.lfs_model.specs.Objects.{IsHeaderOf}
 use Rattle.lfs_model.specs.Stands.{LogMap}
 use Rattle.lfs_model.specs.Tree.{State, entry as entry_in}
 use Rattle.lfs_model.specs.TreeOf.{object}
@@ -30,26 +31,25 @@ use Rattle.lfs_fs.proofs.Holding.{headers_of_volume, map_of_volume}
 use Rattle.lfs_fs.proofs.RowFacts.{ShowsHead, head_clipped, row_by}
 
 module _ {D : Type 0} (state : D → DeviceState) where
-  module _ (old mid new : Fs D) (first : OnlyReads state old mid) (next : OnlyReads state mid new) (d : ℕ) (e : Entry) (stat : Stat) (out : List ℕ) (told : TellsStat state old mid e.number stat)
-      (read : ReadsHead state mid new e.number stat.kind out) (dir : ℕ) (dir_is : dir ≡ d) where
-    abbrev row : call.TreeRow
-    row = record { directory = dir; name = e.name.items; stat = record { number = stat.number; kind = stat.kind; links = stat.links; size = stat.size }; head = out }
-
-    module _ (empty : IsNoChange old.store.draft.changes) (k : CheckpointValue) (m0 m : LogMap) (s : State) (keeps : (state new.store.log.device).keeps_model) (is : IsIn state (seen old) k m0 m s)
-        (found : entry_in s.tree d e.name.items ≡ Some e.number) where
+  module _ (old mid new : Fs D) (first : OnlyReads state old mid) (next : OnlyReads state mid new) (n : ℕ) (stat : Stat) (out : List ℕ) (told : TellsStat state old mid n stat)
+      (read : ReadsHead state mid new n stat.kind out) where
+    module _ (empty : IsNoChange old.store.draft.changes) (k : CheckpointValue) (m0 m : LogMap) (s : State) (keeps : (state new.store.log.device).keeps_model) (is : IsIn state (seen old) k m0 m s) where
       staged_mid : staged mid.store.draft.changes m ≡ m
       staged_mid = ap (λ d. staged d.changes m) first.draft ∙ no_change old.store.draft.changes m empty
 
-      there : m.header e.number ≡ Some (as_header told.head)
-      there = ap (λ (x : LogMap). x.header e.number) (sym (no_change old.store.draft.changes m empty)) ∙ told.there k m0 m (next.still.reads.looks.carries.kept_before keeps) is.stores.holds
+      pub told_there : m.header n ≡ Some (as_header told.head)
+      told_there = ap (λ (x : LogMap). x.header n) (sym (no_change old.store.draft.changes m empty)) ∙ told.there k m0 m (next.still.reads.looks.carries.kept_before keeps) is.stores.holds
+
+      pub told_fits : IsHeaderOf n (as_header told.head)
+      told_fits = headers_of_volume state (seen old) k m0 m s is n (as_header told.head) told_there
 
       -- so many bytes are read of it
-      module _ (count : ℕ) (file : ReadsFile state mid new e.number 0 count out) where
-        also : m.header e.number ≡ Some (as_header file.head)
-        also = ap (λ (x : LogMap). x.header e.number) (sym staged_mid) ∙ file.there k m0 m keeps (held_still state old.store.log mid.store.log k m0 m first.still.reads is.stores.holds)
+      module _ (count : ℕ) (file : ReadsFile state mid new n 0 count out) where
+        also : m.header n ≡ Some (as_header file.head)
+        also = ap (λ (x : LogMap). x.header n) (sym staged_mid) ∙ file.there k m0 m keeps (held_still state old.store.log mid.store.log k m0 m first.still.reads is.stores.holds)
 
         same : as_header file.head ≡ as_header told.head
-        same = let both : Some (as_header file.head) ≡ Some (as_header told.head) = sym also ∙ there in cc
+        same = let both : Some (as_header file.head) ≡ Some (as_header told.head) = sym also ∙ told_there in cc
 
         size : file.head.size ≡ told.head.size
         size = ap (λ (x : entry.Header). x.size) same
@@ -60,24 +60,34 @@ module _ {D : Type 0} (state : D → DeviceState) where
         so_many : min (0 + count) file.head.size - min 0 file.head.size ≡ min count told.head.size
         so_many = omega (arith, size)
 
-        bytes_are : out ≡ part (object m e.number (as_header told.head)) 0 count
+        bytes_are : out ≡ part (object m n (as_header told.head)) 0 count
         bytes_are =
             file.bytes k m0 m keeps (held_still state old.store.log mid.store.log k m0 m first.still.reads is.stores.holds)
-            ∙ (λ i. part (object (staged_mid i) e.number (same i)) (from_start i) (so_many i))
-            ∙ head_clipped m e.number (as_header told.head) count
+            ∙ (λ i. part (object (staged_mid i) n (same i)) (from_start i) (so_many i))
+            ∙ head_clipped m n (as_header told.head) count
 
-      shown_by : (k : Kind) → ReadsHead state mid new e.number k out → ShowsHead m e.number (as_header told.head) k out
+      shown_by : (k : Kind) → ReadsHead state mid new n k out → ShowsHead m n (as_header told.head) k out
       shown_by kinds.File file = bytes_are 16 file
       shown_by kinds.Directory none = none
       shown_by kinds.Link file = bytes_are 1023 file
 
-      shown : ShowsHead m e.number (as_header told.head) told.head.kind out
-      shown = shown_by told.head.kind (subst (λ (x : Kind). ReadsHead state mid new e.number x out) told.kind read)
+      pub shown : ShowsHead m n (as_header told.head) told.head.kind out
+      shown = shown_by told.head.kind (subst (λ (x : Kind). ReadsHead state mid new n x out) told.kind read)
 
+  module _ (old mid new : Fs D) (first : OnlyReads state old mid) (next : OnlyReads state mid new) (d : ℕ) (e : Entry) (stat : Stat) (out : List ℕ) (told : TellsStat state old mid e.number stat)
+      (read : ReadsHead state mid new e.number stat.kind out) (dir : ℕ) (dir_is : dir ≡ d) where
+    abbrev row : call.TreeRow
+    row = record { directory = dir; name = e.name.items; stat = record { number = stat.number; kind = stat.kind; links = stat.links; size = stat.size }; head = out }
+
+    module _ (empty : IsNoChange old.store.draft.changes) (k : CheckpointValue) (m0 m : LogMap) (s : State) (keeps : (state new.store.log.device).keeps_model) (is : IsIn state (seen old) k m0 m s)
+        (found : entry_in s.tree d e.name.items ≡ Some e.number) where
       pub row_is : row ≡ row_at s.tree d (pair e)
       row_is =
+          let there = told_there old mid new first next e.number stat out told read empty k m0 m s keeps is in
+          let fits = told_fits old mid new first next e.number stat out told read empty k m0 m s keeps is in
           (λ i. record { directory = dir_is i; name = e.name.items; stat = record { number = told.number i; kind = told.kind i; links = told.links i; size = told.size i }; head = out })
-          ∙ sym (row_by (segments_of (seen old)) m s (map_of_volume state (seen old) k m0 m s is) e.number told.head there (headers_of_volume state (seen old) k m0 m s is e.number (as_header told.head) there) d e.name.items out shown)
+          ∙ sym (row_by (segments_of (seen old)) m s (map_of_volume state (seen old) k m0 m s is) e.number told.head there fits d e.name.items out
+          (shown old mid new first next e.number stat out told read empty k m0 m s keeps is))
 
   -- a name gives an object
   named_there : (v : Fs D) (k : CheckpointValue) (m0 m : LogMap) (s : State) → IsIn state (seen v) k m0 m s → (d : ℕ) (e : Entry) → entry_in s.tree d e.name.items ≡ Some e.number → (e.number ≤ 4095) × (m.header e.number ≢ None)

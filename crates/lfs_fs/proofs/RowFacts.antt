@@ -40,11 +40,11 @@ module _ (N : ℕ) (m : LogMap) (s : State) (is : IsMapOf N m s) (n : ℕ) (h : 
       let limits : IsWithinLimits (Link (object m n (as_header h))) = is.log.sound.limits n (Link (object m n (as_header h))) at in
       sym (shows ∙ whole_part (object m n (as_header h)) 1023 limits.1)
 
-  module _ (d : ℕ) (nm out : List ℕ) (shows : ShowsHead m n (as_header h) h.kind out) where
-    head_is : head_of (the_node s.tree n) ≡ out
-    head_is =
-        ap head_of (the_node_by_header N m s is.log n (as_header h) fits.number there)
-        ∙ head_by h.kind (node_by_header N m s is.log n (as_header h) fits.number there) out shows
+  pub head_is : (out : List ℕ) → ShowsHead m n (as_header h) h.kind out → head_of (the_node s.tree n) ≡ out
+  head_is out shows =
+      ap head_of (the_node_by_header N m s is.log n (as_header h) fits.number there)
+      ∙ head_by h.kind (node_by_header N m s is.log n (as_header h) fits.number there) out shows
 
+  module _ (d : ℕ) (nm out : List ℕ) (shows : ShowsHead m n (as_header h) h.kind out) where
     pub row_by : row_at s.tree d (nm, n) ≡ record { directory = d; name = nm; stat = record { number = n; kind = h.kind; links = h.links; size = h.size }; head = out }
-    row_by = λ i. record { directory = d; name = nm; stat = stat_is N m s is.log n (as_header h) there fits i; head = head_is i }
+    row_by = λ i. record { directory = d; name = nm; stat = stat_is N m s is.log n (as_header h) there fits i; head = head_is out shows i }

@@ -17,6 +17,7 @@ use Rattle.lfs_store.specs.declared.store.Store.{Store}
 use Rattle.lfs_store.specs.log.verify.declared.totals.BlockTotals.{BlockTotals}
 use Rattle.lfs_store.specs.log.Held.{Held, IsReadFault, Reads}
 use Rattle.lfs_store.specs.memory.Batch.{staged}
+use Rattle.lfs_store.specs.memory.declared.changes.Changes.{Changes}
 use Rattle.lfs_store.specs.Recounting.{Counts}
 use Rattle.lfs_store.specs.Seen.{StagedLog}
 use Rattle.lfs_store.proofs.LogReads.{held_still, reads_none}
@@ -142,3 +143,16 @@ still_logged {D} state old new log saved handles = record {
   others = ap (λ (h : Held D). h.totals.meta_blocks) log;
   table = ap (λ (h : Handles). h.numbers.items) handles;
 }
+
+-- ---- what is told from a log that was read before
+
+module _ {D : Type 0} (state : D → DeviceState) (h h' h'' : Held D) (reads : Reads state h h') where
+  pub adds_after : (c c' : Changes) (d : ℕ) (head : Header) (n : ℕ) (name : List ℕ) → Adds state h' h'' c c' d head n name → Adds state h h'' c c' d head n name
+  adds_after c c' d head n name adds = record {
+    fits = λ k m0 m holds. adds.fits k m0 m (held_still state h h' k m0 m reads holds);
+    file = λ k m0 m keeps holds. adds.file k m0 m keeps (held_still state h h' k m0 m reads holds);
+    more = λ k m0 m keeps holds. adds.more k m0 m keeps (held_still state h h' k m0 m reads holds);
+  }
+
+  pub counts_after : (c c' : Changes) (t t' : BlockTotals) → Counts state h' h'' c c' t t' → Counts state h h'' c c' t t'
+  counts_after c c' t t' counts k m0 m keeps holds = counts k m0 m keeps (held_still state h h' k m0 m reads holds)

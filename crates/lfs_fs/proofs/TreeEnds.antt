@@ -75,7 +75,7 @@ leaf_rows t d leaf = by (node t d) leaf
 
 module _ {D : Type 0} (state : D → DeviceState) where
   -- why nothing is told after one read is why nothing is told from before it
-  lacks_after : (old mid new : Fs D) → OnlyReads state old mid → (P Q : LogMap → State → Type 0) → (fault : FsError)
+  pub lacks_after : (old mid new : Fs D) → OnlyReads state old mid → (P Q : LogMap → State → Type 0) → (fault : FsError)
       → (IsNoChange old.store.draft.changes → (k : CheckpointValue) (m0 m : LogMap) (s : State) → (state new.store.log.device).keeps_model → IsIn state (seen old) k m0 m s → Q m s → P m s)
       → LacksWhere state mid new P fault → LacksWhere state old new Q fault
   lacks_after old mid new first P Q fault goes lacks = ⊎_elim
@@ -126,10 +126,10 @@ module _ {D : Type 0} (state : D → DeviceState) where
             lists k m0 m (next.still.reads.looks.carries.kept_before keeps) is.stores.holds
             ∙ ap (λ (x : LogMap). names_at x d head) (no_change old.store.draft.changes m empty)
 
-        in_directory : names_in s.tree d ≡ pairs es
+        pub in_directory : names_in s.tree d ≡ pairs es
         in_directory = names_in_directory (segments_of (seen old)) m s (map_of_volume state (seen old) k m0 m s is) d (dir k m0 m s is has) head has.0 ∙ sym names_are
 
-        names : AreNames s.tree d es
+        pub names : AreNames s.tree d es
         names = are_names s.tree d es (λ name n found. ap (find byte_cmp name) in_directory ∙ found) (subst (λ ms. T (is_sorted byte_cmp ms)) (sym names_are) (sorted_names (slots_at m d head)))
 
       pub directory_tells : (rows : List TreeRow) → TellsRows state listed new d es rows → TellsDirectory state old new d head rows

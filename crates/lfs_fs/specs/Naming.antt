@@ -1,5 +1,5 @@
 -- What the steps of the calls of paths do, each for itself.
-use Rattle.std.specs.Prelude.{◌≡◌, ◌≢◌, ◌⊎◌, ◌≤◌, ◌<◌, ◌+◌, ◌&&◌, not, ℕ, Bool, true, false, List, length, Option, Some, None}
+use Rattle.std.specs.Prelude.{◌≡◌, ◌≢◌, ◌⊎◌, ◌≤◌, ◌<◌, ◌+◌, ◌&&◌, not, ℕ, Bool, true, false, List, [], length, Option, Some, None}
 use Rattle.std.specs.Ordering.{nat_cmp}
 use Rattle.std.specs.FinMap.{find, put}
 use Rattle.lfs_model.specs.declared.Kind.{Kind}
@@ -16,10 +16,11 @@ use Rattle.lfs_store.specs.memory.declared.changes.Changes.{Changes}
 use Rattle.lfs_files.specs.declared.header.Header.{Header}
 use Rattle.lfs_store.specs.memory.Batch.{IsNoChange, staged}
 use Rattle.lfs_store.specs.memory.Present.{as_header}
-use Rattle.lfs_store.specs.log.Held.{Holds, IsReadFault}
+use Rattle.lfs_store.specs.log.Held.{Held, Holds, IsReadFault}
 use Rattle.lfs_store.specs.log.verify.declared.totals.BlockTotals.{BlockTotals}
 use Rattle.lfs_store.specs.Making.{Makes, SetsLinks, first_header, relinked}
 use Rattle.lfs_store.specs.Recounting.{Counts, CountsMade, CountsRelinked}
+use Rattle.lfs_store.specs.Writing.{Writes}
 use Rattle.lfs_fs.specs.Drafted.{Adds}
 use Rattle.lfs_path.specs.dirs.Directory.{names_at}
 use Rattle.lfs_path.specs.declared.last.Last.{Last}
@@ -35,6 +36,29 @@ use Rattle.lfs_fs.specs.Seen.{OnlyReads, seen}
 use Rattle.lfs_fs.specs.declared.rows.Stat.{Stat}
 use Rattle.lfs_fs.specs.Volume.{IsIn, IsStill, Mounted}
 
+-- what a new object is: an empty file, an empty directory, or a link with this text
+pub data NewKind : Type 0 where
+  new_file : NewKind
+  new_directory : NewKind
+  new_link : List ℕ → NewKind
+
+-- an object of this kind, which has this text if it is a link
+abbrev pub new_kind : Kind → List ℕ → NewKind
+new_kind kind.File text = new_file
+new_kind kind.Directory text = new_directory
+new_kind kind.Link text = new_link text
+
+abbrev pub kind_of_new : NewKind → Kind
+kind_of_new new_file = kind.File
+kind_of_new new_directory = kind.Directory
+kind_of_new (new_link text) = kind.Link
+
+-- its bytes
+abbrev pub text_of_new : NewKind → List ℕ
+text_of_new new_file = []
+text_of_new new_directory = []
+text_of_new (new_link text) = text
+
 -- the links of a directory with a new object of this kind in it
 abbrev pub more_links : Kind → ℕ → ℕ
 more_links kind.File l = l
@@ -47,6 +71,11 @@ RelinksParent c c' d head t kind.File = c' ≡ c
 RelinksParent c c' d head t kind.Directory = SetsLinks c c' d head (head.links + 1)
     × CountsRelinked c c' d head t
 RelinksParent c c' d head t kind.Link = c' ≡ c
+
+-- An empty file or directory is drafted.
+pub record DraftsEmpty (c c' : Changes) (t t' : BlockTotals) (n : ℕ) (k : Kind) : Type 0 where
+  pub makes : Makes c c' n (first_header k 0)
+  pub counts : CountsMade c c' n t t'
 
 module _ {D : Type 0} (state : D → DeviceState) where
   -- ---- a handle on the object of a number
@@ -127,18 +156,35 @@ module _ {D : Type 0} (state : D → DeviceState) where
 
   -- ---- a new object
 
-  -- An empty object n of a kind is drafted, and then its name in directory d, which gets the links
-  -- that it has with it.
-  pub record DraftsNew (old new : Fs D) (d : ℕ) (head : Header) (n : ℕ) (k : Kind)
+  -- A link is drafted: its header, and then its text.
+  pub record DraftsLink (h h' : Held D) (c c' : Changes) (t t' : BlockTotals) (n : ℕ)
+      (text : List ℕ) : Type 0 where
+    pub blank : Changes
+    pub half : BlockTotals
+    pub makes : Makes c blank n (first_header kind.Link (length text))
+    pub counts : CountsMade c blank n t half
+    pub writes : Writes state h h' blank c' n (first_header kind.Link (length text)) 0 text
+    pub recounts : Counts state h h' blank c' half t'
+
+  -- An object is drafted, without a name.
+  abbrev pub DraftsObject : Held D → Held D → Changes → Changes → BlockTotals → BlockTotals → ℕ
+      → NewKind → Type 0
+  DraftsObject h h' c c' t t' n new_file = DraftsEmpty c c' t t' n kind.File
+  DraftsObject h h' c c' t t' n new_directory = DraftsEmpty c c' t t' n kind.Directory
+  DraftsObject h h' c c' t t' n (new_link text) = DraftsLink h h' c c' t t' n text
+
+  -- An object n is drafted, and then its name in directory d, which gets the links that it has
+  -- with it.
+  pub record DraftsNew (old new : Fs D) (d : ℕ) (head : Header) (n : ℕ) (k : NewKind)
       (name : List ℕ) : Type 0 where
     pub between : Changes
     pub linked : Changes
     pub half : BlockTotals
-    pub makes : Makes old.store.draft.changes between n (first_header k 0)
-    pub counts : CountsMade old.store.draft.changes between n old.store.drafted half
-    pub relinks : RelinksParent between linked d head half k
+    pub object : DraftsObject old.store.log new.store.log old.store.draft.changes between
+        old.store.drafted half n k
+    pub relinks : RelinksParent between linked d head half (kind_of_new k)
     pub adds : Adds state old.store.log new.store.log linked new.store.draft.changes d
-        (relinked head (more_links k head.links)) n name
+        (relinked head (more_links (kind_of_new k) head.links)) n name
     pub recounts : Counts state old.store.log new.store.log linked new.store.draft.changes half
         new.store.drafted
 
@@ -147,13 +193,13 @@ module _ {D : Type 0} (state : D → DeviceState) where
   DraftsNone old new fault = (fault ≡ error.NoMemory) ⊎ ((fault ≡ error.Device) × IsReadFault state old.store.log new.store.log)
 
   -- A volume with the draft, before it is accepted.
-  pub record IsReady (old mid : Fs D) (d : ℕ) (head : Header) (n : ℕ) (k : Kind)
+  pub record IsReady (old mid : Fs D) (d : ℕ) (head : Header) (n : ℕ) (k : NewKind)
       (name : List ℕ) : Type 0 where
     pub still : IsStill state (seen old) (seen mid)
     pub drafts : DraftsNew old mid d head n k name
 
   -- The object is made.
-  pub record MakesNew (old new : Fs D) (d : ℕ) (head : Header) (n : ℕ) (k : Kind)
+  pub record MakesNew (old new : Fs D) (d : ℕ) (head : Header) (n : ℕ) (k : NewKind)
       (name : List ℕ) : Type 0 where
     pub mid : Fs D
     pub ready : IsReady old mid d head n k name
@@ -161,7 +207,7 @@ module _ {D : Type 0} (state : D → DeviceState) where
     pub table : new.handles ≡ mid.handles
 
   -- It isn't, where it was drafted.
-  pub record TurnsNew (old new : Fs D) (d : ℕ) (head : Header) (n : ℕ) (k : Kind)
+  pub record TurnsNew (old new : Fs D) (d : ℕ) (head : Header) (n : ℕ) (k : NewKind)
       (name : List ℕ) (fault : FsError) : Type 0 where
     pub mid : Fs D
     pub ready : IsReady old mid d head n k name
@@ -169,7 +215,7 @@ module _ {D : Type 0} (state : D → DeviceState) where
     pub table : new.handles ≡ mid.handles
 
   -- or nothing was
-  abbrev pub MakesNone : Fs D → Fs D → ℕ → Header → ℕ → Kind → List ℕ → FsError → Type 0
+  abbrev pub MakesNone : Fs D → Fs D → ℕ → Header → ℕ → NewKind → List ℕ → FsError → Type 0
   MakesNone old new d head n k name fault = TurnsNew old new d head n k name fault
       ⊎ (IsStill state (seen old) (seen new) × DraftsNone old new fault)
 

@@ -1,5 +1,5 @@
 -- What the calls that read get of an object of a volume, and why they get nothing.
-use Rattle.std.specs.Prelude.{◌≡◌, ◌⊎◌, ◌<◌, ◌+◌, ◌-◌, ℕ, zero, suc, true, List, [], ◌∷◌, ◌++◌, map, min, Some}
+use Rattle.std.specs.Prelude.{◌≡◌, ◌≢◌, ◌⊎◌, ◌<◌, ◌+◌, ◌-◌, ℕ, zero, suc, Bool, true, false, List, [], ◌∷◌, ◌++◌, map, min, Some, None}
 use Rattle.lfs_model.specs.declared.Kind.{Kind}
 use Rattle.lfs_model.specs.declared.Kind.TheVariants as kinds
 use Rattle.lfs_model.specs.Bytes.{part}
@@ -7,8 +7,8 @@ use Rattle.lfs_model.specs.Checkpoint.{CheckpointValue}
 use Rattle.lfs_model.specs.Device.{DeviceState}
 use Rattle.lfs_model.specs.Call as call
 use Rattle.lfs_model.specs.Stands.{LogMap}
-use Rattle.lfs_model.specs.Step.{head_of, rows_of, stat_of, the_node}
-use Rattle.lfs_model.specs.Tree.{State, Tree, entry, names_in}
+use Rattle.lfs_model.specs.Step.{entry_of as entry_at, head_of, is_link, rows_of, stat_of, the_node}
+use Rattle.lfs_model.specs.Tree.{State, Tree, entry, is_dir, names_in, node}
 use Rattle.lfs_model.specs.TreeOf.{object}
 use Rattle.lfs_store.specs.log.Held.{Holds}
 use Rattle.lfs_files.specs.declared.header.Header.{Header}
@@ -21,9 +21,15 @@ use Rattle.lfs_path.specs.dirs.declared.entry.Entry.{Entry}
 use Rattle.lfs_path.specs.dirs.Listing.{pair, pairs}
 use Rattle.lfs_fs.specs.declared.rows.Stat.{Stat}
 use Rattle.lfs_fs.specs.declared.rows.TreeRow.{TreeRow}
-use Rattle.lfs_fs.specs.Answers.{row_of}
+use Rattle.lfs_fs.specs.declared.rows.Entry as listing
+use Rattle.lfs_fs.specs.Answers.{entry_of, row_of}
 use Rattle.lfs_fs.specs.Seen.{HasHeader, LacksHeader, seen}
 use Rattle.lfs_fs.specs.Volume.{IsIn}
+
+-- the call that tells of the object of a path: stat follows a last link, lstat doesn't
+abbrev pub stat_call : Bool → List ℕ → call.Call
+stat_call true p = call.StatOf p
+stat_call false p = call.LstatOf p
 
 -- the model's row of an entry of directory d
 abbrev pub row_at : Tree → ℕ → List ℕ × ℕ → call.TreeRow
@@ -46,6 +52,11 @@ rows_from t (suc count) a = rows_at t a ++ rows_from t count (a + 1)
 -- number d has this header, which is a directory's
 abbrev pub HasDirectory : LogMap → ℕ → Header → Type 0
 HasDirectory m d head = (m.header d ≡ Some (as_header head)) × (head.kind ≡ kinds.Directory)
+
+-- entries give objects of a tree
+abbrev pub AreThere : Tree → List Entry → Type 0
+AreThere t [] = Unit {0}
+AreThere t (e ∷ es) = (node t e.number ≢ None) × AreThere t es
 
 -- entries are names of directory d
 abbrev pub AreNames : Tree → ℕ → List Entry → Type 0
@@ -86,6 +97,16 @@ module _ {D : Type 0} (state : D → DeviceState) where
   -- the same of each state
   abbrev pub Undrafted : Fs D → Fs D → (State → Type 0) → Type 0
   Undrafted old new P = UndraftedMap old new (λ m s. P s)
+
+  -- the text of object n, which is a link
+  abbrev pub TellsText : Fs D → Fs D → ℕ → List ℕ → Type 0
+  TellsText old new n text = Undrafted old new (λ s. (is_link (the_node s.tree n) ≡ true)
+      × (head_of (the_node s.tree n) ≡ text))
+
+  -- why there is none: it is no link, or nothing is told of it or read
+  abbrev pub LacksText : Fs D → Fs D → ℕ → FsError → Type 0
+  LacksText old new n fault = ((fault ≡ error.Inval)
+      × Undrafted old new (λ s. is_link (the_node s.tree n) ≡ false)) ⊎ LacksBytes old new n fault
 
   -- the first bytes of an object of this kind: of a link all of its text, of a directory none
   abbrev pub ReadsHead : Fs D → Fs D → ℕ → Kind → List ℕ → Type 0
@@ -135,3 +156,36 @@ module _ {D : Type 0} (state : D → DeviceState) where
 
   abbrev pub LacksNames : Fs D → Fs D → FsError → Type 0
   LacksNames old new = LacksWhere old new (λ m s. Unit {0})
+
+  -- ---- the entries of one directory
+
+  -- the entry that a name gives
+  abbrev pub TellsEntry : Fs D → Fs D → Entry → listing.Entry → Type 0
+  TellsEntry old new e told = Undrafted old new (λ s. entry_of told ≡ entry_at s.tree (pair e))
+
+  -- the entries that such names give
+  abbrev pub TellsEntries : Fs D → Fs D → List Entry → List listing.Entry → Type 0
+  TellsEntries old new es told = Undrafted old new (λ s.
+      map entry_of told ≡ map (entry_at s.tree) (pairs es))
+
+  -- those of all names of directory d, which has this header
+  abbrev pub TellsListing : Fs D → Fs D → ℕ → Header → List listing.Entry → Type 0
+  TellsListing old new d head told = UndraftedMap old new (λ m s. HasDirectory m d head
+      → map entry_of told ≡ map (entry_at s.tree) (names_in s.tree d))
+
+  -- those of object n, which is a directory
+  abbrev pub TellsNode : Fs D → Fs D → ℕ → List listing.Entry → Type 0
+  TellsNode old new n told = Undrafted old new (λ s. (is_dir (node s.tree n) ≡ true)
+      × (map entry_of told ≡ map (entry_at s.tree) (names_in s.tree n)))
+
+  abbrev pub LacksEntry : Fs D → Fs D → Entry → FsError → Type 0
+  LacksEntry old new e = LacksWhere old new (λ m s. node s.tree e.number ≢ None)
+
+  abbrev pub LacksEntries : Fs D → Fs D → List Entry → FsError → Type 0
+  LacksEntries old new es = LacksWhere old new (λ m s. AreThere s.tree es)
+
+  -- why they aren't: it is no directory, or, where an object is there, nothing is told of it
+  abbrev pub LacksNode : Fs D → Fs D → ℕ → FsError → Type 0
+  LacksNode old new n fault = ((fault ≡ error.NotDir)
+      × Undrafted old new (λ s. is_dir (node s.tree n) ≡ false))
+      ⊎ LacksWhere old new (λ m s. node s.tree n ≢ None) fault

@@ -1,11 +1,12 @@
 //! Calls that find a file by its path, or make one.
-ghost use Rattle.std.specs.Prelude.{◌≡◌, ◌≤◌, ◌<◌, ◌+◌, ◌&&◌, not, ℕ, List, false, IfOk, IfErr, OnOk, OnErr};
+ghost use Rattle.std.specs.Prelude.{◌≡◌, ◌≤◌, ◌<◌, ◌+◌, ◌&&◌, not, ℕ, List, None, false, IfOk, IfErr, OnOk, OnErr};
 ghost use Rattle.lfs_model.specs.Call.{Open, Create, Done, Handle, Mkdir};
+ghost use Rattle.lfs_model.specs.PathText.{text_refusal};
 ghost use Rattle.lfs_model.specs.Slot.{IsName};
 ghost use Rattle.lfs_store.specs.Making.{relinked};
 ghost use Rattle.lfs_fs.specs.Volume.{IsStill, Mounted, Serves};
 ghost use Rattle.lfs_fs.specs.Seen.{seen, answer_by, OnlyReads};
-ghost use Rattle.lfs_fs.specs.Naming.{DraftsNew, DraftsNone, LooksNone, LooksUp, MakesNew, MakesNone, OpensNone, OpensNumber, Reaches, RefusesEntry, RelinksParent, TakesEntry, more_links};
+ghost use Rattle.lfs_fs.specs.Naming.{DraftsEmpty, DraftsNew, DraftsNone, DraftsObject, LooksNone, LooksUp, MakesNew, MakesNone, OpensNone, OpensNumber, Reaches, RefusesEntry, RelinksParent, TakesEntry, more_links, new_kind};
 
 use crate::error::FsError;
 use crate::fs::Fs;
@@ -109,7 +110,7 @@ impl<D: SectorDevice> Fs<D> {
         let Some(number) = self.store.least_free() else {
             return Err(FsError::NoNumber);
         };
-        match self.make_entry(directory, header, number, Kind::File, last.name) {
+        match self.make_entry(directory, header, number, Kind::File, &[], last.name) {
             Ok(()) => {}
             Err(fault) => return Err(fault),
         }
@@ -163,7 +164,7 @@ impl<D: SectorDevice> Fs<D> {
         let Some(number) = self.store.least_free() else {
             return Err(FsError::NoNumber);
         };
-        self.make_entry(directory, header, number, Kind::Directory, last.name)
+        self.make_entry(directory, header, number, Kind::Directory, &[], last.name)
     }
 
     /// The header of a directory, and the number that a name gives in it.
@@ -185,7 +186,7 @@ impl<D: SectorDevice> Fs<D> {
 
     /// The rule of a new entry of a directory, whose header it gives. A slash may follow the name of a
     /// directory that is to be made.
-    fn check_new_entry(
+    pub(crate) fn check_new_entry(
         &mut self,
         directory: u16,
         last: Last<'_>,
@@ -224,13 +225,14 @@ impl<D: SectorDevice> Fs<D> {
         Ok(header)
     }
 
-    /// Makes an empty object of this number, with this name in a directory.
-    fn make_entry(
+    /// Makes an object of this number, with this name in a directory. Only a link has a text.
+    pub(crate) fn make_entry(
         &mut self,
         directory: u16,
         header: Header,
         number: u16,
         kind: Kind,
+        text: &[u8],
         name: &[u8],
     ) -> Result<(), FsError>
         requires some { 1 ≤ directory }
@@ -239,14 +241,15 @@ impl<D: SectorDevice> Fs<D> {
         requires linked { kind ≡ Kind.Directory → header.links < 1000 }
         requires first { 1 ≤ number }
         requires last { number ≤ 4095 }
+        requires text { kind ≡ Kind.Link → text_refusal text.now ≡ None }
         requires name { IsName 59 name.now }
         requires running { self.old.store.log.halted ≡ false }
         ensures made { OnOk result (MakesNew D.SectorDevice.state self.old self.new directory header
-            number kind name.now) }
+            number (new_kind kind text.now) name.now) }
         ensures refused { IfErr result (MakesNone D.SectorDevice.state self.old self.new directory
-            header number kind name.now) }
+            header number (new_kind kind text.now) name.now) }
     {
-        match self.draft_entry(directory, header, number, kind, name) {
+        match self.draft_entry(directory, header, number, kind, text, name) {
             Ok(()) => self.accept(),
             Err(fault) => {
                 self.store.give_up();
@@ -255,13 +258,14 @@ impl<D: SectorDevice> Fs<D> {
         }
     }
 
-    /// Drafts an empty object and its name.
+    /// Drafts an object and its name.
     fn draft_entry(
         &mut self,
         directory: u16,
         header: Header,
         number: u16,
         kind: Kind,
+        text: &[u8],
         name: &[u8],
     ) -> Result<(), FsError>
         requires some { 1 ≤ directory }
@@ -270,16 +274,17 @@ impl<D: SectorDevice> Fs<D> {
         requires linked { kind ≡ Kind.Directory → header.links < 1000 }
         requires first { 1 ≤ number }
         requires last { number ≤ 4095 }
+        requires text { kind ≡ Kind.Link → text_refusal text.now ≡ None }
         requires name { IsName 59 name.now }
         requires running { self.old.store.log.halted ≡ false }
         ensures still { IsStill D.SectorDevice.state (seen self.old) (seen self.new) }
         ensures drafted { OnOk result (DraftsNew D.SectorDevice.state self.old self.new directory
-            header number kind name.now) }
+            header number (new_kind kind text.now) name.now) }
         ensures refused { IfErr result (DraftsNone D.SectorDevice.state self.old self.new) }
     {
-        match self.store.create(number, kind) {
+        match self.draft_object(number, kind, text) {
             Ok(()) => {}
-            Err(_) => return Err(FsError::NoMemory),
+            Err(fault) => return Err(fault),
         }
         let header = match self.relink_parent(directory, header, kind) {
             Ok(header) => header,
@@ -288,6 +293,40 @@ impl<D: SectorDevice> Fs<D> {
         match add(&mut self.store, directory, header, number, name) {
             Ok(()) => Ok(()),
             Err(fault) => Err(FsError::from(fault)),
+        }
+    }
+
+    /// Drafts an object without a name.
+    fn draft_object(&mut self, number: u16, kind: Kind, text: &[u8]) -> Result<(), FsError>
+        requires first { 1 ≤ number }
+        requires last { number ≤ 4095 }
+        requires text { kind ≡ Kind.Link → text_refusal text.now ≡ None }
+        requires running { self.old.store.log.halted ≡ false }
+        ensures still { IsStill D.SectorDevice.state (seen self.old) (seen self.new) }
+        ensures drafted { OnOk result (DraftsObject D.SectorDevice.state self.old.store.log
+            self.new.store.log self.old.store.draft.changes self.new.store.draft.changes
+            self.old.store.drafted self.new.store.drafted number (new_kind kind text.now)) }
+        ensures refused { IfErr result (DraftsNone D.SectorDevice.state self.old self.new) }
+    {
+        match kind {
+            Kind::File => self.draft_empty(number, kind),
+            Kind::Directory => self.draft_empty(number, kind),
+            Kind::Link => self.draft_link(number, text),
+        }
+    }
+
+    /// Drafts a file or a directory without a byte.
+    fn draft_empty(&mut self, number: u16, kind: Kind) -> Result<(), FsError>
+        requires first { 1 ≤ number }
+        requires last { number ≤ 4095 }
+        ensures still { IsStill D.SectorDevice.state (seen self.old) (seen self.new) }
+        ensures drafted { OnOk result (DraftsEmpty self.old.store.draft.changes
+            self.new.store.draft.changes self.old.store.drafted self.new.store.drafted number kind) }
+        ensures fault { IfErr result (λ fault. fault ≡ FsError.NoMemory) }
+    {
+        match self.store.create(number, kind) {
+            Ok(()) => Ok(()),
+            Err(_) => Err(FsError::NoMemory),
         }
     }
 

@@ -1,10 +1,10 @@
 //! Calls that read: bytes of a file, what is told of an object, of the volume, and of each entry.
-ghost use Rattle.std.specs.Prelude.{◌≡◌, ◌≤◌, ◌<◌, ◌++◌, ◌∷◌, List, [], map, IfOk, IfErr, OnOk};
+ghost use Rattle.std.specs.Prelude.{◌≡◌, ◌≤◌, ◌<◌, ◌++◌, ◌∷◌, List, [], map, IfOk, IfErr, OnOk, OnErr};
 ghost use Rattle.lfs_model.specs.Call as call;
-ghost use Rattle.lfs_model.specs.Call.{Pread, StatOf, ListTree, Data, Status, Rows};
+ghost use Rattle.lfs_model.specs.Call.{Pread, StatOf, LstatOf, Readlink, ListTree, Data, Status, Text, Rows};
 ghost use Rattle.lfs_fs.specs.Volume.{Serves};
 ghost use Rattle.lfs_fs.specs.Seen.{seen, answer_by, OnlyReads};
-ghost use Rattle.lfs_fs.specs.Reading.{LacksBytes, LacksDirectory, LacksNames, LacksObject, LacksRow, LacksRows, ReadsFile, ReadsHead, TellsDirectory, TellsNames, TellsRow, TellsRows, TellsStat, TellsTree};
+ghost use Rattle.lfs_fs.specs.Reading.{LacksBytes, LacksDirectory, LacksNames, LacksObject, LacksRow, LacksRows, LacksText, ReadsFile, ReadsHead, TellsDirectory, TellsNames, TellsRow, TellsRows, TellsStat, TellsText, TellsTree, stat_call};
 ghost use Rattle.lfs_fs.specs.Answers.{status_of, room_of, row_of};
 
 use crate::error::FsError;
@@ -89,11 +89,31 @@ impl<D: SectorDevice> Fs<D> {
     pub fn stat(&mut self, path: &[u8]) -> Result<Stat, FsError>
         ensures { Serves D.SectorDevice.state (seen self.old) (seen self.new) (StatOf path.now) (answer_by (λ stat. Status (status_of stat)) result) }
     {
+        self.status(path, true)
+    }
+
+    /// The same, where the last piece of the path may be a link that isn't followed (POSIX.1-2017, lstat).
+    ///
+    /// # Errors
+    ///
+    /// Those of the path.
+    pub fn lstat(&mut self, path: &[u8]) -> Result<Stat, FsError>
+        ensures { Serves D.SectorDevice.state (seen self.old) (seen self.new) (LstatOf path.now)
+            (answer_by (λ stat. Status (status_of stat)) result) }
+    {
+        self.status(path, false)
+    }
+
+    /// What is told of the object of a path, whose last link is followed or not.
+    fn status(&mut self, path: &[u8], follow: bool) -> Result<Stat, FsError>
+        ensures { Serves D.SectorDevice.state (seen self.old) (seen self.new)
+            (stat_call follow path.now) (answer_by (λ stat. Status (status_of stat)) result) }
+    {
         match self.begin() {
             Ok(()) => {}
             Err(fault) => return Err(fault),
         }
-        match resolve(self.alloc, &mut self.store, path, true) {
+        match resolve(self.alloc, &mut self.store, path, follow) {
             Ok(number) => self.stat_of(number),
             Err(fault) => Err(FsError::from(fault)),
         }
@@ -118,6 +138,44 @@ impl<D: SectorDevice> Fs<D> {
             links: header.links,
             size: u64::from(header.size),
         })
+    }
+
+    /// The text of the link of a path (POSIX.1-2017, readlink).
+    ///
+    /// # Errors
+    ///
+    /// Those of the path; `Inval` where it gives no link.
+    pub fn readlink(&mut self, path: &[u8]) -> Result<Vec<u8>, FsError>
+        ensures { Serves D.SectorDevice.state (seen self.old) (seen self.new) (Readlink path.now)
+            (answer_by (λ text. Text text.items) result) }
+    {
+        match self.begin() {
+            Ok(()) => {}
+            Err(fault) => return Err(fault),
+        }
+        match resolve(self.alloc, &mut self.store, path, false) {
+            Ok(number) => self.text_of(number),
+            Err(fault) => Err(FsError::from(fault)),
+        }
+    }
+
+    /// The text of a link that is there.
+    fn text_of(&mut self, number: u16) -> Result<Vec<u8>, FsError>
+        ensures reads { OnlyReads D.SectorDevice.state self.old self.new }
+        ensures answer { IfOk result (λ text. TellsText D.SectorDevice.state self.old self.new
+            number text.items) }
+        ensures missing { IfErr result (λ fault. LacksText D.SectorDevice.state self.old self.new
+            number fault) }
+    {
+        let stat = match self.stat_of(number) {
+            Ok(stat) => stat,
+            Err(fault) => return Err(fault),
+        };
+        match check_link(stat.kind) {
+            Ok(()) => {}
+            Err(fault) => return Err(fault),
+        }
+        self.read_file(number, 0, LONGEST_TEXT)
     }
 
     /// What the tree needs, and the most that it may need.
@@ -299,6 +357,19 @@ impl<D: SectorDevice> Fs<D> {
             Kind::Directory => Ok(Vec::new(self.alloc)),
             Kind::Link => self.read_file(number, 0, LONGEST_TEXT),
         }
+    }
+}
+
+/// Refuses what is no link.
+fn check_link(kind: Kind) -> Result<(), FsError>
+    ensures done { OnOk result (kind ≡ Kind.Link) }
+    ensures refused { OnErr result (kind ≡ Kind.Link → ⊥) }
+    ensures fault { IfErr result (λ fault. fault ≡ FsError.Inval) }
+{
+    match kind {
+        Kind::File => Err(FsError::Inval),
+        Kind::Directory => Err(FsError::Inval),
+        Kind::Link => Ok(()),
     }
 }
 

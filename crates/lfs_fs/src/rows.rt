@@ -24,7 +24,16 @@ pub struct Stat {
     pub size: u64,
 }
 
-/// An entry of a directory.
+/// An entry of a directory (POSIX.1-2017, readdir: d_name, d_ino).
+#[derive(Debug, Drop)]
+pub struct Entry {
+    /// 1 to 59 bytes.
+    pub name: Vec<u8>,
+    pub number: u32,
+    pub kind: Kind,
+}
+
+/// What is told of an entry of a directory, with the beginning of what it gives.
 #[derive(Debug, Drop)]
 pub struct TreeRow {
     /// The number of the directory that has the entry.

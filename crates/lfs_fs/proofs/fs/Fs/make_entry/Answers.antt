@@ -1,5 +1,6 @@
 use Rattle.std.proofs.Common.{inl}
 use Rattle.lfs_store.proofs.of_memory.Going.{ok_then}
+use Rattle.lfs_fs.specs.Naming.{new_kind}
 use Rattle.lfs_fs.proofs.NameLooks.{fault_then, none_made, seen_same}
 use Rattle.lfs_fs.proofs.fs.Fs.make_entry.Goals as goal
 
@@ -18,5 +19,5 @@ returns-in-Ok-clause-refused g c =
 pub returns-in-Err-clause-refused : goal.returns-in-Err-clause-refused
 returns-in-Err-clause-refused g c =
     none_made g.D.SectorDevice.state c.args.self.now c.draft_entry.new.self record { alloc = c.draft_entry.new.self.alloc; store = c.give_up.new.self; handles = c.draft_entry.new.self.handles }
-    c.args.directory c.args.header c.args.number c.args.kind c.args.name.now c.in-Err.fault c.in-Err.ensures.still
+    c.args.directory c.args.header c.args.number (new_kind c.args.kind c.args.text.now) c.args.name.now c.in-Err.fault c.in-Err.ensures.still
     (seen_same g.D.SectorDevice.state c.draft_entry.new.self c.give_up.new.self c.give_up.ensures.log c.give_up.ensures.saved) c.in-Err.ensures.refused

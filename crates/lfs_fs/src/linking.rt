@@ -1,0 +1,118 @@
+//! Symbolic links, and how they are made.
+ghost use Rattle.std.specs.Prelude.{◌≡◌, ◌≤◌, ℕ, List, None, Some, false, IfErr, OnOk};
+ghost use Rattle.lfs_model.specs.Call.{Done, Symlink};
+ghost use Rattle.lfs_model.specs.PathText.{text_refusal};
+ghost use Rattle.lfs_fs.specs.Naming.{DraftsLink, DraftsNone, Reaches};
+ghost use Rattle.lfs_fs.specs.Refusals.{refusal_of};
+ghost use Rattle.lfs_fs.specs.Seen.{answer_by, seen};
+ghost use Rattle.lfs_fs.specs.Volume.{IsStill, Mounted, Serves};
+
+use crate::error::FsError;
+use crate::fs::Fs;
+use lfs_device::SectorDevice;
+use lfs_model::Kind;
+use lfs_path::text::check_text;
+use lfs_path::tree::parent;
+use lfs_path::{Last, PathFault};
+use lfs_store::Header;
+
+impl<D: SectorDevice> Fs<D> {
+    /// Makes a symbolic link with this text (POSIX.1-2017, symlink).
+    ///
+    /// # Errors
+    ///
+    /// In this order: of the text `NoEntry` where it is empty, `NameTooLong` above 1,023 bytes, `Inval` where it has a
+    /// zero byte; those of the path; of the new name as those of `create`; `NoNumber`; `NoSpace`.
+    pub fn symlink(&mut self, text: &[u8], path: &[u8]) -> Result<(), FsError>
+        ensures { Serves D.SectorDevice.state (seen self.old) (seen self.new)
+            (Symlink text.now path.now) (answer_by (λ _. Done) result) }
+    {
+        match self.begin() {
+            Ok(()) => {}
+            Err(fault) => return Err(fault),
+        }
+        match check_link_text(text) {
+            Ok(()) => {}
+            Err(fault) => return Err(fault),
+        }
+        match parent(self.alloc, &mut self.store, path) {
+            Ok(place) => self.symlink_at(place.chain.directory(), place.last, text),
+            Err(fault) => Err(FsError::from(fault)),
+        }
+    }
+
+    /// Makes a symbolic link under the last piece of a path, which stands in this directory.
+    fn symlink_at(
+        &mut self,
+        directory: u16,
+        last: Option<Last<'_>>,
+        text: &[u8],
+    ) -> Result<(), FsError>
+        requires few { directory ≤ 4095 }
+        requires good { text_refusal text.now ≡ None }
+        requires running { self.old.store.log.halted ≡ false }
+        ensures { (v : Mounted D) (path : List ℕ)
+            → Reaches D.SectorDevice.state v self.old path directory last.entry
+            → Serves D.SectorDevice.state v (seen self.new) (Symlink text.now path)
+            (answer_by (λ _. Done) result) }
+    {
+        // No volume has an object of this number.
+        if directory == 0 {
+            return Err(FsError::Device);
+        }
+        let Some(last) = last else {
+            return Err(FsError::Exist);
+        };
+        let header = match self.check_new_entry(directory, last, false) {
+            Ok(header) => header,
+            Err(fault) => return Err(fault),
+        };
+        let Some(number) = self.store.least_free() else {
+            return Err(FsError::NoNumber);
+        };
+        self.make_entry(directory, header, number, Kind::Link, text, last.name)
+    }
+
+    /// Drafts a link with its text, without a name.
+    pub(crate) fn draft_link(&mut self, number: u16, text: &[u8]) -> Result<(), FsError>
+        requires first { 1 ≤ number }
+        requires last { number ≤ 4095 }
+        requires good { text_refusal text.now ≡ None }
+        requires running { self.old.store.log.halted ≡ false }
+        ensures still { IsStill D.SectorDevice.state (seen self.old) (seen self.new) }
+        ensures drafted { OnOk result (DraftsLink D.SectorDevice.state self.old.store.log
+            self.new.store.log self.old.store.draft.changes self.new.store.draft.changes
+            self.old.store.drafted self.new.store.drafted number text.now) }
+        ensures refused { IfErr result (DraftsNone D.SectorDevice.state self.old self.new) }
+    {
+        let size = text.len() as u32;
+        match self.store.create_link(number, size) {
+            Ok(()) => {}
+            Err(_) => return Err(FsError::NoMemory),
+        }
+        let header = Header {
+            kind: Kind::Link,
+            links: 1,
+            size,
+        };
+        match self.store.write_at(number, header, 0, text) {
+            Ok(()) => Ok(()),
+            Err(fault) => Err(FsError::from(fault)),
+        }
+    }
+}
+
+/// Refuses the text of a link for itself.
+fn check_link_text(text: &[u8]) -> Result<(), FsError>
+    ensures good { OnOk result (text_refusal text.now ≡ None) }
+    ensures refused { IfErr result (λ fault. text_refusal text.now ≡ Some (refusal_of fault)) }
+{
+    match check_text(text) {
+        Ok(()) => Ok(()),
+        Err(PathFault::NoEntry) => Err(FsError::NoEntry),
+        Err(PathFault::NotDir) => Err(FsError::NotDir),
+        Err(PathFault::NameTooLong) => Err(FsError::NameTooLong),
+        Err(PathFault::Inval) => Err(FsError::Inval),
+        Err(PathFault::Log(fault)) => Err(FsError::from(fault)),
+    }
+}
