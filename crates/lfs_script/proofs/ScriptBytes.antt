@@ -69,15 +69,28 @@ pub replies_more : (answers : List Answer) (answer : Answer) → replies (answer
 replies_more [] answer = append-nil (reply answer)
 replies_more (a ∷ answers) answer = ap (λ t. reply a ++ t) (replies_more answers answer) ∙ sym (append_assoc (reply a) (replies answers) (reply answer))
 
+pub replies_after : (a b c : Option (List ℕ)) (answers : List Answer) (answer : Answer) → Appends a b (replies answers) → Appends b c (reply answer) → Appends a c (replies (answers ++ answer ∷ []))
+replies_after a b c answers answer before next = subst (Appends a c) (sym (replies_more answers answer)) (Appends-trans a b c (replies answers) (reply answer) before next)
+
 -- ---- texts and their lines
 
 pub texts_more : (texts : List (List ℕ)) (text : List ℕ) → ended_texts (texts ++ text ∷ []) ≡ ended_texts texts ++ (text ++ 10 ∷ [])
 texts_more [] text = append-nil (ended text)
 texts_more (t ∷ texts) text = ap (λ s. ended t ++ s) (texts_more texts text) ∙ sym (append_assoc (ended t) (ended_texts texts) (text ++ 10 ∷ []))
 
+-- a text more, and its newline behind all before it
+pub ended_more : (texts : List (List ℕ)) (text : List ℕ) → ended_texts (texts ++ text ∷ []) ≡ (ended_texts texts ++ text) ++ 10 ∷ []
+ended_more texts text = texts_more texts text ∙ sym (append_assoc (ended_texts texts) text (10 ∷ []))
+
+pub line_more : (r mid left : Option (List ℕ)) (texts : List (List ℕ)) (text : List ℕ) → Consumes r mid (ended_texts texts) → Consumes mid left (text ++ 10 ∷ []) → Consumes r left (ended_texts (texts ++ text ∷ []))
+line_more r mid left texts text before next = subst (Consumes r left) (sym (texts_more texts text)) (Consumes-trans r mid left (ended_texts texts) (text ++ 10 ∷ []) before next)
+
+pub each_more : {A : Type 0} (P : A → Type 0) (xs : List A) (x : A) → AllByRecursion P xs → P x → AllByRecursion P (xs ++ x ∷ [])
+each_more P [] x all one = (one, tt)
+each_more P (y ∷ xs) x all one = (all.0, each_more P xs x all.1 one)
+
 pub all_more : (texts : List (List ℕ)) (text : List ℕ) → AllByRecursion IsText texts → IsText text → AllByRecursion IsText (texts ++ text ∷ [])
-all_more [] text all plain = (plain, tt)
-all_more (t ∷ texts) text all plain = (all.0, all_more texts text all.1 plain)
+all_more texts text all plain = each_more IsText texts text all plain
 
 pub spelled_more : (texts : List (List ℕ)) (script : List Line) (text : List ℕ) (line : Line) → AreSpelled texts script → Spells text line → AreSpelled (texts ++ text ∷ []) (script ++ line ∷ [])
 spelled_more [] [] text line all spells = (spells, tt)

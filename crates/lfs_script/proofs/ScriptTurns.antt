@@ -1,5 +1,5 @@
 -- How a script goes on by a line, and how it ends.
-use Rattle.std.proofs.Common.{◌≡◌, ◌≢◌, ◌==◌, true, false, ◌+◌, ◌-◌, ◌^◌, ◌<◌, ◌≤◌, inl, inr, ℕ, Option, Some, None, Ok, List, [], ◌∷◌, ◌++◌, length, length-append, refl, sym, ◌∙◌, ap, subst, append_assoc, arith}
+use Rattle.std.proofs.Common.{◌≡◌, ◌≢◌, ◌==◌, Bool, true, false, ◌+◌, ◌-◌, ◌^◌, ◌<◌, ◌≤◌, inl, inr, ℕ, Option, Some, None, Ok, List, [], ◌∷◌, ◌++◌, length, length-append, refl, sym, ◌∙◌, ap, subst, append_assoc, arith}
 use Rattle.std.specs.Prelude.{IsTrue}
 use Rattle.std.proofs.lemmas.Bool.Decides.{nat_tests}
 use Rattle.std.proofs.lemmas.List.{append-nil}
@@ -19,10 +19,13 @@ use Rattle.lfs_script.specs.declared.line.LineEnd.TheVariants.{TooLong}
 use Rattle.lfs_script.specs.declared.source.ReadError.{ReadError}
 use Rattle.lfs_script.specs.Lines.{IsBuilt, IsUnknown}
 use Rattle.lfs_script.specs.Ending.{EndOf, IsBadLine, IsBadText, IsText, IsWhole, ended_texts, replies}
-use Rattle.lfs_script.specs.Running.{AnswersText, Called, Ends, Finishes, Refuses, SoFar, Turns}
+use Rattle.lfs_script.specs.Running.{AnswersText, Called, Ends, EndsBy, Finishes, Refuses, SoFar, Turns}
+use Rattle.lfs_script.specs.Strict.{Follows, EndsBehind, GoesOnBehind, StrictEndOf}
 use Rattle.lfs_script.specs.declared.script.ScriptEnd.{ScriptEnd}
 use Rattle.lfs_script.specs.declared.script.ScriptEnd.TheVariants.{Done, BadLine, Read, Write, Memory}
-use Rattle.lfs_script.proofs.ScriptBytes.{all_more, last_read, line_read, lines_last, lines_whole, none_read, plain_more, replies_more, some_after, spelled_more, texts_more, with_left}
+use Rattle.lfs_script.specs.declared.script.StrictEnd.{StrictEnd}
+use Rattle.lfs_script.specs.declared.script.StrictEnd.TheVariants.{Script, Refused}
+use Rattle.lfs_script.proofs.ScriptBytes.{all_more, each_more, ended_more, last_read, line_more, line_read, lines_last, lines_whole, none_read, plain_more, replies_after, some_after, spelled_more, with_left}
 
 -- ---- one line
 
@@ -50,28 +53,37 @@ module _ {D : Type 0} (state : D → DeviceState) where
       → AnswersText state (Some (Refuse NoMemory)) old old text
   without_memory old text short (line, built, fits, word, is) = called_text old old text line (Refuse NoMemory) short is fits (inr (word, refl, refl))
 
-  -- the last line is none, or goes on, or ends the script
-  pub finish_none : (w : Option (List ℕ)) (v : Mounted D) (text : List ℕ) (n : ℕ) → true ≡ (length text == 0) → Finishes state Done w w v v text n
-  finish_none w v text n e = inl (nothing text (zero_length (length text) e), refl, refl, refl)
-
-  pub finish_done : (w w1 : Option (List ℕ)) (old new : Mounted D) (text : List ℕ) (n : ℕ) → false ≡ (length text == 0) → Turns state None w w1 old new text n → Finishes state Done w w1 old new text n
-  finish_done w w1 old new text n e turns = inr (some_length (length text) e, inl (refl, turns))
-
-  pub finish_end : (end : ScriptEnd) (w w1 : Option (List ℕ)) (old new : Mounted D) (text : List ℕ) (n : ℕ) → false ≡ (length text == 0) → Turns state (Some end) w w1 old new text n → Finishes state end w w1 old new text n
-  finish_end end w w1 old new text n e turns = inr (some_length (length text) e, inr turns)
-
-  -- the line as a slice
-  pub turns_of : (end : Option ScriptEnd) (w w1 : Option (List ℕ)) (old new : Mounted D) (slice text : List ℕ) (n : ℕ) → slice ≡ text → Turns state end w w1 old new slice n → Turns state end w w1 old new text n
-  turns_of end w w1 old new slice text n is turns = subst (λ (t : List ℕ). Turns state end w w1 old new t n) is turns
-
-  pub finishes_of : (end : ScriptEnd) (w w1 : Option (List ℕ)) (old new : Mounted D) (slice text : List ℕ) (n : ℕ) → slice ≡ text → Finishes state end w w1 old new slice n → Finishes state end w w1 old new text n
-  finishes_of end w w1 old new slice text n is finishes = subst (λ (t : List ℕ). Finishes state end w w1 old new t n) is finishes
-
   pub called : (R : List ℕ → Type 0) (old new : Mounted D) (text : List ℕ) (answer : Answer) → AnswersText state (Some answer) old new text → R (reply answer) → Called state R old new text
   called R old new text answer (line, spells, serves) replied = record { line = line; answer = answer; spells = spells; serves = serves; replied = replied }
 
+  -- a call whose reply went out, by what is decided behind it
+  pub turned : (end : Option StrictEnd) (strict : Bool) (w w1 : Option (List ℕ)) (old new : Mounted D) (text : List ℕ) (n : ℕ) (answer : Answer) → AnswersText state (Some answer) old new text
+      → Appends w w1 (reply answer) → Follows strict end answer → Turns state strict end w w1 old new text n
+  unfolding called
+  turned None strict w w1 old new text n answer answers replied decides = (called (Appends w w1) old new text answer answers replied, decides)
+  turned (Some Refused) strict w w1 old new text n answer answers replied decides = (called (Appends w w1) old new text answer answers replied, decides)
+  turned (Some (Script end)) strict w w1 old new text n answer answers replied decides = absurd decides
+
+module _ {D : Type 0} (state : D → DeviceState) (strict : Bool) where
+  -- the last line is none, or goes on, or ends the script
+  pub finish_none : (w : Option (List ℕ)) (v : Mounted D) (text : List ℕ) (n : ℕ) → true ≡ (length text == 0) → Finishes state strict (Script Done) w w v v text n
+  finish_none w v text n e = inl (nothing text (zero_length (length text) e), refl, refl, refl)
+
+  pub finish_done : (w w1 : Option (List ℕ)) (old new : Mounted D) (text : List ℕ) (n : ℕ) → false ≡ (length text == 0) → Turns state strict None w w1 old new text n → Finishes state strict (Script Done) w w1 old new text n
+  finish_done w w1 old new text n e turns = inr (some_length (length text) e, inl (refl, turns))
+
+  pub finish_end : (end : StrictEnd) (w w1 : Option (List ℕ)) (old new : Mounted D) (text : List ℕ) (n : ℕ) → false ≡ (length text == 0) → Turns state strict (Some end) w w1 old new text n → Finishes state strict end w w1 old new text n
+  finish_end end w w1 old new text n e turns = inr (some_length (length text) e, inr turns)
+
+  -- the line as a slice
+  pub turns_of : (end : Option StrictEnd) (w w1 : Option (List ℕ)) (old new : Mounted D) (slice text : List ℕ) (n : ℕ) → slice ≡ text → Turns state strict end w w1 old new slice n → Turns state strict end w w1 old new text n
+  turns_of end w w1 old new slice text n is turns = subst (λ (t : List ℕ). Turns state strict end w w1 old new t n) is turns
+
+  pub finishes_of : (end : StrictEnd) (w w1 : Option (List ℕ)) (old new : Mounted D) (slice text : List ℕ) (n : ℕ) → slice ≡ text → Finishes state strict end w w1 old new slice n → Finishes state strict end w w1 old new text n
+  finishes_of end w w1 old new slice text n is finishes = subst (λ (t : List ℕ). Finishes state strict end w w1 old new t n) is finishes
+
   -- the replies so far are flushed
-  pub so_far_flushed : (n : ℕ) (r left w w1 w2 : Option (List ℕ)) (old now : Mounted D) → Keeps w1 w2 → SoFar state n r left w w1 old now → SoFar state n r left w w2 old now
+  pub so_far_flushed : (n : ℕ) (r left w w1 w2 : Option (List ℕ)) (old now : Mounted D) → Keeps w1 w2 → SoFar state strict n r left w w1 old now → SoFar state strict n r left w w2 old now
   so_far_flushed n r left w w1 w2 old now keeps so = record {
     texts = so.texts;
     script = so.script;
@@ -79,6 +91,7 @@ module _ {D : Type 0} (state : D → DeviceState) where
     plain = so.plain;
     spelled = so.spelled;
     run = so.run;
+    goes_on = so.goes_on;
     consumed = so.consumed;
     appended = Appends-kept w w1 w2 (replies so.answers) so.appended keeps;
     count = so.count;
@@ -93,9 +106,9 @@ long_ended end b P is long = subst (λ (l : LineEnd). OnTooLong {E = ReadError} 
 
 -- ---- a line more, and the ends
 
-module _ {D : Type 0} (state : D → DeviceState) (none : (old : Mounted D) → RunsLines state old old [] [])
+module _ {D : Type 0} (state : D → DeviceState) (strict : Bool) (none : (old : Mounted D) → RunsLines state old old [] [])
     (more : (old mid new : Mounted D) (script : List Line) (answers : List Answer) (line : Line) (answer : Answer) → RunsLines state old mid script answers → ServesLine state mid new line answer → RunsLines state old new (script ++ line ∷ []) (answers ++ answer ∷ [])) where
-  pub so_far_none : (r w : Option (List ℕ)) (left : List ℕ) (old : Mounted D) → left ≡ [] → SoFar state 1 r (prepend_known left r) w w old old
+  pub so_far_none : (r w : Option (List ℕ)) (left : List ℕ) (old : Mounted D) → left ≡ [] → SoFar state strict 1 r (prepend_known left r) w w old old
   so_far_none r w left old empty = record {
     texts = [];
     script = [];
@@ -103,45 +116,72 @@ module _ {D : Type 0} (state : D → DeviceState) (none : (old : Mounted D) → 
     plain = tt;
     spelled = tt;
     run = none old;
+    goes_on = tt;
     consumed = none_read r left empty;
     appended = Appends-nil w;
     count = refl;
   }
 
-  pub no_room : (r w : Option (List ℕ)) (old : Mounted D) → Ends state Memory r r w w old old
+  pub no_room : (r w : Option (List ℕ)) (old : Mounted D) → EndsBy state strict (Script Memory) r r w w old old
   no_room r w old = record {
     texts = [];
     script = [];
     answers = [];
     spelled = tt;
     run = none old;
-    bytes = (Keeps-refl r, Keeps-refl w, refl);
+    bytes = ((Keeps-refl r, Keeps-refl w, refl), tt);
   }
 
-  pub so_far_more : (n : ℕ) (r mid left w w1 w2 : Option (List ℕ)) (old now new : Mounted D) (text : List ℕ) → SoFar state n r mid w w1 old now → IsText text → Consumes mid left (text ++ 10 ∷ [])
-      → Turns state None w1 w2 now new text n → SoFar state (n + 1) r left w w2 old new
-  so_far_more n r mid left w w1 w2 old now new text so plain consumes call = record {
+  pub so_far_more : (n : ℕ) (r mid left w w1 w2 : Option (List ℕ)) (old now new : Mounted D) (text : List ℕ) → SoFar state strict n r mid w w1 old now → IsText text → Consumes mid left (text ++ 10 ∷ [])
+      → Turns state strict None w1 w2 now new text n → SoFar state strict (n + 1) r left w w2 old new
+  so_far_more n r mid left w w1 w2 old now new text so plain consumes (call, goes_on) = record {
     texts = so.texts ++ text ∷ [];
     script = so.script ++ call.line ∷ [];
     answers = so.answers ++ call.answer ∷ [];
     plain = all_more so.texts text so.plain plain;
     spelled = spelled_more so.texts so.script text call.line so.spelled call.spells;
     run = more old now new so.script so.answers call.line call.answer so.run call.serves;
-    consumed = subst (Consumes r left) (sym (texts_more so.texts text)) (Consumes-trans r mid left (ended_texts so.texts) (text ++ 10 ∷ []) so.consumed consumes);
-    appended = subst (Appends w w2) (sym (replies_more so.answers call.answer)) (Appends-trans w w1 w2 (replies so.answers) (reply call.answer) so.appended call.replied);
+    goes_on = each_more (GoesOnBehind strict) so.answers call.answer so.goes_on goes_on;
+    consumed = line_more r mid left so.texts text so.consumed consumes;
+    appended = replies_after w w1 w2 so.answers call.answer so.appended call.replied;
     count = (let l = length-append so.texts (text ∷ []) in let c = so.count in omega (arith, l, c));
   }
 
   -- a reply that went out in part
-  reply_stops : (n : ℕ) (r mid now w w1 w2 : Option (List ℕ)) (old at new : Mounted D) (text input rest : List ℕ) (so : SoFar state n r mid w w1 old at) → Called state (AppendsSome w1 w2) at new text
-      → lines input ≡ so.texts ++ text ∷ [] → IsWhole input rest now → Consumes r now (input ++ rest) → Ends state Write r now w w2 old new
+  reply_stops : (n : ℕ) (r mid now w w1 w2 : Option (List ℕ)) (old at new : Mounted D) (text input rest : List ℕ) (so : SoFar state strict n r mid w w1 old at) → Called state (AppendsSome w1 w2) at new text
+      → lines input ≡ so.texts ++ text ∷ [] → IsWhole input rest now → Consumes r now (input ++ rest) → EndsBy state strict (Script Write) r now w w2 old new
   reply_stops n r mid now w w1 w2 old at new text input rest so call cut whole consumes = record {
     texts = so.texts ++ text ∷ [];
     script = so.script ++ call.line ∷ [];
     answers = so.answers ++ call.answer ∷ [];
     spelled = spelled_more so.texts so.script text call.line so.spelled call.spells;
     run = more old at new so.script so.answers call.line call.answer so.run call.serves;
-    bytes = inl (record {
+    bytes = inl (
+      record {
+        input = input;
+        more = rest;
+        before = so.answers;
+        last = call.answer;
+        cut = cut;
+        whole = whole;
+        read = consumes;
+        all = refl;
+        written = some_after w w1 w2 (replies so.answers) (reply call.answer) so.appended call.replied;
+      },
+      so.goes_on,
+    );
+  }
+
+  -- a reply behind which a strict run ends
+  refusal_stops : (n : ℕ) (r mid now w w1 w2 : Option (List ℕ)) (old at new : Mounted D) (text input rest : List ℕ) (so : SoFar state strict n r mid w w1 old at) (call : Called state (Appends w1 w2) at new text)
+      → EndsBehind strict call.answer → lines input ≡ so.texts ++ text ∷ [] → IsWhole input rest now → Consumes r now (input ++ rest) → EndsBy state strict Refused r now w w2 old new
+  refusal_stops n r mid now w w1 w2 old at new text input rest so call refused cut whole consumes = record {
+    texts = so.texts ++ text ∷ [];
+    script = so.script ++ call.line ∷ [];
+    answers = so.answers ++ call.answer ∷ [];
+    spelled = spelled_more so.texts so.script text call.line so.spelled call.spells;
+    run = more old at new so.script so.answers call.line call.answer so.run call.serves;
+    bytes = record {
       input = input;
       more = rest;
       before = so.answers;
@@ -150,12 +190,14 @@ module _ {D : Type 0} (state : D → DeviceState) (none : (old : Mounted D) → 
       whole = whole;
       read = consumes;
       all = refl;
-      written = some_after w w1 w2 (replies so.answers) (reply call.answer) so.appended call.replied;
-    });
+      first = so.goes_on;
+      refused = refused;
+      written = replies_after w w1 w2 so.answers call.answer so.appended call.replied;
+    };
   }
 
   -- an end at which no call is made
-  stays : (end : ScriptEnd) (n : ℕ) (r mid now w w1 w2 : Option (List ℕ)) (old at new : Mounted D) (so : SoFar state n r mid w w1 old at) → new ≡ at → EndOf end r now w w2 so.texts so.answers → Ends state end r now w w2 old new
+  stays : (end : StrictEnd) (n : ℕ) (r mid now w w1 w2 : Option (List ℕ)) (old at new : Mounted D) (so : SoFar state strict n r mid w w1 old at) → new ≡ at → StrictEndOf strict end r now w w2 so.texts so.answers → EndsBy state strict end r now w w2 old new
   stays end n r mid now w w1 w2 old at new so same bytes = record {
     texts = so.texts;
     script = so.script;
@@ -166,40 +208,44 @@ module _ {D : Type 0} (state : D → DeviceState) (none : (old : Mounted D) → 
   }
 
   -- a bad line
-  bad_ends : (end : ScriptEnd) (n : ℕ) (r mid now w w1 w2 : Option (List ℕ)) (old at new : Mounted D) (text rest : List ℕ) (so : SoFar state n r mid w w1 old at) → new ≡ at → IsBadLine text rest now
-      → Consumes r now (ended_texts so.texts ++ (text ++ rest)) → Refuses end w1 w2 n → Ends state end r now w w2 old new
+  bad_ends : (end : ScriptEnd) (n : ℕ) (r mid now w w1 w2 : Option (List ℕ)) (old at new : Mounted D) (text rest : List ℕ) (so : SoFar state strict n r mid w w1 old at) → new ≡ at → IsBadLine text rest now
+      → Consumes r now (ended_texts so.texts ++ (text ++ rest)) → Refuses end w1 w2 n → EndsBy state strict (Script end) r now w w2 old new
   bad_ends Done n r mid now w w1 w2 old at new text rest so same line consumes refuses = absurd refuses
   bad_ends Read n r mid now w w1 w2 old at new text rest so same line consumes refuses = absurd refuses
   bad_ends Memory n r mid now w w1 w2 old at new text rest so same line consumes refuses = absurd refuses
   bad_ends (BadLine m) n r mid now w w1 w2 old at new text rest so same line consumes (is, appends) =
-      stays (BadLine m) n r mid now w w1 w2 old at new so same
-      (is ∙ sym so.count, text, rest, line, consumes, Appends-trans w w1 w2 (replies so.answers) (bad m) so.appended (subst (λ k. Appends w1 w2 (bad k)) (sym is) appends))
+      stays (Script (BadLine m)) n r mid now w w1 w2 old at new so same
+      ((is ∙ sym so.count, text, rest, line, consumes, Appends-trans w w1 w2 (replies so.answers) (bad m) so.appended (subst (λ k. Appends w1 w2 (bad k)) (sym is) appends)), so.goes_on)
   bad_ends Write n r mid now w w1 w2 old at new text rest so same line consumes appends =
-      stays Write n r mid now w w1 w2 old at new so same
-      (inr (record {
-        text = text;
-        more = rest;
-        line = line;
-        read = consumes;
-        written = some_after w w1 w2 (replies so.answers) (bad (length so.texts + 1)) so.appended (subst (λ k. AppendsSome w1 w2 (bad k)) (sym so.count) appends);
-      }))
+      stays (Script Write) n r mid now w w1 w2 old at new so same
+      (inr (
+        record {
+          text = text;
+          more = rest;
+          line = line;
+          read = consumes;
+          written = some_after w w1 w2 (replies so.answers) (bad (length so.texts + 1)) so.appended (subst (λ k. AppendsSome w1 w2 (bad k)) (sym so.count) appends);
+        },
+        so.goes_on,
+      ))
 
   -- a line with its newline, which is the last
-  pub turned_end : (end : ScriptEnd) (n : ℕ) (r mid now w w1 w2 : Option (List ℕ)) (old at new : Mounted D) (text left : List ℕ) → SoFar state n r mid w w1 old at → IsText text
-      → Consumes mid (prepend_known left now) (text ++ 10 ∷ []) → Turns state (Some end) w1 w2 at new text n → Ends state end r now w w2 old new
-  turned_end end n r mid now w w1 w2 old at new text left so plain consumes (inl (is, call)) =
-      let whole = subst (Consumes r (prepend_known left now)) (sym (texts_more so.texts text)) (Consumes-trans r mid (prepend_known left now) (ended_texts so.texts) (text ++ 10 ∷ []) so.consumed consumes) in
-      subst (λ (e : ScriptEnd). Ends state e r now w w2 old new) (sym is)
+  pub turned_end : (end : StrictEnd) (n : ℕ) (r mid now w w1 w2 : Option (List ℕ)) (old at new : Mounted D) (text left : List ℕ) → SoFar state strict n r mid w w1 old at → IsText text
+      → Consumes mid (prepend_known left now) (text ++ 10 ∷ []) → Turns state strict (Some end) w1 w2 at new text n → EndsBy state strict end r now w w2 old new
+  turned_end Refused n r mid now w w1 w2 old at new text left so plain consumes (call, refused) =
+      refusal_stops n r mid now w w1 w2 old at new text (ended_texts (so.texts ++ text ∷ [])) left so call refused (lines_whole (so.texts ++ text ∷ []) (all_more so.texts text so.plain plain))
+      (inl (ended_texts so.texts ++ text, ended_more so.texts text)) (with_left r now left (ended_texts (so.texts ++ text ∷ [])) (line_more r mid (prepend_known left now) so.texts text so.consumed consumes))
+  turned_end (Script end) n r mid now w w1 w2 old at new text left so plain consumes (inl (is, call)) =
+      subst (λ (e : ScriptEnd). EndsBy state strict (Script e) r now w w2 old new) (sym is)
       (reply_stops n r mid now w w1 w2 old at new text (ended_texts (so.texts ++ text ∷ [])) left so call (lines_whole (so.texts ++ text ∷ []) (all_more so.texts text so.plain plain))
-      (inl (ended_texts so.texts ++ text, texts_more so.texts text ∙ sym (append_assoc (ended_texts so.texts) text (10 ∷ []))))
-      (with_left r now left (ended_texts (so.texts ++ text ∷ [])) whole))
-  turned_end end n r mid now w w1 w2 old at new text left so plain consumes (inr (unspelled, refuses, same)) =
+      (inl (ended_texts so.texts ++ text, ended_more so.texts text)) (with_left r now left (ended_texts (so.texts ++ text ∷ [])) (line_more r mid (prepend_known left now) so.texts text so.consumed consumes)))
+  turned_end (Script end) n r mid now w w1 w2 old at new text left so plain consumes (inr (unspelled, refuses, same)) =
       bad_ends end n r mid now w w1 w2 old at new text (10 ∷ left) so same (record { plain = plain; is_bad = inr (unspelled, inl (left, refl)) })
       (line_read r mid now (ended_texts so.texts) text (10 ∷ []) left so.consumed consumes) refuses
 
   -- a line that is too long
-  pub too_long : (end : ScriptEnd) (n : ℕ) (r mid now w w1 w2 : Option (List ℕ)) (old at : Mounted D) (text left : List ℕ) (b : ℕ) → SoFar state n r mid w w1 old at → IsText text → b ≢ 10 → length text ≡ 140000
-      → Consumes mid (prepend_known left now) (text ++ b ∷ []) → Refuses end w1 w2 n → Ends state end r now w w2 old at
+  pub too_long : (end : ScriptEnd) (n : ℕ) (r mid now w w1 w2 : Option (List ℕ)) (old at : Mounted D) (text left : List ℕ) (b : ℕ) → SoFar state strict n r mid w w1 old at → IsText text → b ≢ 10 → length text ≡ 140000
+      → Consumes mid (prepend_known left now) (text ++ b ∷ []) → Refuses end w1 w2 n → EndsBy state strict (Script end) r now w w2 old at
   too_long end n r mid now w w1 w2 old at text left b so plain apart long consumes refuses =
       bad_ends end n r mid now w w1 w2 old at at (text ++ b ∷ []) left so refl
       (record { plain = plain_more text b plain apart; is_bad = inl (let l = length-append text (b ∷ []) in omega (arith, l, long)) })
@@ -208,34 +254,37 @@ module _ {D : Type 0} (state : D → DeviceState) (none : (old : Mounted D) → 
       refuses
 
   -- a read that failed
-  pub read_fails : (n : ℕ) (r mid now w w1 : Option (List ℕ)) (old at : Mounted D) (text left : List ℕ) → SoFar state n r mid w w1 old at → IsText text
-      → Consumes mid (prepend_known left now) (text ++ []) → left ≡ [] → Ends state Read r now w w1 old at
+  pub read_fails : (n : ℕ) (r mid now w w1 : Option (List ℕ)) (old at : Mounted D) (text left : List ℕ) → SoFar state strict n r mid w w1 old at → IsText text
+      → Consumes mid (prepend_known left now) (text ++ []) → left ≡ [] → EndsBy state strict (Script Read) r now w w1 old at
   read_fails n r mid now w w1 old at text left so plain consumes empty =
       let read : Consumes mid now text = subst (Consumes mid now) (append-nil text) (subst (λ o. Consumes mid o (text ++ [])) (ap (λ l. prepend_known l now) empty ∙ prepend_known-nil now) consumes) in
-      stays Read n r mid now w w1 w1 old at at so refl (text, inl plain, Consumes-trans r mid now (ended_texts so.texts) text so.consumed read, so.appended)
+      stays (Script Read) n r mid now w w1 w1 old at at so refl ((text, inl plain, Consumes-trans r mid now (ended_texts so.texts) text so.consumed read, so.appended), so.goes_on)
 
   -- as many lines as have a number
-  pub numbers_end : (n : ℕ) (r now w w1 : Option (List ℕ)) (old at : Mounted D) (left : List ℕ) → SoFar state n r (prepend_known left now) w w1 old at → 2 ^ 64 - 1 ≤ n → Ends state Read r now w w1 old at
+  pub numbers_end : (n : ℕ) (r now w w1 : Option (List ℕ)) (old at : Mounted D) (left : List ℕ) → SoFar state strict n r (prepend_known left now) w w1 old at → 2 ^ 64 - 1 ≤ n → EndsBy state strict (Script Read) r now w w1 old at
   numbers_end n r now w w1 old at left so last =
-      stays Read n r (prepend_known left now) now w w1 w1 old at at so refl
-      (left, inr (let c = so.count in omega (arith, c, last)), with_left r now left (ended_texts so.texts) so.consumed, so.appended)
+      stays (Script Read) n r (prepend_known left now) now w w1 w1 old at at so refl
+      ((left, inr (let c = so.count in omega (arith, c, last)), with_left r now left (ended_texts so.texts) so.consumed, so.appended), so.goes_on)
 
   -- the end of the input
-  pub finished : (end : ScriptEnd) (n : ℕ) (r mid now w w1 w2 : Option (List ℕ)) (old at new : Mounted D) (text left : List ℕ) → SoFar state n r mid w w1 old at → IsText text
-      → Consumes mid (prepend_known left now) (text ++ []) → IsAtEnd (prepend_known left now) → Finishes state end w1 w2 at new text n → Ends state end r now w w2 old new
+  pub finished : (end : StrictEnd) (n : ℕ) (r mid now w w1 w2 : Option (List ℕ)) (old at new : Mounted D) (text left : List ℕ) → SoFar state strict n r mid w w1 old at → IsText text
+      → Consumes mid (prepend_known left now) (text ++ []) → IsAtEnd (prepend_known left now) → Finishes state strict end w1 w2 at new text n → EndsBy state strict end r now w w2 old new
   finished end n r mid now w w1 w2 old at new text left so plain consumes ended (inl (empty, is, still, same)) =
       let read = last_read r mid now (ended_texts so.texts) text left so.consumed consumes ended in
-      subst (λ (e : ScriptEnd). Ends state e r now w w2 old new) (sym is)
-      (stays Done n r mid now w w1 w2 old at new so same (
-        ended_texts so.texts,
-        subst (Consumes r now) (ap (λ t. ended_texts so.texts ++ t) empty ∙ append-nil (ended_texts so.texts)) read.0,
-        read.1,
-        lines_whole so.texts so.plain,
-        subst (λ o. Appends w o (replies so.answers)) (sym still) so.appended,
+      subst (λ (e : StrictEnd). EndsBy state strict e r now w w2 old new) (sym is)
+      (stays (Script Done) n r mid now w w1 w2 old at new so same (
+        (
+          ended_texts so.texts,
+          subst (Consumes r now) (ap (λ t. ended_texts so.texts ++ t) empty ∙ append-nil (ended_texts so.texts)) read.0,
+          read.1,
+          lines_whole so.texts so.plain,
+          subst (λ o. Appends w o (replies so.answers)) (sym still) so.appended,
+        ),
+        so.goes_on,
       ))
-  finished end n r mid now w w1 w2 old at new text left so plain consumes ended (inr (some, inl (is, call))) =
+  finished end n r mid now w w1 w2 old at new text left so plain consumes ended (inr (some, inl (is, (call, goes_on)))) =
       let read = last_read r mid now (ended_texts so.texts) text left so.consumed consumes ended in
-      subst (λ (e : ScriptEnd). Ends state e r now w w2 old new) (sym is)
+      subst (λ (e : StrictEnd). EndsBy state strict e r now w w2 old new) (sym is)
       (record {
         texts = so.texts ++ text ∷ [];
         script = so.script ++ call.line ∷ [];
@@ -243,19 +292,55 @@ module _ {D : Type 0} (state : D → DeviceState) (none : (old : Mounted D) → 
         spelled = spelled_more so.texts so.script text call.line so.spelled call.spells;
         run = more old at new so.script so.answers call.line call.answer so.run call.serves;
         bytes = (
-          ended_texts so.texts ++ text,
-          read.0,
-          read.1,
-          lines_last so.texts text so.plain plain some,
-          subst (Appends w w2) (sym (replies_more so.answers call.answer)) (Appends-trans w w1 w2 (replies so.answers) (reply call.answer) so.appended call.replied),
+          (
+            ended_texts so.texts ++ text,
+            read.0,
+            read.1,
+            lines_last so.texts text so.plain plain some,
+            replies_after w w1 w2 so.answers call.answer so.appended call.replied,
+          ),
+          each_more (GoesOnBehind strict) so.answers call.answer so.goes_on goes_on,
         );
       })
-  finished end n r mid now w w1 w2 old at new text left so plain consumes ended (inr (some, inr (inl (is, call)))) =
+  finished Refused n r mid now w w1 w2 old at new text left so plain consumes ended (inr (some, inr (call, refused))) =
       let read = last_read r mid now (ended_texts so.texts) text left so.consumed consumes ended in
-      subst (λ (e : ScriptEnd). Ends state e r now w w2 old new) (sym is)
+      refusal_stops n r mid now w w1 w2 old at new text (ended_texts so.texts ++ text) [] so call refused (lines_last so.texts text so.plain plain some) (inr (refl, read.1))
+      (subst (Consumes r now) (sym (append-nil (ended_texts so.texts ++ text))) read.0)
+  finished (Script end) n r mid now w w1 w2 old at new text left so plain consumes ended (inr (some, inr (inl (is, call)))) =
+      let read = last_read r mid now (ended_texts so.texts) text left so.consumed consumes ended in
+      subst (λ (e : ScriptEnd). EndsBy state strict (Script e) r now w w2 old new) (sym is)
       (reply_stops n r mid now w w1 w2 old at new text (ended_texts so.texts ++ text) [] so call (lines_last so.texts text so.plain plain some) (inr (refl, read.1))
       (subst (Consumes r now) (sym (append-nil (ended_texts so.texts ++ text))) read.0))
-  finished end n r mid now w w1 w2 old at new text left so plain consumes ended (inr (some, inr (inr (unspelled, refuses, same)))) =
+  finished (Script end) n r mid now w w1 w2 old at new text left so plain consumes ended (inr (some, inr (inr (unspelled, refuses, same)))) =
       let read = last_read r mid now (ended_texts so.texts) text left so.consumed consumes ended in
       bad_ends end n r mid now w w1 w2 old at new text [] so same (record { plain = plain; is_bad = inr (unspelled, inr (refl, some, read.1)) })
       (subst (λ t. Consumes r now (ended_texts so.texts ++ t)) (sym (append-nil text)) read.0) refuses
+
+-- ---- a run that isn't strict
+
+plain_end : (end : ScriptEnd) (r r' w w' : Option (List ℕ)) (texts : List (List ℕ)) (answers : List Answer) → StrictEndOf false (Script end) r r' w w' texts answers → EndOf end r r' w w' texts answers
+plain_end Done r r' w w' texts answers (bytes, goes_on) = bytes
+plain_end (BadLine n) r r' w w' texts answers (bytes, goes_on) = bytes
+plain_end Read r r' w w' texts answers (bytes, goes_on) = bytes
+plain_end Write r r' w w' texts answers (inl (stop, goes_on)) = inl stop
+plain_end Write r r' w w' texts answers (inr (stop, goes_on)) = inr stop
+plain_end Memory r r' w w' texts answers (bytes, goes_on) = bytes
+
+module _ {D : Type 0} (state : D → DeviceState) where
+  pub plain_run : (by : StrictEnd) (end : ScriptEnd) (r r' w w' : Option (List ℕ)) (old new : Mounted D) → by ≡ Script end → EndsBy state false by r r' w w' old new → Ends state end r r' w w' old new
+  plain_run by end r r' w w' old new is ends =
+      let run = subst (λ (e : StrictEnd). EndsBy state false e r r' w w' old new) is ends in
+      record {
+        texts = run.texts;
+        script = run.script;
+        answers = run.answers;
+        spelled = run.spelled;
+        run = run.run;
+        bytes = plain_end end r r' w w' run.texts run.answers run.bytes;
+      }
+
+  -- no refusal ends it
+  pub not_refused : (by : StrictEnd) (r r' w w' : Option (List ℕ)) (old new : Mounted D) → by ≡ Refused → EndsBy state false by r r' w w' old new → ⊥
+  not_refused by r r' w w' old new is ends =
+      let run = subst (λ (e : StrictEnd). EndsBy state false e r r' w w' old new) is ends in
+      let bad : false ≡ true = run.bytes.refused.0 in cc

@@ -1,5 +1,5 @@
 -- What a mount and a run of a script say together, and what a stop after them leaves: a use of a volume.
-use Rattle.std.proofs.Common.{◌≡◌, ◌<◌, ◌≤◌, ℕ, Option, Result, Ok, Err, List, sym, ◌∙◌, subst, IfOk, IfErr}
+use Rattle.std.proofs.Common.{◌≡◌, ◌<◌, ◌≤◌, ℕ, true, Option, Result, Ok, Err, List, sym, ◌∙◌, subst, IfOk, IfErr}
 use Rattle.lfs_model.specs.Content.{Content}
 use Rattle.lfs_model.specs.Device.{Carries, DeviceState, Elapses, IsLawful, IsUntouched, LeavesOnly, Only}
 use Rattle.lfs_model.specs.Script.{Line}
@@ -13,9 +13,11 @@ use Rattle.lfs_fs.specs.Volume.{Mounted}
 use Rattle.lfs_fs.specs.log.verify.declared.fault.MountFault.{MountFault}
 use Rattle.lfs_fs.specs.log.verify.declared.fault.MountFault.TheVariants.{NoMemory, Device, TooSmall, NoCheckpoint, Damaged}
 use Rattle.lfs_fs.proofs.Sessions.{uses_volume}
-use Rattle.lfs_script.specs.Running.{Ends}
+use Rattle.lfs_script.specs.Running.{Ends, EndsBy}
 use Rattle.lfs_script.specs.Session.{Session}
+use Rattle.lfs_script.specs.Strict.{StrictSession}
 use Rattle.lfs_script.specs.declared.script.ScriptEnd.{ScriptEnd}
+use Rattle.lfs_script.specs.declared.script.StrictEnd.{StrictEnd}
 
 -- a mount, and then a run of a script
 pub used : {D : Type 0} (state : D → DeviceState) (d : D) (end : ScriptEnd) (r r' w w' : Option (List ℕ)) (v : Fs D) (new : Mounted D) → IsLawful (state d) → FindsState state d v
@@ -29,6 +31,23 @@ used state d end r r' w w' v new lawful finds durable untouched carries moment e
   bytes = ends.bytes;
   uses = λ keeps. uses_volume state d lawful v new ends.script ends.answers finds durable untouched carries moment ends.run keeps;
 }
+
+-- and a strict one
+pub used_strictly : {D : Type 0} (state : D → DeviceState) (d : D) (end : StrictEnd) (r r' w w' : Option (List ℕ)) (v : Fs D) (new : Mounted D) → IsLawful (state d) → FindsState state d v
+    → ((state v.store.log.device).keeps_model → Only (state d).content (state v.store.log.device)) → IsUntouched (state d) (state v.store.log.device) → Carries (state d) (state v.store.log.device)
+    → LeavesOnly (state d) (state v.store.log.device) (state d).may_leave → EndsBy state true end r r' w w' (seen v) new → StrictSession end r r' w w' (state d) (state new.log.device)
+used_strictly state d end r r' w w' v new lawful finds durable untouched carries moment ends = record {
+  texts = ends.texts;
+  script = ends.script;
+  answers = ends.answers;
+  spelled = ends.spelled;
+  bytes = ends.bytes;
+  uses = λ keeps. uses_volume state d lawful v new ends.script ends.answers finds durable untouched carries moment ends.run keeps;
+}
+
+-- a strict session, whose end is known
+pub session_of : (end is : StrictEnd) (r r' w w' : Option (List ℕ)) (d d' : DeviceState) → end ≡ is → StrictSession end r r' w w' d d' → StrictSession is r r' w w' d d'
+session_of end is r r' w w' d d' same session = subst (λ (e : StrictEnd). StrictSession e r r' w w' d d') same session
 
 -- what is said of what a result holds
 pub ok_of : {A E : Type 0} (P : A → Type 0) (r : Result A E) (x : A) → r ≡ Ok x → IfOk r P → P x

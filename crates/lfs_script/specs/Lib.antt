@@ -7,6 +7,7 @@ pub mod Command
 pub mod Pieces
 pub mod Answers
 pub mod Ending
+pub mod Strict
 pub mod Running
 pub mod Session
 pub mod Series

@@ -1,5 +1,5 @@
 -- What a run of a script does to its volume, line by line. The language is an own choice.
-use Rattle.std.specs.Prelude.{◌≡◌, ◌⊎◌, ◌+◌, ◌<◌, ℕ, Option, Some, None, List, [], length}
+use Rattle.std.specs.Prelude.{◌≡◌, ◌⊎◌, ◌+◌, ◌<◌, ℕ, Bool, Option, Some, None, List, [], length}
 use Rattle.std.specs.List.{AllByRecursion}
 use Rattle.std.specs.Io.KnownBytes.{Appends, Consumes}
 use Rattle.lfs_model.specs.Call.{Answer}
@@ -9,8 +9,11 @@ use Rattle.lfs_fs.specs.Scripts.{RunsLines, ServesLine}
 use Rattle.lfs_fs.specs.Volume.{Mounted}
 use Rattle.lfs_script.specs.Bytes.{AppendsSome}
 use Rattle.lfs_script.specs.Ending.{AreSpelled, EndOf, IsBadText, IsText, ended_texts, replies}
+use Rattle.lfs_script.specs.Strict.{EndsBehind, GoesOn, GoesOnBehind, StrictEndOf}
 use Rattle.lfs_script.specs.declared.script.ScriptEnd.{ScriptEnd}
 use Rattle.lfs_script.specs.declared.script.ScriptEnd.TheVariants.{Done, BadLine, Read, Write, Memory}
+use Rattle.lfs_script.specs.declared.script.StrictEnd.{StrictEnd}
+use Rattle.lfs_script.specs.declared.script.StrictEnd.TheVariants.{Script, Refused}
 
 -- The reply to the n-th line, which is bad.
 abbrev pub Refuses : ScriptEnd → Option (List ℕ) → Option (List ℕ) → ℕ → Type 0
@@ -30,6 +33,15 @@ module _ {D : Type 0} (state : D → DeviceState) where
     pub run : RunsLines state old new script answers
     pub bytes : EndOf end r r' w w' texts answers
 
+  -- The same of a run that may be strict.
+  pub record EndsBy (strict : Bool) (end : StrictEnd) (r r' w w' : Option (List ℕ)) (old new : Mounted D) : Type 0 where
+    pub texts : List (List ℕ)
+    pub script : List Line
+    pub answers : List Answer
+    pub spelled : AreSpelled texts script
+    pub run : RunsLines state old new script answers
+    pub bytes : StrictEndOf strict end r r' w w' texts answers
+
   -- The n-th line is called, and its reply goes out as far as R says.
   pub record Called (R : List ℕ → Type 0) (old new : Mounted D) (text : List ℕ) : Type 0 where
     pub line : Line
@@ -44,23 +56,25 @@ module _ {D : Type 0} (state : D → DeviceState) where
   AnswersText (Some answer) old new text = (line : Line) × Spells text line × ServesLine state old new line answer
 
   -- What is done of one line, the n-th: none where the script goes on.
-  abbrev pub Turns : Option ScriptEnd → Option (List ℕ) → Option (List ℕ) → Mounted D → Mounted D → List ℕ → ℕ → Type 0
-  Turns None w w' old new text n = Called (Appends w w') old new text
-  Turns (Some end) w w' old new text n = ((end ≡ Write) × Called (AppendsSome w w') old new text) ⊎ (IsBadText text × Refuses end w w' n × (new ≡ old))
+  abbrev pub Turns : Bool → Option StrictEnd → Option (List ℕ) → Option (List ℕ) → Mounted D → Mounted D → List ℕ → ℕ → Type 0
+  Turns strict None w w' old new text n = (call : Called (Appends w w') old new text) × GoesOnBehind strict call.answer
+  Turns strict (Some Refused) w w' old new text n = (call : Called (Appends w w') old new text) × EndsBehind strict call.answer
+  Turns strict (Some (Script end)) w w' old new text n = ((end ≡ Write) × Called (AppendsSome w w') old new text) ⊎ (IsBadText text × Refuses end w w' n × (new ≡ old))
 
   -- The same of the last line, which may be none.
-  abbrev pub Finishes : ScriptEnd → Option (List ℕ) → Option (List ℕ) → Mounted D → Mounted D → List ℕ → ℕ → Type 0
-  Finishes end w w' old new text n = ((text ≡ []) × (end ≡ Done) × (w' ≡ w) × (new ≡ old))
-      ⊎ ((0 < length text) × (((end ≡ Done) × Turns None w w' old new text n) ⊎ Turns (Some end) w w' old new text n))
+  abbrev pub Finishes : Bool → StrictEnd → Option (List ℕ) → Option (List ℕ) → Mounted D → Mounted D → List ℕ → ℕ → Type 0
+  Finishes strict end w w' old new text n = ((text ≡ []) × (end ≡ Script Done) × (w' ≡ w) × (new ≡ old))
+      ⊎ ((0 < length text) × (((end ≡ Script Done) × Turns strict None w w' old new text n) ⊎ Turns strict (Some end) w w' old new text n))
 
   -- How far a script has come before the n-th line, where the reader has this left.
-  pub record SoFar (n : ℕ) (r left w w' : Option (List ℕ)) (old now : Mounted D) : Type 0 where
+  pub record SoFar (strict : Bool) (n : ℕ) (r left w w' : Option (List ℕ)) (old now : Mounted D) : Type 0 where
     pub texts : List (List ℕ)
     pub script : List Line
     pub answers : List Answer
     pub plain : AllByRecursion IsText texts
     pub spelled : AreSpelled texts script
     pub run : RunsLines state old now script answers
+    pub goes_on : GoesOn strict answers
     pub consumed : Consumes r left (ended_texts texts)
     pub appended : Appends w w' (replies answers)
     pub count : length texts + 1 ≡ n

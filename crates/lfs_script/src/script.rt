@@ -1,8 +1,9 @@
 // A script from its first line to its end.
-ghost use Rattle.std.specs.Prelude.{◌≤◌, length, option_map};
+ghost use Rattle.std.specs.Prelude.{◌≤◌, length, option_map, true};
 ghost use Rattle.lfs_fs.specs.Seen.{seen};
 ghost use Rattle.lfs_script.specs.Answers.{result_of};
-ghost use Rattle.lfs_script.specs.Running.{AnswersText, Ends, Finishes, Refuses, Turns};
+ghost use Rattle.lfs_script.specs.Running.{AnswersText, Ends, EndsBy, Finishes, Refuses, Turns};
+ghost use Rattle.lfs_script.specs.Strict.{Follows};
 
 use crate::answer::{Answer, make};
 use crate::call::parse;
@@ -28,6 +29,15 @@ pub enum ScriptEnd {
     Write,
     /// Memory refused the line's buffer, and nothing was read.
     Memory,
+}
+
+/// How a strict run ended.
+#[derive(Clone, Copy, Debug, PartialEq, Eq)]
+pub enum StrictEnd {
+    /// As a run that isn't strict may end.
+    Script(ScriptEnd),
+    /// A call was refused, and its reply is written.
+    Refused,
 }
 
 // Says that the line is bad.
@@ -56,44 +66,89 @@ fn answer_line<D: SectorDevice>(
     }
 }
 
+// How a run ends behind an answer whose reply went out. None where it goes on.
+fn decide(strict: bool, answer: &Result<Answer, FsError>) -> Option<StrictEnd>
+    ensures { Follows strict result (result_of answer.now) }
+{
+    if strict && answer.is_err() {
+        return Some(StrictEnd::Refused);
+    }
+    None
+}
+
 // Makes a line's call and writes its reply. None where the script goes on.
 fn turn<W: Write, D: SectorDevice>(
     alloc: Global,
+    strict: bool,
     writer: &mut W,
     fs: &mut Fs<D>,
     line: &[u8],
     count: u64,
-) -> Option<ScriptEnd>
+) -> Option<StrictEnd>
     requires short { length line.now ≤ 140000 }
-    ensures { Turns D.SectorDevice.state result (W.contents writer.old) (W.contents writer.new) (seen fs.old) (seen fs.new) line.now count }
+    ensures { Turns D.SectorDevice.state strict result (W.contents writer.old) (W.contents writer.new) (seen fs.old) (seen fs.new) line.now count }
 {
     let Some(answer) = answer_line(alloc, fs, line) else {
-        return Some(refuse(writer, count));
+        return Some(StrictEnd::Script(refuse(writer, count)));
     };
     match put_reply(writer, &answer) {
-        Ok(()) => None,
-        Err(_) => Some(ScriptEnd::Write),
+        Ok(()) => decide(strict, &answer),
+        Err(_) => Some(StrictEnd::Script(ScriptEnd::Write)),
     }
 }
 
 // The last line, which may be none.
 fn finish<W: Write, D: SectorDevice>(
     alloc: Global,
+    strict: bool,
     writer: &mut W,
     fs: &mut Fs<D>,
     line: &[u8],
     count: u64,
-) -> ScriptEnd
+) -> StrictEnd
     requires short { length line.now ≤ 140000 }
-    ensures { Finishes D.SectorDevice.state result (W.contents writer.old) (W.contents writer.new) (seen fs.old) (seen fs.new) line.now count }
+    ensures { Finishes D.SectorDevice.state strict result (W.contents writer.old) (W.contents writer.new) (seen fs.old) (seen fs.new) line.now count }
 {
     if line.is_empty() {
-        return ScriptEnd::Done;
+        return StrictEnd::Script(ScriptEnd::Done);
     }
-    match turn(alloc, writer, fs, line, count) {
+    match turn(alloc, strict, writer, fs, line, count) {
         Some(end) => end,
-        None => ScriptEnd::Done,
+        None => StrictEnd::Script(ScriptEnd::Done),
     }
+}
+
+// Runs a script, to the first refusal where it is strict.
+fn run_lines<R: Read, W: Write, D: SectorDevice>(
+    alloc: Global,
+    strict: bool,
+    reader: &mut R,
+    writer: &mut W,
+    fs: &mut Fs<D>,
+) -> StrictEnd
+    ensures { EndsBy D.SectorDevice.state strict result (R.remaining reader.old) (R.remaining reader.new) (W.contents writer.old) (W.contents writer.new) (seen fs.old) (seen fs.new) }
+{
+    let Ok(mut line) = Vec::with_capacity(alloc, LONGEST) else {
+        return StrictEnd::Script(ScriptEnd::Memory);
+    };
+    let Ok(mut source) = Source::new(alloc) else {
+        return StrictEnd::Script(ScriptEnd::Memory);
+    };
+    for count in 1..u64::MAX {
+        match next_line(&mut source, reader, writer, &mut line) {
+            Ok(LineEnd::Newline) => {
+                if let Some(end) = turn(alloc, strict, writer, fs, line.as_slice(), count) {
+                    return end;
+                }
+            }
+            Ok(LineEnd::Input) => {
+                return finish(alloc, strict, writer, fs, line.as_slice(), count);
+            }
+            Ok(LineEnd::TooLong(_)) => return StrictEnd::Script(refuse(writer, count)),
+            Err(_) => return StrictEnd::Script(ScriptEnd::Read),
+        }
+    }
+    StrictEnd::Script(ScriptEnd::Read)
 }
 
 /// Makes the calls of the lines that the reader gives, and writes their replies. It flushes the writer before each read, whatever that answers:
@@ -106,23 +161,20 @@ pub fn run<R: Read, W: Write, D: SectorDevice>(
 ) -> ScriptEnd
     ensures { Ends D.SectorDevice.state result (R.remaining reader.old) (R.remaining reader.new) (W.contents writer.old) (W.contents writer.new) (seen fs.old) (seen fs.new) }
 {
-    let Ok(mut line) = Vec::with_capacity(alloc, LONGEST) else {
-        return ScriptEnd::Memory;
-    };
-    let Ok(mut source) = Source::new(alloc) else {
-        return ScriptEnd::Memory;
-    };
-    for count in 1..u64::MAX {
-        match next_line(&mut source, reader, writer, &mut line) {
-            Ok(LineEnd::Newline) => {
-                if let Some(end) = turn(alloc, writer, fs, line.as_slice(), count) {
-                    return end;
-                }
-            }
-            Ok(LineEnd::Input) => return finish(alloc, writer, fs, line.as_slice(), count),
-            Ok(LineEnd::TooLong(_)) => return refuse(writer, count),
-            Err(_) => return ScriptEnd::Read,
-        }
+    match run_lines(alloc, false, reader, writer, fs) {
+        StrictEnd::Script(end) => end,
+        StrictEnd::Refused => unreachable!(),
     }
-    ScriptEnd::Read
+}
+
+/// As `run`, to the first call that is refused. Its reply is the last.
+pub fn run_strict<R: Read, W: Write, D: SectorDevice>(
+    alloc: Global,
+    reader: &mut R,
+    writer: &mut W,
+    fs: &mut Fs<D>,
+) -> StrictEnd
+    ensures { EndsBy D.SectorDevice.state true result (R.remaining reader.old) (R.remaining reader.new) (W.contents writer.old) (W.contents writer.new) (seen fs.old) (seen fs.new) }
+{
+    run_lines(alloc, true, reader, writer, fs)
 }

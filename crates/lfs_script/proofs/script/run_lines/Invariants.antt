@@ -2,8 +2,8 @@ use Rattle.std.proofs.Common.{◌≤◌, slice_range, vec_capacity}
 use Rattle.std.specs.Io.KnownBytes.{prepend_known}
 use Rattle.lfs_fs.specs.Seen.{seen}
 use Rattle.lfs_script.specs.Running.{SoFar}
-use Rattle.lfs_script.proofs.script.run.Given as goal
+use Rattle.lfs_script.proofs.script.run_lines.Given as goal
 
 abbrev pub invariant-loop-count : goal.invariant-loop-count
-invariant-loop-count g l = (140000 ≤ vec_capacity l.line) × SoFar g.D.SectorDevice.state l.count (g.R.Read.remaining l.fn.reader)
+invariant-loop-count g l = (140000 ≤ vec_capacity l.line) × SoFar g.D.SectorDevice.state l.fn.strict l.count (g.R.Read.remaining l.fn.reader)
     (prepend_known (slice_range l.source.chunk.items l.source.start l.source.end) (g.R.Read.remaining l.reader)) (g.W.Write.contents l.fn.writer) (g.W.Write.contents l.writer) (seen l.fn.fs) (seen l.fs)
