@@ -4,7 +4,7 @@ use Rattle.std.specs.Prelude.{if◌then◌else◌, option_map, unwrap_or}
 use Rattle.std.specs.List.{list_any}
 use Rattle.std.specs.Ordering.{nat_cmp}
 use Rattle.std.specs.FinMap.{put}
-use Rattle.lfs_model.specs.Call.{Open, Create, Mkdir, Symlink, Readlink, Readdir, StatOf, Clean, Sync, Space, ListTree, Answer, Refuse, Handle, Status, Text, Entries, Done, Rows, changes, cleans, commits, takes_no_memory}
+use Rattle.lfs_model.specs.Call.{Open, Create, Mkdir, Symlink, Readlink, Readdir, Clean, Sync, Space, ListTree, Answer, Refuse, Handle, Status, Text, Entries, Done, Rows, changes, cleans, commits, takes_no_memory}
 use Rattle.lfs_model.specs.Refusal.{Refusal, Inval, IsDir, NameTooLong, NoEntry, NotDir, TooManyOpen}
 use Rattle.lfs_model.specs.PathText.{text_refusal}
 use Rattle.lfs_model.specs.Sound.{NamesGive}
