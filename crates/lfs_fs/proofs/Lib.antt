@@ -9,7 +9,6 @@ mod EntrySteps
 mod Growth
 mod Looking
 mod Files
-mod PlainTrees
 mod Changed
 mod Written
 mod Shortened
@@ -55,6 +54,4 @@ mod ListingEnds
 mod LineSteps
 pub mod ScriptRuns
 pub mod Sessions
-mod FlatRoots
-mod TreeChecks
 mod MountEnds
