@@ -46,8 +46,10 @@ impl<D: SectorDevice> Fs<D> {
     pub(crate) fn file(&self, handle: u32) -> Result<u16, FsError>
         ensures some { IfOk result (λ number. 1 ≤ number) }
         ensures few { IfOk result (λ number. number ≤ 4095) }
-        ensures opens { IfOk result (λ number. find nat_cmp handle (handles_of self.now.handles.numbers.items) ≡ Some number) }
-        ensures missing { IfErr result (λ fault. GivesNone self.now.handles.numbers.items handle fault) }
+        ensures opens { IfOk result (λ number. find nat_cmp handle
+            (handles_of self.now.handles.numbers.items) ≡ Some number) }
+        ensures missing { IfErr result (λ fault. GivesNone self.now.handles.numbers.items handle
+            fault) }
     {
         match self.handles.get(handle) {
             Some(number) => {
@@ -80,8 +82,10 @@ impl<D: SectorDevice> Fs<D> {
     pub(crate) fn header(&mut self, number: u16) -> Result<Header, FsError>
         requires { number ≤ 4095 }
         ensures reads { OnlyReads D.SectorDevice.state self.old self.new }
-        ensures answer { IfOk result (λ header. HasHeader D.SectorDevice.state self.old self.new number header) }
-        ensures missing { IfErr result (λ fault. LacksHeader D.SectorDevice.state self.old self.new number fault) }
+        ensures answer { IfOk result (λ header. HasHeader D.SectorDevice.state self.old self.new
+            number header) }
+        ensures missing { IfErr result (λ fault. LacksHeader D.SectorDevice.state self.old self.new
+            number fault) }
     {
         match self.store.header(number) {
             Ok(Some(header)) => Ok(header),

@@ -29,8 +29,10 @@ impl Handles {
 
     /// The file of a handle, if it is open.
     pub fn get(&self, handle: u32) -> Option<u16>
-        ensures open { IfSome result (λ number. (handle < 64) × (number ≢ 0) × (slice_index self.now.numbers.items handle ≡ number)) }
-        ensures closed { IfNone result (handle < 64 → slice_index self.now.numbers.items handle ≡ 0) }
+        ensures open { IfSome result (λ number. (handle < 64) × (number ≢ 0)
+            × (slice_index self.now.numbers.items handle ≡ number)) }
+        ensures closed { IfNone result (handle < 64 → slice_index self.now.numbers.items handle
+            ≡ 0) }
         ensures file { result ≡ find nat_cmp handle (handles_of self.now.numbers.items) }
     {
         if handle >= 64 {
@@ -44,10 +46,13 @@ impl Handles {
 
     /// The least handle that is free.
     pub fn least_free(&self) -> Option<u32>
-        ensures found { IfSome result (λ handle. (handle < 64) × (slice_index self.now.numbers.items handle ≡ 0)) }
-        ensures least { IfSome result (λ handle. (k : ℕ) → k < handle → slice_index self.now.numbers.items k ≢ 0) }
+        ensures found { IfSome result (λ handle. (handle < 64)
+            × (slice_index self.now.numbers.items handle ≡ 0)) }
+        ensures least { IfSome result (λ handle. (k : ℕ) → k < handle
+            → slice_index self.now.numbers.items k ≢ 0) }
         ensures none { IfNone result ((k : ℕ) → k < 64 → slice_index self.now.numbers.items k ≢ 0) }
-        ensures first { IfSome result (λ handle. least_handle (handles_of self.now.numbers.items) ≡ handle) }
+        ensures first { IfSome result (λ handle. least_handle (handles_of self.now.numbers.items)
+            ≡ handle) }
         ensures full { IfNone result (64 ≤ least_handle (handles_of self.now.numbers.items)) }
     {
         for handle in 0..64u32 {
@@ -62,7 +67,8 @@ impl Handles {
     pub fn open(&mut self, handle: u32, number: u16)
         requires { handle < 64 }
         ensures at { self.new.numbers.items ≡ slice_set self.old.numbers.items handle number }
-        ensures opened { number ≢ 0 → handles_of self.new.numbers.items ≡ put nat_cmp handle number (handles_of self.old.numbers.items) }
+        ensures opened { number ≢ 0 → handles_of self.new.numbers.items
+            ≡ put nat_cmp handle number (handles_of self.old.numbers.items) }
     {
         self.numbers[handle as usize] = number;
     }

@@ -21,13 +21,21 @@ impl<D: SectorDevice> Fs<D> {
     pub fn mount(alloc: Global, device: D) -> Result<Fs<D>, (MountFault, D)>
         ensures mounts { IfOk result (λ fs. MountsFs D.SectorDevice.state device fs) }
         ensures only { IfOk result (λ fs. FindsState D.SectorDevice.state device fs) }
-        ensures durable { IfOk result (λ fs. (D.state fs.store.log.device).keeps_model → Only (D.state device).content (D.state fs.store.log.device)) }
+        ensures durable { IfOk result (λ fs. (D.state fs.store.log.device).keeps_model
+            → Only (D.state device).content (D.state fs.store.log.device)) }
         ensures cause { IfErr result (λ e. (e.0 ≡ MountFault.NoMemory → ⊥)
             → IsMountFault (D.state device) (D.state e.1) e.0) }
         ensures reason { IfErr result (λ e. IsRefused (D.state device) (D.state e.1) e.0) }
-        ensures untouched { MatchResult result (λ fs. IsUntouched (D.state device) (D.state fs.store.log.device)) (λ e. IsUntouched (D.state device) (D.state e.1)) }
-        ensures carries { MatchResult result (λ fs. Carries (D.state device) (D.state fs.store.log.device)) (λ e. Carries (D.state device) (D.state e.1)) }
-        ensures any_moment { MatchResult result (λ fs. LeavesOnly (D.state device) (D.state fs.store.log.device) (D.state device).may_leave) (λ e. LeavesOnly (D.state device) (D.state e.1) (D.state device).may_leave) }
+        ensures untouched { MatchResult result
+            (λ fs. IsUntouched (D.state device) (D.state fs.store.log.device))
+            (λ e. IsUntouched (D.state device) (D.state e.1)) }
+        ensures carries { MatchResult result
+            (λ fs. Carries (D.state device) (D.state fs.store.log.device))
+            (λ e. Carries (D.state device) (D.state e.1)) }
+        ensures any_moment { MatchResult result
+            (λ fs. LeavesOnly (D.state device) (D.state fs.store.log.device)
+            (D.state device).may_leave) (λ e. LeavesOnly (D.state device) (D.state e.1)
+            (D.state device).may_leave) }
     {
         let mut device = device;
         let tables = match verify_tree(alloc, &mut device) {

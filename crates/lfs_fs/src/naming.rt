@@ -35,7 +35,8 @@ impl<D: SectorDevice> Fs<D> {
     ///
     /// In this order: those of the path; `IsDir`; `TooManyOpen` where 64 handles are open.
     pub fn open(&mut self, path: &[u8]) -> Result<u32, FsError>
-        ensures { Serves D.SectorDevice.state (seen self.old) (seen self.new) (Open path.now) (answer_by Handle result) }
+        ensures { Serves D.SectorDevice.state (seen self.old) (seen self.new) (Open path.now)
+            (answer_by Handle result) }
     {
         match self.begin() {
             Ok(()) => {}
@@ -74,7 +75,8 @@ impl<D: SectorDevice> Fs<D> {
     /// In this order: those of the path; of the new name `Exist`, `NameTooLong`, `Exist`, `NoEntry` where a slash follows it, `DirFull`;
     /// `TooManyOpen`; `NoNumber`; `NoSpace`.
     pub fn create(&mut self, path: &[u8]) -> Result<u32, FsError>
-        ensures { Serves D.SectorDevice.state (seen self.old) (seen self.new) (Create path.now) (answer_by Handle result) }
+        ensures { Serves D.SectorDevice.state (seen self.old) (seen self.new) (Create path.now)
+            (answer_by Handle result) }
     {
         match self.begin() {
             Ok(()) => {}
@@ -90,8 +92,10 @@ impl<D: SectorDevice> Fs<D> {
     fn create_at(&mut self, directory: u16, last: Option<Last<'_>>) -> Result<u32, FsError>
         requires few { directory ≤ 4095 }
         requires running { self.old.store.log.halted ≡ false }
-        ensures { (v : Mounted D) (path : List ℕ) → Reaches D.SectorDevice.state v self.old path directory last.entry
-            → Serves D.SectorDevice.state v (seen self.new) (Create path) (answer_by Handle result) }
+        ensures { (v : Mounted D) (path : List ℕ)
+            → Reaches D.SectorDevice.state v self.old path directory last.entry
+            → Serves D.SectorDevice.state v (seen self.new) (Create path)
+            (answer_by Handle result) }
     {
         // No volume has an object of this number.
         if directory == 0 {
@@ -171,8 +175,10 @@ impl<D: SectorDevice> Fs<D> {
     fn look_in(&mut self, directory: u16, name: &[u8]) -> Result<(Header, Option<u16>), FsError>
         requires { directory ≤ 4095 }
         ensures reads { OnlyReads D.SectorDevice.state self.old self.new }
-        ensures answer { IfOk result (λ found. LooksUp D.SectorDevice.state self.old self.new directory name.now found.0 found.1) }
-        ensures missing { IfErr result (LooksNone D.SectorDevice.state self.old self.new directory) }
+        ensures answer { IfOk result (λ found. LooksUp D.SectorDevice.state self.old self.new
+            directory name.now found.0 found.1) }
+        ensures missing { IfErr result (LooksNone D.SectorDevice.state self.old self.new
+            directory) }
     {
         let header = match self.header(directory) {
             Ok(header) => header,
@@ -321,7 +327,8 @@ impl<D: SectorDevice> Fs<D> {
         requires last { number ≤ 4095 }
         ensures still { IsStill D.SectorDevice.state (seen self.old) (seen self.new) }
         ensures drafted { OnOk result (DraftsEmpty self.old.store.draft.changes
-            self.new.store.draft.changes self.old.store.drafted self.new.store.drafted number kind) }
+            self.new.store.draft.changes self.old.store.drafted self.new.store.drafted number
+            kind) }
         ensures fault { IfErr result (λ fault. fault ≡ FsError.NoMemory) }
     {
         match self.store.create(number, kind) {

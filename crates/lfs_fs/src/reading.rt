@@ -35,7 +35,8 @@ impl<D: SectorDevice> Fs<D> {
     ///
     /// `BadHandle`; `Inval` where `len` is above 65,536.
     pub fn pread(&mut self, handle: u32, offset: u64, len: u32) -> Result<Vec<u8>, FsError>
-        ensures { Serves D.SectorDevice.state (seen self.old) (seen self.new) (Pread handle offset len) (answer_by (λ bytes. Data bytes.items) result) }
+        ensures { Serves D.SectorDevice.state (seen self.old) (seen self.new)
+            (Pread handle offset len) (answer_by (λ bytes. Data bytes.items) result) }
     {
         match self.begin() {
             Ok(()) => {}
@@ -59,8 +60,10 @@ impl<D: SectorDevice> Fs<D> {
         len: u32,
     ) -> Result<Vec<u8>, FsError>
         ensures reads { OnlyReads D.SectorDevice.state self.old self.new }
-        ensures answer { IfOk result (λ bytes. ReadsFile D.SectorDevice.state self.old self.new number offset len bytes.items) }
-        ensures missing { IfErr result (λ fault. LacksBytes D.SectorDevice.state self.old self.new number fault) }
+        ensures answer { IfOk result (λ bytes. ReadsFile D.SectorDevice.state self.old self.new
+            number offset len bytes.items) }
+        ensures missing { IfErr result (λ fault. LacksBytes D.SectorDevice.state self.old self.new
+            number fault) }
     {
         if number > 4_095 {
             return Err(FsError::Device);
@@ -87,7 +90,8 @@ impl<D: SectorDevice> Fs<D> {
     ///
     /// Those of the path.
     pub fn stat(&mut self, path: &[u8]) -> Result<Stat, FsError>
-        ensures { Serves D.SectorDevice.state (seen self.old) (seen self.new) (StatOf path.now) (answer_by (λ stat. Status (status_of stat)) result) }
+        ensures { Serves D.SectorDevice.state (seen self.old) (seen self.new) (StatOf path.now)
+            (answer_by (λ stat. Status (status_of stat)) result) }
     {
         self.status(path, true)
     }
@@ -122,8 +126,10 @@ impl<D: SectorDevice> Fs<D> {
     /// What is told of an object that is there.
     pub(crate) fn stat_of(&mut self, number: u16) -> Result<Stat, FsError>
         ensures reads { OnlyReads D.SectorDevice.state self.old self.new }
-        ensures answer { IfOk result (λ stat. TellsStat D.SectorDevice.state self.old self.new number stat) }
-        ensures missing { IfErr result (λ fault. LacksObject D.SectorDevice.state self.old self.new number fault) }
+        ensures answer { IfOk result (λ stat. TellsStat D.SectorDevice.state self.old self.new
+            number stat) }
+        ensures missing { IfErr result (λ fault. LacksObject D.SectorDevice.state self.old self.new
+            number fault) }
     {
         if number > 4_095 {
             return Err(FsError::Device);
@@ -184,7 +190,8 @@ impl<D: SectorDevice> Fs<D> {
     ///
     /// `Halted` alone.
     pub fn space(&mut self) -> Result<Space, FsError>
-        ensures { Serves D.SectorDevice.state (seen self.old) (seen self.new) call.Space (answer_by room_of result) }
+        ensures { Serves D.SectorDevice.state (seen self.old) (seen self.new) call.Space
+            (answer_by room_of result) }
     {
         match self.begin() {
             Ok(()) => {}
@@ -199,7 +206,8 @@ impl<D: SectorDevice> Fs<D> {
     ///
     /// `NoMemory` and `Device` for their causes.
     pub fn tree(&mut self) -> Result<Vec<TreeRow>, FsError>
-        ensures { Serves D.SectorDevice.state (seen self.old) (seen self.new) ListTree (answer_by (λ rows. Rows (map row_of rows.items)) result) }
+        ensures { Serves D.SectorDevice.state (seen self.old) (seen self.new) ListTree
+            (answer_by (λ rows. Rows (map row_of rows.items)) result) }
     {
         match self.begin() {
             Ok(()) => {}

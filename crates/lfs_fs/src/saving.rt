@@ -14,7 +14,8 @@ impl<D: SectorDevice> Fs<D> {
     ///
     /// `Halted` where a call of the device failed.
     pub fn sync(&mut self) -> Result<(), FsError>
-        ensures { Serves D.SectorDevice.state (seen self.old) (seen self.new) Sync (answer_by (λ _. Done) result) }
+        ensures { Serves D.SectorDevice.state (seen self.old) (seen self.new) Sync
+            (answer_by (λ _. Done) result) }
     {
         match self.begin() {
             Ok(()) => {}

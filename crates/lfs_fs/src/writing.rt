@@ -23,7 +23,8 @@ impl<D: SectorDevice> Fs<D> {
     ///
     /// In this order: `BadHandle`; `Inval` above 65,536 bytes; `FileTooBig` where they would end past 8,511,488; `NoSpace`.
     pub fn pwrite(&mut self, handle: u32, offset: u64, bytes: &[u8]) -> Result<u32, FsError>
-        ensures { Serves D.SectorDevice.state (seen self.old) (seen self.new) (Pwrite handle offset bytes.now) (answer_by Count result) }
+        ensures { Serves D.SectorDevice.state (seen self.old) (seen self.new)
+            (Pwrite handle offset bytes.now) (answer_by Count result) }
     {
         match self.begin() {
             Ok(()) => {}
@@ -61,8 +62,10 @@ impl<D: SectorDevice> Fs<D> {
         requires running { self.old.store.log.halted ≡ false }
         requires empty { IsNoChange self.old.store.draft.changes }
         requires counted { self.old.store.drafted ≡ self.old.store.log.totals }
-        ensures { (handle : ℕ) → find nat_cmp handle (handles_of self.old.handles.numbers.items) ≡ Some number → length bytes.now ≤ 65536
-            → Serves D.SectorDevice.state (seen self.old) (seen self.new) (Pwrite handle at bytes.now) (answer_by (λ _. Count (length bytes.now)) result) }
+        ensures { (handle : ℕ) → find nat_cmp handle (handles_of self.old.handles.numbers.items)
+            ≡ Some number → length bytes.now ≤ 65536
+            → Serves D.SectorDevice.state (seen self.old) (seen self.new)
+            (Pwrite handle at bytes.now) (answer_by (λ _. Count (length bytes.now)) result) }
     {
         let header = match self.header(number) {
             Ok(header) => header,
@@ -83,7 +86,8 @@ impl<D: SectorDevice> Fs<D> {
     ///
     /// In this order: `BadHandle`; `FileTooBig` above 8,511,488.
     pub fn truncate(&mut self, handle: u32, len: u64) -> Result<(), FsError>
-        ensures { Serves D.SectorDevice.state (seen self.old) (seen self.new) (Truncate handle len) (answer_by (λ _. Done) result) }
+        ensures { Serves D.SectorDevice.state (seen self.old) (seen self.new) (Truncate handle len)
+            (answer_by (λ _. Done) result) }
     {
         match self.begin() {
             Ok(()) => {}
@@ -107,8 +111,9 @@ impl<D: SectorDevice> Fs<D> {
         requires running { self.old.store.log.halted ≡ false }
         requires empty { IsNoChange self.old.store.draft.changes }
         requires counted { self.old.store.drafted ≡ self.old.store.log.totals }
-        ensures { (handle : ℕ) → find nat_cmp handle (handles_of self.old.handles.numbers.items) ≡ Some number
-            → Serves D.SectorDevice.state (seen self.old) (seen self.new) (Truncate handle len) (answer_by (λ _. Done) result) }
+        ensures { (handle : ℕ) → find nat_cmp handle (handles_of self.old.handles.numbers.items)
+            ≡ Some number → Serves D.SectorDevice.state (seen self.old) (seen self.new)
+            (Truncate handle len) (answer_by (λ _. Done) result) }
     {
         let header = match self.header(number) {
             Ok(header) => header,

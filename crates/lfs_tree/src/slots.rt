@@ -98,8 +98,8 @@ pub(crate) fn take_slots(
     requires whole { length headers.now ≡ 4096 }
     requires directory { directory < 4096 }
     requires sizes { AreTables tables.old }
-    ensures takes { IfOk result (λ taken. TakesSlots headers.now directory (first_slots block.now count)
-        names.old names.new tables.old tables.new taken) }
+    ensures takes { IfOk result (λ taken. TakesSlots headers.now directory
+        (first_slots block.now count) names.old names.new tables.old tables.new taken) }
     ensures sizes { AreTables tables.new }
 {
     let mut place = count;
