@@ -1,5 +1,5 @@
 -- The entries of a directory, one after the other, and those of the directory of a path.
-use Rattle.std.proofs.Common.{◌≡◌, ◌≢◌, ◌<◌, ◌+◌, ℕ, suc, true, false, List, [], ◌∷◌, ◌++◌, length, map, Some, None, Result, Ok, Err, refl, sym, ◌∙◌, ap, subst, inl, inr, ⊎_elim, append_assoc, append-nil, arith}
+use Rattle.std.proofs.Common.{◌≡◌, ◌≢◌, ◌<◌, ℕ, suc, List, [], ◌∷◌, ◌++◌, length, map, Some, None, Result, Ok, Err, refl, sym, ◌∙◌, ap, subst, inl, inr, ⊎_elim, append_assoc, append-nil, arith}
 use Rattle.std.specs.Prelude.{IfErr, OnOk}
 use Rattle.lfs_model.specs.declared.Kind.{Kind}
 use Rattle.lfs_model.specs.declared.Kind.TheVariants as kinds
@@ -8,7 +8,7 @@ use Rattle.lfs_model.specs.Checkpoint.{CheckpointValue}
 use Rattle.lfs_model.specs.Device.{DeviceState, IsLawful}
 use Rattle.lfs_model.specs.Stands.{LogMap}
 use Rattle.lfs_model.specs.Step.{entry_of as entry_at}
-use Rattle.lfs_model.specs.Tree.{State, Tree, is_dir, names_in, node}
+use Rattle.lfs_model.specs.Tree.{State, Tree, is_dir, node}
 use Rattle.lfs_model.specs.TreeOf.{node_by}
 use Rattle.lfs_files.specs.declared.header.Header.{Header}
 use Rattle.lfs_store.specs.memory.Batch.{IsNoChange}
@@ -23,11 +23,11 @@ use Rattle.lfs_fs.specs.declared.fs.Fs.{Fs}
 use Rattle.lfs_fs.specs.declared.rows.Entry as rows
 use Rattle.lfs_fs.specs.declared.rows.Stat.{Stat}
 use Rattle.lfs_fs.specs.Answers.{entry_of}
-use Rattle.lfs_fs.specs.Reading.{AreNames, AreThere, HasDirectory, LacksDirectory, LacksEntries, LacksEntry, LacksNode, LacksObject, LacksWhere, TellsEntries, TellsEntry, TellsListing, TellsNode, TellsStat}
+use Rattle.lfs_fs.specs.Reading.{AreNames, AreThere, HasDirectory, LacksDirectory, LacksEntries, LacksEntry, LacksNode, LacksObject, TellsEntries, TellsEntry, TellsListing, TellsNode, TellsStat}
 use Rattle.lfs_fs.specs.Seen.{HasHeader, LacksHeader, OnlyReads, seen}
 use Rattle.lfs_fs.specs.Volume.{IsIn, segments_of}
 use Rattle.lfs_fs.proofs.Files.{no_header_none, node_by_header, stat_is}
-use Rattle.lfs_fs.proofs.Holding.{headers_of_volume, map_of_volume}
+use Rattle.lfs_fs.proofs.Holding.{headers_of_volume}
 use Rattle.lfs_fs.proofs.OpenEnds.{no_dir_by}
 use Rattle.lfs_fs.proofs.PathEnds.{reads_again}
 use Rattle.lfs_fs.proofs.ReadingEnds.{still_none}

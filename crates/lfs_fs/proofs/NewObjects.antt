@@ -1,5 +1,5 @@
 -- A new object without a name: a file or a directory without a byte, or a link with its text, from the draft to the log map.
-use Rattle.std.proofs.Common.{◌≡◌, ◌≢◌, ◌<◌, ◌≤◌, ◌+◌, ◌*◌, ◌/◌, ◌%◌, ℕ, List, [], length, Option, Some, None, refl, sym, ◌∙◌, ap, subst, ⊎_elim, arith, slice_index, false}
+use Rattle.std.proofs.Common.{◌≡◌, ◌≢◌, ◌<◌, ◌≤◌, ◌+◌, ◌/◌, ◌%◌, ℕ, List, [], length, Some, None, refl, sym, ◌∙◌, ap, subst, ⊎_elim, arith, slice_index, false}
 use Rattle.std.specs.Prelude.{max}
 use Rattle.std.proofs.lemmas.Bool.{cases_lt}
 use Rattle.std.proofs.lemmas.List.{nil_from_length}
@@ -27,12 +27,11 @@ use Rattle.lfs_store.specs.memory.declared.batch.Loss.TheVariants.{Nothing}
 use Rattle.lfs_store.specs.memory.declared.changes.Changes.{Changes}
 use Rattle.lfs_store.specs.Drafting.{IsApart}
 use Rattle.lfs_store.specs.Making.{first_header, first_links}
-use Rattle.lfs_store.specs.Recounting.{AreTotals, Counts}
-use Rattle.lfs_store.specs.Writing.{Writes, WritesFile, resized}
-use Rattle.lfs_store.proofs.Apart.{draft_empty, nothing_apart}
-use Rattle.lfs_store.proofs.LogReads.{held_still}
+use Rattle.lfs_store.specs.Recounting.{AreTotals}
+use Rattle.lfs_store.specs.Writing.{WritesFile, resized}
+use Rattle.lfs_store.proofs.Apart.{nothing_apart}
 use Rattle.lfs_store.proofs.Writings.{header_put}
-use Rattle.lfs_fs.specs.Naming.{DraftsEmpty, DraftsLink, DraftsObject, NewKind, kind_of_new, new_directory, new_file, new_kind, new_link, text_of_new}
+use Rattle.lfs_fs.specs.Naming.{DraftsObject, NewKind, kind_of_new, new_directory, new_file, new_kind, new_link, text_of_new}
 
 -- the kind of an object, told with its text, is its kind
 pub kind_back : (k : Kind) (text : List ℕ) → kind_of_new (new_kind k text) ≡ k

@@ -2,14 +2,11 @@
 use Rattle.std.proofs.Common.{◌≡◌, ◌≢◌, ℕ, true, false, List, Some, refl, ◌∙◌, ap, sym, subst, inl, inr}
 use Rattle.lfs_model.specs.declared.Kind.{Kind}
 use Rattle.lfs_model.specs.declared.Kind.TheVariants as kinds
-use Rattle.lfs_model.specs.Checkpoint.{CheckpointValue}
 use Rattle.lfs_model.specs.Device.{DeviceState}
 use Rattle.lfs_model.specs.Entry as entry
 use Rattle.lfs_model.specs.Stands.{LogMap}
-use Rattle.lfs_model.specs.Step.{head_of, is_link, the_node}
-use Rattle.lfs_model.specs.Tree.{State}
+use Rattle.lfs_model.specs.Step.{is_link}
 use Rattle.lfs_model.specs.TreeOf.{node_by}
-use Rattle.lfs_store.specs.memory.Batch.{IsNoChange}
 use Rattle.lfs_store.specs.memory.Present.{as_header}
 use Rattle.lfs_store.proofs.Apart.{no_change}
 use Rattle.lfs_fs.specs.declared.error.FsError.{FsError}
@@ -18,7 +15,7 @@ use Rattle.lfs_fs.specs.declared.fs.Fs.{Fs}
 use Rattle.lfs_fs.specs.declared.rows.Stat.{Stat}
 use Rattle.lfs_fs.specs.Reading.{LacksBytes, LacksText, ReadsFile, ReadsHead, TellsStat, TellsText}
 use Rattle.lfs_fs.specs.Seen.{OnlyReads, seen}
-use Rattle.lfs_fs.specs.Volume.{IsIn, segments_of}
+use Rattle.lfs_fs.specs.Volume.{segments_of}
 use Rattle.lfs_fs.proofs.Files.{the_node_by_header}
 use Rattle.lfs_fs.proofs.Holding.{headers_of_volume, map_of_volume}
 use Rattle.lfs_fs.proofs.PathEnds.{lacks_bytes_again}
