@@ -31,7 +31,11 @@ mod WritingEnds
 mod WritingDrafts
 mod WritingExits
 mod SavingEnds
+mod ClosedTables
+mod ClosingSteps
+mod ClosedFiles
 mod ReadingEnds
+mod ClosingEnds
 mod WalkEnds
 mod PathEnds
 mod OpenEnds

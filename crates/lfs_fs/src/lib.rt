@@ -2,6 +2,7 @@
 #![tactic(auto)]
 
 mod checking;
+mod closing;
 mod error;
 mod fs;
 mod handles;
