@@ -179,6 +179,10 @@ found o m is = elim (eqb_tells o 0) as (λ _. (o ≢ 0) × (m ≡ o)) [
   | inr apart ↦ (apart.1, sym (Some-injective o m (sym (ap (λ b. cond b None (Some o)) apart.0) ∙ is)))
 ]
 
+-- a handle's number stands at its place
+pub number_found : (h : ℕ) (ns : List ℕ) (n : ℕ) → find nat_cmp h (handles_of ns) ≡ Some n → n ≡ get_or ns h 0
+number_found h ns n is = (found (get_or ns h 0) n (sym (find_handle h ns) ∙ is)).1
+
 pub are_handles : (ns : List ℕ) → AreHandles ns
 unfolding handles_of
 are_handles ns = record {

@@ -35,7 +35,11 @@ mod WritingDrafts
 mod WritingExits
 mod SavingEnds
 mod CleanEnds
+mod ClosedTables
+mod ClosingSteps
+mod ClosedFiles
 mod ReadingEnds
+mod ClosingEnds
 mod WalkEnds
 mod PathEnds
 mod OpenEnds

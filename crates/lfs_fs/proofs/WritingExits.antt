@@ -55,7 +55,7 @@ module _ {D : Type 0} (state : D → DeviceState) (lawful : (d : D) → IsLawful
 
   module _ (v : Mounted D) (was : v.log.halted ≡ false) where
     -- the handle gives no file; no volume has one of a number above 4,095
-    unopened : (call : Call) (h : ℕ) → cleans call ≡ false → ((N : ℕ) (s : State) → find nat_cmp h s.handles ≡ None → Step N s call (Refuse BadHandle) s) → (fault : FsError) → GivesNone v.table h fault
+    pub unopened : (call : Call) (h : ℕ) → cleans call ≡ false → ((N : ℕ) (s : State) → find nat_cmp h s.handles ≡ None → Step N s call (Refuse BadHandle) s) → (fault : FsError) → GivesNone v.table h fault
         → Serves state v v call (Refuse (refusal_of fault))
     unopened call h unclean steps fault gives = ⊎_elim
         (λ bad. subst (λ (e : FsError). Serves state v v call (Refuse (refusal_of e))) (sym bad.0)

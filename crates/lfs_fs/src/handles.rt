@@ -1,9 +1,9 @@
 //! The open handles.
-ghost use Rattle.std.specs.Prelude.{◌≡◌, ◌≢◌, ◌<◌, ◌≤◌, ℕ, List, [], IfSome, IfNone, Some, slice_get, slice_index, slice_set};
+ghost use Rattle.std.specs.Prelude.{◌≡◌, ◌≢◌, ◌<◌, ◌≤◌, ℕ, List, [], IfSome, IfNone, IsFalse, IsTrue, Some, slice_get, slice_index, slice_set};
 ghost use Rattle.std.specs.Ordering.{nat_cmp};
 ghost use Rattle.std.specs.FinMap.{find, put};
 ghost use Rattle.arrayvec.specs.ArrayVec.{array_vec_len};
-ghost use Rattle.lfs_model.specs.Tree.{least_handle};
+ghost use Rattle.lfs_model.specs.Tree.{least_handle, opened, without};
 ghost use Rattle.lfs_fs.specs.Handles.{handles_of, AreHandles};
 
 use arrayvec::ArrayVec;
@@ -71,6 +71,31 @@ impl Handles {
             ≡ put nat_cmp handle number (handles_of self.old.numbers.items) }
     {
         self.numbers[handle as usize] = number;
+    }
+
+    /// Closes a handle.
+    pub fn close(&mut self, handle: u32)
+        requires { handle < 64 }
+        ensures { handles_of self.new.numbers.items
+            ≡ without nat_cmp handle (handles_of self.old.numbers.items) }
+    {
+        self.numbers[handle as usize] = 0;
+    }
+
+    /// Whether another handle than this one is open on a file.
+    pub fn is_shared(&self, handle: u32, number: u16) -> bool
+        requires { number ≢ 0 }
+        ensures shared { IsTrue result →
+            opened (without nat_cmp handle (handles_of self.now.numbers.items)) number ≢ 0 }
+        ensures single { IsFalse result →
+            opened (without nat_cmp handle (handles_of self.now.numbers.items)) number ≡ 0 }
+    {
+        for other in 0..64u32 {
+            if other != handle && self.numbers[other as usize] == number {
+                return true;
+            }
+        }
+        false
     }
 }
 

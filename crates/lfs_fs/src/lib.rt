@@ -2,6 +2,8 @@
 #![tactic(auto)]
 
 mod cleaning;
+mod checking;
+mod closing;
 mod error;
 mod fs;
 mod handles;

@@ -1,5 +1,5 @@
-//! The call that saves.
-ghost use Rattle.lfs_model.specs.Call.{Sync, Done};
+//! The calls that save.
+ghost use Rattle.lfs_model.specs.Call.{Fsync, Sync, Done};
 ghost use Rattle.lfs_fs.specs.Volume.{Serves};
 ghost use Rattle.lfs_fs.specs.Seen.{seen, answer_by};
 
@@ -25,5 +25,24 @@ impl<D: SectorDevice> Fs<D> {
             Ok(()) => Ok(()),
             Err(fault) => Err(FsError::from(fault)),
         }
+    }
+
+    /// Saves the whole volume, as `sync` does, with the file of a handle (POSIX.1-2017, fsync).
+    ///
+    /// # Errors
+    ///
+    /// `BadHandle` where no such handle is open; else as those of `sync`.
+    pub fn fsync(&mut self, handle: u32) -> Result<(), FsError>
+        ensures { Serves D.SectorDevice.state (seen self.old) (seen self.new) (Fsync handle) (answer_by (λ _. Done) result) }
+    {
+        match self.begin() {
+            Ok(()) => {}
+            Err(fault) => return Err(fault),
+        }
+        match self.file(handle) {
+            Ok(_) => {}
+            Err(fault) => return Err(fault),
+        }
+        self.sync()
     }
 }

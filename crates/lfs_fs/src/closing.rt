@@ -1,0 +1,67 @@
+//! The call that gives up a handle.
+ghost use Rattle.std.specs.Prelude.{◌≡◌, ◌≤◌, ◌<◌, ℕ, false, Some};
+ghost use Rattle.std.specs.FinMap.{find};
+ghost use Rattle.std.specs.Ordering.{nat_cmp};
+ghost use Rattle.lfs_model.specs.Call.{Close, Done};
+ghost use Rattle.lfs_model.specs.Tree.{opened, without};
+ghost use Rattle.lfs_store.specs.memory.Batch.{IsNoChange};
+ghost use Rattle.lfs_fs.specs.Handles.{handles_of};
+ghost use Rattle.lfs_fs.specs.Volume.{Serves};
+ghost use Rattle.lfs_fs.specs.Seen.{seen, answer_by};
+
+use crate::error::FsError;
+use crate::fs::Fs;
+use lfs_device::SectorDevice;
+
+impl<D: SectorDevice> Fs<D> {
+    /// Closes a handle, which is free then. With its last handle a file without a name goes for good (POSIX.1-2017, close). It takes no memory.
+    ///
+    /// # Errors
+    ///
+    /// `BadHandle` where no such handle is open.
+    pub fn close(&mut self, handle: u32) -> Result<(), FsError>
+        ensures { Serves D.SectorDevice.state (seen self.old) (seen self.new) (Close handle) (answer_by (λ _. Done) result) }
+    {
+        match self.begin() {
+            Ok(()) => {}
+            Err(fault) => return Err(fault),
+        }
+        let number = match self.file(handle) {
+            Ok(number) => number,
+            Err(fault) => return Err(fault),
+        };
+        if self.handles.is_shared(handle, number) {
+            self.handles.close(handle);
+            return Ok(());
+        }
+        self.close_last(handle, number)
+    }
+
+    /// Closes the last handle of a file.
+    fn close_last(&mut self, handle: u32, number: u16) -> Result<(), FsError>
+        requires place { handle < 64 }
+        requires some { 1 ≤ number }
+        requires few { number ≤ 4095 }
+        requires running { self.old.store.log.halted ≡ false }
+        requires empty { IsNoChange self.old.store.draft.changes }
+        ensures { find nat_cmp handle (handles_of self.old.handles.numbers.items) ≡ Some number
+            → opened (without nat_cmp handle (handles_of self.old.handles.numbers.items)) number ≡ 0
+            → Serves D.SectorDevice.state (seen self.old) (seen self.new) (Close handle) (answer_by (λ _. Done) result) }
+    {
+        let header = match self.header(number) {
+            Ok(header) => header,
+            Err(fault) => return Err(fault),
+        };
+        if header.links > 0 {
+            self.handles.close(handle);
+            return Ok(());
+        }
+        match self.store.forget(number) {
+            Ok(()) => {
+                self.handles.close(handle);
+                Ok(())
+            }
+            Err(fault) => Err(FsError::from(fault)),
+        }
+    }
+}
