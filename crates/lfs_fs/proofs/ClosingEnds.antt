@@ -162,8 +162,11 @@ module _ {D : Type 0} (state : D → DeviceState) (lawful : (d : D) → IsLawful
             counted = does.counted;
             acknowledged = subst (λ (l : ℕ). IsTree l m0) (sym alters.segments) is.acknowledged;
             ready = λ e. (
-                let r = is.ready (sym saved ∙ e) in
-                (clean_still r.0, subst (λ (x : ℕ). x ≤ 2 ^ 62) (sym alters.number) r.1));
+                let r = is.ready (sym saved ∙ e) in (
+                  clean_still r.0,
+                  subst (λ (l : ℕ). new.log.number ≤ 2 ^ 62 + l / 8) (sym alters.segments)
+                      (subst (λ (x : ℕ). x ≤ 2 ^ 62 + segments_of old / 8) (sym alters.number) r.1),
+                ));
           };
         };
         steps = does.steps;

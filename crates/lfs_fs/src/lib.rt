@@ -2,7 +2,6 @@
 #![tactic(auto)]
 
 mod cleaning;
-mod checking;
 mod closing;
 mod error;
 mod fs;
