@@ -13,7 +13,7 @@ use lfs_device::SectorDevice;
 use lfs_model::Kind;
 use lfs_path::text::check_text;
 use lfs_path::tree::parent;
-use lfs_path::{Last, PathFault};
+use lfs_path::{Last, WalkFault};
 use lfs_store::Header;
 
 impl<D: SectorDevice> Fs<D> {
@@ -109,10 +109,12 @@ fn check_link_text(text: &[u8]) -> Result<(), FsError>
 {
     match check_text(text) {
         Ok(()) => Ok(()),
-        Err(PathFault::NoEntry) => Err(FsError::NoEntry),
-        Err(PathFault::NotDir) => Err(FsError::NotDir),
-        Err(PathFault::NameTooLong) => Err(FsError::NameTooLong),
-        Err(PathFault::Inval) => Err(FsError::Inval),
-        Err(PathFault::Log(fault)) => Err(FsError::from(fault)),
+        Err(WalkFault::NoEntry) => Err(FsError::NoEntry),
+        Err(WalkFault::NotDir) => Err(FsError::NotDir),
+        Err(WalkFault::NameTooLong) => Err(FsError::NameTooLong),
+        Err(WalkFault::Inval) => Err(FsError::Inval),
+        Err(WalkFault::Loop) => Err(FsError::Loop),
+        Err(WalkFault::NoMemory) => Err(FsError::NoMemory),
+        Err(WalkFault::Log(fault)) => Err(FsError::from(fault)),
     }
 }
