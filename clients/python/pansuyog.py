@@ -205,6 +205,10 @@ class Volume:
         """Saves all that was done: no stop takes it back."""
         self._call("sync")
 
+    def clean(self):
+        """Cleans segments until a quarter of them is clean."""
+        self._call("clean")
+
     def space(self):
         """The blocks that the files take, and the need and its limit."""
         return Space(*map(int, self._call("space")))

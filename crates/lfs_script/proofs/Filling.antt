@@ -11,7 +11,6 @@ use Rattle.lfs_model.specs.Refusal.{Refusal, NoEntry, NotDir, IsDir, Exist, NotE
 use Rattle.lfs_model.specs.Run.{IsExcused, IsPastLast, Point, StepsOr}
 use Rattle.lfs_model.specs.Step.{Step, bad_handle, checked, file_at, file_bytes, no_space, the_node, when, with_tree, writes}
 use Rattle.lfs_model.specs.Tree.{File, State, Tree, with_node}
-use Rattle.lfs_fs.specs.log.Held.{IsFull}
 use Rattle.lfs_fs.specs.Volume.{Behaves, Mounted, Serves}
 
 -- ---- more bytes than a write takes
@@ -141,14 +140,14 @@ module _ {D : Type 0} (state : D → DeviceState) (old new : Mounted D) (h off :
   }
 
   -- and of a write that is refused where room was asked for
-  told_behaves : (w : List ℕ) (r : Refusal) (a : Answer) → (Refuse r ≡ Refuse Stuck → IsFull new.log) → Behaves state old new Space a → Behaves state old new (Pwrite h off w) (Refuse r)
-  told_behaves w r a full behaves = record {
+  told_behaves : (w : List ℕ) (r : Refusal) (a : Answer) → (Refuse r ≡ Refuse Stuck → ⊥) → Behaves state old new Space a → Behaves state old new (Pwrite h off w) (Refuse r)
+  told_behaves w r a none behaves = record {
     refused = λ x e. behaves.handles refl;
     handles = behaves.handles;
     first_halted = λ e. inr refl;
     quiet = λ e. absurd (cc);
     number = λ e. absurd (cc);
-    stuck = full;
+    stuck = none;
   }
 
   long_serves : (w v : List ℕ) → 65536 < length w → 65536 < length v → (a : Answer) → Serves state old new (Pwrite h off w) a → Serves state old new (Pwrite h off v) a
@@ -193,7 +192,7 @@ module _ {D : Type 0} (state : D → DeviceState) (old new : Mounted D) (h off :
     segments = serves.segments;
     orderly = λ e. (let e = (serves.orderly e).0 in absurd (cc));
     halts = λ e. absurd (no_halt e);
-    behaves = told_behaves w NoMemory (Room blocks others need limit) (λ e. absurd (cc)) serves.behaves;
+    behaves = told_behaves w NoMemory (Room blocks others need limit) (λ e. cc) serves.behaves;
     model = λ p keeps at. (
         let does = serves.model p keeps at in
         let answers = does.answers in record {

@@ -13,5 +13,6 @@ line_for (made.Fill handle offset len byte) = Fill handle offset len byte
 line_for (made.Truncate handle len) = Plain (call.Truncate handle len)
 line_for (made.Stat path) = Plain (call.StatOf path.items)
 line_for made.Sync = Plain call.Sync
+line_for made.Clean = Plain call.Clean
 line_for made.Space = Plain call.Space
 line_for made.Tree = Plain call.ListTree

@@ -1,7 +1,7 @@
 -- The first word of a line.
 use Rattle.std.specs.Prelude.{ℕ, List, codes}
 use Rattle.lfs_script.specs.declared.command.Command.{Command}
-use Rattle.lfs_script.specs.declared.command.Command.TheVariants.{Create, Open, Pread, Pwrite, Fill, Truncate, Stat, Sync, Space, Tree}
+use Rattle.lfs_script.specs.declared.command.Command.TheVariants.{Create, Open, Pread, Pwrite, Fill, Truncate, Stat, Sync, Clean, Space, Tree}
 
 abbrev pub command_word : Command → List ℕ
 command_word Create = codes "create"
@@ -12,5 +12,6 @@ command_word Fill = codes "fill"
 command_word Truncate = codes "truncate"
 command_word Stat = codes "stat"
 command_word Sync = codes "sync"
+command_word Clean = codes "clean"
 command_word Space = codes "space"
 command_word Tree = codes "tree"

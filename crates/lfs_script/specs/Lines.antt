@@ -1,6 +1,6 @@
 -- The lines that a script may have so far, and how they are cut into words. What a line is, and its one text, is the model's.
 use Rattle.std.specs.Prelude.{◌≢◌, ℕ, ◌==◌, if◌then◌else◌, List, [], ◌∷◌, Option, Some, None, codes, decimal}
-use Rattle.lfs_model.specs.Call.{Create, Open, Pread, Pwrite, Truncate, StatOf, Sync, Space, ListTree}
+use Rattle.lfs_model.specs.Call.{Create, Open, Pread, Pwrite, Truncate, StatOf, Sync, Clean, Space, ListTree}
 use Rattle.lfs_model.specs.Script.{Line, Plain, Fill, InRange, hex, line_of, text_of, word}
 
 -- the lines whose calls are built
@@ -13,6 +13,7 @@ IsBuilt (Fill handle offset len byte) = Unit {0}
 IsBuilt (Plain (Truncate handle len)) = Unit {0}
 IsBuilt (Plain (StatOf path)) = Unit {0}
 IsBuilt (Plain Sync) = Unit {0}
+IsBuilt (Plain Clean) = Unit {0}
 IsBuilt (Plain Space) = Unit {0}
 IsBuilt (Plain ListTree) = Unit {0}
 IsBuilt _ = ⊥
@@ -31,6 +32,7 @@ words_of (Fill handle offset len byte) = codes "fill" ∷ decimal handle ∷ dec
 words_of (Plain (Truncate handle len)) = codes "truncate" ∷ decimal handle ∷ decimal len ∷ []
 words_of (Plain (StatOf path)) = codes "stat" ∷ word path ∷ []
 words_of (Plain Sync) = codes "sync" ∷ []
+words_of (Plain Clean) = codes "clean" ∷ []
 words_of (Plain Space) = codes "space" ∷ []
 words_of (Plain ListTree) = codes "tree" ∷ []
 words_of _ = []

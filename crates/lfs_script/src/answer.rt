@@ -83,6 +83,7 @@ pub fn make<D: SectorDevice>(alloc: Global, fs: &mut Fs<D>, call: &Call) -> Resu
         Call::Truncate { handle, len } => fs.truncate(*handle, *len).map(|()| Answer::Done),
         Call::Stat(path) => fs.stat(path.as_slice()).map(Answer::Stat),
         Call::Sync => fs.sync().map(|()| Answer::Done),
+        Call::Clean => fs.clean().map(|()| Answer::Done),
         Call::Space => fs.space().map(Answer::Space),
         Call::Tree => fs.tree().map(Answer::Tree),
     }

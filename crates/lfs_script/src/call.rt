@@ -42,6 +42,7 @@ pub enum Call {
     },
     Stat(Vec<u8>),
     Sync,
+    Clean,
     Space,
     Tree,
 }
@@ -181,6 +182,7 @@ fn call_of(alloc: Global, command: Command, words: Words<'_>) -> Result<Call, Wo
         }
         Command::Stat => Ok(Call::Stat(path(alloc, words)?)),
         Command::Sync => words.none().map(|()| Call::Sync),
+        Command::Clean => words.none().map(|()| Call::Clean),
         Command::Space => words.none().map(|()| Call::Space),
         Command::Tree => words.none().map(|()| Call::Tree),
     }

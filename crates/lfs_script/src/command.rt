@@ -13,12 +13,13 @@ pub enum Command {
     Truncate,
     Stat,
     Sync,
+    Clean,
     Space,
     Tree,
 }
 
 impl Command {
-    const ALL: [Command; 10] = [
+    const ALL: [Command; 11] = [
         Command::Create,
         Command::Open,
         Command::Pread,
@@ -27,6 +28,7 @@ impl Command {
         Command::Truncate,
         Command::Stat,
         Command::Sync,
+        Command::Clean,
         Command::Space,
         Command::Tree,
     ];
@@ -45,6 +47,7 @@ impl Command {
             Command::Truncate => b"truncate",
             Command::Stat => b"stat",
             Command::Sync => b"sync",
+            Command::Clean => b"clean",
             Command::Space => b"space",
             Command::Tree => b"tree",
         }

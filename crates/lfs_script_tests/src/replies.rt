@@ -138,6 +138,7 @@ fn plain_call<'a>(call: &'a Call, bytes: &'a [u8]) -> PlainCall<'a> {
         Call::Truncate { handle, len } => PlainCall::Truncate(*handle, *len),
         Call::Stat(path) => PlainCall::Stat(path.as_slice()),
         Call::Sync => PlainCall::Sync,
+        Call::Clean => PlainCall::Clean,
         Call::Space => PlainCall::Space,
         Call::Tree => PlainCall::Tree,
     }
