@@ -1,5 +1,5 @@
 -- The ends of a close, and of a sync through a handle, as steps of the model.
-use Rattle.std.proofs.Common.{◌≡◌, ◌≢◌, ◌≤◌, ◌<◌, ◌+◌, ◌/◌, ◌^◌, ◌==◌, ◌&&◌, ℕ, Bool, true, false, List, length, Some, None, refl, sym, ◌∙◌, ap, subst, inl, inr, ⊎_elim, arith}
+use Rattle.std.proofs.Common.{◌≡◌, ◌≢◌, ◌≤◌, ◌<◌, ◌+◌, ◌*◌, ◌/◌, ◌^◌, ◌==◌, ◌&&◌, ℕ, Bool, true, false, List, length, Some, None, refl, sym, ◌∙◌, ap, subst, inl, inr, ⊎_elim, arith}
 use Rattle.std.proofs.lemmas.Bool.{eq-eqb}
 use Rattle.std.specs.Ordering.{nat_cmp}
 use Rattle.std.specs.FinMap.{find}
@@ -25,9 +25,11 @@ use Rattle.lfs_store.specs.memory.Batch.{IsNoChange}
 use Rattle.lfs_store.specs.memory.Present.{as_header}
 use Rattle.lfs_store.specs.memory.Removing.{without_file}
 use Rattle.lfs_store.specs.segments.Table.{clean_in}
-use Rattle.lfs_store.specs.log.Held.{Alters, Holds, IsKept, IsReadFault, IsRemoved, Reads}
+use Rattle.lfs_store.specs.log.Held.{Alters, Held, Holds, IsKept, IsReadFault, IsRemoved, Reads}
 use Rattle.lfs_store.specs.Accepting.{Forgets, HasClean, Stores}
 use Rattle.lfs_store.specs.Recounting.{CountsGone}
+use Rattle.lfs_store.specs.cleaner.Room.{IsAtRest}
+use Rattle.lfs_store.proofs.of_cleaner.RoomBounds.{none_left}
 use Rattle.lfs_store.proofs.Forgotten.{forgets}
 use Rattle.lfs_store.proofs.LogReads.{fault_more, held_still, reads_none}
 use Rattle.lfs_store.proofs.Recounted.{kept_more, removed_more}
@@ -196,6 +198,20 @@ module _ {D : Type 0} (state : D → DeviceState) (lawful : (d : D) → IsLawful
     stuck = λ e. absurd (not_stuck a ordinary e);
   }
 
+-- what is at rest stays so where nothing is gone
+still_at_rest : {D : Type 0} (state : D → DeviceState) (h h' : Held D) → IsKept state h h' → IsAtRest h → IsAtRest h'
+still_at_rest state h h' kept rest =
+    let none : length h.memory.dirty.blocks ≡ 0 = ap length rest.nothing in
+    let few = kept.alters.few in
+    let many = rest.many in
+    let segments = kept.alters.segments in
+    let clean = kept.alters.clean in
+    record {
+      nothing = none_left h'.memory.dirty.blocks (omega (arith, none, few));
+      untaken = kept.untaken rest.untaken;
+      many = omega (arith, many, segments, clean);
+    }
+
 -- ---- close
 
 module _ {D : Type 0} (state : D → DeviceState) (lawful : (d : D) → IsLawful (state d)) where
@@ -259,7 +275,11 @@ module _ {D : Type 0} (state : D → DeviceState) (lawful : (d : D) → IsLawful
         altered_serves state lawful old new was kept.alters saved (Close h) (Refuse Device) (kept_behaves state lawful old new was kept.alters saved (Close h) (Refuse Device) table tt) (λ e. cc) (λ e. cc) (λ p keeps here k m0 m is. record {
           next = p.state;
           present = m;
-          stores = record { holds = kept.holds k m0 m keeps is.stores.holds; nothing_new = λ e. is.stores.nothing_new (sym saved ∙ e) };
+          stores = record {
+            holds = kept.holds k m0 m keeps is.stores.holds;
+            nothing_new = λ e. is.stores.nothing_new (sym saved ∙ e);
+            rest = λ e. still_at_rest state old.log new.log kept (is.stores.rest (sym saved ∙ e));
+          };
           map = map_of_volume state old k m0 m p.state is;
           version = is.version;
           handles = is.handles ∙ ap handles_of (sym table);
