@@ -501,6 +501,15 @@ const ONE_BYTE: &[Piece] = &[
     (8, 0, &[0x61]),
 ];
 
+// What differs from that image where the file is an empty directory, and named `g` too, but for the count of live blocks.
+const TWO_NAMES: &[Piece] = &[
+    (3, 12, &[0x80]),
+    (6, 64, &[2, 0, 0, 0, 1, 0x67]),
+    (7, 0, &[2]),
+    (7, 12, &[0]),
+    (7, 32, &[0]),
+];
+
 // What `check` says of a new volume of 64 segments.
 const NEW_SPACE: Said = Said::Reply(b"ok 64 0 1 727 3008\n");
 
@@ -534,9 +543,28 @@ const DAMAGED: &[Step] = &[
     Step::Damage(8, 0, 0, b"err Damaged 7\n"),
     Step::Damage(8, 1, 0x62, b"err Damaged 7\n"),
     Step::Damage(2, 50, 2, b"err Damaged 8\n"),
+    Step::Damage(6, 0, 3, b"err Damaged 10\n"),
     Step::Damage(6, 4, 0, b"err Damaged 10\n"),
     Step::Damage(6, 5, 0x2f, b"err Damaged 10\n"),
+    Step::Damage(6, 0, 1, b"err Damaged 12\n"),
     Step::Damage(7, 8, 2, b"err Damaged 13\n"),
+    // The file as a link, and then as a directory that two names give.
+    Step::Change("whole.img", LEN, &[(7, 0, &[3])]),
+    Step::Says(
+        &["lfs mount whole.img"],
+        b"",
+        0,
+        Said::Reply(b"ok 1\n1 f link 2 1 1 a\n"),
+    ),
+    Step::Says(
+        &["lfs check whole.img"],
+        b"",
+        0,
+        Said::Reply(b"ok 64 2 2 736 3008\n"),
+    ),
+    Step::Damage(7, 12, 2, b"err Damaged 11\n"),
+    Step::Change("whole.img", LEN, TWO_NAMES),
+    Step::Damage(5, 2, 5, b"err Damaged 12\n"),
     Step::Remove("whole.img"),
     Step::Remove("damaged.img"),
 ];

@@ -7,7 +7,6 @@ mod HandleSteps
 mod PathSteps
 mod Looking
 mod Files
-mod PlainTrees
 mod Changed
 mod Written
 mod Shortened
@@ -48,6 +47,4 @@ mod TreeEnds
 mod LineSteps
 pub mod ScriptRuns
 pub mod Sessions
-mod FlatRoots
-mod TreeChecks
 mod MountEnds

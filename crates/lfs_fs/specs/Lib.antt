@@ -5,7 +5,6 @@ pub mod Volume
 pub mod Seen
 pub mod Accepting
 pub mod Answers
-pub mod Checking
 pub mod Mounting
 pub mod Reading
 pub mod Naming

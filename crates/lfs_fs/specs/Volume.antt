@@ -1,6 +1,6 @@
 -- What contracts see of a mounted volume, the state that it is in, and what its calls do.
 -- The calls are those of POSIX.1-2017; which refusals are excused and what a stop leaves is an own choice.
-use Rattle.std.specs.Prelude.{◌≡◌, ◌≢◌, ◌⊎◌, ◌≤◌, ◌^◌, ℕ, Bool, true, false, ◌||◌, IsTrue, List, [], ◌∷◌, length, Some}
+use Rattle.std.specs.Prelude.{◌≡◌, ◌⊎◌, ◌≤◌, ◌^◌, ℕ, Bool, true, false, ◌||◌, IsTrue, List, [], ◌∷◌, length}
 use Rattle.lfs_model.specs.Call.{Call, Open, Create, Close, Answer, Refuse, changes, cleans, commits}
 use Rattle.lfs_model.specs.Checkpoint.{CheckpointValue}
 use Rattle.lfs_model.specs.Device.{DeviceState, Carries, AllLeft, IsUntouched}
@@ -8,7 +8,7 @@ use Rattle.lfs_model.specs.Encodes.{IsLogMap}
 use Rattle.lfs_model.specs.Refusal.{Refusal, Halted, Stuck}
 use Rattle.lfs_model.specs.Run.{Point, Answers, acknowledges}
 use Rattle.lfs_model.specs.Stands.{LogMap}
-use Rattle.lfs_model.specs.Tree.{Tree, Node, File, Dir, Names, State, node, drop_nameless}
+use Rattle.lfs_model.specs.Tree.{State, drop_nameless}
 use Rattle.lfs_model.specs.TreeOf.{IsTree, LeavesOne, LeavesStates, Stands}
 use Rattle.lfs_model.specs.Volume.{IsLogOf}
 use Rattle.lfs_store.specs.log.Held.{Held, IsFull, Reads}
@@ -38,12 +38,6 @@ changes_handles (Open p) = true
 changes_handles (Create p) = true
 changes_handles (Close h) = true
 changes_handles _ = false
-
--- The tree is the root and files in it: what a mount takes.
-pub record IsPlain (t : Tree) : Type 0 where
-  pub names : Names
-  pub root : node t 1 ≡ Some (Dir 0 names)
-  pub files : (n : ℕ) (x : Node) → node t n ≡ Some x → n ≢ 1 → (b : List ℕ) × (x ≡ File b)
 
 module _ {D : Type 0} (state : D → DeviceState) where
   -- The volume is in state s: its log has the log map of s, over one that is a tree's, which the acknowledged checkpoint stands for.

@@ -1,7 +1,6 @@
 //! The calls of a volume.
 #![tactic(auto)]
 
-mod checking;
 mod error;
 mod fs;
 mod handles;

@@ -3,42 +3,44 @@ ghost use Rattle.std.specs.Prelude.{◌≡◌, IfOk, IfErr, MatchResult};
 ghost use Rattle.lfs_model.specs.Device.{Only, IsUntouched, Carries, LeavesOnly};
 ghost use Rattle.lfs_fs.specs.Mounting.{MountsFs, FindsState, IsMountFault, IsRefused};
 
-use crate::checking::check_tree;
 use crate::fs::Fs;
 use crate::handles::Handles;
 use lfs_device::SectorDevice;
 use lfs_store::{MountFault, Store};
+use lfs_tree::verify_tree;
 use std::alloc::Global;
 
 impl<D: SectorDevice> Fs<D> {
-    /// Mounts the device's volume, without open handles: a walk over its log, and a check of its tree. It writes nothing.
+    /// Mounts the device's volume, without open handles, once its log and its tree were walked over. It writes nothing.
     ///
     /// # Errors
     ///
     /// With the device: `TooSmall` below 4,098 sectors, `NoCheckpoint`, `TooSmall` where the volume has more sectors than
-    /// the device, `Damaged` where what the checkpoint leads to is no volume of the root and files in it; `NoMemory` and `Device`
-    /// for their causes.
+    /// the device, `Damaged` where what the checkpoint leads to is no tree, with the first stage that fails: of 1 to 9, then 15, then
+    /// 10 to 14; `NoMemory` and `Device` for their causes.
     pub fn mount(alloc: Global, device: D) -> Result<Fs<D>, (MountFault, D)>
         ensures mounts { IfOk result (λ fs. MountsFs D.SectorDevice.state device fs) }
         ensures only { IfOk result (λ fs. FindsState D.SectorDevice.state device fs) }
         ensures durable { IfOk result (λ fs. (D.state fs.store.log.device).keeps_model → Only (D.state device).content (D.state fs.store.log.device)) }
-        ensures cause { IfErr result (λ e. (e.0 ≡ MountFault.NoMemory → ⊥) → IsMountFault D.SectorDevice.state device e.1) }
+        ensures cause { IfErr result (λ e. (e.0 ≡ MountFault.NoMemory → ⊥)
+            → IsMountFault (D.state device) (D.state e.1) e.0) }
         ensures reason { IfErr result (λ e. IsRefused (D.state device) (D.state e.1) e.0) }
         ensures untouched { MatchResult result (λ fs. IsUntouched (D.state device) (D.state fs.store.log.device)) (λ e. IsUntouched (D.state device) (D.state e.1)) }
         ensures carries { MatchResult result (λ fs. Carries (D.state device) (D.state fs.store.log.device)) (λ e. Carries (D.state device) (D.state e.1)) }
         ensures any_moment { MatchResult result (λ fs. LeavesOnly (D.state device) (D.state fs.store.log.device) (D.state device).may_leave) (λ e. LeavesOnly (D.state device) (D.state e.1) (D.state device).may_leave) }
     {
-        let mut store = match Store::open(alloc, device) {
-            Ok(store) => store,
-            Err(fault) => return Err(fault),
+        let mut device = device;
+        let tables = match verify_tree(alloc, &mut device) {
+            Ok(tables) => tables,
+            Err(fault) => return Err((fault, device)),
         };
-        match check_tree(alloc, &mut store) {
-            Ok(()) => Ok(Fs {
+        match Store::with_tables(alloc, device, tables) {
+            Ok(store) => Ok(Fs {
                 alloc,
                 store,
                 handles: Handles::new(),
             }),
-            Err(fault) => Err((fault, store.into_device())),
+            Err(fault) => Err(fault),
         }
     }
 

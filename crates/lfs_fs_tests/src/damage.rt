@@ -108,10 +108,12 @@ fn a_damaged_volume_is_refused(rt: HostRuntime) -> Result<(), Fail> {
     for (start, place, byte, want) in [
         (slot, 5, b'g', None),
         (slot, 5, b'/', Some(MountFault::Damaged(10))),
-        (slot, 0, 1, Some(MountFault::Damaged(10))),
-        (slot, 0, 3, Some(MountFault::Damaged(12))),
+        (slot, 0, 1, Some(MountFault::Damaged(12))),
+        (slot, 0, 3, Some(MountFault::Damaged(10))),
         (root, 8, 3, Some(MountFault::Damaged(13))),
         (file, 8, 2, Some(MountFault::Damaged(13))),
+        // A link, whose text is the file's byte.
+        (file, 0, 3, None),
         (usage, 10, 0, Some(MountFault::Damaged(1))),
         (usage, 8, 8, Some(MountFault::Damaged(2))),
         (usage, 10, 5, Some(MountFault::Damaged(9))),

@@ -1,6 +1,6 @@
 //! Walks over a tree of directories, files and symbolic links.
 
-use crate::volume::store_with;
+use crate::volume::{mounted, store_with};
 use lfs_device::MemDevice;
 use lfs_layout::is_name;
 use lfs_model::Kind;
@@ -172,5 +172,35 @@ fn forty_links_are_followed(rt: HostRuntime) -> Result<(), Fail> {
     text[0] = b'l';
     assert!(rt; resolve(alloc, &mut *store, &text[..41], true) == Ok(2));
     assert!(rt; resolve(alloc, &mut *store, &text, true) == Err(WalkFault::Loop));
+    Ok(())
+}
+
+/// Drafts other links of a directory.
+fn relink(store: &mut Store<MemDevice>, number: u16, links: u32) -> Result<(), Fail> {
+    if number == 0 || number > 4_095 || links == 0 || links > 1_000 {
+        return Err(Fail::from("no links"));
+    }
+    match store.header(number)? {
+        Some(header) => store.set_links(number, header, links)?,
+        None => return Err(Fail::from("no directory")),
+    }
+    Ok(())
+}
+
+/// The device of a volume with the small tree, saved.
+fn device_with_tree(alloc: Global) -> Result<MemDevice, Fail> {
+    let mut store = small_tree(alloc)?;
+    relink(&mut store, 1, 3)?;
+    relink(&mut store, 2, 3)?;
+    store.accept()?;
+    store.commit()?;
+    Ok(Box::into_inner(store).into_device())
+}
+
+#[test]
+fn directories_and_links_are_mounted(rt: HostRuntime) -> Result<(), Fail> {
+    let mut fs = mounted(rt.alloc(), device_with_tree(rt.alloc())?)?;
+    assert!(rt; fs.tree()?.len() == 8);
+    assert!(rt; fs.stat(b"/s/x/f")?.number == 4);
     Ok(())
 }
