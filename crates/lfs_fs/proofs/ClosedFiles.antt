@@ -1,5 +1,5 @@
 -- A handle that is closed, in a volume's log map: the file stays, or goes with its last handle.
-use Rattle.std.proofs.Common.{◌≡◌, ◌≢◌, ◌<◌, ◌&&◌, ◌+◌, ℕ, Bool, true, false, List, length, Option, Some, None, refl, sym, ◌∙◌, ap, subst, cond, ⊎_elim, arith}
+use Rattle.std.proofs.Common.{◌≡◌, ◌≢◌, ◌&&◌, ◌+◌, ℕ, Bool, false, List, length, Option, Some, None, refl, sym, ◌∙◌, ap, subst, cond, ⊎_elim, arith}
 use Rattle.std.specs.Prelude.{T, ◌==◌, count_by}
 use Rattle.std.proofs.Math.Path.{fun_ext}
 use Rattle.std.proofs.lemmas.Bool.{cases_eq}

@@ -1,5 +1,5 @@
 -- A table of numbers in which a place is freed, and whether another place has the same number.
-use Rattle.std.proofs.Common.{◌≡◌, ◌≢◌, refl, sym, ap, subst, ◌∙◌, ℕ, ◌<◌, ◌≤◌, Bool, true, false, List, Option, Some, None, length, get_or, cond, eqb, arith, ⊎_elim, append-nil}
+use Rattle.std.proofs.Common.{◌≡◌, ◌≢◌, refl, sym, ap, subst, ◌∙◌, ℕ, ◌<◌, ◌≤◌, Bool, true, false, List, Some, None, length, get_or, cond, eqb, arith, ⊎_elim, append-nil}
 use Rattle.std.specs.Prelude.{◌==◌, if◌then◌else◌, not, slice_set}
 use Rattle.std.specs.List.{refill}
 use Rattle.std.proofs.lemmas.Bool.{cases_eq, cases_lt, eq-eqb}
@@ -12,7 +12,6 @@ use Rattle.std.specs.FinMap.Entries.{is_sorted-where_key, same_entries}
 use Rattle.lfs_model.specs.Tree.{Handles, opened, without}
 use Rattle.lfs_model.proofs.Sums.{find_without, total_zero, weight-le-total}
 use Rattle.lfs_model.proofs.Trees.{cmp_same, cmp_other}
-use Rattle.lfs_model.proofs.Walks.{Some-injective}
 use Rattle.lfs_fs.specs.Handles.{handles_of, number_at}
 use Rattle.lfs_fs.proofs.HandleTables.{are_handles, find_closed, find_handle, find_open, find_past, number_found}
 

@@ -1,9 +1,9 @@
 -- The ends of a close, and of a sync through a handle, as steps of the model.
-use Rattle.std.proofs.Common.{◌≡◌, ◌≢◌, ◌≤◌, ◌<◌, ◌+◌, ◌*◌, ◌/◌, ◌^◌, ◌==◌, ◌&&◌, ℕ, Bool, true, false, List, length, Some, None, refl, sym, ◌∙◌, ap, subst, inl, inr, ⊎_elim, arith}
+use Rattle.std.proofs.Common.{◌≡◌, ◌≤◌, ◌<◌, ◌+◌, ◌/◌, ◌^◌, ◌==◌, ◌&&◌, ℕ, Bool, true, false, List, length, Some, refl, sym, ◌∙◌, ap, subst, inl, inr, ⊎_elim, arith}
 use Rattle.std.proofs.lemmas.Bool.{eq-eqb}
 use Rattle.std.specs.Ordering.{nat_cmp}
 use Rattle.std.specs.FinMap.{find}
-use Rattle.lfs_model.specs.Call.{Answer, Call, Close, Done, Fsync, Refuse, Sync, changes, cleans, commits, is_ok}
+use Rattle.lfs_model.specs.Call.{Answer, Call, Close, Done, Fsync, Refuse, Sync, is_ok}
 use Rattle.lfs_model.specs.Checkpoint.{CheckpointValue}
 use Rattle.lfs_model.specs.Device.{DeviceState, IsLawful}
 use Rattle.lfs_model.specs.Encodes.{IsLogMap}
@@ -40,7 +40,7 @@ use Rattle.lfs_fs.specs.Faults.{error_of_log}
 use Rattle.lfs_fs.specs.Handles.{handles_of}
 use Rattle.lfs_fs.specs.Refusals.{refusal_of}
 use Rattle.lfs_fs.specs.Seen.{GivesNone, HasHeader, OnlyReads, seen}
-use Rattle.lfs_fs.specs.Volume.{Behaves, IsAt, IsIn, Mounted, Serves, ServesAt, changes_handles, may_write, segments_of}
+use Rattle.lfs_fs.specs.Volume.{Behaves, IsAt, IsIn, Mounted, Serves, ServesAt, changes_handles, segments_of}
 use Rattle.lfs_fs.proofs.Behaving.{IsOrdinary, not_halted, not_stuck, ok_refuses_none}
 use Rattle.lfs_fs.proofs.CallSteps.{never_worn}
 use Rattle.lfs_fs.proofs.ClosedFiles.{closed_map, gone_map, names_by}

@@ -1,5 +1,5 @@
 -- What a mounted volume's log map is, how a volume that runs on is put together again after a call, and what an open leaves.
-use Rattle.std.proofs.Common.{◌≡◌, ◌⊎◌, ◌≤◌, ◌<◌, ◌+◌, ◌/◌, ◌^◌, ℕ, true, false, List, Some, sym, ap, subst, ⊎_elim}
+use Rattle.std.proofs.Common.{◌≡◌, ◌⊎◌, ◌≤◌, ◌<◌, ◌+◌, ◌/◌, ◌^◌, ℕ, true, false, List, Some, sym, subst, ⊎_elim}
 use Rattle.lfs_model.specs.Call.{Handle}
 use Rattle.lfs_model.specs.Checkpoint.{CheckpointValue}
 use Rattle.lfs_model.specs.Device.{DeviceState}

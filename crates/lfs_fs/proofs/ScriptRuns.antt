@@ -143,8 +143,8 @@ module _ {D : Type 0} (state : D → DeviceState) (lawful : (d : D) → IsLawful
       serves
 
   unstuck_more : (answers : List Answer) (answer : Answer) → AreUnstuck answers → (answer ≡ Refuse Stuck → ⊥) → AreUnstuck (answers ++ answer ∷ [])
-  unstuck_more [] answer all one = (one, tt)
-  unstuck_more (first ∷ answers) answer all one = (all.0, unstuck_more answers answer all.1 one)
+  unstuck_more [] answer those one = (one, tt)
+  unstuck_more (first ∷ answers) answer those one = (those.0, unstuck_more answers answer those.1 one)
 
   -- no line
   pub ran_none : (old : Mounted D) → RunsLines state old old [] []
