@@ -41,6 +41,14 @@ class Stat(NamedTuple):
     size: int
 
 
+class Entry(NamedTuple):
+    """What `readdir` tells of an entry: its name, and the number and kind of what it gives."""
+
+    name: bytes
+    number: int
+    kind: str
+
+
 class Space(NamedTuple):
     """The volume's data blocks, its other blocks, and the need that they make, which is at most the limit."""
 
@@ -196,10 +204,30 @@ class Volume:
         """Gives a file this length: it is cut, or zeros are added."""
         self._call("truncate", str(handle), str(length))
 
+    def mkdir(self, path):
+        """Makes a directory."""
+        self._call("mkdir", _escape(path))
+
+    def symlink(self, text, path):
+        """Makes a symbolic link with this text."""
+        self._call("symlink", _escape(text), _escape(path))
+
+    def readlink(self, path):
+        """The text of a link."""
+        return _unescape(self._call("readlink", _escape(path))[0])
+
     def stat(self, path):
         """What stands at a path."""
-        number, kind, links, size = self._call("stat", _escape(path))
-        return Stat(int(number), kind, int(links), int(size))
+        return self._status("stat", path)
+
+    def lstat(self, path):
+        """The same, where a last link isn't followed."""
+        return self._status("lstat", path)
+
+    def readdir(self, path):
+        """Each entry of one directory."""
+        count = int(self._call("readdir", _escape(path))[0])
+        return [self._entry() for _ in range(count)]
 
     def sync(self):
         """Saves all that was done: no stop takes it back."""
@@ -217,6 +245,14 @@ class Volume:
         """Each entry of each directory."""
         count = int(self._call("tree")[0])
         return [self._row() for _ in range(count)]
+
+    def _status(self, word, path):
+        number, kind, links, size = self._call(word, _escape(path))
+        return Stat(int(number), kind, int(links), int(size))
+
+    def _entry(self):
+        name, number, kind = self._line()
+        return Entry(_unescape(name), int(number), kind)
 
     def _row(self):
         directory, name, kind, number, links, size, head = self._line()

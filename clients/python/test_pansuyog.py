@@ -41,6 +41,17 @@ class Calls(OnAVolume):
         volume.truncate(handle, 4)
         self.assertEqual(volume.stat("/a file"), pansuyog.Stat(2, "file", 1, 4))
 
+    def test_directories_and_links_are_told(self):
+        volume = self.mounted()
+        volume.mkdir("/d e")
+        volume.symlink("d e", "/l")
+        volume.create("/l/f")
+        self.assertEqual(volume.readlink("/l"), b"d e")
+        self.assertEqual(volume.stat("/l"), pansuyog.Stat(2, "dir", 2, 64))
+        self.assertEqual(volume.lstat("/l"), pansuyog.Stat(3, "link", 1, 3))
+        self.assertEqual(volume.readdir("/"), [pansuyog.Entry(b"d e", 2, "dir"), pansuyog.Entry(b"l", 3, "link")])
+        self.assertEqual(volume.readdir("/d e"), [pansuyog.Entry(b"f", 4, "file")])
+
     def test_what_was_synced_is_there_again(self):
         volume = self.mounted()
         handle = volume.create(b"/n\xc3\xa4me\\")

@@ -7,6 +7,7 @@ pub mod Digits
 pub mod Escapes
 pub mod PieceTexts
 pub mod Spellings
+pub mod TwoWords
 pub mod Replies
 pub mod Cuts
 pub mod Commands

@@ -2,17 +2,19 @@
 use Rattle.std.specs.Prelude.{map, Result, Ok, Err}
 use Rattle.lfs_model.specs.Call as call
 use Rattle.lfs_fs.specs.declared.error.FsError.{FsError}
-use Rattle.lfs_fs.specs.Answers.{room_of, row_of, status_of}
+use Rattle.lfs_fs.specs.Answers.{entry_of, room_of, row_of, status_of}
 use Rattle.lfs_fs.specs.Refusals.{refusal_of}
 use Rattle.lfs_script.specs.declared.answer.Answer.{Answer}
-use Rattle.lfs_script.specs.declared.answer.Answer.TheVariants.{Done, Handle, Count, Bytes, Stat, Space, Tree}
+use Rattle.lfs_script.specs.declared.answer.Answer.TheVariants.{Done, Handle, Count, Bytes, Text, Stat, Entries, Space, Tree}
 
 abbrev pub answer_of : Answer → call.Answer
 answer_of Done = call.Done
 answer_of (Handle handle) = call.Handle handle
 answer_of (Count count) = call.Count count
 answer_of (Bytes bytes) = call.Data bytes.items
+answer_of (Text text) = call.Text text.items
 answer_of (Stat stat) = call.Status (status_of stat)
+answer_of (Entries entries) = call.Entries (map entry_of entries.items)
 answer_of (Space space) = room_of space
 answer_of (Tree rows) = call.Rows (map row_of rows.items)
 

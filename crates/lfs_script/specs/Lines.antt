@@ -1,6 +1,6 @@
 -- The lines that a script may have so far, and how they are cut into words. What a line is, and its one text, is the model's.
 use Rattle.std.specs.Prelude.{◌≢◌, ℕ, ◌==◌, if◌then◌else◌, List, [], ◌∷◌, Option, Some, None, codes, decimal}
-use Rattle.lfs_model.specs.Call.{Create, Open, Pread, Pwrite, Truncate, StatOf, Sync, Clean, Space, ListTree}
+use Rattle.lfs_model.specs.Call.{Create, Open, Pread, Pwrite, Truncate, Mkdir, Symlink, Readlink, StatOf, LstatOf, Readdir, Sync, Clean, Space, ListTree}
 use Rattle.lfs_model.specs.Script.{Line, Plain, Fill, InRange, hex, line_of, text_of, word}
 
 -- the lines whose calls are built
@@ -11,7 +11,12 @@ IsBuilt (Plain (Pread handle offset len)) = Unit {0}
 IsBuilt (Plain (Pwrite handle offset bytes)) = Unit {0}
 IsBuilt (Fill handle offset len byte) = Unit {0}
 IsBuilt (Plain (Truncate handle len)) = Unit {0}
+IsBuilt (Plain (Mkdir path)) = Unit {0}
+IsBuilt (Plain (Symlink text path)) = Unit {0}
+IsBuilt (Plain (Readlink path)) = Unit {0}
 IsBuilt (Plain (StatOf path)) = Unit {0}
+IsBuilt (Plain (LstatOf path)) = Unit {0}
+IsBuilt (Plain (Readdir path)) = Unit {0}
 IsBuilt (Plain Sync) = Unit {0}
 IsBuilt (Plain Clean) = Unit {0}
 IsBuilt (Plain Space) = Unit {0}
@@ -30,7 +35,12 @@ words_of (Plain (Pread handle offset len)) = codes "pread" ∷ decimal handle �
 words_of (Plain (Pwrite handle offset bytes)) = codes "pwrite" ∷ decimal handle ∷ decimal offset ∷ hex bytes ∷ []
 words_of (Fill handle offset len byte) = codes "fill" ∷ decimal handle ∷ decimal offset ∷ decimal len ∷ decimal byte ∷ []
 words_of (Plain (Truncate handle len)) = codes "truncate" ∷ decimal handle ∷ decimal len ∷ []
+words_of (Plain (Mkdir path)) = codes "mkdir" ∷ word path ∷ []
+words_of (Plain (Symlink text path)) = codes "symlink" ∷ word text ∷ word path ∷ []
+words_of (Plain (Readlink path)) = codes "readlink" ∷ word path ∷ []
 words_of (Plain (StatOf path)) = codes "stat" ∷ word path ∷ []
+words_of (Plain (LstatOf path)) = codes "lstat" ∷ word path ∷ []
+words_of (Plain (Readdir path)) = codes "readdir" ∷ word path ∷ []
 words_of (Plain Sync) = codes "sync" ∷ []
 words_of (Plain Clean) = codes "clean" ∷ []
 words_of (Plain Space) = codes "space" ∷ []

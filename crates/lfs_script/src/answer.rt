@@ -9,7 +9,7 @@ ghost use Rattle.lfs_script.specs.Calls.{line_for};
 
 use crate::call::Call;
 use lfs_device::SectorDevice;
-use lfs_fs::{Fs, FsError, Space, Stat, TreeRow};
+use lfs_fs::{Entry, Fs, FsError, Space, Stat, TreeRow};
 use std::alloc::{AllocError, Global};
 
 /// What a call gives where it isn't refused.
@@ -19,7 +19,10 @@ pub enum Answer {
     Handle(u32),
     Count(u32),
     Bytes(Vec<u8>),
+    /// A link's text.
+    Text(Vec<u8>),
     Stat(Stat),
+    Entries(Vec<Entry>),
     Space(Space),
     Tree(Vec<TreeRow>),
 }
@@ -81,7 +84,14 @@ pub fn make<D: SectorDevice>(alloc: Global, fs: &mut Fs<D>, call: &Call) -> Resu
             byte,
         } => fill(alloc, fs, *handle, *offset, *len, *byte).map(Answer::Count),
         Call::Truncate { handle, len } => fs.truncate(*handle, *len).map(|()| Answer::Done),
+        Call::Mkdir(path) => fs.mkdir(path.as_slice()).map(|()| Answer::Done),
+        Call::Symlink { text, path } => fs
+            .symlink(text.as_slice(), path.as_slice())
+            .map(|()| Answer::Done),
+        Call::Readlink(path) => fs.readlink(path.as_slice()).map(Answer::Text),
         Call::Stat(path) => fs.stat(path.as_slice()).map(Answer::Stat),
+        Call::Lstat(path) => fs.lstat(path.as_slice()).map(Answer::Stat),
+        Call::Readdir(path) => fs.readdir(path.as_slice()).map(Answer::Entries),
         Call::Sync => fs.sync().map(|()| Answer::Done),
         Call::Clean => fs.clean().map(|()| Answer::Done),
         Call::Space => fs.space().map(Answer::Space),

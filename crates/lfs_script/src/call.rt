@@ -4,7 +4,7 @@ ghost use Rattle.lfs_model.specs.Bytes.{AreBytes};
 ghost use Rattle.lfs_model.specs.Run.{has_word};
 ghost use Rattle.lfs_model.specs.Script.{Line, InRange, hex, text_of, word};
 ghost use Rattle.lfs_script.specs.Lines.{IsBuilt, IsUnknown, words_of, words_left};
-ghost use Rattle.lfs_script.specs.Calls.{line_for};
+ghost use Rattle.lfs_script.specs.Calls.{IsBoth, line_for};
 ghost use Rattle.lfs_script.specs.Command.{command_word};
 
 use crate::command::Command;
@@ -40,7 +40,15 @@ pub enum Call {
         handle: u32,
         len: u64,
     },
+    Mkdir(Vec<u8>),
+    Symlink {
+        text: Vec<u8>,
+        path: Vec<u8>,
+    },
+    Readlink(Vec<u8>),
     Stat(Vec<u8>),
+    Lstat(Vec<u8>),
+    Readdir(Vec<u8>),
     Sync,
     Clean,
     Space,
@@ -141,6 +149,40 @@ fn truncate(words: Words<'_>) -> Result<(u32, u64), WordFault>
     Ok((handle, len))
 }
 
+// Two words that are read: the second was looked at too where the first found no memory, so a wrong spelling comes first.
+fn both(
+    first: Result<Vec<u8>, WordFault>,
+    second: Result<Vec<u8>, WordFault>,
+) -> Result<(Vec<u8>, Vec<u8>), WordFault>
+    ensures { IsBoth first second result }
+{
+    match first {
+        Ok(first) => match second {
+            Ok(second) => Ok((first, second)),
+            Err(fault) => Err(fault),
+        },
+        Err(WordFault::Spelling) => Err(WordFault::Spelling),
+        Err(WordFault::Memory) => match second {
+            Err(WordFault::Spelling) => Err(WordFault::Spelling),
+            Err(WordFault::Memory) => Err(WordFault::Memory),
+            Ok(_) => Err(WordFault::Memory),
+        },
+    }
+}
+
+// The text of a link and its path, which are left.
+fn symlink(alloc: Global, words: Words<'_>) -> Result<(Vec<u8>, Vec<u8>), WordFault>
+    ensures ok { IfOk result (λ r. word r.0.items ∷ word r.1.items ∷ [] ≡ words_left (option_copied words.entry.rest)) }
+    ensures bytes { IfOk result (λ r. AreBytes r.0.items × AreBytes r.1.items) }
+    ensures spelling { result ≡ Err WordFault.Spelling → (text path : List ℕ) → AreBytes text → AreBytes path
+        → word text ∷ word path ∷ [] ≢ words_left (option_copied words.entry.rest) }
+    ensures memory { result ≡ Err WordFault.Memory → (text : List ℕ) × (path : List ℕ) × AreBytes text × AreBytes path
+        × (word text ∷ word path ∷ [] ≡ words_left (option_copied words.entry.rest)) }
+{
+    let (text, path) = words.two()?;
+    both(read_escaped(alloc, text), read_escaped(alloc, path))
+}
+
 // The call of a command whose arguments are left.
 fn call_of(alloc: Global, command: Command, words: Words<'_>) -> Result<Call, WordFault>
     ensures ok { IfOk result (λ call. words_of (line_for call) ≡ command_word command ∷ words_left (option_copied words.entry.rest)) }
@@ -180,7 +222,15 @@ fn call_of(alloc: Global, command: Command, words: Words<'_>) -> Result<Call, Wo
             let (handle, len) = truncate(words)?;
             Ok(Call::Truncate { handle, len })
         }
+        Command::Mkdir => Ok(Call::Mkdir(path(alloc, words)?)),
+        Command::Symlink => {
+            let (text, path) = symlink(alloc, words)?;
+            Ok(Call::Symlink { text, path })
+        }
+        Command::Readlink => Ok(Call::Readlink(path(alloc, words)?)),
         Command::Stat => Ok(Call::Stat(path(alloc, words)?)),
+        Command::Lstat => Ok(Call::Lstat(path(alloc, words)?)),
+        Command::Readdir => Ok(Call::Readdir(path(alloc, words)?)),
         Command::Sync => words.none().map(|()| Call::Sync),
         Command::Clean => words.none().map(|()| Call::Clean),
         Command::Space => words.none().map(|()| Call::Space),

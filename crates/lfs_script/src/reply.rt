@@ -3,14 +3,14 @@ ghost use Rattle.std.specs.Prelude.{◌≡◌, [], ◌∷◌, ◌++◌, length, 
 ghost use Rattle.std.specs.Io.KnownBytes.{Appends};
 ghost use Rattle.lfs_script.specs.Bytes.{AppendsSome};
 ghost use Rattle.lfs_script.specs.Pieces.{piece_text};
-ghost use Rattle.lfs_model.specs.Script.{bad, head_text, kind_name, ok, reply, row_line};
-ghost use Rattle.lfs_fs.specs.Answers.{row_of};
+ghost use Rattle.lfs_model.specs.Script.{bad, entry_line, head_text, kind_name, ok, reply, row_line};
+ghost use Rattle.lfs_fs.specs.Answers.{entry_of, row_of};
 ghost use Rattle.lfs_script.specs.Answers.{answer_of, result_of};
 
 use crate::answer::Answer;
 use crate::piece::{Piece, put_all};
 use crate::sink::Stopped;
-use lfs_fs::{FsError, Space, Stat, TreeRow};
+use lfs_fs::{Entry, FsError, Space, Stat, TreeRow};
 use lfs_model::Kind;
 use std::io::Write;
 
@@ -71,6 +71,34 @@ fn put_tree<W: Write>(writer: &mut W, rows: &[TreeRow]) -> Result<(), Stopped>
     put_number_line(writer, rows.len() as u64)?;
     for row in rows {
         put_row(writer, row)?;
+    }
+    Ok(())
+}
+
+fn put_entry<W: Write>(writer: &mut W, entry: &Entry) -> Result<(), Stopped>
+    ensures ok { OnOk result (Appends (W.contents writer.old) (W.contents writer.new) (entry_line (entry_of entry.now))) }
+    ensures err { OnErr result (AppendsSome (W.contents writer.old) (W.contents writer.new) (entry_line (entry_of entry.now))) }
+{
+    put_all(
+        writer,
+        &[
+            Piece::Escaped(entry.name.as_slice()),
+            SPACE,
+            Piece::Number(u64::from(entry.number)),
+            SPACE,
+            Piece::Text(kind_name(entry.kind)),
+            END,
+        ],
+    )
+}
+
+fn put_entries<W: Write>(writer: &mut W, entries: &[Entry]) -> Result<(), Stopped>
+    ensures ok { OnOk result (Appends (W.contents writer.old) (W.contents writer.new) (ok (decimal (length entries.now) ∷ []) ++ flat_map (λ entry. entry_line (entry_of entry)) entries.now)) }
+    ensures err { OnErr result (AppendsSome (W.contents writer.old) (W.contents writer.new) (ok (decimal (length entries.now) ∷ []) ++ flat_map (λ entry. entry_line (entry_of entry)) entries.now)) }
+{
+    put_number_line(writer, entries.len() as u64)?;
+    for entry in entries {
+        put_entry(writer, entry)?;
     }
     Ok(())
 }
@@ -143,7 +171,12 @@ fn put_answer<W: Write>(writer: &mut W, answer: &Answer) -> Result<(), Stopped>
             writer,
             &[Piece::Text(b"ok "), Piece::Hex(bytes.as_slice()), END],
         ),
+        Answer::Text(text) => put_all(
+            writer,
+            &[Piece::Text(b"ok "), Piece::Escaped(text.as_slice()), END],
+        ),
         Answer::Stat(stat) => put_stat(writer, *stat),
+        Answer::Entries(entries) => put_entries(writer, entries.as_slice()),
         Answer::Space(space) => put_space(writer, *space),
         Answer::Tree(rows) => put_tree(writer, rows.as_slice()),
     }

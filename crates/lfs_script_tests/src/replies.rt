@@ -1,10 +1,11 @@
 //! The replies of a script to what the plain program answers.
 use lfs_plain::call::{
-    Answer as PlainAnswer, Call as PlainCall, Entry, Stat as PlainStat, TreeRow as PlainRow,
+    Answer as PlainAnswer, Call as PlainCall, Entry as PlainEntry, Stat as PlainStat,
+    TreeRow as PlainRow,
 };
 use lfs_plain::refusal::Refusal;
 use lfs_plain::state::PlainState;
-use lfs_script::fs::{FsError, Space, Stat, TreeRow};
+use lfs_script::fs::{Entry, FsError, Space, Stat, TreeRow};
 use lfs_script::{Answer, Call, parse, put_reply};
 use std::alloc::{AllocError, Global};
 use std::test::Fail;
@@ -66,20 +67,28 @@ fn rows_of(alloc: Global, rows: Vec<PlainRow>) -> Result<Vec<TreeRow>, AllocErro
     Ok(all)
 }
 
-fn count_of(entries: &Vec<Entry>) -> u32 {
-    u32::try_from(entries.len()).unwrap_or(u32::MAX)
+fn entries_of(alloc: Global, entries: Vec<PlainEntry>) -> Result<Vec<Entry>, AllocError> {
+    let mut all = Vec::new(alloc);
+    for entry in entries {
+        all.push(Entry {
+            name: entry.name,
+            number: entry.number,
+            kind: entry.kind,
+        })?;
+    }
+    Ok(all)
 }
 
-// A script has no calls for a link's text and for entries yet: the text is shown as bytes, and of entries how many there are.
 fn answer_of(alloc: Global, answer: PlainAnswer) -> Result<Result<Answer, FsError>, AllocError> {
     let answer = match answer {
         PlainAnswer::Refuse(refusal) => return Ok(Err(error_of(refusal))),
         PlainAnswer::Done => Answer::Done,
         PlainAnswer::Handle(handle) => Answer::Handle(handle),
         PlainAnswer::Count(count) => Answer::Count(count),
-        PlainAnswer::Data(bytes) | PlainAnswer::Text(bytes) => Answer::Bytes(bytes),
+        PlainAnswer::Data(bytes) => Answer::Bytes(bytes),
+        PlainAnswer::Text(text) => Answer::Text(text),
         PlainAnswer::Status(stat) => Answer::Stat(stat_of(stat)),
-        PlainAnswer::Entries(entries) => Answer::Count(count_of(&entries)),
+        PlainAnswer::Entries(entries) => Answer::Entries(entries_of(alloc, entries)?),
         PlainAnswer::Room(room) => Answer::Space(Space {
             data_blocks: as_u64(room.data_blocks),
             meta_blocks: as_u64(room.meta_blocks),
@@ -136,7 +145,12 @@ fn plain_call<'a>(call: &'a Call, bytes: &'a [u8]) -> PlainCall<'a> {
         } => PlainCall::Pwrite(*handle, *offset, bytes.as_slice()),
         Call::Fill { handle, offset, .. } => PlainCall::Pwrite(*handle, *offset, bytes),
         Call::Truncate { handle, len } => PlainCall::Truncate(*handle, *len),
+        Call::Mkdir(path) => PlainCall::Mkdir(path.as_slice()),
+        Call::Symlink { text, path } => PlainCall::Symlink(text.as_slice(), path.as_slice()),
+        Call::Readlink(path) => PlainCall::Readlink(path.as_slice()),
         Call::Stat(path) => PlainCall::Stat(path.as_slice()),
+        Call::Lstat(path) => PlainCall::Lstat(path.as_slice()),
+        Call::Readdir(path) => PlainCall::Readdir(path.as_slice()),
         Call::Sync => PlainCall::Sync,
         Call::Clean => PlainCall::Clean,
         Call::Space => PlainCall::Space,

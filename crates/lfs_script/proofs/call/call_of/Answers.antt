@@ -1,6 +1,6 @@
 use Rattle.std.proofs.Common.{rules, ◌≡◌, Err, ◌∷◌, codes, ap, refl}
 use Rattle.lfs_script.specs.declared.word.WordFault.TheVariants.{Memory}
-use Rattle.lfs_model.specs.Call.{Create, Open, Pwrite, StatOf}
+use Rattle.lfs_model.specs.Call.{Create, LstatOf, Mkdir, Open, Pwrite, Readdir, Readlink, StatOf, Symlink}
 use Rattle.lfs_model.specs.Script.{Plain}
 use Rattle.lfs_script.proofs.call.call_of.Goals as goal
 
@@ -27,3 +27,33 @@ returns-in_err-path-in-Stat-clause-memory c = λ e.
     let refused : c.path-in-Stat.result ≡ Err Memory = search rules in
     let found = c.path-in-Stat.ensures.memory refused in
     (Plain (StatOf found.0), tt, found.1, refl, rw c.in-Stat.is (ap (λ words. codes "stat" ∷ words) found.2))
+
+pub returns-in_err-path-in-Mkdir-clause-memory : goal.returns-in_err-path-in-Mkdir-clause-memory
+returns-in_err-path-in-Mkdir-clause-memory c = λ e.
+    let refused : c.path-in-Mkdir.result ≡ Err Memory = search rules in
+    let found = c.path-in-Mkdir.ensures.memory refused in
+    (Plain (Mkdir found.0), tt, found.1, refl, rw c.in-Mkdir.is (ap (λ words. codes "mkdir" ∷ words) found.2))
+
+pub returns-in_err-path-in-Readlink-clause-memory : goal.returns-in_err-path-in-Readlink-clause-memory
+returns-in_err-path-in-Readlink-clause-memory c = λ e.
+    let refused : c.path-in-Readlink.result ≡ Err Memory = search rules in
+    let found = c.path-in-Readlink.ensures.memory refused in
+    (Plain (Readlink found.0), tt, found.1, refl, rw c.in-Readlink.is (ap (λ words. codes "readlink" ∷ words) found.2))
+
+pub returns-in_err-path-in-Lstat-clause-memory : goal.returns-in_err-path-in-Lstat-clause-memory
+returns-in_err-path-in-Lstat-clause-memory c = λ e.
+    let refused : c.path-in-Lstat.result ≡ Err Memory = search rules in
+    let found = c.path-in-Lstat.ensures.memory refused in
+    (Plain (LstatOf found.0), tt, found.1, refl, rw c.in-Lstat.is (ap (λ words. codes "lstat" ∷ words) found.2))
+
+pub returns-in_err-path-in-Readdir-clause-memory : goal.returns-in_err-path-in-Readdir-clause-memory
+returns-in_err-path-in-Readdir-clause-memory c = λ e.
+    let refused : c.path-in-Readdir.result ≡ Err Memory = search rules in
+    let found = c.path-in-Readdir.ensures.memory refused in
+    (Plain (Readdir found.0), tt, found.1, refl, rw c.in-Readdir.is (ap (λ words. codes "readdir" ∷ words) found.2))
+
+pub returns-in_err-text-in-Symlink-clause-memory : goal.returns-in_err-text-in-Symlink-clause-memory
+returns-in_err-text-in-Symlink-clause-memory c = λ e.
+    let refused : c.symlink.result ≡ Err Memory = search rules in
+    let found = c.symlink.ensures.memory refused in
+    (Plain (Symlink found.0 found.1), tt, (found.2, found.3), refl, rw c.in-Symlink.is (ap (λ words. codes "symlink" ∷ words) found.4))
