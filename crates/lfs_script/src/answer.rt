@@ -62,6 +62,7 @@ pub fn make<D: SectorDevice>(alloc: Global, fs: &mut Fs<D>, call: &Call) -> Resu
     match call {
         Call::Create(path) => fs.create(path.as_slice()).map(Answer::Handle),
         Call::Open(path) => fs.open(path.as_slice()).map(Answer::Handle),
+        Call::Close(handle) => fs.close(*handle).map(|()| Answer::Done),
         Call::Pread {
             handle,
             offset,
@@ -82,6 +83,7 @@ pub fn make<D: SectorDevice>(alloc: Global, fs: &mut Fs<D>, call: &Call) -> Resu
         } => fill(alloc, fs, *handle, *offset, *len, *byte).map(Answer::Count),
         Call::Truncate { handle, len } => fs.truncate(*handle, *len).map(|()| Answer::Done),
         Call::Stat(path) => fs.stat(path.as_slice()).map(Answer::Stat),
+        Call::Fsync(handle) => fs.fsync(*handle).map(|()| Answer::Done),
         Call::Sync => fs.sync().map(|()| Answer::Done),
         Call::Space => fs.space().map(Answer::Space),
         Call::Tree => fs.tree().map(Answer::Tree),

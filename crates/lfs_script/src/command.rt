@@ -7,25 +7,29 @@ ghost use Rattle.lfs_script.specs.declared.command.Command.{Command};
 pub enum Command {
     Create,
     Open,
+    Close,
     Pread,
     Pwrite,
     Fill,
     Truncate,
     Stat,
+    Fsync,
     Sync,
     Space,
     Tree,
 }
 
 impl Command {
-    const ALL: [Command; 10] = [
+    const ALL: [Command; 12] = [
         Command::Create,
         Command::Open,
+        Command::Close,
         Command::Pread,
         Command::Pwrite,
         Command::Fill,
         Command::Truncate,
         Command::Stat,
+        Command::Fsync,
         Command::Sync,
         Command::Space,
         Command::Tree,
@@ -39,11 +43,13 @@ impl Command {
         match self {
             Command::Create => b"create",
             Command::Open => b"open",
+            Command::Close => b"close",
             Command::Pread => b"pread",
             Command::Pwrite => b"pwrite",
             Command::Fill => b"fill",
             Command::Truncate => b"truncate",
             Command::Stat => b"stat",
+            Command::Fsync => b"fsync",
             Command::Sync => b"sync",
             Command::Space => b"space",
             Command::Tree => b"tree",
