@@ -188,6 +188,10 @@ class Volume:
         """Opens a file: its handle."""
         return int(self._call("open", _escape(path))[0])
 
+    def close_handle(self, handle):
+        """Closes a handle. A file without a name goes with its last one."""
+        self._call("close", str(handle))
+
     def pread(self, handle, offset, length):
         """At most `length` bytes, 65,536 at most, from `offset` on."""
         return _unhex(self._call("pread", str(handle), str(offset), str(length))[0])
@@ -228,6 +232,10 @@ class Volume:
         """Each entry of one directory."""
         count = int(self._call("readdir", _escape(path))[0])
         return [self._entry() for _ in range(count)]
+
+    def fsync(self, handle):
+        """Saves all that was done, as `sync`, through an open handle."""
+        self._call("fsync", str(handle))
 
     def sync(self):
         """Saves all that was done: no stop takes it back."""

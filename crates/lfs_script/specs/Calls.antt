@@ -10,6 +10,7 @@ use Rattle.lfs_script.specs.declared.word.WordFault.TheVariants.{Memory, Spellin
 abbrev pub line_for : Call → Line
 line_for (made.Create path) = Plain (call.Create path.items)
 line_for (made.Open path) = Plain (call.Open path.items)
+line_for (made.Close handle) = Plain (call.Close handle)
 line_for (made.Pread handle offset len) = Plain (call.Pread handle offset len)
 line_for (made.Pwrite handle offset bytes) = Plain (call.Pwrite handle offset bytes.items)
 line_for (made.Fill handle offset len byte) = Fill handle offset len byte
@@ -20,6 +21,7 @@ line_for (made.Readlink path) = Plain (call.Readlink path.items)
 line_for (made.Stat path) = Plain (call.StatOf path.items)
 line_for (made.Lstat path) = Plain (call.LstatOf path.items)
 line_for (made.Readdir path) = Plain (call.Readdir path.items)
+line_for (made.Fsync handle) = Plain (call.Fsync handle)
 line_for made.Sync = Plain call.Sync
 line_for made.Clean = Plain call.Clean
 line_for made.Space = Plain call.Space

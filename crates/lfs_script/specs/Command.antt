@@ -1,11 +1,12 @@
 -- The first word of a line.
 use Rattle.std.specs.Prelude.{ℕ, List, codes}
 use Rattle.lfs_script.specs.declared.command.Command.{Command}
-use Rattle.lfs_script.specs.declared.command.Command.TheVariants.{Create, Open, Pread, Pwrite, Fill, Truncate, Mkdir, Symlink, Readlink, Stat, Lstat, Readdir, Sync, Clean, Space, Tree}
+use Rattle.lfs_script.specs.declared.command.Command.TheVariants.{Create, Open, Close, Pread, Pwrite, Fill, Truncate, Mkdir, Symlink, Readlink, Stat, Lstat, Readdir, Fsync, Sync, Clean, Space, Tree}
 
 abbrev pub command_word : Command → List ℕ
 command_word Create = codes "create"
 command_word Open = codes "open"
+command_word Close = codes "close"
 command_word Pread = codes "pread"
 command_word Pwrite = codes "pwrite"
 command_word Fill = codes "fill"
@@ -16,6 +17,7 @@ command_word Readlink = codes "readlink"
 command_word Stat = codes "stat"
 command_word Lstat = codes "lstat"
 command_word Readdir = codes "readdir"
+command_word Fsync = codes "fsync"
 command_word Sync = codes "sync"
 command_word Clean = codes "clean"
 command_word Space = codes "space"

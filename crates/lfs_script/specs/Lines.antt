@@ -1,12 +1,13 @@
 -- The lines that a script may have so far, and how they are cut into words. What a line is, and its one text, is the model's.
 use Rattle.std.specs.Prelude.{◌≢◌, ℕ, ◌==◌, if◌then◌else◌, List, [], ◌∷◌, Option, Some, None, codes, decimal}
-use Rattle.lfs_model.specs.Call.{Create, Open, Pread, Pwrite, Truncate, Mkdir, Symlink, Readlink, StatOf, LstatOf, Readdir, Sync, Clean, Space, ListTree}
+use Rattle.lfs_model.specs.Call.{Create, Open, Close, Pread, Pwrite, Truncate, Mkdir, Symlink, Readlink, StatOf, LstatOf, Readdir, Fsync, Sync, Clean, Space, ListTree}
 use Rattle.lfs_model.specs.Script.{Line, Plain, Fill, InRange, hex, line_of, text_of, word}
 
 -- the lines whose calls are built
 abbrev pub IsBuilt : Line → Type 0
 IsBuilt (Plain (Create path)) = Unit {0}
 IsBuilt (Plain (Open path)) = Unit {0}
+IsBuilt (Plain (Close handle)) = Unit {0}
 IsBuilt (Plain (Pread handle offset len)) = Unit {0}
 IsBuilt (Plain (Pwrite handle offset bytes)) = Unit {0}
 IsBuilt (Fill handle offset len byte) = Unit {0}
@@ -17,6 +18,7 @@ IsBuilt (Plain (Readlink path)) = Unit {0}
 IsBuilt (Plain (StatOf path)) = Unit {0}
 IsBuilt (Plain (LstatOf path)) = Unit {0}
 IsBuilt (Plain (Readdir path)) = Unit {0}
+IsBuilt (Plain (Fsync handle)) = Unit {0}
 IsBuilt (Plain Sync) = Unit {0}
 IsBuilt (Plain Clean) = Unit {0}
 IsBuilt (Plain Space) = Unit {0}
@@ -31,6 +33,7 @@ IsUnknown text = (line : Line) → IsBuilt line → InRange line → text_of lin
 abbrev pub words_of : Line → List (List ℕ)
 words_of (Plain (Create path)) = codes "create" ∷ word path ∷ []
 words_of (Plain (Open path)) = codes "open" ∷ word path ∷ []
+words_of (Plain (Close handle)) = codes "close" ∷ decimal handle ∷ []
 words_of (Plain (Pread handle offset len)) = codes "pread" ∷ decimal handle ∷ decimal offset ∷ decimal len ∷ []
 words_of (Plain (Pwrite handle offset bytes)) = codes "pwrite" ∷ decimal handle ∷ decimal offset ∷ hex bytes ∷ []
 words_of (Fill handle offset len byte) = codes "fill" ∷ decimal handle ∷ decimal offset ∷ decimal len ∷ decimal byte ∷ []
@@ -41,6 +44,7 @@ words_of (Plain (Readlink path)) = codes "readlink" ∷ word path ∷ []
 words_of (Plain (StatOf path)) = codes "stat" ∷ word path ∷ []
 words_of (Plain (LstatOf path)) = codes "lstat" ∷ word path ∷ []
 words_of (Plain (Readdir path)) = codes "readdir" ∷ word path ∷ []
+words_of (Plain (Fsync handle)) = codes "fsync" ∷ decimal handle ∷ []
 words_of (Plain Sync) = codes "sync" ∷ []
 words_of (Plain Clean) = codes "clean" ∷ []
 words_of (Plain Space) = codes "space" ∷ []

@@ -65,6 +65,7 @@ pub fn make<D: SectorDevice>(alloc: Global, fs: &mut Fs<D>, call: &Call) -> Resu
     match call {
         Call::Create(path) => fs.create(path.as_slice()).map(Answer::Handle),
         Call::Open(path) => fs.open(path.as_slice()).map(Answer::Handle),
+        Call::Close(handle) => fs.close(*handle).map(|()| Answer::Done),
         Call::Pread {
             handle,
             offset,
@@ -92,6 +93,7 @@ pub fn make<D: SectorDevice>(alloc: Global, fs: &mut Fs<D>, call: &Call) -> Resu
         Call::Stat(path) => fs.stat(path.as_slice()).map(Answer::Stat),
         Call::Lstat(path) => fs.lstat(path.as_slice()).map(Answer::Stat),
         Call::Readdir(path) => fs.readdir(path.as_slice()).map(Answer::Entries),
+        Call::Fsync(handle) => fs.fsync(*handle).map(|()| Answer::Done),
         Call::Sync => fs.sync().map(|()| Answer::Done),
         Call::Clean => fs.clean().map(|()| Answer::Done),
         Call::Space => fs.space().map(Answer::Space),

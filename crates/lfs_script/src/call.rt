@@ -19,6 +19,7 @@ use std::alloc::Global;
 pub enum Call {
     Create(Vec<u8>),
     Open(Vec<u8>),
+    Close(u32),
     Pread {
         handle: u32,
         offset: u64,
@@ -49,6 +50,7 @@ pub enum Call {
     Stat(Vec<u8>),
     Lstat(Vec<u8>),
     Readdir(Vec<u8>),
+    Fsync(u32),
     Sync,
     Clean,
     Space,
@@ -96,6 +98,15 @@ fn path(alloc: Global, words: Words<'_>) -> Result<Vec<u8>, WordFault>
     ensures memory { result ≡ Err WordFault.Memory → (path : List ℕ) × AreBytes path × (word path ∷ [] ≡ words_left (option_copied words.entry.rest)) }
 {
     read_escaped(alloc, words.one()?)
+}
+
+// The one handle that is left.
+fn handle(words: Words<'_>) -> Result<u32, WordFault>
+    ensures ok { IfOk result (λ handle. decimal handle ∷ [] ≡ words_left (option_copied words.entry.rest)) }
+    ensures err { OnErr result ((h : ℕ) → h < 2 ^ 32 → decimal h ∷ [] ≢ words_left (option_copied words.entry.rest)) }
+    ensures fault { OnErr result (IsErrOf result WordFault.Spelling) }
+{
+    as_u32(words.one()?)
 }
 
 fn pread(words: Words<'_>) -> Result<(u32, u64, u32), WordFault>
@@ -193,6 +204,7 @@ fn call_of(alloc: Global, command: Command, words: Words<'_>) -> Result<Call, Wo
     match command {
         Command::Create => Ok(Call::Create(path(alloc, words)?)),
         Command::Open => Ok(Call::Open(path(alloc, words)?)),
+        Command::Close => Ok(Call::Close(handle(words)?)),
         Command::Pread => {
             let (handle, offset, len) = pread(words)?;
             Ok(Call::Pread {
@@ -231,6 +243,7 @@ fn call_of(alloc: Global, command: Command, words: Words<'_>) -> Result<Call, Wo
         Command::Stat => Ok(Call::Stat(path(alloc, words)?)),
         Command::Lstat => Ok(Call::Lstat(path(alloc, words)?)),
         Command::Readdir => Ok(Call::Readdir(path(alloc, words)?)),
+        Command::Fsync => Ok(Call::Fsync(handle(words)?)),
         Command::Sync => words.none().map(|()| Call::Sync),
         Command::Clean => words.none().map(|()| Call::Clean),
         Command::Space => words.none().map(|()| Call::Space),

@@ -7,6 +7,7 @@ ghost use Rattle.lfs_script.specs.declared.command.Command.{Command};
 pub enum Command {
     Create,
     Open,
+    Close,
     Pread,
     Pwrite,
     Fill,
@@ -17,6 +18,7 @@ pub enum Command {
     Stat,
     Lstat,
     Readdir,
+    Fsync,
     Sync,
     Clean,
     Space,
@@ -24,9 +26,10 @@ pub enum Command {
 }
 
 impl Command {
-    const ALL: [Command; 16] = [
+    const ALL: [Command; 18] = [
         Command::Create,
         Command::Open,
+        Command::Close,
         Command::Pread,
         Command::Pwrite,
         Command::Fill,
@@ -37,6 +40,7 @@ impl Command {
         Command::Stat,
         Command::Lstat,
         Command::Readdir,
+        Command::Fsync,
         Command::Sync,
         Command::Clean,
         Command::Space,
@@ -51,6 +55,7 @@ impl Command {
         match self {
             Command::Create => b"create",
             Command::Open => b"open",
+            Command::Close => b"close",
             Command::Pread => b"pread",
             Command::Pwrite => b"pwrite",
             Command::Fill => b"fill",
@@ -61,6 +66,7 @@ impl Command {
             Command::Stat => b"stat",
             Command::Lstat => b"lstat",
             Command::Readdir => b"readdir",
+            Command::Fsync => b"fsync",
             Command::Sync => b"sync",
             Command::Clean => b"clean",
             Command::Space => b"space",
