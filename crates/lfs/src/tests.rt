@@ -15,6 +15,8 @@ enum Said<'a> {
     Reply(&'a [u8]),
     /// These bytes on standard output, and these on standard error.
     Tells(&'a [u8], &'a [u8]),
+    /// Something on standard output, and these bytes on standard error.
+    Explains(&'a [u8]),
     /// A text on standard output alone.
     Help,
     /// A text on standard error alone.
@@ -26,6 +28,7 @@ impl Said<'_> {
         match self {
             Said::Reply(reply) => output == reply && errors.is_empty() == (status == 0),
             Said::Tells(reply, text) => output == reply && errors == text,
+            Said::Explains(text) => !output.is_empty() && errors == text,
             Said::Help => !output.is_empty() && errors.is_empty(),
             Said::Fault => output.is_empty() && !errors.is_empty(),
         }
@@ -42,6 +45,8 @@ enum Step<'a> {
     Says(&'a [&'a str], &'a [u8], u8, Said<'a>),
     /// A command line that is given so many letters, its exit status, and what it says.
     Reads(&'a str, usize, u8, Said<'a>),
+    /// A command line that is given a line so many times and then a bad one, and what it says.
+    Repeats(&'a str, usize, &'a [u8], &'a [u8], Said<'a>),
     /// A command line that prints so many zeros, and these bytes behind them.
     Copies(&'a str, usize, &'a [u8]),
     /// Makes the files /y1, /y2, .. up to this number by a command line, each in a mount of its own.
@@ -121,6 +126,23 @@ fn reads<R: Files<File = File> + AllocGlobal>(
         Ok(input) => says(rt, line, input.as_slice(), status, said),
         Err(_) => false,
     }
+}
+
+fn repeats<R: Files<File = File> + AllocGlobal>(
+    rt: &R,
+    line: &str,
+    times: usize,
+    text: &[u8],
+    last: &[u8],
+    said: Said<'_>,
+) -> bool {
+    let mut input = Vec::new(rt.alloc());
+    for _ in 0..times {
+        if input.extend_from_slice(text).is_err() {
+            return false;
+        }
+    }
+    input.extend_from_slice(last).is_ok() && says(rt, line, input.as_slice(), 2, said)
 }
 
 fn copies<R: Files<File = File> + AllocGlobal>(
@@ -223,6 +245,7 @@ fn is_well<R: Files<File = File> + AllocGlobal>(rt: &R, step: Step<'_>) -> bool 
     match step {
         Step::Says(lines, input, status, said) => each_says(rt, lines, input, status, said),
         Step::Reads(line, letters, status, said) => reads(rt, line, letters, status, said),
+        Step::Repeats(line, times, text, last, said) => repeats(rt, line, times, text, last, said),
         Step::Copies(line, zeros, last) => copies(rt, line, zeros, last),
         Step::Fills(line, last) => fills(rt, line, last),
         Step::Change(path, len, pieces) => change(rt, path, len, pieces).is_ok(),
@@ -911,4 +934,214 @@ const STOPS: &[Step] = &[
 #[test]
 fn a_stop_at_each_write(rt: HostRuntime) {
     want(&rt, STOPS);
+}
+
+const CALL_REFUSED: &[u8] = b"lfs: s.img: a call of the script was refused\n";
+
+// The script ends at the first refusal, and what was synced before it stays.
+const STRICT: &[Step] = &[
+    Step::Says(&["lfs mkfs s.img --segments 64"], b"", 0, OK),
+    Step::Says(
+        &["lfs run s.img --strict", "lfs run --strict s.img"],
+        b"space\n",
+        0,
+        Said::Tells(b"ok 0 1 727 3008\n", b""),
+    ),
+    Step::Says(
+        &["lfs run s.img --strict", "lfs run --strict s.img"],
+        b"create /a\nopen /b\ncreate /c\nsync\n",
+        3,
+        Said::Tells(b"ok 0\nerr NoEntry\n", CALL_REFUSED),
+    ),
+    Step::Says(&["lfs mount s.img"], b"", 0, EMPTY),
+    Step::Says(
+        &["lfs run s.img --strict"],
+        b"open /b",
+        3,
+        Said::Tells(b"err NoEntry\n", CALL_REFUSED),
+    ),
+    Step::Says(
+        &["lfs run s.img --strict"],
+        b"open /b\nfrob\n",
+        3,
+        Said::Tells(b"err NoEntry\n", CALL_REFUSED),
+    ),
+    Step::Says(
+        &["lfs run s.img --strict"],
+        b"create /a\nfrob\nopen /b\n",
+        2,
+        Said::Reply(b"ok 0\nbad 2\n"),
+    ),
+    Step::Says(
+        &["lfs run s.img"],
+        b"open /b\nspace\n",
+        0,
+        Said::Tells(b"err NoEntry\nok 0 1 727 3008\n", b""),
+    ),
+    Step::Says(
+        &["lfs run s.img --strict"],
+        b"create /a\nsync\ncreate /a\ncreate /c\nsync\n",
+        3,
+        Said::Tells(b"ok 0\nok\nerr Exist\n", CALL_REFUSED),
+    ),
+    Step::Says(
+        &["lfs mount s.img"],
+        b"",
+        0,
+        Said::Reply(b"ok 1\n1 a file 2 1 0 -\n"),
+    ),
+    Step::Remove("s.img"),
+    Step::Says(
+        &["lfs run -- --strict"],
+        b"space\n",
+        1,
+        Said::Tells(b"err Image\n", b"lfs: --strict: there is no such file\n"),
+    ),
+    Step::Says(
+        &[
+            "lfs mount s.img --strict",
+            "lfs sim --segments 64 --stop 0 --left old --strict",
+            "lfs run s.img --strict=yes",
+            "lfs run --strict",
+        ],
+        b"space\n",
+        2,
+        Said::Fault,
+    ),
+];
+
+#[test]
+fn strict_scripts(rt: HostRuntime) {
+    want(&rt, STRICT);
+}
+
+const BAD: &[u8] = b"bad 1\n";
+
+// What people are told of a bad line: its words, their count, and how each is spelt.
+const BAD_LINES: &[Step] = &[
+    Step::Says(&["lfs mkfs r.img --segments 64"], b"", 0, OK),
+    Step::Says(
+        &["lfs run r.img"],
+        b"\nspace\n",
+        2,
+        Said::Tells(BAD, b"lfs: line 1: it is empty\n"),
+    ),
+    Step::Says(
+        &["lfs run r.img"],
+        b"tree \n",
+        2,
+        Said::Tells(
+            BAD,
+            b"lfs: line 1: one space stands between two words, and nowhere else\n",
+        ),
+    ),
+    Step::Says(
+        &["lfs run r.img"],
+        b"space\nfrob 1\nspace\n",
+        2,
+        Said::Tells(
+            b"ok 0 1 727 3008\nbad 2\n",
+            b"lfs: line 2: no command has the word 'frob'\n",
+        ),
+    ),
+    Step::Says(
+        &["lfs run r.img"],
+        b"sync\r\n",
+        2,
+        Said::Tells(BAD, b"lfs: line 1: no command has the word 'sync\\0d'\n"),
+    ),
+    Step::Says(
+        &["lfs run r.img"],
+        b"fill 0 0 1",
+        2,
+        Said::Tells(BAD, b"lfs: line 1: 'fill' takes 4 arguments, 3 given\n"),
+    ),
+    Step::Says(
+        &["lfs run r.img"],
+        b"open /a /b\n",
+        2,
+        Said::Tells(BAD, b"lfs: line 1: 'open' takes 1 argument, 2 given\n"),
+    ),
+    Step::Says(
+        &["lfs run r.img"],
+        b"pread 00 0 1\n",
+        2,
+        Said::Tells(
+            BAD,
+            b"lfs: line 1: H of 'pread' has to be decimal digits without leading zeros, at most 4294967295\n",
+        ),
+    ),
+    Step::Says(
+        &["lfs run r.img"],
+        b"fill 0 0 1 256\n",
+        2,
+        Said::Tells(
+            BAD,
+            b"lfs: line 1: BYTE of 'fill' has to be decimal digits without leading zeros, at most 255\n",
+        ),
+    ),
+    Step::Says(
+        &["lfs run r.img"],
+        b"truncate 0 18446744073709551616\n",
+        2,
+        Said::Tells(
+            BAD,
+            b"lfs: line 1: LEN of 'truncate' has to be decimal digits without leading zeros, at most 18446744073709551615\n",
+        ),
+    ),
+    Step::Says(
+        &["lfs run r.img"],
+        b"pwrite 0 0 6G\n",
+        2,
+        Said::Tells(
+            BAD,
+            b"lfs: line 1: HEX of 'pwrite' has to be two lower case digits for each byte, or - for none\n",
+        ),
+    ),
+    Step::Says(
+        &["lfs run r.img"],
+        b"create \\2f\n",
+        2,
+        Said::Tells(
+            BAD,
+            b"lfs: line 1: P of 'create' has to be an escaped word: a backslash and two lower case digits for a backslash and for a byte outside 0x21 to 0x7e\n",
+        ),
+    ),
+    Step::Reads(
+        "lfs run r.img",
+        140_000,
+        2,
+        Said::Tells(
+            BAD,
+            b"lfs: line 1: no command has the word 'aaaaaaaaaaaaaaaaaaaaaaaaaaaaaaaaaaaaaaaa..'\n",
+        ),
+    ),
+    Step::Reads(
+        "lfs run r.img",
+        140_001,
+        2,
+        Said::Tells(BAD, b"lfs: line 1: it has more than 140000 bytes\n"),
+    ),
+    Step::Repeats(
+        "lfs run r.img",
+        1_000,
+        b"sync\n",
+        b"frob\n",
+        Said::Explains(b"lfs: line 1001: no command has the word 'frob'\n"),
+    ),
+    Step::Remove("r.img"),
+    Step::Says(
+        &["lfs sim --segments 64 --stop 0 --left old"],
+        b"sync it\n",
+        2,
+        Said::Tells(
+            b"bad 1\nwrites 0\nok 0\n",
+            b"lfs: line 1: 'sync' takes 0 arguments, 1 given\n",
+        ),
+    ),
+];
+
+#[test]
+fn reasons_of_bad_lines(rt: HostRuntime) {
+    want(&rt, BAD_LINES);
 }

@@ -1,19 +1,22 @@
 //! The commands, over words and streams that are handed in.
-ghost use Rattle.std.specs.Prelude.{◌≡◌, ◌≤◌};
+ghost use Rattle.std.specs.Prelude.{◌≡◌, ◌≢◌, ◌≤◌, Ok, IfOk, codes};
 ghost use Rattle.std.specs.Io.KnownBytes.{Keeps};
 ghost use Rattle.lfs_model.specs.Device.{Carries};
 ghost use Rattle.lfs_device.specs.MemoryDevice.{device_state};
-ghost use Rattle.lfs_command.specs.Playing.{Plays};
+ghost use Rattle.lfs_command.specs.Asking.{HasWord};
+ghost use Rattle.lfs_command.specs.Playing.{PlaysToRefusal, Plays, PlaysStrictly};
 
+use crate::bad_line::{BadLine, reason_of};
 use crate::describing::describe;
-use crate::fault::{Ending, Fault, Refusal, Told};
+use crate::fault::{Ending, Fault, Outcome, Refusal, Told};
 use crate::looking::{Look, look_at, path_of, show};
 use crate::printing::{flush, print, put_count, refuse};
+use crate::remembering::LineKeeper;
 use crate::request::{Action, Request, read_request};
 use crate::simulation::{Plan, read_plan};
 use crate::{image, simulation};
 use lfs_device::{Left, MemDevice, SectorDevice, ThisWorld, World};
-use lfs_script::{ScriptEnd, read_u32, use_and_stop, use_volume};
+use lfs_script::{ScriptEnd, StrictEnd, read_u32, use_and_stop, use_volume, use_volume_strict};
 use std::alloc::{AllocError, Global};
 use std::fs::File;
 use std::io::{BufWriter, Read, Write};
@@ -137,6 +140,65 @@ fn run<Here: World, R: Files<File = File>, I: Read, W: Write>(
     }
 }
 
+// The outcome of a command that ended so.
+fn outcome_of(ending: Result<Ending, Fault>) -> Result<Outcome, Fault>
+    ensures { result ≢ Ok Outcome.CallRefused }
+{
+    match ending {
+        Ok(ending) => Ok(Outcome::Ended(ending)),
+        Err(fault) => Err(fault),
+    }
+}
+
+// Ends a strict script, with all of its replies on their way.
+fn end_strict<W: Write>(end: StrictEnd, output: &mut W) -> Result<Outcome, Fault>
+    ensures kept { Keeps (W.contents output.old) (W.contents output.new) }
+    ensures refused { result ≡ Ok Outcome.CallRefused → end ≡ StrictEnd.Refused }
+{
+    match end {
+        StrictEnd::Script(end) => outcome_of(end_script(end, output)),
+        StrictEnd::Refused => match flush(output) {
+            Ok(()) => Ok(Outcome::CallRefused),
+            Err(fault) => Err(fault),
+        },
+    }
+}
+
+// As `play`, by a strict run of the script.
+fn play_strict<D: SectorDevice, I: Read, W: Write>(
+    alloc: Global,
+    device: D,
+    input: &mut I,
+    output: &mut W,
+) -> (Result<Outcome, Fault>, D)
+    ensures plays { PlaysStrictly (I.remaining input.old) (I.remaining input.new)
+        (W.contents output.old) (W.contents output.new) (D.state device) (D.state result.1) }
+    ensures refused { result.0 ≡ Ok Outcome.CallRefused → PlaysToRefusal (I.remaining input.old) (I.remaining input.new)
+        (W.contents output.old) (W.contents output.new) (D.state device) (D.state result.1) }
+    ensures carries { Carries (D.state device) (D.state result.1) }
+{
+    match use_volume_strict(alloc, input, output, device) {
+        (Ok(end), device) => (end_strict(end, output), device),
+        (Err(fault), device) => (outcome_of(refuse(output, Refusal::from(fault))), device),
+    }
+}
+
+fn run_strict<Here: World, R: Files<File = File>, I: Read, W: Write>(
+    rt: &R,
+    alloc: Global,
+    image: &str,
+    input: &mut I,
+    output: &mut W,
+) -> Result<Outcome, Fault> {
+    match image::open_to_write::<Here, R>(rt, image) {
+        Ok(device) => {
+            let (outcome, _) = play_strict(alloc, device, input, output);
+            outcome
+        }
+        Err(fault) => outcome_of(refuse(output, Refusal::Image(fault))),
+    }
+}
+
 // As `play` on a device in memory, which stops then.
 fn play_and_stop<I: Read, W: Write>(
     alloc: Global,
@@ -220,9 +282,14 @@ fn act<Here: World, R: Files<File = File>, I: Read, W: Write>(
 }
 
 // Tells what a command was about that ended so.
-fn told<'a>(subject: &'a str, ending: Result<Ending, Fault>) -> Result<Told<'a>, Fault> {
+fn told<'a>(subject: &'a str, ending: Result<Ending, Fault>) -> Result<Told<'a>, Fault>
+    ensures { IfOk result (λ told. told.outcome ≢ Outcome.CallRefused) }
+{
     match ending {
-        Ok(ending) => Ok(Told { subject, ending }),
+        Ok(ending) => Ok(Told {
+            subject,
+            outcome: Outcome::Ended(ending),
+        }),
         Err(fault) => Err(fault),
     }
 }
@@ -238,12 +305,23 @@ fn answer<'a, R: Files<File = File>, I: Read, W: Write>(
     words: &'a [String],
     input: &mut I,
     output: &mut W,
-) -> Result<Told<'a>, Fault> {
+) -> Result<Told<'a>, Fault>
+    ensures strict { IfOk result (λ told. told.outcome ≡ Outcome.CallRefused → HasWord words.now (codes "--strict")) }
+{
     match read_request(alloc, words)? {
         Request::Help(text) => told(IN_MEMORY, help(text.as_str(), output)),
         Request::Image { image, action } => {
             let ending = act::<ThisWorld, R, I, W>(rt, alloc, image, action, input, output);
             told(image, ending)
+        }
+        Request::Strict { image } => {
+            match run_strict::<ThisWorld, R, I, W>(rt, alloc, image, input, output) {
+                Ok(outcome) => Ok(Told {
+                    subject: image,
+                    outcome,
+                }),
+                Err(fault) => Err(fault),
+            }
         }
         Request::Sim {
             segments,
@@ -263,7 +341,9 @@ fn answer_and_flush<'a, R: Files<File = File>, I: Read, W: Write>(
     words: &'a [String],
     input: &mut I,
     output: &mut W,
-) -> Result<Told<'a>, Fault> {
+) -> Result<Told<'a>, Fault>
+    ensures strict { IfOk result (λ told. told.outcome ≡ Outcome.CallRefused → HasWord words.now (codes "--strict")) }
+{
     let answered = answer(rt, alloc, words, input, output);
     let flushed = flush(output);
     let told = answered?;
@@ -278,16 +358,28 @@ fn answer_buffered<'a, R: Files<File = File>, I: Read, O: Write>(
     words: &'a [String],
     input: &mut I,
     output: &mut O,
-) -> Result<Told<'a>, Fault> {
+) -> Result<Told<'a>, Fault>
+    ensures strict { IfOk result (λ told. told.outcome ≡ Outcome.CallRefused → HasWord words.now (codes "--strict")) }
+{
     match BufWriter::new(alloc, output) {
         Ok(mut buffered) => answer_and_flush(rt, alloc, words, input, &mut buffered),
         Err(_) => Err(Fault::Memory(AllocError)),
     }
 }
 
+// Tells people how a command ended, and of a bad line also why it is bad.
+fn tell<I, E: Write>(alloc: Global, told: Told<'_>, input: &LineKeeper<I>, errors: &mut E) {
+    let Outcome::Ended(Ending::BadLine(number)) = told.outcome else {
+        let _ = errors.writeln(told);
+        return;
+    };
+    let reason = reason_of(alloc, input.line(number));
+    let _ = errors.writeln(BadLine { number, reason });
+}
+
 /// Runs a command line, whose first word is the program's name, and answers the exit status: 0 done, 1 a command
-/// refused, or input, output or memory failed, 2 a bad line of the script or a bad command line. Where it isn't 0,
-/// a text for people goes to `errors`.
+/// refused, or input, output or memory failed, 2 a bad line of the script or a bad command line, 3 a call of a script
+/// refused, where the words ask for an end there. Where it isn't 0, a text for people goes to `errors`.
 pub fn command<R: Files<File = File>, I: Read, O: Write, E: Write>(
     rt: &R,
     alloc: Global,
@@ -296,13 +388,15 @@ pub fn command<R: Files<File = File>, I: Read, O: Write, E: Write>(
     output: &mut O,
     errors: &mut E,
 ) -> u8
-    ensures { result ≤ 2 }
+    ensures most { result ≤ 3 }
+    ensures strict { result ≡ 3 → HasWord words.now (codes "--strict") }
 {
-    match answer_buffered(rt, alloc, words, input, output) {
+    let mut input = LineKeeper::new(alloc, input);
+    match answer_buffered(rt, alloc, words, &mut input, output) {
         Ok(told) => {
-            let status = told.ending.status();
+            let status = told.outcome.status();
             if status != 0 {
-                let _ = errors.writeln(told);
+                tell(alloc, told, &input, errors);
             }
             status
         }

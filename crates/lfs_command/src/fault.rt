@@ -138,12 +138,33 @@ impl Ending {
     }
 }
 
-/// What people are told of an ending.
+/// How a command ends, or a strict script.
+#[derive(Clone, Copy)]
+pub enum Outcome {
+    Ended(Ending),
+    /// A call of a strict script was refused, and its reply is the last.
+    CallRefused,
+}
+
+impl Outcome {
+    /// The exit status.
+    pub fn status(self) -> u8
+        ensures most { result ≤ 3 }
+        ensures refused { result ≡ 3 → self ≡ Outcome.CallRefused }
+    {
+        match self {
+            Outcome::Ended(ending) => ending.status(),
+            Outcome::CallRefused => 3,
+        }
+    }
+}
+
+/// What people are told of an outcome.
 #[derive(Clone, Copy)]
 pub struct Told<'a> {
     /// What the command was about.
     pub subject: &'a str,
-    pub ending: Ending,
+    pub outcome: Outcome,
 }
 
 impl Display for Ending {
@@ -156,9 +177,18 @@ impl Display for Ending {
     }
 }
 
+impl Display for Outcome {
+    fn fmt<W: fmt::Write>(&self, f: &mut Formatter<W>) -> fmt::Result {
+        match self {
+            Outcome::Ended(ending) => write!(f, "{ending}"),
+            Outcome::CallRefused => f.write_str("a call of the script was refused"),
+        }
+    }
+}
+
 impl Display for Told<'_> {
     fn fmt<W: fmt::Write>(&self, f: &mut Formatter<W>) -> fmt::Result {
-        write!(f, "lfs: {}: {}", self.subject, self.ending)
+        write!(f, "lfs: {}: {}", self.subject, self.outcome)
     }
 }
 

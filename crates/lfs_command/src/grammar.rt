@@ -59,6 +59,8 @@ pub const SEGMENTS: &str = "segments";
 
 pub const FORCE: &str = "force";
 
+pub const STRICT: &str = "strict";
+
 pub const STOP: &str = "stop";
 
 pub const LEFT: &str = "left";
@@ -100,6 +102,13 @@ const BY_FORCE: Parameter = Parameter {
     form: Form::Switch,
     value: "",
     help: "Format IMAGE also where it is a block device",
+};
+
+const STRICTLY: Parameter = Parameter {
+    name: STRICT,
+    form: Form::Switch,
+    value: "",
+    help: "End with status 3 at the first reply that is `err`",
 };
 
 const THE_STOP: Parameter = Parameter {
@@ -147,7 +156,7 @@ const USAGES: &[Usage] = &[
         about: "Run the script on standard input, and print a reply to each line",
         details: "Run the script on standard input, and print a reply to each line. The image is \
             locked meanwhile. What the script doesn't sync is gone at its end.",
-        parameters: &[THE_IMAGE],
+        parameters: &[THE_IMAGE, STRICTLY],
     },
     Usage {
         verb: Verb::Sim,

@@ -1,6 +1,7 @@
 //! The commands of the program `lfs`.
 #![tactic(auto)]
 
+mod bad_line;
 mod commands;
 mod describing;
 mod fault;
@@ -9,6 +10,7 @@ mod image;
 mod looking;
 mod printing;
 mod reason;
+mod remembering;
 mod request;
 mod simulation;
 

@@ -1,6 +1,10 @@
 //! What a command line asks for.
+ghost use Rattle.std.specs.Prelude.{◌≡◌, IfOk, codes};
+ghost use Rattle.std.specs.Bool.{OnTrue};
+ghost use Rattle.lfs_command.specs.Asking.{HasWord, IsStrict};
+
 use crate::fault::Fault;
-use crate::grammar::{FORCE, IMAGE, LEFT, PATH, SEGMENTS, STOP, Verb, program, verb_of};
+use crate::grammar::{FORCE, IMAGE, LEFT, PATH, SEGMENTS, STOP, STRICT, Verb, program, verb_of};
 use crate::looking::Look;
 use clap::error::ErrorKind;
 use clap::{ArgMatches, Error};
@@ -26,6 +30,10 @@ pub enum Request<'a> {
     Image {
         image: &'a str,
         action: Action<'a>,
+    },
+    /// A script is run on an image, to the first call that is refused.
+    Strict {
+        image: &'a str,
     },
     Sim {
         segments: &'a str,
@@ -69,6 +77,9 @@ fn asked<'a>(verb: Verb, found: &ArgMatches<'a>) -> Option<Request<'a>> {
         Verb::Ls => looks(Look::List(found.get_str(PATH).unwrap_or(ROOT)), found),
         Verb::Cat => looks(Look::Cat(found.get_str(PATH)?), found),
         Verb::Info => on_image(Some(Action::Info), found),
+        Verb::Run if found.get_flag(STRICT) => Some(Request::Strict {
+            image: found.get_str(IMAGE)?,
+        }),
         Verb::Run => on_image(Some(Action::Run), found),
         Verb::Sim => read_sim(found),
     }
@@ -79,7 +90,9 @@ fn request_of<'a>(matches: &ArgMatches<'a>) -> Option<Request<'a>> {
     asked(verb_of(name)?, found)
 }
 
-fn refused<'a>(alloc: Global, error: &Error) -> Result<Request<'a>, Fault> {
+fn refused<'a>(alloc: Global, error: &Error) -> Result<Request<'a>, Fault>
+    ensures { IfOk result (λ request. IsStrict request → ⊥) }
+{
     if error.kind() == ErrorKind::OutOfMemory {
         return Err(Fault::Memory(AllocError));
     }
@@ -91,10 +104,39 @@ fn refused<'a>(alloc: Global, error: &Error) -> Result<Request<'a>, Fault> {
     }
 }
 
+fn has_word(words: &[String], wanted: &str) -> bool
+    ensures { OnTrue result (HasWord words.now wanted.now) }
+{
+    for word in words {
+        if word.as_str() == wanted {
+            return true;
+        }
+    }
+    false
+}
+
+// What was found. Only words that ask for a strict run get one, whatever was found.
+fn as_asked<'a>(words: &[String], request: Request<'a>) -> Request<'a>
+    ensures { IsStrict result → HasWord words.now (codes "--strict") }
+{
+    match request {
+        Request::Strict { image } if !has_word(words, "--strict") => Request::Image {
+            image,
+            action: Action::Run,
+        },
+        request => request,
+    }
+}
+
 /// Reads a command line, whose first word is the program's name.
-pub fn read_request<'a>(alloc: Global, words: &'a [String]) -> Result<Request<'a>, Fault> {
+pub fn read_request<'a>(alloc: Global, words: &'a [String]) -> Result<Request<'a>, Fault>
+    ensures { IfOk result (λ request. IsStrict request → HasWord words.now (codes "--strict")) }
+{
     match program(alloc)?.try_get_matches_from(words) {
-        Ok(matches) => request_of(&matches).ok_or(Fault::Memory(AllocError)),
+        Ok(matches) => match request_of(&matches) {
+            Some(request) => Ok(as_asked(words, request)),
+            None => Err(Fault::Memory(AllocError)),
+        },
         Err(error) => refused(alloc, &error),
     }
 }

@@ -1,0 +1,68 @@
+//! A reader that remembers the lines that a script may be at.
+ghost use Rattle.std.specs.Prelude.{◌≡◌};
+
+use std::alloc::Global;
+use std::io;
+use std::io::Read;
+
+/// A reader that keeps the lines that it gave bytes of in its last read, each from its beginning. Who takes all bytes of a read before the next
+/// one finds there the line that it is at.
+#[derive(Drop)]
+pub struct LineKeeper<R> {
+    reader: R,
+    kept: Vec<u8>,
+    /// The number of the first line that is kept, counted from 1.
+    first: u64,
+    /// Memory for a line was refused.
+    lost: bool,
+}
+
+impl<R> LineKeeper<R> {
+    pub fn new(alloc: Global, reader: R) -> LineKeeper<R>
+        ensures { result.reader ≡ reader }
+    {
+        LineKeeper {
+            reader,
+            kept: Vec::new(alloc),
+            first: 1,
+            lost: false,
+        }
+    }
+
+    // Lets go of the lines whose ends were read.
+    fn forget(&mut self)
+        ensures { self.new.reader ≡ self.old.reader }
+    {
+        let Some(newline) = self.kept.iter().rposition(|byte| *byte == b'\n') else {
+            return;
+        };
+        let whole = &self.kept[..newline];
+        let lines = whole.iter().filter(|byte| **byte == b'\n').count() as u64 + 1;
+        self.first = self.first.saturating_add(lines);
+        let left = self.kept.len() - newline - 1;
+        self.kept.copy_within(newline + 1.., 0);
+        self.kept.truncate(left);
+    }
+
+    /// The line of this number, as far as it was read, without its newline. None where it isn't kept.
+    pub fn line(&self, number: u64) -> Option<&[u8]> {
+        if self.lost {
+            return None;
+        }
+        let before = usize::try_from(number.checked_sub(self.first)?).ok()?;
+        self.kept.split(|byte| *byte == b'\n').nth(before)
+    }
+}
+
+impl<R: Read> Read for LineKeeper<R> {
+    ghost remaining = { λ keeper. R.remaining keeper.reader };
+
+    fn read(&mut self, buf: &mut [u8]) -> io::Result<usize> {
+        self.forget();
+        let read = self.reader.read(buf)?;
+        if self.kept.extend_from_slice(&buf[..read]).is_err() {
+            self.lost = true;
+        }
+        Ok(read)
+    }
+}
