@@ -74,7 +74,7 @@ module _ {D : Type 0} (state : D → DeviceState) where
 
     -- a mount failed
     pub stops : (fault : MountFault) (old : Between D) (w w' : Option (List ℕ)) (d d' : D) → i < length scripts → w' ≡ w → UsesInTurn state (texts_of (take i scripts)) old w d
-        → ((fault ≡ NoMemory → ⊥) → IsMountFault state d d') → IsRefused (state d) (state d') fault → LeavesOnly (state d) (state d') (state d).may_leave → AllLeft (state d') (state d).may_leave
+        → ((fault ≡ NoMemory → ⊥) → IsMountFault (state d) (state d') fault) → IsRefused (state d) (state d') fault → LeavesOnly (state d) (state d') (state d).may_leave → AllLeft (state d') (state d).may_leave
         → StopsAtMount state (texts_of scripts) fault old w' d'
     stops fault old w w' d d' within same was cause reason moments left = record {
       done = texts_of (take i scripts);
@@ -84,7 +84,7 @@ module _ {D : Type 0} (state : D → DeviceState) where
       last = was.last;
       uses = was.uses;
       written = was.written ∙ sym same;
-      cause = λ other. subst (λ (x : D). IsMountFault state x d') (sym was.device) (cause other);
+      cause = λ other. subst (λ (x : D). IsMountFault (state x) (state d') fault) (sym was.device) (cause other);
       reason = subst (λ (x : D). IsRefused (state x) (state d') fault) (sym was.device) reason;
       moments = subst (λ (x : D). LeavesOnly (state x) (state d') (state x).may_leave) (sym was.device) moments;
       pending = λ c is. was.pending c (left c is);

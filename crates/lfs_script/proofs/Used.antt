@@ -7,7 +7,7 @@ use Rattle.lfs_model.specs.Call.{Answer}
 use Rattle.lfs_model.specs.Use.{UsesVolume}
 use Rattle.lfs_model.proofs.Moments.{goes_on}
 use Rattle.lfs_fs.specs.declared.fs.Fs.{Fs}
-use Rattle.lfs_fs.specs.Mounting.{FindsState, IsRefused}
+use Rattle.lfs_fs.specs.Mounting.{FindsState, IsMountFault, IsRefused}
 use Rattle.lfs_fs.specs.Seen.{seen}
 use Rattle.lfs_fs.specs.Volume.{Mounted}
 use Rattle.lfs_fs.specs.log.verify.declared.fault.MountFault.{MountFault}
@@ -78,8 +78,15 @@ module _ (mid new : DeviceState) (counts : (t : ℕ) (c : Content) → t ≤ mid
 
   -- and the reason of a mount that was refused before it stays one
   pub still_refused : (d : DeviceState) (fault : MountFault) → IsRefused d mid fault → IsRefused d new fault
-  still_refused d NoMemory refused keeps = tt
-  still_refused d Device refused keeps = subst (λ (n : ℕ). d.failures < n) (sym same) (refused (carries.kept_before keeps))
-  still_refused d TooSmall refused keeps = refused (carries.kept_before keeps)
-  still_refused d NoCheckpoint refused keeps = refused (carries.kept_before keeps)
-  still_refused d (Damaged code) refused keeps = refused (carries.kept_before keeps)
+  still_refused d NoMemory refused = tt
+  still_refused d Device refused = λ keeps. subst (λ (n : ℕ). d.failures < n) (sym same) (refused (carries.kept_before keeps))
+  still_refused d TooSmall refused = λ keeps. refused (carries.kept_before keeps)
+  still_refused d NoCheckpoint refused = λ keeps. refused (carries.kept_before keeps)
+  still_refused d (Damaged code) refused = λ keeps. refused (carries.kept_before keeps)
+
+  pub still_faulty : (d : DeviceState) (fault : MountFault) → IsMountFault d mid fault → IsMountFault d new fault
+  still_faulty d NoMemory told = told
+  still_faulty d Device told = λ s keeps stands. subst (λ (n : ℕ). d.failures < n) (sym same) (told s (carries.kept_before keeps) stands)
+  still_faulty d TooSmall told = λ s keeps stands. told s (carries.kept_before keeps) stands
+  still_faulty d NoCheckpoint told = λ s keeps stands. told s (carries.kept_before keeps) stands
+  still_faulty d (Damaged code) told = λ s keeps stands. told s (carries.kept_before keeps) stands

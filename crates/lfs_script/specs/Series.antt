@@ -59,7 +59,7 @@ module _ {D : Type 0} (state : D → DeviceState) where
     pub last : Between D
     pub uses : UsesEach done old last
     pub written : last.written ≡ w'
-    pub cause : (fault ≡ NoMemory → ⊥) → IsMountFault state last.device d'
+    pub cause : (fault ≡ NoMemory → ⊥) → IsMountFault (state last.device) (state d') fault
     pub reason : IsRefused (state last.device) (state d') fault
     pub moments : LeavesOnly (state last.device) (state d') (state last.device).may_leave
     pub pending : LeavesPrefix (state d') last.points last.calls last.given

@@ -24,7 +24,8 @@ pub fn use_volume<R: Read, W: Write, D: SectorDevice>(
 ) -> (Result<ScriptEnd, MountFault>, D)
     ensures ran { IfOk result.0 (λ end. Session end (R.remaining reader.old) (R.remaining reader.new)
         (W.contents writer.old) (W.contents writer.new) (D.state device) (D.state result.1)) }
-    ensures refused { IfErr result.0 (λ fault. (fault ≡ MountFault.NoMemory → ⊥) → IsMountFault D.SectorDevice.state device result.1) }
+    ensures refused { IfErr result.0 (λ fault. (fault ≡ MountFault.NoMemory → ⊥)
+        → IsMountFault (D.state device) (D.state result.1) fault) }
     ensures reason { IfErr result.0 (IsRefused (D.state device) (D.state result.1)) }
     ensures untouched { OnErr result.0 (IsUntouched (D.state device) (D.state result.1)) }
     ensures any_moment { OnErr result.0 (LeavesOnly (D.state device) (D.state result.1) (D.state device).may_leave) }
@@ -52,7 +53,8 @@ pub fn use_and_stop<R: Read, W: Write>(
 ) -> (Result<ScriptEnd, MountFault>, MemDevice)
     ensures ran { IfOk result.0 (λ end. Session end (R.remaining reader.old) (R.remaining reader.new)
         (W.contents writer.old) (W.contents writer.new) (device_state device) (device_state result.1)) }
-    ensures refused { IfErr result.0 (λ fault. (fault ≡ MountFault.NoMemory → ⊥) → IsMountFault device_state device result.1) }
+    ensures refused { IfErr result.0 (λ fault. (fault ≡ MountFault.NoMemory → ⊥)
+        → IsMountFault (device_state device) (device_state result.1) fault) }
     ensures reason { IfErr result.0 (IsRefused (device_state device) (device_state result.1)) }
     ensures left_before { OnErr result.0 (AllLeft (device_state result.1) (device_state device).may_leave) }
     ensures any_moment { OnErr result.0 (LeavesOnly (device_state device) (device_state result.1) (device_state device).may_leave) }

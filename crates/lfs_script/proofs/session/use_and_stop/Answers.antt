@@ -1,7 +1,7 @@
-use Rattle.std.proofs.Common.{◌<◌, ℕ, inl, sym, subst}
+use Rattle.std.proofs.Common.{inl}
 use Rattle.lfs_model.proofs.Moments.{carries_then}
 use Rattle.lfs_device.specs.MemoryDevice.{device_state}
-use Rattle.lfs_script.proofs.Used.{err_of, ok_of, still_refused, stopped}
+use Rattle.lfs_script.proofs.Used.{err_of, ok_of, still_faulty, still_refused, stopped}
 use Rattle.lfs_script.proofs.session.use_and_stop.Goals as goal
 
 pub returns-in-Ok-default-clause-ran : goal.returns-in-Ok-default-clause-ran
@@ -15,9 +15,10 @@ returns-in-Ok-default-clause-carries g c =
     carries_then (device_state c.args.device) (device_state c.use_volume.result.1) (device_state c.crash.new.self) c.use_volume.ensures.carries c.crash.ensures.carries
 
 pub returns-in-Err-default-clause-refused : goal.returns-in-Err-default-clause-refused
-returns-in-Err-default-clause-refused g c = λ other s kept stands plain.
-    subst (λ (n : ℕ). (device_state c.args.device).failures < n) (sym c.crash-in-Err-default.ensures.same_failures)
-    (err_of _ _ _ c.in-Err-default.is-0 c.use_volume.ensures.refused other s kept stands plain)
+returns-in-Err-default-clause-refused g c = λ other.
+    let stop = c.crash-in-Err-default.ensures in
+    still_faulty (device_state c.use_volume.result.1) (device_state c.crash-in-Err-default.new.self) (λ t x le left. inl left) stop.carries stop.time stop.same_failures stop.durable stop.chosen
+    (device_state c.args.device) c.in-Err-default.fault (err_of _ _ _ c.in-Err-default.is-0 c.use_volume.ensures.refused other)
 
 pub returns-in-Err-default-clause-reason : goal.returns-in-Err-default-clause-reason
 returns-in-Err-default-clause-reason g c =
