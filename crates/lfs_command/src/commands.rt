@@ -54,7 +54,7 @@ fn look_in<Here: World, R: Files<File = File>, W: Write>(
     output: &mut W,
 ) -> Result<Ending, Fault> {
     match image::mount::<Here, R>(rt, alloc, image) {
-        Ok(mut fs) => look_at(&mut fs, look, path, output),
+        Ok(mut fs) => look_at(alloc, &mut fs, look, path, output),
         Err(refusal) => refuse(output, refusal),
     }
 }
@@ -173,8 +173,9 @@ fn play_strict<D: SectorDevice, I: Read, W: Write>(
 ) -> (Result<Outcome, Fault>, D)
     ensures plays { PlaysStrictly (I.remaining input.old) (I.remaining input.new)
         (W.contents output.old) (W.contents output.new) (D.state device) (D.state result.1) }
-    ensures refused { result.0 ≡ Ok Outcome.CallRefused → PlaysToRefusal (I.remaining input.old) (I.remaining input.new)
-        (W.contents output.old) (W.contents output.new) (D.state device) (D.state result.1) }
+    ensures refused { result.0 ≡ Ok Outcome.CallRefused
+        → PlaysToRefusal (I.remaining input.old) (I.remaining input.new) (W.contents output.old)
+        (W.contents output.new) (D.state device) (D.state result.1) }
     ensures carries { Carries (D.state device) (D.state result.1) }
 {
     match use_volume_strict(alloc, input, output, device) {
@@ -207,8 +208,8 @@ fn play_and_stop<I: Read, W: Write>(
     input: &mut I,
     output: &mut W,
 ) -> (Result<Ending, Fault>, MemDevice)
-    ensures plays { Plays (I.remaining input.old) (I.remaining input.new)
-        (W.contents output.old) (W.contents output.new) (device_state device) (device_state result.1) }
+    ensures plays { Plays (I.remaining input.old) (I.remaining input.new) (W.contents output.old)
+        (W.contents output.new) (device_state device) (device_state result.1) }
     ensures carries { Carries (device_state device) (device_state result.1) }
 {
     match use_and_stop(alloc, input, output, device, left) {
@@ -306,7 +307,8 @@ fn answer<'a, R: Files<File = File>, I: Read, W: Write>(
     input: &mut I,
     output: &mut W,
 ) -> Result<Told<'a>, Fault>
-    ensures strict { IfOk result (λ told. told.outcome ≡ Outcome.CallRefused → HasWord words.now (codes "--strict")) }
+    ensures strict { IfOk result (λ told. told.outcome ≡ Outcome.CallRefused
+        → HasWord words.now (codes "--strict")) }
 {
     match read_request(alloc, words)? {
         Request::Help(text) => told(IN_MEMORY, help(text.as_str(), output)),
@@ -342,7 +344,8 @@ fn answer_and_flush<'a, R: Files<File = File>, I: Read, W: Write>(
     input: &mut I,
     output: &mut W,
 ) -> Result<Told<'a>, Fault>
-    ensures strict { IfOk result (λ told. told.outcome ≡ Outcome.CallRefused → HasWord words.now (codes "--strict")) }
+    ensures strict { IfOk result (λ told. told.outcome ≡ Outcome.CallRefused
+        → HasWord words.now (codes "--strict")) }
 {
     let answered = answer(rt, alloc, words, input, output);
     let flushed = flush(output);
@@ -359,7 +362,8 @@ fn answer_buffered<'a, R: Files<File = File>, I: Read, O: Write>(
     input: &mut I,
     output: &mut O,
 ) -> Result<Told<'a>, Fault>
-    ensures strict { IfOk result (λ told. told.outcome ≡ Outcome.CallRefused → HasWord words.now (codes "--strict")) }
+    ensures strict { IfOk result (λ told. told.outcome ≡ Outcome.CallRefused
+        → HasWord words.now (codes "--strict")) }
 {
     match BufWriter::new(alloc, output) {
         Ok(mut buffered) => answer_and_flush(rt, alloc, words, input, &mut buffered),

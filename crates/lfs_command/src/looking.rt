@@ -85,27 +85,90 @@ fn put_name<W: Write>(output: &mut W, row: &TreeRow) -> Result<(), Fault> {
     }
 }
 
-// Writes an entry of the root with its size.
-fn put_entry<W: Write>(output: &mut W, row: &TreeRow) -> Result<(), Fault> {
-    put(output, b"  ")?;
+/// The number of the root.
+const ROOT: u32 = 1;
+
+// A directory whose entries are printed, and the row of its next entry.
+#[derive(Clone, Copy)]
+struct Level {
+    directory: u32,
+    next: usize,
+}
+
+// The rows of a directory, which stand together: they are ordered by the number of the directory.
+fn level_of(rows: &[TreeRow], directory: u32) -> Level {
+    for (next, row) in rows.iter().enumerate() {
+        if row.directory >= directory {
+            return Level { directory, next };
+        }
+    }
+    Level {
+        directory,
+        next: rows.len(),
+    }
+}
+
+// The next entry of a directory, if it has one more.
+fn next_entry(rows: &[TreeRow], level: Level) -> Option<&TreeRow> {
+    match rows.get(level.next) {
+        Some(row) if row.directory == level.directory => Some(row),
+        _ => None,
+    }
+}
+
+// Writes an entry with its size, so deep in the tree.
+fn put_entry<W: Write>(output: &mut W, row: &TreeRow, depth: usize) -> Result<(), Fault> {
+    for _ in 0..depth {
+        put(output, b"  ")?;
+    }
     put_name(output, row)?;
     put_count(output, b"  ", row.size)?;
     put(output, b"\n")
 }
 
-fn put_tree<W: Write>(output: &mut W, rows: &[TreeRow]) -> Result<(), Fault> {
+// Goes on behind an entry: with those of the directory that it gives, if it gives one, and then with the next one beside it.
+fn go_on(
+    levels: &mut Vec<Level>,
+    rows: &[TreeRow],
+    level: Level,
+    row: &TreeRow,
+) -> Result<(), AllocError> {
+    levels.push(Level {
+        directory: level.directory,
+        next: level.next.saturating_add(1),
+    })?;
+    match row.kind {
+        Kind::Directory => levels.push(level_of(rows, row.number)),
+        Kind::File | Kind::Link => Ok(()),
+    }
+}
+
+// Prints the rows of a tree, those of a directory behind its own. Each step prints a row or ends a directory.
+fn put_tree<W: Write>(alloc: Global, output: &mut W, rows: &[TreeRow]) -> Result<(), Fault> {
     put(output, b"/\n")?;
-    for row in rows {
-        put_entry(output, row)?;
+    let mut levels = Vec::new(alloc);
+    levels.push(level_of(rows, ROOT))?;
+    for _ in 0..=rows.len().saturating_mul(2) {
+        let Some(level) = levels.pop() else {
+            break;
+        };
+        if let Some(row) = next_entry(rows, level) {
+            put_entry(output, row, levels.len().saturating_add(1))?;
+            go_on(&mut levels, rows, level, row)?;
+        }
     }
     flush(output)
 }
 
-// Prints the tree, indented, with sizes in bytes. All entries stand in the root.
-fn tree<D: SectorDevice, W: Write>(fs: &mut Fs<D>, output: &mut W) -> Result<Ending, Fault> {
+// Prints the tree, indented, with sizes in bytes.
+fn tree<D: SectorDevice, W: Write>(
+    alloc: Global,
+    fs: &mut Fs<D>,
+    output: &mut W,
+) -> Result<Ending, Fault> {
     match fs.tree() {
         Ok(rows) => {
-            put_tree(output, rows.as_slice())?;
+            put_tree(alloc, output, rows.as_slice())?;
             Ok(Ending::Done)
         }
         Err(refusal) => refuse(output, Refusal::Call(refusal)),
@@ -220,6 +283,7 @@ pub fn path_of(alloc: Global, look: Look<'_>) -> Result<Vec<u8>, Fault> {
 
 /// Looks at a mounted volume.
 pub fn look_at<D: SectorDevice, W: Write>(
+    alloc: Global,
     fs: &mut Fs<D>,
     look: Look<'_>,
     path: &[u8],
@@ -228,7 +292,7 @@ pub fn look_at<D: SectorDevice, W: Write>(
     match look {
         Look::Check => check(fs, output),
         Look::Mount => show(fs, output),
-        Look::Tree => tree(fs, output),
+        Look::Tree => tree(alloc, fs, output),
         Look::List(_) => list(fs, path, output),
         Look::Cat(_) => cat(fs, path, output),
     }

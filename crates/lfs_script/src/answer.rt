@@ -46,7 +46,8 @@ fn fill<D: SectorDevice>(
     len: u32,
     byte: u8,
 ) -> Result<u32, FsError>
-    ensures { Serves D.SectorDevice.state (seen fs.old) (seen fs.new) (Pwrite handle offset (replicate len byte)) (answer_by Count result) }
+    ensures { Serves D.SectorDevice.state (seen fs.old) (seen fs.new)
+        (Pwrite handle offset (replicate len byte)) (answer_by Count result) }
 {
     match filled(alloc, len, byte) {
         Ok(bytes) => fs.pwrite(handle, offset, bytes.as_slice()),
@@ -60,7 +61,8 @@ fn fill<D: SectorDevice>(
 
 /// Makes the call.
 pub fn make<D: SectorDevice>(alloc: Global, fs: &mut Fs<D>, call: &Call) -> Result<Answer, FsError>
-    ensures { Serves D.SectorDevice.state (seen fs.old) (seen fs.new) (call_of (line_for call.now)) (result_of result) }
+    ensures { Serves D.SectorDevice.state (seen fs.old) (seen fs.new) (call_of (line_for call.now))
+        (result_of result) }
 {
     match call {
         Call::Create(path) => fs.create(path.as_slice()).map(Answer::Handle),

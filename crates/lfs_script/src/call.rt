@@ -92,26 +92,34 @@ fn as_u64(word: &[u8]) -> Result<u64, WordFault>
 
 // The one path that is left.
 fn path(alloc: Global, words: Words<'_>) -> Result<Vec<u8>, WordFault>
-    ensures ok { IfOk result (λ path. word path.items ∷ [] ≡ words_left (option_copied words.entry.rest)) }
+    ensures ok { IfOk result (λ path. word path.items ∷ []
+        ≡ words_left (option_copied words.entry.rest)) }
     ensures bytes { IfOk result (λ path. AreBytes path.items) }
-    ensures spelling { result ≡ Err WordFault.Spelling → (path : List ℕ) → AreBytes path → word path ∷ [] ≢ words_left (option_copied words.entry.rest) }
-    ensures memory { result ≡ Err WordFault.Memory → (path : List ℕ) × AreBytes path × (word path ∷ [] ≡ words_left (option_copied words.entry.rest)) }
+    ensures spelling { result ≡ Err WordFault.Spelling → (path : List ℕ) → AreBytes path
+        → word path ∷ [] ≢ words_left (option_copied words.entry.rest) }
+    ensures memory { result ≡ Err WordFault.Memory
+        → (path : List ℕ) × AreBytes path
+        × (word path ∷ [] ≡ words_left (option_copied words.entry.rest)) }
 {
     read_escaped(alloc, words.one()?)
 }
 
 // The one handle that is left.
 fn handle(words: Words<'_>) -> Result<u32, WordFault>
-    ensures ok { IfOk result (λ handle. decimal handle ∷ [] ≡ words_left (option_copied words.entry.rest)) }
-    ensures err { OnErr result ((h : ℕ) → h < 2 ^ 32 → decimal h ∷ [] ≢ words_left (option_copied words.entry.rest)) }
+    ensures ok { IfOk result (λ handle. decimal handle ∷ []
+        ≡ words_left (option_copied words.entry.rest)) }
+    ensures err { OnErr result ((h : ℕ) → h < 2 ^ 32
+        → decimal h ∷ [] ≢ words_left (option_copied words.entry.rest)) }
     ensures fault { OnErr result (IsErrOf result WordFault.Spelling) }
 {
     as_u32(words.one()?)
 }
 
 fn pread(words: Words<'_>) -> Result<(u32, u64, u32), WordFault>
-    ensures ok { IfOk result (λ r. decimal r.0 ∷ decimal r.1 ∷ decimal r.2 ∷ [] ≡ words_left (option_copied words.entry.rest)) }
-    ensures err { OnErr result ((h o n : ℕ) → h < 2 ^ 32 → o < 2 ^ 64 → n < 2 ^ 32 → decimal h ∷ decimal o ∷ decimal n ∷ [] ≢ words_left (option_copied words.entry.rest)) }
+    ensures ok { IfOk result (λ r. decimal r.0 ∷ decimal r.1 ∷ decimal r.2 ∷ []
+        ≡ words_left (option_copied words.entry.rest)) }
+    ensures err { OnErr result ((h o n : ℕ) → h < 2 ^ 32 → o < 2 ^ 64 → n < 2 ^ 32
+        → decimal h ∷ decimal o ∷ decimal n ∷ [] ≢ words_left (option_copied words.entry.rest)) }
     ensures fault { OnErr result (IsErrOf result WordFault.Spelling) }
 {
     let (handle, offset, len) = words.three()?;
@@ -122,11 +130,14 @@ fn pread(words: Words<'_>) -> Result<(u32, u64, u32), WordFault>
 }
 
 fn pwrite(alloc: Global, words: Words<'_>) -> Result<(u32, u64, Vec<u8>), WordFault>
-    ensures ok { IfOk result (λ r. decimal r.0 ∷ decimal r.1 ∷ hex r.2.items ∷ [] ≡ words_left (option_copied words.entry.rest)) }
+    ensures ok { IfOk result (λ r. decimal r.0 ∷ decimal r.1 ∷ hex r.2.items ∷ []
+        ≡ words_left (option_copied words.entry.rest)) }
     ensures bytes { IfOk result (λ r. AreBytes r.2.items) }
-    ensures spelling { result ≡ Err WordFault.Spelling → (h o : ℕ) (bytes : List ℕ) → h < 2 ^ 32 → o < 2 ^ 64 → AreBytes bytes
-        → decimal h ∷ decimal o ∷ hex bytes ∷ [] ≢ words_left (option_copied words.entry.rest) }
-    ensures memory { result ≡ Err WordFault.Memory → (h : ℕ) × (o : ℕ) × (bytes : List ℕ) × (h < 2 ^ 32) × (o < 2 ^ 64) × AreBytes bytes
+    ensures spelling { result ≡ Err WordFault.Spelling → (h o : ℕ) (bytes : List ℕ) → h < 2 ^ 32
+        → o < 2 ^ 64 → AreBytes bytes → decimal h ∷ decimal o ∷ hex bytes ∷ [] ≢ words_left
+        (option_copied words.entry.rest) }
+    ensures memory { result ≡ Err WordFault.Memory
+        → (h : ℕ) × (o : ℕ) × (bytes : List ℕ) × (h < 2 ^ 32) × (o < 2 ^ 64) × AreBytes bytes
         × (decimal h ∷ decimal o ∷ hex bytes ∷ [] ≡ words_left (option_copied words.entry.rest)) }
 {
     let (handle, offset, bytes) = words.three()?;
@@ -137,8 +148,11 @@ fn pwrite(alloc: Global, words: Words<'_>) -> Result<(u32, u64, Vec<u8>), WordFa
 }
 
 fn fill(words: Words<'_>) -> Result<(u32, u64, u32, u8), WordFault>
-    ensures ok { IfOk result (λ r. decimal r.0 ∷ decimal r.1 ∷ decimal r.2 ∷ decimal r.3 ∷ [] ≡ words_left (option_copied words.entry.rest)) }
-    ensures err { OnErr result ((h o n b : ℕ) → h < 2 ^ 32 → o < 2 ^ 64 → n < 2 ^ 32 → b < 256 → decimal h ∷ decimal o ∷ decimal n ∷ decimal b ∷ [] ≢ words_left (option_copied words.entry.rest)) }
+    ensures ok { IfOk result (λ r. decimal r.0 ∷ decimal r.1 ∷ decimal r.2 ∷ decimal r.3 ∷ []
+        ≡ words_left (option_copied words.entry.rest)) }
+    ensures err { OnErr result ((h o n b : ℕ) → h < 2 ^ 32 → o < 2 ^ 64 → n < 2 ^ 32 → b < 256
+        → decimal h ∷ decimal o ∷ decimal n ∷ decimal b ∷ [] ≢ words_left
+        (option_copied words.entry.rest)) }
     ensures fault { OnErr result (IsErrOf result WordFault.Spelling) }
 {
     let (handle, offset, len, byte) = words.four()?;
@@ -150,8 +164,10 @@ fn fill(words: Words<'_>) -> Result<(u32, u64, u32, u8), WordFault>
 }
 
 fn truncate(words: Words<'_>) -> Result<(u32, u64), WordFault>
-    ensures ok { IfOk result (λ r. decimal r.0 ∷ decimal r.1 ∷ [] ≡ words_left (option_copied words.entry.rest)) }
-    ensures err { OnErr result ((h n : ℕ) → h < 2 ^ 32 → n < 2 ^ 64 → decimal h ∷ decimal n ∷ [] ≢ words_left (option_copied words.entry.rest)) }
+    ensures ok { IfOk result (λ r. decimal r.0 ∷ decimal r.1 ∷ []
+        ≡ words_left (option_copied words.entry.rest)) }
+    ensures err { OnErr result ((h n : ℕ) → h < 2 ^ 32 → n < 2 ^ 64
+        → decimal h ∷ decimal n ∷ [] ≢ words_left (option_copied words.entry.rest)) }
     ensures fault { OnErr result (IsErrOf result WordFault.Spelling) }
 {
     let (handle, len) = words.two()?;
@@ -183,11 +199,13 @@ fn both(
 
 // The text of a link and its path, which are left.
 fn symlink(alloc: Global, words: Words<'_>) -> Result<(Vec<u8>, Vec<u8>), WordFault>
-    ensures ok { IfOk result (λ r. word r.0.items ∷ word r.1.items ∷ [] ≡ words_left (option_copied words.entry.rest)) }
+    ensures ok { IfOk result (λ r. word r.0.items ∷ word r.1.items ∷ []
+        ≡ words_left (option_copied words.entry.rest)) }
     ensures bytes { IfOk result (λ r. AreBytes r.0.items × AreBytes r.1.items) }
-    ensures spelling { result ≡ Err WordFault.Spelling → (text path : List ℕ) → AreBytes text → AreBytes path
-        → word text ∷ word path ∷ [] ≢ words_left (option_copied words.entry.rest) }
-    ensures memory { result ≡ Err WordFault.Memory → (text : List ℕ) × (path : List ℕ) × AreBytes text × AreBytes path
+    ensures spelling { result ≡ Err WordFault.Spelling → (text path : List ℕ) → AreBytes text
+        → AreBytes path → word text ∷ word path ∷ [] ≢ words_left (option_copied words.entry.rest) }
+    ensures memory { result ≡ Err WordFault.Memory
+        → (text : List ℕ) × (path : List ℕ) × AreBytes text × AreBytes path
         × (word text ∷ word path ∷ [] ≡ words_left (option_copied words.entry.rest)) }
 {
     let (text, path) = words.two()?;
@@ -196,10 +214,14 @@ fn symlink(alloc: Global, words: Words<'_>) -> Result<(Vec<u8>, Vec<u8>), WordFa
 
 // The call of a command whose arguments are left.
 fn call_of(alloc: Global, command: Command, words: Words<'_>) -> Result<Call, WordFault>
-    ensures ok { IfOk result (λ call. words_of (line_for call) ≡ command_word command ∷ words_left (option_copied words.entry.rest)) }
+    ensures ok { IfOk result (λ call. words_of (line_for call)
+        ≡ command_word command ∷ words_left (option_copied words.entry.rest)) }
     ensures in_range { IfOk result (λ call. InRange (line_for call)) }
-    ensures spelling { result ≡ Err WordFault.Spelling → (line : Line) → IsBuilt line → InRange line → words_of line ≢ command_word command ∷ words_left (option_copied words.entry.rest) }
-    ensures memory { result ≡ Err WordFault.Memory → (line : Line) × IsBuilt line × InRange line × IsTrue (has_word line) × (words_of line ≡ command_word command ∷ words_left (option_copied words.entry.rest)) }
+    ensures spelling { result ≡ Err WordFault.Spelling → (line : Line) → IsBuilt line → InRange line
+        → words_of line ≢ command_word command ∷ words_left (option_copied words.entry.rest) }
+    ensures memory { result ≡ Err WordFault.Memory → (line : Line) × IsBuilt line × InRange line
+        × IsTrue (has_word line) × (words_of line
+        ≡ command_word command ∷ words_left (option_copied words.entry.rest)) }
 {
     match command {
         Command::Create => Ok(Call::Create(path(alloc, words)?)),
@@ -256,7 +278,8 @@ pub fn parse(alloc: Global, line: &[u8]) -> Result<Call, WordFault>
     ensures ok { IfOk result (λ call. text_of (line_for call) ≡ line.now) }
     ensures in_range { IfOk result (λ call. InRange (line_for call)) }
     ensures spelling { result ≡ Err WordFault.Spelling → IsUnknown line.now }
-    ensures memory { result ≡ Err WordFault.Memory → (asked : Line) × IsBuilt asked × InRange asked × IsTrue (has_word asked) × (text_of asked ≡ line.now) }
+    ensures memory { result ≡ Err WordFault.Memory → (asked : Line) × IsBuilt asked × InRange asked
+        × IsTrue (has_word asked) × (text_of asked ≡ line.now) }
 {
     let mut words = Words::of(line);
     let Some(command) = Command::of(words.next()?) else {

@@ -47,8 +47,10 @@ fn byte_of(digits: &[u8]) -> Option<u8>
 
 // The byte behind a backslash, which has its digits in the next two places.
 fn escaped(word: &[u8]) -> Option<u8>
-    ensures found { IfSome result (λ b. (3 ≤ length word.now) × (take 3 word.now ≡ escaped_byte b) × (is_plain b ≡ false)) }
-    ensures none { result ≡ None → (b : ℕ) (rest : List ℕ) → b < 256 → is_plain b ≡ false → escaped_byte b ++ rest ≢ word.now }
+    ensures found { IfSome result (λ b. (3 ≤ length word.now) × (take 3 word.now ≡ escaped_byte b)
+        × (is_plain b ≡ false)) }
+    ensures none { result ≡ None → (b : ℕ) (rest : List ℕ) → b < 256 → is_plain b ≡ false
+        → escaped_byte b ++ rest ≢ word.now }
 {
     if word.len() < 3 || word[0] != b'\\' {
         return None;
@@ -61,8 +63,10 @@ fn escaped(word: &[u8]) -> Option<u8>
 
 // The first byte that is spelt, and the length of its spelling.
 fn first_byte(word: &[u8]) -> Option<(u8, usize)>
-    ensures found { IfSome result (λ r. (0 < r.1) × (r.1 ≤ length word.now) × (take r.1 word.now ≡ escaped_byte r.0)) }
-    ensures none { result ≡ None → (b : ℕ) (rest : List ℕ) → b < 256 → escaped_byte b ++ rest ≢ word.now }
+    ensures found { IfSome result (λ r. (0 < r.1) × (r.1 ≤ length word.now)
+        × (take r.1 word.now ≡ escaped_byte r.0)) }
+    ensures none { result ≡ None → (b : ℕ) (rest : List ℕ) → b < 256
+        → escaped_byte b ++ rest ≢ word.now }
 {
     if word.is_empty() {
         return None;
@@ -78,8 +82,10 @@ fn first_byte(word: &[u8]) -> Option<(u8, usize)>
 
 // Whether the word is spelt byte for byte.
 fn is_spelt(word: &[u8]) -> bool
-    ensures yes { IsTrue result → (bytes : List ℕ) × IsBytes bytes × (escaped_bytes bytes ≡ word.now) }
-    ensures no { result ≡ false → (bytes : List ℕ) → IsBytes bytes → escaped_bytes bytes ≢ word.now }
+    ensures yes { IsTrue result → (bytes : List ℕ) × IsBytes bytes
+        × (escaped_bytes bytes ≡ word.now) }
+    ensures no { result ≡ false → (bytes : List ℕ) → IsBytes bytes
+        → escaped_bytes bytes ≢ word.now }
 {
     let mut at = 0;
     while at < word.len() {
@@ -93,8 +99,10 @@ fn is_spelt(word: &[u8]) -> bool
 
 // Why memory's refusal leaves a word unread.
 fn refused(word: &[u8]) -> WordFault
-    ensures spelling { result ≡ WordFault.Spelling → (bytes : List ℕ) → IsBytes bytes → escaped_bytes bytes ≢ word.now }
-    ensures memory { result ≡ WordFault.Memory → (bytes : List ℕ) × IsBytes bytes × (escaped_bytes bytes ≡ word.now) }
+    ensures spelling { result ≡ WordFault.Spelling → (bytes : List ℕ) → IsBytes bytes
+        → escaped_bytes bytes ≢ word.now }
+    ensures memory { result ≡ WordFault.Memory
+        → (bytes : List ℕ) × IsBytes bytes × (escaped_bytes bytes ≡ word.now) }
 {
     if is_spelt(word) {
         WordFault::Memory
@@ -105,9 +113,12 @@ fn refused(word: &[u8]) -> WordFault
 
 // The bytes that the word spells byte for byte.
 fn unescape(alloc: Global, word: &[u8]) -> Result<Vec<u8>, WordFault>
-    ensures ok { IfOk result (λ bytes. IsBytes bytes.items × (escaped_bytes bytes.items ≡ word.now)) }
-    ensures spelling { result ≡ Err WordFault.Spelling → (bytes : List ℕ) → IsBytes bytes → escaped_bytes bytes ≢ word.now }
-    ensures memory { result ≡ Err WordFault.Memory → (bytes : List ℕ) × IsBytes bytes × (escaped_bytes bytes ≡ word.now) }
+    ensures ok { IfOk result (λ bytes. IsBytes bytes.items
+        × (escaped_bytes bytes.items ≡ word.now)) }
+    ensures spelling { result ≡ Err WordFault.Spelling → (bytes : List ℕ) → IsBytes bytes
+        → escaped_bytes bytes ≢ word.now }
+    ensures memory { result ≡ Err WordFault.Memory
+        → (bytes : List ℕ) × IsBytes bytes × (escaped_bytes bytes ≡ word.now) }
 {
     let Ok(mut bytes) = Vec::with_capacity(alloc, word.len()) else {
         return Err(refused(word));
@@ -128,8 +139,10 @@ fn unescape(alloc: Global, word: &[u8]) -> Result<Vec<u8>, WordFault>
 pub fn read_escaped(alloc: Global, word: &[u8]) -> Result<Vec<u8>, WordFault>
     ensures ok { IfOk result (λ bytes. script.word bytes.items ≡ word.now) }
     ensures bytes { IfOk result (λ bytes. AreBytes bytes.items) }
-    ensures spelling { result ≡ Err WordFault.Spelling → (bytes : List ℕ) → AreBytes bytes → script.word bytes ≢ word.now }
-    ensures memory { result ≡ Err WordFault.Memory → (bytes : List ℕ) × AreBytes bytes × (script.word bytes ≡ word.now) }
+    ensures spelling { result ≡ Err WordFault.Spelling → (bytes : List ℕ) → AreBytes bytes
+        → script.word bytes ≢ word.now }
+    ensures memory { result ≡ Err WordFault.Memory
+        → (bytes : List ℕ) × AreBytes bytes × (script.word bytes ≡ word.now) }
 {
     if word == b"\\".as_slice() {
         return Ok(Vec::new(alloc));
@@ -141,8 +154,10 @@ pub fn read_escaped(alloc: Global, word: &[u8]) -> Result<Vec<u8>, WordFault>
 }
 
 fn put_byte<W: Write>(writer: &mut W, byte: u8) -> Result<(), Stopped>
-    ensures ok { OnOk result (Appends (W.contents writer.old) (W.contents writer.new) (script.word_byte byte)) }
-    ensures err { OnErr result (AppendsSome (W.contents writer.old) (W.contents writer.new) (script.word_byte byte)) }
+    ensures ok { OnOk result (Appends (W.contents writer.old) (W.contents writer.new)
+        (script.word_byte byte)) }
+    ensures err { OnErr result (AppendsSome (W.contents writer.old) (W.contents writer.new)
+        (script.word_byte byte)) }
 {
     if is_plain(byte) {
         return put(writer, &[byte]);
@@ -153,8 +168,10 @@ fn put_byte<W: Write>(writer: &mut W, byte: u8) -> Result<(), Stopped>
 
 /// Writes the word of the bytes. It takes no memory.
 pub fn put_escaped<W: Write>(writer: &mut W, bytes: &[u8]) -> Result<(), Stopped>
-    ensures ok { OnOk result (Appends (W.contents writer.old) (W.contents writer.new) (script.word bytes.now)) }
-    ensures err { OnErr result (AppendsSome (W.contents writer.old) (W.contents writer.new) (script.word bytes.now)) }
+    ensures ok { OnOk result (Appends (W.contents writer.old) (W.contents writer.new)
+        (script.word bytes.now)) }
+    ensures err { OnErr result (AppendsSome (W.contents writer.old) (W.contents writer.new)
+        (script.word bytes.now)) }
 {
     if bytes.is_empty() {
         return put(writer, b"\\");

@@ -36,8 +36,10 @@ fn is_pairs(word: &[u8]) -> bool
 pub fn read_hex(alloc: Global, word: &[u8]) -> Result<Vec<u8>, WordFault>
     ensures ok { IfOk result (λ bytes. script.hex bytes.items ≡ word.now) }
     ensures bytes { IfOk result (λ bytes. AreBytes bytes.items) }
-    ensures spelling { result ≡ Err WordFault.Spelling → (bytes : List ℕ) → AreBytes bytes → script.hex bytes ≢ word.now }
-    ensures memory { result ≡ Err WordFault.Memory → (bytes : List ℕ) × AreBytes bytes × (script.hex bytes ≡ word.now) }
+    ensures spelling { result ≡ Err WordFault.Spelling → (bytes : List ℕ) → AreBytes bytes
+        → script.hex bytes ≢ word.now }
+    ensures memory { result ≡ Err WordFault.Memory
+        → (bytes : List ℕ) × AreBytes bytes × (script.hex bytes ≡ word.now) }
 {
     if word == b"-".as_slice() {
         return Ok(Vec::new(alloc));
@@ -59,8 +61,10 @@ fn bytes_fit(bytes: &[u8])
 // Writes the digits of at most 256 bytes.
 fn put_digits<W: Write>(writer: &mut W, piece: &[u8]) -> Result<(), Stopped>
     requires { length piece.now ≤ 256 }
-    ensures ok { OnOk result (Appends (W.contents writer.old) (W.contents writer.new) (encode_lower piece.now)) }
-    ensures err { OnErr result (AppendsSome (W.contents writer.old) (W.contents writer.new) (encode_lower piece.now)) }
+    ensures ok { OnOk result (Appends (W.contents writer.old) (W.contents writer.new)
+        (encode_lower piece.now)) }
+    ensures err { OnErr result (AppendsSome (W.contents writer.old) (W.contents writer.new)
+        (encode_lower piece.now)) }
 {
     let mut room = [0; 512];
     let digits = &mut room[..2 * piece.len()];
@@ -70,8 +74,10 @@ fn put_digits<W: Write>(writer: &mut W, piece: &[u8]) -> Result<(), Stopped>
 
 /// Writes the word of the bytes. It takes no memory.
 pub fn put_hex<W: Write>(writer: &mut W, bytes: &[u8]) -> Result<(), Stopped>
-    ensures ok { OnOk result (Appends (W.contents writer.old) (W.contents writer.new) (script.hex bytes.now)) }
-    ensures err { OnErr result (AppendsSome (W.contents writer.old) (W.contents writer.new) (script.hex bytes.now)) }
+    ensures ok { OnOk result (Appends (W.contents writer.old) (W.contents writer.new)
+        (script.hex bytes.now)) }
+    ensures err { OnErr result (AppendsSome (W.contents writer.old) (W.contents writer.new)
+        (script.hex bytes.now)) }
 {
     if bytes.is_empty() {
         return put(writer, b"-");

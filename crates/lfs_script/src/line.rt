@@ -29,12 +29,18 @@ pub fn next_line<R: Read, W: Write>(
     requires { 140000 ≤ vec_capacity line.old }
     ensures room { 140000 ≤ vec_capacity line.new }
     ensures len { vec_len line.new ≤ 140000 }
-    ensures bytes { Consumes (prepend_known (slice_range source.old.chunk.items source.old.start source.old.end) (R.remaining reader.old))
-        (prepend_known (slice_range source.new.chunk.items source.new.start source.new.end) (R.remaining reader.new)) (line.new.items ++ consumed_by_line result) }
+    ensures bytes { Consumes (prepend_known
+        (slice_range source.old.chunk.items source.old.start source.old.end)
+        (R.remaining reader.old)) (prepend_known
+        (slice_range source.new.chunk.items source.new.start source.new.end)
+        (R.remaining reader.new)) (line.new.items ++ consumed_by_line result) }
     ensures plain { All (λ b. b ≢ 10) line.new.items }
     ensures long { OnTooLong result (λ b. (b ≢ 10) × (vec_len line.new ≡ 140000)) }
-    ensures end { result ≡ Ok LineEnd.Input → IsAtEnd (prepend_known (slice_range source.new.chunk.items source.new.start source.new.end) (R.remaining reader.new)) }
-    ensures err { OnErr result (slice_range source.new.chunk.items source.new.start source.new.end ≡ []) }
+    ensures end { result ≡ Ok LineEnd.Input
+        → IsAtEnd (prepend_known (slice_range source.new.chunk.items source.new.start
+        source.new.end) (R.remaining reader.new)) }
+    ensures err { OnErr result (slice_range source.new.chunk.items source.new.start source.new.end
+        ≡ []) }
     ensures kept { Keeps (W.contents writer.old) (W.contents writer.new) }
 {
     line.clear();

@@ -73,8 +73,10 @@ fn fill_digits(digits: &mut [u8; 20], number: u64) -> usize
 
 /// Writes the number's word. It takes no memory.
 pub fn put_number<W: Write>(writer: &mut W, number: u64) -> Result<(), Stopped>
-    ensures ok { OnOk result (Appends (W.contents writer.old) (W.contents writer.new) (decimal number)) }
-    ensures err { OnErr result (AppendsSome (W.contents writer.old) (W.contents writer.new) (decimal number)) }
+    ensures ok { OnOk result (Appends (W.contents writer.old) (W.contents writer.new)
+        (decimal number)) }
+    ensures err { OnErr result (AppendsSome (W.contents writer.old) (W.contents writer.new)
+        (decimal number)) }
 {
     let mut digits = [0; 20];
     let start = fill_digits(&mut digits, number);

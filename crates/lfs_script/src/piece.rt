@@ -23,8 +23,10 @@ pub enum Piece<'a> {
 }
 
 fn put_piece<W: Write>(writer: &mut W, piece: Piece<'_>) -> Result<(), Stopped>
-    ensures ok { OnOk result (Appends (W.contents writer.old) (W.contents writer.new) (piece_text piece.entry)) }
-    ensures err { OnErr result (AppendsSome (W.contents writer.old) (W.contents writer.new) (piece_text piece.entry)) }
+    ensures ok { OnOk result (Appends (W.contents writer.old) (W.contents writer.new)
+        (piece_text piece.entry)) }
+    ensures err { OnErr result (AppendsSome (W.contents writer.old) (W.contents writer.new)
+        (piece_text piece.entry)) }
 {
     match piece {
         Piece::Text(text) => put(writer, text),
@@ -36,8 +38,10 @@ fn put_piece<W: Write>(writer: &mut W, piece: Piece<'_>) -> Result<(), Stopped>
 
 /// Writes the pieces one after the other. After an error a beginning of them went out.
 pub fn put_all<W: Write>(writer: &mut W, pieces: &[Piece<'_>]) -> Result<(), Stopped>
-    ensures ok { OnOk result (Appends (W.contents writer.old) (W.contents writer.new) (flat_map piece_text pieces.now)) }
-    ensures err { OnErr result (AppendsSome (W.contents writer.old) (W.contents writer.new) (flat_map piece_text pieces.now)) }
+    ensures ok { OnOk result (Appends (W.contents writer.old) (W.contents writer.new)
+        (flat_map piece_text pieces.now)) }
+    ensures err { OnErr result (AppendsSome (W.contents writer.old) (W.contents writer.new)
+        (flat_map piece_text pieces.now)) }
 {
     for piece in pieces {
         put_piece(writer, *piece)?;

@@ -57,7 +57,8 @@ fn answer_line<D: SectorDevice>(
     line: &[u8],
 ) -> Option<Result<Answer, FsError>>
     requires short { length line.now ≤ 140000 }
-    ensures { AnswersText D.SectorDevice.state (option_map result_of result) (seen fs.old) (seen fs.new) line.now }
+    ensures { AnswersText D.SectorDevice.state (option_map result_of result) (seen fs.old)
+        (seen fs.new) line.now }
 {
     match parse(alloc, line) {
         Ok(call) => Some(make(alloc, fs, &call)),
@@ -86,7 +87,8 @@ fn turn<W: Write, D: SectorDevice>(
     count: u64,
 ) -> Option<StrictEnd>
     requires short { length line.now ≤ 140000 }
-    ensures { Turns D.SectorDevice.state strict result (W.contents writer.old) (W.contents writer.new) (seen fs.old) (seen fs.new) line.now count }
+    ensures { Turns D.SectorDevice.state strict result (W.contents writer.old)
+        (W.contents writer.new) (seen fs.old) (seen fs.new) line.now count }
 {
     let Some(answer) = answer_line(alloc, fs, line) else {
         return Some(StrictEnd::Script(refuse(writer, count)));
@@ -107,7 +109,8 @@ fn finish<W: Write, D: SectorDevice>(
     count: u64,
 ) -> StrictEnd
     requires short { length line.now ≤ 140000 }
-    ensures { Finishes D.SectorDevice.state strict result (W.contents writer.old) (W.contents writer.new) (seen fs.old) (seen fs.new) line.now count }
+    ensures { Finishes D.SectorDevice.state strict result (W.contents writer.old)
+        (W.contents writer.new) (seen fs.old) (seen fs.new) line.now count }
 {
     if line.is_empty() {
         return StrictEnd::Script(ScriptEnd::Done);
@@ -126,7 +129,9 @@ fn run_lines<R: Read, W: Write, D: SectorDevice>(
     writer: &mut W,
     fs: &mut Fs<D>,
 ) -> StrictEnd
-    ensures { EndsBy D.SectorDevice.state strict result (R.remaining reader.old) (R.remaining reader.new) (W.contents writer.old) (W.contents writer.new) (seen fs.old) (seen fs.new) }
+    ensures { EndsBy D.SectorDevice.state strict result (R.remaining reader.old)
+        (R.remaining reader.new) (W.contents writer.old) (W.contents writer.new) (seen fs.old)
+        (seen fs.new) }
 {
     let Ok(mut line) = Vec::with_capacity(alloc, LONGEST) else {
         return StrictEnd::Script(ScriptEnd::Memory);
@@ -159,7 +164,8 @@ pub fn run<R: Read, W: Write, D: SectorDevice>(
     writer: &mut W,
     fs: &mut Fs<D>,
 ) -> ScriptEnd
-    ensures { Ends D.SectorDevice.state result (R.remaining reader.old) (R.remaining reader.new) (W.contents writer.old) (W.contents writer.new) (seen fs.old) (seen fs.new) }
+    ensures { Ends D.SectorDevice.state result (R.remaining reader.old) (R.remaining reader.new)
+        (W.contents writer.old) (W.contents writer.new) (seen fs.old) (seen fs.new) }
 {
     match run_lines(alloc, false, reader, writer, fs) {
         StrictEnd::Script(end) => end,
@@ -174,7 +180,9 @@ pub fn run_strict<R: Read, W: Write, D: SectorDevice>(
     writer: &mut W,
     fs: &mut Fs<D>,
 ) -> StrictEnd
-    ensures { EndsBy D.SectorDevice.state true result (R.remaining reader.old) (R.remaining reader.new) (W.contents writer.old) (W.contents writer.new) (seen fs.old) (seen fs.new) }
+    ensures { EndsBy D.SectorDevice.state true result (R.remaining reader.old)
+        (R.remaining reader.new) (W.contents writer.old) (W.contents writer.new) (seen fs.old)
+        (seen fs.new) }
 {
     run_lines(alloc, true, reader, writer, fs)
 }

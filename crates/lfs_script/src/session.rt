@@ -22,13 +22,15 @@ pub fn use_volume<R: Read, W: Write, D: SectorDevice>(
     writer: &mut W,
     device: D,
 ) -> (Result<ScriptEnd, MountFault>, D)
-    ensures ran { IfOk result.0 (λ end. Session end (R.remaining reader.old) (R.remaining reader.new)
-        (W.contents writer.old) (W.contents writer.new) (D.state device) (D.state result.1)) }
+    ensures ran { IfOk result.0 (λ end. Session end (R.remaining reader.old)
+        (R.remaining reader.new) (W.contents writer.old) (W.contents writer.new) (D.state device)
+        (D.state result.1)) }
     ensures refused { IfErr result.0 (λ fault. (fault ≡ MountFault.NoMemory → ⊥)
         → IsMountFault (D.state device) (D.state result.1) fault) }
     ensures reason { IfErr result.0 (IsRefused (D.state device) (D.state result.1)) }
     ensures untouched { OnErr result.0 (IsUntouched (D.state device) (D.state result.1)) }
-    ensures any_moment { OnErr result.0 (LeavesOnly (D.state device) (D.state result.1) (D.state device).may_leave) }
+    ensures any_moment { OnErr result.0 (LeavesOnly (D.state device) (D.state result.1)
+        (D.state device).may_leave) }
     ensures unread { OnErr result.0 (reader.new ≡ reader.old) }
     ensures unwritten { OnErr result.0 (writer.new ≡ writer.old) }
     ensures carries { Carries (D.state device) (D.state result.1) }
@@ -51,13 +53,16 @@ pub fn use_and_stop<R: Read, W: Write>(
     device: MemDevice,
     left: Left,
 ) -> (Result<ScriptEnd, MountFault>, MemDevice)
-    ensures ran { IfOk result.0 (λ end. Session end (R.remaining reader.old) (R.remaining reader.new)
-        (W.contents writer.old) (W.contents writer.new) (device_state device) (device_state result.1)) }
+    ensures ran { IfOk result.0 (λ end. Session end (R.remaining reader.old)
+        (R.remaining reader.new) (W.contents writer.old) (W.contents writer.new)
+        (device_state device) (device_state result.1)) }
     ensures refused { IfErr result.0 (λ fault. (fault ≡ MountFault.NoMemory → ⊥)
         → IsMountFault (device_state device) (device_state result.1) fault) }
     ensures reason { IfErr result.0 (IsRefused (device_state device) (device_state result.1)) }
-    ensures left_before { OnErr result.0 (AllLeft (device_state result.1) (device_state device).may_leave) }
-    ensures any_moment { OnErr result.0 (LeavesOnly (device_state device) (device_state result.1) (device_state device).may_leave) }
+    ensures left_before { OnErr result.0
+        (AllLeft (device_state result.1) (device_state device).may_leave) }
+    ensures any_moment { OnErr result.0 (LeavesOnly (device_state device) (device_state result.1)
+        (device_state device).may_leave) }
     ensures unread { OnErr result.0 (reader.new ≡ reader.old) }
     ensures unwritten { OnErr result.0 (writer.new ≡ writer.old) }
     ensures alone { Only (device_state result.1).content (device_state result.1) }
@@ -91,10 +96,26 @@ pub fn use_each<W: Write>(
     writer: &mut W,
     device: MemDevice,
 ) -> (Result<(), MountFault>, MemDevice)
-    ensures ran { OnOk result.0 ((before : List Point) (calls : List Call) (given : List Answer) → LeavesPrefix (device_state device) before calls given
-        → UsesInTurn device_state (texts_of scripts.now) (record { written = W.contents writer.old; device = device; points = before; calls = calls; given = given }) (W.contents writer.new) result.1) }
-    ensures stopped { IfErr result.0 (λ fault. (before : List Point) (calls : List Call) (given : List Answer) → LeavesPrefix (device_state device) before calls given
-        → StopsAtMount device_state (texts_of scripts.now) fault (record { written = W.contents writer.old; device = device; points = before; calls = calls; given = given }) (W.contents writer.new) result.1) }
+    ensures ran { OnOk result.0 ((before : List Point) (calls : List Call) (given : List Answer)
+        → LeavesPrefix (device_state device) before calls given
+        → UsesInTurn device_state (texts_of scripts.now)
+        (record {
+          written = W.contents writer.old;
+          device = device;
+          points = before;
+          calls = calls;
+          given = given;
+        }) (W.contents writer.new) result.1) }
+    ensures stopped { IfErr result.0 (λ fault. (before : List Point) (calls : List Call)
+        (given : List Answer) → LeavesPrefix (device_state device) before calls given
+        → StopsAtMount device_state (texts_of scripts.now) fault
+        (record {
+          written = W.contents writer.old;
+          device = device;
+          points = before;
+          calls = calls;
+          given = given;
+        }) (W.contents writer.new) result.1) }
 {
     let mut current = device;
     for script in scripts {

@@ -12,7 +12,8 @@ pub struct Stopped;
 /// Writes all the bytes, in as many calls as it takes. After an error a beginning of them went out.
 pub fn put<W: Write>(writer: &mut W, bytes: &[u8]) -> Result<(), Stopped>
     ensures ok { OnOk result (Appends (W.contents writer.old) (W.contents writer.new) bytes.now) }
-    ensures err { OnErr result (AppendsSome (W.contents writer.old) (W.contents writer.new) bytes.now) }
+    ensures err { OnErr result (AppendsSome (W.contents writer.old) (W.contents writer.new)
+        bytes.now) }
 {
     let mut at = 0;
     while at < bytes.len() {

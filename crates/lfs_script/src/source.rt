@@ -28,7 +28,8 @@ fn read_chunk<R: Read>(reader: &mut R, chunk: &mut Vec<u8>) -> Result<usize, Rea
     requires { 0 < vec_len chunk.old }
     ensures len { vec_len chunk.new ≡ vec_len chunk.old }
     ensures within { IfOk result (λ n. n ≤ vec_len chunk.new) }
-    ensures bytes { IfOk result (λ n. Consumes (R.remaining reader.old) (R.remaining reader.new) (take n chunk.new.items)) }
+    ensures bytes { IfOk result (λ n. Consumes (R.remaining reader.old) (R.remaining reader.new)
+        (take n chunk.new.items)) }
     ensures end { IfOk result (λ n. n ≡ 0 → IsAtEnd (R.remaining reader.new)) }
     ensures err { OnErr result (Keeps (R.remaining reader.old) (R.remaining reader.new)) }
 {
@@ -58,10 +59,15 @@ impl Source {
         reader: &mut R,
         writer: &mut W,
     ) -> Result<Option<u8>, ReadError>
-        ensures bytes { Consumes (prepend_known (slice_range self.old.chunk.items self.old.start self.old.end) (R.remaining reader.old))
-            (prepend_known (slice_range self.new.chunk.items self.new.start self.new.end) (R.remaining reader.new)) (taken result) }
-        ensures end { IfOk result (λ byte. byte ≡ None → IsAtEnd (prepend_known (slice_range self.new.chunk.items self.new.start self.new.end) (R.remaining reader.new))) }
-        ensures err { OnErr result (slice_range self.new.chunk.items self.new.start self.new.end ≡ []) }
+        ensures bytes { Consumes (prepend_known
+            (slice_range self.old.chunk.items self.old.start self.old.end) (R.remaining reader.old))
+            (prepend_known (slice_range self.new.chunk.items self.new.start self.new.end)
+            (R.remaining reader.new)) (taken result) }
+        ensures end { IfOk result (λ byte. byte ≡ None
+            → IsAtEnd (prepend_known (slice_range self.new.chunk.items self.new.start self.new.end)
+            (R.remaining reader.new))) }
+        ensures err { OnErr result (slice_range self.new.chunk.items self.new.start self.new.end
+            ≡ []) }
         ensures kept { Keeps (W.contents writer.old) (W.contents writer.new) }
     {
         if self.start == self.end {
@@ -80,9 +86,13 @@ impl Source {
     ) -> Result<Option<u8>, ReadError>
         requires { self.old.start ≡ self.old.end }
         ensures bytes { Consumes (R.remaining reader.old)
-            (prepend_known (slice_range self.new.chunk.items self.new.start self.new.end) (R.remaining reader.new)) (taken result) }
-        ensures end { IfOk result (λ byte. byte ≡ None → IsAtEnd (prepend_known (slice_range self.new.chunk.items self.new.start self.new.end) (R.remaining reader.new))) }
-        ensures err { OnErr result (slice_range self.new.chunk.items self.new.start self.new.end ≡ []) }
+            (prepend_known (slice_range self.new.chunk.items self.new.start self.new.end)
+            (R.remaining reader.new)) (taken result) }
+        ensures end { IfOk result (λ byte. byte ≡ None
+            → IsAtEnd (prepend_known (slice_range self.new.chunk.items self.new.start self.new.end)
+            (R.remaining reader.new))) }
+        ensures err { OnErr result (slice_range self.new.chunk.items self.new.start self.new.end
+            ≡ []) }
         ensures kept { Keeps (W.contents writer.old) (W.contents writer.new) }
     {
         self.start = 0;

@@ -17,12 +17,15 @@ pub fn use_volume_strict<R: Read, W: Write, D: SectorDevice>(
     writer: &mut W,
     device: D,
 ) -> (Result<StrictEnd, MountFault>, D)
-    ensures ran { IfOk result.0 (λ end. StrictSession end (R.remaining reader.old) (R.remaining reader.new)
-        (W.contents writer.old) (W.contents writer.new) (D.state device) (D.state result.1)) }
-    ensures refused { IfErr result.0 (λ fault. (fault ≡ MountFault.NoMemory → ⊥) → IsMountFault D.SectorDevice.state device result.1) }
+    ensures ran { IfOk result.0 (λ end. StrictSession end (R.remaining reader.old)
+        (R.remaining reader.new) (W.contents writer.old) (W.contents writer.new) (D.state device)
+        (D.state result.1)) }
+    ensures refused { IfErr result.0 (λ fault. (fault ≡ MountFault.NoMemory → ⊥)
+        → IsMountFault D.SectorDevice.state device result.1) }
     ensures reason { IfErr result.0 (IsRefused (D.state device) (D.state result.1)) }
     ensures untouched { OnErr result.0 (IsUntouched (D.state device) (D.state result.1)) }
-    ensures any_moment { OnErr result.0 (LeavesOnly (D.state device) (D.state result.1) (D.state device).may_leave) }
+    ensures any_moment { OnErr result.0 (LeavesOnly (D.state device) (D.state result.1)
+        (D.state device).may_leave) }
     ensures unread { OnErr result.0 (reader.new ≡ reader.old) }
     ensures unwritten { OnErr result.0 (writer.new ≡ writer.old) }
     ensures carries { Carries (D.state device) (D.state result.1) }

@@ -43,7 +43,8 @@ impl<'a> Words<'a> {
     }
 
     pub fn next(&mut self) -> Result<&'a [u8], WordFault>
-        ensures ok { IfOk result (λ word. words_left (option_copied self.old.rest) ≡ word.now ∷ words_left (option_copied self.new.rest)) }
+        ensures ok { IfOk result (λ word. words_left (option_copied self.old.rest)
+            ≡ word.now ∷ words_left (option_copied self.new.rest)) }
         ensures err { OnErr result (words_left (option_copied self.old.rest) ≡ []) }
         ensures fault { OnErr result (IsErrOf result WordFault.Spelling) }
     {
@@ -69,8 +70,10 @@ impl<'a> Words<'a> {
 
     /// The only word that is left.
     pub fn one(mut self) -> Result<&'a [u8], WordFault>
-        ensures ok { IfOk result (λ word. words_left (option_copied self.entry.rest) ≡ word.now ∷ []) }
-        ensures err { OnErr result ((a : List ℕ) → words_left (option_copied self.entry.rest) ≢ a ∷ []) }
+        ensures ok { IfOk result (λ word. words_left (option_copied self.entry.rest)
+            ≡ word.now ∷ []) }
+        ensures err { OnErr result ((a : List ℕ)
+            → words_left (option_copied self.entry.rest) ≢ a ∷ []) }
         ensures fault { OnErr result (IsErrOf result WordFault.Spelling) }
     {
         let word = self.next()?;
@@ -80,8 +83,10 @@ impl<'a> Words<'a> {
 
     /// The only two words that are left.
     pub fn two(mut self) -> Result<(&'a [u8], &'a [u8]), WordFault>
-        ensures ok { IfOk result (λ r. words_left (option_copied self.entry.rest) ≡ r.0.now ∷ r.1.now ∷ []) }
-        ensures err { OnErr result ((a b : List ℕ) → words_left (option_copied self.entry.rest) ≢ a ∷ b ∷ []) }
+        ensures ok { IfOk result (λ r. words_left (option_copied self.entry.rest)
+            ≡ r.0.now ∷ r.1.now ∷ []) }
+        ensures err { OnErr result ((a b : List ℕ)
+            → words_left (option_copied self.entry.rest) ≢ a ∷ b ∷ []) }
         ensures fault { OnErr result (IsErrOf result WordFault.Spelling) }
     {
         let first = self.next()?;
@@ -91,8 +96,10 @@ impl<'a> Words<'a> {
 
     /// The only three words that are left.
     pub fn three(mut self) -> Result<(&'a [u8], &'a [u8], &'a [u8]), WordFault>
-        ensures ok { IfOk result (λ r. words_left (option_copied self.entry.rest) ≡ r.0.now ∷ r.1.now ∷ r.2.now ∷ []) }
-        ensures err { OnErr result ((a b c : List ℕ) → words_left (option_copied self.entry.rest) ≢ a ∷ b ∷ c ∷ []) }
+        ensures ok { IfOk result (λ r. words_left (option_copied self.entry.rest)
+            ≡ r.0.now ∷ r.1.now ∷ r.2.now ∷ []) }
+        ensures err { OnErr result ((a b c : List ℕ)
+            → words_left (option_copied self.entry.rest) ≢ a ∷ b ∷ c ∷ []) }
         ensures fault { OnErr result (IsErrOf result WordFault.Spelling) }
     {
         let first = self.next()?;
@@ -103,8 +110,10 @@ impl<'a> Words<'a> {
 
     /// The only four words that are left.
     pub fn four(mut self) -> Result<(&'a [u8], &'a [u8], &'a [u8], &'a [u8]), WordFault>
-        ensures ok { IfOk result (λ r. words_left (option_copied self.entry.rest) ≡ r.0.now ∷ r.1.now ∷ r.2.now ∷ r.3.now ∷ []) }
-        ensures err { OnErr result ((a b c d : List ℕ) → words_left (option_copied self.entry.rest) ≢ a ∷ b ∷ c ∷ d ∷ []) }
+        ensures ok { IfOk result (λ r. words_left (option_copied self.entry.rest)
+            ≡ r.0.now ∷ r.1.now ∷ r.2.now ∷ r.3.now ∷ []) }
+        ensures err { OnErr result ((a b c d : List ℕ)
+            → words_left (option_copied self.entry.rest) ≢ a ∷ b ∷ c ∷ d ∷ []) }
         ensures fault { OnErr result (IsErrOf result WordFault.Spelling) }
     {
         let first = self.next()?;
