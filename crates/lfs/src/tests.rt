@@ -811,6 +811,24 @@ const LOOKS: &[Step] = &[
         Said::Tells(b"err IsDir\n", b"lfs: l.img: this is a directory\n"),
     ),
     Step::Says(&["lfs info l.img"], b"", 0, FULLNESS),
+    Step::Says(
+        &["lfs run l.img"],
+        b"mkdir /d\nmkdir /d/e\ncreate /d/e/f\nsymlink b /l\nsync\n",
+        0,
+        Said::Reply(b"ok\nok\nok 0\nok\nok\n"),
+    ),
+    Step::Says(
+        &["lfs tree l.img"],
+        b"",
+        0,
+        Said::Reply(b"/\n  a\\20c  65537\n  b  3\n  d/  64\n    e/  64\n      f  0\n  l  1\n"),
+    ),
+    Step::Says(
+        &["lfs ls l.img /d", "lfs ls l.img d/e/.."],
+        b"",
+        0,
+        Said::Reply(b"e/\n"),
+    ),
     Step::Remove("l.img"),
     Step::Says(
         &[
