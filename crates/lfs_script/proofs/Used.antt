@@ -98,10 +98,10 @@ module _ (mid new : DeviceState) (counts : (t : ℕ) (c : Content) → t ≤ mid
   -- and the reason of a mount that was refused before it stays one
   pub still_refused : (d : DeviceState) (fault : MountFault) → IsRefused d mid fault → IsRefused d new fault
   still_refused d NoMemory refused = tt
-  still_refused d Device refused keeps = subst (λ (n : ℕ). d.failures < n) (sym same) (refused (carries.kept_before keeps))
-  still_refused d TooSmall refused keeps = refused (carries.kept_before keeps)
-  still_refused d NoCheckpoint refused keeps = refused (carries.kept_before keeps)
-  still_refused d (Damaged code) refused keeps = refused (carries.kept_before keeps)
+  still_refused d Device refused = λ keeps. subst (λ (n : ℕ). d.failures < n) (sym same) (refused (carries.kept_before keeps))
+  still_refused d TooSmall refused = λ keeps. refused (carries.kept_before keeps)
+  still_refused d NoCheckpoint refused = λ keeps. refused (carries.kept_before keeps)
+  still_refused d (Damaged code) refused = λ keeps. refused (carries.kept_before keeps)
 
   pub still_faulty : (d : DeviceState) (fault : MountFault) → IsMountFault d mid fault → IsMountFault d new fault
   still_faulty d NoMemory told = told

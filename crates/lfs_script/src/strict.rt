@@ -21,7 +21,7 @@ pub fn use_volume_strict<R: Read, W: Write, D: SectorDevice>(
         (R.remaining reader.new) (W.contents writer.old) (W.contents writer.new) (D.state device)
         (D.state result.1)) }
     ensures refused { IfErr result.0 (λ fault. (fault ≡ MountFault.NoMemory → ⊥)
-        → IsMountFault D.SectorDevice.state device result.1) }
+        → IsMountFault (D.state device) (D.state result.1) fault) }
     ensures reason { IfErr result.0 (IsRefused (D.state device) (D.state result.1)) }
     ensures untouched { OnErr result.0 (IsUntouched (D.state device) (D.state result.1)) }
     ensures any_moment { OnErr result.0 (LeavesOnly (D.state device) (D.state result.1)
