@@ -126,6 +126,13 @@ fn put_entry<W: Write>(output: &mut W, row: &TreeRow, depth: usize) -> Result<()
     put(output, b"\n")
 }
 
+// The level of the root, which is all that is printed at first.
+fn root_level(alloc: Global, rows: &[TreeRow]) -> Result<Vec<Level>, AllocError> {
+    let mut levels = Vec::new(alloc);
+    levels.push(level_of(rows, ROOT))?;
+    Ok(levels)
+}
+
 // Goes on behind an entry: with those of the directory that it gives, if it gives one, and then with the next one beside it.
 fn go_on(
     levels: &mut Vec<Level>,
@@ -138,16 +145,16 @@ fn go_on(
         next: level.next.saturating_add(1),
     })?;
     match row.kind {
-        Kind::Directory => levels.push(level_of(rows, row.number)),
-        Kind::File | Kind::Link => Ok(()),
+        Kind::Directory => levels.push(level_of(rows, row.number))?,
+        Kind::File | Kind::Link => {}
     }
+    Ok(())
 }
 
 // Prints the rows of a tree, those of a directory behind its own. Each step prints a row or ends a directory.
 fn put_tree<W: Write>(alloc: Global, output: &mut W, rows: &[TreeRow]) -> Result<(), Fault> {
     put(output, b"/\n")?;
-    let mut levels = Vec::new(alloc);
-    levels.push(level_of(rows, ROOT))?;
+    let mut levels = root_level(alloc, rows)?;
     for _ in 0..=rows.len().saturating_mul(2) {
         let Some(level) = levels.pop() else {
             break;
