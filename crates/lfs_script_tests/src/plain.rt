@@ -84,10 +84,7 @@ fn each_call_answers(rt: HostRuntime) -> Result<(), Fail> {
         Step::Make(Call::Readlink(b"/l"), b"ok f\n"),
         Step::Make(Call::Stat(b"/l"), b"ok 2 file 2 3\n"),
         Step::Make(Call::Lstat(b"/l"), b"ok 4 link 1 1\n"),
-        Step::Make(
-            Call::Readdir(b"/"),
-            b"ok 3\nd 3 dir\nf 2 file\nl 4 link\n",
-        ),
+        Step::Make(Call::Readdir(b"/"), b"ok 3\nd 3 dir\nf 2 file\nl 4 link\n"),
         Step::Make(
             Call::Tree,
             b"ok 4\n1 d dir 3 2 64 -\n1 f file 2 2 3 616200\n1 l link 4 1 1 f\n3 g file 2 2 3 616200\n",
