@@ -2,6 +2,7 @@
 
 use crate::volume::store_with;
 use lfs_device::MemDevice;
+use lfs_model::Kind;
 use lfs_path::text::check_text;
 use lfs_path::tree::{parent, resolve};
 use lfs_path::{Last, WalkFault};
@@ -9,12 +10,20 @@ use lfs_store::Store;
 use std::alloc::Global;
 use std::test::Fail;
 
+/// Drafts the two files that the root names.
+fn make_files(store: &mut Store<MemDevice>) -> Result<(), Fail> {
+    store.create(2, Kind::File)?;
+    store.create(3, Kind::File)?;
+    Ok(())
+}
+
 /// The place of the first path that gives something else, where the root names file 2 `a` and file 3 `b`.
 fn first_wrong(
     alloc: Global,
     rows: &[(&[u8], Result<u16, WalkFault>)],
 ) -> Result<Option<usize>, Fail> {
     let mut store = store_with(alloc, b"ab")?;
+    make_files(&mut store)?;
     for (place, (path, want)) in rows.iter().enumerate() {
         if resolve(alloc, &mut *store, path, true) != *want {
             return Ok(Some(place));
@@ -61,6 +70,7 @@ fn is_last(last: Option<Last>, name: Option<&[u8]>) -> bool {
 #[test]
 fn the_last_piece_is_not_walked(rt: HostRuntime) -> Result<(), Fail> {
     let mut store = store_with(rt.alloc(), b"ab")?;
+    make_files(&mut store)?;
     for (path, name) in [
         (b".//../c/".as_slice(), Some(b"c".as_slice())),
         (b"/".as_slice(), None),
