@@ -133,6 +133,7 @@ fn plain_call<'a>(call: &'a Call, bytes: &'a [u8]) -> PlainCall<'a> {
     match call {
         Call::Create(path) => PlainCall::Create(path.as_slice()),
         Call::Open(path) => PlainCall::Open(path.as_slice()),
+        Call::Close(handle) => PlainCall::Close(*handle),
         Call::Pread {
             handle,
             offset,
@@ -151,6 +152,7 @@ fn plain_call<'a>(call: &'a Call, bytes: &'a [u8]) -> PlainCall<'a> {
         Call::Stat(path) => PlainCall::Stat(path.as_slice()),
         Call::Lstat(path) => PlainCall::Lstat(path.as_slice()),
         Call::Readdir(path) => PlainCall::Readdir(path.as_slice()),
+        Call::Fsync(handle) => PlainCall::Fsync(*handle),
         Call::Sync => PlainCall::Sync,
         Call::Clean => PlainCall::Clean,
         Call::Space => PlainCall::Space,
