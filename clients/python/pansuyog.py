@@ -220,6 +220,18 @@ class Volume:
         """The text of a link."""
         return _unescape(self._call("readlink", _escape(path))[0])
 
+    def link(self, path, name):
+        """Gives what stands at a path another name."""
+        self._call("link", _escape(path), _escape(name))
+
+    def unlink(self, path):
+        """Takes away the name of a file or of a link. An open file stays until its handles are closed."""
+        self._call("unlink", _escape(path))
+
+    def rmdir(self, path):
+        """Removes a directory without entries."""
+        self._call("rmdir", _escape(path))
+
     def stat(self, path):
         """What stands at a path."""
         return self._status("stat", path)

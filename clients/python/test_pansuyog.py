@@ -52,6 +52,19 @@ class Calls(OnAVolume):
         self.assertEqual(volume.readdir("/"), [pansuyog.Entry(b"d e", 2, "dir"), pansuyog.Entry(b"l", 3, "link")])
         self.assertEqual(volume.readdir("/d e"), [pansuyog.Entry(b"f", 4, "file")])
 
+    def test_names_come_and_go(self):
+        volume = self.mounted()
+        volume.mkdir("/d")
+        handle = volume.create("/f")
+        volume.pwrite(handle, 0, b"kept")
+        volume.link("/f", "/d/g")
+        self.assertEqual(volume.stat("/d/g").links, 2)
+        volume.unlink("/d/g")
+        volume.unlink("/f")
+        self.assertEqual(volume.pread(handle, 0, 9), b"kept")
+        volume.rmdir("/d")
+        self.assertEqual(volume.readdir("/"), [])
+
     def test_what_was_synced_is_there_again(self):
         volume = self.mounted()
         handle = volume.create(b"/n\xc3\xa4me\\")

@@ -5,6 +5,7 @@
 pub mod passing;
 pub mod room;
 
+pub use lfs_log as volume_log;
 pub use lfs_log::{Log, LogFault};
 pub use passing::pass;
 pub use room::{has_quarter, make_room};

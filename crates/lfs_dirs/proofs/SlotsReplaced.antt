@@ -12,7 +12,7 @@ use Rattle.lfs_model.specs.TreeOf.{map_of}
 use Rattle.lfs_model.proofs.Decoding.{slot_some}
 use Rattle.lfs_files.specs.declared.header.Header.{Header}
 use Rattle.lfs_files.specs.Headers.{as_header, resized}
-use Rattle.lfs_files.specs.Files.{FilesState, IsFault, Reads, Redrafts, Writes, WritesFile}
+use Rattle.lfs_files.specs.Files.{AreCounted, Counted, Counts, FilesState, IsFault, Reads, Redrafts, Writes, WritesFile}
 use Rattle.lfs_files.proofs.FilesCompose.{writes_behind}
 use Rattle.lfs_dirs.specs.declared.searching.Found.{Found}
 use Rattle.lfs_dirs.specs.Adding.{slot_for}
@@ -130,3 +130,8 @@ fails_behind s a s' d head reads failed m m' keeps has dir =
     let rose = failed m m' keeps (reads.has m m' has) in
     let before = reads.looks.carries.failures in
     omega (arith, rose, before)
+
+-- the totals of what is written behind the search are those behind none
+pub counts_searched : {S D : Type 0} (s a s' : FilesState S D) → Reads s a → Counts a s' → Counts s s'
+counts_searched s a s' reads counts m x y keeps has has' map map' are =
+    counts m x y keeps (reads.has m x has) has' map map' (subst (λ (t : Counted). AreCounted x t) (sym reads.drafted) are)

@@ -1,18 +1,34 @@
 -- A draft that takes a name out of a directory.
 use Rattle.std.specs.Prelude.{max}
-use Rattle.std.specs.Int.{div_ceil}
-use Rattle.std.proofs.Common.{◌≡◌, ◌<◌, ◌≤◌, ◌+◌, ◌*◌, ◌-◌, ◌/◌, ◌%◌, ℕ, List, [], length, get_or, Option, Some, None, refl, sym, ◌∙◌, ap, subst, arith}
+use Rattle.std.proofs.Common.{◌≡◌, ◌≢◌, ◌<◌, ◌≤◌, ◌+◌, ◌*◌, ◌-◌, ◌/◌, ◌%◌, ℕ, List, [], length, get_or, Option, Some, None, refl, sym, ◌∙◌, ap, subst, arith}
+use Rattle.lfs_model.specs.Encodes.{IsLogMap}
 use Rattle.lfs_model.specs.Fields.{part}
+use Rattle.lfs_model.specs.Objects.{AreLong, IsDirectory, IsObject}
 use Rattle.lfs_model.specs.Stands.{LogMap}
+use Rattle.lfs_model.proofs.ObjectBytes.{cut_ends}
+use Rattle.lfs_model.proofs.ObjectMaps.{object_fits, object_kept}
 use Rattle.lfs_files.specs.declared.header.Header.{Header}
-use Rattle.lfs_files.specs.Files.{FilesState, HasSized, IsApart, IsFault, Reads, Redrafts, SetsLen, TellsBlock, Writes, WritesFile}
+use Rattle.lfs_files.specs.Files.{AreCounted, Counted, Counts, FilesState, HasFile, HasShrunk, IsApart, IsFault, Reads, Redrafts, Shrinks, TellsBlock, Writes, WritesFile}
 use Rattle.lfs_files.specs.Headers.{FitsHeader, as_header, resized}
+use Rattle.lfs_files.proofs.FilesCompose.{still_apart}
 use Rattle.lfs_dirs.specs.declared.searching.Found.{Found}
 use Rattle.lfs_dirs.specs.Directory.{slots_at}
 use Rattle.lfs_dirs.specs.Searching.{FindsSlot}
-use Rattle.lfs_dirs.specs.Taking.{Drops, HasDropped, ReadsSlot, Takes, TakesDrop, shrunk}
+use Rattle.lfs_dirs.specs.Taking.{CountsDropped, CutsSlot, Drops, HasDropped, ReadsSlot, Takes, TakesDrop, shrunk}
 use Rattle.lfs_dirs.proofs.SlotPlaces.{slot_in_block, slots_many}
 use Rattle.lfs_dirs.proofs.SlotsTaken.{file_cut, file_moved, slots_dropped, slots_moved, takes_name}
+
+-- A directory that is cut in a log map is one in a log map that a volume may keep.
+pub cut_kept : (m l : LogMap) (d : ℕ) (head : Header) → head.size ≤ 65536 → HasFile m d head → AreLong m d → CutsSlot m l d head → IsLogMap l
+cut_kept m l d head few there long cut =
+    let was = object_fits m d (as_header head) there.map long there.there (omega (arith, few)) in
+    object_kept m l d (as_header (shrunk head)) there.map cut.only cut.header record {
+      number = was.number;
+      root = was.root;
+      size = omega (arith, few);
+      whole = cut.whole was.whole;
+      ends = cut.ends;
+    }
 
 module _ {S D : Type 0} where
   -- ---- one slot
@@ -20,28 +36,31 @@ module _ {S D : Type 0} where
   slot_read s s' d place block slot is told m m' keeps has head inside = slot_in_block m' d head place block (told m m' keeps has) inside ∙ sym is
 
   -- ---- the last slot goes
-  pub drops_last : (s s' : FilesState S D) (d : ℕ) (head : Header) (place : ℕ) → place + 1 ≡ head.size / 64 → SetsLen s s' d head (head.size - 64) → Drops s s' d head place
-  drops_last s s' d head place last sets = record {
-    lost = sets.cut (omega (arith, last));
-    headers = let few = sets.headers in omega (arith, few);
-    blocks = let few = sets.blocks in omega (arith, few);
-    fits = λ m m' keeps has takes. sets.fits m m' has takes.there takes.header;
+  pub drops_last : (s s' : FilesState S D) (d : ℕ) (head : Header) (place : ℕ) → place + 1 ≡ head.size / 64 → Shrinks s s' d head (head.size - 64) → Drops s s' d head place
+  drops_last s s' d head place last shrinks = record {
+    lost = shrinks.lost;
+    headers = let few = shrinks.headers in omega (arith, few);
+    blocks = let few = shrinks.blocks in omega (arith, few);
+    fits = λ m m' keeps has fit takes. shrinks.fits m m' has fit record { there = takes.there; apart = takes.apart; within = λ none. absurd (takes.staged none); header = takes.header };
     has = λ m m' keeps has.
-        let f = sets.file m m' keeps has in
+        let f = shrinks.has m m' keeps has in
         record {
           map = f.map;
           has = f.has;
-          file = file_cut m' f.map d head (omega (arith, last)) f.file;
-          slots = λ even. slots_dropped m' f.map d head place last (f.file.shorter (omega (arith, last)));
+          file = λ there. file_cut m' f.map d head (omega (arith, last)) (f.file there);
+          slots = λ there. slots_dropped m' f.map d head place last ((f.file there).shorter (omega (arith, last)));
         };
   }
 
+  pub counts_last : (s s' : FilesState S D) (d : ℕ) (head : Header) → Counts s s' → CountsDropped s s' d head
+  counts_last s s' d head counts m a b keeps has has' there long map are = counts m a b keeps has has' there.map map are
+
   -- ---- or comes into another's place
   module _ (s a b s' : FilesState S D) (d : ℕ) (head : Header) (place : ℕ) (slot : List ℕ) (inside : place + 1 < head.size / 64) (long : length slot ≡ 64)
-      (reads : Reads s a) (more : Redrafts a b) (last : Redrafts b s') (found : ReadsSlot s a d (head.size / 64 - 1) slot) (sets : SetsLen a b d head (head.size - 64))
+      (reads : Reads s a) (more : Redrafts a b) (last : Redrafts b s') (found : ReadsSlot s a d (head.size / 64 - 1) slot) (shrinks : Shrinks a b d head (head.size - 64))
       (writes : Writes b s' d (shrunk head) (64 * place) slot) where
-    sized : (m m' : LogMap) → s'.device.keeps_model → s.has m m' → HasSized b m m' d head (shrunk head) (head.size - 64)
-    sized m m' keeps has = sets.file m m' (last.looks.carries.kept_before keeps) (reads.has m m' has)
+    sized : (m m' : LogMap) → s'.device.keeps_model → s.has m m' → HasShrunk b m m' d head (head.size - 64)
+    sized m m' keeps has = shrinks.has m m' (last.looks.carries.kept_before keeps) (reads.has m m' has)
 
     size : max (head.size - 64) (64 * place + length slot) ≡ head.size - 64
     size = omega (arith, long, inside)
@@ -59,36 +78,48 @@ module _ {S D : Type 0} where
         record {
           map = f.map;
           has = f.has;
-          file = file_moved m' cut.map f.map d head place slot inside long cut.file file;
-          slots = λ even. slots_moved m' cut.map f.map d head place slot inside long (read m m' keeps has) (cut.file.shorter (omega (arith, inside))) file.bytes;
+          file = λ there. file_moved m' cut.map f.map d head place slot inside long (cut.file there) file;
+          slots = λ there. slots_moved m' cut.map f.map d head place slot inside long (read m m' keeps has) ((cut.file there).shorter (omega (arith, inside))) file.bytes;
         }
 
-    still_apart : IsApart s'.lost d → IsApart b.lost d
-    still_apart is = record { inode = sym (writes.lost _) ∙ is.inode; above = λ i. sym (writes.lost _) ∙ is.above i }
+    apart_then : IsApart s.lost d → IsApart b.lost d
+    apart_then is =
+        let was = still_apart s a d reads is in
+        record { inode = shrinks.lost _ ∙ was.inode; above = λ i. shrinks.lost _ ∙ was.above i }
 
-    fitting : (m m' : LogMap) → s'.device.keeps_model → s.has m m' → TakesDrop s' m m' d head place → s'.fits m
-    fitting m m' keeps has takes =
+    fitting : (m m' : LogMap) → s'.device.keeps_model → s.has m m' → s.fits m → TakesDrop s m m' d head → s'.fits m
+    fitting m m' keeps has fit takes =
         let cut = sized m m' keeps has in
-        writes.fits m cut.map cut.has (sets.fits m m' (reads.has m m' has) takes.there takes.header) record {
-          there = cut.file.header;
-          apart = still_apart (takes.apart inside);
-          within = λ none. let bad : Some (as_header head) ≡ None = sym takes.staged ∙ none in absurd (cc);
+        let shorter = shrinks.fits m m' (reads.has m m' has) (reads.fits m fit)
+        record { there = takes.there; apart = still_apart s a d reads takes.apart; within = λ none. absurd (takes.staged none); header = takes.header } in
+        writes.fits m cut.map cut.has shorter record {
+          there = cut.header;
+          apart = apart_then takes.apart;
+          within = λ none. absurd (takes.staged none);
           header = subst (λ (z : ℕ). FitsHeader head.kind head.links z) (sym size) takes.header;
         }
 
     pub drops_other : Drops s s' d head place
     drops_other = record {
-      lost = λ x. writes.lost x ∙ sets.cut (omega (arith, inside)) x;
-      headers = let few = sets.headers in let one = writes.headers in omega (arith, few, one);
-      blocks = let few = sets.blocks in let one = writes.blocks in omega (arith, few, one, long);
+      lost = λ x. writes.lost x ∙ shrinks.lost x ∙ reads.lost x;
+      headers = let few = shrinks.headers in let one = writes.headers in let same = reads.headers in omega (arith, few, one, same);
+      blocks = let few = shrinks.blocks in let one = writes.blocks in let same = reads.blocks in omega (arith, few, one, same, long);
       fits = fitting;
       has = dropped;
     }
 
+    pub counts_other : head.size ≤ 65536 → Counts a b → Counts b s' → CountsDropped s s' d head
+    counts_other few first next m x y keeps has has' there whole map are =
+        let before = last.looks.carries.kept_before keeps in
+        let cut = sized m x keeps has in
+        let kept = cut_kept x cut.map d head few there whole (file_cut x cut.map d head (omega (arith, inside)) (cut.file there)) in
+        next m cut.map y keeps cut.has has' kept map
+        (first m x cut.map before (reads.has m x has) cut.has there.map kept (subst (λ (t : Counted). AreCounted x t) (sym reads.drafted) are))
+
   -- what fails where the slot is written
-  pub fails_last : (s a b s' : FilesState S D) (d : ℕ) (head : Header) (len : ℕ) → Reads s a → Redrafts a b → Redrafts b s' → SetsLen a b d head len → IsFault b s' → IsFault s s'
-  fails_last s a b s' d head len reads more last sets failed m m' keeps has =
-      let cut = sets.file m m' (last.looks.carries.kept_before keeps) (reads.has m m' has) in
+  pub fails_last : (s a b s' : FilesState S D) (d : ℕ) (head : Header) (len : ℕ) → Reads s a → Redrafts a b → Redrafts b s' → Shrinks a b d head len → IsFault b s' → IsFault s s'
+  fails_last s a b s' d head len reads more last shrinks failed m m' keeps has =
+      let cut = shrinks.has m m' (last.looks.carries.kept_before keeps) (reads.has m m' has) in
       let rose = failed m cut.map keeps cut.has in
       let one = reads.looks.carries.failures in
       let two = more.looks.carries.failures in
@@ -97,12 +128,17 @@ module _ {S D : Type 0} where
   -- ---- the slot of a name goes
   pub drops_behind : (s a s' : FilesState S D) (d : ℕ) (head : Header) (place : ℕ) → Reads s a → Drops a s' d head place → Drops s s' d head place
   drops_behind s a s' d head place reads drops = record {
-    lost = drops.lost;
-    headers = drops.headers;
-    blocks = drops.blocks;
-    fits = λ m m' keeps has. drops.fits m m' keeps (reads.has m m' has);
+    lost = λ x. drops.lost x ∙ reads.lost x;
+    headers = let more = drops.headers in let same = reads.headers in omega (arith, more, same);
+    blocks = let more = drops.blocks in let same = reads.blocks in omega (arith, more, same);
+    fits = λ m m' keeps has fit takes. drops.fits m m' keeps (reads.has m m' has) (reads.fits m fit)
+        record { staged = takes.staged; there = takes.there; header = takes.header; apart = still_apart s a d reads takes.apart };
     has = λ m m' keeps has. drops.has m m' keeps (reads.has m m' has);
   }
+
+  pub counts_behind : (s a s' : FilesState S D) (d : ℕ) (head : Header) → Reads s a → CountsDropped a s' d head → CountsDropped s s' d head
+  counts_behind s a s' d head reads counts m x y keeps has has' there long map are =
+      counts m x y keeps (reads.has m x has) has' there long map (subst (λ (t : Counted). AreCounted x t) (sym reads.drafted) are)
 
   pub takes : (s a s' : FilesState S D) (d : ℕ) (head : Header) (name : List ℕ) (found : Found) → Reads s a → Redrafts a s' → FindsSlot s a d head name (Some found)
       → Drops a s' d head found.place → Takes s s' d head name
@@ -115,6 +151,6 @@ module _ {S D : Type 0} where
           map = f.map;
           has = f.has;
           file = f.file;
-          names = λ dir. takes_name m' f.map d head name found (finds m m' (more.looks.carries.kept_before keeps) has) dir (f.slots dir.whole);
+          names = λ there dir. takes_name m' f.map d head name found (finds m m' (more.looks.carries.kept_before keeps) has) dir (f.slots there);
         };
   }

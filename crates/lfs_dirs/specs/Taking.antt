@@ -1,15 +1,14 @@
 -- A name drafted out of a directory: the last slot comes into the place of its own, and the directory is a slot shorter.
-use Rattle.std.specs.Prelude.{◌≡◌, ◌≢◌, ◌<◌, ◌≤◌, ◌+◌, ◌-◌, ◌/◌, ◌%◌, ℕ, List, [], get_or, Some, None}
+use Rattle.std.specs.Prelude.{◌≡◌, ◌≢◌, ◌<◌, ◌≤◌, ◌+◌, ◌-◌, ◌/◌, ℕ, List, [], get_or, Some, None}
 use Rattle.std.specs.FinMap.{find}
-use Rattle.std.specs.Int.{div_ceil}
 use Rattle.std.specs.List.{swap_remove}
-use Rattle.lfs_model.specs.Cutting.{is_past}
+use Rattle.lfs_model.specs.Encodes.{IsLogMap}
 use Rattle.lfs_model.specs.Entry.{Entry}
-use Rattle.lfs_model.specs.Objects.{AreWhole, IsChangedAt, IsDirectory, byte_in}
+use Rattle.lfs_model.specs.Objects.{AreLong, AreWhole, IsChangedAt, IsDirectory, byte_in}
 use Rattle.lfs_model.specs.Stands.{LogMap}
 use Rattle.lfs_model.specs.Tree.{byte_cmp, without}
 use Rattle.lfs_files.specs.declared.header.Header.{Header}
-use Rattle.lfs_files.specs.Files.{FilesState, IsApart}
+use Rattle.lfs_files.specs.Files.{AreCounted, FilesState, HasFile, IsApart}
 use Rattle.lfs_files.specs.Headers.{FitsHeader, as_header, resized}
 use Rattle.lfs_dirs.specs.Directory.{names_at, slots_at}
 
@@ -36,34 +35,39 @@ module _ {S D : Type 0} where
   ReadsSlot s s' d place slot = (m m' : LogMap) → s'.device.keeps_model → s.has m m' → (head : Header) → place < head.size / 64
       → get_or (slots_at m' d head) place [] ≡ slot
 
-  -- A log map that the draft may change: d is there, may be a slot shorter, and the slot that comes into another's place is apart from what is cut off.
-  pub record TakesDrop (s' : FilesState S D) (m m' : LogMap) (d : ℕ) (head : Header) (place : ℕ) : Type 0 where
-    pub staged : m.header d ≡ Some (as_header head)
+  -- A log map that the draft may change: d is there, apart from what is lost, and may be a slot shorter.
+  pub record TakesDrop (s : FilesState S D) (m m' : LogMap) (d : ℕ) (head : Header) : Type 0 where
+    pub staged : m.header d ≢ None
     pub there : m'.header d ≡ Some (as_header head)
     pub header : FitsHeader head.kind head.links (head.size - 64)
-    pub apart : place + 1 < head.size / 64 → IsApart s'.lost d
+    pub apart : IsApart s.lost d
 
   -- Directory d is a slot shorter, the last slot being in this place.
   pub record HasDropped (s' : FilesState S D) (m m' : LogMap) (d : ℕ) (head : Header) (place : ℕ) : Type 0 where
     pub map : LogMap
     pub has : s'.has m map
-    pub file : CutsSlot m' map d head
-    pub slots : head.size % 64 ≡ 0 → slots_at map d (shrunk head) ≡ swap_remove (slots_at m' d head) place []
+    pub file : HasFile m' d head → CutsSlot m' map d head
+    pub slots : HasFile m' d head → slots_at map d (shrunk head) ≡ swap_remove (slots_at m' d head) place []
 
-  -- A draft that cuts the last slot off, and then writes it into another's place if it isn't that one itself.
+  -- A draft that cuts the last slot off, and then writes it into another's place if it isn't that one itself. It loses nothing.
   pub record Drops (s s' : FilesState S D) (d : ℕ) (head : Header) (place : ℕ) : Type 0 where
-    pub lost : (x : Entry) → s'.lost x ≡ is_past d (div_ceil (head.size - 64) 512) x
-    pub headers : s'.headers ≤ 2
-    pub blocks : s'.blocks ≤ 2
-    pub fits : (m m' : LogMap) → s'.device.keeps_model → s.has m m' → TakesDrop s' m m' d head place → s'.fits m
+    pub lost : (x : Entry) → s'.lost x ≡ s.lost x
+    pub headers : s'.headers ≤ s.headers + 2
+    pub blocks : s'.blocks ≤ s.blocks + 2
+    pub fits : (m m' : LogMap) → s'.device.keeps_model → s.has m m' → s.fits m → TakesDrop s m m' d head → s'.fits m
     pub has : (m m' : LogMap) → s'.device.keeps_model → s.has m m' → HasDropped s' m m' d head place
+
+  -- The totals with the draft stay those of the log map with it, where directory d was there with its blocks.
+  abbrev pub CountsDropped : FilesState S D → FilesState S D → ℕ → Header → Type 0
+  CountsDropped s s' d head = (m a b : LogMap) → s'.device.keeps_model → s.has m a → s'.has m b → HasFile a d head → AreLong a d → IsLogMap b
+      → AreCounted a s.drafted → AreCounted b s'.drafted
 
   -- The name of a directory is gone.
   pub record HasTaken (s' : FilesState S D) (m m' : LogMap) (d : ℕ) (head : Header) (name : List ℕ) : Type 0 where
     pub map : LogMap
     pub has : s'.has m map
-    pub file : CutsSlot m' map d head
-    pub names : IsDirectory m' d (as_header head) → TakesName m' map d head name
+    pub file : HasFile m' d head → CutsSlot m' map d head
+    pub names : HasFile m' d head → IsDirectory m' d (as_header head) → TakesName m' map d head name
 
   -- A draft that drops the slot of a name.
   pub record Takes (s s' : FilesState S D) (d : ℕ) (head : Header) (name : List ℕ) : Type 0 where

@@ -1,13 +1,13 @@
 //! A name that comes to give another number.
-ghost use Rattle.std.specs.Prelude.{◌≡◌, ◌≤◌, IfOk, IfErr, IsTrue, IsFalse};
+ghost use Rattle.std.specs.Prelude.{◌≡◌, ◌≤◌, true, IfOk, IfErr, IsErrOf, IsTrue, IsFalse};
 ghost use Rattle.lfs_model.specs.Slot.{IsName};
-ghost use Rattle.lfs_files.specs.Files.{Reads, Redrafts};
+ghost use Rattle.lfs_files.specs.Files.{Counts, Reads, Redrafts};
 ghost use Rattle.lfs_dirs.specs.Finding.{IsDirectoryFault};
 ghost use Rattle.lfs_dirs.specs.Repointing.{Repoints, Lacks};
 
 use crate::searching::search;
 use crate::slots::SLOT;
-use lfs_files::{Files, Header, StoreFault};
+use lfs_files::{Files, Header, LogFault, StoreFault};
 use lfs_layout::encode_slot;
 
 /// Drafts another number for a name of a directory of this header, if it has the name.
@@ -30,9 +30,13 @@ pub fn repoint<F: Files>(
     requires name { IsName 59 name.now }
     ensures redrafts { Redrafts (F.state files.old) (F.state files.new) }
     ensures done { IfOk result (λ found. IsTrue found → Repoints (F.state files.old) (F.state files.new) directory header number name.now) }
+    ensures counted { IfOk result (λ found. IsTrue found
+        → Counts (F.state files.old) (F.state files.new)) }
     ensures same { IfOk result (λ found. IsFalse found → Reads (F.state files.old) (F.state files.new)) }
     ensures none { IfOk result (λ found. IsFalse found → Lacks (F.state files.old) (F.state files.new) directory header name.now) }
     ensures failed { IfErr result (λ fault. (fault ≡ StoreFault.NoMemory → ⊥) → IsDirectoryFault (F.state files.old) (F.state files.new) directory header) }
+    ensures halted { IsErrOf result (StoreFault.Log LogFault.Halted) → (F.state files.old).halted ≡ true }
+    ensures other { IsErrOf result (StoreFault.Log LogFault.Full) → ⊥ }
 {
     let found = match search(files, directory, header, name) {
         Ok(Some(found)) => found,

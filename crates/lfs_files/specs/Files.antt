@@ -65,6 +65,11 @@ pub record SizesFile (m m' : LogMap) (n : ℕ) (h h' : Header) (len : ℕ) : Typ
   pub whole : AreWhole m n → AreWhole m' n
   pub header : m'.header n ≡ Some (as_header h')
 
+-- File n is there with this header, in a log map that a volume may keep.
+pub record HasFile (m : LogMap) (n : ℕ) (h : Header) : Type 0 where
+  pub map : IsLogMap m
+  pub there : m.header n ≡ Some (as_header h)
+
 -- these are the totals of the log map
 abbrev pub AreCounted : LogMap → Counted → Type 0
 AreCounted m t = IsCounted m t.data_blocks t.meta_blocks
@@ -161,3 +166,27 @@ module _ {S D : Type 0} where
     pub blocks : s'.blocks ≤ 1
     pub fits : (m m' : LogMap) → s.has m m' → m'.header n ≡ Some (as_header head) → FitsHeader head.kind head.links len → s'.fits m
     pub file : (m m' : LogMap) → s'.device.keeps_model → s.has m m' → HasSized s' m m' n head (resized head len) len
+
+  -- ---- cutting in the last block
+
+  -- The log map may be changed so: the file is there, and apart from what is lost; one that isn't staged yet is cut below the 113th block alone.
+  pub record TakesShrink (s : FilesState S D) (m m' : LogMap) (n : ℕ) (h : Header) (len : ℕ) : Type 0 where
+    pub there : m'.header n ≡ Some (as_header h)
+    pub apart : IsApart s.lost n
+    pub within : m.header n ≡ None → len < 57344
+    pub header : FitsHeader h.kind h.links len
+
+  -- With the draft there is another log map, where the file is cut, if it was there with this header.
+  pub record HasShrunk (s' : FilesState S D) (m m' : LogMap) (n : ℕ) (h : Header) (len : ℕ) : Type 0 where
+    pub map : LogMap
+    pub has : s'.has m map
+    pub header : map.header n ≡ Some (as_header (resized h len))
+    pub file : HasFile m' n h → SizesFile m' map n h (resized h len) len
+
+  -- A draft that cuts a file in its last block, and loses nothing by it.
+  pub record Shrinks (s s' : FilesState S D) (n : ℕ) (head : Header) (len : ℕ) : Type 0 where
+    pub lost : (x : Entry) → s'.lost x ≡ s.lost x
+    pub headers : s'.headers ≤ s.headers + 1
+    pub blocks : s'.blocks ≤ s.blocks + 1
+    pub fits : (m m' : LogMap) → s.has m m' → s.fits m → TakesShrink s m m' n head len → s'.fits m
+    pub has : (m m' : LogMap) → s'.device.keeps_model → s.has m m' → HasShrunk s' m m' n head len

@@ -1,7 +1,7 @@
 //! Files by number, with the changes of one call before they are staged.
-ghost use Rattle.std.specs.Prelude.{◌≡◌, ◌<◌, ◌≤◌, ◌+◌, true, length, IfOk, IfErr, OnOk, OnErr, IsErrOf, IsFalse};
+ghost use Rattle.std.specs.Prelude.{◌≡◌, ◌<◌, ◌≤◌, ◌+◌, ◌*◌, ◌/◌, true, length, IfOk, IfErr, OnOk, OnErr, IsErrOf, IsFalse};
 ghost use Rattle.lfs_model.specs.Device.{IsLawful};
-ghost use Rattle.lfs_files.specs.Files.{Counts, FilesState, IsFault, Reads, Redrafts, SetsLen, TellsBlock, TellsHeader, Writes};
+ghost use Rattle.lfs_files.specs.Files.{Counts, FilesState, IsFault, Reads, Redrafts, SetsLen, Shrinks, TellsBlock, TellsHeader, Writes};
 
 use crate::fault::{LogFault, StoreFault};
 use crate::header::Header;
@@ -76,6 +76,25 @@ pub trait Files {
         requires empty { (state self.old).empty }
         ensures redrafts { Redrafts (state self.old) (state self.new) }
         ensures done { OnOk result (SetsLen (state self.old) (state self.new) number header len) }
+        ensures counted { OnOk result (Counts (state self.old) (state self.new)) }
+        ensures failed { IfErr result (λ fault. (fault ≡ StoreFault.NoMemory → ⊥)
+            → IsFault (state self.old) (state self.new)) }
+        ensures halted { IsErrOf result (StoreFault.Log LogFault.Halted) → (state self.old).halted ≡ true }
+        ensures other { IsErrOf result (StoreFault.Log LogFault.Full) → ⊥ };
+
+    /// Cuts a file of this header at a length in its last block, which is zeros from there on. No block is lost, so the draft may lose others.
+    ///
+    /// # Errors
+    ///
+    /// As those of `write_at`.
+    fn shrink(&mut self, number: u16, header: Header, len: u32) -> Result<(), StoreFault>
+        requires some { 1 ≤ number }
+        requires few { number ≤ 4095 }
+        requires less { len < header.size }
+        requires last { header.size ≤ 512 * (len / 512) + 512 }
+        requires most { header.size ≤ 8511488 }
+        ensures redrafts { Redrafts (state self.old) (state self.new) }
+        ensures done { OnOk result (Shrinks (state self.old) (state self.new) number header len) }
         ensures counted { OnOk result (Counts (state self.old) (state self.new)) }
         ensures failed { IfErr result (λ fault. (fault ≡ StoreFault.NoMemory → ⊥)
             → IsFault (state self.old) (state self.new)) }

@@ -81,3 +81,27 @@ module _ (h : ℕ) (ns : List ℕ) where
             let place = (are_handles ns).within k x was in
             none k place.0 ne (sym (number_found k ns x was) ∙ is))
             (cases_eq k h)
+
+-- ---- all places of a number
+
+module _ (ns : List ℕ) (n : ℕ) (some : n ≢ 0) where
+  abbrev counted : ℕ → ℕ
+  counted = λ v. if v == n then 1 else 0
+
+  pub is_open : (k : ℕ) → n ≡ get_or ns k 0 → opened (handles_of ns) n ≢ 0
+  is_open k at none =
+      let all = weight-le-total nat_cmp_total counted k n (handles_of ns) (find_open k n ns some at) in
+      let same : eqb n n ≡ true = eq-eqb n n refl in
+      let one : ◌≡◌ {A = ℕ} (if n == n then 1 else 0) 1 = rw same refl in
+      absurd (omega (arith, all, one, none))
+
+  pub is_shut : ((k : ℕ) → k < length ns → get_or ns k 0 ≢ n) → opened (handles_of ns) n ≡ 0
+  is_shut none = total_zero nat_cmp_total counted (handles_of ns) (are_handles ns).in_order (λ k x found. (
+      let apart : x ≢ n = other k x found in
+      let no : eqb x n ≡ false = grind (arith, nat_tests) in
+      rw no refl))
+    where
+      other : (k x : ℕ) → find nat_cmp k (handles_of ns) ≡ Some x → x ≢ n
+      other k x found is =
+          let place = (are_handles ns).within k x found in
+          none k place.0 (sym (number_found k ns x found) ∙ is)

@@ -1,17 +1,15 @@
 -- The ends of a call that makes an entry, from what its steps tell to the call as a step of the model.
-use Rattle.std.proofs.Common.{◌≡◌, ◌||◌, ℕ, suc, Bool, true, false, List, [], ◌∷◌, slice_index_or, Fits, w8, Option, Some, None, refl, sym, ◌∙◌, ap, subst, inl, arith}
+use Rattle.std.proofs.Common.{◌≡◌, ℕ, suc, false, List, [], ◌∷◌, slice_index_or, Fits, w8, Option, Some, refl, sym, ◌∙◌, ap, subst, arith}
 use Rattle.lfs_model.specs.Call.{Refuse, Symlink}
 use Rattle.lfs_model.specs.Bytes.{AreBytes}
 use Rattle.lfs_model.specs.Checkpoint.{CheckpointValue}
 use Rattle.lfs_model.specs.Device.{DeviceState, IsLawful}
 use Rattle.lfs_model.specs.PathText.{text_refusal}
-use Rattle.lfs_model.specs.Refusal as refusals
 use Rattle.lfs_model.specs.Refusal.{Refusal}
 use Rattle.lfs_model.specs.Stands.{LogMap}
-use Rattle.lfs_model.specs.Step.{Step, last_dots, no_last}
 use Rattle.lfs_model.specs.Tree.{State, Tree}
 use Rattle.lfs_model.specs.TreeOf.{tree_in}
-use Rattle.lfs_model.specs.Walk.{At, Parent}
+use Rattle.lfs_model.specs.Walk.{At}
 use Rattle.lfs_store.specs.memory.Batch.{IsNoChange}
 use Rattle.lfs_store.proofs.of_log.Volumes.{holds_one}
 use Rattle.lfs_store.specs.log.Held.{Reads}
@@ -22,24 +20,16 @@ use Rattle.lfs_path.specs.declared.last.Last.{Last}
 use Rattle.lfs_path.specs.Lasts.{HasLast}
 use Rattle.lfs_path.specs.Reaching.{EndsParent}
 use Rattle.lfs_fs.specs.Drafted.{WalksTo}
-use Rattle.lfs_path.proofs.LastPieces.{last_says}
 use Rattle.lfs_fs.specs.declared.fs.Fs.{Fs}
 use Rattle.lfs_fs.specs.Naming.{Reaches}
 use Rattle.lfs_fs.specs.Seen.{Begins, seen}
 use Rattle.lfs_fs.specs.Volume.{IsIn, IsStill, Mounted, Serves, segments_of}
 use Rattle.lfs_fs.proofs.Accepted.{InEach, OfEach}
-use Rattle.lfs_fs.proofs.Behaving.{IsOrdinary}
-use Rattle.lfs_fs.proofs.CallSteps.{refused_not_worn}
-use Rattle.lfs_fs.proofs.EntrySteps.{NewCall, new_dots}
-use Rattle.lfs_fs.proofs.Ending.{not_acknowledged}
-use Rattle.lfs_fs.proofs.Files.{dir_there}
-use Rattle.lfs_model.proofs.Keeps.{parent_dir}
 use Rattle.lfs_fs.proofs.NameLooks.{only_none}
 use Rattle.lfs_fs.proofs.NamingEnds.{still_read, was_running}
 use Rattle.lfs_fs.proofs.PathSteps.{symlink_bad_text, text_ordinary}
 use Rattle.lfs_fs.proofs.Told.{refused_serves}
 use Rattle.lfs_fs.proofs.WalkEnds.{walked}
-use Rattle.lfs_fs.proofs.Serving.{served_still}
 
 module _ {D : Type 0} (state : D → DeviceState) where
   -- one volume after another that were only read
@@ -98,32 +88,3 @@ module _ {D : Type 0} (state : D → DeviceState) (lawful : (d : D) → IsLawful
   text_ends text path r bad = refused_serves state (seen begun) (seen begun) (Symlink text path) (lawful begun.store.log.device) (only_none state begun).still
       (ap (λ (v : Mounted D). v.log.halted) begins.same ∙ begins.running) r (text_ordinary text r bad) refl
       (λ k m0 m s keeps is. symlink_bad_text (segments_of (seen begun)) s path text is.log.sound.named r bad)
-
--- ---- refusals that the log map and the state tell
-
-module _ {D : Type 0} (state : D → DeviceState) (lawful : (d : D) → IsLawful (state d)) (v : Mounted D) (old : Fs D) (path : List ℕ) (d : ℕ) (of : NewCall (segments_of v) path d)
-    (piece : Option Last) (reached : Reaches state v old path d piece) (running : old.store.log.halted ≡ false) where
-  pub entry_refuses : (new : Fs D) → IsStill state (seen old) (seen new) → (r : Refusal) → IsOrdinary (Refuse r)
-      → ((k : CheckpointValue) (m0 m : LogMap) (s : State) → (state new.store.log.device).keeps_model → (is : IsIn state v k m0 m s) → Parent s.tree path (At d) → Step (segments_of v) s of.call (Refuse r) s)
-      → Serves state v (seen new) of.call (Refuse r)
-  entry_refuses new still r ordinary steps = served_still state v (seen new) of.call (Refuse r) (lawful v.log.device) (still_more state v (seen old) (seen new) (lawful v.log.device) reached.still still) (sym reached.still.reads.halted ∙ running)
-      ordinary (λ p keeps here k m0 m is. (
-      let walk = reached.walk k m0 m p.state (still.reads.looks.carries.kept_before keeps) is in
-      let step = steps k m0 m p.state keeps is walk in
-      inl (step, refused_not_worn (segments_of v) of.call p r p.state step of.unclean)))
-      (not_acknowledged of.call r)
-
-  -- a path without a piece
-  pub no_piece_ends : piece ≡ None → Serves state v (seen old) of.call (Refuse refusals.Exist)
-  no_piece_ends none =
-      let says : no_last path ≡ true = last_says path None (subst (HasLast path) none reached.last) in
-      entry_refuses old (only_none state old).still refusals.Exist tt
-      (λ k m0 m s keeps is walk. new_dots (segments_of v) s path d of.call of.kind of.is_mkdir (of.makes s is.version walk) (ap (λ (b : Bool). b || last_dots path) says))
-
-  -- no directory has number 0
-  pub zero_ends : d ≡ 0 → Serves state v (seen old) of.call (Refuse refusals.Device)
-  zero_ends zero_is = served_still state v (seen old) of.call (Refuse refusals.Device) (lawful v.log.device) reached.still (sym reached.still.reads.halted ∙ running) tt (λ p keeps here k m0 m is. absurd (
-      let dir = (parent_dir (segments_of v) p.state is.log.sound path d (reached.walk k m0 m p.state keeps is)).0 in
-      let low = (is.log.sound.numbers d (dir_there p.state.tree d dir)).0 in
-      omega (arith, zero_is, low)))
-      (not_acknowledged of.call refusals.Device)

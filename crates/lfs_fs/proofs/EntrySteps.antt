@@ -9,7 +9,7 @@ use Rattle.lfs_model.specs.Call.{Answer, AreArguments, Call, Create, Done, Handl
 use Rattle.lfs_model.specs.Inode.{IsSize}
 use Rattle.lfs_model.specs.Need.{need}
 use Rattle.lfs_model.specs.PathText.{slash, text_refusal}
-use Rattle.lfs_model.specs.Refusal.{Refusal, DirFull, Exist, NameTooLong, NoEntry, NoNumber, NoSpace, TooManyLinks, TooManyOpen}
+use Rattle.lfs_model.specs.Refusal.{Refusal, NoEntry, NoNumber, NoSpace, TooManyLinks, TooManyOpen}
 use Rattle.lfs_model.specs.Step.{PathEnds, Step, checked, is_full, is_long, is_there, last_dots, makes_link, new_entry, no_last, no_number, no_space, outcome, path_of, second_path_of, text_check, when, with_new, with_tree}
 use Rattle.lfs_model.specs.Tree.{Dir, File, Handles, Link, Node, State, Tree, least, least_handle, links}
 use Rattle.lfs_model.specs.Walk.{At, Parent}
@@ -18,6 +18,7 @@ use Rattle.lfs_store.specs.memory.Changing.{FitsHeader}
 use Rattle.lfs_model.proofs.Keeps.{good_text}
 use Rattle.lfs_fs.specs.Naming.{NewKind, kind_of_new, new_directory, new_file, new_link, text_of_new}
 use Rattle.lfs_fs.proofs.Checks.{below, not_below, passes, refuses}
+use Rattle.lfs_fs.proofs.NewEntrySteps.{ChecksNew, new_taken, step_new}
 
 -- a new object of a kind
 abbrev pub new_node : NewKind → Node
@@ -169,81 +170,47 @@ module _ (N : ℕ) (s : State) (p : List ℕ) (d : ℕ) (call : Call) (k : NewKi
   abbrev made : Answer × State
   made = (e.answer, with_entry)
 
-  step_new : (a : Answer) (s' : State) → outcome N s call (At d) (At 1) ≡ (a, s') → Step N s call a s'
-  step_new a s' is = record { first_end = At d; second_end = At 1; first = e.first; second = e.second; answer = ap (λ r. r.0) is; state = ap (λ r. r.1) is }
-
   abbrev from_space : List (Bool × Answer)
   from_space = no_space N grown ∷ []
 
   abbrev from_number : List (Bool × Answer)
   from_number = no_number s.tree ∷ from_space
 
-  abbrev from_own : List (Bool × Answer)
-  from_own = when e.own e.why ∷ from_number
+  -- the rule of a new entry comes first
+  abbrev pub checks_new : ChecksNew N s p d call is_mkdir
+  checks_new = record {
+    first_end = At d;
+    second_end = At 1;
+    rest = when e.own e.why ∷ from_number;
+    otherwise = made;
+    first = e.first;
+    second = e.second;
+    is = e.is;
+  }
 
-  abbrev from_full : List (Bool × Answer)
-  from_full = when (is_full s.tree d) DirFull ∷ from_own
+  step_made : (a : Answer) (s' : State) → outcome N s call (At d) (At 1) ≡ (a, s') → Step N s call a s'
+  step_made = step_new N s p d call is_mkdir checks_new
 
-  abbrev from_slash : List (Bool × Answer)
-  from_slash = when (slash p && not is_mkdir) NoEntry ∷ from_full
+  module _ (named : (no_last p || last_dots p) ≡ false) (short : is_long s.tree d p ≡ false) (new : is_there s.tree d p ≡ false) (plain : (slash p && not is_mkdir) ≡ false) (free : is_full s.tree d ≡ false) where
+    a_free : outcome N s call (At d) (At 1) ≡ checked s (when e.own e.why ∷ from_number) made
+    a_free = new_taken N s p d call is_mkdir checks_new record { named = named; short = short; new = new; plain = plain; free = free }
 
-  abbrev from_there : List (Bool × Answer)
-  from_there = when (is_there s.tree d p) Exist ∷ from_slash
+    pub new_own : e.own ≡ true → Step N s call (Refuse e.why) s
+    new_own own = step_made (Refuse e.why) s (a_free ∙ refuses s e.own (Refuse e.why) from_number made own)
 
-  abbrev from_long : List (Bool × Answer)
-  from_long = when (is_long s.tree d p) NameTooLong ∷ from_there
+    module _ (allowed : e.own ≡ false) where
+      an_allowed : outcome N s call (At d) (At 1) ≡ checked s from_number made
+      an_allowed = a_free ∙ passes s e.own (Refuse e.why) from_number made allowed
 
-  pub new_dots : (no_last p || last_dots p) ≡ true → Step N s call (Refuse Exist) s
-  new_dots dots = step_new (Refuse Exist) s (e.is ∙ refuses s (no_last p || last_dots p) (Refuse Exist) from_long made dots)
+      pub new_no_number : 4095 < least s.tree → Step N s call (Refuse NoNumber) s
+      new_no_number all = step_made (Refuse NoNumber) s (an_allowed ∙ refuses s (nat_lt 4095 (least s.tree)) (Refuse NoNumber) from_space made (below 4095 (least s.tree) all))
 
-  module _ (named : (no_last p || last_dots p) ≡ false) where
-    a_name : outcome N s call (At d) (At 1) ≡ checked s from_long made
-    a_name = e.is ∙ passes s (no_last p || last_dots p) (Refuse Exist) from_long made named
+      module _ (number : least s.tree ≤ 4095) where
+        a_number : outcome N s call (At d) (At 1) ≡ checked s from_space made
+        a_number = an_allowed ∙ passes s (nat_lt 4095 (least s.tree)) (Refuse NoNumber) from_space made (not_below 4095 (least s.tree) number)
 
-    pub new_long : is_long s.tree d p ≡ true → Step N s call (Refuse NameTooLong) s
-    new_long long = step_new (Refuse NameTooLong) s (a_name ∙ refuses s (is_long s.tree d p) (Refuse NameTooLong) from_there made long)
+        pub new_no_space : 47 * N < need grown → Step N s call (Refuse NoSpace) s
+        new_no_space lacks = step_made (Refuse NoSpace) s (a_number ∙ refuses s (nat_lt (47 * N) (need grown)) (Refuse NoSpace) [] made (below (47 * N) (need grown) lacks))
 
-    module _ (short : is_long s.tree d p ≡ false) where
-      a_short : outcome N s call (At d) (At 1) ≡ checked s from_there made
-      a_short = a_name ∙ passes s (is_long s.tree d p) (Refuse NameTooLong) from_there made short
-
-      pub new_there : is_there s.tree d p ≡ true → Step N s call (Refuse Exist) s
-      new_there there = step_new (Refuse Exist) s (a_short ∙ refuses s (is_there s.tree d p) (Refuse Exist) from_slash made there)
-
-      module _ (new : is_there s.tree d p ≡ false) where
-        a_new : outcome N s call (At d) (At 1) ≡ checked s from_slash made
-        a_new = a_short ∙ passes s (is_there s.tree d p) (Refuse Exist) from_slash made new
-
-        pub new_slash : (slash p && not is_mkdir) ≡ true → Step N s call (Refuse NoEntry) s
-        new_slash ends = step_new (Refuse NoEntry) s (a_new ∙ refuses s (slash p && not is_mkdir) (Refuse NoEntry) from_full made ends)
-
-        module _ (plain : (slash p && not is_mkdir) ≡ false) where
-          a_plain : outcome N s call (At d) (At 1) ≡ checked s from_full made
-          a_plain = a_new ∙ passes s (slash p && not is_mkdir) (Refuse NoEntry) from_full made plain
-
-          pub new_full : is_full s.tree d ≡ true → Step N s call (Refuse DirFull) s
-          new_full full = step_new (Refuse DirFull) s (a_plain ∙ refuses s (is_full s.tree d) (Refuse DirFull) from_own made full)
-
-          module _ (free : is_full s.tree d ≡ false) where
-            a_free : outcome N s call (At d) (At 1) ≡ checked s from_own made
-            a_free = a_plain ∙ passes s (is_full s.tree d) (Refuse DirFull) from_own made free
-
-            pub new_own : e.own ≡ true → Step N s call (Refuse e.why) s
-            new_own own = step_new (Refuse e.why) s (a_free ∙ refuses s e.own (Refuse e.why) from_number made own)
-
-            module _ (allowed : e.own ≡ false) where
-              an_allowed : outcome N s call (At d) (At 1) ≡ checked s from_number made
-              an_allowed = a_free ∙ passes s e.own (Refuse e.why) from_number made allowed
-
-              pub new_no_number : 4095 < least s.tree → Step N s call (Refuse NoNumber) s
-              new_no_number all = step_new (Refuse NoNumber) s (an_allowed ∙ refuses s (nat_lt 4095 (least s.tree)) (Refuse NoNumber) from_space made (below 4095 (least s.tree) all))
-
-              module _ (number : least s.tree ≤ 4095) where
-                a_number : outcome N s call (At d) (At 1) ≡ checked s from_space made
-                a_number = an_allowed ∙ passes s (nat_lt 4095 (least s.tree)) (Refuse NoNumber) from_space made (not_below 4095 (least s.tree) number)
-
-                pub new_no_space : 47 * N < need grown → Step N s call (Refuse NoSpace) s
-                new_no_space lacks = step_new (Refuse NoSpace) s (a_number ∙ refuses s (nat_lt (47 * N) (need grown)) (Refuse NoSpace) [] made (below (47 * N) (need grown) lacks))
-
-                pub new_done : need grown ≤ 47 * N → Step N s call e.answer with_entry
-                new_done room = step_new e.answer with_entry (a_number ∙ passes s (nat_lt (47 * N) (need grown)) (Refuse NoSpace) [] made (not_below (47 * N) (need grown) room))
+        pub new_done : need grown ≤ 47 * N → Step N s call e.answer with_entry
+        new_done room = step_made e.answer with_entry (a_number ∙ passes s (nat_lt (47 * N) (need grown)) (Refuse NoSpace) [] made (not_below (47 * N) (need grown) room))

@@ -105,7 +105,7 @@ module _ {D : Type 0} (state : D → DeviceState) (old mid : Fs D) (lawful : IsL
       → (fault ≡ walk.Log log.Halted → old.store.log.halted ≡ true) → (fault ≡ walk.Log log.Full → ⊥) → Serves state (seen old) (seen mid) call (Refuse (refusal_of e))
   path_without W call free unclean memory steps fault e is ends halted other =
       subst (λ (f : FsError). Serves state (seen old) (seen mid) call (Refuse (refusal_of f))) (sym is)
-      (walk_ends state (seen old) (seen mid) lawful first.still was old.store.draft.changes empty W call free unclean memory steps fault halted other ends)
+      (walk_ends state (seen old) (seen mid) lawful first.still was old.store.draft.changes empty W call free unclean memory (λ k m0 m s keeps is. steps (segments_of (seen old)) s) fault halted other ends)
 
   module _ (p : List ℕ) (follow : Bool) (n : ℕ) (walk : WalksTo state old.store.log mid.store.log old.store.draft.changes (EndsResolve p follow) (At n)) where
     -- a walk of the log map is one of the state

@@ -1,5 +1,5 @@
 -- Walks of a path over a volume's tree, and the ends of calls that they end.
-use Rattle.std.proofs.Common.{◌≡◌, ℕ, true, false, refl, sym, ◌∙◌, ap, subst, inl, inr, arith}
+use Rattle.std.proofs.Common.{◌≡◌, true, false, refl, sym, ◌∙◌, ap, subst, inl, inr, arith}
 use Rattle.lfs_model.specs.Call.{Call, Refuse, cleans, commits, takes_no_memory}
 use Rattle.lfs_model.specs.Checkpoint.{CheckpointValue}
 use Rattle.lfs_model.specs.Device.{DeviceState, IsLawful}
@@ -49,10 +49,11 @@ module _ {D : Type 0} (state : D → DeviceState) (old new : Mounted D) (lawful 
 
   -- a walk without an end refuses the call
   module _ (call : Call) (free : commits call ≡ false) (unclean : cleans call ≡ false) (memory : takes_no_memory call ≡ false)
-      (steps : (N : ℕ) (s : State) (r : Refusal) → W s.tree (Refused r) → Step N s call (Refuse r) s) where
+      (steps : (k : CheckpointValue) (m0 m : LogMap) (s : State) → (state new.log.device).keeps_model → IsIn state old k m0 m s
+      → (r : Refusal) → W s.tree (Refused r) → Step (segments_of old) s call (Refuse r) s) where
     walk_refused : (r : Refusal) → IsOrdinary (Refuse r) → WalksTo state old.log new.log c W (Refused r) → Serves state old new call (Refuse r)
     walk_refused r ordinary walks = served_still state old new call (Refuse r) lawful still was ordinary (λ p keeps here k m0 m is. (
-        let step = steps (segments_of old) p.state r (walked (Refused r) walks k m0 m p.state keeps is) in
+        let step = steps k m0 m p.state keeps is r (walked (Refused r) walks k m0 m p.state keeps is) in
         inl (step, refused_not_worn (segments_of old) call p r p.state step unclean)))
         (not_acknowledged call r)
 

@@ -10,4 +10,8 @@ pub mod Reading
 pub mod Naming
 pub mod Scripts
 pub mod Drafted
+pub mod Unlinking
+pub mod Renaming
+pub mod Removing
+pub mod HardLinks
 pub use Rattle.lfs_store.specs.log

@@ -97,6 +97,20 @@ impl Handles {
         }
         false
     }
+
+    /// Whether a handle is open on a file.
+    pub fn gives(&self, number: u16) -> bool
+        requires { number ≢ 0 }
+        ensures open { IsTrue result → opened (handles_of self.now.numbers.items) number ≢ 0 }
+        ensures shut { IsFalse result → opened (handles_of self.now.numbers.items) number ≡ 0 }
+    {
+        for handle in 0..64u32 {
+            if self.numbers[handle as usize] == number {
+                return true;
+            }
+        }
+        false
+    }
 }
 
 /// The open handles of a table are in order, each is a place of it, and none has the number 0.

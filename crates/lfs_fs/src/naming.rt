@@ -1,5 +1,5 @@
 //! Calls that find a file by its path, or make one.
-ghost use Rattle.std.specs.Prelude.{◌≡◌, ◌≤◌, ◌<◌, ◌+◌, ◌&&◌, not, ℕ, List, None, false, IfOk, IfErr, OnOk, OnErr};
+ghost use Rattle.std.specs.Prelude.{◌≡◌, ◌≤◌, ◌<◌, ◌+◌, ◌&&◌, not, ℕ, List, None, false, IfSome, IfOk, IfErr, OnOk, OnErr};
 ghost use Rattle.lfs_model.specs.Call.{Open, Create, Done, Handle, Mkdir};
 ghost use Rattle.lfs_model.specs.PathText.{text_refusal};
 ghost use Rattle.lfs_model.specs.Slot.{IsName};
@@ -20,13 +20,13 @@ use lfs_path::tree::{parent, resolve};
 use lfs_store::Header;
 
 /// The most bytes of a name.
-const LONGEST_NAME: usize = 59;
+pub(crate) const LONGEST_NAME: usize = 59;
 
 /// The most bytes of a directory that takes a further entry: 1,023 slots.
 const MOST_SLOTS: u32 = 65_472;
 
-/// The most links of a directory: 2, and one for each directory in it.
-const MOST_LINKS: u32 = 1_000;
+/// The most links of an object; a directory has 2, and one for each directory in it.
+pub(crate) const MOST_LINKS: u32 = 1_000;
 
 impl<D: SectorDevice> Fs<D> {
     /// A handle on the file of a path: the least that is free (POSIX.1-2017, open).
@@ -172,11 +172,16 @@ impl<D: SectorDevice> Fs<D> {
     }
 
     /// The header of a directory, and the number that a name gives in it.
-    fn look_in(&mut self, directory: u16, name: &[u8]) -> Result<(Header, Option<u16>), FsError>
+    pub(crate) fn look_in(
+        &mut self,
+        directory: u16,
+        name: &[u8],
+    ) -> Result<(Header, Option<u16>), FsError>
         requires { directory ≤ 4095 }
         ensures reads { OnlyReads D.SectorDevice.state self.old self.new }
         ensures answer { IfOk result (λ found. LooksUp D.SectorDevice.state self.old self.new
             directory name.now found.0 found.1) }
+        ensures number { IfOk result (λ found. IfSome found.1 (λ number. number < 4096)) }
         ensures missing { IfErr result (LooksNone D.SectorDevice.state self.old self.new
             directory) }
     {

@@ -2,9 +2,9 @@
 
 use crate::volume::{root, store_with};
 use lfs_device::MemDevice;
+use lfs_fs::path::dirs::{Entry, find, list, repoint, take};
+use lfs_fs::store::Store;
 use lfs_layout::is_name;
-use lfs_path::dirs::{Entry, find, list, repoint, take};
-use lfs_store::Store;
 use std::alloc::Global;
 use std::test::Fail;
 

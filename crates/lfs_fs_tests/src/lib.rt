@@ -16,4 +16,6 @@ mod stops;
 #[cfg(test)]
 mod tree;
 #[cfg(test)]
+mod unlinking;
+#[cfg(test)]
 mod volume;

@@ -2,11 +2,11 @@
 
 use crate::volume::store_with;
 use lfs_device::MemDevice;
+use lfs_fs::path::text::check_text;
+use lfs_fs::path::tree::{parent, resolve};
+use lfs_fs::path::{Last, WalkFault};
+use lfs_fs::store::Store;
 use lfs_model::Kind;
-use lfs_path::text::check_text;
-use lfs_path::tree::{parent, resolve};
-use lfs_path::{Last, WalkFault};
-use lfs_store::Store;
 use std::alloc::Global;
 use std::test::Fail;
 

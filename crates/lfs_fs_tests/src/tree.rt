@@ -2,12 +2,12 @@
 
 use crate::volume::{mounted, store_with};
 use lfs_device::MemDevice;
+use lfs_fs::path::dirs::add;
+use lfs_fs::path::tree::{parent, resolve};
+use lfs_fs::path::{Last, WalkFault};
+use lfs_fs::store::{Header, Store};
 use lfs_layout::is_name;
 use lfs_model::Kind;
-use lfs_path::dirs::add;
-use lfs_path::tree::{parent, resolve};
-use lfs_path::{Last, WalkFault};
-use lfs_store::{Header, Store};
 use std::alloc::Global;
 use std::test::Fail;
 

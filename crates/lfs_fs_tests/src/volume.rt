@@ -2,11 +2,11 @@
 ghost use Rattle.std.specs.Prelude.{◌≤◌};
 
 use lfs_device::MemDevice;
+use lfs_fs::path::dirs::add;
+use lfs_fs::store::{Header, Store};
 use lfs_fs::{Fs, format};
 use lfs_layout::is_name;
 use lfs_model::Kind;
-use lfs_path::dirs::add;
-use lfs_store::{Header, Store};
 use std::alloc::Global;
 use std::test::Fail;
 

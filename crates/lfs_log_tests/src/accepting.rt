@@ -8,8 +8,8 @@ use crate::store_steps::Step::{Accepts, Calls, Commits, Counts, Drafts, On, Sees
 use crate::store_steps::check;
 use crate::volume::Wrong;
 use lfs_device::{DeviceCall, Left};
-use lfs_log::LogFault;
 use lfs_store::StoreFault;
+use lfs_store::volume_log::LogFault;
 
 #[test]
 fn an_accepted_draft_stays(rt: HostRuntime) -> Result<(), Wrong> {

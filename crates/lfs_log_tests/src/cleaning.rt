@@ -6,7 +6,7 @@ use crate::log_steps::Step::{Done, On, Refused, Sees};
 use crate::log_steps::{Step, check};
 use crate::volume::Wrong;
 use lfs_device::{DeviceCall, Left};
-use lfs_log::LogFault;
+use lfs_store::volume_log::LogFault;
 use std::alloc::Global;
 
 /// Segments 1 to 3 have one block of file 2 each that lives, and segment 0 nothing of it; file 3

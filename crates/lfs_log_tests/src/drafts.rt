@@ -2,8 +2,8 @@
 ghost use Rattle.std.specs.Prelude.{◌<◌, ◌≤◌};
 
 use crate::plain::{NO_FILE, PlainMap, edge, number_of};
-use lfs_log::{Changes, Cut, Header, LastLink, Loss, Removal};
 use lfs_model::Kind;
+use lfs_store::volume_log::{Changes, Cut, Header, LastLink, Loss, Removal};
 use std::alloc::{AllocError, Global};
 
 /// Numbers that a seed chooses.

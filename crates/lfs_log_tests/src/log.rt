@@ -8,7 +8,7 @@ use crate::log_steps::Step::{Done, On, Refused, Sees};
 use crate::log_steps::{EDGES, Step, check, prepared, run};
 use crate::volume::Wrong;
 use lfs_device::{DeviceCall, Left, MemDevice};
-use lfs_log::LogFault;
+use lfs_store::volume_log::LogFault;
 use std::alloc::Global;
 
 const NOTHING: [Step; 0] = [];

@@ -4,8 +4,8 @@ ghost use Rattle.std.specs.Prelude.{◌≡◌, ◌<◌, ◌≤◌};
 use crate::devices::{Probe, is_probe_well};
 use crate::volume::{Wrong, new_volume};
 use lfs_device::{MemDevice, SectorDevice};
-use lfs_log::{Changes, Cut, Header, LastLink, Log, LogFault, Loss};
 use lfs_model::Kind;
+use lfs_store::volume_log::{Changes, Cut, Header, LastLink, Log, LogFault, Loss};
 use std::alloc::Global;
 
 /// A change of files, or a commit.

@@ -8,7 +8,7 @@ use crate::plain::{NO_FILE, PlainMap, number_of};
 use crate::volume::{Flaw, Wrong, new_volume};
 use crate::wired::{Faults, NO_FAULT, WiredDevice};
 use lfs_device::{Left, MemDevice};
-use lfs_log::{Changes, Log, LogFault};
+use lfs_store::volume_log::{Changes, Log, LogFault};
 use std::alloc::Global;
 use std::cell::Cell;
 

@@ -4,8 +4,8 @@ ghost use Rattle.std.specs.Prelude.{◌≡◌, ◌<◌, ◌≤◌};
 use crate::devices::{Probe, is_probe_well};
 use crate::volume::{Wrong, new_volume};
 use lfs_device::MemDevice;
-use lfs_log::{Cut, Header, LastLink, LogFault, Loss, Removal};
 use lfs_model::Kind;
+use lfs_store::volume_log::{Cut, Header, LastLink, LogFault, Loss, Removal};
 use lfs_store::{BlockTotals, Draft, Measure, Store, StoreFault};
 use std::alloc::Global;
 

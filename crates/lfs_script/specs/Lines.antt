@@ -1,6 +1,6 @@
 -- The lines that a script may have so far, and how they are cut into words. What a line is, and its one text, is the model's.
 use Rattle.std.specs.Prelude.{◌≢◌, ℕ, ◌==◌, if◌then◌else◌, List, [], ◌∷◌, Option, Some, None, codes, decimal}
-use Rattle.lfs_model.specs.Call.{Create, Open, Close, Pread, Pwrite, Truncate, Mkdir, Symlink, Readlink, StatOf, LstatOf, Readdir, Fsync, Sync, Clean, Space, ListTree}
+use Rattle.lfs_model.specs.Call.{Create, Open, Close, Pread, Pwrite, Truncate, Mkdir, LinkTo, Symlink, Readlink, Unlink, Rmdir, StatOf, LstatOf, Readdir, Fsync, Sync, Clean, Space, ListTree}
 use Rattle.lfs_model.specs.Script.{Line, Plain, Fill, InRange, hex, line_of, text_of, word}
 
 -- the lines whose calls are built
@@ -13,8 +13,11 @@ IsBuilt (Plain (Pwrite handle offset bytes)) = Unit {0}
 IsBuilt (Fill handle offset len byte) = Unit {0}
 IsBuilt (Plain (Truncate handle len)) = Unit {0}
 IsBuilt (Plain (Mkdir path)) = Unit {0}
+IsBuilt (Plain (LinkTo from to)) = Unit {0}
 IsBuilt (Plain (Symlink text path)) = Unit {0}
 IsBuilt (Plain (Readlink path)) = Unit {0}
+IsBuilt (Plain (Unlink path)) = Unit {0}
+IsBuilt (Plain (Rmdir path)) = Unit {0}
 IsBuilt (Plain (StatOf path)) = Unit {0}
 IsBuilt (Plain (LstatOf path)) = Unit {0}
 IsBuilt (Plain (Readdir path)) = Unit {0}
@@ -39,8 +42,11 @@ words_of (Plain (Pwrite handle offset bytes)) = codes "pwrite" ∷ decimal handl
 words_of (Fill handle offset len byte) = codes "fill" ∷ decimal handle ∷ decimal offset ∷ decimal len ∷ decimal byte ∷ []
 words_of (Plain (Truncate handle len)) = codes "truncate" ∷ decimal handle ∷ decimal len ∷ []
 words_of (Plain (Mkdir path)) = codes "mkdir" ∷ word path ∷ []
+words_of (Plain (LinkTo from to)) = codes "link" ∷ word from ∷ word to ∷ []
 words_of (Plain (Symlink text path)) = codes "symlink" ∷ word text ∷ word path ∷ []
 words_of (Plain (Readlink path)) = codes "readlink" ∷ word path ∷ []
+words_of (Plain (Unlink path)) = codes "unlink" ∷ word path ∷ []
+words_of (Plain (Rmdir path)) = codes "rmdir" ∷ word path ∷ []
 words_of (Plain (StatOf path)) = codes "stat" ∷ word path ∷ []
 words_of (Plain (LstatOf path)) = codes "lstat" ∷ word path ∷ []
 words_of (Plain (Readdir path)) = codes "readdir" ∷ word path ∷ []

@@ -88,10 +88,15 @@ pub fn make<D: SectorDevice>(alloc: Global, fs: &mut Fs<D>, call: &Call) -> Resu
         } => fill(alloc, fs, *handle, *offset, *len, *byte).map(Answer::Count),
         Call::Truncate { handle, len } => fs.truncate(*handle, *len).map(|()| Answer::Done),
         Call::Mkdir(path) => fs.mkdir(path.as_slice()).map(|()| Answer::Done),
+        Call::Link { from, to } => fs
+            .link(from.as_slice(), to.as_slice())
+            .map(|()| Answer::Done),
         Call::Symlink { text, path } => fs
             .symlink(text.as_slice(), path.as_slice())
             .map(|()| Answer::Done),
         Call::Readlink(path) => fs.readlink(path.as_slice()).map(Answer::Text),
+        Call::Unlink(path) => fs.unlink(path.as_slice()).map(|()| Answer::Done),
+        Call::Rmdir(path) => fs.rmdir(path.as_slice()).map(|()| Answer::Done),
         Call::Stat(path) => fs.stat(path.as_slice()).map(Answer::Stat),
         Call::Lstat(path) => fs.lstat(path.as_slice()).map(Answer::Stat),
         Call::Readdir(path) => fs.readdir(path.as_slice()).map(Answer::Entries),

@@ -42,11 +42,17 @@ pub enum Call {
         len: u64,
     },
     Mkdir(Vec<u8>),
+    Link {
+        from: Vec<u8>,
+        to: Vec<u8>,
+    },
     Symlink {
         text: Vec<u8>,
         path: Vec<u8>,
     },
     Readlink(Vec<u8>),
+    Unlink(Vec<u8>),
+    Rmdir(Vec<u8>),
     Stat(Vec<u8>),
     Lstat(Vec<u8>),
     Readdir(Vec<u8>),
@@ -197,19 +203,19 @@ fn both(
     }
 }
 
-// The text of a link and its path, which are left.
-fn symlink(alloc: Global, words: Words<'_>) -> Result<(Vec<u8>, Vec<u8>), WordFault>
+// The two escaped words that are left: two paths, or the text of a link and its path.
+fn two_words(alloc: Global, words: Words<'_>) -> Result<(Vec<u8>, Vec<u8>), WordFault>
     ensures ok { IfOk result (λ r. word r.0.items ∷ word r.1.items ∷ []
         ≡ words_left (option_copied words.entry.rest)) }
     ensures bytes { IfOk result (λ r. AreBytes r.0.items × AreBytes r.1.items) }
-    ensures spelling { result ≡ Err WordFault.Spelling → (text path : List ℕ) → AreBytes text
-        → AreBytes path → word text ∷ word path ∷ [] ≢ words_left (option_copied words.entry.rest) }
+    ensures spelling { result ≡ Err WordFault.Spelling → (first second : List ℕ) → AreBytes first
+        → AreBytes second → word first ∷ word second ∷ [] ≢ words_left (option_copied words.entry.rest) }
     ensures memory { result ≡ Err WordFault.Memory
-        → (text : List ℕ) × (path : List ℕ) × AreBytes text × AreBytes path
-        × (word text ∷ word path ∷ [] ≡ words_left (option_copied words.entry.rest)) }
+        → (first : List ℕ) × (second : List ℕ) × AreBytes first × AreBytes second
+        × (word first ∷ word second ∷ [] ≡ words_left (option_copied words.entry.rest)) }
 {
-    let (text, path) = words.two()?;
-    both(read_escaped(alloc, text), read_escaped(alloc, path))
+    let (first, second) = words.two()?;
+    both(read_escaped(alloc, first), read_escaped(alloc, second))
 }
 
 // The call of a command whose arguments are left.
@@ -257,11 +263,17 @@ fn call_of(alloc: Global, command: Command, words: Words<'_>) -> Result<Call, Wo
             Ok(Call::Truncate { handle, len })
         }
         Command::Mkdir => Ok(Call::Mkdir(path(alloc, words)?)),
+        Command::Link => {
+            let (from, to) = two_words(alloc, words)?;
+            Ok(Call::Link { from, to })
+        }
         Command::Symlink => {
-            let (text, path) = symlink(alloc, words)?;
+            let (text, path) = two_words(alloc, words)?;
             Ok(Call::Symlink { text, path })
         }
         Command::Readlink => Ok(Call::Readlink(path(alloc, words)?)),
+        Command::Unlink => Ok(Call::Unlink(path(alloc, words)?)),
+        Command::Rmdir => Ok(Call::Rmdir(path(alloc, words)?)),
         Command::Stat => Ok(Call::Stat(path(alloc, words)?)),
         Command::Lstat => Ok(Call::Lstat(path(alloc, words)?)),
         Command::Readdir => Ok(Call::Readdir(path(alloc, words)?)),

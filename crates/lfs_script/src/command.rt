@@ -13,8 +13,11 @@ pub enum Command {
     Fill,
     Truncate,
     Mkdir,
+    Link,
     Symlink,
     Readlink,
+    Unlink,
+    Rmdir,
     Stat,
     Lstat,
     Readdir,
@@ -26,7 +29,7 @@ pub enum Command {
 }
 
 impl Command {
-    const ALL: [Command; 18] = [
+    const ALL: [Command; 21] = [
         Command::Create,
         Command::Open,
         Command::Close,
@@ -35,8 +38,11 @@ impl Command {
         Command::Fill,
         Command::Truncate,
         Command::Mkdir,
+        Command::Link,
         Command::Symlink,
         Command::Readlink,
+        Command::Unlink,
+        Command::Rmdir,
         Command::Stat,
         Command::Lstat,
         Command::Readdir,
@@ -61,8 +67,11 @@ impl Command {
             Command::Fill => b"fill",
             Command::Truncate => b"truncate",
             Command::Mkdir => b"mkdir",
+            Command::Link => b"link",
             Command::Symlink => b"symlink",
             Command::Readlink => b"readlink",
+            Command::Unlink => b"unlink",
+            Command::Rmdir => b"rmdir",
             Command::Stat => b"stat",
             Command::Lstat => b"lstat",
             Command::Readdir => b"readdir",

@@ -4,6 +4,8 @@
 #[cfg(test)]
 mod plain;
 #[cfg(test)]
+mod random;
+#[cfg(test)]
 mod replies;
 #[cfg(test)]
 mod scripts;

@@ -36,10 +36,15 @@ fn stopped_script(alloc: Global, text: &[u8], left: Left) -> Result<StoppedScrip
 }
 
 // What two scripts write that use a new volume in turn, with stops that leave this. None where the second isn't made.
-fn used_in_turn(alloc: Global, left: Left) -> Result<Option<Vec<u8>>, Fail> {
+fn used_in_turn(
+    alloc: Global,
+    first: &[u8],
+    second: &[u8],
+    left: Left,
+) -> Result<Option<Vec<u8>>, Fail> {
     let scripts = [
-        stopped_script(alloc, b"create /a\nsync\ncreate /b\n", left)?,
-        stopped_script(alloc, b"tree\n", left)?,
+        stopped_script(alloc, first, left)?,
+        stopped_script(alloc, second, left)?,
     ];
     let mut output = Vec::new(alloc);
     let (end, _) = use_each(alloc, &scripts, &mut output, new_device(alloc)?);
@@ -48,10 +53,23 @@ fn used_in_turn(alloc: Global, left: Left) -> Result<Option<Vec<u8>>, Fail> {
 
 #[test]
 fn uses_in_turn(rt: HostRuntime) -> Result<(), Fail> {
-    let replies = b"ok 0\nok\nok 1\nok 1\n1 a file 2 1 0 -\n";
-    for left in [Left::Old, Left::New, Left::Bad] {
-        let output = used_in_turn(rt.alloc(), left)?.ok_or("not mounted")?;
-        assert!(rt; output.as_slice() == replies.as_slice());
+    for (first, second, replies) in [
+        (
+            b"create /a\nsync\ncreate /b\n".as_slice(),
+            b"tree\n".as_slice(),
+            b"ok 0\nok\nok 1\nok 1\n1 a file 2 1 0 -\n".as_slice(),
+        ),
+        // A file that is open without a name goes with a stop, and its number is free again.
+        (
+            b"create /f\npwrite 0 0 6162\nunlink /f\npread 0 0 9\ncreate /h\nsync\n",
+            b"tree\ncreate /g\nstat /g\n",
+            b"ok 0\nok 2\nok\nok 6162\nok 1\nok\nok 1\n1 h file 3 1 0 -\nok 0\nok 2 file 1 0\n",
+        ),
+    ] {
+        for left in [Left::Old, Left::New, Left::Bad] {
+            let output = used_in_turn(rt.alloc(), first, second, left)?.ok_or("not mounted")?;
+            assert!(rt; output.as_slice() == replies);
+        }
     }
     Ok(())
 }

@@ -10,14 +10,14 @@ use Rattle.lfs_model.specs.Stands.{LogMap}
 use Rattle.lfs_model.specs.TreeOf.{dropped}
 use Rattle.lfs_model.proofs.Moments.{carries_none, carries_then, started, joined, weaker}
 use Rattle.lfs_model.proofs.Settled.{settled_stands}
-use Rattle.lfs_log.specs.segments.Table.{clean_in}
-use Rattle.lfs_log.specs.memory.declared.changes.Changes.{Changes}
-use Rattle.lfs_log.specs.memory.Batch.{room_for}
-use Rattle.lfs_log.proofs.of_memory.Looses.{loose}
-use Rattle.lfs_log.proofs.of_memory.Presents.{looks_quiet}
-use Rattle.lfs_log.proofs.Volumes.{same_segments}
-use Rattle.lfs_log.specs.verify.declared.totals.BlockTotals.{BlockTotals}
-use Rattle.lfs_log.specs.Held.{Held, Halts, Holds, IsFull, IsSaved, Saves, Alters, IsStaged, IsRefused, IsStageFault}
+use Rattle.lfs_cleaner.specs.log.segments.Table.{clean_in}
+use Rattle.lfs_cleaner.specs.log.memory.declared.changes.Changes.{Changes}
+use Rattle.lfs_cleaner.specs.log.memory.Batch.{room_for}
+use Rattle.lfs_cleaner.proofs.of_log.of_memory.Looses.{loose}
+use Rattle.lfs_cleaner.proofs.of_log.of_memory.Presents.{looks_quiet}
+use Rattle.lfs_cleaner.proofs.of_log.Volumes.{same_segments}
+use Rattle.lfs_cleaner.specs.log.verify.declared.totals.BlockTotals.{BlockTotals}
+use Rattle.lfs_cleaner.specs.log.Held.{Held, Halts, Holds, IsFull, IsSaved, Saves, Alters, IsStaged, IsRefused, IsStageFault}
 use Rattle.lfs_cleaner.specs.Room.{HaltsLater, HasQuarter, IsAtRest, IsRoomFault, KeepsMap, MayNotMakeRoom, most_checkpoints}
 use Rattle.lfs_cleaner.proofs.RoomBounds.{same_need, segment_count}
 use Rattle.lfs_cleaner.proofs.Rooms.{fault_then, halts_at_once, halts_then, halts_weaker, keeps_none, keeps_saves, keeps_then, keeps_weaker, rest_saves}

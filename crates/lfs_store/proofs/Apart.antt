@@ -4,15 +4,15 @@ use Rattle.std.proofs.lemmas.Bool.{and_left, cond_both, ne_eqb}
 use Rattle.lfs_model.specs.Entry.{Entry, Data, Inode, Leaf}
 use Rattle.lfs_model.specs.Memory.{parent}
 use Rattle.lfs_model.specs.Stands.{LogMap}
-use Rattle.lfs_log.specs.memory.declared.batch.BlockEdit.{BlockEdit}
-use Rattle.lfs_log.specs.memory.declared.batch.Cut.{Cut}
-use Rattle.lfs_log.specs.memory.declared.batch.HeaderEdit.{HeaderEdit}
-use Rattle.lfs_log.specs.memory.declared.batch.LastLink.{LastLink}
-use Rattle.lfs_log.specs.memory.declared.batch.Removal.{Removal}
-use Rattle.lfs_log.specs.memory.declared.batch.Loss.{Loss}
-use Rattle.lfs_log.specs.memory.declared.batch.Loss.TheVariants.{Nothing, Blocks, Link, File}
-use Rattle.lfs_log.specs.memory.declared.changes.Changes.{Changes}
-use Rattle.lfs_log.specs.memory.Batch.{IsNoChange, after_edits, is_lost, staged, FitsLoss, FitEdits, FitsBatch}
+use Rattle.lfs_cleaner.specs.log.memory.declared.batch.BlockEdit.{BlockEdit}
+use Rattle.lfs_cleaner.specs.log.memory.declared.batch.Cut.{Cut}
+use Rattle.lfs_cleaner.specs.log.memory.declared.batch.HeaderEdit.{HeaderEdit}
+use Rattle.lfs_cleaner.specs.log.memory.declared.batch.LastLink.{LastLink}
+use Rattle.lfs_cleaner.specs.log.memory.declared.batch.Removal.{Removal}
+use Rattle.lfs_cleaner.specs.log.memory.declared.batch.Loss.{Loss}
+use Rattle.lfs_cleaner.specs.log.memory.declared.batch.Loss.TheVariants.{Nothing, Blocks, Link, File}
+use Rattle.lfs_cleaner.specs.log.memory.declared.changes.Changes.{Changes}
+use Rattle.lfs_cleaner.specs.log.memory.Batch.{IsNoChange, after_edits, is_lost, staged, FitsLoss, FitEdits, FitsBatch}
 use Rattle.lfs_store.specs.Drafting.{IsApart}
 
 -- ---- what is lost

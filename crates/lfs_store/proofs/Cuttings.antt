@@ -12,16 +12,16 @@ use Rattle.lfs_model.specs.Fields.{zeros}
 use Rattle.lfs_model.specs.Memory.{parent}
 use Rattle.lfs_model.specs.Stands.{LogMap}
 use Rattle.lfs_model.proofs.ObjectBytes.{lengthened}
-use Rattle.lfs_log.specs.memory.declared.batch.Cut.{Cut}
-use Rattle.lfs_log.specs.memory.declared.batch.Loss.{Loss}
-use Rattle.lfs_log.specs.memory.declared.batch.Loss.TheVariants.{Blocks}
-use Rattle.lfs_log.specs.memory.declared.changes.Changes.{Changes}
-use Rattle.lfs_log.specs.memory.files.declared.header.Header.{Header}
-use Rattle.lfs_log.specs.memory.Batch.{IsNoChange, is_lost, staged, FitsBatch}
-use Rattle.lfs_log.specs.memory.Changing.{stored}
-use Rattle.lfs_log.specs.memory.Cutting.{cut_from}
-use Rattle.lfs_log.specs.memory.Present.{BlockAnswer, as_header}
-use Rattle.lfs_log.specs.Held.{Held, Reads}
+use Rattle.lfs_cleaner.specs.log.memory.declared.batch.Cut.{Cut}
+use Rattle.lfs_cleaner.specs.log.memory.declared.batch.Loss.{Loss}
+use Rattle.lfs_cleaner.specs.log.memory.declared.batch.Loss.TheVariants.{Blocks}
+use Rattle.lfs_cleaner.specs.log.memory.declared.changes.Changes.{Changes}
+use Rattle.lfs_cleaner.specs.log.memory.files.declared.header.Header.{Header}
+use Rattle.lfs_cleaner.specs.log.memory.Batch.{IsNoChange, is_lost, staged, FitsBatch}
+use Rattle.lfs_cleaner.specs.log.memory.Changing.{stored}
+use Rattle.lfs_cleaner.specs.log.memory.Cutting.{cut_from}
+use Rattle.lfs_cleaner.specs.log.memory.Present.{BlockAnswer, as_header}
+use Rattle.lfs_cleaner.specs.log.Held.{Held, Reads}
 use Rattle.lfs_store.specs.Drafting.{PutsBlock, PutsHeader, TakesBlock}
 use Rattle.lfs_store.specs.Pieces.{CutsTail, CutSoFar, CutBlocks}
 use Rattle.lfs_store.specs.Reading.{ReadsBlock}

@@ -4,15 +4,15 @@ use Rattle.std.proofs.Math.Path.{fun_ext}
 use Rattle.std.proofs.lemmas.List.{drop_more, take-append-drop, set_split}
 use Rattle.lfs_model.specs.Stands.{LogMap}
 use Rattle.lfs_model.specs.Entry as entry
-use Rattle.lfs_log.specs.memory.declared.batch.BlockEdit.{BlockEdit}
-use Rattle.lfs_log.specs.memory.declared.batch.HeaderEdit.{HeaderEdit}
-use Rattle.lfs_log.specs.memory.declared.batch.Loss.{Loss}
-use Rattle.lfs_log.specs.memory.declared.changes.Changes.{Changes}
-use Rattle.lfs_log.specs.memory.Applying.{after_header, after_headers, after_block, after_blocks}
-use Rattle.lfs_log.specs.memory.Batch.{lost, staged}
-use Rattle.lfs_log.specs.memory.Changing.{with_header}
-use Rattle.lfs_log.specs.memory.Present.{as_header}
-use Rattle.lfs_log.proofs.of_memory.LogMaps.{is_with_header, equal_is}
+use Rattle.lfs_cleaner.specs.log.memory.declared.batch.BlockEdit.{BlockEdit}
+use Rattle.lfs_cleaner.specs.log.memory.declared.batch.HeaderEdit.{HeaderEdit}
+use Rattle.lfs_cleaner.specs.log.memory.declared.batch.Loss.{Loss}
+use Rattle.lfs_cleaner.specs.log.memory.declared.changes.Changes.{Changes}
+use Rattle.lfs_cleaner.specs.log.memory.Applying.{after_header, after_headers, after_block, after_blocks}
+use Rattle.lfs_cleaner.specs.log.memory.Batch.{lost, staged}
+use Rattle.lfs_cleaner.specs.log.memory.Changing.{with_header}
+use Rattle.lfs_cleaner.specs.log.memory.Present.{as_header}
+use Rattle.lfs_cleaner.proofs.of_log.of_memory.LogMaps.{is_with_header, equal_is}
 use Rattle.lfs_store.specs.Drafting.{NoHeader, LastHeader, DraftsHeader}
 
 -- ---- headers of log maps

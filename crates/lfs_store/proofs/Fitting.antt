@@ -8,17 +8,17 @@ use Rattle.lfs_model.specs.Entry as entry
 use Rattle.lfs_model.specs.Entry.{Data, Inode}
 use Rattle.lfs_model.specs.Memory.{is_unlinked, is_nameless}
 use Rattle.lfs_model.specs.Stands.{LogMap}
-use Rattle.lfs_log.specs.memory.declared.batch.BlockEdit.{BlockEdit}
-use Rattle.lfs_log.specs.memory.declared.batch.HeaderEdit.{HeaderEdit}
-use Rattle.lfs_log.specs.memory.declared.batch.Loss.{Loss}
-use Rattle.lfs_log.specs.memory.declared.changes.Changes.{Changes}
-use Rattle.lfs_log.specs.memory.files.declared.header.Header.{Header}
-use Rattle.lfs_log.specs.memory.Applying.{FitsFile, AreHeadersFit, AreBlocksFit, after_header, after_headers, after_blocks}
-use Rattle.lfs_log.specs.memory.Batch as batch
-use Rattle.lfs_log.specs.memory.Batch.{lost, is_lost, staged, FitEdits, FitsBatch}
-use Rattle.lfs_log.specs.memory.Changing.{FitsHeader, stored, with_block, with_header}
-use Rattle.lfs_log.specs.memory.Present.{as_header}
-use Rattle.lfs_log.proofs.of_memory.LogMaps.{is_with_header}
+use Rattle.lfs_cleaner.specs.log.memory.declared.batch.BlockEdit.{BlockEdit}
+use Rattle.lfs_cleaner.specs.log.memory.declared.batch.HeaderEdit.{HeaderEdit}
+use Rattle.lfs_cleaner.specs.log.memory.declared.batch.Loss.{Loss}
+use Rattle.lfs_cleaner.specs.log.memory.declared.changes.Changes.{Changes}
+use Rattle.lfs_cleaner.specs.log.memory.files.declared.header.Header.{Header}
+use Rattle.lfs_cleaner.specs.log.memory.Applying.{FitsFile, AreHeadersFit, AreBlocksFit, after_header, after_headers, after_blocks}
+use Rattle.lfs_cleaner.specs.log.memory.Batch as batch
+use Rattle.lfs_cleaner.specs.log.memory.Batch.{lost, is_lost, staged, FitEdits, FitsBatch}
+use Rattle.lfs_cleaner.specs.log.memory.Changing.{FitsHeader, stored, with_block, with_header}
+use Rattle.lfs_cleaner.specs.log.memory.Present.{as_header}
+use Rattle.lfs_cleaner.proofs.of_log.of_memory.LogMaps.{is_with_header}
 use Rattle.lfs_store.specs.Drafting.{IsBlock, NoHeader, LastHeader, LastBlock, TakesHeader, TakesBlock, PutsHeader, PutsBlock}
 use Rattle.lfs_store.proofs.DraftedBlocks as drafted
 use Rattle.lfs_store.proofs.Drafts.{after_more, edit_replaced, header_kept, last_says, put_into, split}

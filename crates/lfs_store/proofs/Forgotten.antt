@@ -7,9 +7,9 @@ use Rattle.lfs_model.specs.Entry.{Header}
 use Rattle.lfs_model.specs.Memory.{is_nameless, is_unlinked}
 use Rattle.lfs_model.specs.Stands.{LogMap}
 use Rattle.lfs_model.specs.TreeOf.{dropped, kept}
-use Rattle.lfs_log.specs.memory.Removing.{without_file}
-use Rattle.lfs_log.specs.Held.{Held, IsRemoved}
-use Rattle.lfs_log.specs.segments.Table.{clean_in}
+use Rattle.lfs_cleaner.specs.log.memory.Removing.{without_file}
+use Rattle.lfs_cleaner.specs.log.Held.{Held, IsRemoved}
+use Rattle.lfs_cleaner.specs.log.segments.Table.{clean_in}
 use Rattle.lfs_cleaner.proofs.RoomBounds.{none_left}
 use Rattle.lfs_store.specs.Accepting.{Forgets}
 

@@ -25,7 +25,8 @@ pub mod Recountings
 pub mod Recounted
 pub mod Forgotten
 pub mod TreeTotals
+pub mod Shrunken
 pub mod StoreSeen
-pub use Rattle.lfs_log.proofs as of_log
+pub use Rattle.lfs_cleaner.proofs.of_log as of_log
 pub use Rattle.lfs_cleaner.proofs as of_cleaner
-pub use Rattle.lfs_log.proofs.of_memory
+pub use Rattle.lfs_cleaner.proofs.of_log.of_memory

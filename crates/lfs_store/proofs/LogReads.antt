@@ -3,11 +3,11 @@ use Rattle.std.proofs.Common.{Bool, refl, sym, ◌∙◌, subst, arith}
 use Rattle.lfs_model.specs.Checkpoint.{CheckpointValue}
 use Rattle.lfs_model.specs.Device.{DeviceState, IsLawful}
 use Rattle.lfs_model.specs.Stands.{LogMap}
-use Rattle.lfs_log.specs.memory.declared.memory.LogMemory.{LogMemory}
-use Rattle.lfs_log.specs.memory.Memory.{IsLog}
-use Rattle.lfs_log.proofs.of_memory.Looses.{loose, tight_again}
-use Rattle.lfs_log.proofs.of_memory.Presents.{looks_none, looks_then, still_log}
-use Rattle.lfs_log.specs.Held.{Held, Holds, Reads, IsReadFault}
+use Rattle.lfs_cleaner.specs.log.memory.declared.memory.LogMemory.{LogMemory}
+use Rattle.lfs_cleaner.specs.log.memory.Memory.{IsLog}
+use Rattle.lfs_cleaner.proofs.of_log.of_memory.Looses.{loose, tight_again}
+use Rattle.lfs_cleaner.proofs.of_log.of_memory.Presents.{looks_none, looks_then, still_log}
+use Rattle.lfs_cleaner.specs.log.Held.{Held, Holds, Reads, IsReadFault}
 use Rattle.lfs_cleaner.proofs.Rooms.{rest_reads}
 use Rattle.lfs_store.specs.Accepting.{Stores}
 

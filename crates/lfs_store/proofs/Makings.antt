@@ -10,19 +10,20 @@ use Rattle.lfs_model.specs.Memory.{is_unlinked}
 use Rattle.lfs_model.specs.Objects.{IsChangedAt, IsObject}
 use Rattle.lfs_model.specs.Stands.{LogMap}
 use Rattle.lfs_model.proofs.ObjectMaps.{object_kept, object_lost}
-use Rattle.lfs_log.specs.memory.declared.batch.LastLink.{LastLink}
-use Rattle.lfs_log.specs.memory.declared.batch.Removal.{Removal}
-use Rattle.lfs_log.specs.memory.declared.batch.Loss.TheVariants.{Link, File}
-use Rattle.lfs_log.specs.memory.declared.changes.Changes.{Changes}
-use Rattle.lfs_log.specs.memory.files.declared.header.Header.{Header}
-use Rattle.lfs_log.specs.memory.Batch.{IsNoChange, staged}
-use Rattle.lfs_log.specs.memory.Changing.{FitsHeader, header_with, with_header}
-use Rattle.lfs_log.specs.memory.Present.{as_header}
-use Rattle.lfs_log.specs.memory.Removing.{without_file}
-use Rattle.lfs_log.proofs.of_memory.LogMaps.{is_with_header}
-use Rattle.lfs_store.specs.Drafting.{PutsHeader, LosesOnly}
+use Rattle.lfs_cleaner.specs.log.memory.declared.batch.LastLink.{LastLink}
+use Rattle.lfs_cleaner.specs.log.memory.declared.batch.Removal.{Removal}
+use Rattle.lfs_cleaner.specs.log.memory.declared.batch.Loss.{Loss}
+use Rattle.lfs_cleaner.specs.log.memory.declared.batch.Loss.TheVariants.{Link, File}
+use Rattle.lfs_cleaner.specs.log.memory.declared.changes.Changes.{Changes}
+use Rattle.lfs_cleaner.specs.log.memory.files.declared.header.Header.{Header}
+use Rattle.lfs_cleaner.specs.log.memory.Batch.{IsNoChange, staged}
+use Rattle.lfs_cleaner.specs.log.memory.Changing.{FitsHeader, header_with, with_header}
+use Rattle.lfs_cleaner.specs.log.memory.Present.{as_header}
+use Rattle.lfs_cleaner.specs.log.memory.Removing.{without_file}
+use Rattle.lfs_cleaner.proofs.of_log.of_memory.LogMaps.{is_with_header}
+use Rattle.lfs_store.specs.Drafting.{IsApart, PutsHeader, LosesOnly}
 use Rattle.lfs_store.specs.Making.{Makes, SetsLinks, Removes, relinked}
-use Rattle.lfs_store.proofs.Apart.{no_change}
+use Rattle.lfs_store.proofs.Apart.{file_apart, link_apart, no_change}
 use Rattle.lfs_store.proofs.Writings.{takes_header}
 
 -- a file that isn't there has no block
@@ -124,14 +125,15 @@ relinks c c' n h links some puts = record {
   few = puts.few;
   blocks = ap (λ v. v.items) puts.blocks;
   loss = λ _. puts.loss;
+  apart = λ k was. subst (λ (x : Loss). IsApart x k) (sym puts.loss) was;
 }
   where
     both_linked : (a b : ℕ) → 1 ≤ a → 0 < b → (a == 0) ≡ (b == 0)
     both_linked a b some linked = ne_eqb a 0 (λ e. omega (arith, e, some)) ∙ sym (ne_eqb b 0 (λ e. omega (arith, e, linked)))
 
-pub loses_link : (c c' : Changes) (n : ℕ) (h : Header) (l : LastLink) → l.number ≡ n → l.kind ≡ h.kind → l.size ≡ h.size → IsNoChange c → c'.headers ≡ c.headers → c'.blocks ≡ c.blocks → LosesOnly c' (Link l)
-    → SetsLinks c c' n h 0
-loses_link c c' n h l number kind size none headers blocks only = record {
+pub loses_link : (c c' : Changes) (n : ℕ) (h : Header) (l : LastLink) → l.number ≡ n → l.kind ≡ h.kind → l.size ≡ h.size → IsNoChange c → c'.headers ≡ c.headers → c'.blocks ≡ c.blocks → c'.loss ≡ Link l
+    → LosesOnly c' (Link l) → SetsLinks c c' n h 0
+loses_link c c' n h l number kind size none headers blocks lost only = record {
   map = map;
   fits = λ m fit there linked apart fits. only.fits m (
     subst (λ (k : Kind). FitsHeader k 0 l.size) (sym kind) (subst (λ (s : ℕ). FitsHeader h.kind 0 s) (sym size) fits),
@@ -142,6 +144,7 @@ loses_link c c' n h l number kind size none headers blocks only = record {
   few = let same = ap length (ap (λ v. v.items) headers) in omega (arith, same);
   blocks = ap (λ v. v.items) blocks;
   loss = λ never. absurd (omega (arith, never));
+  apart = λ k was. subst (λ (x : Loss). IsApart x k) (sym lost) (link_apart l k);
 }
   where
     map : (m : LogMap) → staged c' m ≡ with_header (staged c m) n (Some (as_header (relinked h 0)))
@@ -169,13 +172,14 @@ without_changed m n = record {
   blocks = λ k i ne. cond-false (k == n) [] (m.block k i) (ne_eqb k n ne);
 }
 
-pub removes : (c c' : Changes) (n : ℕ) (r : Removal) → r.number ≡ n → IsNoChange c → c'.headers ≡ c.headers → c'.blocks ≡ c.blocks → LosesOnly c' (File r) → Removes c' n
-removes c c' n r number none headers blocks only = record {
+pub removes : (c c' : Changes) (n : ℕ) (r : Removal) → r.number ≡ n → IsNoChange c → c'.headers ≡ c.headers → c'.blocks ≡ c.blocks → c'.loss ≡ File r → LosesOnly c' (File r) → Removes c' n
+removes c c' n r number none headers blocks lost only = record {
   map = map;
   fits = λ m. only.fits m tt;
   keeps = λ m is other. subst IsLogMap (sym (map m)) (object_lost m (without_file n m) n is (without_changed m n) (without_header m n) (without_block m n) other);
   headers = ap (λ v. v.items) headers ∙ none.headers;
   blocks = ap (λ v. v.items) blocks ∙ none.blocks;
+  apart = λ k ne. subst (λ (x : Loss). IsApart x k) (sym lost) (file_apart r k (λ e. ne (e ∙ number)));
 }
   where
     map : (m : LogMap) → staged c' m ≡ without_file n m

@@ -12,13 +12,13 @@ use Rattle.lfs_model.specs.Objects.{is_stored, has_leaf, one_if}
 use Rattle.lfs_model.specs.Stands.{LogMap}
 use Rattle.lfs_model.proofs.ObjectNeeds.{same_tests}
 use Rattle.lfs_model.proofs.ObjectPointers.{leaf_tests}
-use Rattle.lfs_log.specs.memory.declared.batch.BlockEdit.{BlockEdit}
-use Rattle.lfs_log.specs.memory.declared.changes.Changes.{Changes}
-use Rattle.lfs_log.specs.memory.Batch.{staged}
-use Rattle.lfs_log.specs.memory.Changing.{stored}
-use Rattle.lfs_log.proofs.of_memory.LogMaps.{stored_none, stored_some}
-use Rattle.lfs_log.specs.Held as held
-use Rattle.lfs_log.specs.Held.{Held, Holds, Reads}
+use Rattle.lfs_cleaner.specs.log.memory.declared.batch.BlockEdit.{BlockEdit}
+use Rattle.lfs_cleaner.specs.log.memory.declared.changes.Changes.{Changes}
+use Rattle.lfs_cleaner.specs.log.memory.Batch.{staged}
+use Rattle.lfs_cleaner.specs.log.memory.Changing.{stored}
+use Rattle.lfs_cleaner.proofs.of_log.of_memory.LogMaps.{stored_none, stored_some}
+use Rattle.lfs_cleaner.specs.log.Held as held
+use Rattle.lfs_cleaner.specs.log.Held.{Held, Holds, Reads}
 use Rattle.lfs_store.specs.Drafting.{NoBlock}
 use Rattle.lfs_store.specs.Measuring.{SaysStored, IsInLeaf, IsOffLeaf, KeepsLeaf, LeavesLeaf, StoresLeaf, TellsStored, TellsLeaf, CountsStored, CountsLeaves}
 use Rattle.lfs_model.specs.Totals.{leaves_in, stored_in}

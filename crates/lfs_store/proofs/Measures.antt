@@ -10,11 +10,11 @@ use Rattle.lfs_model.specs.Entry as entry
 use Rattle.lfs_model.specs.Need.{pointers}
 use Rattle.lfs_model.specs.Objects.{has_leaf, is_stored, one_if, stored_blocks}
 use Rattle.lfs_model.specs.Stands.{LogMap}
-use Rattle.lfs_log.specs.memory.declared.changes.Changes.{Changes}
-use Rattle.lfs_log.specs.memory.files.declared.header.Header.{Header}
-use Rattle.lfs_log.specs.memory.Batch.{staged}
-use Rattle.lfs_log.specs.memory.Present.{as_header}
-use Rattle.lfs_log.specs.Held.{Held, Reads}
+use Rattle.lfs_cleaner.specs.log.memory.declared.changes.Changes.{Changes}
+use Rattle.lfs_cleaner.specs.log.memory.files.declared.header.Header.{Header}
+use Rattle.lfs_cleaner.specs.log.memory.Batch.{staged}
+use Rattle.lfs_cleaner.specs.log.memory.Present.{as_header}
+use Rattle.lfs_cleaner.specs.log.Held.{Held, Reads}
 use Rattle.lfs_store.specs.Measuring.{EndsBy, IsLeafRange, CountsStored, CountsLeaves, CountsPointers, Measures, TellsDouble}
 use Rattle.lfs_store.specs.Reading.{ReadsHeader}
 use Rattle.lfs_model.specs.Totals.{leaf_from, leaves_beside, leaves_in, stored_in, meta_of_file}

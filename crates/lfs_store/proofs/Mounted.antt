@@ -14,12 +14,12 @@ use Rattle.lfs_model.specs.Stands.{LogMap, StandsAt, StandsLog}
 use Rattle.lfs_model.specs.TreeOf.{dropped, kept}
 use Rattle.lfs_model.proofs.Decodes.{are_sized, decoding}
 use Rattle.lfs_model.proofs.Decoding.{value_found}
-use Rattle.lfs_log.specs.Held.{Held, Mounts}
-use Rattle.lfs_log.specs.Publishing.{AreUntaken}
-use Rattle.lfs_log.specs.segments.Table.{clean_in}
-use Rattle.lfs_log.specs.verify.declared.fault.MountFault.{MountFault}
-use Rattle.lfs_log.specs.verify.Faults.{IsOpenFault, LacksLog}
-use Rattle.lfs_log.proofs.of_verify.FaultCases.{fault_on}
+use Rattle.lfs_cleaner.specs.log.Held.{Held, Mounts}
+use Rattle.lfs_cleaner.specs.log.Publishing.{AreUntaken}
+use Rattle.lfs_cleaner.specs.log.segments.Table.{clean_in}
+use Rattle.lfs_cleaner.specs.log.verify.declared.fault.MountFault.{MountFault}
+use Rattle.lfs_cleaner.specs.log.verify.Faults.{IsOpenFault, LacksLog}
+use Rattle.lfs_cleaner.proofs.of_log.of_verify.FaultCases.{fault_on}
 use Rattle.lfs_store.specs.Accepting.{IsMountRefusal, MountsStore}
 
 -- an inode on a device has a link

@@ -10,8 +10,8 @@ use Rattle.lfs_model.specs.Objects.{byte_in}
 use Rattle.lfs_model.specs.Stands.{LogMap}
 use Rattle.lfs_model.specs.TreeOf.{object}
 use Rattle.lfs_model.proofs.ObjectBytes.{object_part, get_or-zeros}
-use Rattle.lfs_log.specs.memory.Present.{BlockAnswer}
-use Rattle.lfs_log.proofs.of_memory.LogMaps.{length_zeros}
+use Rattle.lfs_cleaner.specs.log.memory.Present.{BlockAnswer}
+use Rattle.lfs_cleaner.proofs.of_log.of_memory.LogMaps.{length_zeros}
 use Rattle.lfs_store.specs.Pieces.{place_in_block, part_of_block, HoldsBlock, PartSoFar, PartBegins, PartGoesOn, PartEnds, PartRead}
 
 -- ---- one block

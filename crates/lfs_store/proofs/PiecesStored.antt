@@ -5,7 +5,7 @@ use Rattle.lfs_model.specs.Changing.{IsWithBlock}
 use Rattle.lfs_model.specs.Entry.{Data}
 use Rattle.lfs_model.specs.Objects.{AreWhole, IsChangedAt}
 use Rattle.lfs_model.specs.Stands.{LogMap}
-use Rattle.lfs_log.specs.memory.Changing.{is_blank, stored}
+use Rattle.lfs_cleaner.specs.log.memory.Changing.{is_blank, stored}
 use Rattle.lfs_store.specs.Pieces.{HoldsBlock}
 
 blank_zero : (bytes : List ℕ) → is_blank bytes ≡ true → (k : ℕ) → slice_index bytes k ≡ 0

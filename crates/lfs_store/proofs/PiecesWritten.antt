@@ -7,7 +7,7 @@ use Rattle.lfs_model.specs.Objects.{byte_in, Overlays}
 use Rattle.lfs_model.specs.Stands.{LogMap}
 use Rattle.lfs_model.proofs.ObjectBytes.{block_overlaid, overlays_by_blocks}
 use Rattle.lfs_model.proofs.ObjectMaps.{block_whole}
-use Rattle.lfs_log.specs.memory.Changing.{stored}
+use Rattle.lfs_cleaner.specs.log.memory.Changing.{stored}
 use Rattle.lfs_store.specs.Pieces.{place_in_block, piece, BlockOverlays, Covers, HoldsBlock, IsBeneath, WriteSoFar, WriteBegins, WriteGoesOn, WriteHeads, WriteIsDone}
 use Rattle.lfs_store.proofs.PiecesLaid.{length_piece}
 use Rattle.lfs_store.proofs.PiecesStored.{stored_reads, stored_whole, other_block, block_apart, changed_twice, changed_none, same_whole}

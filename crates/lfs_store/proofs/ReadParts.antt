@@ -12,14 +12,14 @@ use Rattle.lfs_model.specs.Objects.{byte_in}
 use Rattle.lfs_model.specs.Stands.{LogMap}
 use Rattle.lfs_model.specs.TreeOf.{object}
 use Rattle.lfs_model.proofs.ObjectBytes.{get_or-zeros, object_part}
-use Rattle.lfs_log.specs.memory.declared.changes.Changes.{Changes}
-use Rattle.lfs_log.specs.memory.Batch.{staged}
-use Rattle.lfs_log.specs.memory.Memory.{IsLog}
-use Rattle.lfs_log.specs.memory.declared.memory.LogMemory.{LogMemory}
-use Rattle.lfs_log.specs.memory.Present.{BlockAnswer}
-use Rattle.lfs_log.proofs.of_memory.Looses.{loose, tight_again}
-use Rattle.lfs_log.proofs.of_memory.Presents.{looks_then, still_log}
-use Rattle.lfs_log.specs.Held.{Held, Holds, Reads, IsReadFault}
+use Rattle.lfs_cleaner.specs.log.memory.declared.changes.Changes.{Changes}
+use Rattle.lfs_cleaner.specs.log.memory.Batch.{staged}
+use Rattle.lfs_cleaner.specs.log.memory.Memory.{IsLog}
+use Rattle.lfs_cleaner.specs.log.memory.declared.memory.LogMemory.{LogMemory}
+use Rattle.lfs_cleaner.specs.log.memory.Present.{BlockAnswer}
+use Rattle.lfs_cleaner.proofs.of_log.of_memory.Looses.{loose, tight_again}
+use Rattle.lfs_cleaner.proofs.of_log.of_memory.Presents.{looks_then, still_log}
+use Rattle.lfs_cleaner.specs.log.Held.{Held, Holds, Reads, IsReadFault}
 use Rattle.lfs_store.specs.Reading.{ReadsBlock, ReadsPart, Appends}
 
 -- ---- a byte of a block

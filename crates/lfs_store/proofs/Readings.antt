@@ -4,14 +4,14 @@ use Rattle.std.proofs.Common.{◌≡◌, ℕ, Bool, true, false, not, List, leng
 use Rattle.lfs_model.specs.Device.{DeviceState}
 use Rattle.lfs_model.specs.Fields.{zeros}
 use Rattle.lfs_model.specs.Stands.{LogMap}
-use Rattle.lfs_log.specs.memory.declared.changes.Changes.{Changes}
-use Rattle.lfs_log.specs.memory.files.declared.header.Header.{Header}
-use Rattle.lfs_log.specs.memory.Batch.{staged}
-use Rattle.lfs_log.specs.memory.Changing.{stored}
-use Rattle.lfs_log.specs.memory.Present.{HeaderAnswer, BlockAnswer}
-use Rattle.lfs_log.proofs.of_memory.LogMaps.{stored_none, stored_some}
-use Rattle.lfs_log.specs.Held as held
-use Rattle.lfs_log.specs.Held.{Held}
+use Rattle.lfs_cleaner.specs.log.memory.declared.changes.Changes.{Changes}
+use Rattle.lfs_cleaner.specs.log.memory.files.declared.header.Header.{Header}
+use Rattle.lfs_cleaner.specs.log.memory.Batch.{staged}
+use Rattle.lfs_cleaner.specs.log.memory.Changing.{stored}
+use Rattle.lfs_cleaner.specs.log.memory.Present.{HeaderAnswer, BlockAnswer}
+use Rattle.lfs_cleaner.proofs.of_log.of_memory.LogMaps.{stored_none, stored_some}
+use Rattle.lfs_cleaner.specs.log.Held as held
+use Rattle.lfs_cleaner.specs.log.Held.{Held}
 use Rattle.lfs_store.specs.Drafting.{DraftsHeader}
 use Rattle.lfs_store.specs.Reading.{LosesHeader, SaysHeader, ReadsHeader, ReadsBlock}
 

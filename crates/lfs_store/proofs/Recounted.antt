@@ -7,20 +7,20 @@ use Rattle.lfs_model.specs.Entry.{Header}
 use Rattle.lfs_model.specs.Need.{pointers}
 use Rattle.lfs_model.specs.Objects.{IsChangedAt, is_stored, stored_below, stored_blocks}
 use Rattle.lfs_model.specs.Stands.{LogMap}
-use Rattle.lfs_log.specs.memory.declared.changes.Changes.{Changes}
-use Rattle.lfs_log.specs.memory.files.declared.header.Header as headers
-use Rattle.lfs_log.specs.memory.Batch.{IsNoChange, staged}
-use Rattle.lfs_log.specs.memory.Changing.{with_header}
-use Rattle.lfs_log.specs.memory.Present.{as_header}
-use Rattle.lfs_log.specs.memory.Removing.{without_file}
-use Rattle.lfs_log.proofs.of_memory.LogMaps.{is_with_header}
-use Rattle.lfs_log.proofs.of_memory.Presents.{looks_then}
-use Rattle.lfs_log.specs.segments.Table.{clean_in}
-use Rattle.lfs_log.specs.memory.declared.memory.LogMemory.{LogMemory}
-use Rattle.lfs_log.specs.Held.{Held, Reads, Alters, IsKept, IsRemoved}
-use Rattle.lfs_log.specs.Publishing.{AreUntaken}
+use Rattle.lfs_cleaner.specs.log.memory.declared.changes.Changes.{Changes}
+use Rattle.lfs_cleaner.specs.log.memory.files.declared.header.Header as headers
+use Rattle.lfs_cleaner.specs.log.memory.Batch.{IsNoChange, staged}
+use Rattle.lfs_cleaner.specs.log.memory.Changing.{with_header}
+use Rattle.lfs_cleaner.specs.log.memory.Present.{as_header}
+use Rattle.lfs_cleaner.specs.log.memory.Removing.{without_file}
+use Rattle.lfs_cleaner.proofs.of_log.of_memory.LogMaps.{is_with_header}
+use Rattle.lfs_cleaner.proofs.of_log.of_memory.Presents.{looks_then}
+use Rattle.lfs_cleaner.specs.log.segments.Table.{clean_in}
+use Rattle.lfs_cleaner.specs.log.memory.declared.memory.LogMemory.{LogMemory}
+use Rattle.lfs_cleaner.specs.log.Held.{Held, Reads, Alters, IsKept, IsRemoved}
+use Rattle.lfs_cleaner.specs.log.Publishing.{AreUntaken}
 use Rattle.lfs_store.specs.declared.totals.Measure.{Measure}
-use Rattle.lfs_log.specs.verify.declared.totals.BlockTotals.{BlockTotals}
+use Rattle.lfs_cleaner.specs.log.verify.declared.totals.BlockTotals.{BlockTotals}
 use Rattle.lfs_store.specs.Measuring.{Measures}
 use Rattle.lfs_store.specs.Making.{Makes, SetsLinks, Removes, relinked}
 use Rattle.lfs_store.specs.Recounting.{AreTotals, Recounts, Remeasures, Counts, CountsMade, CountsRelinked, CountsGone}

@@ -10,11 +10,11 @@ use Rattle.lfs_model.specs.Entry.{Header}
 use Rattle.lfs_model.specs.Need.{pointers, lies_in}
 use Rattle.lfs_model.specs.Objects.{IsChangedAt, is_stored, stored_blocks, one_if}
 use Rattle.lfs_model.specs.Stands.{LogMap}
-use Rattle.lfs_log.specs.memory.declared.changes.Changes.{Changes}
-use Rattle.lfs_log.specs.memory.Batch.{staged}
-use Rattle.lfs_log.specs.Held.{Held, Holds, Reads}
+use Rattle.lfs_cleaner.specs.log.memory.declared.changes.Changes.{Changes}
+use Rattle.lfs_cleaner.specs.log.memory.Batch.{staged}
+use Rattle.lfs_cleaner.specs.log.Held.{Held, Holds, Reads}
 use Rattle.lfs_store.specs.declared.totals.Measure.{Measure}
-use Rattle.lfs_log.specs.verify.declared.totals.BlockTotals.{BlockTotals}
+use Rattle.lfs_cleaner.specs.log.verify.declared.totals.BlockTotals.{BlockTotals}
 use Rattle.lfs_store.specs.Measuring.{Measures}
 use Rattle.lfs_store.specs.Recounting.{Replaces, AreTotals, Recounts, Remeasures, Counts}
 use Rattle.lfs_model.specs.Totals.{stored_in, data_of_file, meta_of_file, sum_upto, data_in, meta_in, HasMeasure}

@@ -8,18 +8,19 @@ use Rattle.lfs_model.specs.Fields.{zeros}
 use Rattle.lfs_model.specs.Stands.{LogMap}
 use Rattle.lfs_files.specs.declared.header.Header.{Header}
 use Rattle.lfs_files.specs.Files as files
-use Rattle.lfs_files.specs.Files.{FilesState, HasSized, HasWritten, HoldsBlock, SizesFile, TakesWrite, WritesFile}
+use Rattle.lfs_files.specs.Files.{FilesState, HasShrunk, HasSized, HasWritten, HoldsBlock, SizesFile, TakesShrink, TakesWrite, WritesFile}
 use Rattle.lfs_files.specs.Headers.{HeaderAnswer, resized}
-use Rattle.lfs_log.specs.memory.declared.batch.Loss.{Loss}
-use Rattle.lfs_log.specs.memory.declared.memory.LogMemory.{LogMemory}
-use Rattle.lfs_log.specs.memory.Batch.{FitsBatch, IsNoChange, is_lost, staged}
-use Rattle.lfs_log.specs.Held as held
-use Rattle.lfs_log.specs.Held.{Held, Holds, IsReadFault}
+use Rattle.lfs_cleaner.specs.log.memory.declared.batch.Loss.{Loss}
+use Rattle.lfs_cleaner.specs.log.memory.declared.memory.LogMemory.{LogMemory}
+use Rattle.lfs_cleaner.specs.log.memory.Batch.{FitsBatch, IsNoChange, is_lost, staged}
+use Rattle.lfs_cleaner.specs.log.Held as held
+use Rattle.lfs_cleaner.specs.log.Held.{Held, Holds, IsReadFault}
 use Rattle.lfs_store.specs.declared.draft.Draft.{Draft}
-use Rattle.lfs_log.specs.verify.declared.totals.BlockTotals.{BlockTotals}
+use Rattle.lfs_cleaner.specs.log.verify.declared.totals.BlockTotals.{BlockTotals}
 use Rattle.lfs_store.specs.Reading.{ReadsHeader, ReadsBlock}
 use Rattle.lfs_store.specs.Recounting as counts
 use Rattle.lfs_store.specs.Seen.{HasMap, StagedLog, counted_of, state_of}
+use Rattle.lfs_store.specs.Shrinking as shrinking
 use Rattle.lfs_store.specs.Writing as writing
 use Rattle.lfs_store.proofs.Apart.{no_change}
 use Rattle.lfs_store.proofs.LogReads.{held_still}
@@ -118,6 +119,31 @@ module _ {D : Type 0} (state : D → DeviceState) (h h' : Held D) (d d' : Draft)
       file = subst (λ (x : LogMap). WritesFile x (staged d'.changes m) n head (resized head (max head.size (at + length w))) at w) (sym has.draft)
           (is.file has.checkpoint has.acknowledged m keeps has.holds);
       around = λ i out. is.around m i out ∙ ap (λ (x : LogMap). x.block n i) (sym has.draft);
+    };
+  }
+
+  pub seen_shrunk : (n : ℕ) (head : Header) (len : ℕ) → held.Reads state h h' → shrinking.Shrinks state h h' d.changes d'.changes n head len → files.Shrinks S S' n head len
+  seen_shrunk n head len reads is = record {
+    lost = λ y. ap (λ (x : Loss). is_lost x y) is.loss;
+    headers = is.headers;
+    blocks = is.blocks;
+    fits = λ m m' has fits takes. is.fits m fits record {
+      there = ap (λ (x : LogMap). x.header n) (sym has.draft) ∙ takes.there;
+      apart = record { inode = takes.apart.inode; above = takes.apart.above };
+      within = takes.within;
+      header = takes.header;
+    };
+    has = λ m m' keeps has. record {
+      map = staged d'.changes m;
+      has = record {
+        checkpoint = has.checkpoint;
+        acknowledged = has.acknowledged;
+        holds = held_still state h h' has.checkpoint has.acknowledged m reads has.holds;
+        draft = refl;
+      };
+      header = is.header m;
+      file = λ there. subst (λ (x : LogMap). SizesFile x (staged d'.changes m) n head (resized head len) len) (sym has.draft)
+          (is.file has.checkpoint has.acknowledged m keeps has.holds (subst IsLogMap has.draft there.map) (ap (λ (x : LogMap). x.header n) (sym has.draft) ∙ there.there));
     };
   }
 

@@ -11,15 +11,15 @@ use Rattle.lfs_model.specs.Fields.{zeros}
 use Rattle.lfs_model.specs.Memory.{parent, is_unlinked}
 use Rattle.lfs_model.specs.Stands.{LogMap}
 use Rattle.lfs_model.proofs.ObjectBytes.{get_or-zeros}
-use Rattle.lfs_log.specs.memory.declared.batch.Loss.{Loss}
-use Rattle.lfs_log.specs.memory.declared.changes.Changes.{Changes}
-use Rattle.lfs_log.specs.memory.files.declared.header.Header.{Header}
-use Rattle.lfs_log.specs.memory.Batch.{staged, is_lost, FitsBatch}
-use Rattle.lfs_log.specs.memory.Changing.{FitsHeader, stored, with_block, with_header}
-use Rattle.lfs_log.specs.memory.Preparing.{IsWithin}
-use Rattle.lfs_log.specs.memory.Present.{BlockAnswer, as_header}
-use Rattle.lfs_log.proofs.of_memory.LogMaps.{is_with_block, is_with_header}
-use Rattle.lfs_log.specs.Held.{Held, Holds, Reads}
+use Rattle.lfs_cleaner.specs.log.memory.declared.batch.Loss.{Loss}
+use Rattle.lfs_cleaner.specs.log.memory.declared.changes.Changes.{Changes}
+use Rattle.lfs_cleaner.specs.log.memory.files.declared.header.Header.{Header}
+use Rattle.lfs_cleaner.specs.log.memory.Batch.{staged, is_lost, FitsBatch}
+use Rattle.lfs_cleaner.specs.log.memory.Changing.{FitsHeader, stored, with_block, with_header}
+use Rattle.lfs_cleaner.specs.log.memory.Preparing.{IsWithin}
+use Rattle.lfs_cleaner.specs.log.memory.Present.{BlockAnswer, as_header}
+use Rattle.lfs_cleaner.proofs.of_log.of_memory.LogMaps.{is_with_block, is_with_header}
+use Rattle.lfs_cleaner.specs.log.Held.{Held, Holds, Reads}
 use Rattle.lfs_store.specs.Drafting.{PutsBlock, PutsHeader, TakesBlock, TakesHeader, IsApart}
 use Rattle.lfs_store.specs.Pieces.{HoldsBlock, BlockOverlays, WriteSoFar}
 use Rattle.lfs_store.specs.Reading.{ReadsBlock}

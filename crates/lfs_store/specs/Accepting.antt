@@ -7,13 +7,13 @@ use Rattle.lfs_model.specs.Encodes.{IsLogMap}
 use Rattle.lfs_model.specs.Memory.{is_nameless}
 use Rattle.lfs_model.specs.Stands.{LogMap, StandsLog}
 use Rattle.lfs_model.specs.TreeOf.{dropped}
-use Rattle.lfs_log.specs.verify.declared.fault.MountFault.{MountFault}
-use Rattle.lfs_log.specs.verify.Faults.{IsFault, LacksLog}
-use Rattle.lfs_log.specs.memory.declared.changes.Changes.{Changes}
-use Rattle.lfs_log.specs.memory.Batch.{room_for, staged, FitsBatch}
-use Rattle.lfs_log.specs.memory.Removing.{without_file}
-use Rattle.lfs_log.specs.segments.Table.{clean_in}
-use Rattle.lfs_log.specs.Held.{Held, Holds, IsSaved}
+use Rattle.lfs_cleaner.specs.log.verify.declared.fault.MountFault.{MountFault}
+use Rattle.lfs_cleaner.specs.log.verify.Faults.{IsFault, LacksLog}
+use Rattle.lfs_cleaner.specs.log.memory.declared.changes.Changes.{Changes}
+use Rattle.lfs_cleaner.specs.log.memory.Batch.{room_for, staged, FitsBatch}
+use Rattle.lfs_cleaner.specs.log.memory.Removing.{without_file}
+use Rattle.lfs_cleaner.specs.log.segments.Table.{clean_in}
+use Rattle.lfs_cleaner.specs.log.Held.{Held, Holds, IsSaved}
 use Rattle.lfs_model.specs.Totals.{IsCounted}
 use Rattle.lfs_cleaner.specs.Room.{IsAtRest, IsWithin, KeepsMap}
 

@@ -5,19 +5,19 @@ use Rattle.lfs_model.specs.Encodes.{HasInode}
 use Rattle.lfs_model.specs.Entry.{Data, Inode}
 use Rattle.lfs_model.specs.Memory.{parent, is_nameless}
 use Rattle.lfs_model.specs.Stands.{LogMap}
-use Rattle.lfs_log.specs.memory.declared.batch.BlockEdit.{BlockEdit}
-use Rattle.lfs_log.specs.memory.declared.batch.HeaderEdit.{HeaderEdit}
-use Rattle.lfs_log.specs.memory.declared.batch.Cut.{Cut}
-use Rattle.lfs_log.specs.memory.declared.batch.LastLink.{LastLink}
-use Rattle.lfs_log.specs.memory.declared.batch.Removal.{Removal}
-use Rattle.lfs_log.specs.memory.declared.batch.Loss.{Loss}
-use Rattle.lfs_log.specs.memory.declared.batch.Loss.TheVariants.{Nothing, Blocks, Link, File}
-use Rattle.lfs_log.specs.memory.declared.changes.Changes.{Changes}
-use Rattle.lfs_log.specs.memory.files.declared.header.Header.{Header}
-use Rattle.lfs_log.specs.memory.Batch.{lost, is_lost, staged, FitsLoss, FitsBatch, IsNoChange}
-use Rattle.lfs_log.specs.memory.Changing.{FitsHeader, stored, with_block, with_header}
-use Rattle.lfs_log.specs.memory.Preparing.{IsWithin}
-use Rattle.lfs_log.specs.memory.Present.{as_header}
+use Rattle.lfs_cleaner.specs.log.memory.declared.batch.BlockEdit.{BlockEdit}
+use Rattle.lfs_cleaner.specs.log.memory.declared.batch.HeaderEdit.{HeaderEdit}
+use Rattle.lfs_cleaner.specs.log.memory.declared.batch.Cut.{Cut}
+use Rattle.lfs_cleaner.specs.log.memory.declared.batch.LastLink.{LastLink}
+use Rattle.lfs_cleaner.specs.log.memory.declared.batch.Removal.{Removal}
+use Rattle.lfs_cleaner.specs.log.memory.declared.batch.Loss.{Loss}
+use Rattle.lfs_cleaner.specs.log.memory.declared.batch.Loss.TheVariants.{Nothing, Blocks, Link, File}
+use Rattle.lfs_cleaner.specs.log.memory.declared.changes.Changes.{Changes}
+use Rattle.lfs_cleaner.specs.log.memory.files.declared.header.Header.{Header}
+use Rattle.lfs_cleaner.specs.log.memory.Batch.{lost, is_lost, staged, FitsLoss, FitsBatch, IsNoChange}
+use Rattle.lfs_cleaner.specs.log.memory.Changing.{FitsHeader, stored, with_block, with_header}
+use Rattle.lfs_cleaner.specs.log.memory.Preparing.{IsWithin}
+use Rattle.lfs_cleaner.specs.log.memory.Present.{as_header}
 
 -- ---- the last edit of a header
 

@@ -2,12 +2,13 @@ pub mod Drafting
 pub mod Reading
 pub mod Pieces
 pub mod Writing
+pub mod Shrinking
 pub mod Making
 pub mod Accepting
 pub mod Measuring
 pub mod Recounting
 pub mod Seen
-pub use Rattle.lfs_log.specs as log
+pub use Rattle.lfs_cleaner.specs.log as log
 pub use Rattle.lfs_cleaner.specs as cleaner
-pub use Rattle.lfs_log.specs.memory
-pub use Rattle.lfs_log.specs.segments
+pub use Rattle.lfs_cleaner.specs.log.memory
+pub use Rattle.lfs_cleaner.specs.log.segments

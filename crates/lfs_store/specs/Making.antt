@@ -5,12 +5,13 @@ use Rattle.lfs_model.specs.declared.Kind.TheVariants as kind
 use Rattle.lfs_model.specs.Encodes.{IsLogMap}
 use Rattle.lfs_model.specs.Entry.{Inode}
 use Rattle.lfs_model.specs.Stands.{LogMap}
-use Rattle.lfs_log.specs.memory.declared.changes.Changes.{Changes}
-use Rattle.lfs_log.specs.memory.files.declared.header.Header.{Header}
-use Rattle.lfs_log.specs.memory.Batch.{is_lost, staged, FitsBatch}
-use Rattle.lfs_log.specs.memory.Changing.{FitsHeader, with_header}
-use Rattle.lfs_log.specs.memory.Present.{as_header}
-use Rattle.lfs_log.specs.memory.Removing.{without_file}
+use Rattle.lfs_cleaner.specs.log.memory.declared.changes.Changes.{Changes}
+use Rattle.lfs_cleaner.specs.log.memory.files.declared.header.Header.{Header}
+use Rattle.lfs_cleaner.specs.log.memory.Batch.{is_lost, staged, FitsBatch}
+use Rattle.lfs_cleaner.specs.log.memory.Changing.{FitsHeader, with_header}
+use Rattle.lfs_cleaner.specs.log.memory.Present.{as_header}
+use Rattle.lfs_cleaner.specs.log.memory.Removing.{without_file}
+use Rattle.lfs_store.specs.Drafting.{IsApart}
 
 -- the links of a file that is made: a directory has its own besides its name
 abbrev pub first_links : Kind → ℕ
@@ -43,6 +44,7 @@ pub record SetsLinks (c c' : Changes) (n : ℕ) (h : Header) (links : ℕ) : Typ
   pub few : length c'.headers.items ≤ length c.headers.items + 1
   pub blocks : c'.blocks.items ≡ c.blocks.items
   pub loss : 0 < links → c'.loss ≡ c.loss
+  pub apart : (k : ℕ) → IsApart c.loss k → IsApart c'.loss k
 
 -- File n goes with all its blocks, and nothing else changes.
 pub record Removes (c : Changes) (n : ℕ) : Type 0 where
@@ -51,3 +53,4 @@ pub record Removes (c : Changes) (n : ℕ) : Type 0 where
   pub keeps : (m : LogMap) → IsLogMap m → n ≢ 1 → IsLogMap (staged c m)
   pub headers : c.headers.items ≡ []
   pub blocks : c.blocks.items ≡ []
+  pub apart : (k : ℕ) → k ≢ n → IsApart c.loss k

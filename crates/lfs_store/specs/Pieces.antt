@@ -7,8 +7,8 @@ use Rattle.lfs_model.specs.Objects.{byte_in, Overlays, IsChangedAt, AreWhole, Wr
 use Rattle.lfs_model.specs.Stands.{LogMap}
 use Rattle.lfs_model.specs.TreeOf.{object}
 pub use Rattle.lfs_files.specs.Files.{HoldsBlock}
-use Rattle.lfs_log.specs.memory.Changing.{stored}
-use Rattle.lfs_log.specs.memory.Cutting.{cut_from}
+use Rattle.lfs_cleaner.specs.log.memory.Changing.{stored}
+use Rattle.lfs_cleaner.specs.log.memory.Cutting.{cut_from}
 
 -- ---- one block
 

@@ -7,12 +7,12 @@ use Rattle.lfs_model.specs.Entry as entry
 use Rattle.lfs_model.specs.Objects.{byte_in}
 use Rattle.lfs_model.specs.Stands.{LogMap}
 use Rattle.lfs_model.specs.TreeOf.{object}
-use Rattle.lfs_log.specs.memory.declared.batch.Loss.{Loss}
-use Rattle.lfs_log.specs.memory.declared.changes.Changes.{Changes}
-use Rattle.lfs_log.specs.memory.files.declared.header.Header.{Header}
-use Rattle.lfs_log.specs.memory.Batch.{lost, staged}
-use Rattle.lfs_log.specs.memory.Present.{HeaderAnswer, BlockAnswer}
-use Rattle.lfs_log.specs.Held.{Held, Holds, Reads}
+use Rattle.lfs_cleaner.specs.log.memory.declared.batch.Loss.{Loss}
+use Rattle.lfs_cleaner.specs.log.memory.declared.changes.Changes.{Changes}
+use Rattle.lfs_cleaner.specs.log.memory.files.declared.header.Header.{Header}
+use Rattle.lfs_cleaner.specs.log.memory.Batch.{lost, staged}
+use Rattle.lfs_cleaner.specs.log.memory.Present.{HeaderAnswer, BlockAnswer}
+use Rattle.lfs_cleaner.specs.log.Held.{Held, Holds, Reads}
 use Rattle.lfs_store.specs.declared.store.Store.{Store}
 
 -- ---- what a file loses

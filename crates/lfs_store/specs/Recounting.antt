@@ -4,14 +4,14 @@ use Rattle.lfs_model.specs.Checkpoint.{CheckpointValue}
 use Rattle.lfs_model.specs.Device.{DeviceState}
 use Rattle.lfs_model.specs.Encodes.{IsLogMap}
 use Rattle.lfs_model.specs.Stands.{LogMap, StandsLog}
-use Rattle.lfs_log.specs.memory.declared.changes.Changes.{Changes}
-use Rattle.lfs_log.specs.memory.files.declared.header.Header.{Header}
-use Rattle.lfs_log.specs.memory.Batch.{staged}
-use Rattle.lfs_log.specs.memory.Present.{as_header}
-use Rattle.lfs_log.specs.memory.Removing.{without_file}
-use Rattle.lfs_log.specs.Held.{Held, Holds}
+use Rattle.lfs_cleaner.specs.log.memory.declared.changes.Changes.{Changes}
+use Rattle.lfs_cleaner.specs.log.memory.files.declared.header.Header.{Header}
+use Rattle.lfs_cleaner.specs.log.memory.Batch.{staged}
+use Rattle.lfs_cleaner.specs.log.memory.Present.{as_header}
+use Rattle.lfs_cleaner.specs.log.memory.Removing.{without_file}
+use Rattle.lfs_cleaner.specs.log.Held.{Held, Holds}
 use Rattle.lfs_store.specs.declared.totals.Measure.{Measure}
-use Rattle.lfs_log.specs.verify.declared.totals.BlockTotals.{BlockTotals}
+use Rattle.lfs_cleaner.specs.log.verify.declared.totals.BlockTotals.{BlockTotals}
 use Rattle.lfs_store.specs.Measuring.{Measures}
 use Rattle.lfs_model.specs.Totals.{IsCounted}
 

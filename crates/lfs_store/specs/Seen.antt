@@ -4,12 +4,12 @@ use Rattle.lfs_model.specs.Checkpoint.{CheckpointValue}
 use Rattle.lfs_model.specs.Device.{DeviceState}
 use Rattle.lfs_model.specs.Stands.{LogMap}
 use Rattle.lfs_files.specs.Files.{Counted, FilesState}
-use Rattle.lfs_log.specs.memory.Batch.{FitsBatch, IsNoChange, is_lost, staged}
-use Rattle.lfs_log.specs.memory.declared.changes.Changes.{Changes}
-use Rattle.lfs_log.specs.memory.declared.memory.LogMemory.{LogMemory}
-use Rattle.lfs_log.specs.Held.{Held, Holds}
+use Rattle.lfs_cleaner.specs.log.memory.Batch.{FitsBatch, IsNoChange, is_lost, staged}
+use Rattle.lfs_cleaner.specs.log.memory.declared.changes.Changes.{Changes}
+use Rattle.lfs_cleaner.specs.log.memory.declared.memory.LogMemory.{LogMemory}
+use Rattle.lfs_cleaner.specs.log.Held.{Held, Holds}
 use Rattle.lfs_store.specs.declared.draft.Draft.{Draft}
-use Rattle.lfs_log.specs.verify.declared.totals.BlockTotals.{BlockTotals}
+use Rattle.lfs_cleaner.specs.log.verify.declared.totals.BlockTotals.{BlockTotals}
 
 -- totals as two numbers
 abbrev pub counted_of : BlockTotals → Counted

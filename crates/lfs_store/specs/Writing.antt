@@ -7,15 +7,15 @@ use Rattle.lfs_model.specs.Encodes.{HasInode}
 use Rattle.lfs_model.specs.Stands.{LogMap}
 pub use Rattle.lfs_files.specs.Files.{SizesFile, WritesFile}
 pub use Rattle.lfs_files.specs.Headers.{resized}
-use Rattle.lfs_log.specs.memory.declared.batch.Cut.{Cut}
-use Rattle.lfs_log.specs.memory.declared.batch.Loss.{Loss}
-use Rattle.lfs_log.specs.memory.declared.batch.Loss.TheVariants.{Nothing, Blocks}
-use Rattle.lfs_log.specs.memory.declared.changes.Changes.{Changes}
-use Rattle.lfs_log.specs.memory.files.declared.header.Header.{Header}
-use Rattle.lfs_log.specs.memory.Batch.{staged, FitsBatch}
-use Rattle.lfs_log.specs.memory.Changing.{FitsHeader}
-use Rattle.lfs_log.specs.memory.Present.{as_header}
-use Rattle.lfs_log.specs.Held.{Held, Holds}
+use Rattle.lfs_cleaner.specs.log.memory.declared.batch.Cut.{Cut}
+use Rattle.lfs_cleaner.specs.log.memory.declared.batch.Loss.{Loss}
+use Rattle.lfs_cleaner.specs.log.memory.declared.batch.Loss.TheVariants.{Nothing, Blocks}
+use Rattle.lfs_cleaner.specs.log.memory.declared.changes.Changes.{Changes}
+use Rattle.lfs_cleaner.specs.log.memory.files.declared.header.Header.{Header}
+use Rattle.lfs_cleaner.specs.log.memory.Batch.{staged, FitsBatch}
+use Rattle.lfs_cleaner.specs.log.memory.Changing.{FitsHeader}
+use Rattle.lfs_cleaner.specs.log.memory.Present.{as_header}
+use Rattle.lfs_cleaner.specs.log.Held.{Held, Holds}
 use Rattle.lfs_store.specs.Drafting.{IsApart, TakesBlock}
 use Rattle.lfs_store.specs.Pieces.{IsBeneath, WriteSoFar, CutBlocks}
 

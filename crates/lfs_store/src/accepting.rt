@@ -1,19 +1,19 @@
 //! A store from its mount on: a draft is staged after room is made for it, and a commit saves what was staged.
 ghost use Rattle.std.specs.Prelude.{◌≡◌, ◌≢◌, ◌<◌, ◌≤◌, ◌+◌, ◌*◌, ◌/◌, true, false, length, IfOk, IfErr, OnOk, OnErr, IsErrOf, ◌⊎◌, MatchResult, IsTrue, IsFalse};
 ghost use Rattle.lfs_model.specs.Device.{Only, IsUntouched, Carries, LeavesOnly};
-ghost use Rattle.lfs_log.specs.segments.Table.{clean_in};
-ghost use Rattle.lfs_log.specs.verify.Loading.{HasTables, IsLoaded};
-ghost use Rattle.lfs_log.specs.verify.Verified.{HasLogMap, IsRefusedLog};
+ghost use Rattle.lfs_cleaner.specs.log.segments.Table.{clean_in};
+ghost use Rattle.lfs_cleaner.specs.log.verify.Loading.{HasTables, IsLoaded};
+ghost use Rattle.lfs_cleaner.specs.log.verify.Verified.{HasLogMap, IsRefusedLog};
 ghost use Rattle.lfs_store.specs.Accepting.{IsMountRefusal};
-ghost use Rattle.lfs_log.specs.memory.Batch.{IsNoChange, room_for};
+ghost use Rattle.lfs_cleaner.specs.log.memory.Batch.{IsNoChange, room_for};
 
 use crate::draft::Draft;
 use crate::store::Store;
+use lfs_cleaner::volume_log::verify::Tables;
+use lfs_cleaner::volume_log::{Log, LogFault, MountFault};
 use lfs_cleaner::{has_quarter, make_room};
 use lfs_device::SectorDevice;
 use lfs_files::StoreFault;
-use lfs_log::verify::Tables;
-use lfs_log::{Log, LogFault, MountFault};
 use std::alloc::Global;
 
 /// The most headers that one call changes.
@@ -23,7 +23,7 @@ const MOST_HEADERS: usize = 4;
 const MOST_BLOCKS: usize = 140;
 
 impl<D: SectorDevice> Store<D> {
-    ghost use Rattle.lfs_log.specs.Held.{Halts, IsFull};
+    ghost use Rattle.lfs_cleaner.specs.log.Held.{Halts, IsFull};
     ghost use Rattle.lfs_cleaner.specs.Room.{HaltsLater, HasQuarter, IsRoomFault};
     ghost use Rattle.lfs_store.specs.Recounting.{MountsTotals};
     ghost use Rattle.lfs_store.specs.Accepting.{MountsStore, Commits, MakesRoom, Readies, CannotMakeRoom, Accepts, Declines, IsAcceptFault, HasClean, HasRoomFor, most_written};

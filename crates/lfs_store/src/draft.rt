@@ -1,13 +1,13 @@
 //! What a call will change, before it is staged.
 ghost use Rattle.std.specs.Prelude.{◌≡◌, ◌≤◌, ◌+◌, length, IfSome, IfNone, IfOk, OnOk, OnErr, IsTrue, IsFalse};
-ghost use Rattle.lfs_log.specs.memory.Batch.{IsNoChange};
+ghost use Rattle.lfs_cleaner.specs.log.memory.Batch.{IsNoChange};
 ghost use Rattle.lfs_store.specs.Drafting.{HeaderPlace, DraftsHeader, PutsHeader, IsBlock, BlockPlace, DraftsBlock, LeavesBlock, PutsBlock, LosesOnly, IsAsBefore};
 ghost use Rattle.lfs_store.specs.Reading.{SaysHeader, SaysBlock};
 ghost use Rattle.lfs_model.specs.Fields.{zeros};
 
 use crate::losing::{header_after, takes_block};
+use lfs_cleaner::volume_log::{BlockEdit, Changes, Header, HeaderEdit, Loss};
 use lfs_layout::is_zero;
-use lfs_log::{BlockEdit, Changes, Header, HeaderEdit, Loss};
 use std::alloc::{AllocError, Global};
 
 /// The changes of one call. A later change of a header or of a block takes the place of the one before it.

@@ -35,5 +35,9 @@ impl<D: SectorDevice> Files for Store<D> {
         Store::set_len(self, number, header, len)
     }
 
+    fn shrink(&mut self, number: u16, header: Header, len: u32) -> Result<(), StoreFault> {
+        Store::shrink(self, number, header, len)
+    }
+
     ghost lawful = { λ s. D.SectorDevice.lawful s.log.device };
 }

@@ -11,12 +11,14 @@ mod measuring;
 pub mod pieces;
 mod reading;
 mod recounting;
+mod shrinking;
 mod store;
 pub mod totals;
 mod writing;
 
 pub use draft::Draft;
+pub use lfs_cleaner::volume_log;
+pub use lfs_cleaner::volume_log::{BlockTotals, Header, Log, LogFault, MountFault};
 pub use lfs_files::StoreFault;
-pub use lfs_log::{BlockTotals, Header, Log, LogFault, MountFault};
 pub use store::Store;
 pub use totals::Measure;

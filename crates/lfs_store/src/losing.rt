@@ -2,7 +2,7 @@
 ghost use Rattle.std.specs.Prelude.{IsTrue, IsFalse};
 ghost use Rattle.lfs_store.specs.Reading.{LosesHeader, LosesBlock, KeepsBlock};
 
-use lfs_log::{Header, Loss};
+use lfs_cleaner::volume_log::{Header, Loss};
 
 /// The header that a loss leaves a file with, or that it leaves none; `None` where the header stays.
 pub fn header_after(loss: &Loss, number: u16) -> Option<Option<Header>>

@@ -1,6 +1,6 @@
 //! Files made in the draft, their links, and files that go.
 ghost use Rattle.std.specs.Prelude.{◌≡◌, ◌≤◌, true, IfSome, IfNone, IfErr, OnOk, OnErr, IsErrOf};
-ghost use Rattle.lfs_log.specs.memory.Batch.{IsNoChange};
+ghost use Rattle.lfs_cleaner.specs.log.memory.Batch.{IsNoChange};
 ghost use Rattle.lfs_store.specs.Recounting.{CountsMade, CountsRelinked};
 ghost use Rattle.lfs_store.specs.Making.{Makes, SetsLinks, Removes, first_links, first_header};
 
@@ -8,9 +8,9 @@ use crate::measuring::BLOCKS;
 use crate::recounting::recounted;
 use crate::store::Store;
 use crate::totals::{Measure, NO_BLOCK};
+use lfs_cleaner::volume_log::{Header, LastLink, LogFault, Loss, Removal};
 use lfs_device::SectorDevice;
 use lfs_files::StoreFault;
-use lfs_log::{Header, LastLink, LogFault, Loss, Removal};
 use lfs_model::Kind;
 
 /// The links of a file that is made.
@@ -24,7 +24,7 @@ fn first_links(kind: Kind) -> u32
 }
 
 impl<D: SectorDevice> Store<D> {
-    ghost use Rattle.lfs_log.specs.Held.{Reads, IsReadFault, IsVacant, HasAll, IsRemoved, IsKept};
+    ghost use Rattle.lfs_cleaner.specs.log.Held.{Reads, IsReadFault, IsVacant, HasAll, IsRemoved, IsKept};
     ghost use Rattle.lfs_store.specs.Accepting.{Forgets};
     ghost use Rattle.lfs_store.specs.Recounting.{Counts, CountsGone};
 

@@ -1,17 +1,17 @@
 //! How many blocks a file has with the draft.
 ghost use Rattle.std.specs.Prelude.{◌≡◌, ◌<◌, ◌≤◌, ◌-◌, true, IfSome, IfNone, IfOk, OnErr, IsErrOf, IsTrue, IsFalse};
 ghost use Rattle.std.specs.List.{AllByRecursion};
-ghost use Rattle.lfs_log.specs.Held.{Reads, IsReadFault};
+ghost use Rattle.lfs_cleaner.specs.log.Held.{Reads, IsReadFault};
 ghost use Rattle.lfs_store.specs.Measuring.{SaysStored, IsInLeaf, IsOffLeaf, KeepsLeaf, LeavesLeaf, StoresLeaf, IsLeafRange, TellsStored, TellsLeaf, TellsDouble, CountsStored, CountsLeaves, CountsPointers};
 
 use crate::draft::Draft;
 use crate::losing::takes_block;
 use crate::store::Store;
 use crate::totals::Measure;
+use lfs_cleaner::volume_log::memory::inodes::{DIRECT, POINTERS};
+use lfs_cleaner::volume_log::{BlockEdit, Log, LogFault, Loss};
 use lfs_device::SectorDevice;
 use lfs_layout::is_zero;
-use lfs_log::memory::inodes::{DIRECT, POINTERS};
-use lfs_log::{BlockEdit, Log, LogFault, Loss};
 
 /// How many blocks a file has at most.
 pub const BLOCKS: u32 = 16_624;

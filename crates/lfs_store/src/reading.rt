@@ -1,14 +1,14 @@
 //! Bytes of a file as it is with the draft.
 ghost use Rattle.std.specs.Prelude.{◌≡◌, ◌<◌, ◌≤◌, ◌+◌, ◌%◌, true, IfOk, IfErr, OnOk, OnErr, IsErrOf, IsFalse, length};
 ghost use Rattle.lfs_model.specs.Fields.{zeros};
-ghost use Rattle.lfs_log.specs.Held.{Reads, IsReadFault};
+ghost use Rattle.lfs_cleaner.specs.log.Held.{Reads, IsReadFault};
 ghost use Rattle.lfs_store.specs.Reading.{ReadsStore, ReadsBlock, ReadsPart, Appends};
 
 use crate::draft::Draft;
 use crate::store::Store;
+use lfs_cleaner::volume_log::{Log, LogFault};
 use lfs_device::SectorDevice;
 use lfs_files::StoreFault;
-use lfs_log::{Log, LogFault};
 use std::alloc::Global;
 
 impl<D: SectorDevice> Store<D> {

@@ -4,8 +4,8 @@ ghost use Rattle.lfs_store.specs.Recounting.{Replaces, Recounts};
 
 use crate::store::Store;
 use crate::totals::Measure;
+use lfs_cleaner::volume_log::{BlockTotals, LogFault};
 use lfs_device::SectorDevice;
-use lfs_log::{BlockTotals, LogFault};
 
 /// A total with one share in place of another.
 fn replaced(total: u32, before: u32, after: u32) -> u32
@@ -27,7 +27,7 @@ pub fn recounted(totals: BlockTotals, before: Measure, after: Measure) -> BlockT
 }
 
 impl<D: SectorDevice> Store<D> {
-    ghost use Rattle.lfs_log.specs.Held.{Reads, IsReadFault};
+    ghost use Rattle.lfs_cleaner.specs.log.Held.{Reads, IsReadFault};
     ghost use Rattle.lfs_store.specs.Recounting.{Remeasures};
 
     /// The data blocks, inodes and blocks of pointers of all files, with the draft.

@@ -4,8 +4,8 @@ ghost use Rattle.lfs_model.specs.Fields.{zeros};
 
 use crate::draft::Draft;
 use crate::reading::read_block;
+use lfs_cleaner::volume_log::{BlockTotals, Header, Log, LogFault};
 use lfs_device::SectorDevice;
-use lfs_log::{BlockTotals, Header, Log, LogFault};
 
 /// A log, and the changes of the present call, which reads see.
 #[derive(Drop)]
@@ -19,7 +19,7 @@ pub struct Store<D: SectorDevice> {
 }
 
 impl<D: SectorDevice> Store<D> {
-    ghost use Rattle.lfs_log.specs.Held.{IsReadFault};
+    ghost use Rattle.lfs_cleaner.specs.log.Held.{IsReadFault};
     ghost use Rattle.lfs_store.specs.Reading.{ReadsStore, ReadsHeader, ReadsBlock};
 
     /// What the inode of a file says of it, if the file is there.

@@ -1,7 +1,7 @@
 //! Bytes written to a file and cut off it, into the draft.
 ghost use Rattle.std.specs.Prelude.{◌≡◌, ◌<◌, ◌≤◌, ◌+◌, ◌%◌, true, length, IfErr, OnOk, OnErr, IsErrOf, IsTrue};
-ghost use Rattle.lfs_log.specs.memory.Batch.{IsNoChange};
-ghost use Rattle.lfs_log.specs.Held.{Reads, IsReadFault};
+ghost use Rattle.lfs_cleaner.specs.log.memory.Batch.{IsNoChange};
+ghost use Rattle.lfs_cleaner.specs.log.Held.{Reads, IsReadFault};
 ghost use Rattle.lfs_store.specs.Drafting.{PutsHeader};
 ghost use Rattle.lfs_store.specs.Pieces.{Covers};
 ghost use Rattle.lfs_store.specs.Writing.{ReadsBeneath};
@@ -11,9 +11,9 @@ use crate::measuring::BLOCKS;
 use crate::pieces::{cut_tail, overlay};
 use crate::reading::read_block;
 use crate::store::Store;
+use lfs_cleaner::volume_log::{Cut, Header, Log, LogFault, Loss};
 use lfs_device::SectorDevice;
 use lfs_files::StoreFault;
-use lfs_log::{Cut, Header, Log, LogFault, Loss};
 
 /// Whether bytes that begin at a place of a file cover its block at an index whole.
 fn covers(at: u32, bytes: &[u8], index: u32) -> bool
@@ -308,7 +308,12 @@ impl<D: SectorDevice> Store<D> {
     }
 
     /// A file of this header has another size.
-    fn resize(&mut self, number: u16, header: Header, size: u32) -> Result<(), StoreFault>
+    pub(crate) fn resize(
+        &mut self,
+        number: u16,
+        header: Header,
+        size: u32,
+    ) -> Result<(), StoreFault>
         requires some { 1 ≤ number }
         requires few { number ≤ 4095 }
         ensures log { self.new.log ≡ self.old.log }

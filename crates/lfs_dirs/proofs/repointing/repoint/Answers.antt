@@ -5,7 +5,7 @@ use Rattle.lfs_dirs.specs.declared.searching.Found.{Found}
 use Rattle.lfs_dirs.specs.Adding.{slot_for}
 use Rattle.lfs_dirs.specs.Searching.{FindsSlot}
 use Rattle.lfs_dirs.proofs.SlotsAdded.{fits_slot}
-use Rattle.lfs_dirs.proofs.SlotsReplaced.{repoints, fails_behind}
+use Rattle.lfs_dirs.proofs.SlotsReplaced.{counts_searched, repoints, fails_behind}
 use Rattle.lfs_dirs.proofs.repointing.repoint.Goals as goal
 
 pub returns-in-Ok-None-clause-redrafts : goal.returns-in-Ok-None-clause-redrafts
@@ -44,3 +44,7 @@ returns-clause-done g c is =
     repoints (g.F.Files.state c.args.files.now) (g.F.Files.state c.search.new.files) (g.F.Files.state c.write_at.new.self) c.args.directory c.args.header c.args.number c.args.name.now c.in-Ok-Some.found
     (fits_slot c.args.number c.args.name.now c.requires.first c.requires.last c.requires.name) (sym (ap length slot) ∙ long) inside c.search.ensures.reads c.write_at.ensures.redrafts found
     (subst (λ (w : List ℕ). Writes (g.F.Files.state c.search.new.files) (g.F.Files.state c.write_at.new.self) c.args.directory c.args.header (64 * c.in-Ok-Some.found.place) w) slot c.in-Ok.ensures.done)
+
+pub returns-clause-counted : goal.returns-clause-counted
+returns-clause-counted g c is =
+    counts_searched (g.F.Files.state c.args.files.now) (g.F.Files.state c.search.new.files) (g.F.Files.state c.write_at.new.self) c.search.ensures.reads c.in-Ok.ensures.counted

@@ -3,7 +3,7 @@ use Rattle.lfs_files.proofs.FilesCompose.{redrafts_more, redrafts_read}
 use Rattle.lfs_dirs.specs.declared.searching.Found.{Found}
 use Rattle.lfs_dirs.specs.Searching.{FindsSlot}
 use Rattle.lfs_dirs.proofs.SlotsReplaced.{fails_behind}
-use Rattle.lfs_dirs.proofs.Takings.{takes}
+use Rattle.lfs_dirs.proofs.Takings.{counts_behind, takes}
 use Rattle.lfs_dirs.proofs.taking.take.Goals as goal
 
 pub returns-in-Ok-None-clause-redrafts : goal.returns-in-Ok-None-clause-redrafts
@@ -39,3 +39,8 @@ returns-clause-done g c is =
     (subst (λ (o : Option Found). FindsSlot (g.F.Files.state c.args.files.now) (g.F.Files.state c.search.new.files) c.args.directory c.args.header c.args.name.now o)
     c.in-Ok-Some.field-0-is c.in-Ok-Some.ensures.answer)
     c.in-Ok.ensures.done
+
+pub returns-clause-counted : goal.returns-clause-counted
+returns-clause-counted g c is =
+    counts_behind (g.F.Files.state c.args.files.now) (g.F.Files.state c.search.new.files) (g.F.Files.state c.drop_slot.new.files) c.args.directory c.args.header
+    c.search.ensures.reads c.in-Ok.ensures.counted

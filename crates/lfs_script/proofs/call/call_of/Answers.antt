@@ -1,6 +1,6 @@
 use Rattle.std.proofs.Common.{rules, ◌≡◌, Err, ◌∷◌, codes, ap, refl}
 use Rattle.lfs_script.specs.declared.word.WordFault.TheVariants.{Memory}
-use Rattle.lfs_model.specs.Call.{Create, LstatOf, Mkdir, Open, Pwrite, Readdir, Readlink, StatOf, Symlink}
+use Rattle.lfs_model.specs.Call.{Create, LinkTo, LstatOf, Mkdir, Open, Pwrite, Readdir, Readlink, Rmdir, StatOf, Symlink, Unlink}
 use Rattle.lfs_model.specs.Script.{Plain}
 use Rattle.lfs_script.proofs.call.call_of.Goals as goal
 
@@ -54,6 +54,24 @@ returns-in_err-path-in-Readdir-clause-memory c = λ e.
 
 pub returns-in_err-text-in-Symlink-clause-memory : goal.returns-in_err-text-in-Symlink-clause-memory
 returns-in_err-text-in-Symlink-clause-memory c = λ e.
-    let refused : c.symlink.result ≡ Err Memory = search rules in
-    let found = c.symlink.ensures.memory refused in
+    let refused : c.two_words-in-Symlink.result ≡ Err Memory = search rules in
+    let found = c.two_words-in-Symlink.ensures.memory refused in
     (Plain (Symlink found.0 found.1), tt, (found.2, found.3), refl, rw c.in-Symlink.is (ap (λ words. codes "symlink" ∷ words) found.4))
+
+pub returns-in_err-from-in-Link-clause-memory : goal.returns-in_err-from-in-Link-clause-memory
+returns-in_err-from-in-Link-clause-memory c = λ e.
+    let refused : c.two_words.result ≡ Err Memory = search rules in
+    let found = c.two_words.ensures.memory refused in
+    (Plain (LinkTo found.0 found.1), tt, (found.2, found.3), refl, rw c.in-Link.is (ap (λ words. codes "link" ∷ words) found.4))
+
+pub returns-in_err-path-in-Unlink-clause-memory : goal.returns-in_err-path-in-Unlink-clause-memory
+returns-in_err-path-in-Unlink-clause-memory c = λ e.
+    let refused : c.path-in-Unlink.result ≡ Err Memory = search rules in
+    let found = c.path-in-Unlink.ensures.memory refused in
+    (Plain (Unlink found.0), tt, found.1, refl, rw c.in-Unlink.is (ap (λ words. codes "unlink" ∷ words) found.2))
+
+pub returns-in_err-path-in-Rmdir-clause-memory : goal.returns-in_err-path-in-Rmdir-clause-memory
+returns-in_err-path-in-Rmdir-clause-memory c = λ e.
+    let refused : c.path-in-Rmdir.result ≡ Err Memory = search rules in
+    let found = c.path-in-Rmdir.ensures.memory refused in
+    (Plain (Rmdir found.0), tt, found.1, refl, rw c.in-Rmdir.is (ap (λ words. codes "rmdir" ∷ words) found.2))

@@ -1,6 +1,6 @@
 use Rattle.std.proofs.Common.{subst, List}
 use Rattle.std.specs.List.{AllByRecursion}
-use Rattle.lfs_log.specs.memory.declared.batch.BlockEdit.{BlockEdit}
+use Rattle.lfs_cleaner.specs.log.memory.declared.batch.BlockEdit.{BlockEdit}
 use Rattle.lfs_store.specs.Measuring.{IsOffLeaf}
 use Rattle.lfs_store.proofs.Measured.{leaves_leaf}
 use Rattle.lfs_store.proofs.measuring.changes_leaf.Goals as goal

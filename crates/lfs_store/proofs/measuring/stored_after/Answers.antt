@@ -1,4 +1,4 @@
-use Rattle.lfs_log.specs.memory.Batch.{staged}
+use Rattle.lfs_cleaner.specs.log.memory.Batch.{staged}
 use Rattle.lfs_store.proofs.Measured.{says_test}
 use Rattle.lfs_store.proofs.measuring.stored_after.Goals as goal
 

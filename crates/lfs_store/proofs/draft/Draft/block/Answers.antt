@@ -1,4 +1,4 @@
-use Rattle.lfs_log.specs.memory.Batch.{staged}
+use Rattle.lfs_cleaner.specs.log.memory.Batch.{staged}
 use Rattle.lfs_store.proofs.Readings.{says_stored}
 use Rattle.lfs_store.proofs.draft.Draft.block.Goals as goal
 

@@ -1,4 +1,4 @@
-use Rattle.lfs_log.proofs.of_memory.Going.{ok_then}
+use Rattle.lfs_cleaner.proofs.of_log.of_memory.Going.{ok_then}
 use Rattle.lfs_store.proofs.StoreSeen.{seen_counts, seen_fault_by, seen_redraft, seen_sized}
 use Rattle.lfs_store.proofs.files.StoreFiles.set_len.Goals as goal
 

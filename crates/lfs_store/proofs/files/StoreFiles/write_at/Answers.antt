@@ -1,4 +1,4 @@
-use Rattle.lfs_log.proofs.of_memory.Going.{ok_then}
+use Rattle.lfs_cleaner.proofs.of_log.of_memory.Going.{ok_then}
 use Rattle.lfs_store.proofs.StoreSeen.{seen_counts, seen_fault_by, seen_redraft, seen_written}
 use Rattle.lfs_store.proofs.files.StoreFiles.write_at.Goals as goal
 

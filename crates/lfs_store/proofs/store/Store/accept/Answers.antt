@@ -1,5 +1,5 @@
 use Rattle.std.proofs.Common.{sym, subst}
-use Rattle.lfs_log.specs.Held.{Held}
+use Rattle.lfs_cleaner.specs.log.Held.{Held}
 use Rattle.lfs_store.specs.Accepting.{CannotMakeRoom, IsAcceptFault}
 use Rattle.lfs_store.proofs.store.Store.accept.Goals as goal
 

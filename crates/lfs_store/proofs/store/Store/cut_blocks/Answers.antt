@@ -1,6 +1,6 @@
 use Rattle.std.specs.Prelude.{IfErr}
 use Rattle.std.proofs.Common.{rules, ◌≡◌, subst}
-use Rattle.lfs_log.specs.Held.{Held, IsReadFault}
+use Rattle.lfs_cleaner.specs.log.Held.{Held, IsReadFault}
 use Rattle.lfs_files.specs.declared.fault.StoreFault.{StoreFault}
 use Rattle.lfs_files.specs.declared.fault.StoreFault.TheVariants.{NoMemory}
 use Rattle.lfs_store.proofs.Cuttings.{cuts_even}

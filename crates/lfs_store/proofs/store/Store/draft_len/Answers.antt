@@ -1,6 +1,6 @@
 use Rattle.std.proofs.Common.{rules, subst, sym}
-use Rattle.lfs_log.proofs.of_memory.Going.{ok_then}
-use Rattle.lfs_log.specs.Held.{Held}
+use Rattle.lfs_cleaner.proofs.of_log.of_memory.Going.{ok_then}
+use Rattle.lfs_cleaner.specs.log.Held.{Held}
 use Rattle.lfs_store.specs.Writing.{SetsLen}
 use Rattle.lfs_store.proofs.Cuttings.{sets_shorter, sets_longer}
 use Rattle.lfs_store.proofs.store.Store.draft_len.Goals as goal

@@ -1,9 +1,9 @@
 use Rattle.std.proofs.Common.{◌≡◌, ◌∙◌, refl, rules, ℕ, sym, subst}
-use Rattle.lfs_log.specs.Held.{Held, IsReadFault}
+use Rattle.lfs_cleaner.specs.log.Held.{Held, IsReadFault}
 use Rattle.std.specs.Prelude.{Result, Err, IfErr}
 use Rattle.lfs_files.specs.declared.fault.StoreFault.{StoreFault}
 use Rattle.lfs_files.specs.declared.fault.StoreFault.TheVariants.{NoMemory}
-use Rattle.lfs_log.proofs.of_memory.Going.{ok_then}
+use Rattle.lfs_cleaner.proofs.of_log.of_memory.Going.{ok_then}
 use Rattle.lfs_store.specs.Drafting.{PutsHeader}
 use Rattle.lfs_store.specs.Writing.{Writes, resized}
 use Rattle.lfs_store.proofs.LogReads.{reads_none, fault_more}

@@ -1,5 +1,5 @@
 use Rattle.std.proofs.Common.{◌∙◌, subst, sym}
-use Rattle.lfs_log.specs.verify.declared.totals.BlockTotals.{BlockTotals}
+use Rattle.lfs_cleaner.specs.log.verify.declared.totals.BlockTotals.{BlockTotals}
 use Rattle.lfs_store.specs.Recounting.{CountsGone, Recounts}
 use Rattle.lfs_store.proofs.Forgotten.{forgets}
 use Rattle.lfs_store.proofs.LogReads.{fault_more}

@@ -1,6 +1,6 @@
 use Rattle.std.specs.Prelude.{min, Option}
 use Rattle.std.proofs.Common.{◌≤◌, ◌*◌, ℕ, subst, arith}
-use Rattle.lfs_log.specs.memory.files.declared.header.Header.{Header}
+use Rattle.lfs_cleaner.specs.log.memory.files.declared.header.Header.{Header}
 use Rattle.lfs_store.specs.declared.draft.Draft.{Draft}
 use Rattle.lfs_store.specs.Measuring.{CountsStored, CountsPointers}
 use Rattle.lfs_store.specs.Reading.{ReadsHeader}

@@ -1,7 +1,7 @@
 use Rattle.std.proofs.Common.{rules, ◌≤◌, ◌+◌, ◌/◌, length, sym, subst, arith}
-use Rattle.lfs_log.specs.segments.Table.{clean_in}
-use Rattle.lfs_log.specs.Held.{Held, IsFull}
-use Rattle.lfs_log.specs.memory.Batch.{room_for}
+use Rattle.lfs_cleaner.specs.log.segments.Table.{clean_in}
+use Rattle.lfs_cleaner.specs.log.Held.{Held, IsFull}
+use Rattle.lfs_cleaner.specs.log.memory.Batch.{room_for}
 use Rattle.lfs_store.specs.declared.draft.Draft.{Draft}
 use Rattle.lfs_store.specs.Accepting.{HasClean}
 use Rattle.lfs_store.proofs.Acceptings.{cannot_after, cannot_commit, fault_after, halts_after, halts_first, room_same, room_then}

@@ -1,7 +1,7 @@
 use Rattle.std.proofs.Common.{◌∙◌, sym, subst}
-use Rattle.lfs_log.specs.Held.{Held, Reads}
+use Rattle.lfs_cleaner.specs.log.Held.{Held, Reads}
 use Rattle.lfs_store.specs.declared.draft.Draft.{Draft}
-use Rattle.lfs_log.specs.verify.declared.totals.BlockTotals.{BlockTotals}
+use Rattle.lfs_cleaner.specs.log.verify.declared.totals.BlockTotals.{BlockTotals}
 use Rattle.lfs_store.specs.Recounting.{Remeasures, Counts}
 use Rattle.lfs_store.proofs.LogReads.{fault_more, reads_none, reads_more}
 use Rattle.lfs_store.proofs.Recounted.{remove_counts}

@@ -1,4 +1,4 @@
-use Rattle.lfs_log.proofs.of_memory.Going.{ok_then}
+use Rattle.lfs_cleaner.proofs.of_log.of_memory.Going.{ok_then}
 use Rattle.lfs_store.proofs.Recounted.{relinked_counts}
 use Rattle.lfs_store.proofs.store.Store.set_links.Goals as goal
 

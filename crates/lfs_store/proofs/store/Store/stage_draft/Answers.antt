@@ -1,7 +1,7 @@
 use Rattle.std.proofs.Common.{rules, ◌≡◌, true, false, ap, sym, ◌∙◌, subst, Err}
-use Rattle.lfs_log.specs.Held.{Held}
+use Rattle.lfs_cleaner.specs.log.Held.{Held}
 use Rattle.lfs_store.specs.declared.draft.Draft.{Draft}
-use Rattle.lfs_log.specs.memory.files.declared.fault.LogFault.TheVariants.{Full, Device, Halted}
+use Rattle.lfs_cleaner.specs.log.memory.files.declared.fault.LogFault.TheVariants.{Full, Device, Halted}
 use Rattle.lfs_store.specs.Accepting.{Accepts, Declines, IsAcceptFault}
 use Rattle.lfs_store.proofs.Acceptings.{accepts, declines, declines_room, accept_fault, room_fault, where_err}
 use Rattle.lfs_store.proofs.store.Store.stage_draft.Goals as goal

@@ -1,0 +1,380 @@
+-- A further name that was drafted, as a step of the model.
+use Rattle.std.proofs.Common.{◌≡◌, ◌≢◌, ◌<◌, ◌≤◌, ◌+◌, ◌*◌, ◌^◌, ℕ, true, false, List, length, Option, Some, None, Result, refl, sym, ◌∙◌, ap, subst, inl, inr, ⊎_elim, arith}
+use Rattle.std.specs.Prelude.{IfErr, OnOk, max}
+use Rattle.std.specs.FinMap.{find}
+use Rattle.lfs_model.specs.Call.{Done, LinkTo, Refuse}
+use Rattle.lfs_model.specs.Changing.{IsWithHeader}
+use Rattle.lfs_model.specs.Checkpoint.{CheckpointValue}
+use Rattle.lfs_model.specs.Device.{DeviceState, IsLawful}
+use Rattle.lfs_model.specs.Encodes.{IsLogMap}
+use Rattle.lfs_model.specs.Entry.{Inode}
+use Rattle.lfs_model.specs.Need.{need}
+use Rattle.lfs_model.specs.Objects.{IsDirectory, IsHeaderOf}
+use Rattle.lfs_model.specs.Refusal as refusals
+use Rattle.lfs_model.specs.Stands.{LogMap}
+use Rattle.lfs_model.specs.Step.{Step, name, with_tree}
+use Rattle.lfs_model.specs.Totals.{IsCounted}
+use Rattle.lfs_model.specs.Tree.{State, Tree, byte_cmp, is_dir, links, node}
+use Rattle.lfs_model.specs.Walk.{At, Parent}
+use Rattle.lfs_files.specs.declared.header.Header.{Header}
+use Rattle.lfs_files.specs.Files.{WritesFile}
+use Rattle.lfs_store.specs.declared.draft.Draft.{Draft}
+use Rattle.lfs_store.specs.log.verify.declared.totals.BlockTotals.{BlockTotals}
+use Rattle.lfs_store.specs.memory.declared.batch.Loss.{Loss}
+use Rattle.lfs_store.specs.memory.declared.batch.Loss.TheVariants.{Nothing}
+use Rattle.lfs_store.specs.memory.declared.changes.Changes.{Changes}
+use Rattle.lfs_store.specs.memory.declared.memory.LogMemory.{LogMemory}
+use Rattle.lfs_store.specs.memory.Batch.{FitsBatch, IsNoChange, is_lost, staged}
+use Rattle.lfs_store.specs.memory.Changing.{FitsHeader, with_header}
+use Rattle.lfs_store.specs.memory.Present.{as_header}
+use Rattle.lfs_store.specs.log.Held.{Holds}
+use Rattle.lfs_store.specs.Drafting.{IsApart}
+use Rattle.lfs_store.specs.Making.{relinked}
+use Rattle.lfs_store.specs.Recounting.{AreTotals}
+use Rattle.lfs_store.proofs.Apart.{draft_empty, nothing_apart}
+use Rattle.lfs_store.proofs.LogReads.{fault_more, held_still}
+use Rattle.lfs_store.proofs.TreeTotals.{totals_of_tree}
+use Rattle.lfs_store.proofs.Writings.{header_put}
+use Rattle.lfs_path.specs.declared.last.Last.{Last}
+use Rattle.lfs_path.specs.dirs.Adding.{AddsName, grown, slot_for}
+use Rattle.lfs_path.specs.dirs.Directory.{names_at}
+use Rattle.lfs_path.proofs.of_dirs.SlotsKept.{directory_stays}
+use Rattle.lfs_fs.specs.declared.error.FsError.{FsError}
+use Rattle.lfs_fs.specs.declared.fs.Fs.{Fs}
+use Rattle.lfs_fs.specs.Accepting.{Stages, TurnsDown, limit_of, need_of}
+use Rattle.lfs_fs.specs.Handles.{handles_of}
+use Rattle.lfs_fs.specs.HardLinks.{DraftsName, NamesObject, SeesObject}
+use Rattle.lfs_fs.specs.Naming.{DraftsNone, Reaches, TakesEntry}
+use Rattle.lfs_fs.specs.Refusals.{refusal_of}
+use Rattle.lfs_fs.specs.Seen.{OnlyReads, answer_by, seen}
+use Rattle.lfs_fs.specs.Volume.{IsIn, IsStill, Mounted, Serves, segments_of}
+use Rattle.lfs_fs.proofs.Behaving.{write_behaves}
+use Rattle.lfs_fs.proofs.CallSteps.{not_worn, refused_not_worn, worn}
+use Rattle.lfs_fs.proofs.CreateEnds.{in_each}
+use Rattle.lfs_fs.proofs.Ending.{accepts_by, not_acknowledged}
+use Rattle.lfs_fs.proofs.Files.{IsMapOf}
+use Rattle.lfs_fs.proofs.Headers.{directory_grows}
+use Rattle.lfs_fs.proofs.Holding.{headers_of_volume, map_of_volume, shape_of_volume}
+use Rattle.lfs_fs.proofs.InDirectories.{directory_formed, directory_kind}
+use Rattle.lfs_fs.proofs.LinkRefusals.{asks}
+use Rattle.lfs_fs.proofs.LinkSteps.{link_done, link_no_space, linked}
+use Rattle.lfs_fs.proofs.LinkedFiles.{NamesMore, linked_log, linked_map, linked_need, other, some_links}
+use Rattle.lfs_fs.proofs.NewEntrySteps.{IsTaken}
+use Rattle.lfs_fs.proofs.NewRefusals as rule
+use Rattle.lfs_fs.proofs.OldEntries.{dir, looked, says, still}
+use Rattle.lfs_fs.proofs.Serving.{point_of, served_still}
+use Rattle.lfs_fs.proofs.Told.{fault_serves, memory_serves}
+use Rattle.lfs_fs.proofs.WritingEnds.{accepts_old, ends_by, low_old, still_more, table_same}
+
+module _ {D : Type 0} (state : D → DeviceState) (lawful : (d : D) → IsLawful (state d))
+    (v : Mounted D) (old mid : Fs D) (a b : List ℕ) (da n : ℕ) (object : Header)
+    (sees : SeesObject state v old a da n object) (d : ℕ) (piece : Option Last)
+    (reached : Reaches state v old b d piece) (running : old.store.log.halted ≡ false) (l : Last)
+    (is_last : piece ≡ Some l) (only : OnlyReads state old mid) (head : Header)
+    (takes : TakesEntry state old mid d l.name.now l.slash false head)
+    (few : object.links < 1000) where
+  still_mid : IsStill state v (seen mid)
+  still_mid = still state lawful v old b d piece reached l is_last mid only
+
+  was : v.log.halted ≡ false
+  was = sym reached.still.reads.halted ∙ running
+
+  -- ---- nothing was drafted, and the draft is given up
+  module _ (tried new : Fs D) (same : seen new ≡ seen tried)
+      (drafted : IsStill state (seen mid) (seen tried)) where
+    still_tried : IsStill state v (seen tried)
+    still_tried = still_more state lawful v (seen mid) (seen tried) still_mid drafted
+
+    pub undrafted_ends : (fault : FsError) → DraftsNone state mid tried fault
+        → Serves state v (seen new) (LinkTo a b) (Refuse (refusal_of fault))
+    undrafted_ends fault none =
+        subst (λ (w : Mounted D). Serves state v w (LinkTo a b) (Refuse (refusal_of fault)))
+        (sym same)
+        (⊎_elim
+        (λ memory. subst (λ (e : FsError). Serves state v (seen tried) (LinkTo a b)
+        (Refuse (refusal_of e))) (sym memory)
+        (memory_serves state v (seen tried) (LinkTo a b) (lawful v.log.device) still_tried was
+        refl))
+        (λ failed. subst (λ (e : FsError). Serves state v (seen tried) (LinkTo a b)
+        (Refuse (refusal_of e))) (sym failed.0)
+        (fault_serves state v (seen tried) (LinkTo a b) (lawful v.log.device) still_tried was refl
+        (fault_more state v.log mid.store.log tried.store.log still_mid.reads failed.1)))
+        none)
+
+  -- ---- a draft
+  module _ (ready : Fs D) (drafted : IsStill state (seen mid) (seen ready))
+      (drafts : DraftsName state mid ready d head n object l.name.now) where
+    abbrev c : Changes
+    c = ready.store.draft.changes
+
+    -- the log map before the name
+    abbrev between : LogMap → LogMap
+    between m = staged drafts.linked m
+
+    abbrev slot : List ℕ
+    slot = slot_for n l.name.now
+
+    still_ready : IsStill state v (seen ready)
+    still_ready = still_more state lawful v (seen mid) (seen ready) still_mid drafted
+
+    none_drafted : IsNoChange mid.store.draft.changes
+    none_drafted = subst (λ (x : Draft). IsNoChange x.changes) (sym only.draft) reached.empty
+
+    same_mid : (m : LogMap) → staged mid.store.draft.changes m ≡ m
+    same_mid m = (draft_empty mid.store.draft.changes m none_drafted).0
+
+    piece_is : name b ≡ l.name.now
+    piece_is = (says state lawful v old b d piece reached l is_last mid only).1
+
+    -- ---- where the device keeps the model to the end, and the volume is in a state
+    module _ (keeps : (state ready.store.log.device).keeps_model) (k : CheckpointValue)
+        (m0 m : LogMap) (s : State) (is : IsIn state v k m0 m s) where
+      kept_mid : (state mid.store.log.device).keeps_model
+      kept_mid = drafted.reads.looks.carries.kept_before keeps
+
+      kept_old : (state old.store.log.device).keeps_model
+      kept_old = only.still.reads.looks.carries.kept_before kept_mid
+
+      walk : Parent s.tree b (At d)
+      walk = reached.walk k m0 m s kept_old is
+
+      names : NamesObject m s a da n object
+      names = sees.names k m0 m s kept_old is
+
+      map : IsMapOf (segments_of v) m s
+      map = map_of_volume state v k m0 m s is
+
+      in_mid : Holds state mid.store.log k m0 m
+      in_mid = held_still state v.log mid.store.log k m0 m still_mid.reads is.stores.holds
+
+      -- the directory
+      is_directory : is_dir (node s.tree d) ≡ true
+      is_directory = dir state lawful v old b d piece reached l is_last mid only k m0 m s is walk
+
+      found_d : (m.header d ≡ Some (as_header head))
+          × (find byte_cmp (name b) (names_at m d head) ≡ None)
+      found_d = looked state lawful v old b d piece reached l is_last mid only k m0 m s is walk
+          kept_mid head None takes.looks
+
+      taken : IsTaken s b d false
+      taken = rule.is_taken state lawful v old b d (LinkTo a b) false
+          (asks state lawful v old a b da n object sees d piece reached running) piece reached
+          running l is_last mid only k m0 m s kept_mid is walk head takes
+
+      fits_d : IsHeaderOf d (as_header head)
+      fits_d = headers_of_volume state v k m0 m s is d (as_header head) found_d.0
+
+      fits_n : IsHeaderOf n (as_header object)
+      fits_n = headers_of_volume state v k m0 m s is n (as_header object) names.there
+
+      -- the object has a link more
+      staged_n : (staged mid.store.draft.changes m).header n ≡ Some (as_header object)
+      staged_n = ap (λ (x : LogMap). x.header n) (same_mid m) ∙ names.there
+
+      staged_map : IsLogMap (staged mid.store.draft.changes m)
+      staged_map = subst IsLogMap (sym (same_mid m)) map.map
+
+      with_it : IsWithHeader m n (Some (as_header (relinked object (object.links + 1)))) (between m)
+      with_it = header_put m (between m) n (relinked object (object.links + 1))
+          (drafts.sets.map m
+          ∙ ap (λ (x : LogMap). with_header x n
+          (Some (as_header (relinked object (object.links + 1))))) (same_mid m))
+
+      log_between : IsLogMap (between m)
+      log_between = drafts.sets.keeps m staged_map staged_n
+
+      -- and the directory the name
+      same_directory : IsDirectory (between m) d (as_header head)
+          × (names_at (between m) d head ≡ names_at m d head)
+      same_directory = directory_stays m (between m) d head head (λ i. with_it.block d i) refl
+          (directory_formed (segments_of v) m s map d is_directory head found_d.0 fits_d)
+
+      writes : WritesFile (between m) (staged c m) d head (grown head) head.size slot
+      writes = drafts.adds.file k m0 m keeps in_mid
+
+      adds : AddsName (between m) (staged c m) d head n l.name.now
+      adds = drafts.adds.more k m0 m keeps in_mid same_directory.0
+          (ap (find byte_cmp l.name.now) same_directory.1
+          ∙ ap (λ (x : List ℕ). find byte_cmp x (names_at m d head)) (sym piece_is) ∙ found_d.1)
+
+      does : NamesMore m (between m) (staged c m) d head n object (name b)
+      does = record {
+        map = log_between;
+        linked = with_it;
+        writes = subst (λ (x : List ℕ). WritesFile (between m) (staged c m) d head (grown head)
+            head.size (slot_for n x)) (sym piece_is) writes;
+        adds = subst (AddsName (between m) (staged c m) d head n) (sym piece_is) adds;
+      }
+
+      log_after : IsLogMap (staged c m)
+      log_after = linked_log (segments_of v) m s map a b da n object names d walk taken.new head
+          found_d.0 (between m) (staged c m) takes.room does
+
+      apart : n ≢ d
+      apart = other (segments_of v) m s map a b da n object names d walk taken.new head found_d.0
+          (between m) (staged c m) takes.room does
+
+      -- the draft fits
+      linked_fits : FitsBatch m drafts.linked
+      linked_fits =
+          drafts.sets.fits m (draft_empty mid.store.draft.changes m none_drafted).1 staged_n
+          (some_links (segments_of v) m s map a b da n object names d walk taken.new head found_d.0
+          (between m) (staged c m) takes.room does)
+          (ap (λ (x : Loss). is_lost x (Inode n)) none_drafted.loss)
+          record { links_few = omega (arith, few); size_fits = fits_n.size }
+
+      no_loss : drafts.linked.loss ≡ Nothing
+      no_loss = drafts.sets.loss (omega arith) ∙ none_drafted.loss
+
+      grows : FitsHeader head.kind head.links (max head.size (head.size + length slot))
+      grows =
+          let room = takes.room in
+          let larger = directory_grows d head fits_d
+          (directory_kind (segments_of v) m s map d is_directory head found_d.0)
+          (omega (arith, room)) in
+          subst (λ (z : ℕ). FitsHeader head.kind head.links z) writes.bytes.size larger
+
+      fits_here : FitsBatch m c
+      fits_here = drafts.adds.fits k m0 m in_mid linked_fits record {
+        there = with_it.others d (λ e. apart (sym e)) ∙ found_d.0;
+        apart = subst (λ (x : Loss). IsApart x d) (sym no_loss) (nothing_apart d);
+        within = λ none. absurd
+            (let both : None ≡ Some (as_header head) = sym none ∙ found_d.0 in cc);
+        header = grows;
+      }
+
+      -- its totals
+      mid_totals : AreTotals (staged mid.store.draft.changes m) mid.store.drafted
+      mid_totals =
+          let before : AreTotals m old.store.log.totals
+          = record {
+            stored = reached.still.blocks ∙ is.counted.stored;
+            above = reached.still.others ∙ is.counted.above;
+          } in
+          subst (λ (x : LogMap). AreTotals x mid.store.drafted) (sym (same_mid m))
+          (subst (λ (t : BlockTotals). AreTotals m t) (sym (only.drafted ∙ reached.drafted)) before)
+
+      counted_here : IsCounted (staged c m) ready.store.drafted.data_blocks
+          ready.store.drafted.meta_blocks
+      counted_here = drafts.recounts k m0 m keeps in_mid log_between log_after
+          (drafts.counts m staged_n mid_totals)
+
+      -- what the tree needs after it
+      needs : need (linked (segments_of v) s a b n d) ≡ need_of ready
+      needs = linked_need (segments_of v) m s map a b da n object names d walk taken.new head
+          found_d.0 (between m) (staged c m) takes.room does
+          totals_of_tree (shape_of_volume state v k m0 m s is) ready.store.drafted.data_blocks
+          ready.store.drafted.meta_blocks counted_here
+
+      few_links : links s.tree n < 1000
+      few_links =
+          let same : object.links ≡ links s.tree n
+          = is.log.links n (as_header object) names.there
+          ∙ ap (λ (t : Tree). links t n) (sym is.log.is) in
+          omega (arith, same, few)
+
+      -- ---- the steps
+      no_space : 47 * segments_of v < need_of ready → Step (segments_of v) s (LinkTo a b)
+          (Refuse refusals.NoSpace) s
+      no_space lacks = link_no_space (segments_of v) s a b m da n object names d walk
+          taken
+          few_links (let same = needs in omega (arith, same, lacks))
+
+      module _ (room : need_of ready ≤ 47 * segments_of v) where
+        need_fits : need (linked (segments_of v) s a b n d) ≤ 47 * segments_of v
+        need_fits = let same = needs in omega (arith, same, room)
+
+        done : Step (segments_of v) s (LinkTo a b) Done
+            (with_tree s (linked (segments_of v) s a b n d))
+        done = link_done (segments_of v) s a b m da n object names d walk
+            taken
+            few_links need_fits
+
+        after : IsMapOf (segments_of v) (staged c m)
+            (with_tree s (linked (segments_of v) s a b n d))
+        after = linked_map (segments_of v) m s map a b da n object names d walk taken.new head
+            found_d.0 (between m) (staged c m) takes.room does
+            (sees.bytes, reached.bytes)
+            taken
+            few_links need_fits
+
+    limit_same : limit_of ready ≡ 47 * segments_of v
+    limit_same = ap (λ (x : LogMemory). 47 * length x.usage.segments) still_ready.reads.memory
+
+    -- ---- the call
+    module _ (new : Fs D) (rest : new.handles ≡ ready.handles) where
+      -- it is staged
+      staged_ends : Stages state ready new → (state ready.store.log.device).keeps_model
+          → (k : CheckpointValue) (m0 m : LogMap) (s : State) → IsIn state v k m0 m s
+          → Serves state v (seen new) (LinkTo a b) Done
+      staged_ends stages keeps k m0 m s is =
+          let accepts = accepts_old state lawful v ready new (LinkTo a b) Done still_ready was rest
+          stages in
+          let table = table_same state lawful v ready new (LinkTo a b) Done still_ready was rest in
+          let low = low_old state lawful v ready new (LinkTo a b) Done still_ready was rest
+          stages.young in
+          let room : need_of ready ≤ 47 * segments_of v
+          = subst (λ (x : ℕ). need_of ready ≤ x) limit_same stages.room in
+          accepts_by state v (seen new) (LinkTo a b) (lawful v.log.device)
+          (lawful new.store.log.device) accepts.carries accepts.segments was accepts.saves.number c
+          accepts low Done (λ e. cc) (λ e. cc)
+          (write_behaves state v (seen new) (LinkTo a b) Done refl table (λ e. cc))
+          (λ p keeps_new here k' m0' m' is'. record {
+            next = with_tree p.state (linked (segments_of v) p.state a b n d);
+            fits = fits_here keeps k' m0' m' p.state is';
+            map = after keeps k' m0' m' p.state is' room;
+            version = is'.version;
+            handles = is'.handles ∙ ap handles_of (sym table);
+            counted = subst (λ (t : BlockTotals). IsCounted (staged c m') t.data_blocks
+                t.meta_blocks) (sym stages.totals) (counted_here keeps k' m0' m' p.state is');
+            steps = inl (
+              done keeps k' m0' m' p.state is' room,
+              not_worn (segments_of v) (LinkTo a b) p
+                  (let number = here.number in omega (arith, number, low)),
+            );
+          })
+
+      -- the tree would need more than there is
+      lacking_ends : IsStill state v (seen new) → limit_of ready < need_of ready
+          → (state ready.store.log.device).keeps_model
+          → (k : CheckpointValue) (m0 m : LogMap) (s : State) → IsIn state v k m0 m s
+          → Serves state v (seen new) (LinkTo a b) (Refuse refusals.NoSpace)
+      lacking_ends same lacks keeps k m0 m s is =
+          served_still state v (seen new) (LinkTo a b) (Refuse refusals.NoSpace)
+          (lawful v.log.device) same was tt (λ p keeps_new here k' m0' m' is'. (
+          let step = no_space keeps k' m0' m' p.state is'
+          (subst (λ (x : ℕ). x < need_of ready) limit_same lacks) in
+          inl (
+            step,
+            refused_not_worn (segments_of v) (LinkTo a b) p refusals.NoSpace p.state step refl,
+          )))
+          (not_acknowledged (LinkTo a b) refusals.NoSpace)
+
+      -- the last number is reached
+      worn_ends : IsStill state v (seen new) → 2 ^ 62 ≤ v.log.number
+          → need_of ready ≤ limit_of ready
+          → (state ready.store.log.device).keeps_model
+          → (k : CheckpointValue) (m0 m : LogMap) (s : State) → IsIn state v k m0 m s
+          → Serves state v (seen new) (LinkTo a b) (Refuse refusals.Worn)
+      worn_ends same high room keeps k m0 m s is =
+          served_still state v (seen new) (LinkTo a b) (Refuse refusals.Worn) (lawful v.log.device)
+          same was tt (λ p keeps_new here k' m0' m' is'. inr (
+            refusals.Worn,
+            refl,
+            worn (segments_of v) (LinkTo a b) p (point_of state (seen new) p.state)
+                (let number = here.number in omega (arith, number, high)) refl Done
+                (with_tree p.state (linked (segments_of v) p.state a b n d))
+                (done keeps k' m0' m' p.state is'
+                (subst (λ (x : ℕ). need_of ready ≤ x) limit_same room)) refl,
+            refl,
+          ))
+          (not_acknowledged (LinkTo a b) refusals.Worn)
+
+      pub link_ends : {X : Type 0} (r : Result X FsError) → OnOk r (Stages state ready new)
+          → IfErr r (TurnsDown state ready new)
+          → Serves state v (seen new) (LinkTo a b) (answer_by (λ _. Done) r)
+      link_ends = ends_by state lawful v ready new (LinkTo a b) Done still_ready was rest refl refl
+          refl refl
+          (λ keeps k m0 m s is. in_each state v k m0 m s is (λ x t. FitsBatch x c)
+          (fits_here keeps k m0 m s is))
+          staged_ends lacking_ends worn_ends

@@ -1,0 +1,366 @@
+-- A name moved from one directory to another, from log map to log map: a draft changes the links
+-- of both directories, takes
+-- the name out of the first, and writes it into the second. The two may be one directory.
+use Rattle.std.proofs.Common.{
+  ◌≡◌,
+  ◌≢◌,
+  ◌⊎◌,
+  ◌≤◌,
+  ◌+◌,
+  ℕ,
+  List,
+  [],
+  Option,
+  Some,
+  None,
+  refl,
+  sym,
+  ◌∙◌,
+  ap,
+  subst,
+  ⊎_elim,
+  arith,
+  Bool,
+  true,
+  false,
+  cond,
+  eqb,
+}
+use Rattle.std.specs.Prelude.{◌==◌, unwrap_or}
+use Rattle.std.specs.FinMap.{find}
+use Rattle.std.proofs.lemmas.Bool.{cases_eq}
+use Rattle.std.proofs.lemmas.Bool.Decides.{eqb_tells}
+use Rattle.lfs_model.specs.declared.Kind.TheVariants as kind
+use Rattle.lfs_model.specs.Changing.{IsWithHeader}
+use Rattle.lfs_model.specs.Entry as entry
+use Rattle.lfs_model.specs.Objects.{IsDirectory}
+use Rattle.lfs_model.specs.Stands.{LogMap}
+use Rattle.lfs_model.specs.Tree.{
+  File,
+  Node,
+  Tree,
+  byte_cmp,
+  entry as entry_in,
+  names_of,
+  node,
+  with_name,
+  without_name,
+}
+use Rattle.lfs_model.specs.TreeOf.{tree_in}
+use Rattle.lfs_files.specs.declared.header.Header.{Header}
+use Rattle.lfs_files.specs.Files.{HasFile, WritesFile}
+use Rattle.lfs_files.specs.Headers.{as_header}
+use Rattle.lfs_path.specs.dirs.Adding.{AddsName, grown}
+use Rattle.lfs_path.specs.dirs.Directory.{names_at}
+use Rattle.lfs_path.specs.dirs.Repointing.{RepointsName}
+use Rattle.lfs_path.specs.dirs.Taking.{CutsSlot, TakesName, shrunk}
+use Rattle.lfs_path.proofs.of_dirs.InTrees.{directory_node}
+use Rattle.lfs_store.specs.Making.{relinked}
+use Rattle.lfs_fs.proofs.Files.{IsShaped}
+use Rattle.lfs_fs.proofs.KeptMaps.{
+  HasHolder,
+  Shifts,
+  holder_directory,
+  none_at,
+  relinked_kept,
+  relinked_shifts,
+  relinked_tree,
+  shifts_joined,
+  taken_kept,
+  taken_shifts,
+  taken_tree,
+  written_kept,
+  written_shifts,
+  written_tree,
+}
+use Rattle.lfs_fs.proofs.MovedNames.{nothing_at, only_at}
+
+-- ---- what the steps draft
+
+-- Directory d has so many links, in the same log map where it had them.
+abbrev pub Relinks : LogMap → LogMap → ℕ → Header → ℕ → Type 0
+Relinks m m' d head l = ((l ≡ head.links) × (m' ≡ m))
+    ⊎ IsWithHeader m d (Some (as_header (relinked head l))) m'
+
+-- The links of directories da and db are counted anew, first the one's and then the other's. One
+-- directory's are once.
+-- Then the name goes from da: what is said of that, is said where it is a directory.
+pub record DraftsMove (m1 m2 m3 m4 : LogMap) (da db : ℕ) (a b : Header) (la lb : ℕ) (na : List ℕ)
+    : Type 0 where
+  pub first : Relinks m1 m2 da a la
+  pub second : ((da ≢ db) × Relinks m2 m3 db b lb) ⊎ ((da ≡ db) × (m3 ≡ m2))
+  pub cut : HasFile m3 da (relinked a la) → CutsSlot m3 m4 da (relinked a la)
+  pub takes : HasFile m3 da (relinked a la) → IsDirectory m3 da (as_header (relinked a la))
+      → TakesName m3 m4 da (relinked a la) na
+
+-- the header of db then, where one directory is a slot shorter
+abbrev pub second_after : ℕ → ℕ → Header → Header → ℕ → ℕ → Header
+second_after da db a b la lb = cond (da == db) (shrunk (relinked a la)) (relinked b lb)
+
+-- A name that directory db doesn't have gives n.
+pub record DraftsName (m4 m5 : LogMap) (db n : ℕ) (b : Header) (nb : List ℕ) : Type 0 where
+  pub at : ℕ
+  pub slot : List ℕ
+  pub writes : WritesFile m4 m5 db b (grown b) at slot
+  pub adds : IsDirectory m4 db (as_header b) → find byte_cmp nb (names_at m4 db b) ≡ None
+      → AddsName m4 m5 db b n nb
+
+-- One that it has gives n.
+pub record DraftsOver (m4 m5 : LogMap) (db n : ℕ) (b : Header) (nb : List ℕ) : Type 0 where
+  pub at : ℕ
+  pub slot : List ℕ
+  pub writes : WritesFile m4 m5 db b b at slot
+  pub repoints : IsDirectory m4 db (as_header b) → RepointsName m4 m5 db b n nb
+
+-- ---- what comes of them
+
+shifts_as : (m m' : LogMap) (less more less' more' : ℕ → ℕ)
+    → ((k : ℕ) → less k + more' k ≡ less' k + more k) → Shifts m m' less more
+    → Shifts m m' less' more'
+shifts_as m m' less more less' more' same shifts k g' at =
+    let one = shifts k g' at in
+    let e = one.2 in
+    let f = same k in
+    (one.0, one.1, omega (arith, e, f))
+
+-- one directory's links
+module _ (m m' : LogMap) (d : ℕ) (head : Header) (l : ℕ) (kept : IsShaped m)
+    (has : HasHolder m d head) (relinks : Relinks m m' d head l) where
+  made : IsWithHeader m d (Some (as_header (relinked head l))) m'
+  made = ⊎_elim
+      (λ (same : (l ≡ head.links) × (m' ≡ m)). subst
+      (λ (x : LogMap). IsWithHeader m d (Some (as_header (relinked head l))) x) (sym same.1)
+      record {
+        own = has.there ∙ ap (λ (l : ℕ). Some (as_header (relinked head l))) (sym same.0);
+        others = λ k ne. refl;
+        block = λ k i. refl;
+      })
+      (λ (made : IsWithHeader m d (Some (as_header (relinked head l))) m'). made)
+      relinks
+
+  small : head.size ≤ 8511488
+  small = let few = has.few in omega (arith, few)
+
+  pub linked_kept : IsShaped m'
+  linked_kept = relinked_kept m m' d (as_header head) l kept has.there small made
+
+  pub linked_tree : tree_in m' ≡ tree_in m
+  linked_tree = relinked_tree m m' d (as_header head) l kept has.there small made
+
+  pub linked_shifts : (x y : ℕ) → l + x ≡ head.links + y → Shifts m m' (only_at d x) (only_at d y)
+  linked_shifts x y links = relinked_shifts m m' d (as_header head)
+      l kept has.there small made x y links
+
+  pub linked_holder : HasHolder m' d (relinked head l)
+  linked_holder = record { number = has.number; there = made.own; kind = has.kind; few = has.few }
+
+  pub other_holder : (q : ℕ) (other : Header) → q ≢ d → HasHolder m q other → HasHolder m' q other
+  other_holder q other ne is = record
+      { number = is.number; there = made.others q ne ∙ is.there; kind = is.kind; few = is.few }
+
+module _ (m1 m2 m3 m4 : LogMap) (da db : ℕ) (a b : Header) (la lb : ℕ) (na : List ℕ)
+    (kept : IsShaped m1) (has_a : HasHolder m1 da a) (has_b : HasHolder m1 db b)
+    (drafts : DraftsMove m1 m2 m3 m4 da db a b la lb na) where
+  pub kept_2 : IsShaped m2
+  kept_2 = linked_kept m1 m2 da a la kept has_a drafts.first
+
+  pub tree_2 : tree_in m2 ≡ tree_in m1
+  tree_2 = linked_tree m1 m2 da a la kept has_a drafts.first
+
+  pub a_2 : HasHolder m2 da (relinked a la)
+  a_2 = linked_holder m1 m2 da a la kept has_a drafts.first
+
+  pub b_2 : da ≢ db → HasHolder m2 db b
+  b_2 ne = other_holder m1 m2 da a la kept has_a drafts.first db b (λ e. ne (sym e)) has_b
+
+  -- the other directory, where it is another
+  pub relinked_maps : IsShaped m3 × (tree_in m3 ≡ tree_in m1) × HasHolder m3 da (relinked a la)
+      × (da ≢ db → HasHolder m3 db (relinked b lb))
+  relinked_maps = ⊎_elim
+      (λ (apart : (da ≢ db) × Relinks m2 m3 db b lb). (
+        linked_kept m2 m3 db b lb kept_2 (b_2 apart.0) apart.1,
+        linked_tree m2 m3 db b lb kept_2 (b_2 apart.0) apart.1 ∙ tree_2,
+        other_holder m2 m3 db b lb kept_2 (b_2 apart.0) apart.1 da (relinked a la) apart.0 a_2,
+        λ ne. linked_holder m2 m3 db b lb kept_2 (b_2 apart.0) apart.1,
+      ))
+      (λ (one : (da ≡ db) × (m3 ≡ m2)). (
+        subst IsShaped (sym one.1) kept_2,
+        ap tree_in one.1 ∙ tree_2,
+        subst (λ (x : LogMap). HasHolder x da (relinked a la)) (sym one.1) a_2,
+        λ ne. absurd (ne one.0),
+      ))
+      drafts.second
+
+  pub linked_shifts_3 : (x y : ℕ) → la + x ≡ a.links → (da ≢ db → lb ≡ b.links + y)
+      → (da ≡ db → y ≡ 0) → Shifts m1 m3 (only_at da x) (only_at db y)
+  linked_shifts_3 x y less more none =
+      let first = linked_shifts m1 m2 da a la kept has_a drafts.first x 0 (omega (arith, less)) in
+      ⊎_elim
+      (λ (apart : (da ≢ db) × Relinks m2 m3 db b lb).
+      let grows = more apart.0 in
+      let next = linked_shifts m2 m3 db b lb kept_2 (b_2 apart.0)
+      apart.1 0 y (omega (arith, grows)) in
+      shifts_as m1 m3 (λ k. only_at da x k + only_at db 0 k) (λ k. only_at da 0 k + only_at db y k)
+      (only_at da x) (only_at db y)
+      (λ k. let one = nothing_at db k in let two = nothing_at da k in omega (arith, one, two))
+      (shifts_joined m1 m2 m3 (only_at da x) (only_at da 0) (only_at db 0) (only_at db y)
+      first next))
+      (λ (one : (da ≡ db) × (m3 ≡ m2)).
+      let zero_is = none one.0 in
+      shifts_as m1 m3 (only_at da x) (only_at da 0) (only_at da x) (only_at db y)
+      (λ k. let one = nothing_at da k in let two : only_at db y k ≡ 0 =
+      ap (λ (y : ℕ). only_at db y k) zero_is ∙ nothing_at db k in omega (arith, one, two))
+      (subst (λ (m : LogMap). Shifts m1 m (only_at da x) (only_at da 0)) (sym one.1) first))
+      drafts.second
+
+  pub a_3 : HasHolder m3 da (relinked a la)
+  a_3 = relinked_maps.2
+
+  pub linked_file : HasFile m3 da (relinked a la)
+  linked_file = record { map = relinked_maps.0.map; there = a_3.there }
+
+  pub linked_directory : IsDirectory m3 da (as_header (relinked a la))
+  linked_directory = holder_directory m3 da (relinked a la) relinked_maps.0 a_3
+
+  pub cut : CutsSlot m3 m4 da (relinked a la)
+  cut = drafts.cut linked_file
+
+  pub takes : TakesName m3 m4 da (relinked a la) na
+  takes = drafts.takes linked_file linked_directory
+
+  pub moved_kept : IsShaped m4
+  moved_kept = taken_kept m3 m4 da (relinked a la) na relinked_maps.0 a_3 cut takes
+
+  pub moved_tree : tree_in m4 ≡ without_name (tree_in m1) da na
+  moved_tree = taken_tree m3 m4 da (relinked a la) na relinked_maps.0 a_3 cut takes
+      ∙ ap (λ (t : Tree). without_name t da na) relinked_maps.1
+
+  pub moved_shifts : (x y : ℕ) → la + x ≡ a.links → (da ≢ db → lb ≡ b.links + y)
+      → (da ≡ db → y ≡ 0) → Shifts m1 m4 (only_at da x) (only_at db y)
+  moved_shifts x y less more none =
+      let first = linked_shifts_3 x y less more none in
+      let next = taken_shifts m3 m4 da (relinked a la) na relinked_maps.0 a_3 cut takes in
+      shifts_as m1 m4 (λ k. only_at da x k + only_at da 0 k) (λ k. only_at db y k + only_at da 0 k)
+      (only_at da x) (only_at db y)
+      (λ k. omega arith)
+      (shifts_joined m1 m3 m4 (only_at da x) (only_at db y) (only_at da 0) (only_at da 0)
+      first next)
+
+  -- the second directory, when the name is written into it
+  pub apart_header : da ≢ db → m4.header db ≡ Some (as_header (relinked b lb))
+  apart_header ne = cut.only.headers db (λ e. ne (sym e)) ∙ (relinked_maps.3 ne).there
+
+  pub same_header : da ≡ db → m4.header db ≡ Some (as_header (shrunk (relinked a la)))
+  same_header e = ap m4.header (sym e) ∙ cut.header
+
+  -- its header then
+  pub second_there : m4.header db ≡ Some (as_header (second_after da db a b la lb))
+  second_there = ⊎_elim
+      (λ (h : (eqb da db ≡ true) × (da ≡ db)). same_header h.1
+      ∙ ap (λ (v : Bool). Some (as_header (cond v (shrunk (relinked a la)) (relinked b lb))))
+      (sym h.0))
+      (λ (h : (eqb da db ≡ false) × (da ≢ db)). apart_header h.1
+      ∙ ap (λ (v : Bool). Some (as_header (cond v (shrunk (relinked a la)) (relinked b lb))))
+      (sym h.0))
+      (eqb_tells da db)
+
+  module _ (b4 : Header) (there : m4.header db ≡ Some (as_header b4)) where
+    holder_with : (h : Header) → m4.header db ≡ Some (as_header h) → h.kind ≡ kind.Directory
+        → h.size ≤ 65536 → HasHolder m4 db b4
+    holder_with h is dir few =
+        let same : as_header h ≡ as_header b4 =
+        (let both : Some (as_header h) ≡ Some (as_header b4) = sym is ∙ there in cc) in
+        let size : h.size ≡ b4.size = ap (λ (g : entry.Header). g.size) same in
+        record {
+          number = has_b.number;
+          there = there;
+          kind =
+              sym (ap (λ (g : entry.Header). g.kind) same) ∙ dir;
+          few = omega (arith, size, few);
+        }
+
+    pub second_holder : HasHolder m4 db b4
+    second_holder = ⊎_elim
+        (λ (e : da ≡ db). holder_with (shrunk (relinked a la)) (same_header e)
+        has_a.kind (let few = has_a.few in omega (arith, few)))
+        (λ (ne : da ≡ db → ⊥). holder_with (relinked b lb) (apart_header ne) has_b.kind has_b.few)
+        (cases_eq da db)
+
+    pub second_directory : IsDirectory m4 db (as_header b4)
+    second_directory = holder_directory m4 db b4 moved_kept second_holder
+
+    second_node : node (without_name (tree_in m1) da na) db ≡ node (tree_in m4) db
+    second_node = ap (λ (t : Tree). node t db) (sym moved_tree)
+
+    -- what its names give
+    pub second_entry : (nb : List ℕ)
+        → find byte_cmp nb (names_at m4 db b4) ≡ entry_in (without_name (tree_in m1) da na) db nb
+    second_entry nb = sym (
+        ap (λ (o : Option Node). find byte_cmp nb (names_of (unwrap_or o (File []))))
+        (second_node ∙ directory_node m4 db b4 record
+        { number = has_b.number; header = there; kind = second_holder.kind }))
+
+    -- ---- a name that it lacks
+    module _ (m5 : LogMap) (n : ℕ) (nb : List ℕ)
+        (lacks : entry_in (without_name (tree_in m1) da na) db nb ≡ None)
+        (new : DraftsName m4 m5 db n b4 nb) where
+      adds : AddsName m4 m5 db b4 n nb
+      adds = new.adds second_directory (second_entry nb ∙ lacks)
+
+      pub new_kept : IsShaped m5
+      new_kept = written_kept m4 m5 db n b4 (grown b4)
+          new.at new.slot nb moved_kept second_holder second_holder.kind refl
+          (let few = second_holder.few in omega (arith, few)) new.writes adds.directory adds.names
+
+      pub new_tree : tree_in m5 ≡ with_name (without_name (tree_in m1) da na) db nb n
+      new_tree =
+          written_tree m4 m5 db n b4 (grown b4)
+          new.at new.slot nb moved_kept second_holder second_holder.kind refl
+          (let few = second_holder.few in omega (arith, few))
+          new.writes adds.directory adds.names
+          ∙ ap (λ (t : Tree). with_name t db nb n) moved_tree
+
+      pub new_shifts : (x y : ℕ) → la + x ≡ a.links → (da ≢ db → lb ≡ b.links + y)
+          → (da ≡ db → y ≡ 0) → Shifts m1 m5 (only_at da x) (only_at db y)
+      new_shifts x y less more none =
+          let first = moved_shifts x y less more none in
+          let next = written_shifts m4 m5 db n b4 (grown b4)
+          new.at new.slot nb moved_kept second_holder second_holder.kind refl
+          (let few = second_holder.few in omega (arith, few))
+          new.writes adds.directory adds.names in
+          shifts_as m1 m5 (λ k. only_at da x k + only_at db 0 k)
+          (λ k. only_at db y k + only_at db 0 k) (only_at da x) (only_at db y)
+          (λ k. omega arith)
+          (shifts_joined m1 m4 m5 (only_at da x) (only_at db y) (only_at db 0) (only_at db 0)
+          first next)
+
+    -- ---- one that it has
+    module _ (m5 : LogMap) (n : ℕ) (nb : List ℕ) (over : DraftsOver m4 m5 db n b4 nb) where
+      repoints : RepointsName m4 m5 db b4 n nb
+      repoints = over.repoints second_directory
+
+      pub over_kept : IsShaped m5
+      over_kept = written_kept m4 m5 db n b4 b4 over.at over.slot nb moved_kept second_holder
+          second_holder.kind refl (let few = second_holder.few in omega (arith, few))
+          over.writes repoints.directory repoints.names
+
+      pub over_tree : tree_in m5 ≡ with_name (without_name (tree_in m1) da na) db nb n
+      over_tree =
+          written_tree m4 m5 db n b4 b4 over.at over.slot nb moved_kept second_holder
+          second_holder.kind refl (let few = second_holder.few in omega (arith, few))
+          over.writes repoints.directory repoints.names
+          ∙ ap (λ (t : Tree). with_name t db nb n) moved_tree
+
+      pub over_shifts : (x : ℕ) → la + x ≡ a.links → (da ≢ db → lb ≡ b.links)
+          → Shifts m1 m5 (only_at da x) none_at
+      over_shifts x less same =
+          let first = moved_shifts x 0 less (λ ne. let is = same ne in omega (arith, is))
+          (λ e. refl) in
+          let next = written_shifts m4 m5 db n b4 b4 over.at over.slot nb moved_kept second_holder
+          second_holder.kind refl (let few = second_holder.few in omega (arith, few))
+          over.writes repoints.directory repoints.names in
+          shifts_as m1 m5 (λ k. only_at da x k + only_at db 0 k)
+          (λ k. only_at db 0 k + only_at db 0 k) (only_at da x) none_at
+          (λ k. let one = nothing_at db k in omega (arith, one))
+          (shifts_joined m1 m4 m5 (only_at da x) (only_at db 0) (only_at db 0) (only_at db 0)
+          first next)

@@ -1,0 +1,140 @@
+-- What a name gives in the directory of a path's last piece, as the model sees it.
+use Rattle.std.proofs.Common.{◌≡◌, ◌≢◌, ◌<◌, ◌≤◌, ◌+◌, ◌*◌, ◌||◌, ℕ, Bool, true, false, List, [], length, Option, Some, None, refl, sym, ◌∙◌, ap, subst, nat_lt, arith}
+use Rattle.std.specs.Prelude.{count_by, is_some, unwrap_or}
+use Rattle.std.specs.FinMap.{find}
+use Rattle.lfs_model.specs.declared.Kind.{Kind}
+use Rattle.lfs_model.specs.declared.Kind.TheVariants as kinds
+use Rattle.lfs_model.specs.Bytes.{AreBytes}
+use Rattle.lfs_model.specs.Entry as entries
+use Rattle.lfs_model.specs.Objects.{IsHeaderOf}
+use Rattle.lfs_model.specs.Slot.{IsName}
+use Rattle.lfs_model.specs.Stands.{LogMap}
+use Rattle.lfs_model.specs.Step.{gives_dir, is_full, is_long, is_there, last_dots, name, no_last, target}
+use Rattle.lfs_model.specs.Tree.{Dir, File, Link, Names, Node, State, Tree, byte_cmp, entry, is_dir, links, links_at, name_limit, names_in, names_of, node}
+use Rattle.lfs_model.specs.TreeOf.{node_by}
+use Rattle.lfs_model.specs.Walk.{At, Parent}
+use Rattle.lfs_model.proofs.Keeps.{parent_dir}
+use Rattle.lfs_files.specs.declared.header.Header.{Header}
+use Rattle.lfs_store.specs.memory.Present.{as_header}
+use Rattle.lfs_path.specs.dirs.Directory.{names_at}
+use Rattle.lfs_fs.specs.declared.moving.Object.{Object}
+use Rattle.lfs_fs.specs.Renaming.{IsObject, LooksAt, MayLook, MayName, is_directory, number_of}
+use Rattle.lfs_fs.proofs.Checks.{below, not_below}
+use Rattle.lfs_fs.proofs.Files.{IsMapOf, dir_there, no_header_none, node_by_header}
+use Rattle.lfs_fs.proofs.InDirectories.{directory_formed, directory_node, entry_in_directory, free_directory, full_directory, limit_in_directory, long_in_directory, names_in_directory, short_in_directory, size_of_directory}
+use Rattle.lfs_fs.proofs.LastNames.{last_is_name}
+
+dir_by : (m : LogMap) (k : Kind) (n : ℕ) (h : entries.Header) → is_dir (Some (node_by m k n h)) ≡ is_directory k
+dir_by m kinds.File n h = refl
+dir_by m kinds.Directory n h = refl
+dir_by m kinds.Link n h = refl
+
+none_in : (x : Option Node) → is_dir x ≡ false → names_of (unwrap_or x (File [])) ≡ []
+none_in None plain = refl
+none_in (Some (File b)) plain = refl
+none_in (Some (Dir form ms)) plain = cc
+none_in (Some (Link text)) plain = refl
+
+found_is : (o : Option Object) → is_some (number_of o) ≡ is_some o
+found_is None = refl
+found_is (Some x) = refl
+
+two_links : (x : Option Node) (t : Tree) (d : ℕ) → is_dir x ≡ true → 2 ≤ links_at t d x
+two_links None t d dir = cc
+two_links (Some (File b)) t d dir = cc
+two_links (Some (Dir form ms)) t d dir = omega arith
+two_links (Some (Link text)) t d dir = cc
+
+module _ (N : ℕ) (m : LogMap) (s : State) (is : IsMapOf N m s) (headers : (n : ℕ) (h : entries.Header) → m.header n ≡ Some h → IsHeaderOf n h) where
+  -- ---- an object
+  module _ (o : Object) (range : (1 ≤ o.number) × (o.number ≤ 4095)) (there : m.header o.number ≡ Some (as_header o.header)) where
+    pub kind_is : is_dir (node s.tree o.number) ≡ is_directory o.header.kind
+    kind_is = ap is_dir (node_by_header N m s is.log o.number (as_header o.header) range there) ∙ dir_by m o.header.kind o.number (as_header o.header)
+
+    dir_names : is_directory o.header.kind ≡ true → 64 * length (names_in s.tree o.number) ≡ o.header.size
+    dir_names dir = size_of_directory N m s is o.number (kind_is ∙ dir) o.header there (headers o.number (as_header o.header) there)
+
+    pub has_entries : is_directory o.header.kind ≡ true → 0 < o.header.size → nat_lt 0 (length (names_in s.tree o.number)) ≡ true
+    has_entries dir some = let many = dir_names dir in below 0 (length (names_in s.tree o.number)) (omega (arith, many, some))
+
+    pub is_empty : is_directory o.header.kind ≡ true → o.header.size ≡ 0 → nat_lt 0 (length (names_in s.tree o.number)) ≡ false
+    is_empty dir none = let many = dir_names dir in not_below 0 (length (names_in s.tree o.number)) (omega (arith, many, none))
+
+    pub plain_empty : is_directory o.header.kind ≡ false → nat_lt 0 (length (names_in s.tree o.number)) ≡ false
+    plain_empty plain = ap (λ (ms : Names). nat_lt 0 (length ms)) (none_in (node s.tree o.number) (kind_is ∙ plain))
+
+  -- ---- the directory of a path's last piece
+  module _ (p : List ℕ) (d : ℕ) (walk : Parent s.tree p (At d)) where
+    pub dir : is_dir (node s.tree d) ≡ true
+    dir = (parent_dir N s is.log.sound p d walk).0
+
+    pub d_range : (1 ≤ d) × (d ≤ 4095)
+    d_range = is.log.sound.numbers d (dir_there s.tree d dir)
+
+    header_there : (head : Header) → m.header d ≡ Some (as_header head) → IsHeaderOf d (as_header head)
+    header_there head there = headers d (as_header head) there
+
+    -- what may be asked of it
+    pub may_look : MayLook m d (name p)
+    may_look = record {
+      some = λ zero_is. (let low = d_range.0 in absurd (omega (arith, zero_is, low)));
+      there = λ none. dir_there s.tree d dir (no_header_none N m s is.log d none);
+      formed = λ head there. directory_formed N m s is d dir head there (header_there head there);
+      small = λ head there. (
+          let many = size_of_directory N m s is d dir head there (header_there head there) in
+          let few = (is.log.sound.limits d (Dir 0 (names_in s.tree d)) (directory_node N m s is d dir head there ∙ ap (λ (ms : Names). Some (Dir 0 ms)) (sym (names_in_directory N m s is d dir head there)))).1 in
+          omega (arith, many, few));
+      linked = λ head there. (
+          let are : head.links ≡ links s.tree d = is.log.links d (as_header head) there ∙ ap (λ (t : Tree). links t d) (sym is.log.is) in
+          let two = two_links (node s.tree d) s.tree d dir in
+          omega (arith, are, two));
+      gives = λ head n there found. (
+          let given : entry s.tree d (name p) ≡ Some n = entry_in_directory N m s is d dir head there (name p) ∙ found in
+          let node_there = is.log.sound.named d (name p) n given in
+          let range = is.log.sound.numbers n node_there in
+          record { first = range.0; last = range.1; there = λ none. node_there (no_header_none N m s is.log n none) });
+    }
+
+    pub may_name : AreBytes p → (no_last p || last_dots p) ≡ false → name_limit s.tree d ≡ 59 → MayName m d (name p)
+    may_name bytes named limit = record { looks = may_look; is_name = λ short. last_is_name N s is.log.sound p d limit bytes walk named short }
+
+    -- what is found in it
+    module _ (head : Header) (found : Option Object) (looks : LooksAt m d (name p) head found) where
+      fits : IsHeaderOf d (as_header head)
+      fits = header_there head looks.header
+
+      pub entry_is : entry s.tree d (name p) ≡ number_of found
+      entry_is = entry_in_directory N m s is d dir head looks.header (name p) ∙ looks.gives
+
+      pub there_is : is_there s.tree d p ≡ is_some found
+      there_is = ap is_some entry_is ∙ found_is found
+
+      pub long_is : 59 < length (name p) → is_long s.tree d p ≡ true
+      long_is = long_in_directory N m s is d dir head looks.header p
+
+      pub short_is : length (name p) ≤ 59 → is_long s.tree d p ≡ false
+      short_is = short_in_directory N m s is d dir head looks.header p
+
+      pub full_is : 65472 < head.size → is_full s.tree d ≡ true
+      full_is large =
+          let many = size_of_directory N m s is d dir head looks.header fits in
+          full_directory N m s is d dir head looks.header fits (omega (arith, many, large))
+
+      pub free_is : head.size ≤ 65472 → is_full s.tree d ≡ false
+      free_is small = free_directory N m s is d dir head looks.header fits (omega (arith, small))
+
+      pub links_are : head.links ≡ links s.tree d
+      links_are = is.log.links d (as_header head) looks.header ∙ ap (λ (t : Tree). links t d) (sym is.log.is)
+
+    module _ (head : Header) (o : Object) (looks : LooksAt m d (name p) head (Some o)) where
+      pub given : entry s.tree d (name p) ≡ Some o.number
+      given = entry_is head (Some o) looks
+
+      pub target_is : target s.tree d p ≡ o.number
+      target_is = ap (λ (x : Option ℕ). unwrap_or x 0) given
+
+      pub range_is : (1 ≤ o.number) × (o.number ≤ 4095)
+      range_is = is.log.sound.numbers o.number (is.log.sound.named d (name p) o.number given)
+
+      pub gives_is : gives_dir s.tree d p ≡ is_directory o.header.kind
+      gives_is = ap (λ (q : ℕ). is_dir (node s.tree q)) target_is ∙ kind_is o range_is looks.there

@@ -1,0 +1,110 @@
+use Rattle.std.proofs.Common.{◌≤◌, length, None, Some, sym, ◌∙◌, inl, inr}
+use Rattle.lfs_fs.proofs.OldLooks.{looks_as, refuses_header, sees_entry}
+use Rattle.lfs_fs.proofs.fs.Fs.check_old_entry.Goals as goal
+
+-- the directory has no such name
+pub returns-in_default-clause-refused : goal.returns-in_default-clause-refused
+returns-in_default-clause-refused g c =
+    let short : length c.args.last.name.now ≤ 59 = search in (
+      sym c.is_dots.ensures ∙ c.if-is_dots.false,
+      short,
+      (
+        c.in-Ok.found.0,
+        looks_as g.D.SectorDevice.state c.args.self.now c.look_in.new.self c.args.directory
+            c.args.last.name.now c.in-Ok.found.0 c.in-Ok.found.1 None c.in_default.is
+            c.in-Ok.ensures.answer,
+      ),
+    )
+
+-- no volume has such a directory
+pub returns-then-holder-gt-MOST_BYTES-clause-refused :
+    goal.returns-then-holder-gt-MOST_BYTES-clause-refused
+returns-then-holder-gt-MOST_BYTES-clause-refused g c = inr (
+  c.in-Ok.found.0,
+  c.in-Some.number,
+  looks_as g.D.SectorDevice.state c.args.self.now c.look_in.new.self c.args.directory
+      c.args.last.name.now c.in-Ok.found.0 c.in-Ok.found.1 (Some c.in-Some.number) c.in-Some.is
+      c.in-Ok.ensures.answer,
+  inl c.if-holder-gt-MOST_BYTES.true,
+)
+
+-- or an object of this number
+pub returns-then-number-eq0-clause-refused : goal.returns-then-number-eq0-clause-refused
+returns-then-number-eq0-clause-refused g c = inr (
+  c.in-Ok.found.0,
+  c.in-Some.number,
+  looks_as g.D.SectorDevice.state c.args.self.now c.look_in.new.self c.args.directory
+      c.args.last.name.now c.in-Ok.found.0 c.in-Ok.found.1 (Some c.in-Some.number) c.in-Some.is
+      c.in-Ok.ensures.answer,
+  inr (inl c.if-number-eq0.true),
+)
+
+pub returns-in-Err-header-clause-refused : goal.returns-in-Err-header-clause-refused
+returns-in-Err-header-clause-refused g c =
+    refuses_header g.D.SectorDevice.state c.args.self.now c.look_in.new.self c.args.directory
+    c.args.last.name.now c.in-Ok.ensures.reads c.in-Ok.found.0 c.in-Some.number
+    (looks_as g.D.SectorDevice.state c.args.self.now c.look_in.new.self c.args.directory
+    c.args.last.name.now c.in-Ok.found.0 c.in-Ok.found.1 (Some c.in-Some.number) c.in-Some.is
+    c.in-Ok.ensures.answer)
+    c.header.new.self c.in-Err-header.ensures.reads c.args.last.slash c.in-Err-header.fault
+    c.in-Err-header.ensures.missing
+
+-- it names a directory
+pub returns-then-is_directory-clause-refused : goal.returns-then-is_directory-clause-refused
+returns-then-is_directory-clause-refused g c =
+    let short : length c.args.last.name.now ≤ 59 = search in
+    inr (
+      sym c.is_dots.ensures ∙ c.if-is_dots.false,
+      short,
+      (
+        c.in-Ok.found.0,
+        c.in-Some.number,
+        c.in-Ok-header.header,
+        sees_entry g.D.SectorDevice.state c.args.self.now c.look_in.new.self c.args.directory
+            c.args.last.name.now c.in-Ok.ensures.reads c.in-Ok.found.0 c.in-Some.number
+            (looks_as g.D.SectorDevice.state c.args.self.now c.look_in.new.self c.args.directory
+            c.args.last.name.now c.in-Ok.found.0 c.in-Ok.found.1 (Some c.in-Some.number)
+            c.in-Some.is c.in-Ok.ensures.answer)
+            c.header.new.self c.in-Ok-header.ensures.reads c.in-Ok-header.header
+            c.in-Ok-header.ensures.answer,
+        c.is_directory.ensures.yes c.if-is_directory.true,
+      ),
+    )
+
+-- a slash follows the name of what is none
+pub returns-then-last-clause-refused : goal.returns-then-last-clause-refused
+returns-then-last-clause-refused g c =
+    let short : length c.args.last.name.now ≤ 59 = search in (
+      sym c.is_dots.ensures ∙ c.if-is_dots.false,
+      short,
+      c.if-last.true,
+      (
+        c.in-Ok.found.0,
+        c.in-Some.number,
+        c.in-Ok-header.header,
+        sees_entry g.D.SectorDevice.state c.args.self.now c.look_in.new.self c.args.directory
+            c.args.last.name.now c.in-Ok.ensures.reads c.in-Ok.found.0 c.in-Some.number
+            (looks_as g.D.SectorDevice.state c.args.self.now c.look_in.new.self c.args.directory
+            c.args.last.name.now c.in-Ok.found.0 c.in-Ok.found.1 (Some c.in-Some.number)
+            c.in-Some.is c.in-Ok.ensures.answer)
+            c.header.new.self c.in-Ok-header.ensures.reads c.in-Ok-header.header
+            c.in-Ok-header.ensures.answer,
+        c.is_directory.ensures.no c.if-is_directory.false,
+      ),
+    )
+
+pub returns-clause-has : goal.returns-clause-has
+returns-clause-has g c =
+    let short : length c.args.last.name.now ≤ 59 = search in record {
+      sees = sees_entry g.D.SectorDevice.state c.args.self.now c.look_in.new.self c.args.directory
+          c.args.last.name.now c.in-Ok.ensures.reads c.in-Ok.found.0 c.in-Some.number
+          (looks_as g.D.SectorDevice.state c.args.self.now c.look_in.new.self c.args.directory
+          c.args.last.name.now c.in-Ok.found.0 c.in-Ok.found.1 (Some c.in-Some.number) c.in-Some.is
+          c.in-Ok.ensures.answer)
+          c.header.new.self c.in-Ok-header.ensures.reads c.in-Ok-header.header
+          c.in-Ok-header.ensures.answer;
+      named = sym c.is_dots.ensures ∙ c.if-is_dots.false;
+      short = short;
+      plain = c.if-last.false;
+      other = c.is_directory.ensures.no c.if-is_directory.false;
+    }

@@ -1,0 +1,15 @@
+use Rattle.lfs_fs.proofs.StoreCalls.{still_logged}
+use Rattle.lfs_fs.proofs.fs.Fs.draft_links.Goals as goal
+
+pub returns-in-Ok-relink_holders-clause-drafted : goal.returns-in-Ok-relink_holders-clause-drafted
+returns-in-Ok-relink_holders-clause-drafted g c =
+    let relinked = c.in-Ok-relink_holders.ensures in
+    record {
+      lost = c.drop_replaced.new.self;
+      still = c.in-Ok.ensures.still;
+      drops = c.in-Ok.ensures.dropped;
+      same = relinked.log;
+      next = still_logged g.D.SectorDevice.state c.drop_replaced.new.self c.relink_holders.new.self relinked.log relinked.saved relinked.handles;
+      totals = relinked.drafted;
+      relinks = relinked.done;
+    }

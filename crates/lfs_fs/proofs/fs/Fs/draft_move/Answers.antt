@@ -1,0 +1,61 @@
+use Rattle.std.proofs.Common.{◌≡◌, ◌∙◌, subst}
+use Rattle.std.specs.Prelude.{if◌then◌else◌, ◌==◌}
+use Rattle.lfs_files.specs.declared.header.Header.{Header}
+use Rattle.lfs_path.specs.dirs.Taking.{shrunk}
+use Rattle.lfs_fs.specs.Renaming.{DraftsTake, FailsName, FailsOver, NamesFound, of_name, of_take, second_holder}
+use Rattle.lfs_fs.specs.Unlinking.{TakesOut}
+use Rattle.lfs_fs.proofs.MoveDrafts.{ok_then2}
+use Rattle.lfs_fs.proofs.NameLooks.{fault_then}
+use Rattle.lfs_fs.proofs.fs.Fs.draft_move.Goals as goal
+
+pub returns-in-Err-take_name-clause-refused : goal.returns-in-Err-take_name-clause-refused
+returns-in-Err-take_name-clause-refused g c =
+    of_take c.draft_links.new.self c.in-Ok.ensures.drafted
+    (subst (λ (h : Header). FailsOver g.D.SectorDevice.state c.draft_links.new.self c.take_name.new.self c.args.source.directory h c.args.source.name.now c.in-Err-take_name.fault) c.in-Ok.ensures.first
+    c.in-Err-take_name.ensures.refused)
+
+pub returns-clause-drafted : goal.returns-clause-drafted
+returns-clause-drafted g c =
+    let state = g.D.SectorDevice.state in
+    let mid = c.draft_links.new.self.store in
+    let taken = c.take_name.new.self.store in
+    let takes : DraftsTake state c.args.self.now c.take_name.new.self c.args.source c.args.target = record {
+      mid = c.draft_links.new.self;
+      links = c.in-Ok.ensures.drafted;
+      still = c.in-Ok-take_name.ensures.still;
+      takes = subst (λ (h : Header). TakesOut state mid.log taken.log mid.draft.changes taken.draft.changes c.args.source.directory h c.args.source.name.now mid.drafted taken.drafted) c.in-Ok.ensures.first
+          c.in-Ok-take_name.ensures.taken;
+      apart = c.in-Ok-take_name.ensures.apart;
+    } in
+    let holder : c.later_holder-holder.result ≡ second_holder c.args.source c.args.target = c.later_holder-holder.ensures
+    ∙ (λ i. if c.args.source.directory == c.args.target.directory then shrunk (c.in-Ok.ensures.first i) else c.in-Ok.ensures.second i) in
+    ok_then2 c.draft_target.result _ _ _
+    (λ named counted. record {
+      taken = c.take_name.new.self;
+      takes = takes;
+      still = c.draft_target.ensures.still;
+      names = subst (λ (h : Header). NamesFound state c.args.target.replaced taken.log c.draft_target.new.self.store.log taken.draft.changes c.draft_target.new.self.store.draft.changes c.args.target.directory h
+          c.args.source.object.number c.args.target.name.now) holder named;
+      recounts = counted;
+    })
+    c.draft_target.ensures.named c.draft_target.ensures.counted
+
+pub returns-clause-refused : goal.returns-clause-refused
+returns-clause-refused g c =
+    let state = g.D.SectorDevice.state in
+    let mid = c.draft_links.new.self.store in
+    let taken = c.take_name.new.self.store in
+    let takes : DraftsTake state c.args.self.now c.take_name.new.self c.args.source c.args.target = record {
+      mid = c.draft_links.new.self;
+      links = c.in-Ok.ensures.drafted;
+      still = c.in-Ok-take_name.ensures.still;
+      takes = subst (λ (h : Header). TakesOut state mid.log taken.log mid.draft.changes taken.draft.changes c.args.source.directory h c.args.source.name.now mid.drafted taken.drafted) c.in-Ok.ensures.first
+          c.in-Ok-take_name.ensures.taken;
+      apart = c.in-Ok-take_name.ensures.apart;
+    } in
+    let holder : c.later_holder-holder.result ≡ second_holder c.args.source c.args.target = c.later_holder-holder.ensures
+    ∙ (λ i. if c.args.source.directory == c.args.target.directory then shrunk (c.in-Ok.ensures.first i) else c.in-Ok.ensures.second i) in
+    fault_then c.draft_target.result _ _
+    (λ fault fails. of_name c.take_name.new.self takes c.draft_target.ensures.still
+    (subst (λ (h : Header). FailsName state c.take_name.new.self c.draft_target.new.self c.args.target.directory h c.args.target.name.now c.args.target.replaced fault) holder fails))
+    c.draft_target.ensures.refused

@@ -1,0 +1,80 @@
+use Rattle.std.proofs.Common.{ap, refl, Err}
+use Rattle.lfs_model.specs.Call.{LinkTo}
+use Rattle.lfs_path.specs.Reaching.{EndsParent}
+use Rattle.lfs_fs.specs.declared.fs.Fs.{Fs}
+use Rattle.lfs_fs.specs.Seen.{OnlyReads}
+use Rattle.lfs_fs.specs.Volume.{segments_of}
+use Rattle.lfs_fs.proofs.CreateEnds.{bytes_of}
+use Rattle.lfs_fs.proofs.LinkRefusals.{second_ends, second_reaches, sees_object}
+use Rattle.lfs_fs.proofs.LinkSteps.{link_call}
+use Rattle.lfs_fs.proofs.OldRefusals.{entry_refused, no_piece_perm, zero_device}
+use Rattle.lfs_fs.proofs.PathEnds.{store_reads}
+use Rattle.lfs_fs.proofs.StoreCalls.{ends_parent, ends_refused, log_reads, same_drafted, same_totals}
+use Rattle.lfs_fs.proofs.fs.Fs.link_from.Goals as goal
+
+pub returns-then-directory-eq0 : goal.returns-then-directory-eq0
+returns-then-directory-eq0 g c v from reached =
+    zero_device g.D.SectorDevice.state g.met.D.SectorDevice.lawful v c.args.self.now from
+    c.args.directory (LinkTo from c.args.to.now)
+    (link_call (segments_of v) from c.args.to.now c.args.directory) c.args.last reached
+    c.requires.running c.if-directory-eq0.true
+
+-- the path has no piece
+pub returns-in_default : goal.returns-in_default
+returns-in_default g c v from reached =
+    no_piece_perm g.D.SectorDevice.state g.met.D.SectorDevice.lawful v c.args.self.now from
+    c.args.directory (LinkTo from c.args.to.now)
+    (link_call (segments_of v) from c.args.to.now c.args.directory) c.args.last reached
+    c.requires.running c.in_default.is
+
+pub returns-in-Err : goal.returns-in-Err
+returns-in-Err g c v from reached =
+    entry_refused g.D.SectorDevice.state g.met.D.SectorDevice.lawful v c.args.self.now from
+    c.args.directory (LinkTo from c.args.to.now)
+    (link_call (segments_of v) from c.args.to.now c.args.directory) c.args.last reached
+    c.requires.running
+    c.in-Some.last c.in-Some.is c.check_old_entry.new.self c.in-Err.ensures.reads c.in-Err.fault
+    c.in-Err.ensures.refused
+
+pub returns-in-Ok-parent : goal.returns-in-Ok-parent
+returns-in-Ok-parent g c v from reached =
+    let state = g.D.SectorDevice.state in
+    let mid : Fs g.row.D.Denot = c.check_old_entry.new.self in
+    let entry = c.in-Ok.entry in
+    let walk = c.in-Ok-parent.ensures in
+    let next : Fs g.row.D.Denot
+    = record { alloc = mid.alloc; store = c.parent.new.files; handles = mid.handles } in
+    let later : OnlyReads state mid next = store_reads state mid next
+    (log_reads state mid.store c.parent.new.files walk.reads) walk.reads.draft walk.reads.saved
+    (same_totals state mid.store c.parent.new.files walk.reads)
+    (same_drafted state mid.store c.parent.new.files walk.reads) refl in
+    c.link_to.ensures v from c.args.to.now c.args.directory
+    (sees_object state g.met.D.SectorDevice.lawful v c.args.self.now from c.args.directory
+    c.args.last reached c.requires.running c.in-Some.last c.in-Some.is mid c.in-Ok.ensures.reads
+    entry.holder entry.number entry.header c.in-Ok.ensures.has next later)
+    (second_reaches state g.met.D.SectorDevice.lawful v c.args.self.now from c.args.directory
+    c.args.last reached c.requires.running c.in-Some.last c.in-Some.is mid c.in-Ok.ensures.reads
+    entry.holder entry.number entry.header c.in-Ok.ensures.has next later
+    c.args.to.now (bytes_of c.args.to.now c.type_inv.to) c.directory.result
+    c.in-Ok-parent.place.last walk.last
+    (ends_parent state mid.store c.parent.new.files c.args.to.now
+    c.in-Ok-parent.place.chain c.directory.result c.directory.ensures.value walk.answer))
+
+pub returns-in-Err-parent : goal.returns-in-Err-parent
+returns-in-Err-parent g c v from reached =
+    let state = g.D.SectorDevice.state in
+    let mid : Fs g.row.D.Denot = c.check_old_entry.new.self in
+    let entry = c.in-Ok.entry in
+    let walk = c.in-Err-parent.ensures in
+    let next : Fs g.row.D.Denot
+    = record { alloc = mid.alloc; store = c.parent.new.files; handles = mid.handles } in
+    let later : OnlyReads state mid next = store_reads state mid next
+    (log_reads state mid.store c.parent.new.files walk.reads) walk.reads.draft walk.reads.saved
+    (same_totals state mid.store c.parent.new.files walk.reads)
+    (same_drafted state mid.store c.parent.new.files walk.reads) refl in
+    second_ends state g.met.D.SectorDevice.lawful v c.args.self.now from c.args.directory
+    c.args.last reached c.requires.running c.in-Some.last c.in-Some.is mid c.in-Ok.ensures.reads
+    entry.holder entry.number entry.header c.in-Ok.ensures.has next later
+    c.args.to.now c.in-Err-parent.fault c.from.result c.from.ensures
+    (ends_refused state mid.store c.parent.new.files (EndsParent c.args.to.now)
+    c.in-Err-parent.fault walk.refused) (λ e. walk.halted (ap Err e)) (λ e. walk.other (ap Err e))

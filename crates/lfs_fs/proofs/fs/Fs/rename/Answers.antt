@@ -1,0 +1,74 @@
+use Rattle.std.proofs.Common.{ap, refl, subst, sym, Err}
+use Rattle.lfs_model.specs.Call.{Done, Refuse, Rename}
+use Rattle.lfs_store.specs.declared.draft.Draft.{Draft}
+use Rattle.lfs_store.specs.memory.Batch.{IsNoChange}
+use Rattle.lfs_path.specs.Reaching.{EndsParent}
+use Rattle.lfs_fs.specs.declared.fs.Fs.{Fs}
+use Rattle.lfs_fs.specs.Refusals.{refusal_of}
+use Rattle.lfs_fs.specs.Seen.{answer_by, seen}
+use Rattle.lfs_fs.specs.Volume.{segments_of}
+use Rattle.lfs_fs.proofs.CreateEnds.{bytes_of, reaches}
+use Rattle.lfs_fs.proofs.LaterPaths.{later_refused}
+use Rattle.lfs_fs.proofs.NameLooks.{only_none}
+use Rattle.lfs_fs.proofs.PathEnds.{store_reads}
+use Rattle.lfs_fs.proofs.ReadingEnds.{begun_running, begun_serves, halted_serves}
+use Rattle.lfs_fs.proofs.RenamePaths.{first_refused}
+use Rattle.lfs_fs.proofs.StoreCalls.{ends_parent, ends_refused, log_reads, same_drafted, same_totals}
+use Rattle.lfs_fs.proofs.fs.Fs.rename.Goals as goal
+
+pub returns-in-Err : goal.returns-in-Err
+returns-in-Err g c =
+    halted_serves g.D.SectorDevice.state c.args.self.now c.begin.new.self
+    (Rename c.args.from.now c.args.to.now) c.in-Err.fault
+    (g.met.D.SectorDevice.lawful c.args.self.now.store.log.device) c.in-Err.ensures.same
+    c.in-Err.ensures.halted
+    c.in-Err.ensures.fault
+
+pub returns-in-Ok-parent : goal.returns-in-Ok-parent
+returns-in-Ok-parent g c =
+    let state = g.D.SectorDevice.state in
+    let begun = c.in-Ok.ensures.done in
+    let walk = c.in-Ok-parent.ensures in
+    let reads = log_reads state c.begin.new.self.store c.parent.new.files walk.reads in
+    let totals = same_totals state c.begin.new.self.store c.parent.new.files walk.reads in
+    let drafted = same_drafted state c.begin.new.self.store c.parent.new.files walk.reads in
+    begun_serves state c.args.self.now c.begin.new.self (seen c.rename_from.new.self)
+    (Rename c.args.from.now c.args.to.now) (answer_by (λ _. Done) c.rename_from.result) begun
+    (c.rename_from.ensures (seen c.begin.new.self) c.args.from.now
+    (reaches state g.met.D.SectorDevice.lawful c.args.self.now c.begin.new.self begun
+    c.parent.new.files reads walk.reads.saved totals walk.reads.draft drafted
+    c.args.from.now (bytes_of c.args.from.now c.type_inv.from) c.directory.result
+    c.in-Ok-parent.place.last walk.last
+    (ends_parent state c.begin.new.self.store c.parent.new.files c.args.from.now
+    c.in-Ok-parent.place.chain c.directory.result c.directory.ensures.value walk.answer)))
+
+pub returns-in-Err-parent : goal.returns-in-Err-parent
+returns-in-Err-parent g c =
+    let state = g.D.SectorDevice.state in
+    let begun = c.in-Ok.ensures.done in
+    let walk = c.in-Err-parent.ensures in
+    let next : Fs g.row.D.Denot = record {
+      alloc = c.begin.new.self.alloc;
+      store = c.parent.new.files;
+      handles = c.begin.new.self.handles;
+    } in
+    let first = store_reads state c.begin.new.self next
+    (log_reads state c.begin.new.self.store c.parent.new.files walk.reads) walk.reads.draft
+    walk.reads.saved (same_totals state c.begin.new.self.store c.parent.new.files walk.reads)
+    (same_drafted state c.begin.new.self.store c.parent.new.files walk.reads) refl in
+    begun_serves state c.args.self.now c.begin.new.self (seen next)
+    (Rename c.args.from.now c.args.to.now) (Refuse (refusal_of c.from.result)) begun
+    (later_refused state g.met.D.SectorDevice.lawful (seen c.begin.new.self) c.begin.new.self next
+    (only_none state c.begin.new.self).still
+    (begun_running state c.args.self.now c.begin.new.self begun) begun.empty first
+    (EndsParent c.args.from.now) (Rename c.args.from.now c.args.to.now) refl refl refl
+    (λ k m0 m s keeps is r w. first_refused (segments_of (seen c.begin.new.self)) s
+    c.args.from.now c.args.to.now is.log.sound.named r w)
+    c.in-Err-parent.fault c.from.result c.from.ensures
+    (ends_refused state c.begin.new.self.store c.parent.new.files (EndsParent c.args.from.now)
+    c.in-Err-parent.fault walk.refused) (λ e. walk.halted (ap Err e)) (λ e. walk.other (ap Err e)))
+
+pub rename_from-requires-clause-empty : goal.rename_from-requires-clause-empty
+rename_from-requires-clause-empty g c =
+    subst (λ (x : Draft). IsNoChange x.changes) (sym c.in-Ok-parent.ensures.reads.draft)
+    c.in-Ok.ensures.done.empty

@@ -1,0 +1,64 @@
+use Rattle.std.proofs.Common.{◌∙◌, subst, sym}
+use Rattle.lfs_store.specs.declared.draft.Draft.{Draft}
+use Rattle.lfs_store.specs.memory.Batch.{IsNoChange}
+use Rattle.lfs_fs.specs.Seen.{seen}
+use Rattle.lfs_fs.proofs.NameLooks.{seen_same}
+use Rattle.lfs_fs.proofs.RmdirEnds.{rmdir_ends, rmdir_undrafted}
+use Rattle.lfs_fs.proofs.RmdirRefusals.{empty_refused, number_zero, root_busy}
+use Rattle.lfs_fs.proofs.fs.Fs.rmdir_at.Goals as goal
+
+-- the path has no piece
+pub returns-in_default : goal.returns-in_default
+returns-in_default g c v path reached =
+    root_busy g.D.SectorDevice.state g.met.D.SectorDevice.lawful v c.args.self.now path
+    c.args.directory c.args.last reached c.requires.running c.in_default.is
+
+pub returns-then-directory-eq0 : goal.returns-then-directory-eq0
+returns-then-directory-eq0 g c v path reached =
+    number_zero g.D.SectorDevice.state g.met.D.SectorDevice.lawful v c.args.self.now path
+    c.args.directory c.args.last reached c.requires.running c.if-directory-eq0.true
+
+pub returns-in-Err : goal.returns-in-Err
+returns-in-Err g c v path reached =
+    empty_refused g.D.SectorDevice.state g.met.D.SectorDevice.lawful v c.args.self.now path
+    c.args.directory c.args.last reached c.requires.running c.in-Some.last c.in-Some.is
+    c.check_empty.new.self c.in-Err.ensures.reads c.in-Err.fault c.in-Err.ensures.refused
+
+pub draft_rmdir-requires-clause-running : goal.draft_rmdir-requires-clause-running
+draft_rmdir-requires-clause-running g c =
+    c.in-Ok.ensures.reads.still.reads.halted ∙ c.requires.running
+
+pub draft_rmdir-requires-clause-empty : goal.draft_rmdir-requires-clause-empty
+draft_rmdir-requires-clause-empty g c =
+    subst (λ (d : Draft). IsNoChange d.changes) (sym c.in-Ok.ensures.reads.draft) c.requires.empty
+
+pub accept-requires : goal.accept-requires
+accept-requires g c = record {
+  running = c.in-Ok-draft_rmdir.ensures.still.reads.halted
+      ∙ c.in-Ok.ensures.reads.still.reads.halted ∙ c.requires.running;
+}
+
+pub returns-in-Ok-draft_rmdir : goal.returns-in-Ok-draft_rmdir
+returns-in-Ok-draft_rmdir g c v path reached =
+    rmdir_ends g.D.SectorDevice.state g.met.D.SectorDevice.lawful v c.args.self.now
+    c.check_empty.new.self path c.args.directory c.args.last reached c.requires.running
+    c.in-Some.last c.in-Some.is c.in-Ok.ensures.reads c.in-Ok.entry.holder c.in-Ok.entry.number
+    c.in-Ok.entry.header c.in-Ok.ensures.has c.draft_rmdir.new.self
+    c.in-Ok-draft_rmdir.ensures.still c.in-Ok-draft_rmdir.ensures.drafted c.accept.new.self
+    c.accept.ensures.rest c.accept.result c.accept.ensures.done c.accept.ensures.refused
+
+pub returns-in-Err-draft_rmdir : goal.returns-in-Err-draft_rmdir
+returns-in-Err-draft_rmdir g c v path reached =
+    rmdir_undrafted g.D.SectorDevice.state g.met.D.SectorDevice.lawful v c.args.self.now
+    c.check_empty.new.self path c.args.directory c.args.last reached c.requires.running
+    c.in-Some.last c.in-Some.is c.in-Ok.ensures.reads c.in-Ok.entry.holder c.in-Ok.entry.number
+    c.in-Ok.entry.header c.in-Ok.ensures.has c.draft_rmdir.new.self
+    c.in-Err-draft_rmdir.ensures.still
+    (seen record {
+      alloc = c.draft_rmdir.new.self.alloc;
+      store = c.give_up.new.self;
+      handles = c.draft_rmdir.new.self.handles;
+    })
+    (seen_same g.D.SectorDevice.state c.draft_rmdir.new.self c.give_up.new.self
+    c.give_up.ensures.log c.give_up.ensures.saved)
+    c.in-Err-draft_rmdir.fault c.in-Err-draft_rmdir.ensures.refused

@@ -1,0 +1,98 @@
+//! The rule of an entry that a directory is to have, as unlink takes one, and link its first.
+ghost use Rattle.std.specs.Prelude.{◌≡◌, ◌≢◌, ◌≤◌, IfErr, IfOk, IsFalse, IsTrue};
+ghost use Rattle.lfs_fs.specs.Seen.{OnlyReads};
+ghost use Rattle.lfs_fs.specs.Unlinking.{HasEntry, RefusesOld};
+
+use crate::error::FsError;
+use crate::fs::Fs;
+use crate::naming::LONGEST_NAME;
+use lfs_device::SectorDevice;
+use lfs_model::Kind;
+use lfs_path::Last;
+use lfs_path::text::is_dots;
+use lfs_store::Header;
+
+/// The most bytes of a directory: 1,024 slots.
+pub(crate) const MOST_BYTES: u32 = 65_536;
+
+/// A name's directory, and what the name gives there.
+#[derive(Clone, Copy)]
+pub(crate) struct OldEntry {
+    /// The directory's header.
+    pub holder: Header,
+    pub number: u16,
+    /// The object's header.
+    pub header: Header,
+}
+
+impl<D: SectorDevice> Fs<D> {
+    /// The rule of an old entry of a directory, which it gives.
+    ///
+    /// # Errors
+    ///
+    /// In this order: `Perm` for dot and dot-dot; `NameTooLong`; `NoEntry`; `NotDir` where a slash
+    /// follows the name of what is no directory; `Perm` for a directory.
+    pub(crate) fn check_old_entry(
+        &mut self,
+        directory: u16,
+        last: Last<'_>,
+    ) -> Result<OldEntry, FsError>
+        requires { directory ≤ 4095 }
+        ensures reads { OnlyReads D.SectorDevice.state self.old self.new }
+        ensures has { IfOk result (λ e. HasEntry D.SectorDevice.state self.old self.new directory
+            last.entry.name.now last.entry.slash e.holder e.number e.header) }
+        ensures first { IfOk result (λ e. 1 ≤ e.number) }
+        ensures few { IfOk result (λ e. e.number ≤ 4095) }
+        ensures size { IfOk result (λ e. e.holder.size ≤ 65536) }
+        ensures refused { IfErr result (RefusesOld D.SectorDevice.state self.old self.new directory
+            last.entry.name.now last.entry.slash) }
+    {
+        if is_dots(last.name) {
+            return Err(FsError::Perm);
+        }
+        if last.name.len() > LONGEST_NAME {
+            return Err(FsError::NameTooLong);
+        }
+        let (holder, found) = match self.look_in(directory, last.name) {
+            Ok(found) => found,
+            Err(fault) => return Err(fault),
+        };
+        let Some(number) = found else {
+            return Err(FsError::NoEntry);
+        };
+        // No volume has such a directory, or an object of this number.
+        if holder.size > MOST_BYTES {
+            return Err(FsError::Device);
+        }
+        if number == 0 {
+            return Err(FsError::Device);
+        }
+        let header = match self.header(number) {
+            Ok(header) => header,
+            Err(fault) => return Err(fault),
+        };
+        if is_directory(header.kind) {
+            return Err(FsError::Perm);
+        }
+        if last.slash {
+            return Err(FsError::NotDir);
+        }
+        Ok(OldEntry {
+            holder,
+            number,
+            header,
+        })
+    }
+}
+
+/// Whether this is the kind of a directory.
+pub(crate) fn is_directory(kind: Kind) -> bool
+    ensures yes { IsTrue result → kind ≡ Kind.Directory }
+    ensures no { IsFalse result → kind ≢ Kind.Directory }
+{
+    match kind {
+        Kind::Directory => true,
+        Kind::File => false,
+        Kind::Link => false,
+    }
+}

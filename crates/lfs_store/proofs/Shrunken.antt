@@ -1,0 +1,160 @@
+-- A file cut in its last block, in a draft over a log.
+use Rattle.std.specs.Prelude.{IsFalse, slice_index}
+use Rattle.std.proofs.Common.{◌≡◌, ◌<◌, ◌≤◌, ◌⊎◌, ◌+◌, ◌*◌, ◌/◌, ◌%◌, ℕ, Bool, List, [], length, Some, None, refl, sym, ◌∙◌, ap, subst, ⊎_elim, arith}
+use Rattle.std.proofs.lemmas.Bool.{cases_eq, cases_lt}
+use Rattle.std.proofs.lemmas.List.{nil_from_length}
+use Rattle.lfs_model.specs.Changing.{IsWithBlock, IsWithHeader}
+use Rattle.lfs_model.specs.Device.{DeviceState}
+use Rattle.lfs_model.specs.Encodes.{IsLogMap}
+use Rattle.lfs_model.specs.Entry.{Inode}
+use Rattle.lfs_model.specs.Fields.{zeros}
+use Rattle.lfs_model.specs.Stands.{LogMap}
+use Rattle.lfs_model.proofs.ObjectBytes.{lengthened}
+use Rattle.lfs_model.proofs.ObjectMaps.{block_whole}
+use Rattle.lfs_cleaner.specs.log.memory.declared.batch.Loss.{Loss}
+use Rattle.lfs_cleaner.specs.log.memory.declared.changes.Changes.{Changes}
+use Rattle.lfs_cleaner.specs.log.memory.files.declared.header.Header.{Header}
+use Rattle.lfs_cleaner.specs.log.memory.Batch.{is_lost, staged}
+use Rattle.lfs_cleaner.specs.log.memory.Changing.{stored}
+use Rattle.lfs_cleaner.specs.log.memory.Present.{as_header}
+use Rattle.lfs_cleaner.specs.log.verify.declared.totals.BlockTotals.{BlockTotals}
+use Rattle.lfs_cleaner.specs.log.Held.{Held, Reads}
+use Rattle.lfs_store.specs.declared.totals.Measure.{Measure}
+use Rattle.lfs_store.specs.Drafting.{PutsBlock, PutsHeader, TakesBlock}
+use Rattle.lfs_store.specs.Measuring.{Measures}
+use Rattle.lfs_store.specs.Pieces.{CutBlocks, CutSoFar, CutsTail, HoldsBlock}
+use Rattle.lfs_store.specs.Reading.{ReadsBlock}
+use Rattle.lfs_store.specs.Recounting.{Counts, Remeasures}
+use Rattle.lfs_store.specs.Shrinking.{ClearsTail, HasNoneBehind, Shrinks, TakesShrink}
+use Rattle.lfs_store.specs.Writing.{SizesFile, resized}
+use Rattle.lfs_store.proofs.LogReads.{held_still}
+use Rattle.lfs_store.proofs.PiecesCut.{cut_between, cut_blocks_heads, cut_inside, cut_is_done}
+use Rattle.lfs_store.proofs.PiecesStored.{block_apart, changed_none, changed_twice, other_block, stored_reads, stored_whole}
+use Rattle.lfs_store.proofs.Recountings.{counts}
+use Rattle.lfs_store.proofs.Writings.{block_put, block_read, header_put, takes_header}
+
+-- ---- the last block ends at a length
+
+-- a block of zeros isn't stored
+none_stored : (new : List ℕ) → length new ≡ 512 → ((k : ℕ) → slice_index new k ≡ 0) → stored new ≡ []
+none_stored new long each = ⊎_elim
+    (λ (some : 0 < length (stored new)).
+    let one = (stored_whole new long some).1 in
+    let none : slice_index (stored new) one.0 ≡ 0 = stored_reads new one.0 ∙ each one.0 in
+    let more = one.1 in
+    absurd (omega (arith, none, more)))
+    (λ (empty : length (stored new) ≤ 0). nil_from_length (stored new) (omega (arith, empty)))
+    (cases_lt 0 (length (stored new)))
+
+module _ (a b : LogMap) (n len : ℕ) (old new : List ℕ) (none : HasNoneBehind a n len) (holds : HoldsBlock a n (len / 512) old) (cuts : CutsTail (len % 512) old new) (long : length new ≡ 512)
+    (with_it : IsWithBlock a n (len / 512) (stored new) b) where
+  before : CutSoFar a a n (len / 512 + 1)
+  before = record { below = λ i lt. refl; gone = λ i le. none i (omega (arith, le)); only = changed_none a n; whole = λ was. was }
+
+  others : (i : ℕ) → (i ≡ len / 512 → ⊥) → b.block n i ≡ a.block n i
+  others = other_block a b n (len / 512) (stored new) with_it
+
+  whole_gone : len % 512 ≡ 0 → CutSoFar a b n (len / 512)
+  whole_gone even = record {
+    below = λ i lt. others i (λ e. absurd (omega (arith, e, lt)));
+    gone = λ i le. ⊎_elim
+        (λ (here : i ≡ len / 512). ap (b.block n) here ∙ with_it.own ∙ none_stored new long (λ k. cuts.zeros k (omega (arith, even))))
+        (λ (ne : i ≡ len / 512 → ⊥). others i ne ∙ none i (omega (arith, le, ne)))
+        (cases_eq i (len / 512));
+    only = block_apart a b n (len / 512) (stored new) with_it;
+    whole = λ was. block_whole a b n (len / 512) (stored new) with_it was (stored_whole new long);
+  }
+
+  tail_cut : CutBlocks a b n len
+  tail_cut = ⊎_elim
+      (λ (odd : 0 < len % 512). cut_inside a a b n len old new odd before holds cuts long with_it)
+      (λ (even : len % 512 ≤ 0). let none_left : len % 512 ≡ 0 = omega (arith, even) in cut_between a b n len none_left (whole_gone none_left))
+      (cases_lt 0 (len % 512))
+
+-- no block is behind the end of a file
+none_behind : (a : LogMap) (n : ℕ) (head : Header) (len : ℕ) → head.size ≤ 512 * (len / 512) + 512 → IsLogMap a → a.header n ≡ Some (as_header head) → HasNoneBehind a n len
+none_behind a n head len last map there i lt =
+    (lengthened a a n (as_header head) (as_header (resized head (512 * (len / 512) + 512))) map there (512 * (len / 512) + 512) last refl (λ j. refl)).gone i (omega (arith, lt))
+
+module _ {D : Type 0} (state : D → DeviceState) where
+  pub clears_tail : (h h' : Held D) (c c' : Changes) (n len : ℕ) (old new : List ℕ) (found : Bool) → length old ≡ 512 → length new ≡ 512 → (IsFalse found → old ≡ zeros 512)
+      → ReadsBlock state h h' c n (len / 512) old found → CutsTail (len % 512) old new → PutsBlock c c' n (len / 512) new → ClearsTail state h h' c c' n len
+  clears_tail h h' c c' n len old new found long stays blank answer cuts puts = record {
+    loss = puts.loss;
+    headers = puts.headers;
+    blocks = puts.few;
+    header = λ m. ap (λ (a : LogMap). a.header n) (puts.map m);
+    only = λ m. block_apart (staged c m) (staged c' m) n (len / 512) (stored new) (with_it m);
+    others = λ m. other_block (staged c m) (staged c' m) n (len / 512) (stored new) (with_it m);
+    fits = puts.fits;
+    file = λ k m0 m keeps holds none.
+        tail_cut (staged c m) (staged c' m) n len old new none (block_read (staged c m) n (len / 512) old found long blank (answer k m0 m keeps holds)) cuts stays (with_it m);
+  }
+    where
+      with_it : (m : LogMap) → IsWithBlock (staged c m) n (len / 512) (stored new) (staged c' m)
+      with_it m = block_put (staged c m) (staged c' m) n (len / 512) (stored new) (puts.map m)
+
+  -- ---- and its header says so
+  module _ (h h' : Held D) (c c' c'' : Changes) (n : ℕ) (head : Header) (len : ℕ) (less : len < head.size) (last : head.size ≤ 512 * (len / 512) + 512)
+      (clears : ClearsTail state h h' c c' n len) (puts : PutsHeader c' c'' n (resized head len)) where
+    with_header_it : (m : LogMap) → IsWithHeader (staged c' m) n (Some (as_header (resized head len))) (staged c'' m)
+    with_header_it m = header_put (staged c' m) (staged c'' m) n (resized head len) (puts.map m)
+
+    takes_tail : (m : LogMap) → TakesShrink c m n head len → TakesBlock c m n (len / 512)
+    takes_tail m takes = record {
+      there = (as_header head, takes.there);
+      apart = takes.apart.above (len / 512);
+      within = λ none. (let low = takes.within none in omega (arith, low));
+    }
+
+    cut_file : (m : LogMap) → CutBlocks (staged c m) (staged c' m) n len → SizesFile (staged c m) (staged c'' m) n head (resized head len) len
+    cut_file m cut =
+        let done = cut_blocks_heads (staged c m) (staged c' m) (staged c'' m) n len (Some (as_header (resized head len))) cut (with_header_it m) in
+        record {
+          shorter = λ lt. cut_is_done (staged c m) (staged c'' m) n len (as_header head) (as_header (resized head len)) done refl;
+          longer = λ le map there. absurd (omega (arith, less, le));
+          below = λ i lt. done.below i (omega (arith, lt));
+          only = done.only;
+          whole = done.whole;
+          header = (with_header_it m).own;
+        }
+
+    pub shrinks : Shrinks state h h' c c'' n head len
+    shrinks = record {
+      loss = puts.loss ∙ clears.loss;
+      headers = let more = puts.few in let same = ap length (ap (λ v. v.items) clears.headers) in omega (arith, more, same);
+      blocks = let more = clears.blocks in let same = ap length (ap (λ v. v.items) puts.blocks) in omega (arith, more, same);
+      only = λ m. changed_twice (staged c m) (staged c' m) (staged c'' m) n (clears.only m) record { headers = (with_header_it m).others; blocks = λ k i ne. (with_header_it m).block k i };
+      others = λ m i ne. (with_header_it m).block n i ∙ clears.others m i ne;
+      header = λ m. (with_header_it m).own;
+      fits = λ m fit takes. puts.fits m (clears.fits m fit (takes_tail m takes))
+          (takes_header c' m n head (resized head len) (clears.header m ∙ takes.there) refl (ap (λ (x : Loss). is_lost x (Inode n)) clears.loss ∙ takes.apart.inode) takes.header);
+      file = λ k m0 m keeps holds map there. cut_file m (clears.file k m0 m keeps holds (none_behind (staged c m) n head len last map there));
+    }
+
+  -- a log that is only read before and after
+  pub shrinks_around : (h a b h' : Held D) (c c' : Changes) (n : ℕ) (head : Header) (len : ℕ) → Reads state h a → Shrinks state a b c c' n head len → Reads state b h' → Shrinks state h h' c c' n head len
+  shrinks_around h a b h' c c' n head len first is last = record {
+    loss = is.loss;
+    headers = is.headers;
+    blocks = is.blocks;
+    only = is.only;
+    others = is.others;
+    header = is.header;
+    fits = is.fits;
+    file = λ k m0 m keeps holds. is.file k m0 m (last.looks.carries.kept_before keeps) (held_still state h a k m0 m first holds);
+  }
+
+  -- ---- its totals
+  pub shrink_counts : (h a b h' : Held D) (c c' : Changes) (n : ℕ) (before : Measure) (old new : BlockTotals) (head : Header) (len : ℕ) → 1 ≤ n → n ≤ 4095 → len < 8511488
+      → Reads state h a → Reads state a b → Reads state b h' → Measures state h a c n (len / 512) (len / 512 + 1) before → Shrinks state a b c c' n head len
+      → Remeasures state b h' c' n (len / 512) (len / 512 + 1) before old new → Counts state h h' c c' old new
+  shrink_counts h a b h' c c' n before old new head len some few low first next last measured is again =
+      counts state h a b h' c c' n (len / 512) (len / 512 + 1) before old new some few (omega arith) (omega (arith, low)) first measured next last again
+      (λ k m0 m keeps holds map map'. (
+        is.only m,
+        λ i out. is.others m i (λ e. ⊎_elim
+            (λ (lt : i < len / 512). absurd (omega (arith, e, lt)))
+            (λ (le : len / 512 + 1 ≤ i). absurd (omega (arith, e, le)))
+            out),
+      ))

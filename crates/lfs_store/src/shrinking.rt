@@ -1,0 +1,99 @@
+//! A file cut in its last block, into a draft that may hold other changes.
+ghost use Rattle.std.specs.Prelude.{◌≡◌, ◌<◌, ◌≤◌, ◌+◌, ◌*◌, ◌/◌, true, IfErr, OnOk, IsErrOf};
+ghost use Rattle.lfs_cleaner.specs.log.Held.{Reads, IsReadFault};
+
+use crate::pieces::cut_tail;
+use crate::store::Store;
+use lfs_cleaner::volume_log::{Header, LogFault};
+use lfs_device::SectorDevice;
+use lfs_files::StoreFault;
+
+impl<D: SectorDevice> Store<D> {
+    ghost use Rattle.lfs_store.specs.Recounting.{Counts};
+    ghost use Rattle.lfs_store.specs.Shrinking.{ClearsTail, Shrinks};
+
+    /// Cuts a file of this header at a length in its last block, which is zeros from there on. No block is lost, so the draft may lose others.
+    ///
+    /// # Errors
+    ///
+    /// As those of `write_at`.
+    pub fn shrink(&mut self, number: u16, header: Header, len: u32) -> Result<(), StoreFault>
+        requires some { 1 ≤ number }
+        requires few { number ≤ 4095 }
+        requires less { len < header.size }
+        requires last { header.size ≤ 512 * (len / 512) + 512 }
+        requires most { header.size ≤ 8511488 }
+        ensures reads { Reads D.SectorDevice.state self.old.log self.new.log }
+        ensures saved { self.new.saved ≡ self.old.saved }
+        ensures done { OnOk result (Shrinks D.SectorDevice.state self.old.log self.new.log
+            self.old.draft.changes self.new.draft.changes number header len) }
+        ensures counted { OnOk result (Counts D.SectorDevice.state self.old.log self.new.log
+            self.old.draft.changes self.new.draft.changes self.old.drafted self.new.drafted) }
+        ensures failed { IfErr result (λ fault. (fault ≡ StoreFault.NoMemory → ⊥)
+            → IsReadFault D.SectorDevice.state self.old.log self.new.log) }
+        ensures halted { IsErrOf result (StoreFault.Log LogFault.Halted) → self.old.log.halted ≡ true }
+        ensures other { IsErrOf result (StoreFault.Log LogFault.Full) → ⊥ }
+    {
+        let index = len / 512;
+        let before = match self.measure(number, index, index + 1) {
+            Ok(measure) => measure,
+            Err(fault) => return Err(StoreFault::Log(fault)),
+        };
+        match self.draft_shrink(number, header, len) {
+            Ok(()) => {}
+            Err(fault) => return Err(fault),
+        }
+        match self.recount(number, index, index + 1, before) {
+            Ok(()) => Ok(()),
+            Err(fault) => Err(StoreFault::Log(fault)),
+        }
+    }
+
+    /// Cuts a file in its last block, in the draft.
+    fn draft_shrink(&mut self, number: u16, header: Header, len: u32) -> Result<(), StoreFault>
+        requires some { 1 ≤ number }
+        requires few { number ≤ 4095 }
+        requires less { len < header.size }
+        requires last { header.size ≤ 512 * (len / 512) + 512 }
+        requires most { header.size ≤ 8511488 }
+        ensures reads { Reads D.SectorDevice.state self.old.log self.new.log }
+        ensures saved { self.new.saved ≡ self.old.saved }
+        ensures drafted { self.new.drafted ≡ self.old.drafted }
+        ensures done { OnOk result (Shrinks D.SectorDevice.state self.old.log self.new.log
+            self.old.draft.changes self.new.draft.changes number header len) }
+        ensures failed { IfErr result (λ fault. (fault ≡ StoreFault.NoMemory → ⊥)
+            → IsReadFault D.SectorDevice.state self.old.log self.new.log) }
+        ensures halted { IsErrOf result (StoreFault.Log LogFault.Halted) → self.old.log.halted ≡ true }
+        ensures other { IsErrOf result (StoreFault.Log LogFault.Full) → ⊥ }
+    {
+        self.clear_tail(number, len)?;
+        self.resize(number, header, len)
+    }
+
+    /// The block of a place of a file ends there.
+    fn clear_tail(&mut self, number: u16, len: u32) -> Result<(), StoreFault>
+        requires some { 1 ≤ number }
+        requires few { number ≤ 4095 }
+        requires most { len < 8511488 }
+        ensures reads { Reads D.SectorDevice.state self.old.log self.new.log }
+        ensures saved { self.new.saved ≡ self.old.saved }
+        ensures drafted { self.new.drafted ≡ self.old.drafted }
+        ensures done { OnOk result (ClearsTail D.SectorDevice.state self.old.log self.new.log
+            self.old.draft.changes self.new.draft.changes number len) }
+        ensures failed { IfErr result (λ fault. (fault ≡ StoreFault.NoMemory → ⊥)
+            → IsReadFault D.SectorDevice.state self.old.log self.new.log) }
+        ensures halted { IsErrOf result (StoreFault.Log LogFault.Halted) → self.old.log.halted ≡ true }
+        ensures other { IsErrOf result (StoreFault.Log LogFault.Full) → ⊥ }
+    {
+        let mut block = [0; 512];
+        match self.block(number, len / 512, &mut block) {
+            Ok(_) => {}
+            Err(fault) => return Err(StoreFault::Log(fault)),
+        }
+        cut_tail(&mut block, (len % 512) as usize);
+        let Ok(()) = self.draft.put_block(number, len / 512, &block) else {
+            return Err(StoreFault::NoMemory);
+        };
+        Ok(())
+    }
+}
