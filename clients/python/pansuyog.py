@@ -232,6 +232,10 @@ class Volume:
         """Removes a directory without entries."""
         self._call("rmdir", _escape(path))
 
+    def rename(self, path, name):
+        """Gives what stands at a path another name, in one step. What that name gave before loses it, as by `unlink` or `rmdir`."""
+        self._call("rename", _escape(path), _escape(name))
+
     def stat(self, path):
         """What stands at a path."""
         return self._status("stat", path)

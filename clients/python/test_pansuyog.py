@@ -62,8 +62,19 @@ class Calls(OnAVolume):
         volume.unlink("/d/g")
         volume.unlink("/f")
         self.assertEqual(volume.pread(handle, 0, 9), b"kept")
-        volume.rmdir("/d")
+        volume.rename("/d", "/e")
+        volume.rmdir("/e")
         self.assertEqual(volume.readdir("/"), [])
+
+    def test_a_renamed_file_takes_the_place_of_another(self):
+        volume = self.mounted()
+        volume.create("/old")
+        handle = volume.create("/new")
+        volume.pwrite(handle, 0, b"new")
+        volume.rename("/new", "/old")
+        self.assertEqual(volume.tree(), [pansuyog.TreeRow(1, b"old", "file", 3, 1, 3, b"new")])
+        with self.assertRaises(pansuyog.NoEntry):
+            volume.rename("/new", "/old")
 
     def test_what_was_synced_is_there_again(self):
         volume = self.mounted()

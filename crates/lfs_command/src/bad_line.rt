@@ -79,7 +79,7 @@ const TEXT: Argument = Argument {
 /// A command's word and its arguments.
 type Form = (&'static str, &'static [Argument]);
 
-/// The commands of the script language, those among them that aren't built yet.
+/// The commands of the script language.
 const FORMS: &[Form] = &[
     ("create", &[P]),
     ("open", &[P]),
@@ -108,7 +108,7 @@ const FORMS: &[Form] = &[
 /// Why a line is bad.
 #[derive(Clone, Copy)]
 pub enum Reason<'a> {
-    /// Memory to remember the line was refused.
+    /// Memory to remember the line was refused, so nothing is known of it.
     Lost,
     TooLong,
     Empty,
@@ -125,8 +125,6 @@ pub enum Reason<'a> {
         word: &'static str,
         argument: Argument,
     },
-    /// It is as the language has it, and its command isn't built yet.
-    Unbuilt(&'static str),
 }
 
 /// What people are told of a bad line.
@@ -186,7 +184,7 @@ fn reason_of_words<'a>(alloc: Global, line: &'a [u8]) -> Reason<'a> {
         }
     }
     if given == takes {
-        Reason::Unbuilt(word)
+        Reason::Lost
     } else {
         Reason::Count { word, takes, given }
     }
@@ -273,7 +271,6 @@ impl Display for Reason<'_> {
                 let Argument { name, spelling } = argument;
                 write!(f, "{name} of '{word}' has to be {spelling}")
             }
-            Reason::Unbuilt(word) => write!(f, "'{word}' isn't built yet"),
         }
     }
 }

@@ -6,7 +6,7 @@ use Rattle.std.proofs.lemmas.Bool.Decides.{nat_tests}
 use Rattle.lfs_model.specs.Call as call
 use Rattle.lfs_model.specs.Run.{has_word}
 use Rattle.lfs_model.specs.Script.{Line, Plain, Fill, InRange, text_of, word}
-use Rattle.lfs_script.specs.Lines.{IsBuilt, IsUnknown, words_of, spaced, onto, cut, words_left}
+use Rattle.lfs_script.specs.Lines.{IsUnknown, words_of, spaced, onto, cut, words_left}
 use Rattle.lfs_script.specs.Calls.{line_for}
 use Rattle.lfs_script.specs.Command.{command_word}
 use Rattle.lfs_script.specs.declared.call.Call.{Call}
@@ -140,133 +140,110 @@ cut_some text i e = (at_some text (Some i) e).1
 
 -- ---- the words of a line have no spaces
 
-solid-line : (line : Line) → IsBuilt line → InRange line → all_solid (words_of line) ≡ true
-solid-line (Plain (call.Create path)) built fits = rw (solid-word path) refl
-solid-line (Plain (call.Open path)) built fits = rw (solid-word path) refl
-solid-line (Plain (call.Close handle)) built fits = rw (solid-decimal handle (omega (arith, fits))) refl
-solid-line (Plain (call.Pread handle offset len)) built fits = rw (solid-decimal handle (omega (arith, fits.0)), solid-decimal offset fits.1, solid-decimal len (omega (arith, fits.2))) refl
-solid-line (Plain (call.Pwrite handle offset bytes)) built fits = rw (solid-decimal handle (omega (arith, fits.0)), solid-decimal offset fits.1, solid-hex bytes) refl
-solid-line (Fill handle offset len byte) built fits = rw (solid-decimal handle (omega (arith, fits.0)), solid-decimal offset fits.1, solid-decimal len (omega (arith, fits.2)), solid-decimal byte (omega (arith, fits.3))) refl
-solid-line (Plain (call.Truncate handle len)) built fits = rw (solid-decimal handle (omega (arith, fits.0)), solid-decimal len fits.1) refl
-solid-line (Plain (call.Mkdir path)) built fits = rw (solid-word path) refl
-solid-line (Plain (call.LinkTo from to)) built fits = rw (solid-word from, solid-word to) refl
-solid-line (Plain (call.Symlink text path)) built fits = rw (solid-word text, solid-word path) refl
-solid-line (Plain (call.Readlink path)) built fits = rw (solid-word path) refl
-solid-line (Plain (call.Unlink path)) built fits = rw (solid-word path) refl
-solid-line (Plain (call.Rmdir path)) built fits = rw (solid-word path) refl
-solid-line (Plain (call.StatOf path)) built fits = rw (solid-word path) refl
-solid-line (Plain (call.LstatOf path)) built fits = rw (solid-word path) refl
-solid-line (Plain (call.Readdir path)) built fits = rw (solid-word path) refl
-solid-line (Plain (call.Fsync handle)) built fits = rw (solid-decimal handle (omega (arith, fits))) refl
-solid-line (Plain call.Sync) built fits = refl
-solid-line (Plain call.Clean) built fits = refl
-solid-line (Plain call.Space) built fits = refl
-solid-line (Plain call.ListTree) built fits = refl
-solid-line _ built fits = absurd built
+solid-line : (line : Line) → InRange line → all_solid (words_of line) ≡ true
+solid-line (Plain (call.Create path)) fits = rw (solid-word path) refl
+solid-line (Plain (call.Open path)) fits = rw (solid-word path) refl
+solid-line (Plain (call.Close handle)) fits = rw (solid-decimal handle (omega (arith, fits))) refl
+solid-line (Plain (call.Pread handle offset len)) fits = rw (solid-decimal handle (omega (arith, fits.0)), solid-decimal offset fits.1, solid-decimal len (omega (arith, fits.2))) refl
+solid-line (Plain (call.Pwrite handle offset bytes)) fits = rw (solid-decimal handle (omega (arith, fits.0)), solid-decimal offset fits.1, solid-hex bytes) refl
+solid-line (Fill handle offset len byte) fits = rw (solid-decimal handle (omega (arith, fits.0)), solid-decimal offset fits.1, solid-decimal len (omega (arith, fits.2)), solid-decimal byte (omega (arith, fits.3))) refl
+solid-line (Plain (call.Truncate handle len)) fits = rw (solid-decimal handle (omega (arith, fits.0)), solid-decimal len fits.1) refl
+solid-line (Plain (call.Mkdir path)) fits = rw (solid-word path) refl
+solid-line (Plain (call.LinkTo from to)) fits = rw (solid-word from, solid-word to) refl
+solid-line (Plain (call.Symlink text path)) fits = rw (solid-word text, solid-word path) refl
+solid-line (Plain (call.Readlink path)) fits = rw (solid-word path) refl
+solid-line (Plain (call.Unlink path)) fits = rw (solid-word path) refl
+solid-line (Plain (call.Rmdir path)) fits = rw (solid-word path) refl
+solid-line (Plain (call.Rename from to)) fits = rw (solid-word from, solid-word to) refl
+solid-line (Plain (call.StatOf path)) fits = rw (solid-word path) refl
+solid-line (Plain (call.LstatOf path)) fits = rw (solid-word path) refl
+solid-line (Plain (call.Readdir path)) fits = rw (solid-word path) refl
+solid-line (Plain (call.Fsync handle)) fits = rw (solid-decimal handle (omega (arith, fits))) refl
+solid-line (Plain call.Sync) fits = refl
+solid-line (Plain call.Clean) fits = refl
+solid-line (Plain call.Space) fits = refl
+solid-line (Plain call.ListTree) fits = refl
 
 -- its text is its words'
-text_is : (line : Line) → IsBuilt line → text_of line ≡ spaced (words_of line)
-text_is (Plain (call.Create path)) built = refl
-text_is (Plain (call.Open path)) built = refl
-text_is (Plain (call.Close handle)) built = refl
-text_is (Plain (call.Pread handle offset len)) built = refl
-text_is (Plain (call.Pwrite handle offset bytes)) built = refl
-text_is (Fill handle offset len byte) built = refl
-text_is (Plain (call.Truncate handle len)) built = refl
-text_is (Plain (call.Mkdir path)) built = refl
-text_is (Plain (call.LinkTo from to)) built = refl
-text_is (Plain (call.Symlink text path)) built = refl
-text_is (Plain (call.Readlink path)) built = refl
-text_is (Plain (call.Unlink path)) built = refl
-text_is (Plain (call.Rmdir path)) built = refl
-text_is (Plain (call.StatOf path)) built = refl
-text_is (Plain (call.LstatOf path)) built = refl
-text_is (Plain (call.Readdir path)) built = refl
-text_is (Plain (call.Fsync handle)) built = refl
-text_is (Plain call.Sync) built = refl
-text_is (Plain call.Clean) built = refl
-text_is (Plain call.Space) built = refl
-text_is (Plain call.ListTree) built = refl
-text_is _ built = absurd built
+text_is : (line : Line) → text_of line ≡ spaced (words_of line)
+text_is (Plain (call.Create path)) = refl
+text_is (Plain (call.Open path)) = refl
+text_is (Plain (call.Close handle)) = refl
+text_is (Plain (call.Pread handle offset len)) = refl
+text_is (Plain (call.Pwrite handle offset bytes)) = refl
+text_is (Fill handle offset len byte) = refl
+text_is (Plain (call.Truncate handle len)) = refl
+text_is (Plain (call.Mkdir path)) = refl
+text_is (Plain (call.LinkTo from to)) = refl
+text_is (Plain (call.Symlink text path)) = refl
+text_is (Plain (call.Readlink path)) = refl
+text_is (Plain (call.Unlink path)) = refl
+text_is (Plain (call.Rmdir path)) = refl
+text_is (Plain (call.Rename from to)) = refl
+text_is (Plain (call.StatOf path)) = refl
+text_is (Plain (call.LstatOf path)) = refl
+text_is (Plain (call.Readdir path)) = refl
+text_is (Plain (call.Fsync handle)) = refl
+text_is (Plain call.Sync) = refl
+text_is (Plain call.Clean) = refl
+text_is (Plain call.Space) = refl
+text_is (Plain call.ListTree) = refl
 
 -- it begins with a command's word
-command_of_line : (line : Line) → IsBuilt line → (command : Command) × (words : List (List ℕ)) × (words_of line ≡ command_word command ∷ words)
-command_of_line (Plain (call.Create path)) built = (commands.Create, _, refl)
-command_of_line (Plain (call.Open path)) built = (commands.Open, _, refl)
-command_of_line (Plain (call.Close handle)) built = (commands.Close, _, refl)
-command_of_line (Plain (call.Pread handle offset len)) built = (commands.Pread, _, refl)
-command_of_line (Plain (call.Pwrite handle offset bytes)) built = (commands.Pwrite, _, refl)
-command_of_line (Fill handle offset len byte) built = (commands.Fill, _, refl)
-command_of_line (Plain (call.Truncate handle len)) built = (commands.Truncate, _, refl)
-command_of_line (Plain (call.Mkdir path)) built = (commands.Mkdir, _, refl)
-command_of_line (Plain (call.LinkTo from to)) built = (commands.Link, _, refl)
-command_of_line (Plain (call.Symlink text path)) built = (commands.Symlink, _, refl)
-command_of_line (Plain (call.Readlink path)) built = (commands.Readlink, _, refl)
-command_of_line (Plain (call.Unlink path)) built = (commands.Unlink, _, refl)
-command_of_line (Plain (call.Rmdir path)) built = (commands.Rmdir, _, refl)
-command_of_line (Plain (call.StatOf path)) built = (commands.Stat, _, refl)
-command_of_line (Plain (call.LstatOf path)) built = (commands.Lstat, _, refl)
-command_of_line (Plain (call.Readdir path)) built = (commands.Readdir, _, refl)
-command_of_line (Plain (call.Fsync handle)) built = (commands.Fsync, _, refl)
-command_of_line (Plain call.Sync) built = (commands.Sync, _, refl)
-command_of_line (Plain call.Clean) built = (commands.Clean, _, refl)
-command_of_line (Plain call.Space) built = (commands.Space, _, refl)
-command_of_line (Plain call.ListTree) built = (commands.Tree, _, refl)
-command_of_line _ built = absurd built
+command_of_line : (line : Line) → (command : Command) × (words : List (List ℕ)) × (words_of line ≡ command_word command ∷ words)
+command_of_line (Plain (call.Create path)) = (commands.Create, _, refl)
+command_of_line (Plain (call.Open path)) = (commands.Open, _, refl)
+command_of_line (Plain (call.Close handle)) = (commands.Close, _, refl)
+command_of_line (Plain (call.Pread handle offset len)) = (commands.Pread, _, refl)
+command_of_line (Plain (call.Pwrite handle offset bytes)) = (commands.Pwrite, _, refl)
+command_of_line (Fill handle offset len byte) = (commands.Fill, _, refl)
+command_of_line (Plain (call.Truncate handle len)) = (commands.Truncate, _, refl)
+command_of_line (Plain (call.Mkdir path)) = (commands.Mkdir, _, refl)
+command_of_line (Plain (call.LinkTo from to)) = (commands.Link, _, refl)
+command_of_line (Plain (call.Symlink text path)) = (commands.Symlink, _, refl)
+command_of_line (Plain (call.Readlink path)) = (commands.Readlink, _, refl)
+command_of_line (Plain (call.Unlink path)) = (commands.Unlink, _, refl)
+command_of_line (Plain (call.Rmdir path)) = (commands.Rmdir, _, refl)
+command_of_line (Plain (call.Rename from to)) = (commands.Rename, _, refl)
+command_of_line (Plain (call.StatOf path)) = (commands.Stat, _, refl)
+command_of_line (Plain (call.LstatOf path)) = (commands.Lstat, _, refl)
+command_of_line (Plain (call.Readdir path)) = (commands.Readdir, _, refl)
+command_of_line (Plain (call.Fsync handle)) = (commands.Fsync, _, refl)
+command_of_line (Plain call.Sync) = (commands.Sync, _, refl)
+command_of_line (Plain call.Clean) = (commands.Clean, _, refl)
+command_of_line (Plain call.Space) = (commands.Space, _, refl)
+command_of_line (Plain call.ListTree) = (commands.Tree, _, refl)
 
-line-cut : (line : Line) → IsBuilt line → InRange line → cut (text_of line) ≡ words_of line
-line-cut line built fits =
-    let has = command_of_line line built in
-    let solid : all_solid (command_word has.0 ∷ has.1) ≡ true = ap all_solid (sym has.2) ∙ solid-line line built fits in
-    ap cut (text_is line built ∙ ap spaced has.2) ∙ cut-spaced (command_word has.0) has.1 solid ∙ sym has.2
+line-cut : (line : Line) → InRange line → cut (text_of line) ≡ words_of line
+line-cut line fits =
+    let has = command_of_line line in
+    let solid : all_solid (command_word has.0 ∷ has.1) ≡ true = ap all_solid (sym has.2) ∙ solid-line line fits in
+    ap cut (text_is line ∙ ap spaced has.2) ∙ cut-spaced (command_word has.0) has.1 solid ∙ sym has.2
 
 -- a text is a line's exactly where its words are
-same_text : (line : Line) (text : List ℕ) → IsBuilt line → words_of line ≡ cut text → text_of line ≡ text
-same_text line text built e = text_is line built ∙ ap spaced e ∙ spaced-cut text
+same_text : (line : Line) (text : List ℕ) → words_of line ≡ cut text → text_of line ≡ text
+same_text line text e = text_is line ∙ ap spaced e ∙ spaced-cut text
 
-same_words : (line : Line) (text : List ℕ) → IsBuilt line → InRange line → text_of line ≡ text → words_of line ≡ cut text
-same_words line text built fits e = sym (line-cut line built fits) ∙ ap cut e
+same_words : (line : Line) (text : List ℕ) → InRange line → text_of line ≡ text → words_of line ≡ cut text
+same_words line text fits e = sym (line-cut line fits) ∙ ap cut e
 
 -- ---- the words of a text that begin with a command's
 
-built_for : (c : Call) → IsBuilt (line_for c)
-built_for (made.Create path) = tt
-built_for (made.Open path) = tt
-built_for (made.Close handle) = tt
-built_for (made.Pread handle offset len) = tt
-built_for (made.Pwrite handle offset bytes) = tt
-built_for (made.Fill handle offset len byte) = tt
-built_for (made.Truncate handle len) = tt
-built_for (made.Mkdir path) = tt
-built_for (made.Link from to) = tt
-built_for (made.Symlink text path) = tt
-built_for (made.Readlink path) = tt
-built_for (made.Unlink path) = tt
-built_for (made.Rmdir path) = tt
-built_for (made.Stat path) = tt
-built_for (made.Lstat path) = tt
-built_for (made.Readdir path) = tt
-built_for (made.Fsync handle) = tt
-built_for made.Sync = tt
-built_for made.Clean = tt
-built_for made.Space = tt
-built_for made.Tree = tt
-
 pub ok_text : {E : Type 0} (r : Result Call E) (text : List ℕ) (words : List (List ℕ)) → cut text ≡ words → IfOk r (λ call. words_of (line_for call) ≡ words)
     → IfOk r (λ call. text_of (line_for call) ≡ text)
-ok_text (Ok c) text words e h = same_text (line_for c) text (built_for c) (h ∙ sym e)
+ok_text (Ok c) text words e h = same_text (line_for c) text (h ∙ sym e)
 ok_text (Err f) text words e h = tt
 
-pub bad_text : (text : List ℕ) (words : List (List ℕ)) → cut text ≡ words → ((line : Line) → IsBuilt line → InRange line → words_of line ≢ words) → IsUnknown text
-bad_text text words e h line built fits same = h line built fits (same_words line text built fits same ∙ e)
+pub bad_text : (text : List ℕ) (words : List (List ℕ)) → cut text ≡ words → ((line : Line) → InRange line → words_of line ≢ words) → IsUnknown text
+bad_text text words e h line fits same = h line fits (same_words line text fits same ∙ e)
 
-pub found_text : (text : List ℕ) (words : List (List ℕ)) → cut text ≡ words → (line : Line) × IsBuilt line × InRange line × IsTrue (has_word line) × (words_of line ≡ words)
-    → (line : Line) × IsBuilt line × InRange line × IsTrue (has_word line) × (text_of line ≡ text)
-found_text text words e h = (h.0, h.1, h.2, h.3, same_text h.0 text h.1 (h.4 ∙ sym e))
+pub found_text : (text : List ℕ) (words : List (List ℕ)) → cut text ≡ words → (line : Line) × InRange line × IsTrue (has_word line) × (words_of line ≡ words)
+    → (line : Line) × InRange line × IsTrue (has_word line) × (text_of line ≡ text)
+found_text text words e h = (h.0, h.1, h.2, same_text h.0 text (h.3 ∙ sym e))
 
 -- a text whose first word is no command's
-pub no_command : (word : List ℕ) (rest : List (List ℕ)) → ((command : Command) → command_word command ≢ word) → (line : Line) → IsBuilt line → InRange line → words_of line ≢ word ∷ rest
-no_command word rest h line built fits e =
-    let has = command_of_line line built in
+pub no_command : (word : List ℕ) (rest : List (List ℕ)) → ((command : Command) → command_word command ≢ word) → (line : Line) → InRange line → words_of line ≢ word ∷ rest
+no_command word rest h line fits e =
+    let has = command_of_line line in
     let both : command_word has.0 ∷ has.1 ≡ word ∷ rest = sym has.2 ∙ e in
     h has.0 (cc)

@@ -17,7 +17,7 @@ use Rattle.lfs_script.specs.LineEnd.{OnTooLong, consumed_by_line}
 use Rattle.lfs_script.specs.declared.line.LineEnd.{LineEnd}
 use Rattle.lfs_script.specs.declared.line.LineEnd.TheVariants.{TooLong}
 use Rattle.lfs_script.specs.declared.source.ReadError.{ReadError}
-use Rattle.lfs_script.specs.Lines.{IsBuilt, IsUnknown}
+use Rattle.lfs_script.specs.Lines.{IsUnknown}
 use Rattle.lfs_script.specs.Ending.{EndOf, IsBadLine, IsBadText, IsText, IsWhole, ended_texts, replies}
 use Rattle.lfs_script.specs.Running.{AnswersText, Called, Ends, EndsBy, Finishes, Refuses, SoFar, Turns}
 use Rattle.lfs_script.specs.Strict.{Follows, EndsBehind, GoesOnBehind, StrictEndOf}
@@ -40,7 +40,7 @@ nothing [] e = refl
 nothing (c ∷ text) e = absurd (omega (arith, e))
 
 pub unknown_is_bad : (text : List ℕ) → IsUnknown text → IsBadText text
-unknown_is_bad text unknown line built spells = unknown line built spells.in_range (sym spells.text)
+unknown_is_bad text unknown line spells = unknown line spells.in_range (sym spells.text)
 
 module _ {D : Type 0} (state : D → DeviceState) where
   -- a line's call is made
@@ -49,9 +49,9 @@ module _ {D : Type 0} (state : D → DeviceState) where
   called_text old new text line answer short is fits serves = (line, record { text = sym is; short = short; in_range = fits }, serves)
 
   -- memory for a line's word was refused
-  pub without_memory : (old : Mounted D) (text : List ℕ) → length text ≤ 140000 → (line : Line) × IsBuilt line × InRange line × IsTrue (has_word line) × (text_of line ≡ text)
+  pub without_memory : (old : Mounted D) (text : List ℕ) → length text ≤ 140000 → (line : Line) × InRange line × IsTrue (has_word line) × (text_of line ≡ text)
       → AnswersText state (Some (Refuse NoMemory)) old old text
-  without_memory old text short (line, built, fits, word, is) = called_text old old text line (Refuse NoMemory) short is fits (inr (word, refl, refl))
+  without_memory old text short (line, fits, word, is) = called_text old old text line (Refuse NoMemory) short is fits (inr (word, refl, refl))
 
   pub called : (R : List ℕ → Type 0) (old new : Mounted D) (text : List ℕ) (answer : Answer) → AnswersText state (Some answer) old new text → R (reply answer) → Called state R old new text
   called R old new text answer (line, spells, serves) replied = record { line = line; answer = answer; spells = spells; serves = serves; replied = replied }

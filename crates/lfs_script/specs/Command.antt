@@ -1,7 +1,7 @@
 -- The first word of a line.
 use Rattle.std.specs.Prelude.{ℕ, List, codes}
 use Rattle.lfs_script.specs.declared.command.Command.{Command}
-use Rattle.lfs_script.specs.declared.command.Command.TheVariants.{Create, Open, Close, Pread, Pwrite, Fill, Truncate, Mkdir, Link, Symlink, Readlink, Unlink, Rmdir, Stat, Lstat, Readdir, Fsync, Sync, Clean, Space, Tree}
+use Rattle.lfs_script.specs.declared.command.Command.TheVariants.{Create, Open, Close, Pread, Pwrite, Fill, Truncate, Mkdir, Link, Symlink, Readlink, Unlink, Rmdir, Rename, Stat, Lstat, Readdir, Fsync, Sync, Clean, Space, Tree}
 
 abbrev pub command_word : Command → List ℕ
 command_word Create = codes "create"
@@ -17,6 +17,7 @@ command_word Symlink = codes "symlink"
 command_word Readlink = codes "readlink"
 command_word Unlink = codes "unlink"
 command_word Rmdir = codes "rmdir"
+command_word Rename = codes "rename"
 command_word Stat = codes "stat"
 command_word Lstat = codes "lstat"
 command_word Readdir = codes "readdir"

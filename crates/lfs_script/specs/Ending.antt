@@ -3,7 +3,6 @@ use Rattle.std.specs.Prelude.{◌≡◌, ◌≢◌, ◌⊎◌, ◌+◌, ◌-◌,
 use Rattle.std.specs.Io.KnownBytes.{Appends, Consumes, IsAtEnd, Keeps}
 use Rattle.lfs_model.specs.Call.{Answer}
 use Rattle.lfs_model.specs.Script.{Line, Spells, bad, ended, lines, reply}
-use Rattle.lfs_script.specs.Lines.{IsBuilt}
 use Rattle.lfs_script.specs.declared.script.ScriptEnd.{ScriptEnd}
 use Rattle.lfs_script.specs.declared.script.ScriptEnd.TheVariants.{Done, BadLine, Read, Write, Memory}
 
@@ -24,9 +23,9 @@ ended_texts = flat_map ended
 abbrev pub replies : List Answer → List ℕ
 replies = flat_map reply
 
--- no line of a call that is built has this text
+-- no line of a script has this text
 abbrev pub IsBadText : List ℕ → Type 0
-IsBadText text = (line : Line) → IsBuilt line → ¬ Spells text line
+IsBadText text = (line : Line) → ¬ Spells text line
 
 -- The bytes of a bad line, with what was read behind them: a newline, or nothing at the end of the input. Of a line that is too long they are a beginning.
 pub record IsBadLine (text more : List ℕ) (left : Option (List ℕ)) : Type 0 where

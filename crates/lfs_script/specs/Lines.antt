@@ -1,38 +1,13 @@
--- The lines that a script may have so far, and how they are cut into words. What a line is, and its one text, is the model's.
+-- The lines of a script, and how they are cut into words. What a line is, and its one text, is the model's.
 use Rattle.std.specs.Prelude.{◌≢◌, ℕ, ◌==◌, if◌then◌else◌, List, [], ◌∷◌, Option, Some, None, codes, decimal}
-use Rattle.lfs_model.specs.Call.{Create, Open, Close, Pread, Pwrite, Truncate, Mkdir, LinkTo, Symlink, Readlink, Unlink, Rmdir, StatOf, LstatOf, Readdir, Fsync, Sync, Clean, Space, ListTree}
+use Rattle.lfs_model.specs.Call.{Create, Open, Close, Pread, Pwrite, Truncate, Mkdir, LinkTo, Symlink, Readlink, Unlink, Rmdir, Rename, StatOf, LstatOf, Readdir, Fsync, Sync, Clean, Space, ListTree}
 use Rattle.lfs_model.specs.Script.{Line, Plain, Fill, InRange, hex, line_of, text_of, word}
 
--- the lines whose calls are built
-abbrev pub IsBuilt : Line → Type 0
-IsBuilt (Plain (Create path)) = Unit {0}
-IsBuilt (Plain (Open path)) = Unit {0}
-IsBuilt (Plain (Close handle)) = Unit {0}
-IsBuilt (Plain (Pread handle offset len)) = Unit {0}
-IsBuilt (Plain (Pwrite handle offset bytes)) = Unit {0}
-IsBuilt (Fill handle offset len byte) = Unit {0}
-IsBuilt (Plain (Truncate handle len)) = Unit {0}
-IsBuilt (Plain (Mkdir path)) = Unit {0}
-IsBuilt (Plain (LinkTo from to)) = Unit {0}
-IsBuilt (Plain (Symlink text path)) = Unit {0}
-IsBuilt (Plain (Readlink path)) = Unit {0}
-IsBuilt (Plain (Unlink path)) = Unit {0}
-IsBuilt (Plain (Rmdir path)) = Unit {0}
-IsBuilt (Plain (StatOf path)) = Unit {0}
-IsBuilt (Plain (LstatOf path)) = Unit {0}
-IsBuilt (Plain (Readdir path)) = Unit {0}
-IsBuilt (Plain (Fsync handle)) = Unit {0}
-IsBuilt (Plain Sync) = Unit {0}
-IsBuilt (Plain Clean) = Unit {0}
-IsBuilt (Plain Space) = Unit {0}
-IsBuilt (Plain ListTree) = Unit {0}
-IsBuilt _ = ⊥
-
--- no such line has this text
+-- no line has this text
 abbrev pub IsUnknown : List ℕ → Type 0
-IsUnknown text = (line : Line) → IsBuilt line → InRange line → text_of line ≢ text
+IsUnknown text = (line : Line) → InRange line → text_of line ≢ text
 
--- such a line's words
+-- a line's words
 abbrev pub words_of : Line → List (List ℕ)
 words_of (Plain (Create path)) = codes "create" ∷ word path ∷ []
 words_of (Plain (Open path)) = codes "open" ∷ word path ∷ []
@@ -47,6 +22,7 @@ words_of (Plain (Symlink text path)) = codes "symlink" ∷ word text ∷ word pa
 words_of (Plain (Readlink path)) = codes "readlink" ∷ word path ∷ []
 words_of (Plain (Unlink path)) = codes "unlink" ∷ word path ∷ []
 words_of (Plain (Rmdir path)) = codes "rmdir" ∷ word path ∷ []
+words_of (Plain (Rename from to)) = codes "rename" ∷ word from ∷ word to ∷ []
 words_of (Plain (StatOf path)) = codes "stat" ∷ word path ∷ []
 words_of (Plain (LstatOf path)) = codes "lstat" ∷ word path ∷ []
 words_of (Plain (Readdir path)) = codes "readdir" ∷ word path ∷ []
@@ -55,7 +31,6 @@ words_of (Plain Sync) = codes "sync" ∷ []
 words_of (Plain Clean) = codes "clean" ∷ []
 words_of (Plain Space) = codes "space" ∷ []
 words_of (Plain ListTree) = codes "tree" ∷ []
-words_of _ = []
 
 -- words with one space between two
 abbrev pub spaced : List (List ℕ) → List ℕ

@@ -97,6 +97,9 @@ pub fn make<D: SectorDevice>(alloc: Global, fs: &mut Fs<D>, call: &Call) -> Resu
         Call::Readlink(path) => fs.readlink(path.as_slice()).map(Answer::Text),
         Call::Unlink(path) => fs.unlink(path.as_slice()).map(|()| Answer::Done),
         Call::Rmdir(path) => fs.rmdir(path.as_slice()).map(|()| Answer::Done),
+        Call::Rename { from, to } => fs
+            .rename(from.as_slice(), to.as_slice())
+            .map(|()| Answer::Done),
         Call::Stat(path) => fs.stat(path.as_slice()).map(Answer::Stat),
         Call::Lstat(path) => fs.lstat(path.as_slice()).map(Answer::Stat),
         Call::Readdir(path) => fs.readdir(path.as_slice()).map(Answer::Entries),

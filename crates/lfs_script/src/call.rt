@@ -3,7 +3,7 @@ ghost use Rattle.std.specs.Prelude.{◌≡◌, ◌≢◌, ◌<◌, ◌^◌, ℕ,
 ghost use Rattle.lfs_model.specs.Bytes.{AreBytes};
 ghost use Rattle.lfs_model.specs.Run.{has_word};
 ghost use Rattle.lfs_model.specs.Script.{Line, InRange, hex, text_of, word};
-ghost use Rattle.lfs_script.specs.Lines.{IsBuilt, IsUnknown, words_of, words_left};
+ghost use Rattle.lfs_script.specs.Lines.{IsUnknown, words_of, words_left};
 ghost use Rattle.lfs_script.specs.Calls.{IsBoth, line_for};
 ghost use Rattle.lfs_script.specs.Command.{command_word};
 
@@ -53,6 +53,10 @@ pub enum Call {
     Readlink(Vec<u8>),
     Unlink(Vec<u8>),
     Rmdir(Vec<u8>),
+    Rename {
+        from: Vec<u8>,
+        to: Vec<u8>,
+    },
     Stat(Vec<u8>),
     Lstat(Vec<u8>),
     Readdir(Vec<u8>),
@@ -223,9 +227,9 @@ fn call_of(alloc: Global, command: Command, words: Words<'_>) -> Result<Call, Wo
     ensures ok { IfOk result (λ call. words_of (line_for call)
         ≡ command_word command ∷ words_left (option_copied words.entry.rest)) }
     ensures in_range { IfOk result (λ call. InRange (line_for call)) }
-    ensures spelling { result ≡ Err WordFault.Spelling → (line : Line) → IsBuilt line → InRange line
+    ensures spelling { result ≡ Err WordFault.Spelling → (line : Line) → InRange line
         → words_of line ≢ command_word command ∷ words_left (option_copied words.entry.rest) }
-    ensures memory { result ≡ Err WordFault.Memory → (line : Line) × IsBuilt line × InRange line
+    ensures memory { result ≡ Err WordFault.Memory → (line : Line) × InRange line
         × IsTrue (has_word line) × (words_of line
         ≡ command_word command ∷ words_left (option_copied words.entry.rest)) }
 {
@@ -274,6 +278,10 @@ fn call_of(alloc: Global, command: Command, words: Words<'_>) -> Result<Call, Wo
         Command::Readlink => Ok(Call::Readlink(path(alloc, words)?)),
         Command::Unlink => Ok(Call::Unlink(path(alloc, words)?)),
         Command::Rmdir => Ok(Call::Rmdir(path(alloc, words)?)),
+        Command::Rename => {
+            let (from, to) = two_words(alloc, words)?;
+            Ok(Call::Rename { from, to })
+        }
         Command::Stat => Ok(Call::Stat(path(alloc, words)?)),
         Command::Lstat => Ok(Call::Lstat(path(alloc, words)?)),
         Command::Readdir => Ok(Call::Readdir(path(alloc, words)?)),
@@ -290,7 +298,7 @@ pub fn parse(alloc: Global, line: &[u8]) -> Result<Call, WordFault>
     ensures ok { IfOk result (λ call. text_of (line_for call) ≡ line.now) }
     ensures in_range { IfOk result (λ call. InRange (line_for call)) }
     ensures spelling { result ≡ Err WordFault.Spelling → IsUnknown line.now }
-    ensures memory { result ≡ Err WordFault.Memory → (asked : Line) × IsBuilt asked × InRange asked
+    ensures memory { result ≡ Err WordFault.Memory → (asked : Line) × InRange asked
         × IsTrue (has_word asked) × (text_of asked ≡ line.now) }
 {
     let mut words = Words::of(line);

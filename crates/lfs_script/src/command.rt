@@ -18,6 +18,7 @@ pub enum Command {
     Readlink,
     Unlink,
     Rmdir,
+    Rename,
     Stat,
     Lstat,
     Readdir,
@@ -29,7 +30,7 @@ pub enum Command {
 }
 
 impl Command {
-    const ALL: [Command; 21] = [
+    const ALL: [Command; 22] = [
         Command::Create,
         Command::Open,
         Command::Close,
@@ -43,6 +44,7 @@ impl Command {
         Command::Readlink,
         Command::Unlink,
         Command::Rmdir,
+        Command::Rename,
         Command::Stat,
         Command::Lstat,
         Command::Readdir,
@@ -72,6 +74,7 @@ impl Command {
             Command::Readlink => b"readlink",
             Command::Unlink => b"unlink",
             Command::Rmdir => b"rmdir",
+            Command::Rename => b"rename",
             Command::Stat => b"stat",
             Command::Lstat => b"lstat",
             Command::Readdir => b"readdir",

@@ -2,6 +2,8 @@
 #![tactic(auto)]
 
 #[cfg(test)]
+mod names;
+#[cfg(test)]
 mod plain;
 #[cfg(test)]
 mod random;
@@ -13,5 +15,7 @@ mod scripts;
 mod stops;
 #[cfg(test)]
 mod streams;
+#[cfg(test)]
+mod trial;
 #[cfg(test)]
 mod volume;

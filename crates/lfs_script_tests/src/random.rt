@@ -1,12 +1,8 @@
 //! Random scripts beside the plain program, and what stops leave of them.
 ghost use Rattle.std.specs.Prelude.{◌<◌};
 
-use crate::replies::put_line;
-use crate::volume::new_device;
-use lfs_device::{Left, MemDevice};
-use lfs_plain::state::PlainState;
-use lfs_script::fs::Fs;
-use lfs_script::run;
+use crate::trial::{plain_run, trial};
+use lfs_device::Left;
 use std::alloc::{AllocError, Global};
 use std::test::Fail;
 
@@ -31,7 +27,7 @@ impl Dice {
 }
 
 /// The lines of a script, but for paths (P), handles (H), offsets (O) and values (B).
-const FORMS: [&str; 29] = [
+const FORMS: [&str; 32] = [
     "create P",
     "create P",
     "create P",
@@ -44,6 +40,9 @@ const FORMS: [&str; 29] = [
     "unlink P",
     "unlink P",
     "rmdir P",
+    "rename P P",
+    "rename P P",
+    "rename P P",
     "open P",
     "open P",
     "close H",
@@ -92,7 +91,7 @@ const VALUES: [&str; 4] = ["0", "7", "9", "255"];
 
 // A line of a form, without its newline.
 fn rolled_line(alloc: Global, dice: &mut Dice) -> Result<String, AllocError> {
-    let form = FORMS[dice.roll(29) as usize];
+    let form = FORMS[dice.roll(32) as usize];
     let mut line = String::new(alloc);
     for word in form.split(' ') {
         if !line.is_empty() {
@@ -118,110 +117,17 @@ fn rolled_lines(alloc: Global, dice: &mut Dice, count: u32) -> Result<Vec<String
     Ok(lines)
 }
 
-/// What the plain program replies to each line, and its tree before the first and after each.
-#[derive(Drop)]
-struct PlainRun {
-    replies: Vec<Vec<u8>>,
-    trees: Vec<Vec<u8>>,
-}
-
-fn plain_reply(alloc: Global, state: &mut PlainState, line: &str) -> Result<Vec<u8>, Fail> {
-    let mut reply = Vec::new(alloc);
-    put_line(alloc, state, line, &mut reply)?;
-    Ok(reply)
-}
-
-fn plain_run(alloc: Global, lines: &[String]) -> Result<PlainRun, Fail> {
-    let mut state = PlainState::new(alloc)?;
-    let mut replies = Vec::new(alloc);
-    let mut trees = Vec::new(alloc);
-    trees.push(plain_reply(alloc, &mut state, "tree")?)?;
-    for line in lines {
-        replies.push(plain_reply(alloc, &mut state, line.as_str())?)?;
-        trees.push(plain_reply(alloc, &mut state, "tree")?)?;
-    }
-    Ok(PlainRun { replies, trees })
-}
-
-// The reply of a volume to a line.
-fn reply_of(alloc: Global, fs: &mut Fs<MemDevice>, line: &str) -> Vec<u8> {
-    let mut input = line.as_bytes();
-    let mut reply = Vec::new(alloc);
-    run(alloc, &mut input, &mut reply, fs);
-    reply
-}
-
-/// The least and the greatest number of calls that the tree after a stop may have.
-#[derive(Clone, Copy, PartialEq, Eq)]
-struct Bounds {
-    least: usize,
-    greatest: usize,
-}
-
-// Makes each call until one is halted. A reply that isn't the plain program's is a failure.
-fn run_lines(
-    alloc: Global,
-    fs: &mut Fs<MemDevice>,
-    lines: &[String],
-    replies: &[Vec<u8>],
-) -> Result<Bounds, Fail> {
-    let mut least = 0;
-    for (index, (line, want)) in lines.iter().zip(replies).enumerate() {
-        let reply = reply_of(alloc, fs, line.as_str());
-        let greatest = index.saturating_add(1);
-        if reply.as_slice() == b"err Halted\n".as_slice() {
-            return Ok(Bounds { least, greatest });
-        }
-        if reply != *want {
-            return Err(Fail::from("another reply"));
-        }
-        let saves = line.as_str() == "sync" || line.starts_with("fsync");
-        if saves && reply.as_slice() == b"ok\n".as_slice() {
-            least = greatest;
-        }
-    }
-    Ok(Bounds {
-        least,
-        greatest: lines.len(),
-    })
-}
-
-// Runs the lines on a new volume whose device stops within this write, and then mounts what the stop leaves. Answers the writes that were begun.
-fn trial(
-    alloc: Global,
-    lines: &[String],
-    plain: &PlainRun,
-    write: u64,
-    left: Left,
-) -> Result<u64, Fail> {
-    let mut device = new_device(alloc)?;
-    device.stop_at(write);
-    let Ok(mut fs) = Fs::mount(alloc, device) else {
-        return Err(Fail::from("no mount"));
-    };
-    let bounds = run_lines(alloc, &mut fs, lines, plain.replies.as_slice())?;
-    let mut device = fs.into_device();
-    let writes = device.writes();
-    device.crash(left);
-    let Ok(mut fs) = Fs::mount(alloc, device) else {
-        return Err(Fail::from("no mount after the stop"));
-    };
-    let tree = reply_of(alloc, &mut fs, "tree");
-    for (calls, shown) in plain.trees.iter().enumerate() {
-        if bounds.least <= calls && calls <= bounds.greatest && *shown == tree {
-            return Ok(writes);
-        }
-    }
-    Err(Fail::from("another tree after the stop"))
-}
-
 // A random script without a stop, and with stops within four of its writes.
 fn trials(alloc: Global, seed: u64) -> Result<(), Fail> {
     let mut dice = Dice { state: seed };
-    let lines = rolled_lines(alloc, &mut dice, 100)?;
+    let rolled = rolled_lines(alloc, &mut dice, 100)?;
+    let mut lines = Vec::new(alloc);
+    for line in &rolled {
+        lines.push(line.as_str())?;
+    }
     let plain = plain_run(alloc, lines.as_slice())?;
-    let writes = trial(alloc, lines.as_slice(), &plain, u64::MAX, Left::Old)?;
-    for left in [Left::Old, Left::New, Left::Bad, Left::New] {
+    let writes = trial(alloc, lines.as_slice(), &plain, u64::MAX, None)?.writes;
+    for left in [Some(Left::Old), Some(Left::New), Some(Left::Bad), None] {
         let write = u64::from(dice.roll(1_000)) % writes.saturating_add(1);
         trial(alloc, lines.as_slice(), &plain, write, left)?;
     }

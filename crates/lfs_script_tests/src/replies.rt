@@ -152,6 +152,7 @@ fn plain_call<'a>(call: &'a Call, bytes: &'a [u8]) -> PlainCall<'a> {
         Call::Readlink(path) => PlainCall::Readlink(path.as_slice()),
         Call::Unlink(path) => PlainCall::Unlink(path.as_slice()),
         Call::Rmdir(path) => PlainCall::Rmdir(path.as_slice()),
+        Call::Rename { from, to } => PlainCall::Rename(from.as_slice(), to.as_slice()),
         Call::Stat(path) => PlainCall::Stat(path.as_slice()),
         Call::Lstat(path) => PlainCall::Lstat(path.as_slice()),
         Call::Readdir(path) => PlainCall::Readdir(path.as_slice()),

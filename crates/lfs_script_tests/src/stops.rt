@@ -1,6 +1,6 @@
 //! A script on a device that stops at each of its writes, beside the plain program.
 use crate::replies::put_line;
-use crate::volume::new_device;
+use crate::volume::{leave, new_device};
 use lfs_device::{Left, MemDevice};
 use lfs_plain::state::PlainState;
 use lfs_script::fs::Fs;
@@ -147,30 +147,6 @@ fn calls_shown(looks: &[Vec<u8>], bounds: (usize, usize), found: &[u8]) -> Optio
     None
 }
 
-// Two kinds of what a stop leaves, each pair in one order and the other.
-const PAIRS: [(Left, Left); 6] = [
-    (Left::Old, Left::New),
-    (Left::New, Left::Bad),
-    (Left::Bad, Left::Old),
-    (Left::Old, Left::Bad),
-    (Left::New, Left::Old),
-    (Left::Bad, Left::New),
-];
-
-// Leaves each sector that isn't synced so, or else two kinds in turn, which are others from write to write.
-fn stop(device: &mut MemDevice, write: u64, left: Option<Left>) {
-    if let Some(left) = left {
-        device.crash(left);
-        return;
-    }
-    let (first, second) = PAIRS[(write % 6) as usize];
-    let mut lefts = [first; 128];
-    for half in 0..64usize {
-        lefts[2 * half + 1] = second;
-    }
-    device.crash_each(&lefts);
-}
-
 // The replies of the lines on a new volume whose device stops within this write, and the device.
 fn stopped(alloc: Global, write: u64) -> Result<(Vec<u8>, MemDevice), Fail> {
     let mut device = new_device(alloc)?;
@@ -205,7 +181,7 @@ fn stops_at_each_write(alloc: Global, left: Option<Left>) -> Result<(u32, Option
     let mut newer = 0u32;
     for write in 0..writes.saturating_add(1) {
         let (replies, mut device) = stopped(alloc, write)?;
-        stop(&mut device, write, left);
+        leave(&mut device, write, left);
         let bounds = bounds(replies.as_slice())?;
         let look = shown(alloc, device)?;
         match calls_shown(looks.as_slice(), bounds, look.as_slice()) {

@@ -1,5 +1,5 @@
 //! Volumes of 64 segments in memory.
-use lfs_device::MemDevice;
+use lfs_device::{Left, MemDevice};
 use lfs_script::fs::{Fs, format};
 use lfs_script::{ScriptEnd, run};
 use std::alloc::Global;
@@ -30,4 +30,28 @@ pub fn answered<R: Read>(alloc: Global, reader: &mut R) -> Result<(ScriptEnd, Ve
     let mut output = Vec::new(alloc);
     let end = run(alloc, reader, &mut output, &mut fs);
     Ok((end, output))
+}
+
+// Two kinds of what a stop leaves, each pair in one order and the other.
+const PAIRS: [(Left, Left); 6] = [
+    (Left::Old, Left::New),
+    (Left::New, Left::Bad),
+    (Left::Bad, Left::Old),
+    (Left::Old, Left::Bad),
+    (Left::New, Left::Old),
+    (Left::Bad, Left::New),
+];
+
+/// Leaves each sector that isn't synced so, or else two kinds in turn, which are others from write to write.
+pub fn leave(device: &mut MemDevice, write: u64, left: Option<Left>) {
+    if let Some(left) = left {
+        device.crash(left);
+        return;
+    }
+    let (first, second) = PAIRS[(write % 6) as usize];
+    let mut lefts = [first; 128];
+    for half in 0..64usize {
+        lefts[2 * half + 1] = second;
+    }
+    device.crash_each(&lefts);
 }

@@ -1,0 +1,118 @@
+//! A script beside the plain program, and what a stop leaves of it.
+use crate::replies::put_line;
+use crate::volume::{leave, new_device};
+use lfs_device::{Left, MemDevice};
+use lfs_plain::state::PlainState;
+use lfs_script::fs::Fs;
+use lfs_script::run;
+use std::alloc::Global;
+use std::test::Fail;
+
+/// What the plain program replies to each line, and its tree before the first and after each.
+#[derive(Drop)]
+pub struct PlainRun {
+    pub replies: Vec<Vec<u8>>,
+    trees: Vec<Vec<u8>>,
+}
+
+fn plain_reply(alloc: Global, state: &mut PlainState, line: &str) -> Result<Vec<u8>, Fail> {
+    let mut reply = Vec::new(alloc);
+    put_line(alloc, state, line, &mut reply)?;
+    Ok(reply)
+}
+
+pub fn plain_run(alloc: Global, lines: &[&str]) -> Result<PlainRun, Fail> {
+    let mut state = PlainState::new(alloc)?;
+    let mut replies = Vec::new(alloc);
+    let mut trees = Vec::new(alloc);
+    trees.push(plain_reply(alloc, &mut state, "tree")?)?;
+    for line in lines {
+        replies.push(plain_reply(alloc, &mut state, line)?)?;
+        trees.push(plain_reply(alloc, &mut state, "tree")?)?;
+    }
+    Ok(PlainRun { replies, trees })
+}
+
+// The reply of a volume to a line.
+fn reply_of(alloc: Global, fs: &mut Fs<MemDevice>, line: &str) -> Vec<u8> {
+    let mut input = line.as_bytes();
+    let mut reply = Vec::new(alloc);
+    run(alloc, &mut input, &mut reply, fs);
+    reply
+}
+
+/// The least and the greatest number of calls that the tree after a stop may have.
+#[derive(Clone, Copy, PartialEq, Eq)]
+struct Bounds {
+    least: usize,
+    greatest: usize,
+}
+
+// Makes each call until one is halted. A reply that isn't the plain program's is a failure.
+fn run_lines(
+    alloc: Global,
+    fs: &mut Fs<MemDevice>,
+    lines: &[&str],
+    replies: &[Vec<u8>],
+) -> Result<Bounds, Fail> {
+    let mut least = 0;
+    for (index, (&line, want)) in lines.iter().zip(replies).enumerate() {
+        let reply = reply_of(alloc, fs, line);
+        let greatest = index.saturating_add(1);
+        if reply.as_slice() == b"err Halted\n".as_slice() {
+            return Ok(Bounds { least, greatest });
+        }
+        if reply != *want {
+            return Err(Fail::from("another reply"));
+        }
+        let saves = line == "sync" || line.starts_with("fsync");
+        if saves && reply.as_slice() == b"ok\n".as_slice() {
+            least = greatest;
+        }
+    }
+    Ok(Bounds {
+        least,
+        greatest: lines.len(),
+    })
+}
+
+/// What a trial shows where it fails nothing.
+#[derive(Clone, Copy)]
+pub struct TrialEnd {
+    /// The writes that were begun.
+    pub writes: u64,
+    /// Whether the stop left more than the last acknowledged sync holds.
+    pub is_newer: bool,
+}
+
+/// Runs the lines on a new volume whose device stops within this write, and then mounts what the stop leaves: the tree has
+/// to be one that the plain program had, behind the calls that an acknowledged sync saved and no later than the first that
+/// was halted.
+pub fn trial(
+    alloc: Global,
+    lines: &[&str],
+    plain: &PlainRun,
+    write: u64,
+    left: Option<Left>,
+) -> Result<TrialEnd, Fail> {
+    let mut device = new_device(alloc)?;
+    device.stop_at(write);
+    let Ok(mut fs) = Fs::mount(alloc, device) else {
+        return Err(Fail::from("no mount"));
+    };
+    let bounds = run_lines(alloc, &mut fs, lines, plain.replies.as_slice())?;
+    let mut device = fs.into_device();
+    let writes = device.writes();
+    leave(&mut device, write, left);
+    let Ok(mut fs) = Fs::mount(alloc, device) else {
+        return Err(Fail::from("no mount after the stop"));
+    };
+    let tree = reply_of(alloc, &mut fs, "tree");
+    for (calls, shown) in plain.trees.iter().enumerate() {
+        if bounds.least <= calls && calls <= bounds.greatest && *shown == tree {
+            let is_newer = calls > bounds.least;
+            return Ok(TrialEnd { writes, is_newer });
+        }
+    }
+    Err(Fail::from("another tree after the stop"))
+}
