@@ -2,6 +2,8 @@
 #![tactic(auto)]
 
 #[cfg(test)]
+mod cleaning;
+#[cfg(test)]
 mod names;
 #[cfg(test)]
 mod plain;
