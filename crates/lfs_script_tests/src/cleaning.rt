@@ -145,7 +145,7 @@ fn cleans_whose_stops_leave_two_kinds_in_turn(rt: HostRuntime) -> Result<(), Fai
 
 /// How far a mount and a clean come where one call of the device fails.
 #[derive(Clone, Copy, PartialEq, Eq)]
-enum Reached {
+enum Progress {
     /// The mount is refused.
     Mount,
     /// The clean is refused, and the file is there.
@@ -156,22 +156,27 @@ enum Reached {
 
 /// Mounts and cleans where the `nth` call of this kind fails. A failed read changes nothing, and the next clean goes
 /// through. The file is there when the volume is mounted again.
-fn reached(alloc: Global, pieces: &[Vec<u8>], call: DeviceCall, nth: u64) -> Result<Reached, Fail> {
+fn reached(
+    alloc: Global,
+    pieces: &[Vec<u8>],
+    call: DeviceCall,
+    nth: u64,
+) -> Result<Progress, Fail> {
     let mut device = worn_device(alloc)?;
     device.fail(call, nth);
     let mut fs = match Fs::mount(alloc, device) {
         Ok(fs) => Box::new(alloc, fs)?,
-        Err((MountFault::Device, _)) => return Ok(Reached::Mount),
+        Err((MountFault::Device, _)) => return Ok(Progress::Mount),
         Err((fault, _)) => return Err(Fail::from(fault)),
     };
     let reached = match fs.clean() {
-        Ok(()) => Reached::End,
+        Ok(()) => Progress::End,
         Err(FsError::Device) if call == DeviceCall::Read => {
             fs.clean()?;
             check_file(&mut fs, pieces)?;
-            Reached::Clean
+            Progress::Clean
         }
-        Err(FsError::Halted) if call != DeviceCall::Read => Reached::Clean,
+        Err(FsError::Halted) if call != DeviceCall::Read => Progress::Clean,
         Err(fault) => return Err(Fail::from(fault)),
     };
     let mut device = device_of(fs);
@@ -186,7 +191,7 @@ fn calls_of_clean(alloc: Global, call: DeviceCall) -> Result<u64, Fail> {
     let pieces = worn_pieces(alloc)?;
     let mut calls = 0u64;
     for nth in first_of_clean(alloc, pieces.as_slice(), call)?..2 * MANY {
-        if reached(alloc, pieces.as_slice(), call, nth)? == Reached::End {
+        if reached(alloc, pieces.as_slice(), call, nth)? == Progress::End {
             return Ok(calls);
         }
         calls = calls.saturating_add(1);
@@ -199,7 +204,7 @@ fn first_of_clean(alloc: Global, pieces: &[Vec<u8>], call: DeviceCall) -> Result
     let (mut low, mut high) = (0, MANY);
     while low < high {
         let middle = low + (high - low) / 2;
-        if reached(alloc, pieces, call, middle)? == Reached::Mount {
+        if reached(alloc, pieces, call, middle)? == Progress::Mount {
             low = middle + 1;
         } else {
             high = middle;
