@@ -199,18 +199,18 @@ fn calls_of_clean(alloc: Global, call: DeviceCall) -> Result<u64, Fail> {
     Ok(MANY)
 }
 
-/// The first call of this kind that isn't the mount's.
+/// The first call of this kind that isn't the mount's, of 8,192 at most.
 fn first_of_clean(alloc: Global, pieces: &[Vec<u8>], call: DeviceCall) -> Result<u64, Fail> {
-    let (mut low, mut high) = (0, MANY);
-    while low < high {
-        let middle = low + (high - low) / 2;
-        if reached(alloc, pieces, call, middle)? == Progress::Mount {
-            low = middle + 1;
-        } else {
-            high = middle;
+    let mut first = 0u64;
+    let mut step = 4_096u64;
+    for _ in 0..13u32 {
+        let last = first.saturating_add(step).saturating_sub(1);
+        if reached(alloc, pieces, call, last)? == Progress::Mount {
+            first = first.saturating_add(step);
         }
+        step /= 2;
     }
-    Ok(low)
+    Ok(first)
 }
 
 #[test]
