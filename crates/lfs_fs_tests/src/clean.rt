@@ -1,4 +1,6 @@
 //! Volumes with too few clean segments, by hand: a file's blocks are moved, each to a clean segment of its own.
+ghost use Rattle.std.specs.Prelude.{◌<◌, ◌≤◌};
+
 use crate::damage::{Damage, damage_each, fault};
 use crate::volume::{SECTORS, device_of, formatted, mounted};
 use lfs_device::{MemDevice, SectorDevice};
@@ -64,7 +66,7 @@ fn move_block(
     index: u8,
     segment: u8,
 ) -> Result<(), Fail>
-    requires { index < BLOCKS }
+    requires { index < 56 }
 {
     let first = 2 + 64 * u32::from(segment);
     let mut summary = [0; 512];
@@ -81,7 +83,7 @@ fn move_block(
 
 /// Moves the first blocks of the file, one to each segment from number 2 on.
 fn spread(device: &mut MemDevice, moved: u8) -> Result<(), Fail>
-    requires { moved ≤ BLOCKS }
+    requires { moved ≤ 56 }
 {
     let inode_at = sector_with(device, FILE)?;
     let usage_at = sector_with(device, USAGE)?;
@@ -100,7 +102,7 @@ fn spread(device: &mut MemDevice, moved: u8) -> Result<(), Fail>
 
 /// The fault of a mount of the volume with so many blocks moved, behind some damage.
 fn fault_of(alloc: Global, moved: u8, damage: Damage) -> Result<Option<MountFault>, Fail>
-    requires { moved ≤ BLOCKS }
+    requires { moved ≤ 56 }
 {
     let mut device = device_with_blocks(alloc)?;
     spread(&mut device, moved)?;
