@@ -8,22 +8,28 @@ use Rattle.lfs_model.specs.Checkpoint.{CheckpointValue, checkpoint_in}
 use Rattle.lfs_model.specs.Content.{Content, bytes_of, slot, with_parity}
 use Rattle.lfs_model.specs.Device.{MayWrite, left_old, left_new, left_bad, cell_at}
 use Rattle.lfs_model.specs.Reach.{address, used, Row, chunks, row, row_by, place_in, View, view}
-use Rattle.lfs_model.specs.Stands.{Protected, Stages, used_in, LogMap, StandsAt, StandsLog, header_in, label_at}
+use Rattle.lfs_model.specs.Stands.{Protected, Stages, used_in, LogMap, HoldsAt, StandsAt, StandsLog, EnoughClean, header_in, label_at}
 use Rattle.lfs_model.specs.Stands.Protected.{reached, summary}
 use Rattle.lfs_model.specs.Crash.{Keeps, IsFree, IsReady, StandsOn, Locality, SingleLog, FreeWrites, SlotWrite}
 use Rattle.lfs_model.proofs.Newest.{none_spelt, sector_other, slot_other, newest_other, slot_newest, newest_alone, newest_next}
 use Rattle.lfs_model.proofs.Reach.{view_same, after_inv, opened_inv}
 
 -- the same stages, at any content of the same size that has the protected sectors
-pub stands_at_same : (c d : Content) (k : CheckpointValue) (m : LogMap) → StandsAt c k m → length d ≡ length c → ((at : ℕ) → Protected (view c k) at → cell_at d at ≡ cell_at c at) → StandsAt d k m
-stands_at_same c d k m s long same =
-    let e = sym (view_same c d k long same s.stages.rows) in
-    record {
-      size = subst (λ (n : ℕ). 2 + 64 * k.segments ≤ n) (sym long) s.size;
-      stages = subst Stages e s.stages;
-      header = λ n. s.header n ∙ ap (λ (v : View). header_in v n) e;
-      block = λ n i. s.block n i ∙ ap (λ (v : View). v.block (Data n i)) e;
-    }
+module _ (c d : Content) (k : CheckpointValue) (m : LogMap) where
+  holds_at_same : HoldsAt c k m → length d ≡ length c → view d k ≡ view c k → HoldsAt d k m
+  holds_at_same s long same =
+      let e = sym same in
+      record {
+        size = subst (λ (n : ℕ). 2 + 64 * k.segments ≤ n) (sym long) s.size;
+        stages = subst Stages e s.stages;
+        header = λ n. s.header n ∙ ap (λ (v : View). header_in v n) e;
+        block = λ n i. s.block n i ∙ ap (λ (v : View). v.block (Data n i)) e;
+      }
+
+  pub stands_at_same : StandsAt c k m → length d ≡ length c → ((at : ℕ) → Protected (view c k) at → cell_at d at ≡ cell_at c at) → StandsAt d k m
+  stands_at_same s long same =
+      let seen = view_same c d k long same s.holds.stages.rows in
+      record { holds = holds_at_same s.holds long seen; clean = subst EnoughClean (sym seen) s.clean }
 
 pub locality : Locality
 locality c d m s keeps = record { checkpoint = s.checkpoint; newest = keeps.newest; stands = stands_at_same c d s.checkpoint m s.stands keeps.size keeps.same }
@@ -41,8 +47,8 @@ same_checkpoint c m m' s t =
 pub single_log : SingleLog
 single_log c m m' s t =
     let e = same_checkpoint c m m' s t in
-    let headers : (n : ℕ) → m.header n ≡ m'.header n = λ n. s.stands.header n ∙ ap (λ (k : CheckpointValue). header_in (view c k) n) e ∙ sym (t.stands.header n) in
-    let blocks : (n i : ℕ) → m.block n i ≡ m'.block n i = λ n i. s.stands.block n i ∙ ap (λ (k : CheckpointValue). (view c k).block (Data n i)) e ∙ sym (t.stands.block n i) in
+    let headers : (n : ℕ) → m.header n ≡ m'.header n = λ n. s.stands.holds.header n ∙ ap (λ (k : CheckpointValue). header_in (view c k) n) e ∙ sym (t.stands.holds.header n) in
+    let blocks : (n i : ℕ) → m.block n i ≡ m'.block n i = λ n i. s.stands.holds.block n i ∙ ap (λ (k : CheckpointValue). (view c k).block (Data n i)) e ∙ sym (t.stands.holds.block n i) in
     λ j. record { header = fun_ext headers j; block = fun_ext (λ n. fun_ext (λ i. blocks n i)) j }
 
 pub chunks_length : (waiting : List Entry) (ss : List (Option (List ℕ))) (r : Row) → chunks waiting ss ≡ Some r → length r ≡ length ss
@@ -95,7 +101,7 @@ free_writes c m s at bytes free d d' keeps torn = go d' torn
     k = s.checkpoint
 
     kept : (x : Option (List ℕ)) → Keeps c s.checkpoint (set d at x)
-    kept x = keeps_set c s.checkpoint d at x (λ p. free_unprotected c s.checkpoint s.stands.stages at p free) (let e = free.is in omega arith) keeps
+    kept x = keeps_set c s.checkpoint d at x (λ p. free_unprotected c s.checkpoint s.stands.holds.stages at p free) (let e = free.is in omega arith) keeps
 
     go : (d' : Content) → MayWrite at bytes d d' → Keeps c s.checkpoint d'
     go d' (left_old is) = subst (Keeps c s.checkpoint) (sym is) keeps
@@ -129,7 +135,7 @@ module _ (c : Content) (m : LogMap) (s : StandsLog c m) (e : Content) (keeps : K
   there : (x : Option (List ℕ)) → slot (set e (next.number % 2) x) (next.number % 2) ≡ with_parity (next.number % 2) (checkpoint_in (bytes_of x))
   there x =
       ap (λ (y : Option (List ℕ)). with_parity (next.number % 2) (checkpoint_in (bytes_of y)))
-      (get_or-set_same e (next.number % 2) x None (let a = keeps.size in let b = s.stands.size in omega arith))
+      (get_or-set_same e (next.number % 2) x None (let a = keeps.size in let b = s.stands.holds.size in omega arith))
 
   parity : with_parity (next.number % 2) (Some next) ≡ Some next
   parity = cond-true (next.number % 2 == next.number % 2) (Some next) None (eq-eqb (next.number % 2) (next.number % 2) refl)
@@ -139,7 +145,7 @@ module _ (c : Content) (m : LogMap) (s : StandsLog c m) (e : Content) (keeps : K
   keeps_lost = record {
     size = length-set e (next.number % 2) None ∙ keeps.size;
     newest = newest_alone (set e (next.number % 2) None) s.checkpoint (next.number % 2) (ap (λ (n : ℕ). n % 2) ready.number) (here None) (there None ∙ ap (with_parity (next.number % 2)) none_spelt);
-    same = λ at protected. sector_other e (next.number % 2) None at (λ h. let above = protected_above (view c s.checkpoint) s.stands.stages at protected in omega (arith, low)) ∙ keeps.same at protected;
+    same = λ at protected. sector_other e (next.number % 2) None at (λ h. let above = protected_above (view c s.checkpoint) s.stands.holds.stages at protected in omega (arith, low)) ∙ keeps.same at protected;
   }
 
   at_lost : StandsOn s.checkpoint.segments (set e (next.number % 2) None) m
@@ -151,7 +157,7 @@ module _ (c : Content) (m : LogMap) (s : StandsLog c m) (e : Content) (keeps : K
     checkpoint = next;
     newest = newest_next (set e (next.number % 2) (Some bytes)) s.checkpoint next ready.number (here (Some bytes)) (there (Some bytes) ∙ ap (with_parity (next.number % 2)) ready.spelt ∙ parity);
     stands = stands_at_same e (set e (next.number % 2) (Some bytes)) next m' ready.stands (length-set e (next.number % 2) (Some bytes))
-        (λ at protected. sector_other e (next.number % 2) (Some bytes) at (λ h. let above = protected_above (view e next) ready.stands.stages at protected in omega (arith, low)));
+        (λ at protected. sector_other e (next.number % 2) (Some bytes) at (λ h. let above = protected_above (view e next) ready.stands.holds.stages at protected in omega (arith, low)));
   }
 
   abbrev Either : Content → Type 0

@@ -2,7 +2,7 @@
 use Rattle.std.proofs.Common.{◌≡◌, ◌<◌, ◌≤◌, ◌==◌, ℕ, Bool, true, false, MatchBool, arith, ⊎_elim}
 use Rattle.std.proofs.lemmas.Bool.{cases_lt, ne_eqb}
 use Rattle.lfs_model.specs.Reach.{View}
-use Rattle.lfs_model.specs.Stands.{Stages}
+use Rattle.lfs_model.specs.Stands.{EnoughClean, Stages}
 use Rattle.lfs_model.specs.Damage.{stage, HoldsTree, StagesByNumber, NotDamaged, OneDamage, DamageCodes}
 
 abbrev By : View → Type 0
@@ -20,31 +20,34 @@ stages_from v all = record {
   blocks = all 7;
   named = all 8;
   counted = all 9;
-  clean = all 15;
 }
 
 tree_from : (v : View) → By v → HoldsTree v
 unfolding stage
 tree_from v all = record { slots = all 10; texts = all 11; reached = all 12; links = all 13; room = all 14 }
 
+clean_from : (v : View) → By v → EnoughClean v
+unfolding stage
+clean_from v all = all 15
+
 choose : (b : Bool) (P Q : Type 0) → P → Q → MatchBool b P Q
 choose true P Q p q = p
 choose false P Q p q = q
 
-each_stage : (v : View) → Stages v → HoldsTree v → By v
+each_stage : (v : View) → Stages v → HoldsTree v → EnoughClean v → By v
 unfolding stage
-each_stage v s t code =
+each_stage v s t clean code =
     choose (code == 1) _ _ s.usages (choose (code == 2) _ _ s.rows (choose (code == 3) _ _ s.maps (choose (code == 4) _ _ s.inodes
     (choose (code == 5) _ _ s.roots (choose (code == 6) _ _ s.leaves (choose (code == 7) _ _ s.blocks (choose (code == 8) _ _ s.named
-    (choose (code == 9) _ _ s.counted (choose (code == 15) _ _ s.clean
+    (choose (code == 9) _ _ s.counted (choose (code == 15) _ _ clean
     (choose (code == 10) _ _ t.slots (choose (code == 11) _ _ t.texts (choose (code == 12) _ _ t.reached (choose (code == 13) _ _ t.links
     (choose (code == 14) _ _ t.room tt))))))))))))))
 
 pub stages_by_number : StagesByNumber
-stages_by_number v = ((λ all. (stages_from v all, tree_from v all)), (λ both. each_stage v both.0 both.1))
+stages_by_number v = ((λ all. (stages_from v all, tree_from v all, clean_from v all)), (λ each. each_stage v each.0 each.1 each.2))
 
 pub not_damaged : NotDamaged
-not_damaged v s t code damaged = damaged.1 (each_stage v s t code)
+not_damaged v s t clean code damaged = damaged.1 (each_stage v s t clean code)
 
 pub one_damage : OneDamage
 one_damage v a b da db =

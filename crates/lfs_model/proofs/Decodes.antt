@@ -13,7 +13,7 @@ use Rattle.lfs_model.specs.Fields.{part, read32}
 use Rattle.lfs_model.proofs.Cells.{sector_at}
 use Rattle.std.specs.List.{AllByRecursion}
 use Rattle.lfs_model.specs.Reach.{address, View, view}
-use Rattle.lfs_model.specs.Stands.{LogMap, StandsAt, Stages, HasWord}
+use Rattle.lfs_model.specs.Stands.{LogMap, EnoughClean, HoldsAt, Stages, HasWord}
 use Rattle.lfs_model.specs.Tree.{slot_len}
 use Rattle.lfs_model.specs.Encodes.{Has, HasData, HasLeaf, HasInode, IsLogMap, Spells, Encodes}
 use Rattle.lfs_model.specs.Decodes.{IsSized, Decoding}
@@ -80,7 +80,8 @@ formed_nonempty n (x ∷ b) i = omega arith
 pub are_sized : (c : Content) → AllByRecursion IsSector c → IsSized c
 are_sized c all at bytes there = (subst IsSector there (sector_at c at all)).size
 
-module _ (c : Content) (k : CheckpointValue) (m : LogMap) (sized : IsSized c) (st : StandsAt c k m) where
+-- what a content that holds a log map has, whether enough segments are clean or not
+module _ (c : Content) (k : CheckpointValue) (m : LogMap) (sized : IsSized c) (st : HoldsAt c k m) where
   A : Entry → ℕ
   A = address c k
 
@@ -141,10 +142,10 @@ module _ (c : Content) (k : CheckpointValue) (m : LogMap) (sized : IsSized c) (s
           let e : Some has.0 ≡ None = sym has.1 ∙ st.header n ∙ none in
           absurd (cc)
 
-  header_at : (n : ℕ) → 0 < address c k (Inode n) → m.header n ≡ Some (header (block c (address c k (Inode n))))
+  pub header_at : (n : ℕ) → 0 < address c k (Inode n) → m.header n ≡ Some (header (block c (address c k (Inode n))))
   header_at n lt = st.header n ∙ cond-true (nat_lt 0 (address c k (Inode n))) (Some (header (block c (address c k (Inode n))))) None (lt-ltb 0 (address c k (Inode n)) lt)
 
-  stored : (e : Entry) → Has m k.segments e → 0 < address c k e
+  pub stored : (e : Entry) → Has m k.segments e → 0 < address c k e
   stored (Data n i) has = data_of n i has
   stored (Leaf n q) has = leaf_of n q has
   stored (Double n) has = let lt = leaf_of n (suc has.0) has.2 in let e = in_double n has.0 in address_of_word c (address c k (Double n)) has.0 (omega arith)
@@ -152,7 +153,7 @@ module _ (c : Content) (k : CheckpointValue) (m : LogMap) (sized : IsSized c) (s
   stored (Map j) has = let lt = inode_reached (128 * j + has.0) has.2 in let e = in_map j has.0 has.1 in address_of_word c (address c k (Map j)) has.0 (omega arith)
   stored (Usage j) has = (st.stages.usages.addresses j).1 has
 
-  only : (e : Entry) → 0 < address c k e → Has m k.segments e
+  pub only : (e : Entry) → 0 < address c k e → Has m k.segments e
   only (Data n i) lt = has_data n i lt
   only (Leaf n q) lt = has_leaf n q lt
   only (Double n) lt = let w = st.stages.roots.double n lt in let e = in_double n w.0 in let v = w.2 in (w.0, w.1, has_leaf n (suc w.0) (omega arith))
@@ -164,7 +165,7 @@ module _ (c : Content) (k : CheckpointValue) (m : LogMap) (sized : IsSized c) (s
       (w.0, w.1, (header (block c (address c k (Inode (128 * j + w.0)))), header_at (128 * j + w.0) (omega arith)))
   only (Usage j) lt = (st.stages.usages.addresses j).0 lt
 
-  long : (e : Entry) → 0 < address c k e → length (block c (address c k e)) ≡ 512
+  pub long : (e : Entry) → 0 < address c k e → length (block c (address c k e)) ≡ 512
   long (Data n i) lt = let z = st.stages.blocks.nonzero n i lt in sized_block c sized (address c k (Data n i)) (nonempty_index (block c (address c k (Data n i))) z.0 z.1)
   long (Leaf n q) lt = let z = leaf_word n q lt in sized_block c sized (address c k (Leaf n q)) (nonempty_word (block c (address c k (Leaf n q))) z.0 z.2)
   long (Double n) lt = let z = st.stages.roots.double n lt in sized_block c sized (address c k (Double n)) (nonempty_word (block c (address c k (Double n))) z.0 z.2)
@@ -186,9 +187,9 @@ module _ (c : Content) (k : CheckpointValue) (m : LogMap) (sized : IsSized c) (s
   spells (Map j) lt = in_map j
   spells (Usage j) lt = tt
 
-  encodes : Encodes c k (address c k) m
+  encodes : EnoughClean (view c k) → Encodes c k (address c k) m
   unfolding address
-  encodes = record {
+  encodes clean = record {
     size = st.size;
     map = λ j. refl;
     usage = λ j. refl;
@@ -204,7 +205,7 @@ module _ (c : Content) (k : CheckpointValue) (m : LogMap) (sized : IsSized c) (s
     both = st.stages.usages.both;
     past = st.stages.usages.past;
     counted = st.stages.counted;
-    clean = st.stages.clean;
+    clean = clean;
   }
 
   inode_of_double : (n : ℕ) → 0 < address c k (Double n) → 0 < address c k (Inode n)
@@ -238,7 +239,7 @@ module _ (c : Content) (k : CheckpointValue) (m : LogMap) (sized : IsSized c) (s
       ap (λ (b : List ℕ). slice_index b o) (st.block n i) ∙ st.stages.blocks.past n i lt o (omega arith))
       (cases_eq (address c k (Data n i)) 0)
 
-  formed : IsLogMap m
+  pub formed : IsLogMap m
   formed = record {
     none = λ h is. let lt = inode_reached 0 (h, is) in let z = st.stages.maps.none in omega arith;
     root =
@@ -258,4 +259,4 @@ module _ (c : Content) (k : CheckpointValue) (m : LogMap) (sized : IsSized c) (s
   }
 
 pub decoding : Decoding
-decoding c k m sized st = (formed c k m sized st, encodes c k m sized st)
+decoding c k m sized st = (formed c k m sized st.holds, encodes c k m sized st.holds st.clean)

@@ -8,7 +8,7 @@ use Rattle.lfs_model.specs.Checkpoint.{CheckpointValue}
 use Rattle.lfs_model.specs.Fields.{number_of, part, read32}
 use Rattle.lfs_model.specs.Content.{Content, block}
 use Rattle.lfs_model.specs.Reach.{linked, View, view, view_by}
-use Rattle.lfs_model.specs.Stands.{LogMap, StandsAt, Stages, Fresh, label_at, header_in, HasWord}
+use Rattle.lfs_model.specs.Stands.{LogMap, EnoughClean, StandsAt, Stages, Fresh, label_at, header_in, HasWord}
 use Rattle.lfs_model.specs.Encodes.{HasData, HasInode, IsLogMap, Encodes, Encoding}
 use Rattle.lfs_model.proofs.Reach.{address_unique}
 
@@ -163,7 +163,6 @@ module _ (c : Content) (k : CheckpointValue) (A : Entry → ℕ) (m : LogMap) (f
     };
     named = en.named;
     counted = en.counted;
-    clean = en.clean;
   }
 
   headers : (n : ℕ) → m.header n ≡ header_in (view_by c k A) n
@@ -179,10 +178,13 @@ module _ (c : Content) (k : CheckpointValue) (A : Entry → ℕ) (m : LogMap) (f
 
   pub stands : StandsAt c k m
   stands = record {
-    size = en.size;
-    stages = subst Stages assigned stages;
-    header = λ n. headers n ∙ ap (λ (v : View). header_in v n) assigned;
-    block = λ n i. data_is n i ∙ ap (λ (v : View). v.block (Data n i)) assigned;
+    holds = record {
+      size = en.size;
+      stages = subst Stages assigned stages;
+      header = λ n. headers n ∙ ap (λ (v : View). header_in v n) assigned;
+      block = λ n i. data_is n i ∙ ap (λ (v : View). v.block (Data n i)) assigned;
+    };
+    clean = subst EnoughClean assigned en.clean;
   }
 
 pub encoding : Encoding

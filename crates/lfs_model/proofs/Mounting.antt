@@ -43,7 +43,7 @@ module _ (c : Content) (k : CheckpointValue) (m : LogMap) (few : k.segments ≤ 
   row_there s =
       ⊎_elim
       (λ (none : used c k s ≡ 0). ([], ap (λ (u : ℕ). chunks [] (take u (drop (2 + 64 * s) c))) none))
-      (λ (some : used c k s ≡ 0 → ⊥). st.stages.rows s (omega arith))
+      (λ (some : used c k s ≡ 0 → ⊥). st.holds.stages.rows s (omega arith))
       (cases_eq (used c k s) 0)
 
   rows_is : (s : ℕ) → row c k s ≡ Some (row_or_none (row c k s))
@@ -51,15 +51,15 @@ module _ (c : Content) (k : CheckpointValue) (m : LogMap) (few : k.segments ≤ 
 
   used_past : (s : ℕ) → k.segments ≤ s → used c k s ≡ 0
   unfolding address
-  used_past s le = (st.stages.usages.past s le).0
+  used_past s le = (st.holds.stages.usages.past s le).0
 
   pub row_length : (s : ℕ) → length (row_or_none (row c k s)) ≡ used c k s
   unfolding row_by address
   row_length s =
       let r = row_there s in
       let same : row_or_none (row c k s) ≡ r.0 = ap row_or_none r.1 in
-      let fit = st.stages.usages.fit s in
-      let size = st.size in
+      let fit = st.holds.stages.usages.fit s in
+      let size = st.holds.size in
       let a = chunks_length [] (take (used c k s) (drop (2 + 64 * s) c)) r.0 r.1 in
       let b = length-take (used c k s) (drop (2 + 64 * s) c) in
       let d = length-drop (2 + 64 * s) c in
@@ -84,7 +84,7 @@ module _ (c : Content) (k : CheckpointValue) (m : LogMap) (few : k.segments ≤ 
 
   used_fit : (s : ℕ) → length (row_or_none (row c k s)) ≤ 64
   unfolding address
-  used_fit s = let l = row_length s in let f = st.stages.usages.fit s in omega arith
+  used_fit s = let l = row_length s in let f = st.holds.stages.usages.fit s in omega arith
 
   never_one : (x : Entry) → address c k x ≡ 1 → ⊥
   never_one x one = let w = en.within x (omega arith) in omega (arith, w.0)
@@ -227,9 +227,9 @@ module _ (c : Content) (k : CheckpointValue) (m : LogMap) (few : k.segments ≤ 
 
   live_counted : (s : ℕ) → live_in (view c k) s ≡ live_of m (mounted_memory c k) s
   live_counted s = ⊎_elim
-      (λ (low : s < k.segments). (named_counts (view c k) en.named s (live_in (view c k) s)).0 (st.stages.counted s low) ∙ sym (live_is s))
+      (λ (low : s < k.segments). (named_counts (view c k) en.named s (live_in (view c k) s)).0 (st.holds.stages.counted s low) ∙ sym (live_is s))
       (λ (high : k.segments ≤ s).
-      st.stages.usages.both s (st.stages.usages.past s high).0
+      st.holds.stages.usages.both s (st.holds.stages.usages.past s high).0
       ∙ sym (no_row_live (memory_view (is_shown m) (mounted_memory c k)) s (ap Some (rows_past s high))))
       (cases_lt s k.segments)
 
@@ -246,7 +246,7 @@ module _ (c : Content) (k : CheckpointValue) (m : LogMap) (few : k.segments ≤ 
       (cases_eq (live_of m (mounted_memory c k) s) 0)
     where
       none : (s : ℕ) → live_in (view c k) s ≡ 0 → used_in (view c k) s ≡ 0
-      none s z = ⊎_elim (λ (u : used_in (view c k) s ≡ 0). u) (λ some. absurd (omega (arith, z, some.0))) (st.stages.usages.less s)
+      none s z = ⊎_elim (λ (u : used_in (view c k) s ≡ 0). u) (λ some. absurd (omega (arith, z, some.0))) (st.holds.stages.usages.less s)
 
   is_done : IsDone c m (mounted_memory c k) k.segments k
   unfolding address
@@ -259,8 +259,8 @@ module _ (c : Content) (k : CheckpointValue) (m : LogMap) (few : k.segments ≤ 
     long = λ j lt. en.long (Usage j) lt;
     used = used_counted;
     live = live_counted;
-    age = λ s le. (st.stages.usages.past s le).1;
-    clean = st.stages.clean;
+    age = λ s le. (st.holds.stages.usages.past s le).1;
+    clean = st.clean;
   }
 
 pub mounting : Mounting

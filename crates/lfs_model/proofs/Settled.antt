@@ -16,7 +16,7 @@ keeps_itself c k is = record { size = refl; newest = is; same = λ at p. refl }
 -- what c and d share of what k needs, seen from d
 module _ (c : Content) (k : CheckpointValue) (m : LogMap) (st : StandsAt c k m) (d : Content) (keeps : Keeps c k d) where
   pub view_kept : view d k ≡ view c k
-  view_kept = view_same c d k keeps.size keeps.same st.stages.rows
+  view_kept = view_same c d k keeps.size keeps.same st.holds.stages.rows
 
   pub stands_kept : StandsAt d k m
   stands_kept = stands_at_same c d k m st keeps.size keeps.same

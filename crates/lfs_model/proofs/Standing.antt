@@ -20,7 +20,7 @@ use Rattle.lfs_model.specs.Inode.{InodeValue, inode_in, inode_of, inode_sector, 
 use Rattle.lfs_model.specs.Reach.{view}
 use Rattle.lfs_model.specs.Slot.{SlotValue, FitsSlot, may_be_slot, slot_bytes, slot_in, slot_of}
 use Rattle.lfs_model.specs.Sound.{Sound, IsGoodName, IsWithinLimits, IsOfVersion}
-use Rattle.lfs_model.specs.Stands.{StandsAt, LogMap}
+use Rattle.lfs_model.specs.Stands.{HoldsAt, LogMap}
 use Rattle.lfs_model.specs.Tree.{Names, Node, Tree, byte_cmp, is_dir, links, name_len, node, slot_len}
 use Rattle.lfs_model.specs.TreeOf.{IsTree, map_of, node_by, node_of, nodes_from, object, slots, tree_in, with_object, with_slot}
 use Rattle.lfs_model.specs.Volume.{StandingIsSound, mounted}
@@ -130,8 +130,8 @@ inode_header n b i =
       size = d.1;
     }
 
--- what a content that stands has for headers
-pub headers_are : (c : Content) (k : CheckpointValue) (m : LogMap) → StandsAt c k m → (n : ℕ) (h : Header) → m.header n ≡ Some h → IsHeader n h
+-- what a content that holds a log map has for headers
+pub headers_are : (c : Content) (k : CheckpointValue) (m : LogMap) → HoldsAt c k m → (n : ℕ) (h : Header) → m.header n ≡ Some h → IsHeader n h
 headers_are c k m st n h is =
     ⊎_elim
     (λ (some : nat_lt 0 ((view c k).address (Inode n)) ≡ true).
@@ -230,7 +230,7 @@ version_of m kind.Link n h form = tt
 root_kind : (m : LogMap) (h : Header) → h.kind ≡ kind.Directory → is_dir (Some (node_by m h.kind 1 h)) ≡ true
 root_kind m h is = ap (λ (kd : Kind). is_dir (Some (node_by m kd 1 h))) is
 
-module _ (c : Content) (all : AllByRecursion IsSector c) (k : CheckpointValue) (m : LogMap) (st : StandsAt c k m) (tree : IsTree k.segments m) where
+module _ (c : Content) (all : AllByRecursion IsSector c) (k : CheckpointValue) (m : LogMap) (st : HoldsAt c k m) (tree : IsTree k.segments m) where
   small_blocks : (n i o : ℕ) → slice_index (m.block n i) o < 256
   small_blocks n i o = subst (λ (b : List ℕ). slice_index b o < 256) (sym (st.block n i)) (block_byte c all ((view c k).address (Data n i)) o)
 
@@ -288,4 +288,4 @@ module _ (c : Content) (all : AllByRecursion IsSector c) (k : CheckpointValue) (
 pub standing_is_sound : StandingIsSound
 standing_is_sound c all s is =
     subst (Sound is.checkpoint.segments) (sym (same_state s (mounted (layout_version is.checkpoint) (tree_in is.log)) is.tree.is is.closed is.version))
-    (tree_sound c all is.checkpoint is.log is.stands is.tree.tree)
+    (tree_sound c all is.checkpoint is.log is.stands.holds is.tree.tree)

@@ -56,7 +56,7 @@ module _ (d : DeviceState) (t : Tables) (k : CheckpointValue) (m : LogMap) (none
 
   -- nothing is in use where nothing lives
   unused : (s : ℕ) → t.live s ≡ 0 → t.used s ≡ 0
-  unused s z = let l = is.live s in is.used s ∙ ⊎_elim (λ (u : used_in (view d.content k) s ≡ 0). u) (λ some. absurd (omega (arith, l, z, some.0))) (st.stages.usages.less s)
+  unused s z = let l = is.live s in is.used s ∙ ⊎_elim (λ (u : used_in (view d.content k) s ≡ 0). u) (λ some. absurd (omega (arith, l, z, some.0))) (st.holds.stages.usages.less s)
 
   usage_fresh : (j : ℕ) → t.stale j ≡ false → j < (k.segments + 63) / 64 → SpellsUsage t j (block d.content (address d.content k (Usage j)))
   unfolding address

@@ -16,7 +16,7 @@ use Rattle.lfs_model.specs.Reach.{view}
 use Rattle.lfs_model.specs.Need.{need, data_of, meta_of}
 use Rattle.lfs_model.specs.Slot.{slot_in}
 use Rattle.lfs_model.specs.Sound.{NamesGive, Reached, root}
-use Rattle.lfs_model.specs.Stands.{LogMap, StandsAt, StandsLog, log_in}
+use Rattle.lfs_model.specs.Stands.{LogMap, HoldsAt, StandsLog, log_in}
 use Rattle.lfs_model.specs.Tree.{Dir, File, Link, Node, State, Tree, byte_cmp, entry, is_dir, links, names, names_of, node}
 use Rattle.lfs_model.specs.TreeOf.{AreReached, AreSlots, IsTree, Stands, TreeOf, map_of, nodes_from, node_of, object, slots, tree_in, with_object}
 use Rattle.lfs_model.specs.Volume.{IsDamagedBy, IsTooSmall, IsWithoutCheckpoint, mounted, SingleState, StateLocality, StateSlotWrite, FoundStands, NotRefused, NewVolume}
@@ -121,13 +121,13 @@ pub state_slot_write : StateSlotWrite
 state_slot_write c s is e keeps next bytes m t ready of d torn = at_each c s is e keeps next bytes m t ready of d torn
 
 pub found_stands : FoundStands
-found_stands c k found size all =
-    let both = (stages_by_number (view c k)).0 all in record {
+found_stands c k found size each =
+    let all = (stages_by_number (view c k)).0 each in record {
       checkpoint = k;
       log = log_in (view c k);
       found = found;
-      stands = record { size = size; stages = both.0; header = λ n. refl; block = λ n i. refl };
-      tree = record { is = refl; tree = both.1 };
+      stands = record { holds = record { size = size; stages = all.0; header = λ n. refl; block = λ n i. refl }; clean = all.2 };
+      tree = record { is = refl; tree = all.1 };
       version = refl;
       closed = refl;
     }
@@ -135,17 +135,17 @@ found_stands c k found size all =
 same_newest : (c : Content) (j k : CheckpointValue) → newest c ≡ Some j → newest c ≡ Some k → j ≡ k
 same_newest c j k a b = let e : Some j ≡ Some k = sym a ∙ b in cc
 
-log_same : (c : Content) (k : CheckpointValue) (m : LogMap) → StandsAt c k m → m ≡ log_in (view c k)
+log_same : (c : Content) (k : CheckpointValue) (m : LogMap) → HoldsAt c k m → m ≡ log_in (view c k)
 log_same c k m st = λ j. record { header = fun_ext (λ n. st.header n) j; block = fun_ext (λ n. fun_ext (λ i. st.block n i)) j }
 
 pub not_refused : NotRefused
 not_refused c s is = (not_small, without, sound)
   where
     not_small : IsTooSmall c → ⊥
-    not_small (inl few) = let n = least_segments c is.checkpoint is.found in let size = is.stands.size in omega arith
+    not_small (inl few) = let n = least_segments c is.checkpoint is.found in let size = is.stands.holds.size in omega arith
     not_small (inr small) =
         let n = ap (λ (k : CheckpointValue). k.segments) (same_newest c is.checkpoint small.0 is.found small.1) in
-        let size = is.stands.size in
+        let size = is.stands.holds.size in
         let less = small.2 in
         omega arith
 
@@ -153,7 +153,7 @@ not_refused c s is = (not_small, without, sound)
     without none = let e : None ≡ Some is.checkpoint = sym none.1 ∙ is.found in absurd (cc)
 
     by_number : (code : ℕ) → IsDamaged (view c is.checkpoint) code → ⊥
-    by_number code damaged = not_damaged (view c is.checkpoint) is.stands.stages (subst (IsTree is.checkpoint.segments) (log_same c is.checkpoint is.log is.stands) is.tree.tree) code damaged
+    by_number code damaged = not_damaged (view c is.checkpoint) is.stands.holds.stages (subst (IsTree is.checkpoint.segments) (log_same c is.checkpoint is.log is.stands.holds) is.tree.tree) is.stands.clean code damaged
 
     sound : (code : ℕ) → IsDamagedBy c code → ⊥
     sound code bad = by_number code (subst (λ (k : CheckpointValue). IsDamaged (view c k) code) (same_newest c bad.0 is.checkpoint bad.1 is.found) bad.3)

@@ -29,11 +29,11 @@ HoldsTree v = IsTree v.checkpoint.segments (log_in v)
 
 -- All stages hold exactly where each number's does.
 abbrev pub StagesByNumber : Type 0
-StagesByNumber = (v : View) → ((k : ℕ) → stage v k) ↔ (Stages v × HoldsTree v)
+StagesByNumber = (v : View) → ((k : ℕ) → stage v k) ↔ (Stages v × HoldsTree v × EnoughClean v)
 
 -- Where they hold there is no damage; damage has one code, and it is a stage's.
 abbrev pub NotDamaged : Type 0
-NotDamaged = (v : View) → Stages v → HoldsTree v → (code : ℕ) → ¬ (IsDamaged v code)
+NotDamaged = (v : View) → Stages v → HoldsTree v → EnoughClean v → (code : ℕ) → ¬ (IsDamaged v code)
 
 abbrev pub OneDamage : Type 0
 OneDamage = (v : View) (a b : ℕ) → IsDamaged v a → IsDamaged v b → a ≡ b

@@ -118,6 +118,7 @@ module _ (v : View) where
   abbrev pub EnoughClean : Type 0
   EnoughClean = v.checkpoint.segments ≤ 8 * count_up is_clean v.checkpoint.segments
 
+  -- the stages that a walk over the log goes through
   pub record Stages : Type 0 where
     pub usages : Usages
     pub rows : IsRows
@@ -128,7 +129,6 @@ module _ (v : View) where
     pub blocks : Blocks
     pub named : AreNamed
     pub counted : AreCounted
-    pub clean : EnoughClean
 
   -- the header of a file that is there
   abbrev pub header_in : ℕ → Option Header
@@ -137,12 +137,17 @@ module _ (v : View) where
   abbrev pub log_in : LogMap
   log_in = record { header = header_in; block = λ n i. v.block (Data n i) }
 
--- the content stands for the log map, at this checkpoint
-pub record StandsAt (content : Content) (k : CheckpointValue) (m : LogMap) : Type 0 where
+-- the content holds the log map, at this checkpoint
+pub record HoldsAt (content : Content) (k : CheckpointValue) (m : LogMap) : Type 0 where
   pub size : 2 + 64 * k.segments ≤ length content
   pub stages : Stages (view content k)
   pub header : (n : ℕ) → m.header n ≡ header_in (view content k) n
   pub block : (n i : ℕ) → m.block n i ≡ (view content k).block (Data n i)
+
+-- The content stands for the log map, at this checkpoint: it holds it, and enough segments are clean.
+pub record StandsAt (content : Content) (k : CheckpointValue) (m : LogMap) : Type 0 where
+  pub holds : HoldsAt content k m
+  pub clean : EnoughClean (view content k)
 
 pub record StandsLog (content : Content) (m : LogMap) : Type 0 where
   pub checkpoint : CheckpointValue

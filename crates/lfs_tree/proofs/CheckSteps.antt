@@ -6,17 +6,17 @@ use Rattle.lfs_model.specs.Entry.{Header}
 use Rattle.lfs_model.specs.Decodes.{IsSized}
 use Rattle.lfs_model.specs.Device.{DeviceState, IsLawful}
 use Rattle.lfs_model.specs.Reach.{address, view}
-use Rattle.lfs_model.specs.Stands.{LogMap, StandsAt, log_in}
+use Rattle.lfs_model.specs.Stands.{LogMap, HoldsAt, log_in}
 use Rattle.lfs_model.specs.Totals.{IsCounted}
 use Rattle.lfs_model.specs.TreeOf.{AreLinks, AreReached, AreSlots, AreTexts, HasRoom, IsTree, TreeOf, tree_in}
-use Rattle.lfs_model.proofs.Decodes.{are_sized, decoding}
+use Rattle.lfs_model.proofs.Decodes.{are_sized, formed}
 use Rattle.lfs_model.proofs.Standing.{headers_are}
 use Rattle.lfs_files.specs.declared.header.Header as files
 use Rattle.lfs_inodes.specs.MapValue.{address_in}
 use Rattle.lfs_verify.specs.declared.fault.MountFault.{MountFault}
 use Rattle.lfs_verify.specs.declared.fault.MountFault.TheVariants as fault
 use Rattle.lfs_verify.specs.declared.tables.Tables.{Tables}
-use Rattle.lfs_verify.specs.Loading.{HasTables}
+use Rattle.lfs_verify.specs.Loading.{HoldsTables}
 use Rattle.lfs_verify.specs.Take.{Looks}
 use Rattle.lfs_tree.specs.declared.tables.NameTables.{NameTables}
 use Rattle.lfs_tree.specs.Checking.{IsDamagedTree, IsFaultOf, IsGathered, IsOfLog, IsRefusedTree, IsTreeDamage, links_fail, reached_fail, room_fail}
@@ -31,26 +31,26 @@ use Rattle.lfs_tree.proofs.TreeStages.{damage_of_tree, need_is, same_log}
 module _ (c : Content) (k : CheckpointValue) (m : LogMap) (headers : List (Option files.Header)) (whole : length headers ≡ 4096) (names : NameTables) (sizes : AreTables names) (t : Tables)
     (is : IsGathered c k m headers names t) where
   root_at : (h : Header) × (m.header 1 ≡ Some h)
-  root_at = let root = (decoding c k m is.sized is.stands).0.root in (root.0, root.1)
+  root_at = let root = (formed c k m is.sized is.holds).root in (root.0, root.1)
 
   pub tree_reached : AreNamesFit headers names × AllClimb headers names.up.items → AreReached m
-  tree_reached fit = reached_if_fit m (headers_are c k m is.stands) headers whole is.told names sizes is.named root_at.0 root_at.1 fit.0 fit.1
+  tree_reached fit = reached_if_fit m (headers_are c k m is.holds) headers whole is.told names sizes is.named root_at.0 root_at.1 fit.0 fit.1
 
   pub tree_links : AreLinksFit headers names → AreLinks m
-  tree_links fit = links_if_fit m (headers_are c k m is.stands) headers whole is.told names sizes is.named fit
+  tree_links fit = links_if_fit m (headers_are c k m is.holds) headers whole is.told names sizes is.named fit
 
   need_here : HasRoom m k.segments ↔ FitsRoom t.data_blocks t.meta_blocks t.segments
   need_here =
-      let need = need_is c k m is.sized is.stands is.slots.formed t.data_blocks t.meta_blocks is.of_log.counted in
+      let need = need_is c k m is.sized is.holds is.slots.formed t.data_blocks t.meta_blocks is.of_log.counted in
       let same = is.of_log.segments in
       (λ room. omega (arith, room, need, same), λ fit. omega (arith, fit, need, same))
 
   pub fails_reached : (AreNamesFit headers names × AllClimb headers names.up.items → ⊥) → IsTreeDamage k.segments m 12
-  fails_reached other = reached_fail refl is.slots is.texts (λ reached. other (fit_if_reached m (headers_are c k m is.stands) headers whole is.told names sizes is.named reached))
+  fails_reached other = reached_fail refl is.slots is.texts (λ reached. other (fit_if_reached m (headers_are c k m is.holds) headers whole is.told names sizes is.named reached))
 
   module _ (fit : AreNamesFit headers names × AllClimb headers names.up.items) where
     pub fails_links : (AreLinksFit headers names → ⊥) → IsTreeDamage k.segments m 13
-    fails_links other = links_fail refl is.slots is.texts (tree_reached fit) (λ links. other (fit_if_links m (headers_are c k m is.stands) headers whole is.told names sizes is.named links))
+    fails_links other = links_fail refl is.slots is.texts (tree_reached fit) (λ links. other (fit_if_links m (headers_are c k m is.holds) headers whole is.told names sizes is.named links))
 
     module _ (links : AreLinksFit headers names) where
       pub fails_room : (FitsRoom t.data_blocks t.meta_blocks t.segments → ⊥) → IsTreeDamage k.segments m 14
@@ -59,9 +59,9 @@ module _ (c : Content) (k : CheckpointValue) (m : LogMap) (headers : List (Optio
       pub tree_whole : FitsRoom t.data_blocks t.meta_blocks t.segments → IsTree k.segments m
       tree_whole room = record { slots = is.slots; texts = is.texts; reached = tree_reached fit; links = tree_links links; room = need_here.1 room }
 
-pub gathered : (c : Content) (k : CheckpointValue) (m : LogMap) (headers : List (Option files.Header)) (names : NameTables) (t : Tables) → StandsAt c k m → IsSized c → TellsHeaders m headers 4096
+pub gathered : (c : Content) (k : CheckpointValue) (m : LogMap) (headers : List (Option files.Header)) (names : NameTables) (t : Tables) → HoldsAt c k m → IsSized c → TellsHeaders m headers 4096
     → AreSlots m → AreTexts m → AreNamed m headers names 4096 → IsOfLog c k m t → IsGathered c k m headers names t
-gathered c k m headers names t stands sized told slots texts named of_log = record { stands = stands; sized = sized; told = told; named = named; slots = slots; texts = texts; of_log = of_log }
+gathered c k m headers names t holds sized told slots texts named of_log = record { holds = holds; sized = sized; told = told; named = named; slots = slots; texts = texts; of_log = of_log }
 
 -- ---- faults
 pub no_failure : (failed : Type 0) (damage : ℕ → Type 0) (f : MountFault) → IsFaultOf ⊥ damage f → IsFaultOf failed damage f
@@ -80,17 +80,17 @@ fault_after a b d looks damage fault.NoCheckpoint is = is
 fault_after a b d looks damage (fault.Damaged code) is = is
 
 -- ---- the tables of a volume
-module _ (old new : DeviceState) (t : Tables) (lawful : IsLawful old) (keeps : new.keeps_model) (has : HasTables old.content t) where
+module _ (old new : DeviceState) (t : Tables) (lawful : IsLawful old) (keeps : new.keeps_model) (has : HoldsTables old.content t) where
   abbrev log : LogMap
   log = log_in (view old.content has.checkpoint)
 
   same : has.log ≡ log_in (view old.content has.checkpoint)
-  same = same_log old.content has.checkpoint has.log has.stands
+  same = same_log old.content has.checkpoint has.log has.holds
 
   pub sees_log : Sees old new has.checkpoint (log_in (view old.content has.checkpoint))
   sees_log = record {
     keeps = keeps;
-    stands = subst (StandsAt old.content has.checkpoint) same has.stands;
+    holds = subst (HoldsAt old.content has.checkpoint) same has.holds;
     sized = are_sized old.content lawful.now;
   }
 
@@ -110,8 +110,8 @@ module _ (old new : DeviceState) (t : Tables) (lawful : IsLawful old) (keeps : n
 
   damage_in : (code : ℕ) → IsTreeDamage has.checkpoint.segments (log_in (view old.content has.checkpoint)) code → IsDamagedTree old.content code
   damage_in code is =
-      let damage = damage_of_tree (view old.content has.checkpoint) code has.stands.stages is in
-      (damage.0, damage.1, record { checkpoint = has.checkpoint; newest = has.newest; size = has.stands.size; damaged = damage.2 })
+      let damage = damage_of_tree (view old.content has.checkpoint) code has.holds.stages is in
+      (damage.0, damage.1, record { checkpoint = has.checkpoint; newest = has.newest; size = has.holds.size; damaged = damage.2 })
 
   pub refused_tree : (f : MountFault) → IsFaultOf (old.failures < new.failures) (IsTreeDamage has.checkpoint.segments (log_in (view old.content has.checkpoint))) f → IsRefusedTree old new f
   refused_tree fault.NoMemory is = is

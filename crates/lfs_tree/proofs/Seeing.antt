@@ -7,11 +7,11 @@ use Rattle.std.specs.Option.{option_map}
 use Rattle.lfs_model.specs.Checkpoint.{CheckpointValue}
 use Rattle.lfs_model.specs.Content.{Content, block, bytes_of}
 use Rattle.lfs_model.specs.Device.{DeviceState, IsLawful, IsUntouched, Carries, Elapses, cell_at}
-use Rattle.lfs_model.specs.Encodes.{Encodes}
 use Rattle.lfs_model.specs.Entry.{Entry, Data, Leaf, Double, Inode, header, word}
-use Rattle.lfs_model.specs.Reach.{address}
-use Rattle.lfs_model.specs.Stands.{LogMap, StandsAt}
-use Rattle.lfs_model.proofs.Decodes.{decoding}
+use Rattle.lfs_model.specs.Reach.{address, view}
+use Rattle.lfs_model.specs.Stands.{HoldsAt, LogMap}
+use Rattle.lfs_model.proofs.Decodes
+use Rattle.lfs_model.proofs.Decodes.{header_at, reached_within}
 use Rattle.lfs_model.proofs.Moments.{goes_on, started}
 use Rattle.lfs_model.proofs.ObjectBytes.{get_or-zeros}
 use Rattle.lfs_files.specs.declared.header.Header.{Header}
@@ -37,12 +37,12 @@ reads_of a b k m sees = record { content = refl; keeps = sees.keeps }
 
 -- a run that sees a log map begins with one that sees it, and goes on with one
 pub sees_first : (a b c : DeviceState) (k : CheckpointValue) (m : LogMap) → Sees a c k m → Looks b c → Sees a b k m
-sees_first a b c k m sees looks = record { keeps = looks.carries.kept_before sees.keeps; stands = sees.stands; sized = sees.sized }
+sees_first a b c k m sees looks = record { keeps = looks.carries.kept_before sees.keeps; holds = sees.holds; sized = sees.sized }
 
 pub sees_then : (a b c : DeviceState) (k : CheckpointValue) (m : LogMap) → Sees a c k m → Looks a b → Sees b c k m
 sees_then a b c k m sees looks =
     let same = sym looks.untouched.content in
-    record { keeps = sees.keeps; stands = subst (λ (x : Content). StandsAt x k m) same sees.stands; sized = subst (λ (x : Content). (at : ℕ) (bytes : List ℕ) → cell_at x at ≡ Some bytes → length bytes ≡ 512) same sees.sized }
+    record { keeps = sees.keeps; holds = subst (λ (x : Content). HoldsAt x k m) same sees.holds; sized = subst (λ (x : Content). (at : ℕ) (bytes : List ℕ) → cell_at x at ≡ Some bytes → length bytes ≡ 512) same sees.sized }
 
 pub leads_then : (a b : DeviceState) (k : CheckpointValue) (map : MapValue) → Leads a.content k map → Looks a b → Leads b.content k map
 leads_then a b k map leads looks = subst (λ (x : Content). Leads x k map) (sym looks.untouched.content) leads
@@ -51,21 +51,18 @@ pub inode_then : (a b : DeviceState) (k : CheckpointValue) (n : ℕ) (bytes : Li
 inode_then a b k n bytes is looks = is ∙ ap (λ (x : Content). block x (address x k (Inode n))) (sym looks.untouched.content)
 
 -- ---- what is there
-module _ (c : Content) (k : CheckpointValue) (m : LogMap) (sized : (at : ℕ) (bytes : List ℕ) → cell_at c at ≡ Some bytes → length bytes ≡ 512) (st : StandsAt c k m) where
-  encodes : Encodes c k (address c k) m
-  encodes = (decoding c k m sized st).1
-
+module _ (c : Content) (k : CheckpointValue) (m : LogMap) (sized : (at : ℕ) (bytes : List ℕ) → cell_at c at ≡ Some bytes → length bytes ≡ 512) (st : HoldsAt c k m) where
   pub is_long : (e : Entry) (at : ℕ) → at ≡ address c k e → 0 < at → 0 < length (block c at)
   is_long e at is some =
-      let long = encodes.long e (omega (arith, is, some)) in
+      let long = Decodes.long c k m sized st e (omega (arith, is, some)) in
       let same = ap (λ (x : ℕ). length (block c x)) is in
       omega (arith, long, same)
 
   pub is_inside : (e : Entry) (at : ℕ) → at ≡ address c k e → 0 < at → at < length c
   is_inside e at is some =
-      let within = encodes.within e (omega (arith, is, some)) in
+      let within = reached_within (view c k) st.stages e (omega (arith, is, some)) in
       let high = within.1 in
-      let size = encodes.size in
+      let size = st.size in
       omega (arith, is, high, size)
 
   pub not_lost : (e : Entry) (at : ℕ) → at ≡ address c k e → IsLost c at → ⊥
@@ -79,7 +76,7 @@ module _ (c : Content) (k : CheckpointValue) (m : LogMap) (sized : (at : ℕ) (b
   inode_there n at bytes is some own =
       let same : bytes ≡ block c (address c k (Inode n)) = sym own ∙ ap (block c) is in
       record {
-        header = (encodes.spells (Inode n) (omega (arith, is, some))).header ∙ ap (λ (b : List ℕ). Some (header b)) (sym same);
+        header = header_at c k m sized st n (omega (arith, is, some)) ∙ ap (λ (b : List ℕ). Some (header b)) (sym same);
         block = same;
       }
 
@@ -116,7 +113,7 @@ module _ (c : Content) (k : CheckpointValue) (m : LogMap) (sized : (at : ℕ) (b
   block_there n i at bytes is some own =
       let same : bytes ≡ block c (address c k (Data n i)) = sym own ∙ ap (block c) is in
       record {
-        long = ap length same ∙ encodes.long (Data n i) (omega (arith, is, some));
+        long = ap length same ∙ Decodes.long c k m sized st (Data n i) (omega (arith, is, some));
         bytes = λ p. ap (λ (b : List ℕ). slice_index b p) (same ∙ sym (st.block n i));
       }
 

@@ -8,17 +8,17 @@ use Rattle.lfs_model.specs.Checkpoint.{CheckpointValue}
 use Rattle.lfs_model.specs.Content.{Content}
 use Rattle.lfs_model.specs.Damage.{IsDamaged, stage}
 use Rattle.lfs_model.specs.Decodes.{IsSized}
-use Rattle.lfs_model.specs.Encodes.{Encodes, IsLogMap}
+use Rattle.lfs_model.specs.Encodes.{IsLogMap}
 use Rattle.lfs_model.specs.Entry.{Data, Header}
 use Rattle.lfs_model.specs.Inode.{is_size}
 use Rattle.lfs_model.specs.Need.{data_blocks, data_of, meta_blocks, meta_of, need, pointers}
 use Rattle.lfs_model.specs.Objects.{AreLong, HasCosts, IsDirectory, is_stored, stored_below, stored_blocks}
 use Rattle.lfs_model.specs.Reach.{View, address, view}
-use Rattle.lfs_model.specs.Stands.{LogMap, Stages, StandsAt, log_in}
+use Rattle.lfs_model.specs.Stands.{EnoughClean, HoldsAt, LogMap, Stages, log_in}
 use Rattle.lfs_model.specs.Totals.{IsCounted, data_of_file, meta_of_file, sum_upto}
 use Rattle.lfs_model.specs.Tree.{Node, slot_len}
-use Rattle.lfs_model.specs.TreeOf.{AreFormed, node_by, node_of, tree_in}
-use Rattle.lfs_model.proofs.Decodes.{decoding}
+use Rattle.lfs_model.specs.TreeOf.{AreFormed, IsTree, node_by, node_of, tree_in}
+use Rattle.lfs_model.proofs.Decodes
 use Rattle.lfs_model.proofs.ObjectNeeds.{filter_none, object_costs}
 use Rattle.lfs_model.proofs.Standing.{headers_are}
 use Rattle.lfs_verify.specs.Codes.{HoldsBelow}
@@ -48,8 +48,14 @@ damage_of_tree v code s (links_fail is slots texts reached fails) =
 damage_of_tree v code s (room_fail is slots texts reached links fails) =
     (omega (arith, is), omega (arith, is), subst (IsDamaged v) (sym is) (below_next v 13 (below_next v 12 (below_next v 11 (below_next v 10 (below_10 v s) slots) texts) reached) links, fails))
 
+-- where the stages of the log and of its tree hold, too few clean segments are what is damaged
+pub too_few_clean : (v : View) → Stages v → IsTree v.checkpoint.segments (log_in v) → (EnoughClean v → ⊥) → IsDamaged v 15
+unfolding stage
+too_few_clean v s t few =
+    (below_next v 14 (below_next v 13 (below_next v 12 (below_next v 11 (below_next v 10 (below_10 v s) t.slots) t.texts) t.reached) t.links) t.room, few)
+
 -- ---- the log map of a content
-pub same_log : (c : Content) (k : CheckpointValue) (m : LogMap) → StandsAt c k m → m ≡ log_in (view c k)
+pub same_log : (c : Content) (k : CheckpointValue) (m : LogMap) → HoldsAt c k m → m ≡ log_in (view c k)
 same_log c k m st i = record { header = λ n. st.header n i; block = λ n j. st.block n j i }
 
 -- ---- sums
@@ -71,15 +77,12 @@ sums_same f g none same (suc n) =
     omega (arith, rest, more, own)
 
 -- ---- the need
-module _ (c : Content) (k : CheckpointValue) (m : LogMap) (sized : IsSized c) (st : StandsAt c k m) (formed : AreFormed m) where
+module _ (c : Content) (k : CheckpointValue) (m : LogMap) (sized : IsSized c) (st : HoldsAt c k m) (formed : AreFormed m) where
   map_is : IsLogMap m
-  map_is = (decoding c k m sized st).0
-
-  encodes : Encodes c k (address c k) m
-  encodes = (decoding c k m sized st).1
+  map_is = Decodes.formed c k m sized st
 
   long : (n : ℕ) → AreLong m n
-  long n i has = ap length (st.block n i) ∙ encodes.long (Data n i) (encodes.stored (Data n i) has)
+  long n i has = ap length (st.block n i) ∙ Decodes.long c k m sized st (Data n i) (Decodes.stored c k m sized st (Data n i) has)
 
   whole_slots : (h : Header) → is_size h.form h.kind h.size ≡ true → (k : Kind) → h.kind ≡ k → k ≡ kind.Directory → h.size % slot_len h.form ≡ 0
   unfolding is_size

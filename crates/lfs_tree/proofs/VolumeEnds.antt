@@ -1,5 +1,5 @@
--- The walk over a log and the stages of its tree, one after the other.
-use Rattle.std.proofs.Common.{◌≡◌, ◌<◌, ◌≤◌, ℕ, Some, refl, sym, ◌∙◌, subst, arith}
+-- The walk over a log, the stages of its tree and the count of its clean segments, one after the other.
+use Rattle.std.proofs.Common.{◌≡◌, ◌<◌, ◌≤◌, ℕ, true, false, Some, refl, sym, ◌∙◌, subst, arith}
 use Rattle.lfs_model.specs.Checkpoint.{CheckpointValue}
 use Rattle.lfs_model.specs.Content.{Content}
 use Rattle.lfs_model.specs.Damage.{IsDamaged}
@@ -11,40 +11,60 @@ use Rattle.lfs_model.specs.TreeOf.{IsTree, Stands, TreeOf, tree_in}
 use Rattle.lfs_model.proofs.Damage.{not_damaged}
 use Rattle.lfs_verify.specs.declared.fault.MountFault.{MountFault}
 use Rattle.lfs_verify.specs.declared.fault.MountFault.TheVariants as fault
-use Rattle.lfs_verify.specs.declared.tables.Tables.{Tables}
-use Rattle.lfs_verify.specs.Loading.{HasTables}
+use Rattle.lfs_verify.specs.declared.verify.FoundLog.{FoundLog}
+use Rattle.lfs_verify.specs.Loading.{HoldsTables}
 use Rattle.lfs_verify.specs.Take.{Looks}
-use Rattle.lfs_verify.specs.Verified.{IsDamagedIn, IsRefusedLog}
+use Rattle.lfs_verify.specs.Verified.{IsDamagedIn, IsFound, IsRefusedWalk}
 use Rattle.lfs_verify.proofs.VerifySteps.{open_fault}
-use Rattle.lfs_tree.specs.Checking.{HasTree, IsDamagedTree, IsRefusedTree, IsRefusedVolume, IsTreeFault, of_log, of_tree}
-use Rattle.lfs_tree.proofs.TreeStages.{same_log}
+use Rattle.lfs_tree.specs.Checking.{HasTree, IsRefusedTree, IsRefusedVolume, IsTreeFault}
+use Rattle.lfs_tree.proofs.TreeStages.{same_log, too_few_clean}
 
 -- a refusal of the log is one of the volume
-pub refused_log : (old new : DeviceState) (f : MountFault) → IsRefusedLog old new f → IsRefusedVolume old new f
+pub refused_log : (old new : DeviceState) (f : MountFault) → IsRefusedWalk old new f → IsRefusedVolume old new f
 refused_log old new fault.NoMemory is = is
 refused_log old new fault.Device is = λ keeps. is
 refused_log old new fault.TooSmall is = is
 refused_log old new fault.NoCheckpoint is = is
-refused_log old new (fault.Damaged code) is = λ keeps. of_log (is keeps)
+refused_log old new (fault.Damaged code) is = λ keeps. (is keeps).1
 
 -- ---- the tree behind the log
-module _ (a b d : DeviceState) (one : Looks a b) (two : Looks b d) (t : Tables) (found : b.keeps_model → HasTables a.content t) where
-  has_then : d.keeps_model → HasTables b.content t
-  has_then keeps = subst (λ (x : Content). HasTables x t) (sym one.untouched.content) (found (two.carries.kept_before keeps))
+module _ (a b d : DeviceState) (one : Looks a b) (two : Looks b d) (found : FoundLog) (holds : b.keeps_model → IsFound a.content found) where
+  found_then : d.keeps_model → IsFound b.content found
+  found_then keeps = subst (λ (x : Content). IsFound x found) (sym one.untouched.content) (holds (two.carries.kept_before keeps))
 
-  pub tree_found : (d.keeps_model → (has : HasTables b.content t) → TreeOf has.checkpoint.segments has.log (tree_in has.log)) → d.keeps_model → HasTree a.content t
-  tree_found tree keeps = subst (λ (x : Content). HasTree x t) one.untouched.content (record { tables = has_then keeps; tree = tree keeps (has_then keeps) })
+  has_then : d.keeps_model → HoldsTables b.content found.tables
+  has_then keeps = (found_then keeps).tables
+
+  module _ (tree : d.keeps_model → (has : HoldsTables b.content found.tables) → TreeOf has.checkpoint.segments has.log (tree_in has.log)) where
+    pub tree_found : found.enough_clean ≡ true → d.keeps_model → HasTree a.content found.tables
+    tree_found on keeps =
+        let log = found_then keeps in
+        subst (λ (x : Content). HasTree x found.tables) one.untouched.content (record {
+          tables = record { held = log.tables; stands = record { holds = log.tables.holds; clean = log.clean.0 on } };
+          tree = tree keeps log.tables;
+        })
+
+    -- the last stage
+    pub few_clean : found.enough_clean ≡ false → IsRefusedVolume a d (fault.Damaged 15)
+    few_clean off keeps =
+        let log = found_then keeps in
+        let has = log.tables in
+        let whole = subst (IsTree has.checkpoint.segments) (same_log b.content has.checkpoint has.log has.holds) (tree keeps has).tree in
+        subst (λ (x : Content). IsDamagedIn x 15) one.untouched.content (record {
+          checkpoint = has.checkpoint;
+          newest = has.newest;
+          size = has.holds.size;
+          damaged = too_few_clean (view b.content has.checkpoint) has.holds.stages whole (λ clean. let bad : false ≡ true = sym off ∙ log.clean.1 clean in absurd (cc));
+        })
 
   refused_by : (f : MountFault) → d.keeps_model → IsRefusedTree b d f → IsRefusedVolume a d f
   refused_by fault.NoMemory keeps is = tt
   refused_by fault.Device keeps is = λ again. (let before = one.carries.failures in omega (arith, is, before))
   refused_by fault.TooSmall keeps is = absurd is
   refused_by fault.NoCheckpoint keeps is = absurd is
-  refused_by (fault.Damaged code) keeps is = λ again.
-      let has = found (two.carries.kept_before keeps) in
-      of_tree has.log record { checkpoint = has.checkpoint; newest = has.newest; stands = has.stands } (subst (λ (x : Content). IsDamagedTree x code) one.untouched.content is)
+  refused_by (fault.Damaged code) keeps is = λ again. subst (λ (x : Content). IsDamagedIn x code) one.untouched.content is.2
 
-  pub refused_behind : (f : MountFault) → (d.keeps_model → HasTables b.content t → IsRefusedTree b d f) → IsRefusedVolume a d f
+  pub refused_behind : (f : MountFault) → (d.keeps_model → HoldsTables b.content found.tables → IsRefusedTree b d f) → IsRefusedVolume a d f
   refused_behind fault.NoMemory told = tt
   refused_behind fault.Device told = λ keeps. refused_by fault.Device keeps (told keeps (has_then keeps)) keeps
   refused_behind fault.TooSmall told = λ keeps. refused_by fault.TooSmall keeps (told keeps (has_then keeps)) keeps
@@ -63,8 +83,8 @@ undamaged c code damage s is =
     let both : Some damage.checkpoint ≡ Some is.checkpoint = sym damage.newest ∙ is.found in
     let same : damage.checkpoint ≡ is.checkpoint = cc in
     let here = subst (λ (k : CheckpointValue). IsDamaged (view c k) code) same damage.damaged in
-    not_damaged (view c is.checkpoint) is.stands.stages
-    (subst (IsTree is.checkpoint.segments) (same_log c is.checkpoint is.log is.stands) is.tree.tree) code here
+    not_damaged (view c is.checkpoint) is.stands.holds.stages
+    (subst (IsTree is.checkpoint.segments) (same_log c is.checkpoint is.log is.stands.holds) is.tree.tree) is.stands.clean code here
 
 pub fault_of_volume : (old new : DeviceState) → IsLawful old → (f : MountFault) → IsRefusedVolume old new f → (f ≡ fault.NoMemory → ⊥) → IsTreeFault old new f
 fault_of_volume old new lawful fault.NoMemory is other = absurd (other refl)
@@ -73,7 +93,4 @@ fault_of_volume old new lawful fault.TooSmall is other = λ s keeps stands.
     open_fault old new lawful fault.TooSmall is other stands.log keeps (log_of old.content s stands)
 fault_of_volume old new lawful fault.NoCheckpoint is other = λ s keeps stands.
     open_fault old new lawful fault.NoCheckpoint is other stands.log keeps (log_of old.content s stands)
-fault_of_volume old new lawful (fault.Damaged code) is other = λ s keeps stands. elim (is keeps) [
-  | of_log damage ↦ open_fault old new lawful (fault.Damaged code) (λ again. damage) other stands.log keeps (log_of old.content s stands)
-  | of_tree m has damage ↦ undamaged old.content code damage.2 s stands
-]
+fault_of_volume old new lawful (fault.Damaged code) is other = λ s keeps stands. undamaged old.content code (is keeps) s stands

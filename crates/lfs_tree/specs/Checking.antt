@@ -5,7 +5,7 @@ use Rattle.lfs_model.specs.Checkpoint.{CheckpointValue}
 use Rattle.lfs_model.specs.Content.{Content}
 use Rattle.lfs_model.specs.Decodes.{IsSized}
 use Rattle.lfs_model.specs.Device.{DeviceState}
-use Rattle.lfs_model.specs.Stands.{LogMap, StandsAt, StandsLog}
+use Rattle.lfs_model.specs.Stands.{HoldsAt, LogMap}
 use Rattle.lfs_model.specs.Totals.{IsCounted}
 use Rattle.lfs_model.specs.Tree.{State}
 use Rattle.lfs_model.specs.TreeOf.{AreLinks, AreReached, AreSlots, AreTexts, HasRoom, Stands, TreeOf, tree_in}
@@ -16,7 +16,7 @@ use Rattle.lfs_verify.specs.declared.fault.MountFault.TheVariants.{NoMemory, Dev
 use Rattle.lfs_verify.specs.declared.tables.Tables.{Tables}
 use Rattle.lfs_verify.specs.Faults.{IsFault}
 use Rattle.lfs_verify.specs.Loading.{HasTables}
-use Rattle.lfs_verify.specs.Verified.{IsDamagedIn, IsLogDamage}
+use Rattle.lfs_verify.specs.Verified.{IsDamagedIn}
 use Rattle.lfs_tree.specs.declared.tables.NameTables.{NameTables}
 use Rattle.lfs_tree.specs.Naming.{AreEmpty}
 use Rattle.lfs_tree.specs.Objects.{AreNamed}
@@ -46,7 +46,7 @@ IsFaultOf failed damage (Damaged code) = damage code
 
 -- all that the stages of names look at is in tables, and the stages before hold
 pub record IsGathered (c : Content) (k : CheckpointValue) (m : LogMap) (headers : List (Option Header)) (names : NameTables) (t : Tables) : Type 0 where
-  pub stands : StandsAt c k m
+  pub holds : HoldsAt c k m
   pub sized : IsSized c
   pub told : TellsHeaders m headers 4096
   pub named : AreNamed m headers names 4096
@@ -71,21 +71,16 @@ OfTables old new t names P = (k : CheckpointValue) (m : LogMap) → Sees old new
 -- The content stands for a log map that has its tree, and the tables are those of that map.
 pub record HasTree (c : Content) (t : Tables) : Type 0 where
   pub tables : HasTables c t
-  pub tree : TreeOf tables.checkpoint.segments tables.log (tree_in tables.log)
+  pub tree : TreeOf tables.held.checkpoint.segments tables.held.log (tree_in tables.held.log)
 
--- What a code of damage says of a volume: the first stage that fails, where the stages are gone through in this order: 1 to 9, then 15, and then,
--- of a content that stands for a log map, 10 to 14.
-pub data IsVolumeDamage (c : Content) (code : ℕ) : Type 0 where
-  of_log : IsLogDamage c code → IsVolumeDamage c code
-  of_tree : (m : LogMap) → StandsLog c m → IsDamagedTree c code → IsVolumeDamage c code
-
--- why a volume is refused, by fault: a call of the device failed, or this is so of the content that was there
+-- Why a volume is refused, by fault: a call of the device failed, or this is so of the content that was there. Damage is told by the first of the
+-- stages 1 to 15 that fails: 1 to 9 are those of the log, 10 to 14 those of the tree, and with 15 too few segments are clean.
 abbrev pub IsRefusedVolume : DeviceState → DeviceState → MountFault → Type 0
 IsRefusedVolume old new NoMemory = Unit {0}
 IsRefusedVolume old new Device = new.keeps_model → old.failures < new.failures
 IsRefusedVolume old new TooSmall = new.keeps_model → IsTooSmall old.content
 IsRefusedVolume old new NoCheckpoint = new.keeps_model → IsWithoutCheckpoint old.content
-IsRefusedVolume old new (Damaged code) = new.keeps_model → IsVolumeDamage old.content code
+IsRefusedVolume old new (Damaged code) = new.keeps_model → IsDamagedIn old.content code
 
 -- the content stands for no tree
 abbrev pub LacksTree : DeviceState → DeviceState → Type 0

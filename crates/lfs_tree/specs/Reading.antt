@@ -1,4 +1,4 @@
--- What is read of a content that stands for a log map.
+-- What is read of a content that holds a log map.
 -- All of it is an own choice.
 use Rattle.std.specs.Prelude.{◌≡◌, ◌<◌, ℕ, Bool, true, false, List, get_or, Option, Some, None}
 use Rattle.std.specs.Option.{option_map}
@@ -8,15 +8,15 @@ use Rattle.lfs_model.specs.Decodes.{IsSized}
 use Rattle.lfs_model.specs.Device.{DeviceState}
 use Rattle.lfs_model.specs.Entry.{Inode, header}
 use Rattle.lfs_model.specs.Reach.{address}
-use Rattle.lfs_model.specs.Stands.{LogMap, StandsAt}
+use Rattle.lfs_model.specs.Stands.{HoldsAt, LogMap}
 use Rattle.lfs_files.specs.declared.header.Header.{Header}
 use Rattle.lfs_files.specs.Headers.{as_header}
 use Rattle.lfs_inodes.specs.MapValue.{MapValue, address_in}
 
--- A device that keeps the device model was read, and what it holds stands for this log map.
+-- A device that keeps the device model was read, and its content holds this log map.
 pub record Sees (old new : DeviceState) (k : CheckpointValue) (m : LogMap) : Type 0 where
   pub keeps : new.keeps_model
-  pub stands : StandsAt old.content k m
+  pub holds : HoldsAt old.content k m
   pub sized : IsSized old.content
 
 -- the inode map in memory leads to the inodes of all files

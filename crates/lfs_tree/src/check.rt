@@ -4,7 +4,7 @@ ghost use Rattle.lfs_model.specs.Checkpoint.{CheckpointValue};
 ghost use Rattle.lfs_model.specs.Content.{Content};
 ghost use Rattle.lfs_model.specs.Stands.{LogMap};
 ghost use Rattle.lfs_model.specs.TreeOf.{AreSlots, AreTexts, IsTree, TreeOf, tree_in};
-ghost use Rattle.lfs_verify.specs.Loading.{HasTables};
+ghost use Rattle.lfs_verify.specs.Loading.{HoldsTables};
 ghost use Rattle.lfs_verify.specs.Take.{Looks};
 ghost use Rattle.lfs_tree.specs.Checking.{IsFaultOf, IsGathered, IsRefusedTree, IsTreeDamage, OfTables};
 ghost use Rattle.lfs_tree.specs.Naming.{AreEmpty, AreTables};
@@ -169,10 +169,10 @@ pub fn check_tree<D: SectorDevice>(
     tables: &Tables,
 ) -> Result<(), MountFault>
     ensures tree { OnOk result ((D.state device.new).keeps_model
-        → (has : HasTables (D.state device.old).content tables.now)
+        → (has : HoldsTables (D.state device.old).content tables.now)
         → TreeOf has.checkpoint.segments has.log (tree_in has.log)) }
     ensures reason { IfErr result (λ e. (D.state device.new).keeps_model
-        → HasTables (D.state device.old).content tables.now
+        → HoldsTables (D.state device.old).content tables.now
         → IsRefusedTree (D.state device.old) (D.state device.new) e) }
     ensures looks { Looks (D.state device.old) (D.state device.new) }
 {

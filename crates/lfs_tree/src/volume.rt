@@ -1,4 +1,4 @@
-//! A whole volume: the walk over its log, and then the stages of its tree.
+//! A whole volume: the walk over its log, then the stages of its tree, and then whether enough of its segments are clean.
 ghost use Rattle.std.specs.Prelude.{◌≡◌, OnOk, IfOk, IfErr};
 ghost use Rattle.lfs_model.specs.Device.{Only};
 ghost use Rattle.lfs_verify.specs.Loading.{IsLoaded};
@@ -7,7 +7,7 @@ ghost use Rattle.lfs_tree.specs.Checking.{HasTree, IsRefusedVolume, IsTreeFault}
 
 use crate::check::check_tree;
 use lfs_device::SectorDevice;
-use lfs_verify::verify::verify;
+use lfs_verify::verify::{FEW_CLEAN, verify_log};
 use lfs_verify::{MountFault, Tables};
 use std::alloc::Global;
 
@@ -17,7 +17,7 @@ use std::alloc::Global;
 /// # Errors
 ///
 /// `NoMemory` where memory is refused, `Device` where a call of the device failed; else the device holds no volume: it is too small, holds no
-/// checkpoint, or the first stage that fails is named: of the stages 1 to 9, then 15, where too few segments are clean, then 10 to 14.
+/// checkpoint, or the first of the stages 1 to 15 that fails is named: 10 to 14 are those of the tree, and with 15 too few segments are clean.
 pub fn verify_tree<D: SectorDevice>(alloc: Global, device: &mut D) -> Result<Tables, MountFault>
     ensures loaded { IfOk result (λ t. IsLoaded t (D.state device.new).size) }
     ensures found { IfOk result (λ t. (D.state device.new).keeps_model
@@ -29,12 +29,16 @@ pub fn verify_tree<D: SectorDevice>(alloc: Global, device: &mut D) -> Result<Tab
         → IsTreeFault (D.state device.old) (D.state device.new) e) }
     ensures looks { Looks (D.state device.old) (D.state device.new) }
 {
-    let tables = match verify(alloc, device) {
-        Ok(tables) => tables,
+    let found = match verify_log(alloc, device) {
+        Ok(found) => found,
         Err(fault) => return Err(fault),
     };
-    match check_tree(alloc, device, &tables) {
-        Ok(()) => Ok(tables),
-        Err(fault) => Err(fault),
+    match check_tree(alloc, device, &found.tables) {
+        Ok(()) => {}
+        Err(fault) => return Err(fault),
     }
+    if !found.enough_clean {
+        return Err(MountFault::Damaged(FEW_CLEAN));
+    }
+    Ok(found.tables)
 }

@@ -3,8 +3,8 @@ use Rattle.std.proofs.Common.{◌≡◌, ◌<◌, ◌↔◌, ◌+◌, ◌*◌, �
 use Rattle.std.proofs.lemmas.Bool.{cases_eq}
 use Rattle.lfs_model.specs.Damage.{stage, IsDamaged}
 use Rattle.lfs_model.specs.Reach.{View}
-use Rattle.lfs_model.specs.Stands.{Usages, IsRows, Maps, Inodes, Roots, Leaves, Blocks, AreNamed, AreCounted}
-use Rattle.lfs_verify.specs.Codes.{HoldsBelow, Passed, NineStages}
+use Rattle.lfs_model.specs.Stands.{Usages, IsRows, Maps, Inodes, Roots, Leaves, Blocks, AreNamed, AreCounted, Stages}
+use Rattle.lfs_verify.specs.Codes.{HoldsBelow, Passed}
 use Rattle.lfs_verify.specs.Tables.{IsUsedTable, IsLiveTable}
 use Rattle.lfs_verify.specs.Take.{Goes}
 use Rattle.lfs_verify.specs.UsageTables.{SaysAll}
@@ -68,7 +68,7 @@ pub below_1 : (v : View) → HoldsBelow v 1
 unfolding stage
 below_1 v k lt = let e : 0 ≡ k = omega arith in subst (stage v) e tt
 
-pub nine_stages : (v : View) → HoldsBelow v 10 → NineStages v
+pub nine_stages : (v : View) → HoldsBelow v 10 → Stages v
 unfolding stage
 nine_stages v below = record {
   usages = below 1 (omega arith);

@@ -5,12 +5,12 @@ use Rattle.lfs_model.specs.Checkpoint.{CheckpointValue}
 use Rattle.lfs_model.specs.Content.{Content, block}
 use Rattle.std.specs.List.{AllByRecursion}
 use Rattle.lfs_model.specs.Device.{DeviceState, IsSector}
-use Rattle.lfs_model.proofs.Decodes.{decoding, are_sized}
+use Rattle.lfs_model.proofs.Decodes.{are_sized, long}
 use Rattle.lfs_model.specs.Entry.{Map, word}
 use Rattle.lfs_model.specs.Pointers.{FitsPointers, pointer_sector}
 use Rattle.lfs_model.specs.Reach.{address, map_block}
 use Rattle.lfs_model.specs.Running.{IsSet}
-use Rattle.lfs_model.specs.Stands.{LogMap, StandsAt}
+use Rattle.lfs_model.specs.Stands.{LogMap, HoldsAt}
 use Rattle.lfs_model.proofs.Encodes.{word_nil}
 use Rattle.lfs_model.proofs.Words.{pointers_are}
 use Rattle.lfs_inodes.specs.MapValue.{MapValue, IsEmptyMap, IsLoaded, address_in, block_in}
@@ -72,15 +72,15 @@ module _ (j at : ℕ) (map mid new : MapValue) (addresses : List ℕ) (is : IsMa
         (cases_eq i j);
   }
 
--- ---- where the content stands for a log map, its inode map can be read
-module _ (c : Content) (k : CheckpointValue) (m : LogMap) (st : StandsAt c k m) (j : ℕ) (some : 0 < get_or k.map j 0) where
+-- ---- where the content holds a log map, its inode map can be read
+module _ (c : Content) (k : CheckpointValue) (m : LogMap) (st : HoldsAt c k m) (j : ℕ) (some : 0 < get_or k.map j 0) where
   pub map_range : (2 ≤ get_or k.map j 0) × (get_or k.map j 0 < 2 + 64 * k.segments)
   unfolding address
   map_range = let f = st.stages.maps.fresh (Map j) refl some in (f.0, f.1)
 
   pub map_long : AllByRecursion IsSector c → length (block c (get_or k.map j 0)) ≡ 512
   unfolding address
-  map_long all = (decoding c k m (are_sized c all) st).1.long (Map j) some
+  map_long all = long c k m (are_sized c all) st (Map j) some
 
 pub map_fault : (d d' : DeviceState) (k : CheckpointValue) (j at : ℕ) → AllByRecursion IsSector d.content → get_or k.map j 0 ≡ at → (at ≡ 0 → ⊥) → LacksBlock d d' k.segments at → LacksTables d d' k
 map_fault d d' k j at all points some lacks m keeps st =

@@ -6,14 +6,14 @@ use Rattle.std.specs.List.{range_with_len}
 use Rattle.lfs_model.specs.Checkpoint.{CheckpointValue}
 use Rattle.lfs_model.specs.Content.{Content}
 use Rattle.lfs_model.specs.Decodes.{IsSized}
-use Rattle.lfs_model.specs.Encodes.{Encodes, Has, HasData, HasDouble, HasInode, HasLeaf, IsLogMap}
+use Rattle.lfs_model.specs.Encodes.{Has, HasData, HasDouble, HasInode, HasLeaf, IsLogMap}
 use Rattle.lfs_model.specs.Entry.{Entry, Data, Leaf, Double, Inode, Header}
 use Rattle.lfs_model.specs.Need.{pointers}
 use Rattle.lfs_model.specs.Objects.{has_double, has_leaf, is_stored, one_if, stored_below, stored_blocks}
 use Rattle.lfs_model.specs.Reach.{address, view}
-use Rattle.lfs_model.specs.Stands.{LogMap, Reached, StandsAt, count_up}
+use Rattle.lfs_model.specs.Stands.{LogMap, Reached, HoldsAt, count_up}
 use Rattle.lfs_model.specs.Totals.{IsCounted, data_in, data_of_file, meta_in, meta_of_file, sum_upto}
-use Rattle.lfs_model.proofs.Decodes.{decoding}
+use Rattle.lfs_model.proofs.Decodes.{formed, only, stored}
 use Rattle.lfs_model.proofs.Live.{count_up_none, count_up_more, count_up_same}
 use Rattle.lfs_model.proofs.ObjectPointers.{leaf_tests, pointer_count}
 use Rattle.lfs_verify.specs.Totals.{above_count, CountsByMarks}
@@ -96,9 +96,9 @@ module _ (m : LogMap) (is : IsLogMap m) where
       let all = sum_both (inodes_of m) (λ n. roots_of m n + leaves_of m n) (meta_of_file m) k (λ n. meta_parts n (m.header n) refl) in
       omega (arith, below, all)
 
-module _ (c : Content) (k : CheckpointValue) (sized : IsSized c) (m : LogMap) (st : StandsAt c k m) (marks : List ℕ) (w : Walked (view c k) marks 68628528) where
-  laid : IsLogMap m × Encodes c k (address c k) m
-  laid = decoding c k m sized st
+module _ (c : Content) (k : CheckpointValue) (sized : IsSized c) (m : LogMap) (st : HoldsAt c k m) (marks : List ℕ) (w : Walked (view c k) marks 68628528) where
+  map_is : IsLogMap m
+  map_is = formed c k m sized st
 
   at_end : (e : Entry) → InBounds e → step_of e < 68628528
   at_end e b = within_7 e b (stage_low e)
@@ -106,7 +106,7 @@ module _ (c : Content) (k : CheckpointValue) (sized : IsSized c) (m : LogMap) (s
   -- the mark of an entry stands once where the log map has that entry, and nowhere else
   once : (e : Entry) → InBounds e → Has m k.segments e → occurrences marks (suc (step_of e)) ≡ 1
   once e b has =
-      let mark = w.marked e (at_end e b) b (laid.1.stored e has) in
+      let mark = w.marked e (at_end e b) b (stored c k m sized st e has) in
       occurs_once marks (suc (step_of e)) (address c k e) (inside_marks marks (address c k e) (step_of e) mark) mark (λ at there.
       let h = w.held at (step_of e) there in
       sym h.5 ∙ ap (address c k) (same_step h.0 e h.3 b h.1))
@@ -114,7 +114,7 @@ module _ (c : Content) (k : CheckpointValue) (sized : IsSized c) (m : LogMap) (s
   never : (e : Entry) → InBounds e → (Has m k.segments e → ⊥) → occurrences marks (suc (step_of e)) ≡ 0
   never e b lacks = occurs_never marks (suc (step_of e)) (λ at there.
       let h = w.held at (step_of e) there in
-      lacks (laid.1.only e (subst (λ (x : Entry). 0 < address c k x) (same_step h.0 e h.3 b h.1) h.4)))
+      lacks (only c k m sized st e (subst (λ (x : Entry). 0 < address c k x) (same_step h.0 e h.3 b h.1) h.4)))
 
   counted : (e : Entry) → InBounds e → (test : Bool) → (test ≡ true) ↔ Has m k.segments e → occurrences marks (suc (step_of e)) ≡ one_if test
   counted e b true is = once e b (is.0 refl)
@@ -165,16 +165,16 @@ module _ (c : Content) (k : CheckpointValue) (sized : IsSized c) (m : LogMap) (s
 
   all_data : above marks 536624 ≡ data_in m
   all_data =
-      let sum = above_ranges marks (λ n. 536624 + 16624 * n) (data_of_file m) 4095 (no_blocks m laid.0 0 (zero_free m laid.0)) data_marks in
+      let sum = above_ranges marks (λ n. 536624 + 16624 * n) (data_of_file m) 4095 (no_blocks m map_is 0 (zero_free m map_is)) data_marks in
       omega (arith, sum, none_above)
 
   all_meta : above marks 48 ≡ above marks 536624 + meta_in m
   all_meta =
-      let free = zero_free m laid.0 in
-      let inodes = above_ranges marks (λ n. 48 + n) (inodes_of m) 4095 (no_inode m laid.0 0 free) inode_marks in
-      let roots = above_ranges marks (λ n. 4144 + 2 * n) (roots_of m) 4095 (no_roots m laid.0 0 free) root_marks in
-      let leaves = above_ranges marks (λ n. 12336 + 128 * n) (leaves_of m) 4095 (no_leaves m laid.0 0 free) leaf_marks in
-      omega (arith, inodes, roots, leaves, meta_sum m laid.0 4095)
+      let free = zero_free m map_is in
+      let inodes = above_ranges marks (λ n. 48 + n) (inodes_of m) 4095 (no_inode m map_is 0 free) inode_marks in
+      let roots = above_ranges marks (λ n. 4144 + 2 * n) (roots_of m) 4095 (no_roots m map_is 0 free) root_marks in
+      let leaves = above_ranges marks (λ n. 12336 + 128 * n) (leaves_of m) 4095 (no_leaves m map_is 0 free) leaf_marks in
+      omega (arith, inodes, roots, leaves, meta_sum m map_is 4095)
 
   pub totals_by_marks : (blocks all : ℕ) → blocks ≡ above marks 536624 → all ≡ above marks 48 → IsCounted m blocks (all - blocks)
   totals_by_marks blocks all is whole = record {

@@ -8,7 +8,7 @@ use Rattle.lfs_model.specs.Content.{Content, block, bytes_of}
 use Rattle.lfs_model.specs.Device.{DeviceState, Cell, IsSector, cell_at}
 use Rattle.lfs_model.specs.Entry.{Usage, half, word}
 use Rattle.lfs_model.specs.Reach.{address, view}
-use Rattle.lfs_model.specs.Stands.{LogMap, StandsAt}
+use Rattle.lfs_model.specs.Stands.{LogMap, HoldsAt}
 use Rattle.lfs_model.specs.Usage.{SegmentUse, no_use, usage_in, usage_of}
 use Rattle.lfs_model.proofs.Cells.{sector_at}
 use Rattle.lfs_model.proofs.Numbers.{IsBytes}
@@ -160,8 +160,8 @@ module _ (old mid new : UsageTable) (uses : List SegmentUse) (j segments at : �
           (cases_eq i j);
     }
 
--- ---- where the content stands for a log map, its usage blocks can be read
-module _ (c : Content) (k : CheckpointValue) (m : LogMap) (st : StandsAt c k m) (j : ℕ) (low : j < (k.segments + 63) / 64) where
+-- ---- where the content holds a log map, its usage blocks can be read
+module _ (c : Content) (k : CheckpointValue) (m : LogMap) (st : HoldsAt c k m) (j : ℕ) (low : j < (k.segments + 63) / 64) where
   reached : 0 < get_or k.usage j 0
   unfolding address
   reached = (st.stages.usages.addresses j).1 low
@@ -218,7 +218,7 @@ pub fault_then : (a b c : DeviceState) (k : CheckpointValue) → Looks a b → (
 fault_then a b c k looks f =
     fault_on (b.failures < c.failures) (LacksTables b c k) (a.failures < c.failures) (LacksTables a c k)
     (λ rose. let before = looks.carries.failures in omega (arith, rose, before))
-    (λ lacks m keeps st. lacks m keeps (subst (λ (x : Content). StandsAt x k m) (sym looks.untouched.content) st)) f
+    (λ lacks m keeps st. lacks m keeps (subst (λ (x : Content). HoldsAt x k m) (sym looks.untouched.content) st)) f
 
 pub says_then : (a b : DeviceState) (k : CheckpointValue) (j l : ℕ) (t u : UsageTable) → Looks a b → SaysUsage a.content k j t → (SaysUsage b.content k j t → SaysUsage b.content k l u) → SaysUsage a.content k l u
 says_then a b k j l t u looks says more =

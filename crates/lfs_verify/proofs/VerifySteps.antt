@@ -6,19 +6,20 @@ use Rattle.lfs_model.specs.Damage.{IsDamaged}
 use Rattle.lfs_model.specs.Device.{DeviceState, IsLawful, IsUntouched, Carries, LeavesOnly, Only}
 use Rattle.lfs_model.specs.Reach.{View, view}
 use Rattle.lfs_model.specs.Slots.{IsNewest, HasNoCheckpoint}
-use Rattle.lfs_model.specs.Stands.{LogMap, StandsAt, StandsLog, EnoughClean, Stages, log_in}
+use Rattle.lfs_model.specs.Stands.{LogMap, HoldsAt, StandsAt, StandsLog, EnoughClean, Stages, log_in}
 use Rattle.lfs_model.specs.Volume.{IsTooSmall, IsWithoutCheckpoint}
 use Rattle.lfs_model.proofs.Newest.{newest_fits}
-use Rattle.lfs_verify.specs.Codes.{HoldsBelow, NineStages}
+use Rattle.lfs_verify.specs.Codes.{HoldsBelow}
 use Rattle.lfs_verify.specs.Take.{Looks, Reads}
 use Rattle.lfs_verify.specs.declared.fault.MountFault.{MountFault}
 use Rattle.lfs_verify.specs.declared.fault.MountFault.TheVariants as fault
 use Rattle.lfs_verify.specs.declared.tables.Tables.{Tables}
 use Rattle.lfs_verify.specs.declared.totals.BlockTotals.{BlockTotals}
+use Rattle.lfs_verify.specs.declared.verify.FoundLog.{FoundLog}
 use Rattle.lfs_verify.specs.Faults.{IsOpenFault, IsTableFault}
-use Rattle.lfs_verify.specs.Loading.{HasTables, SaysTables}
+use Rattle.lfs_verify.specs.Loading.{HasTables, HoldsTables, SaysTables}
 use Rattle.lfs_verify.specs.Totals.{CountsLog}
-use Rattle.lfs_verify.specs.Verified.{IsVerified, IsDamagedIn, IsLogDamage, IsRefusedLog, LacksLogMap, StandsCounted, StandsWhereEnough, lacks_clean, stage_fails}
+use Rattle.lfs_verify.specs.Verified.{HoldsCounted, IsVerified, IsDamagedIn, IsFound, IsLogDamage, IsRefusedFor, IsRefusedLog, IsRefusedWalk, IsWalkDamage, LacksLogMap, StandsWhereEnough, lacks_clean, stage_fails}
 use Rattle.lfs_verify.proofs.CodeSteps.{below_1, below_next, stage_1, stage_2, stage_3, stage_4, stage_5, stage_6, stage_7, stage_8, stage_9}
 
 some_is : (a b : CheckpointValue) → Some a ≡ Some b → a ≡ b
@@ -46,29 +47,13 @@ pub looks_by : (old new : DeviceState) → Carries old new → IsUntouched old n
 looks_by old new carries untouched any_moment = record { carries = carries; untouched = untouched; any_moment = any_moment }
 
 -- ---- the walk
--- where all stages hold, the content stands for the log map that is read from it
-stands_by : (c : Content) (k : CheckpointValue) → 2 + 64 * k.segments ≤ length c → NineStages (view c k) → EnoughClean (view c k) → StandsAt c k (log_in (view c k))
-stands_by c k size stages clean = record {
-  size = size;
-  stages = record {
-    usages = stages.usages;
-    rows = stages.rows;
-    maps = stages.maps;
-    inodes = stages.inodes;
-    roots = stages.roots;
-    leaves = stages.leaves;
-    blocks = stages.blocks;
-    named = stages.named;
-    counted = stages.counted;
-    clean = clean;
-  };
-  header = λ n. refl;
-  block = λ n i. refl;
-}
+-- where all of its stages hold, the content holds the log map that is read from it
+holds_by : (c : Content) (k : CheckpointValue) → 2 + 64 * k.segments ≤ length c → Stages (view c k) → HoldsAt c k (log_in (view c k))
+holds_by c k size stages = record { size = size; stages = stages; header = λ n. refl; block = λ n i. refl }
 
 -- what is missing to a log map
 pub stands_where_enough : StandsWhereEnough
-stands_where_enough c enough is holds = record { checkpoint = is.checkpoint; newest = is.newest; stands = stands_by c is.checkpoint is.size is.stages (is.clean.0 holds) }
+stands_where_enough c enough is holds = record { checkpoint = is.checkpoint; newest = is.newest; stands = record { holds = holds_by c is.checkpoint is.size is.stages; clean = is.clean.0 holds } }
 
 module _ (old new : DeviceState) (lawful : IsLawful old) (k : CheckpointValue) (inside : 2 + 64 * k.segments ≤ old.size) (keeps : new.keeps_model) where
   -- the content that the walk read
@@ -78,21 +63,20 @@ module _ (old new : DeviceState) (lawful : IsLawful old) (k : CheckpointValue) (
   long_enough : 2 + 64 * k.segments ≤ length old.content
   long_enough = let long = lawful.size in omega (arith, inside, long)
 
-  module _ (enough : Bool) (says : NineStages (view old.content k) × HoldsBelow (view old.content k) 10 × ((enough ≡ true) ↔ EnoughClean (view old.content k))) where
-    pub stands_counted : enough ≡ true → (totals : BlockTotals) → CountsLog old.content k totals.data_blocks totals.meta_blocks → StandsCounted old.content k totals
-    stands_counted on totals counts = (let st = stands_by old.content k long_enough says.0 (says.2.0 on) in record { stands = st; counted = counts (log_in (view old.content k)) st })
+  module _ (enough : Bool) (says : Stages (view old.content k) × HoldsBelow (view old.content k) 10 × ((enough ≡ true) ↔ EnoughClean (view old.content k))) where
+    pub holds_counted : (totals : BlockTotals) → CountsLog old.content k totals.data_blocks totals.meta_blocks → HoldsCounted old.content k enough totals
+    holds_counted totals counts =
+        let held = holds_by old.content k long_enough says.0 in
+        record { holds = held; counted = counts (log_in (view old.content k)) held; clean = says.2 }
 
-    pub few_clean : newest old.content ≡ Some k → enough ≡ false → IsLogDamage old.content 15
-    few_clean found off = lacks_clean refl (subst (IsVerified old.content) off (record { checkpoint = k; newest = found; size = long_enough; stages = says.0; clean = says.2 }))
-
-  pub first_damage : newest old.content ≡ Some k → (code : ℕ) → code < 10 → IsDamaged (view old.content k) code → IsLogDamage old.content code
-  first_damage found code low damaged = stage_fails low (record { checkpoint = k; newest = found; size = long_enough; damaged = damaged })
+  pub first_damage : newest old.content ≡ Some k → (code : ℕ) → code < 10 → IsDamaged (view old.content k) code → IsWalkDamage old.content code
+  first_damage found code low damaged = (low, record { checkpoint = k; newest = found; size = long_enough; damaged = damaged })
 
 -- ---- a content that stands for a log map
 module _ (c : Content) (m : LogMap) (is : StandsLog c m) where
   -- all stages hold for the newest checkpoint
   stages_of : (k : CheckpointValue) → newest c ≡ Some k → Stages (view c k)
-  stages_of k found = subst (λ (x : CheckpointValue). Stages (view c x)) (some_is is.checkpoint k (sym is.newest ∙ found)) is.stands.stages
+  stages_of k found = subst (λ (x : CheckpointValue). Stages (view c x)) (some_is is.checkpoint k (sym is.newest ∙ found)) is.stands.holds.stages
 
   -- none of the first nine fails
   pub none_fails : (code : ℕ) → code < 10 → IsDamagedIn c code → ⊥
@@ -104,18 +88,21 @@ module _ (c : Content) (m : LogMap) (is : StandsLog c m) where
           ((stage_8 v).1 s.named)) ((stage_9 v).1 s.counted)
 
 pub stands_for_none : LacksLogMap
-stands_for_none c few m is = let clean : false ≡ true = few.clean.1 (stages_of c m is few.checkpoint few.newest).clean in absurd (cc)
+stands_for_none c few m is =
+    let same = some_is is.checkpoint few.checkpoint (sym is.newest ∙ few.newest) in
+    let clean : false ≡ true = few.clean.1 (subst (λ (k : CheckpointValue). EnoughClean (view c k)) same is.stands.clean) in
+    absurd (cc)
 
 -- ---- refusals
-refused_behind : (a b c : DeviceState) → Looks a b → (f : MountFault) → IsRefusedLog b c f → IsRefusedLog a c f
+refused_behind : (a b c : DeviceState) → Looks a b → (f : MountFault) → IsRefusedWalk b c f → IsRefusedWalk a c f
 refused_behind a b c looks fault.NoMemory is = tt
 refused_behind a b c looks fault.Device is = let before = looks.carries.failures in omega (arith, is, before)
 refused_behind a b c looks fault.TooSmall is = λ keeps. subst IsTooSmall looks.untouched.content (is keeps)
 refused_behind a b c looks fault.NoCheckpoint is = λ keeps. subst IsWithoutCheckpoint looks.untouched.content (is keeps)
-refused_behind a b c looks (fault.Damaged code) is = λ keeps. subst (λ (x : Content). IsLogDamage x code) looks.untouched.content (is keeps)
+refused_behind a b c looks (fault.Damaged code) is = λ keeps. subst (λ (x : Content). IsWalkDamage x code) looks.untouched.content (is keeps)
 
--- a table that can't be read is a call that failed, where the content stands for a log map
-table_refused : (b c : DeviceState) (k : CheckpointValue) (m : LogMap) → (c.keeps_model → StandsAt b.content k m) → (f : MountFault) → ((f ≡ fault.NoMemory → ⊥) → IsTableFault b c k f) → IsRefusedLog b c f
+-- a table that can't be read is a call that failed, where the content holds a log map
+table_refused : (b c : DeviceState) (k : CheckpointValue) (m : LogMap) → (c.keeps_model → HoldsAt b.content k m) → (f : MountFault) → ((f ≡ fault.NoMemory → ⊥) → IsTableFault b c k f) → IsRefusedWalk b c f
 table_refused b c k m stands fault.NoMemory told = tt
 table_refused b c k m stands fault.Device told = told (λ e. cc)
 table_refused b c k m stands fault.TooSmall told = λ keeps. absurd (told (λ e. cc) m keeps (stands keeps))
@@ -128,17 +115,17 @@ module _ (d : DeviceState) (lawful : IsLawful d) (m : LogMap) (is : StandsLog d.
       (λ (low : length d.content < 4098).
       let held = ((newest_fits d.content lawful.now).0 is.checkpoint).0 is.newest in
       let least = held.held.fits.segments.least in
-      let size = is.stands.size in
+      let size = is.stands.holds.size in
       omega (arith, least, size, low))
       (λ (few : (k : CheckpointValue) × (newest d.content ≡ Some k) × (length d.content < 2 + 64 * k.segments)).
       let same = ap (λ (x : CheckpointValue). x.segments) (some_is is.checkpoint few.0 (sym is.newest ∙ few.1)) in
-      let size = is.stands.size in
+      let size = is.stands.holds.size in
       let low = few.2 in
       omega (arith, same, size, low))
       small
 
   undamaged : (code : ℕ) → IsLogDamage d.content code → ⊥
-  undamaged code (stage_fails low damaged) = none_fails d.content m is code low damaged
+  undamaged code (stage_fails damage) = none_fails d.content m is code damage.0 damage.1
   undamaged code (lacks_clean at few) = stands_for_none d.content few m is
 
 -- why a device isn't opened
@@ -154,22 +141,22 @@ module _ (a b c d : DeviceState) (one : Looks a b) (two : Looks b c) (three : Lo
   newest_later : c.keeps_model → newest b.content ≡ Some k
   newest_later keeps = ap newest one.untouched.content ∙ newest_at (two.carries.kept_before keeps)
 
-  pub check_refused : (f : MountFault) → ((c.keeps_model → newest b.content ≡ Some k) → IsRefusedLog b c f) → IsRefusedLog a c f
+  pub check_refused : (f : MountFault) → ((c.keeps_model → newest b.content ≡ Some k) → IsRefusedWalk b c f) → IsRefusedWalk a c f
   check_refused f told = refused_behind a b c one f (told newest_later)
 
-  module _ (totals : BlockTotals) (holds : c.keeps_model → StandsCounted b.content k totals) where
+  module _ (enough : Bool) (totals : BlockTotals) (holds : c.keeps_model → HoldsCounted b.content k enough totals) where
     content_same : c.content ≡ a.content
     content_same = two.untouched.content ∙ one.untouched.content
 
-    stands_then : d.keeps_model → StandsAt c.content k (log_in (view b.content k))
-    stands_then keeps = subst (λ (x : Content). StandsAt x k (log_in (view b.content k))) (sym two.untouched.content) (holds (three.carries.kept_before keeps)).stands
+    holds_then : d.keeps_model → HoldsAt c.content k (log_in (view b.content k))
+    holds_then keeps = subst (λ (x : Content). HoldsAt x k (log_in (view b.content k))) (sym two.untouched.content) (holds (three.carries.kept_before keeps)).holds
 
-    pub load_refused : (f : MountFault) → ((f ≡ fault.NoMemory → ⊥) → IsTableFault c d k f) → IsRefusedLog a d f
-    load_refused f told = refused_behind a b d one f (refused_behind b c d two f (table_refused c d k (log_in (view b.content k)) stands_then f told))
+    pub load_refused : (f : MountFault) → ((f ≡ fault.NoMemory → ⊥) → IsTableFault c d k f) → IsRefusedWalk a d f
+    load_refused f told = refused_behind a b d one f (refused_behind b c d two f (table_refused c d k (log_in (view b.content k)) holds_then f told))
 
-    pub has_tables : FitsCheckpoint k → (t : Tables) → (d.keeps_model → SaysTables c.content k t) → (t.data_blocks ≡ totals.data_blocks) × (t.meta_blocks ≡ totals.meta_blocks)
-        → d.keeps_model → HasTables a.content t
-    has_tables fits t says same keeps =
+    tables_held : FitsCheckpoint k → (t : Tables) → (d.keeps_model → SaysTables c.content k t) → (t.data_blocks ≡ totals.data_blocks) × (t.meta_blocks ≡ totals.meta_blocks)
+        → d.keeps_model → HoldsTables a.content t
+    tables_held fits t says same keeps =
         let was = three.carries.kept_before keeps in
         let counted = (holds was).counted in
         record {
@@ -177,10 +164,37 @@ module _ (a b c d : DeviceState) (one : Looks a b) (two : Looks b c) (three : Lo
           checkpoint = k;
           newest = newest_at (two.carries.kept_before was);
           fits = fits;
-          stands = subst (λ (x : Content). StandsAt x k (log_in (view b.content k))) content_same (stands_then keeps);
+          holds = subst (λ (x : Content). HoldsAt x k (log_in (view b.content k))) content_same (holds_then keeps);
           says = subst (λ (x : Content). SaysTables x k t) content_same (says keeps);
           counted = record { stored = same.0 ∙ counted.stored; above = same.1 ∙ counted.above };
         }
 
+    pub log_found : FitsCheckpoint k → (t : Tables) → (d.keeps_model → SaysTables c.content k t) → (t.data_blocks ≡ totals.data_blocks) × (t.meta_blocks ≡ totals.meta_blocks)
+        → d.keeps_model → IsFound a.content (record { tables = t; enough_clean = enough })
+    unfolding tables_held
+    log_found fits t says same keeps = record {
+      tables = tables_held fits t says same keeps;
+      clean = subst (λ (x : Content). (enough ≡ true) ↔ EnoughClean (view x k)) one.untouched.content (holds (three.carries.kept_before keeps)).clean;
+    }
+
     pub only_then : (b.keeps_model → Only a.content b) → d.keeps_model → Only a.content d
     only_then durable keeps x left = durable (two.carries.kept_before (three.carries.kept_before keeps)) x (two.untouched.crash x (three.untouched.crash x left))
+
+-- ---- the log that was found
+module _ (old new : DeviceState) (found : FoundLog) (holds : new.keeps_model → IsFound old.content found) where
+  pub few_clean : found.enough_clean ≡ false → IsRefusedLog old new (fault.Damaged 15)
+  few_clean off keeps =
+      let log = holds keeps in
+      lacks_clean refl (subst (IsVerified old.content) off
+      (record { checkpoint = log.tables.checkpoint; newest = log.tables.newest; size = log.tables.holds.size; stages = log.tables.holds.stages; clean = log.clean }))
+
+  pub has_tables : found.enough_clean ≡ true → new.keeps_model → HasTables old.content found.tables
+  has_tables on keeps = let log = holds keeps in record { held = log.tables; stands = record { holds = log.tables.holds; clean = log.clean.0 on } }
+
+-- what refuses the walk refuses the log
+pub refused_log : (old new : DeviceState) (f : MountFault) → IsRefusedWalk old new f → IsRefusedLog old new f
+refused_log old new fault.NoMemory is = is
+refused_log old new fault.Device is = is
+refused_log old new fault.TooSmall is = is
+refused_log old new fault.NoCheckpoint is = is
+refused_log old new (fault.Damaged code) is = λ keeps. stage_fails (is keeps)

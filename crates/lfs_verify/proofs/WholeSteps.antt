@@ -7,9 +7,9 @@ use Rattle.lfs_model.specs.Content.{Content}
 use Rattle.lfs_model.specs.Decodes.{IsSized}
 use Rattle.lfs_model.specs.Device.{DeviceState, IsLawful, IsSector}
 use Rattle.lfs_model.specs.Reach.{View, view}
-use Rattle.lfs_model.specs.Stands.{EnoughClean}
+use Rattle.lfs_model.specs.Stands.{EnoughClean, Stages}
 use Rattle.lfs_model.proofs.Decodes.{are_sized}
-use Rattle.lfs_verify.specs.Codes.{HoldsBelow, Passed, NineStages}
+use Rattle.lfs_verify.specs.Codes.{HoldsBelow, Passed}
 use Rattle.lfs_verify.specs.Take.{Reads}
 use Rattle.lfs_verify.proofs.Bounds.{bounded_of}
 use Rattle.lfs_verify.proofs.CodeSteps.{nine_stages, passed_none}
@@ -30,5 +30,5 @@ if_err (Ok x) P Q f h = tt
 if_err (Err e) P Q f h = f e h
 
 -- what the walk says at its end
-pub walk_end : (v : View) (enough : Bool) → HoldsBelow v 10 × ((enough ≡ true) ↔ EnoughClean v) → NineStages v × HoldsBelow v 10 × ((enough ≡ true) ↔ EnoughClean v)
+pub walk_end : (v : View) (enough : Bool) → HoldsBelow v 10 × ((enough ≡ true) ↔ EnoughClean v) → Stages v × HoldsBelow v 10 × ((enough ≡ true) ↔ EnoughClean v)
 walk_end v enough both = (nine_stages v both.0, both.0, both.1)

@@ -3,7 +3,6 @@
 use Rattle.std.specs.Prelude.{◌≡◌, ◌<◌, ℕ, List}
 use Rattle.lfs_model.specs.Reach.{View}
 use Rattle.lfs_model.specs.Damage.{stage}
-use Rattle.lfs_model.specs.Stands.{Usages, IsRows, Maps, Inodes, Roots, Leaves, Blocks, AreNamed, AreCounted}
 use Rattle.lfs_verify.specs.Walk.{Walked, IsBounded}
 use Rattle.lfs_verify.specs.declared.fault.WalkFault.{WalkFault}
 use Rattle.lfs_verify.specs.declared.fault.WalkFault.TheVariants.{NoMemory, Damaged, Device}
@@ -23,15 +22,3 @@ pub record Passed (v : View) (marks : List ℕ) (r code : ℕ) : Type 0 where
   pub bounded : IsBounded v
   pub below : HoldsBelow v code
   pub walked : Walked v marks r
-
--- the stages that the walk goes through
-pub record NineStages (v : View) : Type 0 where
-  pub usages : Usages v
-  pub rows : IsRows v
-  pub maps : Maps v
-  pub inodes : Inodes v
-  pub roots : Roots v
-  pub leaves : Leaves v
-  pub blocks : Blocks v
-  pub named : AreNamed v
-  pub counted : AreCounted v

@@ -3,7 +3,7 @@ use Rattle.std.specs.Prelude.{◌<◌, ◌≤◌, ◌≡◌, ◌+◌, ◌*◌, �
 use Rattle.lfs_model.specs.Checkpoint.{CheckpointValue}
 use Rattle.lfs_model.specs.Content.{block}
 use Rattle.lfs_model.specs.Device.{DeviceState}
-use Rattle.lfs_model.specs.Stands.{LogMap, StandsAt, StandsLog}
+use Rattle.lfs_model.specs.Stands.{LogMap, HoldsAt, StandsLog}
 use Rattle.lfs_verify.specs.declared.fault.MountFault.{MountFault}
 use Rattle.lfs_verify.specs.declared.fault.MountFault.TheVariants.{NoMemory, Device, TooSmall, NoCheckpoint, Damaged}
 
@@ -27,9 +27,9 @@ IsFault failed lacking (Damaged code) = lacking
 abbrev pub LacksBlock : DeviceState → DeviceState → ℕ → ℕ → Type 0
 LacksBlock d d' N at = d'.keeps_model → 2 ≤ at → at < 2 + 64 * N → length (block d.content at) ≡ 512 → ⊥
 
--- the content stands for no log map with this checkpoint
+-- the content holds no log map by this checkpoint
 abbrev pub LacksTables : DeviceState → DeviceState → CheckpointValue → Type 0
-LacksTables d d' k = (m : LogMap) → d'.keeps_model → StandsAt d.content k m → ⊥
+LacksTables d d' k = (m : LogMap) → d'.keeps_model → HoldsAt d.content k m → ⊥
 
 -- it stands for none
 abbrev pub LacksLog : DeviceState → DeviceState → Type 0

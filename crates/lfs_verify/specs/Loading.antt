@@ -5,7 +5,7 @@ use Rattle.lfs_model.specs.Checkpoint.{CheckpointValue, FitsCheckpoint, IsSegmen
 use Rattle.lfs_model.specs.Content.{Content, newest}
 use Rattle.lfs_model.specs.Entry.{word}
 use Rattle.lfs_model.specs.Reach.{view, map_block}
-use Rattle.lfs_model.specs.Stands.{LogMap, StandsAt, used_in, live_in, age_in}
+use Rattle.lfs_model.specs.Stands.{LogMap, HoldsAt, StandsAt, used_in, live_in, age_in}
 use Rattle.lfs_model.specs.Totals.{IsCounted}
 use Rattle.lfs_model.specs.Usage.{SegmentUse, no_use}
 use Rattle.lfs_inodes.specs.MapValue.{MapValue, address_in, is_hidden_in, block_in}
@@ -68,12 +68,17 @@ pub record SaysTables (c : Content) (k : CheckpointValue) (t : Tables) : Type 0 
   pub usage : SaysUsage c k ((k.segments + 63) / 64) t.usage
   pub map : SaysMap c k 32 t.map
 
--- The content stands for a log map, and the tables and totals are those of that map.
-pub record HasTables (c : Content) (t : Tables) : Type 0 where
+-- The content holds a log map, and the tables and totals are those of that map.
+pub record HoldsTables (c : Content) (t : Tables) : Type 0 where
   pub log : LogMap
   pub checkpoint : CheckpointValue
   pub newest : newest c ≡ Some checkpoint
   pub fits : FitsCheckpoint checkpoint
-  pub stands : StandsAt c checkpoint log
+  pub holds : HoldsAt c checkpoint log
   pub says : SaysTables c checkpoint t
   pub counted : IsCounted log t.data_blocks t.meta_blocks
+
+-- It stands for that log map.
+pub record HasTables (c : Content) (t : Tables) : Type 0 where
+  pub held : HoldsTables c t
+  pub stands : StandsAt c held.checkpoint held.log

@@ -5,7 +5,7 @@ use Rattle.lfs_model.specs.Checkpoint.{CheckpointValue}
 use Rattle.lfs_model.specs.Content.{Content}
 use Rattle.lfs_model.specs.Decodes.{IsSized}
 use Rattle.lfs_model.specs.Reach.{view}
-use Rattle.lfs_model.specs.Stands.{LogMap, StandsAt, count_up}
+use Rattle.lfs_model.specs.Stands.{LogMap, HoldsAt, count_up}
 use Rattle.lfs_model.specs.Totals.{IsCounted}
 use Rattle.lfs_verify.specs.Walk.{Walked}
 
@@ -16,11 +16,11 @@ is_above marks mark a = nat_lt mark (get_or marks a 0)
 unfoldable pub above_count : List ℕ → ℕ → ℕ → ℕ
 above_count marks mark n = count_up (is_above marks mark) n
 
--- These are the totals of a log map for which a content stands, after a whole walk over it.
+-- These are the totals of a log map that a content holds, after a whole walk over it.
 abbrev pub CountsByMarks : List ℕ → ℕ → ℕ → Type 0
-CountsByMarks marks blocks others = (c : Content) (k : CheckpointValue) → IsSized c → (m : LogMap) → StandsAt c k m
+CountsByMarks marks blocks others = (c : Content) (k : CheckpointValue) → IsSized c → (m : LogMap) → HoldsAt c k m
     → Walked (view c k) marks 68628528 → IsCounted m blocks others
 
--- These are the totals of the log map for which a content stands by a checkpoint.
+-- These are the totals of the log map that a content holds by a checkpoint.
 abbrev pub CountsLog : Content → CheckpointValue → ℕ → ℕ → Type 0
-CountsLog c k blocks others = (m : LogMap) → StandsAt c k m → IsCounted m blocks others
+CountsLog c k blocks others = (m : LogMap) → HoldsAt c k m → IsCounted m blocks others

@@ -29,3 +29,4 @@ pub use fault::{MountFault, WalkFault};
 pub use lfs_root as root;
 pub use tables::Tables;
 pub use totals::BlockTotals;
+pub use verify::FoundLog;

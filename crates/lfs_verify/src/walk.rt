@@ -4,8 +4,8 @@ ghost use Rattle.lfs_model.specs.Checkpoint.{CheckpointValue, FitsCheckpoint};
 ghost use Rattle.lfs_model.specs.Content.{Content};
 ghost use Rattle.lfs_model.specs.Damage.{IsDamaged};
 ghost use Rattle.lfs_model.specs.Reach.{view};
-ghost use Rattle.lfs_model.specs.Stands.{EnoughClean};
-ghost use Rattle.lfs_verify.specs.Codes.{HoldsBelow, FaultIs, Passed, NineStages};
+ghost use Rattle.lfs_model.specs.Stands.{EnoughClean, Stages};
+ghost use Rattle.lfs_verify.specs.Codes.{HoldsBelow, FaultIs, Passed};
 ghost use Rattle.lfs_verify.specs.Tables.{IsUsedTable, IsLiveTable};
 ghost use Rattle.lfs_verify.specs.Take.{Looks, Reads, Lists};
 ghost use Rattle.lfs_verify.specs.Totals.{CountsLog};
@@ -293,7 +293,7 @@ pub fn walk<D: SectorDevice>(
     requires fits { FitsCheckpoint checkpoint.now }
     requires inside { 2 + 64 * checkpoint.now.segments ≤ (D.state device.old).size }
     ensures holds { IfOk result (λ r. (c : Content) → Reads (D.state device.old) (D.state device.new) c
-        → NineStages (view c checkpoint.now) × HoldsBelow (view c checkpoint.now) 10 × (IsTrue r.0 ↔ EnoughClean (view c checkpoint.now))) }
+        → Stages (view c checkpoint.now) × HoldsBelow (view c checkpoint.now) 10 × (IsTrue r.0 ↔ EnoughClean (view c checkpoint.now))) }
     ensures counts { IfOk result (λ r. (c : Content) → Reads (D.state device.old) (D.state device.new) c
         → CountsLog c checkpoint.now r.1.data_blocks r.1.meta_blocks) }
     ensures damaged { IfErr result (λ e. (code : ℕ) → FaultIs e code → (c : Content) → Reads (D.state device.old) (D.state device.new) c → IsDamaged (view c checkpoint.now) code) }

@@ -8,7 +8,7 @@ returns-in-Ok-clause-answer g c k m sees leads =
     let old = g.D.SectorDevice.state c.args.device.now in
     let new = g.D.SectorDevice.state c.read_sector.new.device in
     let some = c.if-address-eq0.false in
-    inode_there old.content k m sees.sized sees.stands c.args.number c.address-address.result c.read_sector.new.out
+    inode_there old.content k m sees.sized sees.holds c.args.number c.address-address.result c.read_sector.new.out
     (c.address-address.ensures ∙ leads.each c.args.number c.requires) (omega (arith, some))
     (c.in-Ok.ensures.block old.content (reads_of old new k m sees))
 
@@ -19,5 +19,5 @@ returns-in-Err-clause-failed g c k m sees leads =
     let some = c.if-address-eq0.false in
     let is = c.address-address.ensures ∙ leads.each c.args.number c.requires in
     c.in-Err.ensures.failed old.content (reads_of old new k m sees)
-    (is_inside old.content k m sees.sized sees.stands (Inode c.args.number) c.address-address.result is (omega (arith, some)))
-    (is_long old.content k m sees.sized sees.stands (Inode c.args.number) c.address-address.result is (omega (arith, some)))
+    (is_inside old.content k m sees.sized sees.holds (Inode c.args.number) c.address-address.result is (omega (arith, some)))
+    (is_long old.content k m sees.sized sees.holds (Inode c.args.number) c.address-address.result is (omega (arith, some)))

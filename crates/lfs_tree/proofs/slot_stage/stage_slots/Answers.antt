@@ -45,7 +45,7 @@ returns-in-Ok-false-clause-holds g c k m sees leads told empty =
     let base = base_at m headers c.loop-number.tables number in
     let taken = c.in-Ok-false.ensures.takes k m (sees_then old mid new k m sees here.looks) (leads_then old mid k c.args.map.now leads here.looks) told base (noted_begin m headers c.loop-number.tables number was) in
     let bad = subst (TakesObject m headers number base c.take_object.new.tables) c.in-Ok-false.field-0-test taken in
-    λ stage. bad (good_if_stage m (headers_are old.content k m sees.stands) headers told stage number)
+    λ stage. bad (good_if_stage m (headers_are old.content k m sees.holds) headers told stage number)
 
 pub returns-in-Err-clause-failed : goal.returns-in-Err-clause-failed
 returns-in-Err-clause-failed g c same k m sees leads told =
@@ -64,4 +64,4 @@ returns-clause-holds g c k m sees leads told empty =
     let high = c.loop-number.auto.number-end in
     let last : c.loop-number.number ≡ 4096 = omega (arith, ended, high) in
     let named = subst (AreNamed m c.args.headers.now c.loop-number.tables) last (c.loop-number.invariant.named k m sees leads told empty) in
-    (stage_if_good m (headers_are old.content k m sees.stands) c.args.headers.now told named.good, named)
+    (stage_if_good m (headers_are old.content k m sees.holds) c.args.headers.now told named.good, named)

@@ -34,7 +34,7 @@ returns-in-Ok-false-clause-holds g c k m sees leads told stage =
     let here = c.loop-number.invariant in
     let number = c.loop-number.number in
     decided_false (IsGoodText m number) c.in-Ok-false.field-0 c.in-Ok-false.field-0-test (c.in-Ok-false.ensures.holds k m (sees_then old mid new k m sees here.looks) (leads_then old mid k c.args.map.now leads here.looks) told)
-    (text_if_stage m (headers_are old.content k m sees.stands) stage number)
+    (text_if_stage m (headers_are old.content k m sees.holds) stage number)
 
 pub returns-in-Err-clause-failed : goal.returns-in-Err-clause-failed
 returns-in-Err-clause-failed g c k m sees leads told =
@@ -50,4 +50,4 @@ pub returns-clause-holds : goal.returns-clause-holds
 returns-clause-holds g c k m sees leads told =
     let old = g.D.SectorDevice.state c.args.device.now in
     let ended = c.loop-number-test.false in
-    stage_if_text m (headers_are old.content k m sees.stands) (λ n low. c.loop-number.invariant.good k m sees leads told n (omega (arith, ended, low)))
+    stage_if_text m (headers_are old.content k m sees.holds) (λ n low. c.loop-number.invariant.good k m sees leads told n (omega (arith, ended, low)))

@@ -1,7 +1,7 @@
 use Rattle.std.proofs.Common.{refl, sym, subst}
 use Rattle.lfs_verify.specs.declared.fault.WalkFault.{WalkFault}
 use Rattle.lfs_verify.specs.Codes.{FaultIs}
-use Rattle.lfs_verify.proofs.VerifySteps.{few_clean, first_damage, read_content, stands_counted}
+use Rattle.lfs_verify.proofs.VerifySteps.{first_damage, holds_counted, read_content}
 use Rattle.lfs_verify.proofs.verify.check.Goals as goal
 
 pub returns-in-Err-Damaged-clause-reason : goal.returns-in-Err-Damaged-clause-reason
@@ -14,21 +14,11 @@ returns-in-Err-Damaged-clause-reason g c = λ found keeps.
     first_damage old new lawful c.args.checkpoint.now c.requires.inside keeps (found keeps) code (c.in-Err-Damaged.ensures.low code is)
     (c.in-Err-Damaged.ensures.damaged code is old.content (read_content old new lawful c.args.checkpoint.now c.requires.inside keeps))
 
-pub returns-then-not-enough-clause-reason : goal.returns-then-not-enough-clause-reason
-returns-then-not-enough-clause-reason g c = λ found keeps.
+pub returns-in-Ok-clause-holds : goal.returns-in-Ok-clause-holds
+returns-in-Ok-clause-holds g c = λ keeps.
     let old = g.D.SectorDevice.state c.args.device.now in
     let new = g.D.SectorDevice.state c.walk.new.device in
     let lawful = g.met.D.SectorDevice.lawful c.args.device.now in
     let k = c.args.checkpoint.now in
     let read = read_content old new lawful k c.requires.inside keeps in
-    few_clean old new lawful k c.requires.inside keeps c.in-Ok.found.0 (c.in-Ok.ensures.holds old.content read) (found keeps) c.if-not-enough.true
-
-pub returns-clause-holds : goal.returns-clause-holds
-returns-clause-holds g c = λ keeps.
-    let old = g.D.SectorDevice.state c.args.device.now in
-    let new = g.D.SectorDevice.state c.walk.new.device in
-    let lawful = g.met.D.SectorDevice.lawful c.args.device.now in
-    let k = c.args.checkpoint.now in
-    let read = read_content old new lawful k c.requires.inside keeps in
-    stands_counted old new lawful k c.requires.inside keeps c.in-Ok.found.0 (c.in-Ok.ensures.holds old.content read) c.if-not-enough.false c.in-Ok.found.1
-    (c.in-Ok.ensures.counts old.content read)
+    holds_counted old new lawful k c.requires.inside keeps c.in-Ok.found.0 (c.in-Ok.ensures.holds old.content read) c.in-Ok.found.1 (c.in-Ok.ensures.counts old.content read)

@@ -1,44 +1,28 @@
-use Rattle.lfs_verify.proofs.VerifySteps.{check_refused, has_tables, load_refused, only_then, open_fault}
-use Rattle.lfs_verify.proofs.Takes.{looks_none}
+use Rattle.std.proofs.lemmas.Bool.{not-false, not-true}
+use Rattle.lfs_verify.specs.declared.fault.MountFault.TheVariants as fault
+use Rattle.lfs_verify.proofs.VerifySteps.{few_clean, has_tables, open_fault, refused_log}
 use Rattle.lfs_verify.proofs.verify.verify.Goals as goal
+
+pub returns-in-Err-clause-reason : goal.returns-in-Err-clause-reason
+returns-in-Err-clause-reason g c =
+    refused_log (g.D.SectorDevice.state c.args.device.now) (g.D.SectorDevice.state c.verify_log.new.device) c.in-Err.fault c.in-Err.ensures.reason
 
 pub returns-in-Err-clause-cause : goal.returns-in-Err-clause-cause
 returns-in-Err-clause-cause g c =
-    open_fault (g.D.SectorDevice.state c.args.device.now) (g.D.SectorDevice.state c.find_checkpoint.new.device) (g.met.D.SectorDevice.lawful c.args.device.now) c.in-Err.fault c.in-Err.ensures.reason
+    let old = g.D.SectorDevice.state c.args.device.now in
+    let new = g.D.SectorDevice.state c.verify_log.new.device in
+    open_fault old new (g.met.D.SectorDevice.lawful c.args.device.now) c.in-Err.fault (refused_log old new c.in-Err.fault c.in-Err.ensures.reason)
 
-pub returns-in-Err-check-clause-reason : goal.returns-in-Err-check-clause-reason
-returns-in-Err-check-clause-reason g c =
-    let s2 = g.D.SectorDevice.state c.check.new.device in
-    check_refused (g.D.SectorDevice.state c.args.device.now) (g.D.SectorDevice.state c.find_checkpoint.new.device) s2 s2 c.find_checkpoint.ensures.looks c.check.ensures.looks
-    (looks_none s2 (g.met.D.SectorDevice.lawful c.check.new.device)) c.in-Ok.checkpoint c.in-Ok.ensures.found c.in-Err-check.fault c.in-Err-check.ensures.reason
+pub returns-then-not-found-clause-reason : goal.returns-then-not-found-clause-reason
+returns-then-not-found-clause-reason g c =
+    few_clean (g.D.SectorDevice.state c.args.device.now) (g.D.SectorDevice.state c.verify_log.new.device) c.in-Ok.found c.in-Ok.ensures.found (not-true c.in-Ok.found.enough_clean c.if-not-found.true)
 
-pub returns-in-Err-check-clause-cause : goal.returns-in-Err-check-clause-cause
-returns-in-Err-check-clause-cause g c =
-    let s2 = g.D.SectorDevice.state c.check.new.device in
-    open_fault (g.D.SectorDevice.state c.args.device.now) s2 (g.met.D.SectorDevice.lawful c.args.device.now) c.in-Err-check.fault
-    (check_refused (g.D.SectorDevice.state c.args.device.now) (g.D.SectorDevice.state c.find_checkpoint.new.device) s2 s2 c.find_checkpoint.ensures.looks c.check.ensures.looks
-    (looks_none s2 (g.met.D.SectorDevice.lawful c.check.new.device)) c.in-Ok.checkpoint c.in-Ok.ensures.found c.in-Err-check.fault c.in-Err-check.ensures.reason)
+pub returns-then-not-found-clause-cause : goal.returns-then-not-found-clause-cause
+returns-then-not-found-clause-cause g c =
+    let old = g.D.SectorDevice.state c.args.device.now in
+    let new = g.D.SectorDevice.state c.verify_log.new.device in
+    open_fault old new (g.met.D.SectorDevice.lawful c.args.device.now) (fault.Damaged 15) (few_clean old new c.in-Ok.found c.in-Ok.ensures.found (not-true c.in-Ok.found.enough_clean c.if-not-found.true))
 
-pub returns-in-Err-load_tables-clause-reason : goal.returns-in-Err-load_tables-clause-reason
-returns-in-Err-load_tables-clause-reason g c =
-    load_refused (g.D.SectorDevice.state c.args.device.now) (g.D.SectorDevice.state c.find_checkpoint.new.device) (g.D.SectorDevice.state c.check.new.device) (g.D.SectorDevice.state c.load_tables.new.device)
-    c.find_checkpoint.ensures.looks c.check.ensures.looks c.load_tables.ensures.looks c.in-Ok.checkpoint c.in-Ok.ensures.found c.in-Ok-check.totals c.in-Ok-check.ensures.holds
-    c.in-Err-load_tables.fault c.in-Err-load_tables.ensures.cause
-
-pub returns-in-Err-load_tables-clause-cause : goal.returns-in-Err-load_tables-clause-cause
-returns-in-Err-load_tables-clause-cause g c =
-    open_fault (g.D.SectorDevice.state c.args.device.now) (g.D.SectorDevice.state c.load_tables.new.device) (g.met.D.SectorDevice.lawful c.args.device.now) c.in-Err-load_tables.fault
-    (load_refused (g.D.SectorDevice.state c.args.device.now) (g.D.SectorDevice.state c.find_checkpoint.new.device) (g.D.SectorDevice.state c.check.new.device) (g.D.SectorDevice.state c.load_tables.new.device)
-    c.find_checkpoint.ensures.looks c.check.ensures.looks c.load_tables.ensures.looks c.in-Ok.checkpoint c.in-Ok.ensures.found c.in-Ok-check.totals c.in-Ok-check.ensures.holds
-    c.in-Err-load_tables.fault c.in-Err-load_tables.ensures.cause)
-
-pub returns-in-Ok-load_tables-clause-found : goal.returns-in-Ok-load_tables-clause-found
-returns-in-Ok-load_tables-clause-found g c =
-    has_tables (g.D.SectorDevice.state c.args.device.now) (g.D.SectorDevice.state c.find_checkpoint.new.device) (g.D.SectorDevice.state c.check.new.device) (g.D.SectorDevice.state c.load_tables.new.device)
-    c.find_checkpoint.ensures.looks c.check.ensures.looks c.load_tables.ensures.looks c.in-Ok.checkpoint c.in-Ok.ensures.found c.in-Ok-check.totals c.in-Ok-check.ensures.holds
-    c.in-Ok.ensures.fits c.in-Ok-load_tables.tables c.in-Ok-load_tables.ensures.says c.in-Ok-load_tables.ensures.totals
-
-pub returns-in-Ok-load_tables-clause-durable : goal.returns-in-Ok-load_tables-clause-durable
-returns-in-Ok-load_tables-clause-durable g c =
-    only_then (g.D.SectorDevice.state c.args.device.now) (g.D.SectorDevice.state c.find_checkpoint.new.device) (g.D.SectorDevice.state c.check.new.device) (g.D.SectorDevice.state c.load_tables.new.device)
-    c.find_checkpoint.ensures.looks c.check.ensures.looks c.load_tables.ensures.looks c.in-Ok.checkpoint c.in-Ok.ensures.found c.in-Ok-check.totals c.in-Ok-check.ensures.holds c.in-Ok.ensures.durable
+pub returns-clause-found : goal.returns-clause-found
+returns-clause-found g c =
+    has_tables (g.D.SectorDevice.state c.args.device.now) (g.D.SectorDevice.state c.verify_log.new.device) c.in-Ok.found c.in-Ok.ensures.found (not-false c.in-Ok.found.enough_clean c.if-not-found.false)
