@@ -1,3 +1,4 @@
+pub mod Growths
 pub mod SlotNames
 pub mod SlotPlaces
 pub mod Scans

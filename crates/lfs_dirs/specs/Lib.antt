@@ -1,3 +1,4 @@
+pub mod Growing
 pub mod Directory
 pub mod Finding
 pub mod Adding

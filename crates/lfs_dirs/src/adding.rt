@@ -3,6 +3,7 @@ ghost use Rattle.std.specs.Prelude.{◌≡◌, ◌≤◌, true, IfErr, OnOk, IsE
 ghost use Rattle.lfs_model.specs.Slot.{IsName};
 ghost use Rattle.lfs_files.specs.Files.{Counts, IsFault, Redrafts};
 ghost use Rattle.lfs_dirs.specs.Adding.{Adds};
+ghost use Rattle.lfs_dirs.specs.Growing.{Grows};
 
 use lfs_files::{Files, Header, LogFault, StoreFault};
 use lfs_layout::encode_slot;
@@ -27,6 +28,7 @@ pub fn add<F: Files>(
     requires name { IsName 59 name.now }
     ensures redrafts { Redrafts (F.state files.old) (F.state files.new) }
     ensures done { OnOk result (Adds (F.state files.old) (F.state files.new) directory header number name.now) }
+    ensures small { OnOk result (Grows (F.state files.old) (F.state files.new) 1 2) }
     ensures counted { OnOk result (Counts (F.state files.old) (F.state files.new)) }
     ensures failed { IfErr result (λ fault. (fault ≡ StoreFault.NoMemory → ⊥) → IsFault (F.state files.old) (F.state files.new)) }
     ensures halted { IsErrOf result (StoreFault.Log LogFault.Halted) → (F.state files.old).halted ≡ true }

@@ -3,6 +3,7 @@ ghost use Rattle.std.specs.Prelude.{◌≡◌, ◌≤◌, true, IfOk, IfErr, IsE
 ghost use Rattle.lfs_model.specs.Slot.{IsName};
 ghost use Rattle.lfs_files.specs.Files.{Counts, Reads, Redrafts};
 ghost use Rattle.lfs_dirs.specs.Finding.{IsDirectoryFault};
+ghost use Rattle.lfs_dirs.specs.Growing.{Grows};
 ghost use Rattle.lfs_dirs.specs.Repointing.{Repoints, Lacks};
 
 use crate::searching::search;
@@ -30,6 +31,8 @@ pub fn repoint<F: Files>(
     requires name { IsName 59 name.now }
     ensures redrafts { Redrafts (F.state files.old) (F.state files.new) }
     ensures done { IfOk result (λ found. IsTrue found → Repoints (F.state files.old) (F.state files.new) directory header number name.now) }
+    ensures small { IfOk result (λ found. IsTrue found
+        → Grows (F.state files.old) (F.state files.new) 1 2) }
     ensures counted { IfOk result (λ found. IsTrue found
         → Counts (F.state files.old) (F.state files.new)) }
     ensures same { IfOk result (λ found. IsFalse found → Reads (F.state files.old) (F.state files.new)) }

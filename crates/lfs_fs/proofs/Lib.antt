@@ -11,6 +11,7 @@ mod PathSteps
 mod NewEntrySteps
 mod EntrySteps
 mod Growth
+mod GrownDrafts
 mod Looking
 mod Files
 mod Changed

@@ -2,6 +2,8 @@
 ghost use Rattle.std.specs.Prelude.{◌≡◌, ◌≢◌, ◌≤◌, ◌<◌, ◌+◌, ℕ, List, false, IfErr, OnOk};
 ghost use Rattle.lfs_model.specs.Call.{Done, LinkTo};
 ghost use Rattle.lfs_model.specs.Slot.{IsName};
+ghost use Rattle.lfs_store.specs.memory.Batch.{IsNoChange};
+ghost use Rattle.lfs_store.specs.Growing.{GrowsBy};
 ghost use Rattle.lfs_store.specs.Making.{SetsLinks};
 ghost use Rattle.lfs_store.specs.Recounting.{CountsRelinked};
 ghost use Rattle.lfs_fs.specs.Volume.{IsStill, Mounted, Serves};
@@ -50,6 +52,7 @@ impl<D: SectorDevice> Fs<D> {
     ) -> Result<(), FsError>
         requires few { directory ≤ 4095 }
         requires running { self.old.store.log.halted ≡ false }
+        requires empty { IsNoChange self.old.store.draft.changes }
         ensures { (v : Mounted D) (from : List ℕ)
             → Reaches D.SectorDevice.state v self.old from directory last.entry
             → Serves D.SectorDevice.state v (seen self.new) (LinkTo from to.now)
@@ -92,6 +95,7 @@ impl<D: SectorDevice> Fs<D> {
         requires last { number ≤ 4095 }
         requires few { directory ≤ 4095 }
         requires running { self.old.store.log.halted ≡ false }
+        requires empty { IsNoChange self.old.store.draft.changes }
         ensures { (v : Mounted D) (from to : List ℕ) (holder : ℕ)
             → SeesObject D.SectorDevice.state v self.old from holder number header
             → Reaches D.SectorDevice.state v self.old to directory last.entry
@@ -141,6 +145,8 @@ impl<D: SectorDevice> Fs<D> {
         ensures still { IsStill D.SectorDevice.state (seen self.old) (seen self.new) }
         ensures drafted { OnOk result (DraftsName D.SectorDevice.state self.old self.new directory
             holder number header name.now) }
+        ensures small { OnOk result (GrowsBy self.old.store.draft.changes
+            self.new.store.draft.changes 2 2) }
         ensures refused { IfErr result (DraftsNone D.SectorDevice.state self.old self.new) }
     {
         match self.store.set_links(number, header, header.links + 1) {

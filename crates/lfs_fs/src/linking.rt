@@ -2,6 +2,8 @@
 ghost use Rattle.std.specs.Prelude.{◌≡◌, ◌≤◌, ℕ, List, None, Some, false, IfErr, OnOk};
 ghost use Rattle.lfs_model.specs.Call.{Done, Symlink};
 ghost use Rattle.lfs_model.specs.PathText.{text_refusal};
+ghost use Rattle.lfs_store.specs.memory.Batch.{IsNoChange};
+ghost use Rattle.lfs_store.specs.Growing.{GrowsBy};
 ghost use Rattle.lfs_fs.specs.Naming.{DraftsLink, DraftsNone, Reaches};
 ghost use Rattle.lfs_fs.specs.Refusals.{refusal_of};
 ghost use Rattle.lfs_fs.specs.Seen.{answer_by, seen};
@@ -51,6 +53,7 @@ impl<D: SectorDevice> Fs<D> {
         requires few { directory ≤ 4095 }
         requires good { text_refusal text.now ≡ None }
         requires running { self.old.store.log.halted ≡ false }
+        requires empty { IsNoChange self.old.store.draft.changes }
         ensures { (v : Mounted D) (path : List ℕ)
             → Reaches D.SectorDevice.state v self.old path directory last.entry
             → Serves D.SectorDevice.state v (seen self.new) (Symlink text.now path)
@@ -83,6 +86,8 @@ impl<D: SectorDevice> Fs<D> {
         ensures drafted { OnOk result (DraftsLink D.SectorDevice.state self.old.store.log
             self.new.store.log self.old.store.draft.changes self.new.store.draft.changes
             self.old.store.drafted self.new.store.drafted number text.now) }
+        ensures small { OnOk result (GrowsBy self.old.store.draft.changes
+            self.new.store.draft.changes 2 2) }
         ensures refused { IfErr result (DraftsNone D.SectorDevice.state self.old self.new) }
     {
         let size = text.len() as u32;

@@ -3,6 +3,7 @@ ghost use Rattle.std.specs.Prelude.{◌≡◌, ◌≢◌, ℕ, ◌≤◌, ◌<�
 ghost use Rattle.lfs_model.specs.Slot.{IsName};
 ghost use Rattle.lfs_store.specs.memory.Batch.{IsNoChange};
 ghost use Rattle.lfs_store.specs.Drafting.{IsApart};
+ghost use Rattle.lfs_store.specs.Growing.{GrowsBy};
 ghost use Rattle.lfs_store.specs.Making.{relinked};
 ghost use Rattle.lfs_store.specs.Recounting.{Counts};
 ghost use Rattle.lfs_path.specs.dirs.Taking.{shrunk};
@@ -79,6 +80,8 @@ impl<D: SectorDevice> Fs<D> {
         ensures still { IsStill D.SectorDevice.state (seen self.old) (seen self.new) }
         ensures drafted { OnOk result (DraftsMove D.SectorDevice.state self.old self.new
             source.entry target.entry) }
+        ensures small { OnOk result (GrowsBy self.old.store.draft.changes
+            self.new.store.draft.changes 6 4) }
         ensures refused { IfErr result (FailsMove D.SectorDevice.state self.old self.new
             source.entry target.entry) }
     {
@@ -109,6 +112,8 @@ impl<D: SectorDevice> Fs<D> {
             (more_of source.entry target.entry)) }
         ensures drafted { OnOk result (DraftsLinks D.SectorDevice.state self.old self.new
             source.entry target.entry) }
+        ensures small { OnOk result (GrowsBy self.old.store.draft.changes
+            self.new.store.draft.changes 3 0) }
         ensures refused { IfErr result (FailsMove D.SectorDevice.state self.old self.new
             source.entry target.entry) }
     {
@@ -134,6 +139,8 @@ impl<D: SectorDevice> Fs<D> {
             holder name.now self.old.store.drafted self.new.store.drafted) }
         ensures apart { OnOk result ((k : ℕ) → IsApart self.old.store.draft.changes.loss k
             → IsApart self.new.store.draft.changes.loss k) }
+        ensures small { OnOk result (GrowsBy self.old.store.draft.changes
+            self.new.store.draft.changes 2 2) }
         ensures refused { IfErr result (FailsOver D.SectorDevice.state self.old self.new directory
             holder name.now) }
     {
@@ -152,6 +159,8 @@ impl<D: SectorDevice> Fs<D> {
         requires empty { IsNoChange self.old.store.draft.changes }
         ensures still { IsStill D.SectorDevice.state (seen self.old) (seen self.new) }
         ensures dropped { OnOk result (DropsFound D.SectorDevice.state self.old self.new replaced) }
+        ensures small { OnOk result (GrowsBy self.old.store.draft.changes
+            self.new.store.draft.changes 1 0) }
         ensures refused { IfErr result (DraftsNone D.SectorDevice.state self.old self.new) }
     {
         match replaced {
@@ -174,6 +183,8 @@ impl<D: SectorDevice> Fs<D> {
         requires empty { IsNoChange self.old.store.draft.changes }
         ensures still { IsStill D.SectorDevice.state (seen self.old) (seen self.new) }
         ensures dropped { OnOk result (DropsObject D.SectorDevice.state self.old self.new number) }
+        ensures small { OnOk result (GrowsBy self.old.store.draft.changes
+            self.new.store.draft.changes 0 0) }
         ensures refused { IfErr result (DraftsNone D.SectorDevice.state self.old self.new) }
     {
         match self.store.remove(number) {
@@ -199,6 +210,8 @@ impl<D: SectorDevice> Fs<D> {
             (more_of source.entry target.entry)) }
         ensures done { OnOk result (RelinksBoth self.old.store.draft.changes
             self.new.store.draft.changes source.entry target.entry self.new.store.drafted) }
+        ensures small { OnOk result (GrowsBy self.old.store.draft.changes
+            self.new.store.draft.changes 2 0) }
         ensures fault { IfErr result (λ fault. fault ≡ FsError.NoMemory) }
     {
         let loses = loses_directory(source, target);
@@ -238,6 +251,8 @@ impl<D: SectorDevice> Fs<D> {
         ensures counted { OnOk result (Counts D.SectorDevice.state self.old.store.log
             self.new.store.log self.old.store.draft.changes self.new.store.draft.changes
             self.old.store.drafted self.new.store.drafted) }
+        ensures small { OnOk result (GrowsBy self.old.store.draft.changes
+            self.new.store.draft.changes 1 2) }
         ensures refused { IfErr result (FailsName D.SectorDevice.state self.old self.new
             target.entry.directory holder target.entry.name.now target.entry.replaced) }
     {
@@ -269,6 +284,8 @@ impl<D: SectorDevice> Fs<D> {
         ensures counted { OnOk result (Counts D.SectorDevice.state self.old.store.log
             self.new.store.log self.old.store.draft.changes self.new.store.draft.changes
             self.old.store.drafted self.new.store.drafted) }
+        ensures small { OnOk result (GrowsBy self.old.store.draft.changes
+            self.new.store.draft.changes 1 2) }
         ensures refused { IfErr result (DraftsNone D.SectorDevice.state self.old self.new) }
     {
         match add(&mut self.store, directory, holder, number, name) {
@@ -299,6 +316,8 @@ impl<D: SectorDevice> Fs<D> {
         ensures counted { OnOk result (Counts D.SectorDevice.state self.old.store.log
             self.new.store.log self.old.store.draft.changes self.new.store.draft.changes
             self.old.store.drafted self.new.store.drafted) }
+        ensures small { OnOk result (GrowsBy self.old.store.draft.changes
+            self.new.store.draft.changes 1 2) }
         ensures refused { IfErr result (FailsOver D.SectorDevice.state self.old self.new directory
             holder name.now) }
     {
@@ -329,6 +348,8 @@ impl<D: SectorDevice> Fs<D> {
         ensures header { IfOk result (λ now. now ≡ relinked header links) }
         ensures done { OnOk result (RelinksWhere changes self.old.store.draft.changes
             self.new.store.draft.changes directory header links self.new.store.drafted) }
+        ensures small { OnOk result (GrowsBy self.old.store.draft.changes
+            self.new.store.draft.changes 1 0) }
         ensures fault { IfErr result (λ fault. fault ≡ FsError.NoMemory) }
     {
         if !changes {

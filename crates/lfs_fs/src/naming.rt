@@ -3,6 +3,8 @@ ghost use Rattle.std.specs.Prelude.{◌≡◌, ◌≤◌, ◌<◌, ◌+◌, ◌&
 ghost use Rattle.lfs_model.specs.Call.{Open, Create, Done, Handle, Mkdir};
 ghost use Rattle.lfs_model.specs.PathText.{text_refusal};
 ghost use Rattle.lfs_model.specs.Slot.{IsName};
+ghost use Rattle.lfs_store.specs.memory.Batch.{IsNoChange};
+ghost use Rattle.lfs_store.specs.Growing.{GrowsBy};
 ghost use Rattle.lfs_store.specs.Making.{relinked};
 ghost use Rattle.lfs_fs.specs.Volume.{IsStill, Mounted, Serves};
 ghost use Rattle.lfs_fs.specs.Seen.{seen, answer_by, OnlyReads};
@@ -92,6 +94,7 @@ impl<D: SectorDevice> Fs<D> {
     fn create_at(&mut self, directory: u16, last: Option<Last<'_>>) -> Result<u32, FsError>
         requires few { directory ≤ 4095 }
         requires running { self.old.store.log.halted ≡ false }
+        requires empty { IsNoChange self.old.store.draft.changes }
         ensures { (v : Mounted D) (path : List ℕ)
             → Reaches D.SectorDevice.state v self.old path directory last.entry
             → Serves D.SectorDevice.state v (seen self.new) (Create path)
@@ -146,6 +149,7 @@ impl<D: SectorDevice> Fs<D> {
     fn mkdir_at(&mut self, directory: u16, last: Option<Last<'_>>) -> Result<(), FsError>
         requires few { directory ≤ 4095 }
         requires running { self.old.store.log.halted ≡ false }
+        requires empty { IsNoChange self.old.store.draft.changes }
         ensures { (v : Mounted D) (path : List ℕ)
             → Reaches D.SectorDevice.state v self.old path directory last.entry
             → Serves D.SectorDevice.state v (seen self.new) (Mkdir path)
@@ -255,6 +259,7 @@ impl<D: SectorDevice> Fs<D> {
         requires text { kind ≡ Kind.Link → text_refusal text.now ≡ None }
         requires name { IsName 59 name.now }
         requires running { self.old.store.log.halted ≡ false }
+        requires empty { IsNoChange self.old.store.draft.changes }
         ensures made { OnOk result (MakesNew D.SectorDevice.state self.old self.new directory header
             number (new_kind kind text.now) name.now) }
         ensures refused { IfErr result (MakesNone D.SectorDevice.state self.old self.new directory
@@ -291,6 +296,8 @@ impl<D: SectorDevice> Fs<D> {
         ensures still { IsStill D.SectorDevice.state (seen self.old) (seen self.new) }
         ensures drafted { OnOk result (DraftsNew D.SectorDevice.state self.old self.new directory
             header number (new_kind kind text.now) name.now) }
+        ensures small { OnOk result (GrowsBy self.old.store.draft.changes
+            self.new.store.draft.changes 4 4) }
         ensures refused { IfErr result (DraftsNone D.SectorDevice.state self.old self.new) }
     {
         match self.draft_object(number, kind, text) {
@@ -317,6 +324,8 @@ impl<D: SectorDevice> Fs<D> {
         ensures drafted { OnOk result (DraftsObject D.SectorDevice.state self.old.store.log
             self.new.store.log self.old.store.draft.changes self.new.store.draft.changes
             self.old.store.drafted self.new.store.drafted number (new_kind kind text.now)) }
+        ensures small { OnOk result (GrowsBy self.old.store.draft.changes
+            self.new.store.draft.changes 2 2) }
         ensures refused { IfErr result (DraftsNone D.SectorDevice.state self.old self.new) }
     {
         match kind {
@@ -334,6 +343,8 @@ impl<D: SectorDevice> Fs<D> {
         ensures drafted { OnOk result (DraftsEmpty self.old.store.draft.changes
             self.new.store.draft.changes self.old.store.drafted self.new.store.drafted number
             kind) }
+        ensures small { OnOk result (GrowsBy self.old.store.draft.changes
+            self.new.store.draft.changes 1 0) }
         ensures fault { IfErr result (λ fault. fault ≡ FsError.NoMemory) }
     {
         match self.store.create(number, kind) {
@@ -359,6 +370,8 @@ impl<D: SectorDevice> Fs<D> {
         ensures header { IfOk result (λ now. now ≡ relinked header (more_links kind header.links)) }
         ensures done { OnOk result (RelinksParent self.old.store.draft.changes
             self.new.store.draft.changes directory header self.new.store.drafted kind) }
+        ensures small { OnOk result (GrowsBy self.old.store.draft.changes
+            self.new.store.draft.changes 1 0) }
         ensures fault { IfErr result (λ fault. fault ≡ FsError.NoMemory) }
     {
         match kind {
@@ -380,6 +393,8 @@ impl<D: SectorDevice> Fs<D> {
         ensures header { IfOk result (λ now. now ≡ relinked header (header.links + 1)) }
         ensures done { OnOk result (RelinksParent self.old.store.draft.changes
             self.new.store.draft.changes directory header self.new.store.drafted Kind.Directory) }
+        ensures small { OnOk result (GrowsBy self.old.store.draft.changes
+            self.new.store.draft.changes 1 0) }
         ensures fault { IfErr result (λ fault. fault ≡ FsError.NoMemory) }
     {
         let links = header.links + 1;

@@ -2,6 +2,7 @@
 ghost use Rattle.std.specs.Prelude.{◌≡◌, ◌≤◌, ◌<◌, ◌-◌, ℕ, List, false, IfOk, IfErr, OnOk};
 ghost use Rattle.lfs_model.specs.Call.{Done, Rmdir};
 ghost use Rattle.lfs_store.specs.memory.Batch.{IsNoChange};
+ghost use Rattle.lfs_store.specs.Growing.{GrowsBy};
 ghost use Rattle.lfs_store.specs.Making.{SetsLinks, relinked};
 ghost use Rattle.lfs_store.specs.Recounting.{CountsRelinked};
 ghost use Rattle.lfs_fs.specs.Volume.{IsStill, Mounted, Serves};
@@ -144,6 +145,8 @@ impl<D: SectorDevice> Fs<D> {
         ensures still { IsStill D.SectorDevice.state (seen self.old) (seen self.new) }
         ensures drafted { OnOk result (DraftsRmdir D.SectorDevice.state self.old self.new directory
             entry.holder entry.number name.now) }
+        ensures small { OnOk result (GrowsBy self.old.store.draft.changes
+            self.new.store.draft.changes 3 2) }
         ensures refused { IfErr result (FailsUnlink D.SectorDevice.state self.old self.new
             directory entry.holder entry.number name.now) }
     {
@@ -171,6 +174,8 @@ impl<D: SectorDevice> Fs<D> {
         requires empty { IsNoChange self.old.store.draft.changes }
         ensures still { IsStill D.SectorDevice.state (seen self.old) (seen self.new) }
         ensures lost { OnOk result (LosesObject D.SectorDevice.state self.old self.new number) }
+        ensures small { OnOk result (GrowsBy self.old.store.draft.changes
+            self.new.store.draft.changes 0 0) }
         ensures refused { IfErr result (DraftsNone D.SectorDevice.state self.old self.new) }
     {
         match self.store.remove(number) {
@@ -193,6 +198,8 @@ impl<D: SectorDevice> Fs<D> {
             self.new.store.draft.changes directory header (header.links - 1)) }
         ensures counted { OnOk result (CountsRelinked self.old.store.draft.changes
             self.new.store.draft.changes directory header self.old.store.drafted) }
+        ensures small { OnOk result (GrowsBy self.old.store.draft.changes
+            self.new.store.draft.changes 1 0) }
         ensures fault { IfErr result (λ fault. fault ≡ FsError.NoMemory) }
     {
         let links = header.links - 1;

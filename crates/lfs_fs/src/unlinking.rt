@@ -2,6 +2,7 @@
 ghost use Rattle.std.specs.Prelude.{◌≡◌, ◌≤◌, ℕ, List, false, IfErr, OnOk};
 ghost use Rattle.lfs_model.specs.Call.{Done, Unlink};
 ghost use Rattle.lfs_store.specs.memory.Batch.{IsNoChange};
+ghost use Rattle.lfs_store.specs.Growing.{GrowsBy};
 ghost use Rattle.lfs_store.specs.Making.{SetsLinks};
 ghost use Rattle.lfs_store.specs.Recounting.{CountsRelinked};
 ghost use Rattle.lfs_fs.specs.Naming.{DraftsNone, Reaches};
@@ -84,6 +85,8 @@ impl<D: SectorDevice> Fs<D> {
         ensures still { IsStill D.SectorDevice.state (seen self.old) (seen self.new) }
         ensures drafted { OnOk result (DraftsUnlink D.SectorDevice.state self.old self.new
             directory entry.holder entry.number entry.header name.now) }
+        ensures small { OnOk result (GrowsBy self.old.store.draft.changes
+            self.new.store.draft.changes 3 2) }
         ensures refused { IfErr result (FailsUnlink D.SectorDevice.state self.old self.new
             directory entry.holder entry.number name.now) }
     {
@@ -109,6 +112,8 @@ impl<D: SectorDevice> Fs<D> {
         ensures still { IsStill D.SectorDevice.state (seen self.old) (seen self.new) }
         ensures lost { OnOk result (LosesLink D.SectorDevice.state self.old self.new number
             header) }
+        ensures small { OnOk result (GrowsBy self.old.store.draft.changes
+            self.new.store.draft.changes 1 0) }
         ensures refused { IfErr result (DraftsNone D.SectorDevice.state self.old self.new) }
     {
         if header.links > 1 {
@@ -134,6 +139,8 @@ impl<D: SectorDevice> Fs<D> {
         ensures counted { OnOk result (CountsRelinked self.old.store.draft.changes
             self.new.store.draft.changes number header self.new.store.drafted) }
         ensures drafted { self.new.store.drafted ≡ self.old.store.drafted }
+        ensures small { OnOk result (GrowsBy self.old.store.draft.changes
+            self.new.store.draft.changes 1 0) }
         ensures failed { IfErr result (λ fault. fault ≡ FsError.NoMemory) }
     {
         match self.store.set_links(number, header, links) {

@@ -62,6 +62,7 @@ impl<D: SectorDevice> Fs<D> {
         requires running { self.old.store.log.halted ≡ false }
         requires empty { IsNoChange self.old.store.draft.changes }
         requires counted { self.old.store.drafted ≡ self.old.store.log.totals }
+        requires most { length bytes.now ≤ 65536 }
         ensures { (handle : ℕ) → find nat_cmp handle (handles_of self.old.handles.numbers.items)
             ≡ Some number → length bytes.now ≤ 65536
             → Serves D.SectorDevice.state (seen self.old) (seen self.new)

@@ -13,6 +13,7 @@ use Rattle.lfs_model.proofs.Settled.{settled_stands}
 use Rattle.lfs_cleaner.specs.log.segments.Table.{clean_in}
 use Rattle.lfs_cleaner.specs.log.memory.declared.changes.Changes.{Changes}
 use Rattle.lfs_cleaner.specs.log.memory.Batch.{room_for}
+use Rattle.lfs_cleaner.specs.log.memory.Preparing.{LacksRoom}
 use Rattle.lfs_cleaner.proofs.of_log.of_memory.Looses.{loose}
 use Rattle.lfs_cleaner.proofs.of_log.of_memory.Presents.{looks_quiet}
 use Rattle.lfs_cleaner.proofs.of_log.Volumes.{same_segments}
@@ -387,6 +388,17 @@ module _ {D : Type 0} (state : D → DeviceState) where
 
   pub room_fault : (h h' : Held D) (saved : Bool) (c : Changes) → IsRoomFault state h h' → IsAcceptFault state h saved h' c
   room_fault h h' saved c failed k m0 m keeps is fits map = failed k m0 m keeps is.holds map
+
+  -- ---- a draft that memory has no room for, though what could be saved is saved
+  pub asks_much : (h h' : Held D) (saved saved' : Bool) (c : Changes) → MakesRoom state h saved h' saved' → (saved ≡ true → IsAtRest h)
+      → (saved' ≡ false → length h'.memory.dirty.blocks + room_for c ≤ h'.memory.dirty.capacity.limit)
+      → LacksRoom h'.memory (room_for c) → 456 < length h'.memory.dirty.blocks + room_for c → 456 < room_for c
+  asks_much h h' saved true c makes rest room lacks narrow =
+      let none = ap length (makes.rest refl rest).nothing in
+      omega (arith, none, narrow)
+  asks_much h h' saved false c makes rest room lacks narrow =
+      let le = room refl in
+      absurd (omega (arith, le, lacks))
 
 -- what holds of any error holds of this one
 pub where_err : {T E : Type 0} (r : Result T E) (P : Type 0) (e : E) → r ≡ Err e → OnErr r P → P

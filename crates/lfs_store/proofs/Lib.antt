@@ -9,6 +9,8 @@ pub mod PiecesStored
 pub mod PiecesWritten
 pub mod PiecesCut
 pub mod ReadParts
+pub mod Growths
+pub mod Runs
 pub mod Fitting
 pub mod Apart
 pub mod LogReads

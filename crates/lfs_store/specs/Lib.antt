@@ -1,4 +1,5 @@
 pub mod Drafting
+pub mod Growing
 pub mod Reading
 pub mod Pieces
 pub mod Writing

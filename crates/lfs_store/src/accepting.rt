@@ -24,7 +24,7 @@ const MOST_BLOCKS: usize = 140;
 
 impl<D: SectorDevice> Store<D> {
     ghost use Rattle.lfs_cleaner.specs.log.Held.{Halts, IsFull};
-    ghost use Rattle.lfs_cleaner.specs.Room.{HaltsLater, HasQuarter, IsRoomFault};
+    ghost use Rattle.lfs_cleaner.specs.Room.{HaltsLater, HasQuarter, IsAtRest, IsRoomFault};
     ghost use Rattle.lfs_store.specs.Recounting.{MountsTotals};
     ghost use Rattle.lfs_store.specs.Accepting.{MountsStore, Commits, MakesRoom, Readies, CannotMakeRoom, Accepts, Declines, IsAcceptFault, HasClean, HasRoomFor, most_written};
 
@@ -355,6 +355,9 @@ impl<D: SectorDevice> Store<D> {
         ensures memory { IsErrOf result StoreFault.NoMemory
             → Declines D.SectorDevice.state self.old.log self.old.saved self.new.log self.new.saved
             self.old.draft.changes }
+        ensures fits { IsErrOf result StoreFault.NoMemory
+            → (self.old.saved ≡ true → IsAtRest self.old.log)
+            → 456 < room_for self.old.draft.changes }
         ensures device { IsErrOf result (StoreFault.Log LogFault.Device)
             → Declines D.SectorDevice.state self.old.log self.old.saved self.new.log self.new.saved
             self.old.draft.changes }
@@ -413,6 +416,9 @@ impl<D: SectorDevice> Store<D> {
         ensures memory { IsErrOf result StoreFault.NoMemory
             → Declines D.SectorDevice.state self.old.log self.old.saved self.new.log self.new.saved
             self.old.draft.changes }
+        ensures fits { IsErrOf result StoreFault.NoMemory
+            → (self.old.saved ≡ true → IsAtRest self.old.log)
+            → 456 < room_for self.old.draft.changes }
         ensures device { IsErrOf result (StoreFault.Log LogFault.Device)
             → Declines D.SectorDevice.state self.old.log self.old.saved self.new.log self.new.saved
             self.old.draft.changes }

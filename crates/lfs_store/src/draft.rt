@@ -2,6 +2,7 @@
 ghost use Rattle.std.specs.Prelude.{◌≡◌, ◌≤◌, ◌+◌, length, IfSome, IfNone, IfOk, OnOk, OnErr, IsTrue, IsFalse};
 ghost use Rattle.lfs_cleaner.specs.log.memory.Batch.{IsNoChange};
 ghost use Rattle.lfs_store.specs.Drafting.{HeaderPlace, DraftsHeader, PutsHeader, IsBlock, BlockPlace, DraftsBlock, LeavesBlock, PutsBlock, LosesOnly, IsAsBefore};
+ghost use Rattle.lfs_store.specs.Growing.{PlacesBlock};
 ghost use Rattle.lfs_store.specs.Reading.{SaysHeader, SaysBlock};
 ghost use Rattle.lfs_model.specs.Fields.{zeros};
 
@@ -105,6 +106,7 @@ impl Draft {
         requires low { index ≤ 16623 }
         ensures done { OnOk result (PutsBlock self.old.changes self.new.changes number index
             bytes.now) }
+        ensures placed { OnOk result (PlacesBlock self.old.changes self.new.changes number index) }
         ensures same { OnErr result (IsAsBefore self.old.changes self.new.changes) }
     {
         let Some(place) = last_block(&self.changes.blocks, number, index) else {

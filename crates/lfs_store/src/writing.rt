@@ -1,8 +1,9 @@
 //! Bytes written to a file and cut off it, into the draft.
 ghost use Rattle.std.specs.Prelude.{◌≡◌, ◌<◌, ◌≤◌, ◌+◌, ◌%◌, true, length, IfErr, OnOk, OnErr, IsErrOf, IsTrue};
-ghost use Rattle.lfs_cleaner.specs.log.memory.Batch.{IsNoChange};
+ghost use Rattle.lfs_cleaner.specs.log.memory.Batch.{IsNoChange, room_for};
 ghost use Rattle.lfs_cleaner.specs.log.Held.{Reads, IsReadFault};
 ghost use Rattle.lfs_store.specs.Drafting.{PutsHeader};
+ghost use Rattle.lfs_store.specs.Growing.{PlacesBlock};
 ghost use Rattle.lfs_store.specs.Pieces.{Covers};
 ghost use Rattle.lfs_store.specs.Writing.{ReadsBeneath};
 
@@ -77,6 +78,8 @@ impl<D: SectorDevice> Store<D> {
         ensures saved { self.new.saved ≡ self.old.saved }
         ensures done { OnOk result (Writes D.SectorDevice.state self.old.log self.new.log
             self.old.draft.changes self.new.draft.changes number header at bytes.now) }
+        ensures room { OnOk result (IsNoChange self.old.draft.changes → length bytes.now ≤ 65536
+            → room_for self.new.draft.changes ≤ 144) }
         ensures counted { OnOk result (Counts D.SectorDevice.state self.old.log self.new.log
             self.old.draft.changes self.new.draft.changes self.old.drafted self.new.drafted) }
         ensures failed { IfErr result (λ fault. (fault ≡ StoreFault.NoMemory → ⊥)
@@ -118,6 +121,8 @@ impl<D: SectorDevice> Store<D> {
         ensures drafted { self.new.drafted ≡ self.old.drafted }
         ensures done { OnOk result (Writes D.SectorDevice.state self.old.log self.new.log
             self.old.draft.changes self.new.draft.changes number header at bytes.now) }
+        ensures room { OnOk result (IsNoChange self.old.draft.changes → length bytes.now ≤ 65536
+            → room_for self.new.draft.changes ≤ 144) }
         ensures failed { IfErr result (λ fault. (fault ≡ StoreFault.NoMemory → ⊥)
             → IsReadFault D.SectorDevice.state self.old.log self.new.log) }
         ensures halted { IsErrOf result (StoreFault.Log LogFault.Halted)
@@ -148,6 +153,8 @@ impl<D: SectorDevice> Store<D> {
         ensures drafted { self.new.drafted ≡ self.old.drafted }
         ensures done { OnOk result (WritesBlock D.SectorDevice.state self.old.log self.new.log
             self.old.draft.changes self.new.draft.changes number index at bytes.now) }
+        ensures placed { OnOk result (PlacesBlock self.old.draft.changes self.new.draft.changes
+            number index) }
         ensures failed { IfErr result (λ fault. (fault ≡ StoreFault.NoMemory → ⊥)
             → IsReadFault D.SectorDevice.state self.old.log self.new.log) }
         ensures halted { IsErrOf result (StoreFault.Log LogFault.Halted)

@@ -2,6 +2,7 @@ use Rattle.std.proofs.Common.{rules, ◌≡◌, ℕ, List, length, ap, sym, ◌�
 use Rattle.std.proofs.lemmas.Result.{on_ok_weaker}
 use Rattle.lfs_files.specs.Files.{Writes}
 use Rattle.lfs_dirs.specs.Adding.{slot_for}
+use Rattle.lfs_dirs.proofs.Growths.{slot_grows}
 use Rattle.lfs_dirs.proofs.SlotsAdded.{adds, fits_slot}
 use Rattle.lfs_dirs.proofs.adding.add.Goals as goal
 
@@ -16,4 +17,11 @@ returns-clause-done g c =
     (λ writes. adds old new c.args.directory c.args.header c.args.number c.args.name.now
     (fits_slot c.args.number c.args.name.now c.requires.first c.requires.last c.requires.name) (sym (ap length is) ∙ long)
     (subst (λ (w : List ℕ). Writes old new c.args.directory c.args.header c.args.header.size w) is writes))
+    c.write_at.ensures.done
+
+pub returns-clause-small : goal.returns-clause-small
+returns-clause-small g c =
+    let long : length c.encode_slot-slot.result ≡ 64 = search rules in
+    on_ok_weaker c.write_at.result
+    (slot_grows (g.F.Files.state c.args.files.now) (g.F.Files.state c.write_at.new.self) c.args.directory c.args.header c.args.header.size c.encode_slot-slot.result long)
     c.write_at.ensures.done

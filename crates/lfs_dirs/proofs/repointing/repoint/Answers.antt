@@ -4,6 +4,7 @@ use Rattle.lfs_files.proofs.FilesCompose.{redrafts_more, redrafts_read}
 use Rattle.lfs_dirs.specs.declared.searching.Found.{Found}
 use Rattle.lfs_dirs.specs.Adding.{slot_for}
 use Rattle.lfs_dirs.specs.Searching.{FindsSlot}
+use Rattle.lfs_dirs.proofs.Growths.{grows_behind, slot_grows}
 use Rattle.lfs_dirs.proofs.SlotsAdded.{fits_slot}
 use Rattle.lfs_dirs.proofs.SlotsReplaced.{counts_searched, repoints, fails_behind}
 use Rattle.lfs_dirs.proofs.repointing.repoint.Goals as goal
@@ -48,3 +49,9 @@ returns-clause-done g c is =
 pub returns-clause-counted : goal.returns-clause-counted
 returns-clause-counted g c is =
     counts_searched (g.F.Files.state c.args.files.now) (g.F.Files.state c.search.new.files) (g.F.Files.state c.write_at.new.self) c.search.ensures.reads c.in-Ok.ensures.counted
+
+pub returns-clause-small : goal.returns-clause-small
+returns-clause-small g c is =
+    let long : length c.encode_slot-slot.result ≡ 64 = search rules in
+    grows_behind (g.F.Files.state c.args.files.now) (g.F.Files.state c.search.new.files) (g.F.Files.state c.write_at.new.self) 1 2 c.search.ensures.reads
+    (slot_grows (g.F.Files.state c.search.new.files) (g.F.Files.state c.write_at.new.self) c.args.directory c.args.header (64 * c.in-Ok-Some.found.place) c.encode_slot-slot.result long c.in-Ok.ensures.done)

@@ -1,5 +1,6 @@
 use Rattle.std.proofs.Common.{ap, Err}
 use Rattle.lfs_fs.proofs.WritingEnds.{turned_down}
+use Rattle.lfs_fs.proofs.GrownDrafts.{never_large}
 use Rattle.lfs_fs.proofs.fs.Fs.accept.Goals as goal
 
 pub returns-in-Err-accept-clause-refused : goal.returns-in-Err-accept-clause-refused
@@ -8,3 +9,7 @@ returns-in-Err-accept-clause-refused g c =
     c.requires.running c.in-Ok.ensures.young c.in-Err-accept.ensures.kept (λ e. c.in-Err-accept.ensures.full (ap Err e)) (λ e. c.in-Err-accept.ensures.never (ap Err e))
     (λ e. c.in-Err-accept.ensures.memory (ap Err e)) (λ e. c.in-Err-accept.ensures.device (ap Err e)) (λ e. c.in-Err-accept.ensures.failed (ap Err e))
     (λ e. c.in-Err-accept.ensures.halted (ap Err e))
+
+pub returns-in-Err-accept-clause-fits : goal.returns-in-Err-accept-clause-fits
+returns-in-Err-accept-clause-fits g c memory rest =
+    never_large c.in-Err-accept.fault c.from.result _ c.from.ensures c.requires.room (λ e. c.in-Err-accept.ensures.fits (ap Err e) rest) memory

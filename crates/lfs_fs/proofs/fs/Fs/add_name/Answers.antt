@@ -1,6 +1,7 @@
 use Rattle.std.proofs.Common.{Err, ap}
 use Rattle.lfs_fs.proofs.NameLooks.{none_drafted}
 use Rattle.lfs_fs.proofs.StoreCalls.{log_adds, log_counts, store_failed}
+use Rattle.lfs_fs.proofs.GrownDrafts.{adds_grow}
 use Rattle.lfs_fs.proofs.fs.Fs.add_name.Goals as goal
 
 pub returns-in-Ok-clause-named : goal.returns-in-Ok-clause-named
@@ -14,3 +15,7 @@ returns-in-Err-clause-refused g c =
     none_drafted g.D.SectorDevice.state c.args.self.now record { alloc = c.args.self.now.alloc; store = c.add.new.files; handles = c.args.self.now.handles } c.requires.running c.in-Err.fault
     (λ device. store_failed g.D.SectorDevice.state c.args.self.now.store c.add.new.files (c.in-Err.ensures.failed device))
     (λ on. c.in-Err.ensures.halted (ap Err on)) (λ full. c.in-Err.ensures.other (ap Err full)) c.from.result c.from.ensures
+
+pub returns-in-Ok-clause-small : goal.returns-in-Ok-clause-small
+returns-in-Ok-clause-small g c =
+    adds_grow g.D.SectorDevice.state c.args.self.now.store c.add.new.files 1 2 c.in-Ok.ensures.small

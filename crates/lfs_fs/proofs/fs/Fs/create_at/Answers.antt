@@ -1,8 +1,10 @@
-use Rattle.std.proofs.Common.{arith}
+use Rattle.std.proofs.Common.{arith, subst, sym}
 use Rattle.lfs_fs.specs.Volume.{segments_of}
 use Rattle.lfs_fs.proofs.CreateRefusals.{entry_refused, handle_allowed, handle_refused, no_piece_ends, number_refused, zero_ends}
 use Rattle.lfs_fs.proofs.CreateTurned.{create_made, create_unmade}
 use Rattle.lfs_fs.proofs.EntrySteps.{create_call}
+use Rattle.lfs_store.specs.declared.draft.Draft.{Draft}
+use Rattle.lfs_store.specs.memory.Batch.{IsNoChange}
 use Rattle.lfs_fs.proofs.fs.Fs.create_at.Goals as goal
 
 -- the path has no piece
@@ -46,3 +48,7 @@ returns g c v path reached =
     create_made g.D.SectorDevice.state g.met.D.SectorDevice.lawful v c.args.self.now c.check_new_entry.new.self path c.args.directory c.args.last reached c.requires.running c.in-Some.last c.in-Some.is
     c.in-Ok.ensures.reads c.in-Ok.header c.in-Ok.ensures.taken c.in-Some-least_free.handle c.in-Some-least_free.ensures.found.0 c.in-Some-least_free.ensures.first c.in-Some-least_free-2.number c.in-Some-least_free-2.ensures.some
     c.make_entry.new.self c.in-Ok-make_entry.ensures.made c.open.new.self.numbers.items c.open.ensures.opened
+
+pub make_entry-requires-clause-empty : goal.make_entry-requires-clause-empty
+make_entry-requires-clause-empty g c =
+    subst (λ (d : Draft). IsNoChange d.changes) (sym c.in-Ok.ensures.reads.draft) c.requires.empty

@@ -4,6 +4,7 @@ use Rattle.lfs_store.specs.log.verify.declared.totals.BlockTotals.{BlockTotals}
 use Rattle.lfs_store.specs.memory.Batch.{IsNoChange}
 use Rattle.lfs_fs.proofs.WritingDrafts.{cut_ends}
 use Rattle.lfs_fs.proofs.WritingEnds.{given_up_serves, headerless_serves}
+use Rattle.lfs_fs.proofs.GrownDrafts.{cut_fits}
 use Rattle.lfs_fs.proofs.fs.Fs.cut_file.Goals as goal
 
 pub set_len-requires-clause-empty : goal.set_len-requires-clause-empty
@@ -32,3 +33,7 @@ returns-in-Err-set_len g c handle opens =
     given_up_serves g.D.SectorDevice.state g.met.D.SectorDevice.lawful c.args.self.now c.header.new.self c.set_len.new.self c.give_up.new.self _ c.requires.running c.in-Ok.ensures.reads.still
     c.in-Err-set_len.ensures.reads c.in-Err-set_len.ensures.saved c.give_up.ensures.log c.give_up.ensures.saved
     refl refl c.in-Err-set_len.fault c.in-Err-set_len.ensures.failed (λ on. c.in-Err-set_len.ensures.halted (ap Err on)) (λ full. c.in-Err-set_len.ensures.other (ap Err full)) c.from.result c.from.ensures
+
+pub accept-requires-clause-room : goal.accept-requires-clause-room
+accept-requires-clause-room g c =
+    cut_fits g.D.SectorDevice.state c.header.new.self.store.log c.set_len.new.self.log c.set_len.new.self.draft.changes c.args.number c.in-Ok.header c.args.len c.in-Ok-set_len.ensures.done

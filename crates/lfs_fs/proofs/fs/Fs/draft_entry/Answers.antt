@@ -13,6 +13,8 @@ use Rattle.lfs_fs.proofs.CreateEnds.{still_more}
 use Rattle.lfs_fs.proofs.NameLooks.{none_drafted}
 use Rattle.lfs_fs.proofs.NewObjects.{kind_back, object_later}
 use Rattle.lfs_fs.proofs.StoreCalls.{adds_after, counts_after, log_adds, log_counts, log_redrafts, still_drafted, still_logged, still_with, store_failed}
+use Rattle.lfs_store.proofs.Growths.{grows_then}
+use Rattle.lfs_fs.proofs.GrownDrafts.{adds_grow}
 use Rattle.lfs_fs.proofs.fs.Fs.draft_entry.Goals as goal
 
 pub add-requires-clause-room : goal.add-requires-clause-room
@@ -87,3 +89,10 @@ returns-in-Err-relink_parent-clause-still g c =
 
 pub returns-in-Err-relink_parent-clause-refused : goal.returns-in-Err-relink_parent-clause-refused
 returns-in-Err-relink_parent-clause-refused g c = inl c.in-Err-relink_parent.ensures.fault
+
+pub returns-in-Ok-add-clause-small : goal.returns-in-Ok-add-clause-small
+returns-in-Ok-add-clause-small g c =
+    let object = c.draft_object.new.self.store.draft.changes in
+    let linked = c.relink_parent.new.self.store in
+    grows_then c.args.self.now.store.draft.changes linked.draft.changes c.add.new.files.draft.changes 3 2 1 2 (grows_then c.args.self.now.store.draft.changes object linked.draft.changes 2 2 1 0 c.in-Ok.ensures.small c.in-Ok-relink_parent.ensures.small)
+    (adds_grow g.D.SectorDevice.state linked c.add.new.files 1 2 c.in-Ok-add.ensures.small)

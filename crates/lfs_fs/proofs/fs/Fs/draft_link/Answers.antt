@@ -1,10 +1,12 @@
-use Rattle.std.proofs.Common.{Err, ap, length, subst, sym, ◌∙◌}
+use Rattle.std.proofs.Common.{Err, ap, length, subst, sym, ◌∙◌, rules, ◌≤◌}
 use Rattle.lfs_model.specs.declared.Kind.TheVariants as kind
 use Rattle.lfs_store.specs.log.Held.{Held, IsReadFault}
 use Rattle.lfs_store.specs.Making.{first_header}
 use Rattle.lfs_store.specs.Recounting.{Counts}
 use Rattle.lfs_store.specs.Writing.{Writes}
 use Rattle.lfs_fs.proofs.NameLooks.{none_drafted}
+use Rattle.lfs_store.proofs.Growths.{grows_then, makes_grows}
+use Rattle.lfs_fs.proofs.GrownDrafts.{text_grows}
 use Rattle.lfs_fs.proofs.fs.Fs.draft_link.Goals as goal
 
 pub returns-in-Ok-write_at-clause-drafted : goal.returns-in-Ok-write_at-clause-drafted
@@ -30,3 +32,9 @@ returns-in-Err-write_at-clause-refused g c =
     none_drafted state c.args.self.now record { alloc = c.args.self.now.alloc; store = c.write_at.new.self; handles = c.args.self.now.handles } c.requires.running c.in-Err-write_at.fault
     (λ device. subst (λ (h : Held g.row.D.Denot). IsReadFault state h c.write_at.new.self.log) made.log (failed.failed device))
     (λ on. sym (ap (λ (h : Held g.row.D.Denot). h.halted) made.log) ∙ failed.halted (ap Err on)) (λ full. failed.other (ap Err full)) c.from.result c.from.ensures
+
+pub returns-in-Ok-write_at-clause-small : goal.returns-in-Ok-write_at-clause-small
+returns-in-Ok-write_at-clause-small g c =
+    let few : length c.args.text.now ≤ 1023 = search rules in
+    grows_then c.args.self.now.store.draft.changes c.create_link.new.self.draft.changes c.write_at.new.self.draft.changes 1 0 1 2 (makes_grows c.args.self.now.store.draft.changes c.create_link.new.self.draft.changes c.args.number _ c.in-Ok.ensures.done)
+    (text_grows g.D.SectorDevice.state c.create_link.new.self.log c.write_at.new.self.log c.create_link.new.self.draft.changes c.write_at.new.self.draft.changes c.args.number _ c.args.text.now few c.in-Ok-write_at.ensures.done)

@@ -6,6 +6,8 @@ use Rattle.lfs_fs.specs.Renaming.{DraftsTake, FailsName, FailsOver, NamesFound, 
 use Rattle.lfs_fs.specs.Unlinking.{TakesOut}
 use Rattle.lfs_fs.proofs.MoveDrafts.{ok_then2}
 use Rattle.lfs_fs.proofs.NameLooks.{fault_then}
+use Rattle.lfs_store.proofs.of_memory.Going.{ok_then}
+use Rattle.lfs_store.proofs.Growths.{grows_then}
 use Rattle.lfs_fs.proofs.fs.Fs.draft_move.Goals as goal
 
 pub returns-in-Err-take_name-clause-refused : goal.returns-in-Err-take_name-clause-refused
@@ -59,3 +61,10 @@ returns-clause-refused g c =
     (λ fault fails. of_name c.take_name.new.self takes c.draft_target.ensures.still
     (subst (λ (h : Header). FailsName state c.take_name.new.self c.draft_target.new.self c.args.target.directory h c.args.target.name.now c.args.target.replaced fault) holder fails))
     c.draft_target.ensures.refused
+
+pub returns-clause-small : goal.returns-clause-small
+returns-clause-small g c =
+    ok_then c.draft_target.result _ _
+    (grows_then c.args.self.now.store.draft.changes c.take_name.new.self.store.draft.changes c.draft_target.new.self.store.draft.changes 5 2 1 2
+    (grows_then c.args.self.now.store.draft.changes c.draft_links.new.self.store.draft.changes c.take_name.new.self.store.draft.changes 3 0 2 2 c.in-Ok.ensures.small c.in-Ok-take_name.ensures.small))
+    c.draft_target.ensures.small

@@ -6,6 +6,8 @@ use Rattle.lfs_fs.specs.declared.fs.Fs.{Fs}
 use Rattle.lfs_fs.specs.Drafted.{Adds}
 use Rattle.lfs_fs.proofs.NameLooks.{none_drafted}
 use Rattle.lfs_fs.proofs.StoreCalls.{log_adds, log_counts, store_failed}
+use Rattle.lfs_store.proofs.Growths.{grows_then, relinks_grows}
+use Rattle.lfs_fs.proofs.GrownDrafts.{adds_grow}
 use Rattle.lfs_fs.proofs.fs.Fs.draft_name.Goals as goal
 
 pub returns-in-Ok-add-clause-drafted : goal.returns-in-Ok-add-clause-drafted
@@ -47,3 +49,10 @@ returns-in-Err-add-clause-refused g c =
     (store_failed state c.set_links.new.self c.add.new.files (failed.failed device)))
     (λ on. sym (ap (λ (h : Held g.row.D.Denot). h.halted) links.log) ∙ failed.halted (ap Err on))
     (λ full. failed.other (ap Err full)) c.from.result c.from.ensures
+
+pub returns-in-Ok-add-clause-small : goal.returns-in-Ok-add-clause-small
+returns-in-Ok-add-clause-small g c =
+    let linked = c.set_links.new.self in
+    grows_then c.args.self.now.store.draft.changes linked.draft.changes c.add.new.files.draft.changes 1 0 1 2
+    (relinks_grows c.args.self.now.store.draft.changes linked.draft.changes c.args.number c.args.header _ c.in-Ok.ensures.done)
+    (adds_grow g.D.SectorDevice.state linked c.add.new.files 1 2 c.in-Ok-add.ensures.small)

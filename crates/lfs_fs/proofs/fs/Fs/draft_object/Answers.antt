@@ -1,8 +1,10 @@
-use Rattle.std.proofs.Common.{inl, subst, sym}
+use Rattle.std.proofs.Common.{inl, subst, sym, arith}
 use Rattle.std.specs.Prelude.{OnOk}
 use Rattle.lfs_model.specs.declared.Kind.{Kind}
 use Rattle.lfs_fs.specs.Naming.{DraftsEmpty, DraftsObject, new_kind}
 use Rattle.lfs_fs.proofs.NameLooks.{fault_then}
+use Rattle.lfs_store.proofs.of_memory.Going.{ok_then}
+use Rattle.lfs_store.proofs.Growths.{grows_weaker}
 use Rattle.lfs_fs.proofs.fs.Fs.draft_object.Goals as goal
 
 pub draft_link-requires-clause-good : goal.draft_link-requires-clause-good
@@ -34,3 +36,11 @@ returns-in-Link-clause-drafted g c =
     let b = c.draft_link.new.self.store in
     subst (λ (k : Kind). OnOk c.draft_link.result (DraftsObject g.D.SectorDevice.state a.log b.log a.draft.changes b.draft.changes a.drafted b.drafted c.args.number (new_kind k c.args.text.now))) (sym c.in-Link.is)
     c.draft_link.ensures.drafted
+
+pub returns-in-File-clause-small : goal.returns-in-File-clause-small
+returns-in-File-clause-small g c =
+    ok_then c.draft_empty.result _ _ (grows_weaker c.args.self.now.store.draft.changes c.draft_empty.new.self.store.draft.changes 1 0 2 2 (omega arith) (omega arith)) c.draft_empty.ensures.small
+
+pub returns-in-Directory-clause-small : goal.returns-in-Directory-clause-small
+returns-in-Directory-clause-small g c =
+    ok_then c.draft_empty-in-Directory.result _ _ (grows_weaker c.args.self.now.store.draft.changes c.draft_empty-in-Directory.new.self.store.draft.changes 1 0 2 2 (omega arith) (omega arith)) c.draft_empty-in-Directory.ensures.small

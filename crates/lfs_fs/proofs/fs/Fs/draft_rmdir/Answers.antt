@@ -13,6 +13,8 @@ use Rattle.lfs_fs.proofs.CreateEnds.{still_more}
 use Rattle.lfs_fs.proofs.RmdirDrafts.{counts_before, fails_rmdir, linked_has}
 use Rattle.lfs_fs.proofs.StoreCalls.{log_redrafts, still_logged}
 use Rattle.lfs_fs.proofs.UnlinkDrafts.{log_takes, none_lost, takes_behind}
+use Rattle.lfs_store.proofs.Growths.{grows_then}
+use Rattle.lfs_fs.proofs.GrownDrafts.{takes_grow}
 use Rattle.lfs_fs.proofs.fs.Fs.draft_rmdir.Goals as goal
 
 pub take-requires-clause-size : goal.take-requires-clause-size
@@ -136,3 +138,12 @@ returns-in-Err-take-clause-refused g c =
     c.args.directory h) links.header (failed.failed device))
     (λ on. failed.halted (ap Err on)) (λ full. failed.other (ap Err full)) c.from.result
     c.from.ensures
+
+pub returns-in-Ok-true-clause-small : goal.returns-in-Ok-true-clause-small
+returns-in-Ok-true-clause-small g c =
+    let gone = c.drop_object.new.self.store.draft.changes in
+    let mid = c.drop_subdirectory.new.self.store in
+    grows_then c.args.self.now.store.draft.changes mid.draft.changes c.take.new.files.draft.changes 1 0 2 2
+    (grows_then c.args.self.now.store.draft.changes gone mid.draft.changes 0 0 1 0 c.in-Ok.ensures.small c.in-Ok-drop_subdirectory.ensures.small)
+    (takes_grow g.D.SectorDevice.state mid c.take.new.files c.args.directory c.in-Ok-drop_subdirectory.holder c.args.name.now
+    (c.in-Ok-true.ensures.done c.in-Ok-true.field-0-test))

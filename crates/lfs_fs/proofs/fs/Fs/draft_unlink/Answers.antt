@@ -2,6 +2,8 @@ use Rattle.std.proofs.Common.{Err, ap, inr, refl, ◌∙◌}
 use Rattle.lfs_fs.specs.declared.fs.Fs.{Fs}
 use Rattle.lfs_fs.proofs.StoreCalls.{log_redrafts}
 use Rattle.lfs_fs.proofs.UnlinkDrafts.{fails_unlink, log_takes, never_lacks, none_lost, takes_behind}
+use Rattle.lfs_store.proofs.Growths.{grows_then}
+use Rattle.lfs_fs.proofs.GrownDrafts.{takes_grow}
 use Rattle.lfs_fs.proofs.fs.Fs.draft_unlink.Goals as goal
 
 pub returns-in-Err-clause-refused : goal.returns-in-Err-clause-refused
@@ -39,3 +41,9 @@ returns-in-Err-take-clause-refused g c =
     fails_unlink g.D.SectorDevice.state c.args.self.now c.drop_link.new.self after c.args.entry.number c.args.entry.header c.requires.empty c.in-Ok.ensures.lost c.in-Ok.ensures.still.reads
     c.args.directory c.args.entry.holder c.args.name.now c.in-Err-take.fault (c.in-Ok.ensures.still.reads.halted ∙ c.requires.running)
     c.in-Err-take.ensures.failed (λ on. c.in-Err-take.ensures.halted (ap Err on)) (λ full. c.in-Err-take.ensures.other (ap Err full)) c.from.result c.from.ensures
+
+pub returns-in-Ok-true-clause-small : goal.returns-in-Ok-true-clause-small
+returns-in-Ok-true-clause-small g c =
+    let mid = c.drop_link.new.self.store in
+    grows_then c.args.self.now.store.draft.changes mid.draft.changes c.take.new.files.draft.changes 1 0 2 2 c.in-Ok.ensures.small
+    (takes_grow g.D.SectorDevice.state mid c.take.new.files c.args.directory c.args.entry.holder c.args.name.now (c.in-Ok-true.ensures.done c.in-Ok-true.field-0-test))

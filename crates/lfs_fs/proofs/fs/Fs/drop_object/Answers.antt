@@ -2,6 +2,7 @@ use Rattle.lfs_files.specs.declared.fault.StoreFault.TheVariants as store
 use Rattle.lfs_fs.specs.declared.fs.Fs.{Fs}
 use Rattle.lfs_fs.proofs.NameLooks.{none_drafted}
 use Rattle.lfs_fs.proofs.RmdirDrafts.{still_store}
+use Rattle.lfs_store.proofs.Growths.{removes_grows}
 use Rattle.lfs_fs.proofs.fs.Fs.drop_object.Goals as goal
 
 pub returns-in-Ok-clause-still : goal.returns-in-Ok-clause-still
@@ -29,3 +30,7 @@ returns-in-Err-clause-refused g c =
     (store.Log c.in-Err.fault) (λ device. c.in-Err.ensures.failed)
     (λ on. c.in-Err.ensures.halted (cc)) (λ full. c.in-Err.ensures.other (cc)) c.from.result
     c.from.ensures
+
+pub returns-in-Ok-clause-small : goal.returns-in-Ok-clause-small
+returns-in-Ok-clause-small g c =
+    removes_grows c.args.self.now.store.draft.changes c.remove.new.self.draft.changes c.args.number c.in-Ok.ensures.done

@@ -1,4 +1,4 @@
-use Rattle.std.proofs.Common.{ap, refl, Err}
+use Rattle.std.proofs.Common.{ap, refl, Err, subst, sym}
 use Rattle.lfs_model.specs.Call.{Done, LinkTo, Refuse}
 use Rattle.lfs_path.specs.Reaching.{EndsParent}
 use Rattle.lfs_fs.specs.declared.fs.Fs.{Fs}
@@ -12,6 +12,8 @@ use Rattle.lfs_fs.proofs.NameLooks.{only_none}
 use Rattle.lfs_fs.proofs.PathEnds.{store_reads}
 use Rattle.lfs_fs.proofs.ReadingEnds.{begun_running, begun_serves, halted_serves}
 use Rattle.lfs_fs.proofs.StoreCalls.{ends_parent, ends_refused, log_reads, same_drafted, same_totals}
+use Rattle.lfs_store.specs.declared.draft.Draft.{Draft}
+use Rattle.lfs_store.specs.memory.Batch.{IsNoChange}
 use Rattle.lfs_fs.proofs.fs.Fs.link.Goals as goal
 
 pub returns-in-Err : goal.returns-in-Err
@@ -65,3 +67,7 @@ returns-in-Err-parent g c =
     c.in-Err-parent.fault c.from.result c.from.ensures
     (ends_refused state c.begin.new.self.store c.parent.new.files (EndsParent c.args.from.now)
     c.in-Err-parent.fault walk.refused) (λ e. walk.halted (ap Err e)) (λ e. walk.other (ap Err e)))
+
+pub link_from-requires-clause-empty : goal.link_from-requires-clause-empty
+link_from-requires-clause-empty g c =
+    subst (λ (d : Draft). IsNoChange d.changes) (sym c.in-Ok-parent.ensures.reads.draft) c.in-Ok.ensures.done.empty

@@ -1,4 +1,4 @@
-use Rattle.std.proofs.Common.{ap, refl, Err}
+use Rattle.std.proofs.Common.{ap, refl, Err, subst, sym, ◌∙◌}
 use Rattle.lfs_model.specs.Call.{LinkTo}
 use Rattle.lfs_path.specs.Reaching.{EndsParent}
 use Rattle.lfs_fs.specs.declared.fs.Fs.{Fs}
@@ -10,6 +10,8 @@ use Rattle.lfs_fs.proofs.LinkSteps.{link_call}
 use Rattle.lfs_fs.proofs.OldRefusals.{entry_refused, no_piece_perm, zero_device}
 use Rattle.lfs_fs.proofs.PathEnds.{store_reads}
 use Rattle.lfs_fs.proofs.StoreCalls.{ends_parent, ends_refused, log_reads, same_drafted, same_totals}
+use Rattle.lfs_store.specs.declared.draft.Draft.{Draft}
+use Rattle.lfs_store.specs.memory.Batch.{IsNoChange}
 use Rattle.lfs_fs.proofs.fs.Fs.link_from.Goals as goal
 
 pub returns-then-directory-eq0 : goal.returns-then-directory-eq0
@@ -78,3 +80,7 @@ returns-in-Err-parent g c v from reached =
     c.args.to.now c.in-Err-parent.fault c.from.result c.from.ensures
     (ends_refused state mid.store c.parent.new.files (EndsParent c.args.to.now)
     c.in-Err-parent.fault walk.refused) (λ e. walk.halted (ap Err e)) (λ e. walk.other (ap Err e))
+
+pub link_to-requires-clause-empty : goal.link_to-requires-clause-empty
+link_to-requires-clause-empty g c =
+    subst (λ (d : Draft). IsNoChange d.changes) (sym (c.in-Ok-parent.ensures.reads.draft ∙ c.in-Ok.ensures.reads.draft)) c.requires.empty

@@ -2,6 +2,8 @@ use Rattle.lfs_fs.specs.declared.fs.Fs.{Fs}
 use Rattle.lfs_fs.proofs.LinkEnds.{link_ends, undrafted_ends}
 use Rattle.lfs_fs.proofs.LinkRefusals.{link_entry_refused, link_many_refused, link_no_piece, link_zero}
 use Rattle.lfs_fs.proofs.NameLooks.{seen_same}
+use Rattle.std.proofs.Common.{arith}
+use Rattle.lfs_fs.proofs.GrownDrafts.{begun_fits}
 use Rattle.lfs_fs.proofs.fs.Fs.link_to.Goals as goal
 
 pub returns-then-directory-eq0 : goal.returns-then-directory-eq0
@@ -55,3 +57,7 @@ returns-in-Err-draft_name g c v from to holder sees reached =
     (seen_same g.D.SectorDevice.state tried c.give_up.new.self c.give_up.ensures.log
     c.give_up.ensures.saved)
     c.in-Err-draft_name.ensures.still c.in-Err-draft_name.fault c.in-Err-draft_name.ensures.refused
+
+pub accept-requires-clause-room : goal.accept-requires-clause-room
+accept-requires-clause-room g c =
+    begun_fits c.args.self.now.store.draft c.check_new_entry.new.self.store.draft c.draft_name.new.self.store.draft.changes 2 2 (omega arith) c.requires.empty c.in-Ok.ensures.reads.draft c.in-Ok-draft_name.ensures.small

@@ -2,6 +2,9 @@ use Rattle.lfs_fs.specs.Volume.{segments_of}
 use Rattle.lfs_fs.proofs.CreateRefusals.{entry_refused, links_allowed, links_refused, no_piece_ends, number_refused, zero_ends}
 use Rattle.lfs_fs.proofs.CreateTurned.{mkdir_ends}
 use Rattle.lfs_fs.proofs.EntrySteps.{mkdir_call}
+use Rattle.std.proofs.Common.{subst, sym}
+use Rattle.lfs_store.specs.declared.draft.Draft.{Draft}
+use Rattle.lfs_store.specs.memory.Batch.{IsNoChange}
 use Rattle.lfs_fs.proofs.fs.Fs.mkdir_at.Goals as goal
 
 -- the path has no piece
@@ -35,3 +38,7 @@ pub returns : goal.returns
 returns g c v path reached =
     mkdir_ends g.D.SectorDevice.state g.met.D.SectorDevice.lawful v c.args.self.now c.check_new_entry.new.self path c.args.directory c.args.last reached c.requires.running c.in-Some.last c.in-Some.is
     c.in-Ok.ensures.reads c.in-Ok.header c.in-Ok.ensures.taken c.if-header-ge-MOST_LINKS.false c.in-Some-least_free.number c.in-Some-least_free.ensures.some c.make_entry.new.self c.make_entry.result c.make_entry.ensures.made c.make_entry.ensures.refused
+
+pub make_entry-requires-clause-empty : goal.make_entry-requires-clause-empty
+make_entry-requires-clause-empty g c =
+    subst (λ (d : Draft). IsNoChange d.changes) (sym c.in-Ok.ensures.reads.draft) c.requires.empty

@@ -1,6 +1,7 @@
-use Rattle.std.proofs.Common.{inl, inr}
+use Rattle.std.proofs.Common.{inl, inr, arith}
 use Rattle.lfs_store.proofs.of_memory.Going.{ok_then}
 use Rattle.lfs_fs.proofs.NameLooks.{fault_then, seen_same}
+use Rattle.lfs_store.proofs.Growths.{grown_fits}
 use Rattle.lfs_fs.proofs.fs.Fs.move_entry.Goals as goal
 
 pub returns-in-Ok-clause-moved : goal.returns-in-Ok-clause-moved
@@ -22,3 +23,7 @@ returns-in-Err-clause-refused g c = inr (record {
   fails = c.in-Err.ensures.refused;
   same = seen_same g.D.SectorDevice.state c.draft_move.new.self c.give_up.new.self c.give_up.ensures.log c.give_up.ensures.saved;
 })
+
+pub accept-requires-clause-room : goal.accept-requires-clause-room
+accept-requires-clause-room g c =
+    grown_fits c.args.self.now.store.draft.changes c.draft_move.new.self.store.draft.changes 6 4 (omega arith) c.requires.empty c.in-Ok.ensures.small

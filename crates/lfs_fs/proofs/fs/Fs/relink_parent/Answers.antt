@@ -3,6 +3,7 @@ use Rattle.std.specs.Prelude.{IfOk, OnOk}
 use Rattle.lfs_model.specs.declared.Kind.{Kind}
 use Rattle.lfs_store.specs.Making.{relinked}
 use Rattle.lfs_fs.specs.Naming.{RelinksParent, more_links}
+use Rattle.lfs_fs.proofs.GrownDrafts.{grows_still}
 use Rattle.lfs_fs.proofs.fs.Fs.relink_parent.Goals as goal
 
 pub add_link-requires-clause-linked : goal.add_link-requires-clause-linked
@@ -30,3 +31,11 @@ pub returns-in-Directory-clause-done : goal.returns-in-Directory-clause-done
 returns-in-Directory-clause-done g c =
     subst (λ (k : Kind). OnOk c.add_link.result (RelinksParent c.args.self.now.store.draft.changes c.add_link.new.self.store.draft.changes c.args.directory c.args.header c.add_link.new.self.store.drafted k))
     (sym c.in-Directory.is) c.add_link.ensures.done
+
+pub returns-in-File-clause-small : goal.returns-in-File-clause-small
+returns-in-File-clause-small g c =
+    grows_still c.args.self.now.store.draft.changes 1 0
+
+pub returns-in-Link-clause-small : goal.returns-in-Link-clause-small
+returns-in-Link-clause-small g c =
+    grows_still c.args.self.now.store.draft.changes 1 0

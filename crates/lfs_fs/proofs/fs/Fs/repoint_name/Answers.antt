@@ -1,6 +1,7 @@
 use Rattle.std.proofs.Common.{Err, ap}
 use Rattle.lfs_fs.proofs.MoveDrafts.{log_repoints, never_lacks, over_fails}
 use Rattle.lfs_fs.proofs.StoreCalls.{log_counts}
+use Rattle.lfs_fs.proofs.GrownDrafts.{adds_grow}
 use Rattle.lfs_fs.proofs.fs.Fs.repoint_name.Goals as goal
 
 pub returns-in-Ok-true-clause-named : goal.returns-in-Ok-true-clause-named
@@ -20,3 +21,7 @@ pub returns-in-Err-clause-refused : goal.returns-in-Err-clause-refused
 returns-in-Err-clause-refused g c =
     over_fails g.D.SectorDevice.state c.args.self.now record { alloc = c.args.self.now.alloc; store = c.repoint.new.files; handles = c.args.self.now.handles } c.args.directory c.args.holder c.args.name.now
     c.requires.running c.in-Err.fault c.in-Err.ensures.failed (λ on. c.in-Err.ensures.halted (ap Err on)) (λ full. c.in-Err.ensures.other (ap Err full)) c.from.result c.from.ensures
+
+pub returns-in-Ok-true-clause-small : goal.returns-in-Ok-true-clause-small
+returns-in-Ok-true-clause-small g c =
+    adds_grow g.D.SectorDevice.state c.args.self.now.store c.repoint.new.files 1 2 (c.in-Ok-true.ensures.small c.in-Ok-true.field-0-test)

@@ -1,10 +1,11 @@
-use Rattle.std.proofs.Common.{◌∙◌, subst, sym}
+use Rattle.std.proofs.Common.{◌∙◌, subst, sym, arith}
 use Rattle.lfs_store.specs.declared.draft.Draft.{Draft}
 use Rattle.lfs_store.specs.memory.Batch.{IsNoChange}
 use Rattle.lfs_fs.specs.Seen.{seen}
 use Rattle.lfs_fs.proofs.NameLooks.{seen_same}
 use Rattle.lfs_fs.proofs.RmdirEnds.{rmdir_ends, rmdir_undrafted}
 use Rattle.lfs_fs.proofs.RmdirRefusals.{empty_refused, number_zero, root_busy}
+use Rattle.lfs_fs.proofs.GrownDrafts.{begun_fits}
 use Rattle.lfs_fs.proofs.fs.Fs.rmdir_at.Goals as goal
 
 -- the path has no piece
@@ -32,11 +33,16 @@ pub draft_rmdir-requires-clause-empty : goal.draft_rmdir-requires-clause-empty
 draft_rmdir-requires-clause-empty g c =
     subst (λ (d : Draft). IsNoChange d.changes) (sym c.in-Ok.ensures.reads.draft) c.requires.empty
 
-pub accept-requires : goal.accept-requires
-accept-requires g c = record {
-  running = c.in-Ok-draft_rmdir.ensures.still.reads.halted
-      ∙ c.in-Ok.ensures.reads.still.reads.halted ∙ c.requires.running;
-}
+pub accept-requires-clause-running : goal.accept-requires-clause-running
+accept-requires-clause-running g c =
+    c.in-Ok-draft_rmdir.ensures.still.reads.halted
+    ∙ c.in-Ok.ensures.reads.still.reads.halted ∙ c.requires.running
+
+pub accept-requires-clause-room : goal.accept-requires-clause-room
+accept-requires-clause-room g c =
+    begun_fits c.args.self.now.store.draft c.check_empty.new.self.store.draft
+    c.draft_rmdir.new.self.store.draft.changes 3 2 (omega arith) c.requires.empty
+    c.in-Ok.ensures.reads.draft c.in-Ok-draft_rmdir.ensures.small
 
 pub returns-in-Ok-draft_rmdir : goal.returns-in-Ok-draft_rmdir
 returns-in-Ok-draft_rmdir g c v path reached =

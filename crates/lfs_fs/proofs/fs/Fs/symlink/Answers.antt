@@ -1,4 +1,4 @@
-use Rattle.std.proofs.Common.{ap, refl, Err}
+use Rattle.std.proofs.Common.{ap, refl, Err, subst, sym}
 use Rattle.lfs_model.specs.Call.{Done, Refuse, Symlink}
 use Rattle.lfs_path.specs.Reaching.{EndsParent}
 use Rattle.lfs_fs.specs.declared.fs.Fs.{Fs}
@@ -9,6 +9,8 @@ use Rattle.lfs_fs.proofs.PathEnds.{path_without, store_reads}
 use Rattle.lfs_fs.proofs.PathSteps.{symlink_refused}
 use Rattle.lfs_fs.proofs.ReadingEnds.{begun_running, begun_serves, halted_serves}
 use Rattle.lfs_fs.proofs.StoreCalls.{ends_parent, ends_refused, log_reads, same_drafted, same_totals}
+use Rattle.lfs_store.specs.declared.draft.Draft.{Draft}
+use Rattle.lfs_store.specs.memory.Batch.{IsNoChange}
 use Rattle.lfs_fs.proofs.fs.Fs.symlink.Goals as goal
 
 pub returns-in-Err : goal.returns-in-Err
@@ -47,3 +49,7 @@ returns-in-Err-parent g c =
     (path_without state c.begin.new.self mid (g.met.D.SectorDevice.lawful c.begin.new.self.store.log.device) (begun_running state c.args.self.now c.begin.new.self begun) begun.empty first
     (EndsParent c.args.path.now) (Symlink c.args.text.now c.args.path.now) refl refl refl (λ N s r w. symlink_refused N s c.args.path.now c.args.text.now c.in-Ok-check_link_text.ensures.good r w)
     c.in-Err-parent.fault c.from.result c.from.ensures (ends_refused state c.begin.new.self.store c.parent.new.files (EndsParent c.args.path.now) c.in-Err-parent.fault walk.refused) (λ e. walk.halted (ap Err e)) (λ e. walk.other (ap Err e)))
+
+pub symlink_at-requires-clause-empty : goal.symlink_at-requires-clause-empty
+symlink_at-requires-clause-empty g c =
+    subst (λ (d : Draft). IsNoChange d.changes) (sym c.in-Ok-parent.ensures.reads.draft) c.in-Ok.ensures.done.empty

@@ -1,6 +1,7 @@
 use Rattle.std.proofs.Common.{Err, ap}
 use Rattle.lfs_fs.proofs.MoveDrafts.{apart_still, never_lacks, over_fails}
 use Rattle.lfs_fs.proofs.UnlinkDrafts.{log_takes}
+use Rattle.lfs_fs.proofs.GrownDrafts.{takes_grow}
 use Rattle.lfs_fs.proofs.fs.Fs.take_name.Goals as goal
 
 pub returns-in-Ok-true-clause-taken : goal.returns-in-Ok-true-clause-taken
@@ -21,3 +22,7 @@ returns-in-Err-clause-refused g c =
 pub returns-in-Ok-true-clause-apart : goal.returns-in-Ok-true-clause-apart
 returns-in-Ok-true-clause-apart g c =
     apart_still c.args.self.now.store.draft.changes.loss c.take.new.files.draft.changes.loss (c.in-Ok-true.ensures.done c.in-Ok-true.field-0-test).drops.lost
+
+pub returns-in-Ok-true-clause-small : goal.returns-in-Ok-true-clause-small
+returns-in-Ok-true-clause-small g c =
+    takes_grow g.D.SectorDevice.state c.args.self.now.store c.take.new.files c.args.directory c.args.holder c.args.name.now (c.in-Ok-true.ensures.done c.in-Ok-true.field-0-test)

@@ -1,4 +1,4 @@
-use Rattle.std.proofs.Common.{refl, subst, sym}
+use Rattle.std.proofs.Common.{refl, subst, sym, arith}
 use Rattle.lfs_model.specs.Call.{Unlink}
 use Rattle.lfs_store.specs.declared.draft.Draft.{Draft}
 use Rattle.lfs_store.specs.memory.Batch.{IsNoChange}
@@ -8,6 +8,7 @@ use Rattle.lfs_fs.proofs.OldRefusals.{entry_refused, no_piece_perm, zero_device}
 use Rattle.lfs_fs.proofs.UnlinkEnds.{unlink_ends}
 use Rattle.lfs_fs.proofs.UnlinkFails.{undrafted_serves}
 use Rattle.lfs_fs.proofs.UnlinkSteps.{unlink_call}
+use Rattle.lfs_fs.proofs.GrownDrafts.{begun_fits}
 use Rattle.lfs_fs.proofs.fs.Fs.unlink_at.Goals as goal
 
 pub returns-then-directory-eq0 : goal.returns-then-directory-eq0
@@ -44,3 +45,7 @@ returns-in-Err-draft_unlink g c v path reached =
     record { alloc = c.draft_unlink.new.self.alloc; store = c.give_up.new.self; handles = c.draft_unlink.new.self.handles }
     (seen_same g.D.SectorDevice.state c.draft_unlink.new.self c.give_up.new.self c.give_up.ensures.log c.give_up.ensures.saved)
     c.in-Err-draft_unlink.fault c.in-Err-draft_unlink.ensures.refused
+
+pub accept-requires-clause-room : goal.accept-requires-clause-room
+accept-requires-clause-room g c =
+    begun_fits c.args.self.now.store.draft c.check_old_entry.new.self.store.draft c.draft_unlink.new.self.store.draft.changes 3 2 (omega arith) c.requires.empty c.in-Ok.ensures.reads.draft c.in-Ok-draft_unlink.ensures.small

@@ -1,8 +1,10 @@
-use Rattle.std.proofs.Common.{rules, ap, refl, Err}
+use Rattle.std.proofs.Common.{rules, ap, refl, Err, arith, subst, sym}
 use Rattle.lfs_store.specs.log.verify.declared.totals.BlockTotals.{BlockTotals}
 use Rattle.lfs_fs.proofs.WritingDrafts.{write_ends}
 use Rattle.lfs_fs.proofs.WritingEnds.{given_up_serves, headerless_serves}
 use Rattle.lfs_fs.proofs.WritingExits.{bytes_of}
+use Rattle.lfs_store.specs.declared.draft.Draft.{Draft}
+use Rattle.lfs_store.specs.memory.Batch.{IsNoChange}
 use Rattle.lfs_fs.proofs.fs.Fs.write_file.Goals as goal
 
 pub returns-in-Err : goal.returns-in-Err
@@ -29,3 +31,8 @@ returns-in-Err-write_at g c handle opens few =
     given_up_serves g.D.SectorDevice.state g.met.D.SectorDevice.lawful c.args.self.now c.header.new.self c.write_at.new.self c.give_up.new.self _ c.requires.running c.in-Ok.ensures.reads.still
     c.in-Err-write_at.ensures.reads c.in-Err-write_at.ensures.saved c.give_up.ensures.log c.give_up.ensures.saved
     refl refl c.in-Err-write_at.fault c.in-Err-write_at.ensures.failed (λ on. c.in-Err-write_at.ensures.halted (ap Err on)) (λ full. c.in-Err-write_at.ensures.other (ap Err full)) c.from.result c.from.ensures
+
+pub accept-requires-clause-room : goal.accept-requires-clause-room
+accept-requires-clause-room g c =
+    let room = c.in-Ok-write_at.ensures.room (subst (λ (d : Draft). IsNoChange d.changes) (sym c.in-Ok.ensures.reads.draft) c.requires.empty) c.requires.most in
+    omega (arith, room)

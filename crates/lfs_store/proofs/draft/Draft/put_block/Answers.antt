@@ -3,6 +3,7 @@ use Rattle.lfs_cleaner.specs.log.memory.declared.batch.BlockEdit.{BlockEdit}
 use Rattle.lfs_cleaner.proofs.of_log.of_memory.Going.{ok_then}
 use Rattle.lfs_store.specs.Drafting.{LastBlock}
 use Rattle.lfs_store.proofs.Fitting.{block_replaced, block_appended}
+use Rattle.lfs_store.proofs.Runs.{placed_again, placed_behind}
 use Rattle.lfs_store.proofs.draft.Draft.put_block.Goals as goal
 
 pub returns-in_default-clause-done : goal.returns-in_default-clause-done
@@ -14,3 +15,13 @@ pub returns-clause-done : goal.returns-clause-done
 returns-clause-done c =
     block_replaced c.args.self.now.changes _ c.args.number c.args.index c.in-Some.place _
     (subst (λ (es : List BlockEdit). LastBlock es c.args.number c.args.index c.in-Some.place) c.deref.ensures.value c.in-Some.ensures) (refl, refl) refl refl refl
+
+pub returns-in_default-clause-placed : goal.returns-in_default-clause-placed
+returns-in_default-clause-placed c =
+    ok_then c.put_block.result _ _
+    (λ put. placed_behind c.args.self.now.changes c.put_block.new.self c.args.number c.args.index c.args.bytes.now put) c.put_block.ensures.done
+
+pub returns-clause-placed : goal.returns-clause-placed
+returns-clause-placed c =
+    placed_again c.args.self.now.changes _ c.args.number c.args.index c.in-Some.place
+    (subst (λ (es : List BlockEdit). LastBlock es c.args.number c.args.index c.in-Some.place) c.deref.ensures.value c.in-Some.ensures)

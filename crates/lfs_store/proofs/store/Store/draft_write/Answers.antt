@@ -1,13 +1,16 @@
-use Rattle.std.proofs.Common.{◌≡◌, ◌∙◌, refl, rules, ℕ, sym, subst}
+use Rattle.std.proofs.Common.{◌≡◌, ◌≤◌, ◌+◌, ◌/◌, ◌∙◌, refl, rules, ℕ, length, sym, subst}
 use Rattle.lfs_cleaner.specs.log.Held.{Held, IsReadFault}
 use Rattle.std.specs.Prelude.{Result, Err, IfErr}
 use Rattle.lfs_files.specs.declared.fault.StoreFault.{StoreFault}
 use Rattle.lfs_files.specs.declared.fault.StoreFault.TheVariants.{NoMemory}
 use Rattle.lfs_cleaner.proofs.of_log.of_memory.Going.{ok_then}
 use Rattle.lfs_store.specs.Drafting.{PutsHeader}
+use Rattle.std.specs.Int.{div_ceil}
+use Rattle.lfs_store.specs.Growing.{IsRun}
 use Rattle.lfs_store.specs.Writing.{Writes, resized}
 use Rattle.lfs_store.proofs.LogReads.{reads_none, fault_more}
 use Rattle.lfs_store.proofs.Writings.{written_none, written_more, written}
+use Rattle.lfs_store.proofs.Runs.{blocks_few, run_goes_on, written_room}
 use Rattle.lfs_store.proofs.store.Store.draft_write.Goals as goal
 
 pub loop-index-init : goal.loop-index-init
@@ -15,6 +18,7 @@ loop-index-init g c = (
   written_none g.D.SectorDevice.state c.args.self.now.log c.args.self.now.draft.changes c.args.number c.args.at c.args.bytes.now (reads_none g.D.SectorDevice.state c.args.self.now.log),
   refl,
   refl,
+  λ none. subst (IsRun c.args.number (c.args.at / 512) (c.args.at / 512)) (sym none.blocks) refl,
 )
 
 pub returns-in_err-write_block-clause-failed : goal.returns-in_err-write_block-clause-failed
@@ -31,6 +35,7 @@ loop-index-preserved g c = (
       c.args.number c.args.at c.args.bytes.now c.loop-index.index (g.met.D.SectorDevice.lawful c.args.self.now.log.device) (search rules) c.loop-index.invariant.0 c.write_block.ensures.reads c.in_ok-write_block.ensures.done,
   c.write_block.ensures.saved ∙ c.loop-index.invariant.1,
   c.write_block.ensures.drafted ∙ c.loop-index.invariant.2,
+  λ none. run_goes_on c.loop-index.self.draft.changes c.write_block.new.self.draft.changes c.args.number (c.args.at / 512) c.loop-index.index (c.loop-index.invariant.3 none) c.in_ok-write_block.ensures.placed,
 )
 
 pub returns-clause-done : goal.returns-clause-done
@@ -52,3 +57,11 @@ returns-in_err-write_block-clause-drafted g c = c.write_block.ensures.drafted �
 
 pub returns-clause-drafted : goal.returns-clause-drafted
 returns-clause-drafted g c = c.resize.ensures.drafted ∙ c.loop-index.invariant.2
+
+pub returns-clause-room : goal.returns-clause-room
+returns-clause-room g c =
+    let end : c.loop-index.index ≡ div_ceil (c.args.at + length c.args.bytes.now) 512 = search rules in
+    ok_then c.resize.result _ _
+    (λ puts none few. written_room c.args.self.now.draft.changes c.loop-index.self.draft.changes c.resize.new.self.draft.changes c.args.number (c.args.at / 512) c.loop-index.index _ none
+    c.loop-index.invariant.0.headers (c.loop-index.invariant.3 none)
+    (subst (λ (i : ℕ). i ≤ c.args.at / 512 + 129) (sym end) (blocks_few c.args.at (length c.args.bytes.now) few)) puts) c.resize.ensures.done

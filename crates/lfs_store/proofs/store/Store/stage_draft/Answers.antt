@@ -1,9 +1,10 @@
-use Rattle.std.proofs.Common.{rules, ◌≡◌, true, false, ap, sym, ◌∙◌, subst, Err}
+use Rattle.std.proofs.Common.{rules, ◌≡◌, ◌<◌, true, false, ap, sym, ◌∙◌, subst, Err}
 use Rattle.lfs_cleaner.specs.log.Held.{Held}
 use Rattle.lfs_store.specs.declared.draft.Draft.{Draft}
+use Rattle.lfs_cleaner.specs.log.memory.Batch.{room_for}
 use Rattle.lfs_cleaner.specs.log.memory.files.declared.fault.LogFault.TheVariants.{Full, Device, Halted}
 use Rattle.lfs_store.specs.Accepting.{Accepts, Declines, IsAcceptFault}
-use Rattle.lfs_store.proofs.Acceptings.{accepts, declines, declines_room, accept_fault, room_fault, where_err}
+use Rattle.lfs_store.proofs.Acceptings.{accepts, declines, declines_room, accept_fault, asks_much, room_fault, where_err}
 use Rattle.lfs_store.proofs.store.Store.stage_draft.Goals as goal
 
 pub returns-in-Err-clause-full : goal.returns-in-Err-clause-full
@@ -68,3 +69,9 @@ returns-in-Ok-staged-clause-done g c =
     subst (λ (d : Draft). Accepts g.D.SectorDevice.state c.args.self.now.log c.args.self.now.saved c.stage-staged.new.self false d.changes) c.in-Ok.ensures.draft
     (accepts g.D.SectorDevice.state c.args.self.now.log c.prepare_change.new.self.log c.stage-staged.new.self c.args.self.now.saved c.prepare_change.new.self.saved c.prepare_change.new.self.draft.changes
     (g.met.D.SectorDevice.lawful c.prepare_change.new.self.log.device) (sym c.is_halted.ensures ∙ c.if-is_halted.false) c.in-Ok.ensures.done staged.alters c.in-Ok.ensures.enough staged)
+
+pub returns-in-Err-Full-clause-fits : goal.returns-in-Err-Full-clause-fits
+returns-in-Err-Full-clause-fits g c is rest =
+    subst (λ (d : Draft). 456 < room_for d.changes) c.in-Ok.ensures.draft
+    (asks_much g.D.SectorDevice.state c.args.self.now.log c.prepare_change.new.self.log c.args.self.now.saved c.prepare_change.new.self.saved c.prepare_change.new.self.draft.changes
+    c.in-Ok.ensures.done rest c.in-Ok.ensures.room (c.stage-staged.ensures.full (search rules)) (c.stage-staged.ensures.narrow (search rules)))

@@ -1,6 +1,7 @@
-use Rattle.std.proofs.Common.{◌/◌, ◌∙◌, sym, subst}
+use Rattle.std.proofs.Common.{◌≤◌, ◌/◌, ◌∙◌, sym, subst}
 use Rattle.lfs_store.specs.declared.draft.Draft.{Draft}
 use Rattle.lfs_cleaner.specs.log.verify.declared.totals.BlockTotals.{BlockTotals}
+use Rattle.lfs_cleaner.specs.log.memory.Batch.{IsNoChange, room_for}
 use Rattle.lfs_store.specs.Recounting.{Remeasures, Counts}
 use Rattle.lfs_store.specs.Writing.{Writes}
 use Rattle.lfs_store.proofs.LogReads.{fault_more, reads_more}
@@ -36,3 +37,8 @@ returns-in-Ok-recount-clause-counted g c =
     (write_counts state c.args.self.now.log c.measure.new.self.log c.draft_write.new.self.log c.recount.new.self.log c.args.self.now.draft.changes c.draft_write.new.self.draft.changes c.args.number c.in-Ok.measure
     c.args.self.now.drafted c.recount.new.self.drafted c.requires.some c.requires.few c.measure.ensures.reads.log c.draft_write.ensures.reads c.recount.ensures.reads
     c.args.header c.args.at c.args.bytes.now c.div_ceil-to.result c.requires.bytes c.requires.end c.div_ceil-to.ensures c.in-Ok.ensures.answer writes again)
+
+pub returns-in-Ok-recount-clause-room : goal.returns-in-Ok-recount-clause-room
+returns-in-Ok-recount-clause-room g c none few =
+    subst (λ (d : Draft). room_for d.changes ≤ 144) (sym c.recount.ensures.draft)
+    (c.in-Ok-draft_write.ensures.room (subst (λ (d : Draft). IsNoChange d.changes) (sym c.measure.ensures.reads.draft) none) few)

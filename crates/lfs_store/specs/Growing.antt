@@ -1,0 +1,25 @@
+-- How much a draft asks for: how many headers and blocks it changes, and in what order its blocks stand.
+use Rattle.std.specs.Prelude.{◌≡◌, ◌≤◌, ◌+◌, ℕ, List, [], ◌∷◌, ◌++◌, length}
+use Rattle.lfs_cleaner.specs.log.memory.declared.batch.BlockEdit.{BlockEdit}
+use Rattle.lfs_cleaner.specs.log.memory.declared.changes.Changes.{Changes}
+use Rattle.lfs_store.specs.Drafting.{IsBlock, NoBlock}
+
+-- A draft changes at most so many headers, and so many blocks, more than it did before.
+pub record GrowsBy (c c' : Changes) (more_headers more_blocks : ℕ) : Type 0 where
+  pub headers : length c'.headers.items ≤ length c.headers.items + more_headers
+  pub blocks : length c'.blocks.items ≤ length c.blocks.items + more_blocks
+
+-- Block i of file n comes behind the blocks that the draft has.
+pub record AppendsBlock (c c' : Changes) (n i : ℕ) : Type 0 where
+  pub edit : BlockEdit
+  pub block : IsBlock n i edit
+  pub blocks : c'.blocks.items ≡ c.blocks.items ++ edit ∷ []
+
+-- It does where the draft hasn't that block yet.
+abbrev pub PlacesBlock : Changes → Changes → ℕ → ℕ → Type 0
+PlacesBlock c c' n i = NoBlock n i c.blocks.items → AppendsBlock c c' n i
+
+-- These are the blocks of file n from one index on, up to another, each behind the one before it.
+abbrev pub IsRun : ℕ → ℕ → ℕ → List BlockEdit → Type 0
+IsRun n from to [] = from ≡ to
+IsRun n from to (e ∷ es) = IsBlock n from e × IsRun n (from + 1) to es
