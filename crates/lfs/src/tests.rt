@@ -2,7 +2,7 @@
 use crate::command;
 use std::alloc::{AllocError, Global};
 use std::fs::{File, Permissions};
-use std::io::Write;
+use std::io::{Read, Write};
 use std::os::unix::fs::{FileExt, PermissionsExt};
 use std::process::Abort;
 use std::rt::Files;
@@ -45,10 +45,12 @@ enum Step<'a> {
     Says(&'a [&'a str], &'a [u8], u8, Said<'a>),
     /// A command line that is given so many letters, its exit status, and what it says.
     Reads(&'a str, usize, u8, Said<'a>),
-    /// A command line that is given a line so many times and then a bad one, and what it says.
-    Repeats(&'a str, usize, &'a [u8], &'a [u8], Said<'a>),
-    /// A command line that prints so many zeros, and these bytes behind them.
-    Copies(&'a str, usize, &'a [u8]),
+    /// A command line that is given a text so many times and these bytes behind it, its exit status, and what it says.
+    Repeats(&'a str, usize, &'a [u8], &'a [u8], u8, Said<'a>),
+    /// A command line that is given these bytes one at a time, and then a failed read.
+    Breaks(&'a str, &'a [u8]),
+    /// A command line that prints a text so many times, and these bytes behind it.
+    Copies(&'a str, usize, &'a [u8], &'a [u8]),
     /// Makes the files /y1, /y2, .. up to this number by a command line, each in a mount of its own.
     Fills(&'a str, u32),
     /// Gives a file this length and these pieces. Where it isn't there it is made; what is new in it is zero.
@@ -75,11 +77,30 @@ fn words(alloc: Global, line: &str) -> Result<Vec<String>, AllocError> {
     Ok(all)
 }
 
-// Whether a command line, of words with one space between two, ends and speaks so.
-fn says<R: Files<File = File> + AllocGlobal>(
+// Gives its bytes one at a time, and then fails.
+#[derive(Drop)]
+struct Broken<'a> {
+    rest: &'a [u8],
+}
+
+impl Read for Broken<'_> {
+    fn read(&mut self, buf: &mut [u8]) -> io::Result<usize> {
+        match (self.rest.split_first(), buf.first_mut()) {
+            (Some((byte, rest)), Some(place)) => {
+                *place = *byte;
+                self.rest = rest;
+                Ok(1)
+            }
+            _ => Err(io::Error::from(io::ErrorKind::BrokenPipe)),
+        }
+    }
+}
+
+// Whether a command line, of words with one space between two, ends and speaks so over an input.
+fn speaks<R: Files<File = File> + AllocGlobal, I: Read>(
     rt: &R,
     line: &str,
-    mut input: &[u8],
+    input: &mut I,
     status: u8,
     said: Said<'_>,
 ) -> bool {
@@ -89,15 +110,26 @@ fn says<R: Files<File = File> + AllocGlobal>(
     };
     let mut output = Vec::new(alloc);
     let mut errors = Vec::new(alloc);
-    let found = command(
-        rt,
-        alloc,
-        words.as_slice(),
-        &mut input,
-        &mut output,
-        &mut errors,
-    );
+    let found = command(rt, alloc, words.as_slice(), input, &mut output, &mut errors);
     found == status && said.is(status, output.as_slice(), errors.as_slice())
+}
+
+// The same over these bytes.
+fn says<R: Files<File = File> + AllocGlobal>(
+    rt: &R,
+    line: &str,
+    mut input: &[u8],
+    status: u8,
+    said: Said<'_>,
+) -> bool {
+    speaks(rt, line, &mut input, status, said)
+}
+
+// The same over these bytes and a failed read behind them.
+fn breaks<R: Files<File = File> + AllocGlobal>(rt: &R, line: &str, bytes: &[u8]) -> bool {
+    let mut input = Broken { rest: bytes };
+    let said = Said::Tells(b"", b"lfs: standard input can't be read\n");
+    speaks(rt, line, &mut input, 1, said)
 }
 
 fn each_says<R: Files<File = File> + AllocGlobal>(
@@ -128,33 +160,38 @@ fn reads<R: Files<File = File> + AllocGlobal>(
     }
 }
 
+// A text so many times, and these bytes behind it.
+fn repeated(alloc: Global, times: usize, text: &[u8], last: &[u8]) -> Result<Vec<u8>, AllocError> {
+    let mut all = Vec::new(alloc);
+    for _ in 0..times {
+        all.extend_from_slice(text)?;
+    }
+    all.extend_from_slice(last)?;
+    Ok(all)
+}
+
 fn repeats<R: Files<File = File> + AllocGlobal>(
     rt: &R,
     line: &str,
-    times: usize,
-    text: &[u8],
-    last: &[u8],
+    input: Result<Vec<u8>, AllocError>,
+    status: u8,
     said: Said<'_>,
 ) -> bool {
-    let mut input = Vec::new(rt.alloc());
-    for _ in 0..times {
-        if input.extend_from_slice(text).is_err() {
-            return false;
-        }
+    match input {
+        Ok(input) => says(rt, line, input.as_slice(), status, said),
+        Err(_) => false,
     }
-    input.extend_from_slice(last).is_ok() && says(rt, line, input.as_slice(), 2, said)
 }
 
 fn copies<R: Files<File = File> + AllocGlobal>(
     rt: &R,
     line: &str,
-    zeros: usize,
-    last: &[u8],
+    wanted: Result<Vec<u8>, AllocError>,
 ) -> bool {
-    let Ok(mut wanted) = vec![in rt.alloc(); 0; zeros] else {
-        return false;
-    };
-    wanted.extend_from_slice(last).is_ok() && says(rt, line, b"", 0, Said::Reply(wanted.as_slice()))
+    match wanted {
+        Ok(wanted) => says(rt, line, b"", 0, Said::Reply(wanted.as_slice())),
+        Err(_) => false,
+    }
 }
 
 fn fills<R: Files<File = File> + AllocGlobal>(rt: &R, line: &str, last: u32) -> bool {
@@ -245,8 +282,14 @@ fn is_well<R: Files<File = File> + AllocGlobal>(rt: &R, step: Step<'_>) -> bool 
     match step {
         Step::Says(lines, input, status, said) => each_says(rt, lines, input, status, said),
         Step::Reads(line, letters, status, said) => reads(rt, line, letters, status, said),
-        Step::Repeats(line, times, text, last, said) => repeats(rt, line, times, text, last, said),
-        Step::Copies(line, zeros, last) => copies(rt, line, zeros, last),
+        Step::Repeats(line, times, text, last, status, said) => {
+            let input = repeated(rt.alloc(), times, text, last);
+            repeats(rt, line, input, status, said)
+        }
+        Step::Breaks(line, bytes) => breaks(rt, line, bytes),
+        Step::Copies(line, times, text, last) => {
+            copies(rt, line, repeated(rt.alloc(), times, text, last))
+        }
         Step::Fills(line, last) => fills(rt, line, last),
         Step::Change(path, len, pieces) => change(rt, path, len, pieces).is_ok(),
         Step::Noise(path, sectors) => write_noise(rt, path, sectors).is_ok(),
@@ -667,6 +710,10 @@ const LINES: &[Step] = &[
             "lfs ls kept.img \\2f",
             "lfs cat kept.img",
             "lfs cat kept.img \\2F",
+            "lfs put",
+            "lfs put kept.img",
+            "lfs put kept.img \\2F",
+            "lfs put kept.img /f /g",
         ],
         ONE_FILE,
         2,
@@ -683,6 +730,7 @@ const LINES: &[Step] = &[
             "lfs run -h",
             "lfs sim -h",
             "lfs ls --help",
+            "lfs put --help",
         ],
         b"",
         0,
@@ -709,7 +757,11 @@ const MEDIA: &[Step] = &[
     Step::Change("e.want", LEN, NEW),
     Step::Locked(
         "e.img",
-        &["lfs run e.img", "lfs mkfs e.img --segments 72"],
+        &[
+            "lfs run e.img",
+            "lfs put e.img /f",
+            "lfs mkfs e.img --segments 72",
+        ],
         1,
         IN_USE,
     ),
@@ -724,6 +776,7 @@ const MEDIA: &[Step] = &[
         &[
             "lfs mount .",
             "lfs run .",
+            "lfs put . /f",
             "lfs mkfs . --segments 64",
             "lfs mkfs --force . --segments 64",
         ],
@@ -735,6 +788,7 @@ const MEDIA: &[Step] = &[
         &[
             "lfs mount /dev/null",
             "lfs run /dev/null",
+            "lfs put /dev/null /f",
             "lfs mkfs /dev/null --segments 64",
             "lfs mkfs /dev/null --segments 64 --force",
         ],
@@ -746,7 +800,11 @@ const MEDIA: &[Step] = &[
         ),
     ),
     Step::Says(
-        &["lfs mount none.img", "lfs run none.img"],
+        &[
+            "lfs mount none.img",
+            "lfs run none.img",
+            "lfs put none.img /",
+        ],
         b"space\n",
         1,
         Said::Tells(b"err Image\n", b"lfs: none.img: there is no such file\n"),
@@ -802,7 +860,7 @@ const LOOKS: &[Step] = &[
     ),
     Step::Says(&["lfs ls l.img /a\\20c"], b"", 0, Said::Reply(b"/a\\20c\n")),
     Step::Says(&["lfs cat l.img /b"], b"", 0, Said::Reply(b"\x00a\xff")),
-    Step::Copies("lfs cat l.img /a\\20c", 65_535, b"bb"),
+    Step::Copies("lfs cat l.img /a\\20c", 65_535, b"\0", b"bb"),
     Step::Says(&["lfs ls l.img /c", "lfs cat l.img /c"], b"", 1, NOT_THERE),
     Step::Says(
         &["lfs cat l.img /"],
@@ -1145,6 +1203,7 @@ const BAD_LINES: &[Step] = &[
         1_000,
         b"sync\n",
         b"frob\n",
+        2,
         Said::Explains(b"lfs: line 1001: no command has the word 'frob'\n"),
     ),
     Step::Remove("r.img"),
@@ -1162,4 +1221,310 @@ const BAD_LINES: &[Step] = &[
 #[test]
 fn reasons_of_bad_lines(rt: HostRuntime) {
     want(&rt, BAD_LINES);
+}
+
+const A_DIRECTORY: Said = Said::Tells(b"err IsDir\n", b"lfs: p.img: this is a directory\n");
+
+const A_FILE_ABOVE: Said = Said::Tells(
+    b"err NotDir\n",
+    b"lfs: p.img: a directory is needed here\n",
+);
+
+const WRONG_PIECE: Said = Said::Tells(b"err Inval\n", b"lfs: p.img: an argument isn't taken\n");
+
+const UNFINISHED: Said = Said::Tells(
+    b"err Inval\n",
+    b"lfs: p.img: this is the name under which `put` keeps a file that isn't whole yet\n",
+);
+
+const TOO_LONG: Said = Said::Tells(
+    b"err NameTooLong\n",
+    b"lfs: p.img: a name or a path is too long\n",
+);
+
+// The new file takes the least number that is free, while the old one still has its own.
+const PUTS: &[Step] = &[
+    Step::Says(&["lfs mkfs p.img --segments 64"], b"", 0, OK),
+    Step::Says(&["lfs put p.img /f"], b"old", 0, Said::Reply(b"ok 3\n")),
+    Step::Says(
+        &["lfs mount p.img"],
+        b"",
+        0,
+        Said::Reply(b"ok 1\n1 f file 2 1 3 6f6c64\n"),
+    ),
+    Step::Says(
+        &["lfs put p.img //f"],
+        b"new\n\x00\xff",
+        0,
+        Said::Reply(b"ok 6\n"),
+    ),
+    Step::Says(
+        &["lfs mount p.img"],
+        b"",
+        0,
+        Said::Reply(b"ok 1\n1 f file 3 1 6 6e65770a00ff\n"),
+    ),
+    Step::Says(&["lfs put p.img f"], b"", 0, Said::Reply(b"ok 0\n")),
+    Step::Says(
+        &["lfs mount p.img"],
+        b"",
+        0,
+        Said::Reply(b"ok 1\n1 f file 2 1 0 -\n"),
+    ),
+    // Seven doesn't divide the bytes of a piece.
+    Step::Repeats(
+        "lfs put p.img /a\\20c",
+        28_571,
+        b"0123456",
+        b"end",
+        0,
+        Said::Reply(b"ok 200000\n"),
+    ),
+    Step::Copies("lfs cat p.img /a\\20c", 28_571, b"0123456", b"end"),
+    Step::Says(
+        &["lfs tree p.img"],
+        b"",
+        0,
+        Said::Reply(b"/\n  a\\20c  200000\n  f  0\n"),
+    ),
+    // A read that fails leaves the old file, or none.
+    Step::Breaks("lfs put p.img /f", b"new"),
+    Step::Breaks("lfs put p.img /g", b""),
+    Step::Says(
+        &["lfs tree p.img"],
+        b"",
+        0,
+        Said::Reply(b"/\n  a\\20c  200000\n  f  0\n"),
+    ),
+    Step::Remove("p.img"),
+];
+
+#[test]
+fn files_are_put(rt: HostRuntime) {
+    want(&rt, PUTS);
+}
+
+// What stands in the volume of the paths below.
+const PLACES: Said = Said::Reply(
+    b"ok 4\n1 d dir 2 2 64 -\n1 f file 4 1 2 6161\n1 l link 5 1 1 f\n2 x file 3 1 0 -\n",
+);
+
+const PATHS: &[Step] = &[
+    Step::Says(&["lfs mkfs p.img --segments 64"], b"", 0, OK),
+    Step::Says(
+        &["lfs run p.img"],
+        b"mkdir /d\ncreate /d/x\ncreate /f\npwrite 1 0 6161\nsymlink f /l\nsync\n",
+        0,
+        Said::Reply(b"ok\nok 0\nok 1\nok 2\nok\nok\n"),
+    ),
+    Step::Says(
+        &["lfs put p.img /d", "lfs put p.img d"],
+        b"new",
+        1,
+        A_DIRECTORY,
+    ),
+    Step::Says(
+        &[
+            "lfs put p.img /d/",
+            "lfs put p.img /f/",
+            "lfs put p.img /g/",
+            "lfs put p.img /f/x",
+        ],
+        b"new",
+        1,
+        A_FILE_ABOVE,
+    ),
+    Step::Says(
+        &["lfs put p.img /", "lfs put p.img //"],
+        b"new",
+        1,
+        Said::Tells(
+            b"err Busy\n",
+            b"lfs: p.img: the root can't be removed or renamed\n",
+        ),
+    ),
+    Step::Says(
+        &[
+            "lfs put p.img .",
+            "lfs put p.img /d/..",
+            "lfs put p.img /d/./",
+            "lfs put p.img /a\\00b",
+        ],
+        b"new",
+        1,
+        WRONG_PIECE,
+    ),
+    Step::Says(
+        &["lfs put p.img /.lfs-put", "lfs put p.img d/.lfs-put/"],
+        b"new",
+        1,
+        UNFINISHED,
+    ),
+    Step::Says(
+        &["lfs put p.img \\", "lfs put p.img /none/f"],
+        b"new",
+        1,
+        Said::Tells(
+            b"err NoEntry\n",
+            b"lfs: p.img: the volume has nothing of this name\n",
+        ),
+    ),
+    Step::Says(
+        &["lfs put p.img 0123456789012345678901234567890123456789012345678901234567890"],
+        b"new",
+        1,
+        TOO_LONG,
+    ),
+    Step::Says(&["lfs mount p.img"], b"", 0, PLACES),
+    // A link is replaced itself, and one on the way is followed.
+    Step::Says(&["lfs put p.img /l"], b"b", 0, Said::Reply(b"ok 1\n")),
+    Step::Says(&["lfs put p.img /d/x"], b"cc", 0, Said::Reply(b"ok 2\n")),
+    Step::Says(
+        &["lfs mount p.img"],
+        b"",
+        0,
+        Said::Reply(
+            b"ok 4\n1 d dir 2 2 64 -\n1 f file 4 1 2 6161\n1 l file 6 1 1 62\n2 x file 5 1 2 6363\n",
+        ),
+    ),
+    Step::Remove("p.img"),
+];
+
+#[test]
+fn paths_of_files_that_are_put(rt: HostRuntime) {
+    want(&rt, PATHS);
+}
+
+const FULL: Said = Said::Tells(
+    b"err NoSpace\n",
+    b"lfs: p.img: the volume has no space for this\n",
+);
+
+// The old file alone, and its space: a block of its own and the root's.
+const OLD_FILE: Said = Said::Reply(b"ok 1\n1 f file 2 1 3 6f6c64\n");
+
+const OLD_SPACE: Said = Said::Reply(b"ok 64 2 2 736 3008\n");
+
+// A new volume of 64 segments takes a file of 1,102,848 bytes: 2,154 blocks, the root's one, and 19 inodes and blocks of pointers need 3,008.
+const FULL_VOLUME: &[Step] = &[
+    Step::Says(&["lfs mkfs p.img --segments 64"], b"", 0, OK),
+    Step::Reads("lfs put p.img /f", 1_102_849, 1, FULL),
+    Step::Says(&["lfs mount p.img"], b"", 0, EMPTY),
+    Step::Says(&["lfs check p.img"], b"", 0, NEW_SPACE),
+    Step::Says(&["lfs put p.img /f"], b"old", 0, Said::Reply(b"ok 3\n")),
+    Step::Reads("lfs put p.img /f", 1_102_848, 1, FULL),
+    Step::Says(&["lfs mount p.img"], b"", 0, OLD_FILE),
+    Step::Says(&["lfs check p.img"], b"", 0, OLD_SPACE),
+    // What a stop left is gone too.
+    Step::Says(
+        &["lfs run p.img"],
+        b"create /.lfs-put\npwrite 0 0 61\nsync\n",
+        0,
+        Said::Reply(b"ok 0\nok 1\nok\n"),
+    ),
+    Step::Reads("lfs put p.img /f", 1_102_848, 1, FULL),
+    Step::Says(&["lfs mount p.img"], b"", 0, OLD_FILE),
+    Step::Says(&["lfs check p.img"], b"", 0, OLD_SPACE),
+    Step::Says(
+        &["lfs run p.img"],
+        b"unlink /f\nsync\n",
+        0,
+        Said::Reply(b"ok\nok\n"),
+    ),
+    Step::Reads(
+        "lfs put p.img /f",
+        1_102_848,
+        0,
+        Said::Reply(b"ok 1102848\n"),
+    ),
+    Step::Says(
+        &["lfs check p.img"],
+        b"",
+        0,
+        Said::Reply(b"ok 64 2155 19 3008 3008\n"),
+    ),
+    Step::Says(&["lfs put p.img /f"], b"new", 1, FULL),
+    Step::Says(
+        &["lfs tree p.img"],
+        b"",
+        0,
+        Said::Reply(b"/\n  f  1102848\n"),
+    ),
+    Step::Remove("p.img"),
+    // The longest file of a volume.
+    Step::Says(&["lfs mkfs p.img --segments 1024"], b"", 0, OK),
+    Step::Says(&["lfs put p.img /f"], b"old", 0, Said::Reply(b"ok 3\n")),
+    Step::Reads(
+        "lfs put p.img /f",
+        8_511_489,
+        1,
+        Said::Tells(
+            b"err FileTooBig\n",
+            b"lfs: p.img: this is past the greatest size of a file\n",
+        ),
+    ),
+    Step::Says(&["lfs mount p.img"], b"", 0, OLD_FILE),
+    Step::Reads(
+        "lfs put p.img /f",
+        8_511_488,
+        0,
+        Said::Reply(b"ok 8511488\n"),
+    ),
+    Step::Says(
+        &["lfs tree p.img"],
+        b"",
+        0,
+        Said::Reply(b"/\n  f  8511488\n"),
+    ),
+    Step::Remove("p.img"),
+];
+
+#[test]
+fn files_that_find_no_space(rt: HostRuntime) {
+    want(&rt, FULL_VOLUME);
+}
+
+const LEFT: &[Step] = &[
+    // What a stop left goes, whatever it is, but a directory.
+    Step::Says(&["lfs mkfs p.img --segments 64"], b"", 0, OK),
+    Step::Says(
+        &["lfs run p.img"],
+        b"create /.lfs-put\npwrite 0 0 61\nlink /.lfs-put /g\nsync\n",
+        0,
+        Said::Reply(b"ok 0\nok 1\nok\nok\n"),
+    ),
+    Step::Says(&["lfs put p.img /f"], b"b", 0, Said::Reply(b"ok 1\n")),
+    Step::Says(
+        &["lfs mount p.img"],
+        b"",
+        0,
+        Said::Reply(b"ok 2\n1 f file 3 1 1 62\n1 g file 2 1 1 61\n"),
+    ),
+    Step::Says(
+        &["lfs run p.img"],
+        b"mkdir /.lfs-put\nsync\n",
+        0,
+        Said::Reply(b"ok\nok\n"),
+    ),
+    Step::Says(
+        &["lfs put p.img /f"],
+        b"c",
+        1,
+        Said::Tells(
+            b"err Perm\n",
+            b"lfs: p.img: a directory isn't linked or unlinked\n",
+        ),
+    ),
+    Step::Says(
+        &["lfs mount p.img"],
+        b"",
+        0,
+        Said::Reply(b"ok 3\n1 .lfs-put dir 4 2 0 -\n1 f file 3 1 1 62\n1 g file 2 1 1 61\n"),
+    ),
+    Step::Remove("p.img"),
+];
+
+#[test]
+fn what_a_stop_left_is_removed(rt: HostRuntime) {
+    want(&rt, LEFT);
 }

@@ -9,8 +9,9 @@ ghost use Rattle.lfs_command.specs.Playing.{PlaysToRefusal, Plays, PlaysStrictly
 use crate::bad_line::{BadLine, reason_of};
 use crate::describing::describe;
 use crate::fault::{Ending, Fault, Outcome, Refusal, Told};
-use crate::looking::{Look, look_at, path_of, show};
+use crate::looking::{Look, look_at, path_of, read_path, show};
 use crate::printing::{flush, print, put_count, refuse};
+use crate::putting::{PutFault, put};
 use crate::remembering::LineKeeper;
 use crate::request::{Action, Request, read_request};
 use crate::simulation::{Plan, read_plan};
@@ -82,6 +83,37 @@ fn info<Here: World, R: Files<File = File>, W: Write>(
 ) -> Result<Ending, Fault> {
     match image::mount::<Here, R>(rt, alloc, image) {
         Ok(fs) => describe(alloc, fs, output),
+        Err(refusal) => refuse(output, refusal),
+    }
+}
+
+// Ends a put: prints the number of bytes, or the line of a refusal.
+fn end_put<W: Write>(done: Result<u64, PutFault>, output: &mut W) -> Result<Ending, Fault> {
+    match done {
+        Ok(count) => {
+            put_count(output, b"ok ", count)?;
+            print(output, "\n")?;
+            Ok(Ending::Done)
+        }
+        Err(PutFault::Call(fault)) => refuse(output, Refusal::Call(fault)),
+        Err(PutFault::Unfinished) => refuse(output, Refusal::Unfinished),
+        Err(PutFault::Input) => Err(Fault::Input),
+        Err(PutFault::Memory(fault)) => Err(Fault::Memory(fault)),
+    }
+}
+
+// Makes the input a file of the volume of an image.
+fn put_into<Here: World, R: Files<File = File>, I: Read, W: Write>(
+    rt: &R,
+    alloc: Global,
+    image: &str,
+    path: &str,
+    input: &mut I,
+    output: &mut W,
+) -> Result<Ending, Fault> {
+    let path = read_path(alloc, path)?;
+    match image::mount_to_write::<Here, R>(rt, alloc, image) {
+        Ok(mut fs) => end_put(put(alloc, &mut fs, path.as_slice(), input), output),
         Err(refusal) => refuse(output, refusal),
     }
 }
@@ -279,6 +311,7 @@ fn act<Here: World, R: Files<File = File>, I: Read, W: Write>(
         Action::Info => info::<Here, R, W>(rt, alloc, image, output),
         Action::Look(asked) => look::<Here, R, W>(rt, alloc, image, asked, output),
         Action::Run => run::<Here, R, I, W>(rt, alloc, image, input, output),
+        Action::Put(path) => put_into::<Here, R, I, W>(rt, alloc, image, path, input, output),
     }
 }
 

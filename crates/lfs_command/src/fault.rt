@@ -54,13 +54,15 @@ pub enum Refusal {
     Damaged(u8),
     Mount(MountFault),
     Call(FsError),
+    /// A file is to have the name under which files stand until they are whole.
+    Unfinished,
 }
 
 impl Refusal {
     /// Its name, without the stage of damage.
     pub fn name(self) -> &'static str {
         match self {
-            Refusal::Inval => "Inval",
+            Refusal::Inval | Refusal::Unfinished => "Inval",
             Refusal::Image(_) => "Image",
             Refusal::Format(fault) => fault.name(),
             Refusal::Damaged(_) => "Damaged",
@@ -78,6 +80,7 @@ impl Refusal {
             Refusal::Damaged(code) => reason::of_damage(code),
             Refusal::Mount(fault) => reason::of_mount(fault),
             Refusal::Call(fault) => reason::of_call(fault),
+            Refusal::Unfinished => reason::UNFINISHED,
         }
     }
 }

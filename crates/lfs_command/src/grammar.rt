@@ -13,6 +13,7 @@ pub enum Verb {
     Ls,
     Tree,
     Cat,
+    Put,
     Info,
 }
 
@@ -188,6 +189,17 @@ const USAGES: &[Usage] = &[
         about: "Print the bytes of a file",
         details: "Print the bytes of a file. Where the device fails behind the first bytes, the \
             command ends with status 1 and prints no line between them.",
+        parameters: &[THE_IMAGE, THE_PATH],
+    },
+    Usage {
+        verb: Verb::Put,
+        name: "put",
+        about: "Make standard input the bytes of a file, and print their number",
+        details: "Make standard input the bytes of the file PATH, and print `ok` and their number. \
+            The new file stands as `.lfs-put` in the same directory until it is whole and synced, \
+            and then takes the place of the old one: after any stop the old file or the new one \
+            is there. What stood as `.lfs-put` is removed. Of a symbolic link the link itself is \
+            replaced; a directory is refused.",
         parameters: &[THE_IMAGE, THE_PATH],
     },
     Usage {

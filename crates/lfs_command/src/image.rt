@@ -205,14 +205,30 @@ pub fn make<Here: World, R: Files<File = File>>(
     }
 }
 
+fn mount_device<Here: World>(
+    alloc: Global,
+    device: FileDeviceIn<Here>,
+) -> Result<Fs<FileDeviceIn<Here>>, Refusal> {
+    match Fs::mount(alloc, device) {
+        Ok(fs) => Ok(fs),
+        Err((fault, _)) => Err(Refusal::from(fault)),
+    }
+}
+
 /// Mounts the volume of an image that is only looked at.
 pub fn mount<Here: World, R: Files<File = File>>(
     rt: &R,
     alloc: Global,
     image: &str,
 ) -> Result<Fs<FileDeviceIn<Here>>, Refusal> {
-    match Fs::mount(alloc, open_to_look(rt, image)?) {
-        Ok(fs) => Ok(fs),
-        Err((fault, _)) => Err(Refusal::from(fault)),
-    }
+    mount_device(alloc, open_to_look(rt, image)?)
+}
+
+/// Mounts the volume of an image that is written. It is locked until the volume is dropped.
+pub fn mount_to_write<Here: World, R: Files<File = File>>(
+    rt: &R,
+    alloc: Global,
+    image: &str,
+) -> Result<Fs<FileDeviceIn<Here>>, Refusal> {
+    mount_device(alloc, open_to_write(rt, image)?)
 }

@@ -275,16 +275,20 @@ fn cat<D: SectorDevice, W: Write>(
     }
 }
 
-/// The bytes of the path that is looked at, none where there is no path.
-pub fn path_of(alloc: Global, look: Look<'_>) -> Result<Vec<u8>, Fault> {
-    let word = match look {
-        Look::List(word) | Look::Cat(word) => word,
-        Look::Check | Look::Mount | Look::Tree => return Ok(Vec::new(alloc)),
-    };
+/// The bytes of a path by its word.
+pub fn read_path(alloc: Global, word: &str) -> Result<Vec<u8>, Fault> {
     match read_escaped(alloc, word.as_bytes()) {
         Ok(path) => Ok(path),
         Err(WordFault::Memory) => Err(Fault::Memory(AllocError)),
         Err(WordFault::Spelling) => Err(Fault::Path),
+    }
+}
+
+/// The bytes of the path that is looked at, none where there is no path.
+pub fn path_of(alloc: Global, look: Look<'_>) -> Result<Vec<u8>, Fault> {
+    match look {
+        Look::List(word) | Look::Cat(word) => read_path(alloc, word),
+        Look::Check | Look::Mount | Look::Tree => Ok(Vec::new(alloc)),
     }
 }
 

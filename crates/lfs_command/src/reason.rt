@@ -6,6 +6,9 @@ const NO_MEMORY: &str = "there isn't enough memory";
 
 const DEVICE: &str = "a read, a write or a sync of it failed";
 
+/// Of a file that is to have the name under which files stand until they are whole.
+pub const UNFINISHED: &str = "this is the name under which `put` keeps a file that isn't whole yet";
+
 /// Of an image that isn't used.
 pub fn of_image(fault: ImageFault) -> &'static str {
     match fault {

@@ -1,12 +1,13 @@
 //! A reader that remembers the lines that a script may be at.
 ghost use Rattle.std.specs.Prelude.{◌≡◌};
 
+use lfs_script::LONGEST_LINE;
 use std::alloc::Global;
 use std::io;
 use std::io::Read;
 
 /// A reader that keeps the lines that it gave bytes of in its last read, each from its beginning. Who takes all bytes of a read before the next
-/// one finds there the line that it is at.
+/// one finds there the line that it is at. Of a line that is longer than any of a script it keeps a beginning.
 #[derive(Drop)]
 pub struct LineKeeper<R> {
     reader: R,
@@ -60,7 +61,7 @@ impl<R: Read> Read for LineKeeper<R> {
     fn read(&mut self, buf: &mut [u8]) -> io::Result<usize> {
         self.forget();
         let read = self.reader.read(buf)?;
-        if self.kept.extend_from_slice(&buf[..read]).is_err() {
+        if self.kept.len() <= LONGEST_LINE && self.kept.extend_from_slice(&buf[..read]).is_err() {
             self.lost = true;
         }
         Ok(read)

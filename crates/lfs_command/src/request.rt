@@ -20,6 +20,8 @@ pub enum Action<'a> {
     Look(Look<'a>),
     Info,
     Run,
+    /// Standard input becomes the file of this path.
+    Put(&'a str),
 }
 
 /// What a command line asks for. Numbers are words still.
@@ -76,6 +78,7 @@ fn asked<'a>(verb: Verb, found: &ArgMatches<'a>) -> Option<Request<'a>> {
         Verb::Tree => looks(Look::Tree, found),
         Verb::Ls => looks(Look::List(found.get_str(PATH).unwrap_or(ROOT)), found),
         Verb::Cat => looks(Look::Cat(found.get_str(PATH)?), found),
+        Verb::Put => on_image(Some(Action::Put(found.get_str(PATH)?)), found),
         Verb::Info => on_image(Some(Action::Info), found),
         Verb::Run if found.get_flag(STRICT) => Some(Request::Strict {
             image: found.get_str(IMAGE)?,

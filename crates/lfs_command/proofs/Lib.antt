@@ -1,0 +1,2 @@
+mod PutCalls
+mod PutNames
