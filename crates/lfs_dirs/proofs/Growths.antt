@@ -1,5 +1,5 @@
 -- A slot that is written lies in two blocks at most.
-use Rattle.std.proofs.Common.{◌≡◌, ◌≤◌, ◌+◌, ◌-◌, ◌/◌, ℕ, List, length, arith}
+use Rattle.std.proofs.Common.{◌≡◌, ℕ, List, length, arith}
 use Rattle.lfs_files.specs.declared.header.Header.{Header}
 use Rattle.lfs_files.specs.Files.{FilesState, Reads, Writes}
 use Rattle.lfs_dirs.specs.Growing.{Grows}
