@@ -34,10 +34,10 @@ module _ (old new : DeviceState) (looks : Looks old new) where
 -- a content stands for the tree of its log map
 state_found : (c : Content) (t : Tables) → HasTree c t → (s : State) × Stands c s
 state_found c t has =
-    let m = has.tables.log in
-    let k = has.tables.checkpoint in (
+    let m = has.tables.held.log in
+    let k = has.tables.held.checkpoint in (
       record { tree = tree_in m; handles = []; version = layout_version k },
-      record { checkpoint = k; log = m; found = has.tables.newest; stands = has.tables.stands; tree = has.tree; version = refl; closed = refl },
+      record { checkpoint = k; log = m; found = has.tables.held.newest; stands = has.tables.stands; tree = has.tree; version = refl; closed = refl },
     )
 
 -- ---- the volume behind it

@@ -16,8 +16,8 @@ impl<D: SectorDevice> Fs<D> {
     /// # Errors
     ///
     /// With the device: `TooSmall` below 4,098 sectors, `NoCheckpoint`, `TooSmall` where the volume has more sectors than
-    /// the device, `Damaged` where what the checkpoint leads to is no tree, with the first stage that fails: of 1 to 9, then 15, then
-    /// 10 to 14; `NoMemory` and `Device` for their causes.
+    /// the device, `Damaged` with the first of the stages 1 to 15 that fails, where what the checkpoint leads to is no tree or too few
+    /// segments are clean; `NoMemory` and `Device` for their causes.
     pub fn mount(alloc: Global, device: D) -> Result<Fs<D>, (MountFault, D)>
         ensures mounts { IfOk result (λ fs. MountsFs D.SectorDevice.state device fs) }
         ensures only { IfOk result (λ fs. FindsState D.SectorDevice.state device fs) }

@@ -6,7 +6,7 @@ use std::alloc::Global;
 use std::test::Fail;
 
 /// Why a device isn't mounted.
-fn fault(alloc: Global, device: MemDevice) -> Option<MountFault> {
+pub fn fault(alloc: Global, device: MemDevice) -> Option<MountFault> {
     match Fs::mount(alloc, device) {
         Ok(_) => None,
         Err((fault, _)) => Some(fault),
@@ -69,10 +69,10 @@ fn device_with_file(alloc: Global) -> Result<MemDevice, Fail> {
 
 /// Another byte at a place of each sector that starts with some bytes.
 #[derive(Clone, Copy)]
-struct Damage<'a> {
-    start: &'a [u8],
-    place: usize,
-    byte: u8,
+pub struct Damage<'a> {
+    pub start: &'a [u8],
+    pub place: usize,
+    pub byte: u8,
 }
 
 /// Puts the other byte into a sector, if it starts so.
@@ -89,12 +89,18 @@ fn damage_sector(device: &mut MemDevice, sector: u32, damage: Damage) -> Result<
     Ok(())
 }
 
+/// Puts the other byte into each sector of a segment that starts so.
+pub fn damage_each(device: &mut MemDevice, damage: Damage) -> Result<(), Fail> {
+    for sector in 2..SECTORS {
+        damage_sector(device, sector, damage)?;
+    }
+    Ok(())
+}
+
 /// The fault of a mount of a volume with a file, behind some damage.
 fn fault_with(alloc: Global, damage: Damage) -> Result<Option<MountFault>, Fail> {
     let mut device = device_with_file(alloc)?;
-    for sector in 2..SECTORS {
-        damage_sector(&mut device, sector, damage)?;
-    }
+    damage_each(&mut device, damage)?;
     Ok(fault(alloc, device))
 }
 

@@ -2,6 +2,8 @@
 #![tactic(auto)]
 
 #[cfg(test)]
+mod clean;
+#[cfg(test)]
 mod damage;
 #[cfg(test)]
 mod dirs;

@@ -72,7 +72,7 @@ module _ (c : Content) (k : CheckpointValue) (fits : FitsCheckpoint k) (m : LogM
   usage_there j = ⊎_elim
       (λ (low : j < (k.segments + 63) / 64). says.address j low)
       (λ (high : (k.segments + 63) / 64 ≤ j).
-      usages.none j high ∙ sym (⊎_elim (λ (z : get_or k.usage j 0 ≡ 0). z) (λ (some : 0 < get_or k.usage j 0). absurd (let low = (st.stages.usages.addresses j).0 some in omega (arith, low, high))) (zero_or_more (get_or k.usage j 0))))
+      usages.none j high ∙ sym (⊎_elim (λ (z : get_or k.usage j 0 ≡ 0). z) (λ (some : 0 < get_or k.usage j 0). absurd (let low = (st.holds.stages.usages.addresses j).0 some in omega (arith, low, high))) (zero_or_more (get_or k.usage j 0))))
       (cases_lt j ((k.segments + 63) / 64))
     where
       zero_or_more : (n : ℕ) → (n ≡ 0) ⊎ (0 < n)
@@ -92,9 +92,9 @@ module _ (c : Content) (k : CheckpointValue) (fits : FitsCheckpoint k) (m : LogM
   numbers_there s = ⊎_elim
       (λ (low : s < k.segments). says.numbers s (omega (arith, low)) (let size = usages.size in omega (arith, size, low)))
       (λ (high : k.segments ≤ s).
-      let past = st.stages.usages.past s high in
+      let past = st.holds.stages.usages.past s high in
       get_or_past usage.segments s no_segment (let size = usages.size in omega (arith, size, high))
-      ∙ sym (nothing (used_in (view c k) s) (live_in (view c k) s) (age_in (view c k) s) past.0 (st.stages.usages.both s past.0) past.1))
+      ∙ sym (nothing (used_in (view c k) s) (live_in (view c k) s) (age_in (view c k) s) past.0 (st.holds.stages.usages.both s past.0) past.1))
       (cases_lt s k.segments)
     where
       nothing : (u l a : ℕ) → u ≡ 0 → l ≡ 0 → a ≡ 0 → by_numbers u l a ≡ no_segment
@@ -103,7 +103,7 @@ module _ (c : Content) (k : CheckpointValue) (fits : FitsCheckpoint k) (m : LogM
   fresh_ages : (j i : ℕ) → stale_of usage j ≡ false → i < 64 → live_in (view c k) (64 * j + i) ≡ 0 → age_in (view c k) (64 * j + i) ≡ 0
   fresh_ages j i off low none = ⊎_elim
       (λ (inside : j < (k.segments + 63) / 64). says.stale j inside off i low none)
-      (λ (past : (k.segments + 63) / 64 ≤ j). (st.stages.usages.past (64 * j + i) (omega (arith, past))).1)
+      (λ (past : (k.segments + 63) / 64 ≤ j). (st.holds.stages.usages.past (64 * j + i) (omega (arith, past))).1)
       (cases_lt j ((k.segments + 63) / 64))
 
   pub mounted_tables : IsMountedTables c k (tables_by map usage)
@@ -123,13 +123,13 @@ module _ (d d' : DeviceState) (lawful : IsLawful d') (lawful_first : IsLawful d)
     (v : LogMemory) (chunk : v.chunk.names ≡ []) (dirty : v.dirty.blocks ≡ []) (usage : v.usage ≡ t.usage) (map : v.map ≡ t.map) where
   module _ (keeps : d'.keeps_model) (m : LogMap) where
     abbrev k : CheckpointValue
-    k = (has keeps).checkpoint
+    k = (has keeps).held.checkpoint
 
     fits : FitsCheckpoint k
-    fits = (has keeps).fits
+    fits = (has keeps).held.fits
 
     count_same : k.segments ≡ t.segments
-    count_same = (has keeps).says.segments
+    count_same = (has keeps).held.says.segments
 
     usages : IsUsageUpTo ((k.segments + 63) / 64) k.segments v.usage
     usages = subst (λ (n : ℕ). IsUsageUpTo ((n + 63) / 64) n v.usage) (sym count_same) (subst (IsUsageUpTo ((t.segments + 63) / 64) t.segments) (sym usage) loaded.usage)
@@ -139,7 +139,7 @@ module _ (d d' : DeviceState) (lawful : IsLawful d') (lawful_first : IsLawful d)
 
     settled : StandsAt d.content k m → IsSettled d' k m
     settled st =
-        let now : newest d'.content ≡ Some k = ap newest looks.untouched.content ∙ (has keeps).newest in
+        let now : newest d'.content ≡ Some k = ap newest looks.untouched.content ∙ (has keeps).held.newest in
         record {
           newest = now;
           stands = subst (λ (c : Content). StandsAt c k m) (sym looks.untouched.content) st;
@@ -152,8 +152,8 @@ module _ (d d' : DeviceState) (lawful : IsLawful d') (lawful_first : IsLawful d)
         let to : d.content ≡ d'.content = sym looks.untouched.content in
         starting d' (tables_of v) k m 1024 most (are_sized d'.content lawful.now) (settled st)
         (mounted_tables d'.content k fits m (subst (λ (c : Content). StandsAt c k m) to st) v.map v.usage
-        usages (subst (λ (c : Content). SaysUsage c k ((k.segments + 63) / 64) v.usage) to (subst (SaysUsage d.content k ((k.segments + 63) / 64)) (sym usage) (has keeps).says.usage))
-        maps (subst (λ (c : Content). SaysMap c k 32 v.map) to (subst (SaysMap d.content k 32) (sym map) (has keeps).says.map)))
+        usages (subst (λ (c : Content). SaysUsage c k ((k.segments + 63) / 64) v.usage) to (subst (SaysUsage d.content k ((k.segments + 63) / 64)) (sym usage) (has keeps).held.says.usage))
+        maps (subst (λ (c : Content). SaysMap c k 32 v.map) to (subst (SaysMap d.content k 32) (sym map) (has keeps).held.says.map)))
         most
 
     log_at : StandsAt d.content k m → IsLog d' v k m m
@@ -172,42 +172,42 @@ module _ (d d' : DeviceState) (lawful : IsLawful d') (lawful_first : IsLawful d)
 
   pub opens : Opens d d' v t.number
   opens m keeps is =
-      let one = one_checkpoint d m (k keeps m) is (has keeps).newest in (
+      let one = one_checkpoint d m (k keeps m) is (has keeps).held.newest in (
         subst (λ (x : CheckpointValue). IsLog d' v x m m) (sym one) (log_at keeps m (subst (λ (x : CheckpointValue). StandsAt d.content x m) one is.stands)),
-        ap (λ (x : CheckpointValue). x.number) one ∙ (has keeps).says.number,
+        ap (λ (x : CheckpointValue). x.number) one ∙ (has keeps).held.says.number,
       )
 
   -- no segment counts as taken
   pub untaken : d'.keeps_model → AreUntaken v.usage
   untaken keeps =
       let h = has keeps in
-      (mounted_tables d.content h.checkpoint h.fits h.log h.stands v.map v.usage (usages keeps h.log)
-      (subst (SaysUsage d.content h.checkpoint ((h.checkpoint.segments + 63) / 64)) (sym usage) h.says.usage) (maps keeps h.log)
-      (subst (SaysMap d.content h.checkpoint 32) (sym map) h.says.map)).taken
+      (mounted_tables d.content h.held.checkpoint h.held.fits h.held.log h.stands v.map v.usage (usages keeps h.held.log)
+      (subst (SaysUsage d.content h.held.checkpoint ((h.held.checkpoint.segments + 63) / 64)) (sym usage) h.held.says.usage) (maps keeps h.held.log)
+      (subst (SaysMap d.content h.held.checkpoint 32) (sym map) h.held.says.map)).taken
 
   -- and an eighth of the segments is clean at least
   pub many : d'.keeps_model → length v.usage.segments ≤ 8 * clean_in v.usage.segments
   unfolding clean_in
   many keeps =
       let h = has keeps in
-      let tables = mounted_tables d.content h.checkpoint h.fits h.log h.stands v.map v.usage (usages keeps h.log)
-      (subst (SaysUsage d.content h.checkpoint ((h.checkpoint.segments + 63) / 64)) (sym usage) h.says.usage) (maps keeps h.log)
-      (subst (SaysMap d.content h.checkpoint 32) (sym map) h.says.map) in
-      let size = (usages keeps h.log).size in
-      let same = count_up_same (is_clean_in v.usage.segments) (is_clean (view d.content h.checkpoint)) h.checkpoint.segments (λ s low. ap (λ (n : ℕ). n == 0) (tables.used s)) in
-      let enough = subst (λ (n : ℕ). h.checkpoint.segments ≤ 8 * n) (sym same) h.stands.stages.clean in
+      let tables = mounted_tables d.content h.held.checkpoint h.held.fits h.held.log h.stands v.map v.usage (usages keeps h.held.log)
+      (subst (SaysUsage d.content h.held.checkpoint ((h.held.checkpoint.segments + 63) / 64)) (sym usage) h.held.says.usage) (maps keeps h.held.log)
+      (subst (SaysMap d.content h.held.checkpoint 32) (sym map) h.held.says.map) in
+      let size = (usages keeps h.held.log).size in
+      let same = count_up_same (is_clean_in v.usage.segments) (is_clean (view d.content h.held.checkpoint)) h.held.checkpoint.segments (λ s low. ap (λ (n : ℕ). n == 0) (tables.used s)) in
+      let enough = subst (λ (n : ℕ). h.held.checkpoint.segments ≤ 8 * n) (sym same) h.stands.clean in
       subst (λ (n : ℕ). n ≤ 8 * count_up (is_clean_in v.usage.segments) n) (sym size) enough
 
   -- and these are its totals
   pub counts_opened : (totals : BlockTotals) → totals.data_blocks ≡ t.data_blocks → totals.meta_blocks ≡ t.meta_blocks → CountsOpened d d' totals
   counts_opened totals blocks others m keeps is =
       let h = has keeps in
-      let same = single_log d.content h.log m (record { checkpoint = h.checkpoint; newest = h.newest; stands = h.stands }) is in
-      let counted = subst (λ (x : LogMap). IsCounted x t.data_blocks t.meta_blocks) same h.counted in
+      let same = single_log d.content h.held.log m (record { checkpoint = h.held.checkpoint; newest = h.held.newest; stands = h.stands }) is in
+      let counted = subst (λ (x : LogMap). IsCounted x t.data_blocks t.meta_blocks) same h.held.counted in
       record { stored = blocks ∙ counted.stored; above = others ∙ counted.above }
 
 pub has_log_map : (d d' : DeviceState) (t : Tables) → (d'.keeps_model → HasTables d.content t) → HasLogMap d d'
-has_log_map d d' t has keeps = let h = has keeps in (h.log, record { checkpoint = h.checkpoint; newest = h.newest; stands = h.stands })
+has_log_map d d' t has keeps = let h = has keeps in (h.held.log, record { checkpoint = h.held.checkpoint; newest = h.held.newest; stands = h.stands })
 
 -- the log that has it is ready
 pub ready : (d : DeviceState) (v : LogMemory) (before : UsageTable) → IsOpened v d.size → length before.segments ≡ length v.usage.segments → IsReady d v before

@@ -36,13 +36,13 @@ module _ (c : Content) (k : CheckpointValue) (m : LogMap) (sized : IsSized c) (s
   some_links : (n : ℕ) (h : Header) → m.header n ≡ Some h → 0 < h.links
   some_links n h is = ⊎_elim
       (λ (none : address c k (Inode n) ≡ 0).
-      let e : None ≡ Some h = sym (st.header n ∙ ap (λ (a : ℕ). cond (nat_lt 0 a) (Some (header (block c (address c k (Inode n))))) None) none) ∙ is in
+      let e : None ≡ Some h = sym (st.holds.header n ∙ ap (λ (a : ℕ). cond (nat_lt 0 a) (Some (header (block c (address c k (Inode n))))) None) none) ∙ is in
       absurd (cc))
       (λ (some : address c k (Inode n) ≡ 0 → ⊥).
       let lt : 0 < address c k (Inode n) = omega (arith, some) in
-      let e : Some (header (block c (address c k (Inode n)))) ≡ Some h = sym (st.header n ∙ cond-true (nat_lt 0 (address c k (Inode n))) _ _ (lt-ltb 0 (address c k (Inode n)) lt)) ∙ is in
+      let e : Some (header (block c (address c k (Inode n)))) ≡ Some h = sym (st.holds.header n ∙ cond-true (nat_lt 0 (address c k (Inode n))) _ _ (lt-ltb 0 (address c k (Inode n)) lt)) ∙ is in
       let same : header (block c (address c k (Inode n))) ≡ h = cc in
-      let one : 1 ≤ (header (block c (address c k (Inode n)))).links = links_some n (block c (address c k (Inode n))) (st.stages.inodes.formed n lt) in
+      let one : 1 ≤ (header (block c (address c k (Inode n)))).links = links_some n (block c (address c k (Inode n))) (st.holds.stages.inodes.formed n lt) in
       let links = ap (λ (x : Header). x.links) same in
       omega (arith, one, links))
       (cases_eq (address c k (Inode n)) 0)

@@ -31,7 +31,7 @@ fn count_above(marks: &[u32], mark: u32) -> u32
     count
 }
 
-/// How many blocks all files have, by the marks of a whole walk over a volume that stands for a log map.
+/// How many blocks all files have, by the marks of a whole walk over a volume that holds a log map.
 pub fn count_totals(marks: &[u32]) -> BlockTotals
     requires { length marks.now < 4294967296 }
     ensures { CountsByMarks marks.now result.data_blocks result.meta_blocks }
