@@ -13,7 +13,7 @@ use Rattle.lfs_model.specs.Entry.{Data, Header}
 use Rattle.lfs_model.specs.Inode.{is_size}
 use Rattle.lfs_model.specs.Need.{data_blocks, data_of, meta_blocks, meta_of, need, pointers}
 use Rattle.lfs_model.specs.Objects.{AreLong, HasCosts, IsDirectory, is_stored, stored_below, stored_blocks}
-use Rattle.lfs_model.specs.Reach.{View, address, view}
+use Rattle.lfs_model.specs.Reach.{View, view}
 use Rattle.lfs_model.specs.Stands.{EnoughClean, HoldsAt, LogMap, Stages, log_in}
 use Rattle.lfs_model.specs.Totals.{IsCounted, data_of_file, meta_of_file, sum_upto}
 use Rattle.lfs_model.specs.Tree.{Node, slot_len}

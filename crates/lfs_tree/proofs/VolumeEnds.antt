@@ -5,7 +5,7 @@ use Rattle.lfs_model.specs.Content.{Content}
 use Rattle.lfs_model.specs.Damage.{IsDamaged}
 use Rattle.lfs_model.specs.Device.{DeviceState, IsLawful, Only}
 use Rattle.lfs_model.specs.Reach.{view}
-use Rattle.lfs_model.specs.Stands.{LogMap, StandsLog, log_in}
+use Rattle.lfs_model.specs.Stands.{StandsLog}
 use Rattle.lfs_model.specs.Tree.{State}
 use Rattle.lfs_model.specs.TreeOf.{IsTree, Stands, TreeOf, tree_in}
 use Rattle.lfs_model.proofs.Damage.{not_damaged}

@@ -6,7 +6,7 @@ use Rattle.lfs_model.specs.Damage.{IsDamaged}
 use Rattle.lfs_model.specs.Device.{DeviceState, IsLawful, IsUntouched, Carries, LeavesOnly, Only}
 use Rattle.lfs_model.specs.Reach.{View, view}
 use Rattle.lfs_model.specs.Slots.{IsNewest, HasNoCheckpoint}
-use Rattle.lfs_model.specs.Stands.{LogMap, HoldsAt, StandsAt, StandsLog, EnoughClean, Stages, log_in}
+use Rattle.lfs_model.specs.Stands.{LogMap, HoldsAt, StandsLog, EnoughClean, Stages, log_in}
 use Rattle.lfs_model.specs.Volume.{IsTooSmall, IsWithoutCheckpoint}
 use Rattle.lfs_model.proofs.Newest.{newest_fits}
 use Rattle.lfs_verify.specs.Codes.{HoldsBelow}
@@ -19,7 +19,7 @@ use Rattle.lfs_verify.specs.declared.verify.FoundLog.{FoundLog}
 use Rattle.lfs_verify.specs.Faults.{IsOpenFault, IsTableFault}
 use Rattle.lfs_verify.specs.Loading.{HasTables, HoldsTables, SaysTables}
 use Rattle.lfs_verify.specs.Totals.{CountsLog}
-use Rattle.lfs_verify.specs.Verified.{HoldsCounted, IsVerified, IsDamagedIn, IsFound, IsLogDamage, IsRefusedFor, IsRefusedLog, IsRefusedWalk, IsWalkDamage, LacksLogMap, StandsWhereEnough, lacks_clean, stage_fails}
+use Rattle.lfs_verify.specs.Verified.{HoldsCounted, IsVerified, IsDamagedIn, IsFound, IsLogDamage, IsRefusedLog, IsRefusedWalk, IsWalkDamage, LacksLogMap, StandsWhereEnough, lacks_clean, stage_fails}
 use Rattle.lfs_verify.proofs.CodeSteps.{below_1, below_next, stage_1, stage_2, stage_3, stage_4, stage_5, stage_6, stage_7, stage_8, stage_9}
 
 some_is : (a b : CheckpointValue) → Some a ≡ Some b → a ≡ b
