@@ -29,7 +29,7 @@ class ChildDied(Exception):
 
 
 class BadLine(Exception):
-    """The program doesn't know the line: its version has no such call."""
+    """The program doesn't know the line: its version has no such call. It has ended, and what wasn't synced may be gone."""
 
 
 class Stat(NamedTuple):
@@ -108,6 +108,13 @@ def _hex(data):
     return bytes(data).hex() or "-"
 
 
+def _number(value, bits):
+    """A number of a line. One that no line can have is an error before anything is sent."""
+    if not 0 <= value < 1 << bits:
+        raise ValueError(f"{value} is not from 0 to 2^{bits} - 1")
+    return str(int(value))
+
+
 def _unhex(word):
     return b"" if word == "-" else bytes.fromhex(word)
 
@@ -139,7 +146,7 @@ class Volume:
         self.close()
 
     def close(self):
-        """Ends the child. What wasn't synced is gone."""
+        """Ends the child. What wasn't synced may be gone."""
         for pipe in (self._child.stdin, self._child.stdout, self._child.stderr):
             try:
                 pipe.close()
@@ -190,23 +197,24 @@ class Volume:
 
     def close_handle(self, handle):
         """Closes a handle. A file without a name goes with its last one."""
-        self._call("close", str(handle))
+        self._call("close", _number(handle, 32))
 
     def pread(self, handle, offset, length):
         """At most `length` bytes, 65,536 at most, from `offset` on."""
-        return _unhex(self._call("pread", str(handle), str(offset), str(length))[0])
+        return _unhex(self._call("pread", _number(handle, 32), _number(offset, 64), _number(length, 32))[0])
 
     def pwrite(self, handle, offset, data):
-        """Writes bytes, 65,536 at most, from `offset` on: how many were written."""
-        return int(self._call("pwrite", str(handle), str(offset), _hex(data))[0])
+        """Writes bytes, 65,536 at most, from `offset` on: how many were written. More are refused, as `Inval`."""
+        # One byte too many is refused as any number of them, and fits a line.
+        return int(self._call("pwrite", _number(handle, 32), _number(offset, 64), _hex(data[:65_537]))[0])
 
     def fill(self, handle, offset, length, byte):
         """Writes `length` times the same byte."""
-        return int(self._call("fill", str(handle), str(offset), str(length), str(byte))[0])
+        return int(self._call("fill", _number(handle, 32), _number(offset, 64), _number(length, 32), _number(byte, 8))[0])
 
     def truncate(self, handle, length):
         """Gives a file this length: it is cut, or zeros are added."""
-        self._call("truncate", str(handle), str(length))
+        self._call("truncate", _number(handle, 32), _number(length, 64))
 
     def mkdir(self, path):
         """Makes a directory."""
@@ -251,7 +259,7 @@ class Volume:
 
     def fsync(self, handle):
         """Saves all that was done, as `sync`, through an open handle."""
-        self._call("fsync", str(handle))
+        self._call("fsync", _number(handle, 32))
 
     def sync(self):
         """Saves all that was done: no stop takes it back."""
