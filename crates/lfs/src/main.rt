@@ -2,6 +2,8 @@
 #![tactic(auto)]
 
 #[cfg(test)]
+mod example;
+#[cfg(test)]
 mod stops;
 #[cfg(test)]
 mod tests;
