@@ -16,8 +16,8 @@ use Rattle.lfs_model.proofs.Lefts.{left_only}
 use Rattle.lfs_model.proofs.Moments.{carries_none, carries_then, joined, weaker}
 use Rattle.lfs_model.proofs.Pendings.{at_final}
 use Rattle.lfs_model.proofs.Volume.{single_state}
-use Rattle.lfs_model.specs.Use.{StandsForSome, left_states}
-use Rattle.lfs_fs.specs.Scripts.{AreUnstuck, RanAt, RunsLines, ServesLine}
+use Rattle.lfs_model.specs.Use.{AreUnstuck, StandsForSome, left_states}
+use Rattle.lfs_fs.specs.Scripts.{RanAt, RunsLines, ServesLine}
 use Rattle.lfs_fs.specs.Volume.{IsAt, Mounted, Serves, segments_of}
 use Rattle.lfs_fs.proofs.LineSteps.{StepsLine, left_none, line_carries, line_running, line_segments, line_steps}
 

@@ -104,6 +104,7 @@ module _ {D : Type 0} (state : D → DeviceState) (d : D) (lawful : IsLawful (st
     same_number = at.at.number ∙ sym running.is.stores.holds.number ∙ ap (λ (k : CheckpointValue). k.number) same_checkpoint;
     running = at.at.halted ∙ at.running;
     run = ran.run;
+    unstuck = runs.unstuck;
     failures_before = subst (λ (n : ℕ). (state d).failures ≤ n) (sym at.at.failures) carries.failures;
     failures_after = ran.at.failures;
     number_after = numbered state new (final at.point ran.points) ran.at;

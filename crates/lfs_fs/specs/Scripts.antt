@@ -1,20 +1,15 @@
 -- What the lines of a script do to a volume: a run of the model, and what a stop in it leaves. The language of scripts is an own choice.
 use Rattle.std.specs.Prelude.{◌≡◌, ◌⊎◌, IsTrue, false, List, ◌∷◌, map}
-use Rattle.std.specs.List.{AllByRecursion}
 use Rattle.lfs_model.specs.Call.{Answer, Refuse}
 use Rattle.lfs_model.specs.Device.{DeviceState, Carries, LeavesOnly}
-use Rattle.lfs_model.specs.Refusal.{NoMemory, Stuck}
+use Rattle.lfs_model.specs.Refusal.{NoMemory}
 use Rattle.lfs_model.specs.Run.{LineRun, Point, final, has_word}
 use Rattle.lfs_model.specs.Script.{Line, call_of}
 use Rattle.lfs_model.specs.Tree.{drop_nameless}
 use Rattle.lfs_model.specs.TreeOf.{LeavesOne, LeavesStates}
-use Rattle.lfs_model.specs.Use.{StandsForSome, left_states}
+use Rattle.lfs_model.specs.Use.{AreUnstuck, StandsForSome, left_states}
 use Rattle.lfs_model.specs.Volume.{LeavesPrefix}
 use Rattle.lfs_fs.specs.Volume.{IsAt, Mounted, Serves, segments_of}
-
--- none of the answers is Stuck
-abbrev pub AreUnstuck : List Answer → Type 0
-AreUnstuck = AllByRecursion (λ (a : Answer). a ≡ Refuse Stuck → ⊥)
 
 module _ {D : Type 0} (state : D → DeviceState) where
   -- a line's call; or nothing, where memory for its word was refused

@@ -1,4 +1,4 @@
--- What a use of a volume can't be: where no call of the device failed, each answer is the model's, but for want of memory or of clean segments.
+-- What a use of a volume can't be: where no call of the device failed, each answer is the model's, but for want of memory.
 use Rattle.std.proofs.Common.{◌≡◌, ◌<◌, ◌≤◌, ◌^◌, ℕ, Bool, true, false, List, [], ◌∷◌, refl, sym, ◌∙◌, ap, subst, inl, inr, ⊎_elim, arith}
 use Rattle.std.specs.Prelude.{IsTrue}
 use Rattle.lfs_model.specs.Call.{Answer, Call, Open, Create, Close, Pread, Pwrite, Truncate, Mkdir, LinkTo, Symlink, Readlink, Unlink, Rmdir, Rename, StatOf, LstatOf, Readdir, Fsync, Sync, Clean, Space, ListTree, Refuse, takes_no_memory}
@@ -11,6 +11,7 @@ use Rattle.lfs_model.specs.Device.{DeviceState, IsLawful}
 use Rattle.lfs_model.specs.Image.{first_checkpoint}
 use Rattle.lfs_model.specs.Tree.{drop_nameless}
 use Rattle.lfs_model.specs.TreeOf.{Stands}
+use Rattle.lfs_model.specs.Use.{AreUnstuck}
 use Rattle.lfs_model.specs.UseLaws.{BeginsNew, NewIsPending, PlainAnswers, PlainRun, UsesArePlain, new_point}
 use Rattle.lfs_model.proofs.Committed.{nothing_dropped}
 use Rattle.lfs_model.proofs.Image.{formatted}
@@ -94,52 +95,53 @@ module _ (N : ℕ) where
   run_goes_on (l ∷ lines) p (a ∷ answers) [] run on few = absurd run
 
   -- an excuse that needs neither a failure nor a last number
-  excuse : (call : Call) (old new : Point) (a : Answer) (r : Refusal) → a ≡ Refuse r → IsExcused N call old new r → new.state ≡ old.state → old.halted ≡ false → new.failures ≤ old.failures → old.number < 2 ^ 62
+  excuse : (call : Call) (old new : Point) (a : Answer) (r : Refusal) → a ≡ Refuse r → IsExcused N call old new r → new.state ≡ old.state → old.halted ≡ false → new.failures ≤ old.failures → old.number < 2 ^ 62 → (a ≡ Refuse Stuck → ⊥)
       → PlainAnswers N call old a new
-  excuse call old new a NoMemory is e same on few low = inr (inl (is, e), same)
-  excuse call old new a Stuck is e same on few low = inr (inr (is, e), same)
-  excuse call old new a Device is e same on few low = absurd (let more = e.1 in omega (arith, more, few))
-  excuse call old new a Halted is e same on few low = ⊎_elim (λ off. absurd (cc)) (λ (more : old.failures < new.failures). absurd (omega (arith, more, few))) e
-  excuse call old new a Worn is e same on few low = absurd (let past = e.0 in omega (arith, past, low))
-  excuse call old new a NoEntry is e same on few low = absurd e
-  excuse call old new a NotDir is e same on few low = absurd e
-  excuse call old new a IsDir is e same on few low = absurd e
-  excuse call old new a Exist is e same on few low = absurd e
-  excuse call old new a NotEmpty is e same on few low = absurd e
-  excuse call old new a Inval is e same on few low = absurd e
-  excuse call old new a NameTooLong is e same on few low = absurd e
-  excuse call old new a Loop is e same on few low = absurd e
-  excuse call old new a Perm is e same on few low = absurd e
-  excuse call old new a Busy is e same on few low = absurd e
-  excuse call old new a BadHandle is e same on few low = absurd e
-  excuse call old new a TooManyOpen is e same on few low = absurd e
-  excuse call old new a TooManyLinks is e same on few low = absurd e
-  excuse call old new a FileTooBig is e same on few low = absurd e
-  excuse call old new a NoSpace is e same on few low = absurd e
-  excuse call old new a NoNumber is e same on few low = absurd e
-  excuse call old new a DirFull is e same on few low = absurd e
+  excuse call old new a NoMemory is e same on few low unstuck = inr (is, e, same)
+  excuse call old new a Stuck is e same on few low unstuck = absurd (unstuck is)
+  excuse call old new a Device is e same on few low unstuck = absurd (let more = e.1 in omega (arith, more, few))
+  excuse call old new a Halted is e same on few low unstuck = ⊎_elim (λ off. absurd (cc)) (λ (more : old.failures < new.failures). absurd (omega (arith, more, few))) e
+  excuse call old new a Worn is e same on few low unstuck = absurd (let past = e.0 in omega (arith, past, low))
+  excuse call old new a NoEntry is e same on few low unstuck = absurd e
+  excuse call old new a NotDir is e same on few low unstuck = absurd e
+  excuse call old new a IsDir is e same on few low unstuck = absurd e
+  excuse call old new a Exist is e same on few low unstuck = absurd e
+  excuse call old new a NotEmpty is e same on few low unstuck = absurd e
+  excuse call old new a Inval is e same on few low unstuck = absurd e
+  excuse call old new a NameTooLong is e same on few low unstuck = absurd e
+  excuse call old new a Loop is e same on few low unstuck = absurd e
+  excuse call old new a Perm is e same on few low unstuck = absurd e
+  excuse call old new a Busy is e same on few low unstuck = absurd e
+  excuse call old new a BadHandle is e same on few low unstuck = absurd e
+  excuse call old new a TooManyOpen is e same on few low unstuck = absurd e
+  excuse call old new a TooManyLinks is e same on few low unstuck = absurd e
+  excuse call old new a FileTooBig is e same on few low unstuck = absurd e
+  excuse call old new a NoSpace is e same on few low unstuck = absurd e
+  excuse call old new a NoNumber is e same on few low unstuck = absurd e
+  excuse call old new a DirFull is e same on few low unstuck = absurd e
 
-  plain_line : (line : Line) (old new : Point) (a : Answer) → LineAnswers N line old a new → old.halted ≡ false → new.failures ≤ old.failures → old.number < 2 ^ 62 → PlainAnswers N (call_of line) old a new
-  plain_line line old new a (inl answers) on few low = ⊎_elim
+  plain_line : (line : Line) (old new : Point) (a : Answer) → LineAnswers N line old a new → old.halted ≡ false → new.failures ≤ old.failures → old.number < 2 ^ 62 → (a ≡ Refuse Stuck → ⊥)
+      → PlainAnswers N (call_of line) old a new
+  plain_line line old new a (inl answers) on few low unstuck = ⊎_elim
       (λ step. inl step.0)
-      (λ refused. excuse (call_of line) old new a refused.0 refused.1 refused.2 refused.3 on few low)
+      (λ refused. excuse (call_of line) old new a refused.0 refused.1 refused.2 refused.3 on few low unstuck)
       answers.steps
-  plain_line line old new a (inr lacks) on few low = inr (inl (lacks.1, word_takes line lacks.0), ap (λ (x : Point). x.state) lacks.2)
+  plain_line line old new a (inr lacks) on few low unstuck = inr (lacks.1, word_takes line lacks.0, ap (λ (x : Point). x.state) lacks.2)
 
   pub plain_run : (lines : List Line) (p : Point) (answers : List Answer) (points : List Point) → LineRun N p lines answers points → p.halted ≡ false
-      → (final p points).failures ≤ p.failures → (final p points).number < 2 ^ 62 → PlainRun N p lines answers points
-  plain_run [] p [] [] run on few low = tt
-  plain_run (l ∷ lines) p (a ∷ answers) (q ∷ points) run on few low =
+      → (final p points).failures ≤ p.failures → (final p points).number < 2 ^ 62 → AreUnstuck answers → PlainRun N p lines answers points
+  plain_run [] p [] [] run on few low unstuck = tt
+  plain_run (l ∷ lines) p (a ∷ answers) (q ∷ points) run on few low unstuck =
       let one = line_grows l p a q run.0 in
       let more = run_grows lines q answers points run.1 in
       let still = line_goes_on l p q a run.0 on (omega (arith, few, more.0)) in (
-        plain_line l p q a run.0 on (omega (arith, few, more.0)) (omega (arith, low, one.1, more.1)),
-        plain_run lines q answers points run.1 still (omega (arith, few, one.0)) low,
+        plain_line l p q a run.0 on (omega (arith, few, more.0)) (omega (arith, low, one.1, more.1)) unstuck.0,
+        plain_run lines q answers points run.1 still (omega (arith, few, one.0)) low unstuck.1,
       )
-  plain_run [] p [] (q ∷ points) run on few low = absurd run
-  plain_run [] p (a ∷ answers) points run on few low = absurd run
-  plain_run (l ∷ lines) p [] points run on few low = absurd run
-  plain_run (l ∷ lines) p (a ∷ answers) [] run on few low = absurd run
+  plain_run [] p [] (q ∷ points) run on few low unstuck = absurd run
+  plain_run [] p (a ∷ answers) points run on few low unstuck = absurd run
+  plain_run (l ∷ lines) p [] points run on few low unstuck = absurd run
+  plain_run (l ∷ lines) p (a ∷ answers) [] run on few low unstuck = absurd run
 
 -- ---- the laws
 
@@ -167,4 +169,4 @@ uses_are_plain d d' lawful keeps none k newest low lines answers u =
     let number = u.number_after on d'.content (lawful.present keeps) in
     let same : number.0 ≡ k = Some-injective number.0 k (sym number.1 ∙ newest) in
     plain_run u.segments lines u.first answers u.points u.run u.running few
-    (let n = number.2 in let l = ap (λ (x : CheckpointValue). x.number) same in omega (arith, n, l, low))
+    (let n = number.2 in let l = ap (λ (x : CheckpointValue). x.number) same in omega (arith, n, l, low)) u.unstuck

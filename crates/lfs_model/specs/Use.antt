@@ -1,11 +1,12 @@
 -- A whole use of a volume: a mount, the lines of a script, and what a stop leaves meanwhile and afterwards.
 -- All of it is an own choice: POSIX.1-2017 says neither what a mount gives nor what a stop leaves.
 use Rattle.std.specs.Prelude.{◌≡◌, ◌⊎◌, ◌≤◌, ℕ, false, List, ◌∷◌, map, Some}
-use Rattle.std.specs.List.{Contains}
-use Rattle.lfs_model.specs.Call.{Answer, Call}
+use Rattle.std.specs.List.{AllByRecursion, Contains}
+use Rattle.lfs_model.specs.Call.{Answer, Call, Refuse}
 use Rattle.lfs_model.specs.Checkpoint.{CheckpointValue}
 use Rattle.lfs_model.specs.Content.{Content, newest}
 use Rattle.lfs_model.specs.Device.{AllLeft, DeviceState, LeavesOnly}
+use Rattle.lfs_model.specs.Refusal.{Stuck}
 use Rattle.lfs_model.specs.Run.{IsPending, LineRun, Point, final}
 use Rattle.lfs_model.specs.Script.{Line, call_of}
 use Rattle.lfs_model.specs.Tree.{State, drop_nameless}
@@ -19,6 +20,10 @@ left_states points = map (λ p. drop_nameless p.state) points
 -- the content stands for one of them
 abbrev pub StandsForSome : List Point → Content → Type 0
 StandsForSome points c = (s : State) × Contains (left_states points) s × Stands c s
+
+-- none of the answers is Stuck
+abbrev pub AreUnstuck : List Answer → Type 0
+AreUnstuck = AllByRecursion (λ (a : Answer). a ≡ Refuse Stuck → ⊥)
 
 -- the content's newest checkpoint has this number
 abbrev pub IsNumbered : ℕ → Content → Type 0
@@ -42,6 +47,7 @@ pub record UsesVolume (d d' : DeviceState) (lines : List Line) (answers : List A
   pub same_number : first.number ≡ stands.checkpoint.number
   pub running : first.halted ≡ false
   pub run : LineRun segments first lines answers points
+  pub unstuck : AreUnstuck answers
   -- the failures that it counts are calls of the device that failed
   pub failures_before : d.failures ≤ first.failures
   pub failures_after : (final first points).failures ≡ d'.failures

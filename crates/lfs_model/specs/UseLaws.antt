@@ -1,12 +1,12 @@
 -- Laws of uses of a volume: how the first one begins, and what answers there are where no call of the device failed.
 -- They follow from the definitions; which of them are stated is an own choice.
-use Rattle.std.specs.Prelude.{◌≡◌, ◌⊎◌, ◌<◌, ◌^◌, ℕ, IsTrue, false, List, [], ◌∷◌, Some}
-use Rattle.lfs_model.specs.Call.{Answer, Call, Refuse, changes, cleans, takes_no_memory}
+use Rattle.std.specs.Prelude.{◌≡◌, ◌⊎◌, ◌<◌, ◌^◌, ℕ, false, List, [], ◌∷◌, Some}
+use Rattle.lfs_model.specs.Call.{Answer, Call, Refuse, takes_no_memory}
 use Rattle.lfs_model.specs.Checkpoint.{CheckpointValue}
 use Rattle.lfs_model.specs.Content.{newest}
 use Rattle.lfs_model.specs.Device.{DeviceState, Only}
 use Rattle.lfs_model.specs.Image.{IsNew}
-use Rattle.lfs_model.specs.Refusal.{NoMemory, Stuck}
+use Rattle.lfs_model.specs.Refusal.{NoMemory}
 use Rattle.lfs_model.specs.Run.{Point, RunOf}
 use Rattle.lfs_model.specs.Script.{Line, call_of}
 use Rattle.lfs_model.specs.Step.{Step}
@@ -31,16 +31,16 @@ NewIsPending N d = IsNew N d.content → Only d.content d → LeavesPrefix d (ne
 
 -- ---- answers
 
--- the model's answer; or a refusal for want of memory or of clean segments, which changes nothing
+-- the model's answer; or a refusal for want of memory, which changes nothing
 abbrev pub PlainAnswers : ℕ → Call → Point → Answer → Point → Type 0
 PlainAnswers N call old answer new = Step N old.state call answer new.state
-    ⊎ ((((answer ≡ Refuse NoMemory) × (takes_no_memory call ≡ false)) ⊎ ((answer ≡ Refuse Stuck) × (IsTrue (changes call) ⊎ IsTrue (cleans call)))) × (new.state ≡ old.state))
+    ⊎ ((answer ≡ Refuse NoMemory) × (takes_no_memory call ≡ false) × (new.state ≡ old.state))
 
 abbrev pub PlainRun : ℕ → Point → List Line → List Answer → List Point → Type 0
 PlainRun N = RunOf (λ line. PlainAnswers N (call_of line))
 
 -- Where no call of the device failed and the checkpoint's number is below 2^62, no other answer is given: so neither Halted nor Device nor
--- Worn, and NoSpace only where the tree after the call needs more than the volume's segments have.
+-- Stuck nor Worn, and NoSpace only where the tree after the call needs more than the volume's segments have.
 abbrev pub UsesArePlain : DeviceState → DeviceState → Type 0
 UsesArePlain d d' = d'.keeps_model → d'.failures ≡ d.failures → (k : CheckpointValue) → newest d'.content ≡ Some k → k.number < 2 ^ 62
     → (lines : List Line) (answers : List Answer) (u : UsesVolume d d' lines answers) → PlainRun u.segments u.first lines answers u.points

@@ -75,6 +75,7 @@ module _ (mid new : DeviceState) (counts : (t : ℕ) (c : Content) → t ≤ mid
     same_number = uses.same_number;
     running = uses.running;
     run = uses.run;
+    unstuck = uses.unstuck;
     failures_before = uses.failures_before;
     failures_after = uses.failures_after ∙ sym same;
     number_after = λ on c left. uses.number_after on c (was_left c left);
