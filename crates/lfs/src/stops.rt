@@ -44,7 +44,8 @@ fn shown(alloc: Global, device: MemDevice) -> Result<(Vec<u8>, usize), Fail> {
     }
 }
 
-// Whether the new file stands behind a stop within this write. None where what stands is neither of them, or the old one behind a put that was done.
+// Whether the new file stands behind a stop within this write. None where what stands is neither of
+// them, or the old one behind a put that was done.
 fn is_new(alloc: Global, write: u64, left: Left) -> Result<Option<bool>, Fail> {
     let mut device = old_device(alloc)?;
     device.stop_at(write);

@@ -11,7 +11,8 @@ use std::{fs, io};
 /// What a command line has to say.
 #[derive(Clone, Copy)]
 enum Said<'a> {
-    /// These bytes on standard output, and a text on standard error exactly where the status isn't 0.
+    /// These bytes on standard output, and a text on standard error exactly where the status isn't
+    /// 0.
     Reply(&'a [u8]),
     /// These bytes on standard output, and these on standard error.
     Tells(&'a [u8], &'a [u8]),
@@ -45,25 +46,30 @@ enum Step<'a> {
     Says(&'a [&'a str], &'a [u8], u8, Said<'a>),
     /// A command line that is given so many letters, its exit status, and what it says.
     Reads(&'a str, usize, u8, Said<'a>),
-    /// A command line that is given a text so many times and these bytes behind it, its exit status, and what it says.
+    /// A command line that is given a text so many times and these bytes behind it, its exit
+    /// status, and what it says.
     Repeats(&'a str, usize, &'a [u8], &'a [u8], u8, Said<'a>),
     /// A command line that is given these bytes one at a time, and then a failed read.
     Breaks(&'a str, &'a [u8]),
     /// A command line that prints a text so many times, and these bytes behind it.
     Copies(&'a str, usize, &'a [u8], &'a [u8]),
-    /// Makes the files /y1, /y2, .. up to this number by a command line, each in a mount of its own.
+    /// Makes the files /y1, /y2, .. up to this number by a command line, each in a mount of its
+    /// own.
     Fills(&'a str, u32),
-    /// Gives a file this length and these pieces. Where it isn't there it is made; what is new in it is zero.
+    /// Gives a file this length and these pieces. Where it isn't there it is made; what is new in
+    /// it is zero.
     Change(&'a str, u64, &'a [Piece<'a>]),
     /// Makes a file of so many sectors of noise.
     Noise(&'a str, u32),
-    /// Changes a byte in a copy of `whole.img`, at a place of a sector: `mount` and `check` refuse the copy with this reply.
+    /// Changes a byte in a copy of `whole.img`, at a place of a sector: `mount` and `check` refuse
+    /// the copy with this reply.
     Damage(u64, u64, u8, &'a [u8]),
     /// The files have one length, and the same bytes as far as a volume of 64 segments goes.
     Same(&'a str, &'a str),
     Lacks(&'a str),
     Remove(&'a str),
-    /// Takes the lock of a file while such command lines are read, each of which ends and speaks so.
+    /// Takes the lock of a file while such command lines are read, each of which ends and speaks
+    /// so.
     Locked(&'a str, &'a [&'a str], u8, Said<'a>),
     /// Lets nobody write a file.
     Protect(&'a str),
@@ -473,7 +479,8 @@ const FIFTY: &[u8] = b"ok 50\n\
     1 y5 file 6 1 0 -\n1 y50 file 51 1 0 -\n1 y6 file 7 1 0 -\n1 y7 file 8 1 0 -\n\
     1 y8 file 9 1 0 -\n1 y9 file 10 1 0 -\n";
 
-// Each commit leaves an inode in a segment of its own. Of 64 segments at least 16 have to be clean for a change: the cleaner sees to it.
+// Each commit leaves an inode in a segment of its own. Of 64 segments at least 16 have to be clean
+// for a change: the cleaner sees to it.
 const MANY_FILES: &[Step] = &[
     Step::Says(&["lfs mkfs c.img --segments 72"], b"", 0, OK),
     Step::Fills("lfs run c.img", 50),
@@ -568,7 +575,8 @@ const ONE_BYTE: &[Piece] = &[
     (8, 0, &[0x61]),
 ];
 
-// What differs from that image where the file is an empty directory, and named `g` too, but for the count of live blocks.
+// What differs from that image where the file is an empty directory, and named `g` too, but for the
+// count of live blocks.
 const TWO_NAMES: &[Piece] = &[
     (3, 12, &[0x80]),
     (6, 64, &[2, 0, 0, 0, 1, 0x67]),
@@ -807,7 +815,10 @@ const MEDIA: &[Step] = &[
         ],
         b"space\n",
         1,
-        Said::Tells(b"err Image\n", b"lfs: none.img: there is no such file\n"),
+        Said::Tells(
+            b"err Image\n",
+            b"lfs: none.img: there is no such file or folder\n",
+        ),
     ),
     Step::Lacks("none.img"),
 ];
@@ -822,7 +833,8 @@ const NOT_THERE: Said = Said::Tells(
     b"lfs: l.img: the volume has nothing of this name\n",
 );
 
-// Four blocks of data, three inodes, a leaf, and a block each of the inode map and of usage live in segment 1: ten. Segment 0 is clean again.
+// Four blocks of data, three inodes, a leaf, and a block each of the inode map and of usage live in
+// segment 1: ten. Segment 0 is clean again.
 const FULLNESS: Said = Said::Reply(
     b"checkpoint 2\nsegments 64\nclean 63\ndata blocks 4\nmeta blocks 4\nneed 752\nlimit 3008\n\
     live blocks of each segment:\n\
@@ -898,7 +910,10 @@ const LOOKS: &[Step] = &[
         ],
         b"",
         1,
-        Said::Tells(b"err Image\n", b"lfs: none.img: there is no such file\n"),
+        Said::Tells(
+            b"err Image\n",
+            b"lfs: none.img: there is no such file or folder\n",
+        ),
     ),
 ];
 
@@ -907,7 +922,8 @@ fn looks_at_a_volume(rt: HostRuntime) {
     want(&rt, LOOKS);
 }
 
-// The sync makes seven writes: a summary, the root's slots, two inodes, a block of the inode map, one of usage, the checkpoint.
+// The sync makes seven writes: a summary, the root's slots, two inodes, a block of the inode map,
+// one of usage, the checkpoint.
 const STOPS: &[Step] = &[
     Step::Says(
         &[
@@ -1071,7 +1087,10 @@ const STRICT: &[Step] = &[
         &["lfs run -- --strict"],
         b"space\n",
         1,
-        Said::Tells(b"err Image\n", b"lfs: --strict: there is no such file\n"),
+        Said::Tells(
+            b"err Image\n",
+            b"lfs: --strict: there is no such file or folder\n",
+        ),
     ),
     Step::Says(
         &[
@@ -1405,7 +1424,8 @@ const OLD_FILE: Said = Said::Reply(b"ok 1\n1 f file 2 1 3 6f6c64\n");
 
 const OLD_SPACE: Said = Said::Reply(b"ok 64 2 2 736 3008\n");
 
-// A new volume of 64 segments takes a file of 1,102,848 bytes: 2,154 blocks, the root's one, and 19 inodes and blocks of pointers need 3,008.
+// A new volume of 64 segments takes a file of 1,102,848 bytes: 2,154 blocks, the root's one, and 19
+// inodes and blocks of pointers need 3,008.
 const FULL_VOLUME: &[Step] = &[
     Step::Says(&["lfs mkfs p.img --segments 64"], b"", 0, OK),
     Step::Reads("lfs put p.img /f", 1_102_849, 1, FULL),

@@ -61,7 +61,8 @@ fn check_bad_lines<R: Files + Print + AllocGlobal>(
     Ok(())
 }
 
-/// Checks what a file holds, if its name has an ending. A script brings its replies and its tree with it, which never stand alone.
+/// Checks what a file holds, if its name has an ending. A script brings its replies and its tree
+/// with it, which never stand alone.
 pub fn check_file<R: Files + Print + AllocGlobal>(
     rt: &R,
     file: &str,

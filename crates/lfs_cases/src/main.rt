@@ -1,8 +1,10 @@
-//! Runs the cases of the folder that it stands in: scripts on new volumes in memory, whose replies are known.
+//! Runs the cases of the folder that it stands in: scripts on new volumes in memory, whose replies
+//! are known.
 //!
-//! `NAME.script` is a script, and `NAME.replies` has what it writes, on a volume of 64 segments or, as `NAME.72.script`, of as
-//! many as the name tells. Where `NAME.tree` is there, it has the reply of `tree` once the volume has stopped and is mounted
-//! again. Each line of `NAME.bad` is a script of its own, which is one bad line.
+//! `NAME.script` is a script, and `NAME.replies` has what it writes, on a volume of 64 segments or,
+//! as `NAME.72.script`, of as many as the name tells. Where `NAME.tree` is there, it has the reply
+//! of `tree` once the volume has stopped and is mounted again. Each line of `NAME.bad` is a script
+//! of its own, which is one bad line.
 #![tactic(auto)]
 
 mod case;

@@ -17,7 +17,8 @@ pub fn new_device(alloc: Global, segments: u16) -> Result<MemDevice> {
     Ok(device)
 }
 
-/// How a script ends on a device's volume, what it writes, and the device, which has stopped: what wasn't synced is as before.
+/// How a script ends on a device's volume, what it writes, and the device, which has stopped: what
+/// wasn't synced is as before.
 pub fn used(
     alloc: Global,
     device: MemDevice,

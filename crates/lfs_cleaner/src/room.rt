@@ -1,4 +1,5 @@
-//! Room in the log: what is unsaved is committed, and passes of the cleaner follow until a quarter of the segments is clean.
+//! Room in the log: what is unsaved is committed, and passes of the cleaner follow until a quarter
+//! of the segments is clean.
 ghost use Rattle.std.specs.Prelude.{◌≡◌, ◌≢◌, ◌<◌, ◌≤◌, ◌+◌, ◌*◌, ◌/◌, true, false, [], length, OnOk, IsErrOf, IsTrue, IsFalse};
 ghost use Rattle.lfs_log.specs.memory.segments.Table.{clean_in};
 ghost use Rattle.lfs_log.specs.Held.{Halts, IsFull};
@@ -17,11 +18,13 @@ pub fn has_quarter<D: SectorDevice>(log: &Log<D>) -> bool
     u64::from(log.segments()) <= 4 * u64::from(log.clean_segments())
 }
 
-/// Passes until a quarter of the segments is clean, an eighth of them times at most, for each pass gains a segment.
+/// Passes until a quarter of the segments is clean, an eighth of them times at most, for each pass
+/// gains a segment.
 ///
 /// # Errors
 ///
-/// As those of `pass`, and `Full` where they don't suffice. With each the log map is the same, and what earlier passes did stays.
+/// As those of `pass`, and `Full` where they don't suffice. With each the log map is the same, and
+/// what earlier passes did stays.
 fn pass_until_quarter<D: SectorDevice>(log: &mut Log<D>) -> Result<(), LogFault>
     requires running { log.old.halted ≡ false }
     requires nothing { log.old.memory.dirty.blocks ≡ [] }
@@ -80,13 +83,15 @@ fn commit_unsaved<D: SectorDevice>(log: &mut Log<D>) -> Result<(), LogFault>
     }
 }
 
-/// Makes a quarter of the segments clean, where fewer are: a commit saves what is unsaved, and passes of the cleaner follow, each of
-/// which gains a segment, an eighth of all segments times at most. It takes no memory.
+/// Makes a quarter of the segments clean, where fewer are: a commit saves what is unsaved, and
+/// passes of the cleaner follow, each of which gains a segment, an eighth of all segments times at
+/// most. It takes no memory.
 ///
 /// # Errors
 ///
-/// With the log map as it was: `Full` where a commit finds too few clean segments, or no pass gains one, `Device` where a call of the device
-/// failed before anything more was written. `Halted` where one failed later, or in a commit before.
+/// With the log map as it was: `Full` where a commit finds too few clean segments, or no pass gains
+/// one, `Device` where a call of the device failed before anything more was written. `Halted` where
+/// one failed later, or in a commit before.
 pub fn make_room<D: SectorDevice>(log: &mut Log<D>) -> Result<(), LogFault>
     ensures done { OnOk result (CleansQuarter D.SectorDevice.state log.old log.new) }
     ensures totals { log.new.totals ≡ log.old.totals }

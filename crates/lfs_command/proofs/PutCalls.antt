@@ -1,5 +1,5 @@
 -- The calls of a put, one after the other.
-use Rattle.std.proofs.Common.{◌≡◌, ◌⊎◌, ℕ, ◌+◌, List, [], ◌∷◌, ◌++◌, Option, Result, Ok, Err, length, refl, sym, ◌∙◌, ap, subst, inl, inr, append_assoc, append-nil, length-append, false, arith}
+use Rattle.std.proofs.Common.{◌≡◌, ℕ, ◌+◌, List, [], ◌∷◌, ◌++◌, Option, Result, Ok, Err, length, refl, sym, ◌∙◌, ap, subst, inl, inr, append_assoc, append-nil, length-append, arith}
 use Rattle.std.specs.List.{AllByRecursion}
 use Rattle.std.specs.Io.KnownBytes.{Consumes, IsAtEnd}
 use Rattle.std.proofs.KnownBytes.{Consumes-nil, Consumes-trans}
@@ -8,7 +8,7 @@ use Rattle.lfs_model.specs.Device.{DeviceState}
 use Rattle.lfs_model.specs.Refusal.{Refusal}
 use Rattle.lfs_script.specs.fs.Volume.{Mounted, Serves}
 use Rattle.lfs_command.specs.declared.putting.PutFault.{PutFault}
-use Rattle.lfs_command.specs.Putting.{Asks, Copies, GivesUp, HasRead, HasRenamed, HasReplaced, IsBeside, IsUnsynced, Made, MakesFile, Piece, Puts, RenamesFile, Replaces, ServesAll, SpareAll, SparesBy, bytes_of, made, making, renaming, writes}
+use Rattle.lfs_command.specs.Putting.{Asks, Copies, GivesUp, HasRenamed, HasReplaced, IsBeside, Made, MakesFile, Piece, PutsFile, RenamesFile, Replaces, ServesAll, SpareAll, SparesBy, bytes_of, made, making, renaming, writes}
 
 -- ---- lists of calls
 
@@ -258,7 +258,7 @@ module _ {D : Type 0} (state : D → DeviceState) where
 
   -- ---- a whole put
 
-  pub not_called : (a : Mounted D) (path : List ℕ) (r : Option (List ℕ)) (fault : PutFault) → Puts state a a path r r (Err fault)
+  pub not_called : (a : Mounted D) (path : List ℕ) (r : Option (List ℕ)) (fault : PutFault) → PutsFile state a a path r r (Err fault)
   not_called a path r fault = record {
     beside = [];
     handle = 0;
@@ -268,7 +268,7 @@ module _ {D : Type 0} (state : D → DeviceState) where
     outcome = inl tt;
   }
 
-  pub looked_alone : (a b : Mounted D) (path beside : List ℕ) (r : Option (List ℕ)) (fault : PutFault) → IsBeside path beside → Asks state a b (LstatOf path) → Puts state a b path r r (Err fault)
+  pub looked_alone : (a b : Mounted D) (path beside : List ℕ) (r : Option (List ℕ)) (fault : PutFault) → IsBeside path beside → Asks state a b (LstatOf path) → PutsFile state a b path r r (Err fault)
   looked_alone a b path beside r fault is looks = record {
     beside = beside;
     handle = 0;
@@ -279,7 +279,7 @@ module _ {D : Type 0} (state : D → DeviceState) where
   }
 
   pub cleared_alone : (a b c : Mounted D) (path beside : List ℕ) (r : Option (List ℕ)) (fault : PutFault) → IsBeside path beside → Asks state a b (LstatOf path) → Asks state b c (Unlink beside)
-      → Puts state a c path r r (Err fault)
+      → PutsFile state a c path r r (Err fault)
   cleared_alone a b c path beside r fault is looks clears = record {
     beside = beside;
     handle = 0;
@@ -290,7 +290,7 @@ module _ {D : Type 0} (state : D → DeviceState) where
   }
 
   pub put_whole : (a b c d : Mounted D) (path beside : List ℕ) (r r' : Option (List ℕ)) (count : ℕ) → IsBeside path beside → Asks state a b (LstatOf path) → Asks state b c (Unlink beside)
-      → Replaces state c d beside path r r' (Ok count) → Puts state a d path r r' (Ok count)
+      → Replaces state c d beside path r r' (Ok count) → PutsFile state a d path r r' (Ok count)
   put_whole a b c d path beside r r' count is looks clears replaces = record {
     beside = beside;
     handle = replaces.handle;
@@ -301,7 +301,7 @@ module _ {D : Type 0} (state : D → DeviceState) where
   }
 
   given_up_by : (a b c d e : Mounted D) (path beside : List ℕ) (handle : ℕ) (r r' : Option (List ℕ)) (fault : PutFault) (calls : List Made) → IsBeside path beside → Asks state a b (LstatOf path)
-      → Asks state b c (Unlink beside) → ServesAll state c d calls → HasReplaced beside path handle r r' calls (Err fault) → GivesUp state d e beside → Puts state a e path r r' (Err fault)
+      → Asks state b c (Unlink beside) → ServesAll state c d calls → HasReplaced beside path handle r r' calls (Err fault) → GivesUp state d e beside → PutsFile state a e path r r' (Err fault)
   given_up_by a b c d e path beside handle r r' fault calls is looks clears replaces (inl spares) gives_up =
       let last = made (Unlink beside) gives_up.0 ∷ made Sync gives_up.1 ∷ [] in
       record {
@@ -333,7 +333,7 @@ module _ {D : Type 0} (state : D → DeviceState) where
       }
 
   pub given_up : (a b c d e : Mounted D) (path beside : List ℕ) (r r' : Option (List ℕ)) (fault : PutFault) → IsBeside path beside → Asks state a b (LstatOf path) → Asks state b c (Unlink beside)
-      → Replaces state c d beside path r r' (Err fault) → GivesUp state d e beside → Puts state a e path r r' (Err fault)
+      → Replaces state c d beside path r r' (Err fault) → GivesUp state d e beside → PutsFile state a e path r r' (Err fault)
   given_up a b c d e path beside r r' fault is looks clears replaces gives_up =
       given_up_by a b c d e path beside replaces.handle r r' fault replaces.calls is looks clears replaces.served replaces.outcome gives_up
 

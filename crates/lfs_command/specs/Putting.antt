@@ -142,7 +142,7 @@ module _ {D : Type 0} (state : D → DeviceState) where
 
   -- A put at a path: the calls that the volume serves, and what they come to by the result. Where the path is refused for its text, or memory is, none is
   -- made and nothing read.
-  pub record Puts (old new : Mounted D) (path : List ℕ) (r r' : Option (List ℕ)) (result : Result ℕ PutFault) : Type 0 where
+  pub record PutsFile (old new : Mounted D) (path : List ℕ) (r r' : Option (List ℕ)) (result : Result ℕ PutFault) : Type 0 where
     pub beside : List ℕ
     pub handle : ℕ
     pub calls : List Made

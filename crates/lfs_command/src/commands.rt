@@ -139,7 +139,8 @@ fn end_script<W: Write>(end: ScriptEnd, output: &mut W) -> Result<Ending, Fault>
     Ok(ending)
 }
 
-// Runs a script on the volume of a device. Where it can't be mounted its line is printed, and the ending is `Refused`, which no script has.
+// Runs a script on the volume of a device. Where it can't be mounted its line is printed, and the
+// ending is `Refused`, which no script has.
 fn play<D: SectorDevice, I: Read, W: Write>(
     alloc: Global,
     device: D,
@@ -387,7 +388,8 @@ fn answer_and_flush<'a, R: Files<File = File>, I: Read, W: Write>(
     Ok(told)
 }
 
-// Hands the command a buffer before the output. Each part of a command flushes what it wrote, and a script its replies before each read.
+// Hands the command a buffer before the output. Each part of a command flushes what it wrote, and a
+// script its replies before each read.
 fn answer_buffered<'a, R: Files<File = File>, I: Read, O: Write>(
     rt: &R,
     alloc: Global,
@@ -414,9 +416,10 @@ fn tell<I, E: Write>(alloc: Global, told: Told<'_>, input: &LineKeeper<I>, error
     let _ = errors.writeln(BadLine { number, reason });
 }
 
-/// Runs a command line, whose first word is the program's name, and answers the exit status: 0 done, 1 a command
-/// refused, or input, output or memory failed, 2 a bad line of the script or a bad command line, 3 a call of a script
-/// refused, where the words ask for an end there. Where it isn't 0, a text for people goes to `errors`.
+/// Runs a command line, whose first word is the program's name, and answers the exit status: 0
+/// done, 1 a command refused, or input, output or memory failed, 2 a bad line of the script or a
+/// bad command line, 3 a call of a script refused, where the words ask for an end there. Where it
+/// isn't 0, a text for people goes to `errors`.
 pub fn command<R: Files<File = File>, I: Read, O: Write, E: Write>(
     rt: &R,
     alloc: Global,

@@ -200,9 +200,9 @@ impl Display for Told<'_> {
 pub enum Fault {
     #[error("{0}")]
     Line(String),
-    #[error("lfs: the number of segments is no decimal number below 2^32")]
+    #[error("lfs: the number of segments is no decimal number below 2^32 without leading zeros")]
     Segments,
-    #[error("lfs: the write to stop at is no decimal number below 2^64")]
+    #[error("lfs: the write to stop at is no decimal number below 2^64 without leading zeros")]
     Stop,
     #[error("lfs: what a stop leaves is none of old, new and bad")]
     Left,

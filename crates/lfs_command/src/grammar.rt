@@ -140,7 +140,8 @@ const USAGES: &[Usage] = &[
         name: "check",
         about: "Check the whole volume, and print its segments and space",
         details: "Check the whole volume, and print `ok N DATA META NEED LIMIT`: its segments, the \
-            blocks of its files, what a change may need of it, and the most that this may be.",
+            blocks of data of its files, their inodes and blocks of pointers, the blocks that the \
+            tree needs, and the most that it may need.",
         parameters: &[THE_IMAGE],
     },
     Usage {
@@ -156,7 +157,7 @@ const USAGES: &[Usage] = &[
         name: "run",
         about: "Run the script on standard input, and print a reply to each line",
         details: "Run the script on standard input, and print a reply to each line. The image is \
-            locked meanwhile. What the script doesn't sync is gone at its end.",
+            locked meanwhile. What the script doesn't sync may be gone at its end.",
         parameters: &[THE_IMAGE, STRICTLY],
     },
     Usage {
@@ -188,7 +189,7 @@ const USAGES: &[Usage] = &[
         name: "cat",
         about: "Print the bytes of a file",
         details: "Print the bytes of a file. Where the device fails behind the first bytes, the \
-            command ends with status 1 and prints no line between them.",
+            command ends with status 1 and prints no line with `err`.",
         parameters: &[THE_IMAGE, THE_PATH],
     },
     Usage {

@@ -47,7 +47,8 @@ fn medium_of(metadata: &Metadata) -> Result<Medium, ImageFault> {
     }
 }
 
-// What stands under a name. It is asked before the name is opened, since opening a pipe waits for its other end.
+// What stands under a name. It is asked before the name is opened, since opening a pipe waits for
+// its other end.
 fn look_up<R: Files<File = File>>(rt: &R, image: &str) -> Result<Medium, ImageFault> {
     match fs::metadata(rt, image) {
         Ok(metadata) => medium_of(&metadata),
@@ -128,7 +129,8 @@ fn check_name<R: Files<File = File>>(rt: &R, image: &str, force: bool) -> Result
     }
 }
 
-// Makes all of a file's bytes zeros, so many of them. That it may be so long is tried before it is emptied.
+// Makes all of a file's bytes zeros, so many of them. That it may be so long is tried before it is
+// emptied.
 fn clear(file: &File, old: u64, len: u64) -> Result<(), ImageFault> {
     if old < len && file.set_len(len).is_err() {
         return Err(ImageFault::Length);
@@ -152,7 +154,8 @@ fn open_or_make<R: Files<File = File>>(rt: &R, image: &str) -> Result<File, Imag
     }
 }
 
-// Locks what was opened, and makes a file's bytes zeros. It is looked at again: the name may have had another file before.
+// Locks what was opened, and makes a file's bytes zeros. It is looked at again: the name may have
+// had another file before.
 fn prepare(file: &File, len: u64, force: bool) -> Result<(), ImageFault> {
     lock(file)?;
     let Ok(metadata) = file.metadata() else {
@@ -187,8 +190,9 @@ fn format_file<Here: World>(file: File, segments: u32) -> Result<(), Refusal> {
     }
 }
 
-/// Makes a volume. A regular file is made, or emptied, and gets the volume's length; a block device keeps its own, which
-/// has to be enough, and is formatted only by force. A wrong number of segments is refused with no file touched.
+/// Makes a volume. A regular file is made, or emptied, and gets the volume's length; a block device
+/// keeps its own, which has to be enough, and is formatted only by force. A wrong number of
+/// segments is refused with no file touched.
 pub fn make<Here: World, R: Files<File = File>>(
     rt: &R,
     image: &str,

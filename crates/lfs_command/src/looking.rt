@@ -133,7 +133,8 @@ fn root_level(alloc: Global, rows: &[TreeRow]) -> Result<Vec<Level>, AllocError>
     Ok(levels)
 }
 
-// Goes on behind an entry: with those of the directory that it gives, if it gives one, and then with the next one beside it.
+// Goes on behind an entry: with those of the directory that it gives, if it gives one, and then
+// with the next one beside it.
 fn go_on(
     levels: &mut Vec<Level>,
     rows: &[TreeRow],
@@ -151,7 +152,8 @@ fn go_on(
     Ok(())
 }
 
-// Prints the rows of a tree, those of a directory behind its own. Each step prints a row or ends a directory.
+// Prints the rows of a tree, those of a directory behind its own. Each step prints a row or ends a
+// directory.
 fn put_tree<W: Write>(alloc: Global, output: &mut W, rows: &[TreeRow]) -> Result<(), Fault> {
     put(output, b"/\n")?;
     let mut levels = root_level(alloc, rows)?;

@@ -1,9 +1,9 @@
-//! The command that puts a file into a volume. Its bytes stand under another name until they are whole and synced: so
-//! the old file or the new one is there after any stop.
+//! The command that puts a file into a volume. Its bytes stand under another name until they are
+//! whole and synced: so the old file or the new one is there after any stop.
 ghost use Rattle.std.specs.Prelude.{◌≡◌, ◌≢◌, ◌≤◌, ◌<◌, ◌⊎◌, ◌-◌, IfOk, OnOk, ℕ, false, codes, length, slice_index};
 ghost use Rattle.lfs_model.specs.Call.{LstatOf, Unlink};
 ghost use Rattle.lfs_script.specs.fs.Seen.{seen};
-ghost use Rattle.lfs_command.specs.Putting.{Asks, Copies, GivesUp, IsBeside, MakesFile, Puts, RenamesFile, Replaces};
+ghost use Rattle.lfs_command.specs.Putting.{Asks, Copies, GivesUp, IsBeside, MakesFile, PutsFile, RenamesFile, Replaces};
 
 use lfs_device::SectorDevice;
 use lfs_model::Kind;
@@ -13,7 +13,8 @@ use std::alloc::{AllocError, Global};
 use std::io::Read;
 use thiserror::Error;
 
-/// The name under which a file stands until it is whole, in the directory that is to have it. What a stop left there is removed.
+/// The name under which a file stands until it is whole, in the directory that is to have it. What
+/// a stop left there is removed.
 pub const UNFINISHED: &[u8] = b".lfs-put";
 
 /// The most bytes that are read and written at once.
@@ -48,7 +49,8 @@ fn trimmed_len(path: &[u8]) -> usize
     len
 }
 
-// How many bytes of a path stand before its last piece, the last slash with them. No slash ends the path.
+// How many bytes of a path stand before its last piece, the last slash with them. No slash ends the
+// path.
 fn above_len(path: &[u8]) -> usize
     ensures within { result ≤ length path.now }
     ensures plain { (i : ℕ) → result ≤ i → i < length path.now
@@ -248,7 +250,7 @@ fn put_by<D: SectorDevice, I: Read>(
 ) -> Result<u64, PutFault>
     requires some { 0 < length buffer.old }
     requires beside { IsBeside path.now unfinished.now }
-    ensures { Puts D.SectorDevice.state (seen fs.old) (seen fs.new) path.now
+    ensures { PutsFile D.SectorDevice.state (seen fs.old) (seen fs.new) path.now
         (I.remaining input.old) (I.remaining input.new) result }
 {
     match refuse_directory(fs, path) {
@@ -268,21 +270,24 @@ fn put_by<D: SectorDevice, I: Read>(
     }
 }
 
-/// Makes all bytes of a reader the file of a path, synced, and answers their number. A link at the end of the path is replaced itself.
+/// Makes all bytes of a reader the file of a path, synced, and answers their number. A link at the
+/// end of the path is replaced itself.
 ///
 /// # Errors
 ///
-/// `Memory` where memory for a buffer or for a path is refused. Of the path's text, in this order: `NoEntry`, `NameTooLong` and `Inval` as of any path;
-/// `Busy` where it has no piece; `Inval` where the last one is dot or dot-dot; `Unfinished`; `NameTooLong`; `NotDir` where a slash ends it. `IsDir` of a
-/// directory. Then what `unlink`, `create`, `pwrite`, `sync` and `rename` refuse, and `Input`. What stood at the path stands there still, but where the
-/// last sync fails: then a stop leaves that or the new file.
+/// `Memory` where memory for a buffer or for a path is refused. Of the path's text, in this order:
+/// `NoEntry`, `NameTooLong` and `Inval` as of any path; `Busy` where it has no piece; `Inval` where
+/// the last one is dot or dot-dot; `Unfinished`; `NameTooLong`; `NotDir` where a slash ends it.
+/// `IsDir` of a directory. Then what `unlink`, `create`, `pwrite`, `sync` and `rename` refuse, and
+/// `Input`. What stood at the path stands there still, but where the last sync fails: then a stop
+/// leaves that or the new file.
 pub fn put<D: SectorDevice, I: Read>(
     alloc: Global,
     fs: &mut Fs<D>,
     path: &[u8],
     input: &mut I,
 ) -> Result<u64, PutFault>
-    ensures { Puts D.SectorDevice.state (seen fs.old) (seen fs.new) path.now
+    ensures { PutsFile D.SectorDevice.state (seen fs.old) (seen fs.new) path.now
         (I.remaining input.old) (I.remaining input.new) result }
 {
     let Ok(mut buffer) = vec![in alloc; 0; MOST_BYTES] else {

@@ -12,7 +12,7 @@ pub const UNFINISHED: &str = "this is the name under which `put` keeps a file th
 /// Of an image that isn't used.
 pub fn of_image(fault: ImageFault) -> &'static str {
     match fault {
-        ImageFault::Missing => "there is no such file",
+        ImageFault::Missing => "there is no such file or folder",
         ImageFault::Denied => "permission denied",
         ImageFault::ReadOnly => "it is on a file system that is read-only",
         ImageFault::Folder => "it is a folder",

@@ -6,8 +6,9 @@ use std::alloc::Global;
 use std::io;
 use std::io::Read;
 
-/// A reader that keeps the lines that it gave bytes of in its last read, each from its beginning. Who takes all bytes of a read before the next
-/// one finds there the line that it is at. Of a line that is longer than any of a script it keeps a beginning.
+/// A reader that keeps the lines that it gave bytes of in its last read, each from its beginning.
+/// Who takes all bytes of a read before the next one finds there the line that it is at. Of a line
+/// that is longer than any of a script it keeps a beginning.
 #[derive(Drop)]
 pub struct LineKeeper<R> {
     reader: R,
@@ -45,7 +46,8 @@ impl<R> LineKeeper<R> {
         self.kept.truncate(left);
     }
 
-    /// The line of this number, as far as it was read, without its newline. None where it isn't kept.
+    /// The line of this number, as far as it was read, without its newline. None where it isn't
+    /// kept.
     pub fn line(&self, number: u64) -> Option<&[u8]> {
         if self.lost {
             return None;

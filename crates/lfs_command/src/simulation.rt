@@ -15,7 +15,8 @@ use std::alloc::Global;
 #[derive(Clone, Copy)]
 pub struct Plan {
     pub segments: u32,
-    /// The write that doesn't go through, counted from 0 behind the format, and with which the device stops.
+    /// The write that doesn't go through, counted from 0 behind the format, and with which the
+    /// device stops.
     pub stop: u64,
     /// What the stop leaves of each sector that isn't synced.
     pub left: Left,

@@ -5,7 +5,7 @@ use Rattle.lfs_model.specs.Device.{Cell, lose, MayWrite, left_old, left_new, lef
 use Rattle.lfs_device.specs.declared.rows.Row.{Row}
 use Rattle.lfs_device.specs.declared.rows.Left.{Left}
 use Rattle.lfs_device.specs.declared.rows.Left.TheVariants.{Old, New, Bad}
-use Rattle.lfs_device.specs.Rows.{AreWhole, CellLeft, CanLeave, After, Reached, present_of, stands_at, settled, chosen, first_or, stopped}
+use Rattle.lfs_device.specs.Rows.{AreSectorRows, CellLeft, CanLeave, After, PassedThrough, present_of, stands_at, settled, chosen, first_or, stopped}
 use Rattle.std.specs.List.{AllByRecursion}
 use Rattle.lfs_device.specs.Memory.{present}
 
@@ -139,24 +139,24 @@ lose_leaves (row ∷ rows) Before (suc s) (x ∷ c) left =
 -- the same, of states that are known by an equation
 module _ (rows : List Row) (past now : List (List Row)) (is_now : now ≡ rows ∷ past) where
   pub crash_write : (s : ℕ) (bytes : List ℕ) (old new : Row) → old ≡ slice_index_or rows s old → Wrote bytes old new
-      → (c : List Cell) → CanLeave (slice_set rows s new) (Reached now) c → (d : List Cell) × CanLeave rows (Reached past) d × MayWrite s bytes d c
+      → (c : List Cell) → CanLeave (slice_set rows s new) (PassedThrough now) c → (d : List Cell) × CanLeave rows (PassedThrough past) d × MayWrite s bytes d c
   crash_write s bytes old new is wrote c left =
-      crash_set rows (Reached past) s bytes old new is wrote c (subst (λ (l : List (List Row)). CanLeave (slice_set rows s new) (Reached l) c) is_now left)
+      crash_set rows (PassedThrough past) s bytes old new is wrote c (subst (λ (l : List (List Row)). CanLeave (slice_set rows s new) (PassedThrough l) c) is_now left)
 
   pub crash_spreads : (s : ℕ) (bytes : List ℕ) (old new : Row) → old ≡ slice_index_or rows s old → Wrote bytes old new
-      → (d c : List Cell) → CanLeave rows (Reached past) d → MayWrite s bytes d c → CanLeave (slice_set rows s new) (Reached now) c
+      → (d c : List Cell) → CanLeave rows (PassedThrough past) d → MayWrite s bytes d c → CanLeave (slice_set rows s new) (PassedThrough now) c
   crash_spreads s bytes old new is wrote d c left may =
-      subst (λ (l : List (List Row)). CanLeave (slice_set rows s new) (Reached l) c) (sym is_now) (spread_set rows (Reached past) s bytes old new is wrote d c left may)
+      subst (λ (l : List (List Row)). CanLeave (slice_set rows s new) (PassedThrough l) c) (sym is_now) (spread_set rows (PassedThrough past) s bytes old new is wrote d c left may)
 
-  pub were_whole : AreWhole rows → AllByRecursion AreWhole past → AllByRecursion AreWhole now
-  were_whole whole were = subst (AllByRecursion AreWhole) (sym is_now) (whole, were)
+  pub were_whole : AreSectorRows rows → AllByRecursion AreSectorRows past → AllByRecursion AreSectorRows now
+  were_whole whole were = subst (AllByRecursion AreSectorRows) (sym is_now) (whole, were)
 
-  pub lost_leaves : (s : ℕ) (row : Row) → row ≡ stands_at None → (c : List Cell) → CanLeave (slice_set rows s row) (Reached now) c
-      → (d : List Cell) × CanLeave rows (Reached past) d × (c ≡ lose d s)
+  pub lost_leaves : (s : ℕ) (row : Row) → row ≡ stands_at None → (c : List Cell) → CanLeave (slice_set rows s row) (PassedThrough now) c
+      → (d : List Cell) × CanLeave rows (PassedThrough past) d × (c ≡ lose d s)
   lost_leaves s row is c left =
-      lose_leaves rows (Reached past) s c
-      (subst (λ (r : Row). CanLeave (slice_set rows s r) (After rows (Reached past)) c) is
-      (subst (λ (l : List (List Row)). CanLeave (slice_set rows s row) (Reached l) c) is_now left))
+      lose_leaves rows (PassedThrough past) s c
+      (subst (λ (r : Row). CanLeave (slice_set rows s r) (After rows (PassedThrough past)) c) is
+      (subst (λ (l : List (List Row)). CanLeave (slice_set rows s row) (PassedThrough l) c) is_now left))
 
 -- a row that is written over
 pub present_set : (rows : List Row) (s : ℕ) (new : Row) → map present_of (slice_set rows s new) ≡ slice_set (map present_of rows) s new.present

@@ -18,13 +18,13 @@ abbrev pub CellLeft : Row → (Cell → Type 0) → Cell → Type 0
 CellLeft row Before c = (c ≡ row.synced) ⊎ ((c ≡ row.present) ⊎ (IsSome row.written × ((c ≡ row.written) ⊎ ((c ≡ None) ⊎ Before c))))
 
 -- what is kept of a sector is a sector's
-pub record IsWhole (row : Row) : Type 0 where
+pub record IsSectorRow (row : Row) : Type 0 where
   pub present : IsSector row.present
   pub synced : IsSector row.synced
   pub written : IsSector row.written
 
-abbrev pub AreWhole : List Row → Type 0
-AreWhole rows = AllByRecursion IsWhole rows
+abbrev pub AreSectorRows : List Row → Type 0
+AreSectorRows rows = AllByRecursion IsSectorRow rows
 
 -- each sector by itself
 abbrev pub CanLeave : List Row → (ℕ → Cell → Type 0) → List Cell → Type 0
@@ -37,9 +37,9 @@ abbrev pub After : List Row → (ℕ → Cell → Type 0) → ℕ → Cell → T
 After rows Before k = CellLeft (slice_index_or rows k (stands_at None)) (Before k)
 
 -- and of each sector in the last of these states
-abbrev pub Reached : List (List Row) → ℕ → Cell → Type 0
-Reached [] k c = ⊥
-Reached (rows ∷ past) k c = CellLeft (slice_index_or rows k (stands_at None)) (Reached past k) c
+abbrev pub PassedThrough : List (List Row) → ℕ → Cell → Type 0
+PassedThrough [] k c = ⊥
+PassedThrough (rows ∷ past) k c = CellLeft (slice_index_or rows k (stands_at None)) (PassedThrough past k) c
 
 abbrev pub present_of : Row → Cell
 present_of row = row.present
@@ -74,7 +74,7 @@ states_of (Then' rows mark before) = rows.value.items ∷ states_of before
 -- a stop in one of these states, from the t-th on, might have left the content
 abbrev pub LeftIn : List (List Row) → ℕ → List Cell → Type 0
 LeftIn [] t c = ⊥
-LeftIn (rows ∷ past) t c = ((t ≤ length past) × CanLeave rows (Reached past) c) ⊎ LeftIn past t c
+LeftIn (rows ∷ past) t c = ((t ≤ length past) × CanLeave rows (PassedThrough past) c) ⊎ LeftIn past t c
 
 abbrev pub count : Count → ℕ
 count Zero = 0

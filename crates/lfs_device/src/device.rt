@@ -15,11 +15,13 @@ pub enum ReadFault {
 #[derive(Clone, Copy, Debug, PartialEq, Eq)]
 pub struct DeviceFault;
 
-/// A device of sectors of 512 bytes, numbered from 0. A sector that a call names is below `sectors()`.
+/// A device of sectors of 512 bytes, numbered from 0. A sector that a call names is below
+/// `sectors()`.
 ///
-/// What is said of contents holds where the device keeps the device model after the call, and then it kept it before. A
-/// stop, within a call or between two, leaves each sector by itself as it was at the last sync that succeeded, with the
-/// bytes of any write to it since, done or failed, or, if it was written since, unreadable.
+/// What is said of contents holds where the device keeps the device model after the call, and then
+/// it kept it before. A stop, within a call or between two, leaves each sector by itself as it was
+/// at the last sync that succeeded, with the bytes of any write to it since, done or failed, or, if
+/// it was written since, unreadable.
 pub trait SectorDevice {
     ghost state: { Self → DeviceState };
 
@@ -31,14 +33,19 @@ pub trait SectorDevice {
     ///
     /// # Errors
     ///
-    /// `Unreadable` where the sector's content can't be read, and `Failed` where the call failed: that raises the failure count.
+    /// `Unreadable` where the sector's content can't be read, and `Failed` where the call failed:
+    /// that raises the failure count.
     fn read(&mut self, sector: u32, out: &mut [u8; 512]) -> Result<(), ReadFault>
         requires { sector < (state self.old).size }
-        ensures value { OnOk result ((state self.new).keeps_model → cell_at (state self.old).content sector ≡ Some out.new) }
-        ensures unreadable { IsErrOf result ReadFault.Unreadable → (state self.new).keeps_model → cell_at (state self.old).content sector ≡ None }
-        ensures failed { IsErrOf result ReadFault.Failed → (state self.old).failures < (state self.new).failures }
+        ensures value { OnOk result ((state self.new).keeps_model
+            → cell_at (state self.old).content sector ≡ Some out.new) }
+        ensures unreadable { IsErrOf result ReadFault.Unreadable → (state self.new).keeps_model
+            → cell_at (state self.old).content sector ≡ None }
+        ensures failed { IsErrOf result ReadFault.Failed
+            → (state self.old).failures < (state self.new).failures }
         ensures no_failure { OnOk result ((state self.new).failures ≡ (state self.old).failures) }
-        ensures no_failure_unreadable { IsErrOf result ReadFault.Unreadable → (state self.new).failures ≡ (state self.old).failures }
+        ensures no_failure_unreadable { IsErrOf result ReadFault.Unreadable
+            → (state self.new).failures ≡ (state self.old).failures }
         ensures untouched { IsUntouched (state self.old) (state self.new) }
         ensures carries { Carries (state self.old) (state self.new) }
         ensures time { Elapses (state self.old) (state self.new) };
@@ -47,11 +54,14 @@ pub trait SectorDevice {
     ///
     /// # Errors
     ///
-    /// The fault where the call failed: the sector is as it was, has the bytes, or is unreadable. It raises the failure count.
+    /// The fault where the call failed: the sector is as it was, has the bytes, or is unreadable.
+    /// It raises the failure count.
     fn write(&mut self, sector: u32, bytes: &[u8; 512]) -> Result<(), DeviceFault>
         requires { sector < (state self.old).size }
-        ensures written { OnOk result ((state self.new).keeps_model → (state self.new).content ≡ put (state self.old).content sector bytes.now) }
-        ensures failed_write { OnErr result ((state self.new).keeps_model → MayWrite sector bytes.now (state self.old).content (state self.new).content) }
+        ensures written { OnOk result ((state self.new).keeps_model
+            → (state self.new).content ≡ put (state self.old).content sector bytes.now) }
+        ensures failed_write { OnErr result ((state self.new).keeps_model
+            → MayWrite sector bytes.now (state self.old).content (state self.new).content) }
         ensures crash { CrashWrites sector bytes.now (state self.old) (state self.new) }
         ensures failed { OnErr result ((state self.old).failures < (state self.new).failures) }
         ensures no_failure { OnOk result ((state self.new).failures ≡ (state self.old).failures) }
@@ -64,7 +74,8 @@ pub trait SectorDevice {
     ///
     /// The fault where the call failed: what was unsynced stays so. It raises the failure count.
     fn sync(&mut self) -> Result<(), DeviceFault>
-        ensures durable { OnOk result ((state self.new).keeps_model → Only (state self.new).content (state self.new)) }
+        ensures durable { OnOk result ((state self.new).keeps_model
+            → Only (state self.new).content (state self.new)) }
         ensures failed { OnErr result ((state self.old).failures < (state self.new).failures) }
         ensures no_failure { OnOk result ((state self.new).failures ≡ (state self.old).failures) }
         ensures untouched { IsUntouched (state self.old) (state self.new) }

@@ -1,4 +1,5 @@
-// A device over a file. What is proved of its contents holds where the file's answers were those of a device of the model.
+// A device over a file. What is proved of its contents holds where the file's answers were those of
+// a device of the model.
 ghost use Rattle.std.specs.Prelude.{◌^◌, ◌<◌};
 ghost use Rattle.lfs_device.specs.File.{AreWhole, AreWhole-prop, file_lawful};
 ghost use Rattle.lfs_device.specs.History.{calls_of};
@@ -11,11 +12,12 @@ use std::marker::PhantomData;
 use std::os::unix::fs::FileExt;
 use std::snapshot::Snapshot;
 
-/// A file of the world `W` as a device, sector after sector. Its calls are positional reads and writes, and syncs that
-/// reach the medium. It never answers `Unreadable`.
+/// A file of the world `W` as a device, sector after sector. Its calls are positional reads and
+/// writes, and syncs that reach the medium. It never answers `Unreadable`.
 ///
-/// It keeps the device model as far as each read that succeeded gave what such a device would hold by then. What it held
-/// as it was opened, what a stop would have left of that, and what each failed write made of its sector is its fate in
+/// It keeps the device model as far as each read that succeeded gave what such a device would hold
+/// by then. What it held as it was opened, what a stop would have left of that, and what each
+/// failed write made of its sector is its fate in
 /// `W`. The contract of each call holds in every world, so for whatever the file held.
 #[derive(Drop)]
 pub struct FileDeviceIn<W: World> {
@@ -39,8 +41,9 @@ impl<W: World> FileDeviceIn<W> {
     ghost use Rattle.std.specs.Prelude.{◌≡◌, IfOk};
     ghost use Rattle.lfs_device.specs.FileDevice.{state_of_file};
 
-    /// The whole sectors of a file or of a block device, as many as there are now, at most `u32::MAX`. No call was made on
-    /// them yet. Their length is what seeking to the end says, since the metadata of a block device have none.
+    /// The whole sectors of a file or of a block device, as many as there are now, at most
+    /// `u32::MAX`. No call was made on them yet. Their length is what seeking to the end says,
+    /// since the metadata of a block device have none.
     ///
     /// # Errors
     ///
@@ -82,11 +85,17 @@ impl<W: World> SectorDevice for FileDeviceIn<W> {
 
     fn read(&mut self, sector: u32, out: &mut [u8; 512]) -> Result<(), ReadFault>
         requires { sector < (state_of_file self.old).size }
-        ensures value { OnOk result ((state_of_file self.new).keeps_model → cell_at (state_of_file self.old).content sector ≡ Some out.new) }
-        ensures unreadable { IsErrOf result ReadFault.Unreadable → (state_of_file self.new).keeps_model → cell_at (state_of_file self.old).content sector ≡ None }
-        ensures failed { IsErrOf result ReadFault.Failed → (state_of_file self.old).failures < (state_of_file self.new).failures }
-        ensures no_failure { OnOk result ((state_of_file self.new).failures ≡ (state_of_file self.old).failures) }
-        ensures no_failure_unreadable { IsErrOf result ReadFault.Unreadable → (state_of_file self.new).failures ≡ (state_of_file self.old).failures }
+        ensures value { OnOk result ((state_of_file self.new).keeps_model
+            → cell_at (state_of_file self.old).content sector ≡ Some out.new) }
+        ensures unreadable { IsErrOf result ReadFault.Unreadable
+            → (state_of_file self.new).keeps_model
+            → cell_at (state_of_file self.old).content sector ≡ None }
+        ensures failed { IsErrOf result ReadFault.Failed
+            → (state_of_file self.old).failures < (state_of_file self.new).failures }
+        ensures no_failure { OnOk result
+            ((state_of_file self.new).failures ≡ (state_of_file self.old).failures) }
+        ensures no_failure_unreadable { IsErrOf result ReadFault.Unreadable
+            → (state_of_file self.new).failures ≡ (state_of_file self.old).failures }
         ensures untouched { IsUntouched (state_of_file self.old) (state_of_file self.new) }
         ensures carries { Carries (state_of_file self.old) (state_of_file self.new) }
         ensures time { Elapses (state_of_file self.old) (state_of_file self.new) }
@@ -102,14 +111,22 @@ impl<W: World> SectorDevice for FileDeviceIn<W> {
 
     fn write(&mut self, sector: u32, bytes: &[u8; 512]) -> Result<(), DeviceFault>
         requires { sector < (state_of_file self.old).size }
-        ensures written { OnOk result ((state_of_file self.new).keeps_model → (state_of_file self.new).content ≡ put (state_of_file self.old).content sector bytes.now) }
-        ensures failed_write { OnErr result ((state_of_file self.new).keeps_model → MayWrite sector bytes.now (state_of_file self.old).content (state_of_file self.new).content) }
-        ensures crash { CrashWrites sector bytes.now (state_of_file self.old) (state_of_file self.new) }
-        ensures failed { OnErr result ((state_of_file self.old).failures < (state_of_file self.new).failures) }
-        ensures no_failure { OnOk result ((state_of_file self.new).failures ≡ (state_of_file self.old).failures) }
+        ensures written { OnOk result ((state_of_file self.new).keeps_model
+            → (state_of_file self.new).content ≡ put
+            (state_of_file self.old).content sector bytes.now) }
+        ensures failed_write { OnErr result ((state_of_file self.new).keeps_model
+            → MayWrite sector bytes.now (state_of_file self.old).content
+            (state_of_file self.new).content) }
+        ensures crash { CrashWrites sector bytes.now (state_of_file self.old)
+            (state_of_file self.new) }
+        ensures failed { OnErr result
+            ((state_of_file self.old).failures < (state_of_file self.new).failures) }
+        ensures no_failure { OnOk result
+            ((state_of_file self.new).failures ≡ (state_of_file self.old).failures) }
         ensures carries { Carries (state_of_file self.old) (state_of_file self.new) }
         ensures time { Elapses (state_of_file self.old) (state_of_file self.new) }
-        ensures spreads { CrashSpreads sector bytes.now (state_of_file self.old) (state_of_file self.new) }
+        ensures spreads { CrashSpreads sector bytes.now (state_of_file self.old)
+            (state_of_file self.new) }
     {
         if self.file.write_all_at(bytes, offset(sector)).is_err() {
             note(

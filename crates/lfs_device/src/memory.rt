@@ -2,7 +2,7 @@
 ghost use Rattle.std.specs.Prelude.{◌≡◌, ◌<◌, ◌^◌, length, replicate, List, [], IfOk, Some, None, false};
 ghost use Rattle.lfs_model.specs.Device.{Cell, Only, Carries, Elapses};
 ghost use Rattle.lfs_device.specs.Memory.{AreWhole-prop, AreAllWhole-prop, memory_lawful};
-ghost use Rattle.lfs_device.specs.Rows.{AreWhole, states_of};
+ghost use Rattle.lfs_device.specs.Rows.{AreSectorRows, states_of};
 ghost use Rattle.std.specs.List.{AllByRecursion};
 
 use crate::bench::{Bench, DeviceCall};
@@ -23,19 +23,20 @@ impl From<AllocError> for NoMemory {
 
 /// A device in memory, which always keeps the device model. No method but `new` takes memory.
 ///
-/// By its contract a stop may leave all that the model allows: of a sector that was written several times since the last
-/// sync, the bytes of each of these writes, done or failed. `crash` and `crash_each` leave what it held at that sync, the
-/// bytes of the last of these writes, or nothing that can be read: the bytes of the earlier ones aren't kept.
+/// By its contract a stop may leave all that the model allows: of a sector that was written several
+/// times since the last sync, the bytes of each of these writes, done or failed. `crash` and
+/// `crash_each` leave what it held at that sync, the bytes of the last of these writes, or nothing
+/// that can be read: the bytes of the earlier ones aren't kept.
 #[derive(Drop)]
 pub struct MemDevice {
     rows: Vec<Row>,
     sectors: u32,
     ghost sized: { sectors ≡ length rows.items },
     ghost fits: { length rows.items < 2 ^ 32 },
-    ghost whole: { AreWhole rows.items } by { AreWhole-prop rows.items },
+    ghost whole: { AreSectorRows rows.items } by { AreWhole-prop rows.items },
     bench: Bench,
     past: Snapshot<Past>,
-    ghost were_whole: { AllByRecursion AreWhole (states_of past.value) } by { AreAllWhole-prop (states_of past.value) },
+    ghost were_whole: { AllByRecursion AreSectorRows (states_of past.value) } by { AreAllWhole-prop (states_of past.value) },
     failed: Snapshot<Count>,
 }
 
@@ -45,10 +46,12 @@ impl MemDevice {
     ghost use Rattle.lfs_device.specs.Bench.{no_faults, with_fault};
     ghost use Rattle.lfs_device.specs.MemoryDevice.{device_state, rows_of, bench_of, with_bench};
 
-    /// A device of this many sectors, all zeros and synced. The memory for every later call is taken here.
+    /// A device of this many sectors, all zeros and synced. The memory for every later call is
+    /// taken here.
     pub fn new(alloc: Global, sectors: u32) -> Result<MemDevice, NoMemory>
         ensures size { IfOk result (λ d. (device_state d).size ≡ sectors) }
-        ensures zeros { IfOk result (λ d. (device_state d).content ≡ replicate sectors (Some (replicate 512 0))) }
+        ensures zeros { IfOk result
+            (λ d. (device_state d).content ≡ replicate sectors (Some (replicate 512 0))) }
         ensures durable { IfOk result (λ d. Only (device_state d).content (device_state d)) }
         ensures bench { IfOk result (λ d. bench_of d ≡ no_faults) }
         ensures keeps { IfOk result (λ d. (device_state d).keeps_model) }
@@ -63,15 +66,18 @@ impl MemDevice {
         })
     }
 
-    /// Write call `write`, counted from 0 from now on, fails, and so does every later call, until `crash`.
+    /// Write call `write`, counted from 0 from now on, fails, and so does every later call, until
+    /// `crash`.
     pub fn stop_at(&mut self, write: u64)
-        ensures { self.new ≡ with_bench (record (bench_of self.old) { writes = 0; stop = Some write }) self.old }
+        ensures { self.new ≡ with_bench
+            (record (bench_of self.old) { writes = 0; stop = Some write }) self.old }
     {
         self.bench.writes = 0;
         self.bench.stop = Some(write);
     }
 
-    /// The `nth` call of that kind from now on, counted from 0, fails. A later `fail` of the same kind takes its place.
+    /// The `nth` call of that kind from now on, counted from 0, fails. A later `fail` of the same
+    /// kind takes its place.
     pub fn fail(&mut self, call: DeviceCall, nth: u64)
         ensures { self.new ≡ with_bench (with_fault call nth (bench_of self.old)) self.old }
     {
@@ -82,7 +88,8 @@ impl MemDevice {
         }
     }
 
-    /// The write calls begun since `stop_at`, or since `new`. It rises no further once it is `u64::MAX`.
+    /// The write calls begun since `stop_at`, or since `new`. It rises no further once it is
+    /// `u64::MAX`.
     pub fn writes(&self) -> u64
         ensures { result ≡ (bench_of self.now).writes }
     {
@@ -93,10 +100,12 @@ impl MemDevice {
         ensures rows { rows_of self.new ≡ stopped choices.now rest (rows_of self.old) }
         ensures chosen { (device_state self.old).may_leave (device_state self.new).content }
         ensures durable { Only (device_state self.new).content (device_state self.new) }
-        ensures same_failures { (device_state self.new).failures ≡ (device_state self.old).failures }
+        ensures same_failures { (device_state self.new).failures
+            ≡ (device_state self.old).failures }
         ensures carries { Carries (device_state self.old) (device_state self.new) }
         ensures time { Elapses (device_state self.old) (device_state self.new) }
-        ensures bench { bench_of self.new ≡ record (bench_of self.old) { stop = None; stopped = false } }
+        ensures bench { bench_of self.new ≡ record (bench_of self.old)
+            { stop = None; stopped = false } }
         ensures keeps { (device_state self.new).keeps_model }
     {
         note(&self.rows, &mut self.past);
@@ -110,24 +119,29 @@ impl MemDevice {
         ensures rows { rows_of self.new ≡ stopped [] left (rows_of self.old) }
         ensures chosen { (device_state self.old).may_leave (device_state self.new).content }
         ensures durable { Only (device_state self.new).content (device_state self.new) }
-        ensures same_failures { (device_state self.new).failures ≡ (device_state self.old).failures }
+        ensures same_failures { (device_state self.new).failures
+            ≡ (device_state self.old).failures }
         ensures carries { Carries (device_state self.old) (device_state self.new) }
         ensures time { Elapses (device_state self.old) (device_state self.new) }
-        ensures bench { bench_of self.new ≡ record (bench_of self.old) { stop = None; stopped = false } }
+        ensures bench { bench_of self.new ≡ record (bench_of self.old)
+            { stop = None; stopped = false } }
         ensures keeps { (device_state self.new).keeps_model }
     {
         self.stop(&[], left);
     }
 
-    /// As `crash`, with a choice for each unsynced sector in order of number. Those past the list are as at the last sync.
+    /// As `crash`, with a choice for each unsynced sector in order of number. Those past the list
+    /// are as at the last sync.
     pub fn crash_each(&mut self, left: &[Left])
         ensures rows { rows_of self.new ≡ stopped left.now Left.Old (rows_of self.old) }
         ensures chosen { (device_state self.old).may_leave (device_state self.new).content }
         ensures durable { Only (device_state self.new).content (device_state self.new) }
-        ensures same_failures { (device_state self.new).failures ≡ (device_state self.old).failures }
+        ensures same_failures { (device_state self.new).failures
+            ≡ (device_state self.old).failures }
         ensures carries { Carries (device_state self.old) (device_state self.new) }
         ensures time { Elapses (device_state self.old) (device_state self.new) }
-        ensures bench { bench_of self.new ≡ record (bench_of self.old) { stop = None; stopped = false } }
+        ensures bench { bench_of self.new ≡ record (bench_of self.old)
+            { stop = None; stopped = false } }
         ensures keeps { (device_state self.new).keeps_model }
     {
         self.stop(left, Left::Old);
@@ -136,9 +150,12 @@ impl MemDevice {
     /// Makes a sector unreadable, durably, as no device of the model does.
     pub fn set_unreadable(&mut self, sector: u32)
         requires { sector < (device_state self.old).size }
-        ensures lost { (device_state self.new).content ≡ lose (device_state self.old).content sector }
-        ensures durable { (c : List Cell) → (device_state self.new).may_leave c → (d : List Cell) × (device_state self.old).may_leave d × (c ≡ lose d sector) }
-        ensures same_failures { (device_state self.new).failures ≡ (device_state self.old).failures }
+        ensures lost { (device_state self.new).content ≡ lose
+            (device_state self.old).content sector }
+        ensures durable { (c : List Cell) → (device_state self.new).may_leave c → (d : List Cell)
+            × (device_state self.old).may_leave d × (c ≡ lose d sector) }
+        ensures same_failures { (device_state self.new).failures
+            ≡ (device_state self.old).failures }
         ensures carries { Carries (device_state self.old) (device_state self.new) }
         ensures time { Elapses (device_state self.old) (device_state self.new) }
         ensures bench { bench_of self.new ≡ bench_of self.old }
@@ -165,17 +182,24 @@ impl SectorDevice for MemDevice {
 
     fn read(&mut self, sector: u32, out: &mut [u8; 512]) -> Result<(), ReadFault>
         requires { sector < (device_state self.old).size }
-        ensures value { OnOk result ((device_state self.new).keeps_model → cell_at (device_state self.old).content sector ≡ Some out.new) }
-        ensures unreadable { IsErrOf result ReadFault.Unreadable → (device_state self.new).keeps_model → cell_at (device_state self.old).content sector ≡ None }
-        ensures failed { IsErrOf result ReadFault.Failed → (device_state self.old).failures < (device_state self.new).failures }
-        ensures no_failure { OnOk result ((device_state self.new).failures ≡ (device_state self.old).failures) }
-        ensures no_failure_unreadable { IsErrOf result ReadFault.Unreadable → (device_state self.new).failures ≡ (device_state self.old).failures }
+        ensures value { OnOk result ((device_state self.new).keeps_model
+            → cell_at (device_state self.old).content sector ≡ Some out.new) }
+        ensures unreadable { IsErrOf result ReadFault.Unreadable
+            → (device_state self.new).keeps_model
+            → cell_at (device_state self.old).content sector ≡ None }
+        ensures failed { IsErrOf result ReadFault.Failed
+            → (device_state self.old).failures < (device_state self.new).failures }
+        ensures no_failure { OnOk result
+            ((device_state self.new).failures ≡ (device_state self.old).failures) }
+        ensures no_failure_unreadable { IsErrOf result ReadFault.Unreadable
+            → (device_state self.new).failures ≡ (device_state self.old).failures }
         ensures untouched { IsUntouched (device_state self.old) (device_state self.new) }
         ensures carries { Carries (device_state self.old) (device_state self.new) }
         ensures time { Elapses (device_state self.old) (device_state self.new) }
         ensures bench { bench_of self.new ≡ after_call DeviceCall.Read (bench_of self.old) }
         ensures keeps { (device_state self.new).keeps_model }
-        ensures fault { IsErrOf result ReadFault.Failed ↔ IsTrue (fails_at DeviceCall.Read (bench_of self.old)) }
+        ensures fault { IsErrOf result ReadFault.Failed
+            ↔ IsTrue (fails_at DeviceCall.Read (bench_of self.old)) }
         ensures rows { rows_of self.new ≡ rows_of self.old }
     {
         if self.bench.call(DeviceCall::Read) {
@@ -193,18 +217,27 @@ impl SectorDevice for MemDevice {
 
     fn write(&mut self, sector: u32, bytes: &[u8; 512]) -> Result<(), DeviceFault>
         requires { sector < (device_state self.old).size }
-        ensures written { OnOk result ((device_state self.new).keeps_model → (device_state self.new).content ≡ put (device_state self.old).content sector bytes.now) }
-        ensures failed_write { OnErr result ((device_state self.new).keeps_model → MayWrite sector bytes.now (device_state self.old).content (device_state self.new).content) }
-        ensures crash { CrashWrites sector bytes.now (device_state self.old) (device_state self.new) }
-        ensures failed { OnErr result ((device_state self.old).failures < (device_state self.new).failures) }
-        ensures no_failure { OnOk result ((device_state self.new).failures ≡ (device_state self.old).failures) }
+        ensures written { OnOk result ((device_state self.new).keeps_model
+            → (device_state self.new).content ≡ put
+            (device_state self.old).content sector bytes.now) }
+        ensures failed_write { OnErr result ((device_state self.new).keeps_model
+            → MayWrite sector bytes.now (device_state self.old).content
+            (device_state self.new).content) }
+        ensures crash { CrashWrites sector bytes.now
+            (device_state self.old) (device_state self.new) }
+        ensures failed { OnErr result
+            ((device_state self.old).failures < (device_state self.new).failures) }
+        ensures no_failure { OnOk result
+            ((device_state self.new).failures ≡ (device_state self.old).failures) }
         ensures carries { Carries (device_state self.old) (device_state self.new) }
         ensures time { Elapses (device_state self.old) (device_state self.new) }
         ensures bench { bench_of self.new ≡ after_call DeviceCall.Write (bench_of self.old) }
         ensures keeps { (device_state self.new).keeps_model }
         ensures fault { IsErr result ↔ IsTrue (fails_at DeviceCall.Write (bench_of self.old)) }
-        ensures old_left { OnErr result ((device_state self.new).content ≡ (device_state self.old).content) }
-        ensures spreads { CrashSpreads sector bytes.now (device_state self.old) (device_state self.new) }
+        ensures old_left { OnErr result
+            ((device_state self.new).content ≡ (device_state self.old).content) }
+        ensures spreads { CrashSpreads sector bytes.now
+            (device_state self.old) (device_state self.new) }
     {
         let fails = self.bench.call(DeviceCall::Write);
         note(&self.rows, &mut self.past);
@@ -219,9 +252,12 @@ impl SectorDevice for MemDevice {
     }
 
     fn sync(&mut self) -> Result<(), DeviceFault>
-        ensures durable { OnOk result ((device_state self.new).keeps_model → Only (device_state self.new).content (device_state self.new)) }
-        ensures failed { OnErr result ((device_state self.old).failures < (device_state self.new).failures) }
-        ensures no_failure { OnOk result ((device_state self.new).failures ≡ (device_state self.old).failures) }
+        ensures durable { OnOk result ((device_state self.new).keeps_model
+            → Only (device_state self.new).content (device_state self.new)) }
+        ensures failed { OnErr result
+            ((device_state self.old).failures < (device_state self.new).failures) }
+        ensures no_failure { OnOk result
+            ((device_state self.new).failures ≡ (device_state self.old).failures) }
         ensures untouched { IsUntouched (device_state self.old) (device_state self.new) }
         ensures carries { Carries (device_state self.old) (device_state self.new) }
         ensures time { Elapses (device_state self.old) (device_state self.new) }

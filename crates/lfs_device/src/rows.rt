@@ -6,7 +6,8 @@ ghost use Rattle.lfs_device.specs.Rows.{settled, states_of, count, stopped, chos
 use std::mem;
 use std::snapshot::Snapshot;
 
-/// A sector: what a read gives, what it held at the last sync that succeeded, and the bytes of the last write since.
+/// A sector: what a read gives, what it held at the last sync that succeeded, and the bytes of the
+/// last write since.
 #[derive(Clone, Copy)]
 pub(crate) struct Row {
     pub(crate) present: Option<[u8; 512]>,
@@ -70,7 +71,8 @@ pub enum Left {
 }
 
 fn stop_row(row: Row, choices: &[Left], rest: Left) -> (Row, &[Left])
-    ensures { (rows : List Row) → stopped choices.now rest (row ∷ rows) ≡ result.0 ∷ stopped result.1.now rest rows }
+    ensures { (rows : List Row) → stopped choices.now rest
+        (row ∷ rows) ≡ result.0 ∷ stopped result.1.now rest rows }
 {
     if row.written.is_none() {
         return (stands(row.present), choices);

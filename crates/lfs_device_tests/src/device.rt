@@ -67,7 +67,8 @@ impl Row<MemDevice> for Step {
 
 #[test]
 fn a_stop_at_each_write(rt: HostRuntime) {
-    // The write at which the device stops, the choice, what then stands in sectors 0 and 1, and the writes begun.
+    // The write at which the device stops, the choice, what then stands in sectors 0 and 1, and the
+    // writes begun.
     let rows = [
         (0, Left::Old, Ok(0), Ok(0), 1),
         (0, Left::New, Ok(1), Ok(0), 1),
@@ -139,7 +140,8 @@ fn a_failed_write_counts_as_a_write(rt: HostRuntime) {
         (Left::New, Ok(7), Ok(6)),
         (Left::Bad, BAD, BAD),
     ] {
-        // A failed write, and then a good one: by the model 5, 6 and 7 may be left, and the device chooses the last.
+        // A failed write, and then a good one: by the model 5, 6 and 7 may be left, and the device
+        // chooses the last.
         let good_last = [
             Step::Fill(0, 5, true),
             Step::Sync(true),
@@ -151,7 +153,8 @@ fn a_failed_write_counts_as_a_write(rt: HostRuntime) {
             Step::Crash(left),
             Step::Read(0, after_good),
         ];
-        // A good write, and then a failed one: the three may be left again, and a read gave the middle one.
+        // A good write, and then a failed one: the three may be left again, and a read gave the
+        // middle one.
         let failed_last = [
             Step::Fill(0, 5, true),
             Step::Sync(true),
@@ -254,7 +257,8 @@ fn a_file_is_a_device(rt: HostRuntime) {
     assert!(rt; is_left && is_gone);
 }
 
-/// Whether a write fails on a file that isn't open for that, and, once the file is shorter, a read of what is gone.
+/// Whether a write fails on a file that isn't open for that, and, once the file is shorter, a read
+/// of what is gone.
 fn fails_well(rt: &HostRuntime, device: &mut FileDevice) -> bool {
     let calls = [Step::Fill(0, 9, false), Step::Read(0, Ok(5))];
     let gone = [Step::Read(0, Err(ReadFault::Failed))];

@@ -20,7 +20,8 @@ pub(crate) fn first_wrong<S, R: Row<S>>(subject: &mut S, rows: &[R]) -> Option<u
     None
 }
 
-/// Asserts that the rows of a table, one after the other, go as they say. A failure prints the place of the first that doesn't.
+/// Asserts that the rows of a table, one after the other, go as they say. A failure prints the
+/// place of the first that doesn't.
 pub(crate) fn all_well<S: Drop, E: Drop, R: Row<S>>(
     rt: &impl Abort,
     subject: Result<S, E>,

@@ -25,7 +25,8 @@ fn nth_key(n: u32, last: bool) -> BlockKey {
     }
 }
 
-/// One of the eleven keys: its kind and index, the key of its parent, and the place of the pointer to it there.
+/// One of the eleven keys: its kind and index, the key of its parent, and the place of the pointer
+/// to it there.
 #[derive(Clone, Copy)]
 struct Child(u32, BlockKind, u32, u32, usize);
 
@@ -164,7 +165,8 @@ fn new_tables(alloc: Global) -> Result<(DirtyTable, Plain), AllocError> {
 struct Seed(u32);
 
 impl Row<(DirtyTable, Plain)> for Seed {
-    /// Whether the table and a plain list are alike after each of 400 changes, and as both are cleared.
+    /// Whether the table and a plain list are alike after each of 400 changes, and as both are
+    /// cleared.
     fn is_well(self, (table, plain): &mut (DirtyTable, Plain)) -> bool {
         let mut draw = self.0;
         for _ in 0..400 {
@@ -325,7 +327,8 @@ enum Way {
     FailRead(u64),
 }
 
-/// Puts a single leaf in sector 2 and a double root in sector 3, which has leaves in sectors 4 and 5, and one past the device.
+/// Puts a single leaf in sector 2 and a double root in sector 3, which has leaves in sectors 4 and
+/// 5, and one past the device.
 fn put_tree(device: &mut MemDevice) -> bool {
     let blocks: [(u32, Words<'_>); 4] = [
         (2, &[(0, 22), (127, 23)]),

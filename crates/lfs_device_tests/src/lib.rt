@@ -1,4 +1,5 @@
-//! Tests of devices, sectors, checkpoint slots, the walk, segments, inodes and what a log holds in memory.
+//! Tests of devices, sectors, checkpoint slots, the walk, segments, inodes and what a log holds in
+//! memory.
 #![tactic(auto)]
 
 #[cfg(test)]

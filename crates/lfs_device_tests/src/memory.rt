@@ -45,8 +45,9 @@ fn put_files(device: &mut MemDevice) -> bool {
     put_blocks(device, &blocks)
 }
 
-/// Puts the inode of file 10, its single leaf and its block 112 into memory, and where the inodes are. File 11 points past the
-/// device, file 12 to an unreadable sector, file 13 to what isn't in memory.
+/// Puts the inode of file 10, its single leaf and its block 112 into memory, and where the inodes
+/// are. File 11 points past the device, file 12 to an unreadable sector, file 13 to what isn't in
+/// memory.
 fn put_in_memory(memory: &mut LogMemory) -> bool {
     for (number, address) in [(9, 10), (10, 1), (11, 40), (12, 30), (13, 1)] {
         memory.map.set_address(number, address);

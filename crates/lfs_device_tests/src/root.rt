@@ -22,9 +22,11 @@ enum Step {
     Sync(bool),
     /// The number of the newest checkpoint.
     Newest(Result<u64, RootFault>),
-    /// The newest but one checkpoint is replaced by the one with this number: whether that succeeds.
+    /// The newest but one checkpoint is replaced by the one with this number: whether that
+    /// succeeds.
     Replace(u8, bool),
-    /// Sectors 2 and 3 are written, and then, where there is a byte for it, the slot in sector 1: whether that succeeds.
+    /// Sectors 2 and 3 are written, and then, where there is a byte for it, the slot in sector 1:
+    /// whether that succeeds.
     Save(Option<u8>, bool),
     /// The byte that a sector is filled with.
     Read(u32, Result<u8, ReadFault>),
@@ -201,7 +203,8 @@ fn a_stop_within_the_slot_write(rt: HostRuntime) {
 
 #[test]
 fn a_stop_within_a_row_and_its_slot(rt: HostRuntime) {
-    // The slot's byte, the write at which the device stops, whether all was written, the choice, and what then stands.
+    // The slot's byte, the write at which the device stops, whether all was written, the choice,
+    // and what then stands.
     let none = [Ok(0), Ok(0), Ok(0), Ok(0), Ok(0)];
     let row = [Ok(0), Ok(0), Ok(7), Ok(8), Ok(0)];
     let bad_row = [Ok(0), Ok(0), BAD, BAD, Ok(0)];

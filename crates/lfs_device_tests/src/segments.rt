@@ -1,5 +1,5 @@
 ghost use Rattle.std.specs.Prelude.{◌<◌, ◌≤◌};
-ghost use Rattle.lfs_memory.specs.segments.Chunk.{IsOpen};
+ghost use Rattle.lfs_memory.specs.segments.Chunk.{IsOpenChunk};
 
 use crate::helpers::{Row, all_well, name};
 use lfs_device::{MemDevice, NoMemory, SectorDevice};
@@ -10,8 +10,8 @@ use std::alloc::Global;
 
 /// Places so many data blocks, and tells how many got the address that they should.
 fn fill(chunk: &mut ChunkWriter, usage: &mut Usage, count: u32) -> u32
-    requires { IsOpen chunk.old usage.old }
-    ensures { IsOpen chunk.new usage.new }
+    requires { IsOpenChunk chunk.old usage.old }
+    ensures { IsOpenChunk chunk.new usage.new }
 {
     let mut right = 0u32;
     for index in 0..count {
@@ -63,7 +63,8 @@ fn write_chunk(
 struct Chunk(u32, u32);
 
 impl Row<(MemDevice, Usage)> for Chunk {
-    /// Whether a chunk comes to the first segment, one to the last where that alone is clean, and then none.
+    /// Whether a chunk comes to the first segment, one to the last where that alone is clean, and
+    /// then none.
     fn is_well(self, (device, usage): &mut (MemDevice, Usage)) -> bool {
         let Chunk(count, last) = self;
         let blocks = count as usize;

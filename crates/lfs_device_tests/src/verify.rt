@@ -52,15 +52,16 @@ enum Step {
     FailsToTake(u64),
     /// The chunks are put.
     Chunks,
-    /// Of so many sectors that the first segment uses, and the second: whether the chunks fill them; nothing where a read failed.
+    /// Of so many sectors that the first segment uses, and the second: whether the chunks fill
+    /// them; nothing where a read failed.
     Rows([u16; 2], Option<bool>),
     /// Of the same, and a sector whose mark is another: whether the marks are as the summaries say.
     Labels([u16; 2], Option<(usize, u32)>, Option<bool>),
     FailRead(u64),
 }
 
-/// Puts file 5 with its inode in sector 10, blocks of addresses in 11, 12 and 13, and data in 20, 21 and 22. Sector 14 stays
-/// zero, and 23 has bytes past its first one.
+/// Puts file 5 with its inode in sector 10, blocks of addresses in 11, 12 and 13, and data in 20,
+/// 21 and 22. Sector 14 stays zero, and 23 has bytes past its first one.
 fn put_tree(device: &mut MemDevice, tree: Tree) -> bool {
     let [single, double, leaf] = tree.pointers;
     let [first, middle, last] = tree.data;
@@ -133,7 +134,8 @@ fn put_summary(device: &mut MemDevice, sector: u32, names: &[BlockName]) -> bool
     is_summary(names) && put(device, sector, &encode_summary(names))
 }
 
-/// Puts a chunk of three blocks from sector 2 on and one of two blocks from sector 6 on, both of the first segment.
+/// Puts a chunk of three blocks from sector 2 on and one of two blocks from sector 6 on, both of
+/// the first segment.
 fn put_chunks(device: &mut MemDevice) -> bool {
     let first = [
         name(5, BlockKind::Data, 3),

@@ -12,7 +12,8 @@ type Run = (u16, u16);
 enum Step<'a> {
     /// The segments of a run have so many blocks that live there, and so many that hold them.
     Fill(Run, u16, u16),
-    /// With so many inodes and blocks of pointers, and at most so many victims: those of these runs.
+    /// With so many inodes and blocks of pointers, and at most so many victims: those of these
+    /// runs.
     Takes(u32, u32, &'a [Run]),
     /// With so many there are none.
     TakesNone(u32, u32),
@@ -157,21 +158,24 @@ fn as_many_victims_as_a_list_holds(rt: HostRuntime) {
 
 #[test]
 fn a_tree_with_the_greatest_need(rt: HostRuntime) {
-    // One segment less than a quarter is clean, and all blocks with six times meta and 672 are 47 for each segment: 3,008 of 64.
+    // One segment less than a quarter is clean, and all blocks with six times meta and 672 are 47
+    // for each segment: 3,008 of 64.
     let data = [
         // 33 * 48 + 16 * 47 is 2,336. 47 * k + 48 is at most 63 * (k - 1) from 7 on.
         Step::Fill((0, 33), 48, 0),
         Step::Fill((33, 49), 47, 0),
         Step::TakesNone(0, 6),
         Step::Takes(0, 9, &[(33, 40)]),
-        // 12 * 7 + 37 * 8 is 380, and 326 * 6 is 1,956. 7 * k + 374 is at most 63 * (k - 1) from 8 on.
+        // 12 * 7 + 37 * 8 is 380, and 326 * 6 is 1,956. 7 * k + 374 is at most 63 * (k - 1) from 8
+        // on.
         Step::Fill((0, 12), 7, 0),
         Step::Fill((12, 49), 8, 0),
         Step::TakesNone(326, 7),
         Step::Takes(326, 9, &[(0, 8)]),
     ];
     all_well(&rt, Usage::new(rt.alloc(), 64), &data);
-    // 672 * 9 + 97 * 8 is 6,824, and 6,772 * 6 is 40,632: 48,128 for 1,024. 9 * k + 6,723 is at most 63 * (k - 1) from 126 on.
+    // 672 * 9 + 97 * 8 is 6,824, and 6,772 * 6 is 40,632: 48,128 for 1,024. 9 * k + 6,723 is at
+    // most 63 * (k - 1) from 126 on.
     let meta = [
         Step::Fill((0, 672), 9, 0),
         Step::Fill((672, 769), 8, 0),

@@ -2,17 +2,17 @@
 use Rattle.std.proofs.Common.{◌≡◌, ℕ, List, length, arith}
 use Rattle.lfs_files.specs.declared.header.Header.{Header}
 use Rattle.lfs_files.specs.Files.{FilesState, Reads, Writes}
-use Rattle.lfs_dirs.specs.Growing.{Grows}
+use Rattle.lfs_dirs.specs.Growing.{GrowsDirectory}
 
 module _ {S D : Type 0} where
-  pub slot_grows : (s s' : FilesState S D) (d : ℕ) (head : Header) (at : ℕ) (slot : List ℕ) → length slot ≡ 64 → Writes s s' d head at slot → Grows s s' 1 2
+  pub slot_grows : (s s' : FilesState S D) (d : ℕ) (head : Header) (at : ℕ) (slot : List ℕ) → length slot ≡ 64 → Writes s s' d head at slot → GrowsDirectory s s' 1 2
   slot_grows s s' d head at slot long writes = record {
     headers = writes.headers;
     blocks = let more = writes.blocks in omega (arith, more, long);
   }
 
   -- a draft that is only read before
-  pub grows_behind : (s a s' : FilesState S D) (h k : ℕ) → Reads s a → Grows a s' h k → Grows s s' h k
+  pub grows_behind : (s a s' : FilesState S D) (h k : ℕ) → Reads s a → GrowsDirectory a s' h k → GrowsDirectory s s' h k
   grows_behind s a s' h k reads grows = record {
     headers = let same = reads.headers in let more = grows.headers in omega (arith, same, more);
     blocks = let same = reads.blocks in let more = grows.blocks in omega (arith, same, more);

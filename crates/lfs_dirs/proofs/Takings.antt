@@ -14,7 +14,7 @@ use Rattle.lfs_files.proofs.FilesCompose.{still_apart}
 use Rattle.lfs_dirs.specs.declared.searching.Found.{Found}
 use Rattle.lfs_dirs.specs.Directory.{slots_at}
 use Rattle.lfs_dirs.specs.Searching.{FindsSlot}
-use Rattle.lfs_dirs.specs.Taking.{CountsDropped, CutsSlot, Drops, HasDropped, ReadsSlot, Takes, TakesDrop, shrunk}
+use Rattle.lfs_dirs.specs.Taking.{CountsDropped, CutsSlot, DropsSlot, HasDropped, ReadsSlot, Takes, TakesDrop, shrunk}
 use Rattle.lfs_dirs.proofs.SlotPlaces.{slot_in_block, slots_many}
 use Rattle.lfs_dirs.proofs.SlotsTaken.{file_cut, file_moved, slots_dropped, slots_moved, takes_name}
 
@@ -36,7 +36,7 @@ module _ {S D : Type 0} where
   slot_read s s' d place block slot is told m m' keeps has head inside = slot_in_block m' d head place block (told m m' keeps has) inside ∙ sym is
 
   -- ---- the last slot goes
-  pub drops_last : (s s' : FilesState S D) (d : ℕ) (head : Header) (place : ℕ) → place + 1 ≡ head.size / 64 → Shrinks s s' d head (head.size - 64) → Drops s s' d head place
+  pub drops_last : (s s' : FilesState S D) (d : ℕ) (head : Header) (place : ℕ) → place + 1 ≡ head.size / 64 → Shrinks s s' d head (head.size - 64) → DropsSlot s s' d head place
   drops_last s s' d head place last shrinks = record {
     lost = shrinks.lost;
     headers = let few = shrinks.headers in omega (arith, few);
@@ -99,7 +99,7 @@ module _ {S D : Type 0} where
           header = subst (λ (z : ℕ). FitsHeader head.kind head.links z) (sym size) takes.header;
         }
 
-    pub drops_other : Drops s s' d head place
+    pub drops_other : DropsSlot s s' d head place
     drops_other = record {
       lost = λ x. writes.lost x ∙ shrinks.lost x ∙ reads.lost x;
       headers = let few = shrinks.headers in let one = writes.headers in let same = reads.headers in omega (arith, few, one, same);
@@ -126,7 +126,7 @@ module _ {S D : Type 0} where
       omega (arith, rose, one, two)
 
   -- ---- the slot of a name goes
-  pub drops_behind : (s a s' : FilesState S D) (d : ℕ) (head : Header) (place : ℕ) → Reads s a → Drops a s' d head place → Drops s s' d head place
+  pub drops_behind : (s a s' : FilesState S D) (d : ℕ) (head : Header) (place : ℕ) → Reads s a → DropsSlot a s' d head place → DropsSlot s s' d head place
   drops_behind s a s' d head place reads drops = record {
     lost = λ x. drops.lost x ∙ reads.lost x;
     headers = let more = drops.headers in let same = reads.headers in omega (arith, more, same);
@@ -141,7 +141,7 @@ module _ {S D : Type 0} where
       counts m x y keeps (reads.has m x has) has' there long map (subst (λ (t : Counted). AreCounted x t) (sym reads.drafted) are)
 
   pub takes : (s a s' : FilesState S D) (d : ℕ) (head : Header) (name : List ℕ) (found : Found) → Reads s a → Redrafts a s' → FindsSlot s a d head name (Some found)
-      → Drops a s' d head found.place → Takes s s' d head name
+      → DropsSlot a s' d head found.place → Takes s s' d head name
   takes s a s' d head name found reads more finds drops = record {
     place = found.place;
     drops = drops_behind s a s' d head found.place reads drops;

@@ -4,7 +4,7 @@ use Rattle.std.specs.FinMap.{find}
 use Rattle.std.specs.List.{swap_remove}
 use Rattle.lfs_model.specs.Encodes.{IsLogMap}
 use Rattle.lfs_model.specs.Entry.{Entry}
-use Rattle.lfs_model.specs.Objects.{AreLong, AreWhole, IsChangedAt, IsDirectory, byte_in}
+use Rattle.lfs_model.specs.Objects.{AreLong, AreStoredWhole, IsChangedAt, IsDirectory, byte_in}
 use Rattle.lfs_model.specs.Stands.{LogMap}
 use Rattle.lfs_model.specs.Tree.{byte_cmp, without}
 use Rattle.lfs_files.specs.declared.header.Header.{Header}
@@ -20,7 +20,7 @@ shrunk head = resized head (head.size - 64)
 pub record CutsSlot (m m' : LogMap) (d : ℕ) (head : Header) : Type 0 where
   pub header : m'.header d ≡ Some (as_header (shrunk head))
   pub only : IsChangedAt m d m'
-  pub whole : AreWhole m d → AreWhole m' d
+  pub whole : AreStoredWhole m d → AreStoredWhole m' d
   pub ends : (p : ℕ) → head.size - 64 ≤ p → byte_in m' d p ≡ 0
 
 -- A name that directory d has is gone.
@@ -50,7 +50,7 @@ module _ {S D : Type 0} where
     pub slots : HasFile m' d head → slots_at map d (shrunk head) ≡ swap_remove (slots_at m' d head) place []
 
   -- A draft that cuts the last slot off, and then writes it into another's place if it isn't that one itself. It loses nothing.
-  pub record Drops (s s' : FilesState S D) (d : ℕ) (head : Header) (place : ℕ) : Type 0 where
+  pub record DropsSlot (s s' : FilesState S D) (d : ℕ) (head : Header) (place : ℕ) : Type 0 where
     pub lost : (x : Entry) → s'.lost x ≡ s.lost x
     pub headers : s'.headers ≤ s.headers + 2
     pub blocks : s'.blocks ≤ s.blocks + 2
@@ -72,5 +72,5 @@ module _ {S D : Type 0} where
   -- A draft that drops the slot of a name.
   pub record Takes (s s' : FilesState S D) (d : ℕ) (head : Header) (name : List ℕ) : Type 0 where
     pub place : ℕ
-    pub drops : Drops s s' d head place
+    pub drops : DropsSlot s s' d head place
     pub has : (m m' : LogMap) → s'.device.keeps_model → s.has m m' → HasTaken s' m m' d head name

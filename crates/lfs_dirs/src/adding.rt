@@ -3,12 +3,13 @@ ghost use Rattle.std.specs.Prelude.{◌≡◌, ◌≤◌, true, IfErr, OnOk, IsE
 ghost use Rattle.lfs_model.specs.Slot.{IsName};
 ghost use Rattle.lfs_files.specs.Files.{Counts, IsFault, Redrafts};
 ghost use Rattle.lfs_dirs.specs.Adding.{Adds};
-ghost use Rattle.lfs_dirs.specs.Growing.{Grows};
+ghost use Rattle.lfs_dirs.specs.Growing.{GrowsDirectory};
 
 use lfs_files::{Files, Header, LogFault, StoreFault};
 use lfs_layout::encode_slot;
 
-/// Drafts a slot behind those of a directory of this header, which has at most 1,023. Its names aren't looked at: `find` tells whether it has this one.
+/// Drafts a slot behind those of a directory of this header, which has at most 1,023. Its names
+/// aren't looked at: `find` tells whether it has this one.
 ///
 /// # Errors
 ///
@@ -27,11 +28,14 @@ pub fn add<F: Files>(
     requires last { number ≤ 4095 }
     requires name { IsName 59 name.now }
     ensures redrafts { Redrafts (F.state files.old) (F.state files.new) }
-    ensures done { OnOk result (Adds (F.state files.old) (F.state files.new) directory header number name.now) }
-    ensures small { OnOk result (Grows (F.state files.old) (F.state files.new) 1 2) }
+    ensures done { OnOk result (Adds (F.state files.old) (F.state files.new)
+        directory header number name.now) }
+    ensures small { OnOk result (GrowsDirectory (F.state files.old) (F.state files.new) 1 2) }
     ensures counted { OnOk result (Counts (F.state files.old) (F.state files.new)) }
-    ensures failed { IfErr result (λ fault. (fault ≡ StoreFault.NoMemory → ⊥) → IsFault (F.state files.old) (F.state files.new)) }
-    ensures halted { IsErrOf result (StoreFault.Log LogFault.Halted) → (F.state files.old).halted ≡ true }
+    ensures failed { IfErr result (λ fault. (fault ≡ StoreFault.NoMemory → ⊥)
+        → IsFault (F.state files.old) (F.state files.new)) }
+    ensures halted { IsErrOf result (StoreFault.Log LogFault.Halted)
+        → (F.state files.old).halted ≡ true }
     ensures other { IsErrOf result (StoreFault.Log LogFault.Full) → ⊥ }
 {
     let slot = encode_slot(u32::from(number), name);

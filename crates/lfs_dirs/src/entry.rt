@@ -37,7 +37,8 @@ pub fn put_entry(
     name: &[u8],
     number: u16,
 ) -> Result<(), AllocError>
-    ensures { OnOk result (pairs entries.new.items ≡ put byte_cmp name.now number (pairs entries.old.items)) }
+    ensures { OnOk result (pairs entries.new.items ≡ put byte_cmp name.now number
+        (pairs entries.old.items)) }
 {
     match locate(entries, name) {
         Ok(place) => {
@@ -57,7 +58,8 @@ fn insert_entry(
     number: u16,
 ) -> Result<(), AllocError>
     requires { place ≤ length entries.old.items }
-    ensures { OnOk result (pairs entries.new.items ≡ insert (pairs entries.old.items) place (name.now, number)) }
+    ensures { OnOk result (pairs entries.new.items ≡ insert (pairs entries.old.items)
+        place (name.now, number)) }
 {
     let name = name.to_vec(alloc)?;
     let Ok(()) = entries.insert(place, Entry { name, number }) else {

@@ -10,7 +10,8 @@ use lfs_files::{Files, Header, LogFault};
 ///
 /// # Errors
 ///
-/// As those of `Files::block`; `Device` also where a slot can't be read as one, as none of a directory is.
+/// As those of `Files::block`; `Device` also where a slot can't be read as one, as none of a
+/// directory is.
 pub fn find<F: Files>(
     files: &mut F,
     directory: u16,
@@ -19,9 +20,11 @@ pub fn find<F: Files>(
 ) -> Result<Option<u16>, LogFault>
     requires { directory < 4096 }
     ensures reads { Reads (F.state files.old) (F.state files.new) }
-    ensures answer { IfOk result (Finds (F.state files.old) (F.state files.new) directory header name.now) }
+    ensures answer { IfOk result (Finds (F.state files.old) (F.state files.new)
+        directory header name.now) }
     ensures number { IfOk result (λ found. IfSome found (λ n. n < 4096)) }
-    ensures failed { OnErr result (IsDirectoryFault (F.state files.old) (F.state files.new) directory header) }
+    ensures failed { OnErr result (IsDirectoryFault (F.state files.old)
+        (F.state files.new) directory header) }
     ensures halted { IsErrOf result LogFault.Halted → (F.state files.old).halted ≡ true }
     ensures other { IsErrOf result LogFault.Full → ⊥ }
 {

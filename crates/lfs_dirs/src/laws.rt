@@ -1,4 +1,5 @@
-//! What is known of the slots of a directory: the laws of their definitions, each the contract of a function that does nothing.
+//! What is known of the slots of a directory: the laws of their definitions, each the contract of a
+//! function that does nothing.
 ghost use Rattle.lfs_dirs.specs.Directory.{SlotsOfBlock, SlotInBlock, NamesMany, SlotGives, FirstGives, SlotAppended, SlotReplaced, LastSlotTaken, SlotTaken};
 ghost use Rattle.lfs_dirs.specs.Adding.{SlotWritten};
 ghost use Rattle.lfs_dirs.specs.Keeping.{SlotsStay, DirectoryStays, EmptyDirectory};
@@ -63,7 +64,8 @@ pub fn directory_in_tree()
     ensures made { DirectoryMade }
 {}
 
-/// With one name more, one that gives another number, or one less, the tree is what the calls make of it.
+/// With one name more, one that gives another number, or one less, the tree is what the calls make
+/// of it.
 pub fn name_in_tree()
     ensures more { NameInTree }
     ensures less { NameOffTree }

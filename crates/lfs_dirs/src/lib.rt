@@ -1,4 +1,5 @@
-//! Directories: the names that the slots of a file of kind Directory give, searched, listed and changed in place.
+//! Directories: the names that the slots of a file of kind Directory give, searched, listed and
+//! changed in place.
 #![tactic(auto)]
 
 mod adding;

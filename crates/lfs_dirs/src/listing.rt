@@ -13,7 +13,8 @@ use lfs_files::{Files, Header, LogFault, StoreFault};
 use lfs_layout::{SlotView, nth_slot};
 use std::alloc::Global;
 
-/// The names in a directory of this header with the numbers that they give, in the order of the names' bytes.
+/// The names in a directory of this header with the numbers that they give, in the order of the
+/// names' bytes.
 ///
 /// # Errors
 ///
@@ -26,9 +27,12 @@ pub fn list<F: Files>(
 ) -> Result<Vec<Entry>, StoreFault>
     requires { directory < 4096 }
     ensures reads { Reads (F.state files.old) (F.state files.new) }
-    ensures answer { IfOk result (λ entries. Lists (F.state files.old) (F.state files.new) directory header entries.items) }
-    ensures failed { IfErr result (λ fault. (fault ≡ StoreFault.NoMemory → ⊥) → IsDirectoryFault (F.state files.old) (F.state files.new) directory header) }
-    ensures halted { IsErrOf result (StoreFault.Log LogFault.Halted) → (F.state files.old).halted ≡ true }
+    ensures answer { IfOk result (λ entries. Lists (F.state files.old) (F.state files.new)
+        directory header entries.items) }
+    ensures failed { IfErr result (λ fault. (fault ≡ StoreFault.NoMemory → ⊥)
+        → IsDirectoryFault (F.state files.old) (F.state files.new) directory header) }
+    ensures halted { IsErrOf result (StoreFault.Log LogFault.Halted)
+        → (F.state files.old).halted ≡ true }
     ensures other { IsErrOf result (StoreFault.Log LogFault.Full) → ⊥ }
 {
     match inspect(alloc, files, directory, header) {
@@ -49,7 +53,8 @@ pub enum ListFault {
     Log(LogFault),
 }
 
-/// The same of a directory whose slots aren't known to be well-formed: they are, where it is listed.
+/// The same of a directory whose slots aren't known to be well-formed: they are, where it is
+/// listed.
 ///
 /// # Errors
 ///
@@ -62,11 +67,16 @@ pub fn inspect<F: Files>(
 ) -> Result<Vec<Entry>, ListFault>
     requires { directory < 4096 }
     ensures reads { Reads (F.state files.old) (F.state files.new) }
-    ensures answer { IfOk result (λ entries. Inspects (F.state files.old) (F.state files.new) directory header entries.items) }
-    ensures failed { IfErr result (λ fault. (fault ≡ ListFault.NoMemory → ⊥) → IsDirectoryFault (F.state files.old) (F.state files.new) directory header) }
-    ensures malformed { IsErrOf result ListFault.NoSlot → LacksSlot (F.state files.old) (F.state files.new) directory header }
-    ensures device { IsErrOf result (ListFault.Log LogFault.Device) → IsFault (F.state files.old) (F.state files.new) }
-    ensures halted { IsErrOf result (ListFault.Log LogFault.Halted) → (F.state files.old).halted ≡ true }
+    ensures answer { IfOk result (λ entries. Inspects (F.state files.old) (F.state files.new)
+        directory header entries.items) }
+    ensures failed { IfErr result (λ fault. (fault ≡ ListFault.NoMemory → ⊥)
+        → IsDirectoryFault (F.state files.old) (F.state files.new) directory header) }
+    ensures malformed { IsErrOf result ListFault.NoSlot
+        → LacksSlot (F.state files.old) (F.state files.new) directory header }
+    ensures device { IsErrOf result (ListFault.Log LogFault.Device)
+        → IsFault (F.state files.old) (F.state files.new) }
+    ensures halted { IsErrOf result (ListFault.Log LogFault.Halted)
+        → (F.state files.old).halted ≡ true }
     ensures other { IsErrOf result (ListFault.Log LogFault.Full) → ⊥ }
 {
     let slots = header.size / SLOT;
@@ -83,7 +93,8 @@ pub fn inspect<F: Files>(
     Ok(entries)
 }
 
-/// Lists the names of one block of a directory, whose first slots are the directory's, among those of the blocks behind it.
+/// Lists the names of one block of a directory, whose first slots are the directory's, among those
+/// of the blocks behind it.
 fn list_block<F: Files>(
     alloc: Global,
     files: &mut F,
@@ -95,11 +106,16 @@ fn list_block<F: Files>(
     requires number { directory < 4096 }
     requires few { count ≤ 8 }
     ensures reads { Reads (F.state files.old) (F.state files.new) }
-    ensures done { OnOk result (ListsBlock (F.state files.old) (F.state files.new) directory index count entries.old.items entries.new.items) }
-    ensures failed { IfErr result (λ fault. (fault ≡ ListFault.NoMemory → ⊥) → IsBlockFault (F.state files.old) (F.state files.new) directory index count) }
-    ensures malformed { IsErrOf result ListFault.NoSlot → LacksBlockSlot (F.state files.old) (F.state files.new) directory index count }
-    ensures device { IsErrOf result (ListFault.Log LogFault.Device) → IsFault (F.state files.old) (F.state files.new) }
-    ensures halted { IsErrOf result (ListFault.Log LogFault.Halted) → (F.state files.old).halted ≡ true }
+    ensures done { OnOk result (ListsBlock (F.state files.old) (F.state files.new) directory index
+        count entries.old.items entries.new.items) }
+    ensures failed { IfErr result (λ fault. (fault ≡ ListFault.NoMemory → ⊥)
+        → IsBlockFault (F.state files.old) (F.state files.new) directory index count) }
+    ensures malformed { IsErrOf result ListFault.NoSlot
+        → LacksBlockSlot (F.state files.old) (F.state files.new) directory index count }
+    ensures device { IsErrOf result (ListFault.Log LogFault.Device)
+        → IsFault (F.state files.old) (F.state files.new) }
+    ensures halted { IsErrOf result (ListFault.Log LogFault.Halted)
+        → (F.state files.old).halted ≡ true }
     ensures other { IsErrOf result (ListFault.Log LogFault.Full) → ⊥ }
 {
     let mut block = [0; 512];
@@ -130,7 +146,8 @@ fn put_slots(
     entries: &mut Vec<Entry>,
 ) -> Result<(), SlotFault>
     requires { count ≤ 8 }
-    ensures done { OnOk result (PutsSlots (first_slots block.now count) entries.old.items entries.new.items) }
+    ensures done { OnOk result (PutsSlots (first_slots block.now count)
+        entries.old.items entries.new.items) }
     ensures broken { IfErr result (λ fault. fault ≡ SlotFault.NoSlot → HasNoSlot block.now count) }
 {
     let mut place = count;
@@ -146,7 +163,8 @@ fn put_slots(
 
 /// The name of a slot comes in.
 fn put_slot(alloc: Global, slot: &[u8; 64], entries: &mut Vec<Entry>) -> Result<(), SlotFault>
-    ensures done { OnOk result (pairs entries.new.items ≡ with_slot (slot_in 0 slot.now) (pairs entries.old.items)) }
+    ensures done { OnOk result (pairs entries.new.items ≡ with_slot (slot_in 0 slot.now)
+        (pairs entries.old.items)) }
     ensures formed { OnOk result (slot_in 0 slot.now ≢ None) }
     ensures broken { IfErr result (λ fault. fault ≡ SlotFault.NoSlot → slot_in 0 slot.now ≡ None) }
 {

@@ -3,7 +3,7 @@ ghost use Rattle.std.specs.Prelude.{◌≡◌, ◌≤◌, true, IfOk, IfErr, IsE
 ghost use Rattle.lfs_model.specs.Slot.{IsName};
 ghost use Rattle.lfs_files.specs.Files.{Counts, Reads, Redrafts};
 ghost use Rattle.lfs_dirs.specs.Finding.{IsDirectoryFault};
-ghost use Rattle.lfs_dirs.specs.Growing.{Grows};
+ghost use Rattle.lfs_dirs.specs.Growing.{GrowsDirectory};
 ghost use Rattle.lfs_dirs.specs.Repointing.{Repoints, Lacks};
 
 use crate::searching::search;
@@ -30,15 +30,20 @@ pub fn repoint<F: Files>(
     requires last { number ≤ 4095 }
     requires name { IsName 59 name.now }
     ensures redrafts { Redrafts (F.state files.old) (F.state files.new) }
-    ensures done { IfOk result (λ found. IsTrue found → Repoints (F.state files.old) (F.state files.new) directory header number name.now) }
+    ensures done { IfOk result (λ found. IsTrue found
+        → Repoints (F.state files.old) (F.state files.new) directory header number name.now) }
     ensures small { IfOk result (λ found. IsTrue found
-        → Grows (F.state files.old) (F.state files.new) 1 2) }
+        → GrowsDirectory (F.state files.old) (F.state files.new) 1 2) }
     ensures counted { IfOk result (λ found. IsTrue found
         → Counts (F.state files.old) (F.state files.new)) }
-    ensures same { IfOk result (λ found. IsFalse found → Reads (F.state files.old) (F.state files.new)) }
-    ensures none { IfOk result (λ found. IsFalse found → Lacks (F.state files.old) (F.state files.new) directory header name.now) }
-    ensures failed { IfErr result (λ fault. (fault ≡ StoreFault.NoMemory → ⊥) → IsDirectoryFault (F.state files.old) (F.state files.new) directory header) }
-    ensures halted { IsErrOf result (StoreFault.Log LogFault.Halted) → (F.state files.old).halted ≡ true }
+    ensures same { IfOk result (λ found. IsFalse found
+        → Reads (F.state files.old) (F.state files.new)) }
+    ensures none { IfOk result (λ found. IsFalse found
+        → Lacks (F.state files.old) (F.state files.new) directory header name.now) }
+    ensures failed { IfErr result (λ fault. (fault ≡ StoreFault.NoMemory → ⊥)
+        → IsDirectoryFault (F.state files.old) (F.state files.new) directory header) }
+    ensures halted { IsErrOf result (StoreFault.Log LogFault.Halted)
+        → (F.state files.old).halted ≡ true }
     ensures other { IsErrOf result (StoreFault.Log LogFault.Full) → ⊥ }
 {
     let found = match search(files, directory, header, name) {

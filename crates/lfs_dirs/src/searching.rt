@@ -21,7 +21,8 @@ pub struct Found {
 ///
 /// # Errors
 ///
-/// As those of `Files::block`; `Device` also where a slot can't be read as one, as none of a directory is.
+/// As those of `Files::block`; `Device` also where a slot can't be read as one, as none of a
+/// directory is.
 pub fn search<F: Files>(
     files: &mut F,
     directory: u16,
@@ -30,10 +31,12 @@ pub fn search<F: Files>(
 ) -> Result<Option<Found>, LogFault>
     requires { directory < 4096 }
     ensures reads { Reads (F.state files.old) (F.state files.new) }
-    ensures answer { IfOk result (FindsSlot (F.state files.old) (F.state files.new) directory header name.now) }
+    ensures answer { IfOk result (FindsSlot (F.state files.old) (F.state files.new)
+        directory header name.now) }
     ensures inside { IfOk result (λ found. IfSome found (λ slot. slot.place < header.size / 64)) }
     ensures number { IfOk result (λ found. IfSome found (λ slot. slot.number < 4096)) }
-    ensures failed { OnErr result (IsDirectoryFault (F.state files.old) (F.state files.new) directory header) }
+    ensures failed { OnErr result (IsDirectoryFault (F.state files.old)
+        (F.state files.new) directory header) }
     ensures halted { IsErrOf result LogFault.Halted → (F.state files.old).halted ≡ true }
     ensures other { IsErrOf result LogFault.Full → ⊥ }
 {
@@ -66,10 +69,12 @@ fn search_block<F: Files>(
     requires number { directory < 4096 }
     requires few { count ≤ 8 }
     ensures reads { Reads (F.state files.old) (F.state files.new) }
-    ensures answer { IfOk result (FindsInBlock (F.state files.old) (F.state files.new) directory index count name.now) }
+    ensures answer { IfOk result (FindsInBlock (F.state files.old) (F.state files.new)
+        directory index count name.now) }
     ensures inside { IfOk result (λ found. IfSome found (λ slot. slot.place < count)) }
     ensures number { IfOk result (λ found. IfSome found (λ slot. slot.number < 4096)) }
-    ensures failed { OnErr result (IsBlockFault (F.state files.old) (F.state files.new) directory index count) }
+    ensures failed { OnErr result (IsBlockFault (F.state files.old)
+        (F.state files.new) directory index count) }
     ensures halted { IsErrOf result LogFault.Halted → (F.state files.old).halted ≡ true }
     ensures other { IsErrOf result LogFault.Full → ⊥ }
 {

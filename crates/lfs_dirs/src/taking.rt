@@ -3,18 +3,20 @@ ghost use Rattle.std.specs.Prelude.{◌≡◌, ◌<◌, ◌≤◌, ◌/◌, ◌%
 ghost use Rattle.lfs_files.specs.Files.{IsFault, Reads, Redrafts};
 ghost use Rattle.lfs_dirs.specs.Finding.{IsDirectoryFault};
 ghost use Rattle.lfs_dirs.specs.Repointing.{Lacks};
-ghost use Rattle.lfs_dirs.specs.Taking.{CountsDropped, ReadsSlot, Drops, Takes};
+ghost use Rattle.lfs_dirs.specs.Taking.{CountsDropped, ReadsSlot, DropsSlot, Takes};
 
 use crate::searching::search;
 use crate::slots::{SLOT, SLOTS_IN_BLOCK};
 use lfs_files::{Files, Header, LogFault, StoreFault};
 use lfs_layout::nth_slot;
 
-/// Drafts a directory of this header without a name, if it has the name. Its last slot comes into the gap. No block is lost, so the draft may lose others.
+/// Drafts a directory of this header without a name, if it has the name. Its last slot comes into
+/// the gap. No block is lost, so the draft may lose others.
 ///
 /// # Errors
 ///
-/// As those of `find` and of `Files::write_at`; `Device` also where the size is that of no directory.
+/// As those of `find` and of `Files::write_at`; `Device` also where the size is that of no
+/// directory.
 pub fn take<F: Files>(
     files: &mut F,
     directory: u16,
@@ -25,13 +27,18 @@ pub fn take<F: Files>(
     requires few { directory ≤ 4095 }
     requires size { header.size ≤ 65536 }
     ensures redrafts { Redrafts (F.state files.old) (F.state files.new) }
-    ensures done { IfOk result (λ found. IsTrue found → Takes (F.state files.old) (F.state files.new) directory header name.now) }
+    ensures done { IfOk result (λ found. IsTrue found
+        → Takes (F.state files.old) (F.state files.new) directory header name.now) }
     ensures counted { IfOk result (λ found. IsTrue found
         → CountsDropped (F.state files.old) (F.state files.new) directory header) }
-    ensures same { IfOk result (λ found. IsFalse found → Reads (F.state files.old) (F.state files.new)) }
-    ensures none { IfOk result (λ found. IsFalse found → Lacks (F.state files.old) (F.state files.new) directory header name.now) }
-    ensures failed { IfErr result (λ fault. (fault ≡ StoreFault.NoMemory → ⊥) → IsDirectoryFault (F.state files.old) (F.state files.new) directory header) }
-    ensures halted { IsErrOf result (StoreFault.Log LogFault.Halted) → (F.state files.old).halted ≡ true }
+    ensures same { IfOk result (λ found. IsFalse found
+        → Reads (F.state files.old) (F.state files.new)) }
+    ensures none { IfOk result (λ found. IsFalse found
+        → Lacks (F.state files.old) (F.state files.new) directory header name.now) }
+    ensures failed { IfErr result (λ fault. (fault ≡ StoreFault.NoMemory → ⊥)
+        → IsDirectoryFault (F.state files.old) (F.state files.new) directory header) }
+    ensures halted { IsErrOf result (StoreFault.Log LogFault.Halted)
+        → (F.state files.old).halted ≡ true }
     ensures other { IsErrOf result (StoreFault.Log LogFault.Full) → ⊥ }
 {
     let found = match search(files, directory, header, name) {
@@ -49,7 +56,7 @@ pub fn take<F: Files>(
     Ok(true)
 }
 
-/// Drops a slot: the last one comes into its place.
+/// DropsSlot a slot: the last one comes into its place.
 fn drop_slot<F: Files>(
     files: &mut F,
     directory: u16,
@@ -62,11 +69,14 @@ fn drop_slot<F: Files>(
     requires even { header.size % 64 ≡ 0 }
     requires inside { place < header.size / 64 }
     ensures redrafts { Redrafts (F.state files.old) (F.state files.new) }
-    ensures done { OnOk result (Drops (F.state files.old) (F.state files.new) directory header place) }
+    ensures done { OnOk result (DropsSlot (F.state files.old)
+        (F.state files.new) directory header place) }
     ensures counted { OnOk result
         (CountsDropped (F.state files.old) (F.state files.new) directory header) }
-    ensures failed { IfErr result (λ fault. (fault ≡ StoreFault.NoMemory → ⊥) → IsFault (F.state files.old) (F.state files.new)) }
-    ensures halted { IsErrOf result (StoreFault.Log LogFault.Halted) → (F.state files.old).halted ≡ true }
+    ensures failed { IfErr result (λ fault. (fault ≡ StoreFault.NoMemory → ⊥)
+        → IsFault (F.state files.old) (F.state files.new)) }
+    ensures halted { IsErrOf result (StoreFault.Log LogFault.Halted)
+        → (F.state files.old).halted ≡ true }
     ensures other { IsErrOf result (StoreFault.Log LogFault.Full) → ⊥ }
 {
     let size = header.size - SLOT;
@@ -98,7 +108,8 @@ fn drop_slot<F: Files>(
 fn slot_at<F: Files>(files: &mut F, directory: u16, place: u32) -> Result<[u8; 64], LogFault>
     requires { directory < 4096 }
     ensures reads { Reads (F.state files.old) (F.state files.new) }
-    ensures answer { IfOk result (ReadsSlot (F.state files.old) (F.state files.new) directory place) }
+    ensures answer { IfOk result (ReadsSlot (F.state files.old)
+        (F.state files.new) directory place) }
     ensures failed { OnErr result (IsFault (F.state files.old) (F.state files.new)) }
     ensures halted { IsErrOf result LogFault.Halted → (F.state files.old).halted ≡ true }
     ensures other { IsErrOf result LogFault.Full → ⊥ }

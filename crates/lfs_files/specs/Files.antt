@@ -6,7 +6,7 @@ use Rattle.lfs_model.specs.Device.{DeviceState}
 use Rattle.lfs_model.specs.Encodes.{IsLogMap}
 use Rattle.lfs_model.specs.Entry.{Entry, Data, Inode}
 use Rattle.lfs_model.specs.Memory.{parent}
-use Rattle.lfs_model.specs.Objects.{IsChangedAt, AreWhole, WritesBytes, CutsBytes}
+use Rattle.lfs_model.specs.Objects.{IsChangedAt, AreStoredWhole, WritesBytes, CutsBytes}
 use Rattle.lfs_model.specs.Stands.{LogMap}
 use Rattle.lfs_model.specs.Totals.{IsCounted}
 use Rattle.lfs_files.specs.declared.header.Header.{Header}
@@ -53,7 +53,7 @@ pub record HoldsBlock (m : LogMap) (n index : ℕ) (block : List ℕ) : Type 0 w
 pub record WritesFile (m m' : LogMap) (n : ℕ) (h h' : Header) (at : ℕ) (w : List ℕ) : Type 0 where
   pub bytes : WritesBytes m m' n (as_header h) (as_header h') at w
   pub only : IsChangedAt m n m'
-  pub whole : AreWhole m n → AreWhole m' n
+  pub whole : AreStoredWhole m n → AreStoredWhole m' n
   pub header : m'.header n ≡ Some (as_header h')
 
 -- File n with another size: cut, or made longer with its blocks as they were; all other files are as they were.
@@ -62,7 +62,7 @@ pub record SizesFile (m m' : LogMap) (n : ℕ) (h h' : Header) (len : ℕ) : Typ
   pub longer : h.size ≤ len → IsLogMap m → m.header n ≡ Some (as_header h) → CutsBytes m m' n (as_header h) (as_header h') len
   pub below : (i : ℕ) → i < len / 512 → m'.block n i ≡ m.block n i
   pub only : IsChangedAt m n m'
-  pub whole : AreWhole m n → AreWhole m' n
+  pub whole : AreStoredWhole m n → AreStoredWhole m' n
   pub header : m'.header n ≡ Some (as_header h')
 
 -- File n is there with this header, in a log map that a volume may keep.

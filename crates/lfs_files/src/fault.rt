@@ -8,7 +8,8 @@ pub enum LogFault {
     Device,
     /// A commit failed, in this call or before.
     Halted,
-    /// Too few segments are clean, or the changes need more room in memory than there is before the next commit. Nothing changed.
+    /// Too few segments are clean, or the changes need more room in memory than there is before the
+    /// next commit. Nothing changed.
     Full,
 }
 

@@ -35,16 +35,19 @@ pub trait Files {
     fn block(&mut self, number: u16, index: u32, out: &mut [u8; 512]) -> Result<bool, LogFault>
         requires { number < 4096 }
         ensures reads { Reads (state self.old) (state self.new) }
-        ensures answer { OnOk result (TellsBlock (state self.old) (state self.new) number index out.new) }
+        ensures answer { OnOk result
+            (TellsBlock (state self.old) (state self.new) number index out.new) }
         ensures failed { OnErr result (IsFault (state self.old) (state self.new)) }
         ensures halted { IsErrOf result LogFault.Halted → (state self.old).halted ≡ true }
         ensures other { IsErrOf result LogFault.Full → ⊥ };
 
-    /// Lays bytes over a file of this header, from a place on. Where they end behind its size, it is as long as that needs.
+    /// Lays bytes over a file of this header, from a place on. Where they end behind its size, it
+    /// is as long as that needs.
     ///
     /// # Errors
     ///
-    /// `NoMemory` where memory runs out; else as those of `block`. What the draft holds then is of no use.
+    /// `NoMemory` where memory runs out; else as those of `block`. What the draft holds then is of
+    /// no use.
     fn write_at(
         &mut self,
         number: u16,
@@ -57,11 +60,13 @@ pub trait Files {
         requires bytes { 0 < length bytes.now }
         requires end { at + length bytes.now ≤ 8511488 }
         ensures redrafts { Redrafts (state self.old) (state self.new) }
-        ensures done { OnOk result (Writes (state self.old) (state self.new) number header at bytes.now) }
+        ensures done { OnOk result
+            (Writes (state self.old) (state self.new) number header at bytes.now) }
         ensures counted { OnOk result (Counts (state self.old) (state self.new)) }
         ensures failed { IfErr result (λ fault. (fault ≡ StoreFault.NoMemory → ⊥)
             → IsFault (state self.old) (state self.new)) }
-        ensures halted { IsErrOf result (StoreFault.Log LogFault.Halted) → (state self.old).halted ≡ true }
+        ensures halted { IsErrOf result (StoreFault.Log LogFault.Halted)
+            → (state self.old).halted ≡ true }
         ensures other { IsErrOf result (StoreFault.Log LogFault.Full) → ⊥ };
 
     /// Cuts a file of this header, or makes it longer with zeros. The draft was empty.
@@ -79,10 +84,12 @@ pub trait Files {
         ensures counted { OnOk result (Counts (state self.old) (state self.new)) }
         ensures failed { IfErr result (λ fault. (fault ≡ StoreFault.NoMemory → ⊥)
             → IsFault (state self.old) (state self.new)) }
-        ensures halted { IsErrOf result (StoreFault.Log LogFault.Halted) → (state self.old).halted ≡ true }
+        ensures halted { IsErrOf result (StoreFault.Log LogFault.Halted)
+            → (state self.old).halted ≡ true }
         ensures other { IsErrOf result (StoreFault.Log LogFault.Full) → ⊥ };
 
-    /// Cuts a file of this header at a length in its last block, which is zeros from there on. No block is lost, so the draft may lose others.
+    /// Cuts a file of this header at a length in its last block, which is zeros from there on. No
+    /// block is lost, so the draft may lose others.
     ///
     /// # Errors
     ///
@@ -98,7 +105,8 @@ pub trait Files {
         ensures counted { OnOk result (Counts (state self.old) (state self.new)) }
         ensures failed { IfErr result (λ fault. (fault ≡ StoreFault.NoMemory → ⊥)
             → IsFault (state self.old) (state self.new)) }
-        ensures halted { IsErrOf result (StoreFault.Log LogFault.Halted) → (state self.old).halted ≡ true }
+        ensures halted { IsErrOf result (StoreFault.Log LogFault.Halted)
+            → (state self.old).halted ≡ true }
         ensures other { IsErrOf result (StoreFault.Log LogFault.Full) → ⊥ };
 
     ghost lawful: { (f : Self) → IsLawful (state f).device };

@@ -1,4 +1,5 @@
-//! The border between a volume's log and its names: files by number, with the changes of the present call.
+//! The border between a volume's log and its names: files by number, with the changes of the
+//! present call.
 #![tactic(auto)]
 
 mod fault;

@@ -85,7 +85,8 @@ pub fn map_block() -> [u8; 512]
     encode_pointers(&map)
 }
 
-/// Usage block 0: the chunk in segment 0, whose blocks are the inode, the map block and the usage blocks.
+/// Usage block 0: the chunk in segment 0, whose blocks are the inode, the map block and the usage
+/// blocks.
 pub fn usage_block(segments: u32) -> [u8; 512]
     requires { IsSegmentCount segments }
     ensures { result ≡ usage_sector (first_uses segments 0) }

@@ -17,27 +17,42 @@ use lfs_device::{DeviceFault, SectorDevice};
 use lfs_layout::is_segment_count;
 use lfs_root::replace;
 
-/// Makes the device an empty volume of so many segments. It takes no memory and writes the two checkpoint slots and the
-/// first chunk alone. A stop at any moment leaves what stood there, with slots that may be cleared, or no checkpoint, or
-/// the empty volume, and after `Ok` this alone, laid out as FORMAT.md has it.
+/// Makes the device an empty volume of so many segments. It takes no memory and writes the two
+/// checkpoint slots and the first chunk alone. A stop at any moment leaves what stood there, with
+/// slots that may be cleared, or no checkpoint, or the empty volume, and after `Ok` this alone,
+/// laid out as FORMAT.md has it.
 ///
 /// # Errors
 ///
-/// In this order: `Inval` where the count is no multiple of 8 in 64..=1,024, `TooSmall` where the device has fewer than
-/// 2 + 64 sectors a segment, both with the device as it was, `Device` where a call of the device failed.
+/// In this order: `Inval` where the count is no multiple of 8 in 64..=1,024, `TooSmall` where the
+/// device has fewer than 2 + 64 sectors a segment, both with the device as it was, `Device` where a
+/// call of the device failed.
 pub fn format<D: SectorDevice>(device: &mut D, segments: u32) -> Result<(), FormatFault>
     ensures inval { IsErrOf result FormatFault.Inval ↔ ¬ (IsSegmentCount segments) }
-    ensures too_small { IsErrOf result FormatFault.TooSmall ↔ IsSegmentCount segments × ((D.state device.old).size < 2 + 64 * segments) }
-    ensures refused { IsErrOf result FormatFault.Inval ⊎ IsErrOf result FormatFault.TooSmall → device.new ≡ device.old }
-    ensures failed { IsErrOf result FormatFault.Device → (D.state device.old).failures < (D.state device.new).failures }
-    ensures no_failure { OnOk result ((D.state device.new).failures ≡ (D.state device.old).failures) }
-    ensures image { OnOk result ((D.state device.new).keeps_model → IsNew segments (D.state device.new).content) }
-    ensures volume { OnOk result ((D.state device.new).keeps_model → Stands (D.state device.new).content (mounted 1 ((1, Dir 0 []) ∷ []))) }
-    ensures checkpoint { OnOk result ((D.state device.new).keeps_model → newest (D.state device.new).content ≡ Some (first_checkpoint segments)) }
-    ensures durable { OnOk result ((D.state device.new).keeps_model → Only (D.state device.new).content (D.state device.new)) }
-    ensures others { OnOk result ((D.state device.new).keeps_model → SameOutside 0 (5 + usage_blocks segments) (D.state device.old).content (D.state device.new).content) }
-    ensures any_moment { (D.state device.new).keeps_model → LeavesOnly (D.state device.old) (D.state device.new) (MayStand segments (D.state device.old)) }
-    ensures touched { LeavesOnly (D.state device.old) (D.state device.new) (ComesFrom (D.state device.old) (SameOutside 0 (5 + usage_blocks segments))) }
+    ensures too_small { IsErrOf result FormatFault.TooSmall ↔ IsSegmentCount segments
+        × ((D.state device.old).size < 2 + 64 * segments) }
+    ensures refused { IsErrOf result FormatFault.Inval ⊎ IsErrOf result FormatFault.TooSmall
+        → device.new ≡ device.old }
+    ensures failed { IsErrOf result FormatFault.Device
+        → (D.state device.old).failures < (D.state device.new).failures }
+    ensures no_failure { OnOk result
+        ((D.state device.new).failures ≡ (D.state device.old).failures) }
+    ensures image { OnOk result ((D.state device.new).keeps_model
+        → IsNew segments (D.state device.new).content) }
+    ensures volume { OnOk result ((D.state device.new).keeps_model
+        → Stands (D.state device.new).content (mounted 1 ((1, Dir 0 []) ∷ []))) }
+    ensures checkpoint { OnOk result ((D.state device.new).keeps_model
+        → newest (D.state device.new).content ≡ Some (first_checkpoint segments)) }
+    ensures durable { OnOk result ((D.state device.new).keeps_model
+        → Only (D.state device.new).content (D.state device.new)) }
+    ensures others { OnOk result ((D.state device.new).keeps_model
+        → SameOutside 0 (5 + usage_blocks segments) (D.state device.old).content
+        (D.state device.new).content) }
+    ensures any_moment { (D.state device.new).keeps_model
+        → LeavesOnly (D.state device.old) (D.state device.new)
+        (MayStand segments (D.state device.old)) }
+    ensures touched { LeavesOnly (D.state device.old) (D.state device.new)
+        (ComesFrom (D.state device.old) (SameOutside 0 (5 + usage_blocks segments))) }
     ensures carries { Carries (D.state device.old) (D.state device.new) }
 {
     if !is_segment_count(segments) {
@@ -56,13 +71,21 @@ pub fn format<D: SectorDevice>(device: &mut D, segments: u32) -> Result<(), Form
 fn write_volume<D: SectorDevice>(device: &mut D, segments: u32) -> Result<(), DeviceFault>
     requires count { IsSegmentCount segments }
     requires size { 2 + 64 * segments ≤ (D.state device.old).size }
-    ensures any_moment { (D.state device.new).keeps_model → LeavesOnly (D.state device.old) (D.state device.new) (MayStand segments (D.state device.old)) }
-    ensures volume { OnOk result ((D.state device.new).keeps_model → IsNew segments (D.state device.new).content) }
-    ensures others { OnOk result ((D.state device.new).keeps_model → SameOutside 0 (5 + usage_blocks segments) (D.state device.old).content (D.state device.new).content) }
-    ensures durable { OnOk result ((D.state device.new).keeps_model → Only (D.state device.new).content (D.state device.new)) }
+    ensures any_moment { (D.state device.new).keeps_model
+        → LeavesOnly (D.state device.old) (D.state device.new)
+        (MayStand segments (D.state device.old)) }
+    ensures volume { OnOk result ((D.state device.new).keeps_model
+        → IsNew segments (D.state device.new).content) }
+    ensures others { OnOk result ((D.state device.new).keeps_model
+        → SameOutside 0 (5 + usage_blocks segments) (D.state device.old).content
+        (D.state device.new).content) }
+    ensures durable { OnOk result ((D.state device.new).keeps_model
+        → Only (D.state device.new).content (D.state device.new)) }
     ensures failed { OnErr result ((D.state device.old).failures < (D.state device.new).failures) }
-    ensures no_failure { OnOk result ((D.state device.new).failures ≡ (D.state device.old).failures) }
-    ensures touched { LeavesOnly (D.state device.old) (D.state device.new) (ComesFrom (D.state device.old) (SameOutside 0 (5 + usage_blocks segments))) }
+    ensures no_failure { OnOk result
+        ((D.state device.new).failures ≡ (D.state device.old).failures) }
+    ensures touched { LeavesOnly (D.state device.old) (D.state device.new)
+        (ComesFrom (D.state device.old) (SameOutside 0 (5 + usage_blocks segments))) }
     ensures carries { Carries (D.state device.old) (D.state device.new) }
 {
     clear_slots(device)?;
@@ -75,12 +98,17 @@ fn write_volume<D: SectorDevice>(device: &mut D, segments: u32) -> Result<(), De
 /// Clears both slots and syncs.
 fn clear_slots<D: SectorDevice>(device: &mut D) -> Result<(), DeviceFault>
     requires { 2 ≤ (D.state device.old).size }
-    ensures any_moment { LeavesOnly (D.state device.old) (D.state device.new) (ComesFrom (D.state device.old) MayClearSlots) }
-    ensures clear { OnOk result ((D.state device.new).keeps_model → AreClear (D.state device.new).content) }
-    ensures others { OnOk result ((D.state device.new).keeps_model → SameOutside 0 2 (D.state device.old).content (D.state device.new).content) }
-    ensures durable { OnOk result ((D.state device.new).keeps_model → Only (D.state device.new).content (D.state device.new)) }
+    ensures any_moment { LeavesOnly (D.state device.old) (D.state device.new)
+        (ComesFrom (D.state device.old) MayClearSlots) }
+    ensures clear { OnOk result ((D.state device.new).keeps_model
+        → AreClear (D.state device.new).content) }
+    ensures others { OnOk result ((D.state device.new).keeps_model
+        → SameOutside 0 2 (D.state device.old).content (D.state device.new).content) }
+    ensures durable { OnOk result ((D.state device.new).keeps_model
+        → Only (D.state device.new).content (D.state device.new)) }
     ensures failed { OnErr result ((D.state device.old).failures < (D.state device.new).failures) }
-    ensures no_failure { OnOk result ((D.state device.new).failures ≡ (D.state device.old).failures) }
+    ensures no_failure { OnOk result
+        ((D.state device.new).failures ≡ (D.state device.old).failures) }
     ensures carries { Carries (D.state device.old) (D.state device.new) }
 {
     device.write(0, &[0; 512])?;
@@ -93,12 +121,17 @@ fn clear_slots<D: SectorDevice>(device: &mut D) -> Result<(), DeviceFault>
 fn write_chunk<D: SectorDevice>(device: &mut D, segments: u32) -> Result<(), DeviceFault>
     requires count { IsSegmentCount segments }
     requires size { 2 + 64 * segments ≤ (D.state device.old).size }
-    ensures any_moment { AllLeft (D.state device.old) AreClear → LeavesOnly (D.state device.old) (D.state device.new) AreClear }
+    ensures any_moment { AllLeft (D.state device.old) AreClear
+        → LeavesOnly (D.state device.old) (D.state device.new) AreClear }
     ensures left { AllLeft (D.state device.old) AreClear → AllLeft (D.state device.new) AreClear }
-    ensures chunk { OnOk result ((D.state device.new).keeps_model → HasChunk segments (usage_blocks segments) (D.state device.old).content (D.state device.new).content) }
+    ensures chunk { OnOk result ((D.state device.new).keeps_model
+        → HasChunk segments (usage_blocks segments) (D.state device.old).content
+        (D.state device.new).content) }
     ensures failed { OnErr result ((D.state device.old).failures < (D.state device.new).failures) }
-    ensures no_failure { OnOk result ((D.state device.new).failures ≡ (D.state device.old).failures) }
-    ensures touched { LeavesOnly (D.state device.old) (D.state device.new) (ComesFrom (D.state device.old) (SameOutside 0 (5 + usage_blocks segments))) }
+    ensures no_failure { OnOk result
+        ((D.state device.new).failures ≡ (D.state device.old).failures) }
+    ensures touched { LeavesOnly (D.state device.old) (D.state device.new)
+        (ComesFrom (D.state device.old) (SameOutside 0 (5 + usage_blocks segments))) }
     ensures carries { Carries (D.state device.old) (D.state device.new) }
 {
     write_first_blocks(device, segments)?;
@@ -110,12 +143,16 @@ fn write_chunk<D: SectorDevice>(device: &mut D, segments: u32) -> Result<(), Dev
 fn write_first_blocks<D: SectorDevice>(device: &mut D, segments: u32) -> Result<(), DeviceFault>
     requires count { IsSegmentCount segments }
     requires size { 2 + 64 * segments ≤ (D.state device.old).size }
-    ensures any_moment { AllLeft (D.state device.old) AreClear → LeavesOnly (D.state device.old) (D.state device.new) AreClear }
+    ensures any_moment { AllLeft (D.state device.old) AreClear
+        → LeavesOnly (D.state device.old) (D.state device.new) AreClear }
     ensures left { AllLeft (D.state device.old) AreClear → AllLeft (D.state device.new) AreClear }
-    ensures chunk { OnOk result ((D.state device.new).keeps_model → HasChunk segments 1 (D.state device.old).content (D.state device.new).content) }
+    ensures chunk { OnOk result ((D.state device.new).keeps_model
+        → HasChunk segments 1 (D.state device.old).content (D.state device.new).content) }
     ensures failed { OnErr result ((D.state device.old).failures < (D.state device.new).failures) }
-    ensures no_failure { OnOk result ((D.state device.new).failures ≡ (D.state device.old).failures) }
-    ensures touched { LeavesOnly (D.state device.old) (D.state device.new) (ComesFrom (D.state device.old) (SameOutside 0 (5 + usage_blocks segments))) }
+    ensures no_failure { OnOk result
+        ((D.state device.new).failures ≡ (D.state device.old).failures) }
+    ensures touched { LeavesOnly (D.state device.old) (D.state device.new)
+        (ComesFrom (D.state device.old) (SameOutside 0 (5 + usage_blocks segments))) }
     ensures carries { Carries (D.state device.old) (D.state device.new) }
 {
     device.write(2, &summary_block(segments))?;
@@ -129,13 +166,17 @@ fn write_first_blocks<D: SectorDevice>(device: &mut D, segments: u32) -> Result<
 fn write_later_usage<D: SectorDevice>(device: &mut D, segments: u32) -> Result<(), DeviceFault>
     requires count { IsSegmentCount segments }
     requires size { 2 + 64 * segments ≤ (D.state device.old).size }
-    ensures any_moment { AllLeft (D.state device.old) AreClear → LeavesOnly (D.state device.old) (D.state device.new) AreClear }
+    ensures any_moment { AllLeft (D.state device.old) AreClear
+        → LeavesOnly (D.state device.old) (D.state device.new) AreClear }
     ensures left { AllLeft (D.state device.old) AreClear → AllLeft (D.state device.new) AreClear }
-    ensures chunk { OnOk result ((D.state device.new).keeps_model → (before : Content) → HasChunk segments 1 before (D.state device.old).content
+    ensures chunk { OnOk result ((D.state device.new).keeps_model → (before : Content)
+        → HasChunk segments 1 before (D.state device.old).content
         → HasChunk segments (usage_blocks segments) before (D.state device.new).content) }
     ensures failed { OnErr result ((D.state device.old).failures < (D.state device.new).failures) }
-    ensures no_failure { OnOk result ((D.state device.new).failures ≡ (D.state device.old).failures) }
-    ensures touched { LeavesOnly (D.state device.old) (D.state device.new) (ComesFrom (D.state device.old) (SameOutside 0 (5 + usage_blocks segments))) }
+    ensures no_failure { OnOk result
+        ((D.state device.new).failures ≡ (D.state device.old).failures) }
+    ensures touched { LeavesOnly (D.state device.old) (D.state device.new)
+        (ComesFrom (D.state device.old) (SameOutside 0 (5 + usage_blocks segments))) }
     ensures carries { Carries (D.state device.old) (D.state device.new) }
 {
     for index in 1..usage_count(segments) {

@@ -4,7 +4,7 @@ use Rattle.std.specs.Prelude.{◌==◌}
 use Rattle.std.specs.List.{list_any}
 use Rattle.std.proofs.lemmas.Bool.{cases_lt}
 use Rattle.std.proofs.lemmas.Bool.Decides.{nat_tests}
-use Rattle.lfs_model.specs.Sound.{Reached, Sound, below, root}
+use Rattle.lfs_model.specs.Sound.{IsReachable, Sound, below, root}
 use Rattle.lfs_model.specs.Step.{chain, is_within}
 use Rattle.lfs_model.specs.Tree.{State, Tree, entry, is_dir, node, up}
 use Rattle.lfs_model.proofs.Climbing.{under_within}
@@ -24,7 +24,7 @@ chain_directory t [] top is = absurd is
 chain_directory t (d ∷ []) top is = ap (λ (n : ℕ). is_dir (node t n)) is ∙ top
 chain_directory t (d ∷ above ∷ rest) top is = is.1
 
-named_by : (t : Tree) (q : ℕ) → Reached t q → q ≢ 1 → (p : ℕ) × (x : List ℕ) × (entry t p x ≡ Some q)
+named_by : (t : Tree) (q : ℕ) → IsReachable t q → q ≢ 1 → (p : ℕ) × (x : List ℕ) × (entry t p x ≡ Some q)
 named_by t q root ne = absurd (ne refl)
 named_by t q (below {d = d} x r e) ne = (d, x, e)
 

@@ -44,9 +44,9 @@ use Rattle.lfs_path.specs.Laws.{SaysLast}
 use Rattle.lfs_path.proofs.LastPieces.{last_says}
 use Rattle.lfs_fs.specs.declared.error.FsError.{FsError}
 use Rattle.lfs_fs.specs.declared.fs.Fs.{Fs}
-use Rattle.lfs_fs.specs.Accepting.{Stages, TurnsDown, limit_of, need_of}
+use Rattle.lfs_fs.specs.Accepting.{StagesDraft, TurnsDown, limit_of, need_of}
 use Rattle.lfs_fs.specs.Handles.{handles_of}
-use Rattle.lfs_fs.specs.Naming.{IsReady, Reaches, RelinksParent, TakesEntry, kind_of_new, more_links}
+use Rattle.lfs_fs.specs.Naming.{IsDraftedNew, Reaches, RelinksParent, TakesEntry, kind_of_new, more_links}
 use Rattle.lfs_fs.specs.Refusals.{refusal_of}
 use Rattle.lfs_fs.specs.Seen.{OnlyReads, seen}
 use Rattle.lfs_fs.specs.Volume.{Behaves, IsIn, IsStill, Mounted, Serves, segments_of}
@@ -101,7 +101,7 @@ module _ (c c' : Changes) (d : ℕ) (head : Header) (t : BlockTotals) where
 
 module _ {D : Type 0} (state : D → DeviceState) (lawful : (d : D) → IsLawful (state d)) (v : Mounted D) (old mid ready : Fs D) (path : List ℕ) (d : ℕ) (of : NewCall (segments_of v) path d) (last : Last)
     (reached : Reaches state v old path d (Some last)) (running : old.store.log.halted ≡ false) (only : OnlyReads state old mid) (head : Header) (takes : TakesEntry state old mid d last.name.now last.slash of.is_mkdir head)
-    (few : kind_of_new of.kind ≡ kind.Directory → head.links < 1000) (n : ℕ) (vacant : IsVacant state mid.store.log n) (is_ready : IsReady state mid ready d head n of.kind last.name.now)
+    (few : kind_of_new of.kind ≡ kind.Directory → head.links < 1000) (n : ℕ) (vacant : IsVacant state mid.store.log n) (is_ready : IsDraftedNew state mid ready d head n of.kind last.name.now)
     (allowed : (k : CheckpointValue) (m0 m : LogMap) (s : State) → (state mid.store.log.device).keeps_model → (is : IsIn state v k m0 m s) → (walk : Parent s.tree path (At d)) → (of.makes s is.version walk).own ≡ false) where
   abbrev c : Changes
   c = ready.store.draft.changes
@@ -314,7 +314,7 @@ module _ {D : Type 0} (state : D → DeviceState) (lawful : (d : D) → IsLawful
       fault down
 
   -- it is, and the table of open files is this one then
-  module _ (new : Fs D) (rest : new.handles ≡ ready.handles) (stages : Stages state ready new) (table : List ℕ) where
+  module _ (new : Fs D) (rest : new.handles ≡ ready.handles) (stages : StagesDraft state ready new) (table : List ℕ) where
     abbrev pub with_table : Mounted D
     with_table = record { log = new.store.log; saved = new.store.saved; blocks = new.store.log.totals.data_blocks; others = new.store.log.totals.meta_blocks; table = table }
 

@@ -8,7 +8,7 @@ use Rattle.lfs_model.specs.declared.Kind.{Kind}
 use Rattle.lfs_model.specs.declared.Kind.TheVariants as kind
 use Rattle.lfs_model.specs.Changing.{IsWithHeader}
 use Rattle.lfs_model.specs.Encodes.{HasInode}
-use Rattle.lfs_model.specs.Objects.{AreWhole, IsChangedAt, IsDirectory, IsHeaderOf, byte_in}
+use Rattle.lfs_model.specs.Objects.{AreStoredWhole, IsChangedAt, IsDirectory, IsHeaderOf, byte_in}
 use Rattle.lfs_model.specs.Slot.{slot_in}
 use Rattle.lfs_model.specs.Stands.{LogMap}
 use Rattle.lfs_model.specs.Step.{is_full, is_long, is_there, name}
@@ -120,7 +120,7 @@ module _ (N : ℕ) (m : LogMap) (s : State) (is : IsMapOf N m s) (d : ℕ) (dir 
             apart = ap length linked_names ∙ was.apart ∙ ap length (sym slots_2);
           }
 
-      whole_2 : AreWhole m1 d → AreWhole m2 d
+      whole_2 : AreStoredWhole m1 d → AreStoredWhole m2 d
       whole_2 whole = record {
         long = λ i has. ap length (linked.block d i) ∙ whole.long i (subst (λ (b : List ℕ). 0 < length b) (linked.block d i) has);
         nonzero = λ i has. (let one = whole.nonzero i (subst (λ (b : List ℕ). 0 < length b) (linked.block d i) has) in (one.0, subst (λ (b : List ℕ). 0 < slice_index b one.0) (sym (linked.block d i)) one.1));

@@ -41,7 +41,7 @@ use Rattle.lfs_path.specs.dirs.Directory.{names_at}
 use Rattle.lfs_path.proofs.of_dirs.SlotsKept.{directory_stays}
 use Rattle.lfs_fs.specs.declared.error.FsError.{FsError}
 use Rattle.lfs_fs.specs.declared.fs.Fs.{Fs}
-use Rattle.lfs_fs.specs.Accepting.{Stages, TurnsDown, limit_of, need_of}
+use Rattle.lfs_fs.specs.Accepting.{StagesDraft, TurnsDown, limit_of, need_of}
 use Rattle.lfs_fs.specs.Handles.{handles_of}
 use Rattle.lfs_fs.specs.HardLinks.{DraftsName, NamesObject, SeesObject}
 use Rattle.lfs_fs.specs.Naming.{DraftsNone, Reaches, TakesEntry}
@@ -304,7 +304,7 @@ module _ {D : Type 0} (state : D → DeviceState) (lawful : (d : D) → IsLawful
     -- ---- the call
     module _ (new : Fs D) (rest : new.handles ≡ ready.handles) where
       -- it is staged
-      staged_ends : Stages state ready new → (state ready.store.log.device).keeps_model
+      staged_ends : StagesDraft state ready new → (state ready.store.log.device).keeps_model
           → (k : CheckpointValue) (m0 m : LogMap) (s : State) → IsIn state v k m0 m s
           → Serves state v (seen new) (LinkTo a b) Done
       staged_ends stages keeps k m0 m s is =
@@ -370,7 +370,7 @@ module _ {D : Type 0} (state : D → DeviceState) (lawful : (d : D) → IsLawful
           ))
           (not_acknowledged (LinkTo a b) refusals.Worn)
 
-      pub link_ends : {X : Type 0} (r : Result X FsError) → OnOk r (Stages state ready new)
+      pub link_ends : {X : Type 0} (r : Result X FsError) → OnOk r (StagesDraft state ready new)
           → IfErr r (TurnsDown state ready new)
           → Serves state v (seen new) (LinkTo a b) (answer_by (λ _. Done) r)
       link_ends = ends_by state lawful v ready new (LinkTo a b) Done still_ready was rest refl refl

@@ -9,7 +9,7 @@ use Rattle.lfs_files.specs.declared.header.Header.{Header}
 use Rattle.lfs_store.specs.memory.declared.changes.Changes.{Changes}
 use Rattle.lfs_store.specs.memory.Batch.{IsNoChange, staged}
 use Rattle.lfs_store.specs.memory.Present.{as_header}
-use Rattle.lfs_store.specs.Making.{Removes, SetsLinks, relinked}
+use Rattle.lfs_store.specs.Making.{DraftsRemoval, SetsLinks, relinked}
 use Rattle.lfs_store.proofs.Apart.{no_change}
 use Rattle.lfs_store.proofs.Writings.{header_put}
 use Rattle.lfs_store.proofs.of_memory.Removed.{is_without}
@@ -45,7 +45,7 @@ module _ (s : State) (c c' : Changes) (m : LogMap) (old : ℕ) (object : Header)
   }
 
   pub all_lost : (object.kind ≡ kind.Directory) ⊎ ((object.links ≤ 1) × (opened s.handles old ≡ 0))
-      → Removes c' old → LosesAll s m (staged c' m) old (as_header object)
+      → DraftsRemoval c' old → LosesAll s m (staged c' m) old (as_header object)
   all_lost last removes = record {
     last = last;
     gone = subst (IsWithoutFile m old) (sym (removes.map m)) (is_without m old);

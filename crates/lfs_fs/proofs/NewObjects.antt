@@ -10,7 +10,7 @@ use Rattle.lfs_model.specs.Checkpoint.{CheckpointValue}
 use Rattle.lfs_model.specs.Device.{DeviceState}
 use Rattle.lfs_model.specs.Encodes.{HasData, IsLogMap}
 use Rattle.lfs_model.specs.Entry.{Inode}
-use Rattle.lfs_model.specs.Objects.{AreWhole, IsChangedAt, IsObject, byte_in}
+use Rattle.lfs_model.specs.Objects.{AreStoredWhole, IsChangedAt, IsObject, byte_in}
 use Rattle.lfs_model.specs.Stands.{LogMap}
 use Rattle.lfs_model.specs.TreeOf.{object, slots}
 use Rattle.lfs_model.proofs.ObjectBytes.{object_is}
@@ -49,7 +49,7 @@ pub record IsMade (m : LogMap) (n : ℕ) (k : NewKind) (m1 : LogMap) : Type 0 wh
   pub changed : IsChangedAt m n m1
   pub bytes : object m1 n (as_header (new_header k)) ≡ text_of_new k
   pub small : length (text_of_new k) ≤ 8511488
-  pub whole : AreWhole m1 n
+  pub whole : AreStoredWhole m1 n
   pub ends : (p : ℕ) → length (text_of_new k) ≤ p → byte_in m1 n p ≡ 0
 
 -- a directory without a byte has no slot
@@ -83,7 +83,7 @@ module _ (m m1 : LogMap) (log : IsLogMap m) (n : ℕ) (free : m.header n ≡ Non
   new_data : (i : ℕ) → HasData m1 n i → ⊥
   new_data i has = let none = ap length (no_block i) in omega arith
 
-  blank_whole : AreWhole m1 n
+  blank_whole : AreStoredWhole m1 n
   blank_whole = record { long = λ i has. absurd (new_data i has); nonzero = λ i has. absurd (new_data i has) }
 
   blank_byte : (p : ℕ) → byte_in m1 n p ≡ 0

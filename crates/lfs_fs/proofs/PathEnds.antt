@@ -163,7 +163,7 @@ module _ {D : Type 0} (state : D → DeviceState) (old mid : Fs D) (lawful : IsL
     readdir_ends new next (Ok entries) tells missing =
         step_serves state (seen old) (seen new) (Readdir p) lawful (reads_again state old mid new first lawful next).still was (Entries (map entry_of entries.items)) tt refl refl refl (λ k m0 m s keeps is. (
         let told = tells (empty_again first empty) k m0 m s keeps (still_in state (seen old) (seen mid) k m0 m s first.still is) in
-        subst (λ (x : List call.Entry). Step (segments_of (seen old)) s (Readdir p) (Entries x) s) (sym told.1)
+        subst (λ (x : List call.DirectoryEntry). Step (segments_of (seen old)) s (Readdir p) (Entries x) s) (sym told.1)
         (readdir_done (segments_of (seen old)) s p n (walks_in p true n walk k m0 m s (next.still.reads.looks.carries.kept_before keeps) is) told.0)))
     readdir_ends new next (Err fault) tells missing = ⊎_elim
         (λ other. subst (λ (f : FsError). Serves state (seen old) (seen new) (Readdir p) (Refuse (refusal_of f))) (sym other.0)

@@ -12,7 +12,7 @@ use Rattle.lfs_fs.specs.declared.fs.Fs.{Fs}
 use Rattle.lfs_fs.specs.declared.moving.Source.{Source}
 use Rattle.lfs_fs.specs.declared.moving.Target.{Target}
 use Rattle.lfs_fs.specs.Refusals.{refusal_of}
-use Rattle.lfs_fs.specs.Renaming.{ChecksRename, FindsBoth, Gives, MovesEntry, MovesNone, ReachesBoth}
+use Rattle.lfs_fs.specs.Renaming.{ChecksRename, FindsBoth, GivesName, MovesEntry, MovesNone, ReachesBoth}
 use Rattle.lfs_fs.specs.Seen.{OnlyReads, answer_by, seen}
 use Rattle.lfs_fs.specs.Volume.{Mounted, Serves}
 use Rattle.lfs_fs.proofs.RenameEnds.{move_made, move_unmade}
@@ -46,7 +46,7 @@ module _ {D : Type 0} (state : D → DeviceState) (lawful : (d : D) → IsLawful
   -- where both names give one object
   pub same_ends : FindsBoth state old mid da l.name.now l.slash (here chain) o.name.now o.slash
       source target
-      → Gives target.replaced source.object.number ≡ true → (r : Result (Unit {0}) FsError)
+      → GivesName target.replaced source.object.number ≡ true → (r : Result (Unit {0}) FsError)
       → OnOk r (mid.store.log.number < 2 ^ 62) → OnErr r (2 ^ 62 ≤ mid.store.log.number)
       → IfErr r (λ fault. fault ≡ error.Worn)
       → Serves state v (seen mid) (Rename a b) (answer_by (λ _. Done) r)

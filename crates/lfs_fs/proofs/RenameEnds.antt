@@ -54,19 +54,10 @@ use Rattle.lfs_fs.specs.declared.fs.Fs.{Fs}
 use Rattle.lfs_fs.specs.declared.moving.Object.{Object}
 use Rattle.lfs_fs.specs.declared.moving.Source.{Source}
 use Rattle.lfs_fs.specs.declared.moving.Target.{Target}
-use Rattle.lfs_fs.specs.Accepting.{Stages, TurnsDown, limit_of, need_of}
+use Rattle.lfs_fs.specs.Accepting.{StagesDraft, TurnsDown, limit_of, need_of}
 use Rattle.lfs_fs.specs.Handles.{handles_of}
 use Rattle.lfs_fs.specs.Refusals.{refusal_of}
-use Rattle.lfs_fs.specs.Renaming.{
-  ChecksRename,
-  FitsFound,
-  Gives,
-  IsMoveReady,
-  LooksAt,
-  MovesEntry,
-  ReachesBoth,
-  TurnsMove,
-}
+use Rattle.lfs_fs.specs.Renaming.{ChecksRename, FitsFound, GivesName, IsMoveReady, LooksAt, MovesEntry, ReachesBoth, TurnsMove}
 use Rattle.lfs_fs.specs.Seen.{OnlyReads, seen}
 use Rattle.lfs_fs.specs.Volume.{IsIn, IsStill, Mounted, Serves, segments_of}
 use Rattle.lfs_fs.proofs.Accepted.{InEach}
@@ -94,7 +85,7 @@ use Rattle.lfs_fs.proofs.WritingEnds.{
 
 -- what is replaced is another object, of the same sort
 gives_way : (source : Source) (target : Target) (found : Option Object)
-    → Gives found source.object.number ≡ false → FitsFound found source target
+    → GivesName found source.object.number ≡ false → FitsFound found source target
     → GivesWay source found
 gives_way source target None other fits = tt
 gives_way source target (Some o) other fits = (
@@ -258,7 +249,7 @@ module _ {D : Type 0} (state : D → DeviceState) (lawful : (d : D) → IsLawful
     -- ---- the call
     module _ (new : Fs D) (rest : new.handles ≡ ready.handles) where
       -- it is staged
-      staged_ends : Stages state ready new → (state ready.store.log.device).keeps_model
+      staged_ends : StagesDraft state ready new → (state ready.store.log.device).keeps_model
           → (k : CheckpointValue) (m0 m : LogMap) (s : State) → IsIn state v k m0 m s
           → Serves state v (seen new) (Rename a b) Done
       staged_ends stages keeps k m0 m s is =
@@ -330,7 +321,7 @@ module _ {D : Type 0} (state : D → DeviceState) (lawful : (d : D) → IsLawful
       fits_each keeps k m0 m s is = in_each state v k m0 m s is (λ x t. FitsBatch x c)
           (fits_here keeps k m0 m s is)
 
-      staged_serves : Stages state ready new → Serves state v (seen new) (Rename a b) Done
+      staged_serves : StagesDraft state ready new → Serves state v (seen new) (Rename a b) Done
       staged_serves stages = ends_by state lawful v ready new (Rename a b) Done still_ready was
           rest refl refl refl refl fits_each staged_ends lacking_ends worn_ends
           {X = Unit {0}} (Ok tt) stages tt

@@ -39,7 +39,7 @@ use Rattle.lfs_fs.specs.declared.moving.Target.{Target}
 use Rattle.lfs_fs.specs.Handles.{handles_of}
 use Rattle.lfs_fs.specs.Refusals.{refusal_of}
 use Rattle.lfs_fs.specs.Renaming as steps
-use Rattle.lfs_fs.specs.Renaming.{ChecksRename, DraftsLinks, DraftsTake, DropsFound, FailsMove, FitsFound, FitsReplaced, GivesUpMove, Gives, HasNamed, InLog, LooksAt, ReachesBoth, RelinksBoth, RelinksWhere, Rises, fewer_links, first_holder, gains_directory, is_directory, loses_directory, more_links, of_drop, of_memory, of_name, of_take, second_holder}
+use Rattle.lfs_fs.specs.Renaming.{ChecksRename, DraftsLinks, DraftsTake, DropsFound, FailsMove, FitsFound, FitsReplaced, GivesUpMove, GivesName, HasNamed, InLog, LooksAt, ReachesBoth, RelinksBoth, RelinksWhere, Rises, fewer_links, first_holder, gains_directory, is_directory, loses_directory, more_links, of_drop, of_memory, of_name, of_take, second_holder}
 use Rattle.lfs_fs.specs.Seen.{OnlyReads, seen}
 use Rattle.lfs_fs.specs.Unlinking.{TakesOut}
 use Rattle.lfs_fs.specs.Volume.{IsIn, IsStill, Mounted, Serves, segments_of}
@@ -78,7 +78,7 @@ both_blocks c c' m source target t both q i =
 
 -- what is replaced may be
 way_of : (source : Source) (target : Target) (found : Option Object)
-    → Gives found source.object.number ≡ false → FitsFound found source target
+    → GivesName found source.object.number ≡ false → FitsFound found source target
     → GivesWay source found
 way_of source target None other fits = tt
 way_of source target (Some o) other fits = (

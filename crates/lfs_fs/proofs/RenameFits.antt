@@ -77,7 +77,7 @@ use Rattle.lfs_fs.specs.Renaming.{
   more_links,
   second_holder,
 }
-use Rattle.lfs_fs.specs.Unlinking.{Goes, LosesLink, Relinks}
+use Rattle.lfs_fs.specs.Unlinking.{GoesWhole, LosesLink, Relinks}
 use Rattle.lfs_fs.proofs.Files.{IsMapOf, IsShaped, shape_of}
 use Rattle.lfs_fs.proofs.Headers.{directory_grows, directory_shrinks, links_fit}
 use Rattle.lfs_fs.proofs.InDirectories.{
@@ -257,7 +257,7 @@ module _ {D : Type 0} (state : D → DeviceState) (N : ℕ) (m : LogMap) (s : St
         × LosesLink state old lost o.number o.header).
         ⊎_elim
         (λ (r : Relinks state old lost o.number o.header). less_lost loses.0 r)
-        (λ (g : Goes state old lost o.number o.header). record {
+        (λ (g : GoesWhole state old lost o.number o.header). record {
           fits = g.removes.fits m;
           first = g.apart da not_first;
           second = g.apart db not_second;

@@ -32,7 +32,7 @@ use Rattle.lfs_fs.specs.declared.moving.Object.{Object}
 use Rattle.lfs_fs.specs.declared.moving.Source.{Source}
 use Rattle.lfs_fs.specs.declared.moving.Target.{Target}
 use Rattle.lfs_fs.specs.Refusals.{refusal_of}
-use Rattle.lfs_fs.specs.Renaming.{ChecksRename, ComesTo, FailsWhere, FindsBoth, FindsSource, FindsTarget, FitsFound, Gives, InLog, IsAbove, IsNotAbove, LooksAt, MayLook, MayName, ReachesBoth, RefusesFound, RefusesNext, RefusesRename, RefusesReplaced, RefusesRoom, RefusesSource, Rises, is_directory, of_first, of_second, of_target, of_within}
+use Rattle.lfs_fs.specs.Renaming.{ChecksRename, ComesTo, FailsWhere, FindsBoth, FindsSource, FindsTarget, FitsFound, GivesName, InLog, IsAbove, IsNotAbove, LooksAt, MayLook, MayName, ReachesBoth, RefusesFound, RefusesNext, RefusesRename, RefusesReplaced, RefusesRoom, RefusesSource, Rises, is_directory, of_first, of_second, of_target, of_within}
 use Rattle.lfs_fs.specs.Seen.{OnlyReads, seen}
 use Rattle.lfs_fs.specs.Volume.{IsIn, IsStill, Mounted, Serves, segments_of}
 use Rattle.lfs_fs.proofs.Behaving.{IsOrdinary}
@@ -250,7 +250,7 @@ module _ {D : Type 0} (state : D → DeviceState) (lawful : (d : D) → IsLawful
               there_b = there_is N m s volume (headers_of_volume state v k m0 m s is) b db comes.ends dest.holder found looks_second
 
             -- there is another object of that name
-            module _ (x : Object) (is_found : dest.replaced ≡ Some x) (other : Gives (Some x) source.object.number ≡ false) where
+            module _ (x : Object) (is_found : dest.replaced ≡ Some x) (other : GivesName (Some x) source.object.number ≡ false) where
               looks_other : LooksAt m db (name b) dest.holder (Some x)
               looks_other = looks_second (Some x) is_found
 
@@ -370,16 +370,16 @@ module _ {D : Type 0} (state : D → DeviceState) (lawful : (d : D) → IsLawful
           (ap (λ (x : Bool). x && not (is_directory source.object.header.kind)) has_other.1 ∙ why.1))))
       second_refused source finds fault why = fails_second fault why
 
-      module _ (source : Source) (dest : Target) (both : FindsBoth state old new da l.name.now l.slash db o.name.now o.slash source dest) (other : Gives dest.replaced source.object.number ≡ false) where
+      module _ (source : Source) (dest : Target) (both : FindsBoth state old new da l.name.now l.slash db o.name.now o.slash source dest) (other : GivesName dest.replaced source.object.number ≡ false) where
         within_refused : IsAbove chain source.object.number → (found : Option Object) → dest.replaced ≡ found → Serves state v (seen new) (Rename a b) (Refuse refusals.Inval)
         within_refused above (Some x) is_found = refused refusals.Inval tt (λ k m0 m s keeps is.
-            other_within k m0 m s keeps is source both.first dest both.second x is_found (ap (λ (f : Option Object). Gives f source.object.number) (sym is_found) ∙ other) above)
+            other_within k m0 m s keeps is source both.first dest both.second x is_found (ap (λ (f : Option Object). GivesName f source.object.number) (sym is_found) ∙ other) above)
         within_refused above None is_found = refused refusals.Inval tt (λ k m0 m s keeps is. new_within k m0 m s keeps is source both.first dest both.second is_found above)
 
         room_refused : IsNotAbove chain source.object.number → (fault : FsError) → (found : Option Object) → dest.replaced ≡ found → RefusesFound found source dest fault
             → Serves state v (seen new) (Rename a b) (Refuse (refusal_of fault))
         room_refused apart fault (Some x) is_found why = refused (refusal_of fault) (ordinary_replaced source.object.header.kind x.header fault why) (λ k m0 m s keeps is.
-            other_refuses k m0 m s keeps is source both.first dest both.second x is_found (ap (λ (f : Option Object). Gives f source.object.number) (sym is_found) ∙ other) apart fault why)
+            other_refuses k m0 m s keeps is source both.first dest both.second x is_found (ap (λ (f : Option Object). GivesName f source.object.number) (sym is_found) ∙ other) apart fault why)
         room_refused apart fault None is_found why = refused (refusal_of fault) (ordinary_room source.object.header.kind dest.holder fault why.1) (λ k m0 m s keeps is.
             room_refuses k m0 m s keeps is source both.first dest both.second is_found apart why.0 fault why.1)
 
@@ -391,8 +391,8 @@ module _ {D : Type 0} (state : D → DeviceState) (lawful : (d : D) → IsLawful
       checks_refused fault (of_target source dest both other apart why) = room_refused source dest both other apart fault dest.replaced refl why
 
       -- ---- both names give one object
-      module _ (source : Source) (dest : Target) (both : FindsBoth state old new da l.name.now l.slash db o.name.now o.slash source dest) (gives : Gives dest.replaced source.object.number ≡ true) where
-        one_object : (found : Option Object) → dest.replaced ≡ found → Gives found source.object.number ≡ true → InEach new (λ m s. StopsAt (conditions N s a b da db) Done)
+      module _ (source : Source) (dest : Target) (both : FindsBoth state old new da l.name.now l.slash db o.name.now o.slash source dest) (gives : GivesName dest.replaced source.object.number ≡ true) where
+        one_object : (found : Option Object) → dest.replaced ≡ found → GivesName found source.object.number ≡ true → InEach new (λ m s. StopsAt (conditions N s a b da db) Done)
         one_object None is_found is = λ k m0 m s keeps at. absurd (let wrong : false ≡ true = is in cc)
         one_object (Some x) is_found is = λ k m0 m s keeps at.
             from_both k m0 m s keeps at source both.first dest both.second Done
@@ -426,7 +426,7 @@ module _ {D : Type 0} (state : D → DeviceState) (lawful : (d : D) → IsLawful
         abbrev is_dir_a : Bool
         is_dir_a = is_directory source.object.header.kind
 
-        passes_by : (found : Option Object) → dest.replaced ≡ found → Gives found source.object.number ≡ false → FitsFound found source dest → PassesAll (before_space N s a b da db)
+        passes_by : (found : Option Object) → dest.replaced ≡ found → GivesName found source.object.number ≡ false → FitsFound found source dest → PassesAll (before_space N s a b da db)
         passes_by (Some x) is_found other fits =
             passes_replaced N s a b da db source.object.number is_dir_a (names_source k m0 m s keeps is source checks.both.first) x.number
             (there_b k m0 m s keeps is source checks.both.first dest checks.both.second (Some x) is_found) at_other

@@ -76,7 +76,7 @@ use Rattle.lfs_fs.specs.Renaming.{
   loses_directory,
   more_links,
 }
-use Rattle.lfs_fs.specs.Unlinking.{Goes, LosesLink, Relinks, TakesOut}
+use Rattle.lfs_fs.specs.Unlinking.{GoesWhole, LosesLink, Relinks, TakesOut}
 use Rattle.lfs_fs.proofs.Files.{IsMapOf, IsShaped, shape_of}
 use Rattle.lfs_fs.proofs.InDirectories.{entry_in_directory}
 use Rattle.lfs_fs.proofs.MovedDrafts.{all_lost, link_kept, links_left, links_set}
@@ -334,7 +334,7 @@ module _ {D : Type 0} (state : D → DeviceState) (old mid : Fs D) (s : State)
       inl (link_kept s old.store.draft.changes mid.store.draft.changes m o.number o.header empty
       keeps.links keeps.is (stays_open o.number keeps.links keeps.stays)
       (plain_kind o.header.kind loses.0) keeps.sets))
-      (λ (goes : Goes state old mid o.number o.header).
+      (λ (goes : GoesWhole state old mid o.number o.header).
       inr (all_lost s old.store.draft.changes mid.store.draft.changes m o.number o.header
       (inr (goes.last, ap (λ hs. opened hs o.number) handles ∙ goes.shut)) goes.removes))
       loses.1)

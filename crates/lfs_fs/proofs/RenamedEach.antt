@@ -48,7 +48,7 @@ use Rattle.lfs_fs.specs.Renaming.{
   second_holder,
 }
 use Rattle.lfs_fs.specs.Seen.{seen}
-use Rattle.lfs_fs.specs.Unlinking.{Goes, LosesLink, Relinks, TakesOut}
+use Rattle.lfs_fs.specs.Unlinking.{GoesWhole, LosesLink, Relinks, TakesOut}
 use Rattle.lfs_fs.specs.Volume.{IsIn, IsStill, Mounted, segments_of}
 use Rattle.lfs_fs.proofs.Files.{IsMapOf}
 use Rattle.lfs_fs.proofs.Holding.{headers_of_volume, map_of_volume}
@@ -86,7 +86,7 @@ module _ {D : Type 0} (state : D → DeviceState) (old lost : Fs D) (k : Checkpo
       r.counts m there
       (subst (λ (t : BlockTotals). AreTotals (staged old.store.draft.changes m) t)
       (sym r.drafted) are))
-      (λ (g : Goes state old lost o.number o.header). g.counts k m0 m keeps holds map after are)
+      (λ (g : GoesWhole state old lost o.number o.header). g.counts k m0 m keeps holds map after are)
       loses.1)
       drops
 

@@ -16,7 +16,7 @@ use Rattle.lfs_store.specs.memory.declared.changes.Changes.{Changes}
 use Rattle.lfs_store.specs.log.Held.{Held, Holds, Reads}
 use Rattle.lfs_store.specs.memory.Batch.{staged}
 use Rattle.lfs_store.specs.memory.Present.{as_header}
-use Rattle.lfs_store.specs.Making.{Removes, SetsLinks}
+use Rattle.lfs_store.specs.Making.{DraftsRemoval, SetsLinks}
 use Rattle.lfs_store.specs.Recounting.{Counts}
 use Rattle.lfs_store.specs.Seen.{HasMap}
 use Rattle.lfs_store.proofs.LogReads.{held_still}
@@ -55,7 +55,7 @@ counts_before state h a b c c' t t' reads counts k m0 m keeps holds =
 -- ---- a name that isn't taken out of a directory with a link less
 
 module _ {D : Type 0} (state : D → DeviceState) (old new : Fs D) (mid : Store D)
-    (gone linked : Changes) (n d : ℕ) (head : Header) (removes : Removes gone n)
+    (gone linked : Changes) (n d : ℕ) (head : Header) (removes : DraftsRemoval gone n)
     (sets : SetsLinks gone linked d head (head.links - 1)) (is : mid.draft.changes ≡ linked)
     (reads : Reads state old.store.log mid.log) where
   -- no other object's blocks change with the two

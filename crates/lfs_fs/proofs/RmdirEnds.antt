@@ -43,7 +43,7 @@ use Rattle.lfs_path.proofs.of_dirs.SlotsKept.{directory_stays}
 use Rattle.lfs_fs.specs.declared.error.FsError.{FsError}
 use Rattle.lfs_fs.specs.declared.error.FsError.TheVariants as error
 use Rattle.lfs_fs.specs.declared.fs.Fs.{Fs}
-use Rattle.lfs_fs.specs.Accepting.{Stages, TurnsDown, limit_of, need_of}
+use Rattle.lfs_fs.specs.Accepting.{StagesDraft, TurnsDown, limit_of, need_of}
 use Rattle.lfs_fs.specs.Handles.{handles_of}
 use Rattle.lfs_fs.specs.Naming.{Reaches}
 use Rattle.lfs_fs.specs.Refusals.{refusal_of}
@@ -364,7 +364,7 @@ module _ {D : Type 0} (state : D → DeviceState) (lawful : (d : D) → IsLawful
 
     -- ---- the call
     module _ (new : Fs D) (rest : new.handles ≡ ready.handles) {X : Type 0} (r : Result X FsError)
-        (done_by : OnOk r (Stages state ready new)) (down : IfErr r (TurnsDown state ready new))
+        (done_by : OnOk r (StagesDraft state ready new)) (down : IfErr r (TurnsDown state ready new))
       where
         pub rmdir_ends : Serves state v (seen new) (Rmdir path) (answer_by (λ _. Done) r)
         rmdir_ends =

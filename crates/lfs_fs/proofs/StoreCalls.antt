@@ -24,7 +24,7 @@ use Rattle.lfs_store.proofs.LogReads.{held_still, reads_none}
 use Rattle.lfs_path.specs.declared.walk_fault.WalkFault.{WalkFault}
 use Rattle.lfs_path.specs.declared.walk_fault.WalkFault.TheVariants as walk
 use Rattle.lfs_path.specs.Reaching.{EndsParent, IsParent}
-use Rattle.lfs_path.specs.Telling.{Refuses, Tells}
+use Rattle.lfs_path.specs.Telling.{TellsRefusal, Tells}
 use Rattle.lfs_path.specs.Trees.{HasTree, here}
 use Rattle.lfs_path.specs.dirs.Adding as adding
 use Rattle.lfs_path.specs.dirs.Adding.{AddsName, grown, slot_for}
@@ -65,13 +65,13 @@ module _ {D : Type 0} (state : D → DeviceState) (a b : Store D) where
     same_drafted = ap totals_of reads.drafted
 
   -- ---- walks of a path
-  pub ends_refused : (W : Tree → End → Type 0) (fault : WalkFault) → Refuses (files_of state a) (files_of state b) HasTree W fault → EndsRefused state a.log b.log a.draft.changes W fault
+  pub ends_refused : (W : Tree → End → Type 0) (fault : WalkFault) → TellsRefusal (files_of state a) (files_of state b) HasTree W fault → EndsRefused state a.log b.log a.draft.changes W fault
   ends_refused W = by
     where
       each : (P : LogMap → Type 0) → ((m m' : LogMap) → (files_of state b).device.keeps_model → (files_of state a).has m m' → HasTree m' → P m') → EachDrafted state a.log b.log a.draft.changes (λ m. HasTree m → P m)
       each P all = each_drafted (λ m. HasTree m → P m) all
 
-      by : (fault : WalkFault) → Refuses (files_of state a) (files_of state b) HasTree W fault → EndsRefused state a.log b.log a.draft.changes W fault
+      by : (fault : WalkFault) → TellsRefusal (files_of state a) (files_of state b) HasTree W fault → EndsRefused state a.log b.log a.draft.changes W fault
       by walk.NoEntry ends = each (λ m. W (tree_in m) (Refused model.NoEntry)) ends
       by walk.NotDir ends = each (λ m. W (tree_in m) (Refused model.NotDir)) ends
       by walk.NameTooLong ends = each (λ m. W (tree_in m) (Refused model.NameTooLong)) ends

@@ -38,7 +38,7 @@ use Rattle.lfs_fs.specs.Drafted.{files_of}
 use Rattle.lfs_fs.specs.Faults.{error_of_store}
 use Rattle.lfs_fs.specs.Handles.{handles_of}
 use Rattle.lfs_fs.specs.Naming.{DraftsNone}
-use Rattle.lfs_fs.specs.Unlinking.{FailsDrop, FailsUnlink, Goes, LosesLink, Relinks, TakesOut}
+use Rattle.lfs_fs.specs.Unlinking.{FailsDrop, FailsUnlink, GoesWhole, LosesLink, Relinks, TakesOut}
 use Rattle.lfs_fs.proofs.StoreCalls.{log_redrafts}
 
 module _ {D : Type 0} (state : D → DeviceState) (a b : Store D) (redrafts : files.Redrafts (files_of state a) (files_of state b)) where
@@ -68,7 +68,7 @@ module _ {D : Type 0} (state : D → DeviceState) (old mid new : Fs D) (n : ℕ)
   same_blocks : (m : LogMap) (d : ℕ) → n ≢ d → (i : ℕ) → (staged mid.store.draft.changes m).block d i ≡ m.block d i
   same_blocks m d other i = ⊎_elim
       (λ (r : Relinks state old mid n object). ap (λ (x : LogMap). x.block d i) (r.sets.map m) ∙ ap (λ (x : LogMap). x.block d i) (no_change old.store.draft.changes m empty))
-      (λ (g : Goes state old mid n object). ap (λ (x : LogMap). x.block d i) (g.removes.map m) ∙ (is_without m n).blocks d i (λ e. other (sym e)))
+      (λ (g : GoesWhole state old mid n object). ap (λ (x : LogMap). x.block d i) (g.removes.map m) ∙ (is_without m n).blocks d i (λ e. other (sym e)))
       loses
 
   kept_directory : (m : LogMap) (d : ℕ) (head : Header) → n ≢ d → IsDirectory m d (as_header head)

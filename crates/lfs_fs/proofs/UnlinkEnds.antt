@@ -45,11 +45,11 @@ use Rattle.lfs_path.specs.dirs.Taking.{CutsSlot, TakesName, shrunk}
 use Rattle.lfs_path.proofs.of_dirs.SlotsKept.{directory_stays}
 use Rattle.lfs_fs.specs.declared.error.FsError.{FsError}
 use Rattle.lfs_fs.specs.declared.fs.Fs.{Fs}
-use Rattle.lfs_fs.specs.Accepting.{Stages, TurnsDown, limit_of, need_of}
+use Rattle.lfs_fs.specs.Accepting.{StagesDraft, TurnsDown, limit_of, need_of}
 use Rattle.lfs_fs.specs.Handles.{handles_of}
 use Rattle.lfs_fs.specs.Naming.{Reaches}
 use Rattle.lfs_fs.specs.Seen.{OnlyReads, answer_by, seen}
-use Rattle.lfs_fs.specs.Unlinking.{DraftsUnlink, Goes, HasEntry, Relinks}
+use Rattle.lfs_fs.specs.Unlinking.{DraftsUnlink, GoesWhole, HasEntry, Relinks}
 use Rattle.lfs_fs.specs.Volume.{IsIn, IsStill, Mounted, Serves, segments_of}
 use Rattle.lfs_fs.proofs.Behaving.{write_behaves}
 use Rattle.lfs_fs.proofs.CallSteps.{not_worn, worn}
@@ -214,7 +214,7 @@ module _ {D : Type 0} (state : D → DeviceState) (lawful : (d : D) → IsLawful
         stays : (r.links ≢ 0) ⊎ (opened s.handles n ≢ 0)
         stays = ⊎_elim (λ some. inl some) (λ some. inr (subst (λ hs. opened hs n ≢ 0) (sym (is.handles ∙ ap handles_of (sym still_mid.table))) some)) r.stays
 
-    goes : Goes state mid drafts.mid n object → Lost
+    goes : GoesWhole state mid drafts.mid n object → Lost
     goes g = record {
       changed = without_file_at m (between m) n gone;
       log = log;
@@ -284,7 +284,7 @@ module _ {D : Type 0} (state : D → DeviceState) (lawful : (d : D) → IsLawful
   limit_same = ap (λ (x : LogMemory). 47 * length x.usage.segments) still_ready.reads.memory
 
   -- ---- the call
-  module _ (new : Fs D) (rest : new.handles ≡ ready.handles) {X : Type 0} (r : Result X FsError) (done_by : OnOk r (Stages state ready new)) (down : IfErr r (TurnsDown state ready new)) where
+  module _ (new : Fs D) (rest : new.handles ≡ ready.handles) {X : Type 0} (r : Result X FsError) (done_by : OnOk r (StagesDraft state ready new)) (down : IfErr r (TurnsDown state ready new)) where
     pub unlink_ends : Serves state v (seen new) (Unlink path) (answer_by (λ _. Done) r)
     unlink_ends =
         ends_by state lawful v ready new (Unlink path) Done still_ready was rest refl refl refl refl

@@ -31,7 +31,7 @@ use Rattle.lfs_store.proofs.LogReads.{held_still}
 use Rattle.lfs_store.proofs.TreeTotals.{totals_of_tree}
 use Rattle.lfs_fs.specs.declared.error.FsError.{FsError}
 use Rattle.lfs_fs.specs.declared.fs.Fs.{Fs}
-use Rattle.lfs_fs.specs.Accepting.{Stages, TurnsDown, limit_of, need_of}
+use Rattle.lfs_fs.specs.Accepting.{StagesDraft, TurnsDown, limit_of, need_of}
 use Rattle.lfs_fs.specs.Handles.{handles_of}
 use Rattle.lfs_fs.specs.Seen.{HasHeader, OnlyReads, answer_by, seen}
 use Rattle.lfs_fs.specs.Volume.{IsIn, IsStill, Serves, segments_of}
@@ -149,7 +149,7 @@ module _ {D : Type 0} (state : D → DeviceState) (lawful : (d : D) → IsLawful
           subst (λ (x : ℕ). x ≤ 47 * segments_of (seen old)) (sym (ap need tree) ∙ needs) room
 
   -- ---- the calls
-  module _ (new : Fs D) (rest : new.handles ≡ ready.handles) {X : Type 0} (r : Result X FsError) (done : OnOk r (Stages state ready new)) (down : IfErr r (TurnsDown state ready new))
+  module _ (new : Fs D) (rest : new.handles ≡ ready.handles) {X : Type 0} (r : Result X FsError) (done : OnOk r (StagesDraft state ready new)) (down : IfErr r (TurnsDown state ready new))
       (counts : Counts state mid.store.log ready.store.log mid.store.draft.changes c mid.store.drafted ready.store.drafted) where
     limit_same : limit_of ready ≡ 47 * segments_of (seen old)
     limit_same = ap (λ (v : LogMemory). 47 * length v.usage.segments) still.reads.memory

@@ -31,7 +31,7 @@ use Rattle.lfs_fs.specs.declared.error.FsError.{FsError}
 use Rattle.lfs_fs.specs.declared.error.FsError.TheVariants as error
 use Rattle.lfs_fs.specs.declared.fs.Fs.{Fs}
 use Rattle.lfs_fs.specs.declared.handles.Handles.{Handles}
-use Rattle.lfs_fs.specs.Accepting.{IsDeclined, Stages, TurnsDown, limit_of, need_of}
+use Rattle.lfs_fs.specs.Accepting.{IsDeclined, StagesDraft, TurnsDown, limit_of, need_of}
 use Rattle.lfs_fs.specs.Faults.{error_of_store}
 use Rattle.lfs_fs.specs.Handles.{handles_of}
 use Rattle.lfs_fs.specs.Refusals.{refusal_of}
@@ -254,7 +254,7 @@ module _ {D : Type 0} (state : D → DeviceState) (lawful : (d : D) → IsLawful
     pub table_same : new.handles.numbers.items ≡ v.table
     table_same = ap (λ (x : Handles). x.numbers.items) rest ∙ still.table
 
-    pub accepts_old : Stages state ready new → Accepts state v.log v.saved new.store.log new.store.saved c
+    pub accepts_old : StagesDraft state ready new → Accepts state v.log v.saved new.store.log new.store.saved c
     accepts_old done = accepts_after v.log ready.store.log still.reads new.store.log v.saved new.store.saved c
         (subst (λ (b : Bool). Accepts state ready.store.log b new.store.log new.store.saved c) still.saved done.accepts)
 
@@ -335,10 +335,10 @@ module _ {D : Type 0} (state : D → DeviceState) (lawful : (d : D) → IsLawful
 
     pub ends_by : changes call ≡ true → commits call ≡ false → takes_no_memory call ≡ false → is_ok a ≡ true
         → (Kept → (k : CheckpointValue) (m0 m : LogMap) (s : State) → IsIn state v k m0 m s → InEach state v (λ m s. FitsBatch m c))
-        → (Stages state ready new → InState a)
+        → (StagesDraft state ready new → InState a)
         → (IsStill state v (seen new) → limit_of ready < need_of ready → InState (Refuse refusal.NoSpace))
         → (IsStill state v (seen new) → 2 ^ 62 ≤ v.log.number → need_of ready ≤ limit_of ready → InState (Refuse refusal.Worn))
-        → {X : Type 0} (r : Result X FsError) → OnOk r (Stages state ready new) → IfErr r (TurnsDown state ready new) → Serves state v (seen new) call (answer_by (λ _. a) r)
+        → {X : Type 0} (r : Result X FsError) → OnOk r (StagesDraft state ready new) → IfErr r (TurnsDown state ready new) → Serves state v (seen new) call (answer_by (λ _. a) r)
     ends_by change free takes ok fits done_ends lacks_ends worn_ends (Ok x) done down = when_in v (seen new) call was a (accepts_old done).carries (accepts_old done).segments (ok_refuses_none a refusal.Halted ok)
         (write_behaves state v (seen new) call a (change_writes call change) table_same (ok_refuses_none a refusal.Stuck ok)) (λ keeps. done_ends done (done.accepts.carries.kept_before keeps))
     ends_by change free takes ok fits done_ends lacks_ends worn_ends (Err e) done down = by_fault change free takes fits lacks_ends worn_ends e down

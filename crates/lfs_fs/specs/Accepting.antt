@@ -17,7 +17,7 @@ limit_of f = 47 * length f.store.log.memory.usage.segments
 
 module _ {D : Type 0} (state : D → DeviceState) where
   -- The draft is staged, and the totals are those with it.
-  pub record Stages (old new : Fs D) : Type 0 where
+  pub record StagesDraft (old new : Fs D) : Type 0 where
     pub accepts : Accepts state old.store.log old.store.saved new.store.log new.store.saved old.store.draft.changes
     pub totals : new.store.log.totals ≡ old.store.drafted
     pub young : old.store.log.number < 2 ^ 62

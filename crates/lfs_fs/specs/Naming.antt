@@ -29,7 +29,7 @@ use Rattle.lfs_path.specs.Lasts.{HasLast}
 use Rattle.lfs_fs.specs.declared.error.FsError.{FsError}
 use Rattle.lfs_fs.specs.declared.error.FsError.TheVariants as error
 use Rattle.lfs_fs.specs.declared.fs.Fs.{Fs}
-use Rattle.lfs_fs.specs.Accepting.{Stages, TurnsDown}
+use Rattle.lfs_fs.specs.Accepting.{StagesDraft, TurnsDown}
 use Rattle.lfs_fs.specs.Handles.{handles_of}
 use Rattle.lfs_fs.specs.Reading.{LacksObject, TellsStat}
 use Rattle.lfs_fs.specs.Seen.{OnlyReads, seen}
@@ -193,7 +193,7 @@ module _ {D : Type 0} (state : D → DeviceState) where
   DraftsNone old new fault = (fault ≡ error.NoMemory) ⊎ ((fault ≡ error.Device) × IsReadFault state old.store.log new.store.log)
 
   -- A volume with the draft, before it is accepted.
-  pub record IsReady (old mid : Fs D) (d : ℕ) (head : Header) (n : ℕ) (k : NewKind)
+  pub record IsDraftedNew (old mid : Fs D) (d : ℕ) (head : Header) (n : ℕ) (k : NewKind)
       (name : List ℕ) : Type 0 where
     pub still : IsStill state (seen old) (seen mid)
     pub drafts : DraftsNew old mid d head n k name
@@ -202,15 +202,15 @@ module _ {D : Type 0} (state : D → DeviceState) where
   pub record MakesNew (old new : Fs D) (d : ℕ) (head : Header) (n : ℕ) (k : NewKind)
       (name : List ℕ) : Type 0 where
     pub mid : Fs D
-    pub ready : IsReady old mid d head n k name
-    pub stages : Stages state mid new
+    pub ready : IsDraftedNew old mid d head n k name
+    pub stages : StagesDraft state mid new
     pub table : new.handles ≡ mid.handles
 
   -- It isn't, where it was drafted.
   pub record TurnsNew (old new : Fs D) (d : ℕ) (head : Header) (n : ℕ) (k : NewKind)
       (name : List ℕ) (fault : FsError) : Type 0 where
     pub mid : Fs D
-    pub ready : IsReady old mid d head n k name
+    pub ready : IsDraftedNew old mid d head n k name
     pub turns : TurnsDown state mid new fault
     pub table : new.handles ≡ mid.handles
 

@@ -5,7 +5,7 @@ use Rattle.lfs_model.specs.Device.{DeviceState}
 use Rattle.lfs_files.specs.declared.header.Header.{Header}
 use Rattle.lfs_store.specs.memory.declared.changes.Changes.{Changes}
 use Rattle.lfs_store.specs.log.verify.declared.totals.BlockTotals.{BlockTotals}
-use Rattle.lfs_store.specs.Making.{Removes, SetsLinks, relinked}
+use Rattle.lfs_store.specs.Making.{DraftsRemoval, SetsLinks, relinked}
 use Rattle.lfs_store.specs.Recounting.{Counts, CountsRelinked}
 use Rattle.lfs_path.specs.Pieces.{is_dots}
 use Rattle.lfs_fs.specs.declared.error.FsError.{FsError}
@@ -55,7 +55,7 @@ module _ {D : Type 0} (state : D → DeviceState) where
 
   -- Object n is gone in the draft.
   pub record LosesObject (old new : Fs D) (n : ℕ) : Type 0 where
-    pub removes : Removes new.store.draft.changes n
+    pub removes : DraftsRemoval new.store.draft.changes n
     pub counts : Counts state old.store.log new.store.log old.store.draft.changes
         new.store.draft.changes old.store.drafted new.store.drafted
 
@@ -66,7 +66,7 @@ module _ {D : Type 0} (state : D → DeviceState) where
       pub gone : Changes
       pub linked : Changes
       pub half : BlockTotals
-      pub removes : Removes gone n
+      pub removes : DraftsRemoval gone n
       pub counts : Counts state old.store.log new.store.log old.store.draft.changes gone
           old.store.drafted half
       pub sets : SetsLinks gone linked d head (head.links - 1)

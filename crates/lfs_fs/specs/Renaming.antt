@@ -18,7 +18,7 @@ use Rattle.lfs_store.specs.memory.Present.{as_header}
 use Rattle.lfs_store.specs.log.Held.{Held, Holds}
 use Rattle.lfs_store.specs.log.verify.declared.totals.BlockTotals.{BlockTotals}
 use Rattle.lfs_store.specs.Drafting.{IsApart}
-use Rattle.lfs_store.specs.Making.{Removes, SetsLinks, relinked}
+use Rattle.lfs_store.specs.Making.{DraftsRemoval, SetsLinks, relinked}
 use Rattle.lfs_store.specs.Recounting.{Counts, CountsRelinked}
 use Rattle.lfs_store.specs.Writing.{TakesWrite}
 use Rattle.lfs_files.specs.Files.{WritesFile}
@@ -27,7 +27,7 @@ use Rattle.lfs_path.specs.dirs.Repointing.{RepointsName}
 use Rattle.lfs_path.specs.dirs.Taking.{shrunk}
 use Rattle.lfs_fs.specs.Drafted.{Adds}
 use Rattle.lfs_fs.specs.Unlinking.{LosesLink, TakesOut}
-use Rattle.lfs_fs.specs.Accepting.{Stages, TurnsDown}
+use Rattle.lfs_fs.specs.Accepting.{StagesDraft, TurnsDown}
 use Rattle.lfs_fs.specs.Naming.{DraftsNone}
 use Rattle.lfs_path.specs.declared.last.Last.{Last}
 use Rattle.lfs_path.specs.dirs.Directory.{names_at}
@@ -156,9 +156,9 @@ InRange None = Unit {0}
 InRange (Some o) = (1 ≤ o.number) × (o.number ≤ 4095)
 
 -- what was found is this object
-abbrev pub Gives : Option Object → ℕ → Bool
-Gives None n = false
-Gives (Some o) n = o.number == n
+abbrev pub GivesName : Option Object → ℕ → Bool
+GivesName None n = false
+GivesName (Some o) n = o.number == n
 
 -- the first directory has a directory less: one goes to another directory, or takes the place of one
 abbrev pub loses_directory : Source → Target → Bool
@@ -276,14 +276,14 @@ module _ {D : Type 0} (state : D → DeviceState) where
   -- The object isn't what it replaces, nor within itself, and what it replaces may be replaced.
   pub record ChecksRename (old new : Fs D) (da : ℕ) (na : List ℕ) (ea : Bool) (chain nb : List ℕ) (eb : Bool) (source : Source) (target : Target) : Type 0 where
     pub both : FindsBoth old new da na ea (here chain) nb eb source target
-    pub other : Gives target.replaced source.object.number ≡ false
+    pub other : GivesName target.replaced source.object.number ≡ false
     pub apart : IsNotAbove chain source.object.number
     pub fits : FitsTarget source target
 
   -- nothing is left to do where both names give one object
   abbrev pub TakesRename : Fs D → Fs D → ℕ → List ℕ → Bool → List ℕ → List ℕ → Bool → Option (Source × Target) → Type 0
   TakesRename old new da na ea chain nb eb None = (source : Source) × (target : Target)
-      × FindsBoth old new da na ea (here chain) nb eb source target × (Gives target.replaced source.object.number ≡ true)
+      × FindsBoth old new da na ea (here chain) nb eb source target × (GivesName target.replaced source.object.number ≡ true)
   TakesRename old new da na ea chain nb eb (Some p) = ChecksRename old new da na ea chain nb eb p.0 p.1
 
   -- Why a rename is refused: for the first name, for the second, or for what both give.
@@ -291,9 +291,9 @@ module _ {D : Type 0} (state : D → DeviceState) where
     of_first : RefusesSource old new da na ea fault → RefusesRename old new da na ea chain nb eb fault
     of_second : (source : Source) → FindsSource old new da na ea source → RefusesNext old new (here chain) nb eb source.object.header.kind fault
         → RefusesRename old new da na ea chain nb eb fault
-    of_within : (source : Source) (target : Target) → FindsBoth old new da na ea (here chain) nb eb source target → Gives target.replaced source.object.number ≡ false
+    of_within : (source : Source) (target : Target) → FindsBoth old new da na ea (here chain) nb eb source target → GivesName target.replaced source.object.number ≡ false
         → IsAbove chain source.object.number → fault ≡ error.Inval → RefusesRename old new da na ea chain nb eb fault
-    of_target : (source : Source) (target : Target) → FindsBoth old new da na ea (here chain) nb eb source target → Gives target.replaced source.object.number ≡ false
+    of_target : (source : Source) (target : Target) → FindsBoth old new da na ea (here chain) nb eb source target → GivesName target.replaced source.object.number ≡ false
         → IsNotAbove chain source.object.number → RefusesTarget source target fault → RefusesRename old new da na ea chain nb eb fault
 
   -- ---- the directories of both paths
@@ -314,7 +314,7 @@ module _ {D : Type 0} (state : D → DeviceState) where
 
   -- What is replaced is gone with all its blocks.
   pub record DropsObject (old new : Fs D) (n : ℕ) : Type 0 where
-    pub removes : Removes new.store.draft.changes n
+    pub removes : DraftsRemoval new.store.draft.changes n
     pub counts : Counts state old.store.log new.store.log old.store.draft.changes new.store.draft.changes old.store.drafted new.store.drafted
 
   -- a directory goes, and another object has a link less
@@ -401,7 +401,7 @@ module _ {D : Type 0} (state : D → DeviceState) where
   pub record MovesEntry (old new : Fs D) (source : Source) (target : Target) : Type 0 where
     pub mid : Fs D
     pub ready : IsMoveReady old mid source target
-    pub stages : Stages state mid new
+    pub stages : StagesDraft state mid new
     pub table : new.handles ≡ mid.handles
 
   -- It isn't, where it was drafted.

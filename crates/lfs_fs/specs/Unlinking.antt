@@ -17,7 +17,7 @@ use Rattle.lfs_store.specs.memory.Present.{as_header}
 use Rattle.lfs_store.specs.log.Held.{Held, Holds, Reads}
 use Rattle.lfs_store.specs.log.verify.declared.totals.BlockTotals.{BlockTotals}
 use Rattle.lfs_store.specs.Drafting.{IsApart}
-use Rattle.lfs_store.specs.Making.{Removes, SetsLinks}
+use Rattle.lfs_store.specs.Making.{DraftsRemoval, SetsLinks}
 use Rattle.lfs_store.specs.Recounting.{AreTotals, Counts, CountsRelinked}
 use Rattle.lfs_path.specs.dirs.Directory.{names_at}
 use Rattle.lfs_path.specs.dirs.Taking.{CutsSlot, TakesName}
@@ -86,16 +86,16 @@ module _ {D : Type 0} (state : D → DeviceState) where
     pub apart : (k : ℕ) → IsApart new.store.draft.changes.loss k
 
   -- It is gone, since it had no other, and no handle is open on it.
-  pub record Goes (old new : Fs D) (n : ℕ) (object : Header) : Type 0 where
+  pub record GoesWhole (old new : Fs D) (n : ℕ) (object : Header) : Type 0 where
     pub last : object.links ≤ 1
     pub shut : opened (handles_of old.handles.numbers.items) n ≡ 0
-    pub removes : Removes new.store.draft.changes n
+    pub removes : DraftsRemoval new.store.draft.changes n
     pub apart : (k : ℕ) → k ≢ n → IsApart new.store.draft.changes.loss k
     pub counts : Counts state old.store.log new.store.log old.store.draft.changes
         new.store.draft.changes old.store.drafted new.store.drafted
 
   abbrev pub LosesLink : Fs D → Fs D → ℕ → Header → Type 0
-  LosesLink old new n object = Relinks old new n object ⊎ Goes old new n object
+  LosesLink old new n object = Relinks old new n object ⊎ GoesWhole old new n object
 
   -- ---- and its name goes
 

@@ -14,13 +14,15 @@ use crate::fs::Fs;
 use lfs_device::SectorDevice;
 
 impl<D: SectorDevice> Fs<D> {
-    /// Closes a handle, which is free then. With its last handle a file without a name goes for good (POSIX.1-2017, close). It takes no memory.
+    /// Closes a handle, which is free then. With its last handle a file without a name goes for
+    /// good (POSIX.1-2017, close). It takes no memory.
     ///
     /// # Errors
     ///
     /// `BadHandle` where no such handle is open.
     pub fn close(&mut self, handle: u32) -> Result<(), FsError>
-        ensures { Serves D.SectorDevice.state (seen self.old) (seen self.new) (Close handle) (answer_by (λ _. Done) result) }
+        ensures { Serves D.SectorDevice.state (seen self.old) (seen self.new) (Close handle)
+            (answer_by (λ _. Done) result) }
     {
         match self.begin() {
             Ok(()) => {}
@@ -46,7 +48,8 @@ impl<D: SectorDevice> Fs<D> {
         requires empty { IsNoChange self.old.store.draft.changes }
         ensures { find nat_cmp handle (handles_of self.old.handles.numbers.items) ≡ Some number
             → opened (without nat_cmp handle (handles_of self.old.handles.numbers.items)) number ≡ 0
-            → Serves D.SectorDevice.state (seen self.old) (seen self.new) (Close handle) (answer_by (λ _. Done) result) }
+            → Serves D.SectorDevice.state (seen self.old) (seen self.new) (Close handle)
+            (answer_by (λ _. Done) result) }
     {
         let header = match self.header(number) {
             Ok(header) => header,

@@ -8,7 +8,8 @@ use lfs_path::WalkFault;
 use lfs_store::{LogFault, StoreFault};
 use std::alloc::AllocError;
 
-/// Why a call of a mounted volume is refused. After all but `Halted` the tree and the handles are as before.
+/// Why a call of a mounted volume is refused. After all but `Halted` the tree and the handles are
+/// as before.
 #[derive(Clone, Copy, Debug, PartialEq, Eq)]
 pub enum FsError {
     /// A name isn't there, or a path is empty.

@@ -5,7 +5,7 @@ ghost use Rattle.std.specs.Ordering.{nat_cmp};
 ghost use Rattle.lfs_store.specs.cleaner.Room.{IsAtRest};
 ghost use Rattle.lfs_store.specs.memory.Batch.{room_for};
 ghost use Rattle.lfs_fs.specs.Handles.{handles_of};
-ghost use Rattle.lfs_fs.specs.Accepting.{Stages, TurnsDown};
+ghost use Rattle.lfs_fs.specs.Accepting.{StagesDraft, TurnsDown};
 ghost use Rattle.lfs_fs.specs.Seen.{Begins, FindsHeader, OnlyReads, GivesNone, HasHeader, LacksAnswer, LacksHeader};
 
 use crate::error::FsError;
@@ -125,11 +125,12 @@ impl<D: SectorDevice> Fs<D> {
         }
     }
 
-    /// Makes the drafted changes whole, where the volume has the space for them. Commits come before the changes, never within.
+    /// Makes the drafted changes whole, where the volume has the space for them. Commits come
+    /// before the changes, never within.
     pub(crate) fn accept(&mut self) -> Result<(), FsError>
         requires running { self.old.store.log.halted ≡ false }
         requires room { room_for self.old.store.draft.changes ≤ 456 }
-        ensures done { OnOk result (Stages D.SectorDevice.state self.old self.new) }
+        ensures done { OnOk result (StagesDraft D.SectorDevice.state self.old self.new) }
         ensures refused { IfErr result (TurnsDown D.SectorDevice.state self.old self.new) }
         ensures fits { IfErr result (λ fault. fault ≡ FsError.NoMemory
             → (self.old.store.saved ≡ true → IsAtRest self.old.store.log) → ⊥) }

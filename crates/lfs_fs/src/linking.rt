@@ -23,8 +23,9 @@ impl<D: SectorDevice> Fs<D> {
     ///
     /// # Errors
     ///
-    /// In this order: of the text `NoEntry` where it is empty, `NameTooLong` above 1,023 bytes, `Inval` where it has a
-    /// zero byte; those of the path; of the new name as those of `create`; `NoNumber`; `NoSpace`.
+    /// In this order: of the text `NoEntry` where it is empty, `NameTooLong` above 1,023 bytes,
+    /// `Inval` where it has a zero byte; those of the path; of the new name as those of `create`;
+    /// `NoNumber`; `NoSpace`.
     pub fn symlink(&mut self, text: &[u8], path: &[u8]) -> Result<(), FsError>
         ensures { Serves D.SectorDevice.state (seen self.old) (seen self.new)
             (Symlink text.now path.now) (answer_by (λ _. Done) result) }

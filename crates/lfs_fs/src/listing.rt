@@ -16,7 +16,8 @@ use lfs_path::tree::resolve;
 use lfs_store::Header;
 
 impl<D: SectorDevice> Fs<D> {
-    /// The entries of the directory of a path, ordered by the names' bytes, without dot and dot-dot (POSIX.1-2017, readdir).
+    /// The entries of the directory of a path, ordered by the names' bytes, without dot and dot-dot
+    /// (POSIX.1-2017, readdir).
     ///
     /// # Errors
     ///

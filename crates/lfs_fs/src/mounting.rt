@@ -11,13 +11,15 @@ use lfs_tree::verify_tree;
 use std::alloc::Global;
 
 impl<D: SectorDevice> Fs<D> {
-    /// Mounts the device's volume, without open handles, once its log and its tree were walked over. It writes nothing.
+    /// Mounts the device's volume, without open handles, once its log and its tree were walked
+    /// over. It writes nothing.
     ///
     /// # Errors
     ///
-    /// With the device: `TooSmall` below 4,098 sectors, `NoCheckpoint`, `TooSmall` where the volume has more sectors than
-    /// the device, `Damaged` with the first of the stages 1 to 15 that fails, where what the checkpoint leads to is no tree or too few
-    /// segments are clean; `NoMemory` and `Device` for their causes.
+    /// With the device: `TooSmall` below 4,098 sectors, `NoCheckpoint`, `TooSmall` where the volume
+    /// has more sectors than the device, `Damaged` with the first of the stages 1 to 15 that fails,
+    /// where what the checkpoint leads to is no tree or too few segments are clean; `NoMemory` and
+    /// `Device` for their causes.
     pub fn mount(alloc: Global, device: D) -> Result<Fs<D>, (MountFault, D)>
         ensures mounts { IfOk result (λ fs. MountsFs D.SectorDevice.state device fs) }
         ensures only { IfOk result (λ fs. FindsState D.SectorDevice.state device fs) }

@@ -72,7 +72,8 @@ impl<D: SectorDevice> Fs<D> {
         }
     }
 
-    /// Drafts another name of an object. What it replaces goes first, since a draft's loss is its first change.
+    /// Drafts another name of an object. What it replaces goes first, since a draft's loss is its
+    /// first change.
     fn draft_move(&mut self, source: Source<'_>, target: Target<'_>) -> Result<(), FsError>
         requires may { MayMove source target }
         requires running { self.old.store.log.halted ≡ false }
@@ -97,7 +98,8 @@ impl<D: SectorDevice> Fs<D> {
         self.draft_target(target, holder, source.object.number)
     }
 
-    /// Drafts what comes before the names: what is replaced, and the links of both directories. Gives their headers.
+    /// Drafts what comes before the names: what is replaced, and the links of both directories.
+    /// Gives their headers.
     fn draft_links(
         &mut self,
         source: Source<'_>,
@@ -152,7 +154,8 @@ impl<D: SectorDevice> Fs<D> {
         }
     }
 
-    /// Drafts a link less for what is replaced: without one it goes, unless a handle is open on it. A directory goes.
+    /// Drafts a link less for what is replaced: without one it goes, unless a handle is open on it.
+    /// A directory goes.
     pub(crate) fn drop_replaced(&mut self, replaced: Option<Object>) -> Result<(), FsError>
         requires range { InRange replaced }
         requires running { self.old.store.log.halted ≡ false }
@@ -228,7 +231,8 @@ impl<D: SectorDevice> Fs<D> {
         }
     }
 
-    /// Drafts a name that gives this number, in a directory of this header: one more, or in place of one that is there.
+    /// Drafts a name that gives this number, in a directory of this header: one more, or in place
+    /// of one that is there.
     pub(crate) fn draft_target(
         &mut self,
         target: Target<'_>,
@@ -376,7 +380,8 @@ pub(crate) fn is_directory(kind: Kind) -> bool
     }
 }
 
-/// Whether the first directory has a directory less: one goes to another directory, or takes the place of one.
+/// Whether the first directory has a directory less: one goes to another directory, or takes the
+/// place of one.
 fn loses_directory(source: Source<'_>, target: Target<'_>) -> bool
     ensures { result ≡ loses_of source.entry target.entry }
 {
@@ -411,7 +416,8 @@ fn more_links(gains: bool, links: u32) -> u32
     if gains { links + 1 } else { links }
 }
 
-/// The header of the second directory behind the loss of a name: where it is the first, it is a slot shorter.
+/// The header of the second directory behind the loss of a name: where it is the first, it is a
+/// slot shorter.
 fn later_holder(first: u16, second: u16, from: Header, to: Header) -> Header
     ensures { result ≡ (if first == second then shrunk from else to) }
 {

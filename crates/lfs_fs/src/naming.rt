@@ -70,11 +70,13 @@ impl<D: SectorDevice> Fs<D> {
         Ok(handle)
     }
 
-    /// Makes an empty file, and gives a handle on it: the least that is free (POSIX.1-2017, open with O_CREAT and O_EXCL).
+    /// Makes an empty file, and gives a handle on it: the least that is free (POSIX.1-2017, open
+    /// with O_CREAT and O_EXCL).
     ///
     /// # Errors
     ///
-    /// In this order: those of the path; of the new name `Exist`, `NameTooLong`, `Exist`, `NoEntry` where a slash follows it, `DirFull`;
+    /// In this order: those of the path; of the new name `Exist`, `NameTooLong`, `Exist`, `NoEntry`
+    /// where a slash follows it, `DirFull`;
     /// `TooManyOpen`; `NoNumber`; `NoSpace`.
     pub fn create(&mut self, path: &[u8]) -> Result<u32, FsError>
         ensures { Serves D.SectorDevice.state (seen self.old) (seen self.new) (Create path.now)
@@ -129,8 +131,9 @@ impl<D: SectorDevice> Fs<D> {
     ///
     /// # Errors
     ///
-    /// In this order: those of the path; of the new name `Exist`, `NameTooLong`, `Exist`, `DirFull`;
-    /// `TooManyLinks` where the directory that is to have it has 1,000 links; `NoNumber`; `NoSpace`.
+    /// In this order: those of the path; of the new name `Exist`, `NameTooLong`, `Exist`,
+    /// `DirFull`; `TooManyLinks` where the directory that is to have it has 1,000 links;
+    /// `NoNumber`; `NoSpace`.
     pub fn mkdir(&mut self, path: &[u8]) -> Result<(), FsError>
         ensures { Serves D.SectorDevice.state (seen self.old) (seen self.new) (Mkdir path.now)
             (answer_by (λ _. Done) result) }
@@ -199,8 +202,8 @@ impl<D: SectorDevice> Fs<D> {
         }
     }
 
-    /// The rule of a new entry of a directory, whose header it gives. A slash may follow the name of a
-    /// directory that is to be made.
+    /// The rule of a new entry of a directory, whose header it gives. A slash may follow the name
+    /// of a directory that is to be made.
     pub(crate) fn check_new_entry(
         &mut self,
         directory: u16,

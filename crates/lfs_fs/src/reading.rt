@@ -29,7 +29,8 @@ const LONGEST_TEXT: u32 = 1_023;
 const NUMBERS: u16 = 4_096;
 
 impl<D: SectorDevice> Fs<D> {
-    /// The bytes of a file from `offset` on, at most `len`; none at or past its end (POSIX.1-2017, pread).
+    /// The bytes of a file from `offset` on, at most `len`; none at or past its end (POSIX.1-2017,
+    /// pread).
     ///
     /// # Errors
     ///
@@ -96,7 +97,8 @@ impl<D: SectorDevice> Fs<D> {
         self.status(path, true)
     }
 
-    /// The same, where the last piece of the path may be a link that isn't followed (POSIX.1-2017, lstat).
+    /// The same, where the last piece of the path may be a link that isn't followed (POSIX.1-2017,
+    /// lstat).
     ///
     /// # Errors
     ///
@@ -200,7 +202,8 @@ impl<D: SectorDevice> Fs<D> {
         Ok(self.space_of(self.store.drafted))
     }
 
-    /// Each entry of each directory, ordered by the directory's number and then by the name's bytes.
+    /// Each entry of each directory, ordered by the directory's number and then by the name's
+    /// bytes.
     ///
     /// # Errors
     ///

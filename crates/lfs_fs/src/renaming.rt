@@ -5,7 +5,7 @@ ghost use Rattle.lfs_store.specs.memory.Batch.{IsNoChange};
 ghost use Rattle.lfs_fs.specs.Naming.{Reaches};
 ghost use Rattle.lfs_fs.specs.Seen.{OnlyReads, answer_by, seen};
 ghost use Rattle.lfs_fs.specs.Volume.{Mounted, Serves};
-ghost use Rattle.lfs_fs.specs.Renaming.{FailsWhere, FindsName, FindsObject, FindsSource, FindsTarget, FitsReplaced, FitsRoom, FitsTarget, Gives, IsAbove, IsNotAbove, IsObject, MayLook, ReachesBoth, RefusesNext, RefusesRename, RefusesReplaced, RefusesRoom, RefusesSource, RefusesTarget, TakesRename, is_directory as holds_names};
+ghost use Rattle.lfs_fs.specs.Renaming.{FailsWhere, FindsName, FindsObject, FindsSource, FindsTarget, FitsReplaced, FitsRoom, FitsTarget, GivesName, IsAbove, IsNotAbove, IsObject, MayLook, ReachesBoth, RefusesNext, RefusesRename, RefusesReplaced, RefusesRoom, RefusesSource, RefusesTarget, TakesRename, is_directory as holds_names};
 
 use crate::error::FsError;
 use crate::fs::Fs;
@@ -32,7 +32,7 @@ const MOST_LINKS: u32 = 1_000;
 const LAST_NUMBER: u16 = 4_095;
 
 impl<D: SectorDevice> Fs<D> {
-    /// Gives an object another name, in any directory; what has that name loses it (POSIX.1-2017,
+    /// GivesName an object another name, in any directory; what has that name loses it (POSIX.1-2017,
     /// rename).
     ///
     /// # Errors
@@ -156,7 +156,8 @@ impl<D: SectorDevice> Fs<D> {
         ensures reads { OnlyReads D.SectorDevice.state self.old self.new }
         ensures found { IfOk result (FindsSource D.SectorDevice.state self.old self.new directory
             last.entry.name.now last.entry.slash) }
-        ensures refused { IfErr result (RefusesSource D.SectorDevice.state self.old self.new directory
+        ensures refused { IfErr result
+            (RefusesSource D.SectorDevice.state self.old self.new directory
             last.entry.name.now last.entry.slash) }
     {
         if last.name.len() > LONGEST_NAME {
@@ -279,7 +280,7 @@ fn lacks_directory(slash: bool, kind: Kind) -> bool
 
 /// Whether an object of this number was found.
 fn is_object(found: Option<Object>, number: u16) -> bool
-    ensures { result ≡ Gives found number }
+    ensures { result ≡ GivesName found number }
 {
     match found {
         Some(object) => object.number == number,

@@ -8,7 +8,8 @@ use crate::fs::Fs;
 use lfs_device::SectorDevice;
 
 impl<D: SectorDevice> Fs<D> {
-    /// Saves the whole volume: after Ok every call before this one survives a stop (POSIX.1-2017, sync). Where all is saved nothing is written.
+    /// Saves the whole volume: after Ok every call before this one survives a stop (POSIX.1-2017,
+    /// sync). Where all is saved nothing is written.
     ///
     /// # Errors
     ///
@@ -33,7 +34,8 @@ impl<D: SectorDevice> Fs<D> {
     ///
     /// `BadHandle` where no such handle is open; else as those of `sync`.
     pub fn fsync(&mut self, handle: u32) -> Result<(), FsError>
-        ensures { Serves D.SectorDevice.state (seen self.old) (seen self.new) (Fsync handle) (answer_by (λ _. Done) result) }
+        ensures { Serves D.SectorDevice.state (seen self.old) (seen self.new) (Fsync handle)
+            (answer_by (λ _. Done) result) }
     {
         match self.begin() {
             Ok(()) => {}

@@ -17,11 +17,13 @@ use lfs_device::SectorDevice;
 const LARGEST_FILE: u64 = 8_511_488;
 
 impl<D: SectorDevice> Fs<D> {
-    /// Puts bytes into a file at `offset`, all or none, and gives their number. A gap is filled with zeros (POSIX.1-2017, pwrite).
+    /// Puts bytes into a file at `offset`, all or none, and gives their number. A gap is filled
+    /// with zeros (POSIX.1-2017, pwrite).
     ///
     /// # Errors
     ///
-    /// In this order: `BadHandle`; `Inval` above 65,536 bytes; `FileTooBig` where they would end past 8,511,488; `NoSpace`.
+    /// In this order: `BadHandle`; `Inval` above 65,536 bytes; `FileTooBig` where they would end
+    /// past 8,511,488; `NoSpace`.
     pub fn pwrite(&mut self, handle: u32, offset: u64, bytes: &[u8]) -> Result<u32, FsError>
         ensures { Serves D.SectorDevice.state (seen self.old) (seen self.new)
             (Pwrite handle offset bytes.now) (answer_by Count result) }

@@ -1,4 +1,5 @@
-//! Volumes with too few clean segments, by hand: a file's blocks are moved, each to a clean segment of its own.
+//! Volumes with too few clean segments, by hand: a file's blocks are moved, each to a clean segment
+//! of its own.
 ghost use Rattle.std.specs.Prelude.{◌<◌, ◌≤◌};
 
 use crate::damage::{Damage, damage_each, fault};
@@ -15,8 +16,9 @@ const BLOCKS: u8 = 56;
 /// The file's inode.
 const FILE: &[u8] = b"\x01\0\0\0\x02\0\0\0";
 
-/// The usage block: the first segment is clean, and the next has the chunk of the one commit. Its 61 blocks are the 56 of the file,
-/// one of the root, two inodes, a block of the inode map and this one.
+/// The usage block: the first segment is clean, and the next has the chunk of the one commit. Its
+/// 61 blocks are the 56 of the file, one of the root, two inodes, a block of the inode map and this
+/// one.
 const USAGE: &[u8] = b"\0\0\0\0\0\0\0\0\x3e\0\x3d\0";
 
 /// The device of a volume of 64 segments with the file `/f`, saved.
@@ -59,7 +61,8 @@ fn sector_with(device: &mut MemDevice, start: &[u8]) -> Result<u32, Fail> {
     Err(Fail::from("no sector starts so"))
 }
 
-/// Writes a block of the file behind a summary at the start of a segment, and points the inode there.
+/// Writes a block of the file behind a summary at the start of a segment, and points the inode
+/// there.
 fn move_block(
     device: &mut MemDevice,
     inode: &mut [u8; 512],

@@ -152,8 +152,8 @@ fn unreadable_sectors_are_refused_by_stage(rt: HostRuntime) -> Result<(), Fail> 
             None => {}
         }
     }
-    // The usage block, its summary, the block of the inode map, two inodes, and a block of the root and of the file;
-    // nothing points at the first segment any more.
+    // The usage block, its summary, the block of the inode map, two inodes, and a block of the root
+    // and of the file; nothing points at the first segment any more.
     assert!(rt; counts == [0, 1, 1, 1, 2, 0, 0, 2, 0, 0]);
     Ok(())
 }

@@ -61,8 +61,8 @@ fn is_well(alloc: Global, store: &mut Store<MemDevice>, step: Step) -> Result<bo
     }
 }
 
-/// The place of the first step that goes otherwise, over a root whose names `i` down to `a` give 2 to 10, eight of them
-/// in its first block.
+/// The place of the first step that goes otherwise, over a root whose names `i` down to `a` give 2
+/// to 10, eight of them in its first block.
 fn first_wrong(alloc: Global, steps: &[Step]) -> Result<Option<usize>, Fail> {
     let mut store = store_with(alloc, b"ihgfedcba")?;
     for (place, step) in steps.iter().enumerate() {

@@ -130,7 +130,8 @@ fn the_other_slot_is_mounted(rt: HostRuntime) -> Result<(), Fail> {
     Ok(())
 }
 
-/// Makes files one after the other, with a sync and a new mount behind each so many of them: the device then.
+/// Makes files one after the other, with a sync and a new mount behind each so many of them: the
+/// device then.
 fn files_made(alloc: Global, segments: u32, count: u16, each: u16) -> Result<MemDevice, Fail>
     requires volume { segments ≤ 1024 }
     requires some { 0 < each }
@@ -158,7 +159,8 @@ fn make_file(fs: &mut Fs<MemDevice>, file: u16) -> Result<(), FsError> {
 
 #[test]
 fn segments_never_run_out(rt: HostRuntime) -> Result<(), Fail> {
-    // Each file's inode goes to a segment of its own, and there are 64: the cleaner brings them together.
+    // Each file's inode goes to a segment of its own, and there are 64: the cleaner brings them
+    // together.
     let device = files_made(rt.alloc(), 64, 60, 1)?;
     let steps = [Step::Clean(Ok(())), Step::Count(60)];
     assert_eq!(rt; first_wrong(rt.alloc(), device, &steps)?, None);

@@ -17,7 +17,8 @@ fn make_files(store: &mut Store<MemDevice>) -> Result<(), Fail> {
     Ok(())
 }
 
-/// The place of the first path that gives something else, where the root names file 2 `a` and file 3 `b`.
+/// The place of the first path that gives something else, where the root names file 2 `a` and file
+/// 3 `b`.
 fn first_wrong(
     alloc: Global,
     rows: &[(&[u8], Result<u16, WalkFault>)],

@@ -11,8 +11,8 @@ fn saves_a(fs: &mut Fs<MemDevice>) -> Result<bool, FsError> {
     Ok(fs.sync().is_ok())
 }
 
-/// The number of entries after `create /a` and `sync` on a device that stops within this write, whose unsynced sectors
-/// are then left so; and how many writes were begun.
+/// The number of entries after `create /a` and `sync` on a device that stops within this write,
+/// whose unsynced sectors are then left so; and how many writes were begun.
 fn entries_after_stop(alloc: Global, write: u64, left: Left) -> Result<(usize, u64), Fail> {
     let mut device = formatted(alloc, 64)?;
     device.stop_at(write);

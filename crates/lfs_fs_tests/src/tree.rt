@@ -77,7 +77,8 @@ fn tree_of(alloc: Global, objects: &[(u16, &[u8], Object)]) -> Result<Box<Store<
     Ok(store)
 }
 
-/// The directory `d` (2) with the directory `x` (3) with the file `f` (4), and links in the root and in `d`.
+/// The directory `d` (2) with the directory `x` (3) with the file `f` (4), and links in the root
+/// and in `d`.
 fn small_tree(alloc: Global) -> Result<Box<Store<MemDevice>>, Fail> {
     tree_of(
         alloc,

@@ -16,7 +16,7 @@ use Rattle.lfs_model.proofs.Sums.{T_left, T_right}
 use Rattle.lfs_model.proofs.Trees.{cmp_same, cmp_other}
 use Rattle.lfs_model.specs.Staging.{ChangesTo}
 use Rattle.lfs_inodes.specs.Code.{code, entry_at, IsCode}
-use Rattle.lfs_inodes.specs.Blocks.{Blocks, blocks_in, number_at, IsAt, IsGapFor, altered_as, altered}
+use Rattle.lfs_inodes.specs.Blocks.{Blocks, blocks_in, number_at, HasNumberAt, IsGapFor, altered_as, altered}
 use Rattle.lfs_inodes.proofs.Codes.{code_entry, entry_of_code}
 
 -- ---- comparisons
@@ -74,7 +74,7 @@ find_at_first (e ∷ es) c zero lt is before = find_first e es c is
 find_at_first (e ∷ es) c (suc i) lt is before =
     find_more e es c (λ h. let b = before 0 (omega arith) in omega arith) ∙ find_at_first es c i (omega arith) is (λ j l. before (suc j) (omega arith))
 
-module _ (es : Blocks) (sorted : T (is_sorted nat_cmp es)) (c i : ℕ) (is : IsAt es c i) where
+module _ (es : Blocks) (sorted : T (is_sorted nat_cmp es)) (c i : ℕ) (is : HasNumberAt es c i) where
   pub lower : (j : ℕ) → j < i → number_at es j < c
   lower j lt = let r = rises es sorted j i lt is.within in let n = is.number in omega arith
 
@@ -92,7 +92,7 @@ put_at_first (e ∷ es) c v zero lt is before =
 put_at_first (e ∷ es) c v (suc i) lt is before =
     order_more c v e es (before 0 (omega arith)) ∙ ap (λ (xs : Blocks). e ∷ xs) (put_at_first es c v i (omega arith) is (λ j l. before (suc j) (omega arith)))
 
-pub put_at : (es : Blocks) → T (is_sorted nat_cmp es) → (c : ℕ) (v : List ℕ) (i : ℕ) → IsAt es c i → put nat_cmp c v es ≡ set es i (c, v)
+pub put_at : (es : Blocks) → T (is_sorted nat_cmp es) → (c : ℕ) (v : List ℕ) (i : ℕ) → HasNumberAt es c i → put nat_cmp c v es ≡ set es i (c, v)
 put_at es sorted c v i is = put_at_first es c v i is.within is.number (lower es sorted c i is)
 
 put_gap_at : (es : Blocks) (c : ℕ) (v : List ℕ) (i : ℕ) → i ≤ length es → ((j : ℕ) → j < i → number_at es j < c) → ((j : ℕ) → i ≤ j → j < length es → c < number_at es j) → put nat_cmp c v es ≡ insert es i (c, v)
@@ -130,7 +130,7 @@ without_at_place (e ∷ es) c (suc i) h lt is =
     without_more e es c (λ same. let r = rises (e ∷ es) h 0 (suc i) (omega arith) lt in let s : number_at es i ≡ c = is in omega arith)
     ∙ ap (λ (xs : Blocks). e ∷ xs) (without_at_place es c i (T_right (below_all nat_cmp e.0 es) _ h) (omega arith) is)
 
-pub without_at : (es : Blocks) → T (is_sorted nat_cmp es) → (c i : ℕ) → IsAt es c i → without nat_cmp c es ≡ remove es i
+pub without_at : (es : Blocks) → T (is_sorted nat_cmp es) → (c i : ℕ) → HasNumberAt es c i → without nat_cmp c es ≡ remove es i
 without_at es sorted c i is = without_at_place es c i sorted is.within is.number
 
 -- ---- the order stays

@@ -7,7 +7,7 @@ use Rattle.lfs_model.specs.Entry.{Entry}
 use Rattle.lfs_model.specs.Memory.{IsPointers, HasPointer}
 use Rattle.lfs_model.specs.Running.{IsTight}
 use Rattle.lfs_inodes.specs.Code.{code, entry_at, IsCode}
-use Rattle.lfs_inodes.specs.Blocks.{Blocks, TableValue, blocks_of, number_at, IsAt}
+use Rattle.lfs_inodes.specs.Blocks.{Blocks, TableValue, blocks_of, number_at, HasNumberAt}
 use Rattle.lfs_inodes.proofs.Blocks.{find_more}
 use Rattle.lfs_inodes.proofs.Codes.{entry_of_code}
 
@@ -23,7 +23,7 @@ place_of (e ∷ es) c v found = ⊎_elim
 abbrev pub LeadsAt : TableValue → ℕ → Type 0
 LeadsAt t j = (x : Entry) (b : List ℕ) → number_at t.blocks j ≡ code x → blocks_of t x ≡ Some b → IsPointers x → HasPointer b
 
-pub leads_at : (t : TableValue) (j c : ℕ) → IsCode c → IsAt t.blocks c j → ((b : List ℕ) → blocks_of t (entry_at c) ≡ Some b → IsPointers (entry_at c) → HasPointer b) → LeadsAt t j
+pub leads_at : (t : TableValue) (j c : ℕ) → IsCode c → HasNumberAt t.blocks c j → ((b : List ℕ) → blocks_of t (entry_at c) ≡ Some b → IsPointers (entry_at c) → HasPointer b) → LeadsAt t j
 leads_at t j c is at leads x b number there pointers =
     let same : x ≡ entry_at c = entry_of_code x c is (sym number ∙ at.number) in
     leads b (ap (blocks_of t) (sym same) ∙ there) (subst IsPointers same pointers)

@@ -10,8 +10,8 @@ use Rattle.std.proofs.lemmas.List.Edits.{length-insert, length-remove}
 use Rattle.lfs_model.specs.Tree.{without}
 use Rattle.lfs_inodes.specs.declared.table.Place.{Place}
 use Rattle.lfs_inodes.specs.Code.{IsCode}
-use Rattle.lfs_inodes.specs.Blocks.{Blocks, TableValue, number_at, altered_as, altered, IsAt, IsGapFor}
-use Rattle.lfs_inodes.specs.Held.{entry_in, entries_in, spots, times, one_below, IsHeld}
+use Rattle.lfs_inodes.specs.Blocks.{Blocks, TableValue, number_at, altered_as, altered, HasNumberAt, IsGapFor}
+use Rattle.lfs_inodes.specs.Held.{entry_in, entries_in, spots, times, one_below, IsTableOf}
 use Rattle.lfs_inodes.proofs.Blocks.{put_at, put_gap, without_at, sorted_put, sorted_without, find_at, find_gap}
 
 -- ---- how often a number stands in a list
@@ -91,7 +91,7 @@ number_is (q ∷ ps) bs (suc i) p lt is = number_is ps bs i p (omega arith) is
 low_if : (n s : ℕ) → 1 ≤ one_below n s → s < n
 low_if n s some = grind (arith, nat_tests)
 
-module _ (ps : List Place) (bs : List (List ℕ)) (spare : List ℕ) (most a b : ℕ) (h : IsHeld ps bs spare most a b) where
+module _ (ps : List Place) (bs : List (List ℕ)) (spare : List ℕ) (most a b : ℕ) (h : IsTableOf ps bs spare most a b) where
   pub few : length (entries_in ps bs) ≤ length bs
   few = let l = length-entries ps bs in let s = h.shared in omega arith
 
@@ -109,7 +109,7 @@ module _ (ps : List Place) (bs : List (List ℕ)) (spare : List ℕ) (most a b :
         cond_le : (s n : ℕ) → one_below n s ≤ 1
         cond_le s n = grind (arith, nat_tests)
 
-    module _ (c : ℕ) (at : IsAt (entries_in ps bs) c i) where
+    module _ (c : ℕ) (at : HasNumberAt (entries_in ps bs) c i) where
       key_is : p.key.code ≡ c
       key_is = ap (λ (e : ℕ × List ℕ). e.0) (sym place_is) ∙ at.number
 
@@ -120,7 +120,7 @@ module _ (ps : List Place) (bs : List (List ℕ)) (spare : List ℕ) (most a b :
           ∙ ap (λ (k : ℕ). set (entries_in ps bs) i (k, v)) key_is
           ∙ sym (put_at (entries_in ps bs) h.sorted c v i at)
 
-      pub held_written : (v : List ℕ) → IsHeld ps (set bs p.spot v) spare most a b
+      pub held_written : (v : List ℕ) → IsTableOf ps (set bs p.spot v) spare most a b
       held_written v =
           let l = length-set bs p.spot v in
           record {
@@ -138,7 +138,7 @@ module _ (ps : List Place) (bs : List (List ℕ)) (spare : List ℕ) (most a b :
       pub removed_is : entries_in (remove ps i) bs ≡ without nat_cmp c (entries_in ps bs)
       removed_is = map-remove (entry_in bs) ps i ∙ sym (without_at (entries_in ps bs) h.sorted c i at)
 
-      pub held_removed : (spare' : List ℕ) → spare' ≡ spare ++ p.spot ∷ [] → IsHeld (remove ps i) bs spare' most a b
+      pub held_removed : (spare' : List ℕ) → spare' ≡ spare ++ p.spot ∷ [] → IsTableOf (remove ps i) bs spare' most a b
       held_removed spare' now =
           let lr = length-remove ps i lt in
           let ls = ap length now ∙ length-append spare (p.spot ∷ []) in
@@ -186,7 +186,7 @@ module _ (ps : List Place) (bs : List (List ℕ)) (spare : List ℕ) (most a b :
           ∙ ap₂ (λ (es : Blocks) (x : List ℕ). insert es i (p.key.code, x)) (kept ps bs p.spot v unused) (get_or-set_same bs p.spot v [] spare_low)
           ∙ sym (put_gap (entries_in ps bs) p.key.code v i gap)
 
-      pub held_inserted : length ps < most → IsHeld (insert ps i p) (set bs p.spot v) spare' most a b
+      pub held_inserted : length ps < most → IsTableOf (insert ps i p) (set bs p.spot v) spare' most a b
       held_inserted more =
           let l = length-set bs p.spot v in
           let le = length-entries ps bs in
@@ -210,7 +210,7 @@ module _ (ps : List Place) (bs : List (List ℕ)) (spare : List ℕ) (most a b :
             room_for_spare = subst (λ (n : ℕ). n ≤ b) (sym l) h.room_for_spare;
           }
 
-pub wider : (ps : List Place) (bs : List (List ℕ)) (spare : List ℕ) (most a b a' b' : ℕ) → IsHeld ps bs spare most a b → a ≤ a' → b ≤ b' → IsHeld ps bs spare most a' b'
+pub wider : (ps : List Place) (bs : List (List ℕ)) (spare : List ℕ) (most a b a' b' : ℕ) → IsTableOf ps bs spare most a b → a ≤ a' → b ≤ b' → IsTableOf ps bs spare most a' b'
 wider ps bs spare most a b a' b' h more more_spare =
     let r = h.room in
     let s = h.room_for_spare in
@@ -238,19 +238,19 @@ small_value most ps bs t view = subst (λ (u : TableValue). (j : ℕ) → j < le
 pub codes_value : (most : ℕ) (ps : List Place) (bs : List (List ℕ)) (t : TableValue) → value_of most ps bs ≡ t → (j : ℕ) → j < length t.blocks → IsCode (number_at t.blocks j)
 codes_value most ps bs t view = subst (λ (u : TableValue). (j : ℕ) → j < length u.blocks → IsCode (number_at u.blocks j)) view (numbers_of_keys ps bs)
 
-pub at_value : (most : ℕ) (ps : List Place) (bs : List (List ℕ)) (t : TableValue) → value_of most ps bs ≡ t → (i : ℕ) (p : Place) → i < length ps → p ≡ get_or ps i p → IsAt t.blocks p.key.code i
+pub at_value : (most : ℕ) (ps : List Place) (bs : List (List ℕ)) (t : TableValue) → value_of most ps bs ≡ t → (i : ℕ) (p : Place) → i < length ps → p ≡ get_or ps i p → HasNumberAt t.blocks p.key.code i
 at_value most ps bs t view i p lt is =
     let l = length-entries ps bs in
-    subst (λ (u : TableValue). IsAt u.blocks p.key.code i) view
+    subst (λ (u : TableValue). HasNumberAt u.blocks p.key.code i) view
     (record { within = omega arith; number = ap (λ (e : ℕ × List ℕ). e.0) (number_is ps bs i p lt is) })
 
-module _ (ps : List Place) (bs : List (List ℕ)) (spare : List ℕ) (most a b : ℕ) (h : IsHeld ps bs spare most a b) (t : TableValue) (view : value_of most ps bs ≡ t) where
+module _ (ps : List Place) (bs : List (List ℕ)) (spare : List ℕ) (most a b : ℕ) (h : IsTableOf ps bs spare most a b) (t : TableValue) (view : value_of most ps bs ≡ t) where
   pub sorted_value : T (is_sorted nat_cmp t.blocks)
   sorted_value = subst (λ (u : TableValue). T (is_sorted nat_cmp u.blocks)) view h.sorted
 
-  module _ (c i : ℕ) (at : IsAt t.blocks c i) (p : Place) (is : p ≡ get_or ps i p) where
-    here : IsAt (entries_in ps bs) c i
-    here = subst (λ (u : TableValue). IsAt u.blocks c i) (sym view) at
+  module _ (c i : ℕ) (at : HasNumberAt t.blocks c i) (p : Place) (is : p ≡ get_or ps i p) where
+    here : HasNumberAt (entries_in ps bs) c i
+    here = subst (λ (u : TableValue). HasNumberAt u.blocks c i) (sym view) at
 
     inside : i < length ps
     inside = let l = length-entries ps bs in let w = here.within in omega arith
@@ -263,7 +263,7 @@ module _ (ps : List Place) (bs : List (List ℕ)) (spare : List ℕ) (most a b :
         subst (λ (u : TableValue). find nat_cmp c u.blocks ≡ Some (get_or bs p.spot [])) view
         (find_at (entries_in ps bs) h.sorted c i here ∙ ap (λ (e : ℕ × List ℕ). Some e.1) (place_is ps bs spare most a b h i p inside is))
 
-    pub held_at : (v : List ℕ) → IsHeld ps (set bs p.spot v) spare most a b
+    pub held_at : (v : List ℕ) → IsTableOf ps (set bs p.spot v) spare most a b
     held_at v = held_written ps bs spare most a b h i p inside is c here v
 
     pub put_value : (v : List ℕ) → value_of most ps (set bs p.spot v) ≡ record t { blocks = put nat_cmp c v t.blocks }
@@ -277,7 +277,7 @@ module _ (ps : List Place) (bs : List (List ℕ)) (spare : List ℕ) (most a b :
         ∙ ap (λ (w : List ℕ). record t { blocks = put nat_cmp c w t.blocks }) now
         ∙ ap (λ o. record t { blocks = altered_as o f c t.blocks }) (sym found_at)
 
-    pub held_left : (spare' : List ℕ) → spare' ≡ spare ++ p.spot ∷ [] → IsHeld (remove ps i) bs spare' most a b
+    pub held_left : (spare' : List ℕ) → spare' ≡ spare ++ p.spot ∷ [] → IsTableOf (remove ps i) bs spare' most a b
     held_left = held_removed ps bs spare most a b h i p inside is c here
 
     pub removed_value : value_of most (remove ps i) bs ≡ record t { blocks = without nat_cmp c t.blocks }
@@ -306,7 +306,7 @@ module _ (ps : List Place) (bs : List (List ℕ)) (spare : List ℕ) (most a b :
       pub low_spare : p.spot < length bs
       low_spare = spare_low ps bs spare most a b h spare' p was
 
-      pub held_put : (find nat_cmp c t.blocks ≡ None → length t.blocks < t.capacity.limit) → (v : List ℕ) → IsHeld (insert ps i p) (set bs p.spot v) spare' most a b
+      pub held_put : (find nat_cmp c t.blocks ≡ None → length t.blocks < t.capacity.limit) → (v : List ℕ) → IsTableOf (insert ps i p) (set bs p.spot v) spare' most a b
       held_put room v = held_inserted ps bs spare most a b h spare' p was i gap_key v (place_left room)
 
       pub inserted_value : (v : List ℕ) → value_of most (insert ps i p) (set bs p.spot v) ≡ record t { blocks = put nat_cmp c v t.blocks }
@@ -322,7 +322,7 @@ once_more xs n once s =
     let m : one_below (n + 1) s ≡ one_below n s + mark n s = grind (arith, nat_tests) in
     omega arith
 
-pub held_empty : (bs : List (List ℕ)) (spare : List ℕ) (most a b : ℕ) → most ≤ length bs → length spare ≡ length bs → length bs < 4294967296 → ((s : ℕ) → times s spare ≡ one_below (length bs) s) → length bs ≤ a → length bs ≤ b → IsHeld [] bs spare most a b
+pub held_empty : (bs : List (List ℕ)) (spare : List ℕ) (most a b : ℕ) → most ≤ length bs → length spare ≡ length bs → length bs < 4294967296 → ((s : ℕ) → times s spare ≡ one_below (length bs) s) → length bs ≤ a → length bs ≤ b → IsTableOf [] bs spare most a b
 held_empty bs spare most a b within same few once room room_for_spare = record {
   sorted = tt;
   once = λ s. let o = once s in omega arith;

@@ -10,7 +10,7 @@ use Rattle.lfs_model.specs.Memory.{file_of}
 use Rattle.lfs_model.specs.Staging.{ChangesTo}
 use Rattle.lfs_model.proofs.Entries.{same_entry}
 use Rattle.lfs_inodes.specs.Code.{code, entry_at, kind_by}
-use Rattle.lfs_inodes.specs.Blocks.{Blocks, TableValue, blocks_in, blocks_of, number_at, IsAt}
+use Rattle.lfs_inodes.specs.Blocks.{Blocks, TableValue, blocks_in, blocks_of, number_at, HasNumberAt}
 use Rattle.lfs_inodes.proofs.Blocks.{find_at, find_none}
 use Rattle.lfs_inodes.proofs.Codes.{entry_code}
 use Rattle.lfs_inodes.proofs.Moving.{AreSmall}
@@ -33,7 +33,7 @@ none_there es small n away x file = find_none es (code x) (λ j lt same.
     let f : code x / 32768 % 4096 ≡ n = cc in
     away j lt (ap (λ (c : ℕ). c / 32768 % 4096) same ∙ f))
 
-pub is_there : (es : Blocks) → T (is_sorted nat_cmp es) → (c i : ℕ) → IsAt es c i → is_some (find nat_cmp c es) ≡ true
+pub is_there : (es : Blocks) → T (is_sorted nat_cmp es) → (c i : ℕ) → HasNumberAt es c i → is_some (find nat_cmp c es) ≡ true
 is_there es sorted c i at = ap (λ (o : Option (List ℕ)). is_some o) (find_at es sorted c i at)
 
 pub file_named : (c n : ℕ) → c / 32768 % 4096 ≡ n → file_of (entry_at c) ≡ Some n
@@ -74,7 +74,7 @@ leaves_done old new n steps was gone = record { none = gone; kept = was.kept }
 pub leaves_all : (old new : TableValue) (n steps : ℕ) → LeavesSome old new n steps → length old.blocks ≤ steps → LeavesOut (blocks_of old) (blocks_of new) n
 leaves_all old new n steps was all = leaves_done old new n steps was (λ x file. no_blocks new.blocks (let few = was.few in omega (arith, few, all)) x)
 
-pub away_next : (es : Blocks) (n i c : ℕ) → ((j : ℕ) → j < i → number_at es j / 32768 % 4096 ≡ n → ⊥) → IsAt es c i → (c / 32768 % 4096 ≡ n → ⊥) → (j : ℕ) → j < i + 1 → number_at es j / 32768 % 4096 ≡ n → ⊥
+pub away_next : (es : Blocks) (n i c : ℕ) → ((j : ℕ) → j < i → number_at es j / 32768 % 4096 ≡ n → ⊥) → HasNumberAt es c i → (c / 32768 % 4096 ≡ n → ⊥) → (j : ℕ) → j < i + 1 → number_at es j / 32768 % 4096 ≡ n → ⊥
 away_next es n i c before at ne j lt same = ⊎_elim
     (λ (here : j ≡ i). ne (ap (λ (c : ℕ). c / 32768 % 4096) (sym (ap (number_at es) here ∙ at.number)) ∙ same))
     (λ (away : j ≡ i → ⊥). before j (omega (arith, lt, away)) same)

@@ -10,7 +10,7 @@ use Rattle.lfs_model.specs.Running.{IsLowest}
 use Rattle.lfs_model.proofs.Entries.{same_entry}
 use Rattle.lfs_model.specs.Staging.{ChangesTo}
 use Rattle.lfs_inodes.specs.Code.{code, entry_at, IsCode}
-use Rattle.lfs_inodes.specs.Blocks.{Capacity, Blocks, TableValue, blocks_of, blocks_in, number_at, IsAt}
+use Rattle.lfs_inodes.specs.Blocks.{Capacity, Blocks, TableValue, blocks_of, blocks_in, number_at, HasNumberAt}
 use Rattle.lfs_inodes.proofs.Codes.{code_entry, entry_code, code_below, of_file}
 use Rattle.lfs_inodes.proofs.Blocks.{rises, find_none, find_at, entry_found}
 
@@ -44,7 +44,7 @@ named es small c v is =
 pub are_of_files : (es : Blocks) → AreSmall es → (x : Entry) (v : List ℕ) → blocks_in es x ≡ Some v → IsOfFile x
 are_of_files es small x v is = subst IsOfFile (entry_code x (named es small (code x) v is)) (of_file (code x))
 
-module _ (es : Blocks) (sorted : T (is_sorted nat_cmp es)) (small : AreSmall es) (c : ℕ) (k : IsCode c) (at : IsAt es c 0) where
+module _ (es : Blocks) (sorted : T (is_sorted nat_cmp es)) (small : AreSmall es) (c : ℕ) (k : IsCode c) (at : HasNumberAt es c 0) where
   none_below : (y : Entry) (v : List ℕ) → parent y ≡ entry_at c → blocks_in es y ≡ Some v → (y ≡ entry_at c → ⊥) → ⊥
   none_below y v above there ne =
       let least = not_below es sorted (code y) v there in
@@ -71,7 +71,7 @@ one_less mid new c n v found count same =
     one ∙ same
 
 -- the same of the table's value
-pub lowest_value : (t : TableValue) → T (is_sorted nat_cmp t.blocks) → AreSmall t.blocks → (c : ℕ) → IsCode c → IsAt t.blocks c 0 → IsLowest (blocks_of t) (entry_at c)
+pub lowest_value : (t : TableValue) → T (is_sorted nat_cmp t.blocks) → AreSmall t.blocks → (c : ℕ) → IsCode c → HasNumberAt t.blocks c 0 → IsLowest (blocks_of t) (entry_at c)
 lowest_value t = first_is_lowest t.blocks
 
 -- ---- what stands at a number, how many there are and may be, stays as the block above is patched

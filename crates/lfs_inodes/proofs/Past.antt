@@ -10,7 +10,7 @@ use Rattle.lfs_model.specs.Staging.{ChangesTo}
 use Rattle.lfs_model.proofs.Entries.{same_entry}
 use Rattle.lfs_inodes.specs.Clearing.{LeavesPast}
 use Rattle.lfs_inodes.specs.Code.{code, entry_at}
-use Rattle.lfs_inodes.specs.Blocks.{Blocks, TableValue, blocks_in, blocks_of, number_at, IsAt}
+use Rattle.lfs_inodes.specs.Blocks.{Blocks, TableValue, blocks_in, blocks_of, number_at, HasNumberAt}
 use Rattle.lfs_inodes.proofs.Blocks.{find_none}
 use Rattle.lfs_inodes.proofs.Codes.{entry_code}
 use Rattle.lfs_inodes.proofs.Leaving.{no_blocks}
@@ -22,7 +22,7 @@ no_past_there es small n first away x on = find_none es (code x) (λ j lt same.
     let low = small j lt in
     away j lt (ap (λ (c : ℕ). is_past n first (entry_at c)) same ∙ ap (is_past n first) (entry_code x (omega (arith, low, same))) ∙ on))
 
-pub past_next : (es : Blocks) (n first i c : ℕ) → ((j : ℕ) → j < i → is_past n first (entry_at (number_at es j)) ≡ true → ⊥) → IsAt es c i → (is_past n first (entry_at c) ≡ true → ⊥)
+pub past_next : (es : Blocks) (n first i c : ℕ) → ((j : ℕ) → j < i → is_past n first (entry_at (number_at es j)) ≡ true → ⊥) → HasNumberAt es c i → (is_past n first (entry_at c) ≡ true → ⊥)
     → (j : ℕ) → j < i + 1 → is_past n first (entry_at (number_at es j)) ≡ true → ⊥
 past_next es n first i c before at ne j lt on = ⊎_elim
     (λ (here : j ≡ i). ne (ap (λ (c : ℕ). is_past n first (entry_at c)) (sym (ap (number_at es) here ∙ at.number)) ∙ on))

@@ -9,7 +9,7 @@ use Rattle.std.proofs.lemmas.Bool.{cases_eq}
 use Rattle.std.proofs.lemmas.Bool.Decides.{nat_tests}
 use Rattle.lfs_inodes.specs.declared.table.Place.{Place}
 use Rattle.lfs_inodes.specs.Code.{IsCode}
-use Rattle.lfs_inodes.specs.Blocks.{TableValue, number_at, IsAt, IsGapFor}
+use Rattle.lfs_inodes.specs.Blocks.{TableValue, number_at, HasNumberAt, IsGapFor}
 use Rattle.lfs_inodes.specs.Held.{entries_in}
 use Rattle.lfs_inodes.proofs.Blocks.{rises}
 use Rattle.lfs_inodes.proofs.Held.{length-entries, value_of}
@@ -40,7 +40,7 @@ module _ (ps : List Place) (bs : List (List ℕ)) (sorted : T (is_sorted nat_cmp
       (cases_eq i j))
 
   pub searched : (r : Result ℕ ℕ) → IsSearchInRange r (length ps) → IsBinarySearchResult (λ (p : Place). nat_cmp p.key.code k) ps r
-      → record { found : IfOk r (IsAt (entries_in ps bs) k); missing : IfErr r (IsGapFor (entries_in ps bs) k) }
+      → record { found : IfOk r (HasNumberAt (entries_in ps bs) k); missing : IfErr r (IsGapFor (entries_in ps bs) k) }
   searched (Ok at) within equal = record {
     found =
         let l = length-entries ps bs in
@@ -61,7 +61,7 @@ module _ (ps : List Place) (bs : List (List ℕ)) (sorted : T (is_sorted nat_cmp
 
 -- the same of the table's value
 abbrev pub IsFoundIn : TableValue → ℕ → Result ℕ ℕ → Type 0
-IsFoundIn t k r = record { found : IfOk r (IsAt t.blocks k); missing : IfErr r (IsGapFor t.blocks k) }
+IsFoundIn t k r = record { found : IfOk r (HasNumberAt t.blocks k); missing : IfErr r (IsGapFor t.blocks k) }
 
 module _ (ps : List Place) (bs : List (List ℕ)) (sorted : T (is_sorted nat_cmp (entries_in ps bs))) (most : ℕ) (t : TableValue) (view : value_of most ps bs ≡ t) where
   pub found_in : (xs : List Place) → xs ≡ ps → (n k : ℕ) → n ≡ k → (r : Result ℕ ℕ) → IsSearchInRange r (length xs) → IsBinarySearchResult (λ (p : Place). nat_cmp p.key.code n) xs r → IsFoundIn t k r

@@ -30,7 +30,7 @@ abbrev pub number_at : Blocks → ℕ → ℕ
 number_at es i = let e = get_or es i (0, []) in e.0
 
 -- the block of this number is at place i
-pub record IsAt (es : Blocks) (c i : ℕ) : Type 0 where
+pub record HasNumberAt (es : Blocks) (c i : ℕ) : Type 0 where
   pub within : i < length es
   pub number : number_at es i ≡ c
 

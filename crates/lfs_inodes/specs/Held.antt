@@ -24,7 +24,7 @@ times n (x ∷ xs) = cond (x == n) 1 0 + times n xs
 abbrev pub one_below : ℕ → ℕ → ℕ
 one_below n s = cond (nat_lt s n) 1 0
 
-pub record IsHeld (places : List Place) (arena : List (List ℕ)) (spare : List ℕ) (limit capacity capacity_for_spare : ℕ) : Type 0 where
+pub record IsTableOf (places : List Place) (arena : List (List ℕ)) (spare : List ℕ) (limit capacity capacity_for_spare : ℕ) : Type 0 where
   pub sorted : T (is_sorted nat_cmp (entries_in places arena))
   -- each block of the arena is a place's, or spare, and no more than one of these
   pub once : (s : ℕ) → times s (spots places) + times s spare ≡ one_below (length arena) s

@@ -58,7 +58,7 @@ abbrev pub AreSettled : LogMap → Tables → ℕ → Type 0
 AreSettled m t j = (i : ℕ) → i < 128 → shown m t.at (Inode (128 * j + i)) ≡ 1 → ⊥
 
 -- a number that no file has
-pub record IsFree (v : MapValue) (n : ℕ) : Type 0 where
+pub record IsUnusedNumber (v : MapValue) (n : ℕ) : Type 0 where
   pub some : 1 ≤ n
   pub few : n < 4096
   pub free : address_in v n ≡ 0

@@ -18,8 +18,8 @@ pub const DIRECT: u32 = 112;
 /// How many pointers a leaf or a double root has.
 pub const POINTERS: u32 = 128;
 
-/// The places of 4 bytes of an inode at which its pointers stand: the first to a data block, and those to the single leaf and to
-/// the double root.
+/// The places of 4 bytes of an inode at which its pointers stand: the first to a data block, and
+/// those to the single leaf and to the double root.
 pub const FIRST: u32 = 8;
 
 pub const SINGLE: usize = 120;
@@ -30,8 +30,8 @@ const KIND: u32 = 134_217_728;
 
 const FILE: u32 = 32_768;
 
-/// The name of a block of a file: its kind, its file from 1 to 4,095, and its index. The order is that of kinds first, in
-/// which a block comes before the block that points to it.
+/// The name of a block of a file: its kind, its file from 1 to 4,095, and its index. The order is
+/// that of kinds first, in which a block comes before the block that points to it.
 #[derive(Clone, Copy, Debug, PartialEq, Eq, PartialOrd, Ord)]
 pub struct BlockKey {
     code: u32,
@@ -51,7 +51,8 @@ impl BlockKey {
         }
     }
 
-    /// The leaf of pointers of a file at this index: 0 for the single leaf, else 1 and its place under the double root.
+    /// The leaf of pointers of a file at this index: 0 for the single leaf, else 1 and its place
+    /// under the double root.
     pub fn leaf(file: u16, index: u32) -> BlockKey
         requires some { 1 ≤ file }
         requires file { file ≤ 4095 }
@@ -129,7 +130,8 @@ impl BlockKey {
         self.code % FILE
     }
 
-    /// Whether the block is a data block of a file from block `first` on, or a block of pointers with only those below it.
+    /// Whether the block is a data block of a file from block `first` on, or a block of pointers
+    /// with only those below it.
     pub fn is_past(self, file: u16, first: u32) -> bool
         ensures { result ≡ is_past file first (entry_at self.code) }
     {
@@ -159,7 +161,8 @@ impl BlockKey {
 
     /// The block that points to this one, if it isn't an inode.
     pub fn parent(self) -> Option<BlockKey>
-        ensures some { IfSome result (λ above. (entry_at above.code ≡ parent (entry_at self.code)) × (self.code < above.code)) }
+        ensures some { IfSome result (λ above. (entry_at above.code ≡ parent (entry_at self.code))
+            × (self.code < above.code)) }
         ensures none { IfNone result (parent (entry_at self.code) ≡ entry_at self.code) }
     {
         let file = self.file();

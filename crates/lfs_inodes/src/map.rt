@@ -5,7 +5,7 @@ ghost use Rattle.lfs_model.specs.Running.{Tables, IsSet};
 ghost use Rattle.lfs_model.specs.Committing.{SpellsMap};
 ghost use Rattle.lfs_model.specs.Memory.{shown};
 ghost use Rattle.lfs_model.specs.Entry.{Inode};
-ghost use Rattle.lfs_inodes.specs.MapValue.{MapValue, IsMap, IsEmptyMap, IsFree, IsLoaded, IsMapOf, AreSettled, ShowsNone, SpellsShown, address_in, is_hidden_in, block_in, shown_in};
+ghost use Rattle.lfs_inodes.specs.MapValue.{MapValue, IsMap, IsEmptyMap, IsUnusedNumber, IsLoaded, IsMapOf, AreSettled, ShowsNone, SpellsShown, address_in, is_hidden_in, block_in, shown_in};
 
 use lfs_layout::{PointerView, encode_pointers};
 use std::alloc::{AllocError, Global};
@@ -14,8 +14,9 @@ use std::marker::Model;
 /// How many numbers there are; number 0 is nobody's.
 const NUMBERS: usize = 4_096;
 
-/// For each number the address of its inode, 0 where there is none and 1 where it is in memory, and whether its file is
-/// without a name. For each block of the map its address, 0 where there is none and 1 where it is to be written.
+/// For each number the address of its inode, 0 where there is none and 1 where it is in memory, and
+/// whether its file is without a name. For each block of the map its address, 0 where there is none
+/// and 1 where it is to be written.
 #[derive(Drop)]
 pub struct InodeMap {
     addresses: Vec<u32>,
@@ -71,7 +72,8 @@ impl InodeMap {
     /// The inode has this address.
     pub fn set_address(&mut self, number: u16, address: u32)
         requires { number < 4096 }
-        ensures set { self.new ≡ record self.old { addresses = slice_set self.old.addresses number address } }
+        ensures set { self.new ≡ record self.old
+            { addresses = slice_set self.old.addresses number address } }
         ensures changed { IsSet (address_in self.old) (address_in self.new) number address }
     {
         self.addresses[number as usize] = address;
@@ -88,7 +90,8 @@ impl InodeMap {
     /// The file is without a name, or has one.
     pub fn set_hidden(&mut self, number: u16, hidden: bool)
         requires { number < 4096 }
-        ensures set { self.new ≡ record self.old { hidden = slice_set self.old.hidden number hidden } }
+        ensures set { self.new ≡ record self.old
+            { hidden = slice_set self.old.hidden number hidden } }
         ensures changed { IsSet (is_hidden_in self.old) (is_hidden_in self.new) number hidden }
     {
         self.hidden[number as usize] = hidden;
@@ -106,7 +109,8 @@ impl InodeMap {
     /// The block of the map has this address.
     pub fn set_block_address(&mut self, index: usize, address: u32)
         requires { index < 32 }
-        ensures set { self.new ≡ record self.old { blocks = slice_set self.old.blocks index address } }
+        ensures set { self.new ≡ record self.old
+            { blocks = slice_set self.old.blocks index address } }
         ensures changed { IsSet (block_in self.old) (block_in self.new) index address }
         ensures size { IsMap self.new }
     {
@@ -125,7 +129,7 @@ impl InodeMap {
 
     /// The least number from 1 on that has no inode.
     pub fn least_free(&self) -> Option<u16>
-        ensures some { IfSome result (IsFree self.now) }
+        ensures some { IfSome result (IsUnusedNumber self.now) }
         ensures none { IfNone result ((k : ℕ) → 1 ≤ k → k < 4096 → 0 < address_in self.now k) }
     {
         for number in 1..4_096u16 {
@@ -165,8 +169,10 @@ impl InodeMap {
         requires { index < 32 }
         ensures some { IfSome result (SpellsShown self.now index) }
         ensures none { IfNone result (ShowsNone self.now index) }
-        ensures written { (m : LogMap) (t : Tables) → IsMapOf self.now m t → AreSettled m t index → IfSome result (SpellsMap m t index) }
-        ensures dropped { (m : LogMap) (t : Tables) → IsMapOf self.now m t → IfNone result ((i : ℕ) → i < 128 → shown m t.at (Inode (128 * index + i)) ≡ 0) }
+        ensures written { (m : LogMap) (t : Tables) → IsMapOf self.now m t → AreSettled m t index
+            → IfSome result (SpellsMap m t index) }
+        ensures dropped { (m : LogMap) (t : Tables) → IsMapOf self.now m t
+            → IfNone result ((i : ℕ) → i < 128 → shown m t.at (Inode (128 * index + i)) ≡ 0) }
     {
         let shown = self.shown_block(index);
         if is_empty(&shown) {

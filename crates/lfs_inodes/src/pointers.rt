@@ -11,18 +11,24 @@ use lfs_device::{ReadFault, SectorDevice};
 use lfs_layout::word;
 use lfs_model::BlockKind;
 
-/// The number at a place of 4 bytes of the block at an address; 0 where the address is 0, or the place past the block.
+/// The number at a place of 4 bytes of the block at an address; 0 where the address is 0, or the
+/// place past the block.
 #[tactic(auto, unfolding(lfs_model::specs::Entry::word), using(crate::proofs::Places::places))]
 pub(crate) fn pointer_at<D: SectorDevice>(
     device: &mut D,
     address: u32,
     place: u32,
 ) -> Result<u32, ReadFault>
-    ensures value { IfOk result (λ found. (D.state device.new).keeps_model → found ≡ word (block (D.state device.old).content address) place) }
-    ensures unreadable { IsErrOf result ReadFault.Unreadable → (D.state device.new).keeps_model → IsLost (D.state device.old).content address }
-    ensures failed { IsErrOf result ReadFault.Failed → (D.state device.old).failures < (D.state device.new).failures }
-    ensures no_failure { OnOk result ((D.state device.new).failures ≡ (D.state device.old).failures) }
-    ensures no_failure_unreadable { IsErrOf result ReadFault.Unreadable → (D.state device.new).failures ≡ (D.state device.old).failures }
+    ensures value { IfOk result (λ found. (D.state device.new).keeps_model
+        → found ≡ word (block (D.state device.old).content address) place) }
+    ensures unreadable { IsErrOf result ReadFault.Unreadable → (D.state device.new).keeps_model
+        → IsLost (D.state device.old).content address }
+    ensures failed { IsErrOf result ReadFault.Failed
+        → (D.state device.old).failures < (D.state device.new).failures }
+    ensures no_failure { OnOk result
+        ((D.state device.new).failures ≡ (D.state device.old).failures) }
+    ensures no_failure_unreadable { IsErrOf result ReadFault.Unreadable
+        → (D.state device.new).failures ≡ (D.state device.old).failures }
     ensures untouched { IsUntouched (D.state device.old) (D.state device.new) }
     ensures carries { Carries (D.state device.old) (D.state device.new) }
     ensures time { Elapses (D.state device.old) (D.state device.new) }
@@ -48,11 +54,16 @@ fn locate_leaf<D: SectorDevice>(
     inode: &[u8; 512],
     index: u32,
 ) -> Result<u32, ReadFault>
-    ensures value { IfOk result (λ address. (D.state device.new).keeps_model → address ≡ leaf_in (D.state device.old).content inode.now index) }
-    ensures unreadable { IsErrOf result ReadFault.Unreadable → (D.state device.new).keeps_model → IsLeafLost (D.state device.old).content inode.now index }
-    ensures failed { IsErrOf result ReadFault.Failed → (D.state device.old).failures < (D.state device.new).failures }
-    ensures no_failure { OnOk result ((D.state device.new).failures ≡ (D.state device.old).failures) }
-    ensures no_failure_unreadable { IsErrOf result ReadFault.Unreadable → (D.state device.new).failures ≡ (D.state device.old).failures }
+    ensures value { IfOk result (λ address. (D.state device.new).keeps_model
+        → address ≡ leaf_in (D.state device.old).content inode.now index) }
+    ensures unreadable { IsErrOf result ReadFault.Unreadable → (D.state device.new).keeps_model
+        → IsLeafLost (D.state device.old).content inode.now index }
+    ensures failed { IsErrOf result ReadFault.Failed
+        → (D.state device.old).failures < (D.state device.new).failures }
+    ensures no_failure { OnOk result
+        ((D.state device.new).failures ≡ (D.state device.old).failures) }
+    ensures no_failure_unreadable { IsErrOf result ReadFault.Unreadable
+        → (D.state device.new).failures ≡ (D.state device.old).failures }
     ensures untouched { IsUntouched (D.state device.old) (D.state device.new) }
     ensures carries { Carries (D.state device.old) (D.state device.new) }
     ensures time { Elapses (D.state device.old) (D.state device.new) }
@@ -63,22 +74,29 @@ fn locate_leaf<D: SectorDevice>(
     pointer_at(device, word(inode, DOUBLE), index - 1)
 }
 
-/// The address of a data block of the file of an inode, or 0 where none is stored. It reads two blocks of pointers at most.
+/// The address of a data block of the file of an inode, or 0 where none is stored. It reads two
+/// blocks of pointers at most.
 ///
 /// # Errors
 ///
-/// `Unreadable` where a block of pointers on the way can't be read or isn't on the device, `Failed` where a call of the device failed.
+/// `Unreadable` where a block of pointers on the way can't be read or isn't on the device, `Failed`
+/// where a call of the device failed.
 #[tactic(auto, unfolding(lfs_model::specs::Entry::word))]
 pub fn locate<D: SectorDevice>(
     device: &mut D,
     inode: &[u8; 512],
     index: u32,
 ) -> Result<u32, ReadFault>
-    ensures value { IfOk result (λ address. (D.state device.new).keeps_model → address ≡ data_in (D.state device.old).content inode.now index) }
-    ensures unreadable { IsErrOf result ReadFault.Unreadable → (D.state device.new).keeps_model → IsDataLost (D.state device.old).content inode.now index }
-    ensures failed { IsErrOf result ReadFault.Failed → (D.state device.old).failures < (D.state device.new).failures }
-    ensures no_failure { OnOk result ((D.state device.new).failures ≡ (D.state device.old).failures) }
-    ensures no_failure_unreadable { IsErrOf result ReadFault.Unreadable → (D.state device.new).failures ≡ (D.state device.old).failures }
+    ensures value { IfOk result (λ address. (D.state device.new).keeps_model
+        → address ≡ data_in (D.state device.old).content inode.now index) }
+    ensures unreadable { IsErrOf result ReadFault.Unreadable → (D.state device.new).keeps_model
+        → IsDataLost (D.state device.old).content inode.now index }
+    ensures failed { IsErrOf result ReadFault.Failed
+        → (D.state device.old).failures < (D.state device.new).failures }
+    ensures no_failure { OnOk result
+        ((D.state device.new).failures ≡ (D.state device.old).failures) }
+    ensures no_failure_unreadable { IsErrOf result ReadFault.Unreadable
+        → (D.state device.new).failures ≡ (D.state device.old).failures }
     ensures untouched { IsUntouched (D.state device.old) (D.state device.new) }
     ensures carries { Carries (D.state device.old) (D.state device.new) }
     ensures time { Elapses (D.state device.old) (D.state device.new) }
@@ -98,11 +116,16 @@ fn locate_block<D: SectorDevice>(
     inode: &[u8; 512],
     key: BlockKey,
 ) -> Result<u32, ReadFault>
-    ensures value { IfOk result (λ address. (D.state device.new).keeps_model → address ≡ pointed (D.state device.old).content inode.now (entry_of key)) }
-    ensures unreadable { IsErrOf result ReadFault.Unreadable → (D.state device.new).keeps_model → IsWayLost (D.state device.old).content inode.now (entry_of key) }
-    ensures failed { IsErrOf result ReadFault.Failed → (D.state device.old).failures < (D.state device.new).failures }
-    ensures no_failure { OnOk result ((D.state device.new).failures ≡ (D.state device.old).failures) }
-    ensures no_failure_unreadable { IsErrOf result ReadFault.Unreadable → (D.state device.new).failures ≡ (D.state device.old).failures }
+    ensures value { IfOk result (λ address. (D.state device.new).keeps_model
+        → address ≡ pointed (D.state device.old).content inode.now (entry_of key)) }
+    ensures unreadable { IsErrOf result ReadFault.Unreadable → (D.state device.new).keeps_model
+        → IsWayLost (D.state device.old).content inode.now (entry_of key) }
+    ensures failed { IsErrOf result ReadFault.Failed
+        → (D.state device.old).failures < (D.state device.new).failures }
+    ensures no_failure { OnOk result
+        ((D.state device.new).failures ≡ (D.state device.old).failures) }
+    ensures no_failure_unreadable { IsErrOf result ReadFault.Unreadable
+        → (D.state device.new).failures ≡ (D.state device.old).failures }
     ensures untouched { IsUntouched (D.state device.old) (D.state device.new) }
     ensures carries { Carries (D.state device.old) (D.state device.new) }
     ensures time { Elapses (D.state device.old) (D.state device.new) }
@@ -115,7 +138,8 @@ fn locate_block<D: SectorDevice>(
     }
 }
 
-/// Whether the pointers from an inode lead to a block of its file at this address. They lead to no inode.
+/// Whether the pointers from an inode lead to a block of its file at this address. They lead to no
+/// inode.
 ///
 /// # Errors
 ///
@@ -126,11 +150,17 @@ pub fn owner_points<D: SectorDevice>(
     key: BlockKey,
     address: u32,
 ) -> Result<bool, ReadFault>
-    ensures value { IfOk result (λ leads. (D.state device.new).keeps_model → (IsTrue leads ↔ (0 < address) × (pointed (D.state device.old).content inode.now (entry_of key) ≡ address))) }
-    ensures unreadable { IsErrOf result ReadFault.Unreadable → (D.state device.new).keeps_model → IsWayLost (D.state device.old).content inode.now (entry_of key) }
-    ensures failed { IsErrOf result ReadFault.Failed → (D.state device.old).failures < (D.state device.new).failures }
-    ensures no_failure { OnOk result ((D.state device.new).failures ≡ (D.state device.old).failures) }
-    ensures no_failure_unreadable { IsErrOf result ReadFault.Unreadable → (D.state device.new).failures ≡ (D.state device.old).failures }
+    ensures value { IfOk result (λ leads. (D.state device.new).keeps_model
+        → (IsTrue leads ↔ (0 < address)
+        × (pointed (D.state device.old).content inode.now (entry_of key) ≡ address))) }
+    ensures unreadable { IsErrOf result ReadFault.Unreadable → (D.state device.new).keeps_model
+        → IsWayLost (D.state device.old).content inode.now (entry_of key) }
+    ensures failed { IsErrOf result ReadFault.Failed
+        → (D.state device.old).failures < (D.state device.new).failures }
+    ensures no_failure { OnOk result
+        ((D.state device.new).failures ≡ (D.state device.old).failures) }
+    ensures no_failure_unreadable { IsErrOf result ReadFault.Unreadable
+        → (D.state device.new).failures ≡ (D.state device.old).failures }
     ensures untouched { IsUntouched (D.state device.old) (D.state device.new) }
     ensures carries { Carries (D.state device.old) (D.state device.new) }
     ensures time { Elapses (D.state device.old) (D.state device.new) }

@@ -12,7 +12,8 @@ use crate::table::DirtyTable;
 use lfs_device::{ReadFault, SectorDevice};
 use lfs_layout::word;
 
-/// The number at a place of 4 bytes of the block of this key, whose pointer is known; 0 where there is none.
+/// The number at a place of 4 bytes of the block of this key, whose pointer is known; 0 where there
+/// is none.
 #[tactic(auto, unfolding(lfs_model::specs::Entry::word), using(crate::proofs::Places::places))]
 fn present_pointer<D: SectorDevice>(
     device: &mut D,
@@ -22,11 +23,17 @@ fn present_pointer<D: SectorDevice>(
     place: u32,
 ) -> Result<u32, ReadFault>
     requires { place < 128 }
-    ensures value { IfOk result (λ found. (D.state device.new).keeps_model → found ≡ word (present (D.state device.old).content (blocks_of table.now) (entry_of key) address) place) }
-    ensures unreadable { IsErrOf result ReadFault.Unreadable → (D.state device.new).keeps_model → IsAway (D.state device.old).content address }
-    ensures failed { IsErrOf result ReadFault.Failed → (D.state device.old).failures < (D.state device.new).failures }
-    ensures no_failure { OnOk result ((D.state device.new).failures ≡ (D.state device.old).failures) }
-    ensures no_failure_unreadable { IsErrOf result ReadFault.Unreadable → (D.state device.new).failures ≡ (D.state device.old).failures }
+    ensures value { IfOk result (λ found. (D.state device.new).keeps_model
+        → found ≡ word (present (D.state device.old).content (blocks_of table.now)
+        (entry_of key) address) place) }
+    ensures unreadable { IsErrOf result ReadFault.Unreadable → (D.state device.new).keeps_model
+        → IsAway (D.state device.old).content address }
+    ensures failed { IsErrOf result ReadFault.Failed
+        → (D.state device.old).failures < (D.state device.new).failures }
+    ensures no_failure { OnOk result
+        ((D.state device.new).failures ≡ (D.state device.old).failures) }
+    ensures no_failure_unreadable { IsErrOf result ReadFault.Unreadable
+        → (D.state device.new).failures ≡ (D.state device.old).failures }
     ensures untouched { IsUntouched (D.state device.old) (D.state device.new) }
     ensures carries { Carries (D.state device.old) (D.state device.new) }
     ensures time { Elapses (D.state device.old) (D.state device.new) }
@@ -52,11 +59,17 @@ fn present_leaf<D: SectorDevice>(
     requires some { 1 ≤ file }
     requires file { file ≤ 4095 }
     requires index { index ≤ 128 }
-    ensures value { IfOk result (λ pointer. (D.state device.new).keeps_model → pointer ≡ leaf_now (D.state device.old).content (blocks_of table.now) file inode.now index) }
-    ensures unreadable { IsErrOf result ReadFault.Unreadable → (D.state device.new).keeps_model → IsLeafAway (D.state device.old).content inode.now index }
-    ensures failed { IsErrOf result ReadFault.Failed → (D.state device.old).failures < (D.state device.new).failures }
-    ensures no_failure { OnOk result ((D.state device.new).failures ≡ (D.state device.old).failures) }
-    ensures no_failure_unreadable { IsErrOf result ReadFault.Unreadable → (D.state device.new).failures ≡ (D.state device.old).failures }
+    ensures value { IfOk result (λ pointer. (D.state device.new).keeps_model
+        → pointer ≡ leaf_now (D.state device.old).content
+        (blocks_of table.now) file inode.now index) }
+    ensures unreadable { IsErrOf result ReadFault.Unreadable → (D.state device.new).keeps_model
+        → IsLeafAway (D.state device.old).content inode.now index }
+    ensures failed { IsErrOf result ReadFault.Failed
+        → (D.state device.old).failures < (D.state device.new).failures }
+    ensures no_failure { OnOk result
+        ((D.state device.new).failures ≡ (D.state device.old).failures) }
+    ensures no_failure_unreadable { IsErrOf result ReadFault.Unreadable
+        → (D.state device.new).failures ≡ (D.state device.old).failures }
     ensures untouched { IsUntouched (D.state device.old) (D.state device.new) }
     ensures carries { Carries (D.state device.old) (D.state device.new) }
     ensures time { Elapses (D.state device.old) (D.state device.new) }
@@ -68,8 +81,9 @@ fn present_leaf<D: SectorDevice>(
     present_pointer(device, table, root, word(inode, DOUBLE), index - 1)
 }
 
-/// The pointer to a data block of a file: 0 where none is stored, `IN_MEMORY` for one in the table, else its address. Blocks of
-/// pointers that the table has are read there, others on the device, two at most.
+/// The pointer to a data block of a file: 0 where none is stored, `IN_MEMORY` for one in the table,
+/// else its address. Blocks of pointers that the table has are read there, others on the device,
+/// two at most.
 ///
 /// # Errors
 ///
@@ -85,11 +99,17 @@ pub fn locate_present<D: SectorDevice>(
     requires some { 1 ≤ file }
     requires file { file ≤ 4095 }
     requires index { index ≤ 16623 }
-    ensures value { IfOk result (λ pointer. (D.state device.new).keeps_model → pointer ≡ data_now (D.state device.old).content (blocks_of table.now) file inode.now index) }
-    ensures unreadable { IsErrOf result ReadFault.Unreadable → (D.state device.new).keeps_model → IsDataAway (D.state device.old).content (blocks_of table.now) file inode.now index }
-    ensures failed { IsErrOf result ReadFault.Failed → (D.state device.old).failures < (D.state device.new).failures }
-    ensures no_failure { OnOk result ((D.state device.new).failures ≡ (D.state device.old).failures) }
-    ensures no_failure_unreadable { IsErrOf result ReadFault.Unreadable → (D.state device.new).failures ≡ (D.state device.old).failures }
+    ensures value { IfOk result (λ pointer. (D.state device.new).keeps_model
+        → pointer ≡ data_now (D.state device.old).content
+        (blocks_of table.now) file inode.now index) }
+    ensures unreadable { IsErrOf result ReadFault.Unreadable → (D.state device.new).keeps_model
+        → IsDataAway (D.state device.old).content (blocks_of table.now) file inode.now index }
+    ensures failed { IsErrOf result ReadFault.Failed
+        → (D.state device.old).failures < (D.state device.new).failures }
+    ensures no_failure { OnOk result
+        ((D.state device.new).failures ≡ (D.state device.old).failures) }
+    ensures no_failure_unreadable { IsErrOf result ReadFault.Unreadable
+        → (D.state device.new).failures ≡ (D.state device.old).failures }
     ensures untouched { IsUntouched (D.state device.old) (D.state device.new) }
     ensures carries { Carries (D.state device.old) (D.state device.new) }
     ensures time { Elapses (D.state device.old) (D.state device.new) }

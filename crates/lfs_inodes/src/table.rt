@@ -11,7 +11,7 @@ ghost use Rattle.lfs_model.specs.Running.{IsLowest, IsTight, Moves};
 ghost use Rattle.lfs_model.specs.Staging.{ChangesTo, Fetches};
 ghost use Rattle.lfs_inodes.specs.Key.{entry_of};
 ghost use Rattle.lfs_inodes.specs.Empty.{IsEmptyBlock};
-ghost use Rattle.lfs_inodes.specs.Blocks.{blocks_of, altered, number_at, IsAt, IsGapFor};
+ghost use Rattle.lfs_inodes.specs.Blocks.{blocks_of, altered, number_at, HasNumberAt, IsGapFor};
 ghost use Rattle.lfs_inodes.specs.Code.{IsCode};
 ghost use Rattle.lfs_inodes.specs.Clearing.{LeavesPast, zeroed};
 ghost use Rattle.lfs_inodes.specs.Held.{times, one_below};
@@ -28,8 +28,9 @@ struct Place {
     spot: u32,
 }
 
-/// The blocks of files in memory, by their keys. All memory is taken as the table is made. Contracts see the list of the keys'
-/// numbers and the blocks, how many blocks there may be at present (`limit`), and for how many there is memory (`room`).
+/// The blocks of files in memory, by their keys. All memory is taken as the table is made.
+/// Contracts see the list of the keys' numbers and the blocks, how many blocks there may be at
+/// present (`limit`), and for how many there is memory (`room`).
 #[derive(Drop)]
 pub struct DirtyTable {
     places: Vec<Place>,
@@ -44,15 +45,16 @@ impl Model for DirtyTable {
 
     ghost Value = { TableValue };
 
-    ghost use Rattle.lfs_inodes.specs.Held.{entries_in, IsHeld};
+    ghost use Rattle.lfs_inodes.specs.Held.{entries_in, IsTableOf};
 
     ghost view = { λ t. record { blocks = entries_in t.places.items t.arena.items; capacity = record { limit = t.limit; room = length t.arena.items } } };
 
-    ghost invariant = { λ t. IsHeld t.places.items t.arena.items t.spare.items t.limit (vec_capacity t.places) (vec_capacity t.spare) };
+    ghost invariant = { λ t. IsTableOf t.places.items t.arena.items t.spare.items t.limit (vec_capacity t.places) (vec_capacity t.spare) };
 }
 
 impl DirtyTable {
-    /// An empty table with memory for so many blocks, that takes no more than `limit` of them at first.
+    /// An empty table with memory for so many blocks, that takes no more than `limit` of them at
+    /// first.
     ///
     /// # Errors
     ///
@@ -91,8 +93,10 @@ impl DirtyTable {
         ensures length { result ≡ length self.now.blocks }
         ensures room { length self.now.blocks ≤ self.now.capacity.limit }
         ensures sorted { T (is_sorted nat_cmp self.now.blocks) }
-        ensures files { (x : Entry) (bytes : List ℕ) → blocks_of self.now x ≡ Some bytes → IsOfFile x }
-        ensures codes { (i : ℕ) → i < length self.now.blocks → IsCode (number_at self.now.blocks i) }
+        ensures files { (x : Entry) (bytes : List ℕ)
+            → blocks_of self.now x ≡ Some bytes → IsOfFile x }
+        ensures codes { (i : ℕ) → i < length self.now.blocks
+            → IsCode (number_at self.now.blocks i) }
     {
         self.places.len()
     }
@@ -107,7 +111,7 @@ impl DirtyTable {
 
     /// The block with the least key: none of the blocks that it points to is in memory.
     pub fn next(&self) -> Option<BlockKey>
-        ensures first { IfSome result (λ key. IsAt self.now.blocks key.code 0) }
+        ensures first { IfSome result (λ key. HasNumberAt self.now.blocks key.code 0) }
         ensures none { IfNone result (self.now.blocks ≡ []) }
         ensures lowest { IfSome result (λ key. IsLowest (blocks_of self.now) (entry_of key)) }
         ensures empty { IfNone result ((x : Entry) → blocks_of self.now x ≡ None) }
@@ -119,7 +123,7 @@ impl DirtyTable {
     /// The key at a place of the index.
     fn key_at(&self, at: usize) -> BlockKey
         requires { at < length self.now.blocks }
-        ensures { IsAt self.now.blocks result.code at }
+        ensures { HasNumberAt self.now.blocks result.code at }
     {
         self.places[at].key
     }
@@ -127,7 +131,9 @@ impl DirtyTable {
     /// Whether this block of pointers is here, and none of its pointers leads anywhere.
     fn is_empty(&self, key: BlockKey) -> bool
         ensures yes { result ≡ true → IsEmptyBlock (blocks_of self.now) (entry_of key) }
-        ensures no { result ≢ true → (bytes : List ℕ) → blocks_of self.now (entry_of key) ≡ Some bytes → IsPointers (entry_of key) → HasPointer bytes }
+        ensures no { result ≢ true → (bytes : List ℕ)
+            → blocks_of self.now (entry_of key) ≡ Some bytes
+            → IsPointers (entry_of key) → HasPointer bytes }
     {
         if !key.is_pointers() {
             return false;
@@ -154,7 +160,7 @@ impl DirtyTable {
 
     /// Where a key stands in the index, or where it would go.
     fn search(&self, key: BlockKey) -> Result<usize, usize>
-        ensures found { IfOk result (IsAt self.now.blocks key.code) }
+        ensures found { IfOk result (HasNumberAt self.now.blocks key.code) }
         ensures missing { IfErr result (IsGapFor self.now.blocks key.code) }
     {
         self.places
@@ -163,8 +169,10 @@ impl DirtyTable {
 
     /// The block of a key, if it is here.
     pub fn block(&self, key: BlockKey) -> Option<&[u8; 512]>
-        ensures block { MatchOption result (find nat_cmp key.code self.now.blocks ≡ None) (λ bytes. find nat_cmp key.code self.now.blocks ≡ Some bytes.now) }
-        ensures entry { MatchOption result (blocks_of self.now (entry_of key) ≡ None) (λ bytes. blocks_of self.now (entry_of key) ≡ Some bytes.now) }
+        ensures block { MatchOption result (find nat_cmp key.code self.now.blocks ≡ None)
+            (λ bytes. find nat_cmp key.code self.now.blocks ≡ Some bytes.now) }
+        ensures entry { MatchOption result (blocks_of self.now (entry_of key) ≡ None)
+            (λ bytes. blocks_of self.now (entry_of key) ≡ Some bytes.now) }
     {
         let Ok(at) = self.search(key) else {
             return None;
@@ -174,10 +182,15 @@ impl DirtyTable {
 
     /// Puts a block in, in the place of what it was.
     pub fn put(&mut self, key: BlockKey, bytes: &[u8; 512])
-        requires { find nat_cmp key.code self.old.blocks ≡ None → length self.old.blocks < self.old.capacity.limit }
-        ensures put { self.new ≡ record self.old { blocks = put nat_cmp key.code bytes.now self.old.blocks } }
-        ensures changed { ChangesTo (blocks_of self.old) (blocks_of self.new) (entry_of key) (Some bytes.now) }
-        ensures length { length self.new.blocks ≡ cond (is_some (find nat_cmp key.code self.old.blocks)) (length self.old.blocks) (length self.old.blocks + 1) }
+        requires { find nat_cmp key.code self.old.blocks ≡ None
+            → length self.old.blocks < self.old.capacity.limit }
+        ensures put { self.new ≡ record self.old
+            { blocks = put nat_cmp key.code bytes.now self.old.blocks } }
+        ensures changed { ChangesTo (blocks_of self.old) (blocks_of self.new)
+            (entry_of key) (Some bytes.now) }
+        ensures length { length self.new.blocks ≡ cond
+            (is_some (find nat_cmp key.code self.old.blocks)) (length self.old.blocks)
+            (length self.old.blocks + 1) }
     {
         match self.search(key) {
             Ok(at) => {
@@ -195,8 +208,10 @@ impl DirtyTable {
     /// Puts a number at a place of 4 bytes of a block, if the block is here.
     pub fn patch(&mut self, key: BlockKey, place: usize, number: u32)
         requires { place < 128 }
-        ensures patched { self.new ≡ record self.old { blocks = altered (patched place number) key.code self.old.blocks } }
-        ensures changed { ChangesTo (blocks_of self.old) (blocks_of self.new) (entry_of key) (option_map (patched place number) (blocks_of self.old (entry_of key))) }
+        ensures patched { self.new ≡ record self.old
+            { blocks = altered (patched place number) key.code self.old.blocks } }
+        ensures changed { ChangesTo (blocks_of self.old) (blocks_of self.new) (entry_of key)
+            (option_map (patched place number) (blocks_of self.old (entry_of key))) }
         ensures length { length self.new.blocks ≡ length self.old.blocks }
     {
         let Ok(at) = self.search(key) else {
@@ -208,9 +223,11 @@ impl DirtyTable {
 
     /// Takes a block out, if it is here.
     pub fn remove(&mut self, key: BlockKey)
-        ensures removed { self.new ≡ record self.old { blocks = without nat_cmp key.code self.old.blocks } }
+        ensures removed { self.new ≡ record self.old
+            { blocks = without nat_cmp key.code self.old.blocks } }
         ensures changed { ChangesTo (blocks_of self.old) (blocks_of self.new) (entry_of key) None }
-        ensures length { cond (is_some (find nat_cmp key.code self.old.blocks)) 1 0 + length self.new.blocks ≡ length self.old.blocks }
+        ensures length { cond (is_some (find nat_cmp key.code self.old.blocks)) 1 0 + length
+            self.new.blocks ≡ length self.old.blocks }
     {
         let Ok(at) = self.search(key) else {
             return;
@@ -221,8 +238,10 @@ impl DirtyTable {
 
     /// A block of a file, if there is one.
     fn any_of(&self, file: u16) -> Option<BlockKey>
-        ensures some { IfSome result (λ key. (file_of (entry_of key) ≡ Some file) × (is_some (find nat_cmp key.code self.now.blocks) ≡ true)) }
-        ensures none { IfNone result ((x : Entry) → file_of x ≡ Some file → blocks_of self.now x ≡ None) }
+        ensures some { IfSome result (λ key. (file_of (entry_of key) ≡ Some file)
+            × (is_some (find nat_cmp key.code self.now.blocks) ≡ true)) }
+        ensures none { IfNone result ((x : Entry) → file_of x ≡ Some file
+            → blocks_of self.now x ≡ None) }
     {
         for at in 0..self.places.len() {
             let key = self.places[at].key;
@@ -247,10 +266,13 @@ impl DirtyTable {
         }
     }
 
-    /// A data block of a file from block `first` on, or a block of pointers with only those below it, if there is one.
+    /// A data block of a file from block `first` on, or a block of pointers with only those below
+    /// it, if there is one.
     fn any_past(&self, file: u16, first: u32) -> Option<BlockKey>
-        ensures some { IfSome result (λ key. (is_past file first (entry_of key) ≡ true) × (is_some (find nat_cmp key.code self.now.blocks) ≡ true)) }
-        ensures none { IfNone result ((x : Entry) → is_past file first x ≡ true → blocks_of self.now x ≡ None) }
+        ensures some { IfSome result (λ key. (is_past file first (entry_of key) ≡ true)
+            × (is_some (find nat_cmp key.code self.now.blocks) ≡ true)) }
+        ensures none { IfNone result ((x : Entry) → is_past file first x ≡ true
+            → blocks_of self.now x ≡ None) }
     {
         for at in 0..self.places.len() {
             let key = self.places[at].key;
@@ -261,7 +283,8 @@ impl DirtyTable {
         None
     }
 
-    /// Takes every data block of a file from block `first` on out, and the blocks of pointers with only those below them.
+    /// Takes every data block of a file from block `first` on out, and the blocks of pointers with
+    /// only those below them.
     pub fn forget_past(&mut self, file: u16, first: u32)
         ensures leaves { LeavesPast (blocks_of self.old) (blocks_of self.new) file first }
         ensures few { length self.new.blocks ≤ length self.old.blocks }
@@ -278,7 +301,8 @@ impl DirtyTable {
     /// Puts 0 at so many places of 4 bytes of a block from one on, if the block is here.
     pub fn clear_words(&mut self, key: BlockKey, first: usize, number: usize)
         requires { first + number ≤ 128 }
-        ensures changed { ChangesTo (blocks_of self.old) (blocks_of self.new) (entry_of key) (option_map (zeroed first number) (blocks_of self.old (entry_of key))) }
+        ensures changed { ChangesTo (blocks_of self.old) (blocks_of self.new) (entry_of key)
+            (option_map (zeroed first number) (blocks_of self.old (entry_of key))) }
         ensures length { length self.new.blocks ≡ length self.old.blocks }
         ensures capacity { self.new.capacity ≡ self.old.capacity }
     {
@@ -287,11 +311,16 @@ impl DirtyTable {
         }
     }
 
-    /// A block comes into memory, in the place of what was there, and its parent points to it there.
+    /// A block comes into memory, in the place of what was there, and its parent points to it
+    /// there.
     pub fn fetch(&mut self, key: BlockKey, bytes: &[u8; 512])
-        requires { find nat_cmp key.code self.old.blocks ≡ None → length self.old.blocks < self.old.capacity.limit }
-        ensures fetches { Fetches (blocks_of self.old) (blocks_of self.new) (entry_of key) bytes.now }
-        ensures length { length self.new.blocks ≡ cond (is_some (find nat_cmp key.code self.old.blocks)) (length self.old.blocks) (length self.old.blocks + 1) }
+        requires { find nat_cmp key.code self.old.blocks ≡ None
+            → length self.old.blocks < self.old.capacity.limit }
+        ensures fetches { Fetches (blocks_of self.old) (blocks_of self.new)
+            (entry_of key) bytes.now }
+        ensures length { length self.new.blocks ≡ cond
+            (is_some (find nat_cmp key.code self.old.blocks)) (length self.old.blocks)
+            (length self.old.blocks + 1) }
         ensures capacity { self.new.capacity ≡ self.old.capacity }
     {
         if let Some(above) = key.parent() {
@@ -300,10 +329,12 @@ impl DirtyTable {
         self.put(key, bytes);
     }
 
-    /// The block of this key leaves memory for an address on the device, or for good at 0, and its parent points there.
+    /// The block of this key leaves memory for an address on the device, or for good at 0, and its
+    /// parent points there.
     pub fn moved(&mut self, key: BlockKey, address: u32)
         ensures moves { Moves (blocks_of self.old) (blocks_of self.new) (entry_of key) address }
-        ensures length { (bytes : List ℕ) → blocks_of self.old (entry_of key) ≡ Some bytes → length self.new.blocks + 1 ≡ length self.old.blocks }
+        ensures length { (bytes : List ℕ) → blocks_of self.old (entry_of key) ≡ Some bytes
+            → length self.new.blocks + 1 ≡ length self.old.blocks }
         ensures no_more { length self.new.blocks ≤ length self.old.blocks }
         ensures capacity { self.new.capacity ≡ self.old.capacity }
     {

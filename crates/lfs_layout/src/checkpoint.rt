@@ -40,7 +40,8 @@ impl Checkpoint {
     /// The checkpoint whose sector this is, if it is one.
     pub fn decode(sector: &[u8; 512]) -> Option<Checkpoint>
         ensures found { IfSome result (λ c. FitsCheckpoint c × (sector.now ≡ checkpoint_sector c)) }
-        ensures none { IfNone result ((c : CheckpointValue) → FitsCheckpoint c → ¬ (sector.now ≡ checkpoint_sector c)) }
+        ensures none { IfNone result ((c : CheckpointValue) → FitsCheckpoint c
+            → ¬ (sector.now ≡ checkpoint_sector c)) }
         ensures exact { result ≡ checkpoint_in sector.now }
     {
         if !is_text_at(sector, 0, b"SLFSCKP1") {
@@ -100,12 +101,14 @@ impl Checkpoint {
 }
 
 impl Checkpoint {
-    /// The checkpoint of this number, of a volume of so many segments, with the addresses of its map and usage blocks.
+    /// The checkpoint of this number, of a volume of so many segments, with the addresses of its
+    /// map and usage blocks.
     pub fn new(number: u64, segments: u32, map: [u32; 32], usage: [u32; 16]) -> Checkpoint
         requires number { 1 ≤ number }
         requires count { IsSegmentCount segments }
         ensures fits { FitsCheckpoint result }
-        ensures value { result ≡ record { number = number; segments = segments; map = map; usage = usage } }
+        ensures value { result ≡ record
+            { number = number; segments = segments; map = map; usage = usage } }
     {
         fits_32(&map);
         fits_32(&usage);
@@ -120,5 +123,6 @@ impl Checkpoint {
 
 /// Two checkpoints that are spelled alike are one.
 pub fn one_checkpoint_spelling()
-    ensures { (c d : CheckpointValue) → FitsCheckpoint c → FitsCheckpoint d → checkpoint_sector c ≡ checkpoint_sector d → c ≡ d }
+    ensures { (c d : CheckpointValue) → FitsCheckpoint c → FitsCheckpoint d
+        → checkpoint_sector c ≡ checkpoint_sector d → c ≡ d }
 {}

@@ -23,8 +23,8 @@ impl<'a> Model for InodeView<'a> {
     ghost view = { λ v. inode_of v.sector.now };
 }
 
-/// Whether an inode of the kind may have so many bytes: a file up to 8,511,488, a directory of form 0 a multiple of 64 up to 65,536,
-/// a link 1 to 1,023.
+/// Whether an inode of the kind may have so many bytes: a file up to 8,511,488, a directory of form
+/// 0 a multiple of 64 up to 65,536, a link 1 to 1,023.
 #[tactic(auto, unfolding(lfs_model::specs::Inode::IsSize))]
 pub fn is_size(kind: Kind, size: u32) -> bool
     ensures { IsTrue result ↔ IsSize 0 kind size }
@@ -59,7 +59,8 @@ impl<'a> InodeView<'a> {
     /// The inode whose sector this is, if it is one.
     pub fn decode(sector: &'a [u8; 512]) -> Option<InodeView<'a>>
         ensures found { IfSome result (λ i. FitsInode i × (sector.now ≡ inode_sector i)) }
-        ensures none { IfNone result ((i : InodeValue) → FitsInode i → ¬ (sector.now ≡ inode_sector i)) }
+        ensures none { IfNone result ((i : InodeValue) → FitsInode i
+            → ¬ (sector.now ≡ inode_sector i)) }
         ensures exact { result ≡ inode_in sector.now }
     {
         let Some(kind) = kind_at(sector) else {
@@ -232,7 +233,8 @@ impl Inode {
 }
 
 impl Inode {
-    /// The inode of an object, with the addresses of its blocks, its single leaf and its double root.
+    /// The inode of an object, with the addresses of its blocks, its single leaf and its double
+    /// root.
     pub fn new(
         kind: Kind,
         number: u32,
@@ -246,7 +248,16 @@ impl Inode {
         requires links { (1 ≤ links) × (links ≤ 1000) }
         requires size { IsSize 0 kind size }
         ensures fits { FitsInode result }
-        ensures value { result ≡ record { kind = kind; number = number; links = links; size = size; direct = direct; single = single; double = double } }
+        ensures value { result ≡ record {
+          kind = kind;
+          number = number;
+          links = links;
+          size = size;
+          direct = direct;
+          single =
+              single;
+          double = double;
+        } }
     {
         fits_32(&direct);
         Inode {
@@ -263,5 +274,6 @@ impl Inode {
 
 /// Two inodes that are spelled alike are one.
 pub fn one_inode_spelling()
-    ensures { (a b : InodeValue) → FitsInode a → FitsInode b → inode_sector a ≡ inode_sector b → a ≡ b }
+    ensures { (a b : InodeValue) → FitsInode a → FitsInode b
+        → inode_sector a ≡ inode_sector b → a ≡ b }
 {}

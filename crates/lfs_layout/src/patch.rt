@@ -21,15 +21,18 @@ pub fn word(block: &[u8; 512], place: usize) -> u32
 #[tactic(auto, unfolding(lfs_model::specs::Fields::le32))]
 pub fn set_word(block: &mut [u8; 512], place: usize, number: u32)
     requires { place < 128 }
-    ensures { block.new ≡ take (4 * place) block.old ++ le32 number ++ drop (4 * place + 4) block.old }
+    ensures { block.new ≡ take (4 * place) block.old ++ le32 number ++ drop
+        (4 * place + 4) block.old }
 {
     let at = 4 * place;
     LittleEndian::write_u32(&mut block[at..at + 4], number);
 }
 
-/// Makes a block the inode of this number with this kind, links and size in bytes. The addresses stay.
+/// Makes a block the inode of this number with this kind, links and size in bytes. The addresses
+/// stay.
 pub fn set_header(block: &mut [u8; 512], number: u32, kind: Kind, links: u32, size: u32)
-    ensures { block.new ≡ (kind_byte kind ∷ []) ++ zeros 3 ++ le32 number ++ le32 links ++ le32 size ++ drop 16 block.old }
+    ensures { block.new ≡ (kind_byte kind ∷ []) ++ zeros 3 ++ le32 number ++ le32 links ++ le32
+        size ++ drop 16 block.old }
 {
     let header = header_bytes(number, kind, links, size);
     block[..16].copy_from_slice(&header);

@@ -59,5 +59,6 @@ pub fn encode_pointers(addresses: &[u32; 128]) -> [u8; 512]
 
 /// Two blocks of addresses that are spelled alike are one.
 pub fn one_pointer_spelling()
-    ensures { (a b : List ℕ) → FitsPointers a → FitsPointers b → pointer_sector a ≡ pointer_sector b → a ≡ b }
+    ensures { (a b : List ℕ) → FitsPointers a → FitsPointers b
+        → pointer_sector a ≡ pointer_sector b → a ≡ b }
 {}

@@ -26,7 +26,8 @@ impl<'a> Model for SlotView<'a> {
     ghost invariant = { λ v. get_or v.slot.now 4 0 ≤ 59 };
 }
 
-/// Whether the bytes may be a name: 1 to 59 of them, none 0 or a slash, and neither dot nor dot-dot.
+/// Whether the bytes may be a name: 1 to 59 of them, none 0 or a slash, and neither dot nor
+/// dot-dot.
 pub fn is_name(name: &[u8]) -> bool
     ensures { IsTrue result ↔ IsName (name_len 0) name.now }
 {
@@ -93,7 +94,8 @@ impl<'a> SlotView<'a> {
     /// The slot that these bytes are, if they are one.
     pub fn decode(slot: &'a [u8; 64]) -> Option<SlotView<'a>>
         ensures found { IfSome result (λ s. FitsSlot 0 s × (slot.now ≡ slot_bytes 0 s)) }
-        ensures none { IfNone result ((s : SlotValue) → FitsSlot 0 s → ¬ (slot.now ≡ slot_bytes 0 s)) }
+        ensures none { IfNone result ((s : SlotValue) → FitsSlot 0 s
+            → ¬ (slot.now ≡ slot_bytes 0 s)) }
         ensures exact { result ≡ slot_in 0 slot.now }
     {
         let number = number_of(slot);
@@ -128,7 +130,8 @@ impl<'a> SlotView<'a> {
     }
 }
 
-/// The 64 bytes by which a directory names an object, whose number is 1 to 4,095; `is_name` tells what a name may be.
+/// The 64 bytes by which a directory names an object, whose number is 1 to 4,095; `is_name` tells
+/// what a name may be.
 pub fn encode_slot(number: u32, name: &[u8]) -> [u8; 64]
     requires { FitsSlot 0 record { number = number; name = name.now } }
     ensures { result ≡ slot_bytes 0 record { number = number; name = name.now } }
@@ -143,5 +146,6 @@ pub fn encode_slot(number: u32, name: &[u8]) -> [u8; 64]
 
 /// Two slots that are spelled alike are one.
 pub fn one_slot_spelling()
-    ensures { (a b : SlotValue) → FitsSlot 0 a → FitsSlot 0 b → slot_bytes 0 a ≡ slot_bytes 0 b → a ≡ b }
+    ensures { (a b : SlotValue) → FitsSlot 0 a → FitsSlot 0 b
+        → slot_bytes 0 a ≡ slot_bytes 0 b → a ≡ b }
 {}

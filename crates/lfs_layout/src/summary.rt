@@ -1,6 +1,6 @@
 //! Summaries of chunks, read in place.
 ghost use Rattle.std.specs.Prelude.{◌≡◌, ◌<◌, ◌≤◌, ◌+◌, ◌*◌, ◌++◌, ◌↔◌, List, ℕ, length, get_or, IfSome, IfNone, IsTrue};
-ghost use Rattle.lfs_model.specs.Summary.{BlockNameValue, FitsSummary, IsBlockAt, IsPlaced, block_at, block_kind_byte, block_kind_of, no_block, summary_entry, summary_sector, summary_in};
+ghost use Rattle.lfs_model.specs.Summary.{BlockNameValue, FitsSummary, IsEntryAt, IsPlaced, block_at, block_kind_byte, block_kind_of, no_block, summary_entry, summary_sector, summary_in};
 
 use crate::fields::{is_zero_at, number16_at, number32_at};
 use crate::writer::SectorWriter;
@@ -10,7 +10,8 @@ use std::marker::Model;
 /// What a summary says of one block of its chunk.
 #[derive(Clone, Copy, Debug, PartialEq, Eq)]
 pub struct BlockName {
-    /// The number of the object that the block belongs to; 0 for a block of the inode map or of usage.
+    /// The number of the object that the block belongs to; 0 for a block of the inode map or of
+    /// usage.
     pub file: u16,
     /// What the block is.
     pub kind: BlockKind,
@@ -74,7 +75,8 @@ fn byte_of_kind(kind: BlockKind) -> u8
     }
 }
 
-/// Whether a summary may name this block: each kind has its own numbers of objects and its own indices.
+/// Whether a summary may name this block: each kind has its own numbers of objects and its own
+/// indices.
 #[tactic(auto, unfolding(lfs_model::specs::Summary::IsPlaced))]
 pub fn is_placed(block: BlockName) -> bool
     ensures { IsTrue result ↔ IsPlaced block.kind block.file block.index }
@@ -104,7 +106,7 @@ fn block_of(sector: &[u8; 512], at: usize) -> BlockName
 
 fn is_block_at(sector: &[u8; 512], at: usize) -> bool
     requires { at + 8 ≤ 512 }
-    ensures { IsTrue result ↔ IsBlockAt at sector.now }
+    ensures { IsTrue result ↔ IsEntryAt at sector.now }
 {
     let byte = sector[at + 2];
     let kind = kind_of(byte);
@@ -123,7 +125,8 @@ impl<'a> SummaryView<'a> {
     /// The summary whose sector this is, if it is one.
     pub fn decode(sector: &'a [u8; 512]) -> Option<SummaryView<'a>>
         ensures found { IfSome result (λ bs. FitsSummary bs × (sector.now ≡ summary_sector bs)) }
-        ensures none { IfNone result ((bs : List BlockNameValue) → FitsSummary bs → ¬ (sector.now ≡ summary_sector bs)) }
+        ensures none { IfNone result ((bs : List BlockNameValue) → FitsSummary bs
+            → ¬ (sector.now ≡ summary_sector bs)) }
         ensures exact { result ≡ summary_in sector.now }
     {
         let count = number16_at(sector, 0) as usize;
@@ -209,7 +212,8 @@ pub fn encode_summary(blocks: &[BlockName]) -> [u8; 512]
 
 /// Two summaries that are spelled alike are one.
 pub fn one_summary_spelling()
-    ensures { (a b : List BlockNameValue) → FitsSummary a → FitsSummary b → summary_sector a ≡ summary_sector b → a ≡ b }
+    ensures { (a b : List BlockNameValue) → FitsSummary a → FitsSummary b
+        → summary_sector a ≡ summary_sector b → a ≡ b }
 {}
 
 impl Default for BlockName {

@@ -82,10 +82,12 @@ fn write_entry(sector: &mut SectorWriter, entry: SegmentUsage)
 }
 
 impl<'a> UsageView<'a> {
-    /// The usage block whose sector this is, if it is one where its first `count` entries belong to segments.
+    /// The usage block whose sector this is, if it is one where its first `count` entries belong to
+    /// segments.
     pub fn decode(sector: &'a [u8; 512], count: usize) -> Option<UsageView<'a>>
         ensures found { IfSome result (λ us. FitsUsage count us × (sector.now ≡ usage_sector us)) }
-        ensures none { IfNone result ((us : List SegmentUse) → FitsUsage count us → ¬ (sector.now ≡ usage_sector us)) }
+        ensures none { IfNone result ((us : List SegmentUse) → FitsUsage count us
+            → ¬ (sector.now ≡ usage_sector us)) }
         ensures exact { result ≡ usage_in count sector.now }
     {
         for i in 0..64 {
@@ -122,5 +124,6 @@ pub fn encode_usage(entries: &[SegmentUsage; 64]) -> [u8; 512]
 
 /// Two usage blocks that are spelled alike are one.
 pub fn one_usage_spelling()
-    ensures { (n m : ℕ) (a b : List SegmentUse) → FitsUsage n a → FitsUsage m b → usage_sector a ≡ usage_sector b → a ≡ b }
+    ensures { (n m : ℕ) (a b : List SegmentUse) → FitsUsage n a → FitsUsage m b
+        → usage_sector a ≡ usage_sector b → a ≡ b }
 {}

@@ -20,7 +20,7 @@ use Rattle.lfs_memory.specs.inodes.Blocks.{Blocks, Capacity, TableValue, blocks_
 use Rattle.lfs_memory.specs.declared.memory.LogMemory.{LogMemory}
 use Rattle.lfs_memory.specs.Changing.{Tightens}
 use Rattle.lfs_memory.specs.Memory.{IsLog, IsLoose, IsMemory, tables_of, segment_in, chunk_in}
-use Rattle.lfs_memory.specs.Present.{IsExcused}
+use Rattle.lfs_memory.specs.Present.{FailsFromDevice}
 use Rattle.lfs_memory.proofs.BlockSteps.{tightened_log}
 use Rattle.lfs_memory.proofs.Looses.{loose}
 use Rattle.lfs_memory.proofs.of_segments.EmptiedGained.{count_gained}
@@ -45,7 +45,7 @@ module _ (a b : DeviceState) (v v' : LogMemory) (vs : List ℕ) (one : Relocates
         held = now.0.running.tables.held (get_or vs i 0) ∙ empty.1;
       }
 
-  pub not_emptied : (AreEmptied v'.usage vs → ⊥) → IsExcused a b v
+  pub not_emptied : (AreEmptied v'.usage vs → ⊥) → FailsFromDevice a b v
   not_emptied never k m0 m keeps is = absurd (never (emptied_there k m0 m keeps is))
 
 pub empties : (a b : DeviceState) (v v' v'' : LogMemory) (vs : List ℕ) → Relocates a b v v' → AreEmptied v'.usage vs → Tightens v' v'' → Empties a b v v'' vs
@@ -75,7 +75,7 @@ module _ (v : LogMemory) (t : TableValue) (same : t.blocks ≡ v.dirty.blocks) w
     tight = subst (λ (bs : Blocks). IsTight (blocks_in bs)) (sym same) is.tight;
   }
 
-  pub limited_excused : (a b : DeviceState) → IsExcused a b (record { map = v.map; usage = v.usage; dirty = t; chunk = v.chunk }) → IsExcused a b v
+  pub limited_excused : (a b : DeviceState) → FailsFromDevice a b (record { map = v.map; usage = v.usage; dirty = t; chunk = v.chunk }) → FailsFromDevice a b v
   limited_excused a b failed k m0 m keeps is = failed k m0 m keeps (record {
     running = subst (λ (bs : Blocks). Running a (blocks_in bs) (tables_of v) k m0 m (segment_in v.chunk) (chunk_in v.chunk)) (sym same) is.running;
     hidden = is.hidden;

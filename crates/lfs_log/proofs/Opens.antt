@@ -34,7 +34,7 @@ use Rattle.lfs_verify.specs.declared.totals.BlockTotals.{BlockTotals}
 use Rattle.lfs_verify.specs.Loading.{HasTables, IsLoaded, IsUsageUpTo, SaysUsage, IsMapUpTo, SaysMap, numbers_in}
 use Rattle.lfs_verify.specs.Take.{Looks}
 use Rattle.lfs_verify.specs.Verified.{HasLogMap}
-use Rattle.lfs_log.specs.Held.{Held, Holds, IsReady, Mounts}
+use Rattle.lfs_log.specs.Held.{Held, Holds, IsReadyToPass, Mounts}
 use Rattle.lfs_log.specs.Opening.{CountsOpened, IsOpened, Opens}
 use Rattle.lfs_log.specs.Publishing.{AreUntaken}
 use Rattle.lfs_memory.proofs.Opened.{closed_segment, closed_chunk, as_chunk}
@@ -210,7 +210,7 @@ pub has_log_map : (d d' : DeviceState) (t : Tables) → (d'.keeps_model → HasT
 has_log_map d d' t has keeps = let h = has keeps in (h.held.log, record { checkpoint = h.held.checkpoint; newest = h.held.newest; stands = h.stands })
 
 -- the log that has it is ready
-pub ready : (d : DeviceState) (v : LogMemory) (before : UsageTable) → IsOpened v d.size → length before.segments ≡ length v.usage.segments → IsReady d v before
+pub ready : (d : DeviceState) (v : LogMemory) (before : UsageTable) → IsOpened v d.size → length before.segments ≡ length v.usage.segments → IsReadyToPass d v before
 ready d v before is saved = record {
   running = record {
     memory = is.memory;

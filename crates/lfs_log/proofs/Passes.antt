@@ -21,7 +21,7 @@ use Rattle.lfs_memory.proofs.Presents.{looks_none, looks_quiet}
 use Rattle.lfs_log.specs.Cleaning.{Cleans, Empties, MayClean, most_brought}
 use Rattle.lfs_log.specs.Held.{Held, Halts, Holds, Reads}
 use Rattle.lfs_log.specs.Publishing.{IsAcknowledged}
-use Rattle.lfs_log.specs.Saving.{Commits, CommitFails, IsSpared, segments_for}
+use Rattle.lfs_log.specs.Saving.{CommitsAll, CommitFails, IsSpared, segments_for}
 use Rattle.lfs_log.proofs.Cleaned.{at_one, emptied_least, limited_log}
 
 -- ---- room
@@ -93,7 +93,7 @@ module _ {D : Type 0} (state : D → DeviceState) where
     }
 
     pub pass_done : MayClean h.memory vs → AreApart vs → length v.dirty.blocks ≤ most_brought (length vs) → (device : D) (w : LogMemory) (t : TableValue) (halted : Bool) → halted ≡ false → t.blocks ≡ w.dirty.blocks
-        → middle.failures ≡ (state h.device).failures → Commits middle (state device) v w h.number
+        → middle.failures ≡ (state h.device).failures → CommitsAll middle (state device) v w h.number
         → Cleans state h (record { device = device; memory = record { map = w.map; usage = w.usage; dirty = t; chunk = w.chunk }; number = h.number + 1; halted = halted; totals = h.totals }) vs
     pass_done may apart few device w t halted on same unfailed done = record {
       carries = carries_then (state h.device) middle (state device) one.looks.carries done.carries;

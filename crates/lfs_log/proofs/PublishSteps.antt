@@ -19,7 +19,7 @@ use Rattle.lfs_model.proofs.Leaving.{staying}
 use Rattle.lfs_model.proofs.Moments.{carries_then, started, goes_on, joined}
 use Rattle.lfs_model.proofs.Publishing.{planning, resting}
 use Rattle.lfs_model.proofs.Settled.{settled_stands, settled_still, slot_torn, acknowledged}
-use Rattle.lfs_memory.specs.segments.Table.{SegmentNumbers, BlockPlace, UsageTable, no_segment, no_place, used_of, live_of, held_of, address_of}
+use Rattle.lfs_memory.specs.segments.Table.{SegmentNumbers, PlaceInSegment, UsageTable, no_segment, no_place, used_of, live_of, held_of, address_of}
 use Rattle.lfs_memory.specs.segments.Steps.{Releases, is_empty}
 use Rattle.lfs_memory.specs.segments.Spare.{spare_in}
 use Rattle.lfs_memory.specs.inodes.Blocks.{Blocks, blocks_in, blocks_of}
@@ -53,8 +53,8 @@ some_left l h some = false_from_ne_true ((l == 0) && (h == 0)) (λ both. let z =
     and_both false b e = let bad : false ≡ true = e in absurd (cc)
 
 module _ (v : LogMemory) (u : UsageTable) (go : Releases v.usage u) where
-  places_same : {X : Type 0} (f : BlockPlace → X) (i : ℕ) → f (get_or u.blocks i no_place) ≡ f (get_or v.usage.blocks i no_place)
-  places_same f i = ap (λ (x : List BlockPlace). f (get_or x i no_place)) go.blocks
+  places_same : {X : Type 0} (f : PlaceInSegment → X) (i : ℕ) → f (get_or u.blocks i no_place) ≡ f (get_or v.usage.blocks i no_place)
+  places_same f i = ap (λ (x : List PlaceInSegment). f (get_or x i no_place)) go.blocks
 
   pub is_released : IsReleased (tables_of v) (tables_of (record v { usage = u }))
   is_released = record {

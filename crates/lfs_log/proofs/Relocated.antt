@@ -5,7 +5,7 @@ use Rattle.lfs_model.specs.Content.{Content}
 use Rattle.lfs_model.specs.Device.{DeviceState, IsLawful}
 use Rattle.lfs_model.specs.Entry.{Entry, Data, Leaf, Double, Inode, Map, Usage, word}
 use Rattle.lfs_model.specs.Memory.{Memory, parent, pointer, file_of, IsOfFile}
-use Rattle.lfs_model.specs.Staging.{IsAt}
+use Rattle.lfs_model.specs.Staging.{IsAtAddress}
 use Rattle.lfs_model.specs.Stands.{LogMap}
 use Rattle.lfs_model.proofs.Entries.{data_below, leaf_below, double_below}
 use Rattle.lfs_model.proofs.Reading.{reading}
@@ -17,7 +17,7 @@ use Rattle.lfs_memory.specs.inodes.Present.{present}
 use Rattle.lfs_memory.specs.declared.memory.LogMemory.{LogMemory}
 use Rattle.lfs_memory.specs.Lifting.{Gathers, HasTraces, IsInMemory, Prepares}
 use Rattle.lfs_memory.specs.Memory.{IsLoose, IsMemory, tables_of, segment_in, chunk_in}
-use Rattle.lfs_memory.specs.Present.{AnswersAddress, IsExcused, IsMissing, Looks}
+use Rattle.lfs_memory.specs.Present.{AnswersAddress, FailsFromDevice, IsMissing, Looks}
 use Rattle.lfs_memory.proofs.Gathered.{gathers_looks, gathers_then}
 use Rattle.lfs_memory.proofs.Presents.{excused_then, inode_at, is_there, looks_then, not_missing}
 use Rattle.lfs_memory.proofs.of_inodes.Moving.{differ}
@@ -51,7 +51,7 @@ relocates_then a b c v v' v'' lawful one two = record {
   gathers = gathers_then a b c v v' v'' two.looks.carries.kept_before one.gathers two.gathers;
 }
 
-pub relocated_excused : (a b c : DeviceState) (v v' : LogMemory) → Relocates a b v v' → Looks b c → IsExcused b c v' → IsExcused a c v
+pub relocated_excused : (a b c : DeviceState) (v v' : LogMemory) → Relocates a b v v' → Looks b c → FailsFromDevice b c v' → FailsFromDevice a c v
 relocated_excused a b c v v' one two failed k m0 m keeps is =
     let rose = failed k m0 m keeps (one.gathers.traces k m0 m (two.carries.kept_before keeps) is).0 in
     let before = one.looks.carries.failures in
@@ -88,7 +88,7 @@ module _ (a b c : DeviceState) (v : LogMemory) (up : Entry) (address : ℕ) (one
       sym ((reading a.content m is.running.memory (segment_in v.chunk) is.running.laid).pointer x below low (omega (arith, above, some)))
       ∙ ap (λ (b : List ℕ). word b (pointer x)) (sym bytes) ∙ found
 
-  pub located_failed : (c.keeps_model → (b.failures < c.failures) ⊎ IsMissing b.content (blocks_of v.dirty) up address) → IsExcused a c v
+  pub located_failed : (c.keeps_model → (b.failures < c.failures) ⊎ IsMissing b.content (blocks_of v.dirty) up address) → FailsFromDevice a c v
   located_failed unread k m0 m keeps is = ⊎_elim
       (λ (failed : b.failures < c.failures). excused_then a b c v one two failed k m0 m keeps is)
       (λ (missing : IsMissing b.content (blocks_of v.dirty) up address).
@@ -104,7 +104,7 @@ pub no_block_above : (d : DeviceState) (v : LogMemory) (x up : Entry) → up ≡
 no_block_above d v x up named none k m0 m keeps is =
     (reading d.content m is.running.memory (segment_in v.chunk) is.running.laid).no_pointer x (ap is.running.memory.at (sym named) ∙ none k m0 m keeps is)
 
-pub no_pointer_there : (d : DeviceState) (v : LogMemory) (x : Entry) → IsAt (blocks_of v.dirty) (tables_of v) x 0 → IsNoBlock d v x
+pub no_pointer_there : (d : DeviceState) (v : LogMemory) (x : Entry) → IsAtAddress (blocks_of v.dirty) (tables_of v) x 0 → IsNoBlock d v x
 no_pointer_there d v x at k m0 m keeps is = address_at d (blocks_of v.dirty) (tables_of v) k m0 m (segment_in v.chunk) (chunk_in v.chunk) x 0 is.running at
 
 -- ---- a block that has left its address

@@ -6,7 +6,7 @@ use Rattle.lfs_model.specs.Device.{Cell}
 use Rattle.lfs_model.specs.Entry.{Entry, entry_of, entries_in}
 use Rattle.lfs_model.specs.Reach.{Row, after, opened, chunks, row_by, place_in}
 use Rattle.lfs_model.specs.Summary.{BlockNameValue, no_block, summary_in}
-use Rattle.lfs_log.specs.verify.Rows.{HasRow, Names, part, from}
+use Rattle.lfs_log.specs.verify.Rows.{HasRow, IsSummaryOf, part, from}
 use Rattle.lfs_log.proofs.of_verify.RowSteps.{here, behind, opens, opens_names, entries_some, end_is, enough_behind, rest_is, next_chunk, from_start}
 
 -- ---- places of a row
@@ -66,7 +66,7 @@ module _ (c : Content) (used segment at : ℕ) (long : 2 + 64 * segment + used �
       ∙ opened_first (entries_in (bytes_of l)) (λ es. chunks es (behind c used segment at long lt))
 
   module _ (bytes : List ℕ) (there : block c (2 + 64 * segment + at) ≡ bytes) (bs : List BlockNameValue) (is : Some bs ≡ summary_in bytes) (room : at + length bs < used) where
-    abbrev known : Names (block c (2 + 64 * segment + at)) (length bs)
+    abbrev known : IsSummaryOf (block c (2 + 64 * segment + at)) (length bs)
     known = (map entry_of bs, ap entries_in there ∙ entries_some bytes bs is, length-map bs entry_of)
 
     opened_row : from c used segment at ≡ after None (chunks (map entry_of bs) (behind c used segment at long lt))

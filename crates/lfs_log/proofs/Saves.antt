@@ -15,7 +15,7 @@ use Rattle.lfs_memory.proofs.of_segments.Spare.{emptied_stay, spare_there, empti
 use Rattle.lfs_memory.specs.declared.memory.LogMemory.{LogMemory}
 use Rattle.lfs_memory.specs.Memory.{IsMemory, Goes, Stops, room_of, room_in}
 use Rattle.lfs_log.specs.Publishing.{IsAcknowledged, Publishes, PublishFails, LeavesEither}
-use Rattle.lfs_log.specs.Saving.{Commits, CommitFails, segments_for}
+use Rattle.lfs_log.specs.Saving.{CommitsAll, CommitFails, segments_for}
 use Rattle.lfs_memory.proofs.Begun.{zero_or_more}
 use Rattle.lfs_memory.proofs.Rooms.{room_none, room_some}
 use Rattle.lfs_log.proofs.Cleaned.{emptied_clean}
@@ -71,7 +71,7 @@ publish_fails a b c v v' n number goes fails = record {
 pub commits : (a b c : DeviceState) (v v' v'' : LogMemory) (n number : ℕ) → Goes a b v v' n → Publishes b c v' v'' number
     → clean_in v.usage.segments ≤ clean_in v'.usage.segments + segments_for (length v.dirty.blocks)
     → length v.usage.segments + 8 * segments_for (length v.dirty.blocks) ≤ 8 * (clean_in v.usage.segments + emptied_in v.usage.segments)
-    → v''.chunk.names ≡ [] → v''.dirty.blocks ≡ [] → v''.dirty.capacity ≡ v.dirty.capacity → Commits a c v v'' number
+    → v''.chunk.names ≡ [] → v''.dirty.blocks ≡ [] → v''.dirty.capacity ≡ v.dirty.capacity → CommitsAll a c v v'' number
 commits a b c v v' v'' n number goes done taken spare chunk dirty capacity = record {
   carries = carries_then a b c goes.carries done.carries;
   memory = done.memory;

@@ -1,7 +1,7 @@
 -- The summary of a chunk is written.
 use Rattle.std.proofs.Common.{◌≡◌, ◌<◌, ◌≤◌, ◌+◌, ◌*◌, ℕ, [], length, Some, None, refl, sym, ap, subst, arith}
 use Rattle.lfs_model.specs.Checkpoint.{CheckpointValue}
-use Rattle.lfs_model.specs.Crash.{IsFree}
+use Rattle.lfs_model.specs.Crash.{IsFreeSector}
 use Rattle.lfs_model.specs.Device.{DeviceState, MayWrite, CrashWrites, Carries, Elapses, IsLawful, put, left_new}
 use Rattle.lfs_model.specs.Entry.{entries_in}
 use Rattle.lfs_model.specs.Stands.{LogMap}
@@ -21,11 +21,11 @@ module _ (d d' : DeviceState) (v : LogMemory) (memory : IsMemoryUpTo 63 v) (some
   abbrev at : ℕ
   at = 2 + 64 * v.chunk.segment
 
-  free : (k : CheckpointValue) (m0 m : LogMap) → IsLog d v k m0 m → IsFree d.content k at
+  free : (k : CheckpointValue) (m0 m : LogMap) → IsLog d v k m0 m → IsFreeSector d.content k at
   free k m0 m is =
       let w = is_open d v k m0 m is some in
       let f = taken_free d (blocks_of v.dirty) (tables_of v) k m0 m v.chunk.segment (Some (entries_of v.chunk)) w v.chunk.segment 0 ((memory.opened some).taken) (omega arith) in
-      subst (λ (n : ℕ). IsFree d.content k n) (omega arith) f
+      subst (λ (n : ℕ). IsFreeSector d.content k n) (omega arith) f
 
   module _ (may : d'.keeps_model → MayWrite at (summary_sector v.chunk.names) d.content d'.content) where
     pub settled_sealed : (k : CheckpointValue) (m0 m : LogMap) → d'.keeps_model → IsLog d v k m0 m → IsSettled d' k m0

@@ -18,9 +18,9 @@ use Rattle.lfs_memory.specs.segments.Table.{SegmentNumbers, UsageTable, no_segme
 use Rattle.lfs_memory.specs.inodes.Blocks.{TableValue, blocks_of}
 use Rattle.lfs_memory.specs.inodes.MapValue.{MapValue, address_in, block_in}
 use Rattle.lfs_memory.specs.declared.memory.LogMemory.{LogMemory}
-use Rattle.lfs_memory.specs.Lifting.{Gathers, HasTraces, IsCounted, MapLifts}
+use Rattle.lfs_memory.specs.Lifting.{Gathers, HasTraces, IsCountedAbove, MapLifts}
 use Rattle.lfs_memory.specs.Memory.{AreHidden, IsLoose, IsMemory, table_at, tables_of, segment_in, chunk_in}
-use Rattle.lfs_memory.specs.Present.{IsExcused}
+use Rattle.lfs_memory.specs.Present.{FailsFromDevice}
 use Rattle.lfs_memory.proofs.Gathered.{gathers_looks, loose_traced, map_of_gathers, taken_traced, TracedIn}
 use Rattle.lfs_memory.proofs.Lifted.{map_of_prepares}
 use Rattle.lfs_memory.proofs.Presents.{looks_none}
@@ -44,7 +44,7 @@ pub usage_left : (d d' : DeviceState) (v v' : LogMemory) (j address : ℕ) → (
 usage_left d d' v v' j address ne k m0 m keeps is is' traces at = ne (sym (is'.running.tables.at (Usage j) refl) ∙ at)
 
 -- ---- a usage block
-pub usage_lost : (d : DeviceState) (v : LogMemory) (j : ℕ) → IsUsageLost v j → IsExcused d d v
+pub usage_lost : (d : DeviceState) (v : LogMemory) (j : ℕ) → IsUsageLost v j → FailsFromDevice d d v
 usage_lost d v j gone k m0 m keeps is = absurd (gone.lost (record {
   above = gone.above;
   inside = let s = at in let w = is.running.laid.within (Usage j) there in let n = is.running.segments in let l = is.segments in let up = gone.above in omega (arith, s, w, n, l, up);

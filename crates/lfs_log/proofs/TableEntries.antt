@@ -10,7 +10,7 @@ use Rattle.lfs_model.specs.Members.{IsIn, AreApart}
 use Rattle.lfs_model.specs.Memory.{IsOfFile}
 use Rattle.lfs_model.proofs.Entries.{same_entry}
 use Rattle.lfs_model.proofs.Sums.{T_right}
-use Rattle.lfs_memory.specs.inodes.Blocks.{Blocks, TableValue, blocks_of, number_at, IsAt}
+use Rattle.lfs_memory.specs.inodes.Blocks.{Blocks, TableValue, blocks_of, number_at, HasNumberAt}
 use Rattle.lfs_memory.specs.inodes.Code.{IsCode, code, entry_at}
 use Rattle.lfs_memory.proofs.of_inodes.Blocks.{find_at, find_more, rises}
 use Rattle.lfs_memory.proofs.of_inodes.Codes.{code_entry, entry_of_code, of_file}
@@ -66,7 +66,7 @@ module _ (t : TableValue) (order : IsInOrder t) where
   has_number : (c : ℕ) → IsIn (numbers t.blocks) c → Has t (entry_at c)
   has_number c is =
       let r = number_there t.blocks c is in
-      let there : IsAt t.blocks c r.0 = record { within = r.1; number = r.2 } in
+      let there : HasNumberAt t.blocks c r.0 = record { within = r.1; number = r.2 } in
       ((get_or t.blocks r.0 (0, [])).1, ap (λ (c : ℕ). find nat_cmp c t.blocks) (code_entry c (formed c is)) ∙ find_at t.blocks order.sorted c r.0 there)
 
   number_in : (c : ℕ) → IsCode c → Has t (entry_at c) → IsIn (numbers t.blocks) c

@@ -19,8 +19,8 @@ use Rattle.lfs_model.proofs.Running.{pick, pick_yes, pick_no, taken_memory, is_t
 use Rattle.lfs_model.proofs.Leaving.{beginning, usage_leaving}
 use Rattle.lfs_model.proofs.Stepping.{usage_settling}
 use Rattle.lfs_memory.specs.segments.Table.{SegmentNumbers, UsageTable, no_segment, used_of, live_of, held_of, age_of, taken_of, address_of, stale_of, clean_in}
-use Rattle.lfs_memory.specs.segments.Chunk.{Chunk, IsOpen, entries_of}
-use Rattle.lfs_memory.specs.segments.Steps.{Lifts, Takes}
+use Rattle.lfs_memory.specs.segments.Chunk.{Chunk, IsOpenChunk, entries_of}
+use Rattle.lfs_memory.specs.segments.Steps.{Lifts, TakesSegment}
 use Rattle.lfs_memory.specs.segments.Emptied.{IsEmptied}
 use Rattle.lfs_memory.proofs.of_segments.StaysEmptied.{stays_emptied}
 use Rattle.lfs_memory.specs.inodes.Blocks.{TableValue, blocks_of}
@@ -119,7 +119,7 @@ module _ (v v' : LogMemory) (j number : ℕ) (good : IsMemory v) (old : stale_of
   mid = r.places.middle
 
   -- the table between, which is that in which it left or one that took a segment
-  by_case : (P : Type 0) → (length v.chunk.names ≡ 0 → Takes r.lifted r.places.middle r.placed.chunk.segment number → P)
+  by_case : (P : Type 0) → (length v.chunk.names ≡ 0 → TakesSegment r.lifted r.places.middle r.placed.chunk.segment number → P)
       → (0 < length v.chunk.names → r.places.middle ≡ r.lifted → r.placed.chunk.segment ≡ v.chunk.segment → P) → P
   by_case P begun on = ⊎_elim
       (λ (z : length v.chunk.names ≡ 0). begun z (r.places.begun z))
@@ -199,10 +199,10 @@ module _ (v v' : LogMemory) (j number : ℕ) (good : IsMemory v) (old : stale_of
   other_address : (i : ℕ) → (i ≡ j → ⊥) → address_of v'.usage i ≡ address_of r.places.middle i
   other_address i ne = r.puts.address.others i ne ∙ r.places.noted.blocks.address i
 
-  new_opened : IsOpen v'.chunk v'.usage
+  new_opened : IsOpenChunk v'.chunk v'.usage
   new_opened =
       let o = r.places.opened in
-      subst (λ (c : Chunk). IsOpen c v'.usage) (sym r.chunk)
+      subst (λ (c : Chunk). IsOpenChunk c v'.usage) (sym r.chunk)
       (record {
         inside = subst (λ (x : List SegmentNumbers). r.placed.chunk.segment < length x) (sym r.puts.segments) o.inside;
         used = ap (λ (x : List SegmentNumbers). (get_or x r.placed.chunk.segment no_segment).used) r.puts.segments ∙ o.used;
@@ -273,7 +273,7 @@ module _ (v v' : LogMemory) (j number : ℕ) (good : IsMemory v) (old : stale_of
       stale = go.blocks.stale;
     }
 
-    takes_now : Takes r.lifted r.places.middle r.placed.chunk.segment number → IsTakenFrom (without v.map r.lifted j) (without v.map r.places.middle j) r.placed.chunk.segment
+    takes_now : TakesSegment r.lifted r.places.middle r.placed.chunk.segment number → IsTakenFrom (without v.map r.lifted j) (without v.map r.places.middle j) r.placed.chunk.segment
     takes_now t = record {
       clean = t.clean;
       at = without_same v.map r.lifted r.places.middle j (λ i. (t.blocks i).1);

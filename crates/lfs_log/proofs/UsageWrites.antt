@@ -3,14 +3,14 @@ use Rattle.std.proofs.Common.{◌≡◌, ◌<◌, ◌≤◌, ⊎_elim, ◌+◌, 
 use Rattle.std.proofs.lemmas.Bool.{cases_eq}
 use Rattle.lfs_model.specs.Entry.{Entry, Data, Leaf, Double, Inode, Map, Usage}
 use Rattle.lfs_model.specs.Checkpoint.{CheckpointValue, IsSegmentCount}
-use Rattle.lfs_model.specs.Crash.{IsFree}
+use Rattle.lfs_model.specs.Crash.{IsFreeSector}
 use Rattle.lfs_model.specs.Device.{DeviceState, IsLawful, MayWrite, CrashWrites, Carries, Elapses, put, left_new}
 use Rattle.lfs_model.specs.Stands.{LogMap}
 use Rattle.lfs_model.specs.Counting.{segment_of}
 use Rattle.lfs_model.specs.Running.{SpellsUsage, IsFresh}
 use Rattle.lfs_model.proofs.Leaving.{usage_filling}
 use Rattle.lfs_memory.specs.segments.Table.{SegmentNumbers, UsageTable, no_segment, taken_of, address_of, stale_of, clean_in}
-use Rattle.lfs_memory.specs.segments.Steps.{Puts, SpellsBlock}
+use Rattle.lfs_memory.specs.segments.Steps.{PutsPlace, SpellsBlock}
 use Rattle.lfs_memory.proofs.of_segments.StaysEmptied.{stays_emptied}
 use Rattle.lfs_memory.specs.inodes.Blocks.{blocks_of}
 use Rattle.lfs_memory.specs.inodes.MapValue.{MapValue}
@@ -20,9 +20,9 @@ use Rattle.lfs_memory.proofs.Opened.{stays_settled, stays_quiet, taken_free}
 use Rattle.lfs_log.specs.Settling.{IsAnew, AreAnew, IsFilled}
 
 -- a sector of a segment that was taken is free
-place_free : (d : DeviceState) (v : LogMemory) (k : CheckpointValue) (m0 m : LogMap) (at : ℕ) → IsLog d v k m0 m → 2 ≤ at → taken_of v.usage (segment_of at) ≡ true → IsFree d.content k at
+place_free : (d : DeviceState) (v : LogMemory) (k : CheckpointValue) (m0 m : LogMap) (at : ℕ) → IsLog d v k m0 m → 2 ≤ at → taken_of v.usage (segment_of at) ≡ true → IsFreeSector d.content k at
 place_free d v k m0 m at log above on =
-    subst (λ (a : ℕ). IsFree d.content k a) (omega arith)
+    subst (λ (a : ℕ). IsFreeSector d.content k a) (omega arith)
     (taken_free d (blocks_of v.dirty) (tables_of v) k m0 m (segment_in v.chunk) (chunk_in v.chunk) log.running (segment_of at) ((at - 2) % 64) on (omega arith))
 
 pub table_same : (map : MapValue) (u u' : UsageTable) → ((i : ℕ) → address_of u' i ≡ address_of u i) → (y : Entry) → table_at map u' y ≡ table_at map u y
@@ -33,7 +33,7 @@ table_same map u u' same (Inode n) = refl
 table_same map u u' same (Map i) = refl
 table_same map u u' same (Usage i) = same i
 
-module _ (v : LogMemory) (j : ℕ) (u : UsageTable) (good : IsMemory v) (is : IsAnew v.usage j) (puts : Puts v.usage u j (address_of v.usage j) false) where
+module _ (v : LogMemory) (j : ℕ) (u : UsageTable) (good : IsMemory v) (is : IsAnew v.usage j) (puts : PutsPlace v.usage u j (address_of v.usage j) false) where
   abbrev after : LogMemory
   after = record v { usage = u }
 
@@ -112,12 +112,12 @@ write_stops d d' v at bytes lawful above on may crash failed carries time = reco
 }
 
 -- the same with the address by another name
-pub fill_goes_at : (v : LogMemory) (j at : ℕ) (u : UsageTable) → IsMemory v → IsAnew v.usage j → address_of v.usage j ≡ at → Puts v.usage u j at false
+pub fill_goes_at : (v : LogMemory) (j at : ℕ) (u : UsageTable) → IsMemory v → IsAnew v.usage j → address_of v.usage j ≡ at → PutsPlace v.usage u j at false
     → (d d' : DeviceState) (bytes : List ℕ) → SpellsBlock v.usage j bytes → IsLawful d
     → (d'.keeps_model → d'.content ≡ put d.content at bytes) → CrashWrites at bytes d d' → d'.failures ≡ d.failures → Carries d d' → Elapses d d' → Goes d d' v (record v { usage = u }) 0
 fill_goes_at v j at u good is e =
     subst
-    (λ (at : ℕ). Puts v.usage u j at false → (d d' : DeviceState) (bytes : List ℕ) → SpellsBlock v.usage j bytes → IsLawful d → (d'.keeps_model → d'.content ≡ put d.content at bytes)
+    (λ (at : ℕ). PutsPlace v.usage u j at false → (d d' : DeviceState) (bytes : List ℕ) → SpellsBlock v.usage j bytes → IsLawful d → (d'.keeps_model → d'.content ≡ put d.content at bytes)
     → CrashWrites at bytes d d' → d'.failures ≡ d.failures → Carries d d' → Elapses d d' → Goes d d' v (record v { usage = u }) 0)
     e
     (λ puts d d' bytes spells lawful written crash same carries time. fill_goes v j u good is puts d d' bytes spells lawful written crash same carries time)

@@ -15,7 +15,7 @@ use Rattle.lfs_memory.specs.segments.Table.{used_of}
 use Rattle.lfs_memory.specs.declared.memory.LogMemory.{LogMemory}
 use Rattle.lfs_memory.specs.Lifting.{HasTraces}
 use Rattle.lfs_memory.specs.Memory.{HasRoom, IsLoose, segment_in}
-use Rattle.lfs_memory.specs.Present.{IsExcused, Looks}
+use Rattle.lfs_memory.specs.Present.{FailsFromDevice, Looks}
 use Rattle.lfs_memory.proofs.Gathered.{still_traced, traces_none, traces_then}
 use Rattle.lfs_memory.proofs.Opened.{closed_segment}
 use Rattle.lfs_log.specs.Relocating.{AreVacant, HasLeft, IsVacantTo, LeavesNames, NamesLeft, Relocates, Traced, Vacates, VacatesAll}
@@ -85,7 +85,7 @@ module _ (a b c : DeviceState) (v v' : LogMemory) (segment used at : ℕ) (was :
   row_then : (k : CheckpointValue) (m0 m : LogMap) → c.keeps_model → IsLoose a v k m0 m → IsRowFrom a.content used segment at
   row_then k m0 m keeps is = (was k m0 m (looks.carries.kept_before keeps) is).1
 
-  pub summary_missing : (c.keeps_model → (b.failures < c.failures) ⊎ (cell_at b.content (2 + 64 * segment + at) ≡ None)) → IsExcused a c v
+  pub summary_missing : (c.keeps_model → (b.failures < c.failures) ⊎ (cell_at b.content (2 + 64 * segment + at) ≡ None)) → FailsFromDevice a c v
   summary_missing unread k m0 m keeps is = ⊎_elim
       (λ (failed : b.failures < c.failures). let before = here.looks.carries.failures in omega (arith, failed, before))
       (λ (missing : cell_at b.content (2 + 64 * segment + at) ≡ None).
@@ -99,12 +99,12 @@ module _ (a b c : DeviceState) (v v' : LogMemory) (segment used at : ℕ) (was :
     bytes_there : c.keeps_model → block a.content (2 + 64 * segment + at) ≡ bytes
     bytes_there keeps = ap (λ (e : Content). block e (2 + 64 * segment + at)) (sym here.looks.untouched.content) ∙ read keeps
 
-    pub no_summary : None ≡ summary_in bytes → IsExcused a c v
+    pub no_summary : None ≡ summary_in bytes → FailsFromDevice a c v
     no_summary none k m0 m keeps is =
         absurd (no_chunk a.content used segment at long lt (ap entries_in (bytes_there keeps) ∙ entries_none bytes none) (row_then k m0 m keeps is).rest)
 
     module _ (names : List BlockNameValue) (exact : Some names ≡ summary_in bytes) where
-      pub too_long : (count : ℕ) → count ≡ length names → used ≤ at + count → IsExcused a c v
+      pub too_long : (count : ℕ) → count ≡ length names → used ≤ at + count → FailsFromDevice a c v
       too_long count is_count high k m0 m keeps is =
           absurd (cut_chunk a.content used segment at long lt count
           (subst (λ (b : List ℕ). (es : List Entry) × (entries_in b ≡ Some es) × (length es ≡ count)) (sym (bytes_there keeps)) (names_of bytes names count exact is_count))

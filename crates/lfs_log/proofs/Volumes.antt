@@ -10,21 +10,21 @@ use Rattle.lfs_model.specs.TreeOf.{dropped}
 use Rattle.lfs_model.proofs.Settled.{settled_stands}
 use Rattle.lfs_memory.specs.files.declared.header.Header.{Header}
 use Rattle.lfs_log.specs.Opening.{Opens}
-use Rattle.lfs_memory.specs.Present.{AnswersHeader, AnswersBlock, IsExcused}
+use Rattle.lfs_memory.specs.Present.{AnswersHeader, AnswersBlock, FailsFromDevice}
 use Rattle.lfs_log.specs.Publishing.{IsAcknowledged}
-use Rattle.lfs_log.specs.Saving.{Commits, CommitFails}
+use Rattle.lfs_log.specs.Saving.{CommitsAll, CommitFails}
 use Rattle.lfs_memory.proofs.Looses.{loose}
 use Rattle.lfs_memory.specs.declared.changes.Changes.{Changes}
 use Rattle.lfs_memory.specs.declared.memory.LogMemory.{LogMemory}
-use Rattle.lfs_memory.specs.inodes.MapValue.{IsFree, address_in}
+use Rattle.lfs_memory.specs.inodes.MapValue.{IsUnusedNumber, address_in}
 use Rattle.lfs_memory.specs.segments.Table.{UsageTable, taken_of}
 use Rattle.lfs_model.specs.Encodes.{HasInode}
 use Rattle.lfs_memory.specs.Memory.{IsLoose}
 use Rattle.lfs_memory.specs.Lifting.{Prepares}
 use Rattle.lfs_memory.specs.Changing.{Tightens}
-use Rattle.lfs_memory.specs.Removing.{Removes}
+use Rattle.lfs_memory.specs.Removing.{RemovesFile}
 use Rattle.lfs_memory.specs.Batch.{room_for}
-use Rattle.lfs_memory.specs.Staging.{Stands, Stages, Refuses, IsBatchExcused}
+use Rattle.lfs_memory.specs.Staging.{StandsWithBatch, TakesBatch, RefusesBatch, IsBatchExcused}
 use Rattle.lfs_memory.proofs.Applied.{has_inode}
 use Rattle.lfs_memory.proofs.BlockSteps.{tightened_log}
 use Rattle.lfs_memory.proofs.Presents.{looks_none, no_inode, same_map}
@@ -39,7 +39,7 @@ module _ {D : Type 0} (state : D → DeviceState) where
       → Holds state h k m0 m → Holds state h' next m0' m' → next.segments ≡ k.segments
   same_segments h h' k next m0 m m0' m' same is is' = sym is'.log.segments ∙ same ∙ is.log.segments
 
-  pub saves : (h h' : Held D) → length h.memory.dirty.blocks ≤ 456 → Commits (state h.device) (state h'.device) h.memory h'.memory h.number → h'.number ≡ h.number + 1 → h'.halted ≡ false → Saves state h h'
+  pub saves : (h h' : Held D) → length h.memory.dirty.blocks ≤ 456 → CommitsAll (state h.device) (state h'.device) h.memory h'.memory h.number → h'.number ≡ h.number + 1 → h'.halted ≡ false → Saves state h h'
   saves h h' few c number running = record {
     carries = c.carries;
     running = running;
@@ -83,7 +83,7 @@ module _ {D : Type 0} (state : D → DeviceState) where
   pub reads_block : (h h' : Held D) (n i : ℕ) (out : List ℕ) (stored : Bool) → AnswersBlock (state h.device) (state h'.device) h.memory n i out stored → ReadsBlock state h h' n i out stored
   reads_block h h' n i out stored answers k m0 m keeps is = answers k m0 m keeps (loose (state h.device) h.memory k m0 m is.log)
 
-  pub read_fault : (h h' : Held D) → IsExcused (state h.device) (state h'.device) h.memory → IsReadFault state h h'
+  pub read_fault : (h h' : Held D) → FailsFromDevice (state h.device) (state h'.device) h.memory → IsReadFault state h h'
   read_fault h h' excused k m0 m keeps is = excused k m0 m keeps (loose (state h.device) h.memory k m0 m is.log)
 
   -- ---- memory changes, and then blocks of pointers that lead nowhere leave it
@@ -93,7 +93,7 @@ module _ {D : Type 0} (state : D → DeviceState) where
 
   module _ (h h' : Held D) (v : LogMemory) (number : h'.number ≡ h.number) (halted : h'.halted ≡ h.halted) (tight : Tightens v h'.memory) where
     module _ (c : Changes) where
-      stood : Stands (state h.device) (state h'.device) h.memory v c.headers.items c.blocks.items → Alters state h h' (room_for c)
+      stood : StandsWithBatch (state h.device) (state h'.device) h.memory v c.headers.items c.blocks.items → Alters state h h' (room_for c)
       stood s = record {
         looks = s.looks;
         number = number;
@@ -104,13 +104,13 @@ module _ {D : Type 0} (state : D → DeviceState) where
         few = let x = s.few in let y = tight.stays.blocks in omega (arith, x, y);
       }
 
-      pub is_staged : Stages (state h.device) (state h'.device) h.memory v c.loss c.headers.items c.blocks.items → IsStaged state h h' c
+      pub is_staged : TakesBatch (state h.device) (state h'.device) h.memory v c.loss c.headers.items c.blocks.items → IsStaged state h h' c
       is_staged s = record { alters = stood s.stands; holds = λ k m0 m keeps is fits. held_tight h h' v k m0 m _ is number halted tight (s.log k m0 m keeps (loose (state h.device) h.memory k m0 m is.log) fits) }
 
-      pub is_refused : Refuses (state h.device) (state h'.device) h.memory v c.loss c.headers.items c.blocks.items → IsRefused state h h' c
+      pub is_refused : RefusesBatch (state h.device) (state h'.device) h.memory v c.loss c.headers.items c.blocks.items → IsRefused state h h' c
       is_refused s = record { alters = stood s.stands; holds = λ k m0 m keeps is fits. held_tight h h' v k m0 m m is number halted tight (s.log k m0 m keeps (loose (state h.device) h.memory k m0 m is.log) fits) }
 
-    pub is_removed : (n : ℕ) → Removes (state h.device) (state h'.device) h.memory v n → IsRemoved state h h' n
+    pub is_removed : (n : ℕ) → RemovesFile (state h.device) (state h'.device) h.memory v n → IsRemoved state h h' n
     is_removed n s = record {
       alters = record {
         looks = s.looks;
@@ -151,7 +151,7 @@ module _ {D : Type 0} (state : D → DeviceState) where
   has_there : (h : Held D) (k : CheckpointValue) (m0 m : LogMap) → Holds state h k m0 m → (l : ℕ) → 0 < address_in h.memory.map l → HasInode m l
   has_there h k m0 m is l some = has_inode (state h.device) h.memory k m0 m (loose (state h.device) h.memory k m0 m is.log) l some
 
-  pub is_vacant : (h : Held D) (n : ℕ) → IsFree h.memory.map n → IsVacant state h n
+  pub is_vacant : (h : Held D) (n : ℕ) → IsUnusedNumber h.memory.map n → IsVacant state h n
   is_vacant h n f = record {
     some = f.some;
     few = f.few;

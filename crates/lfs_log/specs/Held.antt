@@ -15,7 +15,7 @@ use Rattle.lfs_memory.specs.files.declared.header.Header.{Header}
 use Rattle.lfs_model.specs.TreeOf.{dropped}
 use Rattle.lfs_model.specs.Stands.{LogMap, StandsLog}
 use Rattle.lfs_model.specs.Summary.{BlockNameValue}
-use Rattle.lfs_memory.specs.segments.Table.{SegmentNumbers, BlockPlace, UsageTable, clean_in}
+use Rattle.lfs_memory.specs.segments.Table.{SegmentNumbers, PlaceInSegment, UsageTable, clean_in}
 use Rattle.lfs_memory.specs.segments.Chunk.{Chunk}
 use Rattle.lfs_memory.specs.segments.Spare.{emptied_in}
 use Rattle.lfs_memory.specs.inodes.Blocks.{Capacity, TableValue}
@@ -43,12 +43,12 @@ segment_code =
     (λ p. record { used = p.0; live = p.1.0; held = p.1.1.0; age = p.1.1.1.0; taken = p.1.1.1.1 })
     (λ _. refl)
 
-abbrev pub place_code : Coded BlockPlace
+abbrev pub place_code : Coded PlaceInSegment
 place_code = code_by (ℕ × Bool) (coded× coded_ℕ coded_bool) (λ p. (p.address, p.stale)) (λ p. record { address = p.0; stale = p.1 }) (λ _. refl)
 
 abbrev pub usage_code : Coded UsageTable
 usage_code =
-    code_by (List SegmentNumbers × List BlockPlace) (coded× (coded_list segment_code) (coded_list place_code))
+    code_by (List SegmentNumbers × List PlaceInSegment) (coded× (coded_list segment_code) (coded_list place_code))
     (λ t. (t.segments, t.blocks)) (λ p. record { segments = p.0; blocks = p.1 }) (λ _. refl)
 
 abbrev pub map_code : Coded MapValue
@@ -125,12 +125,12 @@ pub record IsRunning (d : DeviceState) (v : LogMemory) : Type 0 where
   pub reserved : v.dirty.capacity.room + 48 ≡ 63 * (length v.usage.segments / 8)
 
 -- and it has memory to keep the tables in, while a pass of the cleaner runs
-pub record IsReady (d : DeviceState) (v : LogMemory) (before : UsageTable) : Type 0 where
+pub record IsReadyToPass (d : DeviceState) (v : LogMemory) (before : UsageTable) : Type 0 where
   pub running : IsRunning d v
   pub saved : length before.segments ≡ length v.usage.segments
 
-abbrev pub IsHeld : DeviceState → LogMemory → UsageTable → Bool → Type 0
-IsHeld d v before halted = halted ≡ false → IsReady d v before
+abbrev pub HoldsUnlessHalted : DeviceState → LogMemory → UsageTable → Bool → Type 0
+HoldsUnlessHalted d v before halted = halted ≡ false → IsReadyToPass d v before
 
 module _ {D : Type 0} (state : D → DeviceState) where
   -- The log holds log map m, and the acknowledged checkpoint k, whose number it knows, stands for m0.

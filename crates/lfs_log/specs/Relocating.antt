@@ -12,10 +12,10 @@ use Rattle.lfs_model.specs.Stands.{LogMap}
 use Rattle.lfs_model.specs.Summary.{BlockNameValue, no_block}
 use Rattle.lfs_memory.specs.inodes.Blocks.{TableValue, number_at}
 use Rattle.lfs_memory.specs.inodes.Code.{IsCode}
-use Rattle.lfs_memory.specs.segments.Steps.{Lifts, Puts}
+use Rattle.lfs_memory.specs.segments.Steps.{Lifts, PutsPlace}
 use Rattle.lfs_memory.specs.segments.Table.{UsageTable, address_of, clean_in}
 use Rattle.lfs_memory.specs.declared.memory.LogMemory.{LogMemory}
-use Rattle.lfs_memory.specs.Lifting.{Gathers, HasTraces, IsCounted, IsInMemory}
+use Rattle.lfs_memory.specs.Lifting.{Gathers, HasTraces, IsCountedAbove, IsInMemory}
 use Rattle.lfs_memory.specs.Memory.{IsLoose, IsMemory}
 use Rattle.lfs_memory.specs.Present.{Looks}
 
@@ -105,7 +105,7 @@ pub record UsageLeaves (old new : UsageTable) (j : ℕ) : Type 0 where
   pub above : 2 ≤ address_of old j
   pub lifted : UsageTable
   pub lifts : Lifts old lifted (segment_of (address_of old j)) true
-  pub puts : Puts lifted new j 1 true
+  pub puts : PutsPlace lifted new j 1 true
 
 pub record UsageLeavesIn (v v' : LogMemory) (j : ℕ) : Type 0 where
   pub usage : UsageLeaves v.usage v'.usage j
@@ -116,7 +116,7 @@ pub record UsageLeavesIn (v v' : LogMemory) (j : ℕ) : Type 0 where
 -- it isn't counted where it stands
 pub record IsUsageLost (v : LogMemory) (j : ℕ) : Type 0 where
   pub above : 2 ≤ address_of v.usage j
-  pub lost : IsCounted v.usage (address_of v.usage j) true → ⊥
+  pub lost : IsCountedAbove v.usage (address_of v.usage j) true → ⊥
 
 -- the memory of a log after a call, traced from that before it
 abbrev pub Traced : DeviceState → LogMemory → CheckpointValue → LogMap → LogMap → Memory → (Memory → Type 0) → Type 0

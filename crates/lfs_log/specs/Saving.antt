@@ -22,7 +22,7 @@ IsSpared v = length v.usage.segments + 8 * segments_for (length v.dirty.blocks) 
 
 -- All that memory holds is saved, but for files without a name; no more segments were taken for it than its blocks want, those that
 -- were emptied are clean besides those that were, and an eighth is clean at least.
-pub record Commits (d d' : DeviceState) (v v' : LogMemory) (number : ℕ) : Type 0 where
+pub record CommitsAll (d d' : DeviceState) (v v' : LogMemory) (number : ℕ) : Type 0 where
   pub carries : Carries d d'
   pub memory : IsMemory v'
   pub chunk : v'.chunk.names ≡ []

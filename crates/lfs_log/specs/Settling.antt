@@ -5,7 +5,7 @@ use Rattle.lfs_model.specs.Counting.{segment_of}
 use Rattle.lfs_model.specs.Summary.{BlockNameValue}
 use Rattle.lfs_model.specs.Running.{IsSet}
 use Rattle.lfs_memory.specs.segments.Table.{UsageTable, live_of, taken_of, address_of, stale_of}
-use Rattle.lfs_memory.specs.segments.Steps.{Lifts, Puts}
+use Rattle.lfs_memory.specs.segments.Steps.{Lifts, PutsPlace}
 use Rattle.lfs_memory.specs.declared.memory.LogMemory.{LogMemory}
 use Rattle.lfs_memory.specs.Memory.{Places}
 
@@ -36,7 +36,7 @@ pub record Resettles (v v' : LogMemory) (j number : ℕ) : Type 0 where
   pub placed : LogMemory
   pub place : ℕ
   pub places : Places (record v { usage = lifted }) placed (usage_name j) true number place
-  pub puts : Puts placed.usage v'.usage j place true
+  pub puts : PutsPlace placed.usage v'.usage j place true
   pub map : v'.map ≡ placed.map
   pub dirty : v'.dirty ≡ placed.dirty
   pub chunk : v'.chunk ≡ placed.chunk

@@ -1,9 +1,9 @@
-//! A pass of the cleaner: all that lives in some segments comes into memory, whole or not at all, and a commit writes it elsewhere.
-//! After the cleaner of the Sprite LFS paper (1992, section 3.3).
+//! A pass of the cleaner: all that lives in some segments comes into memory, whole or not at all,
+//! and a commit writes it elsewhere. After the cleaner of the Sprite LFS paper (1992, section 3.3).
 ghost use Rattle.std.specs.Prelude.{◌≡◌, ◌<◌, ◌≤◌, ◌+◌, ◌*◌, ◌-◌, ◌/◌, ℕ, [], length, get_or, IfOk, OnOk, OnErr, IfSome, IsErrOf, IsTrue, IsFalse};
 ghost use Rattle.lfs_memory.specs.segments.Emptied.{IsEmptied};
 ghost use Rattle.lfs_memory.specs.Memory.{HasRoom, IsMemory};
-ghost use Rattle.lfs_memory.specs.Present.{IsExcused, Looks};
+ghost use Rattle.lfs_memory.specs.Present.{FailsFromDevice, Looks};
 ghost use Rattle.lfs_log.specs.Cleaning.{AreCleanable, AreEmptied, Crowds, Empties, IsCleanable, MayClean, Overfills, most_brought};
 ghost use Rattle.lfs_log.specs.Relocating.{CameFrom, IsAmong, Misses, Relocates, VacatesAll};
 
@@ -65,7 +65,7 @@ fn relocate_all<D: SectorDevice>(
     ensures full { IsErrOf result LiftFault.Full
         → memory.new.dirty.capacity.limit ≤ length memory.new.dirty.blocks }
     ensures failed { IsErrOf result LiftFault.Device
-        → IsExcused (D.state device.old) (D.state device.new) memory.old }
+        → FailsFromDevice (D.state device.old) (D.state device.new) memory.old }
     ensures no_failure { OnOk result ((D.state device.new).failures
         ≡ (D.state device.old).failures) }
 {
@@ -78,7 +78,8 @@ fn relocate_all<D: SectorDevice>(
     Ok(())
 }
 
-/// Whether nothing lives in a segment and nothing holds it, though it isn't clean before a checkpoint is acknowledged.
+/// Whether nothing lives in a segment and nothing holds it, though it isn't clean before a
+/// checkpoint is acknowledged.
 fn is_emptied(usage: &Usage, segment: u32) -> bool
     requires { segment < length usage.now.segments }
     ensures yes { IsTrue result → IsEmptied usage.now segment }
@@ -135,7 +136,7 @@ fn empty_segments<D: SectorDevice>(
     ensures full { IsErrOf result LiftFault.Full
         → Crowds (D.state device.old) (D.state device.new) memory.old memory.new victims.now }
     ensures failed { IsErrOf result LiftFault.Device
-        → IsExcused (D.state device.old) (D.state device.new) memory.old }
+        → FailsFromDevice (D.state device.old) (D.state device.new) memory.old }
     ensures no_failure { OnOk result ((D.state device.new).failures
         ≡ (D.state device.old).failures) }
 {
@@ -153,12 +154,13 @@ fn empty_segments<D: SectorDevice>(
     Ok(())
 }
 
-/// All that lives in these segments comes into memory, whole or not at all: at most so many blocks of files. What is put back after
-/// a fault is kept in `before`. Nothing is unsaved as it begins.
+/// All that lives in these segments comes into memory, whole or not at all: at most so many blocks
+/// of files. What is put back after a fault is kept in `before`. Nothing is unsaved as it begins.
 ///
 /// # Errors
 ///
-/// With memory as it was: `Full` where more blocks would come, `Device` where a call of the device failed.
+/// With memory as it was: `Full` where more blocks would come, `Device` where a call of the device
+/// failed.
 pub fn relocate<D: SectorDevice>(
     device: &mut D,
     memory: &mut LogMemory,
@@ -184,7 +186,7 @@ pub fn relocate<D: SectorDevice>(
     ensures full { IsErrOf result LiftFault.Full
         → Overfills (D.state device.old) (D.state device.new) memory.old victims.now most }
     ensures failed { IsErrOf result LiftFault.Device
-        → IsExcused (D.state device.old) (D.state device.new) memory.old }
+        → FailsFromDevice (D.state device.old) (D.state device.new) memory.old }
     ensures no_failure { OnOk result ((D.state device.new).failures
         ≡ (D.state device.old).failures) }
 {
@@ -235,7 +237,8 @@ fn are_cleanable(usage: &Usage, victims: &[u16]) -> bool
     true
 }
 
-/// Whether a pass over these segments may begin: nothing is unsaved, and enough segments are clean for it.
+/// Whether a pass over these segments may begin: nothing is unsaved, and enough segments are clean
+/// for it.
 pub fn may_clean(memory: &LogMemory, victims: &[u16]) -> bool
     ensures yes { IsTrue result → MayClean memory.now victims.now }
     ensures no { IsFalse result → MayClean memory.now victims.now → ⊥ }
@@ -257,8 +260,8 @@ pub fn may_clean(memory: &LogMemory, victims: &[u16]) -> bool
     are_cleanable(&memory.usage, victims)
 }
 
-/// How many blocks of files a pass over so many segments may bring into memory: with all blocks of the tables they fill fewer
-/// segments.
+/// How many blocks of files a pass over so many segments may bring into memory: with all blocks of
+/// the tables they fill fewer segments.
 pub fn most_of(count: usize) -> u32
     requires least { 2 ≤ count }
     requires most { count ≤ 129 }

@@ -5,7 +5,7 @@ ghost use Rattle.lfs_memory.specs.segments.Table.{clean_in};
 ghost use Rattle.lfs_log.specs.Settling.{AreAnew};
 ghost use Rattle.lfs_memory.specs.Memory.{IsMemory, AreMapsOut, HasRoom, Goes, Stops, room_of};
 ghost use Rattle.lfs_log.specs.Publishing.{IsAllOut};
-ghost use Rattle.lfs_log.specs.Saving.{Commits, CommitFails, IsSpared, segments_for};
+ghost use Rattle.lfs_log.specs.Saving.{CommitsAll, CommitFails, IsSpared, segments_for};
 
 use crate::mapping::save_map;
 use crate::placing::{save_files, seal};
@@ -81,9 +81,9 @@ fn write_out<D: SectorDevice>(
     Ok(())
 }
 
-/// Saves all that memory holds, but for files without a name: blocks to clean segments, a sync, the next checkpoint after
-/// the one of this number to its slot, a sync. No more segments are taken for it than its blocks want, and those that were
-/// emptied are clean then.
+/// Saves all that memory holds, but for files without a name: blocks to clean segments, a sync, the
+/// next checkpoint after the one of this number to its slot, a sync. No more segments are taken for
+/// it than its blocks want, and those that were emptied are clean then.
 ///
 /// # Errors
 ///
@@ -100,7 +100,7 @@ pub fn save<D: SectorDevice>(
     requires clean { segments_for (length memory.old.dirty.blocks)
         ≤ clean_in memory.old.usage.segments }
     requires spare { IsSpared memory.old }
-    ensures done { OnOk result (Commits (D.state device.old) (D.state device.new) memory.old
+    ensures done { OnOk result (CommitsAll (D.state device.old) (D.state device.new) memory.old
         memory.new number) }
     ensures stopped { OnErr result (CommitFails (D.state device.old) (D.state device.new) memory.old
         number) }

@@ -29,7 +29,8 @@ use lfs_verify::{BlockTotals, MountFault, Tables};
 use std::alloc::Global;
 use std::marker::Model;
 
-/// The inodes and blocks of a volume: in memory where they changed since the acknowledged checkpoint, else on the device.
+/// The inodes and blocks of a volume: in memory where they changed since the acknowledged
+/// checkpoint, else on the device.
 #[derive(Drop)]
 pub struct Log<D: SectorDevice> {
     device: D,
@@ -45,7 +46,7 @@ pub struct Log<D: SectorDevice> {
 }
 
 impl<D: SectorDevice> Model for Log<D> {
-    ghost use Rattle.lfs_log.specs.Held.{Held, held_code, IsHeld};
+    ghost use Rattle.lfs_log.specs.Held.{Held, held_code, HoldsUnlessHalted};
 
     ghost Value = { Held D };
 
@@ -59,21 +60,23 @@ impl<D: SectorDevice> Model for Log<D> {
       totals = l.totals;
     } };
 
-    ghost invariant = { λ l. IsHeld (D.SectorDevice.state l.device) l.memory l.before.usage l.halted };
+    ghost invariant = { λ l. HoldsUnlessHalted (D.SectorDevice.state l.device) l.memory l.before.usage l.halted };
 }
 
 impl<D: SectorDevice> Log<D> {
     ghost use Rattle.lfs_log.specs.Cleaning.{Cleans, MayClean, Overfills, most_brought};
     ghost use Rattle.lfs_log.specs.Held.{Mounts, Saves, Halts, Reads, ReadsHeader, ReadsBlock, TellsBlock, TellsLeaf, IsReadFault, IsFull, IsVacant, HasAll, IsStaged, IsRefused, IsStageFault, IsRemoved, IsKept, HoldsOne};
 
-    /// The volume that the newest checkpoint of the device leads to, with the totals of its files; else why there is none, and
-    /// the device. All that the checkpoint leads to is walked over once, but for the tree of its files. It writes nothing, and takes
-    /// the memory that later calls need.
+    /// The volume that the newest checkpoint of the device leads to, with the totals of its files;
+    /// else why there is none, and the device. All that the checkpoint leads to is walked over
+    /// once, but for the tree of its files. It writes nothing, and takes the memory that later
+    /// calls need.
     ///
     /// # Errors
     ///
-    /// `NoMemory` where memory is refused, `Device` where a call of the device failed; else the device holds no log map: it is too
-    /// small, holds no checkpoint, or the first stage that fails is named, one of the stages 1 to 9, or 15 where too few segments are clean.
+    /// `NoMemory` where memory is refused, `Device` where a call of the device failed; else the
+    /// device holds no log map: it is too small, holds no checkpoint, or the first stage that fails
+    /// is named, one of the stages 1 to 9, or 15 where too few segments are clean.
     pub fn open(alloc: Global, device: D) -> Result<Log<D>, (MountFault, D)>
         ensures holds { IfOk result (λ log. Mounts D.SectorDevice.state device log) }
         ensures counts { IfOk result (λ log. CountsOpened (D.state device) (D.state log.device)
@@ -109,8 +112,8 @@ impl<D: SectorDevice> Log<D> {
         }
     }
 
-    /// The volume whose tables a walk over the device found, with the totals of its files. It takes the memory that later calls need,
-    /// and calls the device for nothing.
+    /// The volume whose tables a walk over the device found, with the totals of its files. It takes
+    /// the memory that later calls need, and calls the device for nothing.
     ///
     /// # Errors
     ///
@@ -154,7 +157,8 @@ impl<D: SectorDevice> Log<D> {
         ensures { HoldsOne D.SectorDevice.state self.now }
     {}
 
-    /// The inode map has a place for each file, and the usage table one for each segment: a law of what the log keeps.
+    /// The inode map has a place for each file, and the usage table one for each segment: a law of
+    /// what the log keeps.
     pub fn are_tables_whole(&self)
         ensures map { IsMap self.now.memory.map }
         ensures memory { self.now.halted ≡ false → IsMemory self.now.memory }
@@ -204,7 +208,8 @@ impl<D: SectorDevice> Log<D> {
         self.memory.dirty.len()
     }
 
-    /// The blocks of all files, as they are staged: what the last change said of them, or the mount counted.
+    /// The blocks of all files, as they are staged: what the last change said of them, or the mount
+    /// counted.
     pub fn totals(&self) -> BlockTotals
         ensures { result ≡ self.now.totals }
     {
@@ -233,7 +238,8 @@ impl<D: SectorDevice> Log<D> {
         self.memory.map.least_free()
     }
 
-    /// Whether memory has room for a batch of changes. After a commit it has for each that asks for 456 blocks at most.
+    /// Whether memory has room for a batch of changes. After a commit it has for each that asks for
+    /// 456 blocks at most.
     pub fn has_room(&self, changes: &Changes) -> bool
         ensures room { IsTrue result → length self.now.memory.dirty.blocks + room_for changes.now
             ≤ self.now.memory.dirty.capacity.limit }
@@ -316,7 +322,8 @@ impl<D: SectorDevice> Log<D> {
         Ok(address != 0)
     }
 
-    /// Whether a block is stored below a leaf of pointers of a file: those from 112 on at leaf 0, 128 each.
+    /// Whether a block is stored below a leaf of pointers of a file: those from 112 on at leaf 0,
+    /// 128 each.
     ///
     /// # Errors
     ///
@@ -340,12 +347,13 @@ impl<D: SectorDevice> Log<D> {
         Ok(address != 0)
     }
 
-    /// Changes files in memory, whole or not at all: first what is lost, then headers, then blocks. All files have these totals then.
+    /// Changes files in memory, whole or not at all: first what is lost, then headers, then blocks.
+    /// All files have these totals then.
     ///
     /// # Errors
     ///
-    /// With the files as they were: `Full` where memory has no room, `Device` where a call of the device failed. `Halted` once a
-    /// commit failed.
+    /// With the files as they were: `Full` where memory has no room, `Device` where a call of the
+    /// device failed. `Halted` once a commit failed.
     pub fn stage(&mut self, changes: &Changes, totals: BlockTotals) -> Result<(), LogFault>
         ensures done { OnOk result (IsStaged D.SectorDevice.state self.old self.new changes.now) }
         ensures counted { OnOk result (self.new.totals ≡ totals) }
@@ -382,7 +390,8 @@ impl<D: SectorDevice> Log<D> {
     ///
     /// # Errors
     ///
-    /// With the files as they were: `Device` where a call of the device failed. `Halted` once a commit failed.
+    /// With the files as they were: `Device` where a call of the device failed. `Halted` once a
+    /// commit failed.
     pub fn remove(&mut self, number: u16, totals: BlockTotals) -> Result<(), LogFault>
         requires { number < 4096 }
         ensures done { OnOk result (IsRemoved D.SectorDevice.state self.old self.new number) }
@@ -404,7 +413,8 @@ impl<D: SectorDevice> Log<D> {
         Ok(())
     }
 
-    /// Whether so few segments are clean that a commit might leave fewer than an eighth of them, or no number is left.
+    /// Whether so few segments are clean that a commit might leave fewer than an eighth of them, or
+    /// no number is left.
     fn is_full(&self) -> bool
         ensures full { IsTrue result → IsFull self.now }
         ensures room { IsFalse result → length self.now.memory.usage.segments + 64
@@ -416,12 +426,13 @@ impl<D: SectorDevice> Log<D> {
         self.number == u64::MAX || 8 * clean < segments + 64
     }
 
-    /// Saves all that changed, but for files without a name: blocks to segments that are clean, at most eight of them, a sync, the
-    /// next checkpoint, a sync. It takes no memory.
+    /// Saves all that changed, but for files without a name: blocks to segments that are clean, at
+    /// most eight of them, a sync, the next checkpoint, a sync. It takes no memory.
     ///
     /// # Errors
     ///
-    /// `Full` where too few segments are clean: nothing changed. `Halted` where a call of the device failed, here or in a commit before.
+    /// `Full` where too few segments are clean: nothing changed. `Halted` where a call of the
+    /// device failed, here or in a commit before.
     pub fn commit(&mut self) -> Result<(), LogFault>
         ensures done { OnOk result (Saves D.SectorDevice.state self.old self.new) }
         ensures totals { self.new.totals ≡ self.old.totals }
@@ -450,16 +461,19 @@ impl<D: SectorDevice> Log<D> {
         }
     }
 
-    /// A pass of the cleaner: all that lives in these segments goes elsewhere, the blocks of files without a name and those of the
-    /// tables too, and is saved. No block is left in them then, and fewer were taken for it. They are 2 at least, and an eighth of
-    /// all and one at most. It takes no memory.
+    /// A pass of the cleaner: all that lives in these segments goes elsewhere, the blocks of files
+    /// without a name and those of the tables too, and is saved. No block is left in them then, and
+    /// fewer were taken for it. They are 2 at least, and an eighth of all and one at most. It takes
+    /// no memory.
     ///
     /// # Errors
     ///
-    /// `Full` where something is unsaved, fewer than an eighth of the segments are clean, one of these is clean or wasn't there before
-    /// the acknowledged checkpoint, no number is left, or their blocks, with the inodes and blocks of pointers above them and the 48
-    /// of the tables, fill as many segments: nothing changed. `Device` where a call of the device failed before anything was written:
-    /// nothing changed. `Halted` where one failed later, or in a commit before.
+    /// `Full` where something is unsaved, fewer than an eighth of the segments are clean, one of
+    /// these is clean or wasn't there before the acknowledged checkpoint, no number is left, or
+    /// their blocks, with the inodes and blocks of pointers above them and the 48 of the tables,
+    /// fill as many segments: nothing changed. `Device` where a call of the device failed before
+    /// anything was written: nothing changed. `Halted` where one failed later, or in a commit
+    /// before.
     pub fn clean(&mut self, victims: &[u16]) -> Result<(), LogFault>
         requires { AreApart victims.now }
         ensures done { OnOk result (Cleans D.SectorDevice.state self.old self.new victims.now) }

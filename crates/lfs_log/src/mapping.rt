@@ -51,7 +51,8 @@ fn write_map_block<D: SectorDevice>(
     Ok(())
 }
 
-/// Saves a block of the inode map, if it is to be written. One that would show no inode isn't stored.
+/// Saves a block of the inode map, if it is to be written. One that would show no inode isn't
+/// stored.
 fn save_map_block<D: SectorDevice>(
     device: &mut D,
     memory: &mut LogMemory,

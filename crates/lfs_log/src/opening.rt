@@ -17,8 +17,8 @@ pub const MOST_DIRTY: u32 = 456;
 /// How many blocks the tables have: 32 of the inode map, and 16 of usage.
 const TABLE_BLOCKS: u32 = 48;
 
-/// How many blocks of files a cleaning pass may bring into memory: with all blocks of the tables, a chunk for each of an eighth of
-/// the segments.
+/// How many blocks of files a cleaning pass may bring into memory: with all blocks of the tables, a
+/// chunk for each of an eighth of the segments.
 fn most_cleaned(segments: u32) -> u32
     requires { IsSegmentCount segments }
     ensures blocks { result + 48 ≡ 63 * (segments / 8) }

@@ -45,7 +45,8 @@ pub fn seal_full<D: SectorDevice>(device: &mut D, memory: &mut LogMemory) -> Res
     Ok(())
 }
 
-/// Writes a block of a file to the next place. What points to it, its parent in memory or the inode map, points there from then on.
+/// Writes a block of a file to the next place. What points to it, its parent in memory or the inode
+/// map, points there from then on.
 fn write_block<D: SectorDevice>(
     device: &mut D,
     memory: &mut LogMemory,

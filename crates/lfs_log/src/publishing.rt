@@ -63,9 +63,9 @@ fn make_durable<D: SectorDevice>(device: &mut D) -> Result<(), DeviceFault>
     Ok(())
 }
 
-/// Once all blocks are out: syncs, writes the checkpoint that leads to them, after the acknowledged one of this number,
-/// and takes the segments where nothing lives as clean. A stop at any moment leaves what was acknowledged or all that
-/// is out, and after `Ok` the latter alone.
+/// Once all blocks are out: syncs, writes the checkpoint that leads to them, after the acknowledged
+/// one of this number, and takes the segments where nothing lives as clean. A stop at any moment
+/// leaves what was acknowledged or all that is out, and after `Ok` the latter alone.
 ///
 /// # Errors
 ///

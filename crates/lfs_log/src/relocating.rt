@@ -5,9 +5,9 @@ ghost use Rattle.lfs_model.specs.Device.{cell_at};
 ghost use Rattle.lfs_model.specs.Entry as entry;
 ghost use Rattle.lfs_model.specs.Memory.{parent};
 ghost use Rattle.lfs_model.specs.Summary.{FitsSummary, IsPlaced};
-ghost use Rattle.lfs_memory.specs.Lifting.{IsCounted, IsInMemory, IsMapLost, MapLifts};
+ghost use Rattle.lfs_memory.specs.Lifting.{IsCountedAbove, IsInMemory, IsMapLost, MapLifts};
 ghost use Rattle.lfs_memory.specs.Memory.{HasRoom, IsMemory};
-ghost use Rattle.lfs_memory.specs.Present.{AnswersAddress, IsExcused, Looks};
+ghost use Rattle.lfs_memory.specs.Present.{AnswersAddress, FailsFromDevice, Looks};
 ghost use Rattle.lfs_memory.specs.inodes.Key.{entry_of};
 ghost use Rattle.lfs_memory.specs.inodes.MapValue.{block_in};
 ghost use Rattle.lfs_memory.specs.segments.Table.{address_of};
@@ -22,7 +22,8 @@ use lfs_memory::present::read_present;
 use lfs_memory::segments::Usage;
 use lfs_model::BlockKind;
 
-/// The address at which a block of a file stands: 0 where it isn't stored, `IN_MEMORY` for one in memory.
+/// The address at which a block of a file stands: 0 where it isn't stored, `IN_MEMORY` for one in
+/// memory.
 ///
 /// # Errors
 ///
@@ -34,7 +35,8 @@ fn locate<D: SectorDevice>(
 ) -> Result<u32, DeviceFault>
     ensures answer { IfOk result (AnswersAddress (D.state device.old) (D.state device.new)
         memory.now (entry_of key)) }
-    ensures failed { OnErr result (IsExcused (D.state device.old) (D.state device.new) memory.now) }
+    ensures failed { OnErr result (FailsFromDevice (D.state device.old)
+        (D.state device.new) memory.now) }
     ensures no_failure { OnOk result ((D.state device.new).failures
         ≡ (D.state device.old).failures) }
     ensures looks { Looks (D.state device.old) (D.state device.new) }
@@ -84,7 +86,7 @@ fn bring_inode<D: SectorDevice>(
     ensures full { IsErrOf result LiftFault.Full → memory.new.dirty.capacity.limit
         ≤ length memory.new.dirty.blocks }
     ensures failed { IsErrOf result LiftFault.Device
-        → IsExcused (D.state device.old) (D.state device.new) memory.old }
+        → FailsFromDevice (D.state device.old) (D.state device.new) memory.old }
     ensures no_failure { OnOk result ((D.state device.new).failures
         ≡ (D.state device.old).failures) }
 {
@@ -102,7 +104,8 @@ fn bring_inode<D: SectorDevice>(
     }
 }
 
-/// Brings a block of a file into memory, if it is stored: whether it is there then. The block above it is there.
+/// Brings a block of a file into memory, if it is stored: whether it is there then. The block above
+/// it is there.
 ///
 /// # Errors
 ///
@@ -124,7 +127,7 @@ fn bring_child<D: SectorDevice>(
     ensures full { IsErrOf result LiftFault.Full → memory.new.dirty.capacity.limit
         ≤ length memory.new.dirty.blocks }
     ensures failed { IsErrOf result LiftFault.Device
-        → IsExcused (D.state device.old) (D.state device.new) memory.old }
+        → FailsFromDevice (D.state device.old) (D.state device.new) memory.old }
     ensures no_failure { OnOk result ((D.state device.new).failures
         ≡ (D.state device.old).failures) }
 {
@@ -142,7 +145,8 @@ fn bring_child<D: SectorDevice>(
     }
 }
 
-/// Brings a block of a file into memory with all blocks above it, where they are stored: whether it is there then.
+/// Brings a block of a file into memory with all blocks above it, where they are stored: whether it
+/// is there then.
 ///
 /// # Errors
 ///
@@ -162,7 +166,7 @@ fn bring_block<D: SectorDevice>(
     ensures full { IsErrOf result LiftFault.Full → memory.new.dirty.capacity.limit
         ≤ length memory.new.dirty.blocks }
     ensures failed { IsErrOf result LiftFault.Device
-        → IsExcused (D.state device.old) (D.state device.new) memory.old }
+        → FailsFromDevice (D.state device.old) (D.state device.new) memory.old }
     ensures no_failure { OnOk result ((D.state device.new).failures
         ≡ (D.state device.old).failures) }
 {
@@ -201,7 +205,7 @@ fn relocate_file_block<D: SectorDevice>(
     ensures full { IsErrOf result LiftFault.Full → memory.new.dirty.capacity.limit
         ≤ length memory.new.dirty.blocks }
     ensures failed { IsErrOf result LiftFault.Device
-        → IsExcused (D.state device.old) (D.state device.new) memory.old }
+        → FailsFromDevice (D.state device.old) (D.state device.new) memory.old }
     ensures no_failure { OnOk result ((D.state device.new).failures
         ≡ (D.state device.old).failures) }
 {
@@ -249,7 +253,7 @@ fn leave_usage(usage: &mut Usage, index: u32, address: u32) -> Result<(), Device
     requires at { address_of usage.old index ≡ address }
     ensures left { OnOk result (UsageLeaves usage.old usage.new index) }
     ensures same { OnErr result (usage.new ≡ usage.old) }
-    ensures lost { OnErr result (IsCounted usage.old address true → ⊥) }
+    ensures lost { OnErr result (IsCountedAbove usage.old address true → ⊥) }
 {
     if !is_counted(usage, address, true) {
         return Err(DeviceFault);
@@ -295,7 +299,8 @@ fn key_of(name: BlockName) -> BlockKey
     }
 }
 
-/// The block that a summary names comes into memory with all above it, if it is at this address that it stands.
+/// The block that a summary names comes into memory with all above it, if it is at this address
+/// that it stands.
 ///
 /// # Errors
 ///
@@ -321,7 +326,7 @@ fn relocate_block<D: SectorDevice>(
     ensures full { IsErrOf result LiftFault.Full → memory.new.dirty.capacity.limit
         ≤ length memory.new.dirty.blocks }
     ensures failed { IsErrOf result LiftFault.Device
-        → IsExcused (D.state device.old) (D.state device.new) memory.old }
+        → FailsFromDevice (D.state device.old) (D.state device.new) memory.old }
     ensures no_failure { OnOk result ((D.state device.new).failures
         ≡ (D.state device.old).failures) }
 {
@@ -364,7 +369,7 @@ fn relocate_chunk<D: SectorDevice>(
     ensures full { IsErrOf result LiftFault.Full → memory.new.dirty.capacity.limit
         ≤ length memory.new.dirty.blocks }
     ensures failed { IsErrOf result LiftFault.Device
-        → IsExcused (D.state device.old) (D.state device.new) memory.old }
+        → FailsFromDevice (D.state device.old) (D.state device.new) memory.old }
     ensures no_failure { OnOk result ((D.state device.new).failures
         ≡ (D.state device.old).failures) }
 {
@@ -429,7 +434,7 @@ pub fn relocate_segment<D: SectorDevice>(
     ensures full { IsErrOf result LiftFault.Full → memory.new.dirty.capacity.limit
         ≤ length memory.new.dirty.blocks }
     ensures failed { IsErrOf result LiftFault.Device
-        → IsExcused (D.state device.old) (D.state device.new) memory.old }
+        → FailsFromDevice (D.state device.old) (D.state device.new) memory.old }
     ensures no_failure { OnOk result ((D.state device.new).failures
         ≡ (D.state device.old).failures) }
 {

@@ -1,4 +1,5 @@
-//! How the usage blocks that changed get new places, and are written there once all counts are final.
+//! How the usage blocks that changed get new places, and are written there once all counts are
+//! final.
 ghost use Rattle.std.specs.Prelude.{◌≡◌, ◌≢◌, ◌<◌, ◌≤◌, ◌+◌, ◌/◌, ℕ, true, false, length, IfSome, IfNone, OnOk, OnErr};
 ghost use Rattle.lfs_memory.specs.segments.Table.{address_of, stale_of};
 ghost use Rattle.lfs_memory.specs.Memory.{IsMemory, IsMemoryUpTo, HasRoom, Goes, Stops, room_of};
@@ -12,8 +13,8 @@ use lfs_memory::inodes::IN_MEMORY;
 use lfs_memory::segments::{Usage, write};
 use lfs_model::BlockKind;
 
-/// The usage block lives no more at its address, which it may have left before. Only under a device that broke its word it doesn't
-/// live there.
+/// The usage block lives no more at its address, which it may have left before. Only under a device
+/// that broke its word it doesn't live there.
 fn leave(usage: &mut Usage, index: u32) -> Result<(), DeviceFault>
     requires { index < 16 }
     ensures left { OnOk result (Leaves usage.old usage.new index) }
@@ -116,8 +117,8 @@ fn next_out(usage: &Usage) -> Option<u32>
     None
 }
 
-/// All usage blocks that changed get places in segments that were taken since the acknowledged checkpoint. As one gets its
-/// place others may change, so it goes on until all stand there.
+/// All usage blocks that changed get places in segments that were taken since the acknowledged
+/// checkpoint. As one gets its place others may change, so it goes on until all stand there.
 ///
 /// # Errors
 ///

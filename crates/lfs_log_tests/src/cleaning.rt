@@ -73,8 +73,8 @@ fn a_pass_takes_files_without_links(rt: HostRuntime) -> Result<(), Wrong> {
     check(rt.alloc(), 64, &FIVE_SEGMENTS, &steps)
 }
 
-/// What comes of it where a read fails before which so many come, the mount's too: 0 where the mount
-/// fails, 1 where the pass does, and changes nothing, and 2 where neither does.
+/// What comes of it where a read fails before which so many come, the mount's too: 0 where the
+/// mount fails, 1 where the pass does, and changes nothing, and 2 where neither does.
 fn fate_of(alloc: Global, read: u64) -> Result<u8, Wrong> {
     let fails = [
         On(Fail(DeviceCall::Read, read)),

@@ -13,15 +13,18 @@ pub enum Probe {
     Tear(usize),
     /// The call of this kind fails before which so many come.
     Fail(DeviceCall, u64),
-    /// The device stops within the write before which so many come; writes are counted from here on.
+    /// The device stops within the write before which so many come; writes are counted from here
+    /// on.
     StopAt(u64),
     /// So many writes were begun since then.
     Writes(u64),
     /// A sync fails.
     SyncFails,
-    /// So many blocks live by the acknowledged checkpoint, after a stop that leaves what was written.
+    /// So many blocks live by the acknowledged checkpoint, after a stop that leaves what was
+    /// written.
     Live(u32),
-    /// By the same checkpoint the inode of file 2 points to a leaf, and to a double root, or to none.
+    /// By the same checkpoint the inode of file 2 points to a leaf, and to a double root, or to
+    /// none.
     Points(bool, bool),
 }
 
@@ -57,7 +60,8 @@ pub fn live(device: &mut MemDevice, slot: u32) -> u32 {
     live
 }
 
-/// Whether the inode of file 2 points to a leaf, and to a double root, by the checkpoint in this slot.
+/// Whether the inode of file 2 points to a leaf, and to a double root, by the checkpoint in this
+/// slot.
 fn points(device: &mut MemDevice, slot: u32) -> (bool, bool) {
     let checkpoint = sector(device, slot);
     let map = sector(device, word(&checkpoint, 8));

@@ -105,7 +105,8 @@ fn a_commit_of_one_block_is_short(rt: HostRuntime) -> Result<(), Wrong> {
             Sees(Unsaved(2)),
             Done(Commit),
             On(SyncFails),
-            // The block, the inode, a block of the map, one of the usage table, the summary, the checkpoint.
+            // The block, the inode, a block of the map, one of the usage table, the summary, the
+            // checkpoint.
             On(Writes(6)),
         ];
         check(rt.alloc(), segments, &TWO_BLOCKS, &steps)?;
@@ -255,8 +256,8 @@ fn a_block_under_pointers_changes(rt: HostRuntime) -> Result<(), Wrong> {
 #[test]
 fn zeros_are_not_stored(rt: HostRuntime) -> Result<(), Wrong> {
     let mut device = prepared(rt.alloc(), 64, &LONG_FILE)?;
-    // The block, how many blocks live then, and whether the inode points to a leaf and to a double root. The two inodes, a
-    // block of the map and one of the usage table are among them.
+    // The block, how many blocks live then, and whether the inode points to a leaf and to a double
+    // root. The two inodes, a block of the map and one of the usage table are among them.
     for (index, blocks, leaf, double) in [
         (111, 15, true, true),
         (239, 14, true, true),
@@ -289,8 +290,8 @@ fn a_file_is_cut(rt: HostRuntime) -> Result<(), Wrong> {
         On(Stop(Left::New)),
     ];
     let mut device = prepared(alloc, 64, &edges)?;
-    // Where it is cut, how many blocks live after the commit, and how many are in memory before it. The two inodes, a block of
-    // the map and one of the usage table are among those that live.
+    // Where it is cut, how many blocks live after the commit, and how many are in memory before it.
+    // The two inodes, a block of the map and one of the usage table are among those that live.
     for (first, blocks, unsaved) in [
         (16_624, 20, 2),
         (368, 16, 2),
@@ -346,7 +347,8 @@ fn a_file_in_memory_is_cut(rt: HostRuntime) -> Result<(), Wrong> {
 #[test]
 fn segments_run_out_without_a_cleaner(rt: HostRuntime) -> Result<(), Wrong> {
     let steps = [
-        // Each file's inode stays in a segment of its own. With 16 clean segments a commit goes on, and leaves 15.
+        // Each file's inode stays in a segment of its own. With 16 clean segments a commit goes on,
+        // and leaves 15.
         Done(MakeTo(50)),
         Done(Make(50, 0)),
         Sees(Clean(15)),
@@ -372,7 +374,8 @@ fn a_commit_takes_eight_segments(rt: HostRuntime) -> Result<(), Wrong> {
             // The blocks, the inode, the double root and three leaves.
             Sees(Unsaved(445)),
             Done(Commit),
-            // With a block of the map and one of the usage table these are seven chunks of 63 blocks and one of 6.
+            // With a block of the map and one of the usage table these are seven chunks of 63
+            // blocks and one of 6.
             Sees(Clean(55)),
             On(Stop(Left::New)),
             Sees(Clean(55)),
@@ -443,7 +446,8 @@ fn failing(alloc: Global, read: u64) -> Result<MemDevice, Wrong> {
     Ok(device)
 }
 
-/// Whether a failed read is one of those of `hide`, which then leaves the link. Where the log isn't opened, it is one before.
+/// Whether a failed read is one of those of `hide`, which then leaves the link. Where the log isn't
+/// opened, it is one before.
 fn is_read_as_file_is_hidden(alloc: Global, read: u64) -> Result<bool, Wrong> {
     let hides = [
         Done(Hide(2, 8_511_488)),

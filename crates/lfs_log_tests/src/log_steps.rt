@@ -52,7 +52,8 @@ pub enum Look {
     Reads(u16, u32, u8),
     /// So are all of file 2 before this one.
     ReadsTo(u32, u8),
-    /// The blocks of file 2 at the edges before this one are as they were filled, and the others aren't stored.
+    /// The blocks of file 2 at the edges before this one are as they were filled, and the others
+    /// aren't stored.
     IsCut(u32),
     /// Whether a block of file 2 is stored.
     HasBlock(u32, bool),

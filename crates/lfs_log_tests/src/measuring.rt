@@ -15,7 +15,8 @@ fn a_file_in_the_draft(rt: HostRuntime) -> Result<(), Wrong> {
         Drafts(Block(2, 112, 7)),
         Drafts(Block(2, 240, 7)),
         Drafts(Block(2, 16_623, 7)),
-        // The inode, the single leaf, the first and the last leaf below the double root, and that root.
+        // The inode, the single leaf, the first and the last leaf below the double root, and that
+        // root.
         Counts(Measured(0, 16_624, 5, 5)),
         // With a block in the range: the inode, the single leaf and the double root.
         Counts(Measured(111, 240, 2, 3)),

@@ -5,7 +5,8 @@ use crate::log_steps::reads;
 use lfs_device::SectorDevice;
 use lfs_store::volume_log::{Header, Log};
 
-/// The index of a block that the plain map has: beside the ends of the inode, of its leaves and of the file.
+/// The index of a block that the plain map has: beside the ends of the inode, of its leaves and of
+/// the file.
 pub fn edge(place: usize) -> u32
     ensures { result ≤ 16623 }
 {

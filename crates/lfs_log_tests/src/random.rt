@@ -207,8 +207,8 @@ impl Trial<'_> {
         lefts
     }
 
-    /// How many blocks the acknowledged checkpoint leads to: besides the files, the root's inode, a block of the inode map and
-    /// the usage table.
+    /// How many blocks the acknowledged checkpoint leads to: besides the files, the root's inode, a
+    /// block of the inode map and the usage table.
     fn live_blocks(&self, segments: u32) -> u32 {
         self.saved
             .blocks()
@@ -231,7 +231,8 @@ impl Trial<'_> {
         Ok(())
     }
 
-    /// The log that a stop leaves. Within a commit it leaves the acknowledged map, or the present one without its files of no links.
+    /// The log that a stop leaves. Within a commit it leaves the acknowledged map, or the present
+    /// one without its files of no links.
     fn resume(&mut self, log: &mut Log<WiredDevice<'_>>, within_commit: bool) -> Result<(), Flaw> {
         if log.unsaved() != 0 {
             return Err(Flaw::Unsaved);

@@ -1,4 +1,5 @@
-//! The totals of a volume as files are written, cut, made and removed: the root's inode is one of its blocks.
+//! The totals of a volume as files are written, cut, made and removed: the root's inode is one of
+//! its blocks.
 use crate::devices::Probe::Stop;
 use crate::store_steps::Call::{Create, Forget, GiveUp, Remove, SetLen, WriteBlock};
 use crate::store_steps::Count::{Space, Staged};

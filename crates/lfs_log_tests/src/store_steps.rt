@@ -46,7 +46,8 @@ pub enum Call {
     /// File 2 is removed at once.
     Forget,
     GiveUp,
-    /// Files with one block of sevens are made from number 2 to before this one, each with a commit of its own.
+    /// Files with one block of sevens are made from number 2 to before this one, each with a commit
+    /// of its own.
     FilesTo(u16),
 }
 
@@ -263,7 +264,8 @@ fn totals_of(data_blocks: u32, meta_blocks: u32) -> BlockTotals {
     }
 }
 
-/// Whether file 2 has so many data blocks from one index to before another, and so many others: its inode, leaves with a block there, its double root.
+/// Whether file 2 has so many data blocks from one index to before another, and so many others: its
+/// inode, leaves with a block there, its double root.
 fn measures(store: &mut Store<MemDevice>, from: u32, to: u32, want: (u32, u32)) -> bool {
     let to = to.min(16_624);
     let (data_blocks, meta_blocks) = want;

@@ -17,7 +17,7 @@ use Rattle.lfs_memory.specs.declared.memory.LogMemory.{LogMemory}
 use Rattle.lfs_memory.specs.Memory.{IsLoose}
 use Rattle.lfs_memory.specs.Changing.{ChangesBlock, HasAbove, IsBlockMiscounted, Stays}
 use Rattle.lfs_memory.specs.Lifting.{IsInMemory}
-use Rattle.lfs_memory.specs.Preparing.{IsReady, IsHeaderReady, AreBlocksReady, AreHeadersReady}
+use Rattle.lfs_memory.specs.Preparing.{HasParent, IsHeaderReady, AreBlocksReady, AreHeadersReady}
 use Rattle.lfs_memory.specs.Applying.{Applies, FailsToApply, after_batch, AppliesHeader, AppliesHeaders, AppliesBlocks, FailsHeaders, FailsBlocks, FitsFile, AreHeadersFit, AreBlocksFit, IsInodeAway, IsBlockAway, after_block, after_blocks, after_header, after_headers}
 use Rattle.lfs_memory.proofs.Aboves.{above_changed, created_memory, headed_memory, stays_then}
 use Rattle.lfs_memory.proofs.BlockSteps.{block_changed, block_counted, block_stays}
@@ -96,7 +96,7 @@ headers_ready_then : (v v' : LogMemory) (n : ℕ) → KeepsFiles v v' n → (edi
 headers_ready_then v v' n keeps [] was = was
 headers_ready_then v v' n keeps (e ∷ edits) was = (header_ready_then v v' n e.number e.header.links keeps was.0, headers_ready_then v v' n keeps edits was.1)
 
-ready_then : (v v' : LogMemory) (n l i : ℕ) → KeepsFiles v v' n → IsReady v l i → IsReady v' l i
+ready_then : (v v' : LogMemory) (n l i : ℕ) → KeepsFiles v v' n → HasParent v l i → HasParent v' l i
 ready_then v v' n l i keeps was = ⊎_elim
     (λ (has : HasAbove (blocks_of v.dirty) (Data l i)). inl (keeps.stay (parent (Data l i)) has))
     (λ (made : (address_in v.map l ≡ 0) × (i < 112)). ⊎_elim
@@ -145,7 +145,7 @@ blocks_ready_after [] v w same bs ready = subst (λ (u : LogMemory). AreBlocksRe
 blocks_ready_after (e ∷ edits) v w go bs ready = blocks_ready_after edits go.0 w go.2 bs (blocks_ready_then v go.0 e.number (keeps_files v go.0 e go.1) bs ready)
 
 -- ---- blocks
-block_ready_then : (v v' : LogMemory) (e : BlockEdit) → ChangesBlock v v' e.number e.index e.bytes → (l i : ℕ) → IsReady v l i → IsReady v' l i
+block_ready_then : (v v' : LogMemory) (e : BlockEdit) → ChangesBlock v v' e.number e.index e.bytes → (l i : ℕ) → HasParent v l i → HasParent v' l i
 block_ready_then v v' e go l i was = ⊎_elim
     (λ (has : HasAbove (blocks_of v.dirty) (Data l i)). inl (above_changed v v' e.number e.index e.bytes e.long go (Data l i) has))
     (λ (made : (address_in v.map l ≡ 0) × (i < 112)). inr (ap (λ (a : MapValue). address_in a l) (block_stays v v' e.number e.index e.bytes e.long go).1 ∙ made.0, made.1))
@@ -163,13 +163,13 @@ module _ (d : DeviceState) (v : LogMemory) (k : CheckpointValue) (m0 m : LogMap)
   block_applied v' go = block_changed d v v' k m0 m is e.number e.index below_all e.bytes e.long go
 
   -- the block above one of a file that is there
-  has_above : IsReady v e.number e.index → HasInode m e.number → HasAbove (blocks_of v.dirty) (Data e.number e.index)
+  has_above : HasParent v e.number e.index → HasInode m e.number → HasAbove (blocks_of v.dirty) (Data e.number e.index)
   has_above ready there = ⊎_elim
       (λ (has : HasAbove (blocks_of v.dirty) (Data e.number e.index)). has)
       (λ (made : (address_in v.map e.number ≡ 0) × (e.index < 112)). absurd (inode_some d v k m0 m is e.number there made.0))
       ready
 
-  block_not_away : IsReady v e.number e.index → HasInode m e.number → IsBlockAway v e.number e.index → ⊥
+  block_not_away : HasParent v e.number e.index → HasInode m e.number → IsBlockAway v e.number e.index → ⊥
   block_not_away ready there away = ⊎_elim
       (λ (none : blocks_of v.dirty (parent (Data e.number e.index)) ≡ None). nothing_in_none v (parent (Data e.number e.index)) (has_above ready there) none)
       (λ (bad : IsBlockMiscounted v e.number e.index). block_counted d v k m0 m is e.number e.index below_all bad)

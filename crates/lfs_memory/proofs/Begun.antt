@@ -3,7 +3,7 @@ use Rattle.std.proofs.Common.{◌≡◌, ◌<◌, ⊎_elim, ◌⊎◌, inl, inr,
 use Rattle.std.specs.Prelude.{map}
 use Rattle.std.proofs.lemmas.List.{length-append, length-map, map-append}
 use Rattle.lfs_model.specs.Checkpoint.{CheckpointValue, IsSegmentCount}
-use Rattle.lfs_model.specs.Crash.{IsFree}
+use Rattle.lfs_model.specs.Crash.{IsFreeSector}
 use Rattle.lfs_model.specs.Device.{DeviceState}
 use Rattle.lfs_model.specs.Entry.{Entry, Data, Leaf, Double, Inode, Map, Usage, entry_of}
 use Rattle.lfs_model.specs.Stands.{LogMap}
@@ -14,7 +14,7 @@ use Rattle.lfs_model.specs.Committing.{place_of}
 use Rattle.lfs_model.proofs.Leaving.{beginning}
 use Rattle.lfs_segments.specs.Table.{UsageTable, live_of, held_of, stale_of}
 use Rattle.lfs_segments.specs.Chunk.{entries_of}
-use Rattle.lfs_segments.specs.Steps.{Takes}
+use Rattle.lfs_segments.specs.Steps.{TakesSegment}
 use Rattle.lfs_segments.specs.Emptied.{IsEmptied}
 use Rattle.lfs_segments.proofs.StaysEmptied.{stays_emptied}
 use Rattle.lfs_inodes.specs.Blocks.{Capacity, TableValue, blocks_of}
@@ -33,7 +33,7 @@ no_entries [] none = refl
 no_entries (x ∷ xs) none = absurd (omega (arith, none))
 
 -- a segment taken from the clean ones, as the tables see it
-pub taken_tables : (map : MapValue) (old new : UsageTable) (s age : ℕ) → Takes old new s age → IsTakenFrom (tables_by map old) (tables_by map new) s
+pub taken_tables : (map : MapValue) (old new : UsageTable) (s age : ℕ) → TakesSegment old new s age → IsTakenFrom (tables_by map old) (tables_by map new) s
 taken_tables map old new s age t = record {
   clean = t.clean;
   at = at;
@@ -129,10 +129,10 @@ module _ (v v' : LogMemory) (name : BlockNameValue) (lives : Bool) (age place : 
             (as_chunk d (blocks_of v.dirty) (tables_of v) k m0 m v.chunk.segment v'.chunk.segment (Some (entries_of v.chunk)) (Some (entries_of v.chunk)) (sym w.1) refl (is_open d v k m0 m is some))
 
     -- the place may be written
-    pub free_place : IsFree d.content k place
+    pub free_place : IsFreeSector d.content k place
     free_place =
         let low = memory.short in
-        subst (λ (n : ℕ). IsFree d.content k n) (sym p.address)
+        subst (λ (n : ℕ). IsFreeSector d.content k n) (sym p.address)
         (taken_free d (blocks_of v.dirty) before k m0 m v'.chunk.segment (Some (entries_of v.chunk)) begun v'.chunk.segment (suc (length v.chunk.names)) (sym (p.noted.taken v'.chunk.segment) ∙ p.opened.taken) (omega (arith, low)))
 
     pub noted : (x : Entry) (map' : MapValue) → lives ≡ is_shown m x → IsAddressed before (tables_by map' v'.usage) x place

@@ -8,7 +8,7 @@ use Rattle.lfs_model.specs.Entry.{Entry, Data, Leaf}
 use Rattle.lfs_model.specs.Fields.{zeros}
 use Rattle.lfs_model.specs.Memory.{IsPointers, is_unlinked, is_shown}
 use Rattle.lfs_model.specs.Running.{Dirty, Tables, Running}
-use Rattle.lfs_model.specs.Staging.{IsAt}
+use Rattle.lfs_model.specs.Staging.{IsAtAddress}
 use Rattle.lfs_model.specs.Stands.{LogMap}
 use Rattle.lfs_model.proofs.Changed.{block_adding, block_removing, block_rewriting, pointers_growing, pointers_shrinking}
 use Rattle.lfs_model.proofs.Entries.{data_below, pointers_below}
@@ -18,7 +18,7 @@ use Rattle.lfs_inodes.specs.Blocks.{TableValue, blocks_of}
 use Rattle.lfs_inodes.specs.MapValue.{MapValue, is_hidden_in}
 use Rattle.lfs_memory.specs.declared.memory.LogMemory.{LogMemory}
 use Rattle.lfs_memory.specs.Memory.{IsLog, IsLoose, AreHidden, tables_of, segment_in, chunk_in}
-use Rattle.lfs_memory.specs.Changing.{IsPointedIn, Stays, Stores, Drops, PutsBlock, ChangesBlock, IsBlockMiscounted, Grows, Prunes, Tightens, stored, with_block}
+use Rattle.lfs_memory.specs.Changing.{IsPointedIn, Stays, Stores, Drops, MakesBlock, ChangesBlock, IsBlockMiscounted, Grows, Prunes, Tightens, stored, with_block}
 use Rattle.lfs_memory.proofs.FileSteps.{shows}
 use Rattle.lfs_memory.proofs.LogMaps.{is_with_block, with_same_block, stored_none, stored_some, word_zeros, length_zeros, blank_or}
 use Rattle.lfs_memory.proofs.Looses.{as_memory, tables_same, lifts_tables, pointed_at, below_or, tight_again, never_miscounted, stays_more}
@@ -32,7 +32,7 @@ in_memory d v k m0 m is n i one = is.running.cached.found (Data n i) (n, refl) o
 
 module _ (d : DeviceState) (v v' : LogMemory) (k : CheckpointValue) (m0 m : LogMap) (is : IsLoose d v k m0 m) (n i a : ℕ) (few : n < 4096)
     (pointed : IsPointedIn (blocks_of v.dirty) (Data n i) a) where
-  at : IsAt (blocks_of v.dirty) (tables_of v) (Data n i) a
+  at : IsAtAddress (blocks_of v.dirty) (tables_of v) (Data n i) a
   at = pointed_at (blocks_of v.dirty) (tables_of v) (Data n i) a (data_below n i) (data_low n i) pointed
 
   where_it_is : is.running.memory.at (Data n i) ≡ a
@@ -65,7 +65,7 @@ module _ (d : DeviceState) (v v' : LogMemory) (k : CheckpointValue) (m0 m : LogM
         let none : a ≡ 0 = omega (arith, low, ne) in
         still (blocks_of v'.dirty) (with_block m n i bytes) go.map (go.departs.none low) go.stays.chunk
         (block_adding d (blocks_of v.dirty) (blocks_of v'.dirty) (tables_of v) k m0 m (with_block m n i bytes) (segment_in v.chunk) (chunk_in v.chunk) n i bytes is.running
-        (subst (λ (e : ℕ). IsAt (blocks_of v.dirty) (tables_of v) (Data n i) e) none at) long (is_with_block m n i bytes) (go.comes ne)))
+        (subst (λ (e : ℕ). IsAtAddress (blocks_of v.dirty) (tables_of v) (Data n i) e) none at) long (is_with_block m n i bytes) (go.comes ne)))
         (cases_eq a 1)
 
     stored_high : 2 ≤ a → Running d (blocks_of v'.dirty) (tables_of v') k m0 (with_block m n i bytes) (segment_in v'.chunk) (chunk_in v'.chunk)
@@ -108,7 +108,7 @@ module _ (d : DeviceState) (v v' : LogMemory) (k : CheckpointValue) (m0 m : LogM
     dropped_log = loosely without (λ l. refl) go.map go.stays.segments
         (below_or a (Running d (blocks_of v'.dirty) (tables_of v') k m0 without (segment_in v'.chunk) (chunk_in v'.chunk)) dropped_low dropped_high)
 
-  put_log : (bytes : List ℕ) → length bytes ≡ 512 → PutsBlock v v' n i a bytes → IsLoose d v' k m0 (with_block m n i (stored bytes))
+  put_log : (bytes : List ℕ) → length bytes ≡ 512 → MakesBlock v v' n i a bytes → IsLoose d v' k m0 (with_block m n i (stored bytes))
   put_log bytes long go = ⊎_elim
       (λ (none : bytes ≡ zeros 512). subst (λ (b : List ℕ). IsLoose d v' k m0 (with_block m n i b)) (sym (stored_none bytes 512 none)) (dropped_log (go.drops none)))
       (λ (some : bytes ≡ zeros 512 → ⊥). subst (λ (b : List ℕ). IsLoose d v' k m0 (with_block m n i b)) (sym (stored_some bytes 512 long some)) (stored_log bytes long (go.stores some)))

@@ -22,7 +22,7 @@ use Rattle.lfs_inodes.specs.MapValue.{address_in}
 use Rattle.lfs_inodes.specs.Present.{present}
 use Rattle.lfs_memory.specs.declared.memory.LogMemory.{LogMemory}
 use Rattle.lfs_memory.specs.Memory.{IsLoose, segment_in}
-use Rattle.lfs_memory.specs.Present.{Looks, IsMissing, IsExcused}
+use Rattle.lfs_memory.specs.Present.{Looks, IsMissing, FailsFromDevice}
 use Rattle.lfs_memory.specs.Counting.{place, at_place, IsBefore, is_before, IsCountedTo, CountsOne, CountsWhere, IsOver, IsHeldBy, CountsWords, AreNoWords, CountsLeaf, FailsLeaf, AreLeaves, CountsLeaves, FailsLeaves, CountsDouble, FailsDouble, IsInodeOf, CountsInode, FailsInode, IsNothing, CountsPast, CountsFile}
 use Rattle.lfs_memory.proofs.Counted.{at_double, at_leaf, IsOneMore, one_added, one_fits, not_over, counts_where, counts_skip, past_leaf_is, past_double_is, before_leaf_part, before_direct, never_missing, is_held, below_of_leaf, below_of_double, past_last, none_of_file, leaf_words, inode_words}
 use Rattle.lfs_memory.proofs.Presents.{inode_at, nobody_at}
@@ -294,7 +294,7 @@ module _ (a b : DeviceState) (v : LogMemory) (n first : ℕ) (counts : List ℕ)
         (counted_from_none a.content (blocks_of v.dirty) is.running.memory held n first counts zeros))
         (λ y file from. past_last a.content (blocks_of v.dirty) is.running.memory held n y file from)
 
-    pub past_fails : FailsInode b c v n bytes first counts → IsExcused a c v
+    pub past_fails : FailsInode b c v n bytes first counts → FailsFromDevice a c v
     past_fails rest k m0 m keeps is =
         let held = held_of_log a v k m0 m is in
         let rose = rest is.running.memory keeps (held_then a b (blocks_of v.dirty) is.running.memory one held) (inode_is k m0 m is keeps)
@@ -326,7 +326,7 @@ module _ (a b : DeviceState) (v : LogMemory) (n : ℕ) (old : List ℕ) (rest : 
   file_counted new one k m0 m keeps is =
       one_added is.running.memory (Inode n) old (is_past n 0) (is_of n) (rest k m0 m keeps is) (with_inode k m0 m is) new (subst (CountsOne old new) (own_at_map k m0 m is) one)
 
-  pub file_over : IsOver old address → IsExcused a b v
+  pub file_over : IsOver old address → FailsFromDevice a b v
   file_over over k m0 m keeps is =
       absurd (one_fits is.running.memory (Inode n) old (is_past n 0) (is_of n) (rest k m0 m keeps is) (with_inode k m0 m is) a.content m (segment_in v.chunk) is.running.laid
       (subst (IsOver old) (own_at_map k m0 m is) over))

@@ -5,7 +5,7 @@ use Rattle.lfs_model.specs.Checkpoint.{CheckpointValue}
 use Rattle.lfs_model.specs.Device.{DeviceState}
 use Rattle.lfs_model.specs.Entry.{Entry, Leaf, Double}
 use Rattle.lfs_model.specs.Memory.{parent}
-use Rattle.lfs_model.specs.Staging.{IsAt}
+use Rattle.lfs_model.specs.Staging.{IsAtAddress}
 use Rattle.lfs_model.specs.Stands.{LogMap}
 use Rattle.lfs_model.proofs.Reading.{reading}
 use Rattle.lfs_model.proofs.Replacing.{address_at}
@@ -13,7 +13,7 @@ use Rattle.lfs_inodes.specs.Blocks.{blocks_of}
 use Rattle.lfs_memory.specs.declared.memory.LogMemory.{LogMemory}
 use Rattle.lfs_memory.specs.Memory.{IsLoose, tables_of, segment_in, chunk_in}
 use Rattle.lfs_memory.specs.Lifting.{IsInMemory}
-use Rattle.lfs_memory.specs.Cutting.{IsCutLeaf, IsReady, HasEdge}
+use Rattle.lfs_memory.specs.Cutting.{IsCutLeaf, IsLiftedIfStored, HasEdge}
 
 -- a fault is what it is in another result too
 pub other_result : {T U E : Type 0} (e x : E) → IsErrOf {T = T} (Err e) x → IsErrOf {T = U} (Err e) x
@@ -29,19 +29,19 @@ above_cut_leaf v n first x named high some above = subst (λ (y : Entry). IsInMe
 
 -- so it is ready as it is brought into memory, or isn't stored
 pub cut_leaf_ready : (v : LogMemory) (n first : ℕ) (x : Entry) → x ≡ Leaf n ((first - 112) / 128) → (found : Bool) → (IsTrue found → IsInMemory v x)
-    → (IsFalse found → IsAt (blocks_of v.dirty) (tables_of v) x 0) → (q : ℕ) → IsCutLeaf first q → IsReady v (Leaf n q)
+    → (IsFalse found → IsAtAddress (blocks_of v.dirty) (tables_of v) x 0) → (q : ℕ) → IsCutLeaf first q → IsLiftedIfStored v (Leaf n q)
 cut_leaf_ready v n first x named found inside none q cut =
     let same : (first - 112) / 128 ≡ q = let from = cut.from in let to = cut.to in omega (arith, from, to) in
-    subst (λ (y : Entry). IsReady v y) (named ∙ ap (Leaf n) same) (either found inside none)
+    subst (λ (y : Entry). IsLiftedIfStored v y) (named ∙ ap (Leaf n) same) (either found inside none)
   where
-    either : (found : Bool) → (IsTrue found → IsInMemory v x) → (IsFalse found → IsAt (blocks_of v.dirty) (tables_of v) x 0) → IsReady v x
+    either : (found : Bool) → (IsTrue found → IsInMemory v x) → (IsFalse found → IsAtAddress (blocks_of v.dirty) (tables_of v) x 0) → IsLiftedIfStored v x
     either true inside none = inl (inside refl)
     either false inside none = inr (none refl)
 
-pub low_edge : (v : LogMemory) (n first : ℕ) → first ≤ 240 → ((q : ℕ) → IsCutLeaf first q → IsReady v (Leaf n q)) → HasEdge v n first
+pub low_edge : (v : LogMemory) (n first : ℕ) → first ≤ 240 → ((q : ℕ) → IsCutLeaf first q → IsLiftedIfStored v (Leaf n q)) → HasEdge v n first
 low_edge v n first low leaf = record { double = λ more. absurd (omega (arith, low, more)); leaf = λ q cut. inl (leaf q cut) }
 
-pub high_edge : (v : LogMemory) (n first : ℕ) → IsInMemory v (Double n) → ((q : ℕ) → IsCutLeaf first q → IsReady v (Leaf n q)) → HasEdge v n first
+pub high_edge : (v : LogMemory) (n first : ℕ) → IsInMemory v (Double n) → ((q : ℕ) → IsCutLeaf first q → IsLiftedIfStored v (Leaf n q)) → HasEdge v n first
 high_edge v n first root leaf = record { double = λ more. inl root; leaf = λ q cut. inl (leaf q cut) }
 
 -- ---- so it is in memory, or not stored
@@ -49,16 +49,16 @@ module _ (d : DeviceState) (v : LogMemory) (k : CheckpointValue) (m0 m : LogMap)
   pub inside_at : (x : Entry) → IsInMemory v x → is.running.memory.at x ≡ 1
   inside_at x held = (is.running.cached.cached x held.0 held.1).1
 
-  nowhere : (x : Entry) → IsAt (blocks_of v.dirty) (tables_of v) x 0 → is.running.memory.at x ≡ 0
+  nowhere : (x : Entry) → IsAtAddress (blocks_of v.dirty) (tables_of v) x 0 → is.running.memory.at x ≡ 0
   nowhere x at = address_at d (blocks_of v.dirty) (tables_of v) k m0 m (segment_in v.chunk) (chunk_in v.chunk) x 0 is.running at
 
   below_none : (x : Entry) → is.running.memory.at (parent x) ≡ 0 → is.running.memory.at x ≡ 0
   below_none x none = (reading d.content m is.running.memory (segment_in v.chunk) is.running.laid).no_pointer x none
 
-  ready_at : (x : Entry) → IsReady v x → 0 < is.running.memory.at x → is.running.memory.at x ≡ 1
+  ready_at : (x : Entry) → IsLiftedIfStored v x → 0 < is.running.memory.at x → is.running.memory.at x ≡ 1
   ready_at x ready some = ⊎_elim
       (λ (held : IsInMemory v x). inside_at x held)
-      (λ (at : IsAt (blocks_of v.dirty) (tables_of v) x 0). let none = nowhere x at in absurd (omega (arith, none, some)))
+      (λ (at : IsAtAddress (blocks_of v.dirty) (tables_of v) x 0). let none = nowhere x at in absurd (omega (arith, none, some)))
       ready
 
   none_below_root : (n q : ℕ) → 1 ≤ q → is.running.memory.at (Double n) ≡ 0 → is.running.memory.at (Leaf n q) ≡ 0
@@ -71,7 +71,7 @@ module _ (d : DeviceState) (v : LogMemory) (k : CheckpointValue) (m0 m : LogMap)
 
     pub leaf_at : (q : ℕ) → 112 + 128 * q < first → first < 240 + 128 * q → 0 < is.running.memory.at (Leaf n q) → is.running.memory.at (Leaf n q) ≡ 1
     leaf_at q from to some = ⊎_elim
-        (λ (ready : IsReady v (Leaf n q)). ready_at (Leaf n q) ready some)
-        (λ (away : (1 ≤ q) × IsAt (blocks_of v.dirty) (tables_of v) (Double n) 0).
+        (λ (ready : IsLiftedIfStored v (Leaf n q)). ready_at (Leaf n q) ready some)
+        (λ (away : (1 ≤ q) × IsAtAddress (blocks_of v.dirty) (tables_of v) (Double n) 0).
         let none = none_below_root n q away.0 (nowhere (Double n) away.1) in absurd (omega (arith, none, some)))
         (edge.leaf q (record { from = from; to = to }))

@@ -19,7 +19,7 @@ use Rattle.lfs_inodes.specs.Clearing.{LeavesPast}
 use Rattle.lfs_inodes.specs.MapValue.{MapValue, address_in, is_hidden_in, block_in}
 use Rattle.lfs_memory.specs.declared.memory.LogMemory.{LogMemory}
 use Rattle.lfs_memory.specs.Memory.{IsLoose, tables_of, segment_in, chunk_in}
-use Rattle.lfs_memory.specs.Present.{Looks, IsExcused}
+use Rattle.lfs_memory.specs.Present.{Looks, FailsFromDevice}
 use Rattle.lfs_memory.specs.Lifting.{IsInMemory, Prepares}
 use Rattle.lfs_memory.specs.Counting.{CountsPast}
 use Rattle.lfs_memory.specs.Removing.{AreUncovered, counts_in}
@@ -127,7 +127,7 @@ module _ (d : DeviceState) (v v' : LogMemory) (k : CheckpointValue) (m0 m : LogM
 
 -- ---- the whole call
 pub uncovered_past : (a b : DeviceState) (v : LogMemory) (n first : ℕ) (lives : Bool) (counts : List ℕ) → n < 4096 → lives ≡ not (is_hidden_in v.map n) → Looks a b → CountsPast a b v n first counts
-    → AreUncovered v.usage lives counts → IsExcused a b v
+    → AreUncovered v.usage lives counts → FailsFromDevice a b v
 uncovered_past a b v n first lives counts low shown looks counted over k m0 m keeps is =
     absurd (past_covered a v v k m0 m is n first low lives counts shown (counted k m0 m keeps is) over)
 

@@ -11,7 +11,7 @@ use Rattle.lfs_model.specs.Lifting.{IsTaken}
 use Rattle.lfs_model.specs.Memory.{Memory, file_of, is_shown, is_held}
 use Rattle.lfs_model.specs.Running.{Dirty, Tables, Running, IsLifted, IsReaddressed}
 use Rattle.lfs_model.specs.Settled.{IsUnusedBy}
-use Rattle.lfs_model.specs.Staging.{IsAt}
+use Rattle.lfs_model.specs.Staging.{IsAtAddress}
 use Rattle.lfs_model.specs.Stands.{LogMap}
 use Rattle.lfs_model.proofs.Counting.{unplaced_counts}
 use Rattle.lfs_model.proofs.Entries.{same_entry}
@@ -212,7 +212,7 @@ pub map_of_gathers : (d : DeviceState) (v v' : LogMemory) (j : ℕ) → (v' ≡ 
 map_of_gathers d v v' j o = ⊎_elim (λ (same : v' ≡ v). gathers_none d v v' same) (λ (go : MapLifts v v' j). map_gathers d v v' j go) o
 
 pub bring_gathers : (d d' : DeviceState) (v v' : LogMemory) (x : Entry) (f address : ℕ) (lives : Bool) (bytes : List ℕ) → Looks d d'
-    → file_of x ≡ Some f → f < 4096 → IsAt (blocks_of v.dirty) (tables_of v) x address → 2 ≤ address → lives ≡ not (is_hidden_in v.map f)
+    → file_of x ≡ Some f → f < 4096 → IsAtAddress (blocks_of v.dirty) (tables_of v) x address → 2 ≤ address → lives ≡ not (is_hidden_in v.map f)
     → ((n : ℕ) → x ≡ Inode n → is_hidden_in v.map n ≡ false → block_in v.map (n / 128) ≡ 1) → (d'.keeps_model → bytes ≡ present d.content (blocks_of v.dirty) x address)
     → Brings v v' x address lives bytes → Gathers d d' v v'
 bring_gathers d d' v v' x f address lives bytes looks file low at above is_lives mapped read go = record {

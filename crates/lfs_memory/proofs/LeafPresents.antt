@@ -16,7 +16,7 @@ use Rattle.lfs_inodes.specs.Present.{present, leaf_now}
 use Rattle.lfs_inodes.proofs.PresentPointers.{leaf_is}
 use Rattle.lfs_memory.specs.declared.memory.LogMemory.{LogMemory}
 use Rattle.lfs_memory.specs.Memory.{IsLoose, segment_in}
-use Rattle.lfs_memory.specs.Present.{Looks, IsMissing, IsExcused, AnswersAddress}
+use Rattle.lfs_memory.specs.Present.{Looks, IsMissing, FailsFromDevice, AnswersAddress}
 use Rattle.lfs_memory.proofs.Presents.{inode_at, inode_bytes, nobody_at, not_missing, excused_then}
 
 -- a number of a block, by its place
@@ -95,7 +95,7 @@ module _ (a b c : DeviceState) (v : LogMemory) (n q : ℕ) (inode : List ℕ) (r
           sym (leaf_at a v k m0 m is n inode some (bytes_are a b v n q inode some read k m0 m (two.carries.kept_before keeps) is) (suc q) low)
           ∙ sym (found ∙ ap (word out) same ∙ ap (λ (b : List ℕ). word b q) out_is)
 
-  pub leaf_failed : (root ≡ 0 → ⊥) → (c.keeps_model → (b.failures < c.failures) ⊎ IsMissing b.content (blocks_of v.dirty) x root) → IsExcused a c v
+  pub leaf_failed : (root ≡ 0 → ⊥) → (c.keeps_model → (b.failures < c.failures) ⊎ IsMissing b.content (blocks_of v.dirty) x root) → FailsFromDevice a c v
   leaf_failed later unread k m0 m keeps is = ⊎_elim
       (λ (failed : b.failures < c.failures). excused_then a b c v one two failed k m0 m keeps is)
       (λ (missing : IsMissing b.content (blocks_of v.dirty) x root).

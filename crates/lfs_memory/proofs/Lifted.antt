@@ -12,7 +12,7 @@ use Rattle.lfs_model.specs.Entry.{Entry, Data, Leaf, Double, Inode, Map, Usage, 
 use Rattle.lfs_model.specs.Fields.{read32}
 use Rattle.lfs_model.specs.Memory.{Memory, parent, pointer, patched, file_of, IsOfFile, is_shown, is_held, is_nameless, is_unlinked, count_of, shown}
 use Rattle.lfs_model.specs.Running.{Dirty, Tables, Running, IsLifted, IsAddressed, CountsDown}
-use Rattle.lfs_model.specs.Staging.{IsAt, Fetches}
+use Rattle.lfs_model.specs.Staging.{IsAtAddress, Fetches}
 use Rattle.lfs_model.specs.Stands.{LogMap}
 use Rattle.lfs_model.proofs.Counting.{taken_counts}
 use Rattle.lfs_model.proofs.Entries.{same_entry, data_below, leaf_below, double_below}
@@ -27,8 +27,8 @@ use Rattle.lfs_inodes.specs.MapValue.{MapValue, address_in, is_hidden_in, block_
 use Rattle.lfs_inodes.specs.Present.{present}
 use Rattle.lfs_memory.specs.declared.memory.LogMemory.{LogMemory}
 use Rattle.lfs_memory.specs.Memory.{IsMemory, IsLoose, AreHidden, tables_of, segment_in, chunk_in, room_in, room_of}
-use Rattle.lfs_memory.specs.Present.{Looks, IsMissing, IsExcused}
-use Rattle.lfs_memory.specs.Lifting.{IsInMemory, Prepares, IsCounted, Brings, MapLifts, IsMapLost}
+use Rattle.lfs_memory.specs.Present.{Looks, IsMissing, FailsFromDevice}
+use Rattle.lfs_memory.specs.Lifting.{IsInMemory, Prepares, IsCountedAbove, Brings, MapLifts, IsMapLost}
 use Rattle.lfs_memory.proofs.Presents.{looks_none, looks_then, still_log, not_missing}
 use Rattle.lfs_memory.proofs.Stales.{stays_stale}
 
@@ -95,7 +95,7 @@ same_hidden map map' m e is n low = is n low ∙ ap (λ (l : List Bool). get_or 
 
 -- ---- a block of a file
 module _ (d : DeviceState) (v : LogMemory) (k : CheckpointValue) (m0 m : LogMap) (is : IsLoose d v k m0 m) (x : Entry) (f address : ℕ) (lives : Bool)
-    (file : file_of x ≡ Some f) (low : f < 4096) (at : IsAt (blocks_of v.dirty) (tables_of v) x address) (above : 2 ≤ address) (is_lives : lives ≡ not (is_hidden_in v.map f)) where
+    (file : file_of x ≡ Some f) (low : f < 4096) (at : IsAtAddress (blocks_of v.dirty) (tables_of v) x address) (above : 2 ≤ address) (is_lives : lives ≡ not (is_hidden_in v.map f)) where
   abbrev M : Memory
   M = is.running.memory
 
@@ -119,7 +119,7 @@ module _ (d : DeviceState) (v : LogMemory) (k : CheckpointValue) (m0 m : LogMap)
       let e = ap (λ (a : ℕ). count_of test M (segment_of a)) stands_at in
       omega (arith, c, e)
 
-  pub is_counted : IsCounted v.usage address lives
+  pub is_counted : IsCountedAbove v.usage address lives
   is_counted = record {
     above = above;
     inside = let s = stands_at in let w = is.running.laid.within x (omega (arith, above, s)) in let n = is.running.segments in let l = is.segments in omega (arith, s, w, n, l, above);
@@ -182,7 +182,7 @@ module _ (d : DeviceState) (v : LogMemory) (k : CheckpointValue) (m0 m : LogMap)
 
 -- a data block that is replaced unread
 pub log_replaced : (d : DeviceState) (v v' : LogMemory) (k : CheckpointValue) (m0 m m' : LogMap) (n i address : ℕ) (lives : Bool) (bytes : List ℕ) → IsLoose d v k m0 m → n < 4096
-    → IsAt (blocks_of v.dirty) (tables_of v) (Data n i) address → 2 ≤ address → lives ≡ not (is_hidden_in v.map n) → Brings v v' (Data n i) address lives bytes
+    → IsAtAddress (blocks_of v.dirty) (tables_of v) (Data n i) address → 2 ≤ address → lives ≡ not (is_hidden_in v.map n) → Brings v v' (Data n i) address lives bytes
     → length bytes ≡ 512 → IsWithBlock m n i bytes m' → IsLoose d v' k m0 m'
 log_replaced d v v' k m0 m m' n i address lives bytes is low at above is_lives go long map = record {
   running = with_chunk d (blocks_of v'.dirty) (tables_of v') k m0 m' v.chunk v'.chunk go.chunk
@@ -197,7 +197,7 @@ module _ (d : DeviceState) (v : LogMemory) (k : CheckpointValue) (m0 m : LogMap)
   map_at : is.running.memory.at (Map j) ≡ block_in v.map j
   map_at = is.running.tables.at (Map j) refl
 
-  pub map_counted : 2 ≤ block_in v.map j → IsCounted v.usage (block_in v.map j) true
+  pub map_counted : 2 ≤ block_in v.map j → IsCountedAbove v.usage (block_in v.map j) true
   map_counted above = record {
     above = above;
     inside = let s = map_at in let w = is.running.laid.within (Map j) (omega (arith, above, s)) in let n = is.running.segments in let l = is.segments in omega (arith, s, w, n, l, above);
@@ -335,7 +335,7 @@ prepares_at_most a b v v' n l le one = record {
 pub prepares_room : (a b : DeviceState) (v v' : LogMemory) (n : ℕ) → Prepares a b v v' n → room_of v' ≡ room_of v
 prepares_room a b v v' n one = ap₂ (λ (c r : ℕ). 63 * c + r) one.clean (ap (λ (c : Chunk). room_in c.names) one.chunk)
 
-pub prepares_excused : (a b c : DeviceState) (v v' : LogMemory) (n : ℕ) → Prepares a b v v' n → Looks b c → IsExcused b c v' → IsExcused a c v
+pub prepares_excused : (a b c : DeviceState) (v v' : LogMemory) (n : ℕ) → Prepares a b v v' n → Looks b c → FailsFromDevice b c v' → FailsFromDevice a c v
 prepares_excused a b c v v' n one two failed k m0 m keeps is =
     let back = two.carries.kept_before keeps in
     let rose = failed k m0 m keeps (one.log k m0 m back is) in
@@ -354,7 +354,7 @@ brings_memory v v' x address lives bytes memory go = kept_memory v v' memory go.
     (λ j. stays_stale v.usage v'.usage (segment_of address / 64) j go.usage.blocks) go.capacity
 
 pub bring_prepares : (d d' : DeviceState) (v v' : LogMemory) (x : Entry) (f address : ℕ) (lives : Bool) (bytes : List ℕ) → IsLawful d → IsMemory v → Looks d d'
-    → file_of x ≡ Some f → f < 4096 → IsAt (blocks_of v.dirty) (tables_of v) x address → 2 ≤ address → lives ≡ not (is_hidden_in v.map f)
+    → file_of x ≡ Some f → f < 4096 → IsAtAddress (blocks_of v.dirty) (tables_of v) x address → 2 ≤ address → lives ≡ not (is_hidden_in v.map f)
     → ((n : ℕ) → x ≡ Inode n → is_hidden_in v.map n ≡ false → block_in v.map (n / 128) ≡ 1) → (d'.keeps_model → bytes ≡ present d.content (blocks_of v.dirty) x address)
     → Brings v v' x address lives bytes → Prepares d d' v v' 1
 bring_prepares d d' v v' x f address lives bytes lawful memory looks file low at above is_lives mapped read go = record {
@@ -384,12 +384,12 @@ bring_prepares d d' v v' x f address lives bytes lawful memory looks file low at
 }
 
 -- where the block isn't counted, or isn't read, a call of the device failed
-pub bring_lost : (d : DeviceState) (v : LogMemory) (x : Entry) (f address : ℕ) (lives : Bool) → file_of x ≡ Some f → f < 4096 → IsAt (blocks_of v.dirty) (tables_of v) x address → 2 ≤ address
-    → lives ≡ not (is_hidden_in v.map f) → (IsCounted v.usage address lives → ⊥) → IsExcused d d v
+pub bring_lost : (d : DeviceState) (v : LogMemory) (x : Entry) (f address : ℕ) (lives : Bool) → file_of x ≡ Some f → f < 4096 → IsAtAddress (blocks_of v.dirty) (tables_of v) x address → 2 ≤ address
+    → lives ≡ not (is_hidden_in v.map f) → (IsCountedAbove v.usage address lives → ⊥) → FailsFromDevice d d v
 bring_lost d v x f address lives file low at above is_lives lost k m0 m keeps is = absurd (lost (is_counted d v k m0 m is x f address lives file low at above is_lives))
 
-pub bring_unread : (d d' : DeviceState) (v : LogMemory) (x : Entry) (f address : ℕ) → file_of x ≡ Some f → f < 4096 → IsAt (blocks_of v.dirty) (tables_of v) x address → 2 ≤ address
-    → (d'.keeps_model → (d.failures < d'.failures) ⊎ IsMissing d.content (blocks_of v.dirty) x address) → IsExcused d d' v
+pub bring_unread : (d d' : DeviceState) (v : LogMemory) (x : Entry) (f address : ℕ) → file_of x ≡ Some f → f < 4096 → IsAtAddress (blocks_of v.dirty) (tables_of v) x address → 2 ≤ address
+    → (d'.keeps_model → (d.failures < d'.failures) ⊎ IsMissing d.content (blocks_of v.dirty) x address) → FailsFromDevice d d' v
 bring_unread d d' v x f address file low at above unread k m0 m keeps is = ⊎_elim
     (λ (failed : d.failures < d'.failures). failed)
     (λ (missing : IsMissing d.content (blocks_of v.dirty) x address). absurd (is_read d v k m0 m is x f address (not (is_hidden_in v.map f)) file low at above refl missing))
@@ -436,7 +436,7 @@ map_prepares d v v' j lawful memory go = ⊎_elim
       log = λ k m0 m keeps is. log_mapped d v k m0 m is j v' go;
     }
 
-pub map_lost : (d : DeviceState) (v : LogMemory) (j : ℕ) → IsMapLost v j → IsExcused d d v
+pub map_lost : (d : DeviceState) (v : LogMemory) (j : ℕ) → IsMapLost v j → FailsFromDevice d d v
 map_lost d v j lost k m0 m keeps is = absurd (lost.lost (map_counted d v k m0 m is j lost.above))
 
 -- the inode map block of an inode in memory, of a file that has a name, will be written
@@ -458,14 +458,14 @@ map_of_prepares d v v' j lawful memory o = ⊎_elim
     o
 
 -- ---- where blocks are
-pub inode_stands : (v : LogMemory) (x : Entry) (n a : ℕ) → x ≡ Inode n → address_in v.map n ≡ a → IsAt (blocks_of v.dirty) (tables_of v) x a
+pub inode_stands : (v : LogMemory) (x : Entry) (n a : ℕ) → x ≡ Inode n → address_in v.map n ≡ a → IsAtAddress (blocks_of v.dirty) (tables_of v) x a
 inode_stands v x n a named at = record {
   top = λ top. ap (tables_of v).at named ∙ at;
   pointed = λ ne. absurd (ne (ap parent named ∙ sym named));
   low = λ k q leaf. absurd (let e : Inode n ≡ Leaf k q = sym named ∙ leaf in cc);
 }
 
-pub not_inside : (d : DeviceState) (v : LogMemory) (x : Entry) (f : ℕ) → file_of x ≡ Some f → IsAt (blocks_of v.dirty) (tables_of v) x 1 → blocks_of v.dirty x ≡ None → IsExcused d d v
+pub not_inside : (d : DeviceState) (v : LogMemory) (x : Entry) (f : ℕ) → file_of x ≡ Some f → IsAtAddress (blocks_of v.dirty) (tables_of v) x 1 → blocks_of v.dirty x ≡ None → FailsFromDevice d d v
 not_inside d v x f file at none k m0 m keeps is =
     absurd (not_missing d v k m0 m is x 1 (f, file)
     (address_at d (blocks_of v.dirty) (tables_of v) k m0 m (segment_in v.chunk) (chunk_in v.chunk) x 1 is.running at) (omega arith)
@@ -488,7 +488,7 @@ prepares_none d v v' most same lawful memory = subst (λ (w : LogMemory). Prepar
 
 -- a block below the one above it
 pub below_stands : (v : LogMemory) (x : Entry) (b : List ℕ) (a : ℕ) → (parent x ≡ x → ⊥) → ((n q : ℕ) → x ≡ Leaf n q → q ≤ 128) → blocks_of v.dirty (parent x) ≡ Some b → word b (pointer x) ≡ a
-    → IsAt (blocks_of v.dirty) (tables_of v) x a
+    → IsAtAddress (blocks_of v.dirty) (tables_of v) x a
 below_stands v x b a below low held at = record { top = λ top. absurd (below top); pointed = λ ne. (b, held, at); low = low }
 
 pub word_read : (b : List ℕ) (at place r : ℕ) → place ≡ at → r ≡ read32 (4 * place) b → word b at ≡ r

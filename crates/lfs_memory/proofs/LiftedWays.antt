@@ -5,7 +5,7 @@ use Rattle.lfs_model.specs.Checkpoint.{CheckpointValue}
 use Rattle.lfs_model.specs.Device.{DeviceState}
 use Rattle.lfs_model.specs.Entry.{Entry, Data, Leaf, Double, Inode}
 use Rattle.lfs_model.specs.Memory.{parent}
-use Rattle.lfs_model.specs.Staging.{IsAt}
+use Rattle.lfs_model.specs.Staging.{IsAtAddress}
 use Rattle.lfs_model.specs.Stands.{LogMap}
 use Rattle.lfs_model.proofs.Entries.{leaf_below, double_below, data_parent_low, data_parent_high}
 use Rattle.lfs_model.proofs.Reading.{reading}
@@ -46,7 +46,7 @@ module _ (d : DeviceState) (v : LogMemory) (k : CheckpointValue) (m0 m : LogMap)
   below_none : (x : Entry) → is.running.memory.at (parent x) ≡ 0 → is.running.memory.at x ≡ 0
   below_none x none = (reading d.content m is.running.memory (segment_in v.chunk) is.running.laid).no_pointer x none
 
-  nowhere : (x : Entry) → IsAt (blocks_of v.dirty) (tables_of v) x 0 → is.running.memory.at x ≡ 0
+  nowhere : (x : Entry) → IsAtAddress (blocks_of v.dirty) (tables_of v) x 0 → is.running.memory.at x ≡ 0
   nowhere x at = address_at d (blocks_of v.dirty) (tables_of v) k m0 m (segment_in v.chunk) (chunk_in v.chunk) x 0 is.running at
 
   none_below_leaf : (n q i : ℕ) → is.running.memory.at (Leaf n q) ≡ 0 → parent (Data n i) ≡ Leaf n q → m.block n i ≡ []
@@ -56,12 +56,12 @@ module _ (d : DeviceState) (v : LogMemory) (k : CheckpointValue) (m0 m : LogMap)
   none_below_double n zero some none = absurd (some refl)
   none_below_double n (suc q) some none = below_none (Leaf n (suc q)) none
 
-pub no_leaf : (a c : DeviceState) (v v' : LogMemory) (most : ℕ) (x : Entry) (n q : ℕ) → Prepares a c v v' most → x ≡ Leaf n q → IsAt (blocks_of v'.dirty) (tables_of v') x 0 → IsLeafAbsent a c v n q
+pub no_leaf : (a c : DeviceState) (v v' : LogMemory) (most : ℕ) (x : Entry) (n q : ℕ) → Prepares a c v v' most → x ≡ Leaf n q → IsAtAddress (blocks_of v'.dirty) (tables_of v') x 0 → IsLeafAbsent a c v n q
 no_leaf a c v v' most x n q one named at i up k m0 m keeps is =
     let now = one.log k m0 m keeps is in
     none_below_leaf c v' k m0 m now n q i (sym (ap now.running.memory.at named) ∙ nowhere c v' k m0 m now x at) up
 
-pub no_double : (a c : DeviceState) (v v' : LogMemory) (most : ℕ) (x : Entry) (n q : ℕ) → Prepares a c v v' most → x ≡ Double n → (q ≡ 0 → ⊥) → IsAt (blocks_of v'.dirty) (tables_of v') x 0 → IsLeafAbsent a c v n q
+pub no_double : (a c : DeviceState) (v v' : LogMemory) (most : ℕ) (x : Entry) (n q : ℕ) → Prepares a c v v' most → x ≡ Double n → (q ≡ 0 → ⊥) → IsAtAddress (blocks_of v'.dirty) (tables_of v') x 0 → IsLeafAbsent a c v n q
 no_double a c v v' most x n q one named some at i up k m0 m keeps is =
     let now = one.log k m0 m keeps is in
     none_below_leaf c v' k m0 m now n q i (none_below_double c v' k m0 m now n q some (sym (ap now.running.memory.at named) ∙ nowhere c v' k m0 m now x at)) up

@@ -6,19 +6,19 @@ use Rattle.lfs_model.specs.Device.{DeviceState}
 use Rattle.lfs_model.specs.Entry.{Entry, Data, Leaf, Double, Inode, Map, Usage}
 use Rattle.lfs_model.specs.Memory.{parent, file_of, is_shown, is_held, count_of}
 use Rattle.lfs_model.specs.Running.{Dirty, IsTight, Tables, Running, IsLifted, CountsDown}
-use Rattle.lfs_model.specs.Staging.{IsAt}
+use Rattle.lfs_model.specs.Staging.{IsAtAddress}
 use Rattle.lfs_model.specs.Stands.{LogMap}
 use Rattle.lfs_model.proofs.Counting.{taken_counts}
 use Rattle.lfs_model.proofs.Replacing.{address_at}
 use Rattle.lfs_model.proofs.Running.{taken_memory, is_taken}
-use Rattle.lfs_segments.specs.Chunk.{Chunk, IsOpen}
+use Rattle.lfs_segments.specs.Chunk.{Chunk, IsOpenChunk}
 use Rattle.lfs_segments.specs.Table.{UsageTable, live_of, held_of, stale_of, clean_in}
 use Rattle.lfs_segments.specs.Steps.{Lifts}
 use Rattle.lfs_inodes.specs.Blocks.{Capacity, blocks_of}
 use Rattle.lfs_inodes.specs.MapValue.{MapValue, is_hidden_in}
 use Rattle.lfs_memory.specs.declared.memory.LogMemory.{LogMemory}
 use Rattle.lfs_memory.specs.Memory.{IsMemory, IsLog, IsLoose, table_at, tables_by, tables_of, segment_in, chunk_in}
-use Rattle.lfs_memory.specs.Changing.{IsCounted, IsMiscounted, IsPointedIn, Departs, Stays}
+use Rattle.lfs_memory.specs.Changing.{IsCountedThere, IsMiscounted, IsPointedIn, Departs, Stays}
 use Rattle.lfs_memory.proofs.FileSteps.{shows}
 use Rattle.lfs_memory.proofs.Stales.{stays_stale}
 
@@ -30,11 +30,11 @@ tight_again d v k m0 m is tight = record { running = is.running; hidden = is.hid
 
 -- ---- memory
 pub stays_memory : (v v' : LogMemory) → IsMemory v → v'.chunk ≡ v.chunk → length v'.usage.segments ≡ length v.usage.segments
-    → (IsOpen v.chunk v.usage → IsOpen v.chunk v'.usage) → ((j : ℕ) → (tables_of v').at (Usage j) ≡ (tables_of v).at (Usage j)) → ((j : ℕ) → stale_of v.usage j ≡ true → stale_of v'.usage j ≡ true)
+    → (IsOpenChunk v.chunk v.usage → IsOpenChunk v.chunk v'.usage) → ((j : ℕ) → (tables_of v').at (Usage j) ≡ (tables_of v).at (Usage j)) → ((j : ℕ) → stale_of v.usage j ≡ true → stale_of v'.usage j ≡ true)
     → v'.dirty.capacity ≡ v.dirty.capacity → IsMemory v'
 stays_memory v v' memory chunk segments opened same stale capacity = record {
   count = subst IsSegmentCount (sym segments) memory.count;
-  opened = λ some. subst (λ (c : Chunk). IsOpen c v'.usage) (sym chunk) (opened (memory.opened (subst (λ (c : Chunk). 0 < length c.names) chunk some)));
+  opened = λ some. subst (λ (c : Chunk). IsOpenChunk c v'.usage) (sym chunk) (opened (memory.opened (subst (λ (c : Chunk). 0 < length c.names) chunk some)));
   short = subst (λ (c : Chunk). length c.names ≤ 62) (sym chunk) memory.short;
   usages = λ j one. stale j (memory.usages j (sym (same j) ∙ one));
   few = let f = memory.few in let c = ap (λ (c : Capacity). c.limit) capacity in omega (arith, f, c, segments);
@@ -42,10 +42,10 @@ stays_memory v v' memory chunk segments opened same stale capacity = record {
 
 pub stays_same : (v v' : LogMemory) → v'.chunk ≡ v.chunk → v'.usage ≡ v.usage → v'.dirty.capacity ≡ v.dirty.capacity → IsMemory v → IsMemory v'
 stays_same v v' chunk usage capacity memory =
-    stays_memory v v' memory chunk (ap (λ (u : UsageTable). length u.segments) usage) (subst (λ (u : UsageTable). IsOpen v.chunk u) (sym usage)) (λ j. ap (λ (u : UsageTable). table_at v.map u (Usage j)) usage)
+    stays_memory v v' memory chunk (ap (λ (u : UsageTable). length u.segments) usage) (subst (λ (u : UsageTable). IsOpenChunk v.chunk u) (sym usage)) (λ j. ap (λ (u : UsageTable). table_at v.map u (Usage j)) usage)
     (λ j on. ap (λ (u : UsageTable). stale_of u j) usage ∙ on) capacity
 
-lifted_open : (c : Chunk) (old new : UsageTable) (s : ℕ) (lives : Bool) → Lifts old new s lives → IsOpen c old → IsOpen c new
+lifted_open : (c : Chunk) (old new : UsageTable) (s : ℕ) (lives : Bool) → Lifts old new s lives → IsOpenChunk c old → IsOpenChunk c new
 lifted_open c old new s lives go is = record {
   inside = subst (λ (n : ℕ). c.segment < n) (sym go.size) is.inside;
   used = go.used c.segment ∙ is.used;
@@ -69,9 +69,9 @@ departs_stale : (old new : UsageTable) (a : ℕ) (lives : Bool) → Departs old 
 departs_stale old new a lives go j on =
     below_or a (stale_of new j ≡ true) (λ low. ap (λ (u : UsageTable). stale_of u j) (go.none low) ∙ on) (λ high. stays_stale old new (segment_of a / 64) j (go.lifts high).blocks on)
 
-departs_open : (c : Chunk) (old new : UsageTable) (a : ℕ) (lives : Bool) → Departs old new a lives → IsOpen c old → IsOpen c new
+departs_open : (c : Chunk) (old new : UsageTable) (a : ℕ) (lives : Bool) → Departs old new a lives → IsOpenChunk c old → IsOpenChunk c new
 departs_open c old new a lives go is =
-    below_or a (IsOpen c new) (λ low. subst (λ (u : UsageTable). IsOpen c u) (sym (go.none low)) is) (λ high. lifted_open c old new (segment_of a) lives (go.lifts high) is)
+    below_or a (IsOpenChunk c new) (λ low. subst (λ (u : UsageTable). IsOpenChunk c u) (sym (go.none low)) is) (λ high. lifted_open c old new (segment_of a) lives (go.lifts high) is)
 
 pub departed : (n : ℕ) (v v' : LogMemory) (a : ℕ) (lives : Bool) → Departs v.usage v'.usage a lives → v'.chunk ≡ v.chunk → v'.dirty.capacity ≡ v.dirty.capacity
     → length v'.dirty.blocks ≤ length v.dirty.blocks + n → Stays n v v'
@@ -119,7 +119,7 @@ lifts_tables m map map' old new x s w lives same go shows below = record {
 }
 
 -- ---- the pointer to a block below another
-pub pointed_at : (dirty : Dirty) (t : Tables) (x : Entry) (a : ℕ) → (parent x ≡ x → ⊥) → ((n q : ℕ) → x ≡ Leaf n q → q ≤ 128) → IsPointedIn dirty x a → IsAt dirty t x a
+pub pointed_at : (dirty : Dirty) (t : Tables) (x : Entry) (a : ℕ) → (parent x ≡ x → ⊥) → ((n q : ℕ) → x ≡ Leaf n q → q ≤ 128) → IsPointedIn dirty x a → IsAtAddress dirty t x a
 pointed_at dirty t x a below low p = record { top = λ top. absurd (below top); pointed = λ ne. p; low = low }
 
 -- ---- a running log by other words
@@ -133,7 +133,7 @@ pub tables_same : (v v' : LogMemory) → v'.map ≡ v.map → v'.usage ≡ v.usa
 tables_same v v' map usage = ap (λ (a : MapValue). tables_by a v.usage) (sym map) ∙ ap (λ (u : UsageTable). tables_by v'.map u) (sym usage)
 
 -- ---- a block below another that has an address is counted there
-module _ (d : DeviceState) (v : LogMemory) (k : CheckpointValue) (m0 m : LogMap) (is : IsLoose d v k m0 m) (x : Entry) (a : ℕ) (at : IsAt (blocks_of v.dirty) (tables_of v) x a) (above : 2 ≤ a) where
+module _ (d : DeviceState) (v : LogMemory) (k : CheckpointValue) (m0 m : LogMap) (is : IsLoose d v k m0 m) (x : Entry) (a : ℕ) (at : IsAtAddress (blocks_of v.dirty) (tables_of v) x a) (above : 2 ≤ a) where
   where_is : is.running.memory.at x ≡ a
   where_is = address_at d (blocks_of v.dirty) (tables_of v) k m0 m (segment_in v.chunk) (chunk_in v.chunk) x a is.running at
 
@@ -146,7 +146,7 @@ module _ (d : DeviceState) (v : LogMemory) (k : CheckpointValue) (m0 m : LogMap)
       let c = (taken_counts d.content m M (segment_in v.chunk) x 1 (taken_memory M x 1 M.bytes) is.running.laid there (is_taken M x 1 M.bytes (omega arith)) p).0 on in
       omega (arith, c)
 
-  pub counted : (lives : Bool) → lives ≡ is_shown m x → IsCounted v.usage a lives
+  pub counted : (lives : Bool) → lives ≡ is_shown m x → IsCountedThere v.usage a lives
   counted lives shows =
       let w = is.running in
       let e = where_is in
@@ -160,5 +160,5 @@ module _ (d : DeviceState) (v : LogMemory) (k : CheckpointValue) (m0 m : LogMap)
 
 -- so its leaving doesn't fail
 pub never_miscounted : (d : DeviceState) (v : LogMemory) (k : CheckpointValue) (m0 m : LogMap) → IsLoose d v k m0 m → (x : Entry) (n a : ℕ) → file_of x ≡ Some n → n < 4096
-    → IsAt (blocks_of v.dirty) (tables_of v) x a → IsMiscounted v.usage a (not (is_hidden_in v.map n)) → ⊥
+    → IsAtAddress (blocks_of v.dirty) (tables_of v) x a → IsMiscounted v.usage a (not (is_hidden_in v.map n)) → ⊥
 never_miscounted d v k m0 m is x n a file few at bad = bad.1 (counted d v k m0 m is x a at bad.0 (not (is_hidden_in v.map n)) (shows m x n (is_hidden_in v.map n) file (is.hidden n few)))

@@ -2,7 +2,7 @@
 use Rattle.std.proofs.Common.{◌≡◌, ◌<◌, ◌+◌, ◌*◌, ◌==◌, cond, ℕ, Bool, true, List, length, Option, Some, None, refl, ap, subst, arith}
 use Rattle.lfs_model.specs.Checkpoint.{CheckpointValue}
 use Rattle.lfs_model.specs.Content.{Content}
-use Rattle.lfs_model.specs.Crash.{IsFree, StandsOn}
+use Rattle.lfs_model.specs.Crash.{IsFreeSector, StandsOn}
 use Rattle.lfs_model.specs.Device.{DeviceState, MayWrite, CrashWrites, Carries, Elapses, IsLawful, LeavesOnly}
 use Rattle.lfs_model.specs.Entry.{Entry}
 use Rattle.lfs_model.specs.Stands.{LogMap}
@@ -43,7 +43,7 @@ module _ (d : DeviceState) (v : LogMemory) (k : CheckpointValue) (m0 m : LogMap)
       (closed_segment v.chunk none) (closed_chunk v.chunk none) is.running
 
 -- a write to a free sector, done or failed
-module _ (d d' : DeviceState) (k : CheckpointValue) (m0 : LogMap) (at : ℕ) (bytes : List ℕ) (settled : IsSettled d k m0) (free : IsFree d.content k at)
+module _ (d d' : DeviceState) (k : CheckpointValue) (m0 : LogMap) (at : ℕ) (bytes : List ℕ) (settled : IsSettled d k m0) (free : IsFreeSector d.content k at)
     (may : MayWrite at bytes d.content d'.content) (crash : CrashWrites at bytes d d') where
   pub stays_settled : IsSettled d' k m0
   stays_settled = (settled_write d d' k m0 at bytes settled free may crash).0
@@ -55,6 +55,6 @@ module _ (d d' : DeviceState) (k : CheckpointValue) (m0 : LogMap) (at : ℕ) (by
 
 -- a sector of a segment that was taken
 pub taken_free : (d : DeviceState) (dirty : Dirty) (t : Tables) (k : CheckpointValue) (m0 m : LogMap) (seg : ℕ) (chunk : Option (List Entry)) → Running d dirty t k m0 m seg chunk
-    → (s place : ℕ) → t.taken s ≡ true → place < 64 → IsFree d.content k (2 + 64 * s + place)
+    → (s place : ℕ) → t.taken s ≡ true → place < 64 → IsFreeSector d.content k (2 + 64 * s + place)
 taken_free d dirty t k m0 m seg chunk w s place taken low =
     let u = w.taken s taken in record { segment = s; place = place; is = refl; within = low; below = u.0; unused = let z = u.1 in omega (arith, z) }

@@ -5,7 +5,7 @@ use Rattle.std.proofs.lemmas.List.{drop_more}
 use Rattle.lfs_model.specs.Device.{DeviceState, IsLawful}
 use Rattle.lfs_model.specs.Entry.{Entry, Data, Leaf, Inode}
 use Rattle.lfs_model.specs.Memory.{parent, IsPointers}
-use Rattle.lfs_model.specs.Staging.{IsAt}
+use Rattle.lfs_model.specs.Staging.{IsAtAddress}
 use Rattle.lfs_model.specs.Stands.{LogMap}
 use Rattle.lfs_model.proofs.Entries.{data_parent_low, data_parent_high, pointers_below}
 use Rattle.lfs_segments.specs.Table.{UsageTable, taken_of}
@@ -15,10 +15,10 @@ use Rattle.lfs_memory.specs.declared.batch.BlockEdit.{BlockEdit}
 use Rattle.lfs_memory.specs.declared.batch.HeaderEdit.{HeaderEdit}
 use Rattle.lfs_memory.specs.declared.memory.LogMemory.{LogMemory}
 use Rattle.lfs_memory.specs.Memory.{IsMemory, tables_of}
-use Rattle.lfs_memory.specs.Present.{Looks, IsExcused}
+use Rattle.lfs_memory.specs.Present.{Looks, FailsFromDevice}
 use Rattle.lfs_memory.specs.Changing.{Grows, HasAbove}
 use Rattle.lfs_memory.specs.Lifting.{IsAbsent, IsInMemory, MapLifts, Prepares}
-use Rattle.lfs_memory.specs.Preparing.{IsReady, AreBlocksReady, IsHeaderReady, AreHeadersReady, LacksRoom, AreWithin, IsExcusedWithin, AreExcusedWithin, is_beside, row_of, way_from, ways, ways_from}
+use Rattle.lfs_memory.specs.Preparing.{HasParent, AreBlocksReady, IsHeaderReady, AreHeadersReady, LacksRoom, AreWithin, IsExcusedWithin, AreExcusedWithin, is_beside, row_of, way_from, ways, ways_from}
 use Rattle.lfs_memory.proofs.Aboves.{grown_memory}
 use Rattle.lfs_memory.proofs.BlockSteps.{grown_log}
 use Rattle.lfs_memory.proofs.Lifted.{map_of_prepares, prepares_at_most, prepares_excused, prepares_looks, prepares_then}
@@ -26,7 +26,7 @@ use Rattle.lfs_memory.proofs.LogMaps.{both_yes, equal_is}
 use Rattle.lfs_memory.proofs.Presents.{looks_none}
 
 -- ---- an empty block of pointers
-grow_prepares : (d : DeviceState) (v v' : LogMemory) (x : Entry) → IsMemory v → IsPointers x → IsAt (blocks_of v.dirty) (tables_of v) x 0 → Grows v v' x → Prepares d d v v' 1
+grow_prepares : (d : DeviceState) (v v' : LogMemory) (x : Entry) → IsMemory v → IsPointers x → IsAtAddress (blocks_of v.dirty) (tables_of v) x 0 → Grows v v' x → Prepares d d v v' 1
 grow_prepares d v v' x memory pointers at go = record {
   looks = looks_none d;
   memory = go.stays.memory memory;
@@ -48,7 +48,7 @@ prepares_same : (d d' : DeviceState) (v v' : LogMemory) (n l : ℕ) → IsLawful
 prepares_same d d' v v' n l lawful memory same one =
     subst (λ (w : LogMemory). Prepares d d' v w l) (sym same) (prepares_at_most d d' v v 0 l (omega arith) (prepares_looks d d' v lawful memory one.looks))
 
-pub grown_after : (d d' : DeviceState) (v v' v'' : LogMemory) (x : Entry) → IsLawful d → IsMemory v → v' ≡ v → IsPointers x → IsAt (blocks_of v'.dirty) (tables_of v') x 0 → Grows v' v'' x
+pub grown_after : (d d' : DeviceState) (v v' v'' : LogMemory) (x : Entry) → IsLawful d → IsMemory v → v' ≡ v → IsPointers x → IsAtAddress (blocks_of v'.dirty) (tables_of v') x 0 → Grows v' v'' x
     → Prepares d d' v v' 1 → Prepares d d' v v'' 1
 grown_after d d' v v' v'' x lawful memory same pointers at go one =
     prepares_then d d' d' v v' v'' 0 1 lawful (prepares_same d d' v v' 1 0 lawful memory same one) (grow_prepares d' v' v'' x one.memory pointers at go)
@@ -76,7 +76,7 @@ keeps_prepared d d' v v' w n one two = record {
   mapped = λ j is. two.mapped j (one.mapped j is);
 }
 
-ready_kept : (v w : LogMemory) (n i : ℕ) → Keeps v w → IsReady v n i → IsReady w n i
+ready_kept : (v w : LogMemory) (n i : ℕ) → Keeps v w → HasParent v n i → HasParent w n i
 ready_kept v w n i keeps was = ⊎_elim
     (λ (has : HasAbove (blocks_of v.dirty) (Data n i)). inl (keeps.stay (parent (Data n i)) has))
     (λ (made : (address_in v.map n ≡ 0) × (i < 112)). inr (keeps.absent n made.0, made.1))
@@ -96,14 +96,14 @@ headers_ready_kept v w [] keeps was = was
 headers_ready_kept v w (e ∷ edits) keeps was = (header_ready_kept v w e.number e.header.links keeps was.0, headers_ready_kept v w edits keeps was.1)
 
 -- ---- a data block
-pub way_high : (v : LogMemory) (n i : ℕ) → 112 ≤ i → IsInMemory v (Leaf n ((i - 112) / 128)) → IsReady v n i
+pub way_high : (v : LogMemory) (n i : ℕ) → 112 ≤ i → IsInMemory v (Leaf n ((i - 112) / 128)) → HasParent v n i
 way_high v n i high has = inl (subst (IsInMemory v) (sym (data_parent_high n i high)) has)
 
 -- faults
 pub absent_within : (d d' : DeviceState) (v : LogMemory) (n i : ℕ) → 112 ≤ i → IsAbsent d d' v n → IsExcusedWithin d d' v n i
 absent_within d d' v n i high absent k m0 m keeps is within = let low = within (absent k m0 m keeps is) in absurd (omega (arith, low, high))
 
-pub excused_within : (d d' : DeviceState) (v : LogMemory) (n i : ℕ) → IsExcused d d' v → IsExcusedWithin d d' v n i
+pub excused_within : (d d' : DeviceState) (v : LogMemory) (n i : ℕ) → FailsFromDevice d d' v → IsExcusedWithin d d' v n i
 excused_within d d' v n i failed k m0 m keeps is within = failed k m0 m keeps is
 
 -- ---- a header
@@ -112,7 +112,7 @@ module _ (d d' : DeviceState) (v v' v'' : LogMemory) (j : ℕ) (lawful : IsLawfu
   pub named_prepares : Prepares d d' v v'' 1
   named_prepares = prepares_then d d d' v v' v'' 0 1 lawful (map_of_prepares d v v' j lawful memory named) one
 
-  pub named_excused : IsExcused d d' v' → IsExcused d d' v
+  pub named_excused : FailsFromDevice d d' v' → FailsFromDevice d d' v
   named_excused failed = prepares_excused d d d' v v' 0 (map_of_prepares d v v' j lawful memory named) one.looks failed
 
 -- ---- headers, one after the other
@@ -137,7 +137,7 @@ module _ (d0 d : DeviceState) (v0 v : LogMemory) (edits : List HeaderEdit) (i : 
   pub headers_fault : Prepares d0 d' v0 v' (length edits)
   headers_fault = prepares_at_most d0 d' v0 v' (i + 1) (length edits) (omega (arith, within)) (prepares_then d0 d d' v0 v v' i 1 lawful was.prepares one)
 
-  pub headers_excused : IsExcused d d' v → IsExcused d0 d' v0
+  pub headers_excused : FailsFromDevice d d' v → FailsFromDevice d0 d' v0
   headers_excused failed = prepares_excused d0 d d' v0 v i was.prepares one.looks failed
 
 -- ---- blocks that stand beside each other
@@ -166,7 +166,7 @@ row_parent n i j same = ⊎_elim
     (cases_lt j 112))
     (cases_lt i 112)
 
-beside_ready : (v : LogMemory) (a b : BlockEdit) → is_beside a b ≡ true → IsReady v a.number a.index → IsReady v b.number b.index
+beside_ready : (v : LogMemory) (a b : BlockEdit) → is_beside a b ≡ true → HasParent v a.number a.index → HasParent v b.number b.index
 beside_ready v a b beside was =
     let both = both_yes (a.number == b.number) (row_of a.index == row_of b.index) beside in
     let file = equal_is a.number b.number both.0 in
@@ -180,7 +180,7 @@ beside_ready v a b beside was =
 -- ---- blocks, one after the other
 pub record BlocksPrepared (d0 d : DeviceState) (v0 v : LogMemory) (edits rest : List BlockEdit) : Type 0 where
   pub before : Option BlockEdit
-  pub last : (b : BlockEdit) → before ≡ Some b → IsReady v b.number b.index
+  pub last : (b : BlockEdit) → before ≡ Some b → HasParent v b.number b.index
   pub most : ℕ
   pub all : most + ways_from before rest ≡ ways edits
   pub prepares : Prepares d0 d v0 v most
@@ -188,7 +188,7 @@ pub record BlocksPrepared (d0 d : DeviceState) (v0 v : LogMemory) (edits rest : 
   pub within : (m : LogMap) → AreWithin m edits → AreWithin m rest
   pub no_failure : d.failures ≡ d0.failures
 
-way_cases : (v : LogMemory) (before : Option BlockEdit) (e : BlockEdit) → ((b : BlockEdit) → before ≡ Some b → IsReady v b.number b.index) → (way_from before e ≡ 3) ⊎ ((way_from before e ≡ 0) × IsReady v e.number e.index)
+way_cases : (v : LogMemory) (before : Option BlockEdit) (e : BlockEdit) → ((b : BlockEdit) → before ≡ Some b → HasParent v b.number b.index) → (way_from before e ≡ 3) ⊎ ((way_from before e ≡ 0) × HasParent v e.number e.index)
 way_cases v None e last = inl refl
 way_cases v (Some b) e last = ⊎_elim
     (λ (on : is_beside b e ≡ true). inr (ap (λ (t : Bool). cond {A = ℕ} t 0 3) on, beside_ready v b e on (last b refl)))
@@ -203,16 +203,16 @@ module _ (d0 d : DeviceState) (v0 v : LogMemory) (edits : List BlockEdit) (i : �
   sum_is : was.most + (way_from was.before e + ways_from (Some e) (drop (i + 1) edits)) ≡ ways edits
   sum_is = ap (λ (rest : List BlockEdit). was.most + ways_from was.before rest) (sym first_block) ∙ was.all
 
-  sharp : (IsReady v e.number e.index → v' ≡ v) → Prepares d d' v v' (way_from was.before e)
+  sharp : (HasParent v e.number e.index → v' ≡ v) → Prepares d d' v v' (way_from was.before e)
   sharp same = ⊎_elim
       (λ (three : way_from was.before e ≡ 3). subst (Prepares d d' v v') (sym three) one)
-      (λ (none : (way_from was.before e ≡ 0) × IsReady v e.number e.index). prepares_same d d' v v' 3 (way_from was.before e) lawful was.prepares.memory (same none.1) one)
+      (λ (none : (way_from was.before e ≡ 0) × HasParent v e.number e.index). prepares_same d d' v v' 3 (way_from was.before e) lawful was.prepares.memory (same none.1) one)
       (way_cases v was.before e was.last)
 
-  pub blocks_next : (IsReady v e.number e.index → v' ≡ v) → IsReady v' e.number e.index → d'.failures ≡ d.failures → BlocksPrepared d0 d' v0 v' edits (drop (i + 1) edits)
+  pub blocks_next : (HasParent v e.number e.index → v' ≡ v) → HasParent v' e.number e.index → d'.failures ≡ d.failures → BlocksPrepared d0 d' v0 v' edits (drop (i + 1) edits)
   blocks_next same ready no_failure = record {
     before = Some e;
-    last = λ b is. let own : e ≡ b = some_is e b is in subst (λ (f : BlockEdit). IsReady v' f.number f.index) own ready;
+    last = λ b is. let own : e ≡ b = some_is e b is in subst (λ (f : BlockEdit). HasParent v' f.number f.index) own ready;
     most = was.most + way_from was.before e;
     all = let sum = sum_is in omega (arith, sum);
     prepares = prepares_then d0 d d' v0 v v' was.most (way_from was.before e) lawful0 was.prepares (sharp same);
@@ -224,11 +224,11 @@ module _ (d0 d : DeviceState) (v0 v : LogMemory) (edits : List BlockEdit) (i : �
       some_is : (a b : BlockEdit) → Some a ≡ Some b → a ≡ b
       some_is a b is = cc
 
-  module _ (away : IsReady v e.number e.index → ⊥) where
+  module _ (away : HasParent v e.number e.index → ⊥) where
     three_more : was.most + 3 ≤ ways edits
     three_more = let sum = sum_is in ⊎_elim
         (λ (three : way_from was.before e ≡ 3). omega (arith, sum, three))
-        (λ (none : (way_from was.before e ≡ 0) × IsReady v e.number e.index). absurd (away none.1))
+        (λ (none : (way_from was.before e ≡ 0) × HasParent v e.number e.index). absurd (away none.1))
         (way_cases v was.before e was.last)
 
     pub blocks_fault : Prepares d0 d' v0 v' (ways edits)
@@ -248,7 +248,7 @@ module _ (d0 d : DeviceState) (v0 v : LogMemory) (edits : List BlockEdit) (i : �
 pub headers_ready_after : (d d' : DeviceState) (v w : LogMemory) (n : ℕ) (edits : List HeaderEdit) → Prepares d d' v w n → AreHeadersReady v edits → AreHeadersReady w edits
 headers_ready_after d d' v w n edits one was = headers_ready_kept v w edits (keeps_prepared d d' v w w n one (keeps_none w)) was
 
-pub all_excused : (d d' : DeviceState) (v : LogMemory) (edits : List BlockEdit) → IsExcused d d' v → AreExcusedWithin d d' v edits
+pub all_excused : (d d' : DeviceState) (v : LogMemory) (edits : List BlockEdit) → FailsFromDevice d d' v → AreExcusedWithin d d' v edits
 all_excused d d' v edits failed k m0 m keeps is all = failed k m0 m keeps is
 
 pub excused_then : (a b c : DeviceState) (v w : LogMemory) (n : ℕ) (edits : List BlockEdit) → Prepares a b v w n → Looks b c → AreExcusedWithin b c w edits → AreExcusedWithin a c v edits

@@ -28,7 +28,7 @@ use Rattle.lfs_inodes.proofs.PresentPointers.{present_is, leaf_is, present_is_la
 use Rattle.lfs_files.specs.declared.header.Header.{Header}
 use Rattle.lfs_memory.specs.declared.memory.LogMemory.{LogMemory}
 use Rattle.lfs_memory.specs.Memory.{IsLoose, tables_of, segment_in, chunk_in}
-use Rattle.lfs_memory.specs.Present.{Looks, IsMissing, IsExcused, AnswersInode, AnswersHeader, AnswersBlock, AnswersAddress, as_header}
+use Rattle.lfs_memory.specs.Present.{Looks, IsMissing, FailsFromDevice, AnswersInode, AnswersHeader, AnswersBlock, AnswersAddress, as_header}
 
 -- ---- calls that only read
 pub still_log : (d d' : DeviceState) (v : LogMemory) (k : CheckpointValue) (m0 m : LogMap) → Looks d d' → IsLoose d v k m0 m → IsLoose d' v k m0 m
@@ -162,7 +162,7 @@ module _ (d d' : DeviceState) (v : LogMemory) (n a : ℕ) (x : Entry) (at : a �
   inode_answered out read k m0 m keeps is = inode_answer d v k m0 m is n out there
       (read keeps ∙ ap (λ (y : Entry). present d.content (blocks_of v.dirty) y a) named ∙ ap (present d.content (blocks_of v.dirty) (Inode n)) at)
 
-  pub inode_failed : (d'.keeps_model → (d.failures < d'.failures) ⊎ IsMissing d.content (blocks_of v.dirty) x a) → IsExcused d d' v
+  pub inode_failed : (d'.keeps_model → (d.failures < d'.failures) ⊎ IsMissing d.content (blocks_of v.dirty) x a) → FailsFromDevice d d' v
   inode_failed unread k m0 m keeps is = ⊎_elim
       (λ (failed : d.failures < d'.failures). failed)
       (λ (missing : IsMissing d.content (blocks_of v.dirty) x a).
@@ -188,21 +188,21 @@ module _ (a b c : DeviceState) (v : LogMemory) (n i : ℕ) (inode : List ℕ) (o
   address_found address found k m0 m keeps is =
       sym (found keeps ∙ ap (λ (e : Content). data_now e (blocks_of v.dirty) n inode i) one.untouched.content ∙ data_at a v k m0 m is n i inode some (inode_read k m0 m keeps is) low)
 
-  pub address_away : (c.keeps_model → IsDataAway b.content (blocks_of v.dirty) n inode i) → IsExcused a c v
+  pub address_away : (c.keeps_model → IsDataAway b.content (blocks_of v.dirty) n inode i) → FailsFromDevice a c v
   address_away away k m0 m keeps is =
       absurd (data_not_away a v k m0 m is n i inode some (inode_read k m0 m keeps is) low (subst (λ (e : Content). IsDataAway e (blocks_of v.dirty) n inode i) one.untouched.content (away keeps)))
 
 -- a failure after calls that only read
-pub excused_then : (a b c : DeviceState) (v : LogMemory) → Looks a b → Looks b c → b.failures < c.failures → IsExcused a c v
+pub excused_then : (a b c : DeviceState) (v : LogMemory) → Looks a b → Looks b c → b.failures < c.failures → FailsFromDevice a c v
 excused_then a b c v one two failed k m0 m keeps is = let before = one.carries.failures in omega (arith, failed, before)
 
-pub excused_before : (a b c : DeviceState) (v : LogMemory) → Looks b c → IsExcused a b v → IsExcused a c v
+pub excused_before : (a b c : DeviceState) (v : LogMemory) → Looks b c → FailsFromDevice a b v → FailsFromDevice a c v
 excused_before a b c v two failed k m0 m keeps is = let rose = failed k m0 m (two.carries.kept_before keeps) is in let after = two.carries.failures in omega (arith, rose, after)
 
 -- a fault of what follows the pointers
 pub address_failed : (a b c : DeviceState) (v : LogMemory) (n i : ℕ) (inode : List ℕ) (fault : ReadFault) → Looks a b → Looks b c → 0 < address_in v.map n → i < 16624
     → (b.keeps_model → inode ≡ present a.content (blocks_of v.dirty) (Inode n) (address_in v.map n))
-    → (fault ≡ kind.Unreadable → c.keeps_model → IsDataAway b.content (blocks_of v.dirty) n inode i) → (fault ≡ kind.Failed → b.failures < c.failures) → IsExcused a c v
+    → (fault ≡ kind.Unreadable → c.keeps_model → IsDataAway b.content (blocks_of v.dirty) n inode i) → (fault ≡ kind.Failed → b.failures < c.failures) → FailsFromDevice a c v
 address_failed a b c v n i inode kind.Unreadable one two some low read away failed = address_away a b c v n i inode one two some low read (away refl)
 address_failed a b c v n i inode kind.Failed one two some low read away failed = excused_then a b c v one two (failed refl)
 
@@ -216,7 +216,7 @@ module _ (a b c : DeviceState) (v : LogMemory) (n i address : ℕ) (x : Entry) (
       block_is a v k m0 m is n i address out (at k m0 m (two.carries.kept_before keeps) is) (omega (arith, some))
       (read keeps ∙ ap (λ (y : Entry). present b.content (blocks_of v.dirty) y address) named ∙ ap (λ (e : Content). present e (blocks_of v.dirty) (Data n i) address) one.untouched.content)
 
-  pub block_failed : (address ≡ 0 → ⊥) → (c.keeps_model → (b.failures < c.failures) ⊎ IsMissing b.content (blocks_of v.dirty) x address) → IsExcused a c v
+  pub block_failed : (address ≡ 0 → ⊥) → (c.keeps_model → (b.failures < c.failures) ⊎ IsMissing b.content (blocks_of v.dirty) x address) → FailsFromDevice a c v
   block_failed some unread k m0 m keeps is = ⊎_elim
       (λ (failed : b.failures < c.failures). excused_then a b c v one two failed k m0 m keeps is)
       (λ (missing : IsMissing b.content (blocks_of v.dirty) x address).

@@ -18,10 +18,10 @@ use Rattle.lfs_inodes.specs.MapValue.{address_in, is_hidden_in, block_in}
 use Rattle.lfs_memory.specs.declared.memory.LogMemory.{LogMemory}
 use Rattle.lfs_segments.specs.Chunk.{Chunk}
 use Rattle.lfs_memory.specs.Memory.{IsLoose, AreHidden, tables_of, segment_in, chunk_in}
-use Rattle.lfs_memory.specs.Present.{Looks, IsExcused}
+use Rattle.lfs_memory.specs.Present.{Looks, FailsFromDevice}
 use Rattle.lfs_memory.specs.Lifting.{Prepares}
 use Rattle.lfs_memory.specs.Counting.{CountsFile}
-use Rattle.lfs_memory.specs.Removing.{without_file, counted_in, AreCovered, AreUncovered, counts_in, Drops, Removes}
+use Rattle.lfs_memory.specs.Removing.{without_file, counted_in, AreCovered, AreUncovered, counts_in, DropsFile, RemovesFile}
 use Rattle.lfs_memory.proofs.Lifted.{kept_memory}
 use Rattle.lfs_memory.proofs.Stales.{never_fresh}
 use Rattle.lfs_memory.proofs.Presents.{still_log}
@@ -48,7 +48,7 @@ module _ (d : DeviceState) (v v' : LogMemory) (k : CheckpointValue) (m0 m : LogM
   pub all_covered : AreUncovered v.usage lives counts → ⊥
   all_covered = counts_covered d v k m0 m is n low lives shown (is_of n) (is_of_true n) counts counted
 
-  module _ (go : Drops v v' n lives counts) (mapped : is_hidden_in v.map n ≡ false → block_in v.map (n / 128) ≡ 1) where
+  module _ (go : DropsFile v v' n lives counts) (mapped : is_hidden_in v.map n ≡ false → block_in v.map (n / 128) ≡ 1) where
     none_at : (x : Entry) → parent x ≡ x → is_of n x ≡ true → (tables_of v').at x ≡ 0
     none_at (Data k i) top on = refl
     none_at (Leaf k q) top on = refl
@@ -102,12 +102,12 @@ covered_all usage lives counts i all before s = ⊎_elim
 -- ---- the whole call: the inode map's block first, then the counts, and then what leaves
 module _ (a b : DeviceState) (v mid : LogMemory) (n : ℕ) (lives : Bool) (counts : List ℕ) (lawful : IsLawful a) (first : Prepares a a v mid 0) (looks : Looks a b) (low : n < 4096) (shown : lives ≡ not (is_hidden_in mid.map n))
     (counted : CountsFile a b mid n counts) where
-  pub uncovered_excused : AreUncovered mid.usage lives counts → IsExcused a b v
+  pub uncovered_excused : AreUncovered mid.usage lives counts → FailsFromDevice a b v
   uncovered_excused over k m0 m keeps is =
       let log = first.log k m0 m (looks.carries.kept_before keeps) is in
       absurd (all_covered a mid mid k m0 m log n low lives counts shown (counted k m0 m keeps log) over)
 
-  pub file_removed : (v' : LogMemory) → Drops mid v' n lives counts → (is_hidden_in mid.map n ≡ false → block_in mid.map (n / 128) ≡ 1) → Removes a b v v' n
+  pub file_removed : (v' : LogMemory) → DropsFile mid v' n lives counts → (is_hidden_in mid.map n ≡ false → block_in mid.map (n / 128) ≡ 1) → RemovesFile a b v v' n
   file_removed v' go mapped = record {
     looks = looks;
     memory = kept_memory mid v' first.memory go.usage.size go.chunk go.usage.used go.usage.taken go.usage.address (never_fresh mid.usage v'.usage go.usage.stale) go.capacity;

@@ -20,16 +20,16 @@ use Rattle.lfs_memory.specs.declared.lifting.LiftFault.{LiftFault}
 use Rattle.lfs_memory.specs.declared.lifting.LiftFault.TheVariants as fault
 use Rattle.lfs_memory.specs.declared.memory.LogMemory.{LogMemory}
 use Rattle.lfs_memory.specs.Memory.{IsMemory, IsLoose}
-use Rattle.lfs_memory.specs.Present.{Looks, IsExcused}
+use Rattle.lfs_memory.specs.Present.{Looks, FailsFromDevice}
 use Rattle.lfs_memory.specs.Lifting.{IsInMemory, Prepares}
 use Rattle.lfs_memory.specs.Changing.{HasAbove, Stays}
 use Rattle.lfs_memory.specs.Cutting.{Cuts}
 use Rattle.lfs_memory.specs.Hiding.{Hides, IsLinkExcused}
-use Rattle.lfs_memory.specs.Removing.{Removes}
-use Rattle.lfs_memory.specs.Preparing.{IsReady, IsHeaderReady, AreBlocksReady, AreHeadersReady, LacksRoom, AreExcusedWithin, ways}
+use Rattle.lfs_memory.specs.Removing.{RemovesFile}
+use Rattle.lfs_memory.specs.Preparing.{HasParent, IsHeaderReady, AreBlocksReady, AreHeadersReady, LacksRoom, AreExcusedWithin, ways}
 use Rattle.lfs_memory.specs.Applying.{Applies, FailsToApply}
 use Rattle.lfs_memory.specs.Batch.{lost, is_lost, room_for_edits, AreHeadersApart, AreBlocksApart, FitEdits}
-use Rattle.lfs_memory.specs.Staging.{Loses, IsLossExcused, Stands, Stages, Refuses, IsBatchExcused}
+use Rattle.lfs_memory.specs.Staging.{Loses, IsLossExcused, StandsWithBatch, TakesBatch, RefusesBatch, IsBatchExcused}
 use Rattle.lfs_memory.proofs.Applied.{batch_applied, batch_never_fails}
 use Rattle.lfs_memory.proofs.Lifted.{prepares_looks, prepares_then}
 use Rattle.lfs_memory.proofs.Presents.{looks_none, looks_then}
@@ -83,7 +83,7 @@ link_lost d d' v v' l go = record {
   log = λ k m0 m keeps is fits. go.log k m0 m keeps is fits.0 (sym (is.hidden l.number (in_range l.number l.few)) ∙ fits.2);
 }
 
-pub file_lost : (d d' : DeviceState) (v v' : LogMemory) (r : Removal) → Removes d d' v v' r.number → Loses d d' v v' (loss.File r)
+pub file_lost : (d d' : DeviceState) (v v' : LogMemory) (r : Removal) → RemovesFile d d' v v' r.number → Loses d d' v v' (loss.File r)
 file_lost d d' v v' r go = record {
   looks = go.looks;
   memory = go.memory;
@@ -101,7 +101,7 @@ file_lost d d' v v' r go = record {
 pub link_excused : (d d' : DeviceState) (v : LogMemory) (l : LastLink) → IsLinkExcused d d' v l.number → IsLossExcused d d' v (loss.Link l)
 link_excused d d' v l failed k m0 m keeps is fits = failed k m0 m keeps is (sym (is.hidden l.number (in_range l.number l.few)) ∙ fits.2) fits.1
 
-pub loss_excused : (d d' : DeviceState) (v : LogMemory) (x : Loss) → IsExcused d d' v → IsLossExcused d d' v x
+pub loss_excused : (d d' : DeviceState) (v : LogMemory) (x : Loss) → FailsFromDevice d d' v → IsLossExcused d d' v x
 loss_excused d d' v x failed k m0 m keeps is fits = failed k m0 m keeps is
 
 -- ---- what is ready stays so, apart from what is lost
@@ -116,7 +116,7 @@ module _ (d d' : DeviceState) (v v' : LogMemory) (x : Loss) (go : Loses d d' v v
   headers_ready [] apart was = was
   headers_ready (e ∷ edits) apart was = (header_ready e.number e.header.links apart.0 was.0, headers_ready edits apart.1 was.1)
 
-  block_ready : (n i : ℕ) → is_lost x (parent (Data n i)) ≡ false → IsReady v n i → IsReady v' n i
+  block_ready : (n i : ℕ) → is_lost x (parent (Data n i)) ≡ false → HasParent v n i → HasParent v' n i
   block_ready n i apart was = ⊎_elim
       (λ (has : HasAbove (blocks_of v.dirty) (Data n i)). inl (go.stay (parent (Data n i)) apart has))
       (λ (made : (address_in v.map n ≡ 0) × (i < 112)). inr (go.absent n made.0, made.1))
@@ -127,7 +127,7 @@ module _ (d d' : DeviceState) (v v' : LogMemory) (x : Loss) (go : Loses d d' v v
   blocks_ready (e ∷ edits) apart was = (block_ready e.number e.index apart.0 was.0, blocks_ready edits apart.1 was.1)
 
 -- ---- a batch that is refused before anything changed
-pub refuses_prepared : (a b : DeviceState) (v v' : LogMemory) (n : ℕ) (x : Loss) (hs : List HeaderEdit) (bs : List BlockEdit) → n ≤ room_for_edits hs bs → Prepares a b v v' n → Refuses a b v v' x hs bs
+pub refuses_prepared : (a b : DeviceState) (v v' : LogMemory) (n : ℕ) (x : Loss) (hs : List HeaderEdit) (bs : List BlockEdit) → n ≤ room_for_edits hs bs → Prepares a b v v' n → RefusesBatch a b v v' x hs bs
 refuses_prepared a b v v' n x hs bs le go = record {
   stands = record {
     looks = go.looks;
@@ -141,10 +141,10 @@ refuses_prepared a b v v' n x hs bs le go = record {
   log = λ k m0 m keeps is fits. go.log k m0 m keeps is;
 }
 
-pub refuses_at_once : (d : DeviceState) (v : LogMemory) (x : Loss) (hs : List HeaderEdit) (bs : List BlockEdit) → IsLawful d → IsMemory v → Refuses d d v v x hs bs
+pub refuses_at_once : (d : DeviceState) (v : LogMemory) (x : Loss) (hs : List HeaderEdit) (bs : List BlockEdit) → IsLawful d → IsMemory v → RefusesBatch d d v v x hs bs
 refuses_at_once d v x hs bs lawful memory = refuses_prepared d d v v 0 x hs bs (omega arith) (prepares_looks d d v lawful memory (looks_none d))
 
-pub batch_excused : (d d' : DeviceState) (v : LogMemory) (x : Loss) (hs : List HeaderEdit) (bs : List BlockEdit) → IsExcused d d' v → IsBatchExcused d d' v x hs bs
+pub batch_excused : (d d' : DeviceState) (v : LogMemory) (x : Loss) (hs : List HeaderEdit) (bs : List BlockEdit) → FailsFromDevice d d' v → IsBatchExcused d d' v x hs bs
 batch_excused d d' v x hs bs failed k m0 m keeps is fits = failed k m0 m keeps is
 
 -- ---- with room enough no fault is for want of it
@@ -155,7 +155,7 @@ device_only (Err fault.Device) P never go = go refl
 
 -- ---- its headers and blocks are made ready
 module _ (a b : DeviceState) (v v1 : LogMemory) (x : Loss) (hs : List HeaderEdit) (bs : List BlockEdit) (lawful : IsLawful a) (first : Prepares a b v v1 (length hs + ways bs)) where
-  pub prepared_refuses : Refuses a b v v1 x hs bs
+  pub prepared_refuses : RefusesBatch a b v v1 x hs bs
   prepared_refuses = refuses_prepared a b v v1 (length hs + ways bs) x hs bs (omega arith) first
 
   pub prepared_excused : (r : Result (Unit {0}) LiftFault) → length v.dirty.blocks + room_for_edits hs bs ≤ v.dirty.capacity.limit → (IsErrOf r fault.Full → LacksRoom v (length hs + ways bs))
@@ -165,7 +165,7 @@ module _ (a b : DeviceState) (v v1 : LogMemory) (x : Loss) (hs : List HeaderEdit
 
   -- ---- what a file loses is lost
   module _ (e : DeviceState) (v2 : LogMemory) where
-    pub loss_refuses : Prepares b e v1 v2 3 → Refuses a e v v2 x hs bs
+    pub loss_refuses : Prepares b e v1 v2 3 → RefusesBatch a e v v2 x hs bs
     loss_refuses second =
         refuses_prepared a e v v2 (length hs + ways bs + 3) x hs bs (omega arith)
         (prepares_then a b e v v1 v2 (length hs + ways bs) 3 lawful first second)
@@ -194,7 +194,7 @@ module _ (a b : DeviceState) (v v1 : LogMemory) (x : Loss) (hs : List HeaderEdit
       blocks_now m fits = blocks_ready b e v1 v2 x go bs fits.blocks_apart ready_blocks
 
       module _ (v3 : LogMemory) (stays : Stays (length hs + length bs) v2 v3) where
-        stands : Stands a e v v3 hs bs
+        stands : StandsWithBatch a e v v3 hs bs
         stands = record {
           looks = looks_then a b e lawful first.looks go.looks;
           memory = stays.memory go.memory;
@@ -205,7 +205,7 @@ module _ (a b : DeviceState) (v v1 : LogMemory) (x : Loss) (hs : List HeaderEdit
           few = let x = first.few in let y = go.few in let z = stays.blocks in omega (arith, x, y, z);
         }
 
-        pub stages : Applies v2 hs bs v3 → Stages a e v v3 x hs bs
+        pub stages : Applies v2 hs bs v3 → TakesBatch a e v v3 x hs bs
         stages done = record {
           stands = stands;
           log = λ k m0 m keeps is fits.
@@ -216,7 +216,7 @@ module _ (a b : DeviceState) (v v1 : LogMemory) (x : Loss) (hs : List HeaderEdit
         unready_never k m0 m keeps is fits bad =
             batch_never_fails e k m0 (lost x m) hs bs v2 (log_lost k m0 m keeps is fits) (headers_now m fits) fits.fit_headers (blocks_now m fits) fits.fit_blocks bad
 
-        pub unready_refuses : FailsToApply v2 hs bs → Refuses a e v v3 x hs bs
+        pub unready_refuses : FailsToApply v2 hs bs → RefusesBatch a e v v3 x hs bs
         unready_refuses bad = record { stands = stands; log = λ k m0 m keeps is fits. absurd (unready_never k m0 m keeps is fits bad) }
 
         pub unready_excused : FailsToApply v2 hs bs → IsBatchExcused a e v x hs bs

@@ -15,7 +15,7 @@ use Rattle.lfs_inodes.specs.Blocks.{blocks_of}
 use Rattle.lfs_inodes.specs.MapValue.{is_hidden_in}
 use Rattle.lfs_memory.specs.declared.memory.LogMemory.{LogMemory}
 use Rattle.lfs_memory.specs.Memory.{IsLoose, tables_of, segment_in, chunk_in}
-use Rattle.lfs_memory.specs.Present.{Looks, IsExcused}
+use Rattle.lfs_memory.specs.Present.{Looks, FailsFromDevice}
 use Rattle.lfs_memory.specs.Lifting.{IsInMemory, Prepares, IsAbsent}
 use Rattle.lfs_memory.specs.Changing.{FitsHeader, headed, header_with, with_header}
 use Rattle.lfs_memory.specs.Counting.{CountsFile}
@@ -75,7 +75,7 @@ module _ (a b c : DeviceState) (v mid : LogMemory) (n : ℕ) (counts : List ℕ)
   shown_then : is_hidden_in mid.map n ≡ false
   shown_then = ap (λ (l : List Bool). get_or l n false) first.hidden ∙ shown
 
-  pub blocks_covered : AreUncovered mid.usage true counts → IsExcused a c v
+  pub blocks_covered : AreUncovered mid.usage true counts → FailsFromDevice a c v
   blocks_covered over k m0 m keeps is =
       let log = first.log k m0 m (looks.carries.kept_before keeps) is in
       absurd (counts_covered b mid k m0 m log n low true (sym (ap not shown_then)) (is_of n) (is_of_true n) counts (counted k m0 m keeps log) over)
@@ -106,7 +106,7 @@ module _ (a b c : DeviceState) (v mid : LogMemory) (n : ℕ) (counts : List ℕ)
           (same_entry x (Inode n))
 
 -- ---- faults
-pub link_excused : (d d' : DeviceState) (v : LogMemory) (n : ℕ) → IsExcused d d' v → IsLinkExcused d d' v n
+pub link_excused : (d d' : DeviceState) (v : LogMemory) (n : ℕ) → FailsFromDevice d d' v → IsLinkExcused d d' v n
 link_excused d d' v n excused k m0 m keeps is shown has = excused k m0 m keeps is
 
 -- a file that isn't there

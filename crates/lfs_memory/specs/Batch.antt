@@ -83,13 +83,13 @@ pub record IsNoChange (c : Changes) : Type 0 where
   pub blocks : c.blocks.items ≡ []
   pub loss : c.loss ≡ Nothing
 
-pub record PutsHeader (old new : Changes) (n : ℕ) (header : Header) : Type 0 where
+pub record AddsHeaderEdit (old new : Changes) (n : ℕ) (header : Header) : Type 0 where
   pub edit : HeaderEdit
   pub number : edit.number ≡ n
   pub says : edit.header ≡ header
   pub headers : new.headers.items ≡ old.headers.items ++ edit ∷ []
 
-pub record PutsBlock (old new : Changes) (n i : ℕ) (bytes : List ℕ) : Type 0 where
+pub record AddsBlockEdit (old new : Changes) (n i : ℕ) (bytes : List ℕ) : Type 0 where
   pub edit : BlockEdit
   pub number : edit.number ≡ n
   pub index : edit.index ≡ i

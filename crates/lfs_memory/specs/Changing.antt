@@ -55,14 +55,14 @@ abbrev pub HasAbove : Dirty → Entry → Type 0
 HasAbove dirty x = (b : List ℕ) × (dirty (parent x) ≡ Some b)
 
 -- a block that lives at this address, or holds its segment, is counted there
-pub record IsCounted (t : UsageTable) (address : ℕ) (lives : Bool) : Type 0 where
+pub record IsCountedThere (t : UsageTable) (address : ℕ) (lives : Bool) : Type 0 where
   pub inside : segment_of address < length t.segments
   pub live : lives ≡ true → 0 < live_of t (segment_of address)
   pub held : lives ≡ false → 0 < held_of t (segment_of address)
 
 -- one that should be isn't
 abbrev pub IsMiscounted : UsageTable → ℕ → Bool → Type 0
-IsMiscounted t address lives = (2 ≤ address) × (IsCounted t address lives → ⊥)
+IsMiscounted t address lives = (2 ≤ address) × (IsCountedThere t address lives → ⊥)
 
 -- it leaves its address, if it has one
 pub record Departs (old new : UsageTable) (address : ℕ) (lives : Bool) : Type 0 where
@@ -86,7 +86,7 @@ pub record Drops (v v' : LogMemory) (n : ℕ) (x : Entry) (address : ℕ) : Type
   pub leaves : 0 < address → Moves (blocks_of v.dirty) (blocks_of v'.dirty) x 0
 
 -- Data block i of file n, whose pointer this is, is these bytes.
-pub record PutsBlock (v v' : LogMemory) (n i address : ℕ) (bytes : List ℕ) : Type 0 where
+pub record MakesBlock (v v' : LogMemory) (n i address : ℕ) (bytes : List ℕ) : Type 0 where
   pub stores : (bytes ≡ zeros 512 → ⊥) → Stores v v' n (Data n i) address bytes
   pub drops : bytes ≡ zeros 512 → Drops v v' n (Data n i) address
 
@@ -94,7 +94,7 @@ pub record PutsBlock (v v' : LogMemory) (n i address : ℕ) (bytes : List ℕ) :
 pub record ChangesBlock (v v' : LogMemory) (n i : ℕ) (bytes : List ℕ) : Type 0 where
   pub address : ℕ
   pub pointed : IsPointedIn (blocks_of v.dirty) (Data n i) address
-  pub puts : PutsBlock v v' n i address bytes
+  pub puts : MakesBlock v v' n i address bytes
 
 -- Its address isn't counted.
 pub record IsBlockMiscounted (v : LogMemory) (n i : ℕ) : Type 0 where

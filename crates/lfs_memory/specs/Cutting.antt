@@ -8,7 +8,7 @@ use Rattle.lfs_model.specs.Entry.{Entry, Leaf, Double, Inode}
 use Rattle.lfs_model.specs.Laid.{HoldsInode}
 use Rattle.lfs_model.specs.Memory.{file_of}
 use Rattle.lfs_model.specs.Running.{Dirty}
-use Rattle.lfs_model.specs.Staging.{IsAt}
+use Rattle.lfs_model.specs.Staging.{IsAtAddress}
 use Rattle.lfs_model.specs.Stands.{LogMap}
 use Rattle.lfs_segments.specs.Table.{clean_in}
 use Rattle.lfs_inodes.specs.Blocks.{TableValue, blocks_of}
@@ -35,13 +35,13 @@ pub record IsCutLeaf (first q : ℕ) : Type 0 where
   pub to : first < 240 + 128 * q
 
 -- the block of x is in memory if it is stored
-abbrev pub IsReady : LogMemory → Entry → Type 0
-IsReady v x = IsInMemory v x ⊎ IsAt (blocks_of v.dirty) (tables_of v) x 0
+abbrev pub IsLiftedIfStored : LogMemory → Entry → Type 0
+IsLiftedIfStored v x = IsInMemory v x ⊎ IsAtAddress (blocks_of v.dirty) (tables_of v) x 0
 
 -- So are the blocks of pointers of file n of which a part stays; there is no leaf below a double root that isn't stored.
 pub record HasEdge (v : LogMemory) (n first : ℕ) : Type 0 where
-  pub double : 240 < first → IsReady v (Double n)
-  pub leaf : (q : ℕ) → IsCutLeaf first q → IsReady v (Leaf n q) ⊎ ((1 ≤ q) × IsAt (blocks_of v.dirty) (tables_of v) (Double n) 0)
+  pub double : 240 < first → IsLiftedIfStored v (Double n)
+  pub leaf : (q : ℕ) → IsCutLeaf first q → IsLiftedIfStored v (Leaf n q) ⊎ ((1 ≤ q) × IsAtAddress (blocks_of v.dirty) (tables_of v) (Double n) 0)
 
 -- so many of the pointers of an inode don't lead to what goes: to data blocks, to the single leaf, to the double root
 pub record KeepsOfInode (first kept : ℕ) : Type 0 where

@@ -46,7 +46,7 @@ pub record Gathers (d d' : DeviceState) (v v' : LogMemory) : Type 0 where
   pub traces : (k : CheckpointValue) (m0 m : LogMap) → d'.keeps_model → (is : IsLoose d v k m0 m) → (is' : IsLoose d' v' k m0 m) × HasTraces is.running.memory is'.running.memory
 
 -- the block at this address is counted where it stands, among those that live there or those that hold the segment
-pub record IsCounted (usage : UsageTable) (at : ℕ) (lives : Bool) : Type 0 where
+pub record IsCountedAbove (usage : UsageTable) (at : ℕ) (lives : Bool) : Type 0 where
   pub above : 2 ≤ at
   pub inside : segment_of at < length usage.segments
   pub live : lives ≡ true → 0 < live_of usage (segment_of at)
@@ -80,7 +80,7 @@ pub record MapLifts (v v' : LogMemory) (j : ℕ) : Type 0 where
 -- the block of the inode map that isn't counted where it stands
 pub record IsMapLost (v : LogMemory) (j : ℕ) : Type 0 where
   pub above : 2 ≤ block_in v.map j
-  pub lost : IsCounted v.usage (block_in v.map j) true → ⊥
+  pub lost : IsCountedAbove v.usage (block_in v.map j) true → ⊥
 
 -- where memory and device hold a log map, this file isn't there
 abbrev pub IsAbsent : DeviceState → DeviceState → LogMemory → ℕ → Type 0

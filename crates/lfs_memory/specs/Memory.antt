@@ -10,9 +10,9 @@ use Rattle.lfs_model.specs.Memory.{is_nameless}
 use Rattle.lfs_model.specs.Running.{IsTight, Tables, Running, IsSet}
 use Rattle.lfs_model.specs.Settled.{IsSettled}
 use Rattle.lfs_segments.specs.Table.{UsageTable, used_of, live_of, held_of, age_of, taken_of, address_of, stale_of, clean_in}
-use Rattle.lfs_segments.specs.Chunk.{Chunk, IsOpen, entries_of}
+use Rattle.lfs_segments.specs.Chunk.{Chunk, IsOpenChunk, entries_of}
 use Rattle.lfs_segments.specs.Emptied.{IsEmptied}
-use Rattle.lfs_segments.specs.Steps.{Takes, Notes}
+use Rattle.lfs_segments.specs.Steps.{TakesSegment, Notes}
 use Rattle.lfs_inodes.specs.Blocks.{blocks_of}
 use Rattle.lfs_inodes.specs.MapValue.{MapValue, address_in, is_hidden_in, block_in}
 use Rattle.lfs_memory.specs.declared.memory.LogMemory.{LogMemory}
@@ -57,7 +57,7 @@ room_of v = 63 * clean_in v.usage.segments + room_in v.chunk.names
 -- What holds of memory over any device, the chunk having at most so many blocks.
 pub record IsMemoryUpTo (most : ℕ) (v : LogMemory) : Type 0 where
   pub count : IsSegmentCount (length v.usage.segments)
-  pub opened : 0 < length v.chunk.names → IsOpen v.chunk v.usage
+  pub opened : 0 < length v.chunk.names → IsOpenChunk v.chunk v.usage
   pub short : length v.chunk.names ≤ most
   -- a usage block that left its address isn't as the device has it
   pub usages : (j : ℕ) → address_of v.usage j ≡ 1 → stale_of v.usage j ≡ true
@@ -121,12 +121,12 @@ pub record Places (v v' : LogMemory) (name : BlockNameValue) (lives : Bool) (age
   pub map : v'.map ≡ v.map
   pub dirty : v'.dirty ≡ v.dirty
   pub middle : UsageTable
-  pub begun : length v.chunk.names ≡ 0 → Takes v.usage middle v'.chunk.segment age
+  pub begun : length v.chunk.names ≡ 0 → TakesSegment v.usage middle v'.chunk.segment age
   pub went_on : 0 < length v.chunk.names → (middle ≡ v.usage) × (v'.chunk.segment ≡ v.chunk.segment)
   pub noted : Notes middle v'.usage v'.chunk.segment lives
   pub names : v'.chunk.names ≡ v.chunk.names ++ name ∷ []
   pub address : place ≡ 2 + 64 * v'.chunk.segment + suc (length v.chunk.names)
-  pub opened : IsOpen v'.chunk v'.usage
+  pub opened : IsOpenChunk v'.chunk v'.usage
 
 -- The inode map points to x at this place, if x is an inode, and to the others as before.
 pub record IsPointedAt (map map' : MapValue) (x : Entry) (place : ℕ) : Type 0 where

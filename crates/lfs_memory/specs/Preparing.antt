@@ -15,11 +15,11 @@ use Rattle.lfs_memory.specs.Memory.{IsLoose}
 use Rattle.lfs_memory.specs.Lifting.{IsInMemory}
 
 -- The block above data block i of file n is in memory, or the file isn't there and its inode will be that block.
-abbrev pub IsReady : LogMemory → ℕ → ℕ → Type 0
-IsReady v n i = HasAbove (blocks_of v.dirty) (Data n i) ⊎ ((address_in v.map n ≡ 0) × (i < 112))
+abbrev pub HasParent : LogMemory → ℕ → ℕ → Type 0
+HasParent v n i = HasAbove (blocks_of v.dirty) (Data n i) ⊎ ((address_in v.map n ≡ 0) × (i < 112))
 
 abbrev pub AreBlocksReady : LogMemory → List BlockEdit → Type 0
-AreBlocksReady v edits = AllByRecursion (λ (e : BlockEdit). IsReady v e.number e.index) edits
+AreBlocksReady v edits = AllByRecursion (λ (e : BlockEdit). HasParent v e.number e.index) edits
 
 -- The inode of file n is in memory, or the file isn't there; a name that it gets or keeps will be written.
 pub record IsHeaderReady (v : LogMemory) (n links : ℕ) : Type 0 where

@@ -14,8 +14,8 @@ use Rattle.lfs_memory.specs.declared.memory.LogMemory.{LogMemory}
 use Rattle.lfs_memory.specs.Memory.{IsLoose}
 
 -- Where memory and device hold a log map, a call of the device failed.
-abbrev pub IsExcused : DeviceState → DeviceState → LogMemory → Type 0
-IsExcused d d' v = (k : CheckpointValue) (m0 m : LogMap) → d'.keeps_model → IsLoose d v k m0 m → d.failures < d'.failures
+abbrev pub FailsFromDevice : DeviceState → DeviceState → LogMemory → Type 0
+FailsFromDevice d d' v = (k : CheckpointValue) (m0 m : LogMap) → d'.keeps_model → IsLoose d v k m0 m → d.failures < d'.failures
 
 -- neither memory nor the device has the block of this pointer
 pub record IsMissing (content : Content) (dirty : Dirty) (x : Entry) (address : ℕ) : Type 0 where

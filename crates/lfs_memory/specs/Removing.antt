@@ -54,7 +54,7 @@ abbrev pub counts_in : List ℕ → ℕ → ℕ
 counts_in counts s = get_or counts s 0
 
 -- the file's blocks leave memory and the tables
-pub record Drops (v v' : LogMemory) (n : ℕ) (lives : Bool) (counts : List ℕ) : Type 0 where
+pub record DropsFile (v v' : LogMemory) (n : ℕ) (lives : Bool) (counts : List ℕ) : Type 0 where
   pub usage : TakesCounts v.usage v'.usage lives (counts_in counts)
   pub dirty : LeavesOut (blocks_of v.dirty) (blocks_of v'.dirty) n
   pub few : length v'.dirty.blocks ≤ length v.dirty.blocks
@@ -65,7 +65,7 @@ pub record Drops (v v' : LogMemory) (n : ℕ) (lives : Bool) (counts : List ℕ)
   pub blocks : v'.map.blocks ≡ v.map.blocks
 
 -- A call after which file n is gone.
-pub record Removes (d d' : DeviceState) (v v' : LogMemory) (n : ℕ) : Type 0 where
+pub record RemovesFile (d d' : DeviceState) (v v' : LogMemory) (n : ℕ) : Type 0 where
   pub looks : Looks d d'
   pub memory : IsMemory v'
   pub segments : length v'.usage.segments ≡ length v.usage.segments

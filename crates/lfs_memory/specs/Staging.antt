@@ -15,7 +15,7 @@ use Rattle.lfs_memory.specs.Memory.{IsMemory, IsLoose}
 use Rattle.lfs_memory.specs.Present.{Looks}
 use Rattle.lfs_memory.specs.Lifting.{IsInMemory, Prepares}
 use Rattle.lfs_memory.specs.Changing.{Tightens}
-use Rattle.lfs_memory.specs.Removing.{Removes}
+use Rattle.lfs_memory.specs.Removing.{RemovesFile}
 use Rattle.lfs_memory.specs.Batch.{lost, is_lost, after_edits, FitsLoss, FitEdits, room_for_edits}
 
 -- A call after which what a file loses is gone.
@@ -37,7 +37,7 @@ abbrev pub IsLossExcused : DeviceState → DeviceState → LogMemory → Loss �
 IsLossExcused d d' v loss = (k : CheckpointValue) (m0 m : LogMap) → d'.keeps_model → IsLoose d v k m0 m → FitsLoss m loss → d.failures < d'.failures
 
 -- What holds of memory after a batch, be it staged or refused.
-pub record Stands (d d' : DeviceState) (v v' : LogMemory) (headers : List HeaderEdit) (blocks : List BlockEdit) : Type 0 where
+pub record StandsWithBatch (d d' : DeviceState) (v v' : LogMemory) (headers : List HeaderEdit) (blocks : List BlockEdit) : Type 0 where
   pub looks : Looks d d'
   pub memory : IsMemory v'
   pub segments : length v'.usage.segments ≡ length v.usage.segments
@@ -47,13 +47,13 @@ pub record Stands (d d' : DeviceState) (v v' : LogMemory) (headers : List Header
   pub few : length v'.dirty.blocks ≤ length v.dirty.blocks + room_for_edits headers blocks
 
 -- The log map is the one with all changes.
-pub record Stages (d d' : DeviceState) (v v' : LogMemory) (loss : Loss) (headers : List HeaderEdit) (blocks : List BlockEdit) : Type 0 where
-  pub stands : Stands d d' v v' headers blocks
+pub record TakesBatch (d d' : DeviceState) (v v' : LogMemory) (loss : Loss) (headers : List HeaderEdit) (blocks : List BlockEdit) : Type 0 where
+  pub stands : StandsWithBatch d d' v v' headers blocks
   pub log : (k : CheckpointValue) (m0 m : LogMap) → d'.keeps_model → IsLoose d v k m0 m → FitEdits m loss headers blocks → IsLoose d' v' k m0 (after_edits loss headers blocks m)
 
 -- Or it is as it was.
-pub record Refuses (d d' : DeviceState) (v v' : LogMemory) (loss : Loss) (headers : List HeaderEdit) (blocks : List BlockEdit) : Type 0 where
-  pub stands : Stands d d' v v' headers blocks
+pub record RefusesBatch (d d' : DeviceState) (v v' : LogMemory) (loss : Loss) (headers : List HeaderEdit) (blocks : List BlockEdit) : Type 0 where
+  pub stands : StandsWithBatch d d' v v' headers blocks
   pub log : (k : CheckpointValue) (m0 m : LogMap) → d'.keeps_model → IsLoose d v k m0 m → FitEdits m loss headers blocks → IsLoose d' v' k m0 m
 
 -- where memory and device hold a log map that the batch fits, a call of the device failed
@@ -62,13 +62,13 @@ IsBatchExcused d d' v loss headers blocks = (k : CheckpointValue) (m0 m : LogMap
 
 -- ---- and then the blocks of pointers in memory that lead nowhere leave it
 abbrev pub StagesTight : DeviceState → DeviceState → LogMemory → LogMemory → Changes → Type 0
-StagesTight d d' v v' c = (u : LogMemory) × Stages d d' v u c.loss c.headers.items c.blocks.items × Tightens u v'
+StagesTight d d' v v' c = (u : LogMemory) × TakesBatch d d' v u c.loss c.headers.items c.blocks.items × Tightens u v'
 
 abbrev pub RefusesTight : DeviceState → DeviceState → LogMemory → LogMemory → Changes → Type 0
-RefusesTight d d' v v' c = (u : LogMemory) × Refuses d d' v u c.loss c.headers.items c.blocks.items × Tightens u v'
+RefusesTight d d' v v' c = (u : LogMemory) × RefusesBatch d d' v u c.loss c.headers.items c.blocks.items × Tightens u v'
 
 abbrev pub RemovesTight : DeviceState → DeviceState → LogMemory → LogMemory → ℕ → Type 0
-RemovesTight d d' v v' n = (u : LogMemory) × Removes d d' v u n × Tightens u v'
+RemovesTight d d' v v' n = (u : LogMemory) × RemovesFile d d' v u n × Tightens u v'
 
 abbrev pub PreparesTight : DeviceState → DeviceState → LogMemory → LogMemory → Type 0
 PreparesTight d d' v v' = (u : LogMemory) × Prepares d d' v u 0 × Tightens u v'

@@ -38,7 +38,8 @@ pub fn apply_header(memory: &mut LogMemory, edit: &HeaderEdit) -> Result<(), Dev
 ///
 /// # Errors
 ///
-/// Where the block above isn't in memory, or the block isn't counted at its address. Memory stays as it was.
+/// Where the block above isn't in memory, or the block isn't counted at its address. Memory stays
+/// as it was.
 pub fn apply_block(memory: &mut LogMemory, edit: &BlockEdit) -> Result<(), DeviceFault>
     requires room { length memory.old.dirty.blocks < memory.old.dirty.capacity.limit }
     ensures done { OnOk result (ChangesBlock memory.old memory.new edit.now.number edit.now.index
@@ -75,7 +76,8 @@ pub fn apply_headers(memory: &mut LogMemory, edits: &[HeaderEdit]) -> Result<(),
 ///
 /// # Errors
 ///
-/// Where the block above one isn't in memory when its turn comes, or it isn't counted at its address.
+/// Where the block above one isn't in memory when its turn comes, or it isn't counted at its
+/// address.
 pub fn apply_blocks(memory: &mut LogMemory, edits: &[BlockEdit]) -> Result<(), DeviceFault>
     requires room { length memory.old.dirty.blocks + length edits.now
         ≤ memory.old.dirty.capacity.limit }

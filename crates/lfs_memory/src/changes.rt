@@ -1,6 +1,6 @@
 //! A batch of changes, staged whole or not at all.
 ghost use Rattle.std.specs.Prelude.{◌≡◌, ◌≤◌, ◌+◌, ◌*◌, [], length, IfOk, OnOk, OnErr};
-ghost use Rattle.lfs_memory.specs.Batch.{IsNoChange, PutsHeader, PutsBlock};
+ghost use Rattle.lfs_memory.specs.Batch.{IsNoChange, AddsHeaderEdit, AddsBlockEdit};
 ghost use Rattle.lfs_memory.specs.Preparing.{ways, way_from, is_beside, row_of};
 
 use crate::batch::{BlockEdit, HeaderEdit, Loss};
@@ -49,7 +49,7 @@ impl Changes {
     pub fn put_header(&mut self, number: u16, header: Header) -> Result<(), AllocError>
         requires some { 1 ≤ number }
         requires few { number ≤ 4095 }
-        ensures done { OnOk result (PutsHeader self.old self.new number header) }
+        ensures done { OnOk result (AddsHeaderEdit self.old self.new number header) }
         ensures same { OnErr result (self.new.headers.items ≡ self.old.headers.items) }
         ensures blocks { self.new.blocks ≡ self.old.blocks }
         ensures loss { self.new.loss ≡ self.old.loss }
@@ -72,7 +72,7 @@ impl Changes {
         requires some { 1 ≤ number }
         requires few { number ≤ 4095 }
         requires low { index ≤ 16623 }
-        ensures done { OnOk result (PutsBlock self.old self.new number index bytes.now) }
+        ensures done { OnOk result (AddsBlockEdit self.old self.new number index bytes.now) }
         ensures same { OnErr result (self.new.blocks.items ≡ self.old.blocks.items) }
         ensures headers { self.new.headers ≡ self.old.headers }
         ensures loss { self.new.loss ≡ self.old.loss }

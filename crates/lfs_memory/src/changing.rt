@@ -6,7 +6,7 @@ ghost use Rattle.lfs_model.specs.Memory.{parent};
 ghost use Rattle.lfs_inodes.specs.Blocks.{blocks_of};
 ghost use Rattle.lfs_inodes.specs.Key.{entry_of};
 ghost use Rattle.lfs_inodes.specs.MapValue.{is_hidden_in};
-ghost use Rattle.lfs_memory.specs.Changing.{ChangesBlock, ChangesHeader, Creates, Departs, Drops, Grows, HasAbove, IsBlockMiscounted, IsMiscounted, IsPointedIn, PutsBlock, Stores, Tightens};
+ghost use Rattle.lfs_memory.specs.Changing.{ChangesBlock, ChangesHeader, Creates, Departs, Drops, Grows, HasAbove, IsBlockMiscounted, IsMiscounted, IsPointedIn, MakesBlock, Stores, Tightens};
 
 use crate::memory::LogMemory;
 use lfs_device::DeviceFault;
@@ -15,7 +15,8 @@ use lfs_layout::{is_zero, set_header, word};
 use lfs_model::Kind;
 use lfs_segments::Usage;
 
-/// The pointer to a block, by the block above it in memory: 0 for no block, `IN_MEMORY` for one in memory, else its address.
+/// The pointer to a block, by the block above it in memory: 0 for no block, `IN_MEMORY` for one in
+/// memory, else its address.
 #[tactic(auto, unfolding(lfs_model::specs::Entry::word))]
 pub fn pointer_to(dirty: &DirtyTable, key: BlockKey) -> Option<u32>
     ensures some { IfSome result (λ address. IsPointedIn (blocks_of dirty.now) (entry_of key)
@@ -28,7 +29,8 @@ pub fn pointer_to(dirty: &DirtyTable, key: BlockKey) -> Option<u32>
     Some(word(block, key.pointer()))
 }
 
-/// A block leaves its address, if it has one. Only under a device that broke its word it isn't counted there.
+/// A block leaves its address, if it has one. Only under a device that broke its word it isn't
+/// counted there.
 fn depart(usage: &mut Usage, address: u32, lives: bool) -> Result<(), DeviceFault>
     ensures done { OnOk result (Departs usage.old usage.new address lives) }
     ensures miscounted { OnErr result (IsMiscounted usage.old address lives) }
@@ -103,7 +105,7 @@ fn put_block(
     requires file { file ≤ 4095 }
     requires index { index ≤ 16623 }
     requires room { length memory.old.dirty.blocks < memory.old.dirty.capacity.limit }
-    ensures done { OnOk result (PutsBlock memory.old memory.new file index address bytes.now) }
+    ensures done { OnOk result (MakesBlock memory.old memory.new file index address bytes.now) }
     ensures miscounted { OnErr result (IsMiscounted memory.old.usage address
         (not (is_hidden_in memory.old.map file))) }
     ensures same { OnErr result (memory.new ≡ memory.old) }
@@ -116,11 +118,13 @@ fn put_block(
     }
 }
 
-/// A data block of a file, of which the block above is in memory, is these bytes. One of zeros alone isn't stored.
+/// A data block of a file, of which the block above is in memory, is these bytes. One of zeros
+/// alone isn't stored.
 ///
 /// # Errors
 ///
-/// Where the block isn't counted at its address, which only a device that broke its word brings about. Memory stays as it was.
+/// Where the block isn't counted at its address, which only a device that broke its word brings
+/// about. Memory stays as it was.
 pub fn change_block(
     memory: &mut LogMemory,
     file: u16,

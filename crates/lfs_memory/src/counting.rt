@@ -1,6 +1,6 @@
 //! How many blocks of a file each segment holds.
 ghost use Rattle.std.specs.Prelude.{◌≡◌, ◌<◌, ◌≤◌, ◌+◌, IfOk, OnOk, OnErr, IsTrue, IsFalse, true, get_or, length};
-ghost use Rattle.lfs_memory.specs.Present.{Looks, IsExcused};
+ghost use Rattle.lfs_memory.specs.Present.{Looks, FailsFromDevice};
 ghost use Rattle.lfs_memory.specs.Counting.{IsBefore, CountsOne, IsOver, CountsWhere, IsNothing, CountsWords, AreNoWords, CountsLeaf, FailsLeaf, CountsLeaves, FailsLeaves, CountsDouble, FailsDouble, CountsInode, FailsInode, CountsPast, CountsFile};
 
 use crate::memory::LogMemory;
@@ -78,7 +78,8 @@ impl SegmentCounts {
         self.counts[segment as usize]
     }
 
-    /// Counts a block at this address, if that is one on the device; not where no volume has one more there.
+    /// Counts a block at this address, if that is one on the device; not where no volume has one
+    /// more there.
     pub fn add(&mut self, address: u32) -> bool
         ensures done { IsTrue result → CountsOne self.old self.new address }
         ensures over { IsFalse result → IsOver self.old address }
@@ -98,14 +99,16 @@ impl SegmentCounts {
     }
 }
 
-/// How many of so many pointers, the first of which is to block `lowest` of a file, are to blocks before block `first`.
+/// How many of so many pointers, the first of which is to block `lowest` of a file, are to blocks
+/// before block `first`.
 fn pointers_before(first: u32, lowest: u32, pointers: u32) -> u32
     ensures { IsBefore first lowest pointers result }
 {
     first.saturating_sub(lowest).min(pointers)
 }
 
-/// Counts a block at this address where it is one of those to be counted; not where no volume has one more there.
+/// Counts a block at this address where it is one of those to be counted; not where no volume has
+/// one more there.
 fn count_one(counts: &mut SegmentCounts, address: u32, counted: bool) -> bool
     ensures done { IsTrue result → CountsWhere counts.old counts.new address counted }
     ensures wanted { IsFalse result → counted ≡ true }
@@ -136,7 +139,8 @@ fn count_words(
     Ok(())
 }
 
-/// Counts a leaf of pointers and the blocks below it, from block `first` of the file on. A leaf that lies before isn't read.
+/// Counts a leaf of pointers and the blocks below it, from block `first` of the file on. A leaf
+/// that lies before isn't read.
 fn count_leaf<D: SectorDevice>(
     device: &mut D,
     memory: &LogMemory,
@@ -175,7 +179,8 @@ fn count_leaf<D: SectorDevice>(
     }
 }
 
-/// Counts the leaves below a double root, and the blocks below them, from block `first` of the file on.
+/// Counts the leaves below a double root, and the blocks below them, from block `first` of the file
+/// on.
 fn count_leaves<D: SectorDevice>(
     device: &mut D,
     memory: &LogMemory,
@@ -268,8 +273,8 @@ fn count_inode<D: SectorDevice>(
     count_double(device, memory, number, double, first, counts)
 }
 
-/// Counts the blocks of a file that have an address on the device, from block `first` on: data, and blocks of pointers with no
-/// block before it. It reads each block of pointers once at most.
+/// Counts the blocks of a file that have an address on the device, from block `first` on: data, and
+/// blocks of pointers with no block before it. It reads each block of pointers once at most.
 ///
 /// # Errors
 ///
@@ -284,7 +289,8 @@ pub fn count_past<D: SectorDevice>(
     requires number { number < 4096 }
     ensures counted { OnOk result (CountsPast (D.state device.old) (D.state device.new) memory.now
         number first counts.new) }
-    ensures failed { OnErr result (IsExcused (D.state device.old) (D.state device.new) memory.now) }
+    ensures failed { OnErr result (FailsFromDevice (D.state device.old)
+        (D.state device.new) memory.now) }
     ensures no_failure { OnOk result ((D.state device.new).failures
         ≡ (D.state device.old).failures) }
     ensures looks { Looks (D.state device.old) (D.state device.new) }
@@ -311,7 +317,8 @@ pub fn count_file<D: SectorDevice>(
     requires number { number < 4096 }
     ensures counted { OnOk result (CountsFile (D.state device.old) (D.state device.new) memory.now
         number counts.new) }
-    ensures failed { OnErr result (IsExcused (D.state device.old) (D.state device.new) memory.now) }
+    ensures failed { OnErr result (FailsFromDevice (D.state device.old)
+        (D.state device.new) memory.now) }
     ensures no_failure { OnOk result ((D.state device.new).failures
         ≡ (D.state device.old).failures) }
     ensures looks { Looks (D.state device.old) (D.state device.new) }

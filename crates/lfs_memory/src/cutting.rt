@@ -5,11 +5,11 @@ ghost use Rattle.lfs_model.specs.Memory.{parent};
 ghost use Rattle.lfs_inodes.specs.Blocks.{blocks_of};
 ghost use Rattle.lfs_inodes.specs.MapValue.{is_hidden_in};
 ghost use Rattle.lfs_memory.specs.Memory.{IsMemory};
-ghost use Rattle.lfs_memory.specs.Present.{Looks, IsExcused};
+ghost use Rattle.lfs_memory.specs.Present.{Looks, FailsFromDevice};
 ghost use Rattle.lfs_memory.specs.Lifting.{IsInMemory, Prepares};
 ghost use Rattle.lfs_memory.specs.Removing.{AreCovered};
 ghost use Rattle.lfs_memory.specs.Counting.{CountsPast};
-ghost use Rattle.lfs_memory.specs.Cutting.{IsCutLeaf, IsReady, HasEdge, KeepsOfInode, KeepsOfRoot, ClearsLeaf, ClearsPointers, DropsPast, Cuts};
+ghost use Rattle.lfs_memory.specs.Cutting.{IsCutLeaf, IsLiftedIfStored, HasEdge, KeepsOfInode, KeepsOfRoot, ClearsLeaf, ClearsPointers, DropsPast, Cuts};
 
 use crate::counting::{FIRST, SegmentCounts, count_past};
 use crate::lifting::{LiftFault, lift_child, lift_inode};
@@ -21,7 +21,8 @@ use lfs_inodes::{BlockKey, DIRECT, DirtyTable, POINTERS};
 /// How many pointers an inode has: to data blocks, to the single leaf and to the double root.
 const ALL: u32 = DIRECT + 2;
 
-/// Brings the leaf of which a part stays into memory, if there is one that is stored. The block above it is there.
+/// Brings the leaf of which a part stays into memory, if there is one that is stored. The block
+/// above it is there.
 ///
 /// # Errors
 ///
@@ -38,11 +39,12 @@ fn lift_part<D: SectorDevice>(
     requires first { first ≤ 16624 }
     requires above { (q : ℕ) → IsCutLeaf first q → IsInMemory memory.old (parent (Leaf number q)) }
     ensures prepares { Prepares (D.state device.old) (D.state device.new) memory.old memory.new 1 }
-    ensures leaf { OnOk result ((q : ℕ) → IsCutLeaf first q → IsReady memory.new (Leaf number q)) }
+    ensures leaf { OnOk result ((q : ℕ) → IsCutLeaf first q
+        → IsLiftedIfStored memory.new (Leaf number q)) }
     ensures full { IsErrOf result LiftFault.Full
         → memory.new.dirty.capacity.limit ≤ length memory.new.dirty.blocks }
     ensures failed { IsErrOf result LiftFault.Device
-        → IsExcused (D.state device.old) (D.state device.new) memory.old }
+        → FailsFromDevice (D.state device.old) (D.state device.new) memory.old }
     ensures no_failure { OnOk result ((D.state device.new).failures
         ≡ (D.state device.old).failures) }
 {
@@ -59,7 +61,8 @@ fn lift_part<D: SectorDevice>(
     }
 }
 
-/// Brings the blocks of pointers of which a part stays into memory, where they are stored. The inode is there.
+/// Brings the blocks of pointers of which a part stays into memory, where they are stored. The
+/// inode is there.
 ///
 /// # Errors
 ///
@@ -80,7 +83,7 @@ fn lift_edge<D: SectorDevice>(
     ensures full { IsErrOf result LiftFault.Full
         → memory.new.dirty.capacity.limit ≤ length memory.new.dirty.blocks }
     ensures failed { IsErrOf result LiftFault.Device
-        → IsExcused (D.state device.old) (D.state device.new) memory.old }
+        → FailsFromDevice (D.state device.old) (D.state device.new) memory.old }
     ensures no_failure { OnOk result ((D.state device.new).failures
         ≡ (D.state device.old).failures) }
 {
@@ -193,7 +196,8 @@ fn drop_counted<D: SectorDevice>(
     ensures drops { OnOk result (DropsPast memory.old memory.new number first
         (not (is_hidden_in memory.old.map number)) counts.new) }
     ensures same { OnErr result (memory.new ≡ memory.old) }
-    ensures failed { OnErr result (IsExcused (D.state device.old) (D.state device.new) memory.old) }
+    ensures failed { OnErr result (FailsFromDevice (D.state device.old)
+        (D.state device.new) memory.old) }
     ensures no_failure { OnOk result ((D.state device.new).failures
         ≡ (D.state device.old).failures) }
 {
@@ -209,8 +213,9 @@ fn drop_counted<D: SectorDevice>(
     Ok(())
 }
 
-/// Cuts a file away from block `first` on, in memory: data blocks, and blocks of pointers with no block before it. They are
-/// counted in `counts`. The header of the file stays as it is; where there is no file nothing changes.
+/// Cuts a file away from block `first` on, in memory: data blocks, and blocks of pointers with no
+/// block before it. They are counted in `counts`. The header of the file stays as it is; where
+/// there is no file nothing changes.
 ///
 /// # Errors
 ///
@@ -232,7 +237,7 @@ pub fn cut_file<D: SectorDevice>(
     ensures full { IsErrOf result LiftFault.Full
         → memory.new.dirty.capacity.limit ≤ length memory.new.dirty.blocks }
     ensures failed { IsErrOf result LiftFault.Device
-        → IsExcused (D.state device.old) (D.state device.new) memory.old }
+        → FailsFromDevice (D.state device.old) (D.state device.new) memory.old }
     ensures no_failure { OnOk result ((D.state device.new).failures
         ≡ (D.state device.old).failures) }
 {

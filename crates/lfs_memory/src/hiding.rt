@@ -41,13 +41,15 @@ fn drop_links(memory: &mut LogMemory, number: u16, kind: Kind, size: u32, counts
     change_header(memory, number, kind, 0, size);
 }
 
-/// A file that has a name loses its last link: its inode is of this kind and size without links. The next checkpoint doesn't lead to
-/// it. Its blocks, which are counted in `counts`, live no more and hold their segments.
+/// A file that has a name loses its last link: its inode is of this kind and size without links.
+/// The next checkpoint doesn't lead to it. Its blocks, which are counted in `counts`, live no more
+/// and hold their segments.
 ///
 /// # Errors
 ///
-/// Where its inode doesn't come into memory, or its blocks can't be counted, as those of a file that isn't there or has lost
-/// its last link before. The inode may be in memory then, and the inode map's block one that will be written.
+/// Where its inode doesn't come into memory, or its blocks can't be counted, as those of a file
+/// that isn't there or has lost its last link before. The inode may be in memory then, and the
+/// inode map's block one that will be written.
 pub fn hide_file<D: SectorDevice>(
     device: &mut D,
     memory: &mut LogMemory,

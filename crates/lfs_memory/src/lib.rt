@@ -1,4 +1,5 @@
-//! What a log holds in memory: inodes and blocks of files, how they come there, are read, and change.
+//! What a log holds in memory: inodes and blocks of files, how they come there, are read, and
+//! change.
 #![tactic(auto)]
 
 pub mod applying;

@@ -3,13 +3,13 @@ ghost use Rattle.std.specs.Prelude.{◌≡◌, ◌<◌, ◌≤◌, ◌⊎◌, �
 ghost use Rattle.lfs_model.specs.Entry.{Inode, Leaf, Data};
 ghost use Rattle.lfs_model.specs.Memory.{parent};
 ghost use Rattle.lfs_model.specs.Running.{IsSet};
-ghost use Rattle.lfs_model.specs.Staging.{IsAt};
+ghost use Rattle.lfs_model.specs.Staging.{IsAtAddress};
 ghost use Rattle.lfs_inodes.specs.Key.{entry_of};
 ghost use Rattle.lfs_inodes.specs.Blocks.{blocks_of};
 ghost use Rattle.lfs_inodes.specs.MapValue.{address_in, is_hidden_in, block_in};
 ghost use Rattle.lfs_memory.specs.Memory.{IsMemory, tables_of};
-ghost use Rattle.lfs_memory.specs.Present.{IsExcused, AnswersBlock};
-ghost use Rattle.lfs_memory.specs.Lifting.{IsInMemory, Prepares, Gathers, IsCounted, Brings, MapLifts, IsMapLost, IsAbsent, IsLeafAbsent};
+ghost use Rattle.lfs_memory.specs.Present.{FailsFromDevice, AnswersBlock};
+ghost use Rattle.lfs_memory.specs.Lifting.{IsInMemory, Prepares, Gathers, IsCountedAbove, Brings, MapLifts, IsMapLost, IsAbsent, IsLeafAbsent};
 
 use crate::memory::LogMemory;
 use crate::present::read_present;
@@ -19,9 +19,10 @@ use lfs_layout::word;
 use lfs_model::BlockKind;
 use lfs_segments::Usage;
 
-/// Whether a block at this address is counted, among those that live in its segment or those that hold it.
+/// Whether a block at this address is counted, among those that live in its segment or those that
+/// hold it.
 pub fn is_counted(usage: &Usage, address: u32, lives: bool) -> bool
-    ensures { IsTrue result ↔ IsCounted usage.now address lives }
+    ensures { IsTrue result ↔ IsCountedAbove usage.now address lives }
 {
     if address < 2 {
         return false;
@@ -85,9 +86,10 @@ pub(crate) fn lift_map_of(memory: &mut LogMemory, number: u16) -> Result<(), Dev
     lift_map(memory, number as usize / 128)
 }
 
-/// A block comes into memory in the place of the one at its address, which isn't counted there any more.
+/// A block comes into memory in the place of the one at its address, which isn't counted there any
+/// more.
 pub fn bring(memory: &mut LogMemory, key: BlockKey, address: u32, lives: bool, bytes: &[u8; 512])
-    requires counted { IsCounted memory.old.usage address lives }
+    requires counted { IsCountedAbove memory.old.usage address lives }
     requires room { length memory.old.dirty.blocks < memory.old.dirty.capacity.limit }
     ensures { Brings memory.old memory.new (entry_of key) address lives bytes.now }
 {
@@ -119,7 +121,8 @@ pub enum LiftFault {
     Device,
 }
 
-/// Brings a block of a file into memory, whose address its parent's block in memory gives, or the inode map.
+/// Brings a block of a file into memory, whose address its parent's block in memory gives, or the
+/// inode map.
 ///
 /// # Errors
 ///
@@ -131,7 +134,8 @@ pub fn lift<D: SectorDevice>(
     address: u32,
 ) -> Result<(), LiftFault>
     requires memory { IsMemory memory.old }
-    requires at { IsAt (blocks_of memory.old.dirty) (tables_of memory.old) (entry_of key) address }
+    requires at { IsAtAddress (blocks_of memory.old.dirty)
+        (tables_of memory.old) (entry_of key) address }
     requires above { 2 ≤ address }
     requires mapped { (n : ℕ) → entry_of key ≡ Inode n → is_hidden_in memory.old.map n ≡ false
         → block_in memory.old.map (n / 128) ≡ 1 }
@@ -142,7 +146,7 @@ pub fn lift<D: SectorDevice>(
     ensures full { IsErrOf result LiftFault.Full
         → memory.new.dirty.capacity.limit ≤ length memory.new.dirty.blocks }
     ensures failed { IsErrOf result LiftFault.Device
-        → IsExcused (D.state device.old) (D.state device.new) memory.old }
+        → FailsFromDevice (D.state device.old) (D.state device.new) memory.old }
     ensures no_failure { OnOk result ((D.state device.new).failures
         ≡ (D.state device.old).failures) }
 {
@@ -195,7 +199,7 @@ pub fn lift_inode<D: SectorDevice>(
     ensures full { IsErrOf result LiftFault.Full
         → memory.new.dirty.capacity.limit ≤ length memory.new.dirty.blocks }
     ensures failed { IsErrOf result LiftFault.Device
-        → IsExcused (D.state device.old) (D.state device.new) memory.old }
+        → FailsFromDevice (D.state device.old) (D.state device.new) memory.old }
     ensures no_failure { OnOk result ((D.state device.new).failures
         ≡ (D.state device.old).failures) }
 {
@@ -227,7 +231,8 @@ pub fn lift_inode<D: SectorDevice>(
 pub fn pointer_to(memory: &LogMemory, key: BlockKey) -> u32
     requires below { parent (entry_of key) ≡ entry_of key → ⊥ }
     requires above { IsInMemory memory.now (parent (entry_of key)) }
-    ensures { IsAt (blocks_of memory.now.dirty) (tables_of memory.now) (entry_of key) result }
+    ensures { IsAtAddress (blocks_of memory.now.dirty)
+        (tables_of memory.now) (entry_of key) result }
 {
     let above = key.parent().unwrap();
     let block = memory.dirty.block(above).unwrap();
@@ -251,13 +256,13 @@ pub fn lift_child<D: SectorDevice>(
     ensures gathers { Gathers (D.state device.old) (D.state device.new) memory.old memory.new }
     ensures inside { IfOk result (λ found. IsTrue found → IsInMemory memory.new (entry_of key)) }
     ensures none { IfOk result (λ found. IsFalse found
-        → IsAt (blocks_of memory.new.dirty) (tables_of memory.new) (entry_of key) 0) }
+        → IsAtAddress (blocks_of memory.new.dirty) (tables_of memory.new) (entry_of key) 0) }
     ensures same { IfOk result (λ found. IsFalse found → memory.new ≡ memory.old) }
     ensures kept { OnErr result (memory.new ≡ memory.old) }
     ensures full { IsErrOf result LiftFault.Full
         → memory.new.dirty.capacity.limit ≤ length memory.new.dirty.blocks }
     ensures failed { IsErrOf result LiftFault.Device
-        → IsExcused (D.state device.old) (D.state device.new) memory.old }
+        → FailsFromDevice (D.state device.old) (D.state device.new) memory.old }
     ensures no_failure { OnOk result ((D.state device.new).failures
         ≡ (D.state device.old).failures) }
 {
@@ -277,7 +282,8 @@ pub fn lift_child<D: SectorDevice>(
     }
 }
 
-/// Brings a leaf of pointers of a file into memory, and the double root above it, where they are stored. The inode is there.
+/// Brings a leaf of pointers of a file into memory, and the double root above it, where they are
+/// stored. The inode is there.
 ///
 /// # Errors
 ///
@@ -302,7 +308,7 @@ pub fn lift_leaf<D: SectorDevice>(
     ensures full { IsErrOf result LiftFault.Full
         → memory.new.dirty.capacity.limit ≤ length memory.new.dirty.blocks }
     ensures failed { IsErrOf result LiftFault.Device
-        → IsExcused (D.state device.old) (D.state device.new) memory.old }
+        → FailsFromDevice (D.state device.old) (D.state device.new) memory.old }
     ensures no_failure { OnOk result ((D.state device.new).failures
         ≡ (D.state device.old).failures) }
 {
@@ -318,8 +324,8 @@ pub fn lift_leaf<D: SectorDevice>(
     lift_child(device, memory, leaf)
 }
 
-/// Brings the inode of a file into memory, and the blocks of pointers on the way to a data block, where they are stored:
-/// whether all of them are there then.
+/// Brings the inode of a file into memory, and the blocks of pointers on the way to a data block,
+/// where they are stored: whether all of them are there then.
 ///
 /// # Errors
 ///
@@ -342,7 +348,7 @@ pub fn lift_way<D: SectorDevice>(
     ensures full { IsErrOf result LiftFault.Full
         → memory.new.dirty.capacity.limit ≤ length memory.new.dirty.blocks }
     ensures failed { IsErrOf result LiftFault.Device
-        → IsExcused (D.state device.old) (D.state device.new) memory.old }
+        → FailsFromDevice (D.state device.old) (D.state device.new) memory.old }
     ensures no_failure { OnOk result ((D.state device.new).failures
         ≡ (D.state device.old).failures) }
 {

@@ -9,7 +9,8 @@ use lfs_layout::BlockName;
 use lfs_model::BlockKind;
 use lfs_segments::{ChunkWriter, Usage};
 
-/// The inode map, the segment usage table, the blocks of files that changed, and the chunk that is being written.
+/// The inode map, the segment usage table, the blocks of files that changed, and the chunk that is
+/// being written.
 #[derive(Drop)]
 pub struct LogMemory {
     pub map: InodeMap,
@@ -19,7 +20,8 @@ pub struct LogMemory {
 }
 
 impl LogMemory {
-    /// The next address for a block: in the chunk that is being written, or in one that begins in a clean segment of this age.
+    /// The next address for a block: in the chunk that is being written, or in one that begins in a
+    /// clean segment of this age.
     pub fn next_place(&mut self, name: BlockName, lives: bool, age: u32) -> u32
         requires memory { IsMemory self.old }
         requires room { 0 < room_of self.old }

@@ -5,9 +5,9 @@ ghost use Rattle.lfs_model.specs.Memory.{parent, IsPointers};
 ghost use Rattle.lfs_inodes.specs.Key.{entry_of};
 ghost use Rattle.lfs_inodes.specs.MapValue.{block_in};
 ghost use Rattle.lfs_memory.specs.Memory.{IsMemory};
-ghost use Rattle.lfs_memory.specs.Present.{IsExcused};
+ghost use Rattle.lfs_memory.specs.Present.{FailsFromDevice};
 ghost use Rattle.lfs_memory.specs.Lifting.{IsInMemory, IsMapLost, MapLifts, Prepares};
-ghost use Rattle.lfs_memory.specs.Preparing.{IsReady, AreBlocksReady, IsHeaderReady, AreHeadersReady, LacksRoom, IsExcusedWithin, AreExcusedWithin, ways};
+ghost use Rattle.lfs_memory.specs.Preparing.{HasParent, AreBlocksReady, IsHeaderReady, AreHeadersReady, LacksRoom, IsExcusedWithin, AreExcusedWithin, ways};
 
 use crate::batch::{BlockEdit, HeaderEdit};
 use crate::changing::{grow, pointer_to};
@@ -16,7 +16,8 @@ use crate::memory::LogMemory;
 use lfs_device::{DeviceFault, SectorDevice};
 use lfs_inodes::{BlockKey, DIRECT, POINTERS};
 
-/// A block of pointers of a file is in memory after this, an empty one where it isn't stored. The block above it is there.
+/// A block of pointers of a file is in memory after this, an empty one where it isn't stored. The
+/// block above it is there.
 ///
 /// # Errors
 ///
@@ -35,7 +36,7 @@ fn prepare_pointers<D: SectorDevice>(
     ensures full { IsErrOf result LiftFault.Full
         → memory.new.dirty.capacity.limit ≤ length memory.new.dirty.blocks }
     ensures failed { IsErrOf result LiftFault.Device
-        → IsExcused (D.state device.old) (D.state device.new) memory.old }
+        → FailsFromDevice (D.state device.old) (D.state device.new) memory.old }
     ensures no_failure { OnOk result ((D.state device.new).failures
         ≡ (D.state device.old).failures) }
 {
@@ -51,7 +52,8 @@ fn prepare_pointers<D: SectorDevice>(
     Ok(())
 }
 
-/// A leaf of pointers of a file is in memory after this, and the double root above it. The inode is there.
+/// A leaf of pointers of a file is in memory after this, and the double root above it. The inode is
+/// there.
 ///
 /// # Errors
 ///
@@ -73,7 +75,7 @@ fn prepare_leaf<D: SectorDevice>(
         → memory.new.dirty.capacity.limit ≤ length memory.new.dirty.blocks }
     ensures short { IsErrOf result LiftFault.Full → LacksRoom memory.old 2 }
     ensures failed { IsErrOf result LiftFault.Device
-        → IsExcused (D.state device.old) (D.state device.new) memory.old }
+        → FailsFromDevice (D.state device.old) (D.state device.new) memory.old }
     ensures no_failure { OnOk result ((D.state device.new).failures
         ≡ (D.state device.old).failures) }
 {
@@ -92,7 +94,8 @@ fn prepare_leaf<D: SectorDevice>(
 ///
 /// # Errors
 ///
-/// As those of `lift_inode`; and where the file isn't there, for a block that its inode doesn't point to.
+/// As those of `lift_inode`; and where the file isn't there, for a block that its inode doesn't
+/// point to.
 fn prepare_way<D: SectorDevice>(
     device: &mut D,
     memory: &mut LogMemory,
@@ -104,7 +107,7 @@ fn prepare_way<D: SectorDevice>(
     requires few { number ≤ 4095 }
     requires index { index ≤ 16623 }
     ensures prepares { Prepares (D.state device.old) (D.state device.new) memory.old memory.new 3 }
-    ensures ready { OnOk result (IsReady memory.new number index) }
+    ensures ready { OnOk result (HasParent memory.new number index) }
     ensures full { IsErrOf result LiftFault.Full
         → memory.new.dirty.capacity.limit ≤ length memory.new.dirty.blocks }
     ensures short { IsErrOf result LiftFault.Full → LacksRoom memory.old 3 }
@@ -126,14 +129,14 @@ fn prepare_way<D: SectorDevice>(
     prepare_leaf(device, memory, number, (index - DIRECT) / POINTERS)
 }
 
-/// Whether a data block of a file may change with no call of the device: the block above it is in memory, or will be the inode of a
-/// file that isn't there.
+/// Whether a data block of a file may change with no call of the device: the block above it is in
+/// memory, or will be the inode of a file that isn't there.
 fn is_ready(memory: &LogMemory, number: u16, index: u32) -> bool
     requires some { 1 ≤ number }
     requires few { number ≤ 4095 }
     requires index { index ≤ 16623 }
-    ensures yes { IsTrue result → IsReady memory.now number index }
-    ensures no { IsFalse result → IsReady memory.now number index → ⊥ }
+    ensures yes { IsTrue result → HasParent memory.now number index }
+    ensures no { IsFalse result → HasParent memory.now number index → ⊥ }
 {
     if pointer_to(&memory.dirty, BlockKey::data(number, index)).is_some() {
         return true;
@@ -141,11 +144,13 @@ fn is_ready(memory: &LogMemory, number: u16, index: u32) -> bool
     index < DIRECT && memory.map.address(number) == 0
 }
 
-/// A data block of a file may change after this with no call of the device. Nothing comes into memory where it may already.
+/// A data block of a file may change after this with no call of the device. Nothing comes into
+/// memory where it may already.
 ///
 /// # Errors
 ///
-/// As those of `lift_inode`; and where the file isn't there, for a block that its inode doesn't point to.
+/// As those of `lift_inode`; and where the file isn't there, for a block that its inode doesn't
+/// point to.
 pub fn prepare_block<D: SectorDevice>(
     device: &mut D,
     memory: &mut LogMemory,
@@ -157,9 +162,9 @@ pub fn prepare_block<D: SectorDevice>(
     requires few { number ≤ 4095 }
     requires index { index ≤ 16623 }
     ensures prepares { Prepares (D.state device.old) (D.state device.new) memory.old memory.new 3 }
-    ensures ready { OnOk result (IsReady memory.new number index) }
-    ensures same { IsReady memory.old number index → memory.new ≡ memory.old }
-    ensures away { OnErr result (IsReady memory.old number index → ⊥) }
+    ensures ready { OnOk result (HasParent memory.new number index) }
+    ensures same { HasParent memory.old number index → memory.new ≡ memory.old }
+    ensures away { OnErr result (HasParent memory.old number index → ⊥) }
     ensures full { IsErrOf result LiftFault.Full
         → memory.new.dirty.capacity.limit ≤ length memory.new.dirty.blocks }
     ensures short { IsErrOf result LiftFault.Full → LacksRoom memory.old 3 }
@@ -174,7 +179,8 @@ pub fn prepare_block<D: SectorDevice>(
     prepare_way(device, memory, number, index)
 }
 
-/// The block of the inode map that has the file's inode will be written, if the file is to have links.
+/// The block of the inode map that has the file's inode will be written, if the file is to have
+/// links.
 fn prepare_name(memory: &mut LogMemory, number: u16, links: u32) -> Result<(), DeviceFault>
     requires few { number ≤ 4095 }
     ensures done { OnOk result ((memory.new ≡ memory.old)
@@ -190,7 +196,8 @@ fn prepare_name(memory: &mut LogMemory, number: u16, links: u32) -> Result<(), D
     lift_map(memory, usize::from(number) / 128)
 }
 
-/// The header of a file, which is to have so many links, may change after this with no call of the device.
+/// The header of a file, which is to have so many links, may change after this with no call of the
+/// device.
 ///
 /// # Errors
 ///
@@ -210,7 +217,7 @@ pub fn prepare_header<D: SectorDevice>(
         → memory.new.dirty.capacity.limit ≤ length memory.new.dirty.blocks }
     ensures short { IsErrOf result LiftFault.Full → LacksRoom memory.old 1 }
     ensures failed { IsErrOf result LiftFault.Device
-        → IsExcused (D.state device.old) (D.state device.new) memory.old }
+        → FailsFromDevice (D.state device.old) (D.state device.new) memory.old }
     ensures no_failure { OnOk result ((D.state device.new).failures
         ≡ (D.state device.old).failures) }
 {
@@ -240,7 +247,7 @@ pub fn prepare_headers<D: SectorDevice>(
     ensures ready { OnOk result (AreHeadersReady memory.new edits.now) }
     ensures full { IsErrOf result LiftFault.Full → LacksRoom memory.old (length edits.now) }
     ensures failed { IsErrOf result LiftFault.Device
-        → IsExcused (D.state device.old) (D.state device.new) memory.old }
+        → FailsFromDevice (D.state device.old) (D.state device.new) memory.old }
     ensures no_failure { OnOk result ((D.state device.new).failures
         ≡ (D.state device.old).failures) }
 {

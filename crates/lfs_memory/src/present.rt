@@ -8,7 +8,7 @@ ghost use Rattle.lfs_inodes.specs.Blocks.{blocks_of};
 ghost use Rattle.lfs_inodes.specs.MapValue.{address_in};
 ghost use Rattle.lfs_inodes.specs.Present.{present};
 ghost use Rattle.lfs_memory.specs.Memory.{IsMemory};
-ghost use Rattle.lfs_memory.specs.Present.{Looks, IsExcused, IsMissing, AnswersInode, AnswersHeader, AnswersBlock, as_header, AnswersAddress};
+ghost use Rattle.lfs_memory.specs.Present.{Looks, FailsFromDevice, IsMissing, AnswersInode, AnswersHeader, AnswersBlock, as_header, AnswersAddress};
 
 use crate::counting::{DOUBLE, SINGLE};
 use crate::memory::LogMemory;
@@ -82,7 +82,8 @@ pub fn read_inode<D: SectorDevice>(
     ensures bytes { IfOk result (λ found. IsTrue found → (D.state device.new).keeps_model
         → out.new ≡ present (D.state device.old).content (blocks_of memory.now.dirty) (Inode number)
         (address_in memory.now.map number)) }
-    ensures failed { OnErr result (IsExcused (D.state device.old) (D.state device.new) memory.now) }
+    ensures failed { OnErr result (FailsFromDevice (D.state device.old)
+        (D.state device.new) memory.now) }
     ensures no_failure { OnOk result ((D.state device.new).failures
         ≡ (D.state device.old).failures) }
     ensures looks { Looks (D.state device.old) (D.state device.new) }
@@ -114,7 +115,8 @@ pub fn read_header<D: SectorDevice>(
     requires number { number < 4096 }
     ensures answer { IfOk result (AnswersHeader (D.state device.old) (D.state device.new) memory.now
         number) }
-    ensures failed { OnErr result (IsExcused (D.state device.old) (D.state device.new) memory.now) }
+    ensures failed { OnErr result (FailsFromDevice (D.state device.old)
+        (D.state device.new) memory.now) }
     ensures no_failure { OnOk result ((D.state device.new).failures
         ≡ (D.state device.old).failures) }
     ensures looks { Looks (D.state device.old) (D.state device.new) }
@@ -149,7 +151,8 @@ fn kind_of(byte: u8) -> Kind
     }
 }
 
-/// The pointer to a block of a file: 0 where none is stored, `IN_MEMORY` for one in memory, else its address.
+/// The pointer to a block of a file: 0 where none is stored, `IN_MEMORY` for one in memory, else
+/// its address.
 ///
 /// # Errors
 ///
@@ -164,7 +167,8 @@ pub fn locate_block<D: SectorDevice>(
     ensures answer { IfOk result (AnswersAddress (D.state device.old) (D.state device.new)
         memory.now (Data number index)) }
     ensures some { IfOk result (λ address. (1 ≤ address) → (1 ≤ number) × (index ≤ 16623)) }
-    ensures failed { OnErr result (IsExcused (D.state device.old) (D.state device.new) memory.now) }
+    ensures failed { OnErr result (FailsFromDevice (D.state device.old)
+        (D.state device.new) memory.now) }
     ensures no_failure { OnOk result ((D.state device.new).failures
         ≡ (D.state device.old).failures) }
     ensures looks { Looks (D.state device.old) (D.state device.new) }
@@ -182,8 +186,8 @@ pub fn locate_block<D: SectorDevice>(
     }
 }
 
-/// The pointer to a leaf of pointers of a file, the single one at 0, those below the double root from 1 on: 0 where none is
-/// stored, `IN_MEMORY` for one in memory, else its address.
+/// The pointer to a leaf of pointers of a file, the single one at 0, those below the double root
+/// from 1 on: 0 where none is stored, `IN_MEMORY` for one in memory, else its address.
 ///
 /// # Errors
 ///
@@ -198,7 +202,8 @@ pub fn locate_leaf<D: SectorDevice>(
     requires leaf { leaf ≤ 128 }
     ensures answer { IfOk result (AnswersAddress (D.state device.old) (D.state device.new)
         memory.now (Leaf number leaf)) }
-    ensures failed { OnErr result (IsExcused (D.state device.old) (D.state device.new) memory.now) }
+    ensures failed { OnErr result (FailsFromDevice (D.state device.old)
+        (D.state device.new) memory.now) }
     ensures no_failure { OnOk result ((D.state device.new).failures
         ≡ (D.state device.old).failures) }
     ensures looks { Looks (D.state device.old) (D.state device.new) }
@@ -238,7 +243,8 @@ pub fn read_block<D: SectorDevice>(
     ensures answer { IfOk result (AnswersBlock (D.state device.old) (D.state device.new) memory.now
         number index out.new) }
     ensures zeros { IfOk result (λ found. IsFalse found → out.new ≡ zeros 512) }
-    ensures failed { OnErr result (IsExcused (D.state device.old) (D.state device.new) memory.now) }
+    ensures failed { OnErr result (FailsFromDevice (D.state device.old)
+        (D.state device.new) memory.now) }
     ensures no_failure { OnOk result ((D.state device.new).failures
         ≡ (D.state device.old).failures) }
     ensures looks { Looks (D.state device.old) (D.state device.new) }

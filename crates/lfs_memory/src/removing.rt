@@ -2,9 +2,9 @@
 ghost use Rattle.std.specs.Prelude.{◌≡◌, ◌<◌, ◌≤◌, ◌/◌, OnOk, OnErr, IsTrue, IsFalse};
 ghost use Rattle.lfs_inodes.specs.MapValue.{is_hidden_in};
 ghost use Rattle.lfs_memory.specs.Memory.{IsMemory};
-ghost use Rattle.lfs_memory.specs.Present.{IsExcused};
+ghost use Rattle.lfs_memory.specs.Present.{FailsFromDevice};
 ghost use Rattle.lfs_memory.specs.Lifting.{Prepares};
-ghost use Rattle.lfs_memory.specs.Removing.{AreCovered, AreUncovered, TakesCounts, counted_in, counts_in, Drops, Removes};
+ghost use Rattle.lfs_memory.specs.Removing.{AreCovered, AreUncovered, TakesCounts, counted_in, counts_in, DropsFile, RemovesFile};
 
 use crate::counting::{SegmentCounts, count_file};
 use crate::lifting::lift_map_of;
@@ -53,7 +53,7 @@ pub(crate) fn take_counts(usage: &mut Usage, counts: &SegmentCounts, lives: bool
 fn drop_file(memory: &mut LogMemory, number: u16, lives: bool, counts: &SegmentCounts)
     requires number { number < 4096 }
     requires covered { AreCovered memory.old.usage lives counts.now }
-    ensures { Drops memory.old memory.new number lives counts.now }
+    ensures { DropsFile memory.old memory.new number lives counts.now }
 {
     take_counts(&mut memory.usage, counts, lives);
     memory.dirty.forget(number);
@@ -61,7 +61,8 @@ fn drop_file(memory: &mut LogMemory, number: u16, lives: bool, counts: &SegmentC
     memory.map.set_hidden(number, false);
 }
 
-/// Removes a file with all its blocks, whether it has a name or not. Its blocks are counted in `counts`.
+/// RemovesFile a file with all its blocks, whether it has a name or not. Its blocks are counted in
+/// `counts`.
 ///
 /// # Errors
 ///
@@ -74,11 +75,12 @@ pub fn remove_file<D: SectorDevice>(
 ) -> Result<(), DeviceFault>
     requires memory { IsMemory memory.old }
     requires number { number < 4096 }
-    ensures removed { OnOk result (Removes (D.state device.old) (D.state device.new) memory.old
+    ensures removed { OnOk result (RemovesFile (D.state device.old) (D.state device.new) memory.old
         memory.new number) }
     ensures prepares { OnErr result (Prepares (D.state device.old) (D.state device.new) memory.old
         memory.new 0) }
-    ensures failed { OnErr result (IsExcused (D.state device.old) (D.state device.new) memory.old) }
+    ensures failed { OnErr result (FailsFromDevice (D.state device.old)
+        (D.state device.new) memory.old) }
     ensures no_failure { OnOk result ((D.state device.new).failures
         ≡ (D.state device.old).failures) }
 {

@@ -1,11 +1,12 @@
-//! A batch of changes in memory, whole or not at all: first everything that may fail, then what calls no device.
+//! A batch of changes in memory, whole or not at all: first everything that may fail, then what
+//! calls no device.
 ghost use Rattle.std.specs.Prelude.{◌≡◌, ◌<◌, ◌≤◌, ◌+◌, length, OnOk, OnErr, IsErrOf, IsTrue, IsFalse};
 ghost use Rattle.lfs_memory.specs.Memory.{IsMemory};
-ghost use Rattle.lfs_memory.specs.Present.{IsExcused};
+ghost use Rattle.lfs_memory.specs.Present.{FailsFromDevice};
 ghost use Rattle.lfs_memory.specs.Lifting.{Prepares};
 ghost use Rattle.lfs_memory.specs.Preparing.{LacksRoom};
 ghost use Rattle.lfs_memory.specs.Batch.{room_for, room_for_edits};
-ghost use Rattle.lfs_memory.specs.Staging.{Loses, IsLossExcused, Stages, Refuses, IsBatchExcused, StagesTight, RefusesTight, RemovesTight, PreparesTight};
+ghost use Rattle.lfs_memory.specs.Staging.{Loses, IsLossExcused, TakesBatch, RefusesBatch, IsBatchExcused, StagesTight, RefusesTight, RemovesTight, PreparesTight};
 
 use crate::applying::apply_batch;
 use crate::batch::{BlockEdit, HeaderEdit, Loss};
@@ -70,7 +71,8 @@ fn lose<D: SectorDevice>(
     }
 }
 
-/// What a file loses goes, and then headers and blocks change, whole or not at all. What goes is counted in `counts`.
+/// What a file loses goes, and then headers and blocks change, whole or not at all. What goes is
+/// counted in `counts`.
 ///
 /// # Errors
 ///
@@ -86,9 +88,10 @@ fn stage_edits<D: SectorDevice>(
     requires memory { IsMemory memory.old }
     requires room { length memory.old.dirty.blocks + room_for_edits headers.now blocks.now
         ≤ memory.old.dirty.capacity.limit }
-    ensures done { OnOk result (Stages (D.state device.old) (D.state device.new) memory.old
+    ensures done { OnOk result (TakesBatch (D.state device.old) (D.state device.new) memory.old
         memory.new loss headers.now blocks.now) }
-    ensures refused { OnErr result (Refuses (D.state device.old) (D.state device.new) memory.old
+    ensures refused { OnErr result
+        (RefusesBatch (D.state device.old) (D.state device.new) memory.old
         memory.new loss headers.now blocks.now) }
     ensures failed { OnErr result (IsBatchExcused (D.state device.old) (D.state device.new)
         memory.old loss headers.now blocks.now) }
@@ -106,8 +109,8 @@ fn stage_edits<D: SectorDevice>(
     apply_batch(memory, headers, blocks)
 }
 
-/// Changes files in memory, whole or not at all. What a file loses is counted in `counts`. Blocks of pointers in memory may lead
-/// nowhere then.
+/// Changes files in memory, whole or not at all. What a file loses is counted in `counts`. Blocks
+/// of pointers in memory may lead nowhere then.
 ///
 /// # Errors
 ///
@@ -119,9 +122,10 @@ fn stage_batch<D: SectorDevice>(
     counts: &mut SegmentCounts,
 ) -> Result<(), LogFault>
     requires memory { IsMemory memory.old }
-    ensures done { OnOk result (Stages (D.state device.old) (D.state device.new) memory.old
+    ensures done { OnOk result (TakesBatch (D.state device.old) (D.state device.new) memory.old
         memory.new changes.now.loss changes.now.headers.items changes.now.blocks.items) }
-    ensures refused { OnErr result (Refuses (D.state device.old) (D.state device.new) memory.old
+    ensures refused { OnErr result
+        (RefusesBatch (D.state device.old) (D.state device.new) memory.old
         memory.new changes.now.loss changes.now.headers.items changes.now.blocks.items) }
     ensures full { IsErrOf result LogFault.Full → LacksRoom memory.old (room_for changes.now) }
     ensures failed { IsErrOf result LogFault.Device
@@ -190,7 +194,8 @@ pub fn remove_tight<D: SectorDevice>(
         memory.new number) }
     ensures kept { OnErr result (PreparesTight (D.state device.old) (D.state device.new) memory.old
         memory.new) }
-    ensures failed { OnErr result (IsExcused (D.state device.old) (D.state device.new) memory.old) }
+    ensures failed { OnErr result (FailsFromDevice (D.state device.old)
+        (D.state device.new) memory.old) }
     ensures no_failure { OnOk result ((D.state device.new).failures
         ≡ (D.state device.old).failures) }
 {

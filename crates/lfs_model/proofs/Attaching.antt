@@ -6,7 +6,7 @@ use Rattle.std.specs.FinMap.{find, put}
 use Rattle.std.specs.FinMap.Entries.{is_sorted-put, length-put}
 use Rattle.lfs_model.specs.Tree.{Tree, Names, Node, Dir, State, node, with_node, is_dir, name_len, byte_cmp, names, links}
 use Rattle.lfs_model.specs.Need.{need}
-use Rattle.lfs_model.specs.Sound.{Sound, Reached, below, IsGoodName, IsWithinLimits, IsOfVersion, IsFile}
+use Rattle.lfs_model.specs.Sound.{Sound, IsReachable, below, IsGoodName, IsWithinLimits, IsOfVersion, IsFile}
 use Rattle.lfs_model.specs.Step.{with_tree}
 use Rattle.lfs_model.proofs.Walks.{Some-injective}
 use Rattle.lfs_model.proofs.Growing.{same_or_not}
@@ -14,7 +14,7 @@ use Rattle.lfs_model.proofs.Makes.{all_put}
 use Rattle.lfs_model.proofs.Detached.{IsDetached, Under, itself, inside}
 use Rattle.lfs_model.proofs.Gaining.{after_order, at_dir, at_other, dirs, names_kept, names_more, entry_new, entry_after, entry_kept, links_dir, links_other, reached_kept}
 
-module _ (N : ℕ) (s : State) (d n form : ℕ) (m : Names) (nm : List ℕ) (was : IsDetached N s n) (is : node s.tree d ≡ Some (Dir form m)) (at : Reached s.tree d)
+module _ (N : ℕ) (s : State) (d n form : ℕ) (m : Names) (nm : List ℕ) (was : IsDetached N s n) (is : node s.tree d ≡ Some (Dir form m)) (at : IsReachable s.tree d)
     (absent : find byte_cmp nm m ≡ None) (good : IsGoodName (name_len form) nm) (few : length m < 1024) (room : links s.tree d < 1000) (fits : need (with_node s.tree d (Dir form (put byte_cmp nm n m))) ≤ 47 * N) where
   abbrev t : Tree
   t = s.tree
@@ -81,10 +81,10 @@ module _ (N : ℕ) (s : State) (d n form : ℕ) (m : Names) (nm : List ℕ) (was
       let old = was.few_links q (there q some) in
       omega arith))
 
-  n_reached : Reached t' n
+  n_reached : IsReachable t' n
   n_reached = below nm (reached_kept t d n form m nm was.in_order is limits_dir.0 absent at) (entry_new t d n form m nm was.in_order is limits_dir.0 absent)
 
-  under_reached : {q : ℕ} → Under t n q → Reached t' q
+  under_reached : {q : ℕ} → Under t n q → IsReachable t' q
   under_reached itself = n_reached
   under_reached (inside x u e) = below x (under_reached u) (entry_kept t d n form m nm was.in_order is limits_dir.0 absent _ x _ e)
 
@@ -109,7 +109,7 @@ module _ (N : ℕ) (s : State) (d n form : ℕ) (m : Names) (nm : List ℕ) (was
     one_name = λ q ne dir. same_or_not q n
         (λ e. subst (λ x. names t' x ≡ 1) (sym e) (let more = one_more in let none = was.unnamed in omega arith))
         (λ a. same_names q a ∙ was.one_name q a ne (sym (dirs_same q) ∙ dir));
-    reached = λ q dir. elim (was.reached q (sym (dirs_same q) ∙ dir)) as (λ _. Reached t' q) [
+    reached = λ q dir. elim (was.reached q (sym (dirs_same q) ∙ dir)) as (λ _. IsReachable t' q) [
       | inl r ↦ reached_kept t d n form m nm was.in_order is limits_dir.0 absent r
       | inr u ↦ under_reached u
     ];

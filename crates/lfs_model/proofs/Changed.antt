@@ -10,7 +10,7 @@ use Rattle.lfs_model.specs.Lifting.{IsTaken}
 use Rattle.lfs_model.specs.Memory.{Memory, parent, pointer, patched, file_of, IsOfFile, is_unlinked, is_nameless, is_shown, is_held, settled_at, live_of, held_of}
 use Rattle.lfs_model.specs.Reach.{Row}
 use Rattle.lfs_model.specs.Running.{Dirty, Tables, IsCached, IsOpenAt, SpellsUsage, Running}
-use Rattle.lfs_model.specs.Staging.{IsAt, ChangesTo, BlockRewriting, BlockAdding, BlockRemoving, PointersGrowing, PointersShrinking}
+use Rattle.lfs_model.specs.Staging.{IsAtAddress, ChangesTo, BlockRewriting, BlockAdding, BlockRemoving, PointersGrowing, PointersShrinking}
 use Rattle.lfs_model.specs.Stands.{LogMap}
 use Rattle.lfs_model.proofs.BlockChanges.{rewriting, adding, removing}
 use Rattle.lfs_model.proofs.Counting.{by_entry, same_counts, settled_low}
@@ -147,7 +147,7 @@ module _ (d : DeviceState) (dirty dirty' : Dirty) (t : Tables) (k : CheckpointVa
 
 -- where memory says that there is none, there is none
 nothing_at : (d : DeviceState) (dirty : Dirty) (t : Tables) (k : CheckpointValue) (m0 m : LogMap) (seg : ℕ) (chunk : Option (List Entry)) (w : Running d dirty t k m0 m seg chunk)
-    (x : Entry) → (parent x ≡ x → ⊥) → IsAt dirty t x 0 → (w.memory.at x ≡ 0) × (w.memory.at (parent x) ≡ 1)
+    (x : Entry) → (parent x ≡ x → ⊥) → IsAtAddress dirty t x 0 → (w.memory.at x ≡ 0) × (w.memory.at (parent x) ≡ 1)
 nothing_at d dirty t k m0 m seg chunk w x below at =
     let p = at.pointed below in
     let c = w.cached.cached (parent x) p.0 p.1 in

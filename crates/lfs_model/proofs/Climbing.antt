@@ -11,7 +11,7 @@ use Rattle.std.specs.declared.cmp.Ordering.TheVariants.{Less, Equal, Greater}
 use Rattle.std.proofs.lemmas.Cmp.{nat_cmp_total}
 use Rattle.std.specs.FinMap.{find}
 use Rattle.lfs_model.specs.Tree.{Tree, Names, Node, File, State, node, without, names_of, is_dir, entry, byte_cmp, names, up}
-use Rattle.lfs_model.specs.Sound.{Sound, Reached, root, below}
+use Rattle.lfs_model.specs.Sound.{Sound, IsReachable, root, below}
 use Rattle.lfs_model.specs.Step.{chain, is_within}
 use Rattle.lfs_model.proofs.Sums.{total_without, weight, weight-le-total, first_found, find_without}
 use Rattle.lfs_model.proofs.Trees.{cmp_other}
@@ -200,7 +200,7 @@ module _ (N : ℕ) (s : State) (sound : Sound N s) where
   falls zero q some at = ap (climb (length t) t) at ∙ climb_root (length t) t
   falls (suc j) q some at = top q some (falls j (up t q) (dir_there (up t q) (up_dir t sound.in_order sound.root q)) at)
 
-  to_root : {q : ℕ} → Reached t q → is_dir (node t q) ≡ true → (j : ℕ) × (climb j t q ≡ 1)
+  to_root : {q : ℕ} → IsReachable t q → is_dir (node t q) ≡ true → (j : ℕ) × (climb j t q ≡ 1)
   to_root root dir = (0, refl)
   to_root (below {d = d} {n = n} x r e) dir = same_or_not n 1
       (λ same. (0, same))

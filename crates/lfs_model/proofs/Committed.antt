@@ -17,7 +17,7 @@ use Rattle.lfs_model.specs.Encodes.{HasData, IsLogMap}
 use Rattle.lfs_model.specs.Entry.{Header}
 use Rattle.lfs_model.specs.Need.{need}
 use Rattle.lfs_model.specs.Slot.{slot_in}
-use Rattle.lfs_model.specs.Sound.{Sound, NamesGive, Reached}
+use Rattle.lfs_model.specs.Sound.{Sound, NamesGive, IsReachable}
 use Rattle.lfs_model.specs.Stands.{LogMap}
 use Rattle.lfs_model.specs.Tree.{Node, File, Dir, Link, Tree, State, Handles, node, is_dir, links, links_at, names, slot_len, drop_nameless}
 use Rattle.lfs_model.specs.TreeOf.{AreFormed, IsTree, TreeOf, dropped, kept, map_of, node_by, node_of, object, slots, tree_in}
@@ -216,7 +216,7 @@ module _ (N : ℕ) (m : LogMap) (handles : Handles) (version : ℕ) where
         some = λ n ne there. subst (λ (u : Tree). 0 < names u n) (sym same_tree) (named n ne (subst (λ (u : Tree). node u n ≢ None) same_tree there));
         root = subst (λ (u : Tree). names u 1 ≡ 0) (sym same_tree) after.root_unnamed;
         one = subst (λ (u : Tree). (n : ℕ) → n ≢ 1 → is_dir (node u n) ≡ true → names u n ≡ 1) (sym same_tree) after.one_name;
-        down = subst (λ (u : Tree). (n : ℕ) → is_dir (node u n) ≡ true → Reached u n) (sym same_tree) after.reached;
+        down = subst (λ (u : Tree). (n : ℕ) → is_dir (node u n) ≡ true → IsReachable u n) (sym same_tree) after.reached;
       };
       links = λ n h is. (
           let old = header_was m n h is in

@@ -10,7 +10,7 @@ use Rattle.lfs_model.specs.Device.{MayWrite, left_old, left_new, left_bad, cell_
 use Rattle.lfs_model.specs.Reach.{address, used, Row, chunks, row, row_by, place_in, View, view}
 use Rattle.lfs_model.specs.Stands.{Protected, Stages, used_in, LogMap, HoldsAt, StandsAt, StandsLog, EnoughClean, header_in, label_at}
 use Rattle.lfs_model.specs.Stands.Protected.{reached, summary}
-use Rattle.lfs_model.specs.Crash.{Keeps, IsFree, IsReady, StandsOn, Locality, SingleLog, FreeWrites, SlotWrite}
+use Rattle.lfs_model.specs.Crash.{Keeps, IsFreeSector, IsReadyFor, StandsOn, Locality, SingleLog, FreeWrites, SlotWrite}
 use Rattle.lfs_model.proofs.Newest.{none_spelt, sector_other, slot_other, newest_other, slot_newest, newest_alone, newest_next}
 use Rattle.lfs_model.proofs.Reach.{view_same, after_inv, opened_inv}
 
@@ -76,7 +76,7 @@ module _ (c : Content) (k : CheckpointValue) where
       let none : label_at (view c k) a ≡ None = ap₂ (λ (x y : ℕ). place_in (row c k x) y) es eo ∙ unused_place s at unused in
       cc
 
-  free_unprotected : Stages (view c k) → (at : ℕ) → Protected (view c k) at → IsFree c k at → ⊥
+  free_unprotected : Stages (view c k) → (at : ℕ) → Protected (view c k) at → IsFreeSector c k at → ⊥
   free_unprotected stages at (reached e lt) free = free_unreached e (stages.named e lt) free.segment free.place free.is free.within free.unused
   free_unprotected stages at (summary s o lt none) free =
       let fit = stages.usages.fit s in
@@ -122,7 +122,7 @@ protected_above v s at (reached e lt) = reached_above v s e lt
 protected_above v s at (summary i o lt none) = omega arith
 
 module _ (c : Content) (m : LogMap) (s : StandsLog c m) (e : Content) (keeps : Keeps c s.checkpoint e)
-    (next : CheckpointValue) (bytes : List ℕ) (m' : LogMap) (ready : IsReady e s.checkpoint next bytes m') where
+    (next : CheckpointValue) (bytes : List ℕ) (m' : LogMap) (ready : IsReadyFor e s.checkpoint next bytes m') where
   p : ℕ
   p = next.number % 2
 

@@ -8,7 +8,7 @@ use Rattle.std.specs.FinMap.{find, is_sorted}
 use Rattle.std.specs.FinMap.Entries.{is_sorted-put, is_sorted-where_key}
 use Rattle.lfs_model.specs.Tree.{Tree, Names, Node, File, Dir, Link, State, node, with_node, without, names_of, is_dir, entry, byte_cmp, names, links, links_at}
 use Rattle.lfs_model.specs.Need.{need, data_of, meta_of}
-use Rattle.lfs_model.specs.Sound.{Sound, NamesGive, Reached, root, below, IsWithinLimits, IsOfVersion, IsFile, IsHeld}
+use Rattle.lfs_model.specs.Sound.{Sound, NamesGive, IsReachable, root, below, IsWithinLimits, IsOfVersion, IsFile, IsKeptOpen}
 use Rattle.lfs_model.specs.Step.{with_tree}
 use Rattle.lfs_model.proofs.Walks.{Some-injective}
 use Rattle.lfs_model.proofs.Sums.{total_put, total_without, total_same, weight, find_without}
@@ -39,8 +39,8 @@ pub record IsDetached (N : ℕ) (s : State) (n : ℕ) : Type 0 where
   pub not_root : n ≢ 1
   pub unnamed : names s.tree n ≡ 0
   pub one_name : (q : ℕ) → q ≢ n → q ≢ 1 → is_dir (node s.tree q) ≡ true → names s.tree q ≡ 1
-  pub reached : (q : ℕ) → is_dir (node s.tree q) ≡ true → Reached s.tree q ⊎ Under s.tree n q
-  pub held : (q : ℕ) → q ≢ n → q ≢ 1 → node s.tree q ≢ None → names s.tree q ≡ 0 → IsHeld s q
+  pub reached : (q : ℕ) → is_dir (node s.tree q) ≡ true → IsReachable s.tree q ⊎ Under s.tree n q
+  pub held : (q : ℕ) → q ≢ n → q ≢ 1 → node s.tree q ≢ None → names s.tree q ≡ 0 → IsKeptOpen s q
   pub handles : (h q : ℕ) → find nat_cmp h s.handles ≡ Some q → (h < 64) × IsFile (node s.tree q)
 
 -- what has an entry is a directory
@@ -95,7 +95,7 @@ module _ (N : ℕ) (s : State) (n form : ℕ) (was : IsDetached N s n) (empty : 
   pub entry2 : (q : ℕ) (x : List ℕ) (k : ℕ) → entry t2 q x ≡ Some k → entry t q x ≡ Some k
   entry2 q x k e = ap (λ o. find byte_cmp x (names_at o)) (sym (same q (dir2 q (holder (node t2 q) x k e)).0)) ∙ e
 
-  reached2 : {q : ℕ} → Reached t q → Reached t2 q
+  reached2 : {q : ℕ} → IsReachable t q → IsReachable t2 q
   reached2 root = root
   reached2 (below x r e) = below x (reached2 r) (entry2_kept _ x _ e)
 
@@ -139,7 +139,7 @@ module _ (N : ℕ) (s : State) (n form : ℕ) (was : IsDetached N s n) (empty : 
         was.named q x k one (sym (same k ne) ∙ none));
     root_unnamed = names2 1 ∙ was.root_unnamed;
     one_name = λ q ne dir. names2 q ∙ was.one_name q (dir2 q dir).0 ne (dir2 q dir).1;
-    reached = λ q dir. elim (was.reached q (dir2 q dir).1) as (λ _. Reached t2 q) [
+    reached = λ q dir. elim (was.reached q (dir2 q dir).1) as (λ _. IsReachable t2 q) [
       | inl r ↦ reached2 r
       | inr u ↦ absurd ((dir2 q dir).0 (under_only u))
     ];
@@ -194,7 +194,7 @@ module _ (N : ℕ) (s : State) (sound : Sound N s) (n form : ℕ) (fresh : node 
   entry_kept : (q : ℕ) (x : List ℕ) (k : ℕ) → entry s.tree q x ≡ Some k → entry t1 q x ≡ Some k
   entry_kept q x k e = ap (λ o. find byte_cmp x (names_in_it o)) (kept q (not_new q (λ none. let no : entry s.tree q x ≡ None = ap (λ o. find byte_cmp x (names_in_it o)) none in cc))) ∙ e
 
-  reached_kept : {q : ℕ} → Reached s.tree q → Reached t1 q
+  reached_kept : {q : ℕ} → IsReachable s.tree q → IsReachable t1 q
   reached_kept root = root
   reached_kept (below x r e) = below x (reached_kept r) (entry_kept _ x _ e)
 

@@ -10,7 +10,7 @@ use Rattle.std.specs.FinMap.{find, is_sorted}
 use Rattle.std.specs.FinMap.Entries.{is_sorted-where_key}
 use Rattle.lfs_model.specs.Tree.{Tree, Names, Node, File, Dir, Link, State, node, without, names_of, is_dir, entry, byte_cmp, names, links, links_at, opened}
 use Rattle.lfs_model.specs.Need.{need, data_of, meta_of}
-use Rattle.lfs_model.specs.Sound.{Sound, NamesGive, Reached, root, below, IsWithinLimits, IsOfVersion, IsFile, IsHeld}
+use Rattle.lfs_model.specs.Sound.{Sound, NamesGive, IsReachable, root, below, IsWithinLimits, IsOfVersion, IsFile, IsKeptOpen}
 use Rattle.lfs_model.specs.Step.{let_go, with_tree}
 use Rattle.lfs_model.proofs.Sums.{total_without, weight, total_zero, find_without, weight-le-total}
 use Rattle.lfs_model.proofs.Trees.{cmp_same, cmp_other}
@@ -30,8 +30,8 @@ pub record SoundBut (N : ℕ) (s : State) (n : ℕ) : Type 0 where
   pub named : NamesGive s.tree
   pub root_unnamed : names s.tree 1 ≡ 0
   pub one_name : (q : ℕ) → q ≢ 1 → is_dir (node s.tree q) ≡ true → names s.tree q ≡ 1
-  pub reached : (q : ℕ) → is_dir (node s.tree q) ≡ true → Reached s.tree q
-  pub held : (q : ℕ) → q ≢ n → q ≢ 1 → node s.tree q ≢ None → names s.tree q ≡ 0 → IsHeld s q
+  pub reached : (q : ℕ) → is_dir (node s.tree q) ≡ true → IsReachable s.tree q
+  pub held : (q : ℕ) → q ≢ n → q ≢ 1 → node s.tree q ≢ None → names s.tree q ≡ 0 → IsKeptOpen s q
   pub handles : (h q : ℕ) → find nat_cmp h s.handles ≡ Some q → (h < 64) × IsFile (node s.tree q)
   pub room : need s.tree ≤ 47 * N
 
@@ -69,7 +69,7 @@ stays_sound N s n but kept_by = record {
   held = λ q ne some none. same_or_not q n
       (λ e. elim (opened_file s n but.handles_in_order but.handles) [
         | inl shut ↦ absurd (kept_by (subst (λ x. names s.tree x ≡ 0) e none, shut))
-        | inr file ↦ subst (λ x. IsHeld s x) (sym e) (record { file = file; handle = positive (opened s.handles n) (λ z. kept_by (subst (λ x. names s.tree x ≡ 0) e none, z)) })
+        | inr file ↦ subst (λ x. IsKeptOpen s x) (sym e) (record { file = file; handle = positive (opened s.handles n) (λ z. kept_by (subst (λ x. names s.tree x ≡ 0) e none, z)) })
       ])
       (λ a. but.held q a ne some none);
   handles = but.handles;
@@ -132,7 +132,7 @@ module _ (N : ℕ) (s : State) (n : ℕ) (but : SoundBut N s n) (plain : is_dir 
   there2 : (q : ℕ) → node t2 q ≢ None → (q ≢ n) × (node t q ≢ None)
   there2 q some = let ne : q ≢ n = λ e. some (subst (λ x. node t2 x ≡ None) (sym e) gone) in (ne, λ none. some (same q ne ∙ none))
 
-  reached2 : {q : ℕ} → Reached t q → Reached t2 q
+  reached2 : {q : ℕ} → IsReachable t q → IsReachable t2 q
   reached2 root = root
   reached2 (below x r e) = below x (reached2 r) (entry2_kept _ x _ e)
 

@@ -12,7 +12,7 @@ use Rattle.std.specs.FinMap.{find}
 use Rattle.std.specs.FinMap.Entries.{find-where_key, is_sorted-where_key}
 use Rattle.lfs_model.specs.Tree.{Tree, Names, Node, File, Dir, Link, State, node, names_of, is_dir, entry, byte_cmp, names, links, links_at, drop_nameless}
 use Rattle.lfs_model.specs.Need.{need, data_of, meta_of}
-use Rattle.lfs_model.specs.Sound.{Sound, Reached, root, below, IsFile}
+use Rattle.lfs_model.specs.Sound.{Sound, IsReachable, root, below, IsFile}
 use Rattle.lfs_model.proofs.Sums.{total_filter, total_filter-le}
 use Rattle.lfs_model.proofs.Growing.{gives}
 use Rattle.lfs_model.proofs.Shrinking.{named_counts}
@@ -105,7 +105,7 @@ module _ (N : ℕ) (s : State) (sound : Sound N s) where
       by true b e = refl
       by false b e = ap not e
 
-  reached_kept : {q : ℕ} → Reached t q → Reached t' q
+  reached_kept : {q : ℕ} → IsReachable t q → IsReachable t' q
   reached_kept root = root
   reached_kept (below x r e) = below x (reached_kept r) (entries _ x ∙ e)
 

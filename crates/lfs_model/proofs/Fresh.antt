@@ -4,7 +4,7 @@ use Rattle.std.specs.Prelude.{unwrap_or}
 use Rattle.std.specs.FinMap.{find}
 use Rattle.lfs_model.specs.Tree.{Node, File, Dir, entry, byte_cmp, names_of, node, is_dir, links}
 use Rattle.lfs_model.specs.Need.{need, data_of, meta_of}
-use Rattle.lfs_model.specs.Sound.{Sound, Reached, root, IsWithinLimits, IsOfVersion}
+use Rattle.lfs_model.specs.Sound.{Sound, IsReachable, root, IsWithinLimits, IsOfVersion}
 use Rattle.lfs_model.specs.Plain.{fresh}
 use Rattle.lfs_model.proofs.Trees.{cmp_other}
 use Rattle.lfs_model.proofs.Walks.{Some-injective}
@@ -48,7 +48,7 @@ fresh_sound N h = record {
   named = λ d name n e. absurd (no_entry d name n e);
   root_unnamed = refl;
   one_name = λ n ne dir. absurd (dir_there (node fresh.tree n) dir (none_else n ne));
-  reached = λ n dir. at_one (Reached fresh.tree) root n (dir_there (node fresh.tree n) dir);
+  reached = λ n dir. at_one (IsReachable fresh.tree) root n (dir_there (node fresh.tree n) dir);
   held = λ n ne some none. absurd (some (none_else n ne));
   handles = λ g n e. absurd (cc e);
   room = let is = new_need in omega arith;

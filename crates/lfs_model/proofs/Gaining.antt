@@ -11,7 +11,7 @@ use Rattle.std.proofs.lemmas.Bool.Decides.{nat_tests}
 use Rattle.std.specs.FinMap.{find, put, is_sorted}
 use Rattle.std.specs.FinMap.Entries.{is_sorted-put, find-put, find_tied}
 use Rattle.lfs_model.specs.Tree.{Tree, Names, Node, File, Dir, Link, node, with_node, names_of, is_dir, entry, byte_cmp, names, links, links_at}
-use Rattle.lfs_model.specs.Sound.{Reached, root, below}
+use Rattle.lfs_model.specs.Sound.{IsReachable, root, below}
 use Rattle.lfs_model.proofs.Walks.{Some-injective}
 use Rattle.lfs_model.proofs.Sums.{total_put, weight}
 use Rattle.lfs_model.proofs.Trees.{find_here, find_other}
@@ -120,6 +120,6 @@ module _ (t : Tree) (d n form : ℕ) (m : Names) (nm : List ℕ) (in_order : T (
       by (Some (Link text)) h = leaf (Some (Link text)) refl h
       by (Some (Dir f ms)) h = ap (λ c. 2 + c) (subdirs ms)
 
-  pub reached_kept : {q : ℕ} → Reached t q → Reached after q
+  pub reached_kept : {q : ℕ} → IsReachable t q → IsReachable after q
   reached_kept root = root
   reached_kept (below x r e) = below x (reached_kept r) (entry_kept _ x _ e)

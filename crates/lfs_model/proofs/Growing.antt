@@ -5,7 +5,7 @@ use Rattle.std.proofs.Math.Path.{fun_ext}
 use Rattle.std.specs.Ordering.{nat_cmp, eq_by_cmp, is_eq}
 use Rattle.std.specs.declared.cmp.Ordering.TheVariants.{Less, Equal, Greater}
 use Rattle.lfs_model.specs.Tree.{Tree, Names, Node, File, Dir, Link, node, with_node, names_in, names_of, is_dir, entry, byte_cmp, names, links, links_at}
-use Rattle.lfs_model.specs.Sound.{Reached, root, below}
+use Rattle.lfs_model.specs.Sound.{IsReachable, root, below}
 use Rattle.std.specs.Cmp.Lexicographic.{nat_list_cmp_total}
 use Rattle.std.proofs.lemmas.Cmp.{nat_cmp_total}
 use Rattle.std.proofs.lemmas.Bool.Decides.{eqb_tells, nat_tests}
@@ -172,6 +172,6 @@ module _ (t : Tree) (d n form : ℕ) (m : Names) (nm : List ℕ) (made : Node) (
   links_new = ap (links_at after n) at_new ∙ leaf_links after n made leaf ∙ names_new
 
   -- what is reached stays so
-  pub reached_kept : {q : ℕ} → Reached t q → Reached after q
+  pub reached_kept : {q : ℕ} → IsReachable t q → IsReachable after q
   reached_kept root = root
   reached_kept (below x r e) = below x (reached_kept r) (entry_kept _ x _ e)

@@ -4,7 +4,7 @@ use Rattle.std.specs.List.{AllByRecursion}
 use Rattle.lfs_model.specs.Call.{Call, Open, Create, Close, Pread, Pwrite, Truncate, Mkdir, LinkTo, Symlink, Readlink, Unlink, Rmdir, Rename, StatOf, LstatOf, Readdir, Fsync, Sync, Clean, Space, ListTree, Answer, AreArguments, leaves_state}
 use Rattle.lfs_model.specs.Tree.{State, drop_nameless}
 use Rattle.lfs_model.specs.Sound.{Sound}
-use Rattle.lfs_model.specs.Laws.{Keeps}
+use Rattle.lfs_model.specs.Laws.{KeepsSound}
 use Rattle.lfs_model.specs.Run.{Point, Run, LineRun, LineAnswers, Answers, IsPending}
 use Rattle.lfs_model.specs.Bytes.{AreBytes}
 use Rattle.lfs_model.specs.Script.{Line, Plain, Fill, InRange, call_of}
@@ -14,10 +14,10 @@ use Rattle.lfs_model.proofs.Pendings.{reads_leave}
 use Rattle.lfs_model.proofs.Forgetting.{dropped_sound}
 use Rattle.lfs_model.proofs.Walks.{Some-injective}
 
-read_keeps : (call : Call) → leaves_state call ≡ true → Keeps call
+read_keeps : (call : Call) → leaves_state call ≡ true → KeepsSound call
 read_keeps call is N s s' a sound args st = subst (Sound N) (sym (reads_leave N s s' call a is st)) sound
 
-pub call_keeps : (call : Call) → Keeps call
+pub call_keeps : (call : Call) → KeepsSound call
 call_keeps (Open p) N s s' a sound args st = open_keeps N s s' p a sound st
 call_keeps (Create p) N s s' a sound args st = create_keeps N s s' p a sound args st
 call_keeps (Close h) N s s' a sound args st = close_keeps N s s' h a sound st

@@ -9,7 +9,7 @@ use Rattle.lfs_model.specs.Tree.{Tree, Names, Node, File, Dir, State, node, with
 use Rattle.lfs_model.specs.Refusal.{Busy, Inval, NameTooLong, NoEntry, NotDir, NotEmpty, TooManyLinks}
 use Rattle.lfs_model.specs.Walk.{End, At, Refused, Parent}
 use Rattle.lfs_model.specs.Need.{need}
-use Rattle.lfs_model.specs.Sound.{Sound, Reached, IsGoodName}
+use Rattle.lfs_model.specs.Sound.{Sound, IsReachable, IsGoodName}
 use Rattle.lfs_model.specs.Call.{Mkdir, Rmdir, Rename, Answer, Done, AreArguments}
 use Rattle.lfs_model.specs.Step.{Step, reached, when, name, target, new_entry, no_number, no_space, let_go, with_tree, with_new, makes_dir, removes_dir, renames, rename_list, no_last, last_dots, is_long, is_there, gives_dir, is_within}
 use Rattle.lfs_model.proofs.GoodNames.{good_name}
@@ -73,8 +73,8 @@ module _ (N : ℕ) (s : State) (sound : Sound N s) (d : ℕ) (nm : List ℕ) (is
   abbrev names_at : Option Node → Names
   names_at o = names_of (unwrap_or o (File []))
 
-  down : Reached t1 d
-  down = elim (fresh.reached d is_d1) as (λ _. Reached t1 d) [ inl r ↦ r | inr u ↦ absurd (other (under_only N (with_tree s t1) n (s.version - 1) fresh at_n u)) ]
+  down : IsReachable t1 d
+  down = elim (fresh.reached d is_d1) as (λ _. IsReachable t1 d) [ inl r ↦ r | inr u ↦ absurd (other (under_only N (with_tree s t1) n (s.version - 1) fresh at_n u)) ]
 
   good1 : IsGoodName (name_len (form_of (node t1 d))) nm
   good1 = subst (λ o. IsGoodName (name_len (form_of o)) nm) (sym kept) good

@@ -4,7 +4,7 @@ use Rattle.std.proofs.lemmas.Bool.{cases_eq, cond-true}
 use Rattle.lfs_model.specs.Entry.{Entry, Inode, Map, Usage}
 use Rattle.lfs_model.specs.Checkpoint.{CheckpointValue}
 use Rattle.lfs_model.specs.Content.{Content}
-use Rattle.lfs_model.specs.Crash.{IsFree}
+use Rattle.lfs_model.specs.Crash.{IsFreeSector}
 use Rattle.lfs_model.specs.Device.{DeviceState, put, left_new}
 use Rattle.lfs_model.specs.Reach.{Row, view}
 use Rattle.lfs_model.specs.Stands.{LogMap, used_in}
@@ -181,7 +181,7 @@ usage_leaving d dirty t t' k m0 m seg chunk j w above old go =
 -- ---- the content changes where k has no use for it
 module _ (d d' : DeviceState) (dirty : Dirty) (t : Tables) (k : CheckpointValue) (m0 m : LogMap) (seg : ℕ) (chunk : Option (List Entry)) (w : Running d dirty t k m0 m seg chunk)
     (s o : ℕ) (on : t.taken s ≡ true) (within : o < 64) (bytes : List ℕ) (is : IsWritten d d' (2 + 64 * s + o) bytes) where
-  taken_free : IsFree d.content k (2 + 64 * s + o)
+  taken_free : IsFreeSector d.content k (2 + 64 * s + o)
   taken_free = let u = w.taken s on in record { segment = s; place = o; is = refl; within = within; below = u.0; unused = let z = u.1 in omega arith }
 
   taken_settled : IsSettled d' k m0 × ((s : ℕ) → used_in (view d'.content k) s ≡ used_in (view d.content k) s)

@@ -8,7 +8,7 @@ use Rattle.lfs_model.specs.Reach.{View, Row, place_in, chunks}
 use Rattle.lfs_model.proofs.Chunks.{one_chunk}
 use Rattle.std.proofs.lemmas.List.{drop_more}
 use Rattle.lfs_model.specs.Stands.{AreNamed, HoldsCount, IsHeld, count_up, is_live, label_at}
-use Rattle.lfs_model.specs.Live.{LiveSectors, NamedCounts, live_count, OneMoreLive, SameLive, IsPlaced, PlacedCounts, ChunkRead, LiveLess}
+use Rattle.lfs_model.specs.Live.{LiveSectors, NamedCounts, live_count, OneMoreLive, SameLive, GainsBlock, PlacedCounts, ChunkRead, LiveLess}
 
 counts : (p : ℕ → Bool) (a n : ℕ) → count_by p (range_with_len a (suc n)) ≡ cond (p a) 1 0 + count_by p (range_with_len (a + 1) n)
 counts p a n = sum_by-cons (λ (x : ℕ). cond (p x) 1 0) a (range_with_len (a + 1) n)
@@ -73,7 +73,7 @@ pub same_live : SameLive
 unfolding count_up
 same_live v w nv nw s same = count_same (is_live w s) (is_live v s) 0 64 (λ x le lt. sym (same_live_at v w nv nw s x (omega arith) (same x (omega arith))))
 
-module _ (v w : View) (nv : AreNamed v) (nw : AreNamed w) (x : Entry) (s o : ℕ) (p : IsPlaced v w x s o) where
+module _ (v w : View) (nv : AreNamed v) (nw : AreNamed w) (x : Entry) (s o : ℕ) (p : GainsBlock v w x s o) where
   -- an entry of v isn't the one that comes, and so keeps its place
   stays : (at : ℕ) → 0 < at → IsHeld v at → IsHeld w at
   stays at lt held =

@@ -12,7 +12,7 @@ use Rattle.std.specs.FinMap.{find, put, is_sorted}
 use Rattle.std.specs.FinMap.Entries.{is_sorted-put, length-put, by_order}
 use Rattle.lfs_model.specs.Tree.{Tree, Names, Node, File, Dir, Link, State, node, with_node, names_in, names_of, is_dir, form_of, name_len, name_limit, with_name, entry, byte_cmp, names, links, least}
 use Rattle.lfs_model.specs.Need.{need}
-use Rattle.lfs_model.specs.Sound.{Sound, NamesGive, IsGoodName, IsWithinLimits, IsOfVersion, IsFile, IsHeld}
+use Rattle.lfs_model.specs.Sound.{Sound, NamesGive, IsGoodName, IsWithinLimits, IsOfVersion, IsFile, IsKeptOpen}
 use Rattle.lfs_model.specs.Call.{Answer}
 use Rattle.lfs_model.specs.Step.{checked, with_tree}
 use Rattle.lfs_model.proofs.Walks.{Some-injective}
@@ -175,7 +175,7 @@ module _ (N : ℕ) (s : State) (d : ℕ) (nm : List ℕ) (made : Node) (leaf : i
   dir_before : (q : ℕ) → is_dir (node t' q) ≡ true → is_dir (node t q) ≡ true
   dir_before q dir = sym (dirs t d n form m nm made leaf sound.in_order is dir_limits.0 free.1 absent q) ∙ dir
 
-  held_kept : (q : ℕ) → q ≢ 1 → node t' q ≢ None → names t' q ≡ 0 → IsHeld (with_tree s t') q
+  held_kept : (q : ℕ) → q ≢ 1 → node t' q ≢ None → names t' q ≡ 0 → IsKeptOpen (with_tree s t') q
   held_kept q ne some none = same_or_not q n
       (λ e. absurd (let one : names t' n ≡ names t n + 1 = names_new t d n form m nm made leaf sound.in_order is dir_limits.0 free.1 absent in let zero : names t' n ≡ 0 = subst (λ x. names t' x ≡ 0) e none in omega arith))
       (λ a. let was = sound.held q ne (there q a some) (sym (same_names q a) ∙ none) in record { file = file_kept q was.file; handle = was.handle })

@@ -9,7 +9,7 @@ use Rattle.std.specs.FinMap.{find}
 use Rattle.std.specs.FinMap.Entries.{length_without}
 use Rattle.lfs_model.specs.Tree.{Tree, Names, Node, File, Dir, State, node, without, names_in, names_of, form_of, name_len, name_limit, is_dir, entry, byte_cmp, names, links, opened, with_name, without_name}
 use Rattle.lfs_model.specs.Need.{need}
-use Rattle.lfs_model.specs.Sound.{Sound, Reached, IsGoodName, IsWithinLimits}
+use Rattle.lfs_model.specs.Sound.{Sound, IsReachable, IsGoodName, IsWithinLimits}
 use Rattle.lfs_model.specs.Step.{let_go, with_tree}
 use Rattle.lfs_model.proofs.Growing.{same_or_not}
 use Rattle.lfs_model.proofs.Makes.{dir_at}
@@ -167,7 +167,7 @@ module _ (N : ℕ) (s : State) (sound : Sound N s) (da db n : ℕ) (na nb : List
 
   pub dir_moved : is_dir (node t n) ≡ true → (da ≢ db → links t db < 1000) → (Under u n db → ⊥) → Sound N (with_tree s (with_name u db nb n))
   dir_moved dir more away = attached_sound N (with_tree s u) db n form_b names_b nb free at_b
-      (elim (free.reached db is_b') as (λ _. Reached u db) [ inl r ↦ r | inr v ↦ absurd (away v) ]) absent_b good_b few_b room fits
+      (elim (free.reached db is_b') as (λ _. IsReachable u db) [ inl r ↦ r | inr v ↦ absurd (away v) ]) absent_b good_b few_b room fits
     where
       free : IsDetached N (with_tree s u) n
       free = out.detached N s sound da n form_a names_a na at_a found dir

@@ -12,7 +12,7 @@ use Rattle.lfs_model.specs.Entry.{Entry, Data, Inode, word}
 use Rattle.lfs_model.specs.Memory.{parent, pointer, patched, IsOfFile, IsPointers, HasPointer}
 use Rattle.lfs_model.specs.Replacing.{BlockReplacing, BlockLeaving, FetchingTight, BlockTight, ChangingTight}
 use Rattle.lfs_model.specs.Running.{Dirty, Tables, Running, IsTight, Moves, IsLifted}
-use Rattle.lfs_model.specs.Staging.{IsAt, Fetches}
+use Rattle.lfs_model.specs.Staging.{IsAtAddress, Fetches}
 use Rattle.lfs_model.specs.Stands.{LogMap}
 use Rattle.lfs_model.proofs.Changed.{some_is, block_rewriting, block_removing}
 use Rattle.lfs_model.proofs.Entries.{same_entry, file_of_parent, pointer_low, data_below}
@@ -46,7 +46,7 @@ patched_twice w u v b room =
 
 -- ---- a block above another in memory is whole
 module _ (d : DeviceState) (dirty : Dirty) (t : Tables) (k : CheckpointValue) (m0 m : LogMap) (seg : ℕ) (chunk : Option (List Entry)) (x : Entry) (address : ℕ)
-    (w : Running d dirty t k m0 m seg chunk) (file : IsOfFile x) (at : IsAt dirty t x address) (ne : parent x ≡ x → ⊥) where
+    (w : Running d dirty t k m0 m seg chunk) (file : IsOfFile x) (at : IsAtAddress dirty t x address) (ne : parent x ≡ x → ⊥) where
   pub above_whole : length (at.pointed ne).0 ≡ 512
   above_whole =
       let p = at.pointed ne in
@@ -56,7 +56,7 @@ module _ (d : DeviceState) (dirty : Dirty) (t : Tables) (k : CheckpointValue) (m
 
 -- ---- a data block is replaced or goes: as if it were read, and then changed
 module _ (d : DeviceState) (dirty dirty' : Dirty) (t t' : Tables) (k : CheckpointValue) (m0 m m' : LogMap) (seg : ℕ) (chunk : Option (List Entry)) (n i address : ℕ)
-    (w : Running d dirty t k m0 m seg chunk) (at : IsAt dirty t (Data n i) address) (above : 2 ≤ address) (go : IsLifted m t t' (Data n i) 1 (segment_of address)) where
+    (w : Running d dirty t k m0 m seg chunk) (at : IsAtAddress dirty t (Data n i) address) (above : 2 ≤ address) (go : IsLifted m t t' (Data n i) 1 (segment_of address)) where
   abbrev old : List ℕ
   old = block d.content address
 
@@ -120,7 +120,7 @@ block_leaving d dirty dirty' t t' k m0 m m' seg chunk n i address w at above map
 
 -- ---- no block of pointers in memory becomes empty
 module _ (d : DeviceState) (dirty dirty' : Dirty) (t : Tables) (k : CheckpointValue) (m0 m : LogMap) (seg : ℕ) (chunk : Option (List Entry)) (x : Entry) (address : ℕ) (bytes : List ℕ)
-    (w : Running d dirty t k m0 m seg chunk) (file : IsOfFile x) (at : IsAt dirty t x address) (fetch : Fetches dirty dirty' x bytes) where
+    (w : Running d dirty t k m0 m seg chunk) (file : IsOfFile x) (at : IsAtAddress dirty t x address) (fetch : Fetches dirty dirty' x bytes) where
   pub above_tight : (b : List ℕ) → (parent x ≡ x → ⊥) → dirty' (parent x) ≡ Some b → HasPointer b
   above_tight b ne held =
       let p = at.pointed ne in
@@ -141,7 +141,7 @@ module _ (d : DeviceState) (dirty dirty' : Dirty) (t : Tables) (k : CheckpointVa
 
 -- where x stands, by memory
 pub address_at : (d : DeviceState) (dirty : Dirty) (t : Tables) (k : CheckpointValue) (m0 m : LogMap) (seg : ℕ) (chunk : Option (List Entry)) (x : Entry) (address : ℕ)
-    (w : Running d dirty t k m0 m seg chunk) → IsAt dirty t x address → w.memory.at x ≡ address
+    (w : Running d dirty t k m0 m seg chunk) → IsAtAddress dirty t x address → w.memory.at x ≡ address
 address_at d dirty t k m0 m seg chunk x address w at = ⊎_elim
     (λ (top : parent x ≡ x). w.tables.at x top ∙ at.top top)
     (λ (ne : parent x ≡ x → ⊥).

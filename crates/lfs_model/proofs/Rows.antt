@@ -7,7 +7,7 @@ use Rattle.std.specs.Fmt.{digits}
 use Rattle.lfs_model.specs.Tree.{drop_nameless}
 use Rattle.lfs_model.specs.Refusal.{Inval, NotEmpty, NotDir, IsDir, Loop, Perm, Busy, Exist, NoEntry, NameTooLong, TooManyOpen, BadHandle}
 use Rattle.lfs_model.specs.Need.{data_of, meta_of}
-use Rattle.lfs_model.specs.Call.{Call, Create, Open, Close, Pwrite, Pread, Truncate, Rename, LinkTo, StatOf, LstatOf, Readdir, Readlink, Mkdir, Rmdir, Symlink, Unlink, Sync, Space, ListTree, Entry, Answer, Handle, Count, Data, Text, Done, Refuse, Status, Room, Rows, Entries}
+use Rattle.lfs_model.specs.Call.{Call, Create, Open, Close, Pwrite, Pread, Truncate, Rename, LinkTo, StatOf, LstatOf, Readdir, Readlink, Mkdir, Rmdir, Symlink, Unlink, Sync, Space, ListTree, DirectoryEntry, Answer, Handle, Count, Data, Text, Done, Refuse, Status, Room, Rows, Entries}
 use Rattle.lfs_model.specs.Plain.{run_to, fresh, answers_to}
 use Rattle.lfs_model.specs.declared.Kind.TheVariants as kinds
 
@@ -24,10 +24,10 @@ dir n links size = Status (record { number = n; kind = kinds.Directory; links = 
 link : ℕ → ℕ → ℕ → Answer
 link n links size = Status (record { number = n; kind = kinds.Link; links = links; size = size })
 
-file_entry : List ℕ → ℕ → Entry
+file_entry : List ℕ → ℕ → DirectoryEntry
 file_entry name n = record { name = name; number = n; kind = kinds.File }
 
-dir_entry : List ℕ → ℕ → Entry
+dir_entry : List ℕ → ℕ → DirectoryEntry
 dir_entry name n = record { name = name; number = n; kind = kinds.Directory }
 
 -- ---- space and bytes

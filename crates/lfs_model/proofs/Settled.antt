@@ -4,7 +4,7 @@ use Rattle.lfs_model.specs.Checkpoint.{CheckpointValue}
 use Rattle.lfs_model.specs.Content.{Content, newest}
 use Rattle.lfs_model.specs.Reach.{View, view}
 use Rattle.lfs_model.specs.Stands.{LogMap, StandsAt, StandsLog, Protected, used_in}
-use Rattle.lfs_model.specs.Crash.{Keeps, IsFree, StandsOn}
+use Rattle.lfs_model.specs.Crash.{Keeps, IsFreeSector, StandsOn}
 use Rattle.lfs_model.specs.Device.{DeviceState, MayWrite, CrashWrites, put}
 use Rattle.lfs_model.specs.Settled.{IsSettled, SettledStands, SettledWrite, SettledStill, SlotTorn, Acknowledged}
 use Rattle.lfs_model.proofs.Crash.{locality_on, free_writes, slot_write, stands_at_same}
@@ -40,7 +40,7 @@ module _ (k : CheckpointValue) (m : LogMap) where
     each = λ d left. kept_from old.content k m settled.stands new.content now d (each d left);
   }
 
-  module _ (old new : DeviceState) (settled : IsSettled old k m) (at : ℕ) (bytes : List ℕ) (free : IsFree old.content k at) (may : MayWrite at bytes old.content new.content) (crash : CrashWrites at bytes old new) where
+  module _ (old new : DeviceState) (settled : IsSettled old k m) (at : ℕ) (bytes : List ℕ) (free : IsFreeSector old.content k at) (may : MayWrite at bytes old.content new.content) (crash : CrashWrites at bytes old new) where
     write_keeps : Keeps old.content k new.content
     write_keeps = free_writes old.content m (log_at old settled) at bytes free old.content new.content (keeps_itself old.content k settled.newest) may
 

@@ -10,7 +10,7 @@ use Rattle.std.proofs.lemmas.Bool.Decides.{nat_tests}
 use Rattle.std.specs.FinMap.{find, is_sorted}
 use Rattle.std.specs.FinMap.Entries.{is_sorted-put, find_tied}
 use Rattle.lfs_model.specs.Tree.{Tree, Names, Node, File, Dir, Link, node, with_node, without, names_in, names_of, is_dir, entry, byte_cmp, names, links, links_at}
-use Rattle.lfs_model.specs.Sound.{Reached, root, below}
+use Rattle.lfs_model.specs.Sound.{IsReachable, root, below}
 use Rattle.lfs_model.proofs.Sums.{total_put, total_without, weight, find_without, weight-le-total}
 use Rattle.lfs_model.proofs.Trees.{find_here, find_other}
 use Rattle.lfs_model.proofs.Growing.{same_or_not, gives}
@@ -148,7 +148,7 @@ module _ (t : Tree) (d n form : ℕ) (m : Names) (nm : List ℕ)
       omega (arith, fewer, one, now, was)
 
   -- a directory that was reached still is
-  pub reached_kept : is_dir (node t n) ≡ false → {q : ℕ} → Reached t q → is_dir (node t q) ≡ true → Reached after q
+  pub reached_kept : is_dir (node t n) ≡ false → {q : ℕ} → IsReachable t q → is_dir (node t q) ≡ true → IsReachable after q
   reached_kept plain root dir = root
   reached_kept plain (below {d = e} {n = k} x r at) dir = below x (reached_kept plain r (holder e x k at)) (entry_kept e x k (λ same. let no : is_dir (node t k) ≡ false = subst (λ y. is_dir (node t y) ≡ false) (sym same) plain in cc) at)
     where

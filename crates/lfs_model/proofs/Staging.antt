@@ -9,7 +9,7 @@ use Rattle.lfs_model.specs.Device.{DeviceState}
 use Rattle.lfs_model.specs.Lifting.{IsTaken, IsLifting}
 use Rattle.lfs_model.specs.Memory.{Memory, parent, pointer, patched, IsOfFile, is_shown, is_held}
 use Rattle.lfs_model.specs.Running.{Dirty, Tables, IsCached, IsOpenAt, SpellsUsage, Running, IsLifted}
-use Rattle.lfs_model.specs.Staging.{IsAt, Fetches, Fetching, MapFetching, MapAdding}
+use Rattle.lfs_model.specs.Staging.{IsAtAddress, Fetches, Fetching, MapFetching, MapAdding}
 use Rattle.lfs_model.specs.Stands.{LogMap}
 use Rattle.lfs_model.proofs.Counting.{unplaced_counts}
 use Rattle.lfs_model.proofs.Entries.{same_entry, file_of_parent}
@@ -21,7 +21,7 @@ use Rattle.lfs_model.proofs.Running.{pick, pick_yes, pick_no, taken_memory, is_t
 use Rattle.lfs_model.proofs.Tables.{map_table, usage_table}
 
 module _ (d : DeviceState) (dirty dirty' : Dirty) (t t' : Tables) (k : CheckpointValue) (m0 m : LogMap) (seg : ℕ) (chunk : Option (List Entry)) (x : Entry) (address : ℕ) (bytes : List ℕ)
-    (w : Running d dirty t k m0 m seg chunk) (file : IsOfFile x) (at : IsAt dirty t x address) (above : 2 ≤ address) (is : block d.content address ≡ bytes)
+    (w : Running d dirty t k m0 m seg chunk) (file : IsOfFile x) (at : IsAtAddress dirty t x address) (above : 2 ≤ address) (is : block d.content address ≡ bytes)
     (map : (n : ℕ) → x ≡ Inode n → is_shown m x ≡ true → t.at (Map (n / 128)) ≡ 1) (fetch : Fetches dirty dirty' x bytes) (go : IsLifted m t t' x 1 (segment_of address)) where
   address_is : w.memory.at x ≡ address
   address_is = ⊎_elim
@@ -148,7 +148,7 @@ fetching d dirty dirty' t t' k m0 m seg chunk x address bytes w file at above is
 
 -- A block that comes into memory leaves every other address as it was, and gives no new one.
 pub fetching_traces : (d : DeviceState) (dirty dirty' : Dirty) (t t' : Tables) (k : CheckpointValue) (m0 m : LogMap) (seg : ℕ) (chunk : Option (List Entry)) (x : Entry) (address : ℕ) (bytes : List ℕ)
-    → (w : Running d dirty t k m0 m seg chunk) → IsOfFile x → IsAt dirty t x address → 2 ≤ address → block d.content address ≡ bytes
+    → (w : Running d dirty t k m0 m seg chunk) → IsOfFile x → IsAtAddress dirty t x address → 2 ≤ address → block d.content address ≡ bytes
     → ((n : ℕ) → x ≡ Inode n → is_shown m x ≡ true → t.at (Map (n / 128)) ≡ 1)
     → Fetches dirty dirty' x bytes → IsLifted m t t' x 1 (segment_of address)
     → (w' : Running d dirty' t' k m0 m seg chunk) × ((y : Entry) → 2 ≤ w'.memory.at y → w.memory.at y ≡ w'.memory.at y)

@@ -4,7 +4,7 @@ use Rattle.std.specs.Prelude.{option_map}
 use Rattle.lfs_model.specs.Entry.{Entry, Inode, Map, Usage}
 use Rattle.lfs_model.specs.Checkpoint.{CheckpointValue}
 use Rattle.lfs_model.specs.Content.{Content, block}
-use Rattle.lfs_model.specs.Crash.{IsFree}
+use Rattle.lfs_model.specs.Crash.{IsFreeSector}
 use Rattle.lfs_model.specs.Device.{DeviceState, put, left_new}
 use Rattle.lfs_model.specs.Reach.{Row, view}
 use Rattle.lfs_model.specs.Stands.{LogMap, used_in}
@@ -31,7 +31,7 @@ module _ (d : DeviceState) (dirty : Dirty) (t t' : Tables) (k : CheckpointValue)
   at_end : next_place w.memory seg ≡ place_of seg es
   at_end = ap (λ (n : ℕ). 2 + 64 * seg + n) long_row
 
-  free : IsFree d.content k (place_of seg es)
+  free : IsFreeSector d.content k (place_of seg es)
   free = let u = w.taken seg w.opened.2 in record { segment = seg; place = suc (length es); is = refl; within = omega arith; below = u.0; unused = let z = u.1 in omega arith }
 
   settled_now : (d' : DeviceState) (bytes : List ℕ) → IsWritten d d' (place_of seg es) bytes → IsSettled d' k m0 × ((s : ℕ) → used_in (view d'.content k) s ≡ used_in (view d.content k) s)

@@ -4,7 +4,7 @@ use Rattle.std.specs.List.{flat_map}
 use Rattle.lfs_model.specs.declared.BlockKind.{BlockKind}
 use Rattle.lfs_model.specs.declared.BlockKind.TheVariants.{Data, Leaf, Double, Inode, Map, Usage}
 use Rattle.lfs_model.specs.Fields.{le16, le32, zeros, part, read16, read32, run}
-use Rattle.lfs_model.specs.Summary.{BlockNameValue, FitsSummary, IsBlockAt, IsPlaced, block_at, block_kind_byte, block_kind_of, blocks_of, no_block, summary_entry, summary_sector}
+use Rattle.lfs_model.specs.Summary.{BlockNameValue, FitsSummary, IsEntryAt, IsPlaced, block_at, block_kind_byte, block_kind_of, blocks_of, no_block, summary_entry, summary_sector}
 use Rattle.lfs_model.proofs.Numbers.{IsBytes, fronts, length-le16, length-le32, length-zeros}
 use Rattle.lfs_model.proofs.Parts.{length-part, get_or-part, part_add, le16_of_read, le32_of_read, read16_is, read32_is}
 use Rattle.lfs_model.proofs.Laid.{Field, Sized, Laid, laid_from, laid_to, length-fields}
@@ -57,7 +57,7 @@ cut at s =
     ∙ ap (λ (b : List ℕ). part at 2 s ++ b) (part_add (at + 2) 2 4 s) ∙ part_add at 2 6 s
 
 -- an entry that was tested is spelled
-pub entry_read : (s : List ℕ) (at : ℕ) → IsBytes s → at + 8 ≤ length s → IsBlockAt at s → summary_entry (block_at at s) ≡ part at 8 s
+pub entry_read : (s : List ℕ) (at : ℕ) → IsBytes s → at + 8 ≤ length s → IsEntryAt at s → summary_entry (block_at at s) ≡ part at 8 s
 unfolding summary_entry block_at
 entry_read s at fits room is =
     let two : part (at + 2) 2 s ≡ get_or s (at + 2) 0 ∷ get_or s (at + 3) 0 ∷ [] =
@@ -99,7 +99,7 @@ entry_parts s at b room placed e =
     }
 
 -- an entry that is spelled passes the test
-pub block_is : (s : List ℕ) (at : ℕ) (b : BlockNameValue) → at + 8 ≤ length s → IsPlaced b.kind b.file b.index → part at 8 s ≡ summary_entry b → IsBlockAt at s
+pub block_is : (s : List ℕ) (at : ℕ) (b : BlockNameValue) → at + 8 ≤ length s → IsPlaced b.kind b.file b.index → part at 8 s ≡ summary_entry b → IsEntryAt at s
 block_is s at b room placed e =
     let p = entry_parts s at b room placed e in
     record {
@@ -154,7 +154,7 @@ reads_to s bs long room r = laid_to s 0 (fields bs) (omega arith) (r.count, (r.g
 pub count_of : (s : List ℕ) (bs : List BlockNameValue) → FitsSummary bs → ReadsAs s bs → read16 0 s ≡ length bs
 count_of s bs p r = let room = p.room in read16_is 0 s (length bs) (omega arith) r.count
 
-pub block_in : (s : List ℕ) (bs : List BlockNameValue) → length s ≡ 512 → FitsSummary bs → ReadsAs s bs → (i : ℕ) → i < length bs → IsBlockAt (8 + 8 * i) s
+pub block_in : (s : List ℕ) (bs : List BlockNameValue) → length s ≡ 512 → FitsSummary bs → ReadsAs s bs → (i : ℕ) → i < length bs → IsEntryAt (8 + 8 * i) s
 block_in s bs long p r i lt =
     let room = p.room in
     block_is s (8 + 8 * i) (get_or bs i no_block) (omega arith) (p.each i lt)
@@ -162,7 +162,7 @@ block_in s bs long p r i lt =
 
 -- what is read of a sector that was tested
 pub summary_reads : (s : List ℕ) (n : ℕ) → IsBytes s → length s ≡ 512 → n ≡ read16 0 s → n ≤ 63 → part 2 6 s ≡ zeros 6
-    → ((i : ℕ) → i < n → IsBlockAt (8 + 8 * i) s) → part (8 + 8 * n) (8 * (63 - n)) s ≡ zeros (8 * (63 - n)) → ReadsAs s (run block_at 8 n 8 s)
+    → ((i : ℕ) → i < n → IsEntryAt (8 + 8 * i) s) → part (8 + 8 * n) (8 * (63 - n)) s ≡ zeros (8 * (63 - n)) → ReadsAs s (run block_at 8 n 8 s)
 summary_reads s n fits long is room gap each rest =
     let e : length (run block_at 8 n 8 s) ≡ n = length-run block_at 8 n 8 s in
     let all : flat_map summary_entry (run block_at 8 n 8 s) ≡ part 8 (8 * n) s =
@@ -174,7 +174,7 @@ summary_reads s n fits long is room gap each rest =
       rest = (let P : ℕ → Type 0 = λ m. part (8 + 8 * m) (8 * (63 - m)) s ≡ zeros (8 * (63 - m)) in subst P (sym e) rest);
     }
 
-pub summary_fits : (s : List ℕ) (n : ℕ) → 1 ≤ n → n ≤ 63 → ((i : ℕ) → i < n → IsBlockAt (8 + 8 * i) s) → FitsSummary (run block_at 8 n 8 s)
+pub summary_fits : (s : List ℕ) (n : ℕ) → 1 ≤ n → n ≤ 63 → ((i : ℕ) → i < n → IsEntryAt (8 + 8 * i) s) → FitsSummary (run block_at 8 n 8 s)
 unfolding block_at
 summary_fits s n some room each =
     let e : length (run block_at 8 n 8 s) ≡ n = length-run block_at 8 n 8 s in

@@ -8,7 +8,7 @@ use Rattle.std.specs.FinMap.{find, is_sorted}
 use Rattle.std.specs.FinMap.Entries.{is_sorted-where_key}
 use Rattle.lfs_model.specs.Tree.{Tree, Names, Node, File, Dir, State, node, with_node, without, names_of, form_of, without_name, is_dir, name_len, entry, byte_cmp, names}
 use Rattle.lfs_model.specs.Need.{cost, cost_at, need}
-use Rattle.lfs_model.specs.Sound.{Sound, Reached, root, below, IsGoodName, IsWithinLimits, IsOfVersion, IsFile}
+use Rattle.lfs_model.specs.Sound.{Sound, IsReachable, root, below, IsGoodName, IsWithinLimits, IsOfVersion, IsFile}
 use Rattle.lfs_model.specs.Step.{with_tree}
 use Rattle.lfs_model.proofs.Walks.{Some-injective}
 use Rattle.lfs_model.proofs.Needs.{need-with_node}
@@ -138,11 +138,11 @@ module _ (N : ℕ) (s : State) (sound : Sound N s) (d n form : ℕ) (m : Names) 
         let step : ◌≡◌ {A = ℕ} (if n == n then 1 else 0) 1 = rw itself_is refl in
         omega (arith, one, less, step)
 
-    parted : {q : ℕ} → Reached t q → is_dir (node t q) ≡ true → Reached t1 q ⊎ Under t1 n q
+    parted : {q : ℕ} → IsReachable t q → is_dir (node t q) ≡ true → IsReachable t1 q ⊎ Under t1 n q
     parted root h = inl root
     parted (below {d = e} {n = k} x r at) h = same_or_not k n
         (λ same. inr (subst (λ y. Under t1 n y) (sym same) itself))
-        (λ ne. elim (parted r (holder (node t e) x k at)) as (λ _. Reached t1 k ⊎ Under t1 n k) [
+        (λ ne. elim (parted r (holder (node t e) x k at)) as (λ _. IsReachable t1 k ⊎ Under t1 n k) [
           | inl r ↦ inl (below x r (entry_kept t d n form m nm sound.in_order is limits_dir.0 found e x k ne at))
           | inr u ↦ inr (inside x u (entry_kept t d n form m nm sound.in_order is limits_dir.0 found e x k ne at))
         ])

@@ -7,7 +7,7 @@ use Rattle.std.specs.List.{AllByRecursion}
 use Rattle.std.proofs.lemmas.Bool.{cases_eq, cond-false}
 use Rattle.lfs_model.specs.Checkpoint.{CheckpointValue, layout_version}
 use Rattle.lfs_model.specs.Content.{Content, newest}
-use Rattle.lfs_model.specs.Crash.{IsReady, Keeps}
+use Rattle.lfs_model.specs.Crash.{IsReadyFor, Keeps}
 use Rattle.lfs_model.specs.Damage.{IsDamaged}
 use Rattle.lfs_model.specs.Device.{MayWrite, left_old, left_new, left_bad, lose, put}
 use Rattle.lfs_model.specs.Entry.{Header}
@@ -15,7 +15,7 @@ use Rattle.lfs_model.specs.Image.{empty_directory, empty_root, first_checkpoint}
 use Rattle.lfs_model.specs.Reach.{view}
 use Rattle.lfs_model.specs.Need.{need, data_of, meta_of}
 use Rattle.lfs_model.specs.Slot.{slot_in}
-use Rattle.lfs_model.specs.Sound.{NamesGive, Reached, root}
+use Rattle.lfs_model.specs.Sound.{NamesGive, IsReachable, root}
 use Rattle.lfs_model.specs.Stands.{LogMap, HoldsAt, StandsLog, log_in}
 use Rattle.lfs_model.specs.Tree.{Dir, File, Link, Node, State, Tree, byte_cmp, entry, is_dir, links, names, names_of, node}
 use Rattle.lfs_model.specs.TreeOf.{AreReached, AreSlots, IsTree, Stands, TreeOf, map_of, nodes_from, node_of, object, slots, tree_in, with_object}
@@ -96,7 +96,7 @@ state_locality c d s is keeps = record {
 }
 
 module _ (c : Content) (s : State) (is : Stands c s) (e : Content) (keeps : Keeps c is.checkpoint e)
-    (next : CheckpointValue) (bytes : List ℕ) (m : LogMap) (t : Tree) (ready : IsReady e is.checkpoint next bytes m) (of : TreeOf next.segments m t) where
+    (next : CheckpointValue) (bytes : List ℕ) (m : LogMap) (t : Tree) (ready : IsReadyFor e is.checkpoint next bytes m) (of : TreeOf next.segments m t) where
   at_written : Stands (put e (next.number % 2) bytes) (mounted (layout_version next) t)
   at_written =
       let w = slot_write c is.log (log_of c s is) e keeps next bytes m ready in record {
@@ -203,15 +203,15 @@ no_entry d name = at_number (λ n o. find byte_cmp name (names_of (unwrap_or o (
 no_link : (n : ℕ) (text : List ℕ) → node alone n ≡ Some (Link text) → ⊥
 no_link n text is = at_number (λ n o. o ≡ Some (Link text) → ⊥) (λ e. cc) (λ n ne e. cc) n is
 
-reached_alone : (n : ℕ) → is_dir (node alone n) ≡ true → Reached alone n
-reached_alone = at_number (λ n o. is_dir o ≡ true → Reached alone n) (λ e. root) (λ n ne e. absurd (cc))
+reached_alone : (n : ℕ) → is_dir (node alone n) ≡ true → IsReachable alone n
+reached_alone = at_number (λ n o. is_dir o ≡ true → IsReachable alone n) (λ e. root) (λ n ne e. absurd (cc))
 
 empty_reached : AreReached empty_root
 empty_reached = record {
   some = λ n ne there. absurd (there (ap (λ (t : Tree). node t n) root_alone ∙ find_past 1 n (Some (Dir 0 [])) [] ne));
   root = ap (λ (t : Tree). names t 1) root_alone;
   one = λ n ne dir. let e : true ≡ false = sym dir ∙ ap (λ (t : Tree). is_dir (node t n)) root_alone ∙ ap is_dir (find_past 1 n (Some (Dir 0 [])) [] ne) in absurd (cc);
-  down = subst (λ (t : Tree). (n : ℕ) → is_dir (node t n) ≡ true → Reached t n) (sym root_alone) reached_alone;
+  down = subst (λ (t : Tree). (n : ℕ) → is_dir (node t n) ≡ true → IsReachable t n) (sym root_alone) reached_alone;
 }
 
 empty_slots : AreSlots empty_root

@@ -8,7 +8,7 @@ use Rattle.std.specs.FinMap.{find}
 use Rattle.std.specs.FinMap.Entries.{is_sorted-put}
 use Rattle.lfs_model.specs.Tree.{Tree, Names, Node, File, Dir, Link, State, node, with_node, names_of, is_dir, entry, byte_cmp, names, links, links_at}
 use Rattle.lfs_model.specs.Need.{need}
-use Rattle.lfs_model.specs.Sound.{Sound, Reached, root, below, IsWithinLimits, IsOfVersion, IsFile}
+use Rattle.lfs_model.specs.Sound.{Sound, IsReachable, root, below, IsWithinLimits, IsOfVersion, IsFile}
 use Rattle.lfs_model.specs.Step.{with_tree}
 use Rattle.lfs_model.proofs.Walks.{Some-injective}
 use Rattle.lfs_model.proofs.Sums.{total_put, weight}
@@ -81,7 +81,7 @@ module _ (N : ℕ) (s : State) (n : ℕ) (old new : List ℕ) (sound : Sound N s
       (λ e. subst (λ x. IsFile (node t' x)) (sym e) (new, now_is))
       (λ b. (f.0, kept q b ∙ f.1))
 
-  reached_kept : {q : ℕ} → Reached t q → Reached t' q
+  reached_kept : {q : ℕ} → IsReachable t q → IsReachable t' q
   reached_kept root = root
   reached_kept (below x r e) = below x (reached_kept r) (entries _ x ∙ e)
 

@@ -189,7 +189,7 @@ pub record Stat : Type 0 where
   pub size : ℕ
 
 -- what readdir tells of an entry (POSIX.1-2017, readdir: d_name, d_ino)
-pub record Entry : Type 0 where
+pub record DirectoryEntry : Type 0 where
   pub name : List ℕ
   pub number : ℕ
   pub kind : Kind
@@ -213,7 +213,7 @@ pub data Answer : Type 0 where
   -- a link's text
   Text : List ℕ → Answer
   Status : Stat → Answer
-  Entries : List Entry → Answer
+  Entries : List DirectoryEntry → Answer
   -- data blocks, meta blocks, need and limit
   Room : ℕ → ℕ → ℕ → ℕ → Answer
   Rows : List TreeRow → Answer

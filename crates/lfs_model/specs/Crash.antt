@@ -14,7 +14,7 @@ pub record Keeps (c : Content) (k : CheckpointValue) (d : Content) : Type 0 wher
   pub same : (at : ℕ) → Protected (view c k) at → cell_at d at ≡ cell_at c at
 
 -- a sector past the used part of its segment: a clean segment has no used part
-pub record IsFree (c : Content) (k : CheckpointValue) (at : ℕ) : Type 0 where
+pub record IsFreeSector (c : Content) (k : CheckpointValue) (at : ℕ) : Type 0 where
   pub segment : ℕ
   pub place : ℕ
   pub is : at ≡ 2 + 64 * segment + place
@@ -23,7 +23,7 @@ pub record IsFree (c : Content) (k : CheckpointValue) (at : ℕ) : Type 0 where
   pub unused : used_in (view c k) segment ≤ place
 
 -- the content is ready for the checkpoint `next`, which isn't in its slot yet
-pub record IsReady (c : Content) (k next : CheckpointValue) (bytes : List ℕ) (m : LogMap) : Type 0 where
+pub record IsReadyFor (c : Content) (k next : CheckpointValue) (bytes : List ℕ) (m : LogMap) : Type 0 where
   pub number : next.number ≡ k.number + 1
   pub spelt : checkpoint_in bytes ≡ Some next
   pub stands : StandsAt c next m
@@ -47,9 +47,9 @@ SingleLog = (c : Content) (m m' : LogMap) → StandsLog c m → StandsLog c m' �
 
 -- A write to a sector that is free for the acknowledged checkpoint leaves it as it is, at each crash.
 abbrev pub FreeWrites : Type 0
-FreeWrites = (c : Content) (m : LogMap) (s : StandsLog c m) (at : ℕ) (bytes : List ℕ) → IsFree c s.checkpoint at → (d d' : Content) → Keeps c s.checkpoint d → MayWrite at bytes d d' → Keeps c s.checkpoint d'
+FreeWrites = (c : Content) (m : LogMap) (s : StandsLog c m) (at : ℕ) (bytes : List ℕ) → IsFreeSector c s.checkpoint at → (d d' : Content) → Keeps c s.checkpoint d → MayWrite at bytes d d' → Keeps c s.checkpoint d'
 
 -- The write of the next checkpoint to its slot. Each content is left with the segments of the checkpoint that it stands by.
 abbrev pub SlotWrite : Type 0
-SlotWrite = (c : Content) (m : LogMap) (s : StandsLog c m) (e : Content) → Keeps c s.checkpoint e → (next : CheckpointValue) (bytes : List ℕ) (m' : LogMap) → IsReady e s.checkpoint next bytes m'
+SlotWrite = (c : Content) (m : LogMap) (s : StandsLog c m) (e : Content) → Keeps c s.checkpoint e → (next : CheckpointValue) (bytes : List ℕ) (m' : LogMap) → IsReadyFor e s.checkpoint next bytes m'
     → ((d : Content) → MayWrite (next.number % 2) bytes e d → StandsOn s.checkpoint.segments d m ⊎ StandsOn next.segments d m') × (newest (put e (next.number % 2) bytes) ≡ Some next) × StandsAt (put e (next.number % 2) bytes) next m'

@@ -4,7 +4,7 @@ use Rattle.std.specs.Prelude.{◌≡◌, ◌<◌, ◌≤◌, ◌⊎◌, ◌+◌,
 use Rattle.lfs_model.specs.Entry.{Entry, Map, Usage}
 use Rattle.lfs_model.specs.Checkpoint.{CheckpointValue}
 use Rattle.lfs_model.specs.Content.{Content, block}
-use Rattle.lfs_model.specs.Crash.{IsFree}
+use Rattle.lfs_model.specs.Crash.{IsFreeSector}
 use Rattle.lfs_model.specs.Decodes.{IsSized}
 use Rattle.lfs_model.specs.Encodes.{IsLogMap}
 use Rattle.lfs_model.specs.Reach.{Row, View, address, row, view_by}
@@ -50,7 +50,7 @@ Releasing = (e : Content) (m : LogMap) (M M' : Memory) (opened_at : ℕ) → IsL
 -- And the sectors of a segment in which nothing lives are free for the checkpoint.
 abbrev pub ReleasedFree : Type 0
 ReleasedFree = (e : Content) (m : LogMap) (M : Memory) (opened_at : ℕ) (next : CheckpointValue) → IsLaid e m M opened_at → IsDone e m M opened_at next
-    → StandsAt e next (dropped m) → (s o : ℕ) → s < M.segments → o < 64 → live_of m M s ≡ 0 → IsFree e next (2 + 64 * s + o)
+    → StandsAt e next (dropped m) → (s o : ℕ) → s < M.segments → o < 64 → live_of m M s ≡ 0 → IsFreeSector e next (2 + 64 * s + o)
 
 -- what a mount has in memory
 abbrev pub row_or_none : Option Row → Row

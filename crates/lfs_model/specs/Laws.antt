@@ -38,12 +38,12 @@ abbrev pub NewIsSound : Type 0
 NewIsSound = (N : ℕ) → 64 ≤ N → Sound N fresh
 
 -- the call keeps a state sound, whatever it answers
-abbrev pub Keeps : Call → Type 0
-Keeps call = (N : ℕ) (s s' : State) (a : Answer) → Sound N s → AreArguments call → Step N s call a s' → Sound N s'
+abbrev pub KeepsSound : Call → Type 0
+KeepsSound call = (N : ℕ) (s s' : State) (a : Answer) → Sound N s → AreArguments call → Step N s call a s' → Sound N s'
 
 -- every call does
 abbrev pub CallsKeep : Type 0
-CallsKeep = (call : Call) → Keeps call
+CallsKeep = (call : Call) → KeepsSound call
 
 -- so every state that a run of calls comes to is sound, refused calls included
 abbrev pub RunsKeep : Type 0

@@ -33,14 +33,14 @@ SameLive = (v w : View) → AreNamed v → AreNamed w → (s : ℕ)
 
 -- One entry more has an address: its segment's count is one more, and the others stay.
 -- Read from w to v it is an entry that goes.
-pub record IsPlaced (v w : View) (x : Entry) (s o : ℕ) : Type 0 where
+pub record GainsBlock (v w : View) (x : Entry) (s o : ℕ) : Type 0 where
   pub none : v.address x ≡ 0
   pub at : w.address x ≡ 2 + 64 * s + o
   pub within : o < 64
   pub same : (y : Entry) → (y ≡ x → ⊥) → w.address y ≡ v.address y
 
 abbrev pub PlacedCounts : Type 0
-PlacedCounts = (v w : View) → AreNamed v → AreNamed w → (x : Entry) (s o : ℕ) → IsPlaced v w x s o
+PlacedCounts = (v w : View) → AreNamed v → AreNamed w → (x : Entry) (s o : ℕ) → GainsBlock v w x s o
     → (live_count w s ≡ suc (live_count v s)) × ((t : ℕ) → (t ≡ s → ⊥) → live_count w t ≡ live_count v t)
 
 -- A chunk in a segment is read from its summary, whatever its blocks are.

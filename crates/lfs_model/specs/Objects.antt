@@ -201,7 +201,7 @@ NeedOfObject = (m m' : LogMap) (n : ℕ) → IsChangedAt m n m' → need (tree_i
 -- ---- what a volume's log map keeps
 
 -- each stored block of the file is a sector with a byte that isn't zero
-pub record AreWhole (m : LogMap) (n : ℕ) : Type 0 where
+pub record AreStoredWhole (m : LogMap) (n : ℕ) : Type 0 where
   pub long : AreLong m n
   pub nonzero : (i : ℕ) → HasData m n i → (k : ℕ) × (0 < slice_index (m.block n i) k)
 
@@ -210,7 +210,7 @@ pub record IsObject (m : LogMap) (n : ℕ) (h : Header) : Type 0 where
   pub number : 1 ≤ n
   pub root : n ≡ 1 → h.kind ≡ kind.Directory
   pub size : h.size ≤ 8511488
-  pub whole : AreWhole m n
+  pub whole : AreStoredWhole m n
   pub ends : (p : ℕ) → h.size ≤ p → byte_in m n p ≡ 0
 
 -- Each object of a log map is one, where blocks are long.
@@ -227,7 +227,7 @@ ObjectLost = (m m' : LogMap) (n : ℕ) → IsLogMap m → IsChangedAt m n m' →
 
 -- A block that is none, or a sector with a byte that isn't zero, leaves the file's blocks whole.
 abbrev pub BlockWhole : Type 0
-BlockWhole = (m m' : LogMap) (n i : ℕ) (bytes : List ℕ) → IsWithBlock m n i bytes m' → AreWhole m n → (0 < length bytes → (length bytes ≡ 512) × ((k : ℕ) × (0 < slice_index bytes k))) → AreWhole m' n
+BlockWhole = (m m' : LogMap) (n i : ℕ) (bytes : List ℕ) → IsWithBlock m n i bytes m' → AreStoredWhole m n → (0 < length bytes → (length bytes ≡ 512) × ((k : ℕ) × (0 < slice_index bytes k))) → AreStoredWhole m' n
 
 -- No byte past the end that a write leaves is other than zero.
 abbrev pub WriteEnds : Type 0

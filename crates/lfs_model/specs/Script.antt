@@ -1,7 +1,7 @@
 -- The text of a script: its lines, the call that a line is, and the reply to an answer. All of it is an own choice.
 use Rattle.std.specs.Prelude.{ℕ, ◌+◌, ◌/◌, ◌%◌, ◌<◌, ◌≤◌, ◌≡◌, ◌^◌, ◌&&◌, not, List, [], ◌∷◌, ◌++◌, length, ◌==◌, if◌then◌else◌, nat_lt, nat_le, replicate, codes, decimal, flat_map}
 use Rattle.lfs_model.specs.Refusal.{Refusal, NoEntry, NotDir, IsDir, Exist, NotEmpty, Inval, NameTooLong, Loop, Perm, Busy, BadHandle, TooManyOpen, TooManyLinks, FileTooBig, NoSpace, NoNumber, DirFull, NoMemory, Device, Halted, Stuck, Worn}
-use Rattle.lfs_model.specs.Call.{Call, Open, Create, Close, Pread, Pwrite, Truncate, Mkdir, LinkTo, Symlink, Readlink, Unlink, Rmdir, Rename, StatOf, LstatOf, Readdir, Fsync, Sync, Clean, Space, ListTree, AreArguments, Entry, TreeRow, Answer, Refuse, Done, Handle, Count, Data, Text, Status, Entries, Room, Rows}
+use Rattle.lfs_model.specs.Call.{Call, Open, Create, Close, Pread, Pwrite, Truncate, Mkdir, LinkTo, Symlink, Readlink, Unlink, Rmdir, Rename, StatOf, LstatOf, Readdir, Fsync, Sync, Clean, Space, ListTree, AreArguments, DirectoryEntry, TreeRow, Answer, Refuse, Done, Handle, Count, Data, Text, Status, Entries, Room, Rows}
 use Rattle.lfs_model.specs.declared.Kind.{Kind}
 use Rattle.lfs_model.specs.declared.Kind.TheVariants as kinds
 
@@ -142,7 +142,7 @@ abbrev pub ok : List (List ℕ) → List ℕ
 ok words = ended (line_of (codes "ok") words)
 
 -- a line for an entry
-abbrev pub entry_line : Entry → List ℕ
+abbrev pub entry_line : DirectoryEntry → List ℕ
 entry_line e = ended (line_of (word e.name) (decimal e.number ∷ kind_name e.kind ∷ []))
 
 -- a line for a row of the tree

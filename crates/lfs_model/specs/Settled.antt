@@ -4,7 +4,7 @@ use Rattle.std.specs.Prelude.{◌≡◌, ◌%◌, ℕ, List, Some}
 use Rattle.lfs_model.specs.Checkpoint.{CheckpointValue}
 use Rattle.lfs_model.specs.Content.{Content, newest}
 use Rattle.lfs_model.specs.Stands.{LogMap, StandsAt}
-use Rattle.lfs_model.specs.Crash.{Keeps, IsFree, IsReady, StandsOn, StandsForOn}
+use Rattle.lfs_model.specs.Crash.{Keeps, IsFreeSector, IsReadyFor, StandsOn, StandsForOn}
 use Rattle.lfs_model.specs.Device.{DeviceState, MayWrite, CrashWrites, IsUntouched, Only, put}
 use Rattle.lfs_model.specs.Reach.{view}
 use Rattle.lfs_model.specs.Stands.{used_in}
@@ -22,7 +22,7 @@ IsUnusedBy c k s = used_in (view c k) s ≡ 0
 -- What is there is laid out for the next checkpoint, which is to be written to this slot.
 pub record IsPlanned (k : CheckpointValue) (e : Content) (slot : ℕ) (bytes : List ℕ) (next : CheckpointValue) (m' : LogMap) : Type 0 where
   pub place : slot ≡ next.number % 2
-  pub ready : IsReady e k next bytes m'
+  pub ready : IsReadyFor e k next bytes m'
 
 -- All that a stop may leave stands for the log map, on the segments of k.
 abbrev pub SettledStands : Type 1
@@ -30,7 +30,7 @@ SettledStands = (d : DeviceState) (k : CheckpointValue) (m : LogMap) → IsSettl
 
 -- A write to a free sector, done or failed, keeps it so, and the segments that k doesn't use are the same.
 abbrev pub SettledWrite : Type 1
-SettledWrite = (d d' : DeviceState) (k : CheckpointValue) (m : LogMap) (at : ℕ) (bytes : List ℕ) → IsSettled d k m → IsFree d.content k at
+SettledWrite = (d d' : DeviceState) (k : CheckpointValue) (m : LogMap) (at : ℕ) (bytes : List ℕ) → IsSettled d k m → IsFreeSector d.content k at
     → MayWrite at bytes d.content d'.content → CrashWrites at bytes d d'
     → IsSettled d' k m × ((s : ℕ) → used_in (view d'.content k) s ≡ used_in (view d.content k) s)
 

@@ -13,9 +13,9 @@ abbrev pub NamesGive : Tree → Type 0
 NamesGive t = (d : ℕ) (name : List ℕ) (n : ℕ) → entry t d name ≡ Some n → node t n ≢ None
 
 -- n is 1, or a directory that is reached names it
-pub data Reached (t : Tree) : ℕ → Type 0 where
-  root : Reached t 1
-  below : {d n : ℕ} (name : List ℕ) → Reached t d → entry t d name ≡ Some n → Reached t n
+pub data IsReachable (t : Tree) : ℕ → Type 0 where
+  root : IsReachable t 1
+  below : {d n : ℕ} (name : List ℕ) → IsReachable t d → entry t d name ≡ Some n → IsReachable t n
 
 -- a name of at most this many bytes (POSIX.1-2017, Definitions: Filename)
 pub record IsGoodName (limit : ℕ) (name : List ℕ) : Type 0 where
@@ -43,7 +43,7 @@ abbrev pub IsFile : Option Node → Type 0
 IsFile o = (b : List ℕ) × (o ≡ Some (File b))
 
 -- a file that a handle keeps
-pub record IsHeld (s : State) (n : ℕ) : Type 0 where
+pub record IsKeptOpen (s : State) (n : ℕ) : Type 0 where
   pub file : IsFile (node s.tree n)
   pub handle : 0 < opened s.handles n
 
@@ -61,8 +61,8 @@ pub record Sound (N : ℕ) (s : State) : Type 0 where
   pub root_unnamed : names s.tree 1 ≡ 0
   -- every directory but the root has one name, and is reached from the root
   pub one_name : (n : ℕ) → n ≢ 1 → is_dir (node s.tree n) ≡ true → names s.tree n ≡ 1
-  pub reached : (n : ℕ) → is_dir (node s.tree n) ≡ true → Reached s.tree n
+  pub reached : (n : ℕ) → is_dir (node s.tree n) ≡ true → IsReachable s.tree n
   -- what has no name is a file that a handle keeps
-  pub held : (n : ℕ) → n ≢ 1 → node s.tree n ≢ None → names s.tree n ≡ 0 → IsHeld s n
+  pub held : (n : ℕ) → n ≢ 1 → node s.tree n ≢ None → names s.tree n ≡ 0 → IsKeptOpen s n
   pub handles : (h n : ℕ) → find nat_cmp h s.handles ≡ Some n → (h < 64) × IsFile (node s.tree n)
   pub room : need s.tree ≤ 47 * N

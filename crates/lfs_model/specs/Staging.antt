@@ -13,7 +13,7 @@ use Rattle.lfs_model.specs.Running.{Dirty, Tables, Running, Moves, IsLifted, IsR
 use Rattle.lfs_model.specs.Stands.{LogMap}
 
 -- where a block stands, as its parent's block in memory says, or the inode map
-pub record IsAt (dirty : Dirty) (t : Tables) (x : Entry) (address : ℕ) : Type 0 where
+pub record IsAtAddress (dirty : Dirty) (t : Tables) (x : Entry) (address : ℕ) : Type 0 where
   pub top : parent x ≡ x → t.at x ≡ address
   pub pointed : (parent x ≡ x → ⊥) → (b : List ℕ) × (dirty (parent x) ≡ Some b) × (word b (pointer x) ≡ address)
   pub low : (n q : ℕ) → x ≡ Leaf n q → q ≤ 128
@@ -27,7 +27,7 @@ pub record Fetches (old new : Dirty) (x : Entry) (bytes : List ℕ) : Type 0 whe
 -- A block of a file is read and comes into memory; the inode map block of an inode that is shown will be written.
 abbrev pub Fetching : Type 1
 Fetching = (d : DeviceState) (dirty dirty' : Dirty) (t t' : Tables) (k : CheckpointValue) (m0 m : LogMap) (seg : ℕ) (chunk : Option (List Entry)) (x : Entry) (address : ℕ) (bytes : List ℕ)
-    → Running d dirty t k m0 m seg chunk → IsOfFile x → IsAt dirty t x address → 2 ≤ address → block d.content address ≡ bytes
+    → Running d dirty t k m0 m seg chunk → IsOfFile x → IsAtAddress dirty t x address → 2 ≤ address → block d.content address ≡ bytes
     → ((n : ℕ) → x ≡ Inode n → is_shown m x ≡ true → t.at (Map (n / 128)) ≡ 1)
     → Fetches dirty dirty' x bytes → IsLifted m t t' x 1 (segment_of address) → Running d dirty' t' k m0 m seg chunk
 
@@ -57,7 +57,7 @@ BlockRewriting = (d : DeviceState) (dirty dirty' : Dirty) (t : Tables) (k : Chec
 -- a data block where none was
 abbrev pub BlockAdding : Type 1
 BlockAdding = (d : DeviceState) (dirty dirty' : Dirty) (t : Tables) (k : CheckpointValue) (m0 m m' : LogMap) (seg : ℕ) (chunk : Option (List Entry)) (n i : ℕ) (bytes : List ℕ)
-    → Running d dirty t k m0 m seg chunk → IsAt dirty t (Data n i) 0 → length bytes ≡ 512 → IsWithBlock m n i bytes m'
+    → Running d dirty t k m0 m seg chunk → IsAtAddress dirty t (Data n i) 0 → length bytes ≡ 512 → IsWithBlock m n i bytes m'
     → Fetches dirty dirty' (Data n i) bytes → Running d dirty' t k m0 m' seg chunk
 
 -- a data block in memory that is none
@@ -69,7 +69,7 @@ BlockRemoving = (d : DeviceState) (dirty dirty' : Dirty) (t : Tables) (k : Check
 -- an empty block of pointers where none was
 abbrev pub PointersGrowing : Type 1
 PointersGrowing = (d : DeviceState) (dirty dirty' : Dirty) (t : Tables) (k : CheckpointValue) (m0 m : LogMap) (seg : ℕ) (chunk : Option (List Entry)) (x : Entry) (bytes : List ℕ)
-    → Running d dirty t k m0 m seg chunk → IsPointers x → IsAt dirty t x 0 → length bytes ≡ 512 → ((w : ℕ) → w < 128 → word bytes w ≡ 0)
+    → Running d dirty t k m0 m seg chunk → IsPointers x → IsAtAddress dirty t x 0 → length bytes ≡ 512 → ((w : ℕ) → w < 128 → word bytes w ≡ 0)
     → Fetches dirty dirty' x bytes → Running d dirty' t k m0 m seg chunk
 
 -- a block of pointers that has become empty goes

@@ -10,7 +10,7 @@ use Rattle.lfs_model.specs.PathText.{comps, slash, last, text_refusal}
 use Rattle.lfs_model.specs.Refusal.{Refusal, NoEntry, NotDir, IsDir, Exist, NotEmpty, Inval, NameTooLong, Perm, Busy, BadHandle, TooManyOpen, TooManyLinks, FileTooBig, NoSpace, NoNumber, DirFull}
 use Rattle.lfs_model.specs.Walk.{End, At, Refused, dot, dot_dot, Resolve, Parent}
 use Rattle.lfs_model.specs.Need.{need, data_blocks, meta_blocks}
-use Rattle.lfs_model.specs.Call.{Call, Open, Create, Close, Pread, Pwrite, Truncate, Mkdir, LinkTo, Symlink, Readlink, Unlink, Rmdir, Rename, StatOf, LstatOf, Readdir, Fsync, Sync, Clean, Space, ListTree, Stat, Entry, TreeRow, Answer, Refuse, Done, Handle, Count, Data, Text, Status, Entries, Room, Rows}
+use Rattle.lfs_model.specs.Call.{Call, Open, Create, Close, Pread, Pwrite, Truncate, Mkdir, LinkTo, Symlink, Readlink, Unlink, Rmdir, Rename, StatOf, LstatOf, Readdir, Fsync, Sync, Clean, Space, ListTree, Stat, DirectoryEntry, TreeRow, Answer, Refuse, Done, Handle, Count, Data, Text, Status, Entries, Room, Rows}
 use Rattle.lfs_model.specs.declared.Kind.{Kind}
 use Rattle.lfs_model.specs.declared.Kind.TheVariants as kinds
 
@@ -35,7 +35,7 @@ abbrev pub stat_of : Tree → ℕ → Stat
 stat_of t n = record { number = n; kind = kind_of (the_node t n); links = links t n; size = size_of (the_node t n) }
 
 -- what readdir tells of an entry
-abbrev pub entry_of : Tree → List ℕ × ℕ → Entry
+abbrev pub entry_of : Tree → List ℕ × ℕ → DirectoryEntry
 entry_of t e = record { name = e.0; number = e.1; kind = kind_of (the_node t e.1) }
 
 -- a file's first bytes, a link's whole text

@@ -23,15 +23,15 @@ block_kind_byte Inode = 4
 block_kind_byte Map = 5
 block_kind_byte Usage = 6
 
-abbrev pub IsFile : ℕ → Type 0
-IsFile n = (1 ≤ n) × (n ≤ 4095)
+abbrev pub IsFileNumber : ℕ → Type 0
+IsFileNumber n = (1 ≤ n) × (n ≤ 4095)
 
 -- what file and index a block of each kind has
 unfoldable pub IsPlaced : BlockKind → ℕ → ℕ → Type 0
-IsPlaced Data file index = IsFile file × (index ≤ 16623)
-IsPlaced Leaf file index = IsFile file × (index ≤ 128)
-IsPlaced Double file index = IsFile file × (index ≡ 0)
-IsPlaced Inode file index = IsFile file × (index ≡ 0)
+IsPlaced Data file index = IsFileNumber file × (index ≤ 16623)
+IsPlaced Leaf file index = IsFileNumber file × (index ≤ 128)
+IsPlaced Double file index = IsFileNumber file × (index ≡ 0)
+IsPlaced Inode file index = IsFileNumber file × (index ≡ 0)
 IsPlaced Map file index = (file ≡ 0) × (index ≤ 31)
 IsPlaced Usage file index = (file ≡ 0) × (index ≤ 15)
 
@@ -57,7 +57,7 @@ abbrev pub blocks_of : List ℕ → List BlockNameValue
 blocks_of s = run block_at 8 (read16 0 s) 8 s
 
 -- the bytes of a well-formed entry stand at a place
-pub record IsBlockAt (at : ℕ) (s : List ℕ) : Type 0 where
+pub record IsEntryAt (at : ℕ) (s : List ℕ) : Type 0 where
   pub kind : block_kind_byte (block_kind_of (get_or s (at + 2) 0)) ≡ get_or s (at + 2) 0
   pub gap : get_or s (at + 3) 0 ≡ 0
   pub placed : IsPlaced (block_kind_of (get_or s (at + 2) 0)) (read16 at s) (read32 (at + 4) s)

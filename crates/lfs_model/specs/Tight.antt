@@ -6,7 +6,7 @@ use Rattle.lfs_model.specs.Device.{DeviceState}
 use Rattle.lfs_model.specs.Entry.{Entry}
 use Rattle.lfs_model.specs.Memory.{parent, file_of, IsOfFile, IsPointers, HasPointer}
 use Rattle.lfs_model.specs.Running.{Dirty, Tables, Running, IsTight, Moves}
-use Rattle.lfs_model.specs.Staging.{IsAt, Fetches}
+use Rattle.lfs_model.specs.Staging.{IsAtAddress, Fetches}
 use Rattle.lfs_model.specs.Stands.{LogMap}
 
 -- no block of pointers in memory is empty but y's
@@ -20,12 +20,12 @@ Tightened = (dirty : Dirty) (y : Entry) → IsTightBut dirty y → ((b : List �
 -- A block comes below that one, and may itself be empty.
 abbrev pub GrowingTight : Type 1
 GrowingTight = (d : DeviceState) (dirty dirty' : Dirty) (t : Tables) (k : CheckpointValue) (m0 m : LogMap) (seg : ℕ) (chunk : Option (List Entry)) (x : Entry) (address : ℕ) (bytes : List ℕ)
-    → Running d dirty t k m0 m seg chunk → IsOfFile x → IsAt dirty t x address → Fetches dirty dirty' x bytes → IsTightBut dirty (parent x) → IsTightBut dirty' x
+    → Running d dirty t k m0 m seg chunk → IsOfFile x → IsAtAddress dirty t x address → Fetches dirty dirty' x bytes → IsTightBut dirty (parent x) → IsTightBut dirty' x
 
 -- Where it isn't, none is.
 abbrev pub FilledTight : Type 1
 FilledTight = (d : DeviceState) (dirty dirty' : Dirty) (t : Tables) (k : CheckpointValue) (m0 m : LogMap) (seg : ℕ) (chunk : Option (List Entry)) (x : Entry) (address : ℕ) (bytes : List ℕ)
-    → Running d dirty t k m0 m seg chunk → IsOfFile x → IsAt dirty t x address → Fetches dirty dirty' x bytes → (IsPointers x → HasPointer bytes) → IsTightBut dirty (parent x) → IsTight dirty'
+    → Running d dirty t k m0 m seg chunk → IsOfFile x → IsAtAddress dirty t x address → Fetches dirty dirty' x bytes → (IsPointers x → HasPointer bytes) → IsTightBut dirty (parent x) → IsTight dirty'
 
 -- A block goes, and that above it may be empty.
 abbrev pub LeavingTight : Type 0

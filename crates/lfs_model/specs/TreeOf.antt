@@ -11,7 +11,7 @@ use Rattle.lfs_model.specs.Device.{DeviceState, AllLeft, LeavesOnly}
 use Rattle.lfs_model.specs.Entry.{Header}
 use Rattle.lfs_model.specs.Need.{need}
 use Rattle.lfs_model.specs.Slot.{SlotValue, slot_in}
-use Rattle.lfs_model.specs.Sound.{NamesGive, Reached}
+use Rattle.lfs_model.specs.Sound.{NamesGive, IsReachable}
 use Rattle.lfs_model.specs.Stands.{LogMap, StandsAt}
 use Rattle.lfs_model.specs.Tree.{Names, Node, File, Dir, Link, Tree, State, byte_cmp, is_dir, links, names, node, slot_len}
 
@@ -72,7 +72,7 @@ module _ (m : LogMap) where
     pub some : (n : ℕ) → n ≢ 1 → node tree_in n ≢ None → 0 < names tree_in n
     pub root : names tree_in 1 ≡ 0
     pub one : (n : ℕ) → n ≢ 1 → is_dir (node tree_in n) ≡ true → names tree_in n ≡ 1
-    pub down : (n : ℕ) → is_dir (node tree_in n) ≡ true → Reached tree_in n
+    pub down : (n : ℕ) → is_dir (node tree_in n) ≡ true → IsReachable tree_in n
 
   abbrev pub AreLinks : Type 0
   AreLinks = (n : ℕ) (h : Header) → m.header n ≡ Some h → h.links ≡ links tree_in n

@@ -4,7 +4,7 @@ use Rattle.std.specs.Prelude.{◌≡◌, ◌<◌, ◌≤◌, ◌⊎◌, ◌+◌,
 use Rattle.std.specs.List.{AllByRecursion}
 use Rattle.lfs_model.specs.Checkpoint.{CheckpointValue, layout_version}
 use Rattle.lfs_model.specs.Content.{Content, newest}
-use Rattle.lfs_model.specs.Crash.{IsReady, Keeps}
+use Rattle.lfs_model.specs.Crash.{IsReadyFor, Keeps}
 use Rattle.lfs_model.specs.Damage.{IsDamaged, stage}
 use Rattle.lfs_model.specs.Device.{AllLeft, DeviceState, IsSector, MayWrite}
 use Rattle.lfs_model.specs.Image.{IsNew}
@@ -44,7 +44,7 @@ StateLocality = (c d : Content) (s : State) (is : Stands c s) → Keeps c is.che
 -- The write of the next checkpoint leaves the one tree or the other.
 abbrev pub StateSlotWrite : Type 0
 StateSlotWrite = (c : Content) (s : State) (is : Stands c s) (e : Content) → Keeps c is.checkpoint e
-    → (next : CheckpointValue) (bytes : List ℕ) (m : LogMap) (t : Tree) → IsReady e is.checkpoint next bytes m → TreeOf next.segments m t
+    → (next : CheckpointValue) (bytes : List ℕ) (m : LogMap) (t : Tree) → IsReadyFor e is.checkpoint next bytes m → TreeOf next.segments m t
     → (d : Content) → MayWrite (next.number % 2) bytes e d → Stands d s ⊎ Stands d (mounted (layout_version next) t)
 
 -- Where all stages hold of a volume that is large enough, the content stands for the tree that is read from it.

@@ -1,4 +1,5 @@
-//! The laws of the model, each the contract of a function that does nothing: whoever stands on the model may use them.
+//! The laws of the model, each the contract of a function that does nothing: whoever stands on the
+//! model may use them.
 
 ghost use Rattle.lfs_model.specs.Laws.{OneEnd, OneOutcome, SomeOutcome, ProgramSteps, NewIsSound, CallsKeep, RunsKeep, LineRunsKeep, PendingIsSound, ReadsLeave, LeastNumber, LeastHandle, NeedOfChange, NeedOfLoss, NeedOfNameLess, NeedOfCut, NeedOfRename, NeedOfRenameOver, RenameHasRoom, DropKeeps, LastIsPending, OneLine, LinesInTurn};
 
@@ -87,7 +88,8 @@ pub fn need_of_a_cut()
     ensures { NeedOfCut }
 {}
 
-/// A rename to a free name in the same directory leaves the need as it is, and one onto a name that is there adds nothing to it.
+/// A rename to a free name in the same directory leaves the need as it is, and one onto a name that
+/// is there adds nothing to it.
 pub fn need_of_a_rename()
     ensures free { NeedOfRename }
     ensures over { NeedOfRenameOver }

@@ -1,4 +1,5 @@
-//! The formats of a volume, its tree of files and the calls on it, as definitions that contracts cite. No code runs here.
+//! The formats of a volume, its tree of files and the calls on it, as definitions that contracts
+//! cite. No code runs here.
 #![tactic(auto)]
 
 pub mod laws;

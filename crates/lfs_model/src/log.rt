@@ -1,4 +1,5 @@
-//! The log in memory and on its device: the laws of its one invariant, each the contract of a function that does nothing.
+//! The log in memory and on its device: the laws of its one invariant, each the contract of a
+//! function that does nothing.
 ghost use Rattle.lfs_model.specs.Placing.{Placing, MapPlacing, MapLeaving, Settling, Filling, Opening, Sealing};
 ghost use Rattle.lfs_model.specs.Lifting.{Lifting, MapLifting, UsageLifting};
 ghost use Rattle.lfs_model.specs.Changing.{Rewriting, Adding, Removing, Growing, Shrinking, Relabeling, Creating, Forgetting, Reading};
@@ -6,7 +7,8 @@ ghost use Rattle.lfs_model.specs.Detaching.{Detaching, DetachedCounts, DetachedL
 ghost use Rattle.lfs_model.specs.Counting.{MovedCounts, TakenCounts, UnplacedCounts, OneMoreCounted};
 ghost use Rattle.lfs_model.specs.Finishing.{Finishing, Releasing, ReleasedFree, Mounting};
 
-/// A block of a file goes to the next sector of the open segment, and the block above it points there: memory and device are laid out as before.
+/// A block of a file goes to the next sector of the open segment, and the block above it points
+/// there: memory and device are laid out as before.
 pub fn placing()
     ensures { Placing }
 {}

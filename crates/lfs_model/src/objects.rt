@@ -1,4 +1,5 @@
-//! What changes of a log map do to its objects: the laws of its definitions, each the contract of a function that does nothing.
+//! What changes of a log map do to its objects: the laws of its definitions, each the contract of a
+//! function that does nothing.
 ghost use Rattle.lfs_model.specs.Objects.{ObjectBytes, SameObjects, BlockOverlaid, OverlaysJoin, ObjectWritten, ObjectCut, CutEnds, NodeOfHeader, ObjectPut, ObjectTaken, LinksApart, LaidLong, ObjectCosts, DirectoryBlocks, StoredChanged, BlocksOfChange, ObjectPart, ObjectFits, ObjectKept, ObjectLost, BlockWhole, WriteEnds, LeafTests, PointerBlocks, PointersChanged, FileWritten, FileCut, LaidHeaders, CostsInTree, NeedOfObject, OverlaidByBlocks, Lengthened};
 
 /// An object's bytes are those of its blocks.
@@ -27,13 +28,15 @@ pub fn object_part()
     ensures { ObjectPart }
 {}
 
-/// A file with bytes written to its blocks is what pwrite makes of it, and no byte past its end is other than zero.
+/// A file with bytes written to its blocks is what pwrite makes of it, and no byte past its end is
+/// other than zero.
 pub fn object_written()
     ensures is { ObjectWritten }
     ensures ends { WriteEnds }
 {}
 
-/// A file whose blocks end at a length is what ftruncate makes of it, and no byte past that end is other than zero; one made longer keeps its blocks.
+/// A file whose blocks end at a length is what ftruncate makes of it, and no byte past that end is
+/// other than zero; one made longer keeps its blocks.
 pub fn object_cut()
     ensures is { ObjectCut }
     ensures longer { Lengthened }
@@ -72,7 +75,8 @@ pub fn laid_objects()
     ensures headers { LaidHeaders }
 {}
 
-/// An object costs what its stored blocks do, by itself and in the tree, and a directory has one in each of its pieces.
+/// An object costs what its stored blocks do, by itself and in the tree, and a directory has one in
+/// each of its pieces.
 pub fn object_costs()
     ensures costs { ObjectCosts }
     ensures in_tree { CostsInTree }
@@ -110,7 +114,8 @@ pub fn block_whole()
     ensures { BlockWhole }
 {}
 
-/// The blocks of pointers that an object's cost counts are those that a log map stores for it, and one block changed changes them by those above it.
+/// The blocks of pointers that an object's cost counts are those that a log map stores for it, and
+/// one block changed changes them by those above it.
 pub fn pointer_blocks()
     ensures tests { LeafTests }
     ensures count { PointerBlocks }

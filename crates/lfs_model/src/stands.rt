@@ -1,4 +1,5 @@
-//! What a content stands for: the laws of its definitions, each the contract of a function that does nothing.
+//! What a content stands for: the laws of its definitions, each the contract of a function that
+//! does nothing.
 ghost use Rattle.lfs_model.specs.Content.{NewestFits};
 ghost use Rattle.lfs_model.specs.Crash.{Locality, SingleLog, FreeWrites, SlotWrite};
 ghost use Rattle.lfs_model.specs.Encodes.{Encoding};
@@ -13,7 +14,8 @@ pub fn newest_fits()
     ensures { NewestFits }
 {}
 
-/// A content that has the protected sectors of another, and its newest checkpoint, stands for the same log map.
+/// A content that has the protected sectors of another, and its newest checkpoint, stands for the
+/// same log map.
 pub fn locality()
     ensures { Locality }
 {}
@@ -23,7 +25,8 @@ pub fn single_log()
     ensures { SingleLog }
 {}
 
-/// A write to a sector that is free for the acknowledged checkpoint keeps, at each crash, what that one needs.
+/// A write to a sector that is free for the acknowledged checkpoint keeps, at each crash, what that
+/// one needs.
 pub fn free_writes()
     ensures { FreeWrites }
 {}
@@ -113,7 +116,8 @@ pub fn single_state()
     ensures { SingleState }
 {}
 
-/// A content that has the protected sectors of another, and its newest checkpoint, stands for the same tree.
+/// A content that has the protected sectors of another, and its newest checkpoint, stands for the
+/// same tree.
 pub fn state_locality()
     ensures { StateLocality }
 {}
@@ -143,12 +147,14 @@ pub fn new_volume()
     ensures { NewVolume }
 {}
 
-/// What a mount finds is a running volume's log map: its state is sound, and the headers' links are the tree's.
+/// What a mount finds is a running volume's log map: its state is sound, and the headers' links are
+/// the tree's.
 pub fn mounted_log()
     ensures { MountedLog }
 {}
 
-/// The log map of a running volume without its files of no links is that of the tree without the nodes of no name.
+/// The log map of a running volume without its files of no links is that of the tree without the
+/// nodes of no name.
 pub fn dropped_tree()
     ensures { DroppedTree }
 {}

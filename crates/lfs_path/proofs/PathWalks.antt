@@ -12,9 +12,9 @@ use Rattle.lfs_model.proofs.FollowedTexts.{IsRest, pieces_joined, slash_joined}
 use Rattle.lfs_files.specs.Files.{FilesState, Reads}
 use Rattle.lfs_files.proofs.FilesCompose.{reads_more}
 use Rattle.lfs_path.specs.Following.{Follows, started, text_of}
-use Rattle.lfs_path.specs.Passing.{MeetsLink, Stops, WalksText}
+use Rattle.lfs_path.specs.Passing.{MeetsLink, StopsAtLink, WalksText}
 use Rattle.lfs_path.specs.Reaching.{EndsPath}
-use Rattle.lfs_path.specs.Telling.{Refuses, Tells}
+use Rattle.lfs_path.specs.Telling.{TellsRefusal, Tells}
 use Rattle.lfs_path.specs.Trees.{HasTree, InChain, IsChain, here}
 use Rattle.lfs_path.specs.declared.passing.Stop.TheVariants as stop
 use Rattle.lfs_path.specs.declared.seen.Link.{Link}
@@ -99,13 +99,13 @@ module _ {S D : Type 0} (slash_end follow : Bool) (path : List ℕ) where
     in_chain : (m m' : LogMap) → b.device.keeps_model → s.has m m' → HasTree m' → InChain chain m'
     in_chain m m' keeps has tree = record { tree = tree; directories = (goes_at m m' keeps has tree).directories }
 
-    module _ (l : Link) (r : Bor (List ℕ)) (seen : List ℕ) (value : seen ≡ text) (told : Tells a b (InChain chain) (Stops slash_end follow chain seen chain' (stop.Followed l r))) where
+    module _ (l : Link) (r : Bor (List ℕ)) (seen : List ℕ) (value : seen ≡ text) (told : Tells a b (InChain chain) (StopsAtLink slash_end follow chain seen chain' (stop.Followed l r))) where
       stops : (m m' : LogMap) → b.device.keeps_model → s.has m m' → InChain chain m' → IsChain (tree_in m') chain' × MeetsLink slash_end follow (here chain) text (here chain') l r.now m'
       stops m m' keeps has is =
           let x = told m m' keeps (was.reads.has m m' has) is in
           (x.directories, subst (λ (y : List ℕ). MeetsLink slash_end follow (here chain) y (here chain') l r.now m') value x.stop)
 
-      pub walk_loops : 40 ≤ links → Refuses s b HasTree (EndsPath slash_end follow path) Loop
+      pub walk_loops : 40 ≤ links → TellsRefusal s b HasTree (EndsPath slash_end follow path) Loop
       walk_loops full m m' keeps has tree =
           let x = stops m m' keeps has (in_chain m m' keeps has tree) in
           too_many slash_end follow path m' chain text chain' links l r.now (goes_at m m' keeps has tree) x.1 full

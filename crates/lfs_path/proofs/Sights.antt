@@ -7,7 +7,7 @@ use Rattle.lfs_files.specs.declared.header.Header.{Header}
 use Rattle.lfs_files.specs.Files.{FilesState, Reads}
 use Rattle.lfs_dirs.specs.Finding.{Finds, IsDirectoryFault}
 use Rattle.lfs_path.specs.Seeing.{EndsAtPiece, HasHeader, HasObject, IsSeen, NamesObject}
-use Rattle.lfs_path.specs.Telling.{Fails, Refuses, Tells}
+use Rattle.lfs_path.specs.Telling.{TellsFault, TellsRefusal, Tells}
 use Rattle.lfs_path.specs.Trees.{InDirectory}
 use Rattle.lfs_path.specs.declared.seen.Seen.TheVariants as seen
 use Rattle.lfs_path.specs.declared.walk_fault.WalkFault.TheVariants.{NoEntry, NameTooLong}
@@ -15,16 +15,16 @@ use Rattle.lfs_path.proofs.InTrees.{gives_directory, gives_file, gives_link, is_
 
 module _ {S D : Type 0} where
   -- what failed behind a call that read
-  pub fails_then : (s a b : FilesState S D) (P Q : LogMap → Type 0) → Reads s a → ((m m' : LogMap) → b.device.keeps_model → s.has m m' → P m' → Q m') → Fails a b Q → Fails s b P
+  pub fails_then : (s a b : FilesState S D) (P Q : LogMap → Type 0) → Reads s a → ((m m' : LogMap) → b.device.keeps_model → s.has m m' → P m' → Q m') → TellsFault a b Q → TellsFault s b P
   fails_then s a b P Q one so failed m m' keeps has p =
       let rose = failed m m' keeps (one.has m m' has) (so m m' keeps has p) in
       let before = one.looks.carries.failures in
       omega (arith, rose, before)
 
-  pub long_refused : (s : FilesState S D) (d : ℕ) (name : List ℕ) → 59 < length name → Refuses s s (InDirectory d) (EndsAtPiece d name) NameTooLong
+  pub long_refused : (s : FilesState S D) (d : ℕ) (name : List ℕ) → 59 < length name → TellsRefusal s s (InDirectory d) (EndsAtPiece d name) NameTooLong
   long_refused s d name long m m' keeps has within = long_name m' d within name long
 
-  pub header_failed : (s a : FilesState S D) (d : ℕ) → Fails s a (HasObject d) → Fails s a (InDirectory d)
+  pub header_failed : (s a : FilesState S D) (d : ℕ) → TellsFault s a (HasObject d) → TellsFault s a (InDirectory d)
   header_failed s a d failed m m' keeps has within = failed m m' keeps has (is_object m' d within)
 
   -- ---- a name looked up in directory d
@@ -35,10 +35,10 @@ module _ {S D : Type 0} where
     pub found : (name : List ℕ) (n : ℕ) → (name ≢ dot) × (name ≢ dot_dot) → length name ≤ 59 → Finds a b d head name (Some n) → Tells s b (InDirectory d) (NamesObject d name n)
     found name n dots short finds m m' keeps has within = is_name m' d within head (header_is m m' keeps has) name dots short n (finds m m' keeps (one.has m m' has))
 
-    pub found_none : (name : List ℕ) → (name ≢ dot) × (name ≢ dot_dot) → length name ≤ 59 → Finds a b d head name None → Refuses s b (InDirectory d) (EndsAtPiece d name) NoEntry
+    pub found_none : (name : List ℕ) → (name ≢ dot) × (name ≢ dot_dot) → length name ≤ 59 → Finds a b d head name None → TellsRefusal s b (InDirectory d) (EndsAtPiece d name) NoEntry
     found_none name dots short finds m m' keeps has within = no_name m' d within head (header_is m m' keeps has) name dots short (finds m m' keeps (one.has m m' has))
 
-    pub find_failed : IsDirectoryFault a b d head → Fails s b (InDirectory d)
+    pub find_failed : IsDirectoryFault a b d head → TellsFault s b (InDirectory d)
     find_failed failed m m' keeps has within =
         let rose = failed m m' keeps (one.has m m' has) (is_formed m' d within head (header_is m m' keeps has)) in
         let before = one.looks.carries.failures in
@@ -46,7 +46,7 @@ module _ {S D : Type 0} where
 
   -- ---- what it gives
   module _ (s a b : FilesState S D) (d n : ℕ) (name : List ℕ) (one : Reads s a) (two : Reads a b) (named : Tells s a (InDirectory d) (NamesObject d name n)) where
-    pub object_failed : Fails a b (HasObject n) → Fails s b (InDirectory d)
+    pub object_failed : TellsFault a b (HasObject n) → TellsFault s b (InDirectory d)
     object_failed = fails_then s a b (InDirectory d) (HasObject n) one
         (λ m m' keeps has within. named_object m' d name n within.tree (named m m' (two.looks.carries.kept_before keeps) has within))
 

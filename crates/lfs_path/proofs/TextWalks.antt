@@ -7,9 +7,9 @@ use Rattle.lfs_model.specs.Stands.{LogMap}
 use Rattle.lfs_model.specs.TreeOf.{tree_in}
 use Rattle.lfs_model.specs.Walk.{End, At, Refused, Walk, file, link, more, no_piece, not_dir}
 use Rattle.lfs_files.specs.Files.{FilesState, Reads}
-use Rattle.lfs_path.specs.Passing.{EndsText, IsStop, Meets, MeetsLink, Passes, Stops, WalksText, is_left}
+use Rattle.lfs_path.specs.Passing.{EndsText, IsStop, Meets, MeetsLink, PassesText, StopsAtLink, WalksText, is_left}
 use Rattle.lfs_path.specs.Pieces.{IsNextPiece}
-use Rattle.lfs_path.specs.Telling.{Refuses, Tells}
+use Rattle.lfs_path.specs.Telling.{TellsRefusal, Tells}
 use Rattle.lfs_path.specs.Trees.{InChain, IsChain, here}
 use Rattle.lfs_path.specs.declared.seen.Link.{Link}
 use Rattle.lfs_path.specs.declared.passing.Met.{Met}
@@ -31,7 +31,7 @@ module _ (slash_end follow : Bool) where
   still m chain text chain' rest is goes = record { tree = is.tree; directories = goes.directories }
 
   -- no piece is left
-  pub at_end : (m : LogMap) (chain text chain' rest : List ℕ) → comps rest ≡ [] → GoesTo chain text chain' rest m → Stops slash_end follow chain text chain' stop.Directory m
+  pub at_end : (m : LogMap) (chain text chain' rest : List ℕ) → comps rest ≡ [] → GoesTo chain text chain' rest m → StopsAtLink slash_end follow chain text chain' stop.Directory m
   at_end m chain text chain' rest none goes = record {
     directories = goes.directories;
     stop = λ k. goes.walks k (At (here chain')) (subst (λ (ps : List (List ℕ)). Walk (tree_in m) follow (here chain') ps (slash_end || slash rest) k (At (here chain'))) (sym none) no_piece);
@@ -70,7 +70,7 @@ module _ (slash_end follow : Bool) where
       directories_are : IsChain (tree_in m) chain''
       directories_are = subst (IsChain (tree_in m)) (sym same) goes.directories
 
-      pub stops : (x : Met) (y : Stop) → Meets (here chain') piece x m → IsStop slash_end follow after x (Ok y) → Stops slash_end follow chain text chain'' y m
+      pub stops : (x : Met) (y : Stop) → Meets (here chain') piece x m → IsStop slash_end follow after x (Ok y) → StopsAtLink slash_end follow chain text chain'' y m
       stops (met.File n) (stop.Node q) meets is = record {
         directories = directories_are;
         stop = λ k. from_piece k (At q) (subst (λ (j : ℕ). Walk (tree_in m) follow (here chain') (piece ∷ comps after) (slash_end || slash after) k (At j)) (sym is.0) (file meets.1 (left_is ∙ is.1)));
@@ -98,7 +98,7 @@ module _ {S D : Type 0} (slash_end follow : Bool) where
     pub reads : Reads s s'
     pub goes : Tells s s' (InChain chain) (GoesTo slash_end follow chain text chain' rest)
 
-  pub ends : (s s' : FilesState S D) (chain text chain' rest : List ℕ) → comps rest ≡ [] → ComesTo s s' chain text chain' rest → Tells s s' (InChain chain) (Stops slash_end follow chain text chain' stop.Directory)
+  pub ends : (s s' : FilesState S D) (chain text chain' rest : List ℕ) → comps rest ≡ [] → ComesTo s s' chain text chain' rest → Tells s s' (InChain chain) (StopsAtLink slash_end follow chain text chain' stop.Directory)
   ends s s' chain text chain' rest none was m m' keeps has is = at_end slash_end follow m' chain text chain' rest none (was.goes m m' keeps has is)
 
   module _ (s a b : FilesState S D) (chain text chain' rest piece after : List ℕ) (next : IsNextPiece rest piece after) (was : ComesTo s a chain text chain' rest) (reads : Reads a b) where
@@ -108,21 +108,21 @@ module _ {S D : Type 0} (slash_end follow : Bool) where
     in_chain : (m m' : LogMap) → b.device.keeps_model → s.has m m' → InChain chain m' → InChain chain' m'
     in_chain m m' keeps has is = still slash_end follow m' chain text chain' rest is (goes_at m m' keeps has is)
 
-    passed : (chain'' : List ℕ) (x : Option Met) → Tells a b (InChain chain') (Passes piece chain' chain'' x) → Tells s b (InChain chain) (Passes piece chain' chain'' x)
+    passed : (chain'' : List ℕ) (x : Option Met) → Tells a b (InChain chain') (PassesText piece chain' chain'' x) → Tells s b (InChain chain) (PassesText piece chain' chain'' x)
     passed chain'' x passes m m' keeps has is = passes m m' keeps (was.reads.has m m' has) (in_chain m m' keeps has is)
 
-    module _ (chain'' : List ℕ) (x : Met) (passes : Tells a b (InChain chain') (Passes piece chain' chain'' (Some x))) where
-      pub stops_ok : (r : Result Stop WalkFault) → IsStop slash_end follow after x r → IfOk r (λ y. Tells s b (InChain chain) (Stops slash_end follow chain text chain'' y))
+    module _ (chain'' : List ℕ) (x : Met) (passes : Tells a b (InChain chain') (PassesText piece chain' chain'' (Some x))) where
+      pub stops_ok : (r : Result Stop WalkFault) → IsStop slash_end follow after x r → IfOk r (λ y. Tells s b (InChain chain) (StopsAtLink slash_end follow chain text chain'' y))
       stops_ok (Err fault) is = tt
       stops_ok (Ok y) is = λ m m' keeps has within.
           let p = passed chain'' (Some x) passes m m' keeps has within in
           stops slash_end follow m' chain text chain' rest piece after next (goes_at m m' keeps has within) chain'' p.0 x y p.1 is
 
-      pub stops_err : (r : Result Stop WalkFault) → IsStop slash_end follow after x r → IfErr r (Refuses s b (InChain chain) (EndsText slash_end follow (here chain) text))
+      pub stops_err : (r : Result Stop WalkFault) → IsStop slash_end follow after x r → IfErr r (TellsRefusal s b (InChain chain) (EndsText slash_end follow (here chain) text))
       stops_err (Ok y) is = tt
       stops_err (Err fault) is = by x fault is (λ m m' keeps has within. (passed chain'' (Some x) passes m m' keeps has within).1)
         where
-          by : (z : Met) (fault : WalkFault) → IsStop slash_end follow after z (Err fault) → Tells s b (InChain chain) (Meets (here chain') piece z) → Refuses s b (InChain chain) (EndsText slash_end follow (here chain) text) fault
+          by : (z : Met) (fault : WalkFault) → IsStop slash_end follow after z (Err fault) → Tells s b (InChain chain) (Meets (here chain') piece z) → TellsRefusal s b (InChain chain) (EndsText slash_end follow (here chain) text) fault
           by (met.File n) NotDir is meets = λ m m' keeps has within.
               refuses slash_end follow m' chain text chain' rest piece after next (goes_at m m' keeps has within) (met.File n) (meets m m' keeps has within) is
           by _ _ is meets = absurd is

@@ -29,9 +29,9 @@ Meets d piece (met.File n) m = (bytes : List ℕ) × Gives (tree_in m) d piece n
 Meets d piece (met.Symbolic l) m = Gives (tree_in m) d piece l.number (Link (text_of m l))
 
 -- to a directory, or to another object, and the directory stays
-abbrev pub Passes : List ℕ → List ℕ → List ℕ → Option Met → LogMap → Type 0
-Passes piece chain chain' None m = Leads piece chain chain' m
-Passes piece chain chain' (Some x) m = (chain' ≡ chain) × Meets (here chain) piece x m
+abbrev pub PassesText : List ℕ → List ℕ → List ℕ → Option Met → LogMap → Type 0
+PassesText piece chain chain' None m = Leads piece chain chain' m
+PassesText piece chain chain' (Some x) m = (chain' ≡ chain) × Meets (here chain) piece x m
 
 -- a link's number is one of an object
 abbrev pub HasLinkNumber : Option Met → Type 0
@@ -75,7 +75,7 @@ StopsAt slash_end follow chain text chain' (stop.Node n) m = EndsText slash_end 
 StopsAt slash_end follow chain text chain' (stop.Followed l rest) m = MeetsLink slash_end follow (here chain) text (here chain') l rest.now m
 
 -- Where the walk of a text stops, and at which directories.
-pub record Stops (slash_end follow : Bool) (chain text chain' : List ℕ) (x : Stop) (m : LogMap) : Type 0 where
+pub record StopsAtLink (slash_end follow : Bool) (chain text chain' : List ℕ) (x : Stop) (m : LogMap) : Type 0 where
   pub directories : IsChain (tree_in m) chain'
   pub stop : StopsAt slash_end follow chain text chain' x m
 

@@ -26,9 +26,9 @@ module _ {S D : Type 0} (s s' : FilesState S D) where
   Tells P Q = (m m' : LogMap) → s'.device.keeps_model → s.has m m' → P m' → Q m'
 
   -- a call of the device failed
-  abbrev pub Fails : (LogMap → Type 0) → Type 0
-  Fails P = Tells P (λ m. s.device.failures < s'.device.failures)
+  abbrev pub TellsFault : (LogMap → Type 0) → Type 0
+  TellsFault P = Tells P (λ m. s.device.failures < s'.device.failures)
 
   -- The walk ends refused; or there is no answer, since a call of the device failed.
-  abbrev pub Refuses : (LogMap → Type 0) → (Tree → End → Type 0) → WalkFault → Type 0
-  Refuses P W fault = ByFault fault (Fails P) (λ r. Tells P (λ m. W (tree_in m) (Refused r)))
+  abbrev pub TellsRefusal : (LogMap → Type 0) → (Tree → End → Type 0) → WalkFault → Type 0
+  TellsRefusal P W fault = ByFault fault (TellsFault P) (λ r. Tells P (λ m. W (tree_in m) (Refused r)))

@@ -1,4 +1,5 @@
-//! What is known of trees that are walked, and of the last piece of a path: laws, each the contract of a function that does nothing.
+//! What is known of trees that are walked, and of the last piece of a path: laws, each the contract
+//! of a function that does nothing.
 ghost use Rattle.lfs_path.specs.Laws.{ChainSays, DirectoriesSay, LastSays, TreeMaps};
 
 /// What the rows of the calls say of a path's last piece.

@@ -13,7 +13,8 @@ use std::alloc::Global;
 /// The bytes of a block.
 const BLOCK: u32 = 512;
 
-/// Follows a link: the text that is left is the link's and behind it what was left, from the root where the link's begins with a slash.
+/// Follows a link: the text that is left is the link's and behind it what was left, from the root
+/// where the link's begins with a slash.
 pub fn follow_link<F: Files>(
     alloc: Global,
     files: &mut F,

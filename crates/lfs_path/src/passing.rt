@@ -1,9 +1,9 @@
 //! The pieces of a text, walked one after the other.
 ghost use Rattle.std.specs.Prelude.{◌≡◌, ◌<◌, true, IfOk, IfErr, IsErrOf};
 ghost use Rattle.lfs_files.specs.Files.{Reads};
-ghost use Rattle.lfs_path.specs.Passing.{EndsText, FitsStop, HasLinkNumber, IsStop, Passes, Stops};
+ghost use Rattle.lfs_path.specs.Passing.{EndsText, FitsStop, HasLinkNumber, IsStop, PassesText, StopsAtLink};
 ghost use Rattle.lfs_path.specs.Seeing.{EndsAtPiece};
-ghost use Rattle.lfs_path.specs.Telling.{Refuses, Tells};
+ghost use Rattle.lfs_path.specs.Telling.{TellsRefusal, Tells};
 ghost use Rattle.lfs_path.specs.Trees.{InChain, here};
 
 use crate::chain::Chain;
@@ -30,7 +30,8 @@ pub enum Stop<'a> {
     Followed(Link, &'a [u8]),
 }
 
-/// Walks a text until it ends, or a link is to be followed. A slash end counts as there where `slash_end` says so.
+/// Walks a text until it ends, or a link is to be followed. A slash end counts as there where
+/// `slash_end` says so.
 ///
 /// # Errors
 ///
@@ -45,8 +46,8 @@ pub fn walk_text<'a, F: Files>(
     ensures reads { Reads (F.state files.old) (F.state files.new) }
     ensures fits { IfOk result (FitsStop slash_end) }
     ensures answer { IfOk result (λ stop. Tells (F.state files.old) (F.state files.new)
-        (InChain chain.old) (Stops slash_end follow chain.old text.now chain.new stop)) }
-    ensures refused { IfErr result (Refuses (F.state files.old) (F.state files.new)
+        (InChain chain.old) (StopsAtLink slash_end follow chain.old text.now chain.new stop)) }
+    ensures refused { IfErr result (TellsRefusal (F.state files.old) (F.state files.new)
         (InChain chain.old) (EndsText slash_end follow (here chain.old) text.now)) }
     ensures halted { IsErrOf result (WalkFault.Log LogFault.Halted)
         → (F.state files.old).halted ≡ true }
@@ -69,8 +70,8 @@ fn pass<F: Files>(files: &mut F, chain: &mut Chain, piece: &[u8]) -> Result<Opti
     ensures reads { Reads (F.state files.old) (F.state files.new) }
     ensures number { IfOk result HasLinkNumber }
     ensures answer { IfOk result (λ met. Tells (F.state files.old) (F.state files.new)
-        (InChain chain.old) (Passes piece.now chain.old chain.new met)) }
-    ensures refused { IfErr result (Refuses (F.state files.old) (F.state files.new)
+        (InChain chain.old) (PassesText piece.now chain.old chain.new met)) }
+    ensures refused { IfErr result (TellsRefusal (F.state files.old) (F.state files.new)
         (InChain chain.old) (EndsAtPiece (here chain.old) piece.now)) }
     ensures halted { IsErrOf result (WalkFault.Log LogFault.Halted)
         → (F.state files.old).halted ≡ true }

@@ -3,7 +3,7 @@ ghost use Rattle.std.specs.Prelude.{◌≡◌, ◌≢◌, ◌<◌, true, IfOk, I
 ghost use Rattle.lfs_model.specs.Walk.{dot, dot_dot};
 ghost use Rattle.lfs_files.specs.Files.{Reads};
 ghost use Rattle.lfs_path.specs.Seeing.{EndsAtPiece, HasHeader, HasNumber, HasObject, IsSeen, NamesObject};
-ghost use Rattle.lfs_path.specs.Telling.{Fails, Refuses, Tells};
+ghost use Rattle.lfs_path.specs.Telling.{TellsFault, TellsRefusal, Tells};
 ghost use Rattle.lfs_path.specs.Trees.{InDirectory};
 
 use crate::walk_fault::WalkFault;
@@ -40,14 +40,15 @@ pub enum Seen {
 ///
 /// # Errors
 ///
-/// `NameTooLong`, or `NoEntry` where the directory doesn't have the name. `Log` where the log gives no answer.
+/// `NameTooLong`, or `NoEntry` where the directory doesn't have the name. `Log` where the log gives
+/// no answer.
 pub fn look<F: Files>(files: &mut F, directory: u16, piece: &[u8]) -> Result<Seen, WalkFault>
     requires { directory < 4096 }
     ensures reads { Reads (F.state files.old) (F.state files.new) }
     ensures number { IfOk result HasNumber }
     ensures answer { IfOk result (λ seen. Tells (F.state files.old) (F.state files.new)
         (InDirectory directory) (IsSeen directory piece.now seen)) }
-    ensures refused { IfErr result (Refuses (F.state files.old) (F.state files.new)
+    ensures refused { IfErr result (TellsRefusal (F.state files.old) (F.state files.new)
         (InDirectory directory) (EndsAtPiece directory piece.now)) }
     ensures halted { IsErrOf result (WalkFault.Log LogFault.Halted)
         → (F.state files.old).halted ≡ true }
@@ -80,7 +81,7 @@ fn header_of<F: Files>(files: &mut F, number: u16) -> Result<Header, LogFault>
     ensures reads { Reads (F.state files.old) (F.state files.new) }
     ensures answer { IfOk result (λ header. Tells (F.state files.old) (F.state files.new)
         (λ m. Unit {0}) (HasHeader number header)) }
-    ensures failed { OnErr result (Fails (F.state files.old) (F.state files.new)
+    ensures failed { OnErr result (TellsFault (F.state files.old) (F.state files.new)
         (HasObject number)) }
     ensures halted { IsErrOf result LogFault.Halted → (F.state files.old).halted ≡ true }
     ensures other { IsErrOf result LogFault.Full → ⊥ }
@@ -100,7 +101,7 @@ fn entry_in<F: Files>(files: &mut F, directory: u16, name: &[u8]) -> Result<u16,
     ensures number { IfOk result (λ n. n < 4096) }
     ensures answer { IfOk result (λ n. Tells (F.state files.old) (F.state files.new)
         (InDirectory directory) (NamesObject directory name.now n)) }
-    ensures refused { IfErr result (Refuses (F.state files.old) (F.state files.new)
+    ensures refused { IfErr result (TellsRefusal (F.state files.old) (F.state files.new)
         (InDirectory directory) (EndsAtPiece directory name.now)) }
     ensures halted { IsErrOf result (WalkFault.Log LogFault.Halted)
         → (F.state files.old).halted ≡ true }

@@ -2,7 +2,7 @@
 ghost use Rattle.std.specs.Prelude.{◌≡◌, true, IfOk, IfErr, IsErrOf};
 ghost use Rattle.lfs_files.specs.Files.{Reads};
 ghost use Rattle.lfs_path.specs.Reaching.{EndsParent, EndsResolve, IsParent, ResolvesTo};
-ghost use Rattle.lfs_path.specs.Telling.{Refuses, Tells};
+ghost use Rattle.lfs_path.specs.Telling.{TellsRefusal, Tells};
 ghost use Rattle.lfs_path.specs.Trees.{HasTree};
 ghost use Rattle.lfs_path.specs.Lasts.{HasLast};
 
@@ -23,11 +23,13 @@ pub struct Place<'a> {
     pub last: Option<Last<'a>>,
 }
 
-/// The number of the object that a path gives; `follow` says whether a symbolic link at its end is followed.
+/// The number of the object that a path gives; `follow` says whether a symbolic link at its end is
+/// followed.
 ///
 /// # Errors
 ///
-/// The path's refusal. `NoMemory`; `Log` where the log gives no answer: `Halted` once a commit failed, `Device` where a call of the device failed.
+/// The path's refusal. `NoMemory`; `Log` where the log gives no answer: `Halted` once a commit
+/// failed, `Device` where a call of the device failed.
 pub fn resolve<F: Files>(
     alloc: Global,
     files: &mut F,
@@ -37,7 +39,7 @@ pub fn resolve<F: Files>(
     ensures reads { Reads (F.state files.old) (F.state files.new) }
     ensures answer { IfOk result (λ n. Tells (F.state files.old) (F.state files.new) HasTree
         (ResolvesTo path.now follow n)) }
-    ensures refused { IfErr result (Refuses (F.state files.old) (F.state files.new) HasTree
+    ensures refused { IfErr result (TellsRefusal (F.state files.old) (F.state files.new) HasTree
         (EndsResolve path.now follow)) }
     ensures halted { IsErrOf result (WalkFault.Log LogFault.Halted)
         → (F.state files.old).halted ≡ true }
@@ -68,7 +70,7 @@ pub fn parent<'a, F: Files>(
     ensures last { IfOk result (λ p. HasLast path.now p.last) }
     ensures answer { IfOk result (λ p. Tells (F.state files.old) (F.state files.new) HasTree
         (IsParent path.now p.chain)) }
-    ensures refused { IfErr result (Refuses (F.state files.old) (F.state files.new) HasTree
+    ensures refused { IfErr result (TellsRefusal (F.state files.old) (F.state files.new) HasTree
         (EndsParent path.now)) }
     ensures halted { IsErrOf result (WalkFault.Log LogFault.Halted)
         → (F.state files.old).halted ≡ true }

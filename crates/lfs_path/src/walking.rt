@@ -2,7 +2,7 @@
 ghost use Rattle.std.specs.Prelude.{◌≡◌, [], ◌∷◌, true, IfOk, IfErr, IsErrOf};
 ghost use Rattle.lfs_files.specs.Files.{Reads};
 ghost use Rattle.lfs_path.specs.Reaching.{EndsPath, Reaches};
-ghost use Rattle.lfs_path.specs.Telling.{Refuses, Tells};
+ghost use Rattle.lfs_path.specs.Telling.{TellsRefusal, Tells};
 ghost use Rattle.lfs_path.specs.Trees.{HasTree, here};
 
 use crate::chain::Chain;
@@ -15,7 +15,8 @@ use std::alloc::Global;
 /// The most links that a walk follows.
 const MOST_LINKS: u32 = 40;
 
-/// Walks a path from the root to its end. A slash end counts as there where `slash_end` says so; `follow` says whether a link at the end is followed.
+/// Walks a path from the root to its end. A slash end counts as there where `slash_end` says so;
+/// `follow` says whether a link at the end is followed.
 ///
 /// # Errors
 ///
@@ -33,7 +34,7 @@ pub fn walk<F: Files>(
     ensures last { IfOk result (λ n. slash_end ≡ true → n ≡ here chain.new) }
     ensures answer { IfOk result (λ n. Tells (F.state files.old) (F.state files.new) HasTree
         (Reaches slash_end follow path.now chain.new n)) }
-    ensures refused { IfErr result (Refuses (F.state files.old) (F.state files.new) HasTree
+    ensures refused { IfErr result (TellsRefusal (F.state files.old) (F.state files.new) HasTree
         (EndsPath slash_end follow path.now)) }
     ensures halted { IsErrOf result (WalkFault.Log LogFault.Halted)
         → (F.state files.old).halted ≡ true }

@@ -39,7 +39,7 @@ call_of Tree = model.ListTree
 abbrev pub stat_of : Stat → model.Stat
 stat_of s = record { number = s.number; kind = s.kind; links = s.links; size = s.size }
 
-abbrev pub entry_of : Entry → model.Entry
+abbrev pub entry_of : Entry → model.DirectoryEntry
 entry_of e = record { name = e.name.items; number = e.number; kind = e.kind }
 
 abbrev pub row_of : TreeRow → model.TreeRow

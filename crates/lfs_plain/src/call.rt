@@ -7,8 +7,9 @@ use crate::path::Path;
 use crate::refusal::Refusal;
 use lfs_model::Kind;
 
-/// A call, with its arguments (POSIX.1-2017: open, close, pread, pwrite, ftruncate, mkdir, link, symlink, readlink, unlink, rmdir,
-/// rename, stat, lstat, readdir, fsync, sync). A path is a list of bytes; clean, space and tree are own choices.
+/// A call, with its arguments (POSIX.1-2017: open, close, pread, pwrite, ftruncate, mkdir, link,
+/// symlink, readlink, unlink, rmdir, rename, stat, lstat, readdir, fsync, sync). A path is a list
+/// of bytes; clean, space and tree are own choices.
 #[derive(Clone, Copy)]
 pub enum Call<'a> {
     /// The path.
@@ -65,7 +66,8 @@ pub fn second_path<'a>(call: &Call<'a>) -> Path<'a>
     }
 }
 
-/// What `stat` tells: a node's number, kind, link count and size in bytes. The counts are wide enough for any lists in memory.
+/// What `stat` tells: a node's number, kind, link count and size in bytes. The counts are wide
+/// enough for any lists in memory.
 #[derive(Clone, Copy)]
 pub struct Stat {
     pub number: u32,

@@ -23,7 +23,8 @@ pub fn with_new(
     number: u32,
     node: Node,
 ) -> Result<PlainTree, AllocError>
-    ensures { IfOk result (λ t. t ≡ with_node (with_name tree.now d (model.name last.now.path.now) number) number (node_of node)) }
+    ensures { IfOk result (λ t. t ≡ with_node
+        (with_name tree.now d (model.name last.now.path.now) number) number (node_of node)) }
 {
     tree.with_name(alloc, d, last.name.as_slice(), number)?
         .with_node(alloc, number, node)

@@ -51,7 +51,8 @@ fn directories_among(tree: &PlainTree, names: &[Name]) -> usize
     count
 }
 
-/// The link count of node `n` (POSIX.1-2017, Definitions: Link Count): a directory's is 2 and its subdirectories.
+/// The link count of node `n` (POSIX.1-2017, Definitions: Link Count): a directory's is 2 and its
+/// subdirectories.
 pub fn links(tree: &PlainTree, n: u32) -> u128
     ensures { result ≡ model.links tree.now n }
 {

@@ -57,7 +57,9 @@ pub fn append_nodes(
 /// Where the entry of this number is, or would be: from one index up to another.
 fn place_of_number(nodes: &[Numbered], number: u32) -> (usize, usize)
     ensures within { (result.0 ≤ length nodes.now) × (result.1 ≤ length nodes.now) }
-    ensures put { (x : model.Node) → put nat_cmp number x (tree_of nodes.now) ≡ tree_of (take result.0 nodes.now) ++ (number, x) ∷ tree_of (drop result.1 nodes.now) }
+    ensures put { (x : model.Node)
+        → put nat_cmp number x (tree_of nodes.now) ≡ tree_of
+        (take result.0 nodes.now) ++ (number, x) ∷ tree_of (drop result.1 nodes.now) }
 {
     for (i, one) in nodes.iter().enumerate() {
         if number == one.number {
@@ -73,7 +75,8 @@ fn place_of_number(nodes: &[Numbered], number: u32) -> (usize, usize)
 /// Where the entry of this name is, or would be: from one index up to another.
 fn place_of_name(names: &[Name], name: &[u8]) -> (usize, usize)
     ensures within { (result.0 ≤ length names.now) × (result.1 ≤ length names.now) }
-    ensures put { (n : ℕ) → put byte_cmp name.now n (names_of names.now) ≡ names_of (take result.0 names.now) ++ (name.now, n) ∷ names_of (drop result.1 names.now) }
+    ensures put { (n : ℕ) → put byte_cmp name.now n (names_of names.now) ≡ names_of
+        (take result.0 names.now) ++ (name.now, n) ∷ names_of (drop result.1 names.now) }
 {
     for (i, one) in names.iter().enumerate() {
         match name.cmp(one.name.as_slice()) {
@@ -92,7 +95,8 @@ pub fn nodes_with(
     number: u32,
     node: Node,
 ) -> Result<Vec<Numbered>, AllocError>
-    ensures { IfOk result (λ v. tree_of v.items ≡ put nat_cmp number (node_of node) (tree_of nodes.now)) }
+    ensures { IfOk result (λ v. tree_of v.items ≡ put nat_cmp number
+        (node_of node) (tree_of nodes.now)) }
 {
     let (from, to) = place_of_number(nodes, number);
     let mut v = Vec::new(alloc);
@@ -108,7 +112,8 @@ pub fn nodes_without(
     nodes: &[Numbered],
     number: u32,
 ) -> Result<Vec<Numbered>, AllocError>
-    ensures { IfOk result (λ v. tree_of v.items ≡ model.without nat_cmp number (tree_of nodes.now)) }
+    ensures { IfOk result (λ v. tree_of v.items ≡ model.without nat_cmp
+        number (tree_of nodes.now)) }
 {
     let mut v = Vec::new(alloc);
     for one in nodes {
@@ -128,7 +133,8 @@ pub fn names_with(
     name: &[u8],
     number: u32,
 ) -> Result<Vec<Name>, AllocError>
-    ensures { IfOk result (λ v. names_of v.items ≡ put byte_cmp name.now number (names_of names.now)) }
+    ensures { IfOk result (λ v. names_of v.items ≡ put byte_cmp name.now
+        number (names_of names.now)) }
 {
     let (from, to) = place_of_name(names, name);
     let mut v = Vec::new(alloc);
@@ -141,7 +147,8 @@ pub fn names_with(
 
 /// The names without this one.
 pub fn names_without(alloc: Global, names: &[Name], name: &[u8]) -> Result<Vec<Name>, AllocError>
-    ensures { IfOk result (λ v. names_of v.items ≡ model.without byte_cmp name.now (names_of names.now)) }
+    ensures { IfOk result (λ v. names_of v.items ≡ model.without byte_cmp
+        name.now (names_of names.now)) }
 {
     let mut v = Vec::new(alloc);
     for one in names {

@@ -55,7 +55,8 @@ fn is_special(last: &Last<'_>) -> bool
 
 /// A slash follows, and it gives no directory.
 pub fn wants_dir(tree: &PlainTree, d: u32, last: &Last<'_>) -> bool
-    ensures { result ≡ (path_text.slash last.now.path.now && not (model.gives_dir tree.now d last.now.path.now)) }
+    ensures { result ≡ (path_text.slash last.now.path.now && not
+        (model.gives_dir tree.now d last.now.path.now)) }
 {
     if last.slash {
         !gives_dir(tree, d, last)

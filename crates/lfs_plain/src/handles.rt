@@ -55,7 +55,8 @@ pub fn opened(handles: &[Handle], n: u32) -> usize
 /// Where this handle is, or would be: from one index up to another.
 fn place_of(handles: &[Handle], handle: u32) -> (usize, usize)
     ensures within { (result.0 ≤ length handles.now) × (result.1 ≤ length handles.now) }
-    ensures put { (n : ℕ) → put nat_cmp handle n (handles_of handles.now) ≡ handles_of (take result.0 handles.now) ++ (handle, n) ∷ handles_of (drop result.1 handles.now) }
+    ensures put { (n : ℕ) → put nat_cmp handle n (handles_of handles.now) ≡ handles_of
+        (take result.0 handles.now) ++ (handle, n) ∷ handles_of (drop result.1 handles.now) }
 {
     for (i, one) in handles.iter().enumerate() {
         if handle == one.handle {
@@ -75,7 +76,8 @@ pub fn with_handle(
     handle: u32,
     number: u32,
 ) -> Result<Vec<Handle>, AllocError>
-    ensures { IfOk result (λ v. handles_of v.items ≡ put nat_cmp handle number (handles_of handles.now)) }
+    ensures { IfOk result (λ v. handles_of v.items ≡ put nat_cmp handle number
+        (handles_of handles.now)) }
 {
     let (from, to) = place_of(handles, handle);
     let mut v = Vec::from_slice(alloc, &handles[..from])?;
@@ -90,7 +92,8 @@ pub fn without_handle(
     handles: &[Handle],
     handle: u32,
 ) -> Result<Vec<Handle>, AllocError>
-    ensures { IfOk result (λ v. handles_of v.items ≡ model.without nat_cmp handle (handles_of handles.now)) }
+    ensures { IfOk result (λ v. handles_of v.items ≡ model.without nat_cmp handle
+        (handles_of handles.now)) }
 {
     let mut v = Vec::new(alloc);
     for one in handles {

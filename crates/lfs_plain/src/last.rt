@@ -63,7 +63,8 @@ fn is_dots(name: &[u8]) -> bool
 
 /// The last piece of a path, where there is one.
 fn last_piece(alloc: Global, path: &[u8]) -> Result<Option<Vec<u8>>, AllocError>
-    ensures { IfOk result (λ o. option_map (λ v. v.items) o ≡ path_text.last (path_text.comps path.now)) }
+    ensures { IfOk result (λ o. option_map (λ v. v.items) o ≡ path_text.last
+        (path_text.comps path.now)) }
 {
     let pieces = comps(alloc, path)?;
     match pieces.as_slice() {

@@ -1,5 +1,6 @@
-//! A plain, slow volume that runs: the bytes of files, nodes in lists, the walk over them, and one step of each call. It shows that the
-//! model can be met, and answers what the calls of a volume on a device have to.
+//! A plain, slow volume that runs: the bytes of files, nodes in lists, the walk over them, and one
+//! step of each call. It shows that the model can be met, and answers what the calls of a volume on
+//! a device have to.
 #![tactic(auto)]
 
 ghost use Rattle.std.specs.Prelude.{◌≡◌, IfOk};

@@ -73,7 +73,8 @@ fn first_bytes(bytes: &[u8]) -> &[u8]
 
 /// What `readdir` tells of directory `d`.
 pub fn entries(alloc: Global, tree: &PlainTree, d: u32) -> Result<Vec<Entry>, AllocError>
-    ensures { IfOk result (λ v. map entry_of v.items ≡ map (model.entry_of tree.now) (names_in tree.now d)) }
+    ensures { IfOk result (λ v. map entry_of v.items ≡ map
+        (model.entry_of tree.now) (names_in tree.now d)) }
 {
     let names = tree.names_in(d);
     let mut entries = Vec::new(alloc);
@@ -94,7 +95,8 @@ fn append_rows(
     directory: u32,
     names: &[Name],
 ) -> Result<(), AllocError>
-    ensures { OnOk result (map row_of rows.new.items ≡ map row_of rows.old.items ++ map (row_at tree.now directory) (names_of names.now)) }
+    ensures { OnOk result (map row_of rows.new.items ≡ map row_of rows.old.items ++ map
+        (row_at tree.now directory) (names_of names.now)) }
 {
     for one in names {
         let name = Vec::from_slice(alloc, one.name.as_slice())?;

@@ -34,7 +34,8 @@ fn is_data(bytes: &[u8], i: usize) -> bool
 
 /// The indices of the pieces that have a nonzero byte.
 fn pieces_with_data(alloc: Global, bytes: &[u8]) -> Result<Vec<usize>, AllocError>
-    ensures items { IfOk result (λ v. v.items ≡ filter (model.is_data bytes.now) (model.pieces (length bytes.now))) }
+    ensures items { IfOk result (λ v. v.items ≡ filter (model.is_data bytes.now)
+        (model.pieces (length bytes.now))) }
     ensures few { IfOk result (λ v. vec_len v ≤ 2 ^ 63) }
 {
     let mut v = Vec::new(alloc);
@@ -126,7 +127,8 @@ fn one_if(condition: bool) -> usize
 
 /// The pointer blocks of a node with data at these indices.
 fn pointers(pieces: &[usize]) -> usize
-    ensures pointers { result ≡ (if list_any (model.lies_in 112 240) pieces.now then 1 else 0) + groups pieces.now 128 + (if list_any (nat_le 240) pieces.now then 1 else 0) }
+    ensures pointers { result ≡ (if list_any (model.lies_in 112 240) pieces.now then 1 else 0)
+        + groups pieces.now 128 + (if list_any (nat_le 240) pieces.now then 1 else 0) }
     ensures few { result ≤ 130 }
 {
     let single = one_if(lies_in(pieces, 112, 240));

@@ -15,7 +15,8 @@ use crate::tree::PlainTree;
 use crate::walk::{End, comps, ends_in_slash, walk_from};
 use std::alloc::{AllocError, Global};
 
-/// A walk that a call asks for: of a whole path, following a last link or not, or to a path's parent.
+/// A walk that a call asks for: of a whole path, following a last link or not, or to a path's
+/// parent.
 #[derive(Clone, Copy)]
 pub enum Path<'a> {
     Whole(&'a [u8], bool),
@@ -61,7 +62,8 @@ pub fn resolve(
     follow: bool,
 ) -> Result<End, AllocError>
     ensures exact { IfOk result (λ e. path_end tree.now (Whole text.now follow) ≡ end_of e) }
-    ensures resolves { NamesGive tree.now → IfOk result (λ e. IsSomeAnd (end_of e) (λ x. model.Resolve tree.now text.now follow x)) }
+    ensures resolves { NamesGive tree.now
+        → IfOk result (λ e. IsSomeAnd (end_of e) (λ x. model.Resolve tree.now text.now follow x)) }
 {
     match text_refusal(text) {
         Some(refusal) => return Ok(End::Refused(refusal)),
@@ -73,10 +75,12 @@ pub fn resolve(
     Ok(end)
 }
 
-/// The end of all pieces but the last, which has to be a directory. Where each name gives a node, that is the model's.
+/// The end of all pieces but the last, which has to be a directory. Where each name gives a node,
+/// that is the model's.
 pub fn parent(alloc: Global, tree: &PlainTree, text: &[u8]) -> Result<End, AllocError>
     ensures exact { IfOk result (λ e. path_end tree.now (Holder text.now) ≡ end_of e) }
-    ensures parent { NamesGive tree.now → IfOk result (λ e. IsSomeAnd (end_of e) (λ x. model.Parent tree.now text.now x)) }
+    ensures parent { NamesGive tree.now
+        → IfOk result (λ e. IsSomeAnd (end_of e) (λ x. model.Parent tree.now text.now x)) }
 {
     match text_refusal(text) {
         Some(refusal) => return Ok(End::Refused(refusal)),
@@ -88,7 +92,8 @@ pub fn parent(alloc: Global, tree: &PlainTree, text: &[u8]) -> Result<End, Alloc
     Ok(end)
 }
 
-/// Where a call's path ends, at a node or refused, and at the root where it has none; `None` where a name gives no node.
+/// Where a call's path ends, at a node or refused, and at the root where it has none; `None` where
+/// a name gives no node.
 #[tactic(auto, using(crate::proofs::Paths::no_path))]
 pub fn end_of_path(
     alloc: Global,

@@ -65,7 +65,9 @@ impl PlainState {
         first: Result<u32, Refusal>,
         second: Result<u32, Refusal>,
     ) -> Result<Answer, AllocError>
-        ensures { MatchResult result (λ a. step.outcome segments self.old (call_of call.now) (reached_of first) (reached_of second) ≡ (answer_of a, self.new)) (λ _. self.new ≡ self.old) }
+        ensures { MatchResult result
+            (λ a. step.outcome segments self.old (call_of call.now) (reached_of first)
+            (reached_of second) ≡ (answer_of a, self.new)) (λ _. self.new ≡ self.old) }
     {
         match *call {
             Call::Open(_) => self.opens(alloc, first),
@@ -99,7 +101,9 @@ impl PlainState {
         segments: u32,
         call: &Call<'_>,
     ) -> Result<Option<Answer>, AllocError>
-        ensures { MatchResult result (λ o. IsAnswered (step_end segments self.old (call_of call.now)) o self.old self.new) (λ _. self.new ≡ self.old) }
+        ensures { MatchResult result
+            (λ o. IsAnswered (step_end segments self.old (call_of call.now)) o self.old self.new)
+            (λ _. self.new ≡ self.old) }
     {
         let first = match end_of_path(alloc, &self.tree, first_path(call))? {
             Some(end) => end,
@@ -113,8 +117,9 @@ impl PlainState {
         Ok(Some(answer))
     }
 
-    /// A call on a volume of so many segments: its answer, and its change of this state. `None` where a name gives no node, which
-    /// no call brings about; then, and where memory is refused, the state stays.
+    /// A call on a volume of so many segments: its answer, and its change of this state. `None`
+    /// where a name gives no node, which no call brings about; then, and where memory is refused,
+    /// the state stays.
     ///
     /// # Errors
     ///
@@ -125,8 +130,12 @@ impl PlainState {
         segments: u32,
         call: &Call<'_>,
     ) -> Result<Option<Answer>, AllocError>
-        ensures exact { IfOk result (λ o. IsAnswered (plain.step_to segments self.old (call_of call.now)) o self.old self.new) }
-        ensures steps { NamesGive self.old.tree → IfOk result (λ o. IsSomeAnd o (λ a. step.Step segments self.old (call_of call.now) (answer_of a) self.new)) }
+        ensures exact { IfOk result
+            (λ o. IsAnswered (plain.step_to segments self.old (call_of call.now)) o self.old
+            self.new) }
+        ensures steps { NamesGive self.old.tree
+            → IfOk result (λ o. IsSomeAnd o
+            (λ a. step.Step segments self.old (call_of call.now) (answer_of a) self.new)) }
         ensures stays { IfErr result (λ _. self.new ≡ self.old) }
     {
         let answer = self.perform(alloc, segments, call)?;

@@ -26,7 +26,8 @@ pub struct Name {
     pub number: u32,
 }
 
-/// A directory: its form, which says how long a name may be, and its names in the order of their bytes.
+/// A directory: its form, which says how long a name may be, and its names in the order of their
+/// bytes.
 #[derive(Drop)]
 pub struct Directory {
     pub form: u8,
@@ -118,7 +119,8 @@ impl PlainTree {
 
     /// Node `number`, where there is one.
     pub fn node(&self, number: u32) -> Option<&Node>
-        ensures { MatchOption result (node self.now number ≡ None) (λ x. node self.now number ≡ Some (node_of x.now)) }
+        ensures { MatchOption result (node self.now number ≡ None)
+            (λ x. node self.now number ≡ Some (node_of x.now)) }
     {
         node_in(&self.nodes, number)
     }
@@ -181,7 +183,8 @@ impl PlainTree {
         }
     }
 
-    /// The least number from 1 on that no node has, where the nodes are in the order of their numbers.
+    /// The least number from 1 on that no node has, where the nodes are in the order of their
+    /// numbers.
     pub fn least(&self) -> u64
         ensures { result ≡ model.least self.now }
     {
@@ -310,7 +313,8 @@ fn node_gives(node: &Node, n: u32) -> bool
 }
 
 fn up_in(nodes: &[Numbered], n: u32) -> u32
-    ensures { result ≡ unwrap_or (option_map (λ e. e.0) (first_that (λ e. list_any (λ x. x.1 == n) (model.names_of e.1)) (tree_of nodes.now))) 1 }
+    ensures { result ≡ unwrap_or (option_map (λ e. e.0)
+        (first_that (λ e. list_any (λ x. x.1 == n) (model.names_of e.1)) (tree_of nodes.now))) 1 }
 {
     for one in nodes {
         if node_gives(&one.node, n) {
@@ -321,7 +325,8 @@ fn up_in(nodes: &[Numbered], n: u32) -> u32
 }
 
 fn node_in(nodes: &[Numbered], number: u32) -> Option<&Node>
-    ensures { MatchOption result (node (tree_of nodes.now) number ≡ None) (λ x. node (tree_of nodes.now) number ≡ Some (node_of x.now)) }
+    ensures { MatchOption result (node (tree_of nodes.now) number ≡ None)
+        (λ x. node (tree_of nodes.now) number ≡ Some (node_of x.now)) }
 {
     for one in nodes {
         if one.number == number {

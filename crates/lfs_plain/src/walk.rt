@@ -12,8 +12,8 @@ use crate::refusal::Refusal;
 use crate::tree::PlainTree;
 use std::alloc::{AllocError, Global};
 
-/// What a piece is in a directory: dot, dot-dot, too long, not there, the number of a directory or a file, a link's number and
-/// text, or a name that gives no node.
+/// What a piece is in a directory: dot, dot-dot, too long, not there, the number of a directory or
+/// a file, a link's number and text, or a name that gives no node.
 pub enum Seen<'a> {
     Here,
     Above,
@@ -44,7 +44,8 @@ fn walk(
     links: u32,
 ) -> Result<End, AllocError>
     requires { links ≤ 40 }
-    ensures { IfOk result (λ e. plain.walk_to (40 - links) tree.now follow from (texts pieces.now) slash ≡ end_of e) }
+    ensures { IfOk result (λ e. plain.walk_to (40 - links) tree.now follow from
+        (texts pieces.now) slash ≡ end_of e) }
 {
     let mut d = from;
     for (i, piece) in pieces.iter().enumerate() {
@@ -89,7 +90,8 @@ fn walk(
     Ok(End::At(d))
 }
 
-/// Where the walk of these pieces from the directory `from` ends. Where each name gives a node, that is an end of the model's walk.
+/// Where the walk of these pieces from the directory `from` ends. Where each name gives a node,
+/// that is an end of the model's walk.
 pub fn walk_from(
     alloc: Global,
     tree: &PlainTree,
@@ -98,8 +100,11 @@ pub fn walk_from(
     pieces: &[Vec<u8>],
     slash: bool,
 ) -> Result<End, AllocError>
-    ensures exact { IfOk result (λ e. walk_end tree.now follow from (texts pieces.now) slash ≡ end_of e) }
-    ensures walks { NamesGive tree.now → IfOk result (λ e. IsSomeAnd (end_of e) (λ x. model.Walk tree.now follow from (texts pieces.now) slash 0 x)) }
+    ensures exact { IfOk result (λ e. walk_end tree.now follow from
+        (texts pieces.now) slash ≡ end_of e) }
+    ensures walks { NamesGive tree.now
+        → IfOk result (λ e. IsSomeAnd (end_of e)
+        (λ x. model.Walk tree.now follow from (texts pieces.now) slash 0 x)) }
 {
     let e = walk(alloc, tree, follow, from, pieces, slash, 0)?;
     Ok(e)

@@ -22,9 +22,11 @@ pub enum RootFault {
 fn read_slot<D: SectorDevice>(device: &mut D, slot: u32) -> Result<Option<Checkpoint>, DeviceFault>
     requires { slot < (D.state device.old).size }
     ensures fits { IfOk result (λ found. IfSome found FitsCheckpoint) }
-    ensures holds { IfOk result (λ found. (D.state device.new).keeps_model → SlotHolds (D.state device.old).content slot found) }
+    ensures holds { IfOk result (λ found. (D.state device.new).keeps_model
+        → SlotHolds (D.state device.old).content slot found) }
     ensures failed { OnErr result ((D.state device.old).failures < (D.state device.new).failures) }
-    ensures no_failure { OnOk result ((D.state device.new).failures ≡ (D.state device.old).failures) }
+    ensures no_failure { OnOk result
+        ((D.state device.new).failures ≡ (D.state device.old).failures) }
     ensures untouched { IsUntouched (D.state device.old) (D.state device.new) }
     ensures carries { Carries (D.state device.old) (D.state device.new) }
     ensures time { Elapses (D.state device.old) (D.state device.new) }
@@ -46,8 +48,10 @@ fn read_slot<D: SectorDevice>(device: &mut D, slot: u32) -> Result<Option<Checkp
 
 /// The checkpoint with the greater number.
 fn greater(first: Option<Checkpoint>, second: Option<Checkpoint>) -> Option<Checkpoint>
-    ensures fits { IfSome first FitsCheckpoint → IfSome second FitsCheckpoint → IfSome result FitsCheckpoint }
-    ensures newest { (content : List Cell) → SlotHolds content 0 first → SlotHolds content 1 second → NewestIs content result }
+    ensures fits { IfSome first FitsCheckpoint → IfSome second FitsCheckpoint
+        → IfSome result FitsCheckpoint }
+    ensures newest { (content : List Cell) → SlotHolds content 0 first → SlotHolds content 1 second
+        → NewestIs content result }
 {
     match (first, second) {
         (Some(first), Some(second)) => {
@@ -62,9 +66,10 @@ fn greater(first: Option<Checkpoint>, second: Option<Checkpoint>) -> Option<Chec
     }
 }
 
-/// Syncs, and then gives the newest checkpoint of the two slots, sectors 0 and 1. A slot that is unreadable, that holds
-/// no checkpoint, or one whose number has the other slot's parity, counts as empty. After `Ok` and `Missing` all that the
-/// device holds is durable, and at no moment does a stop leave what it couldn't leave at the start.
+/// Syncs, and then gives the newest checkpoint of the two slots, sectors 0 and 1. A slot that is
+/// unreadable, that holds no checkpoint, or one whose number has the other slot's parity, counts as
+/// empty. After `Ok` and `Missing` all that the device holds is durable, and at no moment does a
+/// stop leave what it couldn't leave at the start.
 ///
 /// # Errors
 ///
@@ -72,15 +77,23 @@ fn greater(first: Option<Checkpoint>, second: Option<Checkpoint>) -> Option<Chec
 pub fn newest<D: SectorDevice>(device: &mut D) -> Result<Checkpoint, RootFault>
     requires { 2 ≤ (D.state device.old).size }
     ensures fits { IfOk result FitsCheckpoint }
-    ensures found { IfOk result (λ c. (D.state device.new).keeps_model → IsNewest (D.state device.old).content c) }
-    ensures missing { IsErrOf result RootFault.Missing → (D.state device.new).keeps_model → HasNoCheckpoint (D.state device.old).content }
-    ensures durable { OnOk result ((D.state device.new).keeps_model → Only (D.state device.old).content (D.state device.new)) }
-    ensures durable_missing { IsErrOf result RootFault.Missing → (D.state device.new).keeps_model → Only (D.state device.old).content (D.state device.new) }
-    ensures failed { IsErrOf result RootFault.Device → (D.state device.old).failures < (D.state device.new).failures }
-    ensures no_failure { OnOk result ((D.state device.new).failures ≡ (D.state device.old).failures) }
-    ensures no_failure_missing { IsErrOf result RootFault.Missing → (D.state device.new).failures ≡ (D.state device.old).failures }
+    ensures found { IfOk result (λ c. (D.state device.new).keeps_model
+        → IsNewest (D.state device.old).content c) }
+    ensures missing { IsErrOf result RootFault.Missing → (D.state device.new).keeps_model
+        → HasNoCheckpoint (D.state device.old).content }
+    ensures durable { OnOk result ((D.state device.new).keeps_model
+        → Only (D.state device.old).content (D.state device.new)) }
+    ensures durable_missing { IsErrOf result RootFault.Missing → (D.state device.new).keeps_model
+        → Only (D.state device.old).content (D.state device.new) }
+    ensures failed { IsErrOf result RootFault.Device
+        → (D.state device.old).failures < (D.state device.new).failures }
+    ensures no_failure { OnOk result
+        ((D.state device.new).failures ≡ (D.state device.old).failures) }
+    ensures no_failure_missing { IsErrOf result RootFault.Missing
+        → (D.state device.new).failures ≡ (D.state device.old).failures }
     ensures untouched { IsUntouched (D.state device.old) (D.state device.new) }
-    ensures any_moment { LeavesOnly (D.state device.old) (D.state device.new) (D.state device.old).may_leave }
+    ensures any_moment { LeavesOnly (D.state device.old) (D.state device.new)
+        (D.state device.old).may_leave }
     ensures carries { Carries (D.state device.old) (D.state device.new) }
 {
     if device.sync().is_err() {
@@ -105,12 +118,17 @@ fn write_durably<D: SectorDevice>(
     bytes: &[u8; 512],
 ) -> Result<(), DeviceFault>
     requires { sector < (D.state device.old).size }
-    ensures any_moment { LeavesOnly (D.state device.old) (D.state device.new) (ComesFrom (D.state device.old) (MayWrite sector bytes.now)) }
-    ensures left { AllLeft (D.state device.new) (ComesFrom (D.state device.old) (MayWrite sector bytes.now)) }
-    ensures content { OnOk result ((D.state device.new).keeps_model → (D.state device.new).content ≡ put (D.state device.old).content sector bytes.now) }
-    ensures durable { OnOk result ((D.state device.new).keeps_model → Only (D.state device.new).content (D.state device.new)) }
+    ensures any_moment { LeavesOnly (D.state device.old) (D.state device.new)
+        (ComesFrom (D.state device.old) (MayWrite sector bytes.now)) }
+    ensures left { AllLeft (D.state device.new)
+        (ComesFrom (D.state device.old) (MayWrite sector bytes.now)) }
+    ensures content { OnOk result ((D.state device.new).keeps_model
+        → (D.state device.new).content ≡ put (D.state device.old).content sector bytes.now) }
+    ensures durable { OnOk result ((D.state device.new).keeps_model
+        → Only (D.state device.new).content (D.state device.new)) }
     ensures failed { OnErr result ((D.state device.old).failures < (D.state device.new).failures) }
-    ensures no_failure { OnOk result ((D.state device.new).failures ≡ (D.state device.old).failures) }
+    ensures no_failure { OnOk result
+        ((D.state device.new).failures ≡ (D.state device.old).failures) }
     ensures carries { Carries (D.state device.old) (D.state device.new) }
 {
     device.write(sector, bytes)?;
@@ -118,9 +136,9 @@ fn write_durably<D: SectorDevice>(
     Ok(())
 }
 
-/// Writes the checkpoint to its slot, the sector that is its number modulo 2, and syncs. Where the newest checkpoint is
-/// the one before it in number, a stop at any moment leaves that one or this as the newest, and after `Ok` this alone.
-/// Nothing but the slot's sector changes.
+/// Writes the checkpoint to its slot, the sector that is its number modulo 2, and syncs. Where the
+/// newest checkpoint is the one before it in number, a stop at any moment leaves that one or this
+/// as the newest, and after `Ok` this alone. Nothing but the slot's sector changes.
 ///
 /// # Errors
 ///
@@ -129,19 +147,30 @@ pub fn replace<D: SectorDevice>(device: &mut D, checkpoint: &Checkpoint) -> Resu
     requires size { 2 ≤ (D.state device.old).size }
     requires fits { FitsCheckpoint checkpoint.now }
     ensures any_moment { LeavesOnly (D.state device.old) (D.state device.new)
-        (ComesFrom (D.state device.old) (MayWrite (checkpoint.now.number % 2) (checkpoint_sector checkpoint.now))) }
-    ensures newest { (last : CheckpointValue) → AllLeft (D.state device.old) (λ c. IsNewest c last) → checkpoint.now.number ≡ last.number + 1
+        (ComesFrom (D.state device.old)
+        (MayWrite (checkpoint.now.number % 2) (checkpoint_sector checkpoint.now))) }
+    ensures newest { (last : CheckpointValue) → AllLeft (D.state device.old) (λ c. IsNewest c last)
+        → checkpoint.now.number ≡ last.number + 1
         → LeavesOnly (D.state device.old) (D.state device.new) (NewestIsOneOf last checkpoint.now) }
-    ensures left { AllLeft (D.state device.new) (ComesFrom (D.state device.old) (MayWrite (checkpoint.now.number % 2) (checkpoint_sector checkpoint.now))) }
-    ensures left_newest { (last : CheckpointValue) → AllLeft (D.state device.old) (λ c. IsNewest c last) → checkpoint.now.number ≡ last.number + 1
+    ensures left { AllLeft (D.state device.new)
+        (ComesFrom (D.state device.old)
+        (MayWrite (checkpoint.now.number % 2) (checkpoint_sector checkpoint.now))) }
+    ensures left_newest { (last : CheckpointValue)
+        → AllLeft (D.state device.old) (λ c. IsNewest c last)
+        → checkpoint.now.number ≡ last.number + 1
         → AllLeft (D.state device.new) (NewestIsOneOf last checkpoint.now) }
     ensures content { OnOk result ((D.state device.new).keeps_model
-        → (D.state device.new).content ≡ put (D.state device.old).content (checkpoint.now.number % 2) (checkpoint_sector checkpoint.now)) }
-    ensures durable { OnOk result ((D.state device.new).keeps_model → Only (D.state device.new).content (D.state device.new)) }
-    ensures acknowledged { OnOk result ((last : CheckpointValue) → (D.state device.new).keeps_model → AllLeft (D.state device.old) (λ c. IsNewest c last)
-        → checkpoint.now.number ≡ last.number + 1 → AllLeft (D.state device.new) (λ c. IsNewest c checkpoint.now)) }
+        → (D.state device.new).content ≡ put (D.state device.old).content
+        (checkpoint.now.number % 2) (checkpoint_sector checkpoint.now)) }
+    ensures durable { OnOk result ((D.state device.new).keeps_model
+        → Only (D.state device.new).content (D.state device.new)) }
+    ensures acknowledged { OnOk result ((last : CheckpointValue) → (D.state device.new).keeps_model
+        → AllLeft (D.state device.old) (λ c. IsNewest c last)
+        → checkpoint.now.number ≡ last.number + 1
+        → AllLeft (D.state device.new) (λ c. IsNewest c checkpoint.now)) }
     ensures failed { OnErr result ((D.state device.old).failures < (D.state device.new).failures) }
-    ensures no_failure { OnOk result ((D.state device.new).failures ≡ (D.state device.old).failures) }
+    ensures no_failure { OnOk result
+        ((D.state device.new).failures ≡ (D.state device.old).failures) }
     ensures carries { Carries (D.state device.old) (D.state device.new) }
 {
     let slot = (checkpoint.number % 2) as u32;
@@ -150,5 +179,6 @@ pub fn replace<D: SectorDevice>(device: &mut D, checkpoint: &Checkpoint) -> Resu
 
 /// A content has one newest checkpoint.
 pub fn one_newest()
-    ensures { (content : List Cell) (c d : CheckpointValue) → IsNewest content c → IsNewest content d → c ≡ d }
+    ensures { (content : List Cell) (c d : CheckpointValue) → IsNewest content c
+        → IsNewest content d → c ≡ d }
 {}

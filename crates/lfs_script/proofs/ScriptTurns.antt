@@ -18,8 +18,8 @@ use Rattle.lfs_script.specs.declared.line.LineEnd.{LineEnd}
 use Rattle.lfs_script.specs.declared.line.LineEnd.TheVariants.{TooLong}
 use Rattle.lfs_script.specs.declared.source.ReadError.{ReadError}
 use Rattle.lfs_script.specs.Lines.{IsUnknown}
-use Rattle.lfs_script.specs.Ending.{EndOf, IsBadLine, IsBadText, IsText, IsWhole, ended_texts, replies}
-use Rattle.lfs_script.specs.Running.{AnswersText, Called, Ends, EndsBy, Finishes, Refuses, SoFar, Turns}
+use Rattle.lfs_script.specs.Ending.{EndOf, IsBadLine, IsBadText, IsText, EndsWithLine, ended_texts, replies}
+use Rattle.lfs_script.specs.Running.{AnswersText, Called, Ends, EndsBy, Finishes, RepliesBadLine, SoFar, Turns}
 use Rattle.lfs_script.specs.Strict.{Follows, EndsBehind, GoesOnBehind, StrictEndOf}
 use Rattle.lfs_script.specs.declared.script.ScriptEnd.{ScriptEnd}
 use Rattle.lfs_script.specs.declared.script.ScriptEnd.TheVariants.{Done, BadLine, Read, Write, Memory}
@@ -149,7 +149,7 @@ module _ {D : Type 0} (state : D → DeviceState) (strict : Bool) (none : (old :
 
   -- a reply that went out in part
   reply_stops : (n : ℕ) (r mid now w w1 w2 : Option (List ℕ)) (old at new : Mounted D) (text input rest : List ℕ) (so : SoFar state strict n r mid w w1 old at) → Called state (AppendsSome w1 w2) at new text
-      → lines input ≡ so.texts ++ text ∷ [] → IsWhole input rest now → Consumes r now (input ++ rest) → EndsBy state strict (Script Write) r now w w2 old new
+      → lines input ≡ so.texts ++ text ∷ [] → EndsWithLine input rest now → Consumes r now (input ++ rest) → EndsBy state strict (Script Write) r now w w2 old new
   reply_stops n r mid now w w1 w2 old at new text input rest so call cut whole consumes = record {
     texts = so.texts ++ text ∷ [];
     script = so.script ++ call.line ∷ [];
@@ -174,7 +174,7 @@ module _ {D : Type 0} (state : D → DeviceState) (strict : Bool) (none : (old :
 
   -- a reply behind which a strict run ends
   refusal_stops : (n : ℕ) (r mid now w w1 w2 : Option (List ℕ)) (old at new : Mounted D) (text input rest : List ℕ) (so : SoFar state strict n r mid w w1 old at) (call : Called state (Appends w1 w2) at new text)
-      → EndsBehind strict call.answer → lines input ≡ so.texts ++ text ∷ [] → IsWhole input rest now → Consumes r now (input ++ rest) → EndsBy state strict Refused r now w w2 old new
+      → EndsBehind strict call.answer → lines input ≡ so.texts ++ text ∷ [] → EndsWithLine input rest now → Consumes r now (input ++ rest) → EndsBy state strict Refused r now w w2 old new
   refusal_stops n r mid now w w1 w2 old at new text input rest so call refused cut whole consumes = record {
     texts = so.texts ++ text ∷ [];
     script = so.script ++ call.line ∷ [];
@@ -209,7 +209,7 @@ module _ {D : Type 0} (state : D → DeviceState) (strict : Bool) (none : (old :
 
   -- a bad line
   bad_ends : (end : ScriptEnd) (n : ℕ) (r mid now w w1 w2 : Option (List ℕ)) (old at new : Mounted D) (text rest : List ℕ) (so : SoFar state strict n r mid w w1 old at) → new ≡ at → IsBadLine text rest now
-      → Consumes r now (ended_texts so.texts ++ (text ++ rest)) → Refuses end w1 w2 n → EndsBy state strict (Script end) r now w w2 old new
+      → Consumes r now (ended_texts so.texts ++ (text ++ rest)) → RepliesBadLine end w1 w2 n → EndsBy state strict (Script end) r now w w2 old new
   bad_ends Done n r mid now w w1 w2 old at new text rest so same line consumes refuses = absurd refuses
   bad_ends Read n r mid now w w1 w2 old at new text rest so same line consumes refuses = absurd refuses
   bad_ends Memory n r mid now w w1 w2 old at new text rest so same line consumes refuses = absurd refuses
@@ -245,7 +245,7 @@ module _ {D : Type 0} (state : D → DeviceState) (strict : Bool) (none : (old :
 
   -- a line that is too long
   pub too_long : (end : ScriptEnd) (n : ℕ) (r mid now w w1 w2 : Option (List ℕ)) (old at : Mounted D) (text left : List ℕ) (b : ℕ) → SoFar state strict n r mid w w1 old at → IsText text → b ≢ 10 → length text ≡ 140000
-      → Consumes mid (prepend_known left now) (text ++ b ∷ []) → Refuses end w1 w2 n → EndsBy state strict (Script end) r now w w2 old at
+      → Consumes mid (prepend_known left now) (text ++ b ∷ []) → RepliesBadLine end w1 w2 n → EndsBy state strict (Script end) r now w w2 old at
   too_long end n r mid now w w1 w2 old at text left b so plain apart long consumes refuses =
       bad_ends end n r mid now w w1 w2 old at at (text ++ b ∷ []) left so refl
       (record { plain = plain_more text b plain apart; is_bad = inl (let l = length-append text (b ∷ []) in omega (arith, l, long)) })

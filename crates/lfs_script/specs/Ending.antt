@@ -37,8 +37,8 @@ abbrev pub AppendsTo : Option (List ℕ) → Option (List ℕ) → List ℕ → 
 AppendsTo old new whole bytes = (part : List ℕ) × (rest : List ℕ) × (part ++ rest ≡ bytes) × Appends old new (whole ++ part)
 
 -- the input ends with a newline, or there is nothing behind it
-abbrev pub IsWhole : List ℕ → List ℕ → Option (List ℕ) → Type 0
-IsWhole input more left = ((front : List ℕ) × (input ≡ front ++ 10 ∷ [])) ⊎ ((more ≡ []) × IsAtEnd left)
+abbrev pub EndsWithLine : List ℕ → List ℕ → Option (List ℕ) → Type 0
+EndsWithLine input more left = ((front : List ℕ) × (input ≡ front ++ 10 ∷ [])) ⊎ ((more ≡ []) × IsAtEnd left)
 
 -- The last reply went out in part; the lines are all those of the input, each of them whole, and more may have been read.
 pub record StopsInReply (r r' w w' : Option (List ℕ)) (texts : List (List ℕ)) (answers : List Answer) : Type 0 where
@@ -47,7 +47,7 @@ pub record StopsInReply (r r' w w' : Option (List ℕ)) (texts : List (List ℕ)
   pub before : List Answer
   pub last : Answer
   pub cut : lines input ≡ texts
-  pub whole : IsWhole input more r'
+  pub whole : EndsWithLine input more r'
   pub read : Consumes r r' (input ++ more)
   pub all : answers ≡ before ++ last ∷ []
   pub written : AppendsTo w w' (replies before) (reply last)

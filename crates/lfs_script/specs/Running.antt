@@ -16,12 +16,12 @@ use Rattle.lfs_script.specs.declared.script.StrictEnd.{StrictEnd}
 use Rattle.lfs_script.specs.declared.script.StrictEnd.TheVariants.{Script, Refused}
 
 -- The reply to the n-th line, which is bad.
-abbrev pub Refuses : ScriptEnd → Option (List ℕ) → Option (List ℕ) → ℕ → Type 0
-Refuses (BadLine m) w w' n = (m ≡ n) × Appends w w' (bad n)
-Refuses Write w w' n = AppendsSome w w' (bad n)
-Refuses Done w w' n = ⊥
-Refuses Read w w' n = ⊥
-Refuses Memory w w' n = ⊥
+abbrev pub RepliesBadLine : ScriptEnd → Option (List ℕ) → Option (List ℕ) → ℕ → Type 0
+RepliesBadLine (BadLine m) w w' n = (m ≡ n) × Appends w w' (bad n)
+RepliesBadLine Write w w' n = AppendsSome w w' (bad n)
+RepliesBadLine Done w w' n = ⊥
+RepliesBadLine Read w w' n = ⊥
+RepliesBadLine Memory w w' n = ⊥
 
 module _ {D : Type 0} (state : D → DeviceState) where
   -- A run of a script: each text spells a line, the lines' answers are a run of the model on the volume, and the bytes are those of the end.
@@ -59,7 +59,7 @@ module _ {D : Type 0} (state : D → DeviceState) where
   abbrev pub Turns : Bool → Option StrictEnd → Option (List ℕ) → Option (List ℕ) → Mounted D → Mounted D → List ℕ → ℕ → Type 0
   Turns strict None w w' old new text n = (call : Called (Appends w w') old new text) × GoesOnBehind strict call.answer
   Turns strict (Some Refused) w w' old new text n = (call : Called (Appends w w') old new text) × EndsBehind strict call.answer
-  Turns strict (Some (Script end)) w w' old new text n = ((end ≡ Write) × Called (AppendsSome w w') old new text) ⊎ (IsBadText text × Refuses end w w' n × (new ≡ old))
+  Turns strict (Some (Script end)) w w' old new text n = ((end ≡ Write) × Called (AppendsSome w w') old new text) ⊎ (IsBadText text × RepliesBadLine end w w' n × (new ≡ old))
 
   -- The same of the last line, which may be none.
   abbrev pub Finishes : Bool → StrictEnd → Option (List ℕ) → Option (List ℕ) → Mounted D → Mounted D → List ℕ → ℕ → Type 0

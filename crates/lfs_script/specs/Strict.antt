@@ -6,7 +6,7 @@ use Rattle.lfs_model.specs.Call.{Answer, is_ok}
 use Rattle.lfs_model.specs.Device.{DeviceState}
 use Rattle.lfs_model.specs.Script.{Line, lines}
 use Rattle.lfs_model.specs.Use.{UsesVolume}
-use Rattle.lfs_script.specs.Ending.{AreSpelled, EndOf, IsWhole, StopsInBad, StopsInReply, replies}
+use Rattle.lfs_script.specs.Ending.{AreSpelled, EndOf, EndsWithLine, StopsInBad, StopsInReply, replies}
 use Rattle.lfs_script.specs.declared.script.ScriptEnd.TheVariants.{Write}
 use Rattle.lfs_script.specs.declared.script.StrictEnd.{StrictEnd}
 use Rattle.lfs_script.specs.declared.script.StrictEnd.TheVariants.{Script, Refused}
@@ -36,7 +36,7 @@ pub record StopsBehind (strict : Bool) (r r' w w' : Option (List ℕ)) (texts : 
   pub before : List Answer
   pub last : Answer
   pub cut : lines input ≡ texts
-  pub whole : IsWhole input more r'
+  pub whole : EndsWithLine input more r'
   pub read : Consumes r r' (input ++ more)
   pub all : answers ≡ before ++ last ∷ []
   pub first : GoesOn strict before

@@ -37,7 +37,8 @@ fn filled(alloc: Global, len: u32, byte: u8) -> Result<Vec<u8>, AllocError>
     vec![in alloc; byte; len.min(TOO_MANY) as usize]
 }
 
-// Puts so many bytes of a value into a file. A halted volume says so, also where memory for them is refused.
+// Puts so many bytes of a value into a file. A halted volume says so, also where memory for them is
+// refused.
 fn fill<D: SectorDevice>(
     alloc: Global,
     fs: &mut Fs<D>,

@@ -186,7 +186,8 @@ fn truncate(words: Words<'_>) -> Result<(u32, u64), WordFault>
     Ok((handle, len))
 }
 
-// Two words that are read: the second was looked at too where the first found no memory, so a wrong spelling comes first.
+// Two words that are read: the second was looked at too where the first found no memory, so a wrong
+// spelling comes first.
 fn both(
     first: Result<Vec<u8>, WordFault>,
     second: Result<Vec<u8>, WordFault>,
@@ -213,7 +214,8 @@ fn two_words(alloc: Global, words: Words<'_>) -> Result<(Vec<u8>, Vec<u8>), Word
         ≡ words_left (option_copied words.entry.rest)) }
     ensures bytes { IfOk result (λ r. AreBytes r.0.items × AreBytes r.1.items) }
     ensures spelling { result ≡ Err WordFault.Spelling → (first second : List ℕ) → AreBytes first
-        → AreBytes second → word first ∷ word second ∷ [] ≢ words_left (option_copied words.entry.rest) }
+        → AreBytes second → word first ∷ word second ∷ [] ≢ words_left
+        (option_copied words.entry.rest) }
     ensures memory { result ≡ Err WordFault.Memory
         → (first : List ℕ) × (second : List ℕ) × AreBytes first × AreBytes second
         × (word first ∷ word second ∷ [] ≡ words_left (option_copied words.entry.rest)) }

@@ -134,8 +134,8 @@ fn unescape(alloc: Global, word: &[u8]) -> Result<Vec<u8>, WordFault>
     Ok(bytes)
 }
 
-/// The bytes that the word spells: a printing byte but the backslash for itself, a backslash and two digits for
-/// another, a backslash alone for no bytes.
+/// The bytes that the word spells: a printing byte but the backslash for itself, a backslash and
+/// two digits for another, a backslash alone for no bytes.
 pub fn read_escaped(alloc: Global, word: &[u8]) -> Result<Vec<u8>, WordFault>
     ensures ok { IfOk result (λ bytes. script.word bytes.items ≡ word.now) }
     ensures bytes { IfOk result (λ bytes. AreBytes bytes.items) }

@@ -19,7 +19,8 @@ pub enum LineEnd {
     TooLong(u8),
 }
 
-/// Reads a line into the buffer, which has the room. The writer is flushed before each read of the reader.
+/// Reads a line into the buffer, which has the room. The writer is flushed before each read of the
+/// reader.
 pub fn next_line<R: Read, W: Write>(
     source: &mut Source,
     reader: &mut R,

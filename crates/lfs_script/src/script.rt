@@ -2,7 +2,7 @@
 ghost use Rattle.std.specs.Prelude.{◌≤◌, length, option_map, true};
 ghost use Rattle.lfs_fs.specs.Seen.{seen};
 ghost use Rattle.lfs_script.specs.Answers.{result_of};
-ghost use Rattle.lfs_script.specs.Running.{AnswersText, Ends, EndsBy, Finishes, Refuses, Turns};
+ghost use Rattle.lfs_script.specs.Running.{AnswersText, Ends, EndsBy, Finishes, RepliesBadLine, Turns};
 ghost use Rattle.lfs_script.specs.Strict.{Follows};
 
 use crate::answer::{Answer, make};
@@ -42,7 +42,7 @@ pub enum StrictEnd {
 
 // Says that the line is bad.
 fn refuse<W: Write>(writer: &mut W, line: u64) -> ScriptEnd
-    ensures { Refuses result (W.contents writer.old) (W.contents writer.new) line }
+    ensures { RepliesBadLine result (W.contents writer.old) (W.contents writer.new) line }
 {
     match put_bad(writer, line) {
         Ok(()) => ScriptEnd::BadLine(line),
@@ -156,8 +156,9 @@ fn run_lines<R: Read, W: Write, D: SectorDevice>(
     StrictEnd::Script(ScriptEnd::Read)
 }
 
-/// Makes the calls of the lines that the reader gives, and writes their replies. It flushes the writer before each read, whatever that answers:
-/// behind a buffer each reply goes out before the next line is asked for. The end is the caller's to flush.
+/// Makes the calls of the lines that the reader gives, and writes their replies. It flushes the
+/// writer before each read, whatever that answers: behind a buffer each reply goes out before the
+/// next line is asked for. The end is the caller's to flush.
 pub fn run<R: Read, W: Write, D: SectorDevice>(
     alloc: Global,
     reader: &mut R,

@@ -15,7 +15,8 @@ use lfs_fs::{Fs, MountFault};
 use std::alloc::Global;
 use std::io::{Read, Write};
 
-/// Mounts what a stop may have left, runs a script on it, and gives the device back. What wasn't saved is gone.
+/// Mounts what a stop may have left, runs a script on it, and gives the device back. What wasn't
+/// saved is gone.
 pub fn use_volume<R: Read, W: Write, D: SectorDevice>(
     alloc: Global,
     reader: &mut R,
@@ -45,7 +46,8 @@ pub fn use_volume<R: Read, W: Write, D: SectorDevice>(
     }
 }
 
-/// As `use_volume` on a device in memory, which stops then: `left` is what it leaves of each sector that wasn't synced.
+/// As `use_volume` on a device in memory, which stops then: `left` is what it leaves of each sector
+/// that wasn't synced.
 pub fn use_and_stop<R: Read, W: Write>(
     alloc: Global,
     reader: &mut R,
@@ -89,7 +91,8 @@ pub struct StoppedScript {
     pub left: Left,
 }
 
-/// Uses a volume by each of the scripts in turn, on what the stop before it left. The first mount that fails is the last.
+/// Uses a volume by each of the scripts in turn, on what the stop before it left. The first mount
+/// that fails is the last.
 pub fn use_each<W: Write>(
     alloc: Global,
     scripts: &[StoppedScript],

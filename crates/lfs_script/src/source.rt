@@ -52,8 +52,8 @@ impl Source {
         })
     }
 
-    /// Takes the next byte; `None` is the end of the input. After an error nothing that was read is left over. The writer is flushed before the
-    /// reader is asked.
+    /// Takes the next byte; `None` is the end of the input. After an error nothing that was read is
+    /// left over. The writer is flushed before the reader is asked.
     pub fn next<R: Read, W: Write>(
         &mut self,
         reader: &mut R,

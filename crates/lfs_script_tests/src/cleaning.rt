@@ -27,8 +27,8 @@ fn device_of(fs: Box<Fs<MemDevice>>) -> MemDevice {
     Box::into_inner(fs).into_device()
 }
 
-/// A volume whose file takes nearly all of its room. Two commits left a few blocks in each of its segments that live no
-/// more, and fewer than a quarter of the segments clean.
+/// A volume whose file takes nearly all of its room. Two commits left a few blocks in each of its
+/// segments that live no more, and fewer than a quarter of the segments clean.
 fn worn_device(alloc: Global) -> Result<MemDevice, Fail> {
     let mut fs = volume_of(alloc, new_device(alloc)?)?;
     let ones = vec![in alloc; 1; PIECE]?;
@@ -81,7 +81,8 @@ fn check_file(fs: &mut Fs<MemDevice>, pieces: &[Vec<u8>]) -> Result<(), Fail> {
     Ok(())
 }
 
-/// Cleans on a device that stops within this write, and looks at what the stop leaves. Whether the clean was halted.
+/// Cleans on a device that stops within this write, and looks at what the stop leaves. Whether the
+/// clean was halted.
 fn is_stopped(
     alloc: Global,
     pieces: &[Vec<u8>],
@@ -154,8 +155,8 @@ enum Progress {
     End,
 }
 
-/// Mounts and cleans where the `nth` call of this kind fails. A failed read changes nothing, and the next clean goes
-/// through. The file is there when the volume is mounted again.
+/// Mounts and cleans where the `nth` call of this kind fails. A failed read changes nothing, and
+/// the next clean goes through. The file is there when the volume is mounted again.
 fn reached(
     alloc: Global,
     pieces: &[Vec<u8>],

@@ -1,11 +1,12 @@
-//! Names that come, move and go, on a device that stops at each of its writes, beside the plain program.
+//! Names that come, move and go, on a device that stops at each of its writes, beside the plain
+//! program.
 use crate::trial::{plain_run, trial};
 use lfs_device::Left;
 use std::alloc::Global;
 use std::test::Fail;
 
-// 60 calls that change something, renames over files, directories and links and files that are open without a name among
-// them, and eight that save.
+// 60 calls that change something, renames over files, directories and links and files that are open
+// without a name among them, and eight that save.
 const LINES: [&str; 72] = [
     "create /a",
     "pwrite 0 0 6131",

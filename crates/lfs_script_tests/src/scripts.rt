@@ -1,4 +1,5 @@
-//! Scripts whose lines are long, and volumes that are used by several scripts. Most scripts stand as cases beside the program
+//! Scripts whose lines are long, and volumes that are used by several scripts. Most scripts stand
+//! as cases beside the program
 //! `lfs_cases`.
 use crate::volume::{SECTORS, answered, new_device};
 use lfs_device::{Left, MemDevice};
@@ -35,7 +36,8 @@ fn stopped_script(alloc: Global, text: &[u8], left: Left) -> Result<StoppedScrip
     Ok(StoppedScript { script, left })
 }
 
-// What two scripts write that use a new volume in turn, with stops that leave this. None where the second isn't made.
+// What two scripts write that use a new volume in turn, with stops that leave this. None where the
+// second isn't made.
 fn used_in_turn(
     alloc: Global,
     first: &[u8],

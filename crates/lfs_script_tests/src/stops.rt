@@ -122,8 +122,8 @@ fn shown(alloc: Global, device: MemDevice) -> Result<Vec<u8>, Fail> {
     Ok(output)
 }
 
-// The least and the greatest number of calls that the tree after a stop may have: up to the last sync that is
-// acknowledged, and up to the first call that is halted.
+// The least and the greatest number of calls that the tree after a stop may have: up to the last
+// sync that is acknowledged, and up to the first call that is halted.
 fn bounds(replies: &[u8]) -> Result<(usize, usize), Fail> {
     let mut least = 0;
     for (index, reply) in str::from_utf8(replies)?.split('\n').enumerate() {
@@ -173,8 +173,8 @@ fn a_script_of_many_calls(rt: HostRuntime) -> Result<(), Fail> {
     Ok(())
 }
 
-// Stops at each write, and behind the last. Answers how many stops left more than the last acknowledged sync holds, and the
-// first write whose stop left what it may not.
+// Stops at each write, and behind the last. Answers how many stops left more than the last
+// acknowledged sync holds, and the first write whose stop left what it may not.
 fn stops_at_each_write(alloc: Global, left: Option<Left>) -> Result<(u32, Option<u64>), Fail> {
     let (_, looks) = plain_run(alloc)?;
     let writes = stopped(alloc, u64::MAX)?.1.writes();

@@ -143,7 +143,8 @@ impl Write for Marked {
     }
 }
 
-// What a writer is given as a script is read a byte at a time: a flush before each read, whatever it answers.
+// What a writer is given as a script is read a byte at a time: a flush before each read, whatever
+// it answers.
 fn is_flushed(alloc: Global, fs: &mut Fs<MemDevice>, fails: bool) -> bool {
     let mut input = Trickle {
         rest: b"space\nspace\n",
@@ -254,7 +255,8 @@ fn entries_within(taken: usize) -> usize {
     2
 }
 
-// Whether a beginning of the replies comes out, and no line is made behind the one whose reply is cut.
+// Whether a beginning of the replies comes out, and no line is made behind the one whose reply is
+// cut.
 fn gives_beginning(
     alloc: Global,
     whole: &[u8],

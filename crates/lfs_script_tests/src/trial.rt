@@ -85,9 +85,9 @@ pub struct TrialEnd {
     pub is_newer: bool,
 }
 
-/// Runs the lines on a new volume whose device stops within this write, and then mounts what the stop leaves: the tree has
-/// to be one that the plain program had, behind the calls that an acknowledged sync saved and no later than the first that
-/// was halted.
+/// Runs the lines on a new volume whose device stops within this write, and then mounts what the
+/// stop leaves: the tree has to be one that the plain program had, behind the calls that an
+/// acknowledged sync saved and no later than the first that was halted.
 pub fn trial(
     alloc: Global,
     lines: &[&str],

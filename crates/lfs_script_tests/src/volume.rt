@@ -42,7 +42,8 @@ const PAIRS: [(Left, Left); 6] = [
     (Left::Bad, Left::New),
 ];
 
-/// Leaves each sector that isn't synced so, or else two kinds in turn, which are others from write to write.
+/// Leaves each sector that isn't synced so, or else two kinds in turn, which are others from write
+/// to write.
 pub fn leave(device: &mut MemDevice, write: u64, left: Option<Left>) {
     if let Some(left) = left {
         device.crash(left);

@@ -4,7 +4,7 @@ use Rattle.std.specs.Prelude.{slice_set}
 use Rattle.std.proofs.lemmas.Bool.{cases_eq, false_from_ne_true}
 use Rattle.lfs_model.specs.Stands.{count_up}
 use Rattle.lfs_model.proofs.Live.{count_up_none, count_up_more, count_up_same}
-use Rattle.lfs_segments.specs.Table.{SegmentNumbers, no_segment, is_clean_in, clean_in, BlockPlace, FitsSegment, FitsTable}
+use Rattle.lfs_segments.specs.Table.{SegmentNumbers, no_segment, is_clean_in, clean_in, PlaceInSegment, FitsSegment, FitsTable}
 
 -- one more passes the test
 count_one_more : (p q : ℕ → Bool) (n o : ℕ) → o < n → ((x : ℕ) → (x ≡ o → ⊥) → p x ≡ q x) → p o ≡ false → q o ≡ true → count_up q n ≡ suc (count_up p n)
@@ -109,7 +109,7 @@ all_clean n = ap (count_up (is_clean_in (replicate n no_segment))) (long n) ∙ 
 pub all_fit : (n : ℕ) (i : ℕ) → FitsSegment (get_or (replicate n no_segment) i no_segment)
 all_fit n i = subst FitsSegment (sym (no_segment_there n i)) (record { used = omega arith; fewer = omega arith })
 
-pub new_fits : (segments : List SegmentNumbers) (blocks : List BlockPlace) (n : ℕ) → n ≤ 1024 → segments ≡ replicate n no_segment → length blocks ≡ 16 → FitsTable (record { segments = segments; blocks = blocks })
+pub new_fits : (segments : List SegmentNumbers) (blocks : List PlaceInSegment) (n : ℕ) → n ≤ 1024 → segments ≡ replicate n no_segment → length blocks ≡ 16 → FitsTable (record { segments = segments; blocks = blocks })
 new_fits segments blocks n few is whole = record {
   few = let l = ap length is ∙ long n in omega arith;
   blocks = whole;
@@ -117,7 +117,7 @@ new_fits segments blocks n few is whole = record {
 }
 
 -- the table with a segment's numbers changed
-pub set_fits : (segments : List SegmentNumbers) (blocks : List BlockPlace) (s : ℕ) (x : SegmentNumbers) → FitsTable (record { segments = segments; blocks = blocks }) → s < length segments → FitsSegment x
+pub set_fits : (segments : List SegmentNumbers) (blocks : List PlaceInSegment) (s : ℕ) (x : SegmentNumbers) → FitsTable (record { segments = segments; blocks = blocks }) → s < length segments → FitsSegment x
     → FitsTable (record { segments = slice_set segments s x; blocks = blocks })
 set_fits segments blocks s x fits lt own = record {
   few = let l = length-set segments s x in let f = fits.few in omega arith;

@@ -3,7 +3,7 @@ use Rattle.std.proofs.Common.{◌≡◌, ◌<◌, ⊎_elim, not, ℕ, Bool, true
 use Rattle.std.proofs.lemmas.Bool.{cases_eq}
 use Rattle.lfs_model.specs.Running.{CountsUp, CountsDown}
 use Rattle.lfs_segments.specs.Table.{UsageTable, SegmentNumbers, no_segment, used_of, live_of, held_of, taken_of}
-use Rattle.lfs_segments.specs.Steps.{Takes, Notes, Lifts, Puts}
+use Rattle.lfs_segments.specs.Steps.{TakesSegment, Notes, Lifts, PutsPlace}
 use Rattle.lfs_segments.specs.Emptied.{IsEmptied}
 
 -- ---- counts
@@ -22,13 +22,13 @@ down_still false old new c s none down = down s ∙ none
 
 -- A segment is taken, a block is placed in one that was taken, a block leaves one, a usage block gets its place: what was emptied stays so.
 pub stays_emptied : (t t' : UsageTable) (s : ℕ) → IsEmptied t s
-    → ((c age : ℕ) → Takes t t' c age → IsEmptied t' s)
+    → ((c age : ℕ) → TakesSegment t t' c age → IsEmptied t' s)
     × ((c : ℕ) (lives : Bool) → Notes t t' c lives → taken_of t c ≡ true → IsEmptied t' s)
     × ((c : ℕ) (lives : Bool) → Lifts t t' c lives → IsEmptied t' s)
-    × ((j at : ℕ) (stale : Bool) → Puts t t' j at stale → IsEmptied t' s)
+    × ((j at : ℕ) (stale : Bool) → PutsPlace t t' j at stale → IsEmptied t' s)
 stays_emptied t t' s is = (taken, noted, lifted, put)
   where
-    taken : (c age : ℕ) → Takes t t' c age → IsEmptied t' s
+    taken : (c age : ℕ) → TakesSegment t t' c age → IsEmptied t' s
     taken c age go =
         let away : s ≡ c → ⊥ = λ e. let u = is.used in let z = go.clean in let same = ap (used_of t) e in omega (arith, u, z, same) in
         record {
@@ -56,7 +56,7 @@ stays_emptied t t' s is = (taken, noted, lifted, put)
       held = down_still (not lives) (held_of t) (held_of t') c s is.held go.held;
     }
 
-    put : (j at : ℕ) (stale : Bool) → Puts t t' j at stale → IsEmptied t' s
+    put : (j at : ℕ) (stale : Bool) → PutsPlace t t' j at stale → IsEmptied t' s
     put j at stale go = record {
       used = subst (λ (l : List SegmentNumbers). 0 < (get_or l s no_segment).used) (sym go.segments) is.used;
       before = ap (λ (l : List SegmentNumbers). (get_or l s no_segment).taken) go.segments ∙ is.before;

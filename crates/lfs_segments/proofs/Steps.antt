@@ -4,8 +4,8 @@ use Rattle.std.specs.Prelude.{slice_set}
 use Rattle.std.proofs.lemmas.Bool.{cases_eq, cases_lt, cases_Bool, cond-true, cond-false, false_from_ne_true}
 use Rattle.std.proofs.lemmas.List.{get_or_past}
 use Rattle.lfs_model.specs.Running.{IsSet, CountsUp, CountsDown}
-use Rattle.lfs_segments.specs.Table.{SegmentNumbers, BlockPlace, UsageTable, FitsSegment, FitsTable, no_segment, no_place, used_of, live_of, held_of, age_of, taken_of, clean_in}
-use Rattle.lfs_segments.specs.Steps.{Stales, Notes, Lifts, TakesAway, HidesBlocks, Takes, Puts, Releases, released, is_empty}
+use Rattle.lfs_segments.specs.Table.{SegmentNumbers, PlaceInSegment, UsageTable, FitsSegment, FitsTable, no_segment, no_place, used_of, live_of, held_of, age_of, taken_of, clean_in}
+use Rattle.lfs_segments.specs.Steps.{Stales, Notes, Lifts, TakesAway, HidesBlocks, TakesSegment, PutsPlace, Releases, released, is_empty}
 use Rattle.lfs_segments.proofs.Numbers.{set_own, set_other, one_taken, still_clean, clean_change}
 
 module _ {X : Type 0} (f : SegmentNumbers → X) (segments : List SegmentNumbers) (s : ℕ) (x : SegmentNumbers) (lt : s < length segments) where
@@ -37,23 +37,23 @@ module _ (f : SegmentNumbers → ℕ) (segments : List SegmentNumbers) (s : ℕ)
   counts_down false is = is_same f segments s x lt (omega arith)
 
 -- the blocks of the table
-module _ (blocks : List BlockPlace) (j : ℕ) (x : BlockPlace) (lt : j < length blocks) where
+module _ (blocks : List PlaceInSegment) (j : ℕ) (x : PlaceInSegment) (lt : j < length blocks) where
   place_own : get_or (slice_set blocks j x) j no_place ≡ x
   place_own = get_or-set_same blocks j x no_place lt
 
   place_other : (i : ℕ) → (i ≡ j → ⊥) → get_or (slice_set blocks j x) i no_place ≡ get_or blocks i no_place
   place_other i ne = get_or-set_other blocks j i x no_place ne
 
-  pub place_set : {X : Type 0} (f : BlockPlace → X) → IsSet (λ i. f (get_or blocks i no_place)) (λ i. f (get_or (slice_set blocks j x) i no_place)) j (f x)
+  pub place_set : {X : Type 0} (f : PlaceInSegment → X) → IsSet (λ i. f (get_or blocks i no_place)) (λ i. f (get_or (slice_set blocks j x) i no_place)) j (f x)
   place_set f = record { own = ap f place_own; others = λ i ne. ap f (place_other i ne) }
 
-  pub place_same : {X : Type 0} (f : BlockPlace → X) → f x ≡ f (get_or blocks j no_place) → (i : ℕ) → f (get_or (slice_set blocks j x) i no_place) ≡ f (get_or blocks i no_place)
+  pub place_same : {X : Type 0} (f : PlaceInSegment → X) → f x ≡ f (get_or blocks j no_place) → (i : ℕ) → f (get_or (slice_set blocks j x) i no_place) ≡ f (get_or blocks i no_place)
   place_same f same i = ⊎_elim
       (λ (here : i ≡ j). ap (λ (i : ℕ). f (get_or (slice_set blocks j x) i no_place)) here ∙ ap f place_own ∙ same ∙ ap (λ (i : ℕ). f (get_or blocks i no_place)) (sym here))
       (λ (away : i ≡ j → ⊥). ap f (place_other i away))
       (cases_eq i j)
 
-made_stale : (segments more : List SegmentNumbers) (blocks : List BlockPlace) (j : ℕ) → j < length blocks
+made_stale : (segments more : List SegmentNumbers) (blocks : List PlaceInSegment) (j : ℕ) → j < length blocks
     → Stales (record { segments = segments; blocks = blocks }) (record { segments = more; blocks = slice_set blocks j (record { address = (get_or blocks j no_place).address; stale = true }) }) j
 made_stale segments more blocks j lt = record {
   stale = place_set blocks j _ lt (λ b. b.stale);
@@ -63,7 +63,7 @@ made_stale segments more blocks j lt = record {
 both_in_use : (a b : ℕ) → a ≢ 0 → b ≢ 0 → (a == 0) ≡ (b == 0)
 both_in_use a b na nb = false_from_ne_true _ (λ h. na (eqb-true a 0 h)) ∙ sym (false_from_ne_true _ (λ h. nb (eqb-true b 0 h)))
 
-pub notes : (segments : List SegmentNumbers) (blocks : List BlockPlace) (s : ℕ) (x : SegmentNumbers) (lives : Bool) → s < length segments → s / 64 < length blocks
+pub notes : (segments : List SegmentNumbers) (blocks : List PlaceInSegment) (s : ℕ) (x : SegmentNumbers) (lives : Bool) → s < length segments → s / 64 < length blocks
     → (get_or segments s no_segment).used ≢ 0 → x.used ≡ suc (get_or segments s no_segment).used
     → x.live ≡ cond lives 1 0 + (get_or segments s no_segment).live → x.held ≡ cond (not lives) 1 0 + (get_or segments s no_segment).held
     → x.age ≡ (get_or segments s no_segment).age → x.taken ≡ (get_or segments s no_segment).taken
@@ -79,7 +79,7 @@ notes segments blocks s x lives lt low some used live held age taken = record {
   clean = still_clean segments s x lt (both_in_use _ x.used some (λ z. omega arith));
 }
 
-pub lifts : (segments : List SegmentNumbers) (blocks : List BlockPlace) (s : ℕ) (x : SegmentNumbers) (lives : Bool) → s < length segments → s / 64 < length blocks
+pub lifts : (segments : List SegmentNumbers) (blocks : List PlaceInSegment) (s : ℕ) (x : SegmentNumbers) (lives : Bool) → s < length segments → s / 64 < length blocks
     → x.used ≡ (get_or segments s no_segment).used
     → cond lives 1 0 + x.live ≡ (get_or segments s no_segment).live → cond (not lives) 1 0 + x.held ≡ (get_or segments s no_segment).held
     → x.age ≡ (get_or segments s no_segment).age → x.taken ≡ (get_or segments s no_segment).taken
@@ -96,8 +96,8 @@ lifts segments blocks s x lives lt low used live held age taken = record {
 }
 
 -- a clean segment is taken: nothing lives in it, and nothing holds it
-pub takes : (segments : List SegmentNumbers) (blocks : List BlockPlace) (s age : ℕ) → s < length segments → (get_or segments s no_segment).used ≡ 0 → FitsSegment (get_or segments s no_segment)
-    → Takes (record { segments = segments; blocks = blocks }) (record { segments = slice_set segments s (record { used = 1; live = 0; held = 0; age = age; taken = true }); blocks = blocks }) s age
+pub takes : (segments : List SegmentNumbers) (blocks : List PlaceInSegment) (s age : ℕ) → s < length segments → (get_or segments s no_segment).used ≡ 0 → FitsSegment (get_or segments s no_segment)
+    → TakesSegment (record { segments = segments; blocks = blocks }) (record { segments = slice_set segments s (record { used = 1; live = 0; held = 0; age = age; taken = true }); blocks = blocks }) s age
 takes segments blocks s age lt clean fits =
     let few = fits.fewer in
     record {
@@ -113,8 +113,8 @@ takes segments blocks s age lt clean fits =
       count = one_taken segments s (record { used = 1; live = 0; held = 0; age = age; taken = true }) lt clean (λ h. omega arith);
     }
 
-pub puts : (segments : List SegmentNumbers) (blocks : List BlockPlace) (j a : ℕ) (stale : Bool) → j < length blocks
-    → Puts (record { segments = segments; blocks = blocks }) (record { segments = segments; blocks = slice_set blocks j (record { address = a; stale = stale }) }) j a stale
+pub puts : (segments : List SegmentNumbers) (blocks : List PlaceInSegment) (j a : ℕ) (stale : Bool) → j < length blocks
+    → PutsPlace (record { segments = segments; blocks = blocks }) (record { segments = segments; blocks = slice_set blocks j (record { address = a; stale = stale }) }) j a stale
 puts segments blocks j a stale lt = record {
   segments = refl;
   address = place_set blocks j (record { address = a; stale = stale }) lt (λ b. b.address);
@@ -147,7 +147,7 @@ lifts_of old new s x lives fits lt used live held age taken segments blocks =
     (sym (same_table (record { segments = slice_set old.segments s x; blocks = slice_set old.blocks (s / 64) (record { address = (get_or old.blocks (s / 64) no_place).address; stale = true }) }) new segments blocks))
     (lifts old.segments old.blocks s x lives lt (omega arith) used live held age taken)
 
-pub takes_away : (segments : List SegmentNumbers) (blocks : List BlockPlace) (s count : ℕ) (x : SegmentNumbers) (lives : Bool) → s < length segments → s / 64 < length blocks
+pub takes_away : (segments : List SegmentNumbers) (blocks : List PlaceInSegment) (s count : ℕ) (x : SegmentNumbers) (lives : Bool) → s < length segments → s / 64 < length blocks
     → x.used ≡ (get_or segments s no_segment).used
     → x.live ≡ (get_or segments s no_segment).live - cond lives count 0 → x.held ≡ (get_or segments s no_segment).held - cond (not lives) count 0
     → x.age ≡ (get_or segments s no_segment).age → x.taken ≡ (get_or segments s no_segment).taken
@@ -174,7 +174,7 @@ takes_away_of old new s count x lives fits lt used live held age taken segments 
     (sym (same_table (record { segments = slice_set old.segments s x; blocks = slice_set old.blocks (s / 64) (record { address = (get_or old.blocks (s / 64) no_place).address; stale = true }) }) new segments blocks))
     (takes_away old.segments old.blocks s count x lives lt (omega arith) used live held age taken)
 
-pub hides : (segments : List SegmentNumbers) (blocks : List BlockPlace) (s count : ℕ) (x : SegmentNumbers) → s < length segments → s / 64 < length blocks
+pub hides : (segments : List SegmentNumbers) (blocks : List PlaceInSegment) (s count : ℕ) (x : SegmentNumbers) → s < length segments → s / 64 < length blocks
     → x.used ≡ (get_or segments s no_segment).used
     → x.live + count ≡ (get_or segments s no_segment).live → x.held ≡ (get_or segments s no_segment).held + count
     → x.age ≡ (get_or segments s no_segment).age → x.taken ≡ (get_or segments s no_segment).taken
@@ -202,9 +202,9 @@ hides_of old new s count x fits lt used live held age taken segments blocks =
     (hides old.segments old.blocks s count x lt (omega arith) used live held age taken)
 
 pub takes_of : (old new : UsageTable) (s age : ℕ) → FitsTable old → s < length old.segments → used_of old s ≡ 0
-    → new.segments ≡ slice_set old.segments s (record { used = 1; live = 0; held = 0; age = age; taken = true }) → new.blocks ≡ old.blocks → Takes old new s age
+    → new.segments ≡ slice_set old.segments s (record { used = 1; live = 0; held = 0; age = age; taken = true }) → new.blocks ≡ old.blocks → TakesSegment old new s age
 takes_of old new s age fits lt clean segments blocks =
-    subst (λ (t : UsageTable). Takes old t s age) (sym (same_table (record { segments = slice_set old.segments s (record { used = 1; live = 0; held = 0; age = age; taken = true }); blocks = old.blocks }) new segments blocks))
+    subst (λ (t : UsageTable). TakesSegment old t s age) (sym (same_table (record { segments = slice_set old.segments s (record { used = 1; live = 0; held = 0; age = age; taken = true }); blocks = old.blocks }) new segments blocks))
     (takes old.segments old.blocks s age lt clean (fits.each s))
 
 -- ---- releasing, one segment after the other

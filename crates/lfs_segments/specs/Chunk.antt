@@ -19,7 +19,7 @@ pub record IsChunk (names : List BlockNameValue) : Type 0 where
   pub each : (i : ℕ) → i < length names → IsPlaced (get_or names i no_block).kind (get_or names i no_block).file (get_or names i no_block).index
 
 -- the chunk is written to a segment that was taken from the clean ones, of which it is the used part
-pub record IsOpen (c : Chunk) (t : UsageTable) : Type 0 where
+pub record IsOpenChunk (c : Chunk) (t : UsageTable) : Type 0 where
   pub inside : c.segment < length t.segments
   pub used : used_of t c.segment ≡ suc (length c.names)
   pub taken : taken_of t c.segment ≡ true

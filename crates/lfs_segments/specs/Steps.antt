@@ -55,7 +55,7 @@ pub record HidesBlocks (old new : UsageTable) (s count : ℕ) : Type 0 where
   pub clean : clean_in new.segments ≡ clean_in old.segments
 
 -- a clean segment is taken
-pub record Takes (old new : UsageTable) (s number : ℕ) : Type 0 where
+pub record TakesSegment (old new : UsageTable) (s number : ℕ) : Type 0 where
   pub inside : s < length old.segments
   pub clean : used_of old s ≡ 0
   pub used : IsSet (used_of old) (used_of new) s 1
@@ -68,7 +68,7 @@ pub record Takes (old new : UsageTable) (s number : ℕ) : Type 0 where
   pub count : clean_in old.segments ≡ suc (clean_in new.segments)
 
 -- usage block j has this address, and is stale or not; all else is as it was
-pub record Puts (old new : UsageTable) (j at : ℕ) (differs : Bool) : Type 0 where
+pub record PutsPlace (old new : UsageTable) (j at : ℕ) (differs : Bool) : Type 0 where
   pub segments : new.segments ≡ old.segments
   pub address : IsSet (address_of old) (address_of new) j at
   pub stale : IsSet (stale_of old) (stale_of new) j differs

@@ -13,16 +13,16 @@ pub record SegmentNumbers : Type 0 where
 abbrev pub no_segment : SegmentNumbers
 no_segment = record { used = 0; live = 0; held = 0; age = 0; taken = false }
 
-pub record BlockPlace : Type 0 where
+pub record PlaceInSegment : Type 0 where
   pub address : ℕ
   pub stale : Bool
 
-abbrev pub no_place : BlockPlace
+abbrev pub no_place : PlaceInSegment
 no_place = record { address = 0; stale = false }
 
 pub record UsageTable : Type 0 where
   pub segments : List SegmentNumbers
-  pub blocks : List BlockPlace
+  pub blocks : List PlaceInSegment
 
 -- the numbers of a segment, none past the last
 abbrev pub used_of : UsageTable → ℕ → ℕ

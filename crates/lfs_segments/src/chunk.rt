@@ -4,8 +4,8 @@ ghost use Rattle.lfs_model.specs.Device.{put, MayWrite, CrashWrites, Carries, El
 ghost use Rattle.lfs_model.specs.Entry.{entries_in};
 ghost use Rattle.lfs_model.specs.Summary.{IsPlaced, summary_sector};
 ghost use Rattle.lfs_segments.specs.Table.{used_of, taken_of};
-ghost use Rattle.lfs_segments.specs.Steps.{Takes, Notes};
-ghost use Rattle.lfs_segments.specs.Chunk.{IsOpen, entries_of};
+ghost use Rattle.lfs_segments.specs.Steps.{TakesSegment, Notes};
+ghost use Rattle.lfs_segments.specs.Chunk.{IsOpenChunk, entries_of};
 
 use crate::usage::Usage;
 use arrayvec::ArrayVec;
@@ -13,7 +13,8 @@ use lfs_device::{DeviceFault, SectorDevice};
 use lfs_layout::{BlockName, encode_summary};
 use std::marker::Model;
 
-/// The chunk that is being filled, if there is one: its segment, and the names of the blocks that have a place in it.
+/// The chunk that is being filled, if there is one: its segment, and the names of the blocks that
+/// have a place in it.
 #[derive(Drop)]
 pub struct ChunkWriter {
     segment: u32,
@@ -69,11 +70,12 @@ impl ChunkWriter {
     /// Begins a chunk: each in a clean segment, which is taken, if there is one.
     pub fn begin(&mut self, usage: &mut Usage, age: u32) -> Option<u32>
         requires { self.old.names ≡ [] }
-        ensures taken { IfSome result (λ s. Takes usage.old usage.new s age) }
+        ensures taken { IfSome result (λ s. TakesSegment usage.old usage.new s age) }
         ensures segment { IfSome result (λ s. self.new.segment ≡ s) }
         ensures names { self.new.names ≡ [] }
-        ensures opened { IfSome result (λ s. IsOpen self.new usage.new) }
-        ensures none { IfNone result ((s : ℕ) → s < length usage.old.segments → used_of usage.old s ≢ 0) }
+        ensures opened { IfSome result (λ s. IsOpenChunk self.new usage.new) }
+        ensures none { IfNone result ((s : ℕ) → s < length usage.old.segments
+            → used_of usage.old s ≢ 0) }
         ensures same { IfNone result (usage.new ≡ usage.old) }
     {
         let segment = usage.take_clean(age)?;
@@ -81,17 +83,17 @@ impl ChunkWriter {
         Some(segment)
     }
 
-    /// The address of the next block of the chunk, which is named so, and lives there or holds the segment: the first
-    /// sector behind the used part.
+    /// The address of the next block of the chunk, which is named so, and lives there or holds the
+    /// segment: the first sector behind the used part.
     pub fn place(&mut self, usage: &mut Usage, name: BlockName, lives: bool) -> u32
-        requires opened { IsOpen self.old usage.old }
+        requires opened { IsOpenChunk self.old usage.old }
         requires room { length self.old.names < 63 }
         requires placed { IsPlaced name.kind name.file name.index }
         ensures address { result ≡ 2 + 64 * self.old.segment + used_of usage.old self.old.segment }
         ensures names { self.new.names ≡ self.old.names ++ name ∷ [] }
         ensures segment { self.new.segment ≡ self.old.segment }
         ensures noted { Notes usage.old usage.new self.old.segment lives }
-        ensures opened { IsOpen self.new usage.new }
+        ensures opened { IsOpenChunk self.new usage.new }
     {
         self.names.push(name);
         usage.note(self.segment, lives);
@@ -108,18 +110,25 @@ impl ChunkWriter {
         device: &mut D,
         usage: &Usage,
     ) -> Result<(), DeviceFault>
-        requires opened { IsOpen self.old usage.now }
+        requires opened { IsOpenChunk self.old usage.now }
         requires some { 0 < length self.old.names }
         requires inside { 2 + 64 * self.old.segment < (D.state device.old).size }
         ensures entries { entries_in (summary_sector self.old.names) ≡ Some (entries_of self.old) }
-        ensures written { OnOk result ((D.state device.new).keeps_model → (D.state device.new).content ≡ put (D.state device.old).content (2 + 64 * self.old.segment) (summary_sector self.old.names)) }
-        ensures failed_write { OnErr result ((D.state device.new).keeps_model → MayWrite (2 + 64 * self.old.segment) (summary_sector self.old.names) (D.state device.old).content (D.state device.new).content) }
-        ensures crash { CrashWrites (2 + 64 * self.old.segment) (summary_sector self.old.names) (D.state device.old) (D.state device.new) }
+        ensures written { OnOk result ((D.state device.new).keeps_model
+            → (D.state device.new).content ≡ put (D.state device.old).content
+            (2 + 64 * self.old.segment) (summary_sector self.old.names)) }
+        ensures failed_write { OnErr result ((D.state device.new).keeps_model
+            → MayWrite (2 + 64 * self.old.segment) (summary_sector self.old.names)
+            (D.state device.old).content (D.state device.new).content) }
+        ensures crash { CrashWrites (2 + 64 * self.old.segment) (summary_sector self.old.names)
+            (D.state device.old) (D.state device.new) }
         ensures ended { OnOk result (self.new.names ≡ []) }
         ensures kept { OnErr result (self.new ≡ self.old) }
         ensures segment { self.new.segment ≡ self.old.segment }
-        ensures failed { OnErr result ((D.state device.old).failures < (D.state device.new).failures) }
-        ensures no_failure { OnOk result ((D.state device.new).failures ≡ (D.state device.old).failures) }
+        ensures failed { OnErr result
+            ((D.state device.old).failures < (D.state device.new).failures) }
+        ensures no_failure { OnOk result
+            ((D.state device.new).failures ≡ (D.state device.old).failures) }
         ensures carries { Carries (D.state device.old) (D.state device.new) }
         ensures time { Elapses (D.state device.old) (D.state device.new) }
     {
@@ -130,8 +139,8 @@ impl ChunkWriter {
     }
 }
 
-/// Writes a block or a summary to a sector of a segment that was taken from the clean ones since the acknowledged
-/// checkpoint, and to no other.
+/// Writes a block or a summary to a sector of a segment that was taken from the clean ones since
+/// the acknowledged checkpoint, and to no other.
 ///
 /// # Errors
 ///
@@ -145,11 +154,14 @@ pub fn write<D: SectorDevice>(
     requires taken { taken_of usage.now ((address - 2) / 64) ≡ true }
     requires above { 2 ≤ address }
     requires inside { address < (D.state device.old).size }
-    ensures written { OnOk result ((D.state device.new).keeps_model → (D.state device.new).content ≡ put (D.state device.old).content address bytes.now) }
-    ensures failed_write { OnErr result ((D.state device.new).keeps_model → MayWrite address bytes.now (D.state device.old).content (D.state device.new).content) }
+    ensures written { OnOk result ((D.state device.new).keeps_model
+        → (D.state device.new).content ≡ put (D.state device.old).content address bytes.now) }
+    ensures failed_write { OnErr result ((D.state device.new).keeps_model
+        → MayWrite address bytes.now (D.state device.old).content (D.state device.new).content) }
     ensures crash { CrashWrites address bytes.now (D.state device.old) (D.state device.new) }
     ensures failed { OnErr result ((D.state device.old).failures < (D.state device.new).failures) }
-    ensures no_failure { OnOk result ((D.state device.new).failures ≡ (D.state device.old).failures) }
+    ensures no_failure { OnOk result
+        ((D.state device.new).failures ≡ (D.state device.old).failures) }
     ensures carries { Carries (D.state device.old) (D.state device.new) }
     ensures time { Elapses (D.state device.old) (D.state device.new) }
 {

@@ -1,4 +1,5 @@
-//! The segments of a volume: what lives in each, and chunks of blocks that are written to clean ones.
+//! The segments of a volume: what lives in each, and chunks of blocks that are written to clean
+//! ones.
 #![tactic(auto)]
 
 mod candidate;

@@ -36,9 +36,9 @@ pub struct UsageBlock {
 }
 
 impl Model for UsageBlock {
-    ghost use Rattle.lfs_segments.specs.Table.{BlockPlace};
+    ghost use Rattle.lfs_segments.specs.Table.{PlaceInSegment};
 
-    ghost Value = { BlockPlace };
+    ghost Value = { PlaceInSegment };
 
     ghost view = { λ b. record { address = b.address; stale = b.stale } };
 

@@ -1,9 +1,10 @@
-//! What is known of each segment, after the segment usage table of the Sprite LFS paper (1992, section 3.6).
+//! What is known of each segment, after the segment usage table of the Sprite LFS paper (1992,
+//! section 3.6).
 ghost use Rattle.std.specs.Prelude.{◌≡◌, ◌≢◌, ◌<◌, ◌≤◌, ◌+◌, ◌-◌, ◌*◌, ◌/◌, ◌==◌, ℕ, suc, Bool, true, false, cond, not, length, get_or, replicate, slice_set, IfOk, IfSome, IfNone};
-ghost use Rattle.lfs_segments.specs.Steps.{Notes, Lifts, TakesAway, HidesBlocks, Takes, Puts, Releases, SpellsBlock, saved};
+ghost use Rattle.lfs_segments.specs.Steps.{Notes, Lifts, TakesAway, HidesBlocks, TakesSegment, PutsPlace, Releases, SpellsBlock, saved};
 ghost use Rattle.lfs_segments.specs.Steps as steps;
 ghost use Rattle.lfs_model.specs.Usage.{IsUse, no_use};
-ghost use Rattle.lfs_segments.specs.Table.{SegmentNumbers, BlockPlace, no_segment, no_place, used_of, live_of, held_of, age_of, taken_of, address_of, stale_of, clean_in, FitsSegment, FitsTable};
+ghost use Rattle.lfs_segments.specs.Table.{SegmentNumbers, PlaceInSegment, no_segment, no_place, used_of, live_of, held_of, age_of, taken_of, address_of, stale_of, clean_in, FitsSegment, FitsTable};
 
 use crate::state::{SegmentState, UsageBlock};
 use lfs_layout::{SegmentUsage, encode_usage};
@@ -101,11 +102,13 @@ impl Usage {
         self.states[segment as usize]
     }
 
-    /// Takes a clean segment, if there is one: its first sector is in use from then on, for a summary, and it has this age.
+    /// TakesSegment a clean segment, if there is one: its first sector is in use from then on, for a
+    /// summary, and it has this age.
     pub fn take_clean(&mut self, age: u32) -> Option<u32>
-        ensures taken { IfSome result (λ s. Takes self.old self.new s age) }
+        ensures taken { IfSome result (λ s. TakesSegment self.old self.new s age) }
         ensures fits { IfSome result (λ s. s < 1024) }
-        ensures none { IfNone result ((s : ℕ) → s < length self.old.segments → used_of self.old s ≢ 0) }
+        ensures none { IfNone result ((s : ℕ) → s < length self.old.segments
+            → used_of self.old s ≢ 0) }
         ensures same { IfNone result (self.new ≡ self.old) }
     {
         let segment = first_clean(self.states.as_slice())? as u32;
@@ -116,7 +119,7 @@ impl Usage {
     fn take(&mut self, segment: u32, age: u32)
         requires inside { segment < length self.old.segments }
         requires clean { used_of self.old segment ≡ 0 }
-        ensures { Takes self.old self.new segment age }
+        ensures { TakesSegment self.old self.new segment age }
     {
         let state = SegmentState {
             used: 1,
@@ -141,7 +144,8 @@ impl Usage {
         self.states[segment as usize] = state;
     }
 
-    /// One sector more of a segment is in use, for a block that lives there, or one of a file without a name that holds it.
+    /// One sector more of a segment is in use, for a block that lives there, or one of a file
+    /// without a name that holds it.
     pub fn note(&mut self, segment: u32, lives: bool)
         requires inside { segment < length self.old.segments }
         requires begun { 0 < used_of self.old segment }
@@ -177,7 +181,8 @@ impl Usage {
         self.make_stale(segment / 64);
     }
 
-    /// So many blocks that live in a segment hold it from now on: they are those of files that lost their last name.
+    /// So many blocks that live in a segment hold it from now on: they are those of files that lost
+    /// their last name.
     pub fn hide(&mut self, segment: u32, count: u16)
         requires inside { segment < length self.old.segments }
         requires live { count ≤ live_of self.old segment }
@@ -192,7 +197,15 @@ impl Usage {
     pub fn load(&mut self, segment: u32, saved: SegmentUsage)
         requires inside { segment < length self.old.segments }
         requires fits { IsUse saved }
-        ensures segments { self.new.segments ≡ slice_set self.old.segments segment (record { used = saved.used; live = saved.live; held = 0; age = saved.age; taken = false }) }
+        ensures segments { self.new.segments ≡ slice_set self.old.segments segment
+            (record {
+              used = saved.used;
+              live = saved.live;
+              held = 0;
+              age =
+                  saved.age;
+              taken = false;
+            }) }
         ensures blocks { self.new.blocks ≡ self.old.blocks }
     {
         let SegmentUsage { used, live, age } = saved;
@@ -206,7 +219,8 @@ impl Usage {
         self.put(segment, state);
     }
 
-    /// Once a checkpoint is acknowledged: a segment where nothing lives and that nothing holds is clean, and none counts as taken.
+    /// Once a checkpoint is acknowledged: a segment where nothing lives and that nothing holds is
+    /// clean, and none counts as taken.
     pub fn release(&mut self)
         ensures { Releases self.old self.new }
     {
@@ -216,7 +230,8 @@ impl Usage {
         }
     }
 
-    /// The usage block of this index, as a checkpoint has it: a segment where nothing lives has used 0 and age 0.
+    /// The usage block of this index, as a checkpoint has it: a segment where nothing lives has
+    /// used 0 and age 0.
     pub fn encode(&self, index: u32) -> [u8; 512]
         requires { index < 16 }
         ensures { SpellsBlock self.now index result }
@@ -228,7 +243,9 @@ impl Usage {
 
     fn fill(&self, index: u32, block: &mut [SegmentUsage; 64])
         requires { index < 16 }
-        ensures each { (i : ℕ) → i < 64 → get_or block.new i no_use ≡ saved (get_or self.now.segments (64 * index + i) no_segment) }
+        ensures each { (i : ℕ) → i < 64
+            → get_or block.new i no_use ≡ saved
+            (get_or self.now.segments (64 * index + i) no_segment) }
         ensures fits { (i : ℕ) → i < 64 → IsUse (get_or block.new i no_use) }
         ensures length { length block.new ≡ 64 }
     {
@@ -258,7 +275,8 @@ impl Usage {
     fn make_stale(&mut self, index: u32)
         requires { index < 16 }
         ensures segments { self.new.segments ≡ self.old.segments }
-        ensures blocks { self.new.blocks ≡ slice_set self.old.blocks index (record { address = (get_or self.old.blocks index no_place).address; stale = true }) }
+        ensures blocks { self.new.blocks ≡ slice_set self.old.blocks index
+            (record { address = (get_or self.old.blocks index no_place).address; stale = true }) }
     {
         let mut block = self.block(index);
         block.stale = true;
@@ -276,7 +294,7 @@ impl Usage {
     /// A usage block stands at the address, and differs from what the device has, or doesn't.
     pub fn set_block(&mut self, index: u32, address: u32, stale: bool)
         requires { index < 16 }
-        ensures { Puts self.old self.new index address stale }
+        ensures { PutsPlace self.old self.new index address stale }
     {
         self.blocks[index as usize] = UsageBlock { address, stale };
     }
@@ -373,7 +391,8 @@ fn one_if_clean(state: SegmentState) -> u32
 fn first_clean(states: &[SegmentState]) -> Option<usize>
     ensures inside { IfSome result (λ s. s < length states.now) }
     ensures clean { IfSome result (λ s. (get_or states.now s no_segment).used ≡ 0) }
-    ensures none { IfNone result ((s : ℕ) → s < length states.now → (get_or states.now s no_segment).used ≢ 0) }
+    ensures none { IfNone result ((s : ℕ) → s < length states.now
+        → (get_or states.now s no_segment).used ≢ 0) }
 {
     for (segment, state) in states.iter().enumerate() {
         if state.used == 0 {

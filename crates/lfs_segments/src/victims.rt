@@ -14,10 +14,11 @@ const BLOCKS: u64 = 63;
 /// How many blocks the inode map and the usage table have at most.
 const TABLE_BLOCKS: u64 = 48;
 
-/// Segments that can be emptied into fewer than they are: those with the least blocks, the lower number first where two have as
-/// many. The blocks of a segment are those that live there and those that hold it. With them go so many inodes and blocks of
-/// pointers, and the blocks of the inode map and of the usage table. The list is the shortest such one, of at most so many
-/// segments; there is none where no list of so few segments in use is such.
+/// Segments that can be emptied into fewer than they are: those with the least blocks, the lower
+/// number first where two have as many. The blocks of a segment are those that live there and those
+/// that hold it. With them go so many inodes and blocks of pointers, and the blocks of the inode
+/// map and of the usage table. The list is the shortest such one, of at most so many segments;
+/// there is none where no list of so few segments in use is such.
 pub fn victims(usage: &Usage, meta: u32, most: u32) -> Option<ArrayVec<u16, 129>>
     requires most { most ≤ 129 }
     ensures some { IfSome result (λ v. AreVictims usage.now meta most v.items) }

@@ -193,7 +193,7 @@ pub header_replaced : (old new : Changes) (n p : ℕ) (e : HeaderEdit) → LastH
 header_replaced old new n p e is own placed blocks loss =
     subst (λ (k : ℕ). PutsHeader old new k e.header) own (put_set old new e loss blocks p (subst (λ (k : ℕ). LastHeader old.headers.items k p) (sym own) is) placed)
 
-pub header_appended : (old new : Changes) (n : ℕ) (h : Header) → batch.PutsHeader old new n h → new.blocks ≡ old.blocks → new.loss ≡ old.loss → PutsHeader old new n h
+pub header_appended : (old new : Changes) (n : ℕ) (h : Header) → batch.AddsHeaderEdit old new n h → new.blocks ≡ old.blocks → new.loss ≡ old.loss → PutsHeader old new n h
 header_appended old new n h put blocks loss =
     subst (PutsHeader old new n) put.says (subst (λ (k : ℕ). PutsHeader old new k put.edit.header) put.number (put_more old new put.edit loss blocks put.headers))
 
@@ -233,7 +233,7 @@ block_replaced old new n i p e is own placed headers loss =
     (put_block_set old new e loss headers p
     (subst (λ (l : ℕ). LastBlock old.blocks.items e.number l p) (sym own.1) (subst (λ (k : ℕ). LastBlock old.blocks.items k i p) (sym own.0) is)) placed))
 
-pub block_appended : (old new : Changes) (n i : ℕ) (bytes : List ℕ) → batch.PutsBlock old new n i bytes → new.headers ≡ old.headers → new.loss ≡ old.loss → PutsBlock old new n i bytes
+pub block_appended : (old new : Changes) (n i : ℕ) (bytes : List ℕ) → batch.AddsBlockEdit old new n i bytes → new.headers ≡ old.headers → new.loss ≡ old.loss → PutsBlock old new n i bytes
 block_appended old new n i bytes put headers loss =
     subst (PutsBlock old new n i) put.says
     (subst (λ (l : ℕ). PutsBlock old new n l put.edit.bytes) put.index

@@ -6,7 +6,7 @@ use Rattle.lfs_cleaner.specs.log.memory.Batch.{IsNoChange, room_for}
 use Rattle.lfs_cleaner.specs.log.memory.Preparing.{is_beside, way_from, ways_from}
 use Rattle.lfs_cleaner.specs.log.memory.files.declared.header.Header.{Header}
 use Rattle.lfs_store.specs.Growing.{GrowsBy}
-use Rattle.lfs_store.specs.Making.{Makes, Removes, SetsLinks}
+use Rattle.lfs_store.specs.Making.{Makes, DraftsRemoval, SetsLinks}
 
 -- ---- three blocks on the way to each block at most
 cond_three : (b : Bool) → cond b 0 3 ≤ 3
@@ -71,7 +71,7 @@ relinks_grows c c' n h links is = record {
   blocks = let same = ap length is.blocks in omega (arith, same);
 }
 
-pub removes_grows : (c c' : Changes) (n : ℕ) → Removes c' n → GrowsBy c c' 0 0
+pub removes_grows : (c c' : Changes) (n : ℕ) → DraftsRemoval c' n → GrowsBy c c' 0 0
 removes_grows c c' n is = record {
   headers = let none = ap length is.headers in omega (arith, none);
   blocks = let none = ap length is.blocks in omega (arith, none);

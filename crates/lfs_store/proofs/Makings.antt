@@ -22,7 +22,7 @@ use Rattle.lfs_cleaner.specs.log.memory.Present.{as_header}
 use Rattle.lfs_cleaner.specs.log.memory.Removing.{without_file}
 use Rattle.lfs_cleaner.proofs.of_log.of_memory.LogMaps.{is_with_header}
 use Rattle.lfs_store.specs.Drafting.{IsApart, PutsHeader, LosesOnly}
-use Rattle.lfs_store.specs.Making.{Makes, SetsLinks, Removes, relinked}
+use Rattle.lfs_store.specs.Making.{Makes, SetsLinks, DraftsRemoval, relinked}
 use Rattle.lfs_store.proofs.Apart.{file_apart, link_apart, no_change}
 use Rattle.lfs_store.proofs.Writings.{takes_header}
 
@@ -172,7 +172,7 @@ without_changed m n = record {
   blocks = λ k i ne. cond-false (k == n) [] (m.block k i) (ne_eqb k n ne);
 }
 
-pub removes : (c c' : Changes) (n : ℕ) (r : Removal) → r.number ≡ n → IsNoChange c → c'.headers ≡ c.headers → c'.blocks ≡ c.blocks → c'.loss ≡ File r → LosesOnly c' (File r) → Removes c' n
+pub removes : (c c' : Changes) (n : ℕ) (r : Removal) → r.number ≡ n → IsNoChange c → c'.headers ≡ c.headers → c'.blocks ≡ c.blocks → c'.loss ≡ File r → LosesOnly c' (File r) → DraftsRemoval c' n
 removes c c' n r number none headers blocks lost only = record {
   map = map;
   fits = λ m. only.fits m tt;

@@ -1,7 +1,7 @@
 -- Bytes cut off a file: its blocks from one on, and the tail of the last one that stays.
 use Rattle.std.proofs.Common.{◌≡◌, ⊎_elim, ◌==◌, ◌&&◌, nat_le, cond, ℕ, ◌/◌, ◌<◌, ◌≤◌, Bool, List, [], length, refl, sym, ap, subst, ◌∙◌, arith, slice_index, eqb-true, eq-eqb}
 use Rattle.std.proofs.lemmas.Bool.{cases_lt, cond-false, and_parts, false_from_ne_true, leb-true, le-leb}
-use Rattle.lfs_model.specs.Objects.{AreWhole}
+use Rattle.lfs_model.specs.Objects.{AreStoredWhole}
 use Rattle.lfs_model.specs.Stands.{LogMap}
 use Rattle.lfs_model.proofs.ObjectMaps.{block_whole}
 use Rattle.lfs_cleaner.specs.log.memory.Changing.{stored}
@@ -10,7 +10,7 @@ use Rattle.lfs_store.specs.Pieces.{CutBegins, CutHeads, CutBlocksHeads, CutBetwe
 use Rattle.lfs_store.proofs.PiecesStored.{stored_reads, stored_whole, other_block, block_apart, changed_twice, same_whole}
 
 -- A file whose blocks are each the same or none is whole.
-fewer_whole : (m m' : LogMap) (n first : ℕ) → ((i : ℕ) → i < first → m'.block n i ≡ m.block n i) → ((i : ℕ) → first ≤ i → m'.block n i ≡ []) → AreWhole m n → AreWhole m' n
+fewer_whole : (m m' : LogMap) (n first : ℕ) → ((i : ℕ) → i < first → m'.block n i ≡ m.block n i) → ((i : ℕ) → first ≤ i → m'.block n i ≡ []) → AreStoredWhole m n → AreStoredWhole m' n
 fewer_whole m m' n first below gone was = record {
   long = λ i has. ap length (same i has) ∙ was.long i (subst (λ (b : List ℕ). 0 < length b) (same i has) has);
   nonzero = λ i has.

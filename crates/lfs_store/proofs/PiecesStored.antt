@@ -3,7 +3,7 @@ use Rattle.std.proofs.Common.{◌≡◌, ◌<◌, ⊎_elim, ◌==◌, cond, ℕ,
 use Rattle.std.proofs.lemmas.Bool.{cases_Bool, and_parts}
 use Rattle.lfs_model.specs.Changing.{IsWithBlock}
 use Rattle.lfs_model.specs.Entry.{Data}
-use Rattle.lfs_model.specs.Objects.{AreWhole, IsChangedAt}
+use Rattle.lfs_model.specs.Objects.{AreStoredWhole, IsChangedAt}
 use Rattle.lfs_model.specs.Stands.{LogMap}
 use Rattle.lfs_cleaner.specs.log.memory.Changing.{is_blank, stored}
 use Rattle.lfs_store.specs.Pieces.{HoldsBlock}
@@ -59,7 +59,7 @@ pub changed_none : (m : LogMap) (n : ℕ) → IsChangedAt m n m
 changed_none m n = record { headers = λ k ne. refl; blocks = λ k i ne. refl }
 
 -- A file whose blocks are the same is whole.
-pub same_whole : (m m' : LogMap) (n : ℕ) → ((i : ℕ) → m'.block n i ≡ m.block n i) → AreWhole m n → AreWhole m' n
+pub same_whole : (m m' : LogMap) (n : ℕ) → ((i : ℕ) → m'.block n i ≡ m.block n i) → AreStoredWhole m n → AreStoredWhole m' n
 same_whole m m' n same was = record {
   long = λ i has. ap length (same i) ∙ was.long i (subst (λ (b : List ℕ). 0 < length b) (same i) has);
   nonzero = λ i has.

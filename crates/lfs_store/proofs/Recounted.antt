@@ -22,7 +22,7 @@ use Rattle.lfs_cleaner.specs.log.Publishing.{AreUntaken}
 use Rattle.lfs_store.specs.declared.totals.Measure.{Measure}
 use Rattle.lfs_cleaner.specs.log.verify.declared.totals.BlockTotals.{BlockTotals}
 use Rattle.lfs_store.specs.Measuring.{Measures}
-use Rattle.lfs_store.specs.Making.{Makes, SetsLinks, Removes, relinked}
+use Rattle.lfs_store.specs.Making.{Makes, SetsLinks, DraftsRemoval, relinked}
 use Rattle.lfs_store.specs.Recounting.{AreTotals, Recounts, Remeasures, Counts, CountsMade, CountsRelinked, CountsGone}
 use Rattle.lfs_model.specs.Totals.{HasMeasure, meta_of_file, data_in, meta_in}
 use Rattle.lfs_store.specs.Writing.{Writes, SetsLen}
@@ -132,7 +132,7 @@ module _ {D : Type 0} (state : D → DeviceState) (h a b h' : Held D) (c c' : Ch
             out,
       )))
 
-  pub remove_counts : IsNoChange c → Measures state h a c n 0 16624 before → Removes c' n → Remeasures state b h' c' n 0 16624 before old new → Counts state h h' c c' old new
+  pub remove_counts : IsNoChange c → Measures state h a c n 0 16624 before → DraftsRemoval c' n → Remeasures state b h' c' n 0 16624 before old new → Counts state h h' c c' old new
   remove_counts none measured removes again =
       counts state h a b h' c c' n 0 16624 before old new some few (omega arith) (omega arith) first measured next last again
       (λ k m0 m keeps is map map'. (

@@ -22,7 +22,7 @@ pub placed_again : (old new : Changes) (n i p : ℕ) → LastBlock old.blocks.it
 placed_again old new n i p last none =
     absurd ((subst (NoBlock n i) last.there (none_behind n i p old.blocks.items none)).0 last.block)
 
-pub placed_behind : (old new : Changes) (n i : ℕ) (bytes : List ℕ) → batch.PutsBlock old new n i bytes → PlacesBlock old new n i
+pub placed_behind : (old new : Changes) (n i : ℕ) (bytes : List ℕ) → batch.AddsBlockEdit old new n i bytes → PlacesBlock old new n i
 placed_behind old new n i bytes put none = record { edit = put.edit; block = (put.number, put.index); blocks = put.blocks }
 
 -- ---- runs

@@ -54,9 +54,9 @@ pub record LastBlock (edits : List BlockEdit) (n i place : ℕ) : Type 0 where
   pub there : drop place edits ≡ edit ∷ drop (place + 1) edits
   pub last : NoBlock n i (drop (place + 1) edits)
 
-abbrev pub BlockPlace : List BlockEdit → ℕ → ℕ → Option ℕ → Type 0
-BlockPlace edits n i None = NoBlock n i edits
-BlockPlace edits n i (Some place) = LastBlock edits n i place
+abbrev pub PlaceInDraft : List BlockEdit → ℕ → ℕ → Option ℕ → Type 0
+PlaceInDraft edits n i None = NoBlock n i edits
+PlaceInDraft edits n i (Some place) = LastBlock edits n i place
 
 -- ---- what a draft says
 

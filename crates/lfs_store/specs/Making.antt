@@ -47,7 +47,7 @@ pub record SetsLinks (c c' : Changes) (n : ℕ) (h : Header) (links : ℕ) : Typ
   pub apart : (k : ℕ) → IsApart c.loss k → IsApart c'.loss k
 
 -- File n goes with all its blocks, and nothing else changes.
-pub record Removes (c : Changes) (n : ℕ) : Type 0 where
+pub record DraftsRemoval (c : Changes) (n : ℕ) : Type 0 where
   pub map : (m : LogMap) → staged c m ≡ without_file n m
   pub fits : (m : LogMap) → FitsBatch m c
   pub keeps : (m : LogMap) → IsLogMap m → n ≢ 1 → IsLogMap (staged c m)

@@ -3,7 +3,7 @@ use Rattle.std.specs.Prelude.{◌≡◌, ◌⊎◌, ◌<◌, ◌≤◌, ℕ, ◌
 use Rattle.lfs_model.specs.Bytes.{part}
 use Rattle.lfs_model.specs.Changing.{IsWithBlock, IsWithHeader}
 use Rattle.lfs_model.specs.Entry.{Header}
-use Rattle.lfs_model.specs.Objects.{byte_in, Overlays, IsChangedAt, AreWhole, WritesBytes, CutsBytes}
+use Rattle.lfs_model.specs.Objects.{byte_in, Overlays, IsChangedAt, AreStoredWhole, WritesBytes, CutsBytes}
 use Rattle.lfs_model.specs.Stands.{LogMap}
 use Rattle.lfs_model.specs.TreeOf.{object}
 pub use Rattle.lfs_files.specs.Files.{HoldsBlock}
@@ -77,7 +77,7 @@ pub record WriteSoFar (m m' : LogMap) (n at : ℕ) (w : List ℕ) (index : ℕ) 
   pub behind : (p : ℕ) → at + length w ≤ p → byte_in m' n p ≡ byte_in m n p
   pub rest : (i : ℕ) → index ≤ i → m'.block n i ≡ m.block n i
   pub only : IsChangedAt m n m'
-  pub whole : AreWhole m n → AreWhole m' n
+  pub whole : AreStoredWhole m n → AreStoredWhole m' n
 
 -- Before the first block nothing is laid over.
 abbrev pub WriteBegins : Type 0
@@ -104,7 +104,7 @@ pub record CutSoFar (m m' : LogMap) (n first : ℕ) : Type 0 where
   pub below : (i : ℕ) → i < first → m'.block n i ≡ m.block n i
   pub gone : (i : ℕ) → first ≤ i → m'.block n i ≡ []
   pub only : IsChangedAt m n m'
-  pub whole : AreWhole m n → AreWhole m' n
+  pub whole : AreStoredWhole m n → AreStoredWhole m' n
 
 -- file n with blocks that end at a length, whatever its header says; all other files are as they were
 pub record CutBlocks (m m' : LogMap) (n len : ℕ) : Type 0 where
@@ -113,7 +113,7 @@ pub record CutBlocks (m m' : LogMap) (n len : ℕ) : Type 0 where
   pub zeros : (k : ℕ) → len % 512 ≤ k → slice_index (m'.block n (len / 512)) k ≡ 0
   pub gone : (i : ℕ) → len ≤ 512 * i → m'.block n i ≡ []
   pub only : IsChangedAt m n m'
-  pub whole : AreWhole m n → AreWhole m' n
+  pub whole : AreStoredWhole m n → AreStoredWhole m' n
 
 abbrev pub CutBegins : Type 0
 CutBegins = (m : LogMap) (n first : ℕ) → CutSoFar m (cut_from n first m) n first

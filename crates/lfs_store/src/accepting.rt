@@ -1,4 +1,5 @@
-//! A store from its mount on: a draft is staged after room is made for it, and a commit saves what was staged.
+//! A store from its mount on: a draft is staged after room is made for it, and a commit saves what
+//! was staged.
 ghost use Rattle.std.specs.Prelude.{◌≡◌, ◌≢◌, ◌<◌, ◌≤◌, ◌+◌, ◌*◌, ◌/◌, true, false, length, IfOk, IfErr, OnOk, OnErr, IsErrOf, ◌⊎◌, MatchResult, IsTrue, IsFalse};
 ghost use Rattle.lfs_model.specs.Device.{Only, IsUntouched, Carries, LeavesOnly};
 ghost use Rattle.lfs_cleaner.specs.log.segments.Table.{clean_in};
@@ -28,13 +29,15 @@ impl<D: SectorDevice> Store<D> {
     ghost use Rattle.lfs_store.specs.Recounting.{MountsTotals};
     ghost use Rattle.lfs_store.specs.Accepting.{MountsStore, Commits, MakesRoom, Readies, CannotMakeRoom, Accepts, Declines, IsAcceptFault, HasClean, HasRoomFor, most_written};
 
-    /// The volume that the newest checkpoint of the device leads to, with its totals and an empty draft; else why there is none, and the
-    /// device. It writes nothing, and takes the memory that later calls need.
+    /// The volume that the newest checkpoint of the device leads to, with its totals and an empty
+    /// draft; else why there is none, and the device. It writes nothing, and takes the memory that
+    /// later calls need.
     ///
     /// # Errors
     ///
-    /// `NoMemory` where memory is refused, `Device` where a call of the device failed; else the device holds no log map: it is too
-    /// small, holds no checkpoint, or the first stage that fails is named, one of the stages 1 to 9, or 15 where too few segments are clean.
+    /// `NoMemory` where memory is refused, `Device` where a call of the device failed; else the
+    /// device holds no log map: it is too small, holds no checkpoint, or the first stage that fails
+    /// is named, one of the stages 1 to 9, or 15 where too few segments are clean.
     pub fn open(alloc: Global, device: D) -> Result<Store<D>, (MountFault, D)>
         ensures stores { IfOk result (λ s. MountsStore D.SectorDevice.state device s.log s.saved) }
         ensures counts { IfOk result (λ s. MountsTotals D.SectorDevice.state device s.log
@@ -73,8 +76,8 @@ impl<D: SectorDevice> Store<D> {
         })
     }
 
-    /// The volume whose tables a walk over the device found, with its totals and an empty draft. It takes the memory that later calls
-    /// need, and calls the device for nothing.
+    /// The volume whose tables a walk over the device found, with its totals and an empty draft. It
+    /// takes the memory that later calls need, and calls the device for nothing.
     ///
     /// # Errors
     ///
@@ -125,8 +128,8 @@ impl<D: SectorDevice> Store<D> {
     ///
     /// # Errors
     ///
-    /// As those of `Log::commit`: `Full` where too few segments are clean: nothing changed. `Halted` where a call of the device failed,
-    /// here or in a commit before.
+    /// As those of `Log::commit`: `Full` where too few segments are clean: nothing changed.
+    /// `Halted` where a call of the device failed, here or in a commit before.
     pub fn commit(&mut self) -> Result<(), LogFault>
         ensures done { OnOk result (Commits D.SectorDevice.state self.old.log self.old.saved
             self.new.log) }
@@ -168,13 +171,15 @@ impl<D: SectorDevice> Store<D> {
         self.drafted = self.log.totals();
     }
 
-    /// Makes a quarter of the segments clean, where fewer are: a commit saves what isn't saved, and passes of the cleaner follow, an
-    /// eighth of the segments times at most. The draft stays as it is. It takes no memory.
+    /// Makes a quarter of the segments clean, where fewer are: a commit saves what isn't saved, and
+    /// passes of the cleaner follow, an eighth of the segments times at most. The draft stays as it
+    /// is. It takes no memory.
     ///
     /// # Errors
     ///
-    /// With the files as they were: `Full` where too few segments are clean for the commit or a pass, `Device` where a call of the
-    /// device failed before anything more was written. `Halted` where one failed later, or in a commit before.
+    /// With the files as they were: `Full` where too few segments are clean for the commit or a
+    /// pass, `Device` where a call of the device failed before anything more was written. `Halted`
+    /// where one failed later, or in a commit before.
     pub fn clean(&mut self) -> Result<(), LogFault>
         ensures done { OnOk result (MakesRoom D.SectorDevice.state self.old.log self.old.saved
             self.new.log self.new.saved) }
@@ -298,8 +303,9 @@ impl<D: SectorDevice> Store<D> {
         }
     }
 
-    /// Readies the log for a change, the only place that knows when one may begin: memory has room for the draft, else a commit makes it;
-    /// and enough segments are clean for the commit that saves it, else the cleaner makes them so.
+    /// Readies the log for a change, the only place that knows when one may begin: memory has room
+    /// for the draft, else a commit makes it; and enough segments are clean for the commit that
+    /// saves it, else the cleaner makes them so.
     fn prepare_change(&mut self) -> Result<(), LogFault>
         requires { self.old.log.halted ≡ false }
         ensures done { OnOk result (MakesRoom D.SectorDevice.state self.old.log self.old.saved
@@ -393,13 +399,15 @@ impl<D: SectorDevice> Store<D> {
         }
     }
 
-    /// Stages the draft whole, or not at all. A commit comes before it where memory has no room for it, and passes of the cleaner where
-    /// too few segments are clean, and only there. The draft is empty afterwards.
+    /// Stages the draft whole, or not at all. A commit comes before it where memory has no room for
+    /// it, and passes of the cleaner where too few segments are clean, and only there. The draft is
+    /// empty afterwards.
     ///
     /// # Errors
     ///
-    /// With the files as they were: `Full` where too few segments are clean even so, `NoMemory` where memory has no room though all is saved (then
-    /// the next call commits first), `Device` where a call of the device failed. `Halted` once a commit failed, in this call or before.
+    /// With the files as they were: `Full` where too few segments are clean even so, `NoMemory`
+    /// where memory has no room though all is saved (then the next call commits first), `Device`
+    /// where a call of the device failed. `Halted` once a commit failed, in this call or before.
     pub fn accept(&mut self) -> Result<(), StoreFault>
         ensures counted { OnOk result (self.new.log.totals ≡ self.old.drafted) }
         ensures kept { OnErr result (self.new.log.totals ≡ self.old.log.totals) }

@@ -1,7 +1,7 @@
 //! What a call will change, before it is staged.
 ghost use Rattle.std.specs.Prelude.{◌≡◌, ◌≤◌, ◌+◌, length, IfSome, IfNone, IfOk, OnOk, OnErr, IsTrue, IsFalse};
 ghost use Rattle.lfs_cleaner.specs.log.memory.Batch.{IsNoChange};
-ghost use Rattle.lfs_store.specs.Drafting.{HeaderPlace, DraftsHeader, PutsHeader, IsBlock, BlockPlace, DraftsBlock, LeavesBlock, PutsBlock, LosesOnly, IsAsBefore};
+ghost use Rattle.lfs_store.specs.Drafting.{HeaderPlace, DraftsHeader, PutsHeader, IsBlock, PlaceInDraft, DraftsBlock, LeavesBlock, PutsBlock, LosesOnly, IsAsBefore};
 ghost use Rattle.lfs_store.specs.Growing.{PlacesBlock};
 ghost use Rattle.lfs_store.specs.Reading.{SaysHeader, SaysBlock};
 ghost use Rattle.lfs_model.specs.Fields.{zeros};
@@ -11,7 +11,8 @@ use lfs_cleaner::volume_log::{BlockEdit, Changes, Header, HeaderEdit, Loss};
 use lfs_layout::is_zero;
 use std::alloc::{AllocError, Global};
 
-/// The changes of one call. A later change of a header or of a block takes the place of the one before it.
+/// The changes of one call. A later change of a header or of a block takes the place of the one
+/// before it.
 #[derive(Drop)]
 pub struct Draft {
     pub changes: Changes,
@@ -120,7 +121,8 @@ impl Draft {
         Ok(())
     }
 
-    /// The header that a file has after the draft, or that it isn't there; `None` where the draft leaves it as it is.
+    /// The header that a file has after the draft, or that it isn't there; `None` where the draft
+    /// leaves it as it is.
     pub fn header(&self, number: u16) -> Option<Option<Header>>
         ensures { SaysHeader self.now.changes number result }
     {
@@ -130,7 +132,8 @@ impl Draft {
         }
     }
 
-    /// Whether a block of a file is stored after the draft, and its bytes; zeros where it isn't. `None` where the draft leaves it as it is.
+    /// Whether a block of a file is stored after the draft, and its bytes; zeros where it isn't.
+    /// `None` where the draft leaves it as it is.
     pub fn block(&self, number: u16, index: u32, out: &mut [u8; 512]) -> Option<bool>
         ensures says { SaysBlock self.now.changes number index out.new result }
         ensures zeros { IfSome result (λ found. IsFalse found → out.new ≡ zeros 512) }
@@ -163,7 +166,7 @@ fn last_header(edits: &[HeaderEdit], number: u16) -> Option<usize>
 
 /// Where the last bytes of a block of a file are.
 fn last_block(edits: &[BlockEdit], number: u16, index: u32) -> Option<usize>
-    ensures { BlockPlace edits.now number index result }
+    ensures { PlaceInDraft edits.now number index result }
 {
     let mut place = edits.len();
     while place > 0 {

@@ -1,4 +1,5 @@
-//! When a log map may be changed by a draft: the laws of its definitions, each the contract of a function that does nothing.
+//! When a log map may be changed by a draft: the laws of its definitions, each the contract of a
+//! function that does nothing.
 ghost use Rattle.lfs_store.specs.Drafting.{NothingApart, LinkApart, BlocksApart, FileApart, DraftEmpty};
 
 /// What is lost is apart from all files of which it takes nothing.

@@ -1,4 +1,5 @@
-//! The files of a volume with one call's changes before they are staged: a draft, reads that see it, and its staging whole.
+//! The files of a volume with one call's changes before they are staged: a draft, reads that see
+//! it, and its staging whole.
 #![tactic(auto)]
 
 mod accepting;

@@ -4,7 +4,8 @@ ghost use Rattle.lfs_store.specs.Reading.{LosesHeader, LosesBlock, KeepsBlock};
 
 use lfs_cleaner::volume_log::{Header, Loss};
 
-/// The header that a loss leaves a file with, or that it leaves none; `None` where the header stays.
+/// The header that a loss leaves a file with, or that it leaves none; `None` where the header
+/// stays.
 pub fn header_after(loss: &Loss, number: u16) -> Option<Option<Header>>
     ensures { LosesHeader loss.now number result }
 {

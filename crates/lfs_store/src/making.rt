@@ -2,7 +2,7 @@
 ghost use Rattle.std.specs.Prelude.{◌≡◌, ◌≤◌, true, IfSome, IfNone, IfErr, OnOk, OnErr, IsErrOf};
 ghost use Rattle.lfs_cleaner.specs.log.memory.Batch.{IsNoChange};
 ghost use Rattle.lfs_store.specs.Recounting.{CountsMade, CountsRelinked};
-ghost use Rattle.lfs_store.specs.Making.{Makes, SetsLinks, Removes, first_links, first_header};
+ghost use Rattle.lfs_store.specs.Making.{Makes, SetsLinks, DraftsRemoval, first_links, first_header};
 
 use crate::measuring::BLOCKS;
 use crate::recounting::recounted;
@@ -55,7 +55,8 @@ impl<D: SectorDevice> Store<D> {
         self.make(number, kind, 0)
     }
 
-    /// Makes a symbolic link that isn't there, of so many bytes. They are zeros until the text is written.
+    /// Makes a symbolic link that isn't there, of so many bytes. They are zeros until the text is
+    /// written.
     ///
     /// # Errors
     ///
@@ -169,7 +170,7 @@ impl<D: SectorDevice> Store<D> {
         Ok(())
     }
 
-    /// Removes a file with all its blocks. The draft was empty.
+    /// DraftsRemoval a file with all its blocks. The draft was empty.
     ///
     /// # Errors
     ///
@@ -180,7 +181,7 @@ impl<D: SectorDevice> Store<D> {
         requires empty { IsNoChange self.old.draft.changes }
         ensures reads { Reads D.SectorDevice.state self.old.log self.new.log }
         ensures saved { self.new.saved ≡ self.old.saved }
-        ensures done { OnOk result (Removes self.new.draft.changes number) }
+        ensures done { OnOk result (DraftsRemoval self.new.draft.changes number) }
         ensures counted { OnOk result (Counts D.SectorDevice.state self.old.log self.new.log
             self.old.draft.changes self.new.draft.changes self.old.drafted self.new.drafted) }
         ensures failed { OnErr result (IsReadFault D.SectorDevice.state self.old.log self.new.log) }
@@ -205,16 +206,17 @@ impl<D: SectorDevice> Store<D> {
         ensures log { self.new.log ≡ self.old.log }
         ensures saved { self.new.saved ≡ self.old.saved }
         ensures drafted { self.new.drafted ≡ self.old.drafted }
-        ensures done { Removes self.new.draft.changes number }
+        ensures done { DraftsRemoval self.new.draft.changes number }
     {
         self.draft.lose(Loss::File(Removal { number }));
     }
 
-    /// Removes a file with all its blocks at once, without a draft. It takes no memory.
+    /// DraftsRemoval a file with all its blocks at once, without a draft. It takes no memory.
     ///
     /// # Errors
     ///
-    /// With the files as they were: `Device` where a call of the device failed. `Halted` once a commit failed.
+    /// With the files as they were: `Device` where a call of the device failed. `Halted` once a
+    /// commit failed.
     pub fn forget(&mut self, number: u16) -> Result<(), LogFault>
         requires some { 1 ≤ number }
         requires few { number ≤ 4095 }

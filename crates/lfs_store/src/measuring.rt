@@ -23,8 +23,8 @@ impl<D: SectorDevice> Store<D> {
     ghost use Rattle.lfs_store.specs.Measuring.{Measures};
     ghost use Rattle.lfs_store.specs.Reading.{ReadsStore};
 
-    /// How many blocks a file has: data blocks at the indices from one on to another, its inode, its leaves of pointers with a block there, and
-    /// its double root. It reads no block of data.
+    /// How many blocks a file has: data blocks at the indices from one on to another, its inode,
+    /// its leaves of pointers with a block there, and its double root. It reads no block of data.
     ///
     /// # Errors
     ///
@@ -95,7 +95,8 @@ fn is_stored<D: SectorDevice>(
     }
 }
 
-/// Whether a leaf of pointers of a file is stored, since a block below it is. Where the draft stores one, nothing is read.
+/// Whether a leaf of pointers of a file is stored, since a block below it is. Where the draft
+/// stores one, nothing is read.
 fn has_leaf<D: SectorDevice>(
     log: &mut Log<D>,
     draft: &Draft,
@@ -231,8 +232,8 @@ fn has_double<D: SectorDevice>(
     Ok(false)
 }
 
-/// The first of the leaves of pointers with a block at the indices from one on to another, before the end of a file of this size, and where
-/// they end.
+/// The first of the leaves of pointers with a block at the indices from one on to another, before
+/// the end of a file of this size, and where they end.
 fn leaf_range(size: u32, from: u32, to: u32) -> (u32, u32)
     requires { to ≤ 16624 }
     ensures range { IsLeafRange size from to result.0 result.1 }
@@ -245,7 +246,8 @@ fn leaf_range(size: u32, from: u32, to: u32) -> (u32, u32)
     (first, end)
 }
 
-/// How many blocks of pointers a file of this size has: leaves with a block at the indices from one on to another, and the double root.
+/// How many blocks of pointers a file of this size has: leaves with a block at the indices from one
+/// on to another, and the double root.
 fn count_pointers<D: SectorDevice>(
     log: &mut Log<D>,
     draft: &Draft,
@@ -293,7 +295,8 @@ fn stored_after(draft: &Draft, number: u16, index: u32) -> Option<bool>
     Some(false)
 }
 
-/// Whether a draft stores a block below a leaf of pointers of a file: it looks at the last that it has there.
+/// Whether a draft stores a block below a leaf of pointers of a file: it looks at the last that it
+/// has there.
 fn stores_leaf(draft: &Draft, number: u16, leaf: u32) -> bool
     requires { leaf ≤ 128 }
     ensures { IsTrue result → StoresLeaf draft.now.changes number leaf }

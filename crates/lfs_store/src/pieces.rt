@@ -4,7 +4,8 @@ ghost use Rattle.lfs_store.specs.Pieces.{BlockOverlays, CutsTail, part_of_block,
 
 use std::alloc::AllocError;
 
-/// Where a place of a file lies in its block at an index: 0 where it lies before, 512 where it lies behind.
+/// Where a place of a file lies in its block at an index: 0 where it lies before, 512 where it lies
+/// behind.
 fn place_in_block(at: u32, index: u32) -> usize
     requires { index ≤ 16623 }
     ensures { result ≡ place_in_block at index }
@@ -63,7 +64,8 @@ pub fn part_appended()
     ensures read { PartRead }
 {}
 
-/// Bytes laid over one block after the other, from the block in which they begin on, are written to the file.
+/// Bytes laid over one block after the other, from the block in which they begin on, are written to
+/// the file.
 pub fn bytes_written()
     ensures begins { WriteBegins }
     ensures goes_on { WriteGoesOn }

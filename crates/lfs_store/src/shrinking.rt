@@ -12,7 +12,8 @@ impl<D: SectorDevice> Store<D> {
     ghost use Rattle.lfs_store.specs.Recounting.{Counts};
     ghost use Rattle.lfs_store.specs.Shrinking.{ClearsTail, Shrinks};
 
-    /// Cuts a file of this header at a length in its last block, which is zeros from there on. No block is lost, so the draft may lose others.
+    /// Cuts a file of this header at a length in its last block, which is zeros from there on. No
+    /// block is lost, so the draft may lose others.
     ///
     /// # Errors
     ///
@@ -31,7 +32,8 @@ impl<D: SectorDevice> Store<D> {
             self.old.draft.changes self.new.draft.changes self.old.drafted self.new.drafted) }
         ensures failed { IfErr result (λ fault. (fault ≡ StoreFault.NoMemory → ⊥)
             → IsReadFault D.SectorDevice.state self.old.log self.new.log) }
-        ensures halted { IsErrOf result (StoreFault.Log LogFault.Halted) → self.old.log.halted ≡ true }
+        ensures halted { IsErrOf result (StoreFault.Log LogFault.Halted)
+            → self.old.log.halted ≡ true }
         ensures other { IsErrOf result (StoreFault.Log LogFault.Full) → ⊥ }
     {
         let index = len / 512;
@@ -63,7 +65,8 @@ impl<D: SectorDevice> Store<D> {
             self.old.draft.changes self.new.draft.changes number header len) }
         ensures failed { IfErr result (λ fault. (fault ≡ StoreFault.NoMemory → ⊥)
             → IsReadFault D.SectorDevice.state self.old.log self.new.log) }
-        ensures halted { IsErrOf result (StoreFault.Log LogFault.Halted) → self.old.log.halted ≡ true }
+        ensures halted { IsErrOf result (StoreFault.Log LogFault.Halted)
+            → self.old.log.halted ≡ true }
         ensures other { IsErrOf result (StoreFault.Log LogFault.Full) → ⊥ }
     {
         self.clear_tail(number, len)?;
@@ -82,7 +85,8 @@ impl<D: SectorDevice> Store<D> {
             self.old.draft.changes self.new.draft.changes number len) }
         ensures failed { IfErr result (λ fault. (fault ≡ StoreFault.NoMemory → ⊥)
             → IsReadFault D.SectorDevice.state self.old.log self.new.log) }
-        ensures halted { IsErrOf result (StoreFault.Log LogFault.Halted) → self.old.log.halted ≡ true }
+        ensures halted { IsErrOf result (StoreFault.Log LogFault.Halted)
+            → self.old.log.halted ≡ true }
         ensures other { IsErrOf result (StoreFault.Log LogFault.Full) → ⊥ }
     {
         let mut block = [0; 512];

@@ -25,7 +25,8 @@ fn covers(at: u32, bytes: &[u8], index: u32) -> bool
     at <= 512 * index && 512 * index + 512 <= at + bytes.len() as u32
 }
 
-/// What the bytes that lie in one block are laid over: the block as it is, which isn't read where they cover it whole.
+/// What the bytes that lie in one block are laid over: the block as it is, which isn't read where
+/// they cover it whole.
 fn block_beneath<D: SectorDevice>(
     log: &mut Log<D>,
     draft: &Draft,
@@ -58,11 +59,13 @@ impl<D: SectorDevice> Store<D> {
     ghost use Rattle.lfs_store.specs.Recounting.{Counts};
     ghost use Rattle.lfs_store.specs.Writing.{Writes, WritesBlock, DraftsCut, CutsDraft, SetsLen, resized};
 
-    /// Lays bytes over a file of this header, from a place on. Where they end behind its size, it is as long as that needs.
+    /// Lays bytes over a file of this header, from a place on. Where they end behind its size, it
+    /// is as long as that needs.
     ///
     /// # Errors
     ///
-    /// `NoMemory` where memory runs out; else as those of `block`. What the draft holds then is of no use.
+    /// `NoMemory` where memory runs out; else as those of `block`. What the draft holds then is of
+    /// no use.
     pub fn write_at(
         &mut self,
         number: u16,

@@ -9,7 +9,7 @@ use Rattle.std.specs.Option.{option_map}
 use Rattle.lfs_model.specs.declared.Kind.{Kind}
 use Rattle.lfs_model.specs.declared.Kind.TheVariants as kind
 use Rattle.lfs_model.specs.Entry as entry
-use Rattle.lfs_model.specs.Sound.{Reached, below, root}
+use Rattle.lfs_model.specs.Sound.{IsReachable, below, root}
 use Rattle.lfs_model.specs.Stands.{LogMap}
 use Rattle.lfs_model.specs.Tree.{Dir, File, Link, Names, Node, byte_cmp, entry as entry_in, is_dir, links, links_at, names, names_of, node}
 use Rattle.lfs_model.specs.TreeOf.{AreLinks, AreReached, node_by, node_of, slots, tree_in}
@@ -176,10 +176,10 @@ module _ (m : LogMap) (are : AreHeaders m) (headers : List (Option Header)) (who
       dir_low : (n : ℕ) → is_dir (node (tree_in m) n) ≡ true → n < 4096
       dir_low n dir = let at = header_in n (dir_there n dir) in low_of n at.0 at.1
 
-      pub climbs_reached : {n : ℕ} → Climbs (slice_index t.up.items) n → is_dir (node (tree_in m) n) ≡ true → Reached (tree_in m) n
+      pub climbs_reached : {n : ℕ} → Climbs (slice_index t.up.items) n → is_dir (node (tree_in m) n) ≡ true → IsReachable (tree_in m) n
       climbs_reached way.root dir = root
       climbs_reached (way.more n rest) dir = ⊎_elim
-          (λ (here : n ≡ 1). subst (Reached (tree_in m)) (sym here) root)
+          (λ (here : n ≡ 1). subst (IsReachable (tree_in m)) (sym here) root)
           (λ (other : n ≡ 1 → ⊥).
           let once = one n other dir in
           let given = up_entry n (dir_low n dir) (omega (arith, once)) in
@@ -198,7 +198,7 @@ module _ (m : LogMap) (are : AreHeaders m) (headers : List (Option Header)) (who
           absurd (omega (arith, once, first, second, both, all)))
           (cases_eq d (slice_index t.up.items n))
 
-      pub reached_climbs : {n : ℕ} → Reached (tree_in m) n → is_dir (node (tree_in m) n) ≡ true → Climbs (slice_index t.up.items) n
+      pub reached_climbs : {n : ℕ} → IsReachable (tree_in m) n → is_dir (node (tree_in m) n) ≡ true → Climbs (slice_index t.up.items) n
       reached_climbs root dir = way.root
       reached_climbs (below {d} {n} name from given) dir = ⊎_elim
           (λ (here : n ≡ 1). subst (Climbs (slice_index t.up.items)) (sym here) way.root)

@@ -19,7 +19,7 @@ use Rattle.lfs_files.specs.Files.{HoldsBlock}
 use Rattle.lfs_files.specs.Headers.{as_header}
 use Rattle.lfs_inodes.specs.MapValue.{MapValue}
 use Rattle.lfs_inodes.specs.Pointed.{data_in, leaf_in, IsLost, IsLeafLost, IsDataLost}
-use Rattle.lfs_verify.specs.Take.{Looks, Reads}
+use Rattle.lfs_verify.specs.Take.{Looks, ReadsContent}
 use Rattle.lfs_verify.proofs.Takes.{block_at}
 use Rattle.lfs_tree.specs.Reading.{Sees, Leads, IsInodeOf, TellsHeaders}
 
@@ -32,7 +32,7 @@ looks_call a b lawful carries untouched time = record {
   any_moment = goes_on a a b a.may_leave (started a a.may_leave lawful (λ c left. left)) carries time untouched.crash;
 }
 
-pub reads_of : (a b : DeviceState) (k : CheckpointValue) (m : LogMap) → Sees a b k m → Reads a b a.content
+pub reads_of : (a b : DeviceState) (k : CheckpointValue) (m : LogMap) → Sees a b k m → ReadsContent a b a.content
 reads_of a b k m sees = record { content = refl; keeps = sees.keeps }
 
 -- a run that sees a log map begins with one that sees it, and goes on with one

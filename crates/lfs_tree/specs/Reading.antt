@@ -40,8 +40,8 @@ TellsHeaders m headers upto = (n : ℕ) → n < upto → m.header n ≡ option_m
 -- ---- what calls say
 
 -- a call of the device failed
-abbrev pub Fails : DeviceState → DeviceState → Type 0
-Fails old new = old.failures < new.failures
+abbrev pub FailsToRead : DeviceState → DeviceState → Type 0
+FailsToRead old new = old.failures < new.failures
 
 -- Of each log map that the device holds, and to which the inode map leads, this is so.
 abbrev pub OfLog : DeviceState → DeviceState → MapValue → (CheckpointValue → LogMap → Type 0) → Type 0

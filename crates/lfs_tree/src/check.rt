@@ -9,7 +9,7 @@ ghost use Rattle.lfs_verify.specs.Take.{Looks};
 ghost use Rattle.lfs_tree.specs.Checking.{IsFaultOf, IsGathered, IsRefusedTree, IsTreeDamage, OfTables};
 ghost use Rattle.lfs_tree.specs.Naming.{AreEmpty, AreTables};
 ghost use Rattle.lfs_tree.specs.Objects.{AreNamed};
-ghost use Rattle.lfs_tree.specs.Reading.{Fails, OfHeaders};
+ghost use Rattle.lfs_tree.specs.Reading.{FailsToRead, OfHeaders};
 
 use crate::fault::CheckFault;
 use crate::headers::{NUMBERS, read_headers};
@@ -39,7 +39,8 @@ const ROOM: u8 = 14;
 ///
 /// # Errors
 ///
-/// `NoMemory` where memory runs out, `Device` where a block can't be read, `Damaged` with the first stage that fails.
+/// `NoMemory` where memory runs out, `Device` where a block can't be read, `Damaged` with the first
+/// stage that fails.
 fn check_objects<D: SectorDevice>(
     alloc: Global,
     device: &mut D,
@@ -56,7 +57,7 @@ fn check_objects<D: SectorDevice>(
     ensures reason { IfErr result (λ e. OfHeaders (D.state device.old) (D.state device.new)
         map.now headers.now
         (λ k m. AreEmpty names.old
-        → IsFaultOf (Fails (D.state device.old) (D.state device.new))
+        → IsFaultOf (FailsToRead (D.state device.old) (D.state device.new))
         (IsTreeDamage k.segments m) e)) }
     ensures sizes { AreTables names.new }
     ensures looks { Looks (D.state device.old) (D.state device.new) }
@@ -126,7 +127,7 @@ fn check_stages<D: SectorDevice>(
         (λ k m. IsTree k.segments m)) }
     ensures reason { IfErr result (λ e. OfTables (D.state device.old) (D.state device.new)
         tables.now names.old
-        (λ k m. IsFaultOf (Fails (D.state device.old) (D.state device.new))
+        (λ k m. IsFaultOf (FailsToRead (D.state device.old) (D.state device.new))
         (IsTreeDamage k.segments m) e)) }
     ensures looks { Looks (D.state device.old) (D.state device.new) }
 {
@@ -156,13 +157,15 @@ fn no_headers(alloc: Global) -> Result<Vec<Option<Header>>, AllocError>
     Ok(headers)
 }
 
-/// Checks the tree of the log map to which the tables of a volume lead: its stages in order, each inode read once for all headers, and
-/// once more with the blocks of a directory or a link. It writes nothing.
+/// Checks the tree of the log map to which the tables of a volume lead: its stages in order, each
+/// inode read once for all headers, and once more with the blocks of a directory or a link. It
+/// writes nothing.
 ///
 /// # Errors
 ///
-/// `NoMemory` where memory is refused, `Device` where a call of the device failed or what the walk over the log read can't be
-/// read any more, `Damaged` with the first of the stages 10 to 14 that fails.
+/// `NoMemory` where memory is refused, `Device` where a call of the device failed or what the walk
+/// over the log read can't be read any more, `Damaged` with the first of the stages 10 to 14 that
+/// fails.
 pub fn check_tree<D: SectorDevice>(
     alloc: Global,
     device: &mut D,

@@ -5,7 +5,7 @@ ghost use Rattle.lfs_dirs.specs.Directory.{slots_at};
 ghost use Rattle.lfs_files.specs.Headers.{as_header};
 ghost use Rattle.lfs_verify.specs.Take.{Looks};
 ghost use Rattle.lfs_tree.specs.Naming.{AreTables, Base, IsNoted, IsTaken, TakesNames};
-ghost use Rattle.lfs_tree.specs.Reading.{Fails, OfInodeAt, OfLog};
+ghost use Rattle.lfs_tree.specs.Reading.{FailsToRead, OfInodeAt, OfLog};
 
 use crate::fault::CheckFault;
 use crate::headers::NUMBERS;
@@ -47,7 +47,7 @@ fn take_blocks<D: SectorDevice>(
         → TakesNames headers.now directory base (slots_at m directory header) tables.new taken)) }
     ensures failed { IsErrOf result CheckFault.Device
         → OfInodeAt (D.state device.old) (D.state device.new) inode.now directory
-        (λ m. Fails (D.state device.old) (D.state device.new)) }
+        (λ m. FailsToRead (D.state device.old) (D.state device.new)) }
     ensures sizes { AreTables tables.new }
     ensures looks { Looks (D.state device.old) (D.state device.new) }
 {
@@ -70,7 +70,8 @@ fn take_blocks<D: SectorDevice>(
     Ok(true)
 }
 
-/// Goes through a directory: false where a slot is malformed or gives a number that isn't there, or two have one name.
+/// Goes through a directory: false where a slot is malformed or gives a number that isn't there, or
+/// two have one name.
 ///
 /// # Errors
 ///
@@ -93,7 +94,7 @@ pub(crate) fn take_directory<D: SectorDevice>(
     ensures failed { IsErrOf result CheckFault.Device
         → OfLog (D.state device.old) (D.state device.new) map.now
         (λ k m. m.header directory ≡ Some (as_header header)
-        → Fails (D.state device.old) (D.state device.new)) }
+        → FailsToRead (D.state device.old) (D.state device.new)) }
     ensures sizes { AreTables tables.new }
     ensures looks { Looks (D.state device.old) (D.state device.new) }
 {

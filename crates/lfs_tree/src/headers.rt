@@ -5,7 +5,7 @@ ghost use Rattle.lfs_model.specs.Entry.{header};
 ghost use Rattle.lfs_model.specs.Inode.{kind_of};
 ghost use Rattle.lfs_files.specs.Headers.{as_header};
 ghost use Rattle.lfs_verify.specs.Take.{Looks};
-ghost use Rattle.lfs_tree.specs.Reading.{Fails, OfLog, TellsHeaders};
+ghost use Rattle.lfs_tree.specs.Reading.{FailsToRead, OfLog, TellsHeaders};
 
 use crate::reading::read_inode;
 use lfs_device::{DeviceFault, SectorDevice};
@@ -54,7 +54,7 @@ fn read_header<D: SectorDevice>(
     ensures answer { IfOk result (λ found. OfLog (D.state device.old) (D.state device.new) map.now
         (λ k m. m.header number ≡ option_map as_header found)) }
     ensures failed { OnErr result (OfLog (D.state device.old) (D.state device.new) map.now
-        (λ k m. Fails (D.state device.old) (D.state device.new))) }
+        (λ k m. FailsToRead (D.state device.old) (D.state device.new))) }
     ensures looks { Looks (D.state device.old) (D.state device.new) }
 {
     match read_inode(device, map, number, inode) {
@@ -78,7 +78,7 @@ pub fn read_headers<D: SectorDevice>(
     ensures told { OnOk result (OfLog (D.state device.old) (D.state device.new) map.now
         (λ k m. TellsHeaders m headers.new 4096)) }
     ensures failed { OnErr result (OfLog (D.state device.old) (D.state device.new) map.now
-        (λ k m. Fails (D.state device.old) (D.state device.new))) }
+        (λ k m. FailsToRead (D.state device.old) (D.state device.new))) }
     ensures size { length headers.new ≡ length headers.old }
     ensures looks { Looks (D.state device.old) (D.state device.new) }
 {

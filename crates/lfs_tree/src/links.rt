@@ -1,4 +1,5 @@
-//! Stage 13: each inode's links are those of the tree. Stage 14: the tree's need is within the limit.
+//! Stage 13: each inode's links are those of the tree. Stage 14: the tree's need is within the
+//! limit.
 ghost use Rattle.std.specs.Prelude.{◌≡◌, ◌<◌, ◌↔◌, length, IsTrue};
 ghost use Rattle.lfs_tree.specs.Linking.{AreLinksFit, FitsLinks, FitsRoom};
 ghost use Rattle.lfs_tree.specs.Naming.{AreTables};
@@ -8,14 +9,16 @@ use crate::slots::is_directory;
 use crate::tables::NameTables;
 use lfs_files::Header;
 
-/// The need of a tree without nodes, what a block other than of data adds to it, and how much need a segment has room for.
+/// The need of a tree without nodes, what a block other than of data adds to it, and how much need
+/// a segment has room for.
 const LEAST_NEED: u64 = 720;
 
 const NEED_OF_OTHER: u64 = 7;
 
 const NEED_OF_SEGMENT: u64 = 47;
 
-/// Whether an inode has as many links as names, or, of a directory, 2 and one for each directory in it.
+/// Whether an inode has as many links as names, or, of a directory, 2 and one for each directory in
+/// it.
 fn has_links(found: Option<Header>, count: u16, below: u16) -> bool
     ensures { IsTrue result ↔ FitsLinks found count below }
 {
@@ -43,7 +46,8 @@ pub fn stage_links(headers: &[Option<Header>], tables: &NameTables) -> bool
     true
 }
 
-/// Whether so many segments have room for a tree of so many blocks of data and others: false where the stage fails.
+/// Whether so many segments have room for a tree of so many blocks of data and others: false where
+/// the stage fails.
 pub fn stage_room(data_blocks: u32, meta_blocks: u32, segments: u32) -> bool
     ensures { IsTrue result ↔ FitsRoom data_blocks meta_blocks segments }
 {

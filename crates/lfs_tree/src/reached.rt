@@ -1,4 +1,5 @@
-//! Stage 12: each number but the root's is named, the root's isn't, and each other directory is named once and reached from the root.
+//! Stage 12: each number but the root's is named, the root's isn't, and each other directory is
+//! named once and reached from the root.
 ghost use Rattle.std.specs.Prelude.{◌≡◌, ◌<◌, ◌≤◌, ◌↔◌, ℕ, length, slice_index, IfOk, IsTrue};
 ghost use Rattle.lfs_tree.specs.Naming.{AreTables, leads};
 ghost use Rattle.lfs_tree.specs.Reaching.{AllClimb, AreNamesFit, FitsNames, Marked, MarksDirectory, MarksUp};
@@ -43,8 +44,9 @@ fn are_named(headers: &[Option<Header>], tables: &NameTables) -> bool
     true
 }
 
-/// Marks a number and all on the way up from it, as far as they have no mark, with this number: false where the way leads back into
-/// itself. Numbers with marks come to the root, and their marks are less.
+/// Marks a number and all on the way up from it, as far as they have no mark, with this number:
+/// false where the way leads back into itself. Numbers with marks come to the root, and their marks
+/// are less.
 fn climb(up: &[u16], marks: &mut Vec<u16>, start: u16) -> bool
     requires whole { length up.now ≡ 4096 }
     requires inside { (n : ℕ) → slice_index up.now n < 4096 }
@@ -119,7 +121,8 @@ fn leads(headers: &[Option<Header>], number: u16) -> bool
     }
 }
 
-/// Whether numbers are named as they may be, and directories are reached: false where the stage fails.
+/// Whether numbers are named as they may be, and directories are reached: false where the stage
+/// fails.
 ///
 /// # Errors
 ///

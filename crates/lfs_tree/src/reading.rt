@@ -3,13 +3,13 @@ ghost use Rattle.std.specs.Prelude.{◌≡◌, ◌<◌, length, IfOk, OnOk, OnEr
 ghost use Rattle.lfs_model.specs.Content.{Content, block};
 ghost use Rattle.lfs_model.specs.Reach.{address};
 ghost use Rattle.lfs_files.specs.Files.{HoldsBlock};
-ghost use Rattle.lfs_verify.specs.Take.{Looks, Reads};
-ghost use Rattle.lfs_tree.specs.Reading.{Fails, InodeAnswer, OfInode, OfLog};
+ghost use Rattle.lfs_verify.specs.Take.{Looks, ReadsContent};
+ghost use Rattle.lfs_tree.specs.Reading.{FailsToRead, InodeAnswer, OfInode, OfLog};
 
 use lfs_device::{DeviceFault, ReadFault, SectorDevice};
 use lfs_inodes::{InodeMap, locate};
 
-/// Reads the block at an address.
+/// ReadsContent the block at an address.
 ///
 /// # Errors
 ///
@@ -21,8 +21,9 @@ fn read_sector<D: SectorDevice>(
 ) -> Result<(), DeviceFault>
     requires { 0 < address }
     ensures block { OnOk result ((c : Content)
-        → Reads (D.state device.old) (D.state device.new) c → block c address ≡ out.new) }
-    ensures failed { OnErr result ((c : Content) → Reads (D.state device.old) (D.state device.new) c
+        → ReadsContent (D.state device.old) (D.state device.new) c → block c address ≡ out.new) }
+    ensures failed { OnErr result ((c : Content)
+        → ReadsContent (D.state device.old) (D.state device.new) c
         → address < length c → 0 < length (block c address)
         → (D.state device.old).failures < (D.state device.new).failures) }
     ensures looks { Looks (D.state device.old) (D.state device.new) }
@@ -52,7 +53,7 @@ pub fn read_inode<D: SectorDevice>(
     ensures answer { IfOk result (λ found. OfLog (D.state device.old) (D.state device.new) map.now
         (λ k m. InodeAnswer (D.state device.old).content k m number out.new found)) }
     ensures failed { OnErr result (OfLog (D.state device.old) (D.state device.new) map.now
-        (λ k m. Fails (D.state device.old) (D.state device.new))) }
+        (λ k m. FailsToRead (D.state device.old) (D.state device.new))) }
     ensures looks { Looks (D.state device.old) (D.state device.new) }
 {
     let address = map.address(number);
@@ -65,7 +66,7 @@ pub fn read_inode<D: SectorDevice>(
     }
 }
 
-/// Reads a block of the file of an inode; one that isn't stored reads as zeros.
+/// ReadsContent a block of the file of an inode; one that isn't stored reads as zeros.
 ///
 /// # Errors
 ///
@@ -79,7 +80,7 @@ pub fn read_block<D: SectorDevice>(
     ensures answer { OnOk result (OfInode (D.state device.old) (D.state device.new) inode.now
         (λ m n. HoldsBlock m n index out.new)) }
     ensures failed { OnErr result (OfInode (D.state device.old) (D.state device.new) inode.now
-        (λ m n. Fails (D.state device.old) (D.state device.new))) }
+        (λ m n. FailsToRead (D.state device.old) (D.state device.new))) }
     ensures looks { Looks (D.state device.old) (D.state device.new) }
 {
     let address = match locate(device, inode, index) {

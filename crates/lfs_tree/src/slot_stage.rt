@@ -3,7 +3,7 @@ ghost use Rattle.std.specs.Prelude.{◌≡◌, ◌<◌, [], length, IfOk, IsErrO
 ghost use Rattle.lfs_verify.specs.Take.{Looks};
 ghost use Rattle.lfs_tree.specs.Naming.{AreEmpty, AreTables, Base, IsNoted};
 ghost use Rattle.lfs_tree.specs.Objects.{SlotStage, TakesObject};
-ghost use Rattle.lfs_tree.specs.Reading.{Fails, OfHeaders};
+ghost use Rattle.lfs_tree.specs.Reading.{FailsToRead, OfHeaders};
 
 use crate::directories::take_directory;
 use crate::fault::CheckFault;
@@ -37,7 +37,7 @@ fn take_object<D: SectorDevice>(
         → TakesObject m headers.now number base tables.new taken)) }
     ensures failed { IsErrOf result CheckFault.Device
         → OfHeaders (D.state device.old) (D.state device.new) map.now headers.now
-        (λ k m. Fails (D.state device.old) (D.state device.new)) }
+        (λ k m. FailsToRead (D.state device.old) (D.state device.new)) }
     ensures sizes { AreTables tables.new }
     ensures looks { Looks (D.state device.old) (D.state device.new) }
 {
@@ -53,7 +53,8 @@ fn take_object<D: SectorDevice>(
     }
 }
 
-/// Goes through all directories, and takes what their entries say of numbers to empty tables. False where the stage fails.
+/// Goes through all directories, and takes what their entries say of numbers to empty tables. False
+/// where the stage fails.
 ///
 /// # Errors
 ///
@@ -72,7 +73,7 @@ pub fn stage_slots<D: SectorDevice>(
         (λ k m. AreEmpty tables.old → SlotStage m headers.now tables.new holds)) }
     ensures failed { IsErrOf result CheckFault.Device
         → OfHeaders (D.state device.old) (D.state device.new) map.now headers.now
-        (λ k m. Fails (D.state device.old) (D.state device.new)) }
+        (λ k m. FailsToRead (D.state device.old) (D.state device.new)) }
     ensures sizes { AreTables tables.new }
     ensures looks { Looks (D.state device.old) (D.state device.new) }
 {

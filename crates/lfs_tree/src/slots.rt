@@ -46,7 +46,8 @@ fn insert_name(
     Ok(new)
 }
 
-/// Goes through a slot of a directory: false where it is malformed, its number isn't there, or the directory had its name.
+/// Goes through a slot of a directory: false where it is malformed, its number isn't there, or the
+/// directory had its name.
 ///
 /// # Errors
 ///

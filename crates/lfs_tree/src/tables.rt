@@ -5,7 +5,8 @@ ghost use Rattle.lfs_tree.specs.Naming.{AreEmpty, AreTables, Notes};
 use crate::headers::NUMBERS;
 use std::alloc::{AllocError, Global};
 
-/// Tables by number, of the entries that were gone through. A count is at most 65,535; one that would be more stays there.
+/// Tables by number, of the entries that were gone through. A count is at most 65,535; one that
+/// would be more stays there.
 #[derive(Drop)]
 pub struct NameTables {
     /// How many entries give the number.

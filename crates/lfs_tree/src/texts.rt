@@ -4,7 +4,7 @@ ghost use Rattle.lfs_model.specs.Content.{block};
 ghost use Rattle.lfs_model.specs.TreeOf.{AreTexts};
 ghost use Rattle.lfs_files.specs.Headers.{as_header};
 ghost use Rattle.lfs_verify.specs.Take.{Looks};
-ghost use Rattle.lfs_tree.specs.Reading.{Fails, OfHeaders, OfInode, OfLog};
+ghost use Rattle.lfs_tree.specs.Reading.{FailsToRead, OfHeaders, OfInode, OfLog};
 ghost use Rattle.lfs_tree.specs.Texts.{Decides, HasNoZero, IsGoodText};
 
 use crate::headers::NUMBERS;
@@ -44,7 +44,7 @@ fn check_bytes<D: SectorDevice>(
         inode.now
         (λ m n. Decides (HasNoZero m n size) holds)) }
     ensures failed { OnErr result (OfInode (D.state device.old) (D.state device.new) inode.now
-        (λ m n. Fails (D.state device.old) (D.state device.new))) }
+        (λ m n. FailsToRead (D.state device.old) (D.state device.new))) }
     ensures looks { Looks (D.state device.old) (D.state device.new) }
 {
     let mut block = [0; 512];
@@ -77,7 +77,7 @@ fn check_text<D: SectorDevice>(
         (λ k m. Decides (HasNoZero m number header.size) holds)) }
     ensures failed { OnErr result (OfLog (D.state device.old) (D.state device.new) map.now
         (λ k m. m.header number ≡ Some (as_header header)
-        → Fails (D.state device.old) (D.state device.new))) }
+        → FailsToRead (D.state device.old) (D.state device.new))) }
     ensures looks { Looks (D.state device.old) (D.state device.new) }
 {
     let mut inode = [0; 512];
@@ -121,7 +121,7 @@ fn check_object<D: SectorDevice>(
         (λ k m. Decides (IsGoodText m number) holds)) }
     ensures failed { OnErr result (OfHeaders (D.state device.old) (D.state device.new)
         map.now headers.now
-        (λ k m. Fails (D.state device.old) (D.state device.new))) }
+        (λ k m. FailsToRead (D.state device.old) (D.state device.new))) }
     ensures looks { Looks (D.state device.old) (D.state device.new) }
 {
     let Some(header) = headers[number as usize] else {
@@ -152,7 +152,7 @@ pub fn stage_texts<D: SectorDevice>(
         (λ k m. Decides (AreTexts m) holds)) }
     ensures failed { OnErr result (OfHeaders (D.state device.old) (D.state device.new)
         map.now headers.now
-        (λ k m. Fails (D.state device.old) (D.state device.new))) }
+        (λ k m. FailsToRead (D.state device.old) (D.state device.new))) }
     ensures looks { Looks (D.state device.old) (D.state device.new) }
 {
     for number in 0..NUMBERS {

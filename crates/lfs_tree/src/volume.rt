@@ -1,4 +1,5 @@
-//! A whole volume: the walk over its log, then the stages of its tree, and then whether enough of its segments are clean.
+//! A whole volume: the walk over its log, then the stages of its tree, and then whether enough of
+//! its segments are clean.
 ghost use Rattle.std.specs.Prelude.{◌≡◌, OnOk, IfOk, IfErr};
 ghost use Rattle.lfs_model.specs.Device.{Only};
 ghost use Rattle.lfs_verify.specs.Loading.{IsLoaded};
@@ -11,13 +12,15 @@ use lfs_verify::verify::{FEW_CLEAN, verify_log};
 use lfs_verify::{MountFault, Tables};
 use std::alloc::Global;
 
-/// The tables of the volume that the newest checkpoint of a device leads to, where its log and its tree are as they should be. It writes
-/// nothing, and all that the device holds is durable after `Ok`.
+/// The tables of the volume that the newest checkpoint of a device leads to, where its log and its
+/// tree are as they should be. It writes nothing, and all that the device holds is durable after
+/// `Ok`.
 ///
 /// # Errors
 ///
-/// `NoMemory` where memory is refused, `Device` where a call of the device failed; else the device holds no volume: it is too small, holds no
-/// checkpoint, or the first of the stages 1 to 15 that fails is named: 10 to 14 are those of the tree, and with 15 too few segments are clean.
+/// `NoMemory` where memory is refused, `Device` where a call of the device failed; else the device
+/// holds no volume: it is too small, holds no checkpoint, or the first of the stages 1 to 15 that
+/// fails is named: 10 to 14 are those of the tree, and with 15 too few segments are clean.
 pub fn verify_tree<D: SectorDevice>(alloc: Global, device: &mut D) -> Result<Tables, MountFault>
     ensures loaded { IfOk result (λ t. IsLoaded t (D.state device.new).size) }
     ensures found { IfOk result (λ t. (D.state device.new).keeps_model

@@ -8,16 +8,16 @@ use Rattle.lfs_model.specs.Reach.{View, address, view}
 use Rattle.lfs_model.specs.Stands.{Reached}
 use Rattle.lfs_model.proofs.Reach.{address_linked}
 use Rattle.lfs_verify.specs.Walk.{Walked, InBounds, step_of}
-use Rattle.lfs_verify.specs.Take.{Goes}
+use Rattle.lfs_verify.specs.Take.{Advances}
 use Rattle.lfs_verify.proofs.Bounds.{cond_not}
 use Rattle.lfs_verify.proofs.Steps.{skip_to, inside_marks}
 use Rattle.lfs_verify.proofs.Takes.{no_word}
 use Rattle.lfs_verify.proofs.Words.{word_none}
 
 -- the same steps, written in another way
-pub goes_as : (v : View) (old new : List ℕ) (r r2 s s2 : ℕ) (stage : Type 0) (x : Bool) → r2 ≡ r → s2 ≡ s → Goes v old new r s stage x → Goes v old new r2 s2 stage x
+pub goes_as : (v : View) (old new : List ℕ) (r r2 s s2 : ℕ) (stage : Type 0) (x : Bool) → r2 ≡ r → s2 ≡ s → Advances v old new r s stage x → Advances v old new r2 s2 stage x
 goes_as v old new r r2 s s2 stage x first last goes =
-    subst (λ (a : ℕ). Goes v old new a s2 stage x) (sym first) (subst (λ (b : ℕ). Goes v old new r b stage x) (sym last) goes)
+    subst (λ (a : ℕ). Advances v old new a s2 stage x) (sym first) (subst (λ (b : ℕ). Advances v old new r b stage x) (sym last) goes)
 
 -- blocks of addresses come before data
 pub leaf_before : (n q : ℕ) → n < 4096 → q < 129 → step_of (Leaf n q) < 536624

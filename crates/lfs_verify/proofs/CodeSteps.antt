@@ -6,7 +6,7 @@ use Rattle.lfs_model.specs.Reach.{View}
 use Rattle.lfs_model.specs.Stands.{Usages, IsRows, Maps, Inodes, Roots, Leaves, Blocks, AreNamed, AreCounted, Stages}
 use Rattle.lfs_verify.specs.Codes.{HoldsBelow, Passed}
 use Rattle.lfs_verify.specs.Tables.{IsUsedTable, IsLiveTable}
-use Rattle.lfs_verify.specs.Take.{Goes}
+use Rattle.lfs_verify.specs.Take.{Advances}
 use Rattle.lfs_verify.specs.UsageTables.{SaysAll}
 use Rattle.lfs_verify.specs.Walk.{Walked, IsBounded}
 use Rattle.lfs_verify.proofs.Steps.{walked_start}
@@ -96,12 +96,12 @@ damage v marks r code n passed is fails = subst (IsDamaged v) is (passed.below, 
 
 module _ (v : View) (code : ℕ) (S : Type 0) (by : stage v code ↔ S) (old : List ℕ) (r : ℕ) (passed : Passed v old r code) where
   -- the stage takes blocks
-  pub walk_pass : (new : List ℕ) (s : ℕ) (x : Bool) → x ≡ true → Goes v old new r s S x → (Walked v new s → IsBounded v → S) → Passed v new s (suc code)
+  pub walk_pass : (new : List ℕ) (s : ℕ) (x : Bool) → x ≡ true → Advances v old new r s S x → (Walked v new s → IsBounded v → S) → Passed v new s (suc code)
   walk_pass new s x is goes here =
       let w = goes_true v old new r s S x is goes passed.walked in
       pass v old new r s code passed (by.1 (here w passed.bounded)) w
 
-  pub walk_fails : (new : List ℕ) (s : ℕ) (x : Bool) → x ≡ false → Goes v old new r s S x → (n : ℕ) → code ≡ n → IsDamaged v n
+  pub walk_fails : (new : List ℕ) (s : ℕ) (x : Bool) → x ≡ false → Advances v old new r s S x → (n : ℕ) → code ≡ n → IsDamaged v n
   walk_fails new s x is goes n number = damage v old r code n passed number (λ here. goes_false v old new r s S x is goes passed.walked (by.0 here))
 
   -- the stage looks at what was taken

@@ -6,7 +6,7 @@ use Rattle.lfs_model.specs.Content.{Content, block}
 use Rattle.lfs_model.specs.Reach.{address, view}
 use Rattle.lfs_model.specs.Stands.{Blocks}
 use Rattle.lfs_verify.specs.Walk.{Walked, IsDataBytes}
-use Rattle.lfs_verify.specs.Take.{Takes}
+use Rattle.lfs_verify.specs.Take.{TakesAddress}
 use Rattle.lfs_verify.proofs.Takes.{took, refused}
 
 -- no bytes, no data
@@ -15,7 +15,7 @@ no_data i size bytes none d = let z = ap (λ (b : List ℕ). slice_index b d.non
 
 module _ (c : Content) (k : CheckpointValue) (n i : ℕ) (low : n < 4096) (few : i < 16624) (size : ℕ) (sized : size ≡ (header (block c (address c k (Inode n)))).size)
     (m m1 : List ℕ) (p : ℕ) (at : p ≡ address c k (Data n i)) (x : Bool)
-    (t : Takes (IsDataBytes i size) c m m1 p (536624 + 16624 * n + i) x) (w : Walked (view c k) m (536624 + 16624 * n + i)) where
+    (t : TakesAddress (IsDataBytes i size) c m m1 p (536624 + 16624 * n + i) x) (w : Walked (view c k) m (536624 + 16624 * n + i)) where
   there : IsDataBytes i size (block c p) → IsDataBytes i (header (block c (address c k (Inode n)))).size (block c (address c k (Data n i)))
   there d = subst (λ (s : ℕ). IsDataBytes i s (block c (address c k (Data n i)))) sized (subst (IsDataBytes i size) (ap (block c) at) d)
 
@@ -35,11 +35,11 @@ module _ (c : Content) (k : CheckpointValue) (n i : ℕ) (low : n < 4096) (few :
 -- the same at a place of a row
 pub run_next : (c : Content) (k : CheckpointValue) (n i j : ℕ) → n < 4096 → i + j < 16624 → (size : ℕ) → size ≡ (header (block c (address c k (Inode n)))).size
     → (m m1 : List ℕ) (p : ℕ) → p ≡ address c k (Data n (i + j)) → (x : Bool)
-    → Takes (IsDataBytes (i + j) size) c m m1 p (536624 + 16624 * n + i + j) x → Walked (view c k) m (536624 + 16624 * n + i + j)
+    → TakesAddress (IsDataBytes (i + j) size) c m m1 p (536624 + 16624 * n + i + j) x → Walked (view c k) m (536624 + 16624 * n + i + j)
     → (x ≡ false → Blocks (view c k) → ⊥) × (x ≡ true → Walked (view c k) m1 (536624 + 16624 * n + i + (j + 1)))
 run_next c k n i j low few size sized m m1 p at x t w =
     let e : 536624 + 16624 * n + i + j ≡ 536624 + 16624 * n + (i + j) = omega arith in
-    let t' = subst (λ (s : ℕ). Takes (IsDataBytes (i + j) size) c m m1 p s x) e t in
+    let t' = subst (λ (s : ℕ). TakesAddress (IsDataBytes (i + j) size) c m m1 p s x) e t in
     let w' = subst (Walked (view c k) m) e w in (
       data_refused c k n (i + j) low few size sized m m1 p at x t' w',
       λ holds. subst (Walked (view c k) m1) (omega arith) (data_took c k n (i + j) low few size sized m m1 p at x t' w' holds),

@@ -6,11 +6,11 @@ use Rattle.lfs_model.specs.Content.{Content, block}
 use Rattle.lfs_model.specs.Reach.{address, view}
 use Rattle.lfs_model.specs.Stands.{Inodes, Reached}
 use Rattle.lfs_verify.specs.Walk.{Walked}
-use Rattle.lfs_verify.specs.Take.{Takes}
+use Rattle.lfs_verify.specs.Take.{TakesAddress}
 use Rattle.lfs_verify.proofs.Takes.{took, refused, no_inode}
 
 module _ (c : Content) (k : CheckpointValue) (n : ℕ) (low : n < 4096) (m m1 : List ℕ) (p : ℕ) (at : p ≡ address c k (Inode n)) (x : Bool)
-    (t : Takes (IsInode n) c m m1 p (48 + n) x) (w : Walked (view c k) m (48 + n)) where
+    (t : TakesAddress (IsInode n) c m m1 p (48 + n) x) (w : Walked (view c k) m (48 + n)) where
   pub inode_refused : x ≡ false → Inodes (view c k) → ⊥
   inode_refused fails inodes =
       refused (view c k) m m1 (48 + n) w (Inode n) refl low p at c (IsInode n)

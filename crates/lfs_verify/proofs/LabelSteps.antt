@@ -12,7 +12,7 @@ use Rattle.lfs_model.specs.Reach.{Row, after, opened, chunks, row_by, place_in, 
 use Rattle.lfs_model.specs.Stands.{IsRows}
 use Rattle.lfs_model.specs.Summary.{BlockNameValue, FitsSummary, IsPlaced, no_block, summary_in}
 use Rattle.lfs_verify.specs.Labels.{IsNamedIn, IsSectorNamed, HasStep}
-use Rattle.lfs_verify.specs.Rows.{HasRow, Names, part, from}
+use Rattle.lfs_verify.specs.Rows.{HasRow, IsSummaryOf, part, from}
 use Rattle.lfs_verify.specs.Tables.{IsUsedTable}
 use Rattle.lfs_verify.specs.Walk.{InBounds, step_of}
 use Rattle.lfs_verify.proofs.RowSteps.{here, behind, opens, opens_names, entries_some, end_is, enough_behind, rest_is, next_chunk, from_start, no_sectors, row_is}
@@ -110,7 +110,7 @@ module _ (c : Content) (used segment at : ℕ) (marks : List ℕ) (long : 2 + 64
   summary_refused some all = some (unlabelled (row_by c used segment) marks segment at (get_or marks (2 + 64 * segment + at) 0) refl summary_place (all at (omega arith)))
 
   module _ (bytes : List ℕ) (there : block c (2 + 64 * segment + at) ≡ bytes) (bs : List BlockNameValue) (is : Some bs ≡ summary_in bytes) (room : at + length bs < used) where
-    abbrev known : Names (block c (2 + 64 * segment + at)) (length bs)
+    abbrev known : IsSummaryOf (block c (2 + 64 * segment + at)) (length bs)
     known = (map entry_of bs, ap entries_in there ∙ entries_some bytes bs is, length-map bs entry_of)
 
     opened_row : from c used segment at ≡ after None (chunks (map entry_of bs) (behind c used segment at long lt))

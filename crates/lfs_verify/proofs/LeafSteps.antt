@@ -7,7 +7,7 @@ use Rattle.lfs_model.specs.Reach.{address, view}
 use Rattle.lfs_model.specs.Stands.{Leaves, Reached}
 use Rattle.lfs_model.proofs.Reach.{address_linked}
 use Rattle.lfs_verify.specs.Walk.{Walked, InBounds, step_of}
-use Rattle.lfs_verify.specs.Take.{Takes, SomeWord}
+use Rattle.lfs_verify.specs.Take.{TakesAddress, SomeWord}
 use Rattle.lfs_verify.proofs.Steps.{skip_to, inside_marks}
 use Rattle.lfs_verify.proofs.Takes.{took, refused, no_word}
 use Rattle.lfs_verify.proofs.Words.{word_none}
@@ -50,7 +50,7 @@ module _ (c : Content) (k : CheckpointValue) (n : ℕ) (low : n < 4096) where
       no_word (block c (address c k (Double n))) (ap (block c) (sym is) ∙ none) (w.good (Double n) (omega arith) low reached)
 
   module _ (out : List ℕ) (read : block c (address c k (Double n)) ≡ out) (q : ℕ) (few : q < 128) (m m1 : List ℕ) (p : ℕ) (val : p ≡ word out q) (x : Bool)
-      (t : Takes SomeWord c m m1 p (12336 + 128 * n + q) x) (w : Walked (view c k) m (12336 + 128 * n + q)) where
+      (t : TakesAddress SomeWord c m m1 p (12336 + 128 * n + q) x) (w : Walked (view c k) m (12336 + 128 * n + q)) where
     leaf_at : p ≡ address c k (Leaf n (suc q))
     leaf_at = val ∙ ap (λ (b : List ℕ). word b q) (sym read) ∙ sym (address_linked c k (Leaf n (suc q)))
 

@@ -10,7 +10,7 @@ use Rattle.lfs_model.specs.Stands.{Maps, Reached}
 use Rattle.lfs_model.proofs.Reach.{address_linked}
 use Rattle.lfs_verify.specs.MapTables.{Copies, ListsUpTo, IsEmptyFrom}
 use Rattle.lfs_verify.specs.Take.{SomeWord, Lists}
-use Rattle.lfs_verify.specs.Walk.{Walked, IsOpen}
+use Rattle.lfs_verify.specs.Walk.{Walked, IsUnmarked}
 use Rattle.lfs_verify.proofs.Steps.{skip}
 use Rattle.lfs_verify.proofs.Takes.{took, refused, no_word}
 use Rattle.lfs_verify.proofs.Words.{word_none}
@@ -65,7 +65,7 @@ module _ (c : Content) (k : CheckpointValue) (j : ℕ) (low : j < 32) (p : ℕ) 
   there = (subst SomeWord (ap (block c) map_at), subst SomeWord (sym (ap (block c) map_at)))
 
   -- a block that can't be taken
-  pub map_refused : (p ≡ 0 → ⊥) → (m m1 : List ℕ) → (IsOpen m p → SomeWord (block c p) → ⊥) → Walked (view c k) m (16 + j) → Maps (view c k) → ⊥
+  pub map_refused : (p ≡ 0 → ⊥) → (m m1 : List ℕ) → (IsUnmarked m p → SomeWord (block c p) → ⊥) → Walked (view c k) m (16 + j) → Maps (view c k) → ⊥
   map_refused some m m1 not w maps = refused (view c k) m m1 (16 + j) w (Map j) refl low p map_at c SomeWord there false refl (omega arith, not) maps.fresh (maps.nonempty j)
 
   pub map_unread : (p ≡ 0 → ⊥) → (m m1 : List ℕ) → block c p ≡ [] → Walked (view c k) m (16 + j) → Maps (view c k) → ⊥
@@ -74,7 +74,7 @@ module _ (c : Content) (k : CheckpointValue) (j : ℕ) (low : j < 32) (p : ℕ) 
   pub map_empty : (p ≡ 0 → ⊥) → (m m1 out : List ℕ) → block c p ≡ out → (SomeWord out → ⊥) → Walked (view c k) m (16 + j) → Maps (view c k) → ⊥
   map_empty some m m1 out read not = map_refused some m m1 (λ o is. not (subst SomeWord read is))
 
-  pub map_taken : (m m1 out : List ℕ) → IsOpen m p → block c p ≡ out → SomeWord out → m1 ≡ set m p (suc (16 + j)) → Walked (view c k) m (16 + j) → Walked (view c k) m1 (16 + (j + 1))
+  pub map_taken : (m m1 out : List ℕ) → IsUnmarked m p → block c p ≡ out → SomeWord out → m1 ≡ set m p (suc (16 + j)) → Walked (view c k) m (16 + j) → Walked (view c k) m1 (16 + (j + 1))
   map_taken m m1 out o read is marked w =
       subst (Walked (view c k) m1) (omega arith)
       (took (view c k) m m1 (16 + j) w (Map j) refl low p map_at c SomeWord there true refl (inr (o, subst SomeWord (sym read) is, marked)))

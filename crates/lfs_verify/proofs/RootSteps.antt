@@ -7,7 +7,7 @@ use Rattle.lfs_model.specs.Reach.{address, view}
 use Rattle.lfs_model.specs.Stands.{Roots}
 use Rattle.lfs_model.proofs.Reach.{address_linked}
 use Rattle.lfs_verify.specs.Walk.{Walked}
-use Rattle.lfs_verify.specs.Take.{Takes, SomeWord}
+use Rattle.lfs_verify.specs.Take.{TakesAddress, SomeWord}
 use Rattle.lfs_verify.proofs.Steps.{skip}
 use Rattle.lfs_verify.proofs.Takes.{took, refused}
 use Rattle.lfs_verify.proofs.Words.{word_none}
@@ -29,7 +29,7 @@ module _ (c : Content) (k : CheckpointValue) (n : ℕ) (low : n < 4096) where
       subst (Walked (view c k) m) (omega arith) second
 
   module _ (at : ℕ) (out : List ℕ) (is : at ≡ address c k (Inode n)) (read : block c at ≡ out) (m m1 : List ℕ) (p : ℕ) (val : p ≡ word out 120) (x : Bool)
-      (t : Takes SomeWord c m m1 p (4144 + 2 * n) x) (w : Walked (view c k) m (4144 + 2 * n)) where
+      (t : TakesAddress SomeWord c m m1 p (4144 + 2 * n) x) (w : Walked (view c k) m (4144 + 2 * n)) where
     single_at : p ≡ address c k (Leaf n 0)
     single_at = points c (address c k (Inode n)) at 120 out p is read val ∙ sym (address_linked c k (Leaf n 0))
 
@@ -47,7 +47,7 @@ module _ (c : Content) (k : CheckpointValue) (n : ℕ) (low : n < 4096) where
         (took (view c k) m m1 (4144 + 2 * n) w (Leaf n 0) refl low p single_at c SomeWord
         (subst SomeWord (ap (block c) single_at), subst SomeWord (sym (ap (block c) single_at))) x holds t)
 
-    module _ (holds : x ≡ true) (m2 : List ℕ) (q : ℕ) (val2 : q ≡ word out 121) (y : Bool) (t2 : Takes SomeWord c m1 m2 q (4145 + 2 * n) y) where
+    module _ (holds : x ≡ true) (m2 : List ℕ) (q : ℕ) (val2 : q ≡ word out 121) (y : Bool) (t2 : TakesAddress SomeWord c m1 m2 q (4145 + 2 * n) y) where
       double_at : q ≡ address c k (Double n)
       double_at = points c (address c k (Inode n)) at 121 out q is read val2 ∙ sym (address_linked c k (Double n))
 

@@ -13,9 +13,9 @@ use Rattle.lfs_model.specs.Reach.{View, Row, after, opened, chunks, row_by, addr
 use Rattle.lfs_model.specs.Stands.{IsRows, used_in}
 use Rattle.lfs_model.specs.Summary.{BlockNameValue, summary_in}
 use Rattle.std.specs.Option.{option_map}
-use Rattle.lfs_verify.specs.Rows.{HasRow, Names, part, from}
+use Rattle.lfs_verify.specs.Rows.{HasRow, IsSummaryOf, part, from}
 use Rattle.lfs_verify.specs.Tables.{IsUsedTable}
-use Rattle.lfs_verify.specs.Take.{Reads}
+use Rattle.lfs_verify.specs.Take.{ReadsContent}
 use Rattle.lfs_verify.proofs.Takes.{block_at}
 
 abbrev Sectors : Type 0
@@ -85,7 +85,7 @@ module _ (c : Content) (used segment at : ℕ) (long : 2 + 64 * segment + used �
   pub no_chunk : entries_in (block c (2 + 64 * segment + at)) ≡ None → HasRow (from c used segment at) → ⊥
   no_chunk is h = no_front here behind (ap entries_in bytes_is ∙ is) (subst HasRow opens h)
 
-  module _ (n : ℕ) (names : Names (block c (2 + 64 * segment + at)) n) where
+  module _ (n : ℕ) (names : IsSummaryOf (block c (2 + 64 * segment + at)) n) where
     pub opens_names : from c used segment at ≡ after None (chunks names.0 behind)
     opens_names = opens ∙ front_is here behind names.0 (ap entries_in bytes_is ∙ names.1)
 
@@ -124,7 +124,7 @@ pub from_start : (c : Content) (used segment : ℕ) → from c used segment 0 �
 unfolding from part row_by
 from_start c used segment = refl
 
-pub long_enough : (d d' : DeviceState) (c : Content) (used segment : ℕ) → IsLawful d → Reads d d' c → 66 + 64 * segment ≤ d.size → used ≤ 64 → 2 + 64 * segment + used ≤ length c
+pub long_enough : (d d' : DeviceState) (c : Content) (used segment : ℕ) → IsLawful d → ReadsContent d d' c → 66 + 64 * segment ≤ d.size → used ≤ 64 → 2 + 64 * segment + used ≤ length c
 long_enough d d' c used segment lawful reads inside few = let e = ap length reads.content in let s = lawful.size in omega arith
 
 pub no_entries : entries_in [] ≡ None
@@ -140,7 +140,7 @@ pub entries_none : (bytes : List ℕ) → None ≡ summary_in bytes → entries_
 unfolding entries_in
 entries_none bytes is = ap (option_map (map entry_of)) (sym is)
 
-pub names_of : (bytes : List ℕ) (names : List BlockNameValue) (n : ℕ) → Some names ≡ summary_in bytes → n ≡ length names → Names bytes n
+pub names_of : (bytes : List ℕ) (names : List BlockNameValue) (n : ℕ) → Some names ≡ summary_in bytes → n ≡ length names → IsSummaryOf bytes n
 names_of bytes names n is long = (map entry_of names, entries_some bytes names is, length-map names entry_of ∙ sym long)
 
 -- a segment's row, by its table

@@ -6,7 +6,7 @@ use Rattle.lfs_model.specs.declared.Kind.TheVariants.{Directory}
 use Rattle.lfs_model.specs.Entry.{Entry, Data, Leaf, Double, Inode, Map, Usage, header}
 use Rattle.lfs_model.specs.Reach.{View}
 use Rattle.lfs_model.specs.Stands.{Reached, Fresh, stage_of, Roots, Leaves, Blocks, Inodes, Maps}
-use Rattle.lfs_verify.specs.Walk.{step_of, InBounds, IsGood, IsData, Walked, IsBounded, IsOpen}
+use Rattle.lfs_verify.specs.Walk.{step_of, InBounds, IsGood, IsData, Walked, IsBounded, IsUnmarked}
 
 -- two entries at one step are one
 pub same_step : (e f : Entry) → InBounds e → InBounds f → step_of e ≡ step_of f → e ≡ f
@@ -182,7 +182,7 @@ module _ (v : View) (marks : List ℕ) (r : ℕ) (w : Walked v marks r) (e : Ent
   }
 
   -- an entry whose address is open, and whose block is good, is taken
-  pub take_one : IsOpen marks (v.address e) → IsGood v e → Walked v (set marks (v.address e) (suc r)) (suc r)
+  pub take_one : IsUnmarked marks (v.address e) → IsGood v e → Walked v (set marks (v.address e) (suc r)) (suc r)
   take_one o is =
       let a = v.address e in
       let inside : a < length marks = o.within in
@@ -217,7 +217,7 @@ module _ (v : View) (marks : List ℕ) (r : ℕ) (w : Walked v marks r) (e : Ent
       absurd (omega arith)
 
   -- where the stage's addresses are fresh, the entry's is open
-  pub is_open : Fresh v (stage_of e) → Reached v e → IsOpen marks (v.address e)
+  pub is_open : Fresh v (stage_of e) → Reached v e → IsUnmarked marks (v.address e)
   is_open fresh reached =
       let f = fresh e refl reached in
       record { low = f.0; within = let x = f.1 in let y = w.size in omega arith; unmarked = unmarked_from fresh reached (get_or marks (v.address e) 0) refl }

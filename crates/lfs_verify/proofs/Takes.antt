@@ -6,8 +6,8 @@ use Rattle.lfs_model.specs.Content.{Content, block, bytes_of}
 use Rattle.lfs_model.specs.Device.{Cell, DeviceState, IsLawful, cell_at}
 use Rattle.lfs_model.specs.Reach.{View}
 use Rattle.lfs_model.specs.Stands.{Reached, Fresh, stage_of}
-use Rattle.lfs_verify.specs.Walk.{step_of, InBounds, IsGood, Walked, IsOpen}
-use Rattle.lfs_verify.specs.Take.{Looks, Takes, Reads, SomeWord, Goes}
+use Rattle.lfs_verify.specs.Walk.{step_of, InBounds, IsGood, Walked, IsUnmarked}
+use Rattle.lfs_verify.specs.Take.{Looks, TakesAddress, ReadsContent, SomeWord, Advances}
 use Rattle.lfs_model.proofs.Decoding.{value_found}
 use Rattle.lfs_model.proofs.Moments.{carries_none, carries_then, started, joined}
 use Rattle.lfs_verify.proofs.Words.{word_none}
@@ -33,14 +33,14 @@ no_inode n bytes none is =
     let z = ap length (sym none ∙ spelt) in absurd (cc)
 
 -- what a read says of the block
-pub read_at : (d d' : DeviceState) (c : Content) (at : ℕ) (o : Cell) → 0 < at → Reads d d' c → (d'.keeps_model → cell_at d.content at ≡ o) → block c at ≡ bytes_of o
+pub read_at : (d d' : DeviceState) (c : Content) (at : ℕ) (o : Cell) → 0 < at → ReadsContent d d' c → (d'.keeps_model → cell_at d.content at ≡ o) → block c at ≡ bytes_of o
 read_at d d' c at o lt reads is = block_at c at lt ∙ ap (λ (x : Content). bytes_of (cell_at x at)) (sym reads.content) ∙ ap bytes_of (is reads.keeps)
 
 -- a run that reads a content begins with one that reads it, and goes on with one
-pub reads_first : (a b c : DeviceState) (content : Content) → Reads a c content → Looks b c → Reads a b content
+pub reads_first : (a b c : DeviceState) (content : Content) → ReadsContent a c content → Looks b c → ReadsContent a b content
 reads_first a b c content reads looks = record { content = reads.content; keeps = looks.carries.kept_before reads.keeps }
 
-pub reads_then : (a b c : DeviceState) (content : Content) → Reads a c content → Looks a b → Reads b c content
+pub reads_then : (a b c : DeviceState) (content : Content) → ReadsContent a c content → Looks a b → ReadsContent b c content
 reads_then a b c content reads looks = record { content = looks.untouched.content ∙ reads.content; keeps = reads.keeps }
 
 pub looks_none : (d : DeviceState) → IsLawful d → Looks d d
@@ -59,27 +59,27 @@ looks_then a b c one two = record {
 
 module _ (v : View) (marks new : List ℕ) (r : ℕ) (w : Walked v marks r) (e : Entry) (here : step_of e ≡ r) (b : InBounds e)
     (at : ℕ) (is : at ≡ v.address e) (c : Content) (P : List ℕ → Type 0) (good : P (block c at) ↔ IsGood v e) where
-  took_true : Takes P c marks new at r true → Walked v new (suc r)
+  took_true : TakesAddress P c marks new at r true → Walked v new (suc r)
   took_true t = ⊎_elim
       (λ (none : (at ≡ 0) × (new ≡ marks)). subst (λ (m : List ℕ). Walked v m (suc r)) (sym none.1) (skip v marks r w e here b (sym is ∙ none.0)))
-      (λ (one : IsOpen marks at × P (block c at) × (new ≡ set marks at (suc r))).
+      (λ (one : IsUnmarked marks at × P (block c at) × (new ≡ set marks at (suc r))).
       subst (λ (m : List ℕ). Walked v m (suc r)) (ap (λ (a : ℕ). set marks a (suc r)) (sym is) ∙ sym one.2)
-      (take_one v marks r w e here b (subst (IsOpen marks) is one.0) (good.0 one.1)))
+      (take_one v marks r w e here b (subst (IsUnmarked marks) is one.0) (good.0 one.1)))
       t
 
-  refused_false : Takes P c marks new at r false → Fresh v (stage_of e) → (Reached v e → IsGood v e) → ⊥
+  refused_false : TakesAddress P c marks new at r false → Fresh v (stage_of e) → (Reached v e → IsGood v e) → ⊥
   refused_false t fresh local =
       let reached : Reached v e = let x = t.0 in omega arith in
-      t.1 (subst (IsOpen marks) (sym is) (is_open v marks r w e here b fresh reached)) (good.1 (local reached))
+      t.1 (subst (IsUnmarked marks) (sym is) (is_open v marks r w e here b fresh reached)) (good.1 (local reached))
 
-  pub took : (x : Bool) → x ≡ true → Takes P c marks new at r x → Walked v new (suc r)
-  took x is t = took_true (subst (Takes P c marks new at r) is t)
+  pub took : (x : Bool) → x ≡ true → TakesAddress P c marks new at r x → Walked v new (suc r)
+  took x is t = took_true (subst (TakesAddress P c marks new at r) is t)
 
-  pub refused : (x : Bool) → x ≡ false → Takes P c marks new at r x → Fresh v (stage_of e) → (Reached v e → IsGood v e) → ⊥
-  refused x is t = refused_false (subst (Takes P c marks new at r) is t)
+  pub refused : (x : Bool) → x ≡ false → TakesAddress P c marks new at r x → Fresh v (stage_of e) → (Reached v e → IsGood v e) → ⊥
+  refused x is t = refused_false (subst (TakesAddress P c marks new at r) is t)
 
-pub goes_true : (v : View) (old new : List ℕ) (r s : ℕ) (stage : Type 0) (x : Bool) → x ≡ true → Goes v old new r s stage x → Walked v old r → Walked v new s
-goes_true v old new r s stage x is = subst (λ (y : Bool). Goes v old new r s stage y → Walked v old r → Walked v new s) (sym is) (λ h. h)
+pub goes_true : (v : View) (old new : List ℕ) (r s : ℕ) (stage : Type 0) (x : Bool) → x ≡ true → Advances v old new r s stage x → Walked v old r → Walked v new s
+goes_true v old new r s stage x is = subst (λ (y : Bool). Advances v old new r s stage y → Walked v old r → Walked v new s) (sym is) (λ h. h)
 
-pub goes_false : (v : View) (old new : List ℕ) (r s : ℕ) (stage : Type 0) (x : Bool) → x ≡ false → Goes v old new r s stage x → Walked v old r → stage → ⊥
-goes_false v old new r s stage x is = subst (λ (y : Bool). Goes v old new r s stage y → Walked v old r → stage → ⊥) (sym is) (λ h. h)
+pub goes_false : (v : View) (old new : List ℕ) (r s : ℕ) (stage : Type 0) (x : Bool) → x ≡ false → Advances v old new r s stage x → Walked v old r → stage → ⊥
+goes_false v old new r s stage x is = subst (λ (y : Bool). Advances v old new r s stage y → Walked v old r → stage → ⊥) (sym is) (λ h. h)

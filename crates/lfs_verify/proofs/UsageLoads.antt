@@ -14,8 +14,8 @@ use Rattle.lfs_model.proofs.Cells.{sector_at}
 use Rattle.lfs_model.proofs.Numbers.{IsBytes}
 use Rattle.lfs_model.proofs.UsageStage.{usage_block_of}
 use Rattle.lfs_model.proofs.Words.{IsUsageBlock, uses_are, usage_block_some}
-use Rattle.lfs_segments.specs.Table.{SegmentNumbers, UsageTable, BlockPlace, no_segment, no_place, address_of, stale_of}
-use Rattle.lfs_segments.specs.Steps.{Puts}
+use Rattle.lfs_segments.specs.Table.{SegmentNumbers, UsageTable, PlaceInSegment, no_segment, no_place, address_of, stale_of}
+use Rattle.lfs_segments.specs.Steps.{PutsPlace}
 use Rattle.std.proofs.lemmas.List.{get_or-replicate, length-replicate, get_or_past}
 use Rattle.lfs_verify.specs.Take.{Looks}
 use Rattle.lfs_verify.specs.declared.fault.MountFault.{MountFault}
@@ -82,15 +82,15 @@ abbrev on_device : ℕ → ℕ → ℕ → SegmentNumbers
 on_device used live age = record { used = used; live = live; held = 0; age = age; taken = false }
 
 -- a usage block is taken in, and stands at this address
-module _ (old mid new : UsageTable) (uses : List SegmentUse) (j segments at : ℕ) (stale : Bool) (is : IsUsageUpTo j segments old) (taken : IsTakenIn old mid uses j 64) (puts : Puts mid new j at stale) where
+module _ (old mid new : UsageTable) (uses : List SegmentUse) (j segments at : ℕ) (stale : Bool) (is : IsUsageUpTo j segments old) (taken : IsTakenIn old mid uses j 64) (puts : PutsPlace mid new j at stale) where
   same_numbers : (s : ℕ) → get_or new.segments s no_segment ≡ get_or mid.segments s no_segment
   same_numbers s = ap (λ (l : List SegmentNumbers). get_or l s no_segment) puts.segments
 
   same_address : (i : ℕ) → (i ≡ j → ⊥) → address_of new i ≡ address_of old i
-  same_address i ne = puts.address.others i ne ∙ ap (λ (l : List BlockPlace). (get_or l i no_place).address) taken.blocks
+  same_address i ne = puts.address.others i ne ∙ ap (λ (l : List PlaceInSegment). (get_or l i no_place).address) taken.blocks
 
   same_stale : (i : ℕ) → (i ≡ j → ⊥) → stale_of new i ≡ stale_of old i
-  same_stale i ne = puts.stale.others i ne ∙ ap (λ (l : List BlockPlace). (get_or l i no_place).stale) taken.blocks
+  same_stale i ne = puts.stale.others i ne ∙ ap (λ (l : List PlaceInSegment). (get_or l i no_place).stale) taken.blocks
 
   new_size : length new.segments ≡ length old.segments
   new_size = ap length puts.segments ∙ taken.size
@@ -203,7 +203,7 @@ pub usage_start : (segments : ℕ) (t : UsageTable) → t.segments ≡ replicate
 usage_start segments t numbers places = record {
   size = ap length numbers ∙ length-replicate segments no_segment;
   own = λ i lt. absurd (omega (arith, lt));
-  none = λ i le. ap (λ (l : List BlockPlace). (get_or l i no_place).address) places ∙ ap (λ (p : BlockPlace). p.address) (all_alike 16 no_place i);
+  none = λ i le. ap (λ (l : List PlaceInSegment). (get_or l i no_place).address) places ∙ ap (λ (p : PlaceInSegment). p.address) (all_alike 16 no_place i);
   past = λ s le. ap (λ (l : List SegmentNumbers). get_or l s no_segment) numbers ∙ all_alike segments no_segment s;
 }
 

@@ -15,10 +15,10 @@ use Rattle.lfs_model.proofs.Numbers.{IsBytes}
 use Rattle.lfs_model.proofs.Reach.{address_linked}
 use Rattle.lfs_model.proofs.UsageStage.{usages, usage_block_of}
 use Rattle.lfs_model.proofs.Words.{IsUsageBlock, usage_block_found, usage_block_some, uses_are}
-use Rattle.lfs_verify.specs.Take.{Reads}
+use Rattle.lfs_verify.specs.Take.{ReadsContent}
 use Rattle.lfs_verify.specs.UsageTables.{CopiesUses, SaysUpTo}
 use Rattle.lfs_verify.specs.Walk as walk
-use Rattle.lfs_verify.specs.Walk.{Walked, IsOpen, IsBounded}
+use Rattle.lfs_verify.specs.Walk.{Walked, IsUnmarked, IsBounded}
 use Rattle.lfs_verify.proofs.Steps.{skip, fresh_of, within_1}
 use Rattle.lfs_verify.proofs.Takes.{took, refused}
 
@@ -31,7 +31,7 @@ block_bytes c all (suc at) = go (cell_at c (suc at)) (sector_at c (suc at) all)
     go None is = λ i. omega arith
     go (Some bytes) is = is.each
 
-pub read_bytes : (d d' : DeviceState) (c : Content) (at : ℕ) (out : List ℕ) → AllByRecursion IsSector d.content → Reads d d' c → block c at ≡ out → IsBytes out
+pub read_bytes : (d d' : DeviceState) (c : Content) (at : ℕ) (out : List ℕ) → AllByRecursion IsSector d.content → ReadsContent d d' c → block c at ≡ out → IsBytes out
 read_bytes d d' c at out all reads is = subst IsBytes (ap (λ (x : Content). block x at) reads.content ∙ is) (block_bytes d.content all at)
 
 pub uses_none : (uses : List SegmentUse) (used live : List ℕ) (at : ℕ) → CopiesUses uses used live used live at 0
@@ -167,7 +167,7 @@ module _ (c : Content) (k : CheckpointValue) (j : ℕ) (low : j < 16) (n : ℕ) 
   good_of stage reached = block_good c k j (stage.readable j reached, usage_block_of (view c k) stage j)
 
   -- a block that can't be taken
-  pub usage_refused : (p ≡ 0 → ⊥) → (m m1 : List ℕ) → (IsOpen m p → Says (n - 64 * j) (block c p) → ⊥) → Walked (view c k) m j → Usages (view c k) → ⊥
+  pub usage_refused : (p ≡ 0 → ⊥) → (m m1 : List ℕ) → (IsUnmarked m p → Says (n - 64 * j) (block c p) → ⊥) → Walked (view c k) m j → Usages (view c k) → ⊥
   usage_refused some m m1 not w stage =
       refused (view c k) m m1 j w (Usage j) refl low p usage_at c (Says (n - 64 * j)) (there, back) false refl (omega arith, not) stage.fresh (good_of stage)
 
@@ -180,7 +180,7 @@ module _ (c : Content) (k : CheckpointValue) (j : ℕ) (low : j < 16) (n : ℕ) 
         let e = none ∙ usage_block_some out (n - 64 * j) bytes long (subst (IsUsageBlock (n - 64 * j)) read says.1) in absurd (cc))
 
     module _ (us : List SegmentUse) (spelt : Some us ≡ usage_in (n - 64 * j) out) where
-      pub usage_taken : (m m1 : List ℕ) → IsOpen m p → m1 ≡ set m p (suc j) → Walked (view c k) m j → Walked (view c k) m1 (j + 1)
+      pub usage_taken : (m m1 : List ℕ) → IsUnmarked m p → m1 ≡ set m p (suc j) → Walked (view c k) m j → Walked (view c k) m1 (j + 1)
       usage_taken m m1 o marked w =
           let says : Says (n - 64 * j) out = (long, usage_block_found out (n - 64 * j) us bytes long (sym spelt)) in
           subst (Walked (view c k) m1) (omega arith)

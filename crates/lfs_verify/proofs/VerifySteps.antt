@@ -10,7 +10,7 @@ use Rattle.lfs_model.specs.Stands.{LogMap, HoldsAt, StandsLog, EnoughClean, Stag
 use Rattle.lfs_model.specs.Volume.{IsTooSmall, IsWithoutCheckpoint}
 use Rattle.lfs_model.proofs.Newest.{newest_fits}
 use Rattle.lfs_verify.specs.Codes.{HoldsBelow}
-use Rattle.lfs_verify.specs.Take.{Looks, Reads}
+use Rattle.lfs_verify.specs.Take.{Looks, ReadsContent}
 use Rattle.lfs_verify.specs.declared.fault.MountFault.{MountFault}
 use Rattle.lfs_verify.specs.declared.fault.MountFault.TheVariants as fault
 use Rattle.lfs_verify.specs.declared.tables.Tables.{Tables}
@@ -57,7 +57,7 @@ stands_where_enough c enough is holds = record { checkpoint = is.checkpoint; new
 
 module _ (old new : DeviceState) (lawful : IsLawful old) (k : CheckpointValue) (inside : 2 + 64 * k.segments ≤ old.size) (keeps : new.keeps_model) where
   -- the content that the walk read
-  pub read_content : Reads old new old.content
+  pub read_content : ReadsContent old new old.content
   read_content = record { content = refl; keeps = keeps }
 
   long_enough : 2 + 64 * k.segments ≤ length old.content

@@ -10,16 +10,16 @@ use Rattle.lfs_model.specs.Reach.{View, view}
 use Rattle.lfs_model.specs.Stands.{EnoughClean, Stages}
 use Rattle.lfs_model.proofs.Decodes.{are_sized}
 use Rattle.lfs_verify.specs.Codes.{HoldsBelow, Passed}
-use Rattle.lfs_verify.specs.Take.{Reads}
+use Rattle.lfs_verify.specs.Take.{ReadsContent}
 use Rattle.lfs_verify.proofs.Bounds.{bounded_of}
 use Rattle.lfs_verify.proofs.CodeSteps.{nine_stages, passed_none}
 
 -- the sectors that were read are whole
-pub sized_content : (d d' : DeviceState) → IsLawful d → (c : Content) → Reads d d' c → IsSized c
+pub sized_content : (d d' : DeviceState) → IsLawful d → (c : Content) → ReadsContent d d' c → IsSized c
 sized_content d d' lawful c reads = are_sized c (subst (AllByRecursion IsSector) reads.content lawful.now)
 
 -- what a lawful device holds leads nowhere past the bounds, so that a walk over it can begin
-pub passed_start : (d d' : DeviceState) → IsLawful d → (c : Content) → Reads d d' c → (k : CheckpointValue) → FitsCheckpoint k
+pub passed_start : (d d' : DeviceState) → IsLawful d → (c : Content) → ReadsContent d d' c → (k : CheckpointValue) → FitsCheckpoint k
     → (marks : List ℕ) → length marks ≡ 2 + 64 * k.segments → ((a : ℕ) → get_or marks a 0 ≡ 0) → Passed (view c k) marks 0 1
 passed_start d d' lawful c reads k fits marks size empty =
     let all = subst (AllByRecursion IsSector) reads.content lawful.now in

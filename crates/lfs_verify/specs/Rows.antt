@@ -10,8 +10,8 @@ abbrev pub HasRow : Option Row → Type 0
 HasRow x = (q : Row) × (x ≡ Some q)
 
 -- a summary of n entries
-abbrev pub Names : List ℕ → ℕ → Type 0
-Names bytes n = (es : List Entry) × (entries_in bytes ≡ Some es) × (length es ≡ n)
+abbrev pub IsSummaryOf : List ℕ → ℕ → Type 0
+IsSummaryOf bytes n = (es : List Entry) × (entries_in bytes ≡ Some es) × (length es ≡ n)
 
 -- the sectors of a segment's used part
 unfoldable pub part : Content → ℕ → ℕ → List Cell

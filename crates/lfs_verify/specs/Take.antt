@@ -5,7 +5,7 @@ use Rattle.lfs_model.specs.Content.{Content, block}
 use Rattle.lfs_model.specs.Device.{DeviceState, Carries, IsUntouched, LeavesOnly}
 use Rattle.lfs_model.specs.Entry.{Inode, word}
 use Rattle.lfs_model.specs.Reach.{View}
-use Rattle.lfs_verify.specs.Walk.{IsOpen, Walked}
+use Rattle.lfs_verify.specs.Walk.{IsUnmarked, Walked}
 
 -- A call that only reads leaves the content as it is, and at no moment does a stop leave what it couldn't leave before.
 pub record Looks (old new : DeviceState) : Type 0 where
@@ -14,7 +14,7 @@ pub record Looks (old new : DeviceState) : Type 0 where
   pub any_moment : LeavesOnly old new old.may_leave
 
 -- this content was read, by a device that keeps the device model
-pub record Reads (old new : DeviceState) (c : Content) : Type 0 where
+pub record ReadsContent (old new : DeviceState) (c : Content) : Type 0 where
   pub content : old.content ≡ c
   pub keeps : new.keeps_model
 
@@ -23,15 +23,15 @@ abbrev pub SomeWord : List ℕ → Type 0
 SomeWord bytes = (i : ℕ) × (i < 128) × (0 < word bytes i)
 
 -- An address at a step: passed by where it is 0, taken where it is open and its block has P; refused else.
-abbrev pub Takes : (List ℕ → Type 0) → Content → List ℕ → List ℕ → ℕ → ℕ → Bool → Type 0
-Takes P c old new at step true = ((at ≡ 0) × (new ≡ old)) ⊎ (IsOpen old at × P (block c at) × (new ≡ set old at (suc step)))
-Takes P c old new at step false = (0 < at) × (IsOpen old at → P (block c at) → ⊥)
+abbrev pub TakesAddress : (List ℕ → Type 0) → Content → List ℕ → List ℕ → ℕ → ℕ → Bool → Type 0
+TakesAddress P c old new at step true = ((at ≡ 0) × (new ≡ old)) ⊎ (IsUnmarked old at × P (block c at) × (new ≡ set old at (suc step)))
+TakesAddress P c old new at step false = (0 < at) × (IsUnmarked old at → P (block c at) → ⊥)
 
 -- the table of inode addresses
 abbrev pub Lists : View → List ℕ → Type 0
 Lists v map = (n : ℕ) → n < 4096 → get_or map n 0 ≡ v.address (Inode n)
 
 -- From step r to step s, or a proof that the stage fails.
-abbrev pub Goes : View → List ℕ → List ℕ → ℕ → ℕ → Type 0 → Bool → Type 0
-Goes v old new r s stage true = Walked v old r → Walked v new s
-Goes v old new r s stage false = Walked v old r → stage → ⊥
+abbrev pub Advances : View → List ℕ → List ℕ → ℕ → ℕ → Type 0 → Bool → Type 0
+Advances v old new r s stage true = Walked v old r → Walked v new s
+Advances v old new r s stage false = Walked v old r → stage → ⊥

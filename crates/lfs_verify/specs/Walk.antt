@@ -69,7 +69,7 @@ abbrev pub IsBounded : View → Type 0
 IsBounded v = (e : Entry) → Reached v e → InBounds e
 
 -- a sector that may be marked
-pub record IsOpen (marks : List ℕ) (at : ℕ) : Type 0 where
+pub record IsUnmarked (marks : List ℕ) (at : ℕ) : Type 0 where
   pub low : 2 ≤ at
   pub within : at < length marks
   pub unmarked : get_or marks at 0 ≡ 0

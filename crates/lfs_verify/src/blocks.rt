@@ -5,7 +5,7 @@ ghost use Rattle.lfs_model.specs.Content.{Content, block};
 ghost use Rattle.lfs_model.specs.Entry.{Double, Inode, header};
 ghost use Rattle.lfs_model.specs.Reach.{view};
 ghost use Rattle.lfs_model.specs.Stands.{Blocks};
-ghost use Rattle.lfs_verify.specs.Take.{Looks, Reads, Goes, Lists};
+ghost use Rattle.lfs_verify.specs.Take.{Looks, ReadsContent, Advances, Lists};
 
 use crate::reading::fetch;
 use crate::runs::{data_of_leaf, data_run};
@@ -34,11 +34,15 @@ pub fn data_of_inode<D: SectorDevice>(
 ) -> Result<bool, DeviceFault>
     requires file { file < 4096 }
     requires inside { length marks.old ≤ (D.state device.old).size }
-    ensures goes { IfOk result (λ r. (c : Content) (k : CheckpointValue) → Reads (D.state device.old) (D.state device.new) c → block c ((view c k).address (Inode file)) ≡ inode.now
-        → Goes (view c k) marks.old marks.new (536624 + 16624 * file) (536624 + 16624 * file + 112) (Blocks (view c k)) r) }
+    ensures goes { IfOk result (λ r. (c : Content) (k : CheckpointValue)
+        → ReadsContent (D.state device.old) (D.state device.new) c
+        → block c ((view c k).address (Inode file)) ≡ inode.now
+        → Advances (view c k) marks.old marks.new (536624 + 16624 * file)
+        (536624 + 16624 * file + 112) (Blocks (view c k)) r) }
     ensures len { length marks.new ≡ length marks.old }
     ensures failed { OnErr result ((D.state device.old).failures < (D.state device.new).failures) }
-    ensures no_failure { OnOk result ((D.state device.new).failures ≡ (D.state device.old).failures) }
+    ensures no_failure { OnOk result
+        ((D.state device.new).failures ≡ (D.state device.old).failures) }
     ensures looks { Looks (D.state device.old) (D.state device.new) }
 {
     let size = size_of(inode);
@@ -64,12 +68,16 @@ pub fn data_of_leaves<D: SectorDevice>(
 ) -> Result<bool, DeviceFault>
     requires file { file < 4096 }
     requires inside { length marks.old ≤ (D.state device.old).size }
-    ensures goes { IfOk result (λ r. (c : Content) (k : CheckpointValue) → Reads (D.state device.old) (D.state device.new) c → block c ((view c k).address (Double file)) ≡ root.now
+    ensures goes { IfOk result (λ r. (c : Content) (k : CheckpointValue)
+        → ReadsContent (D.state device.old) (D.state device.new) c
+        → block c ((view c k).address (Double file)) ≡ root.now
         → size ≡ (header (block c ((view c k).address (Inode file)))).size
-        → Goes (view c k) marks.old marks.new (536624 + 16624 * file + 240) (536624 + 16624 * file + 16624) (Blocks (view c k)) r) }
+        → Advances (view c k) marks.old marks.new (536624 + 16624 * file + 240)
+        (536624 + 16624 * file + 16624) (Blocks (view c k)) r) }
     ensures len { length marks.new ≡ length marks.old }
     ensures failed { OnErr result ((D.state device.old).failures < (D.state device.new).failures) }
-    ensures no_failure { OnOk result ((D.state device.new).failures ≡ (D.state device.old).failures) }
+    ensures no_failure { OnOk result
+        ((D.state device.new).failures ≡ (D.state device.old).failures) }
     ensures looks { Looks (D.state device.old) (D.state device.new) }
 {
     for place in 0..128u32 {
@@ -98,12 +106,16 @@ pub fn data_of_double<D: SectorDevice>(
 ) -> Result<bool, DeviceFault>
     requires file { file < 4096 }
     requires inside { length marks.old ≤ (D.state device.old).size }
-    ensures goes { IfOk result (λ r. (c : Content) (k : CheckpointValue) → Reads (D.state device.old) (D.state device.new) c → address ≡ (view c k).address (Double file)
+    ensures goes { IfOk result (λ r. (c : Content) (k : CheckpointValue)
+        → ReadsContent (D.state device.old) (D.state device.new) c
+        → address ≡ (view c k).address (Double file)
         → size ≡ (header (block c ((view c k).address (Inode file)))).size
-        → Goes (view c k) marks.old marks.new (536624 + 16624 * file + 240) (536624 + 16624 * file + 16624) (Blocks (view c k)) r) }
+        → Advances (view c k) marks.old marks.new (536624 + 16624 * file + 240)
+        (536624 + 16624 * file + 16624) (Blocks (view c k)) r) }
     ensures len { length marks.new ≡ length marks.old }
     ensures failed { OnErr result ((D.state device.old).failures < (D.state device.new).failures) }
-    ensures no_failure { OnOk result ((D.state device.new).failures ≡ (D.state device.old).failures) }
+    ensures no_failure { OnOk result
+        ((D.state device.new).failures ≡ (D.state device.old).failures) }
     ensures looks { Looks (D.state device.old) (D.state device.new) }
 {
     if address == 0 {
@@ -138,11 +150,15 @@ pub fn data_of_file<D: SectorDevice>(
     requires file { file < 4096 }
     requires at { address < length marks.old }
     requires inside { length marks.old ≤ (D.state device.old).size }
-    ensures goes { IfOk result (λ r. (c : Content) (k : CheckpointValue) → Reads (D.state device.old) (D.state device.new) c → address ≡ (view c k).address (Inode file)
-        → Goes (view c k) marks.old marks.new (536624 + 16624 * file) (536624 + 16624 * (file + 1)) (Blocks (view c k)) r) }
+    ensures goes { IfOk result (λ r. (c : Content) (k : CheckpointValue)
+        → ReadsContent (D.state device.old) (D.state device.new) c
+        → address ≡ (view c k).address (Inode file)
+        → Advances (view c k) marks.old marks.new (536624 + 16624 * file)
+        (536624 + 16624 * (file + 1)) (Blocks (view c k)) r) }
     ensures len { length marks.new ≡ length marks.old }
     ensures failed { OnErr result ((D.state device.old).failures < (D.state device.new).failures) }
-    ensures no_failure { OnOk result ((D.state device.new).failures ≡ (D.state device.old).failures) }
+    ensures no_failure { OnOk result
+        ((D.state device.new).failures ≡ (D.state device.old).failures) }
     ensures looks { Looks (D.state device.old) (D.state device.new) }
 {
     if address == 0 {
@@ -182,11 +198,13 @@ pub fn stage_data<D: SectorDevice>(
     requires files { length map.now ≡ 4096 }
     requires at { (i : ℕ) → i < 4096 → get_or map.now i 0 < length marks.old }
     requires inside { length marks.old ≤ (D.state device.old).size }
-    ensures goes { IfOk result (λ r. (c : Content) (k : CheckpointValue) → Reads (D.state device.old) (D.state device.new) c → Lists (view c k) map.now
-        → Goes (view c k) marks.old marks.new 536624 68628528 (Blocks (view c k)) r) }
+    ensures goes { IfOk result (λ r. (c : Content) (k : CheckpointValue)
+        → ReadsContent (D.state device.old) (D.state device.new) c → Lists (view c k) map.now
+        → Advances (view c k) marks.old marks.new 536624 68628528 (Blocks (view c k)) r) }
     ensures len { length marks.new ≡ length marks.old }
     ensures failed { OnErr result ((D.state device.old).failures < (D.state device.new).failures) }
-    ensures no_failure { OnOk result ((D.state device.new).failures ≡ (D.state device.old).failures) }
+    ensures no_failure { OnOk result
+        ((D.state device.new).failures ≡ (D.state device.old).failures) }
     ensures looks { Looks (D.state device.old) (D.state device.new) }
 {
     for file in 0..4096u32 {

@@ -22,7 +22,8 @@ fn count_marked(marks: &[u32], segment: usize) -> u32
 
 fn are_counts(live: &[u16], marks: &[u32]) -> bool
     requires { length marks.now ≡ 2 + 64 * length live.now }
-    ensures { IsTrue result ↔ ((s : ℕ) → s < length live.now → get_or live.now s 0 ≡ marked_count marks.now s 64) }
+    ensures { IsTrue result ↔ ((s : ℕ) → s < length live.now
+        → get_or live.now s 0 ≡ marked_count marks.now s 64) }
 {
     for segment in 0..live.len() {
         if count_marked(marks, segment) != live[segment] as u32 {
@@ -32,10 +33,12 @@ fn are_counts(live: &[u16], marks: &[u32]) -> bool
     true
 }
 
-/// Stage 9: whether the table of live blocks gives each segment the count of its sectors that were reached.
+/// Stage 9: whether the table of live blocks gives each segment the count of its sectors that were
+/// reached.
 pub fn stage_counts(live: &[u16], marks: &[u32]) -> bool
     requires { length marks.now ≡ 2 + 64 * length live.now }
-    ensures { (v : View) → Walked v marks.now 68628528 → IsBounded v → IsLiveTable v live.now → IsTrue result ↔ AreCounted v }
+    ensures { (v : View) → Walked v marks.now 68628528 → IsBounded v → IsLiveTable v live.now
+        → IsTrue result ↔ AreCounted v }
 {
     are_counts(live, marks)
 }

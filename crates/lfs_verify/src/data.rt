@@ -1,7 +1,7 @@
 //! The data blocks of files.
 ghost use Rattle.std.specs.Prelude.{◌≡◌, ◌<◌, ◌≤◌, ◌+◌, ◌^◌, length, IfOk, OnOk, OnErr};
 ghost use Rattle.lfs_model.specs.Content.{Content};
-ghost use Rattle.lfs_verify.specs.Take.{Looks, Reads, Takes};
+ghost use Rattle.lfs_verify.specs.Take.{Looks, ReadsContent, TakesAddress};
 ghost use Rattle.lfs_verify.specs.Walk.{IsDataBytes};
 
 use crate::marks::claim;
@@ -9,7 +9,7 @@ use crate::reading::fetch;
 use crate::values::is_data;
 use lfs_device::{DeviceFault, SectorDevice};
 
-/// Takes the data block at an address, where there is one.
+/// TakesAddress the data block at an address, where there is one.
 ///
 /// # Errors
 ///
@@ -26,10 +26,13 @@ pub fn take_data<D: SectorDevice>(
     requires step { step + 1 < 2 ^ 32 }
     requires index { index < 16624 }
     requires inside { length marks.old ≤ (D.state device.old).size }
-    ensures takes { IfOk result (λ r. (c : Content) → Reads (D.state device.old) (D.state device.new) c → Takes (IsDataBytes index size) c marks.old marks.new address step r) }
+    ensures takes { IfOk result (λ r. (c : Content)
+        → ReadsContent (D.state device.old) (D.state device.new) c
+        → TakesAddress (IsDataBytes index size) c marks.old marks.new address step r) }
     ensures len { length marks.new ≡ length marks.old }
     ensures failed { OnErr result ((D.state device.old).failures < (D.state device.new).failures) }
-    ensures no_failure { OnOk result ((D.state device.new).failures ≡ (D.state device.old).failures) }
+    ensures no_failure { OnOk result
+        ((D.state device.new).failures ≡ (D.state device.old).failures) }
     ensures looks { Looks (D.state device.old) (D.state device.new) }
 {
     if address == 0 {

@@ -4,8 +4,8 @@ ghost use Rattle.lfs_model.specs.Checkpoint.{CheckpointValue};
 ghost use Rattle.lfs_model.specs.Content.{Content};
 ghost use Rattle.lfs_model.specs.Reach.{view};
 ghost use Rattle.lfs_model.specs.Stands.{Inodes};
-ghost use Rattle.lfs_verify.specs.Directories.{IsDirectory};
-ghost use Rattle.lfs_verify.specs.Take.{Looks, Reads, Goes, Lists};
+ghost use Rattle.lfs_verify.specs.Directories.{IsDirectoryInode};
+ghost use Rattle.lfs_verify.specs.Take.{Looks, ReadsContent, Advances, Lists};
 ghost use Rattle.lfs_verify.specs.Walk.{Walked, IsBounded};
 
 use crate::inodes::take_inode;
@@ -16,7 +16,7 @@ use lfs_model::Kind;
 
 /// Whether a block is the inode of a directory.
 pub fn is_directory(block: &[u8; 512]) -> bool
-    ensures { IsTrue result ↔ IsDirectory block.now }
+    ensures { IsTrue result ↔ IsDirectoryInode block.now }
 {
     let Some(inode) = InodeView::decode(block) else {
         return false;
@@ -41,12 +41,15 @@ pub fn all_inodes<D: SectorDevice>(
 ) -> Result<bool, DeviceFault>
     requires files { length map.now ≡ 4096 }
     requires inside { length marks.old ≤ (D.state device.old).size }
-    ensures goes { IfOk result (λ r. (c : Content) (k : CheckpointValue) → Reads (D.state device.old) (D.state device.new) c → Lists (view c k) map.now
-        → Goes (view c k) marks.old marks.new 48 4144 (Inodes (view c k)) r) }
-    ensures at { IfOk result (λ r. IsTrue r → (i : ℕ) → i < 4096 → (get_or map.now i 0 ≡ 0) ⊎ (get_or map.now i 0 < length marks.old)) }
+    ensures goes { IfOk result (λ r. (c : Content) (k : CheckpointValue)
+        → ReadsContent (D.state device.old) (D.state device.new) c → Lists (view c k) map.now
+        → Advances (view c k) marks.old marks.new 48 4144 (Inodes (view c k)) r) }
+    ensures at { IfOk result (λ r. IsTrue r → (i : ℕ) → i < 4096 → (get_or map.now i 0 ≡ 0)
+        ⊎ (get_or map.now i 0 < length marks.old)) }
     ensures len { length marks.new ≡ length marks.old }
     ensures failed { OnErr result ((D.state device.old).failures < (D.state device.new).failures) }
-    ensures no_failure { OnOk result ((D.state device.new).failures ≡ (D.state device.old).failures) }
+    ensures no_failure { OnOk result
+        ((D.state device.new).failures ≡ (D.state device.old).failures) }
     ensures looks { Looks (D.state device.old) (D.state device.new) }
 {
     for file in 0..4096u32 {
@@ -57,7 +60,8 @@ pub fn all_inodes<D: SectorDevice>(
     Ok(true)
 }
 
-/// Stage 4: takes the inodes of all files, where the root is a directory. False where the stage fails.
+/// Stage 4: takes the inodes of all files, where the root is a directory. False where the stage
+/// fails.
 ///
 /// # Errors
 ///
@@ -70,14 +74,18 @@ pub fn stage_inodes<D: SectorDevice>(
 ) -> Result<bool, DeviceFault>
     requires files { length map.now ≡ 4096 }
     requires inside { length marks.old ≤ (D.state device.old).size }
-    ensures goes { IfOk result (λ r. (c : Content) (k : CheckpointValue) → Reads (D.state device.old) (D.state device.new) c → Lists (view c k) map.now
-        → Goes (view c k) marks.old marks.new 48 4144 (Inodes (view c k)) r) }
-    ensures holds { IfOk result (λ r. IsTrue r → (c : Content) (k : CheckpointValue) → Reads (D.state device.old) (D.state device.new) c → Lists (view c k) map.now
+    ensures goes { IfOk result (λ r. (c : Content) (k : CheckpointValue)
+        → ReadsContent (D.state device.old) (D.state device.new) c → Lists (view c k) map.now
+        → Advances (view c k) marks.old marks.new 48 4144 (Inodes (view c k)) r) }
+    ensures holds { IfOk result (λ r. IsTrue r → (c : Content) (k : CheckpointValue)
+        → ReadsContent (D.state device.old) (D.state device.new) c → Lists (view c k) map.now
         → IsBounded (view c k) → Walked (view c k) marks.old 48 → Inodes (view c k)) }
-    ensures at { IfOk result (λ r. IsTrue r → (i : ℕ) → i < 4096 → get_or map.now i 0 < length marks.old) }
+    ensures at { IfOk result (λ r. IsTrue r → (i : ℕ) → i < 4096
+        → get_or map.now i 0 < length marks.old) }
     ensures len { length marks.new ≡ length marks.old }
     ensures failed { OnErr result ((D.state device.old).failures < (D.state device.new).failures) }
-    ensures no_failure { OnOk result ((D.state device.new).failures ≡ (D.state device.old).failures) }
+    ensures no_failure { OnOk result
+        ((D.state device.new).failures ≡ (D.state device.old).failures) }
     ensures looks { Looks (D.state device.old) (D.state device.new) }
 {
     if !all_inodes(device, map, marks, sector)? {

@@ -2,14 +2,14 @@
 ghost use Rattle.std.specs.Prelude.{◌≡◌, ◌<◌, ◌≤◌, ◌+◌, ◌⊎◌, length, IsTrue, IfOk, OnOk, OnErr};
 ghost use Rattle.lfs_model.specs.Content.{Content};
 ghost use Rattle.lfs_model.specs.Entry.{IsInode};
-ghost use Rattle.lfs_verify.specs.Take.{Looks, Reads, Takes};
+ghost use Rattle.lfs_verify.specs.Take.{Looks, ReadsContent, TakesAddress};
 
 use crate::marks::claim;
 use crate::reading::fetch;
 use crate::values::is_inode;
 use lfs_device::{DeviceFault, SectorDevice};
 
-/// Takes the inode at an address, where there is one.
+/// TakesAddress the inode at an address, where there is one.
 ///
 /// # Errors
 ///
@@ -23,11 +23,14 @@ pub fn take_inode<D: SectorDevice>(
 ) -> Result<bool, DeviceFault>
     requires file { file < 4096 }
     requires inside { length marks.old ≤ (D.state device.old).size }
-    ensures takes { IfOk result (λ r. (c : Content) → Reads (D.state device.old) (D.state device.new) c → Takes (IsInode file) c marks.old marks.new address (48 + file) r) }
+    ensures takes { IfOk result (λ r. (c : Content)
+        → ReadsContent (D.state device.old) (D.state device.new) c
+        → TakesAddress (IsInode file) c marks.old marks.new address (48 + file) r) }
     ensures at { IfOk result (λ r. IsTrue r → address ≡ 0 ⊎ (address < length marks.old)) }
     ensures len { length marks.new ≡ length marks.old }
     ensures failed { OnErr result ((D.state device.old).failures < (D.state device.new).failures) }
-    ensures no_failure { OnOk result ((D.state device.new).failures ≡ (D.state device.old).failures) }
+    ensures no_failure { OnOk result
+        ((D.state device.new).failures ≡ (D.state device.old).failures) }
     ensures looks { Looks (D.state device.old) (D.state device.new) }
 {
     if address == 0 {

@@ -9,7 +9,7 @@ ghost use Rattle.lfs_model.specs.Summary.{FitsSummary, IsPlaced, no_block};
 ghost use Rattle.lfs_verify.specs.Labels.{IsNamedIn, HasStep};
 ghost use Rattle.lfs_verify.specs.Rows.{HasRow};
 ghost use Rattle.lfs_verify.specs.Tables.{IsUsedTable};
-ghost use Rattle.lfs_verify.specs.Take.{Looks, Reads};
+ghost use Rattle.lfs_verify.specs.Take.{Looks, ReadsContent};
 ghost use Rattle.lfs_verify.specs.Walk.{Walked, IsBounded, step_of};
 
 use crate::reading::fetch;
@@ -52,7 +52,8 @@ fn has_step(mark: u32, name: BlockName) -> bool
 fn is_chunk_named(names: &SummaryView<'_>, marks: &[u32], first: usize) -> bool
     requires fits { FitsSummary names.now }
     requires inside { first + length names.now ≤ length marks.now }
-    ensures { IsTrue result ↔ ((i : ℕ) → i < length names.now → HasStep (get_or marks.now (first + i) 0) (entry_of (get_or names.now i no_block))) }
+    ensures { IsTrue result ↔ ((i : ℕ) → i < length names.now
+        → HasStep (get_or marks.now (first + i) 0) (entry_of (get_or names.now i no_block))) }
 {
     for place in 0..names.len() {
         if !has_step(marks[first + place], names.get(place)) {
@@ -90,10 +91,12 @@ fn is_segment_named<D: SectorDevice>(
     requires used { used ≤ 64 }
     requires inside { 66 + 64 * segment ≤ (D.state device.old).size }
     requires marked { 66 + 64 * segment ≤ length marks.now }
-    ensures named { IfOk result (λ r. (c : Content) → Reads (D.state device.old) (D.state device.new) c → HasRow (row_by c used segment)
+    ensures named { IfOk result (λ r. (c : Content)
+        → ReadsContent (D.state device.old) (D.state device.new) c → HasRow (row_by c used segment)
         → IsTrue r ↔ ((o : ℕ) → o < 64 → IsNamedIn (row_by c used segment) marks.now segment o)) }
     ensures failed { OnErr result ((D.state device.old).failures < (D.state device.new).failures) }
-    ensures no_failure { OnOk result ((D.state device.new).failures ≡ (D.state device.old).failures) }
+    ensures no_failure { OnOk result
+        ((D.state device.new).failures ≡ (D.state device.old).failures) }
     ensures looks { Looks (D.state device.old) (D.state device.new) }
 {
     let first = 2 + 64 * segment;
@@ -133,10 +136,14 @@ pub fn stage_labels<D: SectorDevice>(
 ) -> Result<bool, DeviceFault>
     requires inside { 2 + 64 * length used.now ≤ (D.state device.old).size }
     requires marked { length marks.now ≡ 2 + 64 * length used.now }
-    ensures named { IfOk result (λ r. (c : Content) (k : CheckpointValue) → Reads (D.state device.old) (D.state device.new) c → IsUsedTable (view c k) used.now → IsRows (view c k)
-        → Walked (view c k) marks.now 68628528 → IsBounded (view c k) → IsTrue r ↔ AreNamed (view c k)) }
+    ensures named { IfOk result (λ r. (c : Content) (k : CheckpointValue)
+        → ReadsContent (D.state device.old) (D.state device.new) c
+        → IsUsedTable (view c k) used.now → IsRows (view c k)
+        → Walked (view c k) marks.now 68628528 → IsBounded (view c k)
+        → IsTrue r ↔ AreNamed (view c k)) }
     ensures failed { OnErr result ((D.state device.old).failures < (D.state device.new).failures) }
-    ensures no_failure { OnOk result ((D.state device.new).failures ≡ (D.state device.old).failures) }
+    ensures no_failure { OnOk result
+        ((D.state device.new).failures ≡ (D.state device.old).failures) }
     ensures looks { Looks (D.state device.old) (D.state device.new) }
 {
     for segment in 0..used.len() {

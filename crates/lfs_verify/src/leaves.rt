@@ -5,7 +5,7 @@ ghost use Rattle.lfs_model.specs.Content.{Content, block};
 ghost use Rattle.lfs_model.specs.Entry.{Inode, Double};
 ghost use Rattle.lfs_model.specs.Reach.{view};
 ghost use Rattle.lfs_model.specs.Stands.{Leaves};
-ghost use Rattle.lfs_verify.specs.Take.{Looks, Reads, Goes, Lists};
+ghost use Rattle.lfs_verify.specs.Take.{Looks, ReadsContent, Advances, Lists};
 
 use crate::pointers::take_pointers;
 use crate::reading::fetch;
@@ -26,11 +26,15 @@ pub fn leaf_blocks<D: SectorDevice>(
 ) -> Result<bool, DeviceFault>
     requires file { file < 4096 }
     requires inside { length marks.old ≤ (D.state device.old).size }
-    ensures goes { IfOk result (λ r. (c : Content) (k : CheckpointValue) → Reads (D.state device.old) (D.state device.new) c → block c ((view c k).address (Double file)) ≡ root.now
-        → Goes (view c k) marks.old marks.new (12336 + 128 * file) (12336 + 128 * (file + 1)) (Leaves (view c k)) r) }
+    ensures goes { IfOk result (λ r. (c : Content) (k : CheckpointValue)
+        → ReadsContent (D.state device.old) (D.state device.new) c
+        → block c ((view c k).address (Double file)) ≡ root.now
+        → Advances (view c k) marks.old marks.new (12336 + 128 * file)
+        (12336 + 128 * (file + 1)) (Leaves (view c k)) r) }
     ensures len { length marks.new ≡ length marks.old }
     ensures failed { OnErr result ((D.state device.old).failures < (D.state device.new).failures) }
-    ensures no_failure { OnOk result ((D.state device.new).failures ≡ (D.state device.old).failures) }
+    ensures no_failure { OnOk result
+        ((D.state device.new).failures ≡ (D.state device.old).failures) }
     ensures looks { Looks (D.state device.old) (D.state device.new) }
 {
     for leaf in 0..128u32 {
@@ -58,11 +62,15 @@ pub fn leaves_of_file<D: SectorDevice>(
     requires file { file < 4096 }
     requires at { address < length marks.old }
     requires inside { length marks.old ≤ (D.state device.old).size }
-    ensures goes { IfOk result (λ r. (c : Content) (k : CheckpointValue) → Reads (D.state device.old) (D.state device.new) c → address ≡ (view c k).address (Inode file)
-        → Goes (view c k) marks.old marks.new (12336 + 128 * file) (12336 + 128 * (file + 1)) (Leaves (view c k)) r) }
+    ensures goes { IfOk result (λ r. (c : Content) (k : CheckpointValue)
+        → ReadsContent (D.state device.old) (D.state device.new) c
+        → address ≡ (view c k).address (Inode file)
+        → Advances (view c k) marks.old marks.new (12336 + 128 * file)
+        (12336 + 128 * (file + 1)) (Leaves (view c k)) r) }
     ensures len { length marks.new ≡ length marks.old }
     ensures failed { OnErr result ((D.state device.old).failures < (D.state device.new).failures) }
-    ensures no_failure { OnOk result ((D.state device.new).failures ≡ (D.state device.old).failures) }
+    ensures no_failure { OnOk result
+        ((D.state device.new).failures ≡ (D.state device.old).failures) }
     ensures looks { Looks (D.state device.old) (D.state device.new) }
 {
     if address == 0 {
@@ -102,11 +110,13 @@ pub fn stage_leaves<D: SectorDevice>(
     requires files { length map.now ≡ 4096 }
     requires at { (i : ℕ) → i < 4096 → get_or map.now i 0 < length marks.old }
     requires inside { length marks.old ≤ (D.state device.old).size }
-    ensures goes { IfOk result (λ r. (c : Content) (k : CheckpointValue) → Reads (D.state device.old) (D.state device.new) c → Lists (view c k) map.now
-        → Goes (view c k) marks.old marks.new 12336 536624 (Leaves (view c k)) r) }
+    ensures goes { IfOk result (λ r. (c : Content) (k : CheckpointValue)
+        → ReadsContent (D.state device.old) (D.state device.new) c → Lists (view c k) map.now
+        → Advances (view c k) marks.old marks.new 12336 536624 (Leaves (view c k)) r) }
     ensures len { length marks.new ≡ length marks.old }
     ensures failed { OnErr result ((D.state device.old).failures < (D.state device.new).failures) }
-    ensures no_failure { OnOk result ((D.state device.new).failures ≡ (D.state device.old).failures) }
+    ensures no_failure { OnOk result
+        ((D.state device.new).failures ≡ (D.state device.old).failures) }
     ensures looks { Looks (D.state device.old) (D.state device.new) }
 {
     for file in 0..4096u32 {

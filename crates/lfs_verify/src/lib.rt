@@ -1,4 +1,5 @@
-//! The walk over a whole volume, which finds out whether its content stands for a log map. It only reads.
+//! The walk over a whole volume, which finds out whether its content stands for a log map. It only
+//! reads.
 #![tactic(auto)]
 
 pub mod blocks;

@@ -1,14 +1,14 @@
 //! One block of addresses of the walk.
 ghost use Rattle.std.specs.Prelude.{◌≡◌, ◌<◌, ◌≤◌, ◌+◌, ◌^◌, length, IfOk, OnOk, OnErr};
 ghost use Rattle.lfs_model.specs.Content.{Content};
-ghost use Rattle.lfs_verify.specs.Take.{Looks, Reads, Takes, SomeWord};
+ghost use Rattle.lfs_verify.specs.Take.{Looks, ReadsContent, TakesAddress, SomeWord};
 
 use crate::marks::claim;
 use crate::reading::fetch;
 use crate::values::has_word;
 use lfs_device::{DeviceFault, SectorDevice};
 
-/// Takes the block of addresses at an address, where there is one.
+/// TakesAddress the block of addresses at an address, where there is one.
 ///
 /// # Errors
 ///
@@ -22,10 +22,13 @@ pub fn take_pointers<D: SectorDevice>(
 ) -> Result<bool, DeviceFault>
     requires step { step + 1 < 2 ^ 32 }
     requires inside { length marks.old ≤ (D.state device.old).size }
-    ensures takes { IfOk result (λ r. (c : Content) → Reads (D.state device.old) (D.state device.new) c → Takes SomeWord c marks.old marks.new address step r) }
+    ensures takes { IfOk result (λ r. (c : Content)
+        → ReadsContent (D.state device.old) (D.state device.new) c
+        → TakesAddress SomeWord c marks.old marks.new address step r) }
     ensures len { length marks.new ≡ length marks.old }
     ensures failed { OnErr result ((D.state device.old).failures < (D.state device.new).failures) }
-    ensures no_failure { OnOk result ((D.state device.new).failures ≡ (D.state device.old).failures) }
+    ensures no_failure { OnOk result
+        ((D.state device.new).failures ≡ (D.state device.old).failures) }
     ensures looks { Looks (D.state device.old) (D.state device.new) }
 {
     if address == 0 {

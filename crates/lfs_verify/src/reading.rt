@@ -1,11 +1,12 @@
 //! Reading a block of a volume.
 ghost use Rattle.std.specs.Prelude.{◌≡◌, ◌<◌, IfOk, OnOk, OnErr, cond, []};
 ghost use Rattle.lfs_model.specs.Content.{Content, block};
-ghost use Rattle.lfs_verify.specs.Take.{Looks, Reads};
+ghost use Rattle.lfs_verify.specs.Take.{Looks, ReadsContent};
 
 use lfs_device::{DeviceFault, ReadFault, SectorDevice};
 
-/// Reads the block at an address: true where it can be read. One that can't be read counts as empty.
+/// ReadsContent the block at an address: true where it can be read. One that can't be read counts as
+/// empty.
 ///
 /// # Errors
 ///
@@ -17,9 +18,12 @@ pub fn fetch<D: SectorDevice>(
 ) -> Result<bool, DeviceFault>
     requires some { 0 < address }
     requires inside { address < (D.state device.old).size }
-    ensures block { IfOk result (λ r. (c : Content) → Reads (D.state device.old) (D.state device.new) c → block c address ≡ cond r out.new []) }
+    ensures block { IfOk result (λ r. (c : Content)
+        → ReadsContent (D.state device.old) (D.state device.new) c
+        → block c address ≡ cond r out.new []) }
     ensures failed { OnErr result ((D.state device.old).failures < (D.state device.new).failures) }
-    ensures no_failure { OnOk result ((D.state device.new).failures ≡ (D.state device.old).failures) }
+    ensures no_failure { OnOk result
+        ((D.state device.new).failures ≡ (D.state device.old).failures) }
     ensures looks { Looks (D.state device.old) (D.state device.new) }
 {
     match device.read(address, out) {

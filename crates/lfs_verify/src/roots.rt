@@ -5,7 +5,7 @@ ghost use Rattle.lfs_model.specs.Content.{Content};
 ghost use Rattle.lfs_model.specs.Entry.{Inode};
 ghost use Rattle.lfs_model.specs.Reach.{view};
 ghost use Rattle.lfs_model.specs.Stands.{Roots};
-ghost use Rattle.lfs_verify.specs.Take.{Looks, Reads, Goes, Lists};
+ghost use Rattle.lfs_verify.specs.Take.{Looks, ReadsContent, Advances, Lists};
 
 use crate::pointers::take_pointers;
 use crate::reading::fetch;
@@ -27,11 +27,15 @@ pub fn root_blocks<D: SectorDevice>(
     requires file { file < 4096 }
     requires at { address < length marks.old }
     requires inside { length marks.old ≤ (D.state device.old).size }
-    ensures goes { IfOk result (λ r. (c : Content) (k : CheckpointValue) → Reads (D.state device.old) (D.state device.new) c → address ≡ (view c k).address (Inode file)
-        → Goes (view c k) marks.old marks.new (4144 + 2 * file) (4144 + 2 * (file + 1)) (Roots (view c k)) r) }
+    ensures goes { IfOk result (λ r. (c : Content) (k : CheckpointValue)
+        → ReadsContent (D.state device.old) (D.state device.new) c
+        → address ≡ (view c k).address (Inode file)
+        → Advances (view c k) marks.old marks.new (4144 + 2 * file)
+        (4144 + 2 * (file + 1)) (Roots (view c k)) r) }
     ensures len { length marks.new ≡ length marks.old }
     ensures failed { OnErr result ((D.state device.old).failures < (D.state device.new).failures) }
-    ensures no_failure { OnOk result ((D.state device.new).failures ≡ (D.state device.old).failures) }
+    ensures no_failure { OnOk result
+        ((D.state device.new).failures ≡ (D.state device.old).failures) }
     ensures looks { Looks (D.state device.old) (D.state device.new) }
 {
     if address == 0 {
@@ -65,11 +69,13 @@ pub fn stage_roots<D: SectorDevice>(
     requires files { length map.now ≡ 4096 }
     requires at { (i : ℕ) → i < 4096 → get_or map.now i 0 < length marks.old }
     requires inside { length marks.old ≤ (D.state device.old).size }
-    ensures goes { IfOk result (λ r. (c : Content) (k : CheckpointValue) → Reads (D.state device.old) (D.state device.new) c → Lists (view c k) map.now
-        → Goes (view c k) marks.old marks.new 4144 12336 (Roots (view c k)) r) }
+    ensures goes { IfOk result (λ r. (c : Content) (k : CheckpointValue)
+        → ReadsContent (D.state device.old) (D.state device.new) c → Lists (view c k) map.now
+        → Advances (view c k) marks.old marks.new 4144 12336 (Roots (view c k)) r) }
     ensures len { length marks.new ≡ length marks.old }
     ensures failed { OnErr result ((D.state device.old).failures < (D.state device.new).failures) }
-    ensures no_failure { OnOk result ((D.state device.new).failures ≡ (D.state device.old).failures) }
+    ensures no_failure { OnOk result
+        ((D.state device.new).failures ≡ (D.state device.old).failures) }
     ensures looks { Looks (D.state device.old) (D.state device.new) }
 {
     for file in 0..4096u32 {

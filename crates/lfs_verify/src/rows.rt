@@ -5,9 +5,9 @@ ghost use Rattle.lfs_model.specs.Content.{Content};
 ghost use Rattle.lfs_model.specs.Entry.{entries_in};
 ghost use Rattle.lfs_model.specs.Reach.{row_by, view};
 ghost use Rattle.lfs_model.specs.Stands.{IsRows};
-ghost use Rattle.lfs_verify.specs.Rows.{HasRow, Names};
+ghost use Rattle.lfs_verify.specs.Rows.{HasRow, IsSummaryOf};
 ghost use Rattle.lfs_verify.specs.Tables.{IsUsedTable};
-ghost use Rattle.lfs_verify.specs.Take.{Looks, Reads};
+ghost use Rattle.lfs_verify.specs.Take.{Looks, ReadsContent};
 
 use crate::reading::fetch;
 use lfs_device::{DeviceFault, SectorDevice};
@@ -15,7 +15,7 @@ use lfs_layout::SummaryView;
 
 /// How many blocks a chunk has, by its summary; None for a sector that is none.
 fn count_names(sector: &[u8; 512]) -> Option<u32>
-    ensures { MatchOption result (entries_in sector.now ≡ None) (λ n. Names sector.now n) }
+    ensures { MatchOption result (entries_in sector.now ≡ None) (λ n. IsSummaryOf sector.now n) }
 {
     let Some(summary) = SummaryView::decode(sector) else {
         return None;
@@ -36,9 +36,12 @@ fn is_row<D: SectorDevice>(
 ) -> Result<bool, DeviceFault>
     requires used { used ≤ 64 }
     requires inside { 66 + 64 * segment ≤ (D.state device.old).size }
-    ensures row { IfOk result (λ r. (c : Content) → Reads (D.state device.old) (D.state device.new) c → IsTrue r ↔ HasRow (row_by c used segment)) }
+    ensures row { IfOk result (λ r. (c : Content)
+        → ReadsContent (D.state device.old) (D.state device.new) c → IsTrue r
+        ↔ HasRow (row_by c used segment)) }
     ensures failed { OnErr result ((D.state device.old).failures < (D.state device.new).failures) }
-    ensures no_failure { OnOk result ((D.state device.new).failures ≡ (D.state device.old).failures) }
+    ensures no_failure { OnOk result
+        ((D.state device.new).failures ≡ (D.state device.old).failures) }
     ensures looks { Looks (D.state device.old) (D.state device.new) }
 {
     let mut at = 0u32;
@@ -68,9 +71,12 @@ pub fn stage_rows<D: SectorDevice>(
     sector: &mut [u8; 512],
 ) -> Result<bool, DeviceFault>
     requires inside { 2 + 64 * length used.now ≤ (D.state device.old).size }
-    ensures rows { IfOk result (λ r. (c : Content) (k : CheckpointValue) → Reads (D.state device.old) (D.state device.new) c → IsUsedTable (view c k) used.now → IsTrue r ↔ IsRows (view c k)) }
+    ensures rows { IfOk result (λ r. (c : Content) (k : CheckpointValue)
+        → ReadsContent (D.state device.old) (D.state device.new) c → IsUsedTable (view c k) used.now
+        → IsTrue r ↔ IsRows (view c k)) }
     ensures failed { OnErr result ((D.state device.old).failures < (D.state device.new).failures) }
-    ensures no_failure { OnOk result ((D.state device.new).failures ≡ (D.state device.old).failures) }
+    ensures no_failure { OnOk result
+        ((D.state device.new).failures ≡ (D.state device.old).failures) }
     ensures looks { Looks (D.state device.old) (D.state device.new) }
 {
     for segment in 0..used.len() {

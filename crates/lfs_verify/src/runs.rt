@@ -5,7 +5,7 @@ ghost use Rattle.lfs_model.specs.Content.{Content, block};
 ghost use Rattle.lfs_model.specs.Entry.{Data, Inode, Leaf, header, word};
 ghost use Rattle.lfs_model.specs.Reach.{view};
 ghost use Rattle.lfs_model.specs.Stands.{Blocks};
-ghost use Rattle.lfs_verify.specs.Take.{Looks, Reads, Goes};
+ghost use Rattle.lfs_verify.specs.Take.{Looks, ReadsContent, Advances};
 
 use crate::data::take_data;
 use crate::reading::fetch;
@@ -32,13 +32,17 @@ pub fn data_run<D: SectorDevice>(
     requires words { first + count ≤ 128 }
     requires index { index + count ≤ 16624 }
     requires inside { length marks.old ≤ (D.state device.old).size }
-    ensures goes { IfOk result (λ r. (c : Content) (k : CheckpointValue) → Reads (D.state device.old) (D.state device.new) c
-        → ((j : ℕ) → j < count → word words.now (first + j) ≡ (view c k).address (Data file (index + j)))
+    ensures goes { IfOk result (λ r. (c : Content) (k : CheckpointValue)
+        → ReadsContent (D.state device.old) (D.state device.new) c
+        → ((j : ℕ) → j < count → word words.now
+        (first + j) ≡ (view c k).address (Data file (index + j)))
         → size ≡ (header (block c ((view c k).address (Inode file)))).size
-        → Goes (view c k) marks.old marks.new (536624 + 16624 * file + index) (536624 + 16624 * file + index + count) (Blocks (view c k)) r) }
+        → Advances (view c k) marks.old marks.new (536624 + 16624 * file + index)
+        (536624 + 16624 * file + index + count) (Blocks (view c k)) r) }
     ensures len { length marks.new ≡ length marks.old }
     ensures failed { OnErr result ((D.state device.old).failures < (D.state device.new).failures) }
-    ensures no_failure { OnOk result ((D.state device.new).failures ≡ (D.state device.old).failures) }
+    ensures no_failure { OnOk result
+        ((D.state device.new).failures ≡ (D.state device.old).failures) }
     ensures looks { Looks (D.state device.old) (D.state device.new) }
 {
     for place in 0..count {
@@ -51,7 +55,8 @@ pub fn data_run<D: SectorDevice>(
     Ok(true)
 }
 
-/// Takes the data blocks of a leaf, which was taken before: the single leaf, or one more than its place under the double root.
+/// Takes the data blocks of a leaf, which was taken before: the single leaf, or one more than its
+/// place under the double root.
 ///
 /// # Errors
 ///
@@ -69,12 +74,16 @@ pub fn data_of_leaf<D: SectorDevice>(
     requires file { file < 4096 }
     requires leaf { leaf < 129 }
     requires inside { length marks.old ≤ (D.state device.old).size }
-    ensures goes { IfOk result (λ r. (c : Content) (k : CheckpointValue) → Reads (D.state device.old) (D.state device.new) c → address ≡ (view c k).address (Leaf file leaf)
+    ensures goes { IfOk result (λ r. (c : Content) (k : CheckpointValue)
+        → ReadsContent (D.state device.old) (D.state device.new) c
+        → address ≡ (view c k).address (Leaf file leaf)
         → size ≡ (header (block c ((view c k).address (Inode file)))).size
-        → Goes (view c k) marks.old marks.new (536624 + 16624 * file + (112 + 128 * leaf)) (536624 + 16624 * file + (112 + 128 * (leaf + 1))) (Blocks (view c k)) r) }
+        → Advances (view c k) marks.old marks.new (536624 + 16624 * file + (112 + 128 * leaf))
+        (536624 + 16624 * file + (112 + 128 * (leaf + 1))) (Blocks (view c k)) r) }
     ensures len { length marks.new ≡ length marks.old }
     ensures failed { OnErr result ((D.state device.old).failures < (D.state device.new).failures) }
-    ensures no_failure { OnOk result ((D.state device.new).failures ≡ (D.state device.old).failures) }
+    ensures no_failure { OnOk result
+        ((D.state device.new).failures ≡ (D.state device.old).failures) }
     ensures looks { Looks (D.state device.old) (D.state device.new) }
 {
     if address == 0 {

@@ -17,7 +17,8 @@ use lfs_layout::{Checkpoint, PointerView, UsageView};
 use lfs_segments::Usage;
 use std::alloc::Global;
 
-/// What a walk over a volume leads to: the tables of its newest checkpoint, and how many blocks its files have.
+/// What a walk over a volume leads to: the tables of its newest checkpoint, and how many blocks its
+/// files have.
 #[derive(Drop)]
 pub struct Tables {
     /// The checkpoint's number.
@@ -32,7 +33,8 @@ pub struct Tables {
     pub meta_blocks: u32,
 }
 
-/// Reads a block of a table; where it can't stand there or can't be read, this stage of a mount fails.
+/// Reads a block of a table; where it can't stand there or can't be read, this stage of a mount
+/// fails.
 fn read_table<D: SectorDevice>(
     device: &mut D,
     segments: u32,
@@ -41,11 +43,13 @@ fn read_table<D: SectorDevice>(
     out: &mut [u8; 512],
 ) -> Result<(), MountFault>
     requires size { 2 + 64 * segments ≤ (D.state device.old).size }
-    ensures block { OnOk result ((D.state device.new).keeps_model → block (D.state device.old).content address ≡ out.new) }
+    ensures block { OnOk result ((D.state device.new).keeps_model
+        → block (D.state device.old).content address ≡ out.new) }
     ensures above { OnOk result (2 ≤ address) }
     ensures cause { IfErr result (IsBlockFault (D.state device.old) (D.state device.new)
         segments address) }
-    ensures no_failure { OnOk result ((D.state device.new).failures ≡ (D.state device.old).failures) }
+    ensures no_failure { OnOk result
+        ((D.state device.new).failures ≡ (D.state device.old).failures) }
     ensures looks { Looks (D.state device.old) (D.state device.new) }
 {
     if address < 2 || address >= 2 + 64 * segments {
@@ -60,7 +64,8 @@ fn read_table<D: SectorDevice>(
 
 /// Whether a segment where nothing lives has an age, which a commit would write as 0.
 fn has_dead_age(block: &UsageView<'_>) -> bool
-    ensures { IsFalse result → (i : ℕ) → i < 64 → (get_or block.now i no_use).live ≡ 0 → (get_or block.now i no_use).age ≡ 0 }
+    ensures { IsFalse result → (i : ℕ) → i < 64 → (get_or block.now i no_use).live ≡ 0
+        → (get_or block.now i no_use).age ≡ 0 }
 {
     for entry in 0..64usize {
         let numbers = block.get(entry);
@@ -76,8 +81,11 @@ fn take_entry(usage: &mut Usage, index: u32, entry: u32, block: &UsageView<'_>)
     requires index { index < 16 }
     requires entry { entry < 64 }
     requires fits { (i : ℕ) → i < 64 → IsUse (get_or block.now i no_use) }
-    ensures own { 64 * index + entry < length usage.old.segments → usage.new.segments ≡ slice_set usage.old.segments (64 * index + entry) (loaded (get_or block.now entry no_use)) }
-    ensures past { length usage.old.segments ≤ 64 * index + entry → usage.new.segments ≡ usage.old.segments }
+    ensures own { 64 * index + entry < length usage.old.segments
+        → usage.new.segments ≡ slice_set usage.old.segments (64 * index + entry)
+        (loaded (get_or block.now entry no_use)) }
+    ensures past { length usage.old.segments ≤ 64 * index + entry
+        → usage.new.segments ≡ usage.old.segments }
     ensures blocks { usage.new.blocks ≡ usage.old.blocks }
 {
     let segment = 64 * index + entry;
@@ -109,10 +117,13 @@ fn load_usage_block<D: SectorDevice>(
     requires index { index < (checkpoint.now.segments + 63) / 64 }
     requires before { IsUsageUpTo index checkpoint.now.segments usage.old }
     ensures after { OnOk result (IsUsageUpTo (index + 1) checkpoint.now.segments usage.new) }
-    ensures says { OnOk result ((D.state device.new).keeps_model → SaysUsage (D.state device.old).content checkpoint.now index usage.old → SaysUsage (D.state device.old).content checkpoint.now (index + 1) usage.new) }
+    ensures says { OnOk result ((D.state device.new).keeps_model
+        → SaysUsage (D.state device.old).content checkpoint.now index usage.old
+        → SaysUsage (D.state device.old).content checkpoint.now (index + 1) usage.new) }
     ensures cause { IfErr result (IsTableFault (D.state device.old) (D.state device.new)
         checkpoint.now) }
-    ensures no_failure { OnOk result ((D.state device.new).failures ≡ (D.state device.old).failures) }
+    ensures no_failure { OnOk result
+        ((D.state device.new).failures ≡ (D.state device.old).failures) }
     ensures looks { Looks (D.state device.old) (D.state device.new) }
 {
     let mut bytes = [0; 512];
@@ -137,11 +148,15 @@ fn load_usage<D: SectorDevice>(
     requires size { 2 + 64 * checkpoint.now.segments ≤ (D.state device.old).size }
     requires fits { FitsCheckpoint checkpoint.now }
     requires before { IsUsageUpTo 0 checkpoint.now.segments usage.old }
-    ensures after { OnOk result (IsUsageUpTo ((checkpoint.now.segments + 63) / 64) checkpoint.now.segments usage.new) }
-    ensures says { OnOk result ((D.state device.new).keeps_model → SaysUsage (D.state device.old).content checkpoint.now ((checkpoint.now.segments + 63) / 64) usage.new) }
+    ensures after { OnOk result (IsUsageUpTo ((checkpoint.now.segments + 63) / 64)
+        checkpoint.now.segments usage.new) }
+    ensures says { OnOk result ((D.state device.new).keeps_model
+        → SaysUsage (D.state device.old).content checkpoint.now
+        ((checkpoint.now.segments + 63) / 64) usage.new) }
     ensures cause { IfErr result (IsTableFault (D.state device.old) (D.state device.new)
         checkpoint.now) }
-    ensures no_failure { OnOk result ((D.state device.new).failures ≡ (D.state device.old).failures) }
+    ensures no_failure { OnOk result
+        ((D.state device.new).failures ≡ (D.state device.old).failures) }
     ensures looks { Looks (D.state device.old) (D.state device.new) }
 {
     for index in 0..(segments_of(checkpoint) + 63) / 64 {
@@ -161,10 +176,13 @@ fn load_map_block<D: SectorDevice>(
     requires index { index < 32 }
     requires before { IsMapUpTo index map.old }
     ensures after { OnOk result (IsMapUpTo (index + 1) map.new) }
-    ensures says { OnOk result ((D.state device.new).keeps_model → SaysMap (D.state device.old).content checkpoint.now index map.old → SaysMap (D.state device.old).content checkpoint.now (index + 1) map.new) }
+    ensures says { OnOk result ((D.state device.new).keeps_model
+        → SaysMap (D.state device.old).content checkpoint.now index map.old
+        → SaysMap (D.state device.old).content checkpoint.now (index + 1) map.new) }
     ensures cause { IfErr result (IsTableFault (D.state device.old) (D.state device.new)
         checkpoint.now) }
-    ensures no_failure { OnOk result ((D.state device.new).failures ≡ (D.state device.old).failures) }
+    ensures no_failure { OnOk result
+        ((D.state device.new).failures ≡ (D.state device.old).failures) }
     ensures looks { Looks (D.state device.old) (D.state device.new) }
 {
     let mut bytes = [0; 512];
@@ -188,10 +206,12 @@ fn load_map<D: SectorDevice>(
     requires size { 2 + 64 * checkpoint.now.segments ≤ (D.state device.old).size }
     requires before { IsMapUpTo 0 map.old }
     ensures after { OnOk result (IsMapUpTo 32 map.new) }
-    ensures says { OnOk result ((D.state device.new).keeps_model → SaysMap (D.state device.old).content checkpoint.now 32 map.new) }
+    ensures says { OnOk result ((D.state device.new).keeps_model
+        → SaysMap (D.state device.old).content checkpoint.now 32 map.new) }
     ensures cause { IfErr result (IsTableFault (D.state device.old) (D.state device.new)
         checkpoint.now) }
-    ensures no_failure { OnOk result ((D.state device.new).failures ≡ (D.state device.old).failures) }
+    ensures no_failure { OnOk result
+        ((D.state device.new).failures ≡ (D.state device.old).failures) }
     ensures looks { Looks (D.state device.old) (D.state device.new) }
 {
     for index in 0..32u32 {
@@ -210,7 +230,8 @@ fn number_of(checkpoint: &Checkpoint) -> u64
 ///
 /// # Errors
 ///
-/// `NoMemory` where memory is refused, `Device` where a call of the device failed, `Damaged` where a table can't be read.
+/// `NoMemory` where memory is refused, `Device` where a call of the device failed, `Damaged` where
+/// a table can't be read.
 pub fn load_tables<D: SectorDevice>(
     alloc: Global,
     device: &mut D,
@@ -220,11 +241,14 @@ pub fn load_tables<D: SectorDevice>(
     requires size { 2 + 64 * checkpoint.now.segments ≤ (D.state device.old).size }
     requires fits { FitsCheckpoint checkpoint.now }
     ensures loaded { IfOk result (λ t. IsLoaded t (D.state device.new).size) }
-    ensures says { IfOk result (λ t. (D.state device.new).keeps_model → SaysTables (D.state device.old).content checkpoint.now t) }
-    ensures totals { IfOk result (λ t. (t.data_blocks ≡ totals.data_blocks) × (t.meta_blocks ≡ totals.meta_blocks)) }
+    ensures says { IfOk result (λ t. (D.state device.new).keeps_model
+        → SaysTables (D.state device.old).content checkpoint.now t) }
+    ensures totals { IfOk result (λ t. (t.data_blocks ≡ totals.data_blocks)
+        × (t.meta_blocks ≡ totals.meta_blocks)) }
     ensures cause { IfErr result (λ e. (e ≡ MountFault.NoMemory → ⊥)
         → IsTableFault (D.state device.old) (D.state device.new) checkpoint.now e) }
-    ensures no_failure { OnOk result ((D.state device.new).failures ≡ (D.state device.old).failures) }
+    ensures no_failure { OnOk result
+        ((D.state device.new).failures ≡ (D.state device.old).failures) }
     ensures looks { Looks (D.state device.old) (D.state device.new) }
 {
     let segments = segments_of(checkpoint);

@@ -3,7 +3,7 @@ ghost use Rattle.std.specs.Prelude.{◌≡◌, ◌<◌, ◌≤◌, ◌+◌, ◌*
 ghost use Rattle.lfs_model.specs.Content.{Content};
 ghost use Rattle.lfs_model.specs.Reach.{view};
 ghost use Rattle.lfs_model.specs.Stands.{Usages};
-ghost use Rattle.lfs_verify.specs.Take.{Looks, Reads, Goes};
+ghost use Rattle.lfs_verify.specs.Take.{Looks, ReadsContent, Advances};
 ghost use Rattle.lfs_verify.specs.UsageTables.{CopiesUses, SaysUpTo, SaysAll};
 ghost use Rattle.lfs_verify.specs.Walk.{Walked, IsBounded};
 
@@ -59,16 +59,22 @@ pub fn take_usage<D: SectorDevice>(
     requires used { length used.old ≡ checkpoint.now.segments }
     requires live { length live.old ≡ checkpoint.now.segments }
     requires inside { length marks.old ≤ (D.state device.old).size }
-    ensures goes { IfOk result (λ r. (c : Content) → Reads (D.state device.old) (D.state device.new) c
-        → Goes (view c checkpoint.now) marks.old marks.new index (index + 1) (Usages (view c checkpoint.now)) r) }
-    ensures is_there { IfOk result (λ r. IsTrue r → (0 < get_or checkpoint.now.usage index 0) ↔ (index < (checkpoint.now.segments + 63) / 64)) }
-    ensures says { IfOk result (λ r. IsTrue r → (c : Content) → Reads (D.state device.old) (D.state device.new) c
-        → SaysUpTo (view c checkpoint.now) used.old live.old index → SaysUpTo (view c checkpoint.now) used.new live.new (index + 1)) }
+    ensures goes { IfOk result (λ r. (c : Content)
+        → ReadsContent (D.state device.old) (D.state device.new) c
+        → Advances (view c checkpoint.now) marks.old marks.new index (index + 1)
+        (Usages (view c checkpoint.now)) r) }
+    ensures is_there { IfOk result (λ r. IsTrue r → (0 < get_or checkpoint.now.usage index 0)
+        ↔ (index < (checkpoint.now.segments + 63) / 64)) }
+    ensures says { IfOk result (λ r. IsTrue r → (c : Content)
+        → ReadsContent (D.state device.old) (D.state device.new) c
+        → SaysUpTo (view c checkpoint.now) used.old live.old index
+        → SaysUpTo (view c checkpoint.now) used.new live.new (index + 1)) }
     ensures used { length used.new ≡ length used.old }
     ensures live { length live.new ≡ length live.old }
     ensures len { length marks.new ≡ length marks.old }
     ensures failed { OnErr result ((D.state device.old).failures < (D.state device.new).failures) }
-    ensures no_failure { OnOk result ((D.state device.new).failures ≡ (D.state device.old).failures) }
+    ensures no_failure { OnOk result
+        ((D.state device.new).failures ≡ (D.state device.old).failures) }
     ensures looks { Looks (D.state device.old) (D.state device.new) }
 {
     let segments = segments_of(checkpoint);
@@ -95,7 +101,8 @@ pub fn take_usage<D: SectorDevice>(
     Ok(true)
 }
 
-/// Stage 1: takes the usage blocks, and copies their entries to the tables of used and of live sectors. False where the stage fails.
+/// Stage 1: takes the usage blocks, and copies their entries to the tables of used and of live
+/// sectors. False where the stage fails.
 ///
 /// # Errors
 ///
@@ -112,16 +119,23 @@ pub fn stage_usages<D: SectorDevice>(
     requires used { length used.old ≡ checkpoint.now.segments }
     requires live { length live.old ≡ checkpoint.now.segments }
     requires inside { length marks.old ≤ (D.state device.old).size }
-    ensures goes { IfOk result (λ r. (c : Content) → Reads (D.state device.old) (D.state device.new) c
-        → Goes (view c checkpoint.now) marks.old marks.new 0 16 (Usages (view c checkpoint.now)) r) }
-    ensures holds { IfOk result (λ r. IsTrue r → (c : Content) → Reads (D.state device.old) (D.state device.new) c
-        → IsBounded (view c checkpoint.now) → Walked (view c checkpoint.now) marks.old 0 → Usages (view c checkpoint.now)) }
-    ensures says { IfOk result (λ r. IsTrue r → (c : Content) → Reads (D.state device.old) (D.state device.new) c → SaysAll (view c checkpoint.now) used.new live.new) }
+    ensures goes { IfOk result (λ r. (c : Content)
+        → ReadsContent (D.state device.old) (D.state device.new) c
+        → Advances (view c checkpoint.now) marks.old marks.new 0 16
+        (Usages (view c checkpoint.now)) r) }
+    ensures holds { IfOk result (λ r. IsTrue r → (c : Content)
+        → ReadsContent (D.state device.old) (D.state device.new) c
+        → IsBounded (view c checkpoint.now) → Walked (view c checkpoint.now) marks.old 0
+        → Usages (view c checkpoint.now)) }
+    ensures says { IfOk result (λ r. IsTrue r → (c : Content)
+        → ReadsContent (D.state device.old) (D.state device.new) c
+        → SaysAll (view c checkpoint.now) used.new live.new) }
     ensures used { length used.new ≡ length used.old }
     ensures live { length live.new ≡ length live.old }
     ensures len { length marks.new ≡ length marks.old }
     ensures failed { OnErr result ((D.state device.old).failures < (D.state device.new).failures) }
-    ensures no_failure { OnOk result ((D.state device.new).failures ≡ (D.state device.old).failures) }
+    ensures no_failure { OnOk result
+        ((D.state device.new).failures ≡ (D.state device.old).failures) }
     ensures looks { Looks (D.state device.old) (D.state device.new) }
 {
     for index in 0..16u32 {

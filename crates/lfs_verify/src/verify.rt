@@ -18,7 +18,8 @@ use lfs_layout::Checkpoint;
 use lfs_root::{RootFault, newest};
 use std::alloc::Global;
 
-/// The code of damage of a volume with too few clean segments, which is told where all other stages hold.
+/// The code of damage of a volume with too few clean segments, which is told where all other stages
+/// hold.
 pub const FEW_CLEAN: u8 = 15;
 
 /// What a walk over a log finds: the tables of the log map that the device holds.
@@ -33,10 +34,13 @@ pub struct FoundLog {
 fn find_checkpoint<D: SectorDevice>(device: &mut D) -> Result<Checkpoint, MountFault>
     ensures fits { IfOk result FitsCheckpoint }
     ensures size { IfOk result (λ k. 2 + 64 * k.segments ≤ (D.state device.new).size) }
-    ensures found { IfOk result (λ k. (D.state device.new).keeps_model → newest (D.state device.old).content ≡ Some k) }
-    ensures durable { OnOk result ((D.state device.new).keeps_model → Only (D.state device.old).content (D.state device.new)) }
+    ensures found { IfOk result (λ k. (D.state device.new).keeps_model
+        → newest (D.state device.old).content ≡ Some k) }
+    ensures durable { OnOk result ((D.state device.new).keeps_model
+        → Only (D.state device.old).content (D.state device.new)) }
     ensures reason { IfErr result (IsRefusedWalk (D.state device.old) (D.state device.new)) }
-    ensures no_failure { OnOk result ((D.state device.new).failures ≡ (D.state device.old).failures) }
+    ensures no_failure { OnOk result
+        ((D.state device.new).failures ≡ (D.state device.old).failures) }
     ensures looks { Looks (D.state device.old) (D.state device.new) }
 {
     if device.sectors() < 4_098 {
@@ -53,7 +57,8 @@ fn find_checkpoint<D: SectorDevice>(device: &mut D) -> Result<Checkpoint, MountF
     Ok(checkpoint)
 }
 
-/// Whether enough segments are clean, and the totals of the volume to which the newest checkpoint leads, where it is a log map.
+/// Whether enough segments are clean, and the totals of the volume to which the newest checkpoint
+/// leads, where it is a log map.
 fn check<D: SectorDevice>(
     alloc: Global,
     device: &mut D,
@@ -63,9 +68,11 @@ fn check<D: SectorDevice>(
     requires inside { 2 + 64 * checkpoint.now.segments ≤ (D.state device.old).size }
     ensures holds { IfOk result (λ r. (D.state device.new).keeps_model
         → HoldsCounted (D.state device.old).content checkpoint.now r.0 r.1) }
-    ensures reason { IfErr result (λ e. ((D.state device.new).keeps_model → newest (D.state device.old).content ≡ Some checkpoint.now)
+    ensures reason { IfErr result (λ e. ((D.state device.new).keeps_model
+        → newest (D.state device.old).content ≡ Some checkpoint.now)
         → IsRefusedWalk (D.state device.old) (D.state device.new) e) }
-    ensures no_failure { OnOk result ((D.state device.new).failures ≡ (D.state device.old).failures) }
+    ensures no_failure { OnOk result
+        ((D.state device.new).failures ≡ (D.state device.old).failures) }
     ensures looks { Looks (D.state device.old) (D.state device.new) }
 {
     match walk(alloc, device, checkpoint) {
@@ -76,14 +83,16 @@ fn check<D: SectorDevice>(
     }
 }
 
-/// The tables of the log that the newest checkpoint of a device leads to, how many blocks its files have, and whether enough of its
-/// segments are clean. All that the checkpoint leads to was walked over, but for the tree of its files. It writes nothing, and all
-/// that the device holds is durable after `Ok`.
+/// The tables of the log that the newest checkpoint of a device leads to, how many blocks its files
+/// have, and whether enough of its segments are clean. All that the checkpoint leads to was walked
+/// over, but for the tree of its files. It writes nothing, and all that the device holds is durable
+/// after `Ok`.
 ///
 /// # Errors
 ///
-/// `NoMemory` where memory is refused, `Device` where a call of the device failed; else the device holds no log map: it is too small,
-/// holds no checkpoint, or the first of the stages 1 to 9 that fails is named.
+/// `NoMemory` where memory is refused, `Device` where a call of the device failed; else the device
+/// holds no log map: it is too small, holds no checkpoint, or the first of the stages 1 to 9 that
+/// fails is named.
 pub fn verify_log<D: SectorDevice>(alloc: Global, device: &mut D) -> Result<FoundLog, MountFault>
     ensures loaded { IfOk result (λ f. IsLoaded f.tables (D.state device.new).size) }
     ensures found { IfOk result (λ f. (D.state device.new).keeps_model
@@ -112,18 +121,24 @@ pub fn verify_log<D: SectorDevice>(alloc: Global, device: &mut D) -> Result<Foun
     }
 }
 
-/// The tables of the log that the newest checkpoint of a device leads to, where it has enough clean segments, as those of `verify_log`.
+/// The tables of the log that the newest checkpoint of a device leads to, where it has enough clean
+/// segments, as those of `verify_log`.
 ///
 /// # Errors
 ///
-/// As those of `verify_log`, and `Damaged` with 15 where too few segments are clean: the device stands for no log map.
+/// As those of `verify_log`, and `Damaged` with 15 where too few segments are clean: the device
+/// stands for no log map.
 pub fn verify<D: SectorDevice>(alloc: Global, device: &mut D) -> Result<Tables, MountFault>
     ensures loaded { IfOk result (λ t. IsLoaded t (D.state device.new).size) }
-    ensures found { IfOk result (λ t. (D.state device.new).keeps_model → HasTables (D.state device.old).content t) }
-    ensures durable { OnOk result ((D.state device.new).keeps_model → Only (D.state device.old).content (D.state device.new)) }
+    ensures found { IfOk result (λ t. (D.state device.new).keeps_model
+        → HasTables (D.state device.old).content t) }
+    ensures durable { OnOk result ((D.state device.new).keeps_model
+        → Only (D.state device.old).content (D.state device.new)) }
     ensures reason { IfErr result (IsRefusedLog (D.state device.old) (D.state device.new)) }
-    ensures cause { IfErr result (λ e. (e ≡ MountFault.NoMemory → ⊥) → IsOpenFault (D.state device.old) (D.state device.new) e) }
-    ensures no_failure { OnOk result ((D.state device.new).failures ≡ (D.state device.old).failures) }
+    ensures cause { IfErr result (λ e. (e ≡ MountFault.NoMemory → ⊥)
+        → IsOpenFault (D.state device.old) (D.state device.new) e) }
+    ensures no_failure { OnOk result
+        ((D.state device.new).failures ≡ (D.state device.old).failures) }
     ensures looks { Looks (D.state device.old) (D.state device.new) }
 {
     let found = match verify_log(alloc, device) {
@@ -141,7 +156,8 @@ pub fn stands_for_none()
     ensures { LacksLogMap }
 {}
 
-/// A content that was verified, with enough clean segments, stands for the log map that its newest checkpoint leads to.
+/// A content that was verified, with enough clean segments, stands for the log map that its newest
+/// checkpoint leads to.
 pub fn stands_log()
     ensures { StandsWhereEnough }
 {}

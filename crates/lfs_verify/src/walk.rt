@@ -7,7 +7,7 @@ ghost use Rattle.lfs_model.specs.Reach.{view};
 ghost use Rattle.lfs_model.specs.Stands.{EnoughClean, Stages};
 ghost use Rattle.lfs_verify.specs.Codes.{HoldsBelow, FaultIs, Passed};
 ghost use Rattle.lfs_verify.specs.Tables.{IsUsedTable, IsLiveTable};
-ghost use Rattle.lfs_verify.specs.Take.{Looks, Reads, Lists};
+ghost use Rattle.lfs_verify.specs.Take.{Looks, ReadsContent, Lists};
 ghost use Rattle.lfs_verify.specs.Totals.{CountsLog};
 ghost use Rattle.lfs_verify.specs.Walk.{Walked, IsBounded};
 
@@ -44,17 +44,26 @@ fn walk_usages<D: SectorDevice>(
     requires live { length live.old ≡ checkpoint.now.segments }
     requires marks { length marks.old ≡ 2 + 64 * checkpoint.now.segments }
     requires inside { length marks.old ≤ (D.state device.old).size }
-    ensures holds { OnOk result ((c : Content) → Reads (D.state device.old) (D.state device.new) c
-        → Passed (view c checkpoint.now) marks.old 0 1 → Passed (view c checkpoint.now) marks.new 16 3) }
-    ensures damaged { IfErr result (λ e. (code : ℕ) → FaultIs e code → (c : Content) → Reads (D.state device.old) (D.state device.new) c
+    ensures holds { OnOk result ((c : Content)
+        → ReadsContent (D.state device.old) (D.state device.new) c
+        → Passed (view c checkpoint.now) marks.old 0 1
+        → Passed (view c checkpoint.now) marks.new 16 3) }
+    ensures damaged { IfErr result (λ e. (code : ℕ) → FaultIs e code → (c : Content)
+        → ReadsContent (D.state device.old) (D.state device.new) c
         → Passed (view c checkpoint.now) marks.old 0 1 → IsDamaged (view c checkpoint.now) code) }
     ensures low { IfErr result (λ e. (code : ℕ) → FaultIs e code → code < 10) }
-    ensures tables { OnOk result ((c : Content) → Reads (D.state device.old) (D.state device.new) c → Passed (view c checkpoint.now) marks.old 0 1 → IsUsedTable (view c checkpoint.now) used.new × IsLiveTable (view c checkpoint.now) live.new) }
+    ensures tables { OnOk result ((c : Content)
+        → ReadsContent (D.state device.old) (D.state device.new) c
+        → Passed (view c checkpoint.now) marks.old 0 1
+        → IsUsedTable (view c checkpoint.now) used.new
+        × IsLiveTable (view c checkpoint.now) live.new) }
     ensures used { length used.new ≡ length used.old }
     ensures live { length live.new ≡ length live.old }
     ensures len { length marks.new ≡ length marks.old }
-    ensures failed { IsErrOf result WalkFault.Device → (D.state device.old).failures < (D.state device.new).failures }
-    ensures no_failure { OnOk result ((D.state device.new).failures ≡ (D.state device.old).failures) }
+    ensures failed { IsErrOf result WalkFault.Device
+        → (D.state device.old).failures < (D.state device.new).failures }
+    ensures no_failure { OnOk result
+        ((D.state device.new).failures ≡ (D.state device.old).failures) }
     ensures looks { Looks (D.state device.old) (D.state device.new) }
 {
     let mut sector = [0; 512];
@@ -84,17 +93,24 @@ fn walk_inodes<D: SectorDevice>(
     requires files { length map.old ≡ 4096 }
     requires empty { (n : ℕ) → get_or map.old n 0 ≡ 0 }
     requires inside { length marks.old ≤ (D.state device.old).size }
-    ensures holds { OnOk result ((c : Content) → Reads (D.state device.old) (D.state device.new) c
-        → Passed (view c checkpoint.now) marks.old 16 3 → Passed (view c checkpoint.now) marks.new 4144 5) }
-    ensures damaged { IfErr result (λ e. (code : ℕ) → FaultIs e code → (c : Content) → Reads (D.state device.old) (D.state device.new) c
+    ensures holds { OnOk result ((c : Content)
+        → ReadsContent (D.state device.old) (D.state device.new) c
+        → Passed (view c checkpoint.now) marks.old 16 3
+        → Passed (view c checkpoint.now) marks.new 4144 5) }
+    ensures damaged { IfErr result (λ e. (code : ℕ) → FaultIs e code → (c : Content)
+        → ReadsContent (D.state device.old) (D.state device.new) c
         → Passed (view c checkpoint.now) marks.old 16 3 → IsDamaged (view c checkpoint.now) code) }
     ensures low { IfErr result (λ e. (code : ℕ) → FaultIs e code → code < 10) }
-    ensures lists { OnOk result ((c : Content) → Reads (D.state device.old) (D.state device.new) c → Lists (view c checkpoint.now) map.new) }
+    ensures lists { OnOk result ((c : Content)
+        → ReadsContent (D.state device.old) (D.state device.new) c
+        → Lists (view c checkpoint.now) map.new) }
     ensures at { OnOk result ((i : ℕ) → i < 4096 → get_or map.new i 0 < length marks.old) }
     ensures files { length map.new ≡ length map.old }
     ensures len { length marks.new ≡ length marks.old }
-    ensures failed { IsErrOf result WalkFault.Device → (D.state device.old).failures < (D.state device.new).failures }
-    ensures no_failure { OnOk result ((D.state device.new).failures ≡ (D.state device.old).failures) }
+    ensures failed { IsErrOf result WalkFault.Device
+        → (D.state device.old).failures < (D.state device.new).failures }
+    ensures no_failure { OnOk result
+        ((D.state device.new).failures ≡ (D.state device.old).failures) }
     ensures looks { Looks (D.state device.old) (D.state device.new) }
 {
     let mut sector = [0; 512];
@@ -125,14 +141,23 @@ pub fn walk_pointers<D: SectorDevice>(
     requires files { length map.now ≡ 4096 }
     requires at { (i : ℕ) → i < 4096 → get_or map.now i 0 < length marks.old }
     requires inside { length marks.old ≤ (D.state device.old).size }
-    ensures holds { OnOk result ((c : Content) (k : CheckpointValue) → Reads (D.state device.old) (D.state device.new) c → IsBounded (view c k) → Lists (view c k) map.now
-        → HoldsBelow (view c k) 5 → Walked (view c k) marks.old 4144 → HoldsBelow (view c k) 7 × Walked (view c k) marks.new 536624) }
-    ensures damaged { IfErr result (λ e. (code : ℕ) → FaultIs e code → (c : Content) (k : CheckpointValue) → Reads (D.state device.old) (D.state device.new) c → IsBounded (view c k)
-        → Lists (view c k) map.now → HoldsBelow (view c k) 5 → Walked (view c k) marks.old 4144 → IsDamaged (view c k) code) }
+    ensures holds { OnOk result ((c : Content) (k : CheckpointValue)
+        → ReadsContent (D.state device.old) (D.state device.new) c → IsBounded (view c k)
+        → Lists (view c k) map.now
+        → HoldsBelow (view c k) 5 → Walked (view c k) marks.old 4144 → HoldsBelow (view c k) 7
+        × Walked (view c k) marks.new 536624) }
+    ensures damaged { IfErr result (λ e. (code : ℕ) → FaultIs e code
+        → (c : Content) (k : CheckpointValue)
+        → ReadsContent (D.state device.old) (D.state device.new) c
+        → IsBounded (view c k)
+        → Lists (view c k) map.now → HoldsBelow (view c k) 5 → Walked (view c k) marks.old 4144
+        → IsDamaged (view c k) code) }
     ensures low { IfErr result (λ e. (code : ℕ) → FaultIs e code → code < 10) }
     ensures len { length marks.new ≡ length marks.old }
-    ensures failed { IsErrOf result WalkFault.Device → (D.state device.old).failures < (D.state device.new).failures }
-    ensures no_failure { OnOk result ((D.state device.new).failures ≡ (D.state device.old).failures) }
+    ensures failed { IsErrOf result WalkFault.Device
+        → (D.state device.old).failures < (D.state device.new).failures }
+    ensures no_failure { OnOk result
+        ((D.state device.new).failures ≡ (D.state device.old).failures) }
     ensures looks { Looks (D.state device.old) (D.state device.new) }
 {
     match stage_roots(device, map, marks, sector) {
@@ -160,14 +185,20 @@ fn walk_files<D: SectorDevice>(
     requires files { length map.now ≡ 4096 }
     requires at { (i : ℕ) → i < 4096 → get_or map.now i 0 < length marks.old }
     requires inside { length marks.old ≤ (D.state device.old).size }
-    ensures holds { OnOk result ((c : Content) (k : CheckpointValue) → Reads (D.state device.old) (D.state device.new) c → Lists (view c k) map.now
+    ensures holds { OnOk result ((c : Content) (k : CheckpointValue)
+        → ReadsContent (D.state device.old) (D.state device.new) c → Lists (view c k) map.now
         → Passed (view c k) marks.old 4144 5 → Passed (view c k) marks.new 68628528 8) }
-    ensures damaged { IfErr result (λ e. (code : ℕ) → FaultIs e code → (c : Content) (k : CheckpointValue) → Reads (D.state device.old) (D.state device.new) c → Lists (view c k) map.now
+    ensures damaged { IfErr result (λ e. (code : ℕ) → FaultIs e code
+        → (c : Content) (k : CheckpointValue)
+        → ReadsContent (D.state device.old) (D.state device.new) c
+        → Lists (view c k) map.now
         → Passed (view c k) marks.old 4144 5 → IsDamaged (view c k) code) }
     ensures low { IfErr result (λ e. (code : ℕ) → FaultIs e code → code < 10) }
     ensures len { length marks.new ≡ length marks.old }
-    ensures failed { IsErrOf result WalkFault.Device → (D.state device.old).failures < (D.state device.new).failures }
-    ensures no_failure { OnOk result ((D.state device.new).failures ≡ (D.state device.old).failures) }
+    ensures failed { IsErrOf result WalkFault.Device
+        → (D.state device.old).failures < (D.state device.new).failures }
+    ensures no_failure { OnOk result
+        ((D.state device.new).failures ≡ (D.state device.old).failures) }
     ensures looks { Looks (D.state device.old) (D.state device.new) }
 {
     let mut upper = [0; 512];
@@ -198,13 +229,20 @@ fn walk_segments<D: SectorDevice>(
     requires live { length live.now ≡ length used.now }
     requires marks { length marks.now ≡ 2 + 64 * length used.now }
     requires inside { length marks.now ≤ (D.state device.old).size }
-    ensures holds { OnOk result ((c : Content) (k : CheckpointValue) → Reads (D.state device.old) (D.state device.new) c → IsUsedTable (view c k) used.now → IsLiveTable (view c k) live.now
+    ensures holds { OnOk result ((c : Content) (k : CheckpointValue)
+        → ReadsContent (D.state device.old) (D.state device.new) c → IsUsedTable (view c k) used.now
+        → IsLiveTable (view c k) live.now
         → Passed (view c k) marks.now 68628528 8 → Passed (view c k) marks.now 68628528 10) }
-    ensures damaged { IfErr result (λ e. (code : ℕ) → FaultIs e code → (c : Content) (k : CheckpointValue) → Reads (D.state device.old) (D.state device.new) c → IsUsedTable (view c k) used.now → IsLiveTable (view c k) live.now
+    ensures damaged { IfErr result (λ e. (code : ℕ) → FaultIs e code
+        → (c : Content) (k : CheckpointValue)
+        → ReadsContent (D.state device.old) (D.state device.new) c
+        → IsUsedTable (view c k) used.now → IsLiveTable (view c k) live.now
         → Passed (view c k) marks.now 68628528 8 → IsDamaged (view c k) code) }
     ensures low { IfErr result (λ e. (code : ℕ) → FaultIs e code → code < 10) }
-    ensures failed { IsErrOf result WalkFault.Device → (D.state device.old).failures < (D.state device.new).failures }
-    ensures no_failure { OnOk result ((D.state device.new).failures ≡ (D.state device.old).failures) }
+    ensures failed { IsErrOf result WalkFault.Device
+        → (D.state device.old).failures < (D.state device.new).failures }
+    ensures no_failure { OnOk result
+        ((D.state device.new).failures ≡ (D.state device.old).failures) }
     ensures looks { Looks (D.state device.old) (D.state device.new) }
 {
     let mut sector = [0; 512];
@@ -240,14 +278,21 @@ fn walk_all<D: SectorDevice>(
     requires marks { length marks.old ≡ 2 + 64 * checkpoint.now.segments }
     requires unmarked { (a : ℕ) → get_or marks.old a 0 ≡ 0 }
     requires inside { length marks.old ≤ (D.state device.old).size }
-    ensures holds { IfOk result (λ r. (c : Content) → Reads (D.state device.old) (D.state device.new) c
-        → HoldsBelow (view c checkpoint.now) 10 × (IsTrue r.0 ↔ EnoughClean (view c checkpoint.now))) }
-    ensures counts { IfOk result (λ r. (c : Content) → Reads (D.state device.old) (D.state device.new) c
+    ensures holds { IfOk result (λ r. (c : Content)
+        → ReadsContent (D.state device.old) (D.state device.new) c
+        → HoldsBelow (view c checkpoint.now) 10
+        × (IsTrue r.0 ↔ EnoughClean (view c checkpoint.now))) }
+    ensures counts { IfOk result (λ r. (c : Content)
+        → ReadsContent (D.state device.old) (D.state device.new) c
         → CountsLog c checkpoint.now r.1.data_blocks r.1.meta_blocks) }
-    ensures damaged { IfErr result (λ e. (code : ℕ) → FaultIs e code → (c : Content) → Reads (D.state device.old) (D.state device.new) c → IsDamaged (view c checkpoint.now) code) }
+    ensures damaged { IfErr result (λ e. (code : ℕ) → FaultIs e code → (c : Content)
+        → ReadsContent (D.state device.old) (D.state device.new) c
+        → IsDamaged (view c checkpoint.now) code) }
     ensures low { IfErr result (λ e. (code : ℕ) → FaultIs e code → code < 10) }
-    ensures failed { IsErrOf result WalkFault.Device → (D.state device.old).failures < (D.state device.new).failures }
-    ensures no_failure { OnOk result ((D.state device.new).failures ≡ (D.state device.old).failures) }
+    ensures failed { IsErrOf result WalkFault.Device
+        → (D.state device.old).failures < (D.state device.new).failures }
+    ensures no_failure { OnOk result
+        ((D.state device.new).failures ≡ (D.state device.old).failures) }
     ensures looks { Looks (D.state device.old) (D.state device.new) }
 {
     match walk_usages(device, checkpoint, used, live, marks) {
@@ -279,12 +324,13 @@ fn zeros(alloc: Global, count: usize) -> Result<Vec<u32>, AllocError>
     Ok(numbers)
 }
 
-/// Walks over the whole volume to which a checkpoint leads: whether, where all that it leads to is well-formed, enough segments are
-/// clean, and how many blocks its files have. It only reads.
+/// Walks over the whole volume to which a checkpoint leads: whether, where all that it leads to is
+/// well-formed, enough segments are clean, and how many blocks its files have. It only reads.
 ///
 /// # Errors
 ///
-/// `NoMemory` where memory is refused, `Damaged` with the first stage that fails, `Device` where a call of the device failed.
+/// `NoMemory` where memory is refused, `Damaged` with the first stage that fails, `Device` where a
+/// call of the device failed.
 pub fn walk<D: SectorDevice>(
     alloc: Global,
     device: &mut D,
@@ -292,14 +338,21 @@ pub fn walk<D: SectorDevice>(
 ) -> Result<(bool, BlockTotals), WalkFault>
     requires fits { FitsCheckpoint checkpoint.now }
     requires inside { 2 + 64 * checkpoint.now.segments ≤ (D.state device.old).size }
-    ensures holds { IfOk result (λ r. (c : Content) → Reads (D.state device.old) (D.state device.new) c
-        → Stages (view c checkpoint.now) × HoldsBelow (view c checkpoint.now) 10 × (IsTrue r.0 ↔ EnoughClean (view c checkpoint.now))) }
-    ensures counts { IfOk result (λ r. (c : Content) → Reads (D.state device.old) (D.state device.new) c
+    ensures holds { IfOk result (λ r. (c : Content)
+        → ReadsContent (D.state device.old) (D.state device.new) c
+        → Stages (view c checkpoint.now) × HoldsBelow (view c checkpoint.now) 10
+        × (IsTrue r.0 ↔ EnoughClean (view c checkpoint.now))) }
+    ensures counts { IfOk result (λ r. (c : Content)
+        → ReadsContent (D.state device.old) (D.state device.new) c
         → CountsLog c checkpoint.now r.1.data_blocks r.1.meta_blocks) }
-    ensures damaged { IfErr result (λ e. (code : ℕ) → FaultIs e code → (c : Content) → Reads (D.state device.old) (D.state device.new) c → IsDamaged (view c checkpoint.now) code) }
+    ensures damaged { IfErr result (λ e. (code : ℕ) → FaultIs e code → (c : Content)
+        → ReadsContent (D.state device.old) (D.state device.new) c
+        → IsDamaged (view c checkpoint.now) code) }
     ensures low { IfErr result (λ e. (code : ℕ) → FaultIs e code → code < 10) }
-    ensures failed { IsErrOf result WalkFault.Device → (D.state device.old).failures < (D.state device.new).failures }
-    ensures no_failure { OnOk result ((D.state device.new).failures ≡ (D.state device.old).failures) }
+    ensures failed { IsErrOf result WalkFault.Device
+        → (D.state device.old).failures < (D.state device.new).failures }
+    ensures no_failure { OnOk result
+        ((D.state device.new).failures ≡ (D.state device.old).failures) }
     ensures looks { Looks (D.state device.old) (D.state device.new) }
 {
     let segments = segments_of(checkpoint) as usize;

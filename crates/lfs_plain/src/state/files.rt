@@ -32,7 +32,9 @@ impl PlainState {
         alloc: Global,
         end: Result<u32, Refusal>,
     ) -> Result<Answer, AllocError>
-        ensures { MatchResult result (λ a. model.reached self.old (reached_of end) (model.opens self.old) ≡ (answer_of a, self.new)) (λ _. self.new ≡ self.old) }
+        ensures { MatchResult result
+            (λ a. model.reached self.old (reached_of end)
+            (model.opens self.old) ≡ (answer_of a, self.new)) (λ _. self.new ≡ self.old) }
     {
         let n = match end {
             Ok(n) => n,
@@ -58,7 +60,10 @@ impl PlainState {
         path: &[u8],
         end: Result<u32, Refusal>,
     ) -> Result<Answer, AllocError>
-        ensures { MatchResult result (λ a. model.reached self.old (reached_of end) (model.creates segments self.old path.now) ≡ (answer_of a, self.new)) (λ _. self.new ≡ self.old) }
+        ensures { MatchResult result
+            (λ a. model.reached self.old (reached_of end)
+            (model.creates segments self.old path.now) ≡ (answer_of a, self.new))
+            (λ _. self.new ≡ self.old) }
     {
         let d = match end {
             Ok(n) => n,
@@ -79,7 +84,9 @@ impl PlainState {
         last: &Last<'_>,
         d: u32,
     ) -> Result<Answer, AllocError>
-        ensures { MatchResult result (λ a. created segments self.old last.now.path.now d ≡ (answer_of a, self.new)) (λ _. self.new ≡ self.old) }
+        ensures { MatchResult result
+            (λ a. created segments self.old last.now.path.now d ≡ (answer_of a, self.new))
+            (λ _. self.new ≡ self.old) }
     {
         let handle = least_handle(self.handles.as_slice());
         if handle >= MOST_HANDLES {
@@ -103,7 +110,8 @@ impl PlainState {
 
     /// `close`.
     pub(crate) fn closes(&mut self, alloc: Global, handle: u32) -> Result<Answer, AllocError>
-        ensures { MatchResult result (λ a. model.closes self.old handle ≡ (answer_of a, self.new)) (λ _. self.new ≡ self.old) }
+        ensures { MatchResult result (λ a. model.closes self.old handle ≡ (answer_of a, self.new))
+            (λ _. self.new ≡ self.old) }
     {
         let Some(number) = file_at(self.handles.as_slice(), handle) else {
             return Ok(Answer::Refuse(Refusal::BadHandle));
@@ -122,7 +130,9 @@ impl PlainState {
         offset: u64,
         length: u32,
     ) -> Result<Answer, AllocError>
-        ensures { MatchResult result (λ a. model.reads self.old handle offset length ≡ (answer_of a, self.new)) (λ _. self.new ≡ self.old) }
+        ensures { MatchResult result
+            (λ a. model.reads self.old handle offset length ≡ (answer_of a, self.new))
+            (λ _. self.new ≡ self.old) }
     {
         let Some(number) = file_at(self.handles.as_slice(), handle) else {
             return Ok(Answer::Refuse(Refusal::BadHandle));
@@ -144,7 +154,9 @@ impl PlainState {
         offset: u64,
         bytes: &[u8],
     ) -> Result<Answer, AllocError>
-        ensures { MatchResult result (λ a. model.writes segments self.old handle offset bytes.now ≡ (answer_of a, self.new)) (λ _. self.new ≡ self.old) }
+        ensures { MatchResult result
+            (λ a. model.writes segments self.old handle offset bytes.now ≡ (answer_of a, self.new))
+            (λ _. self.new ≡ self.old) }
     {
         let Some(number) = file_at(self.handles.as_slice(), handle) else {
             return Ok(Answer::Refuse(Refusal::BadHandle));
@@ -174,7 +186,9 @@ impl PlainState {
         handle: u32,
         length: u64,
     ) -> Result<Answer, AllocError>
-        ensures { MatchResult result (λ a. model.truncates self.old handle length ≡ (answer_of a, self.new)) (λ _. self.new ≡ self.old) }
+        ensures { MatchResult result
+            (λ a. model.truncates self.old handle length ≡ (answer_of a, self.new))
+            (λ _. self.new ≡ self.old) }
     {
         let Some(number) = file_at(self.handles.as_slice(), handle) else {
             return Ok(Answer::Refuse(Refusal::BadHandle));

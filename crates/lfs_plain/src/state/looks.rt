@@ -17,7 +17,9 @@ use std::alloc::{AllocError, Global};
 impl PlainState {
     /// `stat` and `lstat`, where the path ends.
     pub(crate) fn status(&self, end: Result<u32, Refusal>) -> Answer
-        ensures { model.reached self.now (reached_of end) (λ n. (Status (model.stat_of self.now.tree n), self.now)) ≡ (answer_of result, self.now) }
+        ensures { model.reached self.now (reached_of end)
+            (λ n. (Status (model.stat_of self.now.tree n), self.now))
+            ≡ (answer_of result, self.now) }
     {
         match end {
             Ok(n) => Answer::Status(stat(&self.tree, n)),
@@ -31,7 +33,8 @@ impl PlainState {
         alloc: Global,
         end: Result<u32, Refusal>,
     ) -> Result<Answer, AllocError>
-        ensures { IfOk result (λ a. model.reached self.now (reached_of end) (model.reads_link self.now) ≡ (answer_of a, self.now)) }
+        ensures { IfOk result (λ a. model.reached self.now (reached_of end)
+            (model.reads_link self.now) ≡ (answer_of a, self.now)) }
     {
         let n = match end {
             Ok(n) => n,
@@ -49,7 +52,8 @@ impl PlainState {
         alloc: Global,
         end: Result<u32, Refusal>,
     ) -> Result<Answer, AllocError>
-        ensures { IfOk result (λ a. model.reached self.now (reached_of end) (model.lists self.now) ≡ (answer_of a, self.now)) }
+        ensures { IfOk result (λ a. model.reached self.now (reached_of end)
+            (model.lists self.now) ≡ (answer_of a, self.now)) }
     {
         let n = match end {
             Ok(n) => n,
@@ -63,7 +67,8 @@ impl PlainState {
 
     /// `fsync`, which has nothing to save here.
     pub(crate) fn syncs(&self, handle: u32) -> Answer
-        ensures { model.checked self.now (model.bad_handle self.now handle ∷ []) (Done, self.now) ≡ (answer_of result, self.now) }
+        ensures { model.checked self.now (model.bad_handle self.now handle ∷ [])
+            (Done, self.now) ≡ (answer_of result, self.now) }
     {
         match file_at(self.handles.as_slice(), handle) {
             Some(_) => Answer::Done,

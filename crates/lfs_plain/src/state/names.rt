@@ -26,7 +26,10 @@ impl PlainState {
         segments: u32,
         tree: PlainTree,
     ) -> Result<Answer, AllocError>
-        ensures { MatchResult result (λ a. model.checked self.old (model.no_space segments tree ∷ []) (Done, model.with_tree self.old tree) ≡ (answer_of a, self.new)) (λ _. self.new ≡ self.old) }
+        ensures { MatchResult result
+            (λ a. model.checked self.old (model.no_space segments tree ∷ [])
+            (Done, model.with_tree self.old tree) ≡ (answer_of a, self.new))
+            (λ _. self.new ≡ self.old) }
     {
         if lacks_space(alloc, segments, &tree)? {
             return Ok(Answer::Refuse(Refusal::NoSpace));
@@ -43,7 +46,10 @@ impl PlainState {
         path: &[u8],
         end: Result<u32, Refusal>,
     ) -> Result<Answer, AllocError>
-        ensures { MatchResult result (λ a. model.reached self.old (reached_of end) (model.makes_dir segments self.old path.now) ≡ (answer_of a, self.new)) (λ _. self.new ≡ self.old) }
+        ensures { MatchResult result
+            (λ a. model.reached self.old (reached_of end)
+            (model.makes_dir segments self.old path.now) ≡ (answer_of a, self.new))
+            (λ _. self.new ≡ self.old) }
     {
         let d = match end {
             Ok(n) => n,
@@ -64,7 +70,9 @@ impl PlainState {
         last: &Last<'_>,
         d: u32,
     ) -> Result<Answer, AllocError>
-        ensures { MatchResult result (λ a. dir_made segments self.old last.now.path.now d ≡ (answer_of a, self.new)) (λ _. self.new ≡ self.old) }
+        ensures { MatchResult result
+            (λ a. dir_made segments self.old last.now.path.now d ≡ (answer_of a, self.new))
+            (λ _. self.new ≡ self.old) }
     {
         if links(&self.tree, d) >= MOST_LINKS {
             return Ok(Answer::Refuse(Refusal::TooManyLinks));
@@ -89,7 +97,11 @@ impl PlainState {
         path: &[u8],
         end: Result<u32, Refusal>,
     ) -> Result<Answer, AllocError>
-        ensures { MatchResult result (λ a. model.checked self.old (model.text_check text.now) (model.reached self.old (reached_of end) (model.makes_link segments self.old text.now path.now)) ≡ (answer_of a, self.new)) (λ _. self.new ≡ self.old) }
+        ensures { MatchResult result
+            (λ a. model.checked self.old (model.text_check text.now)
+            (model.reached self.old (reached_of end)
+            (model.makes_link segments self.old text.now path.now)) ≡ (answer_of a, self.new))
+            (λ _. self.new ≡ self.old) }
     {
         match text_refusal(text) {
             Some(refusal) => Ok(Answer::Refuse(refusal)),
@@ -106,7 +118,10 @@ impl PlainState {
         path: &[u8],
         end: Result<u32, Refusal>,
     ) -> Result<Answer, AllocError>
-        ensures { MatchResult result (λ a. model.reached self.old (reached_of end) (model.makes_link segments self.old text.now path.now) ≡ (answer_of a, self.new)) (λ _. self.new ≡ self.old) }
+        ensures { MatchResult result
+            (λ a. model.reached self.old (reached_of end)
+            (model.makes_link segments self.old text.now path.now) ≡ (answer_of a, self.new))
+            (λ _. self.new ≡ self.old) }
     {
         let d = match end {
             Ok(n) => n,
@@ -128,7 +143,9 @@ impl PlainState {
         last: &Last<'_>,
         d: u32,
     ) -> Result<Answer, AllocError>
-        ensures { MatchResult result (λ a. link_made segments self.old text.now last.now.path.now d ≡ (answer_of a, self.new)) (λ _. self.new ≡ self.old) }
+        ensures { MatchResult result
+            (λ a. link_made segments self.old text.now last.now.path.now
+            d ≡ (answer_of a, self.new)) (λ _. self.new ≡ self.old) }
     {
         let number = self.tree.least();
         if number > MOST_NUMBERS {
@@ -148,7 +165,10 @@ impl PlainState {
         first: Result<u32, Refusal>,
         second: Result<u32, Refusal>,
     ) -> Result<Answer, AllocError>
-        ensures { MatchResult result (λ a. model.reached self.old (reached_of first) (λ d. model.links_to segments self.old paths.entry.0.now paths.entry.1.now d (reached_of second)) ≡ (answer_of a, self.new)) (λ _. self.new ≡ self.old) }
+        ensures { MatchResult result
+            (λ a. model.reached self.old (reached_of first)
+            (λ d. model.links_to segments self.old paths.entry.0.now paths.entry.1.now d
+            (reached_of second)) ≡ (answer_of a, self.new)) (λ _. self.new ≡ self.old) }
     {
         let d = match first {
             Ok(n) => n,
@@ -173,7 +193,10 @@ impl PlainState {
         path: &[u8],
         end: Result<u32, Refusal>,
     ) -> Result<Answer, AllocError>
-        ensures { MatchResult result (λ a. model.reached self.old (reached_of end) (names_too segments self.old n path.now) ≡ (answer_of a, self.new)) (λ _. self.new ≡ self.old) }
+        ensures { MatchResult result
+            (λ a. model.reached self.old (reached_of end)
+            (names_too segments self.old n path.now) ≡ (answer_of a, self.new))
+            (λ _. self.new ≡ self.old) }
     {
         let d = match end {
             Ok(n) => n,
@@ -195,7 +218,9 @@ impl PlainState {
         last: &Last<'_>,
         d: u32,
     ) -> Result<Answer, AllocError>
-        ensures { MatchResult result (λ a. named segments self.old n last.now.path.now d ≡ (answer_of a, self.new)) (λ _. self.new ≡ self.old) }
+        ensures { MatchResult result
+            (λ a. named segments self.old n last.now.path.now d ≡ (answer_of a, self.new))
+            (λ _. self.new ≡ self.old) }
     {
         if links(&self.tree, n) >= MOST_LINKS {
             return Ok(Answer::Refuse(Refusal::TooManyLinks));
@@ -211,7 +236,10 @@ impl PlainState {
         path: &[u8],
         end: Result<u32, Refusal>,
     ) -> Result<Answer, AllocError>
-        ensures { MatchResult result (λ a. model.reached self.old (reached_of end) (model.unlinks self.old path.now) ≡ (answer_of a, self.new)) (λ _. self.new ≡ self.old) }
+        ensures { MatchResult result
+            (λ a. model.reached self.old (reached_of end)
+            (model.unlinks self.old path.now) ≡ (answer_of a, self.new))
+            (λ _. self.new ≡ self.old) }
     {
         let d = match end {
             Ok(n) => n,
@@ -226,7 +254,9 @@ impl PlainState {
 
     /// The last piece's name is gone, and what it gave has lost a name.
     fn takes_away(&mut self, alloc: Global, d: u32, last: &Last<'_>) -> Result<Answer, AllocError>
-        ensures { MatchResult result (λ a. taken_away self.old last.now.path.now d ≡ (answer_of a, self.new)) (λ _. self.new ≡ self.old) }
+        ensures { MatchResult result
+            (λ a. taken_away self.old last.now.path.now d ≡ (answer_of a, self.new))
+            (λ _. self.new ≡ self.old) }
     {
         let n = target(&self.tree, d, last);
         let less = self.tree.without_name(alloc, d, last.name.as_slice())?;
@@ -241,7 +271,10 @@ impl PlainState {
         path: &[u8],
         end: Result<u32, Refusal>,
     ) -> Result<Answer, AllocError>
-        ensures { MatchResult result (λ a. model.reached self.old (reached_of end) (model.removes_dir self.old path.now) ≡ (answer_of a, self.new)) (λ _. self.new ≡ self.old) }
+        ensures { MatchResult result
+            (λ a. model.reached self.old (reached_of end)
+            (model.removes_dir self.old path.now) ≡ (answer_of a, self.new))
+            (λ _. self.new ≡ self.old) }
     {
         let d = match end {
             Ok(n) => n,

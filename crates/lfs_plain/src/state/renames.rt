@@ -42,7 +42,8 @@ fn is_within(tree: &PlainTree, n: u32, d: u32) -> bool
 
 /// A slash follows b's piece, and a gives no directory.
 fn wants_moved_dir(tree: &PlainTree, from: &Place<'_>, to: &Place<'_>) -> bool
-    ensures { result ≡ (path_text.slash to.now.last.path.now && not (model.gives_dir tree.now from.now.d from.now.last.path.now)) }
+    ensures { result ≡ (path_text.slash to.now.last.path.now && not
+        (model.gives_dir tree.now from.now.d from.now.last.path.now)) }
 {
     if to.last.slash {
         !gives_dir(tree, from.d, &from.last)
@@ -53,7 +54,8 @@ fn wants_moved_dir(tree: &PlainTree, from: &Place<'_>, to: &Place<'_>) -> bool
 
 /// What refuses the two names.
 fn names_refusal(tree: &PlainTree, from: &Place<'_>, to: &Place<'_>) -> Option<Refusal>
-    ensures { refused_by (rename_names tree.now from.now.last.path.now to.now.last.path.now from.now.d to.now.d) ≡ refused result }
+    ensures { refused_by (rename_names tree.now from.now.last.path.now to.now.last.path.now
+        from.now.d to.now.d) ≡ refused result }
 {
     if from.last.is_root | to.last.is_root {
         Some(Refusal::Busy)
@@ -76,7 +78,9 @@ fn names_refusal(tree: &PlainTree, from: &Place<'_>, to: &Place<'_>) -> Option<R
 
 /// What refuses the nodes that they give.
 fn nodes_refusal(tree: &PlainTree, from: &Place<'_>, to: &Place<'_>) -> Option<Refusal>
-    ensures { refused_by (rename_nodes tree.now from.now.last.path.now to.now.last.path.now from.now.d to.now.d (model.target tree.now from.now.d from.now.last.path.now) (model.target tree.now to.now.d to.now.last.path.now)) ≡ refused result }
+    ensures { refused_by (rename_nodes tree.now from.now.last.path.now to.now.last.path.now
+        from.now.d to.now.d (model.target tree.now from.now.d from.now.last.path.now)
+        (model.target tree.now to.now.d to.now.last.path.now)) ≡ refused result }
 {
     let moves_dir = gives_dir(tree, from.d, &from.last);
     let there = is_there(tree, to.d, &to.last);
@@ -108,7 +112,8 @@ fn tree_after(
     from: &Place<'_>,
     to: &Place<'_>,
 ) -> Result<PlainTree, AllocError>
-    ensures { IfOk result (λ t. t ≡ rename_tree tree.now (handles_of handles.now) from.now.last.path.now to.now.last.path.now from.now.d to.now.d) }
+    ensures { IfOk result (λ t. t ≡ rename_tree tree.now (handles_of handles.now)
+        from.now.last.path.now to.now.last.path.now from.now.d to.now.d) }
 {
     let n = target(tree, from.d, &from.last);
     let less = tree.without_name(alloc, from.d, from.last.name.as_slice())?;
@@ -122,7 +127,9 @@ fn tree_after(
 
 /// The two names give the same node.
 fn is_same(tree: &PlainTree, from: &Place<'_>, to: &Place<'_>) -> bool
-    ensures { result ≡ (model.is_there tree.now to.now.d to.now.last.path.now && model.target tree.now from.now.d from.now.last.path.now == model.target tree.now to.now.d to.now.last.path.now) }
+    ensures { result ≡ (model.is_there tree.now to.now.d to.now.last.path.now && model.target
+        tree.now from.now.d from.now.last.path.now == model.target tree.now
+        to.now.d to.now.last.path.now) }
 {
     let same = target(tree, from.d, &from.last) == target(tree, to.d, &to.last);
     is_there(tree, to.d, &to.last) & same
@@ -138,7 +145,11 @@ impl PlainState {
         first: Result<u32, Refusal>,
         second: Result<u32, Refusal>,
     ) -> Result<Answer, AllocError>
-        ensures { MatchResult result (λ a. model.reached self.old (reached_of first) (λ da. model.reached self.old (reached_of second) (model.renames segments self.old paths.entry.0.now paths.entry.1.now da)) ≡ (answer_of a, self.new)) (λ _. self.new ≡ self.old) }
+        ensures { MatchResult result
+            (λ a. model.reached self.old (reached_of first)
+            (λ da. model.reached self.old (reached_of second)
+            (model.renames segments self.old paths.entry.0.now paths.entry.1.now da))
+            ≡ (answer_of a, self.new)) (λ _. self.new ≡ self.old) }
     {
         let from_dir = match first {
             Ok(n) => n,
@@ -170,7 +181,9 @@ impl PlainState {
         from: &Place<'_>,
         to: &Place<'_>,
     ) -> Result<Answer, AllocError>
-        ensures { MatchResult result (λ a. renamed segments self.old from.now.last.path.now to.now.last.path.now from.now.d to.now.d ≡ (answer_of a, self.new)) (λ _. self.new ≡ self.old) }
+        ensures { MatchResult result
+            (λ a. renamed segments self.old from.now.last.path.now to.now.last.path.now from.now.d
+            to.now.d ≡ (answer_of a, self.new)) (λ _. self.new ≡ self.old) }
     {
         if is_same(&self.tree, from, to) {
             return Ok(Answer::Done);
@@ -189,7 +202,9 @@ impl PlainState {
         from: &Place<'_>,
         to: &Place<'_>,
     ) -> Result<Answer, AllocError>
-        ensures { MatchResult result (λ a. moved segments self.old from.now.last.path.now to.now.last.path.now from.now.d to.now.d ≡ (answer_of a, self.new)) (λ _. self.new ≡ self.old) }
+        ensures { MatchResult result
+            (λ a. moved segments self.old from.now.last.path.now to.now.last.path.now from.now.d
+            to.now.d ≡ (answer_of a, self.new)) (λ _. self.new ≡ self.old) }
     {
         let tree = tree_after(alloc, &self.tree, self.handles.as_slice(), from, to)?;
         self.takes(alloc, segments, tree)

@@ -1,4 +1,4 @@
-use Rattle.std.proofs.Common.{◌≡◌, ◌+◌, length, take, arith, rules}
+use Rattle.std.proofs.Common.{◌≡◌, length, take, arith, rules}
 use Rattle.lfs_script.specs.fs.Refusals.{refusal_of}
 use Rattle.lfs_command.proofs.PutCalls.{copy_ends, copy_refused, copying_more}
 use Rattle.lfs_command.proofs.putting.copy_in.Goals as goal

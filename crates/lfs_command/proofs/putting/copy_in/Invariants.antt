@@ -1,4 +1,4 @@
-use Rattle.std.proofs.Common.{◌≡◌, ◌<◌, length}
+use Rattle.std.proofs.Common.{◌<◌, length}
 use Rattle.lfs_script.specs.fs.Seen.{seen}
 use Rattle.lfs_command.proofs.PutCalls.{Copying}
 use Rattle.lfs_command.proofs.putting.copy_in.Given as goal

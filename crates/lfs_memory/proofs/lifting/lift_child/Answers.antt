@@ -1,5 +1,5 @@
 use Rattle.std.proofs.Common.{rules, refl, subst}
-use Rattle.lfs_model.specs.Staging.{IsAt}
+use Rattle.lfs_model.specs.Staging.{IsAtAddress}
 use Rattle.lfs_memory.proofs.Lifted.{prepares_none, not_inside}
 use Rattle.lfs_memory.proofs.LiftedKeys.{file_is}
 use Rattle.lfs_memory.proofs.Gathered.{gathers_looks}
@@ -17,7 +17,7 @@ returns-then-address-eq-IN_MEMORY-clause-prepares g c = prepares_none (g.D.Secto
 
 pub returns-then-address-eq-IN_MEMORY-clause-failed : goal.returns-then-address-eq-IN_MEMORY-clause-failed
 returns-then-address-eq-IN_MEMORY-clause-failed g c is =
-    not_inside (g.D.SectorDevice.state c.args.device.now) c.args.memory.now _ _ (file_is c.args.key.code _ refl) (subst (IsAt _ _ _) c.if-address-eq-IN_MEMORY.true c.pointer_to-address.ensures) (c.if-has_block.ensures.no (search rules))
+    not_inside (g.D.SectorDevice.state c.args.device.now) c.args.memory.now _ _ (file_is c.args.key.code _ refl) (subst (IsAtAddress _ _ _) c.if-address-eq-IN_MEMORY.true c.pointer_to-address.ensures) (c.if-has_block.ensures.no (search rules))
 
 pub returns-in-Err-clause-failed : goal.returns-in-Err-clause-failed
 returns-in-Err-clause-failed g c is = c.in-Err.ensures.failed (search rules)

@@ -2,7 +2,7 @@ use Rattle.std.proofs.Common.{◌≡◌, ◌<◌, ◌+◌, ◌*◌, ℕ, List, f
 use Rattle.lfs_model.specs.Entry.{entries_in}
 use Rattle.lfs_verify.proofs.Takes.{reads_first, reads_then, looks_none, looks_then, read_in, unread}
 use Rattle.lfs_verify.proofs.RowSteps.{no_chunk, cut_chunk, long_enough, no_entries, entries_none, names_of}
-use Rattle.lfs_verify.specs.Rows.{Names}
+use Rattle.lfs_verify.specs.Rows.{IsSummaryOf}
 use Rattle.lfs_verify.proofs.LabelSteps.{NamedTo, named_start, summary_refused, steps_of, chunk_taken, all_named, all_clear}
 use Rattle.lfs_verify.proofs.labels.is_segment_named.Goals as goal
 
@@ -56,7 +56,7 @@ returns-then-count-used-clause-named g c = λ d reads row.
     let long = long_enough old new d c.args.used c.args.segment (g.met.D.SectorDevice.lawful c.args.device.now) reads c.requires.inside c.requires.used in
     let to = here.so_far d (reads_first old mid new d reads step.looks) row in
     let there = read_in d _ _ _ (step.block d (reads_then old mid new d reads here.looks)) c.if-not-branch.false in
-    let names = subst (λ (b : List ℕ). Names b c.len-count.result) (sym there) (names_of c.fetch.new.out c.in-Some.names c.len-count.result c.in-Some.ensures.exact c.len-count.ensures) in
+    let names = subst (λ (b : List ℕ). IsSummaryOf b c.len-count.result) (sym there) (names_of c.fetch.new.out c.in-Some.names c.len-count.result c.in-Some.ensures.exact c.len-count.ensures) in
     (λ on. absurd (cc), λ all. absurd (cut_chunk d c.args.used c.args.segment c.loop-at.at long (omega arith) c.len-count.result names (omega arith) to.rest))
 
 pub returns-then-not-is_chunk_named-clause-named : goal.returns-then-not-is_chunk_named-clause-named

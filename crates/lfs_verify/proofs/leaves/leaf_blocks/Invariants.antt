@@ -4,7 +4,7 @@ use Rattle.lfs_model.specs.Content.{Content, block}
 use Rattle.lfs_model.specs.Entry.{Double}
 use Rattle.lfs_model.specs.Reach.{view, address}
 use Rattle.lfs_verify.specs.Walk.{Walked}
-use Rattle.lfs_verify.specs.Take.{Looks, Reads}
+use Rattle.lfs_verify.specs.Take.{Looks, ReadsContent}
 use Rattle.lfs_verify.proofs.leaves.leaf_blocks.Given as goal
 
 abbrev pub invariant-loop-leaf : goal.invariant-loop-leaf
@@ -15,6 +15,6 @@ invariant-loop-leaf g l =
       looks : Looks old now;
       no_failure : now.failures ≡ old.failures;
       len : length l.marks ≡ length l.initial.marks;
-      walked : (c : Content) (k : CheckpointValue) → Reads old now c → block c (address c k (Double l.file)) ≡ l.root
+      walked : (c : Content) (k : CheckpointValue) → ReadsContent old now c → block c (address c k (Double l.file)) ≡ l.root
           → Walked (view c k) l.initial.marks (12336 + 128 * l.file) → Walked (view c k) l.marks (12336 + 128 * l.file + l.leaf);
     }

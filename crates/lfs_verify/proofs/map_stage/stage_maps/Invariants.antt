@@ -2,7 +2,7 @@ use Rattle.std.proofs.Common.{◌≡◌, ◌+◌, length}
 use Rattle.lfs_model.specs.Content.{Content}
 use Rattle.lfs_model.specs.Reach.{view}
 use Rattle.lfs_verify.specs.MapTables.{ListsUpTo, IsEmptyFrom}
-use Rattle.lfs_verify.specs.Take.{Looks, Reads}
+use Rattle.lfs_verify.specs.Take.{Looks, ReadsContent}
 use Rattle.lfs_verify.specs.Walk.{Walked}
 use Rattle.lfs_verify.proofs.map_stage.stage_maps.Given as goal
 
@@ -16,6 +16,6 @@ invariant-loop-index g l =
       len : length l.marks ≡ length l.initial.marks;
       files : length l.map ≡ length l.initial.map;
       empty : IsEmptyFrom l.map l.index;
-      lists : (c : Content) → Reads old now c → ListsUpTo (view c l.checkpoint) l.map l.index;
-      walked : (c : Content) → Reads old now c → Walked (view c l.checkpoint) l.initial.marks 16 → Walked (view c l.checkpoint) l.marks (16 + l.index);
+      lists : (c : Content) → ReadsContent old now c → ListsUpTo (view c l.checkpoint) l.map l.index;
+      walked : (c : Content) → ReadsContent old now c → Walked (view c l.checkpoint) l.initial.marks 16 → Walked (view c l.checkpoint) l.marks (16 + l.index);
     }

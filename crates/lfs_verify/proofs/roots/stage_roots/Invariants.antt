@@ -3,7 +3,7 @@ use Rattle.lfs_model.specs.Checkpoint.{CheckpointValue}
 use Rattle.lfs_model.specs.Content.{Content}
 use Rattle.lfs_model.specs.Reach.{view}
 use Rattle.lfs_verify.specs.Walk.{Walked}
-use Rattle.lfs_verify.specs.Take.{Looks, Reads, Lists}
+use Rattle.lfs_verify.specs.Take.{Looks, ReadsContent, Lists}
 use Rattle.lfs_verify.proofs.roots.stage_roots.Given as goal
 
 abbrev pub invariant-loop-file : goal.invariant-loop-file
@@ -14,6 +14,6 @@ invariant-loop-file g l =
       looks : Looks old now;
       no_failure : now.failures ≡ old.failures;
       len : length l.marks ≡ length l.initial.marks;
-      walked : (c : Content) (k : CheckpointValue) → Reads old now c → Lists (view c k) l.map
+      walked : (c : Content) (k : CheckpointValue) → ReadsContent old now c → Lists (view c k) l.map
           → Walked (view c k) l.initial.marks 4144 → Walked (view c k) l.marks (4144 + 2 * l.file);
     }

@@ -1,6 +1,6 @@
 use Rattle.std.proofs.Common.{rules, ◌≡◌, ◌+◌, ℕ, List, refl, sym, ◌∙◌, ap, subst, arith}
 use Rattle.lfs_model.specs.Entry.{entries_in}
-use Rattle.lfs_verify.specs.Rows.{HasRow, Names, from}
+use Rattle.lfs_verify.specs.Rows.{HasRow, IsSummaryOf, from}
 use Rattle.lfs_verify.proofs.Takes.{reads_first, reads_then, looks_none, looks_then, read_in, unread}
 use Rattle.lfs_verify.proofs.RowSteps.{no_chunk, cut_chunk, next_chunk, from_end, from_start, long_enough, no_entries}
 use Rattle.lfs_verify.proofs.rows.is_row.Goals as goal
@@ -44,7 +44,7 @@ returns-then-count-used-clause-row g c = λ d reads.
     let step = c.in_ok-fetch.ensures in
     let long = long_enough old new d c.args.used c.args.segment (g.met.D.SectorDevice.lawful c.args.device.now) reads c.requires.inside c.requires.used in
     let there = read_in d _ _ _ (step.block d (reads_then old mid new d reads here.looks)) c.if-not-branch.false in
-    let names = subst (λ (b : List ℕ). Names b c.in-Some.count) (sym there) c.in-Some.ensures in
+    let names = subst (λ (b : List ℕ). IsSummaryOf b c.in-Some.count) (sym there) c.in-Some.ensures in
     (λ h. absurd (cc), λ h. absurd (cut_chunk d c.args.used c.args.segment c.loop-at.at long (omega arith) c.in-Some.count names (omega arith) ((here.rest d (reads_first old mid new d reads step.looks)).1 h)))
 
 pub loop-at-preserved : goal.loop-at-preserved
@@ -61,7 +61,7 @@ loop-at-preserved g c =
       rest = λ d reads.
           let long = long_enough old new d c.args.used c.args.segment (g.met.D.SectorDevice.lawful c.args.device.now) reads c.requires.inside c.requires.used in
           let there = read_in d _ _ _ (step.block d (reads_then old mid new d reads here.looks)) c.if-not-branch.false in
-          let names = subst (λ (b : List ℕ). Names b c.in-Some.count) (sym there) c.in-Some.ensures in
+          let names = subst (λ (b : List ℕ). IsSummaryOf b c.in-Some.count) (sym there) c.in-Some.ensures in
           let next = next_chunk d c.args.used c.args.segment c.loop-at.at long (omega arith) c.in-Some.count names (omega arith) in
           let so_far = here.rest d (reads_first old mid new d reads step.looks) in
           let e : c.loop-at.at + 1 + c.in-Some.count ≡ c.loop-at.at + (1 + c.in-Some.count) = omega arith in (

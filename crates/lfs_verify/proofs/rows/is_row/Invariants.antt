@@ -2,7 +2,7 @@ use Rattle.std.proofs.Common.{◌≡◌, ◌≤◌, ◌-◌, ◌↔◌}
 use Rattle.lfs_model.specs.Content.{Content}
 use Rattle.lfs_model.specs.Reach.{row_by}
 use Rattle.lfs_verify.specs.Rows.{HasRow, from}
-use Rattle.lfs_verify.specs.Take.{Looks, Reads}
+use Rattle.lfs_verify.specs.Take.{Looks, ReadsContent}
 use Rattle.lfs_verify.proofs.rows.is_row.Given as goal
 
 abbrev pub invariant-loop-at : goal.invariant-loop-at
@@ -13,7 +13,7 @@ invariant-loop-at g l =
       looks : Looks old now;
       no_failure : now.failures ≡ old.failures;
       within : l.at ≤ l.used;
-      rest : (c : Content) → Reads old now c → HasRow (from c l.used l.segment l.at) ↔ HasRow (row_by c l.used l.segment);
+      rest : (c : Content) → ReadsContent old now c → HasRow (from c l.used l.segment l.at) ↔ HasRow (row_by c l.used l.segment);
     }
 
 abbrev pub decreases-loop-at : goal.decreases-loop-at

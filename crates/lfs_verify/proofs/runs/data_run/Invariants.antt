@@ -4,7 +4,7 @@ use Rattle.lfs_model.specs.Content.{Content, block}
 use Rattle.lfs_model.specs.Entry.{Data, Inode, header, word}
 use Rattle.lfs_model.specs.Reach.{view, address}
 use Rattle.lfs_verify.specs.Walk.{Walked}
-use Rattle.lfs_verify.specs.Take.{Looks, Reads}
+use Rattle.lfs_verify.specs.Take.{Looks, ReadsContent}
 use Rattle.lfs_verify.proofs.runs.data_run.Given as goal
 
 abbrev pub invariant-loop-place : goal.invariant-loop-place
@@ -15,7 +15,7 @@ invariant-loop-place g l =
       looks : Looks old now;
       no_failure : now.failures ≡ old.failures;
       len : length l.marks ≡ length l.initial.marks;
-      walked : (c : Content) (k : CheckpointValue) → Reads old now c
+      walked : (c : Content) (k : CheckpointValue) → ReadsContent old now c
           → ((j : ℕ) → j < l.count → word l.words (l.first + j) ≡ address c k (Data l.file (l.index + j)))
           → l.size ≡ (header (block c (address c k (Inode l.file)))).size
           → Walked (view c k) l.initial.marks (536624 + 16624 * l.file + l.index) → Walked (view c k) l.marks (536624 + 16624 * l.file + l.index + l.place);

@@ -6,7 +6,7 @@ use Rattle.lfs_inodes.specs.Blocks.{TableValue, blocks_of}
 use Rattle.lfs_inodes.proofs.Blocks.{changed_put, count_put}
 use Rattle.lfs_inodes.proofs.Held.{low_at, held_at, put_value, sorted_value, spare_some, low_spare, held_put, inserted_value, wider, value_of}
 use Rattle.lfs_inodes.specs.declared.table.Place.{Place}
-use Rattle.lfs_inodes.specs.Held.{IsHeld}
+use Rattle.lfs_inodes.specs.Held.{IsTableOf}
 use Rattle.lfs_inodes.proofs.table.DirtyTable.put.Goals as goal
 
 pub index_mut-requires : goal.index_mut-requires
@@ -52,7 +52,7 @@ invariant_of-self-in-Err c =
     let place : Place = record { key = c.args.key; spot = c.unwrap-spot.result } in
     let items : c.insert.new.self.items ≡ insert c.self.inside.places.items c.in-Err.at place = rw c.unwrap.ensures at c.insert.ensures.items in
     let less = c.pop.ensures.capacity in
-    subst (λ (ps : List Place). IsHeld ps (set c.self.inside.arena.items c.unwrap-spot.result c.args.bytes.now) c.pop.new.self.items c.self.inside.limit (vec_capacity c.insert.new.self) (vec_capacity c.pop.new.self)) (sym items)
+    subst (λ (ps : List Place). IsTableOf ps (set c.self.inside.arena.items c.unwrap-spot.result c.args.bytes.now) c.pop.new.self.items c.self.inside.limit (vec_capacity c.insert.new.self) (vec_capacity c.pop.new.self)) (sym items)
     (wider _ _ _ _ _ _ _ _ (held_put c.self.inside.places.items c.self.inside.arena.items c.self.inside.spare.items _ _ _ c.self.invariant c.args.self.now c.self.view_is c.args.key.code c.in-Err.at c.in-Err.ensures.missing place refl c.pop.new.self.items was c.requires c.args.bytes.now) c.insert.ensures.capacity (omega arith))
 
 pub returns-in-Err-clause-put : goal.returns-in-Err-clause-put

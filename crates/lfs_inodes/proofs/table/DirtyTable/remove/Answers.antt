@@ -8,7 +8,7 @@ use Rattle.lfs_inodes.specs.Blocks.{TableValue, blocks_of}
 use Rattle.lfs_inodes.proofs.Blocks.{find_gap, without_gap, changed_none, changed_without, count_without}
 use Rattle.lfs_inodes.proofs.Held.{held_left, removed_value, sorted_value, wider, value_of}
 use Rattle.lfs_inodes.specs.declared.table.Place.{Place}
-use Rattle.lfs_inodes.specs.Held.{IsHeld}
+use Rattle.lfs_inodes.specs.Held.{IsTableOf}
 use Rattle.lfs_inodes.proofs.table.DirtyTable.remove.Goals as goal
 
 pub returns-in_default-clause-removed : goal.returns-in_default-clause-removed
@@ -30,7 +30,7 @@ pub invariant_of-self : goal.invariant_of-self
 invariant_of-self c =
     let items : c.push.new.self.items ≡ c.self.inside.spare.items ++ c.remove-place.result.spot ∷ [] = rw c.unwrap.ensures at c.push.ensures.items in
     let less = c.remove-place.ensures.capacity in
-    subst (λ (ps : List Place). IsHeld ps c.self.inside.arena.items c.push.new.self.items c.self.inside.limit (vec_capacity c.remove-place.new.self) (vec_capacity c.push.new.self)) (sym c.remove-place.ensures.items)
+    subst (λ (ps : List Place). IsTableOf ps c.self.inside.arena.items c.push.new.self.items c.self.inside.limit (vec_capacity c.remove-place.new.self) (vec_capacity c.push.new.self)) (sym c.remove-place.ensures.items)
     (wider _ _ _ _ _ _ _ _ (held_left c.self.inside.places.items c.self.inside.arena.items c.self.inside.spare.items _ _ _ c.self.invariant c.args.self.now c.self.view_is c.args.key.code c.in-Ok.at c.in-Ok.ensures.found c.remove-place.result c.remove-place.ensures.value c.push.new.self.items items) (omega arith) c.push.ensures.capacity)
 
 pub returns-clause-removed : goal.returns-clause-removed

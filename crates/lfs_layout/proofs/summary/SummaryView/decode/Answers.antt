@@ -3,7 +3,7 @@ use Rattle.lfs_model.specs.Fields.{zeros}
 use Rattle.lfs_model.specs.Summary.{FitsSummary, summary_sector}
 use Rattle.lfs_model.specs.Fields.{part}
 use Rattle.lfs_model.specs.Fields.{run}
-use Rattle.lfs_model.specs.Summary.{IsBlockAt, block_at}
+use Rattle.lfs_model.specs.Summary.{IsEntryAt, block_at}
 use Rattle.lfs_model.proofs.Runs.{length-run}
 use Rattle.lfs_model.proofs.SummaryPlaces.{reads_from, reads_to, count_of, block_in, summary_reads, summary_fits}
 use Rattle.lfs_model.proofs.Decoding.{summary_is, summary_some}
@@ -52,7 +52,7 @@ returns-clause-found c =
     let n = c.number16_at-count.result in
     let some : 1 ≤ n = omega arith in
     let room : n ≤ 63 = omega arith in
-    let each : (i : ℕ) → i < n → IsBlockAt (8 + 8 * i) s = λ i lt. c.loop-i.invariant i (omega arith) in
+    let each : (i : ℕ) → i < n → IsEntryAt (8 + 8 * i) s = λ i lt. c.loop-i.invariant i (omega arith) in
     let gap = c.is_zero_at.ensures.0 c.if-not-is_zero_at.false in
     let rest = c.is_zero_at-2.ensures.0 c.if-not-is_zero_at-2.false in
     let reads = summary_reads s n c.fits-sector c.told-sector c.number16_at-count.ensures.read room gap each rest in
