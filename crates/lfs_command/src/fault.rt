@@ -204,8 +204,6 @@ pub enum Fault {
     Segments,
     #[error("lfs: the write to stop at is no decimal number below 2^64 without leading zeros")]
     Stop,
-    #[error("lfs: what a stop leaves is none of old, new and bad")]
-    Left,
     #[error("lfs: PATH is no word of the script language, whose escapes are a backslash and two digits")]
     Path,
     #[error("lfs: standard input can't be read")]
@@ -222,7 +220,7 @@ impl Fault {
         ensures { (result ≡ 1) ⊎ (result ≡ 2) }
     {
         match self {
-            Fault::Line(_) | Fault::Segments | Fault::Stop | Fault::Left | Fault::Path => 2,
+            Fault::Line(_) | Fault::Segments | Fault::Stop | Fault::Path => 2,
             Fault::Input | Fault::Output | Fault::Memory(_) => 1,
         }
     }

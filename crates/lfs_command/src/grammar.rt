@@ -1,4 +1,5 @@
 //! The command line as `clap` reads it, with its help: a row for each command.
+use clap::builder::ValueParser;
 use clap::{Arg, ArgAction, Command};
 use std::alloc::{AllocError, Global};
 
@@ -19,13 +20,15 @@ pub enum Verb {
 
 /// How a parameter is given.
 #[derive(Clone, Copy)]
-enum Form {
+enum Form<'a> {
     /// A word in its place.
     Word,
     /// A word in its place, which may be left out.
     OptionalWord,
     /// An option with a value, which has to be given.
     Value,
+    /// An option with one of these values, which has to be given.
+    Choice(&'a [&'a str]),
     /// An option without a value.
     Switch,
 }
@@ -34,7 +37,7 @@ enum Form {
 #[derive(Clone, Copy)]
 struct Parameter<'a> {
     name: &'a str,
-    form: Form,
+    form: Form<'a>,
     /// What help calls its value.
     value: &'a str,
     help: &'a str,
@@ -121,9 +124,9 @@ const THE_STOP: Parameter = Parameter {
 
 const WHAT_IS_LEFT: Parameter = Parameter {
     name: LEFT,
-    form: Form::Value,
+    form: Form::Choice(&["old", "new", "bad"]),
     value: "WHAT",
-    help: "What the stop leaves of sectors that aren't synced: old, new or bad",
+    help: "What the stop leaves of sectors that aren't synced",
 };
 
 const USAGES: &[Usage] = &[
@@ -222,6 +225,12 @@ fn argument<'a>(alloc: Global, parameter: Parameter<'a>) -> Arg<'a> {
         Form::Value => argument
             .long(parameter.name)
             .value_name(parameter.value)
+            .required(true)
+            .action(ArgAction::Set),
+        Form::Choice(values) => argument
+            .long(parameter.name)
+            .value_name(parameter.value)
+            .value_parser(ValueParser::Names(values))
             .required(true)
             .action(ArgAction::Set),
         Form::Switch => argument.long(parameter.name).action(ArgAction::SetTrue),

@@ -8,6 +8,7 @@ use crate::grammar::{FORCE, IMAGE, LEFT, PATH, SEGMENTS, STOP, STRICT, Verb, pro
 use crate::looking::Look;
 use clap::error::ErrorKind;
 use clap::{ArgMatches, Error};
+use lfs_device::Left;
 use std::alloc::{AllocError, Global};
 
 /// The path that is listed where none is given.
@@ -40,15 +41,24 @@ pub enum Request<'a> {
     Sim {
         segments: &'a str,
         stop: &'a str,
-        left: &'a str,
+        left: Left,
     },
+}
+
+fn left_of(word: &str) -> Option<Left> {
+    match word {
+        "old" => Some(Left::Old),
+        "new" => Some(Left::New),
+        "bad" => Some(Left::Bad),
+        _ => None,
+    }
 }
 
 fn read_sim<'a>(found: &ArgMatches<'a>) -> Option<Request<'a>> {
     Some(Request::Sim {
         segments: found.get_str(SEGMENTS)?,
         stop: found.get_str(STOP)?,
-        left: found.get_str(LEFT)?,
+        left: left_of(found.get_str(LEFT)?)?,
     })
 }
 

@@ -22,25 +22,13 @@ pub struct Plan {
     pub left: Left,
 }
 
-fn read_left(word: &str) -> Option<Left> {
-    match word {
-        "old" => Some(Left::Old),
-        "new" => Some(Left::New),
-        "bad" => Some(Left::Bad),
-        _ => None,
-    }
-}
-
 /// Reads the words of a plan.
-pub fn read_plan(segments: &str, stop: &str, left: &str) -> Result<Plan, Fault> {
+pub fn read_plan(segments: &str, stop: &str, left: Left) -> Result<Plan, Fault> {
     let Some(segments) = read_u32(segments.as_bytes()) else {
         return Err(Fault::Segments);
     };
     let Some(stop) = read_u64(stop.as_bytes()) else {
         return Err(Fault::Stop);
-    };
-    let Some(left) = read_left(left) else {
-        return Err(Fault::Left);
     };
     Ok(Plan {
         segments,
