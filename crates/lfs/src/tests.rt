@@ -502,6 +502,30 @@ fn fifty_files_with_a_mount_between(rt: HostRuntime) {
     want(&rt, MANY_FILES);
 }
 
+// The checkpoint's number is one below 2^62: one commit more, and no change is taken.
+const WORN: &[Step] = &[
+    Step::Says(&["lfs mkfs w.img --segments 64"], b"", 0, OK),
+    Step::Change("w.img", LEN, &[(1, 8, b"\xff\xff\xff\xff\xff\xff\xff\x3f")]),
+    Step::Says(
+        &["lfs run w.img"],
+        b"create /a\nsync\ncreate /b\nsync\nclean\n",
+        0,
+        Said::Reply(b"ok 0\nok\nerr Worn\nok\nerr Worn\n"),
+    ),
+    Step::Says(
+        &["lfs mount w.img"],
+        b"",
+        0,
+        Said::Reply(b"ok 1\n1 a file 2 1 0 -\n"),
+    ),
+    Step::Remove("w.img"),
+];
+
+#[test]
+fn a_worn_volume_takes_no_change(rt: HostRuntime) {
+    want(&rt, WORN);
+}
+
 const TOO_SMALL: Said = Said::Reply(b"err TooSmall\n");
 
 const NO_CHECKPOINT: Said = Said::Reply(b"err NoCheckpoint\n");
