@@ -17,7 +17,7 @@ use Rattle.lfs_model.proofs.Counting.{by_entry, same_counts, settled_low}
 use Rattle.lfs_model.proofs.Entries.{same_entry, file_of_parent, data_below, pointers_below}
 use Rattle.lfs_model.proofs.PointerChanges.{growing, shrinking}
 use Rattle.lfs_model.proofs.Reading.{reading}
-use Rattle.lfs_model.proofs.Running.{pick, pick_yes, pick_no, taken_memory, is_taken}
+use Rattle.lfs_model.proofs.Running.{pick, pick_yes, pick_no, taken_memory, is_taken, open_same}
 use Rattle.lfs_model.proofs.Tables.{usage_table, pointers_of_file}
 
 -- ---- which files are shown stays where the headers stay
@@ -46,10 +46,6 @@ module _ (d : DeviceState) (dirty dirty' : Dirty) (t : Tables) (k : CheckpointVa
   same_held : (s : ℕ) → held_of m' M' s ≡ held_of m w.memory s
   same_held = same_counts (is_held m) (is_held m') w.memory M' w.laid.named laid.named (λ y. settled_cond (is_held m' y) (is_held m y) (M'.at y) (w.memory.at y) (ap not (shown_alike m m' headers y)) (settled y))
 
-  open_now : (c : Option (List Entry)) → IsOpenAt w.memory t seg c → IsOpenAt M' t seg c
-  open_now None o = subst (λ (n : ℕ). n ≤ seg) (sym segments) o
-  open_now (Some es) o = (subst (λ (n : ℕ). seg < n) (sym segments) o.0, ap (λ (r : ℕ → Row). r seg) rows ∙ o.1, o.2)
-
   restaged : Running d dirty' t k m0 m' seg chunk
   restaged = record {
     memory = M';
@@ -64,9 +60,9 @@ module _ (d : DeviceState) (dirty dirty' : Dirty) (t : Tables) (k : CheckpointVa
       held = λ s. w.tables.held s ∙ sym (same_held s);
     };
     fresh = λ j off low. subst (SpellsUsage t j) (sym (usage j)) (w.fresh j off low);
-    clean = w.clean;
-    taken = w.taken;
-    opened = open_now chunk w.opened;
+    part = w.part;
+    kept = w.kept;
+    opened = open_same d.content w.memory M' t t seg chunk segments (ap (λ (r : ℕ → Row). r seg) rows) (λ s. refl) w.opened;
   }
 
 -- ---- one block of a file below another comes to memory, or leaves it; `now` is what is in memory of it then

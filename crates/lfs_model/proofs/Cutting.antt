@@ -12,7 +12,7 @@ use Rattle.lfs_model.specs.Running.{Dirty, Tables, IsTables, IsCached, IsOpenAt,
 use Rattle.lfs_model.specs.Stands.{LogMap}
 use Rattle.lfs_model.proofs.Detaching.{of_file_or_not, detaching}
 use Rattle.lfs_model.proofs.DetachedCounts.{detached_live}
-use Rattle.lfs_model.proofs.Running.{usage_kept}
+use Rattle.lfs_model.proofs.Running.{usage_kept, part_same, kept_same, open_same}
 use Rattle.lfs_model.proofs.Tables.{usage_table}
 
 -- ---- usage blocks stay right where counts change only in those that are stale
@@ -156,11 +156,6 @@ module _ (d : DeviceState) (dirty dirty' : Dirty) (t t' : Tables) (k : Checkpoin
   usage_same : (j : ℕ) → bytes_next (Usage j) ≡ w.memory.bytes (Usage j)
   usage_same j = bytes_other (Usage j) (λ own one. usage_table j (n, own))
 
-  open_now : (c : Option (List Entry)) → IsOpenAt w.memory t seg c → IsOpenAt next t' seg c
-  unfolding next
-  open_now None o = o
-  open_now (Some es) o = (o.0, o.1, less.taken seg ∙ o.2)
-
   file_cut : Running d dirty' t' k m0 m' seg chunk
   unfolding next
   file_cut = record {
@@ -172,9 +167,9 @@ module _ (d : DeviceState) (dirty dirty' : Dirty) (t t' : Tables) (k : Checkpoin
     tables = tables_now;
     fresh = λ j off low. subst (SpellsUsage t' j) (sym (usage_same j))
         (counts_fresh t t' counts same_live less.used less.age less.changed j off (w.memory.bytes (Usage j)) (w.fresh j (less.stale j off) low));
-    clean = λ s low z. w.clean s low (sym (less.used s) ∙ z);
-    taken = λ s on. w.taken s (sym (less.taken s) ∙ on);
-    opened = open_now chunk w.opened;
+    part = part_same t t' less.used less.kept w.part;
+    kept = kept_same d.content k t t' less.kept w.kept;
+    opened = open_same d.content w.memory next t t' seg chunk refl refl less.kept w.opened;
   }
 
 pub file_cutting : FileCutting

@@ -16,7 +16,7 @@ use Rattle.lfs_model.proofs.Counting.{same_counts, settled_low}
 use Rattle.lfs_model.proofs.Entries.{same_entry}
 use Rattle.lfs_model.proofs.FileChanges.{relabeling, creating}
 use Rattle.lfs_model.proofs.Files.{file_there}
-use Rattle.lfs_model.proofs.Running.{pick, pick_yes, pick_no, taken_memory, is_taken, addressed, usage_kept}
+use Rattle.lfs_model.proofs.Running.{pick, pick_yes, pick_no, taken_memory, is_taken, addressed, usage_kept, part_same, kept_same, open_same}
 
 -- which entries are shown, where one file's header is another
 shown_but : (m m' : LogMap) (n : ℕ) (h : Option Header) → IsWithHeader m n h m' → (x : Entry) → (file_of x ≡ Some n → ⊥) → is_shown m' x ≡ is_shown m x
@@ -80,11 +80,6 @@ module _ (d : DeviceState) (dirty dirty' : Dirty) (t t' : Tables) (k : Checkpoin
   unfolding next taken_memory
   formed_now = subst (HoldsInode n) (sym own) formed
 
-  open_now : (c : Option (List Entry)) → ((s : ℕ) → t'.taken s ≡ t.taken s) → IsOpenAt w.memory t seg c → IsOpenAt next t' seg c
-  unfolding next taken_memory
-  open_now None same o = o
-  open_now (Some es) same o = (o.0, o.1, same seg ∙ o.2)
-
   -- so the log runs on, where the counts stay
   staged : IsLaid d.content m' next seg → IsReaddressed t t' (Inode n) 1 → ((s : ℕ) → live_of m' next s ≡ live_of m w.memory s) → ((s : ℕ) → held_of m' next s ≡ held_of m w.memory s) → Running d dirty' t' k m0 m' seg chunk
   unfolding next taken_memory
@@ -103,9 +98,9 @@ module _ (d : DeviceState) (dirty dirty' : Dirty) (t t' : Tables) (k : Checkpoin
     fresh = λ i off low.
         subst (SpellsUsage t' i) (sym (kept (Usage i) (λ h. let bad : Usage i ≡ Inode n = h in absurd (cc))))
         (usage_kept t t' i (w.memory.bytes (Usage i)) (λ q lt. (r.used (64 * i + q), r.live (64 * i + q), r.age (64 * i + q))) (w.fresh i (sym (r.stale i) ∙ off) low));
-    clean = λ s low z. w.clean s low (sym (r.used s) ∙ z);
-    taken = λ s on. w.taken s (sym (r.taken s) ∙ on);
-    opened = open_now chunk r.taken w.opened;
+    part = part_same t t' r.used r.kept w.part;
+    kept = kept_same d.content k t t' r.kept w.kept;
+    opened = open_same d.content w.memory next t t' seg chunk refl refl r.kept w.opened;
   }
 
   -- ---- a new file
@@ -220,11 +215,6 @@ module _ (d : DeviceState) (dirty dirty' : Dirty) (t : Tables) (k : CheckpointVa
   labeled_laid : IsLaid d.content m' labeled seg
   labeled_laid = relabeling d.content m w.memory seg n m' labeled w.laid is_relabeling
 
-  labeled_open : (c : Option (List Entry)) → IsOpenAt w.memory t seg c → IsOpenAt labeled t seg c
-  unfolding labeled
-  labeled_open None o = o
-  labeled_open (Some es) o = o
-
   labeled_live : (s : ℕ) → live_of m' labeled s ≡ live_of m w.memory s
   unfolding labeled
   labeled_live = same_counts (is_shown m) (is_shown m') w.memory labeled w.laid.named labeled_laid.named
@@ -250,9 +240,9 @@ module _ (d : DeviceState) (dirty dirty' : Dirty) (t : Tables) (k : CheckpointVa
       held = λ s. w.tables.held s ∙ sym (labeled_held s);
     };
     fresh = λ j off low. subst (SpellsUsage t j) (sym (labeled_kept (Usage j) (λ h. let bad : Usage j ≡ Inode n = h in absurd (cc)))) (w.fresh j off low);
-    clean = w.clean;
-    taken = w.taken;
-    opened = labeled_open chunk w.opened;
+    part = w.part;
+    kept = w.kept;
+    opened = open_same d.content w.memory labeled t t seg chunk refl refl (λ s. refl) w.opened;
   }
 
 pub header_changing : HeaderChanging

@@ -16,7 +16,7 @@ use Rattle.lfs_model.proofs.Detaching.{of_file_or_not, is_of_yes, is_of_no}
 use Rattle.lfs_model.proofs.DetachedCounts.{counts_sum, shown_in, shown_outside, nowhere, one_if}
 use Rattle.lfs_model.proofs.Entries.{same_entry}
 use Rattle.lfs_model.proofs.FileChanges.{relabeling}
-use Rattle.lfs_model.proofs.Running.{pick, pick_yes, pick_no}
+use Rattle.lfs_model.proofs.Running.{pick, pick_yes, pick_no, part_same, kept_same, open_same}
 
 -- ---- counts, where a file that was shown is so no more and nothing moves
 module _ (m m' : LogMap) (M M' : Memory) (n : ℕ) (at : M'.at ≡ M.at) (rows : M'.rows ≡ M.rows) (headers : (k : ℕ) → (k ≡ n → ⊥) → m'.header k ≡ m.header k)
@@ -119,11 +119,6 @@ module _ (d : DeviceState) (dirty dirty' : Dirty) (t t' : Tables) (k : Checkpoin
   laid_now : IsLaid d.content m' next seg
   laid_now = relabeling d.content m w.memory seg n m' next w.laid is_relabeling
 
-  open_now : (c : Option (List Entry)) → IsOpenAt w.memory t seg c → IsOpenAt next t' seg c
-  unfolding next
-  open_now None o = o
-  open_now (Some es) o = (o.0, o.1, less.taken seg ∙ o.2)
-
   live_now : (s : ℕ) → t'.live s ≡ live_of m' next s
   unfolding next
   live_now s =
@@ -158,9 +153,9 @@ module _ (d : DeviceState) (dirty dirty' : Dirty) (t t' : Tables) (k : Checkpoin
     };
     fresh = λ j off low. subst (SpellsUsage t' j) (sym (kept (Usage j) (λ h. let bad : Usage j ≡ Inode n = h in absurd (cc))))
         (counts_fresh t t' counts (λ s z. let l = less.live s in omega arith) less.used less.age less.changed j off (w.memory.bytes (Usage j)) (w.fresh j (less.stale j off) low));
-    clean = λ s low z. w.clean s low (sym (less.used s) ∙ z);
-    taken = λ s on. w.taken s (sym (less.taken s) ∙ on);
-    opened = open_now chunk w.opened;
+    part = part_same t t' less.used less.kept w.part;
+    kept = kept_same d.content k t t' less.kept w.kept;
+    opened = open_same d.content w.memory next t t' seg chunk refl refl less.kept w.opened;
   }
 
 pub link_losing : LinkLosing

@@ -13,7 +13,7 @@ use Rattle.lfs_model.specs.Memory.{Memory, IsOfFile, is_shown, memory_view, live
 use Rattle.lfs_model.specs.Reach.{address, Row, View, view}
 use Rattle.lfs_model.specs.Running.{Dirty, Tables, IsTables, IsCached, SpellsUsage, Running, used_saved, age_saved}
 use Rattle.lfs_model.specs.Committing.{IsOut, ManyClean, LeadsTo, Planning, IsReleased, Resting}
-use Rattle.lfs_model.specs.Settled.{IsSettled, IsUnusedBy}
+use Rattle.lfs_model.specs.Settled.{IsSettled, IsFreeFrom}
 use Rattle.lfs_model.specs.Stands.{LogMap, EnoughClean, used_in, live_in, age_in, is_clean, count_up}
 use Rattle.lfs_model.specs.TreeOf.{dropped}
 use Rattle.lfs_model.proofs.Encodes.{word_nil}
@@ -224,18 +224,19 @@ module _ (d d' : DeviceState) (dirty : Dirty) (t t' : Tables) (k next : Checkpoi
     age = λ i lt. is.age i lt ∙ saved_same t.age t'.age (λ s some. sym (go.age s some)) (64 * j + i);
   }
 
-  unused_now : (s : ℕ) → t'.used s ≡ 0 → IsUnusedBy d'.content next s
+  -- the checkpoint needs no more of a segment than is in use
+  kept_now : (s : ℕ) → IsFreeFrom d'.content next s (t'.kept s)
   unfolding address
-  unused_now s z =
+  kept_now s =
       let said = used_said d'.content m w.memory none dirty t k next laid_now w.opened w.segments w.cached w.tables w.fresh out many leads s in
-      viewed s ∙ said ∙ saved_same t.used t'.used (λ s some. sym (go.used s (inl some))) s ∙ nothing_saved (t'.live s) (t'.used s) z
+      let same : used_in (view d'.content next) s ≡ cond (t'.live s == 0) 0 (t'.used s) = viewed s ∙ said ∙ saved_same t.used t'.used (λ s some. sym (go.used s (inl some))) s in
+      let most = no_more (t'.live s == 0) (t'.used s) in
+      let k = go.kept s in
+      omega arith
     where
-      nothing_saved : (l u : ℕ) → u ≡ 0 → cond (l == 0) 0 u ≡ 0
-      nothing_saved l u z = ap (λ (u : ℕ). cond (l == 0) 0 u) z ∙ either (l == 0)
-        where
-          either : (b : Bool) → cond {A = ℕ} b 0 0 ≡ 0
-          either true = refl
-          either false = refl
+      no_more : (b : Bool) (u : ℕ) → cond {A = ℕ} b 0 u ≤ u
+      no_more true u = omega arith
+      no_more false u = omega arith
 
       viewed : (s : ℕ) → used_in (view d'.content next) s ≡ used_in (shown_view d'.content m w.memory next) s
       viewed s = used_is d'.content m w.memory none next laid_now done_now s
@@ -255,8 +256,8 @@ module _ (d d' : DeviceState) (dirty : Dirty) (t t' : Tables) (k next : Checkpoi
       held = λ s. go.held s ∙ w.tables.held s ∙ sym (laid_released.2 s);
     };
     fresh = λ j off lt. usage_now j (w.memory.bytes (Usage j)) (w.fresh j (sym (go.stale j) ∙ off) (subst (λ (n : ℕ). j < (n + 63) / 64) leads.segments lt));
-    clean = λ s lt z. unused_now s z;
-    taken = λ s on. let bad : false ≡ true = sym (go.taken s) ∙ on in absurd (cc);
+    part = λ s. let e = go.kept s in omega arith;
+    kept = λ s lt. kept_now s;
     opened = w.opened;
   }
 

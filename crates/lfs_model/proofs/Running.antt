@@ -1,5 +1,5 @@
 -- What the tables and the memory of a running log keep.
-use Rattle.std.proofs.Common.{◌≡◌, ◌<◌, ◌≤◌, ◌⊎◌, inl, inr, ⊎_elim, ◌+◌, ◌*◌, ◌/◌, ◌==◌, cond, Bool, true, false, ℕ, suc, List, [], ◌∷◌, ◌++◌, length, map, Some, None, refl, sym, ◌∙◌, ap, ap₂, arith, length-append}
+use Rattle.std.proofs.Common.{◌≡◌, ◌<◌, ◌≤◌, ◌⊎◌, inl, inr, ⊎_elim, ◌+◌, ◌*◌, ◌/◌, ◌==◌, cond, Bool, true, false, ℕ, suc, List, [], ◌∷◌, ◌++◌, length, map, Option, Some, None, refl, sym, ◌∙◌, ap, ap₂, subst, arith, length-append}
 use Rattle.std.proofs.lemmas.List.{length-map}
 use Rattle.std.proofs.lemmas.Bool.{cases_eq}
 use Rattle.lfs_model.specs.Entry.{Entry}
@@ -11,7 +11,9 @@ use Rattle.lfs_model.specs.Laid.{IsLaid}
 use Rattle.lfs_model.specs.Placing.{IsMoved, next_place}
 use Rattle.lfs_model.specs.Lifting.{IsTaken}
 use Rattle.lfs_model.specs.Counting.{segment_of}
-use Rattle.lfs_model.specs.Running.{Tables, IsTables, SpellsUsage, IsSet, CountsUp, CountsDown, IsAddressed, IsNoted, IsLifted}
+use Rattle.lfs_model.specs.Running.{Tables, IsTables, SpellsUsage, IsSet, CountsUp, CountsDown, IsAddressed, IsNoted, IsLifted, IsOpenAt}
+use Rattle.lfs_model.specs.Checkpoint.{CheckpointValue}
+use Rattle.lfs_model.specs.Settled.{IsFreeFrom}
 use Rattle.lfs_model.proofs.Entries.{same_entry}
 use Rattle.lfs_model.proofs.Counting.{moved_counts, taken_counts}
 
@@ -34,9 +36,34 @@ pub map_end : (es : List Entry) (x : Entry) → map Some es ++ Some x ∷ [] ≡
 map_end [] x = refl
 map_end (y ∷ es) x = ap (λ (r : Row). Some y ∷ r) (map_end es x)
 
--- a row of a summary and the blocks behind it
-pub row_length : (r : Row) (es : List Entry) → r ≡ None ∷ map Some es → length r ≡ suc (length es)
-row_length r es is = ap length is ∙ ap suc (length-map es (λ (x : Entry). Some x))
+-- a row that ends with a summary and the blocks behind it
+pub row_length : (r before : Row) (es : List Entry) → r ≡ before ++ None ∷ map Some es → length r ≡ length before + suc (length es)
+row_length r before es is =
+    ap length is ∙ length-append before (None ∷ map Some es)
+    ∙ ap (λ (n : ℕ). length before + suc n) (length-map es (λ (x : Entry). Some x))
+
+pub row_end : (before : Row) (es : List Entry) (x : Entry) → (before ++ None ∷ map Some es) ++ Some x ∷ [] ≡ before ++ None ∷ map Some (es ++ x ∷ [])
+row_end [] es x = ap (λ (r : Row). None ∷ r) (map_end es x)
+row_end (y ∷ before) es x = ap (λ (r : Row). y ∷ r) (row_end before es x)
+
+-- ---- what a step keeps that doesn't write
+pub part_same : (t t' : Tables) → ((s : ℕ) → t'.used s ≡ t.used s) → ((s : ℕ) → t'.kept s ≡ t.kept s) → ((s : ℕ) → t.kept s ≤ t.used s) → (s : ℕ) → t'.kept s ≤ t'.used s
+part_same t t' used kept part s = let u = used s in let k = kept s in let p = part s in omega arith
+
+pub kept_same : (c : Content) (k : CheckpointValue) (t t' : Tables) → ((s : ℕ) → t'.kept s ≡ t.kept s) → ((s : ℕ) → s < k.segments → IsFreeFrom c k s (t.kept s))
+    → (s : ℕ) → s < k.segments → IsFreeFrom c k s (t'.kept s)
+kept_same c k t t' same kept s low = subst (IsFreeFrom c k s) (sym (same s)) (kept s low)
+
+pub open_same : (e : Content) (M M' : Memory) (t t' : Tables) (seg : ℕ) (chunk : Option (List Entry)) → M'.segments ≡ M.segments → M'.rows seg ≡ M.rows seg → ((s : ℕ) → t'.kept s ≡ t.kept s)
+    → IsOpenAt e M t seg chunk → IsOpenAt e M' t' seg chunk
+open_same e M M' t t' seg None count row kept is = subst (λ (n : ℕ). n ≤ seg) (sym count) is
+open_same e M M' t t' seg (Some es) count row kept is = record {
+  inside = subst (λ (n : ℕ). seg < n) (sym count) is.inside;
+  before = is.before;
+  row = row ∙ is.row;
+  sealed = is.sealed;
+  free = let a = kept seg in let b = is.free in omega arith;
+}
 
 -- ---- the memory in which x has an address in the open segment, with these bytes
 unfoldable pub moved_memory : Memory → Entry → ℕ → (Entry → List ℕ) → ℕ → Memory

@@ -1,22 +1,24 @@
 -- Segments are opened, sealed and given back.
-use Rattle.std.proofs.Common.{◌≡◌, ◌<◌, ◌≤◌, ◌⊎◌, ⊎_elim, ◌+◌, ◌*◌, ◌-◌, ◌/◌, ◌%◌, ◌==◌, not, cond, inl, inr, ℕ, zero, suc, Bool, true, false, List, [], ◌∷◌, length, get_or, take, drop, map, Option, Some, None, refl, sym, ◌∙◌, ap, ap₂, subst, arith, length-set, get_or-set_other, get_or-set_same, eq-eqb}
-use Rattle.std.proofs.lemmas.List.{length-map}
+use Rattle.std.proofs.Common.{◌≡◌, ◌<◌, ◌≤◌, ◌⊎◌, ⊎_elim, ◌+◌, ◌*◌, ◌-◌, ◌/◌, ◌%◌, ◌==◌, not, cond, inl, inr, ℕ, zero, suc, Bool, true, false, List, [], ◌∷◌, ◌++◌, length, get_or, map, Option, Some, None, refl, sym, ◌∙◌, ap, ap₂, subst, arith, length-set, length-append, get_or-set_other, get_or-set_same, eq-eqb}
+use Rattle.std.proofs.lemmas.List.{get_or_append_left}
 use Rattle.std.proofs.lemmas.Bool.{cases_eq, cases_Bool}
 use Rattle.lfs_model.specs.Entry.{Entry, Data, Leaf, Inode, Map, Usage, entries_in, word}
 use Rattle.lfs_model.specs.Content.{Content, block}
 use Rattle.lfs_model.specs.Device.{cell_at, put}
-use Rattle.lfs_model.specs.Reach.{Row, View, place_in, row_by, chunks, chunks_between}
+use Rattle.lfs_model.specs.Reach.{Row, View, place_in, row_by}
 use Rattle.lfs_model.specs.Stands.{LogMap, count_up, is_live}
 use Rattle.lfs_model.specs.Memory.{Memory, parent, HasPointer, count_of, live_of, held_of, is_shown, is_held, memory_view, shown, settled_at, those}
 use Rattle.lfs_model.specs.Laid.{IsLaid, IsMapped, SpellsBlock}
-use Rattle.lfs_model.specs.Placing.{IsOpening, Opening, Sealing}
+use Rattle.lfs_model.specs.Placing.{IsOpening, Opening, IsReopening, Reopening, Sealing}
 use Rattle.lfs_model.specs.Live.{live_count}
 use Rattle.lfs_model.specs.Counting.{segment_of}
 use Rattle.lfs_model.specs.Finishing.{IsReleasing, Releasing}
 use Rattle.lfs_model.proofs.Counting.{Named, same_counts, those_in, settled_above}
 use Rattle.lfs_model.proofs.Live.{chunk_read, count_up_none, count_up_more}
 use Rattle.lfs_model.proofs.Outgoing.{still_there, other_rows}
-use Rattle.lfs_model.proofs.Tables.{empty_row}
+use Rattle.lfs_model.proofs.Tables.{empty_row, row_kept}
+use Rattle.lfs_model.proofs.Chunks.{row_more}
+use Rattle.lfs_model.proofs.Running.{row_length}
 
 -- ---- the rows change and nothing else
 pub record IsRowed (e : Content) (M : Memory) (opened_at : ℕ) (M' : Memory) : Type 0 where
@@ -112,42 +114,92 @@ opening e m M none_open s M' laid closed p =
     let is = is_rowed e m M none_open laid closed s M' p in
     (rowed e m M none_open laid s M' is, rowed_counts e m M none_open laid s M' is)
 
+-- ---- opening again
+module _ (e : Content) (m : LogMap) (M : Memory) (none_open : ℕ) (laid : IsLaid e m M none_open) (closed : M.segments ≤ none_open) (s : ℕ) (M' : Memory) (p : IsReopening M s M') where
+  longer : length (M'.rows s) ≡ length (M.rows s) + 1
+  longer = ap length p.row ∙ length-append (M.rows s) (None ∷ [])
+
+  kept_labels : (t at : ℕ) (x : Entry) → get_or (M.rows t) at None ≡ Some x → get_or (M'.rows t) at None ≡ Some x
+  kept_labels t at x is = ⊎_elim
+      (λ (here : t ≡ s). ap (λ (t : ℕ). get_or (M'.rows t) at None) here ∙ ap (λ (r : Row). get_or r at None) p.row ∙ labelled (M.rows s) at (ap (λ (t : ℕ). get_or (M.rows t) at None) (sym here) ∙ is))
+      (λ (away : t ≡ s → ⊥). ap (λ (r : Row). get_or r at None) (p.rows t away) ∙ is)
+      (cases_eq t s)
+    where
+      labelled : (r : Row) (at : ℕ) → get_or r at None ≡ Some x → get_or (r ++ None ∷ []) at None ≡ Some x
+      labelled [] at is = let bad : None ≡ Some x = is in absurd (cc)
+      labelled (y ∷ r) zero is = is
+      labelled (y ∷ r) (suc at) is = labelled r at is
+
+  is_again : IsRowed e M s M'
+  is_again = record {
+    segments = p.segments;
+    at = p.at;
+    bytes = p.bytes;
+    named = λ x le. kept_labels ((M.at x - 2) / 64) ((M.at x - 2) % 64) x (laid.named x le);
+    short = λ t. ⊎_elim
+        (λ (here : t ≡ s). let l = ap (λ (t : ℕ). length (M'.rows t)) here in let n = longer in let r = p.room in omega arith)
+        (λ (away : t ≡ s → ⊥). let l = ap length (p.rows t away) in let k = laid.short t in omega arith)
+        (cases_eq t s);
+    first = λ t. ⊎_elim
+        (λ (here : t ≡ s).
+        ap (λ (t : ℕ). get_or (M'.rows t) 0 None) here ∙ ap (λ (r : Row). get_or r 0 None) p.row
+        ∙ get_or_append_left (M.rows s) (None ∷ []) None 0 p.some ∙ laid.first s)
+        (λ (away : t ≡ s → ⊥). ap (λ (r : Row). get_or r 0 None) (p.rows t away) ∙ laid.first t)
+        (cases_eq t s);
+    sealed = λ t ne. subst (λ (r : Row). row_by e (length r) t ≡ Some r) (sym (p.rows t ne))
+        (⊎_elim
+        (λ (here : t ≡ none_open). subst (λ (r : Row). row_by e (length r) t ≡ Some r) (sym (laid.past t (omega arith))) (empty_row e t))
+        (λ (away : t ≡ none_open → ⊥). laid.sealed t away)
+        (cases_eq t none_open));
+    past = λ t le. let i = p.inside in p.rows t (λ h. omega arith) ∙ laid.past t le;
+  }
+
+pub reopening : Reopening
+reopening e m M none_open s M' laid closed p =
+    let is = is_again e m M none_open laid closed s M' p in
+    (rowed e m M none_open laid s M' is, rowed_counts e m M none_open laid s M' is)
+
 -- ---- sealing
-row_as_between : (c : Content) (s n : ℕ) → chunks_between c s 0 n ≡ row_by c n s
-unfolding row_by
-row_as_between c s n =
-    let a : 2 + 64 * s + 0 ≡ 2 + 64 * s = omega arith in
-    let b : n - 0 ≡ n = omega arith in
-    ap₂ (λ (x y : ℕ). chunks [] (take x (drop y c))) b a
+-- a summary stands behind the chunks before it
+at_summary : (before : Row) (es : List Entry) → get_or (before ++ None ∷ map Some es) (length before) None ≡ None
+at_summary [] es = refl
+at_summary (y ∷ before) es = at_summary before es
 
-module _ (e : Content) (m : LogMap) (M : Memory) (seg : ℕ) (bytes : List ℕ) (es : List Entry) (laid : IsLaid e m M seg) (opened : seg < M.segments)
-    (row : M.rows seg ≡ None ∷ map Some es) (spelt : entries_in bytes ≡ Some es) where
+module _ (e : Content) (m : LogMap) (M : Memory) (seg : ℕ) (before : Row) (bytes : List ℕ) (es : List Entry) (laid : IsLaid e m M seg) (opened : seg < M.segments)
+    (row : M.rows seg ≡ before ++ None ∷ map Some es) (sealed : row_by e (length before) seg ≡ Some before) (spelt : entries_in bytes ≡ Some es) where
   d : Content
-  d = put e (2 + 64 * seg) bytes
+  d = put e (2 + 64 * seg + length before) bytes
 
-  size_now : length (put e (2 + 64 * seg) bytes) ≡ length e
-  size_now = length-set e (2 + 64 * seg) (Some bytes)
+  size_now : length (put e (2 + 64 * seg + length before) bytes) ≡ length e
+  size_now = length-set e (2 + 64 * seg + length before) (Some bytes)
 
-  first_place : 2 + 64 * seg + 0 ≡ 2 + 64 * seg
-  first_place = omega arith
+  cells : (a : ℕ) → (a ≡ 2 + 64 * seg + length before → ⊥) → cell_at (put e (2 + 64 * seg + length before) bytes) a ≡ cell_at e a
+  cells a ne = get_or-set_other e (2 + 64 * seg + length before) a (Some bytes) None ne
 
-  cells : (a : ℕ) → (a ≡ 2 + 64 * seg + 0 → ⊥) → cell_at (put e (2 + 64 * seg) bytes) a ≡ cell_at e a
-  cells a ne = get_or-set_other e (2 + 64 * seg) a (Some bytes) None (λ h. ne (h ∙ sym first_place))
+  long : length (M.rows seg) ≡ length before + suc (length es)
+  long = row_length (M.rows seg) before es row
 
-  now_sealed : row_by (put e (2 + 64 * seg) bytes) (length (M.rows seg)) seg ≡ Some (M.rows seg)
+  place : length before < 64
+  place = let l = long in let short = laid.short seg in omega arith
+
+  blank : get_or (M.rows seg) (length before) None ≡ None
+  blank = ap (λ (r : Row). get_or r (length before) None) row ∙ at_summary before es
+
+  now_sealed : row_by (put e (2 + 64 * seg + length before) bytes) (length (M.rows seg)) seg ≡ Some (M.rows seg)
   now_sealed =
       let size = laid.size in
       let ls = size_now in
-      let len : length (M.rows seg) ≡ suc (length es) = ap length row ∙ ap suc (length-map es (λ (x : Entry). Some x)) in
+      let len = long in
       let short = laid.short seg in
-      let at : cell_at (put e (2 + 64 * seg) bytes) (2 + 64 * seg + 0) ≡ Some bytes = ap (cell_at (put e (2 + 64 * seg) bytes)) first_place ∙ get_or-set_same e (2 + 64 * seg) (Some bytes) None (omega arith) in
-      let read = chunk_read (put e (2 + 64 * seg) bytes) seg 0 bytes es at spelt (omega arith) in
-      let en : 0 + 1 + length es ≡ length (M.rows seg) = omega arith in
-      ap (λ (n : ℕ). row_by (put e (2 + 64 * seg) bytes) n seg) (sym en)
-      ∙ sym (row_as_between (put e (2 + 64 * seg) bytes) seg (0 + 1 + length es))
-      ∙ read ∙ ap Some (sym row)
+      let at : cell_at (put e (2 + 64 * seg + length before) bytes) (2 + 64 * seg + length before) ≡ Some bytes = get_or-set_same e (2 + 64 * seg + length before) (Some bytes) None (omega arith) in
+      let read = chunk_read (put e (2 + 64 * seg + length before) bytes) seg (length before) bytes es at spelt (omega arith) in
+      let first = row_kept e (put e (2 + 64 * seg + length before) bytes) seg before (omega arith) size_now (λ q lt none. cells (2 + 64 * seg + q) (λ h. omega arith)) sealed in
+      let en : length before + 1 + length es ≡ length (M.rows seg) = omega arith in
+      ap (λ (n : ℕ). row_by (put e (2 + 64 * seg + length before) bytes) n seg) (sym en)
+      ∙ row_more (put e (2 + 64 * seg + length before) bytes) seg (length before) (length before + 1 + length es) before (None ∷ map Some es) (omega arith) first read
+      ∙ ap Some (sym row)
 
-  is_sealed : (none : ℕ) → M.segments ≤ none → IsLaid (put e (2 + 64 * seg) bytes) m M none
+  is_sealed : (none : ℕ) → M.segments ≤ none → IsLaid (put e (2 + 64 * seg + length before) bytes) m M none
   is_sealed none past = record {
     size = let l = size_now in let s = laid.size in omega arith;
     few = laid.few;
@@ -161,20 +213,20 @@ module _ (e : Content) (m : LogMap) (M : Memory) (seg : ℕ) (bytes : List ℕ) 
     spells = laid.spells;
     mapped = laid.mapped;
     usages = laid.usages;
-    there = still_there e m M seg laid 0 (laid.first seg) (omega arith) (put e (2 + 64 * seg) bytes) size_now cells;
+    there = still_there e m M seg laid (length before) blank place (put e (2 + 64 * seg + length before) bytes) size_now cells;
     within = laid.within;
     named = laid.named;
     short = laid.short;
     first = laid.first;
     sealed = λ s ne. ⊎_elim
-        (λ (here : s ≡ seg). subst (λ (t : ℕ). row_by (put e (2 + 64 * seg) bytes) (length (M.rows t)) t ≡ Some (M.rows t)) (sym here) now_sealed)
-        (λ (away : s ≡ seg → ⊥). other_rows e m M seg laid 0 (laid.first seg) (omega arith) (put e (2 + 64 * seg) bytes) size_now cells s away)
+        (λ (here : s ≡ seg). subst (λ (t : ℕ). row_by (put e (2 + 64 * seg + length before) bytes) (length (M.rows t)) t ≡ Some (M.rows t)) (sym here) now_sealed)
+        (λ (away : s ≡ seg → ⊥). other_rows e m M seg laid (length before) blank place (put e (2 + 64 * seg + length before) bytes) size_now cells s away)
         (cases_eq s seg);
     past = laid.past;
   }
 
 pub sealing : Sealing
-sealing e m M seg bytes es laid opened row spelt none past = is_sealed e m M seg bytes es laid opened row spelt none past
+sealing e m M seg before bytes es laid opened row sealed spelt none past = is_sealed e m M seg before bytes es laid opened row sealed spelt none past
 
 -- ---- giving back
 cond_one : (b : Bool) → b ≡ true → cond {A = ℕ} b 1 0 ≡ 1

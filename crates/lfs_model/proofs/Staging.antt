@@ -17,7 +17,7 @@ use Rattle.lfs_model.proofs.Leaving.{left_memory, left_taken, left_cached, still
 use Rattle.lfs_model.proofs.Lifting.{lifting}
 use Rattle.lfs_model.proofs.Outgoing.{map_lifting}
 use Rattle.lfs_model.proofs.Reading.{reading}
-use Rattle.lfs_model.proofs.Running.{pick, pick_yes, pick_no, taken_memory, is_taken, addressed, lifted_tables, lifted_fresh, usage_kept}
+use Rattle.lfs_model.proofs.Running.{pick, pick_yes, pick_no, taken_memory, is_taken, addressed, lifted_tables, lifted_fresh, usage_kept, part_same, kept_same, open_same}
 use Rattle.lfs_model.proofs.Tables.{map_table, usage_table}
 
 module _ (d : DeviceState) (dirty dirty' : Dirty) (t t' : Tables) (k : CheckpointValue) (m0 m : LogMap) (seg : ℕ) (chunk : Option (List Entry)) (x : Entry) (address : ℕ) (bytes : List ℕ)
@@ -114,11 +114,6 @@ module _ (d : DeviceState) (dirty dirty' : Dirty) (t t' : Tables) (k : Checkpoin
   usage_same : (j : ℕ) → bytes_next (Usage j) ≡ w.memory.bytes (Usage j)
   usage_same j = kept (Usage j) (λ h. usage_table j (subst IsOfFile (sym h) file)) (λ h. usage_table j (subst IsOfFile (sym h) parent_file))
 
-  open_now : (c : Option (List Entry)) → IsOpenAt w.memory t seg c → IsOpenAt next t' seg c
-  unfolding next taken_memory
-  open_now None o = o
-  open_now (Some es) o = (o.0, o.1, go.taken seg ∙ o.2)
-
   fetched : Running d dirty' t' k m0 m seg chunk
   unfolding next taken_memory
   fetched = record {
@@ -130,9 +125,9 @@ module _ (d : DeviceState) (dirty dirty' : Dirty) (t t' : Tables) (k : Checkpoin
     tables = lifted_tables d.content m w.memory seg x 1 next t t' w.laid placed taken_now w.tables (subst (λ (a : ℕ). IsLifted m t t' x 1 (segment_of a)) (sym address_is) go);
     fresh = λ j off low. let no = lifted_fresh m t t' x 1 (segment_of address) go j off in
         subst (SpellsUsage t' j) (sym (usage_same j)) (no.1 (w.memory.bytes (Usage j)) (w.fresh j no.0 low));
-    clean = λ s low z. w.clean s low (sym (go.used s) ∙ z);
-    taken = λ s on. w.taken s (sym (go.taken s) ∙ on);
-    opened = open_now chunk w.opened;
+    part = part_same t t' go.used go.kept w.part;
+    kept = kept_same d.content k t t' go.kept w.kept;
+    opened = open_same d.content w.memory next t t' seg chunk refl refl go.kept w.opened;
   }
 
   -- only x comes into memory: what has an address after it had that before
@@ -171,9 +166,9 @@ map_fetching d dirty t t' k m0 m seg chunk j w above go =
       tables = lifted_tables d.content m w.memory seg (Map j) 1 (left_memory d dirty t t' k m0 m seg chunk w (Map j) (map_table j) 1 (omega arith)) t t' w.laid was p w.tables
           (subst (λ (a : ℕ). IsLifted m t t' (Map j) 1 (segment_of a)) (sym same) go);
       fresh = λ i off low. let no = lifted_fresh m t t' (Map j) 1 (segment_of (t.at (Map j))) go i off in no.1 (w.memory.bytes (Usage i)) (w.fresh i no.0 low);
-      clean = λ s low z. w.clean s low (sym (go.used s) ∙ z);
-      taken = λ s on. w.taken s (sym (go.taken s) ∙ on);
-      opened = still_open d dirty t t' k m0 m seg chunk w (Map j) (map_table j) 1 (omega arith) chunk w.opened go.taken;
+      part = part_same t t' go.used go.kept w.part;
+      kept = kept_same d.content k t t' go.kept w.kept;
+      opened = still_open d dirty t t' k m0 m seg chunk w (Map j) (map_table j) 1 (omega arith) chunk w.opened go.kept;
     }
 
 pub map_adding : MapAdding
@@ -195,7 +190,7 @@ map_adding d dirty t t' k m0 m seg chunk j w none go =
         held = λ s. go.held s ∙ w.tables.held s ∙ sym (counts (is_held m) s);
       };
       fresh = λ i off low. usage_kept t t' i (w.memory.bytes (Usage i)) (λ q lt. (go.used (64 * i + q), go.live (64 * i + q), go.age (64 * i + q))) (w.fresh i (sym (go.stale i) ∙ off) low);
-      clean = λ s low z. w.clean s low (sym (go.used s) ∙ z);
-      taken = λ s on. w.taken s (sym (go.taken s) ∙ on);
-      opened = still_open d dirty t t' k m0 m seg chunk w (Map j) (map_table j) 1 (omega arith) chunk w.opened go.taken;
+      part = part_same t t' go.used go.kept w.part;
+      kept = kept_same d.content k t t' go.kept w.kept;
+      opened = still_open d dirty t t' k m0 m seg chunk w (Map j) (map_table j) 1 (omega arith) chunk w.opened go.kept;
     }

@@ -113,8 +113,8 @@ module _ (d : DeviceState) (t : Tables) (k : CheckpointValue) (m : LogMap) (none
       held = λ s. is.held s ∙ sym (nothing_held s);
     };
     fresh = usage_fresh;
-    clean = λ s low z. sym (is.used s) ∙ z;
-    taken = λ s on. let bad : false ≡ true = sym (is.taken s) ∙ on in absurd (cc);
+    part = λ s. let e = is.kept s in omega arith;
+    kept = λ s low. let e = is.kept s in let u = is.used s in omega arith;
     opened = past;
   }
 

@@ -1,66 +1,86 @@
 -- A commit's blocks go out, one by one.
-use Rattle.std.proofs.Common.{◌≡◌, ◌<◌, ◌≤◌, ⊎_elim, ◌+◌, ◌*◌, ◌/◌, cond, true, false, ℕ, suc, List, [], ◌∷◌, ◌++◌, length, Some, None, refl, sym, ◌∙◌, ap, ap₂, subst, arith}
+use Rattle.std.proofs.Common.{◌≡◌, ◌<◌, ◌≤◌, ⊎_elim, ◌+◌, ◌*◌, ◌/◌, cond, true, false, ℕ, suc, List, [], ◌∷◌, ◌++◌, length, Some, None, refl, sym, ◌∙◌, ap, ap₂, subst, arith, length-set, get_or-set_other}
+use Rattle.std.proofs.lemmas.Bool.{cases_eq}
 use Rattle.std.specs.Prelude.{option_map}
 use Rattle.lfs_model.specs.Entry.{Entry, Inode, Map, Usage}
 use Rattle.lfs_model.specs.Checkpoint.{CheckpointValue}
 use Rattle.lfs_model.specs.Content.{Content, block}
 use Rattle.lfs_model.specs.Crash.{IsFreeSector}
 use Rattle.lfs_model.specs.Device.{DeviceState, put, left_new}
-use Rattle.lfs_model.specs.Reach.{Row, view}
+use Rattle.lfs_model.specs.Reach.{Row, row_by, view}
 use Rattle.lfs_model.specs.Stands.{LogMap, used_in}
 use Rattle.lfs_model.specs.Memory.{Memory, parent, pointer, patched, file_of, IsOfFile, IsPointers, HasPointer, shown, is_shown}
 use Rattle.lfs_model.specs.Laid.{IsLaid}
 use Rattle.lfs_model.specs.Placing.{IsMoved, next_place, IsPlacing, IsMapPlacing, IsSettling}
-use Rattle.lfs_model.specs.Settled.{IsSettled, IsUnusedBy}
+use Rattle.lfs_model.specs.Settled.{IsSettled, IsFreeFrom}
 use Rattle.lfs_model.specs.Running.{Dirty, Tables, IsTables, IsCached, SpellsUsage, IsOpenAt, Running, IsLowest, Moves, IsNoted}
 use Rattle.lfs_model.specs.Committing.{place_of, IsWritten, Stepping, SteppingTight, SpellsMap, MapStepping, UsageSettling}
 use Rattle.lfs_model.proofs.Entries.{same_entry, file_of_parent, pointer_low}
 use Rattle.lfs_model.proofs.Filled.{pointer_patched}
 use Rattle.lfs_model.proofs.Placing.{placing}
 use Rattle.lfs_model.proofs.Outgoing.{map_placing, settling}
-use Rattle.lfs_model.proofs.Tables.{map_table, usage_table}
+use Rattle.lfs_model.proofs.Tables.{map_table, usage_table, row_kept}
 use Rattle.lfs_model.proofs.Settled.{settled_write}
-use Rattle.lfs_model.proofs.Running.{pick, pick_yes, pick_no, map_end, row_length, moved_memory, is_moved, noted_tables, noted_fresh}
+use Rattle.lfs_model.proofs.Running.{pick, pick_yes, pick_no, row_end, row_length, moved_memory, is_moved, noted_tables, noted_fresh}
 
 -- ---- what the three kinds of blocks share
 module _ (d : DeviceState) (dirty : Dirty) (t t' : Tables) (k : CheckpointValue) (m0 m : LogMap) (seg : ℕ) (es : List Entry) (x : Entry)
-    (w : Running d dirty t k m0 m seg (Some es)) (room : length es < 63) (noted : IsNoted m t t' x (place_of seg es) seg) where
-  long_row : length (w.memory.rows seg) ≡ suc (length es)
-  long_row = row_length (w.memory.rows seg) es w.opened.1
+    (w : Running d dirty t k m0 m seg (Some es)) (room : t.used seg < 64) (noted : IsNoted m t t' x (place_of t seg) seg) where
+  long_row : length (w.memory.rows seg) ≡ length w.opened.before + suc (length es)
+  long_row = row_length (w.memory.rows seg) w.opened.before es w.opened.row
 
-  at_end : next_place w.memory seg ≡ place_of seg es
-  at_end = ap (λ (n : ℕ). 2 + 64 * seg + n) long_row
+  at_end : next_place w.memory seg ≡ place_of t seg
+  at_end = ap (λ (n : ℕ). 2 + 64 * seg + n) (sym (w.tables.used seg))
 
-  free : IsFreeSector d.content k (place_of seg es)
-  free = let u = w.taken seg w.opened.2 in record { segment = seg; place = suc (length es); is = refl; within = omega arith; below = u.0; unused = let z = u.1 in omega arith }
+  free : IsFreeSector d.content k (place_of t seg)
+  free = record { segment = seg; place = t.used seg; is = refl; within = room; below = low; unused = let u = w.kept seg low in let p = w.part seg in omega arith }
+    where
+      low : seg < k.segments
+      low = subst (λ (n : ℕ). seg < n) w.segments w.opened.inside
 
-  settled_now : (d' : DeviceState) (bytes : List ℕ) → IsWritten d d' (place_of seg es) bytes → IsSettled d' k m0 × ((s : ℕ) → used_in (view d'.content k) s ≡ used_in (view d.content k) s)
-  settled_now d' bytes is = settled_write d d' k m0 (place_of seg es) bytes w.settled free (left_new is.content) is.crash
+  settled_now : (d' : DeviceState) (bytes : List ℕ) → IsWritten d d' (place_of t seg) bytes → IsSettled d' k m0 × ((s : ℕ) → used_in (view d'.content k) s ≡ used_in (view d.content k) s)
+  settled_now d' bytes is = settled_write d d' k m0 (place_of t seg) bytes w.settled free (left_new is.content) is.crash
 
-  clean_now : (d' : DeviceState) → ((s : ℕ) → used_in (view d'.content k) s ≡ used_in (view d.content k) s) → (s : ℕ) → s < k.segments → t'.used s ≡ 0 → IsUnusedBy d'.content k s
-  clean_now d' same s low z =
-      let away : s ≡ seg → ⊥ = λ h. let u = noted.used.own in let v = ap t'.used h in omega arith in
-      same s ∙ w.clean s low (sym (noted.used.others s away) ∙ z)
+  part_now : (s : ℕ) → t'.kept s ≤ t'.used s
+  part_now s =
+      let k = noted.kept s in
+      let p = w.part s in
+      ⊎_elim
+      (λ (here : s ≡ seg). let u = noted.used.own in let v = ap t'.used here in let o = ap t.used here in omega arith)
+      (λ (away : s ≡ seg → ⊥). let u = noted.used.others s away in omega arith)
+      (cases_eq s seg)
 
-  taken_now : (d' : DeviceState) → ((s : ℕ) → used_in (view d'.content k) s ≡ used_in (view d.content k) s) → (s : ℕ) → t'.taken s ≡ true → (s < k.segments) × IsUnusedBy d'.content k s
-  taken_now d' same s on = let u = w.taken s (sym (noted.taken s) ∙ on) in (u.0, same s ∙ u.1)
+  kept_now : (d' : DeviceState) → ((s : ℕ) → used_in (view d'.content k) s ≡ used_in (view d.content k) s) → (s : ℕ) → s < k.segments → IsFreeFrom d'.content k s (t'.kept s)
+  kept_now d' same s low = let a = same s in let b = w.kept s low in let c = noted.kept s in omega arith
 
   moved_now : (bytes : Entry → List ℕ) → w.memory.at x ≡ 1 → IsMoved w.memory seg x (moved_memory w.memory x (next_place w.memory seg) bytes seg)
-  moved_now bytes was = is_moved w.memory x bytes seg was (omega (arith, long_row)) (omega (arith, long_row)) w.opened.0
+  moved_now bytes was = is_moved w.memory x bytes seg was (omega (arith, long_row)) (let u = w.tables.used seg in omega arith) w.opened.inside
 
   tables_now : (M' : Memory) → IsMoved w.memory seg x M' → IsTables t' m M'
   tables_now M' p = noted_tables d.content m w.memory seg x M' t t' w.laid p w.tables (subst (λ (a : ℕ). IsNoted m t t' x a seg) (sym at_end) noted)
 
-  opened_now : (M' : Memory) → IsMoved w.memory seg x M' → IsOpenAt M' t' seg (Some (es ++ x ∷ []))
-  opened_now M' p = (
-    subst (λ (n : ℕ). seg < n) (sym p.segments) w.opened.0,
-    p.row ∙ ap (λ (r : Row). r ++ Some x ∷ []) w.opened.1 ∙ ap (λ (r : Row). None ∷ r) (map_end es x),
-    noted.taken seg ∙ w.opened.2,
-  )
+  -- the chunks before it stay sealed
+  sealed_now : (d' : DeviceState) (bytes : List ℕ) → IsWritten d d' (place_of t seg) bytes → row_by d'.content (length w.opened.before) seg ≡ Some w.opened.before
+  sealed_now d' bytes is =
+      let u = w.tables.used seg in
+      let long = long_row in
+      let few = w.laid.short seg in
+      subst (λ (c : Content). row_by c (length w.opened.before) seg ≡ Some w.opened.before) (sym is.content)
+      (row_kept d.content (put d.content (place_of t seg) bytes) seg w.opened.before (omega arith) (length-set d.content (place_of t seg) (Some bytes))
+      (λ q lt blank. get_or-set_other d.content (place_of t seg) (2 + 64 * seg + q) (Some bytes) None (λ h. omega arith)) w.opened.sealed)
+
+  opened_now : (c : Content) → row_by c (length w.opened.before) seg ≡ Some w.opened.before → (M' : Memory) → IsMoved w.memory seg x M' → IsOpenAt c M' t' seg (Some (es ++ x ∷ []))
+  opened_now c sealed M' p = record {
+    inside = subst (λ (n : ℕ). seg < n) (sym p.segments) w.opened.inside;
+    before = w.opened.before;
+    row = p.row ∙ ap (λ (r : Row). r ++ Some x ∷ []) w.opened.row ∙ row_end w.opened.before es x;
+    sealed = sealed;
+    free = let a = noted.kept seg in let b = w.opened.free in omega arith;
+  }
 
   fresh_now : (M' : Memory) → ((j : ℕ) → t'.stale j ≡ false → M'.bytes (Usage j) ≡ w.memory.bytes (Usage j)) → (j : ℕ) → t'.stale j ≡ false → j < (k.segments + 63) / 64 → SpellsUsage t' j (M'.bytes (Usage j))
   fresh_now M' same j off low =
-      let no = noted_fresh m t t' x (place_of seg es) seg noted j off in
+      let no = noted_fresh m t t' x (place_of t seg) seg noted j off in
       subst (SpellsUsage t' j) (sym (same j off)) (no.1 (w.memory.bytes (Usage j)) (w.fresh j no.0 low))
 
   -- the blocks of files stay in memory where x is none
@@ -75,12 +95,12 @@ module _ (d : DeviceState) (dirty : Dirty) (t t' : Tables) (k : CheckpointValue)
 
 -- ---- a block of a file
 module _ (d d' : DeviceState) (dirty dirty' : Dirty) (t t' : Tables) (k : CheckpointValue) (m0 m : LogMap) (seg : ℕ) (es : List Entry) (x : Entry) (bytes : List ℕ)
-    (w : Running d dirty t k m0 m seg (Some es)) (room : length es < 63) (low : IsLowest dirty x) (there : dirty x ≡ Some bytes) (full : IsPointers x → HasPointer bytes)
-    (is : IsWritten d d' (place_of seg es) bytes) (moves : Moves dirty dirty' x (place_of seg es)) (noted : IsNoted m t t' x (place_of seg es) seg) where
+    (w : Running d dirty t k m0 m seg (Some es)) (room : t.used seg < 64) (low : IsLowest dirty x) (there : dirty x ≡ Some bytes) (full : IsPointers x → HasPointer bytes)
+    (is : IsWritten d d' (place_of t seg) bytes) (moves : Moves dirty dirty' x (place_of t seg)) (noted : IsNoted m t t' x (place_of t seg) seg) where
   a : ℕ
   a = next_place w.memory seg
 
-  same_place : next_place w.memory seg ≡ place_of seg es
+  same_place : next_place w.memory seg ≡ place_of t seg
   same_place = at_end d dirty t t' k m0 m seg es x w room noted
 
   in_memory : IsOfFile x × (w.memory.at x ≡ 1) × (w.memory.bytes x ≡ bytes)
@@ -162,8 +182,8 @@ module _ (d d' : DeviceState) (dirty dirty' : Dirty) (t t' : Tables) (k : Checkp
         ⊎_elim
         (λ (up : y ≡ parent x).
         let np : parent x ≡ x → ⊥ = λ h. ne (up ∙ h) in (
-          patched (pointer x) (place_of seg es) was.0,
-          ap dirty' up ∙ moves.patched np ∙ ap (option_map (patched (pointer x) (place_of seg es))) (ap dirty (sym up) ∙ was.1),
+          patched (pointer x) (place_of t seg) was.0,
+          ap dirty' up ∙ moves.patched np ∙ ap (option_map (patched (pointer x) (place_of t seg))) (ap dirty (sym up) ∙ was.1),
         ))
         (λ (np : y ≡ parent x → ⊥). (was.0, moves.kept y ne np ∙ was.1))
         (same_entry y (parent x));
@@ -173,8 +193,8 @@ module _ (d d' : DeviceState) (dirty dirty' : Dirty) (t t' : Tables) (k : Checkp
       by_parent np b held =
           let was = w.cached.found (parent x) parent_file parent_one in
           let c = w.cached.cached (parent x) was.0 was.1 in
-          let e : Some b ≡ Some (patched (pointer x) (place_of seg es) was.0) = sym held ∙ moves.patched np ∙ ap (option_map (patched (pointer x) (place_of seg es))) was.1 in
-          let same : b ≡ patched (pointer x) (place_of seg es) was.0 = cc in
+          let e : Some b ≡ Some (patched (pointer x) (place_of t seg) was.0) = sym held ∙ moves.patched np ∙ ap (option_map (patched (pointer x) (place_of t seg))) was.1 in
+          let same : b ≡ patched (pointer x) (place_of t seg) was.0 = cc in
           of_parent np ∙ ap₂ (patched (pointer x)) same_place c.2 ∙ sym same
 
   usage_same : (j : ℕ) → bytes_next (Usage j) ≡ w.memory.bytes (Usage j)
@@ -192,9 +212,9 @@ module _ (d d' : DeviceState) (dirty dirty' : Dirty) (t t' : Tables) (k : Checkp
         cached = cached_now;
         tables = tables_now d dirty t t' k m0 m seg es x w room noted next is_moved_now;
         fresh = fresh_now d dirty t t' k m0 m seg es x w room noted next (λ j off. usage_same j);
-        clean = clean_now d dirty t t' k m0 m seg es x w room noted d' s.1;
-        taken = taken_now d dirty t t' k m0 m seg es x w room noted d' s.1;
-        opened = opened_now d dirty t t' k m0 m seg es x w room noted next is_moved_now;
+        part = part_now d dirty t t' k m0 m seg es x w room noted;
+        kept = kept_now d dirty t t' k m0 m seg es x w room noted d' s.1;
+        opened = opened_now d dirty t t' k m0 m seg es x w room noted d'.content (sealed_now d dirty t t' k m0 m seg es x w room noted d' bytes is) next is_moved_now;
       }
 
 pub stepping : Stepping
@@ -221,17 +241,19 @@ stepping_tight d dirty dirty' t k m0 m seg es x bytes w room there moves tight y
         let p = w.cached.found (parent x) over up in
         let q = w.cached.cached (parent x) p.0 p.1 in
         let few = w.laid.few in
-        let inside : seg < w.memory.segments = w.opened.0 in
+        let inside : seg < w.memory.segments = w.opened.inside in
+        let used = w.tables.used seg in
+        let short = w.laid.short seg in
         let long : length p.0 ≡ 512 = ap length (sym q.2) ∙ w.laid.long (parent x) over (omega arith) in
         let small : pointer x < 128 = pointer_low x (λ n i h. w.laid.low n i (let e = ap w.memory.at h in omega arith)) in
-        let e : Some b ≡ Some (patched (pointer x) (place_of seg es) p.0) = sym held ∙ moves.patched ne ∙ ap (option_map (patched (pointer x) (place_of seg es))) p.1 in
-        let same : b ≡ patched (pointer x) (place_of seg es) p.0 = cc in
-        subst HasPointer (sym same) (pointer_patched (pointer x) (place_of seg es) p.0 long small (omega arith) (omega arith))
+        let e : Some b ≡ Some (patched (pointer x) (place_of t seg) p.0) = sym held ∙ moves.patched ne ∙ ap (option_map (patched (pointer x) (place_of t seg))) p.1 in
+        let same : b ≡ patched (pointer x) (place_of t seg) p.0 = cc in
+        subst HasPointer (sym same) (pointer_patched (pointer x) (place_of t seg) p.0 long small (omega arith) (omega arith))
 
 -- ---- an inode map block
 module _ (d d' : DeviceState) (dirty : Dirty) (t t' : Tables) (k : CheckpointValue) (m0 m : LogMap) (seg : ℕ) (es : List Entry) (j : ℕ) (bytes : List ℕ)
-    (w : Running d dirty t k m0 m seg (Some es)) (room : length es < 63) (one : t.at (Map j) ≡ 1) (spells : SpellsMap m t j bytes)
-    (is : IsWritten d d' (place_of seg es) bytes) (noted : IsNoted m t t' (Map j) (place_of seg es) seg) where
+    (w : Running d dirty t k m0 m seg (Some es)) (room : t.used seg < 64) (one : t.at (Map j) ≡ 1) (spells : SpellsMap m t j bytes)
+    (is : IsWritten d d' (place_of t seg) bytes) (noted : IsNoted m t t' (Map j) (place_of t seg) seg) where
   map_bytes : Entry → List ℕ
   map_bytes y = pick (same_entry y (Map j)) bytes (w.memory.bytes y)
 
@@ -278,9 +300,9 @@ module _ (d d' : DeviceState) (dirty : Dirty) (t t' : Tables) (k : CheckpointVal
         cached = cached_kept d dirty t t' k m0 m seg es (Map j) w room noted map_next map_moved (map_table j) map_kept;
         tables = tables_now d dirty t t' k m0 m seg es (Map j) w room noted map_next map_moved;
         fresh = fresh_now d dirty t t' k m0 m seg es (Map j) w room noted map_next (λ i off. map_kept (Usage i) (λ h. let bad : Usage i ≡ Map j = h in absurd (cc)));
-        clean = clean_now d dirty t t' k m0 m seg es (Map j) w room noted d' s.1;
-        taken = taken_now d dirty t t' k m0 m seg es (Map j) w room noted d' s.1;
-        opened = opened_now d dirty t t' k m0 m seg es (Map j) w room noted map_next map_moved;
+        part = part_now d dirty t t' k m0 m seg es (Map j) w room noted;
+        kept = kept_now d dirty t t' k m0 m seg es (Map j) w room noted d' s.1;
+        opened = opened_now d dirty t t' k m0 m seg es (Map j) w room noted d'.content (sealed_now d dirty t t' k m0 m seg es (Map j) w room noted d' bytes is) map_next map_moved;
       }
 
 pub map_stepping : MapStepping
@@ -288,7 +310,7 @@ map_stepping d d' dirty t t' k m0 m seg es j bytes w room one spells is noted = 
 
 -- ---- a usage block gets its place
 module _ (d : DeviceState) (dirty : Dirty) (t t' : Tables) (k : CheckpointValue) (m0 m : LogMap) (seg : ℕ) (es : List Entry) (j : ℕ)
-    (w : Running d dirty t k m0 m seg (Some es)) (room : length es < 63) (one : t.at (Usage j) ≡ 1) (old : t.stale j ≡ true) (noted : IsNoted m t t' (Usage j) (place_of seg es) seg) where
+    (w : Running d dirty t k m0 m seg (Some es)) (room : t.used seg < 64) (one : t.at (Usage j) ≡ 1) (old : t.stale j ≡ true) (noted : IsNoted m t t' (Usage j) (place_of t seg) seg) where
   usage_bytes : Entry → List ℕ
   usage_bytes y = pick (same_entry y (Usage j)) (block d.content (next_place w.memory seg)) (w.memory.bytes y)
 
@@ -315,7 +337,7 @@ module _ (d : DeviceState) (dirty : Dirty) (t t' : Tables) (k : CheckpointValue)
   not_fresh : (i : ℕ) → t'.stale i ≡ false → Usage i ≡ Usage j → ⊥
   not_fresh i off h =
       let same : i ≡ j = cc in
-      let was = (noted_fresh m t t' (Usage j) (place_of seg es) seg noted i off).0 in
+      let was = (noted_fresh m t t' (Usage j) (place_of t seg) seg noted i off).0 in
       let bad : true ≡ false = sym old ∙ ap t.stale (sym same) ∙ was in
       absurd (cc)
 
@@ -329,9 +351,9 @@ module _ (d : DeviceState) (dirty : Dirty) (t t' : Tables) (k : CheckpointValue)
     cached = cached_kept d dirty t t' k m0 m seg es (Usage j) w room noted usage_next usage_moved (usage_table j) usage_kept_bytes;
     tables = tables_now d dirty t t' k m0 m seg es (Usage j) w room noted usage_next usage_moved;
     fresh = fresh_now d dirty t t' k m0 m seg es (Usage j) w room noted usage_next (λ i off. usage_kept_bytes (Usage i) (not_fresh i off));
-    clean = clean_now d dirty t t' k m0 m seg es (Usage j) w room noted d (λ s. refl);
-    taken = taken_now d dirty t t' k m0 m seg es (Usage j) w room noted d (λ s. refl);
-    opened = opened_now d dirty t t' k m0 m seg es (Usage j) w room noted usage_next usage_moved;
+    part = part_now d dirty t t' k m0 m seg es (Usage j) w room noted;
+    kept = kept_now d dirty t t' k m0 m seg es (Usage j) w room noted d (λ s. refl);
+    opened = opened_now d dirty t t' k m0 m seg es (Usage j) w room noted d.content w.opened.sealed usage_next usage_moved;
   }
 
 pub usage_settling : UsageSettling

@@ -1,7 +1,7 @@
 -- A commit, one step at a time: blocks of files, of the inode map and of the usage table go to the open segment, which is sealed as it is
 -- full and followed by another; and then the checkpoint.
 -- That what changed goes to the log first, and the checkpoint last, is the Sprite LFS paper's (1992, section 4.1); the steps are an own choice.
-use Rattle.std.specs.Prelude.{◌≡◌, ◌<◌, ◌≤◌, ◌⊎◌, ◌+◌, ◌*◌, ◌/◌, ◌%◌, ◌==◌, ℕ, suc, true, false, List, [], ◌∷◌, ◌++◌, length, get_or, Option, Some, None}
+use Rattle.std.specs.Prelude.{◌≡◌, ◌<◌, ◌≤◌, ◌⊎◌, ◌+◌, ◌*◌, ◌-◌, ◌/◌, ◌%◌, ◌==◌, ℕ, suc, true, false, List, [], ◌∷◌, ◌++◌, length, get_or, Option, Some, None}
 use Rattle.lfs_model.specs.Entry.{Entry, Inode, Map, Usage, entries_in, word}
 use Rattle.lfs_model.specs.Checkpoint.{CheckpointValue, checkpoint_in}
 use Rattle.lfs_model.specs.Device.{DeviceState, CrashWrites, IsUntouched, put}
@@ -14,11 +14,11 @@ use Rattle.lfs_model.specs.TreeOf.{dropped}
 use Rattle.lfs_model.specs.Memory.{parent, IsPointers, HasPointer, shown}
 use Rattle.lfs_model.specs.Counting.{segment_of}
 use Rattle.lfs_model.specs.Settled.{IsSettled, IsPlanned}
-use Rattle.lfs_model.specs.Running.{Dirty, IsTight, Tables, SpellsUsage, Running, IsLowest, Moves, IsNoted, IsLifted, IsTakenFrom, IsFresh, IsReaddressed, used_saved}
+use Rattle.lfs_model.specs.Running.{Dirty, IsTight, Tables, SpellsUsage, Running, IsLowest, Moves, IsNoted, IsLifted, IsTakenFrom, GoesOnIn, IsFresh, IsReaddressed, used_saved}
 
--- the sector behind the blocks of the open chunk
-abbrev pub place_of : ℕ → List Entry → ℕ
-place_of seg es = 2 + 64 * seg + suc (length es)
+-- the first sector behind the used part of a segment
+abbrev pub place_of : Tables → ℕ → ℕ
+place_of t seg = 2 + 64 * seg + t.used seg
 
 -- the device has these bytes at a sector from now on
 pub record IsWritten (d d' : DeviceState) (at : ℕ) (bytes : List ℕ) : Type 0 where
@@ -30,17 +30,22 @@ abbrev pub Beginning : Type 1
 Beginning = (d : DeviceState) (dirty : Dirty) (t t' : Tables) (k : CheckpointValue) (m0 m : LogMap) (none s : ℕ)
     → Running d dirty t k m0 m none None → s < k.segments → IsTakenFrom t t' s → Running d dirty t' k m0 m s (Some [])
 
+-- Or a chunk more begins in a segment that has room.
+abbrev pub GoingOn : Type 1
+GoingOn = (d : DeviceState) (dirty : Dirty) (t t' : Tables) (k : CheckpointValue) (m0 m : LogMap) (none s : ℕ)
+    → Running d dirty t k m0 m none None → s < k.segments → GoesOnIn t t' s → Running d dirty t' k m0 m s (Some [])
+
 -- A block of a file goes out.
 abbrev pub Stepping : Type 1
 Stepping = (d d' : DeviceState) (dirty dirty' : Dirty) (t t' : Tables) (k : CheckpointValue) (m0 m : LogMap) (seg : ℕ) (es : List Entry) (x : Entry) (bytes : List ℕ)
-    → Running d dirty t k m0 m seg (Some es) → length es < 63 → IsLowest dirty x → dirty x ≡ Some bytes → (IsPointers x → HasPointer bytes)
-    → IsWritten d d' (place_of seg es) bytes → Moves dirty dirty' x (place_of seg es) → IsNoted m t t' x (place_of seg es) seg
+    → Running d dirty t k m0 m seg (Some es) → t.used seg < 64 → IsLowest dirty x → dirty x ≡ Some bytes → (IsPointers x → HasPointer bytes)
+    → IsWritten d d' (place_of t seg) bytes → Moves dirty dirty' x (place_of t seg) → IsNoted m t t' x (place_of t seg) seg
     → Running d' dirty' t' k m0 m seg (Some (es ++ x ∷ []))
 
 -- No block of pointers that is left becomes empty by that.
 abbrev pub SteppingTight : Type 1
 SteppingTight = (d : DeviceState) (dirty dirty' : Dirty) (t : Tables) (k : CheckpointValue) (m0 m : LogMap) (seg : ℕ) (es : List Entry) (x : Entry) (bytes : List ℕ)
-    → Running d dirty t k m0 m seg (Some es) → length es < 63 → dirty x ≡ Some bytes → Moves dirty dirty' x (place_of seg es) → IsTight dirty → IsTight dirty'
+    → Running d dirty t k m0 m seg (Some es) → t.used seg < 64 → dirty x ≡ Some bytes → Moves dirty dirty' x (place_of t seg) → IsTight dirty → IsTight dirty'
 
 -- the bytes are inode map block j
 pub record SpellsMap (m : LogMap) (t : Tables) (j : ℕ) (bytes : List ℕ) : Type 0 where
@@ -52,8 +57,8 @@ pub record SpellsMap (m : LogMap) (t : Tables) (j : ℕ) (bytes : List ℕ) : Ty
 -- An inode map block goes out.
 abbrev pub MapStepping : Type 1
 MapStepping = (d d' : DeviceState) (dirty : Dirty) (t t' : Tables) (k : CheckpointValue) (m0 m : LogMap) (seg : ℕ) (es : List Entry) (j : ℕ) (bytes : List ℕ)
-    → Running d dirty t k m0 m seg (Some es) → length es < 63 → t.at (Map j) ≡ 1 → SpellsMap m t j bytes
-    → IsWritten d d' (place_of seg es) bytes → IsNoted m t t' (Map j) (place_of seg es) seg
+    → Running d dirty t k m0 m seg (Some es) → t.used seg < 64 → t.at (Map j) ≡ 1 → SpellsMap m t j bytes
+    → IsWritten d d' (place_of t seg) bytes → IsNoted m t t' (Map j) (place_of t seg) seg
     → Running d' dirty t' k m0 m seg (Some (es ++ Map j ∷ []))
 
 -- One that shows no inode isn't stored.
@@ -71,19 +76,23 @@ UsageLeaving = (d : DeviceState) (dirty : Dirty) (t t' : Tables) (k : Checkpoint
 -- It gets its place before its bytes are known, for it may count itself.
 abbrev pub UsageSettling : Type 1
 UsageSettling = (d : DeviceState) (dirty : Dirty) (t t' : Tables) (k : CheckpointValue) (m0 m : LogMap) (seg : ℕ) (es : List Entry) (j : ℕ)
-    → Running d dirty t k m0 m seg (Some es) → length es < 63 → t.at (Usage j) ≡ 1 → t.stale j ≡ true → IsNoted m t t' (Usage j) (place_of seg es) seg
+    → Running d dirty t k m0 m seg (Some es) → t.used seg < 64 → t.at (Usage j) ≡ 1 → t.stale j ≡ true → IsNoted m t t' (Usage j) (place_of t seg) seg
     → Running d dirty t' k m0 m seg (Some (es ++ Usage j ∷ []))
+
+-- the acknowledged checkpoint needs nothing at an address
+abbrev pub IsUnkept : Tables → ℕ → Type 0
+IsUnkept t at = t.kept (segment_of at) ≤ (at - 2) % 64
 
 -- And it is written there, once all counts are final.
 abbrev pub UsageFilling : Type 1
 UsageFilling = (d d' : DeviceState) (dirty : Dirty) (t t' : Tables) (k : CheckpointValue) (m0 m : LogMap) (seg : ℕ) (chunk : Option (List Entry)) (j : ℕ) (bytes : List ℕ)
-    → Running d dirty t k m0 m seg chunk → 2 ≤ t.at (Usage j) → t.taken (segment_of (t.at (Usage j))) ≡ true → SpellsUsage t j bytes
+    → Running d dirty t k m0 m seg chunk → 2 ≤ t.at (Usage j) → IsUnkept t (t.at (Usage j)) → SpellsUsage t j bytes
     → IsWritten d d' (t.at (Usage j)) bytes → IsFresh t t' j → Running d' dirty t' k m0 m seg chunk
 
--- The open chunk's summary is written.
+-- The open chunk's summary is written, at its start in the segment.
 abbrev pub Closing : Type 1
-Closing = (d d' : DeviceState) (dirty : Dirty) (t : Tables) (k : CheckpointValue) (m0 m : LogMap) (seg : ℕ) (es : List Entry) (bytes : List ℕ) (none : ℕ)
-    → Running d dirty t k m0 m seg (Some es) → entries_in bytes ≡ Some es → IsWritten d d' (2 + 64 * seg) bytes → k.segments ≤ none
+Closing = (d d' : DeviceState) (dirty : Dirty) (t : Tables) (k : CheckpointValue) (m0 m : LogMap) (seg start : ℕ) (es : List Entry) (bytes : List ℕ) (none : ℕ)
+    → Running d dirty t k m0 m seg (Some es) → t.used seg ≡ start + suc (length es) → entries_in bytes ≡ Some es → IsWritten d d' (2 + 64 * seg + start) bytes → k.segments ≤ none
     → Running d' dirty t k m0 m none None
 
 -- All is out: nothing is left in memory, and the usage table is on the device.
@@ -110,7 +119,7 @@ Planning = (d : DeviceState) (dirty : Dirty) (t : Tables) (k next : CheckpointVa
     → Running d dirty t k m0 m none None → IsLogMap (dropped m) → IsOut dirty t k.segments → ManyClean t k.segments → LeadsTo t k next
     → checkpoint_in bytes ≡ Some next → slot ≡ next.number % 2 → IsPlanned k d.content slot bytes next (dropped m)
 
--- the segments where nothing lives and that nothing holds are clean, and none counts as taken
+-- the segments where nothing lives and that nothing holds are clean, and what is in use is kept
 pub record IsReleased (t t' : Tables) : Type 0 where
   pub at : (y : Entry) → t'.at y ≡ t.at y
   pub gone : (s : ℕ) → t.live s ≡ 0 → t.held s ≡ 0 → t'.used s ≡ 0
@@ -118,7 +127,7 @@ pub record IsReleased (t t' : Tables) : Type 0 where
   pub live : (i : ℕ) → t'.live i ≡ t.live i
   pub held : (i : ℕ) → t'.held i ≡ t.held i
   pub age : (i : ℕ) → 0 < t.live i → t'.age i ≡ t.age i
-  pub taken : (i : ℕ) → t'.taken i ≡ false
+  pub kept : (i : ℕ) → t'.kept i ≡ t'.used i
   pub stale : (j : ℕ) → t'.stale j ≡ t.stale j
 
 -- And once it is acknowledged, the log runs on from there.
@@ -140,7 +149,7 @@ pub record IsMountedTables (c : Content) (k : CheckpointValue) (t : Tables) : Ty
   pub live : (s : ℕ) → t.live s ≡ live_in (view c k) s
   pub held : (s : ℕ) → t.held s ≡ 0
   pub age : (s : ℕ) → t.age s ≡ age_in (view c k) s
-  pub taken : (s : ℕ) → t.taken s ≡ false
+  pub kept : (s : ℕ) → t.kept s ≡ t.used s
   pub stale : (j i : ℕ) → t.stale j ≡ false → i < 64 → live_in (view c k) (64 * j + i) ≡ 0 → age_in (view c k) (64 * j + i) ≡ 0
 
 -- With nothing in memory, and once all that it found is durable, the log runs.

@@ -81,7 +81,7 @@ pub record IsDetachedFrom (m : LogMap) (t t' : Tables) (n : ℕ) (gone : Entry �
   pub named : is_nameless m n ≡ false → (s : ℕ) → (t'.live s + counts s ≡ t.live s) × (t'.held s ≡ t.held s)
   pub nameless : is_nameless m n ≡ true → (s : ℕ) → (t'.live s ≡ t.live s) × (t'.held s + counts s ≡ t.held s)
   pub age : (s : ℕ) → t'.age s ≡ t.age s
-  pub taken : (s : ℕ) → t'.taken s ≡ t.taken s
+  pub kept : (s : ℕ) → t'.kept s ≡ t.kept s
   pub changed : (s : ℕ) → 0 < counts s → t'.stale (s / 64) ≡ true
   pub stale : (j : ℕ) → t'.stale j ≡ false → t.stale j ≡ false
 
@@ -101,7 +101,7 @@ pub record IsHeldFrom (t t' : Tables) (counts : ℕ → ℕ) : Type 0 where
   pub live : (s : ℕ) → t'.live s + counts s ≡ t.live s
   pub held : (s : ℕ) → t'.held s ≡ counts s + t.held s
   pub age : (s : ℕ) → t'.age s ≡ t.age s
-  pub taken : (s : ℕ) → t'.taken s ≡ t.taken s
+  pub kept : (s : ℕ) → t'.kept s ≡ t.kept s
   pub changed : (s : ℕ) → 0 < counts s → t'.stale (s / 64) ≡ true
   pub stale : (j : ℕ) → t'.stale j ≡ false → t.stale j ≡ false
 

@@ -4,6 +4,7 @@ use Rattle.std.specs.Prelude.{◌≡◌, ◌<◌, ◌≤◌, ◌+◌, ◌*◌, �
 use Rattle.lfs_model.specs.Entry.{Entry, Map, Usage, Inode, entries_in, word}
 use Rattle.lfs_model.specs.Content.{Content, block}
 use Rattle.lfs_model.specs.Device.{put}
+use Rattle.lfs_model.specs.Reach.{Row, row_by}
 use Rattle.lfs_model.specs.Stands.{LogMap}
 use Rattle.lfs_model.specs.Memory.{Memory, parent, pointer, patched, IsOfFile, IsPointers, HasPointer, shown, count_of}
 use Rattle.lfs_model.specs.Laid.{IsLaid}
@@ -101,8 +102,23 @@ abbrev pub Opening : Type 0
 Opening = (e : Content) (m : LogMap) (M : Memory) (opened_at s : ℕ) (M' : Memory) → IsLaid e m M opened_at → M.segments ≤ opened_at → IsOpening M s M' → IsLaid e m M' s
     × ((is : Entry → Bool) (t : ℕ) → count_of is M' t ≡ count_of is M t)
 
--- Its summary is written: no segment is open.
+-- A segment with room is opened again: its next sector is kept for a summary.
+pub record IsReopening (M : Memory) (s : ℕ) (M' : Memory) : Type 0 where
+  pub segments : M'.segments ≡ M.segments
+  pub inside : s < M.segments
+  pub at : M'.at ≡ M.at
+  pub bytes : M'.bytes ≡ M.bytes
+  pub some : 0 < length (M.rows s)
+  pub room : length (M.rows s) < 64
+  pub row : M'.rows s ≡ M.rows s ++ None ∷ []
+  pub rows : (t : ℕ) → (t ≡ s → ⊥) → M'.rows t ≡ M.rows t
+
+abbrev pub Reopening : Type 0
+Reopening = (e : Content) (m : LogMap) (M : Memory) (opened_at s : ℕ) (M' : Memory) → IsLaid e m M opened_at → M.segments ≤ opened_at → IsReopening M s M' → IsLaid e m M' s
+    × ((is : Entry → Bool) (t : ℕ) → count_of is M' t ≡ count_of is M t)
+
+-- The summary of the last chunk is written, behind the chunks before it: no segment is open.
 abbrev pub Sealing : Type 0
-Sealing = (e : Content) (m : LogMap) (M : Memory) (opened_at : ℕ) (bytes : List ℕ) (es : List Entry) → IsLaid e m M opened_at → opened_at < M.segments
-    → M.rows opened_at ≡ None ∷ map Some es → entries_in bytes ≡ Some es → (none : ℕ) → M.segments ≤ none
-    → IsLaid (put e (2 + 64 * opened_at) bytes) m M none
+Sealing = (e : Content) (m : LogMap) (M : Memory) (opened_at : ℕ) (before : Row) (bytes : List ℕ) (es : List Entry) → IsLaid e m M opened_at → opened_at < M.segments
+    → M.rows opened_at ≡ before ++ None ∷ map Some es → row_by e (length before) opened_at ≡ Some before → entries_in bytes ≡ Some es → (none : ℕ) → M.segments ≤ none
+    → IsLaid (put e (2 + 64 * opened_at + length before) bytes) m M none

@@ -1,13 +1,15 @@
 -- The log as it runs: what its tables and its table of blocks in memory have to do with the log's memory and the device.
 -- All of it is an own choice: it says of the code's tables what the laws about memory need.
-use Rattle.std.specs.Prelude.{◌≡◌, ◌<◌, ◌≤◌, ◌+◌, ◌*◌, ◌/◌, ◌==◌, cond, ℕ, suc, Bool, true, false, List, ◌∷◌, map, length, Option, Some, None, option_map}
+use Rattle.std.specs.Prelude.{◌≡◌, ◌<◌, ◌≤◌, ◌+◌, ◌*◌, ◌/◌, ◌==◌, cond, ℕ, suc, Bool, true, false, List, ◌∷◌, ◌++◌, map, length, Option, Some, None, option_map}
 use Rattle.lfs_model.specs.Entry.{Entry, Usage, half, word}
 use Rattle.lfs_model.specs.Checkpoint.{CheckpointValue}
+use Rattle.lfs_model.specs.Content.{Content}
 use Rattle.lfs_model.specs.Device.{DeviceState}
+use Rattle.lfs_model.specs.Reach.{Row, row_by}
 use Rattle.lfs_model.specs.Stands.{LogMap}
 use Rattle.lfs_model.specs.Memory.{Memory, parent, pointer, patched, IsOfFile, IsPointers, HasPointer, is_shown, is_held, live_of, held_of}
 use Rattle.lfs_model.specs.Laid.{IsLaid}
-use Rattle.lfs_model.specs.Settled.{IsSettled, IsUnusedBy}
+use Rattle.lfs_model.specs.Settled.{IsSettled, IsFreeFrom}
 
 -- the blocks of files in memory
 abbrev pub Dirty : Type 0
@@ -31,8 +33,8 @@ pub record Tables : Type 0 where
   pub live : ℕ → ℕ
   pub held : ℕ → ℕ
   pub age : ℕ → ℕ
-  -- the segments that were taken from the clean ones since the acknowledged checkpoint
-  pub taken : ℕ → Bool
+  -- how many of a segment's sectors were in use as the acknowledged checkpoint was written
+  pub kept : ℕ → ℕ
   -- the usage blocks that aren't as the device has them
   pub stale : ℕ → Bool
 
@@ -56,10 +58,19 @@ pub record SpellsUsage (t : Tables) (j : ℕ) (bytes : List ℕ) : Type 0 where
   pub live : (i : ℕ) → i < 64 → half bytes (4 * i + 1) ≡ t.live (64 * j + i)
   pub age : (i : ℕ) → i < 64 → word bytes (2 * i + 1) ≡ age_saved t (64 * j + i)
 
+-- The last chunk of the segment has these entries so far, and its summary isn't written yet. The
+-- chunks before it are, and it starts where the acknowledged checkpoint needs nothing.
+pub record IsOpenFrom (e : Content) (M : Memory) (t : Tables) (seg : ℕ) (es : List Entry) : Type 0 where
+  pub inside : seg < M.segments
+  pub before : Row
+  pub row : M.rows seg ≡ before ++ None ∷ map Some es
+  pub sealed : row_by e (length before) seg ≡ Some before
+  pub free : t.kept seg ≤ length before
+
 -- what is open: no segment, or one whose chunk has these entries so far
-abbrev pub IsOpenAt : Memory → Tables → ℕ → Option (List Entry) → Type 0
-IsOpenAt M t seg None = M.segments ≤ seg
-IsOpenAt M t seg (Some es) = (seg < M.segments) × (M.rows seg ≡ None ∷ map Some es) × (t.taken seg ≡ true)
+abbrev pub IsOpenAt : Content → Memory → Tables → ℕ → Option (List Entry) → Type 0
+IsOpenAt e M t seg None = M.segments ≤ seg
+IsOpenAt e M t seg (Some es) = IsOpenFrom e M t seg es
 
 -- The log: k is the acknowledged checkpoint, of the log map m0; m is the present log map; `chunk` are the entries of the chunk
 -- that is being written to segment seg, if there is one.
@@ -71,10 +82,10 @@ pub record Running (d : DeviceState) (dirty : Dirty) (t : Tables) (k : Checkpoin
   pub cached : IsCached dirty memory
   pub tables : IsTables t m memory
   pub fresh : (j : ℕ) → t.stale j ≡ false → j < (k.segments + 63) / 64 → SpellsUsage t j (memory.bytes (Usage j))
-  -- a clean segment isn't used by the acknowledged checkpoint, nor is one that was taken since
-  pub clean : (s : ℕ) → s < k.segments → t.used s ≡ 0 → IsUnusedBy d.content k s
-  pub taken : (s : ℕ) → t.taken s ≡ true → (s < k.segments) × IsUnusedBy d.content k s
-  pub opened : IsOpenAt memory t seg chunk
+  -- what was in use as the acknowledged checkpoint was written still is, and it needs no more
+  pub part : (s : ℕ) → t.kept s ≤ t.used s
+  pub kept : (s : ℕ) → s < k.segments → IsFreeFrom d.content k s (t.kept s)
+  pub opened : IsOpenAt d.content memory t seg chunk
 
 -- ---- what the tables and the blocks in memory do, one step at a time
 
@@ -117,7 +128,7 @@ pub record IsNoted (m : LogMap) (t t' : Tables) (x : Entry) (address s : ℕ) : 
   pub live : CountsUp (is_shown m x) t.live t'.live s
   pub held : CountsUp (is_held m x) t.held t'.held s
   pub age : (i : ℕ) → (i ≡ s → ⊥) → t'.age i ≡ t.age i
-  pub taken : (i : ℕ) → t'.taken i ≡ t.taken i
+  pub kept : (i : ℕ) → t'.kept i ≡ t.kept i
   pub stale : IsSet t.stale t'.stale (s / 64) true
 
 -- x leaves its address in segment s
@@ -127,7 +138,7 @@ pub record IsLifted (m : LogMap) (t t' : Tables) (x : Entry) (v s : ℕ) : Type 
   pub live : CountsDown (is_shown m x) t.live t'.live s
   pub held : CountsDown (is_held m x) t.held t'.held s
   pub age : (i : ℕ) → t'.age i ≡ t.age i
-  pub taken : (i : ℕ) → t'.taken i ≡ t.taken i
+  pub kept : (i : ℕ) → t'.kept i ≡ t.kept i
   pub stale : IsSet t.stale t'.stale (s / 64) true
 
 -- segment s is taken from the clean ones, its first sector kept for a summary
@@ -138,8 +149,20 @@ pub record IsTakenFrom (t t' : Tables) (s : ℕ) : Type 0 where
   pub live : (i : ℕ) → t'.live i ≡ t.live i
   pub held : (i : ℕ) → t'.held i ≡ t.held i
   pub age : (i : ℕ) → (i ≡ s → ⊥) → t'.age i ≡ t.age i
-  pub taken : IsSet t.taken t'.taken s true
+  pub kept : (i : ℕ) → t'.kept i ≡ t.kept i
   pub stale : (j : ℕ) → t'.stale j ≡ t.stale j
+
+-- a chunk more begins in segment s, whose next sector is kept for a summary
+pub record GoesOnIn (t t' : Tables) (s : ℕ) : Type 0 where
+  pub some : 0 < t.used s
+  pub room : t.used s < 64
+  pub at : (y : Entry) → t'.at y ≡ t.at y
+  pub used : IsSet t.used t'.used s (suc (t.used s))
+  pub live : (i : ℕ) → t'.live i ≡ t.live i
+  pub held : (i : ℕ) → t'.held i ≡ t.held i
+  pub age : (i : ℕ) → (i ≡ s → ⊥) → t'.age i ≡ t.age i
+  pub kept : (i : ℕ) → t'.kept i ≡ t.kept i
+  pub stale : IsSet t.stale t'.stale (s / 64) true
 
 -- usage block j is as the device has it
 pub record IsFresh (t t' : Tables) (j : ℕ) : Type 0 where
@@ -148,7 +171,7 @@ pub record IsFresh (t t' : Tables) (j : ℕ) : Type 0 where
   pub live : (i : ℕ) → t'.live i ≡ t.live i
   pub held : (i : ℕ) → t'.held i ≡ t.held i
   pub age : (i : ℕ) → t'.age i ≡ t.age i
-  pub taken : (i : ℕ) → t'.taken i ≡ t.taken i
+  pub kept : (i : ℕ) → t'.kept i ≡ t.kept i
   pub stale : IsSet t.stale t'.stale j false
 
 -- only the address of x changes
@@ -158,5 +181,5 @@ pub record IsReaddressed (t t' : Tables) (x : Entry) (address : ℕ) : Type 0 wh
   pub live : (i : ℕ) → t'.live i ≡ t.live i
   pub held : (i : ℕ) → t'.held i ≡ t.held i
   pub age : (i : ℕ) → t'.age i ≡ t.age i
-  pub taken : (i : ℕ) → t'.taken i ≡ t.taken i
+  pub kept : (i : ℕ) → t'.kept i ≡ t.kept i
   pub stale : (j : ℕ) → t'.stale j ≡ t.stale j

@@ -1,6 +1,6 @@
 -- A device whose acknowledged checkpoint stands for a log map, whatever a stop leaves, and the checkpoint that a commit puts in its place.
 -- Checkpoints written in turn, each once all that it leads to is on the device: the Sprite LFS paper (1992, section 4.1).
-use Rattle.std.specs.Prelude.{◌≡◌, ◌%◌, ℕ, List, Some}
+use Rattle.std.specs.Prelude.{◌≡◌, ◌≤◌, ◌%◌, ℕ, List, Some}
 use Rattle.lfs_model.specs.Checkpoint.{CheckpointValue}
 use Rattle.lfs_model.specs.Content.{Content, newest}
 use Rattle.lfs_model.specs.Stands.{LogMap, StandsAt}
@@ -15,9 +15,9 @@ pub record IsSettled (d : DeviceState) (k : CheckpointValue) (m : LogMap) : Type
   pub stands : StandsAt d.content k m
   pub each : (c : Content) → d.may_leave c → Keeps d.content k c
 
--- a segment that the acknowledged checkpoint has no use for
-abbrev pub IsUnusedBy : Content → CheckpointValue → ℕ → Type 0
-IsUnusedBy c k s = used_in (view c k) s ≡ 0
+-- the acknowledged checkpoint has no use for the sectors of a segment from this place on
+abbrev pub IsFreeFrom : Content → CheckpointValue → ℕ → ℕ → Type 0
+IsFreeFrom c k s place = used_in (view c k) s ≤ place
 
 -- What is there is laid out for the next checkpoint, which is to be written to this slot.
 pub record IsPlanned (k : CheckpointValue) (e : Content) (slot : ℕ) (bytes : List ℕ) (next : CheckpointValue) (m' : LogMap) : Type 0 where

@@ -1,6 +1,6 @@
 //! The log in memory and on its device: the laws of its one invariant, each the contract of a
 //! function that does nothing.
-ghost use Rattle.lfs_model.specs.Placing.{Placing, MapPlacing, MapLeaving, Settling, Filling, Opening, Sealing};
+ghost use Rattle.lfs_model.specs.Placing.{Placing, MapPlacing, MapLeaving, Settling, Filling, Opening, Reopening, Sealing};
 ghost use Rattle.lfs_model.specs.Lifting.{Lifting, MapLifting, UsageLifting};
 ghost use Rattle.lfs_model.specs.Changing.{Rewriting, Adding, Removing, Growing, Shrinking, Relabeling, Creating, Forgetting, Reading};
 ghost use Rattle.lfs_model.specs.Detaching.{Detaching, DetachedCounts, DetachedLive};
@@ -38,7 +38,12 @@ pub fn opening()
     ensures { Opening }
 {}
 
-/// The summary of the open segment is written, and no segment is open.
+/// A segment with room is opened again, and all counts stay.
+pub fn reopening()
+    ensures { Reopening }
+{}
+
+/// The summary of the last chunk is written, and no segment is open.
 pub fn sealing()
     ensures { Sealing }
 {}
