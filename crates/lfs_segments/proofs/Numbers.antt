@@ -107,7 +107,7 @@ all_clean n = ap (count_up (is_clean_in (replicate n no_segment))) (long n) ∙ 
         omega (arith, rest, one, count_up_more (is_clean_in (replicate n no_segment)) m)
 
 pub all_fit : (n : ℕ) (i : ℕ) → FitsSegment (get_or (replicate n no_segment) i no_segment)
-all_fit n i = subst FitsSegment (sym (no_segment_there n i)) (record { used = omega arith; fewer = omega arith })
+all_fit n i = subst FitsSegment (sym (no_segment_there n i)) (record { used = omega arith; fewer = omega arith; kept = omega arith })
 
 pub new_fits : (segments : List SegmentNumbers) (blocks : List PlaceInSegment) (n : ℕ) → n ≤ 1024 → segments ≡ replicate n no_segment → length blocks ≡ 16 → FitsTable (record { segments = segments; blocks = blocks })
 new_fits segments blocks n few is whole = record {

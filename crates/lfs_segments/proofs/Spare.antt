@@ -38,16 +38,16 @@ none_if n lt = ne_eqb n 0 (λ e. omega (arith, e, lt))
 pub tested : (t : UsageTable) (s : ℕ) → is_emptied (get_or t.segments s no_segment) ≡ true → IsEmptied t s
 tested t s e =
     let n = get_or t.segments s no_segment in
-    let first = both (not (n.used == 0)) (not n.taken && is_empty n) e in
-    let second = both (not n.taken) (is_empty n) first.1 in
+    let first = both (not (n.used == 0)) ((n.kept == n.used) && is_empty n) e in
+    let second = both (n.kept == n.used) (is_empty n) first.1 in
     let third = both (n.live == 0) (n.held == 0) second.1 in
-    record { used = some_if n.used (off (n.used == 0) first.0); before = off n.taken second.0; live = eqb-true n.live 0 third.0; held = eqb-true n.held 0 third.1 }
+    record { used = some_if n.used (off (n.used == 0) first.0); before = eqb-true n.kept n.used second.0; live = eqb-true n.live 0 third.0; held = eqb-true n.held 0 third.1 }
 
 pub passes : (t : UsageTable) (s : ℕ) → IsEmptied t s → is_emptied (get_or t.segments s no_segment) ≡ true
 passes t s is =
     let n = get_or t.segments s no_segment in
-    both_are (not (n.used == 0)) (not n.taken && is_empty n) (on (n.used == 0) (none_if n.used is.used))
-    (both_are (not n.taken) (is_empty n) (on n.taken is.before)
+    both_are (not (n.used == 0)) ((n.kept == n.used) && is_empty n) (on (n.used == 0) (none_if n.used is.used))
+    (both_are (n.kept == n.used) (is_empty n) (eq-eqb n.kept n.used is.before)
     (both_are (n.live == 0) (n.held == 0) (eq-eqb n.live 0 is.live) (eq-eqb n.held 0 is.held)))
 
 -- ---- counts of what passes tests

@@ -4,8 +4,8 @@ use Rattle.std.specs.Prelude.{slice_set}
 use Rattle.std.proofs.lemmas.Bool.{cases_eq, cases_lt, cases_Bool, cond-true, cond-false, false_from_ne_true}
 use Rattle.std.proofs.lemmas.List.{get_or_past}
 use Rattle.lfs_model.specs.Running.{IsSet, CountsUp, CountsDown}
-use Rattle.lfs_segments.specs.Table.{SegmentNumbers, PlaceInSegment, UsageTable, FitsSegment, FitsTable, no_segment, no_place, used_of, live_of, held_of, age_of, taken_of, clean_in}
-use Rattle.lfs_segments.specs.Steps.{Stales, Notes, Lifts, TakesAway, HidesBlocks, TakesSegment, PutsPlace, Releases, released, is_empty}
+use Rattle.lfs_segments.specs.Table.{SegmentNumbers, PlaceInSegment, UsageTable, FitsSegment, FitsTable, no_segment, no_place, used_of, live_of, held_of, age_of, kept_of, clean_in}
+use Rattle.lfs_segments.specs.Steps.{Stales, Notes, Lifts, TakesAway, HidesBlocks, TakesSegment, GoesOn, PutsPlace, Releases, released, is_empty}
 use Rattle.lfs_segments.proofs.Numbers.{set_own, set_other, one_taken, still_clean, clean_change}
 
 module _ {X : Type 0} (f : SegmentNumbers → X) (segments : List SegmentNumbers) (s : ℕ) (x : SegmentNumbers) (lt : s < length segments) where
@@ -66,14 +66,14 @@ both_in_use a b na nb = false_from_ne_true _ (λ h. na (eqb-true a 0 h)) ∙ sym
 pub notes : (segments : List SegmentNumbers) (blocks : List PlaceInSegment) (s : ℕ) (x : SegmentNumbers) (lives : Bool) → s < length segments → s / 64 < length blocks
     → (get_or segments s no_segment).used ≢ 0 → x.used ≡ suc (get_or segments s no_segment).used
     → x.live ≡ cond lives 1 0 + (get_or segments s no_segment).live → x.held ≡ cond (not lives) 1 0 + (get_or segments s no_segment).held
-    → x.age ≡ (get_or segments s no_segment).age → x.taken ≡ (get_or segments s no_segment).taken
+    → x.age ≡ (get_or segments s no_segment).age → x.kept ≡ (get_or segments s no_segment).kept
     → Notes (record { segments = segments; blocks = blocks }) (record { segments = slice_set segments s x; blocks = slice_set blocks (s / 64) (record { address = (get_or blocks (s / 64) no_place).address; stale = true }) }) s lives
-notes segments blocks s x lives lt low some used live held age taken = record {
+notes segments blocks s x lives lt low some used live held age kept = record {
   used = set_to _ _ s x.used _ used (is_set (λ n. n.used) segments s x lt);
   live = counts_up (λ n. n.live) segments s x lt lives live;
   held = counts_up (λ n. n.held) segments s x lt (not lives) held;
   age = is_same (λ n. n.age) segments s x lt age;
-  taken = is_same (λ n. n.taken) segments s x lt taken;
+  kept = is_same (λ n. n.kept) segments s x lt kept;
   blocks = made_stale segments (slice_set segments s x) blocks (s / 64) low;
   size = length-set segments s x;
   clean = still_clean segments s x lt (both_in_use _ x.used some (λ z. omega arith));
@@ -82,14 +82,14 @@ notes segments blocks s x lives lt low some used live held age taken = record {
 pub lifts : (segments : List SegmentNumbers) (blocks : List PlaceInSegment) (s : ℕ) (x : SegmentNumbers) (lives : Bool) → s < length segments → s / 64 < length blocks
     → x.used ≡ (get_or segments s no_segment).used
     → cond lives 1 0 + x.live ≡ (get_or segments s no_segment).live → cond (not lives) 1 0 + x.held ≡ (get_or segments s no_segment).held
-    → x.age ≡ (get_or segments s no_segment).age → x.taken ≡ (get_or segments s no_segment).taken
+    → x.age ≡ (get_or segments s no_segment).age → x.kept ≡ (get_or segments s no_segment).kept
     → Lifts (record { segments = segments; blocks = blocks }) (record { segments = slice_set segments s x; blocks = slice_set blocks (s / 64) (record { address = (get_or blocks (s / 64) no_place).address; stale = true }) }) s lives
-lifts segments blocks s x lives lt low used live held age taken = record {
+lifts segments blocks s x lives lt low used live held age kept = record {
   used = is_same (λ n. n.used) segments s x lt used;
   live = counts_down (λ n. n.live) segments s x lt lives live;
   held = counts_down (λ n. n.held) segments s x lt (not lives) held;
   age = is_same (λ n. n.age) segments s x lt age;
-  taken = is_same (λ n. n.taken) segments s x lt taken;
+  kept = is_same (λ n. n.kept) segments s x lt kept;
   blocks = made_stale segments (slice_set segments s x) blocks (s / 64) low;
   size = length-set segments s x;
   clean = still_clean segments s x lt (ap (λ (u : ℕ). u == 0) (sym used));
@@ -97,21 +97,42 @@ lifts segments blocks s x lives lt low used live held age taken = record {
 
 -- a clean segment is taken: nothing lives in it, and nothing holds it
 pub takes : (segments : List SegmentNumbers) (blocks : List PlaceInSegment) (s age : ℕ) → s < length segments → (get_or segments s no_segment).used ≡ 0 → FitsSegment (get_or segments s no_segment)
-    → TakesSegment (record { segments = segments; blocks = blocks }) (record { segments = slice_set segments s (record { used = 1; live = 0; held = 0; age = age; taken = true }); blocks = blocks }) s age
+    → TakesSegment (record { segments = segments; blocks = blocks }) (record { segments = slice_set segments s (record { used = 1; live = 0; held = 0; age = age; kept = 0 }); blocks = blocks }) s age
 takes segments blocks s age lt clean fits =
     let few = fits.fewer in
     record {
       inside = lt;
       clean = clean;
-      used = is_set (λ n. n.used) segments s (record { used = 1; live = 0; held = 0; age = age; taken = true }) lt;
-      live = is_same (λ n. n.live) segments s (record { used = 1; live = 0; held = 0; age = age; taken = true }) lt (omega arith);
-      held = is_same (λ n. n.held) segments s (record { used = 1; live = 0; held = 0; age = age; taken = true }) lt (omega arith);
-      age = is_set (λ n. n.age) segments s (record { used = 1; live = 0; held = 0; age = age; taken = true }) lt;
-      taken = is_set (λ n. n.taken) segments s (record { used = 1; live = 0; held = 0; age = age; taken = true }) lt;
+      free = ap (λ (n : SegmentNumbers). n.kept) (set_own segments s (record { used = 1; live = 0; held = 0; age = age; kept = 0 }) lt);
+      used = is_set (λ n. n.used) segments s (record { used = 1; live = 0; held = 0; age = age; kept = 0 }) lt;
+      live = is_same (λ n. n.live) segments s (record { used = 1; live = 0; held = 0; age = age; kept = 0 }) lt (omega arith);
+      held = is_same (λ n. n.held) segments s (record { used = 1; live = 0; held = 0; age = age; kept = 0 }) lt (omega arith);
+      age = is_set (λ n. n.age) segments s (record { used = 1; live = 0; held = 0; age = age; kept = 0 }) lt;
+      kept = is_same (λ n. n.kept) segments s (record { used = 1; live = 0; held = 0; age = age; kept = 0 }) lt (let p = fits.kept in omega arith);
       blocks = λ i. (refl, refl);
-      size = length-set segments s (record { used = 1; live = 0; held = 0; age = age; taken = true });
-      count = one_taken segments s (record { used = 1; live = 0; held = 0; age = age; taken = true }) lt clean (λ h. omega arith);
+      size = length-set segments s (record { used = 1; live = 0; held = 0; age = age; kept = 0 });
+      count = one_taken segments s (record { used = 1; live = 0; held = 0; age = age; kept = 0 }) lt clean (λ h. omega arith);
     }
+
+-- a chunk more begins
+pub goes_on : (segments : List SegmentNumbers) (blocks : List PlaceInSegment) (s age : ℕ) (x : SegmentNumbers) → s < length segments → s / 64 < length blocks
+    → 0 < (get_or segments s no_segment).live + (get_or segments s no_segment).held → (get_or segments s no_segment).used ≤ 62 → FitsSegment (get_or segments s no_segment)
+    → x.used ≡ suc (get_or segments s no_segment).used → x.live ≡ (get_or segments s no_segment).live → x.held ≡ (get_or segments s no_segment).held
+    → x.age ≡ age → x.kept ≡ (get_or segments s no_segment).kept
+    → GoesOn (record { segments = segments; blocks = blocks }) (record { segments = slice_set segments s x; blocks = slice_set blocks (s / 64) (record { address = (get_or blocks (s / 64) no_place).address; stale = true }) }) s age
+goes_on segments blocks s age x lt low some room fits used live held aged kept = record {
+  inside = lt;
+  some = some;
+  room = room;
+  used = set_to _ _ s x.used _ used (is_set (λ n. n.used) segments s x lt);
+  live = is_same (λ n. n.live) segments s x lt live;
+  held = is_same (λ n. n.held) segments s x lt held;
+  age = set_to _ _ s x.age _ aged (is_set (λ n. n.age) segments s x lt);
+  kept = is_same (λ n. n.kept) segments s x lt kept;
+  blocks = made_stale segments (slice_set segments s x) blocks (s / 64) low;
+  size = length-set segments s x;
+  clean = still_clean segments s x lt (both_in_use _ x.used (λ z. let f = fits.fewer in omega arith) (λ z. omega arith));
+}
 
 pub puts : (segments : List SegmentNumbers) (blocks : List PlaceInSegment) (j a : ℕ) (stale : Bool) → j < length blocks
     → PutsPlace (record { segments = segments; blocks = blocks }) (record { segments = segments; blocks = slice_set blocks j (record { address = a; stale = stale }) }) j a stale
@@ -127,37 +148,48 @@ same_table t u segments blocks = λ i. record { segments = segments i; blocks = 
 
 pub notes_of : (old new : UsageTable) (s : ℕ) (x : SegmentNumbers) (lives : Bool) → FitsTable old → s < length old.segments
     → 0 < used_of old s → x.used ≡ suc (used_of old s) → x.live ≡ cond lives 1 0 + live_of old s → x.held ≡ cond (not lives) 1 0 + held_of old s
-    → x.age ≡ age_of old s → x.taken ≡ taken_of old s → new.segments ≡ slice_set old.segments s x
+    → x.age ≡ age_of old s → x.kept ≡ kept_of old s → new.segments ≡ slice_set old.segments s x
     → new.blocks ≡ slice_set old.blocks (s / 64) (record { address = (get_or old.blocks (s / 64) no_place).address; stale = true }) → Notes old new s lives
-notes_of old new s x lives fits lt some used live held age taken segments blocks =
+notes_of old new s x lives fits lt some used live held age kept segments blocks =
     let few = fits.few in
     let whole = fits.blocks in
     subst (λ (t : UsageTable). Notes old t s lives)
     (sym (same_table (record { segments = slice_set old.segments s x; blocks = slice_set old.blocks (s / 64) (record { address = (get_or old.blocks (s / 64) no_place).address; stale = true }) }) new segments blocks))
-    (notes old.segments old.blocks s x lives lt (omega arith) (λ z. omega arith) used live held age taken)
+    (notes old.segments old.blocks s x lives lt (omega arith) (λ z. omega arith) used live held age kept)
 
 pub lifts_of : (old new : UsageTable) (s : ℕ) (x : SegmentNumbers) (lives : Bool) → FitsTable old → s < length old.segments
     → x.used ≡ used_of old s → cond lives 1 0 + x.live ≡ live_of old s → cond (not lives) 1 0 + x.held ≡ held_of old s
-    → x.age ≡ age_of old s → x.taken ≡ taken_of old s → new.segments ≡ slice_set old.segments s x
+    → x.age ≡ age_of old s → x.kept ≡ kept_of old s → new.segments ≡ slice_set old.segments s x
     → new.blocks ≡ slice_set old.blocks (s / 64) (record { address = (get_or old.blocks (s / 64) no_place).address; stale = true }) → Lifts old new s lives
-lifts_of old new s x lives fits lt used live held age taken segments blocks =
+lifts_of old new s x lives fits lt used live held age kept segments blocks =
     let few = fits.few in
     let whole = fits.blocks in
     subst (λ (t : UsageTable). Lifts old t s lives)
     (sym (same_table (record { segments = slice_set old.segments s x; blocks = slice_set old.blocks (s / 64) (record { address = (get_or old.blocks (s / 64) no_place).address; stale = true }) }) new segments blocks))
-    (lifts old.segments old.blocks s x lives lt (omega arith) used live held age taken)
+    (lifts old.segments old.blocks s x lives lt (omega arith) used live held age kept)
+
+pub goes_on_of : (old new : UsageTable) (s age : ℕ) (x : SegmentNumbers) → FitsTable old → s < length old.segments
+    → 0 < live_of old s + held_of old s → used_of old s ≤ 62 → x.used ≡ suc (used_of old s) → x.live ≡ live_of old s → x.held ≡ held_of old s
+    → x.age ≡ age → x.kept ≡ kept_of old s → new.segments ≡ slice_set old.segments s x
+    → new.blocks ≡ slice_set old.blocks (s / 64) (record { address = (get_or old.blocks (s / 64) no_place).address; stale = true }) → GoesOn old new s age
+goes_on_of old new s age x fits lt some room used live held aged kept segments blocks =
+    let few = fits.few in
+    let whole = fits.blocks in
+    subst (λ (t : UsageTable). GoesOn old t s age)
+    (sym (same_table (record { segments = slice_set old.segments s x; blocks = slice_set old.blocks (s / 64) (record { address = (get_or old.blocks (s / 64) no_place).address; stale = true }) }) new segments blocks))
+    (goes_on old.segments old.blocks s age x lt (omega arith) some room (fits.each s) used live held aged kept)
 
 pub takes_away : (segments : List SegmentNumbers) (blocks : List PlaceInSegment) (s count : ℕ) (x : SegmentNumbers) (lives : Bool) → s < length segments → s / 64 < length blocks
     → x.used ≡ (get_or segments s no_segment).used
     → x.live ≡ (get_or segments s no_segment).live - cond lives count 0 → x.held ≡ (get_or segments s no_segment).held - cond (not lives) count 0
-    → x.age ≡ (get_or segments s no_segment).age → x.taken ≡ (get_or segments s no_segment).taken
+    → x.age ≡ (get_or segments s no_segment).age → x.kept ≡ (get_or segments s no_segment).kept
     → TakesAway (record { segments = segments; blocks = blocks }) (record { segments = slice_set segments s x; blocks = slice_set blocks (s / 64) (record { address = (get_or blocks (s / 64) no_place).address; stale = true }) }) s count lives
-takes_away segments blocks s count x lives lt low used live held age taken = record {
+takes_away segments blocks s count x lives lt low used live held age kept = record {
   used = is_same (λ n. n.used) segments s x lt used;
   live = set_to _ _ s x.live _ live (is_set (λ n. n.live) segments s x lt);
   held = set_to _ _ s x.held _ held (is_set (λ n. n.held) segments s x lt);
   age = is_same (λ n. n.age) segments s x lt age;
-  taken = is_same (λ n. n.taken) segments s x lt taken;
+  kept = is_same (λ n. n.kept) segments s x lt kept;
   blocks = made_stale segments (slice_set segments s x) blocks (s / 64) low;
   size = length-set segments s x;
   clean = still_clean segments s x lt (ap (λ (u : ℕ). u == 0) (sym used));
@@ -165,26 +197,26 @@ takes_away segments blocks s count x lives lt low used live held age taken = rec
 
 pub takes_away_of : (old new : UsageTable) (s count : ℕ) (x : SegmentNumbers) (lives : Bool) → FitsTable old → s < length old.segments
     → x.used ≡ used_of old s → x.live ≡ live_of old s - cond lives count 0 → x.held ≡ held_of old s - cond (not lives) count 0
-    → x.age ≡ age_of old s → x.taken ≡ taken_of old s → new.segments ≡ slice_set old.segments s x
+    → x.age ≡ age_of old s → x.kept ≡ kept_of old s → new.segments ≡ slice_set old.segments s x
     → new.blocks ≡ slice_set old.blocks (s / 64) (record { address = (get_or old.blocks (s / 64) no_place).address; stale = true }) → TakesAway old new s count lives
-takes_away_of old new s count x lives fits lt used live held age taken segments blocks =
+takes_away_of old new s count x lives fits lt used live held age kept segments blocks =
     let few = fits.few in
     let whole = fits.blocks in
     subst (λ (t : UsageTable). TakesAway old t s count lives)
     (sym (same_table (record { segments = slice_set old.segments s x; blocks = slice_set old.blocks (s / 64) (record { address = (get_or old.blocks (s / 64) no_place).address; stale = true }) }) new segments blocks))
-    (takes_away old.segments old.blocks s count x lives lt (omega arith) used live held age taken)
+    (takes_away old.segments old.blocks s count x lives lt (omega arith) used live held age kept)
 
 pub hides : (segments : List SegmentNumbers) (blocks : List PlaceInSegment) (s count : ℕ) (x : SegmentNumbers) → s < length segments → s / 64 < length blocks
     → x.used ≡ (get_or segments s no_segment).used
     → x.live + count ≡ (get_or segments s no_segment).live → x.held ≡ (get_or segments s no_segment).held + count
-    → x.age ≡ (get_or segments s no_segment).age → x.taken ≡ (get_or segments s no_segment).taken
+    → x.age ≡ (get_or segments s no_segment).age → x.kept ≡ (get_or segments s no_segment).kept
     → HidesBlocks (record { segments = segments; blocks = blocks }) (record { segments = slice_set segments s x; blocks = slice_set blocks (s / 64) (record { address = (get_or blocks (s / 64) no_place).address; stale = true }) }) s count
-hides segments blocks s count x lt low used live held age taken = record {
+hides segments blocks s count x lt low used live held age kept = record {
   used = is_same (λ n. n.used) segments s x lt used;
   live = set_to _ _ s x.live _ (omega (arith, live)) (is_set (λ n. n.live) segments s x lt);
   held = set_to _ _ s x.held _ held (is_set (λ n. n.held) segments s x lt);
   age = is_same (λ n. n.age) segments s x lt age;
-  taken = is_same (λ n. n.taken) segments s x lt taken;
+  kept = is_same (λ n. n.kept) segments s x lt kept;
   blocks = made_stale segments (slice_set segments s x) blocks (s / 64) low;
   size = length-set segments s x;
   clean = still_clean segments s x lt (ap (λ (u : ℕ). u == 0) (sym used));
@@ -192,19 +224,19 @@ hides segments blocks s count x lt low used live held age taken = record {
 
 pub hides_of : (old new : UsageTable) (s count : ℕ) (x : SegmentNumbers) → FitsTable old → s < length old.segments
     → x.used ≡ used_of old s → x.live + count ≡ live_of old s → x.held ≡ held_of old s + count
-    → x.age ≡ age_of old s → x.taken ≡ taken_of old s → new.segments ≡ slice_set old.segments s x
+    → x.age ≡ age_of old s → x.kept ≡ kept_of old s → new.segments ≡ slice_set old.segments s x
     → new.blocks ≡ slice_set old.blocks (s / 64) (record { address = (get_or old.blocks (s / 64) no_place).address; stale = true }) → HidesBlocks old new s count
-hides_of old new s count x fits lt used live held age taken segments blocks =
+hides_of old new s count x fits lt used live held age kept segments blocks =
     let few = fits.few in
     let whole = fits.blocks in
     subst (λ (t : UsageTable). HidesBlocks old t s count)
     (sym (same_table (record { segments = slice_set old.segments s x; blocks = slice_set old.blocks (s / 64) (record { address = (get_or old.blocks (s / 64) no_place).address; stale = true }) }) new segments blocks))
-    (hides old.segments old.blocks s count x lt (omega arith) used live held age taken)
+    (hides old.segments old.blocks s count x lt (omega arith) used live held age kept)
 
 pub takes_of : (old new : UsageTable) (s age : ℕ) → FitsTable old → s < length old.segments → used_of old s ≡ 0
-    → new.segments ≡ slice_set old.segments s (record { used = 1; live = 0; held = 0; age = age; taken = true }) → new.blocks ≡ old.blocks → TakesSegment old new s age
+    → new.segments ≡ slice_set old.segments s (record { used = 1; live = 0; held = 0; age = age; kept = 0 }) → new.blocks ≡ old.blocks → TakesSegment old new s age
 takes_of old new s age fits lt clean segments blocks =
-    subst (λ (t : UsageTable). TakesSegment old t s age) (sym (same_table (record { segments = slice_set old.segments s (record { used = 1; live = 0; held = 0; age = age; taken = true }); blocks = old.blocks }) new segments blocks))
+    subst (λ (t : UsageTable). TakesSegment old t s age) (sym (same_table (record { segments = slice_set old.segments s (record { used = 1; live = 0; held = 0; age = age; kept = 0 }); blocks = old.blocks }) new segments blocks))
     (takes old.segments old.blocks s age lt clean (fits.each s))
 
 -- ---- releasing, one segment after the other

@@ -6,7 +6,7 @@ use Rattle.lfs_segments.specs.Steps.{saved, is_empty}
 
 -- nothing lives in it and nothing holds it, but it is in use, and was before the acknowledged checkpoint
 abbrev pub is_emptied : SegmentNumbers → Bool
-is_emptied n = not (n.used == 0) && (not n.taken && is_empty n)
+is_emptied n = not (n.used == 0) && ((n.kept == n.used) && is_empty n)
 
 unfoldable pub emptied_in : List SegmentNumbers → ℕ
 emptied_in segments = count_up (λ s. is_emptied (get_or segments s no_segment)) (length segments)

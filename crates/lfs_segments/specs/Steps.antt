@@ -1,9 +1,9 @@
 -- What the calls on a usage table do, number by number.
-use Rattle.std.specs.Prelude.{◌≡◌, ◌<◌, ◌≤◌, ◌+◌, ◌*◌, ◌-◌, ◌/◌, ◌==◌, ◌&&◌, cond, not, ℕ, suc, Bool, true, false, List, length, get_or}
+use Rattle.std.specs.Prelude.{◌≡◌, ◌<◌, ◌≤◌, ◌⊎◌, ◌+◌, ◌*◌, ◌-◌, ◌/◌, ◌==◌, ◌&&◌, cond, not, ℕ, suc, Bool, true, false, List, length, get_or}
 use Rattle.lfs_model.specs.Entry.{half, word}
 use Rattle.lfs_model.specs.Running.{IsSet, CountsUp, CountsDown}
 use Rattle.lfs_model.specs.Usage.{SegmentUse}
-use Rattle.lfs_segments.specs.Table.{SegmentNumbers, UsageTable, no_segment, used_of, live_of, held_of, age_of, taken_of, address_of, stale_of, clean_in}
+use Rattle.lfs_segments.specs.Table.{SegmentNumbers, UsageTable, no_segment, used_of, live_of, held_of, age_of, kept_of, address_of, stale_of, clean_in}
 
 -- where usage blocks stand, and which differ from what the device has, is as it was but for one, which differs
 pub record Stales (old new : UsageTable) (j : ℕ) : Type 0 where
@@ -16,7 +16,7 @@ pub record Notes (old new : UsageTable) (s : ℕ) (lives : Bool) : Type 0 where
   pub live : CountsUp lives (live_of old) (live_of new) s
   pub held : CountsUp (not lives) (held_of old) (held_of new) s
   pub age : (i : ℕ) → age_of new i ≡ age_of old i
-  pub taken : (i : ℕ) → taken_of new i ≡ taken_of old i
+  pub kept : (i : ℕ) → kept_of new i ≡ kept_of old i
   pub blocks : Stales old new (s / 64)
   pub size : length new.segments ≡ length old.segments
   pub clean : clean_in new.segments ≡ clean_in old.segments
@@ -27,7 +27,7 @@ pub record Lifts (old new : UsageTable) (s : ℕ) (lives : Bool) : Type 0 where
   pub live : CountsDown lives (live_of old) (live_of new) s
   pub held : CountsDown (not lives) (held_of old) (held_of new) s
   pub age : (i : ℕ) → age_of new i ≡ age_of old i
-  pub taken : (i : ℕ) → taken_of new i ≡ taken_of old i
+  pub kept : (i : ℕ) → kept_of new i ≡ kept_of old i
   pub blocks : Stales old new (s / 64)
   pub size : length new.segments ≡ length old.segments
   pub clean : clean_in new.segments ≡ clean_in old.segments
@@ -38,7 +38,7 @@ pub record TakesAway (old new : UsageTable) (s count : ℕ) (lives : Bool) : Typ
   pub live : IsSet (live_of old) (live_of new) s (live_of old s - cond lives count 0)
   pub held : IsSet (held_of old) (held_of new) s (held_of old s - cond (not lives) count 0)
   pub age : (i : ℕ) → age_of new i ≡ age_of old i
-  pub taken : (i : ℕ) → taken_of new i ≡ taken_of old i
+  pub kept : (i : ℕ) → kept_of new i ≡ kept_of old i
   pub blocks : Stales old new (s / 64)
   pub size : length new.segments ≡ length old.segments
   pub clean : clean_in new.segments ≡ clean_in old.segments
@@ -49,7 +49,7 @@ pub record HidesBlocks (old new : UsageTable) (s count : ℕ) : Type 0 where
   pub live : IsSet (live_of old) (live_of new) s (live_of old s - count)
   pub held : IsSet (held_of old) (held_of new) s (held_of old s + count)
   pub age : (i : ℕ) → age_of new i ≡ age_of old i
-  pub taken : (i : ℕ) → taken_of new i ≡ taken_of old i
+  pub kept : (i : ℕ) → kept_of new i ≡ kept_of old i
   pub blocks : Stales old new (s / 64)
   pub size : length new.segments ≡ length old.segments
   pub clean : clean_in new.segments ≡ clean_in old.segments
@@ -58,14 +58,34 @@ pub record HidesBlocks (old new : UsageTable) (s count : ℕ) : Type 0 where
 pub record TakesSegment (old new : UsageTable) (s number : ℕ) : Type 0 where
   pub inside : s < length old.segments
   pub clean : used_of old s ≡ 0
+  pub free : kept_of new s ≡ 0
   pub used : IsSet (used_of old) (used_of new) s 1
   pub live : (i : ℕ) → live_of new i ≡ live_of old i
   pub held : (i : ℕ) → held_of new i ≡ held_of old i
   pub age : IsSet (age_of old) (age_of new) s number
-  pub taken : IsSet (taken_of old) (taken_of new) s true
+  pub kept : (i : ℕ) → kept_of new i ≡ kept_of old i
   pub blocks : (i : ℕ) → (stale_of new i ≡ stale_of old i) × (address_of new i ≡ address_of old i)
   pub size : length new.segments ≡ length old.segments
   pub count : clean_in old.segments ≡ suc (clean_in new.segments)
+
+-- A chunk more begins in a segment with room. Something lives there or holds it, so no pass has
+-- emptied it.
+pub record GoesOn (old new : UsageTable) (s number : ℕ) : Type 0 where
+  pub inside : s < length old.segments
+  pub some : 0 < live_of old s + held_of old s
+  pub room : used_of old s ≤ 62
+  pub used : IsSet (used_of old) (used_of new) s (suc (used_of old s))
+  pub live : (i : ℕ) → live_of new i ≡ live_of old i
+  pub held : (i : ℕ) → held_of new i ≡ held_of old i
+  pub age : IsSet (age_of old) (age_of new) s number
+  pub kept : (i : ℕ) → kept_of new i ≡ kept_of old i
+  pub blocks : Stales old new (s / 64)
+  pub size : length new.segments ≡ length old.segments
+  pub clean : clean_in new.segments ≡ clean_in old.segments
+
+-- a chunk begins: in a clean segment, or behind those of another
+abbrev pub Begins : UsageTable → UsageTable → ℕ → ℕ → Type 0
+Begins old new s number = TakesSegment old new s number ⊎ GoesOn old new s number
 
 -- usage block j has this address, and is stale or not; all else is as it was
 pub record PutsPlace (old new : UsageTable) (j at : ℕ) (differs : Bool) : Type 0 where
@@ -78,7 +98,7 @@ abbrev pub is_empty : SegmentNumbers → Bool
 is_empty n = (n.live == 0) && (n.held == 0)
 
 abbrev pub released : SegmentNumbers → SegmentNumbers
-released n = record { used = cond (is_empty n) 0 n.used; live = n.live; held = n.held; age = n.age; taken = false }
+released n = record { used = cond (is_empty n) 0 n.used; live = n.live; held = n.held; age = n.age; kept = cond (is_empty n) 0 n.used }
 
 pub record Releases (old new : UsageTable) : Type 0 where
   pub each : (s : ℕ) → get_or new.segments s no_segment ≡ released (get_or old.segments s no_segment)

@@ -8,10 +8,11 @@ pub record SegmentNumbers : Type 0 where
   pub live : ℕ
   pub held : ℕ
   pub age : ℕ
-  pub taken : Bool
+  -- how many of its sectors were in use as the acknowledged checkpoint was written
+  pub kept : ℕ
 
 abbrev pub no_segment : SegmentNumbers
-no_segment = record { used = 0; live = 0; held = 0; age = 0; taken = false }
+no_segment = record { used = 0; live = 0; held = 0; age = 0; kept = 0 }
 
 pub record PlaceInSegment : Type 0 where
   pub address : ℕ
@@ -37,8 +38,8 @@ held_of t s = (get_or t.segments s no_segment).held
 abbrev pub age_of : UsageTable → ℕ → ℕ
 age_of t s = (get_or t.segments s no_segment).age
 
-abbrev pub taken_of : UsageTable → ℕ → Bool
-taken_of t s = (get_or t.segments s no_segment).taken
+abbrev pub kept_of : UsageTable → ℕ → ℕ
+kept_of t s = (get_or t.segments s no_segment).kept
 
 -- where usage block j stands, and whether it differs from what the device has
 abbrev pub address_of : UsageTable → ℕ → ℕ
@@ -58,6 +59,7 @@ clean_in segments = count_up (is_clean_in segments) (length segments)
 pub record FitsSegment (n : SegmentNumbers) : Type 0 where
   pub used : n.used ≤ 64
   pub fewer : n.live + n.held ≤ n.used - 1
+  pub kept : n.kept ≤ n.used
 
 pub record FitsTable (t : UsageTable) : Type 0 where
   pub few : length t.segments ≤ 1024

@@ -1,11 +1,11 @@
-//! Chunks: a summary and the blocks behind it, in a segment that was taken from the clean ones.
+//! Chunks: a summary and the blocks behind it, in a clean segment or behind other chunks.
 ghost use Rattle.std.specs.Prelude.{◌≡◌, ◌≢◌, ◌<◌, ◌≤◌, ◌+◌, ◌-◌, ◌*◌, ◌/◌, ◌++◌, [], ◌∷◌, ℕ, suc, Some, true, length, IfSome, IfNone, OnOk, OnErr};
 ghost use Rattle.lfs_model.specs.Device.{put, MayWrite, CrashWrites, Carries, Elapses};
 ghost use Rattle.lfs_model.specs.Entry.{entries_in};
 ghost use Rattle.lfs_model.specs.Summary.{IsPlaced, summary_sector};
-ghost use Rattle.lfs_segments.specs.Table.{used_of, taken_of};
-ghost use Rattle.lfs_segments.specs.Steps.{TakesSegment, Notes};
-ghost use Rattle.lfs_segments.specs.Chunk.{IsOpenChunk, entries_of};
+ghost use Rattle.lfs_segments.specs.Table.{used_of, live_of, held_of};
+ghost use Rattle.lfs_segments.specs.Steps.{Begins, Notes};
+ghost use Rattle.lfs_segments.specs.Chunk.{IsOpenChunk, IsUnkeptBy, entries_of};
 
 use crate::usage::Usage;
 use arrayvec::ArrayVec;
@@ -13,11 +13,12 @@ use lfs_device::{DeviceFault, SectorDevice};
 use lfs_layout::{BlockName, encode_summary};
 use std::marker::Model;
 
-/// The chunk that is being filled, if there is one: its segment, and the names of the blocks that
-/// have a place in it.
+/// The chunk that is being filled, if there is one: its segment, the place of its summary there,
+/// and the names of the blocks that have a place in it.
 #[derive(Drop)]
 pub struct ChunkWriter {
     segment: u32,
+    start: u32,
     names: ArrayVec<BlockName, 63>,
 }
 
@@ -27,9 +28,9 @@ impl Model for ChunkWriter {
 
     ghost Value = { Chunk };
 
-    ghost view = { λ c. record { segment = c.segment; names = c.names.items } };
+    ghost view = { λ c. record { segment = c.segment; start = c.start; names = c.names.items } };
 
-    ghost invariant = { λ c. (c.segment < 1024) × IsChunk c.names.items };
+    ghost invariant = { λ c. (c.segment < 1024) × (c.start < 64) × IsChunk c.names.items };
 }
 
 impl ChunkWriter {
@@ -39,6 +40,7 @@ impl ChunkWriter {
     {
         ChunkWriter {
             segment: 0,
+            start: 0,
             names: ArrayVec::new(),
         }
     }
@@ -67,10 +69,34 @@ impl ChunkWriter {
         self.segment
     }
 
-    /// Begins a chunk: each in a clean segment, which is taken, if there is one.
+    /// Whether no block more has room in the segment behind the chunk.
+    pub fn is_full(&self) -> bool
+        ensures yes { result ≡ true → self.now.start + length self.now.names ≡ 63 }
+        ensures no { result ≢ true → self.now.start + length self.now.names ≢ 63 }
+    {
+        self.start as usize + self.names.len() == 63
+    }
+
+    /// Whether a chunk may begin behind the last one: its segment has room for a summary and a
+    /// block, and something lives there or holds it.
+    fn may_go_on(&self, usage: &Usage) -> bool
+        ensures inside { result ≡ true → self.now.segment < length usage.now.segments }
+        ensures room { result ≡ true → used_of usage.now self.now.segment ≤ 62 }
+        ensures some { result ≡ true
+            → 0 < live_of usage.now self.now.segment + held_of usage.now self.now.segment }
+    {
+        if self.segment >= usage.segments() {
+            return false;
+        }
+        let state = usage.state(self.segment);
+        state.used <= 62 && (state.live != 0 || state.held != 0)
+    }
+
+    /// Begins a chunk: behind the last one where there is room, else in a clean segment, which is
+    /// taken, if there is one.
     pub fn begin(&mut self, usage: &mut Usage, age: u32) -> Option<u32>
         requires { self.old.names ≡ [] }
-        ensures taken { IfSome result (λ s. TakesSegment usage.old usage.new s age) }
+        ensures begun { IfSome result (λ s. Begins usage.old usage.new s age) }
         ensures segment { IfSome result (λ s. self.new.segment ≡ s) }
         ensures names { self.new.names ≡ [] }
         ensures opened { IfSome result (λ s. IsOpenChunk self.new usage.new) }
@@ -78,8 +104,14 @@ impl ChunkWriter {
             → used_of usage.old s ≢ 0) }
         ensures same { IfNone result (usage.new ≡ usage.old) }
     {
+        if self.may_go_on(usage) {
+            self.start = u32::from(usage.state(self.segment).used);
+            usage.go_on(self.segment, age);
+            return Some(self.segment);
+        }
         let segment = usage.take_clean(age)?;
         self.segment = segment;
+        self.start = 0;
         Some(segment)
     }
 
@@ -87,17 +119,18 @@ impl ChunkWriter {
     /// segment: the first sector behind the used part.
     pub fn place(&mut self, usage: &mut Usage, name: BlockName, lives: bool) -> u32
         requires opened { IsOpenChunk self.old usage.old }
-        requires room { length self.old.names < 63 }
+        requires room { self.old.start + length self.old.names < 63 }
         requires placed { IsPlaced name.kind name.file name.index }
         ensures address { result ≡ 2 + 64 * self.old.segment + used_of usage.old self.old.segment }
         ensures names { self.new.names ≡ self.old.names ++ name ∷ [] }
         ensures segment { self.new.segment ≡ self.old.segment }
+        ensures start { self.new.start ≡ self.old.start }
         ensures noted { Notes usage.old usage.new self.old.segment lives }
         ensures opened { IsOpenChunk self.new usage.new }
     {
         self.names.push(name);
         usage.note(self.segment, lives);
-        2 + 64 * self.segment + self.names.len() as u32
+        2 + 64 * self.segment + self.start + self.names.len() as u32
     }
 
     /// Writes the summary of the chunk, and ends it.
@@ -112,19 +145,21 @@ impl ChunkWriter {
     ) -> Result<(), DeviceFault>
         requires opened { IsOpenChunk self.old usage.now }
         requires some { 0 < length self.old.names }
-        requires inside { 2 + 64 * self.old.segment < (D.state device.old).size }
+        requires inside { 2 + 64 * self.old.segment + self.old.start
+            < (D.state device.old).size }
         ensures entries { entries_in (summary_sector self.old.names) ≡ Some (entries_of self.old) }
         ensures written { OnOk result ((D.state device.new).keeps_model
             → (D.state device.new).content ≡ put (D.state device.old).content
-            (2 + 64 * self.old.segment) (summary_sector self.old.names)) }
+            (2 + 64 * self.old.segment + self.old.start) (summary_sector self.old.names)) }
         ensures failed_write { OnErr result ((D.state device.new).keeps_model
-            → MayWrite (2 + 64 * self.old.segment) (summary_sector self.old.names)
+            → MayWrite (2 + 64 * self.old.segment + self.old.start) (summary_sector self.old.names)
             (D.state device.old).content (D.state device.new).content) }
-        ensures crash { CrashWrites (2 + 64 * self.old.segment) (summary_sector self.old.names)
-            (D.state device.old) (D.state device.new) }
+        ensures crash { CrashWrites (2 + 64 * self.old.segment + self.old.start)
+            (summary_sector self.old.names) (D.state device.old) (D.state device.new) }
         ensures ended { OnOk result (self.new.names ≡ []) }
         ensures kept { OnErr result (self.new ≡ self.old) }
         ensures segment { self.new.segment ≡ self.old.segment }
+        ensures start { self.new.start ≡ self.old.start }
         ensures failed { OnErr result
             ((D.state device.old).failures < (D.state device.new).failures) }
         ensures no_failure { OnOk result
@@ -133,14 +168,14 @@ impl ChunkWriter {
         ensures time { Elapses (D.state device.old) (D.state device.new) }
     {
         let summary = encode_summary(self.names.as_slice());
-        write(device, usage, 2 + 64 * self.segment, &summary)?;
+        write(device, usage, 2 + 64 * self.segment + self.start, &summary)?;
         self.names.clear();
         Ok(())
     }
 }
 
-/// Writes a block or a summary to a sector of a segment that was taken from the clean ones since
-/// the acknowledged checkpoint, and to no other.
+/// Writes a block or a summary to a sector that wasn't in use as the acknowledged checkpoint was
+/// written, and to no other.
 ///
 /// # Errors
 ///
@@ -151,7 +186,7 @@ pub fn write<D: SectorDevice>(
     address: u32,
     bytes: &[u8; 512],
 ) -> Result<(), DeviceFault>
-    requires taken { taken_of usage.now ((address - 2) / 64) ≡ true }
+    requires free { IsUnkeptBy usage.now address }
     requires above { 2 ≤ address }
     requires inside { address < (D.state device.old).size }
     ensures written { OnOk result ((D.state device.new).keeps_model

@@ -12,8 +12,9 @@ pub struct SegmentState {
     pub held: u16,
     /// The number of the checkpoint for which it was written last, at most 2^32 - 1.
     pub age: u32,
-    /// Whether it was taken from the clean ones since the acknowledged checkpoint.
-    pub taken: bool,
+    /// How many of its sectors were in use as the acknowledged checkpoint was written. None of
+    /// them is written before the next one.
+    pub kept: u16,
 }
 
 impl Model for SegmentState {
@@ -21,9 +22,9 @@ impl Model for SegmentState {
 
     ghost Value = { SegmentNumbers };
 
-    ghost view = { λ s. record { used = s.used; live = s.live; held = s.held; age = s.age; taken = s.taken } };
+    ghost view = { λ s. record { used = s.used; live = s.live; held = s.held; age = s.age; kept = s.kept } };
 
-    ghost inverse = { λ s. record { used = s.used; live = s.live; held = s.held; age = s.age; taken = s.taken } };
+    ghost inverse = { λ s. record { used = s.used; live = s.live; held = s.held; age = s.age; kept = s.kept } };
 }
 
 /// Where a block of the usage table stands.

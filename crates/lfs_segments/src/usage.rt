@@ -1,10 +1,10 @@
 //! What is known of each segment, after the segment usage table of the Sprite LFS paper (1992,
 //! section 3.6).
 ghost use Rattle.std.specs.Prelude.{◌≡◌, ◌≢◌, ◌<◌, ◌≤◌, ◌+◌, ◌-◌, ◌*◌, ◌/◌, ◌==◌, ℕ, suc, Bool, true, false, cond, not, length, get_or, replicate, slice_set, IfOk, IfSome, IfNone};
-ghost use Rattle.lfs_segments.specs.Steps.{Notes, Lifts, TakesAway, HidesBlocks, TakesSegment, PutsPlace, Releases, SpellsBlock, saved};
+ghost use Rattle.lfs_segments.specs.Steps.{Notes, Lifts, TakesAway, HidesBlocks, TakesSegment, GoesOn, PutsPlace, Releases, SpellsBlock, saved};
 ghost use Rattle.lfs_segments.specs.Steps as steps;
 ghost use Rattle.lfs_model.specs.Usage.{IsUse, no_use};
-ghost use Rattle.lfs_segments.specs.Table.{SegmentNumbers, PlaceInSegment, no_segment, no_place, used_of, live_of, held_of, age_of, taken_of, address_of, stale_of, clean_in, FitsSegment, FitsTable};
+ghost use Rattle.lfs_segments.specs.Table.{SegmentNumbers, PlaceInSegment, no_segment, no_place, used_of, live_of, held_of, age_of, kept_of, address_of, stale_of, clean_in, FitsSegment, FitsTable};
 
 use crate::state::{SegmentState, UsageBlock};
 use lfs_layout::{SegmentUsage, encode_usage};
@@ -16,7 +16,7 @@ const CLEAN: SegmentState = SegmentState {
     live: 0,
     held: 0,
     age: 0,
-    taken: false,
+    kept: 0,
 };
 
 const NO_BLOCK: UsageBlock = UsageBlock {
@@ -102,7 +102,7 @@ impl Usage {
         self.states[segment as usize]
     }
 
-    /// TakesSegment a clean segment, if there is one: its first sector is in use from then on, for a
+    /// Takes a clean segment, if there is one: its first sector is in use from then on, for a
     /// summary, and it has this age.
     pub fn take_clean(&mut self, age: u32) -> Option<u32>
         ensures taken { IfSome result (λ s. TakesSegment self.old self.new s age) }
@@ -126,9 +126,21 @@ impl Usage {
             live: 0,
             held: 0,
             age,
-            taken: true,
+            kept: 0,
         };
         self.put(segment, state);
+    }
+
+    /// One sector more of a segment is in use, for a summary, and the segment has this age.
+    pub fn go_on(&mut self, segment: u32, age: u32)
+        requires inside { segment < length self.old.segments }
+        requires some { 0 < live_of self.old segment + held_of self.old segment }
+        requires room { used_of self.old segment ≤ 62 }
+        ensures { GoesOn self.old self.new segment age }
+    {
+        let state = continued(self.state(segment), age);
+        self.put(segment, state);
+        self.make_stale(segment / 64);
     }
 
     /// The numbers of a segment become others.
@@ -204,7 +216,7 @@ impl Usage {
               held = 0;
               age =
                   saved.age;
-              taken = false;
+              kept = saved.used;
             }) }
         ensures blocks { self.new.blocks ≡ self.old.blocks }
     {
@@ -214,13 +226,13 @@ impl Usage {
             live,
             held: 0,
             age,
-            taken: false,
+            kept: used,
         };
         self.put(segment, state);
     }
 
     /// Once a checkpoint is acknowledged: a segment where nothing lives and that nothing holds is
-    /// clean, and none counts as taken.
+    /// clean, and what is in use is kept until the next one.
     pub fn release(&mut self)
         ensures { Releases self.old self.new }
     {
@@ -307,7 +319,7 @@ fn noted(mut state: SegmentState, lives: bool) -> SegmentState
     ensures live { result.live ≡ cond lives 1 0 + state.live }
     ensures held { result.held ≡ cond (not lives) 1 0 + state.held }
     ensures age { result.age ≡ state.age }
-    ensures taken { result.taken ≡ state.taken }
+    ensures kept { result.kept ≡ state.kept }
 {
     state.used += 1;
     if lives {
@@ -318,6 +330,20 @@ fn noted(mut state: SegmentState, lives: bool) -> SegmentState
     state
 }
 
+fn continued(mut state: SegmentState, age: u32) -> SegmentState
+    requires room { state.used ≤ 62 }
+    requires fits { FitsSegment state }
+    ensures used { result.used ≡ suc state.used }
+    ensures live { result.live ≡ state.live }
+    ensures held { result.held ≡ state.held }
+    ensures age { result.age ≡ age }
+    ensures kept { result.kept ≡ state.kept }
+{
+    state.used += 1;
+    state.age = age;
+    state
+}
+
 fn lifted(mut state: SegmentState, lives: bool) -> SegmentState
     requires live { lives ≡ true → 0 < state.live }
     requires held { lives ≡ false → 0 < state.held }
@@ -325,7 +351,7 @@ fn lifted(mut state: SegmentState, lives: bool) -> SegmentState
     ensures live { cond lives 1 0 + result.live ≡ state.live }
     ensures held { cond (not lives) 1 0 + result.held ≡ state.held }
     ensures age { result.age ≡ state.age }
-    ensures taken { result.taken ≡ state.taken }
+    ensures kept { result.kept ≡ state.kept }
 {
     if lives {
         state.live -= 1;
@@ -342,7 +368,7 @@ fn taken_away(mut state: SegmentState, count: u16, lives: bool) -> SegmentState
     ensures live { result.live ≡ state.live - cond lives count 0 }
     ensures held { result.held ≡ state.held - cond (not lives) count 0 }
     ensures age { result.age ≡ state.age }
-    ensures taken { result.taken ≡ state.taken }
+    ensures kept { result.kept ≡ state.kept }
 {
     if lives {
         state.live -= count;
@@ -359,7 +385,7 @@ fn hidden(mut state: SegmentState, count: u16) -> SegmentState
     ensures live { result.live + count ≡ state.live }
     ensures held { result.held ≡ state.held + count }
     ensures age { result.age ≡ state.age }
-    ensures taken { result.taken ≡ state.taken }
+    ensures kept { result.kept ≡ state.kept }
 {
     state.live -= count;
     state.held += count;
@@ -373,9 +399,10 @@ fn released(state: SegmentState) -> SegmentState
     ensures fits { FitsSegment result }
 {
     let empty = state.live == 0 && state.held == 0;
+    let used = if empty { 0 } else { state.used };
     SegmentState {
-        used: if empty { 0 } else { state.used },
-        taken: false,
+        used,
+        kept: used,
         ..state
     }
 }

@@ -1,5 +1,5 @@
 use Rattle.std.proofs.Common.{rules, ◌≡◌, ◌≤◌, ◌+◌, length, arith, ◌/◌, true, get_or, slice_set}
-use Rattle.lfs_segments.specs.Table.{FitsTable, no_place, used_of, live_of, held_of, age_of, taken_of}
+use Rattle.lfs_segments.specs.Table.{FitsTable, no_place, used_of, live_of, held_of, age_of, kept_of}
 use Rattle.lfs_segments.proofs.Steps.{hides_of}
 use Rattle.lfs_segments.proofs.usage.Usage.hide.Goals as goal
 
@@ -10,10 +10,10 @@ returns c =
     let live : c.hidden-state.result.live + c.args.count ≡ live_of c.args.self.now c.args.segment = search rules in
     let held : c.hidden-state.result.held ≡ held_of c.args.self.now c.args.segment + c.args.count = search rules in
     let age : c.hidden-state.result.age ≡ age_of c.args.self.now c.args.segment = search rules in
-    let taken : c.hidden-state.result.taken ≡ taken_of c.args.self.now c.args.segment = search rules in
+    let kept : c.hidden-state.result.kept ≡ kept_of c.args.self.now c.args.segment = search rules in
     let segments : c.make_stale.new.self.segments ≡ slice_set c.args.self.now.segments c.args.segment c.hidden-state.result = search rules in
     let blocks : c.make_stale.new.self.blocks ≡ slice_set c.args.self.now.blocks (c.args.segment / 64) (record { address = (get_or c.args.self.now.blocks (c.args.segment / 64) no_place).address; stale = true }) = search rules in
-    hides_of c.args.self.now c.make_stale.new.self c.args.segment c.args.count c.hidden-state.result fits c.requires.inside used live held age taken segments blocks
+    hides_of c.args.self.now c.make_stale.new.self c.args.segment c.args.count c.hidden-state.result fits c.requires.inside used live held age kept segments blocks
 
 pub make_stale-requires : goal.make_stale-requires
 make_stale-requires c =

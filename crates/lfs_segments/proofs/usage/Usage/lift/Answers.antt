@@ -1,5 +1,5 @@
 use Rattle.std.proofs.Common.{rules, ◌≡◌, ◌≤◌, length, arith, ◌+◌, ◌/◌, true, cond, not, get_or, slice_set}
-use Rattle.lfs_segments.specs.Table.{FitsTable, no_place, used_of, live_of, held_of, age_of, taken_of}
+use Rattle.lfs_segments.specs.Table.{FitsTable, no_place, used_of, live_of, held_of, age_of, kept_of}
 use Rattle.lfs_segments.proofs.Steps.{lifts_of}
 use Rattle.lfs_segments.proofs.usage.Usage.lift.Goals as goal
 
@@ -10,10 +10,10 @@ returns c =
     let live : cond c.args.lives 1 0 + c.lifted-state.result.live ≡ live_of c.args.self.now c.args.segment = search rules in
     let held : cond (not c.args.lives) 1 0 + c.lifted-state.result.held ≡ held_of c.args.self.now c.args.segment = search rules in
     let age : c.lifted-state.result.age ≡ age_of c.args.self.now c.args.segment = search rules in
-    let taken : c.lifted-state.result.taken ≡ taken_of c.args.self.now c.args.segment = search rules in
+    let kept : c.lifted-state.result.kept ≡ kept_of c.args.self.now c.args.segment = search rules in
     let segments : c.make_stale.new.self.segments ≡ slice_set c.args.self.now.segments c.args.segment c.lifted-state.result = search rules in
     let blocks : c.make_stale.new.self.blocks ≡ slice_set c.args.self.now.blocks (c.args.segment / 64) (record { address = (get_or c.args.self.now.blocks (c.args.segment / 64) no_place).address; stale = true }) = search rules in
-    lifts_of c.args.self.now c.make_stale.new.self c.args.segment c.lifted-state.result c.args.lives fits c.requires.inside used live held age taken segments blocks
+    lifts_of c.args.self.now c.make_stale.new.self c.args.segment c.lifted-state.result c.args.lives fits c.requires.inside used live held age kept segments blocks
 
 pub make_stale-requires : goal.make_stale-requires
 make_stale-requires c =

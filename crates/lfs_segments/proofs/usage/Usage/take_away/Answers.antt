@@ -1,5 +1,5 @@
 use Rattle.std.proofs.Common.{rules, ◌≡◌, ◌≤◌, length, arith, ◌-◌, ◌/◌, true, cond, not, get_or, slice_set}
-use Rattle.lfs_segments.specs.Table.{FitsTable, no_place, used_of, live_of, held_of, age_of, taken_of}
+use Rattle.lfs_segments.specs.Table.{FitsTable, no_place, used_of, live_of, held_of, age_of, kept_of}
 use Rattle.lfs_segments.proofs.Steps.{takes_away_of}
 use Rattle.lfs_segments.proofs.usage.Usage.take_away.Goals as goal
 
@@ -10,10 +10,10 @@ returns c =
     let live : c.taken_away-state.result.live ≡ live_of c.args.self.now c.args.segment - cond c.args.lives c.args.count 0 = search rules in
     let held : c.taken_away-state.result.held ≡ held_of c.args.self.now c.args.segment - cond (not c.args.lives) c.args.count 0 = search rules in
     let age : c.taken_away-state.result.age ≡ age_of c.args.self.now c.args.segment = search rules in
-    let taken : c.taken_away-state.result.taken ≡ taken_of c.args.self.now c.args.segment = search rules in
+    let kept : c.taken_away-state.result.kept ≡ kept_of c.args.self.now c.args.segment = search rules in
     let segments : c.make_stale.new.self.segments ≡ slice_set c.args.self.now.segments c.args.segment c.taken_away-state.result = search rules in
     let blocks : c.make_stale.new.self.blocks ≡ slice_set c.args.self.now.blocks (c.args.segment / 64) (record { address = (get_or c.args.self.now.blocks (c.args.segment / 64) no_place).address; stale = true }) = search rules in
-    takes_away_of c.args.self.now c.make_stale.new.self c.args.segment c.args.count c.taken_away-state.result c.args.lives fits c.requires.inside used live held age taken segments blocks
+    takes_away_of c.args.self.now c.make_stale.new.self c.args.segment c.args.count c.taken_away-state.result c.args.lives fits c.requires.inside used live held age kept segments blocks
 
 pub make_stale-requires : goal.make_stale-requires
 make_stale-requires c =
