@@ -9,12 +9,12 @@ use Rattle.lfs_model.specs.Entry.{Entry, Data, Leaf, Double, Inode, Map, Usage, 
 use Rattle.lfs_model.specs.Stands.{LogMap}
 use Rattle.lfs_model.specs.Summary.{BlockNameValue}
 use Rattle.lfs_model.specs.Memory.{is_shown}
-use Rattle.lfs_model.specs.Running.{Tables, Running, IsAddressed, IsNoted, IsTakenFrom, CountsUp}
+use Rattle.lfs_model.specs.Running.{Tables, Running, IsAddressed, IsNoted, IsTakenFrom, GoesOnIn, CountsUp}
 use Rattle.lfs_model.specs.Committing.{place_of}
-use Rattle.lfs_model.proofs.Leaving.{beginning}
-use Rattle.lfs_segments.specs.Table.{UsageTable, live_of, held_of, stale_of}
+use Rattle.lfs_model.proofs.Leaving.{beginning, going_on}
+use Rattle.lfs_segments.specs.Table.{UsageTable, used_of, live_of, held_of, address_of, stale_of}
 use Rattle.lfs_segments.specs.Chunk.{entries_of}
-use Rattle.lfs_segments.specs.Steps.{TakesSegment}
+use Rattle.lfs_segments.specs.Steps.{TakesSegment, GoesOn}
 use Rattle.lfs_segments.specs.Emptied.{IsEmptied}
 use Rattle.lfs_segments.proofs.StaysEmptied.{stays_emptied}
 use Rattle.lfs_inodes.specs.Blocks.{Capacity, TableValue, blocks_of}
@@ -41,7 +41,7 @@ taken_tables map old new s age t = record {
   live = t.live;
   held = t.held;
   age = t.age.others;
-  taken = t.taken;
+  kept = t.kept;
   stale = λ j. (t.blocks j).0;
 }
   where
@@ -53,31 +53,78 @@ taken_tables map old new s age t = record {
     at (Map j) = refl
     at (Usage j) = (t.blocks j).1
 
+-- a chunk that begins behind another, as the tables see it
+pub gone_tables : (map : MapValue) (old new : UsageTable) (s age : ℕ) → GoesOn old new s age → GoesOnIn (tables_by map old) (tables_by map new) s
+gone_tables map old new s age g = record {
+  some = g.begun;
+  room = let r = g.room in omega (arith, r);
+  at = at;
+  used = g.used;
+  live = g.live;
+  held = g.held;
+  age = g.age.others;
+  kept = g.kept;
+  stale = g.blocks.stale;
+}
+  where
+    at : (y : Entry) → (tables_by map new).at y ≡ (tables_by map old).at y
+    at (Data n i) = refl
+    at (Leaf n q) = refl
+    at (Double n) = refl
+    at (Inode n) = refl
+    at (Map j) = refl
+    at (Usage j) = g.blocks.address j
+
 module _ (v v' : LogMemory) (name : BlockNameValue) (lives : Bool) (age place : ℕ) (memory : IsMemory v) (p : Places v v' name lives age place) where
   abbrev pub before : Tables
   before = tables_by v.map p.middle
 
-  pub place_is : place ≡ place_of v'.chunk.segment (entries_of v.chunk)
-  place_is = p.address ∙ ap (λ (n : ℕ). 2 + 64 * v'.chunk.segment + suc n) (sym (length-map v.chunk.names entry_of))
+  pub place_is : place ≡ place_of before v'.chunk.segment
+  place_is = p.address
 
-  pub few_entries : length (entries_of v.chunk) < 63
-  few_entries = let short = memory.short in let same = length-map v.chunk.names entry_of in omega (arith, short, same)
+  -- the segment has room for the block
+  pub room_left : before.used v'.chunk.segment < 64
+  room_left = ⊎_elim
+      (λ (none : length v.chunk.names ≡ 0). ⊎_elim
+      (λ (t : TakesSegment v.usage p.middle v'.chunk.segment age). let u = t.used.own in omega (arith, u))
+      (λ (g : GoesOn v.usage p.middle v'.chunk.segment age). let u = g.used.own in let r = g.room in omega (arith, u, r))
+      (p.begun none))
+      (λ (some : 0 < length v.chunk.names).
+      let w = p.went_on some in
+      let u = ap (λ (u : UsageTable). used_of u v'.chunk.segment) w.0 in
+      let s = ap (used_of v.usage) w.1 in
+      let o = (memory.opened some).used in
+      let short = memory.short some in
+      omega (arith, u, s, o, short))
+      (zero_or_more (length v.chunk.names))
+
+  begun_size : length v.chunk.names ≡ 0 → length p.middle.segments ≡ length v.usage.segments
+  begun_size none = ⊎_elim (λ (t : TakesSegment v.usage p.middle v'.chunk.segment age). t.size) (λ (g : GoesOn v.usage p.middle v'.chunk.segment age). g.size) (p.begun none)
+
+  begun_address : length v.chunk.names ≡ 0 → (j : ℕ) → address_of p.middle j ≡ address_of v.usage j
+  begun_address none j = ⊎_elim (λ (t : TakesSegment v.usage p.middle v'.chunk.segment age). (t.blocks j).1) (λ (g : GoesOn v.usage p.middle v'.chunk.segment age). g.blocks.address j) (p.begun none)
+
+  begun_stale : length v.chunk.names ≡ 0 → (j : ℕ) → stale_of v.usage j ≡ true → stale_of p.middle j ≡ true
+  begun_stale none j on = ⊎_elim
+      (λ (t : TakesSegment v.usage p.middle v'.chunk.segment age). (t.blocks j).0 ∙ on)
+      (λ (g : GoesOn v.usage p.middle v'.chunk.segment age). stays_stale v.usage p.middle (v'.chunk.segment / 64) j g.blocks on)
+      (p.begun none)
 
   pub segments_same : length v'.usage.segments ≡ length v.usage.segments
   segments_same = ⊎_elim
-      (λ (none : length v.chunk.names ≡ 0). p.noted.size ∙ (p.begun none).size)
+      (λ (none : length v.chunk.names ≡ 0). p.noted.size ∙ begun_size none)
       (λ (some : 0 < length v.chunk.names). p.noted.size ∙ ap (λ (u : UsageTable). length u.segments) (p.went_on some).0)
       (zero_or_more (length v.chunk.names))
 
   pub addresses_same : (j : ℕ) → (tables_by v.map v'.usage).at (Usage j) ≡ (tables_by v.map v.usage).at (Usage j)
   addresses_same j = ⊎_elim
-      (λ (none : length v.chunk.names ≡ 0). p.noted.blocks.address j ∙ ((p.begun none).blocks j).1)
+      (λ (none : length v.chunk.names ≡ 0). p.noted.blocks.address j ∙ begun_address none j)
       (λ (some : 0 < length v.chunk.names). p.noted.blocks.address j ∙ ap (λ (u : UsageTable). (tables_by v.map u).at (Usage j)) (p.went_on some).0)
       (zero_or_more (length v.chunk.names))
 
   stale_still : (j : ℕ) → stale_of v.usage j ≡ true → stale_of v'.usage j ≡ true
   stale_still j on = ⊎_elim
-      (λ (none : length v.chunk.names ≡ 0). stays_stale p.middle v'.usage (v'.chunk.segment / 64) j p.noted.blocks (((p.begun none).blocks j).0 ∙ on))
+      (λ (none : length v.chunk.names ≡ 0). stays_stale p.middle v'.usage (v'.chunk.segment / 64) j p.noted.blocks (begun_stale none j on))
       (λ (some : 0 < length v.chunk.names). stays_stale p.middle v'.usage (v'.chunk.segment / 64) j p.noted.blocks (ap (λ (u : UsageTable). stale_of u j) (p.went_on some).0 ∙ on))
       (zero_or_more (length v.chunk.names))
 
@@ -97,10 +144,20 @@ module _ (v v' : LogMemory) (name : BlockNameValue) (lives : Bool) (age place : 
   memory_after map dirty same = record {
     count = subst (λ (n : ℕ). IsSegmentCount n) (sym segments_same) memory.count;
     opened = λ some. p.opened;
-    short = let long = long_names in let short = memory.short in omega (arith, long, short);
+    short = λ some. let u = p.noted.used.own in let o = p.opened.used in let r = room_left in omega (arith, u, o, r);
     usages = λ j one. stale_still j (memory.usages j (sym (addresses_same j) ∙ one));
     few = let few = memory.few in let c = ap (λ (c : Capacity). c.limit) same in let size = segments_same in omega (arith, few, c, size);
   }
+
+  -- it has sectors that the acknowledged checkpoint doesn't need
+  unkept : before.kept v'.chunk.segment < before.used v'.chunk.segment
+  unkept =
+      let k = p.noted.kept v'.chunk.segment in
+      let f = p.opened.free in
+      let u = p.noted.used.own in
+      let o = p.opened.used in
+      let long = long_names in
+      omega (arith, k, f, u, o, long)
 
   -- a segment that was emptied stays so
   pub placed_emptied : (s : ℕ) → IsEmptied v.usage s → IsEmptied v'.usage s
@@ -109,7 +166,7 @@ module _ (v v' : LogMemory) (name : BlockNameValue) (lives : Bool) (age place : 
       (λ (none : length v.chunk.names ≡ 0). (stays_emptied v.usage p.middle s is).0 v'.chunk.segment age (p.begun none))
       (λ (some : 0 < length v.chunk.names). subst (λ (u : UsageTable). IsEmptied u s) (sym (p.went_on some).0) is)
       (zero_or_more (length v.chunk.names)) in
-      (stays_emptied p.middle v'.usage s middle).1 v'.chunk.segment lives p.noted (sym (p.noted.taken v'.chunk.segment) ∙ p.opened.taken)
+      (stays_emptied p.middle v'.usage s middle).1 v'.chunk.segment lives p.noted unkept
 
   module _ (d : DeviceState) (k : CheckpointValue) (m0 m : LogMap) (is : IsLog d v k m0 m) where
     pub begun : Running d (blocks_of v.dirty) before k m0 m v'.chunk.segment (Some (entries_of v.chunk))
@@ -117,10 +174,15 @@ module _ (v v' : LogMemory) (name : BlockNameValue) (lives : Bool) (age place : 
       where
         first : length v.chunk.names ≡ 0 → Running d (blocks_of v.dirty) before k m0 m v'.chunk.segment (Some (entries_of v.chunk))
         first none =
-            let t = p.begun none in
-            let inside : v'.chunk.segment < k.segments = let i = t.inside in let e = is.segments in omega (arith, i, e) in
             as_chunk d (blocks_of v.dirty) before k m0 m v'.chunk.segment v'.chunk.segment (Some []) (Some (entries_of v.chunk)) refl (ap Some (sym (no_entries v.chunk.names none)))
-            (beginning d (blocks_of v.dirty) (tables_of v) before k m0 m 1024 v'.chunk.segment (is_closed d v k m0 m is none) inside (taken_tables v.map v.usage p.middle v'.chunk.segment age t))
+            (⊎_elim
+            (λ (t : TakesSegment v.usage p.middle v'.chunk.segment age).
+            beginning d (blocks_of v.dirty) (tables_of v) before k m0 m 1024 v'.chunk.segment (is_closed d v k m0 m is none) (let i = t.inside in let e = is.segments in omega (arith, i, e))
+            (taken_tables v.map v.usage p.middle v'.chunk.segment age t))
+            (λ (g : GoesOn v.usage p.middle v'.chunk.segment age).
+            going_on d (blocks_of v.dirty) (tables_of v) before k m0 m 1024 v'.chunk.segment (is_closed d v k m0 m is none) (let i = g.inside in let e = is.segments in omega (arith, i, e))
+            (gone_tables v.map v.usage p.middle v'.chunk.segment age g))
+            (p.begun none))
 
         more : 0 < length v.chunk.names → Running d (blocks_of v.dirty) before k m0 m v'.chunk.segment (Some (entries_of v.chunk))
         more some =
@@ -131,18 +193,18 @@ module _ (v v' : LogMemory) (name : BlockNameValue) (lives : Bool) (age place : 
     -- the place may be written
     pub free_place : IsFreeSector d.content k place
     free_place =
-        let low = memory.short in
+        let inside : v'.chunk.segment < k.segments = let i = p.opened.inside in let s = segments_same in let e = is.segments in omega (arith, i, s, e) in
         subst (λ (n : ℕ). IsFreeSector d.content k n) (sym p.address)
-        (taken_free d (blocks_of v.dirty) before k m0 m v'.chunk.segment (Some (entries_of v.chunk)) begun v'.chunk.segment (suc (length v.chunk.names)) (sym (p.noted.taken v'.chunk.segment) ∙ p.opened.taken) (omega (arith, low)))
+        (taken_free d (blocks_of v.dirty) before k m0 m v'.chunk.segment (Some (entries_of v.chunk)) begun v'.chunk.segment (before.used v'.chunk.segment) inside (let u = unkept in omega (arith, u)) room_left)
 
     pub noted : (x : Entry) (map' : MapValue) → lives ≡ is_shown m x → IsAddressed before (tables_by map' v'.usage) x place
-        → IsNoted m before (tables_by map' v'.usage) x (place_of v'.chunk.segment (entries_of v.chunk)) v'.chunk.segment
+        → IsNoted m before (tables_by map' v'.usage) x (place_of before v'.chunk.segment) v'.chunk.segment
     noted x map' shows at = record {
       at = subst (λ (n : ℕ). IsAddressed before (tables_by map' v'.usage) x n) place_is at;
       used = p.noted.used;
       live = subst (λ (b : Bool). CountsUp b (live_of p.middle) (live_of v'.usage) v'.chunk.segment) shows p.noted.live;
       held = subst (λ (b : Bool). CountsUp (not b) (held_of p.middle) (held_of v'.usage) v'.chunk.segment) shows p.noted.held;
       age = λ i ne. p.noted.age i;
-      taken = p.noted.taken;
+      kept = p.noted.kept;
       stale = p.noted.blocks.stale;
     }

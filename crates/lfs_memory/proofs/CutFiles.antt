@@ -104,7 +104,7 @@ module _ (d : DeviceState) (v v' : LogMemory) (k : CheckpointValue) (m0 m : LogM
       named = named_counts d v k m0 m is n low lives shown v'.usage counts go.usage;
       nameless = nameless_counts d v k m0 m is n low lives shown v'.usage counts go.usage;
       age = go.usage.age;
-      taken = go.usage.taken;
+      kept = go.usage.kept;
       changed = go.usage.changed;
       stale = go.usage.stale;
     }
@@ -137,7 +137,7 @@ module _ (a b c : DeviceState) (v mid v' : LogMemory) (n first : ℕ) (counts : 
   pub file_cut : Cuts a c v v' n first
   file_cut = record {
     looks = looks_then a b c lawful one.looks two;
-    memory = kept_memory mid v' one.memory go.usage.size go.chunk go.usage.used go.usage.taken go.usage.address (never_fresh mid.usage v'.usage go.usage.stale) go.capacity;
+    memory = kept_memory mid v' one.memory go.usage.size go.chunk go.usage.used go.usage.kept go.usage.address (never_fresh mid.usage v'.usage go.usage.stale) go.capacity;
     segments = go.usage.size ∙ one.segments;
     clean = go.usage.clean ∙ one.clean;
     chunk = go.chunk ∙ one.chunk;

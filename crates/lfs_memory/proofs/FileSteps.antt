@@ -1,7 +1,7 @@
 -- A block of a file goes to the next place.
 use Rattle.std.proofs.Common.{◌≡◌, ◌<◌, ◌+◌, ◌*◌, ℕ, zero, suc, Bool, true, false, not, List, [], ◌∷◌, ◌++◌, length, Option, Some, None, refl, sym, ◌∙◌, ap, subst, arith}
 use Rattle.std.specs.Prelude.{get_or}
-use Rattle.lfs_model.specs.Committing.{IsWritten}
+use Rattle.lfs_model.specs.Committing.{IsWritten, place_of}
 use Rattle.lfs_model.specs.declared.BlockKind.{BlockKind}
 use Rattle.lfs_model.specs.declared.BlockKind.TheVariants as kind
 use Rattle.lfs_model.specs.Checkpoint.{CheckpointValue}
@@ -21,7 +21,7 @@ use Rattle.lfs_segments.specs.Chunk.{Chunk, entries_of}
 use Rattle.lfs_segments.specs.Table.{UsageTable}
 use Rattle.lfs_memory.specs.declared.memory.LogMemory.{LogMemory}
 use Rattle.lfs_memory.specs.Memory.{IsMemory, IsLog, IsPointedAt, Places, GoesUpTo, Quiet, Stops, tables_by, segment_in, chunk_in}
-use Rattle.lfs_memory.proofs.Begun.{before, begun, noted, place_is, few_entries, opened_after, segment_after, segments_same, memory_after, free_place, placed_emptied}
+use Rattle.lfs_memory.proofs.Begun.{before, begun, noted, place_is, room_left, opened_after, segment_after, segments_same, memory_after, free_place, placed_emptied}
 use Rattle.lfs_memory.proofs.Opened.{as_chunk, stays_settled, stays_quiet}
 use Rattle.lfs_memory.proofs.Rooms.{takes_place}
 
@@ -94,9 +94,9 @@ module _ (v v' : LogMemory) (name : BlockNameValue) (lives : Bool) (age place : 
           let same_place = place_is v v' name lives age place memory p in
           let es = entries_of v.chunk in
           let running = begun v v' name lives age place memory p d k m0 m is in
-          let moved : Moves (blocks_of v.dirty) (blocks_of dirty') x (2 + 64 * v'.chunk.segment + suc (length es)) = subst (λ (n : ℕ). Moves (blocks_of v.dirty) (blocks_of dirty') x n) same_place moves in
+          let moved : Moves (blocks_of v.dirty) (blocks_of dirty') x (place_of (before v v' name lives age place memory p) v'.chunk.segment) = subst (λ (n : ℕ). Moves (blocks_of v.dirty) (blocks_of dirty') x n) same_place moves in
           let next = stepping d d' (blocks_of v.dirty) (blocks_of dirty') (before v v' name lives age place memory p) (tables_by map' v'.usage) k m0 m v'.chunk.segment es x bytes
-          running (few_entries v v' name lives age place memory p) low there (is.tight x bytes there)
+          running (room_left v v' name lives age place memory p) low there (is.tight x bytes there)
           (subst (λ (n : ℕ). IsWritten d d' n bytes) same_place (record { content = is_put keeps; crash = crash }))
           moved
           (noted v v' name lives age place memory p d k m0 m is x map' (hides ∙ shows m x f (is_hidden_in v.map f) of_file (is.hidden f few)) addressed) in
@@ -106,7 +106,7 @@ module _ (v v' : LogMemory) (name : BlockNameValue) (lives : Bool) (age place : 
                 (sym (opened_after v v' name lives age place memory p ∙ ap (λ (e : Entry). Some (es ++ e ∷ [])) named)) next;
             hidden = λ n lt. is.hidden n lt ∙ ap (λ (l : List Bool). get_or l n false) (sym points.hidden);
             segments = segments_same v v' name lives age place memory p ∙ is.segments;
-            tight = stepping_tight d (blocks_of v.dirty) (blocks_of dirty') (before v v' name lives age place memory p) k m0 m v'.chunk.segment es x bytes running (few_entries v v' name lives age place memory p) there moved is.tight;
+            tight = stepping_tight d (blocks_of v.dirty) (blocks_of dirty') (before v v' name lives age place memory p) k m0 m v'.chunk.segment es x bytes running (room_left v v' name lives age place memory p) there moved is.tight;
           }
 
       pub file_goes : dirty'.capacity ≡ v.dirty.capacity → d'.failures ≡ d.failures → GoesUpTo 63 d d' v after 1

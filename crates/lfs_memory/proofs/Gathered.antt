@@ -9,20 +9,20 @@ use Rattle.lfs_model.specs.Entry.{Entry, Inode, Map, Usage}
 use Rattle.lfs_model.specs.Laid.{IsLaid}
 use Rattle.lfs_model.specs.Lifting.{IsTaken}
 use Rattle.lfs_model.specs.Memory.{Memory, file_of, is_shown, is_held}
-use Rattle.lfs_model.specs.Running.{Dirty, Tables, Running, IsLifted, IsReaddressed}
-use Rattle.lfs_model.specs.Settled.{IsUnusedBy}
+use Rattle.lfs_model.specs.Running.{Dirty, Tables, Running, IsLifted, IsReaddressed, IsOpenAt}
+use Rattle.lfs_model.specs.Settled.{IsFreeFrom}
 use Rattle.lfs_model.specs.Staging.{IsAtAddress}
 use Rattle.lfs_model.specs.Stands.{LogMap}
 use Rattle.lfs_model.proofs.Counting.{unplaced_counts}
 use Rattle.lfs_model.proofs.Entries.{same_entry}
 use Rattle.lfs_model.proofs.Leaving.{left_memory, left_taken, left_cached, still_open}
 use Rattle.lfs_model.proofs.Outgoing.{map_lifting}
-use Rattle.lfs_model.proofs.Running.{taken_memory, addressed, lifted_tables, lifted_fresh, usage_kept}
+use Rattle.lfs_model.proofs.Running.{taken_memory, addressed, lifted_tables, lifted_fresh, usage_kept, part_same, kept_same}
 use Rattle.lfs_model.proofs.Settled.{settled_still}
 use Rattle.lfs_model.proofs.Staging.{fetching_traces}
 use Rattle.lfs_model.proofs.Tables.{map_table}
 use Rattle.lfs_segments.specs.Chunk.{Chunk}
-use Rattle.lfs_segments.specs.Table.{UsageTable, used_of, live_of, held_of, age_of, taken_of, address_of, stale_of}
+use Rattle.lfs_segments.specs.Table.{UsageTable, used_of, live_of, held_of, age_of, kept_of, address_of, stale_of}
 use Rattle.lfs_inodes.specs.Blocks.{blocks_of}
 use Rattle.lfs_inodes.specs.MapValue.{is_hidden_in, block_in}
 use Rattle.lfs_inodes.specs.Present.{present}
@@ -61,9 +61,9 @@ still_traced d d' v k m0 m looks is =
         cached = w.cached;
         tables = w.tables;
         fresh = w.fresh;
-        clean = λ i low z. subst (λ (c : Content). IsUnusedBy c k i) (sym same.content) (w.clean i low z);
-        taken = λ i on. let u = w.taken i on in (u.0, subst (λ (c : Content). IsUnusedBy c k i) (sym same.content) u.1);
-        opened = w.opened;
+        part = w.part;
+        kept = λ i low. subst (λ (c : Content). IsFreeFrom c k i (kept_of v.usage i)) (sym same.content) (w.kept i low);
+        opened = subst (λ (c : Content). IsOpenAt c w.memory (tables_of v) (segment_in v.chunk) (chunk_in v.chunk)) (sym same.content) w.opened;
       };
       hidden = is.hidden;
       segments = is.segments;
@@ -90,9 +90,9 @@ module _ (d : DeviceState) (dirty : Dirty) (t t' : Tables) (k : CheckpointValue)
           cached = left_cached d dirty t t' k m0 m seg chunk w (Map j) (map_table j) 1 (omega arith);
           tables = lifted_tables d.content m w.memory seg (Map j) 1 next t t' w.laid was p w.tables (subst (λ (a : ℕ). IsLifted m t t' (Map j) 1 (segment_of a)) (sym same) go);
           fresh = λ i off low. let no = lifted_fresh m t t' (Map j) 1 (segment_of (t.at (Map j))) go i off in no.1 (w.memory.bytes (Usage i)) (w.fresh i no.0 low);
-          clean = λ s low z. w.clean s low (sym (go.used s) ∙ z);
-          taken = λ s on. w.taken s (sym (go.taken s) ∙ on);
-          opened = still_open d dirty t t' k m0 m seg chunk w (Map j) (map_table j) 1 (omega arith) chunk w.opened go.taken;
+          part = part_same t t' go.used go.kept w.part;
+          kept = kept_same d.content k t t' go.kept w.kept;
+          opened = still_open d dirty t t' k m0 m seg chunk w (Map j) (map_table j) 1 (omega arith) chunk w.opened go.kept;
         },
         taken_traced w.memory (Map j) next p,
       )
@@ -117,9 +117,9 @@ module _ (d : DeviceState) (dirty : Dirty) (t t' : Tables) (k : CheckpointValue)
             held = λ s. go.held s ∙ w.tables.held s ∙ sym (counts (is_held m) s);
           };
           fresh = λ i off low. usage_kept t t' i (w.memory.bytes (Usage i)) (λ q lt. (go.used (64 * i + q), go.live (64 * i + q), go.age (64 * i + q))) (w.fresh i (sym (go.stale i) ∙ off) low);
-          clean = λ s low z. w.clean s low (sym (go.used s) ∙ z);
-          taken = λ s on. w.taken s (sym (go.taken s) ∙ on);
-          opened = still_open d dirty t t' k m0 m seg chunk w (Map j) (map_table j) 1 (omega arith) chunk w.opened go.taken;
+          part = part_same t t' go.used go.kept w.part;
+          kept = kept_same d.content k t t' go.kept w.kept;
+          opened = still_open d dirty t t' k m0 m seg chunk w (Map j) (map_table j) 1 (omega arith) chunk w.opened go.kept;
         },
         taken_traced w.memory (Map j) next p,
       )
@@ -149,7 +149,7 @@ module _ (d : DeviceState) (v v' : LogMemory) (k : CheckpointValue) (m0 m : LogM
         live = l.live;
         held = l.held;
         age = l.age;
-        taken = l.taken;
+        kept = l.kept;
         stale = l.blocks.stale;
       })))
 
@@ -165,7 +165,7 @@ module _ (d : DeviceState) (v v' : LogMemory) (k : CheckpointValue) (m0 m : LogM
         live = λ i. ap (λ (u : UsageTable). live_of u i) e;
         held = λ i. ap (λ (u : UsageTable). held_of u i) e;
         age = λ i. ap (λ (u : UsageTable). age_of u i) e;
-        taken = λ i. ap (λ (u : UsageTable). taken_of u i) e;
+        kept = λ i. ap (λ (u : UsageTable). kept_of u i) e;
         stale = λ i. ap (λ (u : UsageTable). stale_of u i) e;
       })))
 
@@ -176,7 +176,7 @@ two_or_less (suc (suc n)) = inr (inr (omega arith))
 
 -- ---- calls
 pub gathers_looks : (d d' : DeviceState) (v : LogMemory) → Looks d d' → Gathers d d' v v
-gathers_looks d d' v looks = record { used = λ s. refl; taken = λ s. refl; traces = λ k m0 m keeps is. still_traced d d' v k m0 m looks is }
+gathers_looks d d' v looks = record { used = λ s. refl; kept = λ s. refl; traces = λ k m0 m keeps is. still_traced d d' v k m0 m looks is }
 
 pub gathers_none : (d : DeviceState) (v v' : LogMemory) → v' ≡ v → Gathers d d v v'
 gathers_none d v v' same = subst (λ (w : LogMemory). Gathers d d v w) (sym same) (gathers_looks d d v (looks_none d))
@@ -184,7 +184,7 @@ gathers_none d v v' same = subst (λ (w : LogMemory). Gathers d d v w) (sym same
 pub gathers_then : (a b c : DeviceState) (v v' v'' : LogMemory) → (c.keeps_model → b.keeps_model) → Gathers a b v v' → Gathers b c v' v'' → Gathers a c v v''
 gathers_then a b c v v' v'' back one two = record {
   used = λ s. two.used s ∙ one.used s;
-  taken = λ s. two.taken s ∙ one.taken s;
+  kept = λ s. two.kept s ∙ one.kept s;
   traces = λ k m0 m keeps is.
       let first = one.traces k m0 m (back keeps) is in
       let second = two.traces k m0 m keeps first.0 in
@@ -197,14 +197,14 @@ map_gathers d v v' j go = ⊎_elim
     let e = go.added none in
     record {
       used = λ s. ap (λ (u : UsageTable). used_of u s) e;
-      taken = λ s. ap (λ (u : UsageTable). taken_of u s) e;
+      kept = λ s. ap (λ (u : UsageTable). kept_of u s) e;
       traces = λ k m0 m keeps is. added_now d v v' k m0 m is j go none;
     })
     (λ (some : (block_in v.map j ≡ 1) ⊎ (2 ≤ block_in v.map j)). ⊎_elim
     (λ (one : block_in v.map j ≡ 1). gathers_none d v v' (go.same one))
     (λ (above : 2 ≤ block_in v.map j).
     let l = go.lifted above in
-    record { used = l.used; taken = l.taken; traces = λ k m0 m keeps is. fetched_now d v v' k m0 m is j go above })
+    record { used = l.used; kept = l.kept; traces = λ k m0 m keeps is. fetched_now d v v' k m0 m is j go above })
     some)
     (two_or_less (block_in v.map j))
 
@@ -217,7 +217,7 @@ pub bring_gathers : (d d' : DeviceState) (v v' : LogMemory) (x : Entry) (f addre
     → Brings v v' x address lives bytes → Gathers d d' v v'
 bring_gathers d d' v v' x f address lives bytes looks file low at above is_lives mapped read go = record {
   used = go.usage.used;
-  taken = go.usage.taken;
+  kept = go.usage.kept;
   traces = λ k m0 m keeps is.
       let first = still_traced d d' v k m0 m looks is in
       let now = first.0 in

@@ -14,7 +14,7 @@ use Rattle.lfs_model.specs.Stands.{LogMap}
 use Rattle.lfs_model.proofs.Headers.{header_changing, file_creating}
 use Rattle.lfs_inodes.specs.Blocks.{blocks_of}
 use Rattle.lfs_inodes.specs.MapValue.{MapValue, address_in, block_in, is_hidden_in}
-use Rattle.lfs_segments.specs.Table.{UsageTable, used_of, live_of, held_of, age_of, taken_of, stale_of}
+use Rattle.lfs_segments.specs.Table.{UsageTable, used_of, live_of, held_of, age_of, kept_of, stale_of}
 use Rattle.lfs_memory.specs.declared.memory.LogMemory.{LogMemory}
 use Rattle.lfs_memory.specs.Memory.{IsLoose, AreHidden, table_at, tables_of, segment_in, chunk_in}
 use Rattle.lfs_memory.specs.Changing.{FitsHeader, ChangesHeader, Creates, headed, header_with, with_header}
@@ -79,7 +79,7 @@ module _ (v v' : LogMemory) (n : ℕ) (kind : Kind) (links size : ℕ) (go : Cre
     live = λ i. ap (λ (u : UsageTable). live_of u i) go.usage;
     held = λ i. ap (λ (u : UsageTable). held_of u i) go.usage;
     age = λ i. ap (λ (u : UsageTable). age_of u i) go.usage;
-    taken = λ i. ap (λ (u : UsageTable). taken_of u i) go.usage;
+    kept = λ i. ap (λ (u : UsageTable). kept_of u i) go.usage;
     stale = λ i. ap (λ (u : UsageTable). stale_of u i) go.usage;
   }
 

@@ -20,13 +20,13 @@ use Rattle.lfs_model.proofs.Replacing.{address_at, block_replacing}
 use Rattle.lfs_model.proofs.Running.{taken_memory, is_taken}
 use Rattle.lfs_model.proofs.Staging.{fetching, map_fetching, map_adding}
 use Rattle.lfs_model.proofs.Tables.{map_table, usage_table}
-use Rattle.lfs_segments.specs.Chunk.{Chunk}
-use Rattle.lfs_segments.specs.Table.{UsageTable, used_of, live_of, held_of, age_of, taken_of, address_of, stale_of, clean_in}
+use Rattle.lfs_segments.specs.Chunk.{Chunk, room_in}
+use Rattle.lfs_segments.specs.Table.{UsageTable, used_of, live_of, held_of, age_of, kept_of, address_of, stale_of, clean_in}
 use Rattle.lfs_inodes.specs.Blocks.{Capacity, TableValue, blocks_of}
 use Rattle.lfs_inodes.specs.MapValue.{MapValue, address_in, is_hidden_in, block_in}
 use Rattle.lfs_inodes.specs.Present.{present}
 use Rattle.lfs_memory.specs.declared.memory.LogMemory.{LogMemory}
-use Rattle.lfs_memory.specs.Memory.{IsMemory, IsLoose, AreHidden, tables_of, segment_in, chunk_in, room_in, room_of}
+use Rattle.lfs_memory.specs.Memory.{IsMemory, IsLoose, AreHidden, tables_of, segment_in, chunk_in, room_of}
 use Rattle.lfs_memory.specs.Present.{Looks, IsMissing, FailsFromDevice}
 use Rattle.lfs_memory.specs.Lifting.{IsInMemory, Prepares, IsCountedAbove, Brings, MapLifts, IsMapLost}
 use Rattle.lfs_memory.proofs.Presents.{looks_none, looks_then, still_log, not_missing}
@@ -64,9 +64,9 @@ top_is_inode (Usage j) file top = absurd (usage_table j file)
 
 -- ---- memory
 pub kept_memory : (v v' : LogMemory) → IsMemory v → length v'.usage.segments ≡ length v.usage.segments → v'.chunk ≡ v.chunk → ((s : ℕ) → used_of v'.usage s ≡ used_of v.usage s)
-    → ((s : ℕ) → taken_of v'.usage s ≡ taken_of v.usage s) → ((j : ℕ) → address_of v'.usage j ≡ address_of v.usage j) → ((j : ℕ) → stale_of v.usage j ≡ true → stale_of v'.usage j ≡ true)
+    → ((s : ℕ) → kept_of v'.usage s ≡ kept_of v.usage s) → ((j : ℕ) → address_of v'.usage j ≡ address_of v.usage j) → ((j : ℕ) → stale_of v.usage j ≡ true → stale_of v'.usage j ≡ true)
     → v'.dirty.capacity ≡ v.dirty.capacity → IsMemory v'
-kept_memory v v' memory size chunk used taken address stale capacity = record {
+kept_memory v v' memory size chunk used kept address stale capacity = record {
   count = let c = memory.count in record {
     least = let l = c.least in omega (arith, l, size);
     most = let l = c.most in omega (arith, l, size);
@@ -75,13 +75,12 @@ kept_memory v v' memory size chunk used taken address stale capacity = record {
   opened = λ some.
       let o = memory.opened (subst (λ (c : Chunk). 0 < length c.names) chunk some) in
       let s : v'.chunk.segment ≡ v.chunk.segment = ap (λ (c : Chunk). c.segment) chunk in
-      let n : length v'.chunk.names ≡ length v.chunk.names = ap (λ (c : Chunk). length c.names) chunk in
       record {
         inside = let i = o.inside in omega (arith, i, s, size);
-        used = ap (used_of v'.usage) s ∙ used v.chunk.segment ∙ o.used ∙ ap suc (sym n);
-        taken = ap (taken_of v'.usage) s ∙ taken v.chunk.segment ∙ o.taken;
+        used = ap (used_of v'.usage) s ∙ used v.chunk.segment ∙ o.used ∙ sym (ap (λ (c : Chunk). c.start + suc (length c.names)) chunk);
+        free = let a = ap (kept_of v'.usage) s in let k = kept v.chunk.segment in let f = o.free in let c = ap (λ (c : Chunk). c.start) chunk in omega (arith, a, k, f, c);
       };
-  short = let s = memory.short in let n : length v'.chunk.names ≡ length v.chunk.names = ap (λ (c : Chunk). length c.names) chunk in omega (arith, s, n);
+  short = subst (λ (c : Chunk). 0 < length c.names → c.start + length c.names ≤ 62) (sym chunk) memory.short;
   usages = λ j one. stale j (memory.usages j (sym (address j) ∙ one));
   few = let f = memory.few in let c = ap (λ (c : Capacity). c.limit) capacity in omega (arith, f, c, size);
 }
@@ -155,7 +154,7 @@ module _ (d : DeviceState) (v : LogMemory) (k : CheckpointValue) (m0 m : LogMap)
       live = subst (λ (b : Bool). CountsDown b (live_of v.usage) (live_of v'.usage) (segment_of address)) (sym shows) go.usage.live;
       held = subst (λ (b : Bool). CountsDown (not b) (held_of v.usage) (held_of v'.usage) (segment_of address)) (sym shows) go.usage.held;
       age = go.usage.age;
-      taken = go.usage.taken;
+      kept = go.usage.kept;
       stale = go.usage.blocks.stale;
     }
 
@@ -252,7 +251,7 @@ module _ (d : DeviceState) (v : LogMemory) (k : CheckpointValue) (m0 m : LogMap)
           live = l.live;
           held = l.held;
           age = l.age;
-          taken = l.taken;
+          kept = l.kept;
           stale = l.blocks.stale;
         }))
 
@@ -265,7 +264,7 @@ module _ (d : DeviceState) (v : LogMemory) (k : CheckpointValue) (m0 m : LogMap)
           live = λ i. ap (λ (u : UsageTable). live_of u i) (go.added none);
           held = λ i. ap (λ (u : UsageTable). held_of u i) (go.added none);
           age = λ i. ap (λ (u : UsageTable). age_of u i) (go.added none);
-          taken = λ i. ap (λ (u : UsageTable). taken_of u i) (go.added none);
+          kept = λ i. ap (λ (u : UsageTable). kept_of u i) (go.added none);
           stale = λ i. ap (λ (u : UsageTable). stale_of u i) (go.added none);
         }))
 
@@ -285,7 +284,7 @@ prepares_looks d d' v lawful memory looks = record {
   memory = memory;
   segments = refl;
   clean = refl;
-  taken = λ s. refl;
+  kept = λ s. refl;
   chunk = refl;
   capacity = refl;
   few = omega arith;
@@ -304,7 +303,7 @@ prepares_then a b c v v' v'' n l lawful one two =
       memory = two.memory;
       segments = two.segments ∙ one.segments;
       clean = two.clean ∙ one.clean;
-      taken = λ s. two.taken s ∙ one.taken s;
+      kept = λ s. two.kept s ∙ one.kept s;
       chunk = two.chunk ∙ one.chunk;
       capacity = two.capacity ∙ one.capacity;
       few = let x = one.few in let y = two.few in omega (arith, x, y);
@@ -321,7 +320,7 @@ prepares_at_most a b v v' n l le one = record {
   memory = one.memory;
   segments = one.segments;
   clean = one.clean;
-  taken = one.taken;
+  kept = one.kept;
   chunk = one.chunk;
   capacity = one.capacity;
   few = let x = one.few in omega (arith, x, le);
@@ -333,7 +332,7 @@ prepares_at_most a b v v' n l le one = record {
 }
 
 pub prepares_room : (a b : DeviceState) (v v' : LogMemory) (n : ℕ) → Prepares a b v v' n → room_of v' ≡ room_of v
-prepares_room a b v v' n one = ap₂ (λ (c r : ℕ). 63 * c + r) one.clean (ap (λ (c : Chunk). room_in c.names) one.chunk)
+prepares_room a b v v' n one = ap₂ (λ (c r : ℕ). 63 * c + r) one.clean (ap room_in one.chunk)
 
 pub prepares_excused : (a b c : DeviceState) (v v' : LogMemory) (n : ℕ) → Prepares a b v v' n → Looks b c → FailsFromDevice b c v' → FailsFromDevice a c v
 prepares_excused a b c v v' n one two failed k m0 m keeps is =
@@ -350,7 +349,7 @@ on_device content dirty x a ne = cond-false _ _ _ (not_one a ne)
     not_one a ne = grind (arith, nat_tests)
 
 pub brings_memory : (v v' : LogMemory) (x : Entry) (address : ℕ) (lives : Bool) (bytes : List ℕ) → IsMemory v → Brings v v' x address lives bytes → IsMemory v'
-brings_memory v v' x address lives bytes memory go = kept_memory v v' memory go.usage.size go.chunk go.usage.used go.usage.taken go.usage.blocks.address
+brings_memory v v' x address lives bytes memory go = kept_memory v v' memory go.usage.size go.chunk go.usage.used go.usage.kept go.usage.blocks.address
     (λ j. stays_stale v.usage v'.usage (segment_of address / 64) j go.usage.blocks) go.capacity
 
 pub bring_prepares : (d d' : DeviceState) (v v' : LogMemory) (x : Entry) (f address : ℕ) (lives : Bool) (bytes : List ℕ) → IsLawful d → IsMemory v → Looks d d'
@@ -362,7 +361,7 @@ bring_prepares d d' v v' x f address lives bytes lawful memory looks file low at
   memory = brings_memory v v' x address lives bytes memory go;
   segments = go.usage.size;
   clean = go.usage.clean;
-  taken = go.usage.taken;
+  kept = go.usage.kept;
   chunk = go.chunk;
   capacity = go.capacity;
   few = go.few;
@@ -399,14 +398,14 @@ pub map_prepares : (d : DeviceState) (v v' : LogMemory) (j : ℕ) → IsLawful d
 map_prepares d v v' j lawful memory go = ⊎_elim
     (λ (above : 2 ≤ block_in v.map j).
     let l = go.lifted above in
-    made (kept_memory v v' memory l.size go.chunk l.used l.taken l.blocks.address (λ i. stays_stale v.usage v'.usage (segment_of (block_in v.map j) / 64) i l.blocks) capacity) l.size l.clean l.taken)
+    made (kept_memory v v' memory l.size go.chunk l.used l.kept l.blocks.address (λ i. stays_stale v.usage v'.usage (segment_of (block_in v.map j) / 64) i l.blocks) capacity) l.size l.clean l.kept)
     (λ (small : block_in v.map j < 2). ⊎_elim
     (λ (none : block_in v.map j ≡ 0).
     let e = go.added none in
     let size = ap (λ (u : UsageTable). length u.segments) e in
-    made (kept_memory v v' memory size go.chunk (λ s. ap (λ (u : UsageTable). used_of u s) e) (λ s. ap (λ (u : UsageTable). taken_of u s) e) (λ i. ap (λ (u : UsageTable). address_of u i) e)
+    made (kept_memory v v' memory size go.chunk (λ s. ap (λ (u : UsageTable). used_of u s) e) (λ s. ap (λ (u : UsageTable). kept_of u s) e) (λ i. ap (λ (u : UsageTable). address_of u i) e)
     (λ i on. ap (λ (u : UsageTable). stale_of u i) e ∙ on) capacity)
-    size (ap (λ (u : UsageTable). clean_in u.segments) e) (λ s. ap (λ (u : UsageTable). taken_of u s) e))
+    size (ap (λ (u : UsageTable). clean_in u.segments) e) (λ s. ap (λ (u : UsageTable). kept_of u s) e))
     (λ (some : block_in v.map j ≡ 0 → ⊥). subst (λ (w : LogMemory). Prepares d d v w 0) (sym (go.same (omega (arith, small, some)))) (prepares_looks d d v lawful memory (looks_none d)))
     (cases_eq (block_in v.map j) 0))
     (two_or_less (block_in v.map j))
@@ -419,13 +418,13 @@ map_prepares d v v' j lawful memory go = ⊎_elim
     capacity : v'.dirty.capacity ≡ v.dirty.capacity
     capacity = ap (λ (t : TableValue). t.capacity) go.dirty
 
-    made : IsMemory v' → length v'.usage.segments ≡ length v.usage.segments → clean_in v'.usage.segments ≡ clean_in v.usage.segments → ((s : ℕ) → taken_of v'.usage s ≡ taken_of v.usage s) → Prepares d d v v' 0
-    made memory' size clean taken = record {
+    made : IsMemory v' → length v'.usage.segments ≡ length v.usage.segments → clean_in v'.usage.segments ≡ clean_in v.usage.segments → ((s : ℕ) → kept_of v'.usage s ≡ kept_of v.usage s) → Prepares d d v v' 0
+    made memory' size clean kept = record {
       looks = looks_none d;
       memory = memory';
       segments = size;
       clean = clean;
-      taken = taken;
+      kept = kept;
       chunk = go.chunk;
       capacity = capacity;
       few = let e = ap (λ (t : TableValue). length t.blocks) go.dirty in omega (arith, e);

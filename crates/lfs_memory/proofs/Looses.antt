@@ -35,7 +35,7 @@ pub stays_memory : (v v' : LogMemory) → IsMemory v → v'.chunk ≡ v.chunk �
 stays_memory v v' memory chunk segments opened same stale capacity = record {
   count = subst IsSegmentCount (sym segments) memory.count;
   opened = λ some. subst (λ (c : Chunk). IsOpenChunk c v'.usage) (sym chunk) (opened (memory.opened (subst (λ (c : Chunk). 0 < length c.names) chunk some)));
-  short = subst (λ (c : Chunk). length c.names ≤ 62) (sym chunk) memory.short;
+  short = subst (λ (c : Chunk). 0 < length c.names → c.start + length c.names ≤ 62) (sym chunk) memory.short;
   usages = λ j one. stale j (memory.usages j (sym (same j) ∙ one));
   few = let f = memory.few in let c = ap (λ (c : Capacity). c.limit) capacity in omega (arith, f, c, segments);
 }
@@ -49,7 +49,7 @@ lifted_open : (c : Chunk) (old new : UsageTable) (s : ℕ) (lives : Bool) → Li
 lifted_open c old new s lives go is = record {
   inside = subst (λ (n : ℕ). c.segment < n) (sym go.size) is.inside;
   used = go.used c.segment ∙ is.used;
-  taken = go.taken c.segment ∙ is.taken;
+  free = let k = go.kept c.segment in let f = is.free in omega (arith, k, f);
 }
 
 pub below_or : (a : ℕ) (P : Type 0) → (a < 2 → P) → (2 ≤ a → P) → P
@@ -114,7 +114,7 @@ lifts_tables m map map' old new x s w lives same go shows below = record {
   live = subst (λ (b : Bool). CountsDown b (live_of old) (live_of new) s) shows go.live;
   held = subst (λ (b : Bool). CountsDown (not b) (held_of old) (held_of new) s) shows go.held;
   age = go.age;
-  taken = go.taken;
+  kept = go.kept;
   stale = go.blocks.stale;
 }
 

@@ -1,5 +1,5 @@
 -- What a call of the device leaves of the log, and the chunk that is being written.
-use Rattle.std.proofs.Common.{◌≡◌, ◌<◌, ◌+◌, ◌*◌, ◌==◌, cond, ℕ, Bool, true, List, length, Option, Some, None, refl, ap, subst, arith}
+use Rattle.std.proofs.Common.{◌≡◌, ◌<◌, ◌≤◌, ◌+◌, ◌*◌, ◌==◌, cond, ℕ, Bool, true, List, length, Option, Some, None, refl, ap, subst, arith}
 use Rattle.lfs_model.specs.Checkpoint.{CheckpointValue}
 use Rattle.lfs_model.specs.Content.{Content}
 use Rattle.lfs_model.specs.Crash.{IsFreeSector, StandsOn}
@@ -53,8 +53,8 @@ module _ (d d' : DeviceState) (k : CheckpointValue) (m0 : LogMap) (at : ℕ) (by
       let P : Content → Type 0 = λ c. StandsOn k.segments c m0 in
       goes_on d d d' P (started d P lawful (settled_stands d k m0 settled)) carries time (settled_stands d' k m0 stays_settled)
 
--- a sector of a segment that was taken
+-- a sector that the acknowledged checkpoint has no use for
 pub taken_free : (d : DeviceState) (dirty : Dirty) (t : Tables) (k : CheckpointValue) (m0 m : LogMap) (seg : ℕ) (chunk : Option (List Entry)) → Running d dirty t k m0 m seg chunk
-    → (s place : ℕ) → t.taken s ≡ true → place < 64 → IsFreeSector d.content k (2 + 64 * s + place)
-taken_free d dirty t k m0 m seg chunk w s place taken low =
-    let u = w.taken s taken in record { segment = s; place = place; is = refl; within = low; below = u.0; unused = let z = u.1 in omega (arith, z) }
+    → (s place : ℕ) → s < k.segments → t.kept s ≤ place → place < 64 → IsFreeSector d.content k (2 + 64 * s + place)
+taken_free d dirty t k m0 m seg chunk w s place below free low =
+    record { segment = s; place = place; is = refl; within = low; below = below; unused = let u = w.kept s below in omega (arith, u, free) }

@@ -73,7 +73,7 @@ module _ (d : DeviceState) (v v' : LogMemory) (k : CheckpointValue) (m0 m : LogM
       named = named_counts d v k m0 m is n low lives shown v'.usage counts go.usage;
       nameless = nameless_counts d v k m0 m is n low lives shown v'.usage counts go.usage;
       age = go.usage.age;
-      taken = go.usage.taken;
+      kept = go.usage.kept;
       changed = go.usage.changed;
       stale = go.usage.stale;
     }
@@ -110,10 +110,10 @@ module _ (a b : DeviceState) (v mid : LogMemory) (n : ℕ) (lives : Bool) (count
   pub file_removed : (v' : LogMemory) → DropsFile mid v' n lives counts → (is_hidden_in mid.map n ≡ false → block_in mid.map (n / 128) ≡ 1) → RemovesFile a b v v' n
   file_removed v' go mapped = record {
     looks = looks;
-    memory = kept_memory mid v' first.memory go.usage.size go.chunk go.usage.used go.usage.taken go.usage.address (never_fresh mid.usage v'.usage go.usage.stale) go.capacity;
+    memory = kept_memory mid v' first.memory go.usage.size go.chunk go.usage.used go.usage.kept go.usage.address (never_fresh mid.usage v'.usage go.usage.stale) go.capacity;
     segments = go.usage.size ∙ first.segments;
     clean = go.usage.clean ∙ first.clean;
-    taken = λ s. go.usage.taken s ∙ first.taken s;
+    kept = λ s. go.usage.kept s ∙ first.kept s;
     chunk = go.chunk ∙ first.chunk;
     capacity = go.capacity ∙ first.capacity;
     few = let x = first.few in let y = go.few in omega (arith, x, y);

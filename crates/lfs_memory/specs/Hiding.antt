@@ -8,7 +8,7 @@ use Rattle.lfs_model.specs.Entry.{Entry, Inode}
 use Rattle.lfs_model.specs.Running.{IsSet}
 use Rattle.lfs_model.specs.Staging.{ChangesTo}
 use Rattle.lfs_model.specs.Stands.{LogMap}
-use Rattle.lfs_segments.specs.Table.{UsageTable, used_of, live_of, held_of, age_of, taken_of, address_of, stale_of, clean_in}
+use Rattle.lfs_segments.specs.Table.{UsageTable, used_of, live_of, held_of, age_of, kept_of, address_of, stale_of, clean_in}
 use Rattle.lfs_inodes.specs.Blocks.{blocks_of}
 use Rattle.lfs_inodes.specs.MapValue.{address_in, is_hidden_in, block_in}
 use Rattle.lfs_memory.specs.declared.memory.LogMemory.{LogMemory}
@@ -24,7 +24,7 @@ pub record HidesCounts (old new : UsageTable) (counts : ℕ → ℕ) : Type 0 wh
   pub live : (s : ℕ) → live_of new s + counts s ≡ live_of old s
   pub held : (s : ℕ) → held_of new s ≡ counts s + held_of old s
   pub age : (s : ℕ) → age_of new s ≡ age_of old s
-  pub taken : (s : ℕ) → taken_of new s ≡ taken_of old s
+  pub kept : (s : ℕ) → kept_of new s ≡ kept_of old s
   pub address : (j : ℕ) → address_of new j ≡ address_of old j
   pub changed : (s : ℕ) → 0 < counts s → stale_of new (s / 64) ≡ true
   pub stale : (j : ℕ) → stale_of new j ≡ false → stale_of old j ≡ false

@@ -8,7 +8,7 @@ use Rattle.lfs_model.specs.Memory.{Memory, parent}
 use Rattle.lfs_model.specs.Running.{IsSet}
 use Rattle.lfs_model.specs.Staging.{Fetches}
 use Rattle.lfs_model.specs.Stands.{LogMap}
-use Rattle.lfs_segments.specs.Table.{UsageTable, used_of, live_of, held_of, taken_of, clean_in}
+use Rattle.lfs_segments.specs.Table.{UsageTable, used_of, live_of, held_of, kept_of, clean_in}
 use Rattle.lfs_segments.specs.Steps.{Lifts}
 use Rattle.lfs_inodes.specs.Blocks.{blocks_of}
 use Rattle.lfs_inodes.specs.MapValue.{address_in, block_in}
@@ -25,7 +25,7 @@ pub record Prepares (d d' : DeviceState) (v v' : LogMemory) (most : ℕ) : Type 
   pub memory : IsMemory v'
   pub segments : length v'.usage.segments ≡ length v.usage.segments
   pub clean : clean_in v'.usage.segments ≡ clean_in v.usage.segments
-  pub taken : (s : ℕ) → taken_of v'.usage s ≡ taken_of v.usage s
+  pub kept : (s : ℕ) → kept_of v'.usage s ≡ kept_of v.usage s
   pub chunk : v'.chunk ≡ v.chunk
   pub capacity : v'.dirty.capacity ≡ v.dirty.capacity
   pub few : length v'.dirty.blocks ≤ length v.dirty.blocks + most
@@ -42,7 +42,7 @@ HasTraces M M' = (y : Entry) → 2 ≤ M'.at y → M.at y ≡ M'.at y
 -- Blocks leave their addresses for memory alone: no segment gets another one.
 pub record Gathers (d d' : DeviceState) (v v' : LogMemory) : Type 0 where
   pub used : (s : ℕ) → used_of v'.usage s ≡ used_of v.usage s
-  pub taken : (s : ℕ) → taken_of v'.usage s ≡ taken_of v.usage s
+  pub kept : (s : ℕ) → kept_of v'.usage s ≡ kept_of v.usage s
   pub traces : (k : CheckpointValue) (m0 m : LogMap) → d'.keeps_model → (is : IsLoose d v k m0 m) → (is' : IsLoose d' v' k m0 m) × HasTraces is.running.memory is'.running.memory
 
 -- the block at this address is counted where it stands, among those that live there or those that hold the segment

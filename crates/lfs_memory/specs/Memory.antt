@@ -9,10 +9,10 @@ use Rattle.lfs_model.specs.Summary.{BlockNameValue}
 use Rattle.lfs_model.specs.Memory.{is_nameless}
 use Rattle.lfs_model.specs.Running.{IsTight, Tables, Running, IsSet}
 use Rattle.lfs_model.specs.Settled.{IsSettled}
-use Rattle.lfs_segments.specs.Table.{UsageTable, used_of, live_of, held_of, age_of, taken_of, address_of, stale_of, clean_in}
-use Rattle.lfs_segments.specs.Chunk.{Chunk, IsOpenChunk, entries_of}
+use Rattle.lfs_segments.specs.Table.{UsageTable, used_of, live_of, held_of, age_of, kept_of, address_of, stale_of, clean_in}
+use Rattle.lfs_segments.specs.Chunk.{Chunk, IsOpenChunk, entries_of, room_in}
 use Rattle.lfs_segments.specs.Emptied.{IsEmptied}
-use Rattle.lfs_segments.specs.Steps.{TakesSegment, Notes}
+use Rattle.lfs_segments.specs.Steps.{Begins, Notes}
 use Rattle.lfs_inodes.specs.Blocks.{blocks_of}
 use Rattle.lfs_inodes.specs.MapValue.{MapValue, address_in, is_hidden_in, block_in}
 use Rattle.lfs_memory.specs.declared.memory.LogMemory.{LogMemory}
@@ -33,7 +33,7 @@ tables_by map usage = record {
   live = live_of usage;
   held = held_of usage;
   age = age_of usage;
-  taken = taken_of usage;
+  kept = kept_of usage;
   stale = stale_of usage;
 }
 
@@ -47,18 +47,16 @@ segment_in c = cond (length c.names == 0) 1024 c.segment
 abbrev pub chunk_in : Chunk → Option (List Entry)
 chunk_in c = cond (length c.names == 0) None (Some (entries_of c))
 
--- how many blocks the chunk that is being written still takes, and so does each clean segment
-abbrev pub room_in : List BlockNameValue → ℕ
-room_in names = cond (length names == 0) 0 (63 - length names)
-
+-- how many blocks find a place, in the chunk that has begun and in the clean segments
 abbrev pub room_of : LogMemory → ℕ
-room_of v = 63 * clean_in v.usage.segments + room_in v.chunk.names
+room_of v = 63 * clean_in v.usage.segments + room_in v.chunk
 
--- What holds of memory over any device, the chunk having at most so many blocks.
+-- What holds of memory over any device. Behind the first sector of its segment the chunk takes so
+-- many sectors at most.
 pub record IsMemoryUpTo (most : ℕ) (v : LogMemory) : Type 0 where
   pub count : IsSegmentCount (length v.usage.segments)
   pub opened : 0 < length v.chunk.names → IsOpenChunk v.chunk v.usage
-  pub short : length v.chunk.names ≤ most
+  pub short : 0 < length v.chunk.names → v.chunk.start + length v.chunk.names ≤ most
   -- a usage block that left its address isn't as the device has it
   pub usages : (j : ℕ) → address_of v.usage j ≡ 1 → stale_of v.usage j ≡ true
   -- no more blocks of files than a cleaning pass may write into the segments that it may take
@@ -116,16 +114,17 @@ pub record Stops (d d' : DeviceState) (v : LogMemory) : Type 0 where
   pub settled : (k : CheckpointValue) (m0 m : LogMap) → d'.keeps_model → IsLog d v k m0 m → IsSettled d' k m0
   pub quiet : Quiet d d' v
 
--- A block gets the next place: of the chunk that is being written, or of one that begins in a clean segment.
+-- A block gets the first free place of its segment, in the chunk that is being written or in one that begins.
 pub record Places (v v' : LogMemory) (name : BlockNameValue) (lives : Bool) (age place : ℕ) : Type 0 where
   pub map : v'.map ≡ v.map
   pub dirty : v'.dirty ≡ v.dirty
   pub middle : UsageTable
-  pub begun : length v.chunk.names ≡ 0 → TakesSegment v.usage middle v'.chunk.segment age
-  pub went_on : 0 < length v.chunk.names → (middle ≡ v.usage) × (v'.chunk.segment ≡ v.chunk.segment)
+  pub begun : length v.chunk.names ≡ 0 → Begins v.usage middle v'.chunk.segment age
+  pub went_on : 0 < length v.chunk.names
+      → (middle ≡ v.usage) × (v'.chunk.segment ≡ v.chunk.segment) × (v'.chunk.start ≡ v.chunk.start)
   pub noted : Notes middle v'.usage v'.chunk.segment lives
   pub names : v'.chunk.names ≡ v.chunk.names ++ name ∷ []
-  pub address : place ≡ 2 + 64 * v'.chunk.segment + suc (length v.chunk.names)
+  pub address : place ≡ 2 + 64 * v'.chunk.segment + used_of middle v'.chunk.segment
   pub opened : IsOpenChunk v'.chunk v'.usage
 
 -- The inode map points to x at this place, if x is an inode, and to the others as before.

@@ -7,7 +7,7 @@ use Rattle.lfs_model.specs.Entry.{Entry}
 use Rattle.lfs_model.specs.Memory.{file_of}
 use Rattle.lfs_model.specs.Running.{IsSet}
 use Rattle.lfs_model.specs.Stands.{LogMap}
-use Rattle.lfs_segments.specs.Table.{UsageTable, used_of, live_of, held_of, age_of, taken_of, address_of, stale_of, clean_in}
+use Rattle.lfs_segments.specs.Table.{UsageTable, used_of, live_of, held_of, age_of, kept_of, address_of, stale_of, clean_in}
 use Rattle.lfs_inodes.specs.Blocks.{blocks_of}
 use Rattle.lfs_inodes.specs.MapValue.{address_in, is_hidden_in, block_in}
 use Rattle.lfs_memory.specs.declared.memory.LogMemory.{LogMemory}
@@ -39,7 +39,7 @@ pub record TakesCounts (old new : UsageTable) (lives : Bool) (counts : ℕ → �
   pub live : (s : ℕ) → live_of new s + cond lives (counts s) 0 ≡ live_of old s
   pub held : (s : ℕ) → held_of new s + cond (not lives) (counts s) 0 ≡ held_of old s
   pub age : (s : ℕ) → age_of new s ≡ age_of old s
-  pub taken : (s : ℕ) → taken_of new s ≡ taken_of old s
+  pub kept : (s : ℕ) → kept_of new s ≡ kept_of old s
   pub address : (j : ℕ) → address_of new j ≡ address_of old j
   pub changed : (s : ℕ) → 0 < counts s → stale_of new (s / 64) ≡ true
   pub stale : (j : ℕ) → stale_of new j ≡ false → stale_of old j ≡ false
@@ -70,7 +70,7 @@ pub record RemovesFile (d d' : DeviceState) (v v' : LogMemory) (n : ℕ) : Type 
   pub memory : IsMemory v'
   pub segments : length v'.usage.segments ≡ length v.usage.segments
   pub clean : clean_in v'.usage.segments ≡ clean_in v.usage.segments
-  pub taken : (s : ℕ) → taken_of v'.usage s ≡ taken_of v.usage s
+  pub kept : (s : ℕ) → kept_of v'.usage s ≡ kept_of v.usage s
   pub chunk : v'.chunk ≡ v.chunk
   pub capacity : v'.dirty.capacity ≡ v.dirty.capacity
   pub few : length v'.dirty.blocks ≤ length v.dirty.blocks

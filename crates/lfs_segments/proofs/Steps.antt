@@ -123,6 +123,7 @@ pub goes_on : (segments : List SegmentNumbers) (blocks : List PlaceInSegment) (s
 goes_on segments blocks s age x lt low some room fits used live held aged kept = record {
   inside = lt;
   some = some;
+  begun = let f = fits.fewer in omega arith;
   room = room;
   used = set_to _ _ s x.used _ used (is_set (λ n. n.used) segments s x lt);
   live = is_same (λ n. n.live) segments s x lt live;

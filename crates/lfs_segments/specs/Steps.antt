@@ -73,6 +73,7 @@ pub record TakesSegment (old new : UsageTable) (s number : ℕ) : Type 0 where
 pub record GoesOn (old new : UsageTable) (s number : ℕ) : Type 0 where
   pub inside : s < length old.segments
   pub some : 0 < live_of old s + held_of old s
+  pub begun : 0 < used_of old s
   pub room : used_of old s ≤ 62
   pub used : IsSet (used_of old) (used_of new) s (suc (used_of old s))
   pub live : (i : ℕ) → live_of new i ≡ live_of old i
