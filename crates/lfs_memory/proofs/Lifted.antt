@@ -284,6 +284,7 @@ prepares_looks d d' v lawful memory looks = record {
   memory = memory;
   segments = refl;
   clean = refl;
+  used = λ s. refl;
   kept = λ s. refl;
   chunk = refl;
   capacity = refl;
@@ -303,6 +304,7 @@ prepares_then a b c v v' v'' n l lawful one two =
       memory = two.memory;
       segments = two.segments ∙ one.segments;
       clean = two.clean ∙ one.clean;
+      used = λ s. two.used s ∙ one.used s;
       kept = λ s. two.kept s ∙ one.kept s;
       chunk = two.chunk ∙ one.chunk;
       capacity = two.capacity ∙ one.capacity;
@@ -320,6 +322,7 @@ prepares_at_most a b v v' n l le one = record {
   memory = one.memory;
   segments = one.segments;
   clean = one.clean;
+  used = one.used;
   kept = one.kept;
   chunk = one.chunk;
   capacity = one.capacity;
@@ -361,6 +364,7 @@ bring_prepares d d' v v' x f address lives bytes lawful memory looks file low at
   memory = brings_memory v v' x address lives bytes memory go;
   segments = go.usage.size;
   clean = go.usage.clean;
+  used = go.usage.used;
   kept = go.usage.kept;
   chunk = go.chunk;
   capacity = go.capacity;
@@ -398,14 +402,14 @@ pub map_prepares : (d : DeviceState) (v v' : LogMemory) (j : ℕ) → IsLawful d
 map_prepares d v v' j lawful memory go = ⊎_elim
     (λ (above : 2 ≤ block_in v.map j).
     let l = go.lifted above in
-    made (kept_memory v v' memory l.size go.chunk l.used l.kept l.blocks.address (λ i. stays_stale v.usage v'.usage (segment_of (block_in v.map j) / 64) i l.blocks) capacity) l.size l.clean l.kept)
+    made (kept_memory v v' memory l.size go.chunk l.used l.kept l.blocks.address (λ i. stays_stale v.usage v'.usage (segment_of (block_in v.map j) / 64) i l.blocks) capacity) l.size l.clean l.used l.kept)
     (λ (small : block_in v.map j < 2). ⊎_elim
     (λ (none : block_in v.map j ≡ 0).
     let e = go.added none in
     let size = ap (λ (u : UsageTable). length u.segments) e in
     made (kept_memory v v' memory size go.chunk (λ s. ap (λ (u : UsageTable). used_of u s) e) (λ s. ap (λ (u : UsageTable). kept_of u s) e) (λ i. ap (λ (u : UsageTable). address_of u i) e)
     (λ i on. ap (λ (u : UsageTable). stale_of u i) e ∙ on) capacity)
-    size (ap (λ (u : UsageTable). clean_in u.segments) e) (λ s. ap (λ (u : UsageTable). kept_of u s) e))
+    size (ap (λ (u : UsageTable). clean_in u.segments) e) (λ s. ap (λ (u : UsageTable). used_of u s) e) (λ s. ap (λ (u : UsageTable). kept_of u s) e))
     (λ (some : block_in v.map j ≡ 0 → ⊥). subst (λ (w : LogMemory). Prepares d d v w 0) (sym (go.same (omega (arith, small, some)))) (prepares_looks d d v lawful memory (looks_none d)))
     (cases_eq (block_in v.map j) 0))
     (two_or_less (block_in v.map j))
@@ -418,12 +422,14 @@ map_prepares d v v' j lawful memory go = ⊎_elim
     capacity : v'.dirty.capacity ≡ v.dirty.capacity
     capacity = ap (λ (t : TableValue). t.capacity) go.dirty
 
-    made : IsMemory v' → length v'.usage.segments ≡ length v.usage.segments → clean_in v'.usage.segments ≡ clean_in v.usage.segments → ((s : ℕ) → kept_of v'.usage s ≡ kept_of v.usage s) → Prepares d d v v' 0
-    made memory' size clean kept = record {
+    made : IsMemory v' → length v'.usage.segments ≡ length v.usage.segments → clean_in v'.usage.segments ≡ clean_in v.usage.segments → ((s : ℕ) → used_of v'.usage s ≡ used_of v.usage s)
+        → ((s : ℕ) → kept_of v'.usage s ≡ kept_of v.usage s) → Prepares d d v v' 0
+    made memory' size clean used kept = record {
       looks = looks_none d;
       memory = memory';
       segments = size;
       clean = clean;
+      used = used;
       kept = kept;
       chunk = go.chunk;
       capacity = capacity;

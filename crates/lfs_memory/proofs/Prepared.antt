@@ -8,7 +8,7 @@ use Rattle.lfs_model.specs.Memory.{parent, IsPointers}
 use Rattle.lfs_model.specs.Staging.{IsAtAddress}
 use Rattle.lfs_model.specs.Stands.{LogMap}
 use Rattle.lfs_model.proofs.Entries.{data_parent_low, data_parent_high, pointers_below}
-use Rattle.lfs_segments.specs.Table.{UsageTable, kept_of}
+use Rattle.lfs_segments.specs.Table.{UsageTable, used_of, kept_of}
 use Rattle.lfs_inodes.specs.Blocks.{Capacity, blocks_of}
 use Rattle.lfs_inodes.specs.MapValue.{MapValue, address_in, block_in}
 use Rattle.lfs_memory.specs.declared.batch.BlockEdit.{BlockEdit}
@@ -32,6 +32,7 @@ grow_prepares d v v' x memory pointers at go = record {
   memory = go.stays.memory memory;
   segments = go.stays.segments;
   clean = go.stays.clean;
+  used = λ s. ap (λ (u : UsageTable). used_of u s) go.usage;
   kept = λ s. ap (λ (u : UsageTable). kept_of u s) go.usage;
   chunk = go.stays.chunk;
   capacity = go.stays.capacity;

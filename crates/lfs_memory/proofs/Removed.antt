@@ -113,6 +113,7 @@ module _ (a b : DeviceState) (v mid : LogMemory) (n : ℕ) (lives : Bool) (count
     memory = kept_memory mid v' first.memory go.usage.size go.chunk go.usage.used go.usage.kept go.usage.address (never_fresh mid.usage v'.usage go.usage.stale) go.capacity;
     segments = go.usage.size ∙ first.segments;
     clean = go.usage.clean ∙ first.clean;
+    used = λ s. go.usage.used s ∙ first.used s;
     kept = λ s. go.usage.kept s ∙ first.kept s;
     chunk = go.chunk ∙ first.chunk;
     capacity = go.capacity ∙ first.capacity;

@@ -70,6 +70,7 @@ pub record RemovesFile (d d' : DeviceState) (v v' : LogMemory) (n : ℕ) : Type 
   pub memory : IsMemory v'
   pub segments : length v'.usage.segments ≡ length v.usage.segments
   pub clean : clean_in v'.usage.segments ≡ clean_in v.usage.segments
+  pub used : (s : ℕ) → used_of v'.usage s ≡ used_of v.usage s
   pub kept : (s : ℕ) → kept_of v'.usage s ≡ kept_of v.usage s
   pub chunk : v'.chunk ≡ v.chunk
   pub capacity : v'.dirty.capacity ≡ v.dirty.capacity
