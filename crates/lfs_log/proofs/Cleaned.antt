@@ -40,7 +40,7 @@ module _ (a b : DeviceState) (v v' : LogMemory) (vs : List ℕ) (one : Relocates
       let was = victims i lt in
       record {
         used = subst (λ (n : ℕ). 0 < n) (sym (one.gathers.used (get_or vs i 0))) was.used;
-        before = one.gathers.taken (get_or vs i 0) ∙ was.before;
+        before = one.gathers.kept (get_or vs i 0) ∙ was.before ∙ sym (one.gathers.used (get_or vs i 0));
         live = now.0.running.tables.live (get_or vs i 0) ∙ empty.0;
         held = now.0.running.tables.held (get_or vs i 0) ∙ empty.1;
       }

@@ -23,7 +23,7 @@ use Rattle.lfs_memory.specs.inodes.Blocks.{blocks_of}
 use Rattle.lfs_memory.specs.inodes.MapValue.{MapValue, IsMap, IsMapOf, AreSettled, block_in}
 use Rattle.lfs_memory.specs.declared.memory.LogMemory.{LogMemory}
 use Rattle.lfs_memory.specs.Memory.{IsMemory, AreMapsOut, IsLog, IsBlockAt, AreHidden, Places, Goes, GoesUpTo, tables_by, tables_of, segment_in, chunk_in}
-use Rattle.lfs_memory.proofs.Begun.{before, begun, noted, place_is, few_entries, opened_after, segment_after, segments_same, memory_after, placed_emptied}
+use Rattle.lfs_memory.proofs.Begun.{before, begun, noted, place_is, room_left, opened_after, segment_after, segments_same, memory_after, placed_emptied}
 use Rattle.lfs_memory.proofs.FileSteps.{quiet_step}
 use Rattle.lfs_memory.proofs.Opened.{as_chunk}
 use Rattle.lfs_memory.proofs.Rooms.{takes_place}
@@ -75,7 +75,7 @@ module _ (d : DeviceState) (v : LogMemory) (j : ℕ) (map' : MapValue) (sets : I
   dropped_log k m0 m is = record {
     running = map_dropping d (blocks_of v.dirty) (tables_of v) (tables_by map' v.usage) k m0 m (segment_in v.chunk) (chunk_in v.chunk) j is.running wanted
         (none m (tables_of v) (map_of v.map v.usage m is.hidden))
-        (record { at = map_table v.map map' v.usage v.usage j 0 sets (λ i. refl); used = λ i. refl; live = λ i. refl; held = λ i. refl; age = λ i. refl; taken = λ i. refl; stale = λ i. refl });
+        (record { at = map_table v.map map' v.usage v.usage j 0 sets (λ i. refl); used = λ i. refl; live = λ i. refl; held = λ i. refl; age = λ i. refl; kept = λ i. refl; stale = λ i. refl });
     hidden = hidden_still v.map map' m sets.hidden is.hidden;
     segments = is.segments;
     tight = is.tight;
@@ -108,7 +108,7 @@ module _ (v v' : LogMemory) (name : BlockNameValue) (age place : ℕ) (memory : 
       let t = before v v' name true age place memory p in
       let running = begun v v' name true age place memory p d k m0 m is in
       let next = map_stepping d d' (blocks_of v.dirty) t (tables_by map' v'.usage) k m0 m v'.chunk.segment es j bytes
-      running (few_entries v v' name true age place memory p) wanted
+      running (room_left v v' name true age place memory p) wanted
       (spells m t (map_of v.map p.middle m is.hidden) (settled_inodes d (blocks_of v.dirty) t k m0 m v'.chunk.segment (Some es) running empty j))
       (subst (λ (n : ℕ). IsWritten d d' n bytes) same_place (record { content = is_put keeps; crash = crash }))
       (noted v v' name true age place memory p d k m0 m is (Map j) map' refl (map_table v.map map' p.middle v'.usage j place sets p.noted.blocks.address)) in

@@ -48,7 +48,7 @@ one_checkpoint d m k is newest = some_is is.checkpoint k (sym is.newest ∙ newe
 
 -- ---- the tables
 abbrev by_numbers : ℕ → ℕ → ℕ → SegmentNumbers
-by_numbers used live age = record { used = used; live = live; held = 0; age = age; taken = false }
+by_numbers used live age = record { used = used; live = live; held = 0; age = age; kept = used }
 
 module _ (c : Content) (k : CheckpointValue) (fits : FitsCheckpoint k) (m : LogMap) (st : StandsAt c k m) (map : MapValue) (usage : UsageTable)
     (usages : IsUsageUpTo ((k.segments + 63) / 64) k.segments usage) (says : SaysUsage c k ((k.segments + 63) / 64) usage) (maps : IsMapUpTo 32 map) (tells : SaysMap c k 32 map) where
@@ -113,7 +113,7 @@ module _ (c : Content) (k : CheckpointValue) (fits : FitsCheckpoint k) (m : LogM
     live = λ s. ap (λ (n : SegmentNumbers). n.live) (numbers_there s);
     held = λ s. ap (λ (n : SegmentNumbers). n.held) (numbers_there s);
     age = λ s. ap (λ (n : SegmentNumbers). n.age) (numbers_there s);
-    taken = λ s. ap (λ (n : SegmentNumbers). n.taken) (numbers_there s);
+    kept = λ s. ap (λ (n : SegmentNumbers). n.kept) (numbers_there s) ∙ sym (ap (λ (n : SegmentNumbers). n.used) (numbers_there s));
     stale = fresh_ages;
   }
 
@@ -177,13 +177,13 @@ module _ (d d' : DeviceState) (lawful : IsLawful d') (lawful_first : IsLawful d)
         ap (λ (x : CheckpointValue). x.number) one ∙ (has keeps).held.says.number,
       )
 
-  -- no segment counts as taken
+  -- no sector was taken
   pub untaken : d'.keeps_model → AreUntaken v.usage
   untaken keeps =
       let h = has keeps in
       (mounted_tables d.content h.held.checkpoint h.held.fits h.held.log h.stands v.map v.usage (usages keeps h.held.log)
       (subst (SaysUsage d.content h.held.checkpoint ((h.held.checkpoint.segments + 63) / 64)) (sym usage) h.held.says.usage) (maps keeps h.held.log)
-      (subst (SaysMap d.content h.held.checkpoint 32) (sym map) h.held.says.map)).taken
+      (subst (SaysMap d.content h.held.checkpoint 32) (sym map) h.held.says.map)).kept
 
   -- and an eighth of the segments is clean at least
   pub many : d'.keeps_model → length v.usage.segments ≤ 8 * clean_in v.usage.segments

@@ -64,7 +64,7 @@ module _ (v : LogMemory) (u : UsageTable) (go : Releases v.usage u) where
     live = λ s. ap (λ (n : SegmentNumbers). n.live) (go.each s);
     held = λ s. ap (λ (n : SegmentNumbers). n.held) (go.each s);
     age = λ s some. ap (λ (n : SegmentNumbers). n.age) (go.each s);
-    taken = λ s. ap (λ (n : SegmentNumbers). n.taken) (go.each s);
+    kept = λ s. ap (λ (n : SegmentNumbers). n.kept) (go.each s) ∙ sym (ap (λ (n : SegmentNumbers). n.used) (go.each s));
     stale = places_same (λ b. b.stale);
   }
 

@@ -1,5 +1,5 @@
 -- A commit, from its two halves.
-use Rattle.std.proofs.Common.{◌≡◌, ◌<◌, ◌≤◌, ⊎_elim, inl, ◌+◌, ◌*◌, ℕ, [], length, ◌∙◌, ap, arith}
+use Rattle.std.proofs.Common.{◌≡◌, ◌<◌, ◌≤◌, ⊎_elim, inl, ◌+◌, ◌*◌, ℕ, [], length, sym, ◌∙◌, ap, arith}
 use Rattle.lfs_model.specs.Checkpoint.{CheckpointValue}
 use Rattle.lfs_model.specs.Content.{Content}
 use Rattle.lfs_model.specs.Crash.{StandsOn, StandsForOn}
@@ -9,11 +9,12 @@ use Rattle.lfs_model.specs.TreeOf.{dropped}
 use Rattle.lfs_model.proofs.Moments.{carries_then, joined, weaker}
 use Rattle.lfs_model.proofs.Settled.{settled_stands}
 use Rattle.lfs_memory.specs.segments.Table.{SegmentNumbers, clean_in}
+use Rattle.lfs_memory.specs.segments.Chunk.{room_in}
 use Rattle.lfs_memory.specs.segments.Emptied.{IsEmptied}
 use Rattle.lfs_memory.specs.segments.Spare.{emptied_in, spare_in}
 use Rattle.lfs_memory.proofs.of_segments.Spare.{emptied_stay, spare_there, emptied_given}
 use Rattle.lfs_memory.specs.declared.memory.LogMemory.{LogMemory}
-use Rattle.lfs_memory.specs.Memory.{IsMemory, Goes, Stops, room_of, room_in}
+use Rattle.lfs_memory.specs.Memory.{IsMemory, Goes, Stops, room_of}
 use Rattle.lfs_log.specs.Publishing.{IsAcknowledged, Publishes, PublishFails, LeavesEither}
 use Rattle.lfs_log.specs.Saving.{CommitsAll, CommitFails, segments_for}
 use Rattle.lfs_memory.proofs.Begun.{zero_or_more}
@@ -23,10 +24,10 @@ use Rattle.lfs_log.proofs.Cleaned.{emptied_clean}
 -- a commit of so many blocks, begun with no chunk, takes no more segments than these want
 pub segments_taken : (v v' : LogMemory) (blocks : ℕ) → v.chunk.names ≡ [] → IsMemory v' → room_of v ≤ room_of v' + (blocks + 48) → clean_in v.usage.segments ≤ clean_in v'.usage.segments + segments_for blocks
 segments_taken v v' blocks closed memory room =
-    let none = room_none v.chunk.names (ap length closed) in
-    let few : room_in v'.chunk.names ≤ 62 = ⊎_elim
-    (λ (z : length v'.chunk.names ≡ 0). let r = room_none v'.chunk.names z in omega (arith, r))
-    (λ (some : 0 < length v'.chunk.names). let r = room_some v'.chunk.names some in omega (arith, r, some))
+    let none = room_none v.chunk (ap length closed) in
+    let few : room_in v'.chunk ≤ 62 = ⊎_elim
+    (λ (z : length v'.chunk.names ≡ 0). let r = room_none v'.chunk z in omega (arith, r))
+    (λ (some : 0 < length v'.chunk.names). let r = room_some v'.chunk some in omega (arith, r, some))
     (zero_or_more (length v'.chunk.names)) in
     omega (arith, none, few, room)
 
@@ -77,7 +78,7 @@ commits a b c v v' v'' n number goes done taken spare chunk dirty capacity = rec
   memory = done.memory;
   chunk = chunk;
   dirty = dirty;
-  untaken = λ s. ap (λ (n : SegmentNumbers). n.taken) (done.released.each s);
+  untaken = λ s. ap (λ (n : SegmentNumbers). n.kept) (done.released.each s) ∙ sym (ap (λ (n : SegmentNumbers). n.used) (done.released.each s));
   capacity = capacity;
   segments = done.segments ∙ goes.segments;
   gains = gains;

@@ -3,29 +3,32 @@ use Rattle.std.proofs.Common.{◌≡◌, ◌<◌, ◌≤◌, ◌+◌, ◌*◌, �
 use Rattle.lfs_model.specs.Checkpoint.{CheckpointValue}
 use Rattle.lfs_model.specs.Crash.{IsFreeSector}
 use Rattle.lfs_model.specs.Device.{DeviceState, MayWrite, CrashWrites, Carries, Elapses, IsLawful, put, left_new}
-use Rattle.lfs_model.specs.Entry.{entries_in}
+use Rattle.lfs_model.specs.Entry.{entries_in, entry_of}
+use Rattle.std.proofs.lemmas.List.{length-map}
 use Rattle.lfs_model.specs.Stands.{LogMap}
 use Rattle.lfs_model.specs.Summary.{summary_sector}
 use Rattle.lfs_model.specs.Settled.{IsSettled}
 use Rattle.lfs_model.proofs.Leaving.{closing}
-use Rattle.lfs_memory.specs.segments.Chunk.{Chunk, entries_of}
+use Rattle.lfs_memory.specs.segments.Chunk.{Chunk, entries_of, room_in}
 use Rattle.lfs_memory.specs.inodes.Blocks.{blocks_of}
 use Rattle.lfs_memory.specs.declared.memory.LogMemory.{LogMemory}
-use Rattle.lfs_memory.specs.Memory.{IsMemory, IsMemoryUpTo, IsLog, Goes, Stops, Quiet, tables_of, segment_in, chunk_in, room_in}
+use Rattle.lfs_memory.specs.Memory.{IsMemory, IsMemoryUpTo, IsLog, Goes, Stops, Quiet, tables_of, segment_in, chunk_in}
 use Rattle.lfs_memory.proofs.Opened.{closed_segment, closed_chunk, as_chunk, is_open, stays_settled, stays_quiet, taken_free}
 use Rattle.lfs_memory.proofs.Rooms.{room_none}
 
 module _ (d d' : DeviceState) (v : LogMemory) (memory : IsMemoryUpTo 63 v) (some : 0 < length v.chunk.names) (lawful : IsLawful d)
     (spelt : entries_in (summary_sector v.chunk.names) ≡ Some (entries_of v.chunk))
-    (crash : CrashWrites (2 + 64 * v.chunk.segment) (summary_sector v.chunk.names) d d') (carries : Carries d d') (time : Elapses d d') where
+    (crash : CrashWrites (2 + 64 * v.chunk.segment + v.chunk.start) (summary_sector v.chunk.names) d d') (carries : Carries d d') (time : Elapses d d') where
   abbrev at : ℕ
-  at = 2 + 64 * v.chunk.segment
+  at = 2 + 64 * v.chunk.segment + v.chunk.start
 
   free : (k : CheckpointValue) (m0 m : LogMap) → IsLog d v k m0 m → IsFreeSector d.content k at
   free k m0 m is =
       let w = is_open d v k m0 m is some in
-      let f = taken_free d (blocks_of v.dirty) (tables_of v) k m0 m v.chunk.segment (Some (entries_of v.chunk)) w v.chunk.segment 0 ((memory.opened some).taken) (omega arith) in
-      subst (λ (n : ℕ). IsFreeSector d.content k n) (omega arith) f
+      let o = memory.opened some in
+      let short = memory.short some in
+      let inside : v.chunk.segment < k.segments = let i = o.inside in let e = is.segments in omega (arith, i, e) in
+      taken_free d (blocks_of v.dirty) (tables_of v) k m0 m v.chunk.segment (Some (entries_of v.chunk)) w v.chunk.segment v.chunk.start inside o.free (omega (arith, short))
 
   module _ (may : d'.keeps_model → MayWrite at (summary_sector v.chunk.names) d.content d'.content) where
     pub settled_sealed : (k : CheckpointValue) (m0 m : LogMap) → d'.keeps_model → IsLog d v k m0 m → IsSettled d' k m0
@@ -52,8 +55,10 @@ module _ (d d' : DeviceState) (v : LogMemory) (memory : IsMemoryUpTo 63 v) (some
     log : (k : CheckpointValue) (m0 m : LogMap) → d'.keeps_model → IsLog d v k m0 m → IsLog d' v' k m0 m
     log k m0 m keeps is =
         let few : k.segments ≤ 1024 = let e = is.segments in let most = memory.count.most in omega (arith, e, most) in
-        let w = closing d d' (blocks_of v.dirty) (tables_of v) k m0 m v.chunk.segment (entries_of v.chunk) (summary_sector v.chunk.names) 1024
-        (is_open d v k m0 m is some) spelt (record { content = is_put keeps; crash = crash }) few in
+        let long = length-map v.chunk.names entry_of in
+        let used = (memory.opened some).used in
+        let w = closing d d' (blocks_of v.dirty) (tables_of v) k m0 m v.chunk.segment v.chunk.start (entries_of v.chunk) (summary_sector v.chunk.names) 1024
+        (is_open d v k m0 m is some) (omega (arith, long, used)) spelt (record { content = is_put keeps; crash = crash }) few in
         record {
           running = as_chunk d' (blocks_of v.dirty) (tables_of v) k m0 m 1024 (segment_in c) None (chunk_in c) (sym (closed_segment c none)) (sym (closed_chunk c none)) w;
           hidden = is.hidden;
@@ -61,18 +66,18 @@ module _ (d d' : DeviceState) (v : LogMemory) (memory : IsMemoryUpTo 63 v) (some
           tight = is.tight;
         }
 
-    pub seal_goes : Goes d d' v v' (room_in v.chunk.names)
+    pub seal_goes : Goes d d' v v' (room_in v.chunk)
     seal_goes = record {
       carries = carries;
       memory = record {
         count = memory.count;
         opened = λ begun. absurd (let z = none in omega (arith, z, begun));
-        short = let z = none in omega (arith, z);
+        short = λ begun. absurd (let z = none in omega (arith, z, begun));
         usages = memory.usages;
         few = memory.few;
       };
       segments = refl;
-      room = let z = room_none c.names none in omega (arith, z);
+      room = let z = room_none c none in omega (arith, z);
       no_failure = no_failure;
       emptied = λ s is. is;
       log = log;
@@ -80,11 +85,11 @@ module _ (d d' : DeviceState) (v : LogMemory) (memory : IsMemoryUpTo 63 v) (some
     }
 
 -- a chunk that isn't full
-pub not_full : (v : LogMemory) → IsMemoryUpTo 63 v → (length v.chunk.names ≡ 63 → ⊥) → IsMemory v
+pub not_full : (v : LogMemory) → IsMemoryUpTo 63 v → (v.chunk.start + length v.chunk.names ≡ 63 → ⊥) → IsMemory v
 not_full v memory room = record {
   count = memory.count;
   opened = memory.opened;
-  short = let s = memory.short in let ne = room in omega (arith, s, ne);
+  short = λ some. let s = memory.short some in let ne = room in omega (arith, s, ne);
   usages = memory.usages;
   few = memory.few;
 }

@@ -11,10 +11,10 @@ use Rattle.lfs_model.specs.Stands.{LogMap}
 use Rattle.lfs_model.proofs.Counting.{taken_counts}
 use Rattle.lfs_model.proofs.Leaving.{left_memory, left_taken, left_cached, still_open}
 use Rattle.lfs_model.proofs.Outgoing.{usage_lifting}
-use Rattle.lfs_model.proofs.Running.{pick, pick_yes, pick_no, taken_memory, is_taken, lifted_tables, lifted_fresh}
+use Rattle.lfs_model.proofs.Running.{pick, pick_yes, pick_no, taken_memory, is_taken, lifted_tables, lifted_fresh, part_same, kept_same}
 use Rattle.lfs_model.proofs.Tables.{usage_table}
 use Rattle.lfs_memory.specs.segments.Chunk.{Chunk}
-use Rattle.lfs_memory.specs.segments.Table.{SegmentNumbers, UsageTable, no_segment, used_of, live_of, held_of, age_of, taken_of, address_of, stale_of, clean_in}
+use Rattle.lfs_memory.specs.segments.Table.{SegmentNumbers, UsageTable, no_segment, used_of, live_of, held_of, age_of, kept_of, address_of, stale_of, clean_in}
 use Rattle.lfs_memory.specs.inodes.Blocks.{TableValue, blocks_of}
 use Rattle.lfs_memory.specs.inodes.MapValue.{MapValue, address_in, block_in}
 use Rattle.lfs_memory.specs.declared.memory.LogMemory.{LogMemory}
@@ -92,13 +92,12 @@ module _ (v v' : LogMemory) (j : ℕ) (go : UsageLeavesIn v v' j) where
     opened = λ some.
         let o = memory.opened (subst (λ (c : Chunk). 0 < length c.names) go.chunk some) in
         let s = ap (λ (c : Chunk). c.segment) go.chunk in
-        let n = ap (λ (c : Chunk). length c.names) go.chunk in
         record {
           inside = let i = o.inside in let l = size in omega (arith, i, s, l);
-          used = ap (used_of v'.usage) s ∙ numbers (λ x. x.used) v.chunk.segment ∙ go.usage.lifts.used v.chunk.segment ∙ o.used ∙ ap suc (sym n);
-          taken = ap (taken_of v'.usage) s ∙ numbers (λ x. x.taken) v.chunk.segment ∙ go.usage.lifts.taken v.chunk.segment ∙ o.taken;
+          used = ap (used_of v'.usage) s ∙ numbers (λ x. x.used) v.chunk.segment ∙ go.usage.lifts.used v.chunk.segment ∙ o.used ∙ sym (ap (λ (c : Chunk). c.start + suc (length c.names)) go.chunk);
+          free = let a = ap (kept_of v'.usage) s in let b = numbers (λ x. x.kept) v.chunk.segment in let k = go.usage.lifts.kept v.chunk.segment in let f = o.free in let c = ap (λ (c : Chunk). c.start) go.chunk in omega (arith, a, b, k, f, c);
         };
-    short = let s = memory.short in let n = ap (λ (c : Chunk). length c.names) go.chunk in omega (arith, s, n);
+    short = subst (λ (c : Chunk). 0 < length c.names → c.start + length c.names ≤ 62) (sym go.chunk) memory.short;
     usages = λ i one. ⊎_elim
         (λ (here : i ≡ j). ap (stale_of v'.usage) here ∙ go.usage.puts.stale.own)
         (λ (ne : i ≡ j → ⊥). stale_still i (memory.usages i (sym (address_other i ne) ∙ one)))
@@ -114,7 +113,7 @@ module _ (v v' : LogMemory) (j : ℕ) (go : UsageLeavesIn v v' j) where
     live = live_of v.usage;
     held = held_of v.usage;
     age = age_of v.usage;
-    taken = taken_of v.usage;
+    kept = kept_of v.usage;
     stale = λ i. pick (cases_eq i j) true (stale_of v.usage i);
   }
 
@@ -145,7 +144,7 @@ module _ (v v' : LogMemory) (j : ℕ) (go : UsageLeavesIn v v' j) where
     live = subst (λ (x : List SegmentNumbers). CountsDown true (live_of v.usage) (λ i. (get_or x i no_segment).live) (segment_of (address_of v.usage j))) (sym go.usage.puts.segments) go.usage.lifts.live;
     held = subst (λ (x : List SegmentNumbers). CountsDown false (held_of v.usage) (λ i. (get_or x i no_segment).held) (segment_of (address_of v.usage j))) (sym go.usage.puts.segments) go.usage.lifts.held;
     age = λ i. numbers (λ x. x.age) i ∙ go.usage.lifts.age i;
-    taken = λ i. numbers (λ x. x.taken) i ∙ go.usage.lifts.taken i;
+    kept = λ i. numbers (λ x. x.kept) i ∙ go.usage.lifts.kept i;
     stale = stale_now;
   }
 
@@ -189,9 +188,9 @@ module _ (v v' : LogMemory) (j : ℕ) (go : UsageLeavesIn v v' j) where
             fresh = λ i off low.
                 let no = lifted_fresh m marked (tables_of v') (Usage j) 1 (segment_of (address_of v.usage j)) go_now i off in
                 no.1 (w.memory.bytes (Usage i)) (marked_spells i (w.memory.bytes (Usage i)) (w.fresh i (never_marked i no.0) low));
-            clean = λ s low z. w.clean s low (sym (go_now.used s) ∙ z);
-            taken = λ s on. w.taken s (sym (go_now.taken s) ∙ on);
-            opened = still_open d (blocks_of v.dirty) (tables_of v) (tables_of v') k m0 m (segment_in v.chunk) (chunk_in v.chunk) w (Usage j) (usage_table j) 1 (omega arith) (chunk_in v.chunk) w.opened go_now.taken;
+            part = part_same (tables_of v) (tables_of v') go_now.used go_now.kept w.part;
+            kept = kept_same d.content k (tables_of v) (tables_of v') go_now.kept w.kept;
+            opened = still_open d (blocks_of v.dirty) (tables_of v) (tables_of v') k m0 m (segment_in v.chunk) (chunk_in v.chunk) w (Usage j) (usage_table j) 1 (omega arith) (chunk_in v.chunk) w.opened go_now.kept;
           },
           taken_traced w.memory (Usage j) next p,
         )
@@ -211,7 +210,7 @@ module _ (v v' : LogMemory) (j : ℕ) (go : UsageLeavesIn v v' j) where
     stay = λ x there. subst (λ (t : TableValue). (b : List ℕ) × (blocks_of t x ≡ Some b)) (sym go.dirty) there;
     gathers = record {
       used = λ s. numbers (λ x. x.used) s ∙ go.usage.lifts.used s;
-      taken = λ s. numbers (λ x. x.taken) s ∙ go.usage.lifts.taken s;
+      kept = λ s. numbers (λ x. x.kept) s ∙ go.usage.lifts.kept s;
       traces = λ k m0 m keeps is. usage_traced d k m0 m is;
     };
   }

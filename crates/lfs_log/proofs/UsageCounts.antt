@@ -1,18 +1,22 @@
 -- How many usage blocks are still to get a new place.
-use Rattle.std.proofs.Common.{◌≡◌, ◌<◌, ◌≤◌, ◌⊎◌, inl, inr, ⊎_elim, ◌+◌, true, false, ℕ, zero, suc, length, sym, ◌∙◌, ap, subst, arith}
-use Rattle.std.proofs.lemmas.Bool.{cases_eq, cases_lt, cases_Bool}
+use Rattle.std.proofs.Common.{◌≡◌, ◌<◌, ◌≤◌, ◌⊎◌, inl, inr, ⊎_elim, ◌+◌, ◌-◌, ◌%◌, ℕ, zero, suc, length, sym, ◌∙◌, ap, subst, arith}
+use Rattle.std.proofs.lemmas.Bool.{cases_eq, cases_lt}
 use Rattle.lfs_model.specs.Counting.{segment_of}
 use Rattle.lfs_model.proofs.Running.{pick, pick_yes, pick_no}
-use Rattle.lfs_memory.specs.segments.Table.{UsageTable, taken_of, address_of}
+use Rattle.lfs_memory.specs.segments.Table.{UsageTable, kept_of, address_of}
+use Rattle.lfs_memory.specs.segments.Chunk.{IsUnkeptBy}
 use Rattle.lfs_log.specs.Settling.{IsAnew, IsResettled, AreAnew}
 
 anew_or : (t : UsageTable) (j : ℕ) → IsAnew t j ⊎ (IsAnew t j → ⊥)
 anew_or t j = ⊎_elim
     (λ (low : address_of t j < 2). inr (λ is. let le = is.0 in omega arith))
     (λ (le : 2 ≤ address_of t j). ⊎_elim
-    (λ (on : taken_of t (segment_of (address_of t j)) ≡ true). inl (le, on))
-    (λ (off : taken_of t (segment_of (address_of t j)) ≡ false). inr (λ is. let bad : true ≡ false = sym is.1 ∙ off in absurd (cc)))
-    (cases_Bool (taken_of t (segment_of (address_of t j)))))
+    (λ (inside : segment_of (address_of t j) < length t.segments). ⊎_elim
+    (λ (more : (address_of t j - 2) % 64 < kept_of t (segment_of (address_of t j))). inr (λ is. let on = is.2 in omega arith))
+    (λ (on : IsUnkeptBy t (address_of t j)). inl (le, inside, on))
+    (cases_lt ((address_of t j - 2) % 64) (kept_of t (segment_of (address_of t j)))))
+    (λ (past : length t.segments ≤ segment_of (address_of t j)). inr (λ is. let i = is.1 in omega arith))
+    (cases_lt (segment_of (address_of t j)) (length t.segments)))
     (cases_lt (address_of t j) 2)
 
 one_out : UsageTable → ℕ → ℕ
@@ -22,7 +26,7 @@ out_by : UsageTable → ℕ → ℕ
 out_by t zero = 0
 out_by t (suc n) = one_out t n + out_by t n
 
--- the usage blocks that don't stand in a segment that was taken
+-- the usage blocks that stand where the acknowledged checkpoint may need something
 pub out_count : UsageTable → ℕ
 out_count t = out_by t 16
 
@@ -69,7 +73,11 @@ module _ (old new : UsageTable) (j : ℕ) (out : IsAnew old j → ⊥) (is : IsR
       (λ (away : i ≡ j → ⊥).
       let e = is.others i away in
       let le = was.0 in
-      (omega arith, ap (λ (a : ℕ). taken_of new (segment_of a)) e ∙ is.taken (segment_of (address_of old i)) was.1))
+      let inside = was.1 in
+      let size = is.segments in
+      let k = is.kept (segment_of (address_of old i)) in
+      let on = was.2 in
+      (omega arith, omega arith, subst (λ (a : ℕ). IsUnkeptBy new a) (sym e) (omega arith)))
       (cases_eq i j)
 
   one_less : (i : ℕ) → one_out new i ≤ one_out old i

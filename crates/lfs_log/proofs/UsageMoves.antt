@@ -1,7 +1,6 @@
 -- A usage block gets a new place: what that leaves of the log.
-use Rattle.std.proofs.Common.{◌≡◌, ◌<◌, ◌≤◌, ⊎_elim, ◌+◌, ◌*◌, ◌/◌, true, false, ℕ, suc, List, [], ◌∷◌, ◌++◌, length, map, get_or, Option, Some, None, refl, sym, ◌∙◌, ap, subst, arith, length-append, Result, Ok, Err, OnOk}
+use Rattle.std.proofs.Common.{◌≡◌, ◌<◌, ◌≤◌, ◌⊎◌, inl, inr, ⊎_elim, ◌+◌, ◌-◌, ◌*◌, ◌/◌, ◌%◌, true, false, ℕ, suc, List, [], ◌∷◌, ◌++◌, length, map, get_or, Option, Some, None, refl, sym, ◌∙◌, ap, subst, arith, length-append, Result, Ok, Err, OnOk}
 use Rattle.std.proofs.Math.Path.{fun_ext}
-use Rattle.std.proofs.lemmas.List.{length-map}
 use Rattle.std.proofs.lemmas.Bool.{cases_eq}
 use Rattle.lfs_model.specs.Entry.{Entry, Data, Leaf, Double, Inode, Map, Usage, entry_of}
 use Rattle.lfs_model.specs.Checkpoint.{CheckpointValue, IsSegmentCount}
@@ -11,17 +10,18 @@ use Rattle.lfs_model.specs.Summary.{BlockNameValue, IsPlaced}
 use Rattle.lfs_model.specs.declared.BlockKind.TheVariants as kind
 use Rattle.lfs_model.specs.Memory.{is_shown}
 use Rattle.lfs_model.specs.Counting.{segment_of}
-use Rattle.lfs_model.specs.Running.{Dirty, IsTight, Tables, Running, IsSet, CountsUp, IsNoted, IsLifted, IsTakenFrom}
+use Rattle.lfs_model.specs.Running.{Dirty, IsTight, Tables, Running, IsSet, CountsUp, IsNoted, IsLifted, IsTakenFrom, GoesOnIn}
 use Rattle.lfs_model.specs.Committing.{place_of}
 use Rattle.lfs_model.proofs.Entries.{same_entry}
 use Rattle.lfs_model.proofs.Counting.{taken_counts}
 use Rattle.lfs_model.proofs.Running.{pick, pick_yes, pick_no, taken_memory, is_taken}
-use Rattle.lfs_model.proofs.Leaving.{beginning, usage_leaving}
+use Rattle.lfs_model.proofs.Leaving.{beginning, going_on, usage_leaving}
 use Rattle.lfs_model.proofs.Stepping.{usage_settling}
-use Rattle.lfs_memory.specs.segments.Table.{SegmentNumbers, UsageTable, no_segment, used_of, live_of, held_of, age_of, taken_of, address_of, stale_of, clean_in}
+use Rattle.lfs_memory.specs.segments.Table.{SegmentNumbers, UsageTable, no_segment, used_of, live_of, held_of, age_of, kept_of, address_of, stale_of, clean_in}
 use Rattle.lfs_memory.specs.segments.Chunk.{Chunk, IsOpenChunk, entries_of}
-use Rattle.lfs_memory.specs.segments.Steps.{Lifts, TakesSegment}
+use Rattle.lfs_memory.specs.segments.Steps.{Lifts, TakesSegment, GoesOn, Begins}
 use Rattle.lfs_memory.specs.segments.Emptied.{IsEmptied}
+use Rattle.lfs_memory.proofs.of_segments.Beginnings.{begins_inside, begins_size, begins_room, begins_kept, begins_address, begins_stale}
 use Rattle.lfs_memory.proofs.of_segments.StaysEmptied.{stays_emptied}
 use Rattle.lfs_memory.specs.inodes.Blocks.{TableValue, blocks_of}
 use Rattle.lfs_memory.specs.inodes.MapValue.{MapValue, address_in, block_in}
@@ -52,15 +52,16 @@ one_longer names x = length-append names (x ∷ []) ∙ plus_one (length names)
     plus_one : (n : ℕ) → n + 1 ≡ suc n
     plus_one n = omega arith
 
--- a clean segment is opened, or the chunk goes on
+-- a chunk begins, or it goes on
 pub goes_into : (d : DeviceState) (dirty : Dirty) (t t' : Tables) (k : CheckpointValue) (m0 m : LogMap) (c : Chunk) (seg : ℕ) → Running d dirty t k m0 m (segment_in c) (chunk_in c)
-    → (length c.names ≡ 0 → (seg < k.segments) × IsTakenFrom t t' seg) → ((length c.names ≡ 0 → ⊥) → (t' ≡ t) × (seg ≡ c.segment))
+    → (length c.names ≡ 0 → (seg < k.segments) × (IsTakenFrom t t' seg ⊎ GoesOnIn t t' seg)) → ((length c.names ≡ 0 → ⊥) → (t' ≡ t) × (seg ≡ c.segment))
     → Running d dirty t' k m0 m seg (Some (entries_of c))
 goes_into d dirty t t' k m0 m c seg w begins goes = ⊎_elim
     (λ (z : length c.names ≡ 0).
     let b = begins z in
     let none : Running d dirty t k m0 m 1024 None = as_chunk d dirty t k m0 m (segment_in c) 1024 (chunk_in c) None (closed_segment c z) (closed_chunk c z) w in
-    subst (λ (es : List Entry). Running d dirty t' k m0 m seg (Some es)) (sym (no_names c.names z)) (beginning d dirty t t' k m0 m 1024 seg none b.0 b.1))
+    subst (λ (es : List Entry). Running d dirty t' k m0 m seg (Some es)) (sym (no_names c.names z))
+    (⊎_elim (λ (takes : IsTakenFrom t t' seg). beginning d dirty t t' k m0 m 1024 seg none b.0 takes) (λ (g : GoesOnIn t t' seg). going_on d dirty t t' k m0 m 1024 seg none b.0 g) b.1))
     (λ (ne : length c.names ≡ 0 → ⊥).
     let g = goes ne in
     subst (λ (u : Tables). Running d dirty u k m0 m seg (Some (entries_of c))) (sym g.0)
@@ -77,7 +78,7 @@ without map usage j = record {
   live = live_of usage;
   held = held_of usage;
   age = age_of usage;
-  taken = taken_of usage;
+  kept = kept_of usage;
   stale = stale_of usage;
 }
 
@@ -103,7 +104,7 @@ without_left : (map : MapValue) (usage : UsageTable) (j : ℕ) → address_of us
 without_left map usage j one = ap (λ (at : Entry → ℕ). by_at at) (fun_ext (λ x. sym (same x)))
   where
     by_at : (Entry → ℕ) → Tables
-    by_at at = record { at = at; used = used_of usage; live = live_of usage; held = held_of usage; age = age_of usage; taken = taken_of usage; stale = stale_of usage }
+    by_at at = record { at = at; used = used_of usage; live = live_of usage; held = held_of usage; age = age_of usage; kept = kept_of usage; stale = stale_of usage }
 
     same : (x : Entry) → pick (same_entry x (Usage j)) 1 (table_at map usage x) ≡ table_at map usage x
     same x = ⊎_elim
@@ -119,7 +120,7 @@ module _ (v v' : LogMemory) (j number : ℕ) (good : IsMemory v) (old : stale_of
   mid = r.places.middle
 
   -- the table between, which is that in which it left or one that took a segment
-  by_case : (P : Type 0) → (length v.chunk.names ≡ 0 → TakesSegment r.lifted r.places.middle r.placed.chunk.segment number → P)
+  by_case : (P : Type 0) → (length v.chunk.names ≡ 0 → Begins r.lifted r.places.middle r.placed.chunk.segment number → P)
       → (0 < length v.chunk.names → r.places.middle ≡ r.lifted → r.placed.chunk.segment ≡ v.chunk.segment → P) → P
   by_case P begun on = ⊎_elim
       (λ (z : length v.chunk.names ≡ 0). begun z (r.places.begun z))
@@ -142,12 +143,32 @@ module _ (v v' : LogMemory) (j number : ℕ) (good : IsMemory v) (old : stale_of
   lifted_clean : clean_in r.lifted.segments ≡ clean_in v.usage.segments
   lifted_clean = if_left (clean_in r.lifted.segments ≡ clean_in v.usage.segments) (λ same. ap (λ (u : UsageTable). clean_in u.segments) same) (λ above go. go.clean)
 
-  lifted_taken : (i : ℕ) → taken_of r.lifted i ≡ taken_of v.usage i
-  lifted_taken i = if_left (taken_of r.lifted i ≡ taken_of v.usage i) (λ same. ap (λ (u : UsageTable). taken_of u i) same) (λ above go. go.taken i)
+  lifted_kept : (i : ℕ) → kept_of r.lifted i ≡ kept_of v.usage i
+  lifted_kept i = if_left (kept_of r.lifted i ≡ kept_of v.usage i) (λ same. ap (λ (u : UsageTable). kept_of u i) same) (λ above go. go.kept i)
+
+  lifted_used : (i : ℕ) → used_of r.lifted i ≡ used_of v.usage i
+  lifted_used i = if_left (used_of r.lifted i ≡ used_of v.usage i) (λ same. ap (λ (u : UsageTable). used_of u i) same) (λ above go. go.used i)
+
+  mid_kept : (i : ℕ) → kept_of r.places.middle i ≡ kept_of v.usage i
+  mid_kept i = by_case (kept_of r.places.middle i ≡ kept_of v.usage i)
+      (λ z begins. begins_kept r.lifted r.places.middle r.placed.chunk.segment number begins i ∙ lifted_kept i)
+      (λ lt same on. ap (λ (u : UsageTable). kept_of u i) same ∙ lifted_kept i)
+
+  -- its segment has room for it
+  mid_room : used_of r.places.middle r.placed.chunk.segment < 64
+  mid_room = by_case (used_of r.places.middle r.placed.chunk.segment < 64)
+      (λ z begins. begins_room r.lifted r.places.middle r.placed.chunk.segment number begins)
+      (λ lt same on.
+      let u = ap (λ (u : UsageTable). used_of u r.placed.chunk.segment) same in
+      let w = lifted_used r.placed.chunk.segment in
+      let s = ap (used_of v.usage) on in
+      let o = (good.opened lt).used in
+      let short = good.short lt in
+      omega arith)
 
   mid_size : length r.places.middle.segments ≡ length v.usage.segments
   mid_size = by_case (length r.places.middle.segments ≡ length v.usage.segments)
-      (λ z takes. takes.size ∙ lifted_size)
+      (λ z begins. begins_size r.lifted r.places.middle r.placed.chunk.segment number begins ∙ lifted_size)
       (λ lt same on. ap (λ (u : UsageTable). length u.segments) same ∙ lifted_size)
 
   pub new_size : length v'.usage.segments ≡ length v.usage.segments
@@ -155,7 +176,7 @@ module _ (v v' : LogMemory) (j number : ℕ) (good : IsMemory v) (old : stale_of
 
   mid_address : (i : ℕ) → address_of r.places.middle i ≡ address_of v.usage i
   mid_address i = by_case (address_of r.places.middle i ≡ address_of v.usage i)
-      (λ z takes. (takes.blocks i).1 ∙ lifted_address i)
+      (λ z begins. begins_address r.lifted r.places.middle r.placed.chunk.segment number begins i ∙ lifted_address i)
       (λ lt same on. ap (λ (u : UsageTable). address_of u i) same ∙ lifted_address i)
 
   lifted_stale : stale_of r.lifted j ≡ true
@@ -165,7 +186,7 @@ module _ (v v' : LogMemory) (j number : ℕ) (good : IsMemory v) (old : stale_of
 
   mid_stale : stale_of r.places.middle j ≡ true
   mid_stale = by_case (stale_of r.places.middle j ≡ true)
-      (λ z takes. (takes.blocks j).0 ∙ lifted_stale)
+      (λ z begins. begins_stale r.lifted r.places.middle r.placed.chunk.segment number begins j lifted_stale)
       (λ lt same on. ap (λ (u : UsageTable). stale_of u j) same ∙ lifted_stale)
 
   new_stale : (i : ℕ) → stale_of v.usage i ≡ true → stale_of v'.usage i ≡ true
@@ -175,7 +196,7 @@ module _ (v v' : LogMemory) (j number : ℕ) (good : IsMemory v) (old : stale_of
       r.puts.stale.others i ne
       ∙ stays_stale r.places.middle r.placed.usage (r.placed.chunk.segment / 64) i r.places.noted.blocks
       (by_case (stale_of r.places.middle i ≡ true)
-      (λ z takes. (takes.blocks i).0 ∙ still)
+      (λ z begins. begins_stale r.lifted r.places.middle r.placed.chunk.segment number begins i still)
       (λ lt same went. ap (λ (u : UsageTable). stale_of u i) same ∙ still)))
       (cases_eq i j)
     where
@@ -193,8 +214,8 @@ module _ (v v' : LogMemory) (j number : ℕ) (good : IsMemory v) (old : stale_of
   new_some : 0 < length v'.chunk.names
   new_some = let l = new_length in omega arith
 
-  new_address : address_of v'.usage j ≡ place_of r.placed.chunk.segment (entries_of v.chunk)
-  new_address = r.puts.address.own ∙ r.places.address ∙ ap (λ (n : ℕ). 2 + 64 * r.placed.chunk.segment + suc n) (sym (length-map v.chunk.names entry_of))
+  new_address : address_of v'.usage j ≡ 2 + 64 * r.placed.chunk.segment + used_of r.places.middle r.placed.chunk.segment
+  new_address = r.puts.address.own ∙ r.places.address
 
   other_address : (i : ℕ) → (i ≡ j → ⊥) → address_of v'.usage i ≡ address_of r.places.middle i
   other_address i ne = r.puts.address.others i ne ∙ r.places.noted.blocks.address i
@@ -206,7 +227,7 @@ module _ (v v' : LogMemory) (j number : ℕ) (good : IsMemory v) (old : stale_of
       (record {
         inside = subst (λ (x : List SegmentNumbers). r.placed.chunk.segment < length x) (sym r.puts.segments) o.inside;
         used = ap (λ (x : List SegmentNumbers). (get_or x r.placed.chunk.segment no_segment).used) r.puts.segments ∙ o.used;
-        taken = ap (λ (x : List SegmentNumbers). (get_or x r.placed.chunk.segment no_segment).taken) r.puts.segments ∙ o.taken;
+        free = subst (λ (x : List SegmentNumbers). (get_or x r.placed.chunk.segment no_segment).kept ≤ r.placed.chunk.start) (sym r.puts.segments) o.free;
       })
 
   new_dirty : v'.dirty ≡ v.dirty
@@ -219,7 +240,12 @@ module _ (v v' : LogMemory) (j number : ℕ) (good : IsMemory v) (old : stale_of
   resettled_memory = record {
     count = subst IsSegmentCount (sym new_size) good.count;
     opened = λ some. new_opened;
-    short = let l = new_length in let s = good.short in omega arith;
+    short = λ some.
+        let o = r.places.opened.used in
+        let u = r.places.noted.used.own in
+        let m = mid_room in
+        let s = ap (λ (c : Chunk). c.start + length c.names) r.chunk in
+        omega arith;
     usages = λ i one. ⊎_elim
         (λ (here : i ≡ j). let a = r.puts.address.own in let b = r.places.address in let c = ap (address_of v'.usage) here in absurd (omega arith))
         (λ (ne : i ≡ j → ⊥). new_stale i (good.usages i (sym (mid_address i) ∙ sym (other_address i ne) ∙ one)))
@@ -230,32 +256,50 @@ module _ (v v' : LogMemory) (j number : ℕ) (good : IsMemory v) (old : stale_of
   pub resettled_room : room_of v ≤ room_of v' + 1
   resettled_room =
       let l = new_length in
-      let s = good.short in
+      let o = r.places.opened.used in
+      let w = r.places.noted.used.own in
+      let m = mid_room in
+      let h = ap (λ (c : Chunk). c.start + length c.names) r.chunk in
       let c : clean_in v'.usage.segments ≡ clean_in r.places.middle.segments = ap clean_in r.puts.segments ∙ r.places.noted.clean in
       let u = lifted_clean in
-      let n = room_some v'.chunk.names new_some in
+      let n = room_some v'.chunk new_some in
       by_case (room_of v ≤ room_of v' + 1)
-      (λ z takes. let e = takes.count in let o = room_none v.chunk.names z in omega arith)
-      (λ lt same on. let e = ap (λ (u : UsageTable). clean_in u.segments) same in let o = room_some v.chunk.names lt in omega arith)
+      (λ z begins.
+      let none = room_none v.chunk z in
+      ⊎_elim
+      (λ (t : TakesSegment r.lifted r.places.middle r.placed.chunk.segment number). let e = t.count in let one = t.used.own in omega arith)
+      (λ (g : GoesOn r.lifted r.places.middle r.placed.chunk.segment number). let e = g.clean in omega arith)
+      begins)
+      (λ lt same on.
+      let e = ap (λ (u : UsageTable). clean_in u.segments) same in
+      let before = room_some v.chunk lt in
+      let a = ap (λ (u : UsageTable). used_of u r.placed.chunk.segment) same in
+      let b = lifted_used r.placed.chunk.segment in
+      let d = ap (used_of v.usage) on in
+      let f = (good.opened lt).used in
+      omega arith)
 
   pub resettled_usage : IsResettled v.usage v'.usage j
   resettled_usage =
-      let o = new_opened in
-      let a = r.puts.address.own ∙ r.places.address in
-      let s = good.short in
-      let e = ap (λ (c : Chunk). c.segment) r.chunk in
-      let at : segment_of (address_of v'.usage j) ≡ v'.chunk.segment = omega arith in
+      let a = new_address in
+      let m = mid_room in
+      let p = r.places.opened in
+      let inside = p.inside in
+      let used = p.used in
+      let u = r.places.noted.used.own in
+      let size = r.puts.segments in
+      let long = ap length size in
+      let l = new_length in
+      let names = ap (λ (c : Chunk). length c.names) r.chunk in
+      let at : segment_of (address_of v'.usage j) ≡ r.placed.chunk.segment = omega arith in
+      let here : (address_of v'.usage j - 2) % 64 ≡ used_of r.places.middle r.placed.chunk.segment = omega arith in
+      let free : kept_of v'.usage r.placed.chunk.segment ≤ r.placed.chunk.start = subst (λ (x : List SegmentNumbers). (get_or x r.placed.chunk.segment no_segment).kept ≤ r.placed.chunk.start) (sym r.puts.segments) p.free in
+      let kept : kept_of v'.usage (segment_of (address_of v'.usage j)) ≡ kept_of v'.usage r.placed.chunk.segment = ap (kept_of v'.usage) at in
       record {
-        own = (omega arith, ap (taken_of v'.usage) at ∙ o.taken);
+        own = (omega arith, omega arith, omega arith);
         others = λ i ne. other_address i ne ∙ mid_address i;
-        taken = λ i on.
-            ap (λ (x : List SegmentNumbers). (get_or x i no_segment).taken) r.puts.segments ∙ r.places.noted.taken i
-            ∙ by_case (taken_of r.places.middle i ≡ true)
-            (λ z takes. ⊎_elim
-            (λ (here : i ≡ r.placed.chunk.segment). ap (taken_of r.places.middle) here ∙ takes.taken.own)
-            (λ (away : i ≡ r.placed.chunk.segment → ⊥). takes.taken.others i away ∙ lifted_taken i ∙ on)
-            (cases_eq i r.placed.chunk.segment))
-            (λ lt same went. ap (λ (u : UsageTable). taken_of u i) same ∙ lifted_taken i ∙ on);
+        kept = λ i. ap (λ (x : List SegmentNumbers). (get_or x i no_segment).kept) r.puts.segments ∙ r.places.noted.kept i ∙ mid_kept i;
+        segments = new_size;
       }
 
   module _ (m : LogMap) where
@@ -269,7 +313,7 @@ module _ (v v' : LogMemory) (j number : ℕ) (good : IsMemory v) (old : stale_of
       live = go.live;
       held = go.held;
       age = go.age;
-      taken = go.taken;
+      kept = go.kept;
       stale = go.blocks.stale;
     }
 
@@ -281,8 +325,21 @@ module _ (v v' : LogMemory) (j number : ℕ) (good : IsMemory v) (old : stale_of
       live = t.live;
       held = t.held;
       age = λ i ne. t.age.others i ne;
-      taken = t.taken;
+      kept = t.kept;
       stale = λ i. (t.blocks i).0;
+    }
+
+    goes_on_now : GoesOn r.lifted r.places.middle r.placed.chunk.segment number → GoesOnIn (without v.map r.lifted j) (without v.map r.places.middle j) r.placed.chunk.segment
+    goes_on_now g = record {
+      some = g.begun;
+      room = let r = g.room in omega arith;
+      at = without_same v.map r.lifted r.places.middle j g.blocks.address;
+      used = g.used;
+      live = g.live;
+      held = g.held;
+      age = λ i ne. g.age.others i ne;
+      kept = g.kept;
+      stale = g.blocks.stale;
     }
 
     stale_now : IsSet (stale_of r.places.middle) (stale_of v'.usage) (r.placed.chunk.segment / 64) true
@@ -297,7 +354,7 @@ module _ (v v' : LogMemory) (j number : ℕ) (good : IsMemory v) (old : stale_of
           (cases_eq i j);
     }
 
-    notes_now : IsNoted m (without v.map r.places.middle j) (tables_of v') (Usage j) (place_of r.placed.chunk.segment (entries_of v.chunk)) r.placed.chunk.segment
+    notes_now : IsNoted m (without v.map r.places.middle j) (tables_of v') (Usage j) (place_of (without v.map r.places.middle j) r.placed.chunk.segment) r.placed.chunk.segment
     notes_now = record {
       at = record {
         own = λ top. new_address;
@@ -307,7 +364,7 @@ module _ (v v' : LogMemory) (j number : ℕ) (good : IsMemory v) (old : stale_of
       live = subst (λ (x : List SegmentNumbers). CountsUp true (live_of r.places.middle) (λ i. (get_or x i no_segment).live) r.placed.chunk.segment) (sym r.puts.segments) r.places.noted.live;
       held = subst (λ (x : List SegmentNumbers). CountsUp false (held_of r.places.middle) (λ i. (get_or x i no_segment).held) r.placed.chunk.segment) (sym r.puts.segments) r.places.noted.held;
       age = λ i ne. ap (λ (x : List SegmentNumbers). (get_or x i no_segment).age) r.puts.segments ∙ r.places.noted.age i;
-      taken = λ i. ap (λ (x : List SegmentNumbers). (get_or x i no_segment).taken) r.puts.segments ∙ r.places.noted.taken i;
+      kept = λ i. ap (λ (x : List SegmentNumbers). (get_or x i no_segment).kept) r.puts.segments ∙ r.places.noted.kept i;
       stale = stale_now;
     }
 
@@ -327,13 +384,13 @@ module _ (v v' : LogMemory) (j number : ℕ) (good : IsMemory v) (old : stale_of
           let t = r.places.begun z in
           let s = log.segments in
           let e = lifted_size in
-          let i = t.inside in
-          (omega arith, takes_now t))
+          let i = begins_inside r.lifted r.places.middle r.placed.chunk.segment number t in
+          (omega arith, ⊎_elim (λ takes. inl (takes_now takes)) (λ goes. inr (goes_on_now goes)) t))
           (λ ne. let g = r.places.went_on (omega arith) in (ap (λ (u : UsageTable). without v.map u j) g.0, g.1))
 
       settled_now : Running d (blocks_of v.dirty) (tables_of v') k m0 m r.placed.chunk.segment (Some (entries_of v.chunk ++ Usage j ∷ []))
       settled_now = usage_settling d (blocks_of v.dirty) (without v.map r.places.middle j) (tables_of v') k m0 m r.placed.chunk.segment (entries_of v.chunk) j open_now
-          (let l = length-map v.chunk.names entry_of in let s = good.short in omega arith)
+          mid_room
           (pick_yes (same_entry (Usage j) (Usage j)) 1 (table_at v.map r.places.middle (Usage j)) refl)
           mid_stale
           notes_now
@@ -354,16 +411,26 @@ module _ (v v' : LogMemory) (j number : ℕ) (good : IsMemory v) (old : stale_of
         tight = subst (λ (t : TableValue). IsTight (blocks_of t)) (sym new_dirty) log.tight;
       }
 
+  -- the segment has sectors that the acknowledged checkpoint doesn't need
+  unkept : kept_of r.places.middle r.placed.chunk.segment < used_of r.places.middle r.placed.chunk.segment
+  unkept =
+      let k = r.places.noted.kept r.placed.chunk.segment in
+      let f = r.places.opened.free in
+      let u = r.places.noted.used.own in
+      let o = r.places.opened.used in
+      let names = ap length r.places.names ∙ one_longer v.chunk.names (usage_name j) in
+      omega arith
+
   -- a segment that was emptied stays so
   pub resettled_emptied : (s : ℕ) → IsEmptied v.usage s → IsEmptied v'.usage s
   resettled_emptied s is =
       let lifted : IsEmptied r.lifted s = if_left (IsEmptied r.lifted s) (λ same. subst (λ (u : UsageTable). IsEmptied u s) (sym same) is)
       (λ above go. (stays_emptied v.usage r.lifted s is).2 (segment_of (address_of v.usage j)) true go) in
       let middle : IsEmptied r.places.middle s = by_case (IsEmptied r.places.middle s)
-      (λ z takes. (stays_emptied r.lifted r.places.middle s lifted).0 r.placed.chunk.segment number takes)
+      (λ z begins. (stays_emptied r.lifted r.places.middle s lifted).0 r.placed.chunk.segment number begins)
       (λ lt same on. subst (λ (u : UsageTable). IsEmptied u s) (sym same) lifted) in
       let placed : IsEmptied r.placed.usage s =
-      (stays_emptied r.places.middle r.placed.usage s middle).1 r.placed.chunk.segment true r.places.noted (sym (r.places.noted.taken r.placed.chunk.segment) ∙ r.places.opened.taken) in
+      (stays_emptied r.places.middle r.placed.usage s middle).1 r.placed.chunk.segment true r.places.noted unkept in
       (stays_emptied r.placed.usage v'.usage s placed).3 j r.place true r.puts
 
   pub resettled_goes : (d d' : DeviceState) (w : LogMemory) → Goes d d' v' w 0 → Goes d d' v w 1

@@ -9,7 +9,8 @@ use Rattle.lfs_model.specs.Stands.{LogMap}
 use Rattle.lfs_model.specs.Counting.{segment_of}
 use Rattle.lfs_model.specs.Running.{SpellsUsage, IsFresh}
 use Rattle.lfs_model.proofs.Leaving.{usage_filling}
-use Rattle.lfs_memory.specs.segments.Table.{SegmentNumbers, UsageTable, no_segment, taken_of, address_of, stale_of, clean_in}
+use Rattle.lfs_memory.specs.segments.Table.{SegmentNumbers, UsageTable, no_segment, kept_of, address_of, stale_of, clean_in}
+use Rattle.lfs_memory.specs.segments.Chunk.{IsUnkeptBy}
 use Rattle.lfs_memory.specs.segments.Steps.{PutsPlace, SpellsBlock}
 use Rattle.lfs_memory.proofs.of_segments.StaysEmptied.{stays_emptied}
 use Rattle.lfs_memory.specs.inodes.Blocks.{blocks_of}
@@ -19,11 +20,11 @@ use Rattle.lfs_memory.specs.Memory.{table_at, tables_of, segment_in, chunk_in, I
 use Rattle.lfs_memory.proofs.Opened.{stays_settled, stays_quiet, taken_free}
 use Rattle.lfs_log.specs.Settling.{IsAnew, AreAnew, IsFilled}
 
--- a sector of a segment that was taken is free
-place_free : (d : DeviceState) (v : LogMemory) (k : CheckpointValue) (m0 m : LogMap) (at : ℕ) → IsLog d v k m0 m → 2 ≤ at → taken_of v.usage (segment_of at) ≡ true → IsFreeSector d.content k at
-place_free d v k m0 m at log above on =
+-- a sector that the acknowledged checkpoint doesn't need is free
+place_free : (d : DeviceState) (v : LogMemory) (k : CheckpointValue) (m0 m : LogMap) (at : ℕ) → IsLog d v k m0 m → 2 ≤ at → segment_of at < length v.usage.segments → IsUnkeptBy v.usage at → IsFreeSector d.content k at
+place_free d v k m0 m at log above inside on =
     subst (λ (a : ℕ). IsFreeSector d.content k a) (omega arith)
-    (taken_free d (blocks_of v.dirty) (tables_of v) k m0 m (segment_in v.chunk) (chunk_in v.chunk) log.running (segment_of at) ((at - 2) % 64) on (omega arith))
+    (taken_free d (blocks_of v.dirty) (tables_of v) k m0 m (segment_in v.chunk) (chunk_in v.chunk) log.running (segment_of at) ((at - 2) % 64) (let e = log.segments in omega arith) on (omega arith))
 
 pub table_same : (map : MapValue) (u u' : UsageTable) → ((i : ℕ) → address_of u' i ≡ address_of u i) → (y : Entry) → table_at map u' y ≡ table_at map u y
 table_same map u u' same (Data n i) = refl
@@ -53,7 +54,7 @@ module _ (v : LogMemory) (j : ℕ) (u : UsageTable) (good : IsMemory v) (is : Is
     live = same_numbers (λ n. n.live);
     held = same_numbers (λ n. n.held);
     age = same_numbers (λ n. n.age);
-    taken = same_numbers (λ n. n.taken);
+    kept = same_numbers (λ n. n.kept);
     stale = puts.stale;
   }
 
@@ -65,7 +66,7 @@ module _ (v : LogMemory) (j : ℕ) (u : UsageTable) (good : IsMemory v) (is : Is
         record {
           inside = subst (λ (x : List SegmentNumbers). v.chunk.segment < length x) (sym puts.segments) o.inside;
           used = same_numbers (λ n. n.used) v.chunk.segment ∙ o.used;
-          taken = same_numbers (λ n. n.taken) v.chunk.segment ∙ o.taken;
+          free = let k = same_numbers (λ n. n.kept) v.chunk.segment in let f = o.free in omega arith;
         };
     short = good.short;
     usages = λ i one. ⊎_elim
@@ -83,7 +84,7 @@ module _ (v : LogMemory) (j : ℕ) (u : UsageTable) (good : IsMemory v) (is : Is
 
     log_now : (k : CheckpointValue) (m0 m : LogMap) → d'.keeps_model → IsLog d v k m0 m → IsLog d' (record v { usage = u }) k m0 m
     log_now k m0 m keeps log = record {
-      running = usage_filling d d' (blocks_of v.dirty) (tables_of v) (tables_of (record v { usage = u })) k m0 m (segment_in v.chunk) (chunk_in v.chunk) j bytes log.running is.0 is.1 spells_now
+      running = usage_filling d d' (blocks_of v.dirty) (tables_of v) (tables_of (record v { usage = u })) k m0 m (segment_in v.chunk) (chunk_in v.chunk) j bytes log.running is.0 is.2 spells_now
           (record { content = written keeps; crash = crash }) fresh_now;
       hidden = log.hidden;
       segments = ap length puts.segments ∙ log.segments;
@@ -99,16 +100,16 @@ module _ (v : LogMemory) (j : ℕ) (u : UsageTable) (good : IsMemory v) (is : Is
       no_failure = same;
       emptied = λ s was. (stays_emptied v.usage u s was).3 j (address_of v.usage j) false puts;
       log = log_now;
-      quiet = λ k m0 m keeps log. stays_quiet d d' k m0 (address_of v.usage j) bytes log.running.settled (place_free d v k m0 m (address_of v.usage j) log is.0 is.1) (left_new (written keeps)) crash lawful carries time;
+      quiet = λ k m0 m keeps log. stays_quiet d d' k m0 (address_of v.usage j) bytes log.running.settled (place_free d v k m0 m (address_of v.usage j) log is.0 is.1 is.2) (left_new (written keeps)) crash lawful carries time;
     }
 
-pub write_stops : (d d' : DeviceState) (v : LogMemory) (at : ℕ) (bytes : List ℕ) → IsLawful d → 2 ≤ at → taken_of v.usage (segment_of at) ≡ true
+pub write_stops : (d d' : DeviceState) (v : LogMemory) (at : ℕ) (bytes : List ℕ) → IsLawful d → 2 ≤ at → segment_of at < length v.usage.segments → IsUnkeptBy v.usage at
     → (d'.keeps_model → MayWrite at bytes d.content d'.content) → CrashWrites at bytes d d' → d.failures < d'.failures → Carries d d' → Elapses d d' → Stops d d' v
-write_stops d d' v at bytes lawful above on may crash failed carries time = record {
+write_stops d d' v at bytes lawful above inside on may crash failed carries time = record {
   carries = carries;
   cause = λ k m0 m keeps log. failed;
-  settled = λ k m0 m keeps log. stays_settled d d' k m0 at bytes log.running.settled (place_free d v k m0 m at log above on) (may keeps) crash;
-  quiet = λ k m0 m keeps log. stays_quiet d d' k m0 at bytes log.running.settled (place_free d v k m0 m at log above on) (may keeps) crash lawful carries time;
+  settled = λ k m0 m keeps log. stays_settled d d' k m0 at bytes log.running.settled (place_free d v k m0 m at log above inside on) (may keeps) crash;
+  quiet = λ k m0 m keeps log. stays_quiet d d' k m0 at bytes log.running.settled (place_free d v k m0 m at log above inside on) (may keeps) crash lawful carries time;
 }
 
 -- the same with the address by another name
@@ -125,7 +126,7 @@ fill_goes_at v j at u good is e =
 pub write_stops_at : (d d' : DeviceState) (v : LogMemory) (j at : ℕ) (bytes : List ℕ) → IsLawful d → IsAnew v.usage j → address_of v.usage j ≡ at
     → (d'.keeps_model → MayWrite at bytes d.content d'.content) → CrashWrites at bytes d d' → d.failures < d'.failures → Carries d d' → Elapses d d' → Stops d d' v
 write_stops_at d d' v j at bytes lawful is e may crash failed carries time =
-    write_stops d d' v at bytes lawful (subst (λ (a : ℕ). 2 ≤ a) e is.0) (subst (λ (a : ℕ). taken_of v.usage (segment_of a) ≡ true) e is.1) may crash failed carries time
+    write_stops d d' v at bytes lawful (subst (λ (a : ℕ). 2 ≤ a) e is.0) (subst (λ (a : ℕ). segment_of a < length v.usage.segments) e is.1) (subst (λ (a : ℕ). IsUnkeptBy v.usage a) e is.2) may crash failed carries time
 
 -- block j isn't stale any more
 module _ (old new : UsageTable) (j : ℕ) (is : IsFilled old new j) where
@@ -142,5 +143,11 @@ module _ (old new : UsageTable) (j : ℕ) (is : IsFilled old new j) where
       let was = anew i (subst (λ (x : List SegmentNumbers). i < (length x + 63) / 64) is.segments low) (sym (is.stale.others i ne) ∙ stale) in
       let e = is.address i in
       let le = was.0 in
-      (omega arith, ap (λ (x : List SegmentNumbers). (get_or x (segment_of (address_of new i)) no_segment).taken) is.segments ∙ ap (λ (a : ℕ). taken_of old (segment_of a)) e ∙ was.1))
+      let size = ap length is.segments in
+      let inside = was.1 in
+      (
+        omega arith,
+        omega arith,
+        subst (λ (a : ℕ). IsUnkeptBy new a) (sym e) (subst (λ (x : List SegmentNumbers). (get_or x (segment_of (address_of old i)) no_segment).kept ≤ (address_of old i - 2) % 64) (sym is.segments) was.2),
+      ))
       (cases_eq i j)

@@ -17,7 +17,7 @@ use Rattle.lfs_memory.proofs.Looses.{loose}
 use Rattle.lfs_memory.specs.declared.changes.Changes.{Changes}
 use Rattle.lfs_memory.specs.declared.memory.LogMemory.{LogMemory}
 use Rattle.lfs_memory.specs.inodes.MapValue.{IsUnusedNumber, address_in}
-use Rattle.lfs_memory.specs.segments.Table.{UsageTable, taken_of}
+use Rattle.lfs_memory.specs.segments.Table.{UsageTable, used_of, kept_of}
 use Rattle.lfs_model.specs.Encodes.{HasInode}
 use Rattle.lfs_memory.specs.Memory.{IsLoose}
 use Rattle.lfs_memory.specs.Lifting.{Prepares}
@@ -121,7 +121,7 @@ module _ {D : Type 0} (state : D → DeviceState) where
         capacity = tight.stays.capacity ∙ s.capacity;
         few = let x = s.few in let y = tight.stays.blocks in omega (arith, x, y);
       };
-      untaken = λ before segment. ap (λ (u : UsageTable). taken_of u segment) tight.usage ∙ s.taken segment ∙ before segment;
+      untaken = λ before segment. subst (λ (u : UsageTable). kept_of u segment ≡ used_of u segment) (sym tight.usage) (s.kept segment ∙ before segment ∙ sym (s.used segment));
       holds = λ k m0 m keeps is. held_tight h h' v k m0 m _ is number halted tight (s.log k m0 m keeps (loose (state h.device) h.memory k m0 m is.log));
     }
 
@@ -136,7 +136,7 @@ module _ {D : Type 0} (state : D → DeviceState) where
         capacity = tight.stays.capacity ∙ s.capacity;
         few = let x = s.few in let y = tight.stays.blocks in omega (arith, x, y);
       };
-      untaken = λ before segment. ap (λ (u : UsageTable). taken_of u segment) tight.usage ∙ s.taken segment ∙ before segment;
+      untaken = λ before segment. subst (λ (u : UsageTable). kept_of u segment ≡ used_of u segment) (sym tight.usage) (s.kept segment ∙ before segment ∙ sym (s.used segment));
       holds = λ k m0 m keeps is. held_tight h h' v k m0 m m is number halted tight (s.log k m0 m keeps (loose (state h.device) h.memory k m0 m is.log));
     }
 

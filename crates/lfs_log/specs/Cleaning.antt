@@ -8,7 +8,7 @@ use Rattle.lfs_model.specs.Members.{IsIn}
 use Rattle.lfs_model.specs.Stands.{LogMap}
 use Rattle.lfs_model.specs.TreeOf.{dropped}
 use Rattle.lfs_memory.specs.segments.Emptied.{IsEmptied}
-use Rattle.lfs_memory.specs.segments.Table.{UsageTable, used_of, taken_of, clean_in}
+use Rattle.lfs_memory.specs.segments.Table.{UsageTable, used_of, kept_of, clean_in}
 use Rattle.lfs_memory.specs.declared.memory.LogMemory.{LogMemory}
 use Rattle.lfs_memory.specs.Memory.{IsLog, IsMemory}
 use Rattle.lfs_memory.specs.Present.{Looks}
@@ -16,11 +16,11 @@ use Rattle.lfs_log.specs.Held.{Held, Holds, LeavesSaved}
 use Rattle.lfs_log.specs.Publishing.{AreUntaken}
 use Rattle.lfs_log.specs.Relocating.{CameFrom, IsAmong, IsInOrder, Misses, Relocates}
 
--- a segment that is in use, and was before the acknowledged checkpoint
+-- a segment in use, of which no sector was taken since the acknowledged checkpoint
 pub record IsCleanable (t : UsageTable) (s : ℕ) : Type 0 where
   pub inside : s < length t.segments
   pub used : 0 < used_of t s
-  pub before : taken_of t s ≡ false
+  pub before : kept_of t s ≡ used_of t s
 
 abbrev pub AreCleanable : UsageTable → List ℕ → Type 0
 AreCleanable t vs = (i : ℕ) → i < length vs → IsCleanable t (get_or vs i 0)

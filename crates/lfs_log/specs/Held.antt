@@ -38,9 +38,9 @@ pub record Held (D : Type 0) : Type 0 where
 -- ---- these records by numbers and lists
 abbrev pub segment_code : Coded SegmentNumbers
 segment_code =
-    code_by (ℕ × (ℕ × (ℕ × (ℕ × Bool)))) (coded× coded_ℕ (coded× coded_ℕ (coded× coded_ℕ (coded× coded_ℕ coded_bool))))
-    (λ n. (n.used, (n.live, (n.held, (n.age, n.taken)))))
-    (λ p. record { used = p.0; live = p.1.0; held = p.1.1.0; age = p.1.1.1.0; taken = p.1.1.1.1 })
+    code_by (ℕ × (ℕ × (ℕ × (ℕ × ℕ)))) (coded× coded_ℕ (coded× coded_ℕ (coded× coded_ℕ (coded× coded_ℕ coded_ℕ))))
+    (λ n. (n.used, (n.live, (n.held, (n.age, n.kept)))))
+    (λ p. record { used = p.0; live = p.1.0; held = p.1.1.0; age = p.1.1.1.0; kept = p.1.1.1.1 })
     (λ _. refl)
 
 abbrev pub place_code : Coded PlaceInSegment
@@ -97,7 +97,9 @@ name_code =
     (λ n. (n.file, (n.kind, n.index))) (λ p. record { file = p.0; kind = p.1.0; index = p.1.1 }) (λ _. refl)
 
 abbrev pub chunk_code : Coded Chunk
-chunk_code = code_by (ℕ × List BlockNameValue) (coded× coded_ℕ (coded_list name_code)) (λ c. (c.segment, c.names)) (λ p. record { segment = p.0; names = p.1 }) (λ _. refl)
+chunk_code =
+    code_by (ℕ × (ℕ × List BlockNameValue)) (coded× coded_ℕ (coded× coded_ℕ (coded_list name_code)))
+    (λ c. (c.segment, (c.start, c.names))) (λ p. record { segment = p.0; start = p.1.0; names = p.1.1 }) (λ _. refl)
 
 abbrev pub memory_code : Coded LogMemory
 memory_code =

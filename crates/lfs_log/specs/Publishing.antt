@@ -6,7 +6,7 @@ use Rattle.lfs_model.specs.Device.{DeviceState, Carries, LeavesOnly, AllLeft}
 use Rattle.lfs_model.specs.Encodes.{IsLogMap}
 use Rattle.lfs_model.specs.Stands.{LogMap}
 use Rattle.lfs_model.specs.TreeOf.{dropped}
-use Rattle.lfs_memory.specs.segments.Table.{UsageTable, taken_of, address_of, stale_of}
+use Rattle.lfs_memory.specs.segments.Table.{UsageTable, used_of, kept_of, address_of, stale_of}
 use Rattle.lfs_memory.specs.segments.Steps.{Releases}
 use Rattle.lfs_memory.specs.segments.Spare.{spare_in}
 use Rattle.lfs_memory.specs.inodes.MapValue.{block_in}
@@ -14,9 +14,9 @@ use Rattle.lfs_memory.specs.declared.memory.LogMemory.{LogMemory}
 use Rattle.lfs_memory.specs.Memory.{IsMemory, IsLog}
 use Rattle.lfs_log.specs.Settling.{blocks_in}
 
--- no segment counts as taken since the acknowledged checkpoint
+-- no sector was taken since the acknowledged checkpoint
 abbrev pub AreUntaken : UsageTable → Type 0
-AreUntaken t = (s : ℕ) → taken_of t s ≡ false
+AreUntaken t = (s : ℕ) → kept_of t s ≡ used_of t s
 
 -- all blocks are out, and in many segments nothing lives: the checkpoint has them as clean
 pub record IsAllOut (v : LogMemory) : Type 0 where

@@ -4,7 +4,8 @@ use Rattle.lfs_model.specs.declared.BlockKind.TheVariants as kind
 use Rattle.lfs_model.specs.Counting.{segment_of}
 use Rattle.lfs_model.specs.Summary.{BlockNameValue}
 use Rattle.lfs_model.specs.Running.{IsSet}
-use Rattle.lfs_memory.specs.segments.Table.{UsageTable, live_of, taken_of, address_of, stale_of}
+use Rattle.lfs_memory.specs.segments.Table.{UsageTable, live_of, kept_of, address_of, stale_of}
+use Rattle.lfs_memory.specs.segments.Chunk.{IsUnkeptBy}
 use Rattle.lfs_memory.specs.segments.Steps.{Lifts, PutsPlace}
 use Rattle.lfs_memory.specs.declared.memory.LogMemory.{LogMemory}
 use Rattle.lfs_memory.specs.Memory.{Places}
@@ -41,15 +42,16 @@ pub record Resettles (v v' : LogMemory) (j number : ℕ) : Type 0 where
   pub dirty : v'.dirty ≡ placed.dirty
   pub chunk : v'.chunk ≡ placed.chunk
 
--- usage block j stands in a segment that was taken since the acknowledged checkpoint
+-- usage block j stands where the acknowledged checkpoint needs nothing
 abbrev pub IsAnew : UsageTable → ℕ → Type 0
-IsAnew t j = (2 ≤ address_of t j) × (taken_of t (segment_of (address_of t j)) ≡ true)
+IsAnew t j = (2 ≤ address_of t j) × (segment_of (address_of t j) < length t.segments) × IsUnkeptBy t (address_of t j)
 
 -- usage block j stands there now, the others as before
 pub record IsResettled (old new : UsageTable) (j : ℕ) : Type 0 where
   pub own : IsAnew new j
   pub others : (i : ℕ) → (i ≡ j → ⊥) → address_of new i ≡ address_of old i
-  pub taken : (s : ℕ) → taken_of old s ≡ true → taken_of new s ≡ true
+  pub kept : (s : ℕ) → kept_of new s ≡ kept_of old s
+  pub segments : length new.segments ≡ length old.segments
 
 -- how many usage blocks there are
 abbrev pub blocks_in : UsageTable → ℕ

@@ -89,7 +89,7 @@ fn is_emptied(usage: &Usage, segment: u32) -> bool
     if state.used == 0 {
         return false;
     }
-    if state.taken {
+    if state.kept != state.used {
         return false;
     }
     if state.live != 0 {
@@ -221,7 +221,7 @@ fn is_cleanable(usage: &Usage, segment: u32) -> bool
     if state.used == 0 {
         return false;
     }
-    !state.taken
+    state.kept == state.used
 }
 
 /// Whether that is so of each of these segments.

@@ -4,7 +4,8 @@ ghost use Rattle.lfs_model.specs.Entry.{Entry};
 ghost use Rattle.lfs_model.specs.Running.{IsLowest};
 ghost use Rattle.lfs_memory.specs.inodes.Blocks.{blocks_of};
 ghost use Rattle.lfs_memory.specs.inodes.Key.{entry_of};
-ghost use Rattle.lfs_memory.specs.Memory.{IsMemory, IsMemoryUpTo, HasRoom, Goes, GoesUpTo, Stops, room_of, room_in};
+ghost use Rattle.lfs_memory.specs.Memory.{IsMemory, IsMemoryUpTo, HasRoom, Goes, GoesUpTo, Stops, room_of};
+ghost use Rattle.lfs_memory.specs.segments.Chunk.{room_in};
 
 use lfs_device::{DeviceFault, SectorDevice};
 use lfs_memory::LogMemory;
@@ -17,7 +18,7 @@ pub fn seal<D: SectorDevice>(device: &mut D, memory: &mut LogMemory) -> Result<(
     requires begun { 0 < length memory.old.chunk.names }
     requires size { HasRoom (D.state device.old) memory.old }
     ensures done { OnOk result (Goes (D.state device.old) (D.state device.new) memory.old memory.new
-        (room_in memory.old.chunk.names)) }
+        (room_in memory.old.chunk)) }
     ensures stopped { OnErr result (Stops (D.state device.old) (D.state device.new) memory.old) }
     ensures map { memory.new.map ≡ memory.old.map }
     ensures dirty { memory.new.dirty ≡ memory.old.dirty }
@@ -39,7 +40,7 @@ pub fn seal_full<D: SectorDevice>(device: &mut D, memory: &mut LogMemory) -> Res
     ensures dirty { memory.new.dirty ≡ memory.old.dirty }
     ensures usage { memory.new.usage ≡ memory.old.usage }
 {
-    if memory.chunk.len() == 63 {
+    if memory.chunk.is_full() {
         seal(device, memory)?;
     }
     Ok(())

@@ -86,7 +86,7 @@ pub fn settle_block<D: SectorDevice>(
     seal_full(device, memory)
 }
 
-/// Whether the usage block stands in a segment that was taken since the acknowledged checkpoint.
+/// Whether the usage block stands where the acknowledged checkpoint needs nothing.
 fn is_anew(usage: &Usage, index: u32) -> bool
     requires { index < 16 }
     ensures yes { result ≡ true → IsAnew usage.now index }
@@ -100,10 +100,10 @@ fn is_anew(usage: &Usage, index: u32) -> bool
     if segment >= usage.segments() {
         return false;
     }
-    usage.state(segment).taken
+    u32::from(usage.state(segment).kept) <= (address - 2) % 64
 }
 
-/// The first usage block that changed and doesn't stand in such a segment.
+/// The first usage block that changed and doesn't stand at such a place.
 fn next_out(usage: &Usage) -> Option<u32>
     ensures some { IfSome result (λ j. (j < blocks_in usage.now) × (stale_of usage.now j ≡ true)
         × (IsAnew usage.now j → ⊥)) }

@@ -16,6 +16,7 @@ use Rattle.lfs_segments.specs.Table.{UsageTable, used_of, live_of, held_of, addr
 use Rattle.lfs_segments.specs.Chunk.{entries_of}
 use Rattle.lfs_segments.specs.Steps.{TakesSegment, GoesOn}
 use Rattle.lfs_segments.specs.Emptied.{IsEmptied}
+use Rattle.lfs_segments.proofs.Beginnings.{begins_size, begins_room, begins_address, begins_stale}
 use Rattle.lfs_segments.proofs.StaysEmptied.{stays_emptied}
 use Rattle.lfs_inodes.specs.Blocks.{Capacity, TableValue, blocks_of}
 use Rattle.lfs_inodes.specs.MapValue.{MapValue}
@@ -85,10 +86,7 @@ module _ (v v' : LogMemory) (name : BlockNameValue) (lives : Bool) (age place : 
   -- the segment has room for the block
   pub room_left : before.used v'.chunk.segment < 64
   room_left = ⊎_elim
-      (λ (none : length v.chunk.names ≡ 0). ⊎_elim
-      (λ (t : TakesSegment v.usage p.middle v'.chunk.segment age). let u = t.used.own in omega (arith, u))
-      (λ (g : GoesOn v.usage p.middle v'.chunk.segment age). let u = g.used.own in let r = g.room in omega (arith, u, r))
-      (p.begun none))
+      (λ (none : length v.chunk.names ≡ 0). begins_room v.usage p.middle v'.chunk.segment age (p.begun none))
       (λ (some : 0 < length v.chunk.names).
       let w = p.went_on some in
       let u = ap (λ (u : UsageTable). used_of u v'.chunk.segment) w.0 in
@@ -98,33 +96,21 @@ module _ (v v' : LogMemory) (name : BlockNameValue) (lives : Bool) (age place : 
       omega (arith, u, s, o, short))
       (zero_or_more (length v.chunk.names))
 
-  begun_size : length v.chunk.names ≡ 0 → length p.middle.segments ≡ length v.usage.segments
-  begun_size none = ⊎_elim (λ (t : TakesSegment v.usage p.middle v'.chunk.segment age). t.size) (λ (g : GoesOn v.usage p.middle v'.chunk.segment age). g.size) (p.begun none)
-
-  begun_address : length v.chunk.names ≡ 0 → (j : ℕ) → address_of p.middle j ≡ address_of v.usage j
-  begun_address none j = ⊎_elim (λ (t : TakesSegment v.usage p.middle v'.chunk.segment age). (t.blocks j).1) (λ (g : GoesOn v.usage p.middle v'.chunk.segment age). g.blocks.address j) (p.begun none)
-
-  begun_stale : length v.chunk.names ≡ 0 → (j : ℕ) → stale_of v.usage j ≡ true → stale_of p.middle j ≡ true
-  begun_stale none j on = ⊎_elim
-      (λ (t : TakesSegment v.usage p.middle v'.chunk.segment age). (t.blocks j).0 ∙ on)
-      (λ (g : GoesOn v.usage p.middle v'.chunk.segment age). stays_stale v.usage p.middle (v'.chunk.segment / 64) j g.blocks on)
-      (p.begun none)
-
   pub segments_same : length v'.usage.segments ≡ length v.usage.segments
   segments_same = ⊎_elim
-      (λ (none : length v.chunk.names ≡ 0). p.noted.size ∙ begun_size none)
+      (λ (none : length v.chunk.names ≡ 0). p.noted.size ∙ begins_size v.usage p.middle v'.chunk.segment age (p.begun none))
       (λ (some : 0 < length v.chunk.names). p.noted.size ∙ ap (λ (u : UsageTable). length u.segments) (p.went_on some).0)
       (zero_or_more (length v.chunk.names))
 
   pub addresses_same : (j : ℕ) → (tables_by v.map v'.usage).at (Usage j) ≡ (tables_by v.map v.usage).at (Usage j)
   addresses_same j = ⊎_elim
-      (λ (none : length v.chunk.names ≡ 0). p.noted.blocks.address j ∙ begun_address none j)
+      (λ (none : length v.chunk.names ≡ 0). p.noted.blocks.address j ∙ begins_address v.usage p.middle v'.chunk.segment age (p.begun none) j)
       (λ (some : 0 < length v.chunk.names). p.noted.blocks.address j ∙ ap (λ (u : UsageTable). (tables_by v.map u).at (Usage j)) (p.went_on some).0)
       (zero_or_more (length v.chunk.names))
 
   stale_still : (j : ℕ) → stale_of v.usage j ≡ true → stale_of v'.usage j ≡ true
   stale_still j on = ⊎_elim
-      (λ (none : length v.chunk.names ≡ 0). stays_stale p.middle v'.usage (v'.chunk.segment / 64) j p.noted.blocks (begun_stale none j on))
+      (λ (none : length v.chunk.names ≡ 0). stays_stale p.middle v'.usage (v'.chunk.segment / 64) j p.noted.blocks (begins_stale v.usage p.middle v'.chunk.segment age (p.begun none) j on))
       (λ (some : 0 < length v.chunk.names). stays_stale p.middle v'.usage (v'.chunk.segment / 64) j p.noted.blocks (ap (λ (u : UsageTable). stale_of u j) (p.went_on some).0 ∙ on))
       (zero_or_more (length v.chunk.names))
 

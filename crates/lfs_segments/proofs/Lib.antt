@@ -9,3 +9,4 @@ pub mod PressedGains
 pub mod StaysEmptied
 pub mod EmptiedGained
 pub mod Spare
+pub mod Beginnings

@@ -23,14 +23,14 @@ pub struct ChunkWriter {
 }
 
 impl Model for ChunkWriter {
-    ghost use Rattle.std.specs.Prelude.{◌<◌};
+    ghost use Rattle.std.specs.Prelude.{◌<◌, ◌≤◌};
     ghost use Rattle.lfs_segments.specs.Chunk.{Chunk, IsChunk};
 
     ghost Value = { Chunk };
 
     ghost view = { λ c. record { segment = c.segment; start = c.start; names = c.names.items } };
 
-    ghost invariant = { λ c. (c.segment < 1024) × (c.start < 64) × IsChunk c.names.items };
+    ghost invariant = { λ c. (c.segment < 1024) × (c.start ≤ 62) × IsChunk c.names.items };
 }
 
 impl ChunkWriter {
@@ -73,6 +73,7 @@ impl ChunkWriter {
     pub fn is_full(&self) -> bool
         ensures yes { result ≡ true → self.now.start + length self.now.names ≡ 63 }
         ensures no { result ≢ true → self.now.start + length self.now.names ≢ 63 }
+        ensures some { result ≡ true → 0 < length self.now.names }
     {
         self.start as usize + self.names.len() == 63
     }

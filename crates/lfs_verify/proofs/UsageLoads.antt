@@ -79,7 +79,7 @@ taken_more old mid new uses j n before own past blocks = ⊎_elim inside outside
         }
 
 abbrev on_device : ℕ → ℕ → ℕ → SegmentNumbers
-on_device used live age = record { used = used; live = live; held = 0; age = age; taken = false }
+on_device used live age = record { used = used; live = live; held = 0; age = age; kept = used }
 
 -- a usage block is taken in, and stands at this address
 module _ (old mid new : UsageTable) (uses : List SegmentUse) (j segments at : ℕ) (stale : Bool) (is : IsUsageUpTo j segments old) (taken : IsTakenIn old mid uses j 64) (puts : PutsPlace mid new j at stale) where

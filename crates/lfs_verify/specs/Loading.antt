@@ -14,7 +14,7 @@ use Rattle.lfs_verify.specs.declared.tables.Tables.{Tables}
 
 -- what is known of a segment on the device
 abbrev pub loaded : SegmentUse → SegmentNumbers
-loaded u = record { used = u.used; live = u.live; held = 0; age = u.age; taken = false }
+loaded u = record { used = u.used; live = u.live; held = 0; age = u.age; kept = u.used }
 
 -- the entries of usage block j are taken in, up to the one at this place
 pub record IsTakenIn (old new : UsageTable) (uses : List SegmentUse) (j upto : ℕ) : Type 0 where
@@ -26,7 +26,7 @@ pub record IsTakenIn (old new : UsageTable) (uses : List SegmentUse) (j upto : �
 
 -- what the content says of a segment
 abbrev pub numbers_in : Content → CheckpointValue → ℕ → SegmentNumbers
-numbers_in c k s = record { used = used_in (view c k) s; live = live_in (view c k) s; held = 0; age = age_in (view c k) s; taken = false }
+numbers_in c k s = record { used = used_in (view c k) s; live = live_in (view c k) s; held = 0; age = age_in (view c k) s; kept = used_in (view c k) s }
 
 -- an entry of a segment where nothing lives has no age
 abbrev pub HasNoDeadAge : Content → CheckpointValue → ℕ → Type 0
