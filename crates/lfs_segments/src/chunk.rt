@@ -19,6 +19,8 @@ use std::marker::Model;
 pub struct ChunkWriter {
     segment: u32,
     start: u32,
+    /// Whether a chunk was written to the segment, behind which the next may begin.
+    is_sealed: bool,
     names: ArrayVec<BlockName, 63>,
 }
 
@@ -41,6 +43,7 @@ impl ChunkWriter {
         ChunkWriter {
             segment: 0,
             start: 0,
+            is_sealed: false,
             names: ArrayVec::new(),
         }
     }
@@ -78,7 +81,7 @@ impl ChunkWriter {
         self.start as usize + self.names.len() == 63
     }
 
-    /// Whether a chunk may begin behind the last one: its segment has room for a summary and a
+    /// Whether a chunk may begin behind the last one, if there was one: its segment has room for a summary and a
     /// block, and something lives there or holds it.
     fn may_go_on(&self, usage: &Usage) -> bool
         ensures inside { result ≡ true → self.now.segment < length usage.now.segments }
@@ -86,7 +89,7 @@ impl ChunkWriter {
         ensures some { result ≡ true
             → 0 < live_of usage.now self.now.segment + held_of usage.now self.now.segment }
     {
-        if self.segment >= usage.segments() {
+        if !self.is_sealed || self.segment >= usage.segments() {
             return false;
         }
         let state = usage.state(self.segment);
@@ -171,6 +174,7 @@ impl ChunkWriter {
         let summary = encode_summary(self.names.as_slice());
         write(device, usage, 2 + 64 * self.segment + self.start, &summary)?;
         self.names.clear();
+        self.is_sealed = true;
         Ok(())
     }
 }
