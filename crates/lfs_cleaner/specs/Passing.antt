@@ -7,7 +7,7 @@ use Rattle.lfs_model.specs.Stands.{LogMap}
 use Rattle.lfs_model.specs.Totals.{data_in, meta_in}
 use Rattle.lfs_log.specs.segments.Table.{clean_in}
 use Rattle.lfs_log.specs.Cleaning.{Cleans}
-use Rattle.lfs_log.specs.Held.{Held, Holds}
+use Rattle.lfs_log.specs.Held.{Held, Holds, AreAllSaved}
 use Rattle.lfs_log.specs.Publishing.{AreUntaken}
 
 module _ {D : Type 0} (state : D → DeviceState) where
@@ -17,11 +17,11 @@ module _ {D : Type 0} (state : D → DeviceState) where
 
   -- The log holds a log map for which a pass may be made. All is saved. An eighth of the segments
   -- is clean at least, but fewer than a quarter. The blocks of the files are within the volume. No
-  -- segment counts as taken, as is so after a mount and a commit.
+  -- sector was taken since, as is so after a mount and a commit.
   pub record CanPass (h : Held D) (k : CheckpointValue) (m0 m : LogMap) : Type 0 where
     pub holds : Holds state h k m0 m
     pub map : IsLogMap m
-    pub nothing : h.memory.dirty.blocks ≡ []
+    pub nothing : AreAllSaved h
     pub untaken : AreUntaken h.memory.usage
     pub few : 4 * clean_in h.memory.usage.segments < length h.memory.usage.segments
     pub many : length h.memory.usage.segments ≤ 8 * clean_in h.memory.usage.segments

@@ -7,7 +7,7 @@ use Rattle.lfs_model.specs.Stands.{LogMap}
 use Rattle.lfs_model.specs.Totals.{IsCounted}
 use Rattle.lfs_model.specs.TreeOf.{dropped}
 use Rattle.lfs_log.specs.memory.segments.Table.{clean_in}
-use Rattle.lfs_log.specs.Held.{Held, Holds, IsSaved, LeavesSaved}
+use Rattle.lfs_log.specs.Held.{Held, Holds, IsSaved, LeavesSaved, AreAllSaved, unsaved_in}
 use Rattle.lfs_log.specs.Publishing.{AreUntaken}
 
 -- the need of the files, by the totals of the log, is within the volume
@@ -19,16 +19,16 @@ IsWithin h =
 abbrev pub HasQuarter : {D : Type 0} → Held D → Type 0
 HasQuarter h = length h.memory.usage.segments ≤ 4 * clean_in h.memory.usage.segments
 
--- What holds where all is saved, after a mount, a commit or a pass. No block of a file is in memory, no
--- segment counts as taken, and an eighth of the segments is clean at least.
+-- What holds where all is saved, after a mount, a commit or a pass. No sector was taken since, and an
+-- eighth of the segments is clean at least.
 pub record IsAtRest {D : Type 0} (h : Held D) : Type 0 where
-  pub nothing : h.memory.dirty.blocks ≡ []
+  pub nothing : AreAllSaved h
   pub untaken : AreUntaken h.memory.usage
   pub many : length h.memory.usage.segments ≤ 8 * clean_in h.memory.usage.segments
 
 -- how many checkpoints are written at most: one where anything is unsaved, and one for each pass
 abbrev pub most_checkpoints : {D : Type 0} → Held D → ℕ
-most_checkpoints h = length h.memory.usage.segments / 8 + min 1 (length h.memory.dirty.blocks)
+most_checkpoints h = length h.memory.usage.segments / 8 + min 1 (unsaved_in h)
 
 module _ {D : Type 0} (state : D → DeviceState) where
   -- The log has log map m, over what was acknowledged before, m0, or over m without its files of no links. It has N segments.
@@ -56,7 +56,7 @@ module _ {D : Type 0} (state : D → DeviceState) where
 
   -- The log map, without its files of no links, is acknowledged, and nothing of it is unsaved.
   pub record SavesAll (h h' : Held D) : Type 0 where
-    pub empty : h'.memory.dirty.blocks ≡ []
+    pub empty : AreAllSaved h'
     pub untaken : AreUntaken h'.memory.usage
     pub holds : (k : CheckpointValue) (m0 m : LogMap) → (state h'.device).keeps_model
         → Holds state h k m0 m → IsLogMap (dropped m)
@@ -106,9 +106,9 @@ module _ {D : Type 0} (state : D → DeviceState) where
     pub counted : IsCounted m h.totals.data_blocks h.totals.meta_blocks
     pub need : IsWithin h
     pub many : length h.memory.usage.segments ≤ 8 * clean_in h.memory.usage.segments
-    pub enough : 0 < length h.memory.dirty.blocks
+    pub enough : 0 < unsaved_in h
         → length h.memory.usage.segments / 8 + 8 ≤ clean_in h.memory.usage.segments
-    pub untaken : h.memory.dirty.blocks ≡ [] → AreUntaken h.memory.usage
+    pub untaken : AreAllSaved h → AreUntaken h.memory.usage
     pub number : h.number + most_checkpoints h ≤ 2 ^ 64 - 1
 
   -- the log held no map that room can be made beside
@@ -118,7 +118,7 @@ module _ {D : Type 0} (state : D → DeviceState) where
 
   -- What was unsaved is saved, and room can be made still.
   pub record IsReadied (h h' : Held D) : Type 0 where
-    pub repeats : Repeats h h' (min 1 (length h.memory.dirty.blocks))
-    pub nothing : h'.memory.dirty.blocks ≡ []
+    pub repeats : Repeats h h' (min 1 (unsaved_in h))
+    pub nothing : AreAllSaved h'
     pub room : (k : CheckpointValue) (m0 m : LogMap) → (state h'.device).keeps_model
         → MayMakeRoom h k m0 m → (next : CheckpointValue) × (m1 : LogMap) × MayMakeRoom h' next m1 m

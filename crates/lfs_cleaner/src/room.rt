@@ -2,7 +2,7 @@
 //! of the segments is clean.
 ghost use Rattle.std.specs.Prelude.{◌≡◌, ◌≢◌, ◌<◌, ◌≤◌, ◌+◌, ◌*◌, ◌/◌, true, false, [], length, OnOk, IsErrOf, IsTrue, IsFalse};
 ghost use Rattle.lfs_log.specs.memory.segments.Table.{clean_in};
-ghost use Rattle.lfs_log.specs.Held.{Halts, IsFull};
+ghost use Rattle.lfs_log.specs.Held.{Halts, IsFull, AreAllSaved, unsaved_in};
 ghost use Rattle.lfs_cleaner.specs.Room.{CleansQuarter, HaltsLater, HasQuarter, IsReadied, IsRoomFault, KeepsMap, MayNotMakeRoom, Repeats, most_checkpoints};
 
 use crate::passing::pass;
@@ -27,7 +27,7 @@ pub fn has_quarter<D: SectorDevice>(log: &Log<D>) -> bool
 /// what earlier passes did stays.
 fn pass_until_quarter<D: SectorDevice>(log: &mut Log<D>) -> Result<(), LogFault>
     requires running { log.old.halted ≡ false }
-    requires nothing { log.old.memory.dirty.blocks ≡ [] }
+    requires nothing { AreAllSaved log.old }
     ensures done { OnOk result (Repeats D.SectorDevice.state log.old log.new
         (length log.old.memory.usage.segments / 8)) }
     ensures enough { OnOk result (HasQuarter log.new) }
@@ -70,7 +70,7 @@ fn commit_unsaved<D: SectorDevice>(log: &mut Log<D>) -> Result<(), LogFault>
     ensures done { OnOk result (IsReadied D.SectorDevice.state log.old log.new) }
     ensures totals { log.new.totals ≡ log.old.totals }
     ensures full { IsErrOf result LogFault.Full → (log.new ≡ log.old) × IsFull log.old }
-    ensures unsaved { IsErrOf result LogFault.Full → 0 < length log.old.memory.dirty.blocks }
+    ensures unsaved { IsErrOf result LogFault.Full → 0 < unsaved_in log.old }
     ensures halted { IsErrOf result LogFault.Halted → Halts D.SectorDevice.state log.old log.new }
     ensures other { IsErrOf result LogFault.Device → ⊥ }
 {

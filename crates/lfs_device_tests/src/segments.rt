@@ -16,23 +16,26 @@ fn fill(chunk: &mut ChunkWriter, usage: &mut Usage, count: u32) -> u32
     let mut right = 0u32;
     for index in 0..count {
         let name = name(7, BlockKind::Data, index);
-        if chunk.len() >= 63 || !is_placed(name) {
+        if chunk.is_full() || !is_placed(name) {
             return right;
         }
-        let first = 2 + 64 * chunk.segment() + 1;
-        if Some(chunk.place(usage, name, true)) == first.checked_add(index) {
+        let next = usage.state(chunk.segment()).used;
+        let first = 2 + 64 * chunk.segment() + u32::from(next);
+        if chunk.place(usage, name, true) == first {
             right = right.saturating_add(1);
         }
     }
     right
 }
 
-/// What the summary of a segment names, if it is one: how many blocks, and the last one's index.
-fn named(device: &mut MemDevice, segment: u32) -> Option<(usize, u32)>
-    requires { segment < 1024 }
+/// What the summary at a place of a segment names, if it is one: how many blocks, and the last
+/// one's index.
+fn named(device: &mut MemDevice, segment: u32, place: u32) -> Option<(usize, u32)>
+    requires segment { segment < 1024 }
+    requires place { place < 64 }
 {
     let mut sector = [0; 512];
-    let address = 2 + 64 * segment;
+    let address = 2 + 64 * segment + place;
     if address >= device.sectors() || device.read(address, &mut sector).is_err() {
         return None;
     }
@@ -41,7 +44,8 @@ fn named(device: &mut MemDevice, segment: u32) -> Option<(usize, u32)>
     Some((summary.len(), summary.get(last).index))
 }
 
-/// Fills a chunk and seals it: how many places were right, and what the summary names then.
+/// Fills a chunk and seals it: how many places were right, and what its summary names then, which
+/// is the first of its segment.
 fn write_chunk(
     device: &mut MemDevice,
     usage: &mut Usage,
@@ -50,11 +54,11 @@ fn write_chunk(
     let mut chunk = ChunkWriter::new();
     let segment = chunk.begin(usage, 5)?;
     let right = fill(&mut chunk, usage, count);
-    if chunk.is_empty() || 2 + 64 * chunk.segment() >= device.sectors() {
+    if chunk.is_empty() || 2 + 64 * chunk.segment() + 63 >= device.sectors() {
         return None;
     }
     chunk.seal(device, usage).ok()?;
-    let (blocks, last) = named(device, chunk.segment())?;
+    let (blocks, last) = named(device, chunk.segment(), 0)?;
     Some((segment, right, blocks, last))
 }
 
@@ -100,8 +104,76 @@ fn chunks_in_the_first_segment_and_the_last(rt: HostRuntime) {
     }
 }
 
-/// What is kept of a segment beside the table: used, live, held, taken.
-type Plain = (u16, u16, u16, bool);
+/// How many blocks the first chunk of a writer has and how many the second, whether the first ones
+/// leave before the second begins, the segment that this comes to, and its start there.
+#[derive(Clone, Copy)]
+struct Pair(u32, u32, bool, u32, u32);
+
+impl Row<(MemDevice, Usage)> for Pair {
+    /// Whether the second chunk comes there, and its summary names so many blocks.
+    fn is_well(self, context: &mut (MemDevice, Usage)) -> bool {
+        let (device, usage) = context;
+        write_pair(device, usage, self) == Some((self.3, self.1))
+    }
+}
+
+/// Writes both: the segment of the second, and how many blocks its summary names.
+fn write_pair(device: &mut MemDevice, usage: &mut Usage, pair: Pair) -> Option<(u32, u32)> {
+    let Pair(first, second, leaves, _, start) = pair;
+    let mut chunk = ChunkWriter::new();
+    write_next(&mut chunk, device, usage, first)?;
+    if leaves {
+        for _ in 0..first {
+            change(usage, chunk.segment(), false, true);
+        }
+    }
+    write_next(&mut chunk, device, usage, second)?;
+    if start >= 64 {
+        return None;
+    }
+    let (blocks, _) = named(device, chunk.segment(), start)?;
+    Some((chunk.segment(), u32::try_from(blocks).ok()?))
+}
+
+/// Begins a chunk, fills it and seals it, if all its blocks find places.
+fn write_next(
+    chunk: &mut ChunkWriter,
+    device: &mut MemDevice,
+    usage: &mut Usage,
+    count: u32,
+) -> Option<()> {
+    if !chunk.is_empty() {
+        return None;
+    }
+    chunk.begin(usage, 5)?;
+    if fill(chunk, usage, count) != count || chunk.is_empty() {
+        return None;
+    }
+    if 2 + 64 * chunk.segment() + 63 >= device.sectors() {
+        return None;
+    }
+    chunk.seal(device, usage).ok()
+}
+
+/// A chunk begins behind the last one where its segment has room for a summary and a block and
+/// something lives there, else in a clean segment.
+#[test]
+fn chunks_behind_others(rt: HostRuntime) {
+    let rows = [
+        Pair(1, 1, false, 0, 2),
+        Pair(3, 5, false, 0, 4),
+        Pair(61, 1, false, 0, 62),
+        Pair(62, 1, false, 1, 0),
+        Pair(63, 7, false, 1, 0),
+        Pair(3, 5, true, 1, 0),
+    ];
+    for row in rows {
+        all_well(&rt, volume(rt.alloc(), 64), &[row]);
+    }
+}
+
+/// What is known of a segment beside the table: used, live, held, kept.
+type Plain = (u16, u16, u16, u16);
 
 /// A block comes to a segment or leaves it, where one may.
 pub(crate) fn change(usage: &mut Usage, segment: u32, comes: bool, lives: bool) -> bool {
@@ -132,21 +204,21 @@ pub(crate) fn change(usage: &mut Usage, segment: u32, comes: bool, lives: bool) 
 
 /// The same beside it.
 fn changed(kept: Plain, comes: bool, lives: bool) -> Option<Plain> {
-    let (used, live, held, taken) = kept;
+    let (used, live, held, until) = kept;
     if comes {
         if used == 0 || used >= 64 {
             return None;
         }
         return Some(if lives {
-            (used + 1, live.checked_add(1)?, held, taken)
+            (used + 1, live.checked_add(1)?, held, until)
         } else {
-            (used + 1, live, held.checked_add(1)?, taken)
+            (used + 1, live, held.checked_add(1)?, until)
         });
     }
     Some(if lives {
-        (used, live.checked_sub(1)?, held, taken)
+        (used, live.checked_sub(1)?, held, until)
     } else {
-        (used, live, held.checked_sub(1)?, taken)
+        (used, live, held.checked_sub(1)?, until)
     })
 }
 
@@ -161,21 +233,21 @@ fn hide(usage: &mut Usage, segment: u32, count: u16) -> bool {
 
 /// The same beside it.
 fn hidden(kept: Plain, count: u16) -> Option<Plain> {
-    let (used, live, held, taken) = kept;
+    let (used, live, held, until) = kept;
     Some((
         used,
         live.checked_sub(count)?,
         held.checked_add(count)?,
-        taken,
+        until,
     ))
 }
 
 fn released(kept: Plain) -> Plain {
     let (used, live, held, _) = kept;
     if live == 0 && held == 0 {
-        (0, 0, 0, false)
+        (0, 0, 0, 0)
     } else {
-        (used, live, held, false)
+        (used, live, held, used)
     }
 }
 
@@ -208,7 +280,7 @@ fn step_both(usage: &mut Usage, kept: &mut [Plain], dice: u32) -> bool {
             let first = kept.iter().position(|place| place.0 == 0);
             let taken = usage.take_clean(dice);
             if let Some(segment) = first {
-                kept[segment] = (1, 0, 0, true);
+                kept[segment] = (1, 0, 0, 0);
             }
             taken.map(|segment| segment as usize) == first
         }
@@ -230,7 +302,7 @@ fn agree(usage: &Usage, kept: &[Plain]) -> bool {
             return false;
         }
         let state = usage.state(segment);
-        if (state.used, state.live, state.held, state.taken) != *place {
+        if (state.used, state.live, state.held, state.kept) != *place {
             return false;
         }
         if place.0 == 0 {
@@ -247,7 +319,7 @@ struct Seed(u32);
 impl Row<Usage> for Seed {
     /// Whether the table and a plain list agree after each of 4,000 steps.
     fn is_well(self, usage: &mut Usage) -> bool {
-        let mut kept = [(0, 0, 0, false); 64];
+        let mut kept = [(0, 0, 0, 0); 64];
         let mut seed = self.0;
         for _ in 0..4_000 {
             seed = seed.wrapping_mul(1_664_525).wrapping_add(1_013_904_223);

@@ -12,7 +12,7 @@ use Rattle.lfs_memory.specs.segments.Table.{UsageTable, used_of, kept_of, clean_
 use Rattle.lfs_memory.specs.declared.memory.LogMemory.{LogMemory}
 use Rattle.lfs_memory.specs.Memory.{IsLog, IsMemory}
 use Rattle.lfs_memory.specs.Present.{Looks}
-use Rattle.lfs_log.specs.Held.{Held, Holds, LeavesSaved}
+use Rattle.lfs_log.specs.Held.{Held, Holds, LeavesSaved, AreAllSaved}
 use Rattle.lfs_log.specs.Publishing.{AreUntaken}
 use Rattle.lfs_log.specs.Relocating.{CameFrom, IsAmong, IsInOrder, Misses, Relocates}
 
@@ -79,7 +79,7 @@ module _ {D : Type 0} (state : D → DeviceState) where
     pub cleaned : (s : ℕ) → IsIn vs s → used_of h'.memory.usage s ≡ 0
     pub gains : clean_in h.memory.usage.segments < clean_in h'.memory.usage.segments
     pub many : length h'.memory.usage.segments ≤ 8 * clean_in h'.memory.usage.segments
-    pub empty : h'.memory.dirty.blocks ≡ []
+    pub empty : AreAllSaved h'
     pub untaken : AreUntaken h'.memory.usage
     pub no_failure : (state h'.device).failures ≡ (state h.device).failures
     pub holds : (k : CheckpointValue) (m0 m : LogMap) → (state h'.device).keeps_model → Holds state h k m0 m → IsLogMap (dropped m) → (next : CheckpointValue) × Holds state h' next (dropped m) m

@@ -134,6 +134,15 @@ pub record IsReadyToPass (d : DeviceState) (v : LogMemory) (before : UsageTable)
 abbrev pub HoldsUnlessHalted : DeviceState → LogMemory → UsageTable → Bool → Type 0
 HoldsUnlessHalted d v before halted = halted ≡ false → IsReadyToPass d v before
 
+-- How many blocks of files no checkpoint leads to yet. They are those in memory, for none is written
+-- before its commit.
+abbrev pub unsaved_in : {D : Type 0} → Held D → ℕ
+unsaved_in h = length h.memory.dirty.blocks
+
+-- no block is unsaved
+abbrev pub AreAllSaved : {D : Type 0} → Held D → Type 0
+AreAllSaved h = h.memory.dirty.blocks ≡ []
+
 module _ {D : Type 0} (state : D → DeviceState) where
   -- The log holds log map m, and the acknowledged checkpoint k, whose number it knows, stands for m0.
   pub record Holds (h : Held D) (k : CheckpointValue) (m0 m : LogMap) : Type 0 where
@@ -163,7 +172,7 @@ module _ {D : Type 0} (state : D → DeviceState) where
     pub gains : clean_in h.memory.usage.segments + emptied_in h.memory.usage.segments ≤ clean_in h'.memory.usage.segments + 8
     pub clean : clean_in h.memory.usage.segments ≤ clean_in h'.memory.usage.segments + 8
     pub many : length h'.memory.usage.segments ≤ 8 * clean_in h'.memory.usage.segments
-    pub empty : h'.memory.dirty.blocks ≡ []
+    pub empty : AreAllSaved h'
     pub untaken : AreUntaken h'.memory.usage
     pub no_failure : (state h'.device).failures ≡ (state h.device).failures
     pub holds : (k : CheckpointValue) (m0 m : LogMap) → (state h'.device).keeps_model → Holds h k m0 m → IsLogMap (dropped m) → (next : CheckpointValue) × Holds h' next (dropped m) m

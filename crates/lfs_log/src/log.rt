@@ -65,7 +65,7 @@ impl<D: SectorDevice> Model for Log<D> {
 
 impl<D: SectorDevice> Log<D> {
     ghost use Rattle.lfs_log.specs.Cleaning.{Cleans, MayClean, Overfills, most_brought};
-    ghost use Rattle.lfs_log.specs.Held.{Mounts, Saves, Halts, Reads, ReadsHeader, ReadsBlock, TellsBlock, TellsLeaf, IsReadFault, IsFull, IsVacant, HasAll, IsStaged, IsRefused, IsStageFault, IsRemoved, IsKept, HoldsOne};
+    ghost use Rattle.lfs_log.specs.Held.{Mounts, Saves, Halts, Reads, ReadsHeader, ReadsBlock, TellsBlock, TellsLeaf, IsReadFault, IsFull, IsVacant, HasAll, IsStaged, IsRefused, IsStageFault, IsRemoved, IsKept, HoldsOne, AreAllSaved, unsaved_in};
 
     /// The volume that the newest checkpoint of the device leads to, with the totals of its files;
     /// else why there is none, and the device. All that the checkpoint leads to is walked over
@@ -82,7 +82,7 @@ impl<D: SectorDevice> Log<D> {
         ensures counts { IfOk result (λ log. CountsOpened (D.state device) (D.state log.device)
             log.totals) }
         ensures found { IfOk result (λ log. HasLogMap (D.state device) (D.state log.device)) }
-        ensures empty { IfOk result (λ log. log.memory.dirty.blocks ≡ []) }
+        ensures empty { IfOk result AreAllSaved }
         ensures untaken { IfOk result (λ log. (D.state log.device).keeps_model
             → AreUntaken log.memory.usage) }
         ensures many { IfOk result (λ log. (D.state log.device).keeps_model
@@ -127,7 +127,7 @@ impl<D: SectorDevice> Log<D> {
         ensures holds { IfOk result (λ log. Mounts D.SectorDevice.state device log) }
         ensures counts { IfOk result (λ log. CountsOpened (D.state device) (D.state log.device)
             log.totals) }
-        ensures empty { IfOk result (λ log. log.memory.dirty.blocks ≡ []) }
+        ensures empty { IfOk result AreAllSaved }
         ensures untaken { IfOk result (λ log. (D.state log.device).keeps_model
             → AreUntaken log.memory.usage) }
         ensures many { IfOk result (λ log. (D.state log.device).keeps_model
@@ -201,9 +201,9 @@ impl<D: SectorDevice> Log<D> {
         self.memory.usage.clean()
     }
 
-    /// How many blocks of files are in memory, changed since the acknowledged checkpoint.
+    /// How many blocks of files are unsaved: changed since the acknowledged checkpoint.
     pub fn unsaved(&self) -> usize
-        ensures { result ≡ length self.now.memory.dirty.blocks }
+        ensures { result ≡ unsaved_in self.now }
     {
         self.memory.dirty.len()
     }

@@ -10,15 +10,18 @@ use lfs_store::volume_log::LogFault;
 use std::alloc::Global;
 
 /// Segments 1 to 3 have one block of file 2 each that lives, and segment 0 nothing of it; file 3
-/// lives in segment 4.
-const FIVE_SEGMENTS: [Step; 12] = [
+/// lives in segment 4. The first commit of each mount begins in a clean segment.
+const FIVE_SEGMENTS: [Step; 15] = [
     Done(Make(2, 2_048)),
     Done(FillTo(3, 7)),
     Done(Commit),
+    On(Stop(Left::Old)),
     Done(Fill(2, 1, 8)),
     Done(Commit),
+    On(Stop(Left::Old)),
     Done(Fill(2, 2, 9)),
     Done(Commit),
+    On(Stop(Left::Old)),
     Done(Make(3, 512)),
     Done(Fill(3, 0, 5)),
     Done(Commit),
@@ -35,12 +38,13 @@ fn a_pass_empties_segments(rt: HostRuntime) -> Result<(), Wrong> {
         Refused(Empty(1, 2), LogFault::Full),
         Done(Commit),
         Sees(Clean(58)),
+        // A pass writes behind the commit.
         Done(Empty(1, 2)),
         Sees(Number(7)),
-        Sees(Clean(59)),
+        Sees(Clean(60)),
         Sees(Unsaved(0)),
         Done(Empty(0, 3)),
-        Sees(Clean(60)),
+        Sees(Clean(62)),
         Sees(Reads(2, 0, 7)),
         Sees(Reads(2, 1, 8)),
         Sees(Reads(2, 2, 9)),
@@ -49,7 +53,7 @@ fn a_pass_empties_segments(rt: HostRuntime) -> Result<(), Wrong> {
         Sees(Root),
         On(Stop(Left::Bad)),
         Sees(Number(8)),
-        Sees(Clean(60)),
+        Sees(Clean(62)),
         Sees(Reads(2, 0, 7)),
         Sees(Reads(2, 3, 4)),
         Sees(Reads(3, 0, 5)),

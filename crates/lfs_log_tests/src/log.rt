@@ -347,8 +347,7 @@ fn a_file_in_memory_is_cut(rt: HostRuntime) -> Result<(), Wrong> {
 #[test]
 fn segments_run_out_without_a_cleaner(rt: HostRuntime) -> Result<(), Wrong> {
     let steps = [
-        // Each file's inode stays in a segment of its own. With 16 clean segments a commit goes on,
-        // and leaves 15.
+        // Each commit fills a segment. With 16 clean segments one goes on, and leaves 15.
         Done(MakeTo(50)),
         Done(Make(50, 0)),
         Sees(Clean(15)),
@@ -407,8 +406,8 @@ fn a_file_without_links_stays_until_it_is_removed(rt: HostRuntime) -> Result<(),
         Sees(Reads(2, 0, 0)),
         Sees(Reads(2, 1, 0)),
         Done(Commit),
-        // Now it is clean, and a usage block stands in another.
-        Sees(Clean(61)),
+        // Now it is clean. What the commit wrote stands behind the last one.
+        Sees(Clean(62)),
         // The root's inode, a block of the map and one of the usage table.
         On(Live(3)),
     ];

@@ -24,7 +24,8 @@ pub enum Act {
     /// A file of this size loses its last link.
     Hide(u16, u32),
     Remove(u16),
-    /// Files from number 2 to before this one are made, each with a commit of its own.
+    /// Files of 60 blocks from number 2 to before this one are made, each with a commit of its own,
+    /// which fills a segment: with an inode and two blocks of the tables it has 63.
     MakeTo(u16),
     Commit,
     /// A pass of the cleaner over two segments.
@@ -143,7 +144,10 @@ fn fill_edges(log: &mut Log<MemDevice>, alloc: Global) -> Result<(), LogFault> {
 /// Makes files before this one, each with a commit.
 fn make_to(log: &mut Log<MemDevice>, alloc: Global, end: u16) -> Result<(), LogFault> {
     for file in 2..end {
-        stage(log, alloc, Act::Make(file, 0))?;
+        stage(log, alloc, Act::Make(file, 30_720))?;
+        for index in 0..60 {
+            stage(log, alloc, Act::Fill(file, index, 7))?;
+        }
         log.commit()?;
     }
     Ok(())

@@ -47,7 +47,8 @@ pub enum Call {
     Forget,
     GiveUp,
     /// Files with one block of sevens are made from number 2 to before this one, each with a commit
-    /// of its own.
+    /// that fills a segment: with both inodes, two blocks of the tables and 58 blocks of file 100,
+    /// which the next one writes again, it has 63.
     FilesTo(u16),
 }
 
@@ -156,10 +157,13 @@ fn draft(draft: &mut Draft, edit: Edit) -> bool {
 /// Makes files from number 2 to before this one.
 fn make_files(store: &mut Store<MemDevice>, end: u16) -> bool {
     for file in 2..end {
-        if !draft_file(&mut store.draft, file, 1) || store.accept().is_err() {
+        if !draft_file(&mut store.draft, file, 1) || !draft_file(&mut store.draft, 100, 58) {
             return false;
         }
-        if store.commit().is_err() {
+        if store.draft.put_header(100, file_of(1, 29_696)).is_err() {
+            return false;
+        }
+        if store.accept().is_err() || store.commit().is_err() {
             return false;
         }
     }

@@ -27,7 +27,7 @@ fn device_of(fs: Box<Fs<MemDevice>>) -> MemDevice {
     Box::into_inner(fs).into_device()
 }
 
-/// A volume whose file takes nearly all of its room. Two commits left a few blocks in each of its
+/// A volume whose file takes nearly all of its room. Three commits left a few blocks in each of its
 /// segments that live no more, and fewer than a quarter of the segments clean.
 fn worn_device(alloc: Global) -> Result<MemDevice, Fail> {
     let mut fs = volume_of(alloc, new_device(alloc)?)?;
@@ -37,7 +37,7 @@ fn worn_device(alloc: Global) -> Result<MemDevice, Fail> {
         fs.pwrite(0, piece * PIECE as u64, &ones)?;
     }
     fs.sync()?;
-    for (first, byte) in [(0u64, 2), (1_024, 3)] {
+    for (first, byte) in [(0u64, 2), (1_024, 3), (512, 4)] {
         for change in 0..CHANGES {
             fs.pwrite(0, first.saturating_add(2_048 * change), &[byte; 512])?;
         }
@@ -55,6 +55,7 @@ fn worn_pieces(alloc: Global) -> Result<Vec<Vec<u8>>, AllocError> {
             let byte = match block % 4 {
                 0 if block < 4 * CHANGES as usize => 2,
                 2 if block < 4 * CHANGES as usize => 3,
+                1 if block < 4 * CHANGES as usize => 4,
                 _ => 1,
             };
             bytes.extend_from_slice(&[byte; 512])?;

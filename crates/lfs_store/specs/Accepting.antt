@@ -13,7 +13,7 @@ use Rattle.lfs_cleaner.specs.log.memory.declared.changes.Changes.{Changes}
 use Rattle.lfs_cleaner.specs.log.memory.Batch.{room_for, staged, FitsBatch}
 use Rattle.lfs_cleaner.specs.log.memory.Removing.{without_file}
 use Rattle.lfs_cleaner.specs.log.segments.Table.{clean_in}
-use Rattle.lfs_cleaner.specs.log.Held.{Held, Holds, IsSaved}
+use Rattle.lfs_cleaner.specs.log.Held.{Held, Holds, IsSaved, unsaved_in}
 use Rattle.lfs_model.specs.Totals.{IsCounted}
 use Rattle.lfs_cleaner.specs.Room.{IsAtRest, IsWithin, KeepsMap}
 
@@ -33,7 +33,7 @@ HasRoomFor h c = (h.halted ≡ false) × (length h.memory.dirty.blocks + room_fo
 -- how many checkpoints are written at most as room is made: one where anything isn't saved, and one for each pass of the cleaner
 abbrev pub most_written : {D : Type 0} → Held D → Bool → ℕ
 most_written h saved =
-    length h.memory.usage.segments / 8 + cond saved (min 1 (length h.memory.dirty.blocks)) 1
+    length h.memory.usage.segments / 8 + cond saved (min 1 (unsaved_in h)) 1
 
 -- At most so many checkpoints are written, and where there was room for what isn't saved there still is.
 pub record SavesFew {D : Type 0} (h : Held D) (saved : Bool) (h' : Held D) (saved' : Bool) : Type 0 where
