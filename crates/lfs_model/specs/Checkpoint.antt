@@ -21,7 +21,7 @@ IsVersion version = version ≡ 1
 abbrev pub layout_version : CheckpointValue → ℕ
 layout_version c = 1
 
--- the layout of a volume: how many segments it has, and the version that its sectors are spelled by
+-- a volume's layout: how many segments it has, and the version that its sectors are spelled by
 pub record Layout : Type 0 where
   pub segments : ℕ
   pub version : ℕ

@@ -30,7 +30,7 @@ pub record InodeValue : Type 0 where
 abbrev pub inode_form : InodeValue → ℕ
 inode_form i = 0
 
--- the forms that an object of the kind has in a version: the first always, and a directory each that is below the version
+-- the forms of an object in a version: the first, and for a directory each that is below the version
 abbrev pub IsForm : ℕ → Kind → ℕ → Type 0
 IsForm version kind zero = Unit {0}
 IsForm version File (suc form) = ⊥
