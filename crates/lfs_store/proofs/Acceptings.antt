@@ -295,7 +295,7 @@ module _ {D : Type 0} (state : D → DeviceState) where
 
     -- a stop as it is staged leaves what is acknowledged
     still_either : (layout : Layout) (m0 m : LogMap) → StoresOver state layout m0 m mid kept m → LeavesOnly (state mid.device) (state h'.device) (IsSaved state layout m0 m)
-    still_either N m0 m over =
+    still_either layout m0 m over =
         let is = over.stores.holds in
         weaker (state mid.device) (state h'.device) (λ x. StandsOn (layout_of over.checkpoint) x over.acknowledged) (IsSaved state layout m0 m)
         (λ x there. let stands : StandsOn layout x over.acknowledged = subst (λ (l : Layout). StandsOn l x over.acknowledged) over.same there in ⊎_elim
@@ -308,7 +308,7 @@ module _ {D : Type 0} (state : D → DeviceState) where
     moments : LeavesEither state h saved h'
     moments k m0 m keeps is map =
         joined (state h.device) (state mid.device) (state h'.device) (IsSaved state (layout_of k) m0 m) (IsSaved state (layout_of k) m0 m) (IsSaved state (layout_of k) m0 m)
-        (room_moment h saved mid kept room k m0 m (before keeps) is map) (still_either k.segments m0 m (room_stores h saved mid kept room k m0 m (before keeps) is map)) (λ x p. p) (λ x p. p)
+        (room_moment h saved mid kept room k m0 m (before keeps) is map) (still_either (layout_of k) m0 m (room_stores h saved mid kept room k m0 m (before keeps) is map)) (λ x p. p) (λ x p. p)
 
     carried : Carries (state h.device) (state h'.device)
     carried = carries_then (state h.device) (state mid.device) (state h'.device) room.keeps.carries alters.looks.carries
