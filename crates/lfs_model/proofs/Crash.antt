@@ -4,7 +4,7 @@ use Rattle.std.proofs.Math.Path.{fun_ext}
 use Rattle.std.proofs.lemmas.List.{get_or_past}
 use Rattle.std.proofs.lemmas.Bool.{eq-eqb, cond-true}
 use Rattle.lfs_model.specs.Entry.{Entry, Data, Leaf, Double, Inode, Map, Usage, entries_in}
-use Rattle.lfs_model.specs.Checkpoint.{CheckpointValue, Layout, checkpoint_in, layout_of}
+use Rattle.lfs_model.specs.Checkpoint.{CheckpointValue, checkpoint_in, layout_of}
 use Rattle.lfs_model.specs.Content.{Content, bytes_of, slot, with_parity}
 use Rattle.lfs_model.specs.Device.{MayWrite, left_old, left_new, left_bad, cell_at}
 use Rattle.lfs_model.specs.Reach.{address, used, Row, chunks, row, row_by, place_in, View, view}
