@@ -1,8 +1,8 @@
 -- The ends of calls that draft and save, from the records of the store to the call as a step of the model.
 use Rattle.std.proofs.Common.{◌≡◌, ◌≤◌, ◌<◌, ◌^◌, ℕ, Bool, true, false, ◌&&◌, refl, sym, ◌∙◌, ap, subst, inr, arith}
 use Rattle.lfs_model.specs.Call.{Call, Answer, Refuse, commits}
-use Rattle.lfs_model.specs.Checkpoint.{CheckpointValue}
-use Rattle.lfs_model.specs.Crash.{StandsForOn, StandsOn}
+use Rattle.lfs_model.specs.Checkpoint.{CheckpointValue, layout_of}
+use Rattle.lfs_model.specs.Crash.{StandsForOn}
 use Rattle.lfs_model.specs.Device.{DeviceState, IsLawful, Carries, LeavesOnly}
 use Rattle.lfs_model.specs.Encodes.{IsLogMap}
 use Rattle.lfs_model.specs.Refusal.{Refusal, Halted}
@@ -10,6 +10,8 @@ use Rattle.lfs_model.specs.Run.{Point, StepsOr, acknowledges}
 use Rattle.lfs_model.specs.Stands.{LogMap}
 use Rattle.lfs_model.specs.Tree.{State, drop_nameless}
 use Rattle.lfs_model.specs.TreeOf.{LeavesOne, dropped}
+use Rattle.lfs_model.specs.Volume.{IsLogOf}
+use Rattle.lfs_model.proofs.Layouts.{one_layout}
 use Rattle.lfs_store.specs.memory.declared.changes.Changes.{Changes}
 use Rattle.lfs_store.specs.memory.Batch.{staged, FitsBatch}
 use Rattle.lfs_store.specs.Accepting.{Accepts, Commits, Declines, Stores, StoresOver}
@@ -48,7 +50,7 @@ module _ {D : Type 0} (state : D → DeviceState) where
       pub next : State
       pub runs : Runs state new next
       pub steps : StepsOr (segments_of old) call p a (point_of state new next)
-      pub moment : LeavesOnly (state old.log.device) (state new.log.device) (StandsForOn k.segments m0 (dropped m))
+      pub moment : LeavesOnly (state old.log.device) (state new.log.device) (StandsForOn (layout_of k) m0 (dropped m))
       pub saves : acknowledges call a ≡ true → LeavesOne (state new.log.device) (drop_nameless next)
 
     pub runs_on : (a : Answer) → (a ≡ Refuse Halted → ⊥) → Behaves state old new call a → new.log.halted ≡ false
@@ -91,7 +93,7 @@ module _ {D : Type 0} (state : D → DeviceState) where
 
     -- ---- a commit is done
     module _ (rest : IsRest old new) (done : Commits state old.log old.saved new.log) (saved : new.saved ≡ true) where
-      over : (k : CheckpointValue) (m0 m : LogMap) → (state new.log.device).keeps_model → (stores : Stores state old.log old.saved k m0 m) → IsLogMap (dropped m) → StoresOver state k.segments m0 m new.log new.saved m
+      over : (k : CheckpointValue) (m0 m : LogMap) → (state new.log.device).keeps_model → (stores : Stores state old.log old.saved k m0 m) → IsLogMap (dropped m) → StoresOver state (layout_of k) m0 m new.log new.saved m
       over k m0 m keeps stores log =
           let next = done.stores k m0 m keeps stores log in
           let before = stores.holds.log.segments in
@@ -100,13 +102,13 @@ module _ {D : Type 0} (state : D → DeviceState) where
             checkpoint = next.0;
             acknowledged = dropped m;
             either = inr refl;
-            segments = sym now ∙ done.segments ∙ before;
+            same = one_layout k next.0 (sym now ∙ done.segments ∙ before) refl;
             stores = subst (λ (b : Bool). Stores state new.log b next.0 (dropped m) m) (sym saved) next.1;
           }
 
       -- what a stop leaves then is the state without its nodes of no name
       left_one : (k : CheckpointValue) (m0 m : LogMap) (s : State) → IsIn state old k m0 m s → (state new.log.device).keeps_model → IsLogMap (dropped m) → LeavesOne (state new.log.device) (drop_nameless s)
-      left_one k m0 m s is keeps log c left = stands_dropped (segments_of old) c m s is.log is.version (subst (λ (n : ℕ). StandsOn n c (dropped m)) (sym is.stores.holds.log.segments) (done.left k m0 m keeps is.stores log c left))
+      left_one k m0 m s is keeps log c left = stands_dropped (layout_of k) c m s (subst (λ (n : ℕ). IsLogOf n m s) is.stores.holds.log.segments is.log) is.version (done.left k m0 m keeps is.stores log c left)
 
       pub commits_by : (a : Answer) → (a ≡ Refuse Halted → ⊥) → Behaves state old new call a → ((p : Point) → (state new.log.device).keeps_model → IsAt state old p → StepsOr (segments_of old) call p a (point_of state new p.state)) → Serves state old new call a
       commits_by a fine behaves each = runs_on a fine behaves done.running (λ p keeps at k m0 m is. (

@@ -1,7 +1,7 @@
 -- What a mounted volume's log map is, how a volume that runs on is put together again after a call, and what an open leaves.
 use Rattle.std.proofs.Common.{◌≡◌, ◌⊎◌, ◌≤◌, ◌<◌, ◌+◌, ◌/◌, ◌^◌, ℕ, true, false, List, Some, sym, subst, ⊎_elim}
 use Rattle.lfs_model.specs.Call.{Handle}
-use Rattle.lfs_model.specs.Checkpoint.{CheckpointValue}
+use Rattle.lfs_model.specs.Checkpoint.{CheckpointValue, layout_of}
 use Rattle.lfs_model.specs.Device.{DeviceState}
 use Rattle.lfs_model.specs.Entry.{Header}
 use Rattle.lfs_model.specs.Objects.{IsHeaderOf}
@@ -47,7 +47,7 @@ module _ {D : Type 0} (state : D → DeviceState) (old new : Mounted D) (k : Che
       (λ (e : next ≡ dropped m). subst (IsTree (segments_of old)) (sym e) (dropped_tree (segments_of old) m s is.log).tree)
       either
 
-  pub runs_over : (m' : LogMap) (next : State) → StoresOver state k.segments m0 m new.log new.saved m' → segments_of new ≡ segments_of old → IsMapOf (segments_of old) m' next
+  pub runs_over : (m' : LogMap) (next : State) → StoresOver state (layout_of k) m0 m new.log new.saved m' → segments_of new ≡ segments_of old → IsMapOf (segments_of old) m' next
       → next.version ≡ 1 → next.handles ≡ handles_of new.table → IsCounted m' new.blocks new.others → (new.saved ≡ false → HasClean new.log × (new.log.number ≤ 2 ^ 62 + segments_of new / 8)) → Runs state new next
   runs_over m' next over same map version handles counted ready = record {
     checkpoint = over.checkpoint;

@@ -2,7 +2,7 @@
 -- The calls are those of POSIX.1-2017; which refusals are excused and what a stop leaves is an own choice.
 use Rattle.std.specs.Prelude.{◌≡◌, ◌⊎◌, ◌≤◌, ◌+◌, ◌/◌, ◌^◌, ℕ, Bool, true, false, ◌||◌, IsTrue, List, [], ◌∷◌, length}
 use Rattle.lfs_model.specs.Call.{Call, Open, Create, Close, Answer, Refuse, changes, cleans, commits}
-use Rattle.lfs_model.specs.Checkpoint.{CheckpointValue}
+use Rattle.lfs_model.specs.Checkpoint.{CheckpointValue, layout_version}
 use Rattle.lfs_model.specs.Device.{DeviceState, Carries, AllLeft, IsUntouched}
 use Rattle.lfs_model.specs.Encodes.{IsLogMap}
 use Rattle.lfs_model.specs.Refusal.{Refusal, Halted, Stuck}
@@ -45,7 +45,7 @@ module _ {D : Type 0} (state : D → DeviceState) where
     pub stores : Stores state v.log v.saved k m0 m
     pub map : IsLogMap m
     pub log : IsLogOf (segments_of v) m s
-    pub version : s.version ≡ 1
+    pub version : s.version ≡ layout_version k
     pub handles : s.handles ≡ handles_of v.table
     pub counted : IsCounted m v.blocks v.others
     pub acknowledged : IsTree (segments_of v) m0

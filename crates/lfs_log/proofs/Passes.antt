@@ -1,6 +1,6 @@
 -- A pass of the cleaner: what came into memory fits, and its commit makes the segments clean.
 use Rattle.std.proofs.Common.{◌≡◌, ◌<◌, ◌≤◌, inl, ◌+◌, ◌-◌, ◌*◌, ◌/◌, ℕ, Bool, true, false, List, length, get_or, refl, sym, ◌∙◌, ap, subst, arith}
-use Rattle.lfs_model.specs.Checkpoint.{CheckpointValue}
+use Rattle.lfs_model.specs.Checkpoint.{CheckpointValue, Layout, layout_of}
 use Rattle.lfs_model.specs.Content.{Content}
 use Rattle.lfs_model.specs.Crash.{StandsOn, StandsForOn}
 use Rattle.lfs_model.specs.Device.{DeviceState, IsLawful, AllLeft, LeavesOnly}
@@ -8,6 +8,7 @@ use Rattle.lfs_model.specs.Encodes.{IsLogMap}
 use Rattle.lfs_model.specs.Members.{AreApart}
 use Rattle.lfs_model.specs.Stands.{LogMap}
 use Rattle.lfs_model.specs.TreeOf.{dropped}
+use Rattle.lfs_model.proofs.Layouts.{one_layout}
 use Rattle.lfs_model.proofs.Moments.{carries_then, joined}
 use Rattle.lfs_model.proofs.Settled.{settled_stands}
 use Rattle.lfs_memory.specs.segments.Table.{used_of, clean_in}
@@ -72,11 +73,11 @@ module _ {D : Type 0} (state : D → DeviceState) where
     acknowledged : (k : CheckpointValue) (m0 m : LogMap) → middle.keeps_model → Holds state h k m0 m → IsLogMap (dropped m) → IsAcknowledged middle v h.number k m0 m
     acknowledged k m0 m keeps is map = record { log = one.log k m0 m keeps is.log; map = map; same = is.number }
 
-    moment_then : (d : DeviceState) (k : CheckpointValue) (m0 m : LogMap) → middle.keeps_model → Holds state h k m0 m → LeavesOnly middle d (StandsForOn k.segments m0 (dropped m))
-        → LeavesOnly (state h.device) d (StandsForOn k.segments m0 (dropped m))
+    moment_then : (d : DeviceState) (k : CheckpointValue) (m0 m : LogMap) → middle.keeps_model → Holds state h k m0 m → LeavesOnly middle d (StandsForOn (layout_of k) m0 (dropped m))
+        → LeavesOnly (state h.device) d (StandsForOn (layout_of k) m0 (dropped m))
     moment_then d k m0 m keeps is moment =
-        let P : Content → Type 0 = λ x. StandsOn k.segments x m0 in
-        let Q : Content → Type 0 = StandsForOn k.segments m0 (dropped m) in
+        let P : Content → Type 0 = λ x. StandsOn (layout_of k) x m0 in
+        let Q : Content → Type 0 = StandsForOn (layout_of k) m0 (dropped m) in
         joined (state h.device) middle d P Q Q (looks_quiet (state h.device) middle h.memory k m0 m lawful one.looks (loose (state h.device) h.memory k m0 m is.log)) moment (λ x s. inl s) (λ x s. s)
 
     pub pass_halts : (device : D) (after : LogMemory) → middle.failures ≡ (state h.device).failures → CommitFails middle (state device) v h.number
@@ -118,7 +119,7 @@ module _ {D : Type 0} (state : D → DeviceState) where
           let own = n.1.log.segments in
           let size = done.segments ∙ one.segments in
           let was = is.log.segments in
-          subst (λ (s : ℕ). AllLeft (state device) (λ c. StandsOn s c (dropped m))) (omega (arith, own, size, was)) (settled_stands (state device) n.0 (dropped m) n.1.log.running.settled);
+          subst (λ (l : Layout). AllLeft (state device) (λ c. StandsOn l c (dropped m))) (one_layout k n.0 (omega (arith, own, size, was)) refl) (settled_stands (state device) n.0 (dropped m) n.1.log.running.settled);
       moment = λ k m0 m keeps is map.
           let back = done.carries.kept_before keeps in
           moment_then (state device) k m0 m back is (done.moment k m0 m keeps (acknowledged k m0 m back is map));

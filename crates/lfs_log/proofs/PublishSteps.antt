@@ -3,7 +3,7 @@ use Rattle.std.proofs.Common.{◌≡◌, ◌<◌, ◌≤◌, ◌⊎◌, inl, ⊎
 use Rattle.std.proofs.lemmas.Bool.{cases_eq, cases_lt, cond-true, cond-false, false_from_ne_true}
 use Rattle.std.proofs.lemmas.List.{get_or_past}
 use Rattle.lfs_model.specs.Entry.{Inode, Map, Usage}
-use Rattle.lfs_model.specs.Checkpoint.{CheckpointValue, IsSegmentCount, checkpoint_sector}
+use Rattle.lfs_model.specs.Checkpoint.{CheckpointValue, IsSegmentCount, checkpoint_sector, layout_of}
 use Rattle.lfs_model.specs.Content.{Content}
 use Rattle.lfs_model.specs.Crash.{StandsForOn}
 use Rattle.lfs_model.specs.Device.{DeviceState, IsLawful, IsUntouched, MayWrite, Carries, Elapses, Only, AllLeft, LeavesOnly, ComesFrom, put}
@@ -16,6 +16,7 @@ use Rattle.lfs_model.specs.Running.{Running}
 use Rattle.lfs_model.specs.Committing.{IsOut, ManyClean, LeadsTo, IsReleased}
 use Rattle.lfs_model.proofs.Decoding.{checkpoint_some}
 use Rattle.lfs_model.proofs.Leaving.{staying}
+use Rattle.lfs_model.proofs.Layouts.{one_layout}
 use Rattle.lfs_model.proofs.Moments.{carries_then, started, goes_on, joined}
 use Rattle.lfs_model.proofs.Publishing.{planning, resting}
 use Rattle.lfs_model.proofs.Settled.{settled_stands, settled_still, slot_torn, acknowledged}
@@ -123,12 +124,12 @@ module _ (d d1 : DeviceState) (v : LogMemory) (number : ℕ) (lawful : IsLawful 
     tight = log.tight;
   }
 
-  sync_left : (k : CheckpointValue) (m0 m : LogMap) → IsLog d v k m0 m → AllLeft d1 (StandsForOn k.segments m0 (dropped m))
+  sync_left : (k : CheckpointValue) (m0 m : LogMap) → IsLog d v k m0 m → AllLeft d1 (StandsForOn (layout_of k) m0 (dropped m))
   sync_left k m0 m log c left = inl (settled_stands d1 k m0 (settled_still d d1 k m0 log.running.settled same) c left)
 
-  sync_moment : (k : CheckpointValue) (m0 m : LogMap) → IsLog d v k m0 m → LeavesOnly d d1 (StandsForOn k.segments m0 (dropped m))
+  sync_moment : (k : CheckpointValue) (m0 m : LogMap) → IsLog d v k m0 m → LeavesOnly d d1 (StandsForOn (layout_of k) m0 (dropped m))
   sync_moment k m0 m log =
-      goes_on d d d1 (StandsForOn k.segments m0 (dropped m)) (started d (StandsForOn k.segments m0 (dropped m)) lawful (λ c left. inl (settled_stands d k m0 log.running.settled c left))) carries time (sync_left k m0 m log)
+      goes_on d d d1 (StandsForOn (layout_of k) m0 (dropped m)) (started d (StandsForOn (layout_of k) m0 (dropped m)) lawful (λ c left. inl (settled_stands d k m0 log.running.settled c left))) carries time (sync_left k m0 m log)
 
   pub sync_fails : d.failures < d1.failures → PublishFails d d1 v number
   sync_fails failed = record {
@@ -184,13 +185,13 @@ module _ (d d1 : DeviceState) (v : LogMemory) (number : ℕ) (lawful : IsLawful 
       planned : IsPlanned k d1.content (next.number % 2) (checkpoint_sector next) next (dropped m)
       planned = planning d1 (blocks_of v.dirty) (tables_of v) k next m0 m 1024 (next.number % 2) (checkpoint_sector next) running held.map all_out many leads (checkpoint_some (checkpoint_sector next) next is.fits refl) refl
 
-      torn : d2.keeps_model → (c : Content) → ComesFrom d1 (MayWrite (next.number % 2) (checkpoint_sector next)) c → StandsForOn k.segments m0 (dropped m) c
+      torn : d2.keeps_model → (c : Content) → ComesFrom d1 (MayWrite (next.number % 2) (checkpoint_sector next)) c → StandsForOn (layout_of k) m0 (dropped m) c
       torn keeps c from =
           slot_torn d1 (record d1 { may_leave = ComesFrom d1 (MayWrite (next.number % 2) (checkpoint_sector next)) }) k next m0 (dropped m) (next.number % 2) (checkpoint_sector next) running.settled planned
-          leads.segments (only (more.kept_before keeps)) (λ c f. f) c from
+          (one_layout k next leads.segments refl) (only (more.kept_before keeps)) (λ c f. f) c from
 
-      either : d2.keeps_model → LeavesOnly d d2 (StandsForOn k.segments m0 (dropped m))
-      either keeps = joined d d1 d2 (StandsForOn k.segments m0 (dropped m)) (ComesFrom d1 (MayWrite (next.number % 2) (checkpoint_sector next))) (StandsForOn k.segments m0 (dropped m)) (sync_moment k m0 m held.log) moment (λ c s. s) (torn keeps)
+      either : d2.keeps_model → LeavesOnly d d2 (StandsForOn (layout_of k) m0 (dropped m))
+      either keeps = joined d d1 d2 (StandsForOn (layout_of k) m0 (dropped m)) (ComesFrom d1 (MayWrite (next.number % 2) (checkpoint_sector next))) (StandsForOn (layout_of k) m0 (dropped m)) (sync_moment k m0 m held.log) moment (λ c s. s) (torn keeps)
 
     pub replace_fails : d1.failures < d2.failures → PublishFails d d2 v number
     replace_fails failed = record {

@@ -1,6 +1,6 @@
 -- A commit, from its two halves.
 use Rattle.std.proofs.Common.{◌≡◌, ◌<◌, ◌≤◌, ⊎_elim, inl, ◌+◌, ◌*◌, ℕ, [], length, sym, ◌∙◌, ap, arith}
-use Rattle.lfs_model.specs.Checkpoint.{CheckpointValue}
+use Rattle.lfs_model.specs.Checkpoint.{CheckpointValue, layout_of}
 use Rattle.lfs_model.specs.Content.{Content}
 use Rattle.lfs_model.specs.Crash.{StandsOn, StandsForOn}
 use Rattle.lfs_model.specs.Device.{DeviceState}
@@ -49,8 +49,8 @@ acknowledged_on a b v v' n number goes keeps k m0 m is = record { log = goes.log
 
 either_then : (a b c : DeviceState) (v v' : LogMemory) (n number : ℕ) → Goes a b v v' n → (c.keeps_model → b.keeps_model) → LeavesEither b c v' number → LeavesEither a c v number
 either_then a b c v v' n number goes back moment k m0 m keeps is =
-    let P : Content → Type 0 = λ x. StandsOn k.segments x m0 in
-    let Q : Content → Type 0 = StandsForOn k.segments m0 (dropped m) in
+    let P : Content → Type 0 = λ x. StandsOn (layout_of k) x m0 in
+    let Q : Content → Type 0 = StandsForOn (layout_of k) m0 (dropped m) in
     joined a b c P Q Q (goes.quiet k m0 m (back keeps) is.log) (moment k m0 m keeps (acknowledged_on a b v v' n number goes (back keeps) k m0 m is)) (λ x h. inl h) (λ x h. h)
 
 pub out_stops : (d d' : DeviceState) (v : LogMemory) (number : ℕ) → Stops d d' v → CommitFails d d' v number
@@ -58,7 +58,7 @@ out_stops d d' v number stops = record {
   carries = stops.carries;
   cause = stops.cause;
   left = λ k m0 m keeps is c left. inl (settled_stands d' k m0 (stops.settled k m0 m keeps is.log) c left);
-  moment = λ k m0 m keeps is. weaker d d' (λ x. StandsOn k.segments x m0) (StandsForOn k.segments m0 (dropped m)) (λ x h. inl h) (stops.quiet k m0 m keeps is.log);
+  moment = λ k m0 m keeps is. weaker d d' (λ x. StandsOn (layout_of k) x m0) (StandsForOn (layout_of k) m0 (dropped m)) (λ x h. inl h) (stops.quiet k m0 m keeps is.log);
 }
 
 pub publish_fails : (a b c : DeviceState) (v v' : LogMemory) (n number : ℕ) → Goes a b v v' n → PublishFails b c v' number → CommitFails a c v number

@@ -1,12 +1,13 @@
 -- The log over its device: what its calls do, from what is done to device and memory.
 use Rattle.std.proofs.Common.{◌≡◌, ◌<◌, ◌≤◌, ◌+◌, ℕ, Bool, true, false, List, Option, length, refl, sym, ◌∙◌, ap, subst, arith}
-use Rattle.lfs_model.specs.Checkpoint.{CheckpointValue}
+use Rattle.lfs_model.specs.Checkpoint.{CheckpointValue, Layout, layout_of}
 use Rattle.lfs_model.specs.Crash.{StandsOn}
 use Rattle.lfs_model.specs.Device.{DeviceState, AllLeft}
 use Rattle.lfs_model.specs.Encodes.{IsLogMap}
 use Rattle.lfs_model.specs.Stands.{LogMap, StandsLog}
 use Rattle.lfs_model.proofs.Crash.{single_log}
 use Rattle.lfs_model.specs.TreeOf.{dropped}
+use Rattle.lfs_model.proofs.Layouts.{one_layout}
 use Rattle.lfs_model.proofs.Settled.{settled_stands}
 use Rattle.lfs_memory.specs.files.declared.header.Header.{Header}
 use Rattle.lfs_log.specs.Opening.{Opens}
@@ -34,10 +35,10 @@ module _ {D : Type 0} (state : D → DeviceState) where
   acknowledged : (h : Held D) (k : CheckpointValue) (m0 m : LogMap) → Holds state h k m0 m → IsLogMap (dropped m) → IsAcknowledged (state h.device) h.memory h.number k m0 m
   acknowledged h k m0 m holds map = record { log = holds.log; map = map; same = holds.number }
 
-  -- checkpoints over as many numbers in memory have as many segments
-  pub same_segments : (h h' : Held D) (k next : CheckpointValue) (m0 m m0' m' : LogMap) → length h'.memory.usage.segments ≡ length h.memory.usage.segments
-      → Holds state h k m0 m → Holds state h' next m0' m' → next.segments ≡ k.segments
-  same_segments h h' k next m0 m m0' m' same is is' = sym is'.log.segments ∙ same ∙ is.log.segments
+  -- checkpoints over as many numbers in memory have one layout
+  pub same_layout : (h h' : Held D) (k next : CheckpointValue) (m0 m m0' m' : LogMap) → length h'.memory.usage.segments ≡ length h.memory.usage.segments
+      → Holds state h k m0 m → Holds state h' next m0' m' → layout_of next ≡ layout_of k
+  same_layout h h' k next m0 m m0' m' same is is' = one_layout k next (sym is'.log.segments ∙ same ∙ is.log.segments) refl
 
   pub saves : (h h' : Held D) → length h.memory.dirty.blocks ≤ 456 → CommitsAll (state h.device) (state h'.device) h.memory h'.memory h.number → h'.number ≡ h.number + 1 → h'.halted ≡ false → Saves state h h'
   saves h h' few c number running = record {
@@ -54,7 +55,7 @@ module _ {D : Type 0} (state : D → DeviceState) where
     holds = holds;
     left = λ k m0 m keeps is map. (
         let n = holds k m0 m keeps is map in
-        subst (λ (s : ℕ). AllLeft (state h'.device) (λ c. StandsOn s c (dropped m))) (same_segments h h' k n.0 m0 m (dropped m) m c.segments is n.1)
+        subst (λ (l : Layout). AllLeft (state h'.device) (λ c. StandsOn l c (dropped m))) (same_layout h h' k n.0 m0 m (dropped m) m c.segments is n.1)
         (settled_stands (state h'.device) n.0 (dropped m) n.1.log.running.settled));
     moment = λ k m0 m keeps is map. c.moment k m0 m keeps (acknowledged h k m0 m is map);
   }

@@ -4,7 +4,7 @@ use Rattle.std.specs.Prelude.{◌≡◌, ◌⊎◌, ◌<◌, ◌≤◌, ◌+◌,
 use Rattle.std.specs.Coded.{Coded, code_by, coded×, coded_ℕ, coded_bool, coded_list}
 use Rattle.lfs_model.specs.declared.BlockKind.{BlockKind}
 use Rattle.lfs_model.specs.declared.BlockKind.TheVariants as kind
-use Rattle.lfs_model.specs.Checkpoint.{CheckpointValue}
+use Rattle.lfs_model.specs.Checkpoint.{CheckpointValue, Layout, layout_of}
 use Rattle.lfs_model.specs.Content.{Content}
 use Rattle.lfs_model.specs.Crash.{StandsOn, StandsForOn}
 use Rattle.lfs_model.specs.Device.{DeviceState, Carries, LeavesOnly, AllLeft}
@@ -154,13 +154,13 @@ module _ {D : Type 0} (state : D → DeviceState) where
   abbrev pub Mounts : D → Held D → Type 0
   Mounts d h = (m : LogMap) → (state h.device).keeps_model → (is : StandsLog (state d).content m) → Holds h is.checkpoint m m
 
-  -- the acknowledged map, or the present one without its files of no links, on N segments
-  abbrev pub IsSaved : ℕ → LogMap → LogMap → Content → Type 0
-  IsSaved N m0 m c = StandsForOn N m0 (dropped m) c
+  -- the acknowledged map, or the present one without its files of no links, in this layout
+  abbrev pub IsSaved : Layout → LogMap → LogMap → Content → Type 0
+  IsSaved layout m0 m c = StandsForOn layout m0 (dropped m) c
 
   -- a stop at any moment leaves one of these
   abbrev pub LeavesSaved : Held D → Held D → Type 0
-  LeavesSaved h h' = (k : CheckpointValue) (m0 m : LogMap) → (state h'.device).keeps_model → Holds h k m0 m → IsLogMap (dropped m) → LeavesOnly (state h.device) (state h'.device) (IsSaved k.segments m0 m)
+  LeavesSaved h h' = (k : CheckpointValue) (m0 m : LogMap) → (state h'.device).keeps_model → Holds h k m0 m → IsLogMap (dropped m) → LeavesOnly (state h.device) (state h'.device) (IsSaved (layout_of k) m0 m)
 
   -- A commit: the present map, without its files of no links, is what is acknowledged.
   pub record Saves (h h' : Held D) : Type 0 where
@@ -176,7 +176,7 @@ module _ {D : Type 0} (state : D → DeviceState) where
     pub untaken : AreUntaken h'.memory.usage
     pub no_failure : (state h'.device).failures ≡ (state h.device).failures
     pub holds : (k : CheckpointValue) (m0 m : LogMap) → (state h'.device).keeps_model → Holds h k m0 m → IsLogMap (dropped m) → (next : CheckpointValue) × Holds h' next (dropped m) m
-    pub left : (k : CheckpointValue) (m0 m : LogMap) → (state h'.device).keeps_model → Holds h k m0 m → IsLogMap (dropped m) → AllLeft (state h'.device) (λ c. StandsOn k.segments c (dropped m))
+    pub left : (k : CheckpointValue) (m0 m : LogMap) → (state h'.device).keeps_model → Holds h k m0 m → IsLogMap (dropped m) → AllLeft (state h'.device) (λ c. StandsOn (layout_of k) c (dropped m))
     pub moment : LeavesSaved h h'
 
   -- One that a failure of the device ended.
@@ -185,7 +185,7 @@ module _ {D : Type 0} (state : D → DeviceState) where
     pub halted : h'.halted ≡ true
     pub number : h'.number ≡ h.number
     pub cause : (k : CheckpointValue) (m0 m : LogMap) → (state h'.device).keeps_model → Holds h k m0 m → (state h.device).failures < (state h'.device).failures
-    pub left : (k : CheckpointValue) (m0 m : LogMap) → (state h'.device).keeps_model → Holds h k m0 m → IsLogMap (dropped m) → AllLeft (state h'.device) (IsSaved k.segments m0 m)
+    pub left : (k : CheckpointValue) (m0 m : LogMap) → (state h'.device).keeps_model → Holds h k m0 m → IsLogMap (dropped m) → AllLeft (state h'.device) (IsSaved (layout_of k) m0 m)
     pub moment : LeavesSaved h h'
 
   -- A call that only reads: memory is as it was.

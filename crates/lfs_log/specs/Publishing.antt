@@ -1,6 +1,6 @@
 -- What the end of a commit does: the checkpoint that leads to all that is out.
 use Rattle.std.specs.Prelude.{◌≡◌, ◌<◌, ◌≤◌, ◌+◌, ◌*◌, ℕ, false, [], length, get_or}
-use Rattle.lfs_model.specs.Checkpoint.{CheckpointValue, FitsCheckpoint}
+use Rattle.lfs_model.specs.Checkpoint.{CheckpointValue, FitsCheckpoint, layout_of}
 use Rattle.lfs_model.specs.Crash.{StandsForOn}
 use Rattle.lfs_model.specs.Device.{DeviceState, Carries, LeavesOnly, AllLeft}
 use Rattle.lfs_model.specs.Encodes.{IsLogMap}
@@ -40,9 +40,9 @@ pub record IsAcknowledged (d : DeviceState) (v : LogMemory) (number : ℕ) (k : 
   pub map : IsLogMap (dropped m)
   pub same : k.number ≡ number
 
--- a stop at any moment leaves what was acknowledged, or all that is out, on the same segments
+-- a stop at any moment leaves what was acknowledged, or all that is out, in the same layout
 abbrev pub LeavesEither : DeviceState → DeviceState → LogMemory → ℕ → Type 0
-LeavesEither d d' v number = (k : CheckpointValue) (m0 m : LogMap) → d'.keeps_model → IsAcknowledged d v number k m0 m → LeavesOnly d d' (StandsForOn k.segments m0 (dropped m))
+LeavesEither d d' v number = (k : CheckpointValue) (m0 m : LogMap) → d'.keeps_model → IsAcknowledged d v number k m0 m → LeavesOnly d d' (StandsForOn (layout_of k) m0 (dropped m))
 
 -- The next checkpoint is acknowledged.
 pub record Publishes (d d' : DeviceState) (v v' : LogMemory) (number : ℕ) : Type 0 where
@@ -58,5 +58,5 @@ pub record Publishes (d d' : DeviceState) (v v' : LogMemory) (number : ℕ) : Ty
 pub record PublishFails (d d' : DeviceState) (v : LogMemory) (number : ℕ) : Type 0 where
   pub carries : Carries d d'
   pub failed : d.failures < d'.failures
-  pub left : (k : CheckpointValue) (m0 m : LogMap) → d'.keeps_model → IsAcknowledged d v number k m0 m → AllLeft d' (StandsForOn k.segments m0 (dropped m))
+  pub left : (k : CheckpointValue) (m0 m : LogMap) → d'.keeps_model → IsAcknowledged d v number k m0 m → AllLeft d' (StandsForOn (layout_of k) m0 (dropped m))
   pub moment : LeavesEither d d' v number

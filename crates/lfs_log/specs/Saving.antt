@@ -1,6 +1,6 @@
 -- What a commit does.
 use Rattle.std.specs.Prelude.{◌≡◌, ◌<◌, ◌≤◌, ◌+◌, ◌*◌, ◌/◌, ℕ, [], length}
-use Rattle.lfs_model.specs.Checkpoint.{CheckpointValue}
+use Rattle.lfs_model.specs.Checkpoint.{CheckpointValue, layout_of}
 use Rattle.lfs_model.specs.Crash.{StandsForOn}
 use Rattle.lfs_model.specs.Device.{DeviceState, Carries, AllLeft}
 use Rattle.lfs_model.specs.Stands.{LogMap}
@@ -41,5 +41,5 @@ pub record CommitsAll (d d' : DeviceState) (v v' : LogMemory) (number : ℕ) : T
 pub record CommitFails (d d' : DeviceState) (v : LogMemory) (number : ℕ) : Type 0 where
   pub carries : Carries d d'
   pub cause : (k : CheckpointValue) (m0 m : LogMap) → d'.keeps_model → IsLog d v k m0 m → d.failures < d'.failures
-  pub left : (k : CheckpointValue) (m0 m : LogMap) → d'.keeps_model → IsAcknowledged d v number k m0 m → AllLeft d' (StandsForOn k.segments m0 (dropped m))
+  pub left : (k : CheckpointValue) (m0 m : LogMap) → d'.keeps_model → IsAcknowledged d v number k m0 m → AllLeft d' (StandsForOn (layout_of k) m0 (dropped m))
   pub moment : LeavesEither d d' v number

@@ -5,7 +5,7 @@ use Rattle.std.proofs.lemmas.List.{append-nil}
 use Rattle.lfs_model.specs.declared.Kind.{Kind}
 use Rattle.lfs_model.specs.Entry.{header, word}
 use Rattle.lfs_model.specs.Fields.{zeros, le32, words, Are32, number_of, read32, part}
-use Rattle.lfs_model.specs.Inode.{InodeValue, inode_sector, kind_byte}
+use Rattle.lfs_model.specs.Inode.{InodeValue, inode_sector, inode_sector_of, kind_byte}
 use Rattle.lfs_model.specs.Laid.{HoldsInode}
 use Rattle.lfs_model.proofs.Numbers.{length-le32, length-zeros}
 use Rattle.lfs_model.proofs.Patching.{header_holds}
@@ -33,7 +33,7 @@ abbrev tail : InodeValue → List ℕ
 tail i = zeros 16 ++ (words i.direct ++ (le32 i.single ++ (le32 i.double ++ (zeros 24 ++ []))))
 
 sector_is : (i : InodeValue) → inode_sector i ≡ (kind_byte i.kind ∷ []) ++ zeros 3 ++ le32 i.number ++ le32 i.links ++ le32 i.size ++ tail i
-unfolding inode_sector zeros le32
+unfolding inode_sector inode_sector_of zeros le32
 sector_is i = refl
 
 tail_is : (i : InodeValue) → drop 16 (inode_sector i) ≡ tail i

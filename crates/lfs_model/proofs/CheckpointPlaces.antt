@@ -1,7 +1,7 @@
 -- The checkpoint, place by place.
 use Rattle.std.proofs.Common.{◌≡◌, ◌≤◌, ◌*◌, ℕ, List, [], ◌∷◌, length, refl, sym, ap, ◌∙◌, arith}
 use Rattle.lfs_model.specs.Fields.{le32, le64, words, zeros, part, read32, read64, numbers}
-use Rattle.lfs_model.specs.Checkpoint.{CheckpointValue, FitsCheckpoint, checkpoint_of, checkpoint_sector, checkpoint_text, layout_version}
+use Rattle.lfs_model.specs.Checkpoint.{CheckpointValue, FitsCheckpoint, checkpoint_of, checkpoint_sector, checkpoint_sector_of, checkpoint_text, layout_version}
 use Rattle.lfs_model.proofs.Numbers.{length-le32, length-le64, length-words, length-zeros}
 use Rattle.lfs_model.proofs.Parts.{read32_is, read64_is}
 use Rattle.lfs_model.proofs.Runs.{numbers_is}
@@ -33,11 +33,11 @@ sized c fits =
     (length-text, (length-le64 c.number, (length-le32 c.segments, (length-le32 (layout_version c), (length-zeros 8, (map, (usage, (length-zeros 288, tt))))))))
 
 pub length-checkpoint : (c : CheckpointValue) → FitsCheckpoint c → length (checkpoint_sector c) ≡ 512
-unfolding fields checkpoint_sector
+unfolding fields checkpoint_sector checkpoint_sector_of
 length-checkpoint c fits = length-fields (fields c) (sized c fits)
 
 pub reads_from : (s : List ℕ) (c : CheckpointValue) → FitsCheckpoint c → s ≡ checkpoint_sector c → ReadsAs s c
-unfolding fields checkpoint_sector
+unfolding fields checkpoint_sector checkpoint_sector_of
 reads_from s c fits e =
     let laid : Laid s 0 (fields c) = laid_from s 0 (fields c) (sized c fits) e in record {
       text = laid.0;
@@ -51,7 +51,7 @@ reads_from s c fits e =
     }
 
 pub reads_to : (s : List ℕ) (c : CheckpointValue) → length s ≡ 512 → ReadsAs s c → s ≡ checkpoint_sector c
-unfolding fields checkpoint_sector
+unfolding fields checkpoint_sector checkpoint_sector_of
 reads_to s c long r = laid_to s 0 (fields c) (sym long) (r.text, (r.number, (r.segments, (r.version, (r.gap, (r.map, (r.usage, (r.rest, tt))))))))
 
 abbrev built : ℕ → ℕ → List ℕ → List ℕ → CheckpointValue

@@ -4,7 +4,7 @@ use Rattle.std.proofs.Math.Path.{fun_ext}
 use Rattle.std.proofs.lemmas.List.{get_or_past}
 use Rattle.std.proofs.lemmas.Bool.{eq-eqb, cond-true}
 use Rattle.lfs_model.specs.Entry.{Entry, Data, Leaf, Double, Inode, Map, Usage, entries_in}
-use Rattle.lfs_model.specs.Checkpoint.{CheckpointValue, checkpoint_in}
+use Rattle.lfs_model.specs.Checkpoint.{CheckpointValue, checkpoint_in, layout_of}
 use Rattle.lfs_model.specs.Content.{Content, bytes_of, slot, with_parity}
 use Rattle.lfs_model.specs.Device.{MayWrite, left_old, left_new, left_bad, cell_at}
 use Rattle.lfs_model.specs.Reach.{address, used, Row, chunks, row, row_by, place_in, View, view}
@@ -34,10 +34,10 @@ module _ (c d : Content) (k : CheckpointValue) (m : LogMap) where
 pub locality : Locality
 locality c d m s keeps = record { checkpoint = s.checkpoint; newest = keeps.newest; stands = stands_at_same c d s.checkpoint m s.stands keeps.size keeps.same }
 
--- and it has the segments of the same checkpoint
-pub locality_on : (c d : Content) (m : LogMap) (s : StandsLog c m) → Keeps c s.checkpoint d → StandsOn s.checkpoint.segments d m
+-- and it has the layout of the same checkpoint
+pub locality_on : (c d : Content) (m : LogMap) (s : StandsLog c m) → Keeps c s.checkpoint d → StandsOn (layout_of s.checkpoint) d m
 unfolding locality
-locality_on c d m s keeps = record { is = locality c d m s keeps; segments = refl }
+locality_on c d m s keeps = record { is = locality c d m s keeps; same = refl }
 
 same_checkpoint : (c : Content) (m m' : LogMap) (s : StandsLog c m) (t : StandsLog c m') → s.checkpoint ≡ t.checkpoint
 same_checkpoint c m m' s t =
@@ -148,7 +148,7 @@ module _ (c : Content) (m : LogMap) (s : StandsLog c m) (e : Content) (keeps : K
     same = λ at protected. sector_other e (next.number % 2) None at (λ h. let above = protected_above (view c s.checkpoint) s.stands.holds.stages at protected in omega (arith, low)) ∙ keeps.same at protected;
   }
 
-  at_lost : StandsOn s.checkpoint.segments (set e (next.number % 2) None) m
+  at_lost : StandsOn (layout_of s.checkpoint) (set e (next.number % 2) None) m
   at_lost = locality_on c (set e (next.number % 2) None) m s keeps_lost
 
   -- written: the next one is
@@ -161,12 +161,12 @@ module _ (c : Content) (m : LogMap) (s : StandsLog c m) (e : Content) (keeps : K
   }
 
   abbrev Either : Content → Type 0
-  Either d = StandsOn s.checkpoint.segments d m ⊎ StandsOn next.segments d m'
+  Either d = StandsOn (layout_of s.checkpoint) d m ⊎ StandsOn (layout_of next) d m'
 
   at_each : (d : Content) → MayWrite (next.number % 2) bytes e d → Either d
   unfolding at_written
   at_each d (left_old is) = subst Either (sym is) (inl (locality_on c e m s keeps))
-  at_each d (left_new is) = subst Either (sym is) (inr (record { is = at_written; segments = refl }))
+  at_each d (left_new is) = subst Either (sym is) (inr (record { is = at_written; same = refl }))
   at_each d (left_bad is) = subst Either (sym is) (inl at_lost)
 
 pub slot_write : SlotWrite

@@ -6,7 +6,7 @@ use Rattle.lfs_model.specs.declared.Kind.{Kind}
 use Rattle.lfs_model.specs.declared.Kind.TheVariants.{File, Directory, Link}
 use Rattle.lfs_model.specs.Inode.{inode_in, inode_of, inode_sector, is_size, may_be_inode}
 use Rattle.lfs_model.specs.Entry.{Entry, Data, Leaf, Double, Inode, Map, Usage, Header, IsInode, header, word}
-use Rattle.lfs_model.specs.Checkpoint.{CheckpointValue}
+use Rattle.lfs_model.specs.Checkpoint.{CheckpointValue, layout_version}
 use Rattle.lfs_model.specs.Content.{Content, bytes_of, block}
 use Rattle.lfs_model.specs.Device.{IsSector, cell_at}
 use Rattle.lfs_model.specs.Fields.{part, read32}
@@ -61,9 +61,9 @@ kind_size form File n e = leb-true n 8511488 e
 kind_size form Directory n e = let parts = and_parts (n % slot_len form == 0) (nat_le n (1024 * slot_len form)) e in let le = leb-true n (1024 * slot_len form) parts.1 in let most = widest form in omega arith
 kind_size form Link n e = let parts = and_parts (nat_le 1 n) (nat_le n 1023) e in let le : n ≤ 1023 = leb-true n 1023 parts.1 in omega arith
 
-small_size : (n : ℕ) (b : List ℕ) → IsInode n b → (header b).size ≤ 8511488
+small_size : (version n : ℕ) (b : List ℕ) → IsInode version n b → (header b).size ≤ 8511488
 unfolding inode_in header
-small_size n b i =
+small_size version n b i =
     let found = value_found inode_of may_be_inode inode_sector b i.value i.spelt in
     kind_size _ _ _ (and_parts _ _ (and_parts _ _ found.1).1).1
 
@@ -72,9 +72,9 @@ no_inode : inode_in [] ≡ None
 unfolding inode_in read32 part
 no_inode = refl
 
-formed_nonempty : (n : ℕ) (b : List ℕ) → IsInode n b → 0 < length b
-formed_nonempty n [] i = let e : None ≡ Some i.value = sym no_inode ∙ i.spelt in absurd (cc)
-formed_nonempty n (x ∷ b) i = omega arith
+formed_nonempty : (version n : ℕ) (b : List ℕ) → IsInode version n b → 0 < length b
+formed_nonempty version n [] i = let e : None ≡ Some i.value = sym no_inode ∙ i.spelt in absurd (cc)
+formed_nonempty version n (x ∷ b) i = omega arith
 
 -- a device's sectors have 512 bytes
 pub are_sized : (c : Content) → AllByRecursion IsSector c → IsSized c
@@ -169,11 +169,11 @@ module _ (c : Content) (k : CheckpointValue) (m : LogMap) (sized : IsSized c) (s
   long (Data n i) lt = let z = st.stages.blocks.nonzero n i lt in sized_block c sized (address c k (Data n i)) (nonempty_index (block c (address c k (Data n i))) z.0 z.1)
   long (Leaf n q) lt = let z = leaf_word n q lt in sized_block c sized (address c k (Leaf n q)) (nonempty_word (block c (address c k (Leaf n q))) z.0 z.2)
   long (Double n) lt = let z = st.stages.roots.double n lt in sized_block c sized (address c k (Double n)) (nonempty_word (block c (address c k (Double n))) z.0 z.2)
-  long (Inode n) lt = sized_block c sized (address c k (Inode n)) (formed_nonempty n (block c (address c k (Inode n))) (st.stages.inodes.formed n lt))
+  long (Inode n) lt = sized_block c sized (address c k (Inode n)) (formed_nonempty (layout_version k) n (block c (address c k (Inode n))) (st.stages.inodes.formed n lt))
   long (Map j) lt = let z = st.stages.maps.nonempty j lt in sized_block c sized (address c k (Map j)) (nonempty_word (block c (address c k (Map j))) z.0 z.2)
   long (Usage j) lt = st.stages.usages.readable j lt
 
-  spells : (e : Entry) → 0 < address c k e → Spells m (address c k) (block c (address c k e)) e
+  spells : (e : Entry) → 0 < address c k e → Spells m (layout_version k) (address c k) (block c (address c k e)) e
   spells (Data n i) lt = sym (st.block n i)
   spells (Leaf n q) lt = in_leaf n q
   spells (Double n) lt = λ q low. in_double n q
@@ -252,7 +252,7 @@ module _ (c : Content) (k : CheckpointValue) (m : LogMap) (sized : IsSized c) (s
     small = λ n i has.
         let lt = data_of n i has in
         let w = st.stages.blocks.within n i lt in
-        let s : (header (block c (address c k (Inode n)))).size ≤ 8511488 = small_size n (block c (address c k (Inode n))) (st.stages.inodes.formed n (inode_at n i lt)) in
+        let s : (header (block c (address c k (Inode n)))).size ≤ 8511488 = small_size (layout_version k) n (block c (address c k (Inode n))) (st.stages.inodes.formed n (inode_at n i lt)) in
         omega arith;
     nonzero = λ n i has. subst (λ (b : List ℕ). (o : ℕ) × (0 < slice_index b o)) (sym (st.block n i)) (st.stages.blocks.nonzero n i (data_of n i has));
     past = past_end;

@@ -76,6 +76,7 @@ checkpoint_from s bytes long e =
       number = leb-true 1 _ a.0;
       number_fits = read64-lt 8 s bytes (omega arith);
       segments = count_from _ a.1;
+      version = refl;
       map_length = length-run read32 4 32 32 s;
       map_fits = numbers_fit 32 32 s bytes (omega arith);
       usage_length = length-run read32 4 16 160 s;

@@ -3,7 +3,7 @@ use Rattle.std.proofs.Common.{◌≡◌, ◌<◌, ◌≤◌, inl, inr, ⊎_elim,
 use Rattle.std.proofs.lemmas.List.{nil_from_length}
 use Rattle.std.proofs.lemmas.Bool.{cases_eq, cases_Bool, lt-ltb, ltb-true, cond-true, cond-false, false_from_ne_true}
 use Rattle.lfs_model.specs.Entry.{Entry, Data, Leaf, Double, Inode, Map, Usage, Header, header, half}
-use Rattle.lfs_model.specs.Checkpoint.{CheckpointValue}
+use Rattle.lfs_model.specs.Checkpoint.{CheckpointValue, layout_version}
 use Rattle.lfs_model.specs.Content.{Content, block}
 use Rattle.lfs_model.specs.Reach.{address, Row, View, row, row_by, used, place_in}
 use Rattle.lfs_model.specs.Stands.{LogMap, used_in, live_in, AreNamed, AreCounted, IsHeld}
@@ -199,7 +199,7 @@ module _ (e : Content) (m : LogMap) (M : Memory) (o : ℕ) (next : CheckpointVal
   of_shown : (n : ℕ) (x : Entry) → file_of x ≡ Some n → is_nameless m n ≡ false → M.at x ≡ shown m M.at x
   of_shown n x is named = sym (A_is x (file_shown n x is named))
 
-  spells_bytes : (x : Entry) → 0 < shown m M.at x → Spells (dropped m) (shown m M.at) (M.bytes x) x
+  spells_bytes : (x : Entry) → 0 < shown m M.at x → Spells (dropped m) (layout_version next) (shown m M.at) (M.bytes x) x
   spells_bytes (Data n i) lt =
       let a = A_some (Data n i) lt in
       let named = shown_file n (Data n i) refl a.0 in
@@ -218,7 +218,7 @@ module _ (e : Content) (m : LogMap) (M : Memory) (o : ℕ) (next : CheckpointVal
       let s = laid.spells (Inode n) some in
       let linked : 1 ≤ (header (M.bytes (Inode n))).links = some_links m n (header (M.bytes (Inode n))) (sym (ap is_unlinked s.header) ∙ named) in
       record {
-        formed = is_inode n (M.bytes (Inode n)) s.formed linked;
+        formed = is_inode n (M.bytes (Inode n)) s.formed (layout_version next) linked;
         header = same_header m n named ∙ s.header;
         direct = λ i low. s.direct i low ∙ of_shown n (Data n i) refl named;
         single = s.single ∙ of_shown n (Leaf n 0) refl named;
@@ -227,8 +227,8 @@ module _ (e : Content) (m : LogMap) (M : Memory) (o : ℕ) (next : CheckpointVal
   spells_bytes (Map j) lt = let a = A_some (Map j) lt in (laid.mapped j (done.none (Map j))).spells a.2
   spells_bytes (Usage j) lt = tt
 
-  spells : (x : Entry) → 0 < shown m M.at x → Spells (dropped m) (shown m M.at) (block e (shown m M.at x)) x
-  spells x lt = subst (λ (b : List ℕ). Spells (dropped m) (shown m M.at) b x) (sym (block_is x lt)) (spells_bytes x lt)
+  spells : (x : Entry) → 0 < shown m M.at x → Spells (dropped m) (layout_version next) (shown m M.at) (block e (shown m M.at x)) x
+  spells x lt = subst (λ (b : List ℕ). Spells (dropped m) (layout_version next) (shown m M.at) b x) (sym (block_is x lt)) (spells_bytes x lt)
 
   -- ---- segments
   V : View

@@ -6,9 +6,9 @@ use Rattle.std.proofs.lemmas.Bool.{cases_eq, cases_lt, cond-true, cond-false, lt
 use Rattle.std.specs.List.{range_with_len}
 use Rattle.std.specs.Option.{option_map}
 use Rattle.lfs_model.specs.Fields.{Are32, le16, le32, le64, words, zeros, part, read64}
-use Rattle.lfs_model.specs.Checkpoint.{CheckpointValue, FitsCheckpoint, IsSegmentCount, checkpoint_in, checkpoint_sector, checkpoint_text}
+use Rattle.lfs_model.specs.Checkpoint.{CheckpointValue, FitsCheckpoint, IsSegmentCount, checkpoint_in, checkpoint_sector, checkpoint_sector_of, checkpoint_text, layout_version}
 use Rattle.lfs_model.specs.Device.{Cell, cell_at}
-use Rattle.lfs_model.specs.Inode.{FitsInode, IsSize, inode_in, inode_sector, kind_byte}
+use Rattle.lfs_model.specs.Inode.{FitsInode, IsSize, inode_in, inode_sector, inode_sector_of, kind_byte}
 use Rattle.lfs_model.specs.Pointers.{FitsPointers, pointer_sector}
 use Rattle.lfs_model.specs.Summary.{BlockNameValue, FitsSummary, IsPlaced, block_kind_byte, no_block, summary_entry, summary_sector}
 use Rattle.lfs_model.specs.Usage.{FitsUsage, IsUse, no_use, usage_entry, usage_sector}
@@ -136,6 +136,7 @@ module _ (N : ℕ) (c : Content) (new : IsNew N c) where
     number = omega arith;
     number_fits = omega arith;
     segments = new.count;
+    version = refl;
     map_length = refl;
     map_fits = map_fits;
     usage_length = usage_length;
@@ -282,10 +283,10 @@ module _ (N : ℕ) (c : Content) (new : IsNew N c) where
   root_in : inode_in (block c 3) ≡ Some root_inode
   root_in = inode_some (block c 3) root_inode fits_inode inode_block
 
-  spells_inode : SpellsInode empty_root A 1 (block c 3)
+  spells_inode : SpellsInode empty_root (layout_version k) A 1 (block c 3)
   spells_inode =
       let w = inode_words (block c 3) root_inode root_in in record {
-        formed = record { value = root_inode; spelt = root_in; own = refl };
+        formed = record { value = root_inode; spelt = root_in; form = tt; own = refl };
         header = ap Some (sym w.header);
         direct = λ i lt. w.direct i lt ∙ get_or_blank 112 i;
         single = w.single;
@@ -416,7 +417,7 @@ module _ (N : ℕ) (c : Content) (new : IsNew N c) where
     only = only;
     within = within;
     long = long;
-    spells = at_each (λ e. Spells empty_root A (block c (A e)) e) spells_inode map_words (λ j lt. tt);
+    spells = at_each (λ e. Spells empty_root (layout_version k) A (block c (A e)) e) spells_inode map_words (λ j lt. tt);
     rows = at_segment (λ s. 0 < used_in v s → (r : List (Option Entry)) × (v.row s ≡ Some r)) (λ lt. (chunk, first_row)) (λ s lt some. let z = used_past s lt in absurd (omega arith));
     named = named;
     fit = at_segment (λ s. used_in v s ≤ 64) (let f = used_first in let most = blocks_high in omega arith) (λ s lt. let z = used_past s lt in omega arith);
@@ -491,7 +492,7 @@ module _ (N : ℕ) (count : IsSegmentCount N) where
   }
 
 image_is_new : IsNew 64 image
-unfolding checkpoint_sector checkpoint_text le64 le32 le16 words zeros summary_sector summary_entry block_kind_byte inode_sector kind_byte pointer_sector usage_sector usage_entry
+unfolding checkpoint_sector checkpoint_sector_of checkpoint_text le64 le32 le16 words zeros summary_sector summary_entry block_kind_byte inode_sector inode_sector_of kind_byte pointer_sector usage_sector usage_entry
 image_is_new = record {
   count = record { least = lit≤ tt; most = lit≤ tt; eighths = refl };
   size = let l = length-replicate 4092 (Some (blank 512)) in omega arith;

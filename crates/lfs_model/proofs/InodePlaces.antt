@@ -3,7 +3,7 @@ use Rattle.std.proofs.Common.{◌≡◌, ◌<◌, ◌≤◌, ◌*◌, ◌^◌, �
 use Rattle.lfs_model.specs.declared.Kind.{Kind}
 use Rattle.lfs_model.specs.declared.Kind.TheVariants.{File, Directory, Link}
 use Rattle.lfs_model.specs.Fields.{le32, words, zeros, part, read32, numbers}
-use Rattle.lfs_model.specs.Inode.{InodeValue, FitsInode, IsSize, inode_form, inode_of, inode_sector, kind_byte, kind_of}
+use Rattle.lfs_model.specs.Inode.{InodeValue, FitsInode, IsSize, inode_form, inode_of, inode_sector, inode_sector_of, kind_byte, kind_of}
 use Rattle.lfs_model.specs.Tree.{slot_len}
 use Rattle.lfs_model.proofs.Numbers.{length-le32, length-words, length-zeros}
 use Rattle.lfs_model.proofs.Parts.{one_byte, read32_is}
@@ -38,11 +38,11 @@ sized i fits =
     (refl, (ap suc (length-zeros 2), (length-le32 i.number, (length-le32 i.links, (length-le32 i.size, (length-zeros 16, (direct, (length-le32 i.single, (length-le32 i.double, (length-zeros 24, tt))))))))))
 
 pub length-inode : (i : InodeValue) → FitsInode i → length (inode_sector i) ≡ 512
-unfolding fields inode_sector
+unfolding fields inode_sector inode_sector_of
 length-inode i fits = length-fields (fields i) (sized i fits)
 
 pub reads_from : (s : List ℕ) (i : InodeValue) → FitsInode i → s ≡ inode_sector i → ReadsAs s i
-unfolding fields inode_sector
+unfolding fields inode_sector inode_sector_of
 reads_from s i fits e =
     let laid : Laid s 0 (fields i) = laid_from s 0 (fields i) (sized i fits) e in record {
       kind = laid.0;
@@ -58,7 +58,7 @@ reads_from s i fits e =
     }
 
 pub reads_to : (s : List ℕ) (i : InodeValue) → length s ≡ 512 → ReadsAs s i → s ≡ inode_sector i
-unfolding fields inode_sector
+unfolding fields inode_sector inode_sector_of
 reads_to s i long r =
     laid_to s 0 (fields i) (sym long) (r.kind, (r.form, (r.number, (r.links, (r.size, (r.gap2, (r.direct, (r.single, (r.double, (r.rest, tt))))))))))
 

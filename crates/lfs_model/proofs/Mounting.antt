@@ -3,7 +3,7 @@ use Rattle.std.proofs.Common.{◌≡◌, ◌<◌, ◌≤◌, ◌↔◌, ⊎_elim
 use Rattle.std.proofs.lemmas.Bool.{cases_eq, cases_lt, lt-ltb, le-ltb, leb-true, and_parts, cond-true, cond-false, false_from_ne_true}
 use Rattle.lfs_model.specs.Entry.{Entry, Data, Leaf, Double, Inode, Map, Usage, Header, IsInode, header, word, entries_in}
 use Rattle.lfs_model.specs.Inode.{inode_in, inode_of, inode_sector, may_be_inode}
-use Rattle.lfs_model.specs.Checkpoint.{CheckpointValue}
+use Rattle.lfs_model.specs.Checkpoint.{CheckpointValue, layout_version}
 use Rattle.lfs_model.specs.Content.{Content, block, bytes_of}
 use Rattle.lfs_model.specs.Reach.{Row, View, row, row_by, used, live, chunks, address, linked, place_in, view}
 use Rattle.lfs_model.specs.Stands.{LogMap, StandsAt, used_in, live_in, IsHeld}
@@ -25,9 +25,9 @@ use Rattle.lfs_model.proofs.Entries.{data_parent_low, data_parent_high}
 use Rattle.lfs_model.proofs.Patching.{holds_inode}
 
 -- an inode has a link
-links_some : (n : ℕ) (b : List ℕ) → IsInode n b → 0 < (header b).links
+links_some : (version n : ℕ) (b : List ℕ) → IsInode version n b → 0 < (header b).links
 unfolding inode_in header
-links_some n b is =
+links_some version n b is =
     let found = value_found inode_of may_be_inode inode_sector b is.value is.spelt in
     leb-true 1 (inode_of b).links (and_parts _ _ (and_parts _ _ (and_parts _ _ found.1).1).0).0
 
@@ -137,10 +137,10 @@ module _ (c : Content) (k : CheckpointValue) (m : LogMap) (few : k.segments ≤ 
       go (Some h) is =
           let lt = en.stored (Inode n) (h, is) in
           let sp = en.spells (Inode n) lt in
-          let holds = holds_inode n (block c (address c k (Inode n))) sp.formed in
+          let holds = holds_inode (layout_version k) n (block c (address c k (Inode n))) sp.formed in
           let both : Some h ≡ Some (header (block c (address c k (Inode n)))) = sym is ∙ sp.header in
           let same : h ≡ header (block c (address c k (Inode n))) = cc in
-          let linked = links_some n (block c (address c k (Inode n))) sp.formed in
+          let linked = links_some (layout_version k) n (block c (address c k (Inode n))) sp.formed in
           let l = ap (λ (h : Header). h.links) same in
           ap is_unlinked is ∙ false_from_ne_true (h.links == 0) (λ z. let e = eqb-true h.links 0 z in omega arith)
 
@@ -161,7 +161,7 @@ module _ (c : Content) (k : CheckpointValue) (m : LogMap) (few : k.segments ≤ 
   spells (Double n) lt = en.spells (Double n) lt
   spells (Inode n) lt =
       let s = en.spells (Inode n) lt in
-      record { formed = holds_inode n (block c (address c k (Inode n))) s.formed; header = s.header; direct = s.direct; single = s.single; double = s.double }
+      record { formed = holds_inode (layout_version k) n (block c (address c k (Inode n))) s.formed; header = s.header; direct = s.direct; single = s.single; double = s.double }
   spells (Map j) lt = tt
   spells (Usage j) lt = tt
 

@@ -5,7 +5,7 @@ use Rattle.std.proofs.lemmas.Bool.{cases_eq, cases_lt}
 use Rattle.lfs_model.specs.declared.Kind.{Kind}
 use Rattle.lfs_model.specs.declared.Kind.TheVariants.{File, Directory, Link}
 use Rattle.lfs_model.specs.Fields.{le32, words, zeros, join, part, read32, number_of, Are32}
-use Rattle.lfs_model.specs.Inode.{InodeValue, FitsInode, inode_form, inode_in, inode_of, inode_sector, may_be_inode, kind_byte, kind_of}
+use Rattle.lfs_model.specs.Inode.{InodeValue, FitsInode, inode_form, inode_in, inode_of, inode_sector, inode_sector_of, may_be_inode, kind_byte, kind_of}
 use Rattle.lfs_model.specs.Entry.{Header, IsInode, header, header_of, word}
 use Rattle.lfs_model.specs.Memory.{patched}
 use Rattle.lfs_model.specs.Laid.{HoldsInode}
@@ -115,11 +115,11 @@ sized i count =
     (refl, (ap suc (length-zeros 2), (length-le32 i.number, (length-le32 i.links, (length-le32 i.size, (length-zeros 16, (direct, (length-le32 i.single, (length-le32 i.double, (length-zeros 24, tt))))))))))
 
 long_value : (i : InodeValue) → length i.direct ≡ 112 → length (inode_sector i) ≡ 512
-unfolding fields inode_sector
+unfolding fields inode_sector inode_sector_of
 long_value i count = length-fields (fields i) (sized i count)
 
 reads_value : (s : List ℕ) (i : InodeValue) → length i.direct ≡ 112 → s ≡ inode_sector i → ReadsAs s i
-unfolding fields inode_sector
+unfolding fields inode_sector inode_sector_of
 reads_value s i count e =
     let laid : Laid s 0 (fields i) = laid_from s 0 (fields i) (sized i count) e in record {
       kind = laid.0;
@@ -163,8 +163,8 @@ module _ (n : ℕ) (b : List ℕ) (holds : HoldsInode n b) where
       λ i. record { kind = kind i; form = 0; links = links i; size = size i }
 
   -- and with a link it is an inode of a log map that is written
-  pub is_inode : 1 ≤ (header b).links → IsInode n b
-  is_inode linked =
+  pub is_inode : (version : ℕ) → 1 ≤ (header b).links → IsInode version n b
+  is_inode version linked =
       let few = holds.links in
       let l = ap (λ (h : Header). h.links) header_holds in
       let fits : FitsInode holds.value = record {
@@ -176,7 +176,7 @@ module _ (n : ℕ) (b : List ℕ) (holds : HoldsInode n b) where
         single_fits = holds.fits.single_fits;
         double_fits = holds.fits.double_fits;
       } in
-      record { value = holds.value; spelt = inode_some b holds.value fits holds.spelt; own = holds.own }
+      record { value = holds.value; spelt = inode_some b holds.value fits holds.spelt; form = tt; own = holds.own }
 
 -- ---- an inode in a sector is one that memory may hold
 le32_bytes : (n : ℕ) → IsBytes (le32 n)
@@ -217,7 +217,7 @@ abbrev after_form : InodeValue → List ℕ
 after_form i = join (le32 i.number ∷ le32 i.links ∷ le32 i.size ∷ zeros 16 ∷ words i.direct ∷ le32 i.single ∷ le32 i.double ∷ zeros 24 ∷ [])
 
 inode_bytes : (i : InodeValue) → IsBytes (inode_sector i)
-unfolding inode_sector
+unfolding inode_sector inode_sector_of
 inode_bytes i =
     append_bytes (kind_byte i.kind ∷ []) ((inode_form i ∷ zeros 2) ++ after_form i) (kind_bytes i.kind)
     (append_bytes (inode_form i ∷ zeros 2) (after_form i) (subst IsBytes (first_form i) (zeros_bytes 3))
@@ -230,9 +230,9 @@ inode_bytes i =
     (append_bytes (le32 i.double) _ (le32_bytes i.double)
     (append_bytes (zeros 24) [] (zeros_bytes 24) (λ k. omega arith))))))))))
 
-pub holds_inode : (n : ℕ) (b : List ℕ) → IsInode n b → HoldsInode n b
+pub holds_inode : (version n : ℕ) (b : List ℕ) → IsInode version n b → HoldsInode n b
 unfolding inode_in
-holds_inode n b is =
+holds_inode version n b is =
     let found = value_found inode_of may_be_inode inode_sector b is.value is.spelt in
     let count : length is.value.direct ≡ 112 = ap (λ (v : InodeValue). length v.direct) (sym found.0) ∙ length-run read32 4 112 32 b in
     let long : length b ≡ 512 = ap length found.2 ∙ long_value is.value count in

@@ -115,9 +115,9 @@ pub record IsHeader (n : ℕ) (h : Header) : Type 0 where
 within : (n most : ℕ) → (nat_le 1 n && nat_le n most) ≡ true → (1 ≤ n) × (n ≤ most)
 within n most e = let a = and_parts (nat_le 1 n) (nat_le n most) e in (leb-true 1 n a.0, leb-true n most a.1)
 
-pub inode_header : (n : ℕ) (b : List ℕ) → IsInode n b → IsHeader n (header b)
+pub inode_header : (version n : ℕ) (b : List ℕ) → IsInode version n b → IsHeader n (header b)
 unfolding inode_in header
-inode_header n b i =
+inode_header version n b i =
     let found = value_found inode_of may_be_inode inode_sector b i.value i.spelt in
     let a = and_parts _ _ found.1 in
     let d = and_parts _ _ a.1 in
@@ -137,7 +137,7 @@ headers_are c k m st n h is =
     (λ (some : nat_lt 0 ((view c k).address (Inode n)) ≡ true).
     let there : Some h ≡ Some (header ((view c k).block (Inode n))) = sym is ∙ st.header n ∙ cond-true (nat_lt 0 ((view c k).address (Inode n))) (Some (header ((view c k).block (Inode n)))) None some in
     let same : h ≡ header ((view c k).block (Inode n)) = cc in
-    subst (IsHeader n) (sym same) (inode_header n ((view c k).block (Inode n)) (st.stages.inodes.formed n (ltb-true 0 ((view c k).address (Inode n)) some))))
+    subst (IsHeader n) (sym same) (inode_header (layout_version k) n ((view c k).block (Inode n)) (st.stages.inodes.formed n (ltb-true 0 ((view c k).address (Inode n)) some))))
     (λ (none : nat_lt 0 ((view c k).address (Inode n)) ≡ false).
     let e : Some h ≡ None = sym is ∙ st.header n ∙ cond-false (nat_lt 0 ((view c k).address (Inode n))) (Some (header ((view c k).block (Inode n)))) None none in absurd (cc))
     (cases_Bool (nat_lt 0 ((view c k).address (Inode n))))

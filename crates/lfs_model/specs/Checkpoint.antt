@@ -13,22 +13,39 @@ pub record CheckpointValue : Type 0 where
 unfoldable pub checkpoint_text : List ℕ
 checkpoint_text = codes "SLFSCKP1"
 
--- the version of the layout: every volume has the first one
+-- the versions of the layout that are built: the first alone
+abbrev pub IsVersion : ℕ → Type 0
+IsVersion version = version ≡ 1
+
+-- the version of a checkpoint's layout: every volume has the first one
 abbrev pub layout_version : CheckpointValue → ℕ
 layout_version c = 1
 
--- the sector of a checkpoint, field by field
-unfoldable pub checkpoint_sector : CheckpointValue → List ℕ
-checkpoint_sector c = join (
+-- a volume's layout: how many segments it has, and the version that its sectors are spelled by
+pub record Layout : Type 0 where
+  pub segments : ℕ
+  pub version : ℕ
+
+-- the layout that a checkpoint is of
+abbrev pub layout_of : CheckpointValue → Layout
+layout_of c = record { segments = c.segments; version = layout_version c }
+
+-- the sector of a checkpoint in a version of the layout, field by field
+unfoldable pub checkpoint_sector_of : ℕ → CheckpointValue → List ℕ
+checkpoint_sector_of version c = join (
     checkpoint_text ∷
     le64 c.number ∷
     le32 c.segments ∷
-    le32 (layout_version c) ∷
+    le32 version ∷
     zeros 8 ∷
     words c.map ∷
     words c.usage ∷
     zeros 288 ∷ []
     )
+
+-- the sector of a checkpoint, in its own version
+unfoldable pub checkpoint_sector : CheckpointValue → List ℕ
+checkpoint_sector c = checkpoint_sector_of (layout_version c) c
 
 -- what stands at the places of a checkpoint
 abbrev pub checkpoint_of : List ℕ → CheckpointValue
@@ -45,6 +62,7 @@ pub record FitsCheckpoint (c : CheckpointValue) : Type 0 where
   pub number : 1 ≤ c.number
   pub number_fits : c.number < 2 ^ 64
   pub segments : IsSegmentCount c.segments
+  pub version : IsVersion (layout_version c)
   pub map_length : length c.map ≡ 32
   pub map_fits : Are32 c.map
   pub usage_length : length c.usage ≡ 16
@@ -54,8 +72,11 @@ pub record FitsCheckpoint (c : CheckpointValue) : Type 0 where
 abbrev pub is_segment_count : ℕ → Bool
 is_segment_count n = nat_le 64 n && (nat_le n 1024 && (n % 8 == 0))
 
+abbrev pub is_version : ℕ → Bool
+is_version version = version == 1
+
 abbrev pub may_be_checkpoint : CheckpointValue → Bool
-may_be_checkpoint c = nat_le 1 c.number && is_segment_count c.segments
+may_be_checkpoint c = is_version (layout_version c) && (nat_le 1 c.number && is_segment_count c.segments)
 
 -- the checkpoint that a sector spells, if it spells one
 unfoldable pub checkpoint_in : List ℕ → Option CheckpointValue

@@ -3,7 +3,7 @@
 use Rattle.std.specs.Prelude.{◌≡◌, ◌<◌, ◌≤◌, ◌⊎◌, ◌+◌, ◌*◌, ◌/◌, ℕ, suc, List, length, get_or, Some, slice_index}
 use Rattle.lfs_model.specs.declared.Kind.TheVariants.{Directory}
 use Rattle.lfs_model.specs.Entry.{Entry, Data, Leaf, Double, Inode, Map, Usage, Header, IsInode, header, word}
-use Rattle.lfs_model.specs.Checkpoint.{CheckpointValue}
+use Rattle.lfs_model.specs.Checkpoint.{CheckpointValue, layout_version}
 use Rattle.lfs_model.specs.Content.{Content, block}
 use Rattle.lfs_model.specs.Reach.{view_by}
 use Rattle.lfs_model.specs.Stands.{LogMap, StandsAt, IsRows, AreNamed, AreCounted, EnoughClean, used_in, live_in, age_in}
@@ -42,9 +42,9 @@ module _ (m : LogMap) where
     pub nonzero : (n i : ℕ) → HasData n i → (o : ℕ) × (0 < slice_index (m.block n i) o)
     pub past : (n i o : ℕ) (h : Header) → m.header n ≡ Some h → h.size ≤ 512 * i + o → slice_index (m.block n i) o ≡ 0
 
-  module _ (A : Entry → ℕ) where
+  module _ (version : ℕ) (A : Entry → ℕ) where
     pub record SpellsInode (n : ℕ) (bytes : List ℕ) : Type 0 where
-      pub formed : IsInode n bytes
+      pub formed : IsInode version n bytes
       pub header : m.header n ≡ Some (header bytes)
       pub direct : (i : ℕ) → i < 112 → word bytes (8 + i) ≡ A (Data n i)
       pub single : word bytes 120 ≡ A (Leaf n 0)
@@ -68,7 +68,7 @@ pub record Encodes (c : Content) (k : CheckpointValue) (A : Entry → ℕ) (m : 
   pub only : (e : Entry) → 0 < A e → Has m k.segments e
   pub within : (e : Entry) → 0 < A e → (2 ≤ A e) × (A e < 2 + 64 * k.segments)
   pub long : (e : Entry) → 0 < A e → length (block c (A e)) ≡ 512
-  pub spells : (e : Entry) → 0 < A e → Spells m A (block c (A e)) e
+  pub spells : (e : Entry) → 0 < A e → Spells m (layout_version k) A (block c (A e)) e
   pub rows : IsRows (view_by c k A)
   pub named : AreNamed (view_by c k A)
   pub fit : (s : ℕ) → used_in (view_by c k A) s ≤ 64

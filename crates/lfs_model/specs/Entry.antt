@@ -6,7 +6,7 @@ use Rattle.lfs_model.specs.declared.Kind.{Kind}
 use Rattle.lfs_model.specs.declared.BlockKind.{BlockKind}
 use Rattle.lfs_model.specs.declared.BlockKind.TheVariants as kind
 use Rattle.lfs_model.specs.Fields.{read16, read32}
-use Rattle.lfs_model.specs.Inode.{InodeValue, inode_form, inode_in, inode_of}
+use Rattle.lfs_model.specs.Inode.{InodeValue, IsForm, inode_form, inode_in, inode_of}
 use Rattle.lfs_model.specs.Summary.{BlockNameValue, summary_in}
 
 -- the number of 4 bytes at word k, and of 2 bytes at half word k
@@ -54,8 +54,9 @@ header_of i = record { kind = i.kind; form = inode_form i; links = i.links; size
 unfoldable pub header : List ℕ → Header
 header bytes = header_of (inode_of bytes)
 
--- a well-formed inode with this number
-pub record IsInode (n : ℕ) (bytes : List ℕ) : Type 0 where
+-- a well-formed inode with this number, of a form that this version of the layout has
+pub record IsInode (version n : ℕ) (bytes : List ℕ) : Type 0 where
   pub value : InodeValue
   pub spelt : inode_in bytes ≡ Some value
+  pub form : IsForm version value.kind (inode_form value)
   pub own : value.number ≡ n

@@ -1,6 +1,6 @@
 -- The inode of a file, a directory or a link, which is one sector.
 -- Inodes with addresses of blocks and of blocks of addresses are those of the Sprite LFS paper (1992, section 3.1); the bytes and limits are an own choice.
-use Rattle.std.specs.Prelude.{◌≡◌, ◌<◌, ◌≤◌, ◌^◌, ◌%◌, ◌*◌, ◌&&◌, ◌==◌, Bool, nat_le, ℕ, Option, List, [], ◌∷◌, length, get_or, nat_eq, if◌then◌else◌}
+use Rattle.std.specs.Prelude.{◌≡◌, ◌<◌, ◌≤◌, ◌^◌, ◌%◌, ◌*◌, ◌&&◌, ◌==◌, Bool, nat_le, ℕ, zero, suc, Option, List, [], ◌∷◌, length, get_or, nat_eq, if◌then◌else◌}
 use Rattle.lfs_model.specs.declared.Kind.{Kind}
 use Rattle.lfs_model.specs.declared.Kind.TheVariants.{File, Directory, Link}
 use Rattle.lfs_model.specs.Fields.{le32, words, zeros, join, Are32, read32, numbers, value_in}
@@ -26,15 +26,22 @@ pub record InodeValue : Type 0 where
   pub single : ℕ
   pub double : ℕ
 
--- the form of a directory's slots: 0 in the first version of the layout, which has no other
+-- the form of an inode, which is that of a directory's slots: every inode has the first one
 abbrev pub inode_form : InodeValue → ℕ
 inode_form i = 0
 
--- the sector of an inode, field by field
-unfoldable pub inode_sector : InodeValue → List ℕ
-inode_sector i = join (
+-- the forms of an object in a version: the first, and for a directory each that is below the version
+abbrev pub IsForm : ℕ → Kind → ℕ → Type 0
+IsForm version kind zero = Unit {0}
+IsForm version File (suc form) = ⊥
+IsForm version Directory (suc form) = suc form < version
+IsForm version Link (suc form) = ⊥
+
+-- the sector of an inode of a form, field by field
+unfoldable pub inode_sector_of : ℕ → InodeValue → List ℕ
+inode_sector_of form i = join (
     (kind_byte i.kind ∷ []) ∷
-    (inode_form i ∷ zeros 2) ∷
+    (form ∷ zeros 2) ∷
     le32 i.number ∷
     le32 i.links ∷
     le32 i.size ∷
@@ -44,6 +51,10 @@ inode_sector i = join (
     le32 i.double ∷
     zeros 24 ∷ []
     )
+
+-- the sector of an inode, of its own form
+unfoldable pub inode_sector : InodeValue → List ℕ
+inode_sector i = inode_sector_of (inode_form i) i
 
 abbrev pub kind_of : ℕ → Kind
 kind_of byte = if nat_eq byte 1 then File else (if nat_eq byte 2 then Directory else Link)

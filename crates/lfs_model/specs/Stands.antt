@@ -4,7 +4,7 @@ use Rattle.std.specs.Prelude.{◌≡◌, ◌<◌, ◌≤◌, ◌⊎◌, ◌↔�
 use Rattle.std.specs.List.{range_with_len}
 use Rattle.lfs_model.specs.declared.Kind.TheVariants.{Directory}
 use Rattle.lfs_model.specs.Entry.{Entry, Data, Leaf, Double, Inode, Map, Usage, Header, IsInode, header, word, half}
-use Rattle.lfs_model.specs.Checkpoint.{CheckpointValue}
+use Rattle.lfs_model.specs.Checkpoint.{CheckpointValue, layout_version}
 use Rattle.lfs_model.specs.Content.{Content, newest}
 use Rattle.lfs_model.specs.Reach.{View, view, Row, place_in}
 
@@ -77,7 +77,7 @@ module _ (v : View) where
 
   pub record Inodes : Type 0 where
     pub fresh : Fresh 4
-    pub formed : (n : ℕ) → Reached (Inode n) → IsInode n (v.block (Inode n))
+    pub formed : (n : ℕ) → Reached (Inode n) → IsInode (layout_version v.checkpoint) n (v.block (Inode n))
     pub root : (header (v.block (Inode 1))).kind ≡ Directory
 
   pub record Roots : Type 0 where

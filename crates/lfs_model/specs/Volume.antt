@@ -81,7 +81,7 @@ DroppedLog = (N : ℕ) (m : LogMap) (s : State) → IsLogOf N m s → IsLogMap m
 
 -- So what a commit leaves, a content that stands for that log map, stands for the state without its nodes of no name.
 abbrev pub DroppedStands : Type 0
-DroppedStands = (c : Content) (k : CheckpointValue) (m : LogMap) (s : State) → newest c ≡ Some k → StandsAt c k (dropped m) → IsLogOf k.segments m s → s.version ≡ 1 → Stands c (drop_nameless s)
+DroppedStands = (c : Content) (k : CheckpointValue) (m : LogMap) (s : State) → newest c ≡ Some k → StandsAt c k (dropped m) → IsLogOf k.segments m s → s.version ≡ layout_version k → Stands c (drop_nameless s)
 
 -- With that state it is the log map of a running volume again.
 abbrev pub DroppedAgain : Type 0

@@ -2,7 +2,7 @@
 use Rattle.std.proofs.Common.{◌≡◌, ◌<◌, ◌≤◌, ◌*◌, ⊎_elim, nat_lt, true, cond, ℕ, List, [], ◌∷◌, length, Option, Some, None, refl, sym, ◌∙◌, ap, ap₂, arith}
 use Rattle.std.proofs.Math.Path.{fun_ext}
 use Rattle.std.proofs.lemmas.Bool.{cases_eq, lt-ltb, and_parts, leb-true, cond-true}
-use Rattle.lfs_model.specs.Checkpoint.{CheckpointValue}
+use Rattle.lfs_model.specs.Checkpoint.{CheckpointValue, layout_version}
 use Rattle.lfs_model.specs.Content.{Content, block}
 use Rattle.lfs_model.specs.Decodes.{IsSized}
 use Rattle.lfs_model.specs.Device.{DeviceState, IsLawful}
@@ -23,9 +23,9 @@ use Rattle.lfs_cleaner.proofs.of_log.of_verify.FaultCases.{fault_on}
 use Rattle.lfs_store.specs.Accepting.{IsMountRefusal, MountsStore}
 
 -- an inode on a device has a link
-links_some : (n : ℕ) (b : List ℕ) → IsInode n b → 1 ≤ (header b).links
+links_some : (version n : ℕ) (b : List ℕ) → IsInode version n b → 1 ≤ (header b).links
 unfolding inode_in header
-links_some n b is =
+links_some version n b is =
     let found = value_found inode_of may_be_inode inode_sector b is.value is.spelt in
     leb-true 1 (inode_of b).links (and_parts _ _ (and_parts _ _ (and_parts _ _ found.1).1).0).0
 
@@ -42,7 +42,7 @@ module _ (c : Content) (k : CheckpointValue) (m : LogMap) (sized : IsSized c) (s
       let lt : 0 < address c k (Inode n) = omega (arith, some) in
       let e : Some (header (block c (address c k (Inode n)))) ≡ Some h = sym (st.holds.header n ∙ cond-true (nat_lt 0 (address c k (Inode n))) _ _ (lt-ltb 0 (address c k (Inode n)) lt)) ∙ is in
       let same : header (block c (address c k (Inode n))) ≡ h = cc in
-      let one : 1 ≤ (header (block c (address c k (Inode n)))).links = links_some n (block c (address c k (Inode n))) (st.holds.stages.inodes.formed n lt) in
+      let one : 1 ≤ (header (block c (address c k (Inode n)))).links = links_some (layout_version k) n (block c (address c k (Inode n))) (st.holds.stages.inodes.formed n lt) in
       let links = ap (λ (x : Header). x.links) same in
       omega (arith, one, links))
       (cases_eq (address c k (Inode n)) 0)

@@ -1,7 +1,7 @@
 -- The root is a directory.
 use Rattle.std.proofs.Common.{◌≡◌, ℕ, List, [], get_or, sym, ◌∙◌, ap, subst, arith}
 use Rattle.lfs_model.specs.declared.Kind.TheVariants.{Directory}
-use Rattle.lfs_model.specs.Checkpoint.{CheckpointValue}
+use Rattle.lfs_model.specs.Checkpoint.{CheckpointValue, layout_version}
 use Rattle.lfs_model.specs.Content.{Content, block}
 use Rattle.lfs_model.specs.Entry.{Inode, IsInode, Header, header}
 use Rattle.lfs_model.specs.Reach.{address, view}
@@ -17,8 +17,8 @@ no_directory bytes none is = let e = ap (λ (b : List ℕ). (header b).kind) non
 pub kind_from : (bytes : List ℕ) → IsDirectoryInode bytes → (header bytes).kind ≡ Directory
 kind_from bytes is = ap (λ (h : Header). h.kind) (inode_words bytes is.value is.spelt).header ∙ is.kind
 
-pub directory_from : (n : ℕ) (bytes : List ℕ) → IsInode n bytes → (header bytes).kind ≡ Directory → IsDirectoryInode bytes
-directory_from n bytes is kind = record {
+pub directory_from : (version n : ℕ) (bytes : List ℕ) → IsInode version n bytes → (header bytes).kind ≡ Directory → IsDirectoryInode bytes
+directory_from version n bytes is kind = record {
   value = is.value;
   spelt = is.spelt;
   kind = sym (ap (λ (h : Header). h.kind) (inode_words bytes is.value is.spelt).header) ∙ kind;
@@ -37,7 +37,7 @@ module _ (c : Content) (k : CheckpointValue) (map : List ℕ) (lists : Lists (vi
       let at = root_at p is in
       let here : block c (address c k (Inode 1)) ≡ out = ap (block c) (sym at) ∙ read in
       let reached : Reached (view c k) (Inode 1) = omega arith in
-      not (subst IsDirectoryInode here (directory_from 1 (block c (address c k (Inode 1))) (inodes.formed 1 reached) inodes.root))
+      not (subst IsDirectoryInode here (directory_from (layout_version k) 1 (block c (address c k (Inode 1))) (inodes.formed 1 reached) inodes.root))
 
   pub root_kind : (p : ℕ) → p ≡ get_or map 1 0 → (out : List ℕ) → block c p ≡ out → IsDirectoryInode out → (header (block c (address c k (Inode 1)))).kind ≡ Directory
   root_kind p is out read directory =

@@ -1,6 +1,7 @@
 -- The order of the walk, and what has been seen up to a step of it.
 -- All of it is an own choice: it orders the stages that the model names.
 use Rattle.std.specs.Prelude.{◌≡◌, ◌<◌, ◌≤◌, ◌⊎◌, ◌+◌, ◌*◌, ℕ, zero, suc, List, length, get_or, slice_index}
+use Rattle.lfs_model.specs.Checkpoint.{layout_version}
 use Rattle.lfs_model.specs.Entry.{Entry, Data, Leaf, Double, Inode, Map, Usage, IsInode, header}
 use Rattle.lfs_model.specs.Reach.{View}
 use Rattle.lfs_model.specs.Stands.{HasWord, Reached, used_in, live_in, age_in}
@@ -50,7 +51,7 @@ IsData v n i = IsDataBytes i (header (v.block (Inode n))).size (v.block (Data n 
 abbrev pub IsGood : View → Entry → Type 0
 IsGood v (Usage j) = IsUsageBlock v j
 IsGood v (Map j) = HasWord v (Map j)
-IsGood v (Inode n) = IsInode n (v.block (Inode n))
+IsGood v (Inode n) = IsInode (layout_version v.checkpoint) n (v.block (Inode n))
 IsGood v (Leaf n q) = HasWord v (Leaf n q)
 IsGood v (Double n) = HasWord v (Double n)
 IsGood v (Data n i) = IsData v n i

@@ -25,7 +25,7 @@ pub fn take_inode<D: SectorDevice>(
     requires inside { length marks.old ≤ (D.state device.old).size }
     ensures takes { IfOk result (λ r. (c : Content)
         → ReadsContent (D.state device.old) (D.state device.new) c
-        → TakesAddress (IsInode file) c marks.old marks.new address (48 + file) r) }
+        → TakesAddress (IsInode 1 file) c marks.old marks.new address (48 + file) r) }
     ensures at { IfOk result (λ r. IsTrue r → address ≡ 0 ⊎ (address < length marks.old)) }
     ensures len { length marks.new ≡ length marks.old }
     ensures failed { OnErr result ((D.state device.old).failures < (D.state device.new).failures) }

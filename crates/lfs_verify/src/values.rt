@@ -29,7 +29,7 @@ pub fn has_word(block: &[u8; 512]) -> bool
 
 /// Whether a block is the inode of this number.
 pub fn is_inode(block: &[u8; 512], file: u32) -> bool
-    ensures { IsTrue result ↔ IsInode file block.now }
+    ensures { IsTrue result ↔ IsInode 1 file block.now }
 {
     let Some(inode) = InodeView::decode(block) else {
         return false;

@@ -1,4 +1,4 @@
-use Rattle.std.proofs.Common.{◌≡◌, ℕ, sym, ap, ◌∙◌, arith, rules, List, codes, None}
+use Rattle.std.proofs.Common.{◌≡◌, ℕ, refl, sym, ap, ◌∙◌, arith, rules, List, codes, None}
 use Rattle.lfs_model.specs.Fields.{le32}
 use Rattle.lfs_model.specs.Checkpoint.{checkpoint_text}
 use Rattle.lfs_model.specs.Fields.{part}
@@ -59,6 +59,7 @@ returns-clause-found c =
         number = omega arith;
         number_fits = c.number64_at-number.type_inv;
         segments = c.is_segment_count.ensures.0 c.if-not-is_segment_count.false;
+        version = refl;
         map_length = c.words_at.ensures.length;
         map_fits = c.words_at.ensures.fits;
         usage_length = c.words_at-2.ensures.length;

@@ -1,4 +1,4 @@
-use Rattle.std.proofs.Common.{subst, arith, rules}
+use Rattle.std.proofs.Common.{refl, subst, arith, rules}
 use Rattle.lfs_model.specs.Fields.{Are32}
 use Rattle.lfs_model.specs.Checkpoint.{FitsCheckpoint}
 use Rattle.lfs_layout.specs.contracts.checkpoint.Checkpoint.{the_view}
@@ -14,6 +14,7 @@ returns-then-self-ne0 c =
         number = omega arith;
         number_fits = search rules;
         segments = c.is_segment_count.ensures.0 yes;
+        version = refl;
         map_length = search rules;
         map_fits = search rules;
         usage_length = search rules;
