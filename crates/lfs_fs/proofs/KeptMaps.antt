@@ -83,9 +83,6 @@ shifts_joined m mid m' less more less' more' first next k g' at =
     let f = two.2 in
     (two.0, two.1, omega (arith, e, f))
 
-pub no_shift : (m : LogMap) → Shifts m m none_at none_at
-no_shift m k g at = (g, at, refl)
-
 here_at : (d x : ℕ) → only_at d x d ≡ x
 here_at d x = ap (λ (b : Bool). cond {A = ℕ} b x 0) (eq-eqb d d refl)
 

@@ -1,5 +1,5 @@
 -- An empty directory that was drafted out of the volume, as a step of the model.
-use Rattle.std.proofs.Common.{◌≡◌, ◌≢◌, ◌<◌, ◌≤◌, ◌-◌, ◌*◌, ℕ, true, false, List, [], ◌∷◌, length, Option, Some, None, Result, refl, sym, ◌∙◌, ap, subst, inl, inr, ⊎_elim, arith}
+use Rattle.std.proofs.Common.{◌≡◌, ◌≢◌, ◌<◌, ◌≤◌, ◌-◌, ◌*◌, ℕ, true, false, List, [], length, Option, Some, None, Result, refl, sym, ◌∙◌, ap, subst, ⊎_elim, arith}
 use Rattle.std.specs.Prelude.{IfErr, OnOk}
 use Rattle.std.specs.FinMap.{find}
 use Rattle.lfs_model.specs.declared.Kind.TheVariants as kind
@@ -10,21 +10,17 @@ use Rattle.lfs_model.specs.Cutting.{IsWithoutFile}
 use Rattle.lfs_model.specs.Device.{DeviceState, IsLawful}
 use Rattle.lfs_model.specs.Encodes.{IsLogMap}
 use Rattle.lfs_model.specs.Entry as entry
-use Rattle.lfs_model.specs.Need.{need}
 use Rattle.lfs_model.specs.Objects.{AreLong, IsChangedAt, IsDirectory, IsHeaderOf}
-use Rattle.lfs_model.specs.Refusal as refusals
 use Rattle.lfs_model.specs.Stands.{LogMap}
 use Rattle.lfs_model.specs.Step.{Step, name}
 use Rattle.lfs_model.specs.Totals.{IsCounted}
-use Rattle.lfs_model.specs.Tree.{Dir, Names, State, byte_cmp, entry as entry_in, is_dir, node}
+use Rattle.lfs_model.specs.Tree.{Dir, State, byte_cmp, entry as entry_in, is_dir, node}
 use Rattle.lfs_model.specs.Walk.{At, Parent}
 use Rattle.lfs_model.proofs.ObjectTrees.{with_header_at, without_file_at}
 use Rattle.lfs_files.specs.declared.header.Header.{Header}
 use Rattle.lfs_files.specs.Files.{HasFile}
 use Rattle.lfs_store.specs.declared.draft.Draft.{Draft}
-use Rattle.lfs_store.specs.log.verify.declared.totals.BlockTotals.{BlockTotals}
 use Rattle.lfs_store.specs.memory.declared.changes.Changes.{Changes}
-use Rattle.lfs_store.specs.memory.declared.memory.LogMemory.{LogMemory}
 use Rattle.lfs_store.specs.memory.Batch.{FitsBatch, IsNoChange, staged}
 use Rattle.lfs_store.specs.memory.Changing.{FitsHeader}
 use Rattle.lfs_store.specs.memory.Present.{as_header}
@@ -43,36 +39,25 @@ use Rattle.lfs_path.proofs.of_dirs.SlotsKept.{directory_stays}
 use Rattle.lfs_fs.specs.declared.error.FsError.{FsError}
 use Rattle.lfs_fs.specs.declared.error.FsError.TheVariants as error
 use Rattle.lfs_fs.specs.declared.fs.Fs.{Fs}
-use Rattle.lfs_fs.specs.Accepting.{StagesDraft, TurnsDown, limit_of, need_of}
-use Rattle.lfs_fs.specs.Handles.{handles_of}
+use Rattle.lfs_fs.specs.Accepting.{StagesDraft, TurnsDown, need_of}
 use Rattle.lfs_fs.specs.Naming.{Reaches}
 use Rattle.lfs_fs.specs.Refusals.{refusal_of}
 use Rattle.lfs_fs.specs.Removing.{DraftsRmdir, HasEmpty, less_linked}
 use Rattle.lfs_fs.specs.Seen.{OnlyReads, answer_by, seen}
 use Rattle.lfs_fs.specs.Unlinking.{FailsUnlink}
 use Rattle.lfs_fs.specs.Volume.{IsIn, IsStill, Mounted, Serves, segments_of}
-use Rattle.lfs_fs.proofs.Behaving.{write_behaves}
-use Rattle.lfs_fs.proofs.CallSteps.{not_worn, worn}
 use Rattle.lfs_fs.proofs.Changed.{long_kept, shape_kept}
-use Rattle.lfs_fs.proofs.CreateEnds.{in_each}
-use Rattle.lfs_fs.proofs.Ending.{accepts_by}
-use Rattle.lfs_fs.proofs.Files.{IsMapOf, IsShaped, need_shaped}
+use Rattle.lfs_fs.proofs.Files.{IsMapOf, IsShaped, room_shaped}
 use Rattle.lfs_fs.proofs.Headers.{directory_shrinks, links_fit}
 use Rattle.lfs_fs.proofs.Holding.{headers_of_volume, map_of_volume, shape_of_volume}
-use Rattle.lfs_fs.proofs.InDirectories.{directory_formed, directory_kind, names_in_directory, size_of_directory}
+use Rattle.lfs_fs.proofs.InDirectories.{directory_formed, directory_kind, slot_in_directory}
 use Rattle.lfs_fs.proofs.OldEntries.{dir, entry_is, found_d, says, small, there_d}
 use Rattle.lfs_fs.proofs.ReadingEnds.{failed_serves}
 use Rattle.lfs_fs.proofs.RemovedDirectories.{apart, links_many, not_root, removed_map}
 use Rattle.lfs_fs.proofs.RmdirRefusals.{empty_step, empty_there}
 use Rattle.lfs_fs.proofs.RmdirSteps.{removed}
-use Rattle.lfs_fs.proofs.Serving.{point_of, served_still}
 use Rattle.lfs_fs.proofs.Told.{memory_serves}
-use Rattle.lfs_fs.proofs.WritingEnds.{accepts_old, ends_by, low_old, still_more, table_same}
-
--- a map that has a name isn't empty
-some_names : (ms : Names) (nm : List ℕ) (n : ℕ) → find byte_cmp nm ms ≡ Some n → 0 < length ms
-some_names [] nm n found = cc
-some_names (e ∷ ms) nm n found = omega arith
+use Rattle.lfs_fs.proofs.WritingEnds.{still_more, draft_ends, totals_read}
 
 module _ {D : Type 0} (state : D → DeviceState) (lawful : (d : D) → IsLawful (state d))
     (v : Mounted D) (old mid : Fs D) (path : List ℕ) (d : ℕ) (piece : Option Last)
@@ -136,12 +121,8 @@ module _ {D : Type 0} (state : D → DeviceState) (lawful : (d : D) → IsLawful
     formed_d = directory_formed (segments_of v) m s map d holder_is head holder_there fits_d
 
     some_size : 64 ≤ head.size
-    some_size =
-        let size = size_of_directory (segments_of v) m s map d holder_is head holder_there fits_d in
-        let some = some_names (names_at m d head) (name path) n found in
-        let same = ap length (names_in_directory (segments_of v) m s map d holder_is head
-        holder_there) in
-        omega (arith, size, some, same)
+    some_size = slot_in_directory (segments_of v) m s map d holder_is head holder_there fits_d
+        (name path) n found
 
     piece_is : name path ≡ last.name.now
     piece_is = (says state lawful v old path d piece reached last is_last mid only).1
@@ -309,13 +290,8 @@ module _ {D : Type 0} (state : D → DeviceState) (lawful : (d : D) → IsLawful
 
       -- ---- the totals
       totals_mid : AreTotals (staged mid.store.draft.changes m) mid.store.drafted
-      totals_mid =
-          let before : AreTotals m old.store.log.totals = record {
-            stored = reached.still.blocks ∙ is.counted.stored;
-            above = reached.still.others ∙ is.counted.above;
-          } in
-          subst (λ (x : LogMap). AreTotals x mid.store.drafted) (sym (same_mid m))
-          (subst (λ (t : BlockTotals). AreTotals m t) (sym (only.drafted ∙ reached.drafted)) before)
+      totals_mid = subst (λ (x : LogMap). AreTotals x mid.store.drafted) (sym (same_mid m))
+          (totals_read state lawful v old mid reached.still reached.drafted only m is.counted)
 
       map_mid : IsLogMap (staged mid.store.draft.changes m)
       map_mid = subst IsLogMap (sym (same_mid m)) is.map
@@ -352,68 +328,24 @@ module _ {D : Type 0} (state : D → DeviceState) (lawful : (d : D) → IsLawful
           takes_it.directory)
 
       room : need_of ready ≤ 47 * segments_of v
-      room =
-          let needs = (need_shaped totals_of_tree (staged c m) shaped
-          ready.store.drafted.data_blocks
-          ready.store.drafted.meta_blocks counted_here).0 in
-          subst (λ (x : ℕ). x ≤ 47 * segments_of v) (ap need after.log.is ∙ needs)
-          after.log.sound.room
-
-    limit_same : limit_of ready ≡ 47 * segments_of v
-    limit_same = ap (λ (x : LogMemory). 47 * length x.usage.segments) still_ready.reads.memory
+      room = room_shaped totals_of_tree (segments_of v) (staged c m) (removed s path d) after shaped
+          ready.store.drafted.data_blocks ready.store.drafted.meta_blocks counted_here
 
     -- ---- the call
     module _ (new : Fs D) (rest : new.handles ≡ ready.handles) {X : Type 0} (r : Result X FsError)
         (done_by : OnOk r (StagesDraft state ready new)) (down : IfErr r (TurnsDown state ready new))
       where
         pub rmdir_ends : Serves state v (seen new) (Rmdir path) (answer_by (λ _. Done) r)
-        rmdir_ends =
-            ends_by state lawful v ready new (Rmdir path) Done still_ready was rest refl refl refl
-            refl
-            (λ keeps k m0 m s is.
-            in_each state v k m0 m s is (λ x t. FitsBatch x c)
-            (fits_here keeps k m0 m s is))
-            (λ stages keeps k m0 m s is. (
-            let accepts =
-            accepts_old state lawful v ready new (Rmdir path) Done still_ready was rest stages in
-            let table =
-            table_same state lawful v ready new (Rmdir path) Done still_ready was rest in
-            let low = low_old state lawful v ready new (Rmdir path) Done still_ready was rest
-            stages.young in
-            accepts_by state v (seen new) (Rmdir path) (lawful v.log.device)
-            (lawful new.store.log.device)
-            accepts.carries accepts.segments was accepts.saves.number c accepts low Done (λ e. cc)
-            (λ e. cc)
-            (write_behaves state v (seen new) (Rmdir path) Done refl table (λ e. cc))
-            (λ p keeps_new here k' m0' m' is'. record {
-              next = removed p.state path d;
-              fits = fits_here keeps k' m0' m' p.state is';
-              map = after keeps k' m0' m' p.state is';
-              version = is'.version;
-              handles = is'.handles ∙ ap handles_of (sym table);
-              counted = subst (λ (t : BlockTotals). IsCounted (staged c m') t.data_blocks
-                  t.meta_blocks)
-                  (sym stages.totals) (counted_here keeps k' m0' m' p.state is');
-              steps = inl (
-                done (kept keeps) k' m0' m' p.state is',
-                not_worn (segments_of v) (Rmdir path) p
-                    (let number = here.number in omega (arith, number, low)),
-              );
-            })))
-            (λ same lacks keeps k m0 m s is. absurd (
-            let most = room keeps k m0 m s is in
-            let more = subst (λ (x : ℕ). x < need_of ready) limit_same lacks in
-            omega (arith, most, more)))
-            (λ same high few keeps k m0 m s is.
-            served_still state v (seen new) (Rmdir path) (Refuse refusals.Worn)
-            (lawful v.log.device)
-            same was tt (λ p keeps_new here k' m0' m' is'. inr (
-              refusals.Worn,
-              refl,
-              worn (segments_of v) (Rmdir path) p (point_of state (seen new) p.state)
-                  (let number = here.number in omega (arith, number, high)) refl Done
-                  (removed p.state path d) (done (kept keeps) k' m0' m' p.state is') refl,
-              refl,
-            ))
-            (λ e. cc))
-            r done_by down
+        rmdir_ends = draft_ends state lawful v ready new (Rmdir path) Done still_ready was rest refl
+            refl refl refl (λ keeps k m0 m s is. record {
+              next = removed s path d;
+              answer = Done;
+              ok = refl;
+              fits = fits_here keeps k m0 m s is;
+              counted = counted_here keeps k m0 m s is;
+              version = refl;
+              map = λ has_room. after keeps k m0 m s is;
+              done = λ has_room. done (kept keeps) k m0 m s is;
+              lacks = λ more. absurd
+                  (let most = room keeps k m0 m s is in omega (arith, most, more));
+            }) refl (λ keeps k m0 m s is. (refl, is.handles)) r done_by down

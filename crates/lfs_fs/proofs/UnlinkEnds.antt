@@ -1,9 +1,9 @@
 -- A name that was drafted out of its directory, as a step of the model.
-use Rattle.std.proofs.Common.{◌≡◌, ◌≢◌, ◌⊎◌, ◌<◌, ◌≤◌, ◌*◌, ℕ, true, false, List, [], ◌∷◌, length, Option, Some, None, Result, refl, sym, ◌∙◌, ap, subst, inl, inr, ⊎_elim, arith}
+use Rattle.std.proofs.Common.{◌≡◌, ◌≢◌, ◌⊎◌, ◌<◌, ◌≤◌, ◌*◌, ℕ, true, false, List, length, Option, Some, None, Result, refl, sym, ◌∙◌, ap, subst, inl, inr, ⊎_elim, arith}
 use Rattle.std.specs.Prelude.{IfErr, OnOk}
 use Rattle.std.specs.FinMap.{find}
 use Rattle.lfs_model.specs.declared.Kind.TheVariants as kind
-use Rattle.lfs_model.specs.Call.{Done, Refuse, Unlink}
+use Rattle.lfs_model.specs.Call.{Done, Unlink}
 use Rattle.lfs_model.specs.Changing.{IsWithHeader}
 use Rattle.lfs_model.specs.Checkpoint.{CheckpointValue}
 use Rattle.lfs_model.specs.Cutting.{IsWithoutFile}
@@ -11,13 +11,11 @@ use Rattle.lfs_model.specs.Device.{DeviceState, IsLawful}
 use Rattle.lfs_model.specs.Encodes.{IsLogMap}
 use Rattle.lfs_model.specs.Entry as entry
 use Rattle.lfs_model.specs.Entry.{Inode}
-use Rattle.lfs_model.specs.Need.{need}
 use Rattle.lfs_model.specs.Objects.{AreLong, IsChangedAt, IsDirectory, IsHeaderOf}
-use Rattle.lfs_model.specs.Refusal as refusals
 use Rattle.lfs_model.specs.Stands.{LogMap}
 use Rattle.lfs_model.specs.Step.{Step, name}
 use Rattle.lfs_model.specs.Totals.{IsCounted}
-use Rattle.lfs_model.specs.Tree.{Names, State, byte_cmp, entry as entry_in, is_dir, node, opened}
+use Rattle.lfs_model.specs.Tree.{State, byte_cmp, entry as entry_in, is_dir, node, opened}
 use Rattle.lfs_model.specs.Walk.{At, Parent}
 use Rattle.lfs_model.proofs.ObjectTrees.{with_header_at, without_file_at}
 use Rattle.lfs_files.specs.declared.header.Header.{Header}
@@ -26,7 +24,6 @@ use Rattle.lfs_store.specs.declared.draft.Draft.{Draft}
 use Rattle.lfs_store.specs.log.verify.declared.totals.BlockTotals.{BlockTotals}
 use Rattle.lfs_store.specs.memory.declared.batch.Loss.{Loss}
 use Rattle.lfs_store.specs.memory.declared.changes.Changes.{Changes}
-use Rattle.lfs_store.specs.memory.declared.memory.LogMemory.{LogMemory}
 use Rattle.lfs_store.specs.memory.Batch.{FitsBatch, IsNoChange, is_lost, staged}
 use Rattle.lfs_store.specs.memory.Changing.{with_header}
 use Rattle.lfs_store.specs.memory.Present.{as_header}
@@ -45,31 +42,21 @@ use Rattle.lfs_path.specs.dirs.Taking.{CutsSlot, TakesName, shrunk}
 use Rattle.lfs_path.proofs.of_dirs.SlotsKept.{directory_stays}
 use Rattle.lfs_fs.specs.declared.error.FsError.{FsError}
 use Rattle.lfs_fs.specs.declared.fs.Fs.{Fs}
-use Rattle.lfs_fs.specs.Accepting.{StagesDraft, TurnsDown, limit_of, need_of}
+use Rattle.lfs_fs.specs.Accepting.{StagesDraft, TurnsDown, need_of}
 use Rattle.lfs_fs.specs.Handles.{handles_of}
 use Rattle.lfs_fs.specs.Naming.{Reaches}
 use Rattle.lfs_fs.specs.Seen.{OnlyReads, answer_by, seen}
 use Rattle.lfs_fs.specs.Unlinking.{DraftsUnlink, GoesWhole, HasEntry, Relinks}
 use Rattle.lfs_fs.specs.Volume.{IsIn, IsStill, Mounted, Serves, segments_of}
-use Rattle.lfs_fs.proofs.Behaving.{write_behaves}
-use Rattle.lfs_fs.proofs.CallSteps.{not_worn, worn}
 use Rattle.lfs_fs.proofs.Changed.{long_kept, shape_kept}
-use Rattle.lfs_fs.proofs.CreateEnds.{in_each}
-use Rattle.lfs_fs.proofs.Ending.{accepts_by}
-use Rattle.lfs_fs.proofs.Files.{IsMapOf, IsShaped, need_shaped}
+use Rattle.lfs_fs.proofs.Files.{IsMapOf, IsShaped, room_shaped}
 use Rattle.lfs_fs.proofs.Headers.{directory_shrinks, links_fit}
 use Rattle.lfs_fs.proofs.Holding.{headers_of_volume, map_of_volume, shape_of_volume}
-use Rattle.lfs_fs.proofs.InDirectories.{directory_formed, directory_kind, names_in_directory, size_of_directory}
-use Rattle.lfs_fs.proofs.Serving.{point_of, served_still}
+use Rattle.lfs_fs.proofs.InDirectories.{directory_formed, directory_kind, slot_in_directory}
 use Rattle.lfs_fs.proofs.UnlinkedFiles.{apart_object, gone_map, linked, relinked_map}
 use Rattle.lfs_fs.proofs.OldEntries.{dir, dots_are, entry_is, found_d as name_found, found_there, gives_plain, has_last, is_plain, object_there, says, short_is, small, there_d as head_there}
 use Rattle.lfs_fs.proofs.UnlinkSteps.{unlink_done, unlinked}
-use Rattle.lfs_fs.proofs.WritingEnds.{accepts_old, ends_by, low_old, still_more, table_same}
-
--- a map that has a name isn't empty
-some_names : (ms : Names) (nm : List ℕ) (n : ℕ) → find byte_cmp nm ms ≡ Some n → 0 < length ms
-some_names [] nm n found = cc
-some_names (e ∷ ms) nm n found = omega arith
+use Rattle.lfs_fs.proofs.WritingEnds.{still_more, draft_ends, totals_read}
 
 module _ {D : Type 0} (state : D → DeviceState) (lawful : (d : D) → IsLawful (state d)) (v : Mounted D) (old mid ready : Fs D) (path : List ℕ) (d : ℕ) (piece : Option Last) (reached : Reaches state v old path d piece)
     (running : old.store.log.halted ≡ false) (last : Last) (is_last : piece ≡ Some last) (only : OnlyReads state old mid) (head : Header) (n : ℕ) (object : Header)
@@ -142,11 +129,8 @@ module _ {D : Type 0} (state : D → DeviceState) (lawful : (d : D) → IsLawful
     fits_n = headers_of_volume state v k m0 m s is n (as_header object) there_n
 
     some_size : 64 ≤ head.size
-    some_size =
-        let size = size_of_directory (segments_of v) m s map d is_directory head there_d fits_d in
-        let some = some_names (names_at m d head) (name path) n found_d in
-        let same = ap length (names_in_directory (segments_of v) m s map d is_directory head there_d) in
-        omega (arith, size, some, same)
+    some_size = slot_in_directory (segments_of v) m s map d is_directory head there_d fits_d
+        (name path) n found_d
 
     piece_is : name path ≡ last.name.now
     piece_is = (says state lawful v old path d piece reached last is_last mid only).1
@@ -173,9 +157,8 @@ module _ {D : Type 0} (state : D → DeviceState) (lawful : (d : D) → IsLawful
     staged_map = subst IsLogMap (sym (same_mid m)) map.map
 
     mid_totals : AreTotals (staged mid.store.draft.changes m) mid.store.drafted
-    mid_totals =
-        let before : AreTotals m old.store.log.totals = record { stored = reached.still.blocks ∙ is.counted.stored; above = reached.still.others ∙ is.counted.above } in
-        subst (λ (x : LogMap). AreTotals x mid.store.drafted) (sym (same_mid m)) (subst (λ (t : BlockTotals). AreTotals m t) (sym (only.drafted ∙ reached.drafted)) before)
+    mid_totals = subst (λ (x : LogMap). AreTotals x mid.store.drafted) (sym (same_mid m))
+        (totals_read state lawful v old mid reached.still reached.drafted only m is.counted)
 
     -- What becomes of the log map as the object loses a link.
     pub record Lost : Type 0 where
@@ -276,42 +259,24 @@ module _ {D : Type 0} (state : D → DeviceState) (lawful : (d : D) → IsLawful
         (λ h at is_kind. subst (IsDirectory (staged c m) d) (let both : Some (as_header (shrunk head)) ≡ Some h = sym cut.header ∙ at in cc) takes_it.directory)
 
     room : need_of ready ≤ 47 * segments_of v
-    room =
-        let needs = (need_shaped totals_of_tree (staged c m) shaped ready.store.drafted.data_blocks ready.store.drafted.meta_blocks counted_here).0 in
-        subst (λ (x : ℕ). x ≤ 47 * segments_of v) (ap need after.log.is ∙ needs) after.log.sound.room
-
-  limit_same : limit_of ready ≡ 47 * segments_of v
-  limit_same = ap (λ (x : LogMemory). 47 * length x.usage.segments) still_ready.reads.memory
+    room = room_shaped totals_of_tree (segments_of v) (staged c m) (unlinked s path d) after shaped
+        ready.store.drafted.data_blocks ready.store.drafted.meta_blocks counted_here
 
   -- ---- the call
-  module _ (new : Fs D) (rest : new.handles ≡ ready.handles) {X : Type 0} (r : Result X FsError) (done_by : OnOk r (StagesDraft state ready new)) (down : IfErr r (TurnsDown state ready new)) where
-    pub unlink_ends : Serves state v (seen new) (Unlink path) (answer_by (λ _. Done) r)
-    unlink_ends =
-        ends_by state lawful v ready new (Unlink path) Done still_ready was rest refl refl refl refl
-        (λ keeps k m0 m s is. in_each state v k m0 m s is (λ x t. FitsBatch x c) (fits_here keeps k m0 m s is))
-        (λ stages keeps k m0 m s is. (
-        let accepts = accepts_old state lawful v ready new (Unlink path) Done still_ready was rest stages in
-        let table = table_same state lawful v ready new (Unlink path) Done still_ready was rest in
-        let low = low_old state lawful v ready new (Unlink path) Done still_ready was rest stages.young in
-        accepts_by state v (seen new) (Unlink path) (lawful v.log.device) (lawful new.store.log.device) accepts.carries accepts.segments was accepts.saves.number c accepts low Done (λ e. cc) (λ e. cc)
-        (write_behaves state v (seen new) (Unlink path) Done refl table (λ e. cc)) (λ p keeps_new here k' m0' m' is'. record {
-          next = unlinked p.state path d;
-          fits = fits_here keeps k' m0' m' p.state is';
-          map = after keeps k' m0' m' p.state is';
-          version = is'.version;
-          handles = is'.handles ∙ ap handles_of (sym table);
-          counted = subst (λ (t : BlockTotals). IsCounted (staged c m') t.data_blocks t.meta_blocks) (sym stages.totals) (counted_here keeps k' m0' m' p.state is');
-          steps = inl (done keeps k' m0' m' p.state is', not_worn (segments_of v) (Unlink path) p (let number = here.number in omega (arith, number, low)));
-        })))
-        (λ same lacks keeps k m0 m s is. absurd (
-        let most = room keeps k m0 m s is in
-        let more = subst (λ (x : ℕ). x < need_of ready) limit_same lacks in
-        omega (arith, most, more)))
-        (λ same high few keeps k m0 m s is. served_still state v (seen new) (Unlink path) (Refuse refusals.Worn) (lawful v.log.device) same was tt (λ p keeps_new here k' m0' m' is'. inr (
-          refusals.Worn,
-          refl,
-          worn (segments_of v) (Unlink path) p (point_of state (seen new) p.state) (let number = here.number in omega (arith, number, high)) refl Done (unlinked p.state path d) (done keeps k' m0' m' p.state is') refl,
-          refl,
-        ))
-        (λ e. cc))
-        r done_by down
+  module _ (new : Fs D) (rest : new.handles ≡ ready.handles) {X : Type 0} (r : Result X FsError)
+      (done_by : OnOk r (StagesDraft state ready new)) (down : IfErr r (TurnsDown state ready new))
+    where
+      pub unlink_ends : Serves state v (seen new) (Unlink path) (answer_by (λ _. Done) r)
+      unlink_ends = draft_ends state lawful v ready new (Unlink path) Done still_ready was rest refl
+          refl refl refl (λ keeps k m0 m s is. record {
+            next = unlinked s path d;
+            answer = Done;
+            ok = refl;
+            fits = fits_here keeps k m0 m s is;
+            counted = counted_here keeps k m0 m s is;
+            version = refl;
+            map = λ has_room. after keeps k m0 m s is;
+            done = λ has_room. done keeps k m0 m s is;
+            lacks = λ more. absurd
+                (let most = room keeps k m0 m s is in omega (arith, most, more));
+          }) refl (λ keeps k m0 m s is. (refl, is.handles)) r done_by down

@@ -273,9 +273,6 @@ module _ (N : ℕ) (m : LogMap) (s : State) (is : IsMapOf N m s) (p : List ℕ) 
   pub linked : 0 < h.links
   linked = let now = names_now in omega (arith, now)
 
-  pub object_range : (1 ≤ n) × (n ≤ 4095)
-  object_range = range_n
-
   pub apart_object : n ≢ d
   apart_object = apart_from
 
