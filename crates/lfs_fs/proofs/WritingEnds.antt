@@ -330,23 +330,7 @@ module _ {D : Type 0} (state : D → DeviceState) (lawful : (d : D) → IsLawful
           down.1)
       by_fault error.Halted down =
           halts_serves v (seen new) call was (change_writes call change) table_same _ (halts_after v.log ready.store.log still.reads new.store.log (most_written ready.store.log ready.store.saved) down)
-      by_fault error.NoEntry down = absurd down
-      by_fault error.NotDir down = absurd down
-      by_fault error.IsDir down = absurd down
-      by_fault error.Exist down = absurd down
-      by_fault error.NotEmpty down = absurd down
-      by_fault error.Inval down = absurd down
-      by_fault error.NameTooLong down = absurd down
-      by_fault error.Loop down = absurd down
-      by_fault error.Perm down = absurd down
-      by_fault error.Busy down = absurd down
-      by_fault error.BadHandle down = absurd down
-      by_fault error.Stuck down = absurd down
-      by_fault error.TooManyOpen down = absurd down
-      by_fault error.TooManyLinks down = absurd down
-      by_fault error.FileTooBig down = absurd down
-      by_fault error.NoNumber down = absurd down
-      by_fault error.DirFull down = absurd down
+      by_fault fault down = absurd down
 
     -- ---- a draft that is one step of the model
     limit_same : limit_of ready ≡ 47 * segments_of v
