@@ -18,6 +18,7 @@ mod Changed
 mod MovedNames
 mod KeptMaps
 mod MovedMaps
+mod LostNames
 mod RenamedFiles
 mod MovedDrafts
 mod RenamedDrafts
@@ -78,12 +79,11 @@ mod OldEntries
 mod OldLooks
 mod OldRefusals
 mod UnlinkSteps
-mod UnlinkedFiles
+mod RemovedEntries
 mod UnlinkDrafts
 mod UnlinkEnds
 mod RmdirSteps
 mod RmdirLooks
-mod RemovedDirectories
 mod RmdirRefusals
 mod RmdirDrafts
 mod RmdirEnds

@@ -324,10 +324,10 @@ module _ {t : Tree} {da db n : ℕ} {na : List ℕ} (move : IsMove t da db n na)
   pub lost_dirs : (q : ℕ) → is_dir (node lost q) ≡ is_dir (node t q)
   lost_dirs = dirs lost_swap
 
-  lost_names : (q : ℕ) → names lost q + one_if (n == q) ≡ names t q
+  pub lost_names : (q : ℕ) → names lost q + one_if (n == q) ≡ names t q
   lost_names q = let all = names_after lost_swap q in omega (arith, all)
 
-  lost_links : (q : ℕ) → links lost q + link_of (is_dir (node t n)) da n q ≡ links t q
+  pub lost_links : (q : ℕ) → links lost q + link_of (is_dir (node t n)) da n q ≡ links t q
   lost_links q = let all = links_after lost_swap q in omega (arith, all)
 
   -- the other's directory

@@ -1,11 +1,10 @@
 -- The draft of a rename fits each log map of its volume: what is lost first, then the headers of
 -- both directories and the names in them.
-use Rattle.std.proofs.Common.{◌≡◌, ◌≢◌, ◌&&◌, ◌<◌, ◌≤◌, ◌+◌, ◌-◌, not, ℕ, Bool, true, false, List, length, Option, Some, None, refl, sym, ◌∙◌, ap, subst, ⊎_elim, arith, ◌*◌}
+use Rattle.std.proofs.Common.{◌≡◌, ◌≢◌, ◌&&◌, ◌<◌, ◌≤◌, ◌+◌, ◌-◌, not, ℕ, Bool, true, false, List, length, Option, Some, None, refl, sym, ◌∙◌, subst, ⊎_elim, arith, ◌*◌}
 use Rattle.std.specs.Prelude.{◌==◌, if◌then◌else◌, is_none, max}
 use Rattle.std.proofs.lemmas.Bool.{eq-eqb, cases_eq}
 use Rattle.lfs_model.specs.Checkpoint.{CheckpointValue}
 use Rattle.lfs_model.specs.Device.{DeviceState}
-use Rattle.lfs_model.specs.Entry.{Inode}
 use Rattle.lfs_model.specs.Objects.{IsHeaderOf}
 use Rattle.lfs_model.specs.Stands.{LogMap}
 use Rattle.lfs_model.specs.Step.{name}
@@ -14,19 +13,19 @@ use Rattle.lfs_model.proofs.Shrinking.{named_counts}
 use Rattle.lfs_files.specs.declared.header.Header.{Header}
 use Rattle.lfs_store.specs.memory.declared.batch.Loss.{Loss}
 use Rattle.lfs_store.specs.memory.declared.changes.Changes.{Changes}
-use Rattle.lfs_store.specs.memory.Batch.{FitsBatch, is_lost, staged}
+use Rattle.lfs_store.specs.memory.Batch.{FitsBatch, staged}
 use Rattle.lfs_store.specs.memory.Changing.{FitsHeader}
 use Rattle.lfs_store.specs.memory.Present.{as_header}
 use Rattle.lfs_store.specs.Drafting.{IsApart}
 use Rattle.lfs_store.specs.Making.{relinked}
-use Rattle.lfs_store.proofs.Apart.{draft_empty, no_change, nothing_apart}
+use Rattle.lfs_store.proofs.Apart.{draft_empty, nothing_apart}
 use Rattle.lfs_path.specs.dirs.Taking.{shrunk}
 use Rattle.lfs_fs.specs.declared.fs.Fs.{Fs}
 use Rattle.lfs_fs.specs.declared.moving.Object.{Object}
 use Rattle.lfs_fs.specs.declared.moving.Source.{Source}
 use Rattle.lfs_fs.specs.declared.moving.Target.{Target}
 use Rattle.lfs_fs.specs.Renaming.{DraftsMove, DropsFound, DropsObject, FitsFound, NamesFound, fewer_links, first_holder, gains_directory, is_directory, loses_directory, more_links, second_holder, DraftsTake, RelinksWhere}
-use Rattle.lfs_fs.specs.Unlinking.{GoesWhole, LosesLink, Relinks}
+use Rattle.lfs_fs.specs.Unlinking.{LosesLink}
 use Rattle.lfs_fs.proofs.Headers.{directory_grows, directory_shrinks, links_fit}
 use Rattle.lfs_fs.proofs.InDirectories.{directory_kind, slot_in_directory}
 use Rattle.lfs_fs.proofs.RenamedFiles.{apart_first, apart_second, names_plain, dir_a, dir_b, kind_o, linked_twice, linked_twice_b, looks_o, there as there_o}
@@ -36,6 +35,7 @@ use Rattle.lfs_fs.specs.Volume.{Mounted, segments_of}
 use Rattle.lfs_fs.proofs.RenamedDrafts.{StartsRename, holds_mid, holds_old, holds_taken, moving, second_none}
 use Rattle.lfs_path.specs.dirs.Adding.{slot_for}
 use Rattle.lfs_store.specs.Writing.{TakesWrite}
+use Rattle.lfs_fs.proofs.MovedDrafts.{link_fits, link_apart}
 
 -- ---- links
 
@@ -127,26 +127,15 @@ module _ {D : Type 0} {state : D → DeviceState} {v : Mounted D} {old : Fs D} {
         })
         (λ (loses : (is_directory o.header.kind ≡ false)
         × LosesLink state old lost o.number o.header).
-        ⊎_elim
-        (λ (r : Relinks state old lost o.number o.header). record {
-          fits = r.sets.fits m (draft_empty old.store.draft.changes m empty).1
-              (ap (λ (x : LogMap). x.header o.number) (no_change old.store.draft.changes m empty)
-              ∙ there)
+        record {
+          fits = link_fits old lost empty m o.number o.header loses.1 there
+              (g.headers o.number (as_header o.header) there)
               (let are = names_plain g o some (kind_o g o some ∙ loses.0) in
               let some = named_counts s.tree db (name b) o.number (there_o g o some) in
-              omega (arith, are, some))
-              (ap (λ (x : Loss). is_lost x (Inode o.number)) empty.loss)
-              (links_fit o.number o.header (g.headers o.number (as_header o.header) there)
-              r.links (let less = r.is in omega (arith, less)));
-          first = r.apart da;
-          second = r.apart db;
+              omega (arith, are, some));
+          first = link_apart old lost empty m o.number o.header loses.1 da not_first;
+          second = link_apart old lost empty m o.number o.header loses.1 db not_second;
         })
-        (λ (goes : GoesWhole state old lost o.number o.header). record {
-          fits = goes.removes.fits m;
-          first = goes.apart da not_first;
-          second = goes.apart db not_second;
-        })
-        loses.1)
         drops
       where
         there : m.header o.number ≡ Some (as_header o.header)

@@ -26,7 +26,7 @@ dir_by m kinds.File n h = refl
 dir_by m kinds.Directory n h = refl
 dir_by m kinds.Link n h = refl
 
-none_in : (x : Option Node) → is_dir x ≡ false → names_of (unwrap_or x (File [])) ≡ []
+pub none_in : (x : Option Node) → is_dir x ≡ false → names_of (unwrap_or x (File [])) ≡ []
 none_in None plain = refl
 none_in (Some (File b)) plain = refl
 none_in (Some (Dir form ms)) plain = cc
@@ -36,7 +36,7 @@ found_is : (o : Option Object) → is_some (number_of o) ≡ is_some o
 found_is None = refl
 found_is (Some x) = refl
 
-two_links : (x : Option Node) (t : Tree) (d : ℕ) → is_dir x ≡ true → 2 ≤ links_at t d x
+pub two_links : (x : Option Node) (t : Tree) (d : ℕ) → is_dir x ≡ true → 2 ≤ links_at t d x
 two_links None t d dir = cc
 two_links (Some (File b)) t d dir = cc
 two_links (Some (Dir form ms)) t d dir = omega arith

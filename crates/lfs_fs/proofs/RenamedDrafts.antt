@@ -8,7 +8,7 @@ use Rattle.lfs_model.specs.Checkpoint.{CheckpointValue}
 use Rattle.lfs_model.specs.Device.{DeviceState}
 use Rattle.lfs_model.specs.Stands.{LogMap}
 use Rattle.lfs_model.specs.Step.{name}
-use Rattle.lfs_model.specs.Tree.{State, opened}
+use Rattle.lfs_model.specs.Tree.{State}
 use Rattle.lfs_files.specs.declared.header.Header.{Header}
 use Rattle.lfs_store.specs.memory.declared.changes.Changes.{Changes}
 use Rattle.lfs_store.specs.memory.Batch.{IsNoChange, staged}
@@ -23,13 +23,14 @@ use Rattle.lfs_fs.specs.declared.moving.Source.{Source}
 use Rattle.lfs_fs.specs.declared.moving.Target.{Target}
 use Rattle.lfs_fs.specs.Handles.{handles_of}
 use Rattle.lfs_fs.specs.Renaming.{NamesFound, DropsFound, DropsObject, RelinksWhere, fewer_links, gains_directory, is_directory, loses_directory, more_links, DraftsTake, second_holder, DraftsMove, DraftsLinks}
-use Rattle.lfs_fs.specs.Unlinking.{GoesWhole, LosesLink, Relinks}
+use Rattle.lfs_fs.specs.Unlinking.{LosesLink}
 use Rattle.lfs_fs.proofs.Files.{IsShaped}
-use Rattle.lfs_fs.proofs.MovedDrafts.{all_lost, link_kept, links_left, links_set}
+use Rattle.lfs_fs.proofs.MovedDrafts.{all_lost, links_left, links_set, link_lost, link_totals}
 use Rattle.lfs_fs.proofs.KeptMaps.{HasHolder}
 use Rattle.lfs_fs.proofs.MovedMaps as moves
 use Rattle.lfs_fs.proofs.MovedMaps.{IsMoving}
-use Rattle.lfs_fs.proofs.RenamedFiles.{LosesName, lost_shape, lost_a, lost_b, holder_a, holder_b, IsMoved, IsRename, KeepsLink, LosesAll, apart_first, apart_second, free_moved, looks_o, over_moved, shaped}
+use Rattle.lfs_fs.proofs.LostNames.{LosesName, KeepsLink, LosesAll}
+use Rattle.lfs_fs.proofs.RenamedFiles.{lost_shape, lost_a, lost_b, holder_a, holder_b, IsMoved, IsRename, apart_first, apart_second, free_moved, looks_o, over_moved, shaped}
 use Rattle.lfs_fs.specs.Volume.{IsIn, IsStill, Mounted, segments_of}
 use Rattle.lfs_model.specs.Encodes.{IsLogMap}
 use Rattle.std.proofs.lemmas.Bool.{cases_eq, eq-eqb}
@@ -182,16 +183,8 @@ module _ {D : Type 0} {state : D → DeviceState} (old mid : Fs D) (s : State)
       (inl (directory_kind o.header.kind goes.0)) goes.1.removes))
       (λ (loses : (is_directory o.header.kind ≡ false)
       × LosesLink state old mid o.number o.header).
-      ⊎_elim
-      (λ (keeps : Relinks state old mid o.number o.header).
-      inl (link_kept s old.store.draft.changes mid.store.draft.changes m o.number o.header empty
-      keeps.links keeps.is
-      (subst (λ hs. (keeps.links ≢ 0) ⊎ (opened hs o.number ≢ 0)) (sym handles) keeps.stays)
-      (plain_kind o.header.kind loses.0) keeps.sets))
-      (λ (goes : GoesWhole state old mid o.number o.header).
-      inr (all_lost s old.store.draft.changes mid.store.draft.changes m o.number o.header
-      (inr (goes.last, ap (λ hs. opened hs o.number) handles ∙ goes.shut)) goes.removes))
-      loses.1)
+      link_lost old mid empty m o.number o.header loses.1 s handles
+      (plain_kind o.header.kind loses.0))
       drops
 
 -- ---- the whole draft, in each state of the volume
@@ -290,14 +283,9 @@ module _ {D : Type 0} {state : D → DeviceState} {v : Mounted D} {old : Fs D} {
           counts_lost goes.1.counts are)
           (λ (loses : (is_directory o.header.kind ≡ false)
           × LosesLink state old lost o.number o.header).
-          ⊎_elim
-          (λ (r : Relinks state old lost o.number o.header).
-          r.counts m
-          (ap (λ (x : LogMap). x.header o.number) same_old ∙ (looks_o g o some).there)
-          (subst (AreTotals (staged old.store.draft.changes m)) (sym r.drafted)
-          (subst (λ (x : LogMap). AreTotals x old.store.drafted) (sym same_old) are)))
-          (λ (goes : GoesWhole state old lost o.number o.header). counts_lost goes.counts are)
-          loses.1)
+          link_totals old lost empty m o.number o.header loses.1 (looks_o g o some).there k m0 keeps
+          holds_old (subst IsLogMap (sym same_old) g.map.map) log
+          (subst (λ (x : LogMap). AreTotals x old.store.drafted) (sym same_old) are))
           drops
 
   -- ---- the first name goes

@@ -6,34 +6,27 @@
 -- first name goes (`MovedMaps.DraftsMove`). The second then gives the object (`DraftsName`, or
 -- `DraftsOver` where it gave another). `free_moved` and `over_moved` say that m5 is the log map of
 -- the state after the call, whether there is room for it or not.
-use Rattle.std.proofs.Common.{length, ◌≡◌, ◌≢◌, ◌⊎◌, ◌≤◌, ◌+◌, ◌-◌, ◌&&◌, not, ℕ, Bool, true, false, List, [], Option, Some, None, refl, sym, ◌∙◌, ap, inl, inr, ⊎_elim, eqb, arith, ◌∷◌, ◌<◌, subst, ◌||◌}
+use Rattle.std.proofs.Common.{length, ◌≡◌, ◌≢◌, ◌⊎◌, ◌≤◌, ◌+◌, ◌-◌, ◌&&◌, not, ℕ, Bool, true, false, List, [], Option, Some, None, refl, sym, ◌∙◌, ap, ⊎_elim, arith, ◌∷◌, ◌<◌, subst, ◌||◌}
 use Rattle.std.specs.Prelude.{nat_lt, T, ◌==◌, if◌then◌else◌, is_some, unwrap_or, is_none}
 use Rattle.std.proofs.lemmas.Bool.{eq-eqb}
-use Rattle.std.proofs.lemmas.Bool.Decides.{eqb_tells, nat_tests}
-use Rattle.std.specs.Ordering.{nat_cmp}
+use Rattle.std.proofs.lemmas.Bool.Decides.{nat_tests}
 use Rattle.std.specs.FinMap.{is_sorted}
-use Rattle.lfs_model.specs.declared.Kind.{Kind}
 use Rattle.lfs_model.specs.declared.Kind.TheVariants as kind
 use Rattle.lfs_model.specs.Call.{AreArguments, Done, Rename}
-use Rattle.lfs_model.specs.Changing.{IsWithHeader}
-use Rattle.lfs_model.specs.Cutting.{IsWithoutFile}
 use Rattle.lfs_model.specs.Entry as entry
 use Rattle.lfs_model.specs.Objects.{one_if, IsHeaderOf}
-use Rattle.lfs_model.specs.Sound.{IsWithinLimits}
 use Rattle.lfs_model.specs.Stands.{LogMap}
 use Rattle.lfs_model.specs.Step.{Step, is_there, let_go, name, target, with_tree}
-use Rattle.lfs_model.specs.Tree.{Dir, File, Link, Names, Node, State, Tree, byte_cmp, entry as entry_in, form_of, is_dir, links, links_at, names, names_in, node, opened, with_name, without, without_name}
-use Rattle.lfs_model.specs.TreeOf.{node_by, tree_in}
+use Rattle.lfs_model.specs.Tree.{Dir, Names, State, Tree, byte_cmp, entry as entry_in, form_of, is_dir, links, names, names_in, node, with_name, without_name}
+use Rattle.lfs_model.specs.TreeOf.{tree_in}
 use Rattle.lfs_model.specs.Walk.{At, Parent}
-use Rattle.lfs_model.proofs.Dropping.{opened_file}
 use Rattle.lfs_model.proofs.KeepsNames.{rename_keeps}
 use Rattle.lfs_model.proofs.Makes.{dir_at}
 use Rattle.lfs_model.proofs.Shrinking.{named_counts}
-use Rattle.lfs_model.proofs.Standing.{object_length}
 use Rattle.lfs_files.specs.declared.header.Header.{Header}
 use Rattle.lfs_files.specs.Headers.{as_header}
-use Rattle.lfs_fs.proofs.Files.{IsMapOf, IsShaped, node_by_header, shape_of}
-use Rattle.lfs_fs.proofs.KeptMaps.{HasHolder, Shifts, gone_kept, gone_tree, none_at, relinked_kept, relinked_shifts, relinked_tree, shifts_gone}
+use Rattle.lfs_fs.proofs.Files.{IsMapOf, IsShaped, shape_of}
+use Rattle.lfs_fs.proofs.KeptMaps.{HasHolder, map_by}
 use Rattle.lfs_fs.proofs.MovedMaps.{DraftsMove, DraftsName, DraftsOver, IsMoving, IsNamed, named_kept, named_new, named_over, named_shifts, named_tree, second_after}
 use Rattle.lfs_fs.proofs.MovedNames as trees
 use Rattle.lfs_fs.proofs.MovedNames.{nothing_at, only_at}
@@ -43,6 +36,7 @@ use Rattle.lfs_fs.specs.declared.moving.Source.{Source}
 use Rattle.lfs_fs.specs.declared.moving.Target.{Target}
 use Rattle.lfs_fs.proofs.RenameViews.{d_range, dir, entry_is, given, is_empty, kind_is, may_look, plain_empty, range_is}
 use Rattle.lfs_fs.proofs.InDirectories.{directory_kind}
+use Rattle.lfs_fs.proofs.LostNames.{IsLoss, LosesName, LosesOne, lost, own_links, names_plain as plain_names}
 
 -- ---- the state after it
 
@@ -55,24 +49,6 @@ module _ (s : State) (a b : List ℕ) (da db : ℕ) where
 
   abbrev pub renamed : State
   renamed = with_tree s tree_after
-
--- ---- what the second name gave loses it
-
--- Object old, of this header, has a link less in the log map, and keeps another or a handle.
-pub record KeepsLink (s : State) (m m1 : LogMap) (old : ℕ) (h : entry.Header) : Type 0 where
-  pub links : ℕ
-  pub is : links ≡ h.links - 1
-  pub stays : (links ≢ 0) ⊎ (opened s.handles old ≢ 0)
-  pub plain : h.kind ≢ kind.Directory
-  pub made : IsWithHeader m old (Some (record h { links = links })) m1
-
--- It is gone: a directory, or what had one link, with no handle.
-pub record LosesAll (s : State) (m m1 : LogMap) (old : ℕ) (h : entry.Header) : Type 0 where
-  pub last : (h.kind ≡ kind.Directory) ⊎ ((h.links ≤ 1) × (opened s.handles old ≡ 0))
-  pub gone : IsWithoutFile m old m1
-
-abbrev pub LosesName : State → LogMap → LogMap → ℕ → entry.Header → Type 0
-LosesName s m m1 old h = KeepsLink s m m1 old h ⊎ LosesAll s m m1 old h
 
 -- ---- a rename in a state
 
@@ -103,35 +79,6 @@ pub record IsMoved (N : ℕ) (m5 : LogMap) (s : State) (a b : List ℕ) (da db :
 target_found : (t : Tree) (d : ℕ) (p : List ℕ) (n : ℕ) → entry_in t d (name p) ≡ Some n
     → target t d p ≡ n
 target_found t d p n is = ap (λ (o : Option ℕ). unwrap_or o 0) is
-
-not_both : (a b : ℕ) → (a ≢ 0) ⊎ (b ≢ 0) → (a == 0 && b == 0) ≡ false
-not_both a b some = grind (arith, nat_tests)
-
-both_none : (a b : ℕ) → a ≡ 0 → b ≡ 0 → (a == 0 && b == 0) ≡ true
-both_none a b e f = grind (arith, nat_tests)
-
-leaf_links : (t : Tree) (n : ℕ) → is_dir (node t n) ≡ false → links t n ≡ names t n
-leaf_links t n = by (node t n)
-  where
-    by : (o : Option Node) → is_dir o ≡ false → links_at t n o ≡ names t n
-    by None off = refl
-    by (Some (File b)) off = refl
-    by (Some (Link text)) off = refl
-    by (Some (Dir f ms)) off = cc
-
-plain_by : (m : LogMap) (n : ℕ) (h : entry.Header) (k : Kind) → k ≢ kind.Directory
-    → is_dir (Some (node_by m k n h)) ≡ false
-plain_by m n h kind.File ne = refl
-plain_by m n h kind.Directory ne = absurd (ne refl)
-plain_by m n h kind.Link ne = refl
-
-small_by : (m : LogMap) (n : ℕ) (h : entry.Header) (k : Kind) → k ≢ kind.Directory
-    → IsWithinLimits (node_by m k n h) → h.size ≤ 8511488
-small_by m n h kind.File ne limits = let long = object_length m n h in let most = limits.0 in
-    omega (arith, long, most)
-small_by m n h kind.Directory ne limits = absurd (ne refl)
-small_by m n h kind.Link ne limits = let long = object_length m n h in let most = limits.1 in
-    omega (arith, long, most)
 
 -- the links of both directories, where the second name was free, and where it gave an object
 fewer_free : (d e : Bool) (l : ℕ) → 2 ≤ l
@@ -266,16 +213,8 @@ module _ {N : ℕ} {m : LogMap} {s : State} {a b : List ℕ} {source : Source} {
   moved_by shape tree links_are = record {
     shape = shape;
     tree = tree;
-    map = λ arguments done. record {
-      map = shape.map;
-      long = shape.long;
-      log = record {
-        sound = rename_keeps N s (renamed s a b da db) a b Done is.log.sound arguments done;
-        is = sym tree;
-        formed = λ k h at dir. (let d = shape.directories k h at dir in (d.formed, d.apart));
-        links = λ k h at. links_are k h at ∙ ap (λ (t : Tree). links t k) (sym tree);
-      };
-    };
+    map = λ arguments done. map_by shape
+        (rename_keeps N s (renamed s a b da db) a b Done is.log.sound arguments done) tree links_are;
   }
 
   -- ---- the second name is free
@@ -310,14 +249,14 @@ module _ {N : ℕ} {m : LogMap} {s : State} {a b : List ℕ} {source : Source} {
     x_none : da ≡ db → crossing ≡ 0
     x_none e = ap (λ (v : Bool). one_if (dir_of && not v)) (eq-eqb da db e) ∙ not_one dir_of
 
-    after_is : tree_after s a b da db ≡ after
-    after_is = ap (λ (o : Option ℕ). if is_some o then let_go (moved s a b da db)
+    free_after : tree_after s a b da db ≡ after
+    free_after = ap (λ (o : Option ℕ). if is_some o then let_go (moved s a b da db)
         s.handles (target s.tree db b) else moved s a b da db) absent ∙ moved_is
 
     tree_is : tree_in m5 ≡ tree_after s a b da db
     tree_is = named_tree free_moving free_named
         ∙ ap (λ (t : Tree). with_name (without_name t da (name a)) db (name b) n) (sym is.log.is)
-        ∙ sym after_is
+        ∙ sym free_after
 
     free_links : (k : ℕ) (h : entry.Header) → m5.header k ≡ Some h
         → h.links ≡ links (tree_after s a b da db) k
@@ -328,7 +267,7 @@ module _ {N : ℕ} {m : LogMap} {s : State} {a b : List ℕ} {source : Source} {
         let now = trees.links_free move (name b) absent crossing
         (ap (λ (v : Bool). one_if (v && not (da == db))) (sym kind_n)) k in
         let same : h.links ≡ links after k = omega (arith, one, was, now) in
-        same ∙ ap (λ (t : Tree). links t k) (sym after_is)
+        same ∙ ap (λ (t : Tree). links t k) (sym free_after)
 
     pub free_moved : IsMoved N m5 s a b da db
     free_moved = moved_by (named_kept free_moving free_named) tree_is free_links
@@ -382,147 +321,47 @@ module _ {N : ℕ} {m : LogMap} {s : State} {a b : List ℕ} {source : Source} {
         let none : names s.tree old ≡ 0 = ap (names s.tree) e ∙ is.log.sound.root_unnamed in
         absurd (omega (arith, some, none))
 
-    node_is : node s.tree old ≡ Some (node_by m h.kind old h)
-    node_is = node_by_header N m s is.log old h in_range looks_o.there
-
     pub apart_first : old ≢ da
     apart_first = trees.not_first move (name b) old there other alike empty
 
     pub apart_second : old ≢ db
     apart_second = trees.not_second move (name b) old there other alike empty
 
-    names_less : names after old + 1 ≡ names s.tree old
-    names_less = trees.names_over move (name b) old there other alike
+    abbrev change : Tree → Tree
+    change t = with_name (without_name t da (name a)) db (name b) n
+
+    lose : LosesOne N m s change old h
+    lose = record {
+      map = is;
+      shaped = shaped;
+      there = looks_o.there;
+      named = is.log.sound.named db (name b) old there;
+      not_root = not_root;
+      less = trees.names_over move (name b) old there other alike;
+      goes_first = trees.goes_first move (name b) old there other alike empty;
+      links_gone = trees.links_gone move (name b) old there other alike empty;
+    }
+
+    pub names_plain : is_dir (node s.tree old) ≡ false → names s.tree old ≡ h.links
+    names_plain = plain_names lose
 
     abbrev x : ℕ
     x = one_if (is_dir (node s.tree n))
 
-    abbrev y : ℕ
-    y = one_if (not (is_dir (node s.tree n)))
+    links_less : (k : ℕ)
+        → links after k + (only_at old (own_links lose) k + only_at da x k) ≡ links s.tree k
+    links_less = trees.links_over move (name b) old there other alike x (own_links lose) refl
+        (ap (λ (v : Bool). one_if (not v)) alike)
 
-    links_less : (k : ℕ) → links after k + (only_at old y k + only_at da x k) ≡ links s.tree k
-    links_less = trees.links_over move (name b) old there other alike x y refl refl
-
-    after_by : (v : Bool) → (names after old == 0 && opened s.handles old == 0) ≡ v
-        → tree_after s a b da db ≡ (if v then without nat_cmp old after else after)
-    after_by v by =
-        ap (λ (o : Option ℕ). if is_some o then let_go (moved s a b da db)
+    after_is : let_go after s.handles old ≡ tree_after s a b da db
+    after_is = sym (ap (λ (o : Option ℕ). if is_some o then let_go (moved s a b da db)
         s.handles (unwrap_or o 0) else moved s a b da db) there
-        ∙ ap (λ (t : Tree). let_go t s.handles old) moved_is
-        ∙ ap (λ (v : Bool). if v then without nat_cmp old after else after) by
-
-    pub names_plain : is_dir (node s.tree old) ≡ false → names s.tree old ≡ h.links
-    names_plain off = sym (leaf_links s.tree old off) ∙ sym (linked old h looks_o.there)
-
-    -- What becomes of the log map as it loses the name, and of the tree with it.
-    record IsLoss (m1 : LogMap) : Type 0 where
-      pub shape : IsShaped m1
-      pub others : (k : ℕ) → k ≢ old → m1.header k ≡ m.header k
-      pub shifts : Shifts m m1 (only_at old y) none_at
-      pub tree : with_name (without_name (tree_in m1) da (name a)) db (name b) n
-          ≡ tree_after s a b da db
-      pub links_of : (k : ℕ) (f : entry.Header) → m1.header k ≡ Some f
-          → links after k ≡ links (tree_after s a b da db) k
-
-    abbrev tree_from : Tree → Tree
-    tree_from t = with_name (without_name t da (name a)) db (name b) n
-
-    -- ---- it stays, with a link less
-    module _ (m1 : LogMap) (keeps : KeepsLink s m m1 old h) where
-      plain : is_dir (node s.tree old) ≡ false
-      plain = ap is_dir node_is ∙ plain_by m old h h.kind keeps.plain
-
-      small : h.size ≤ 8511488
-      small = small_by m old h h.kind keeps.plain
-          (is.log.sound.limits old (node_by m h.kind old h) node_is)
-
-      y_one : y ≡ 1
-      y_one = ap (λ (b : Bool). one_if (not b)) (sym alike ∙ plain)
-
-      fewer : keeps.links + y ≡ h.links + 0
-      fewer =
-          let one = y_one in
-          let less = keeps.is in
-          let names_were = names_plain plain in
-          let gone = names_less in
-          omega (arith, one, less, names_were, gone)
-
-      stay_after : tree_after s a b da db ≡ after
-      stay_after = after_by false (not_both (names after old) (opened s.handles old) (⊎_elim
-          (λ (some : keeps.links ≢ 0). inl (λ none. some (
-          let less = fewer in
-          let names_were = names_plain plain in
-          let gone = names_less in
-          let one = y_one in
-          omega (arith, one, less, names_were, gone, none))))
-          (λ (some : opened s.handles old ≢ 0). inr some)
-          keeps.stays))
-
-      stays : IsLoss m1
-      stays = record {
-        shape = relinked_kept m m1 old h keeps.links shaped looks_o.there small keeps.made;
-        others = keeps.made.others;
-        shifts = λ k f at. (
-            let one = relinked_shifts m m1 old h keeps.links shaped looks_o.there small keeps.made
-            y 0 fewer k f at in
-            let less = one.2 in
-            let none = nothing_at old k in
-            (one.0, one.1, omega (arith, less, none)));
-        tree = ap tree_from (relinked_tree m m1 old h keeps.links shaped looks_o.there small
-            keeps.made ∙ sym is.log.is) ∙ sym stay_after;
-        links_of = λ k f at. ap (λ (t : Tree). links t k) (sym stay_after);
-      }
-
-    -- ---- or goes
-    module _ (m1 : LogMap) (loses : LosesAll s m m1 old h) where
-      shut_and_nameless : (names after old ≡ 0) × (opened s.handles old ≡ 0)
-      shut_and_nameless = ⊎_elim
-          (λ (is_kind : h.kind ≡ kind.Directory).
-          let dir : is_dir (node s.tree old) ≡ true = ap is_dir node_is
-          ∙ ap (λ (k : Kind). is_dir (Some (node_by m k old h))) is_kind in
-          let one = is.log.sound.one_name old not_root dir in
-          let less = names_less in (
-            omega (arith, one, less),
-            ⊎_elim (λ shut. shut)
-                (λ file. absurd (let off : is_dir (node s.tree old) ≡ false = ap is_dir file.1 in
-                cc)) (opened_file s old is.log.sound.handles_in_order is.log.sound.handles),
-          ))
-          (λ (last : (h.links ≤ 1) × (opened s.handles old ≡ 0)). (last_name last.0, last.1))
-          loses.last
-        where
-          last_name : h.links ≤ 1 → names after old ≡ 0
-          last_name few = by (is_dir (node s.tree old)) refl
-            where
-              by : (v : Bool) → is_dir (node s.tree old) ≡ v → names after old ≡ 0
-              by false off = let were = names_plain off in let less = names_less in
-                  omega (arith, were, less, few)
-              by true dir = let one = is.log.sound.one_name old not_root dir in let less =
-                  names_less in omega (arith, one, less)
-
-      gone_after : tree_after s a b da db ≡ without nat_cmp old after
-      gone_after = after_by true (both_none (names after old) (opened s.handles old)
-          shut_and_nameless.0 shut_and_nameless.1)
-
-      goes : IsLoss m1
-      goes = record {
-        shape = gone_kept m m1 old shaped loses.gone not_root;
-        others = loses.gone.headers;
-        shifts = shifts_gone m m1 old y loses.gone;
-        tree = ap tree_from (gone_tree m m1 old shaped loses.gone not_root
-            ∙ ap (without nat_cmp old) (sym is.log.is))
-            ∙ trees.goes_first move (name b) old there other alike empty ∙ sym gone_after;
-        links_of = λ k f at.
-            sym (trees.links_gone move (name b) old there other alike empty shut_and_nameless.0 k
-            (λ e. let both : None ≡ Some f = sym loses.gone.header ∙ ap m1.header (sym e) ∙ at in
-            absurd (cc)))
-            ∙ ap (λ (t : Tree). links t k) (sym gone_after);
-      }
+        ∙ ap (λ (t : Tree). let_go t s.handles old) moved_is)
 
     -- ---- in either case
     module _ {m1 : LogMap} (loses : LosesName s m m1 old h) where
-      loss : IsLoss m1
-      loss = ⊎_elim (λ (keeps : KeepsLink s m m1 old h). stays m1 keeps)
-          (λ (all : LosesAll s m m1 old h). goes m1 all) loses
+      loss : IsLoss lose m1
+      loss = lost lose loses
 
       pub lost_shape : IsShaped m1
       lost_shape = loss.shape
@@ -530,7 +369,7 @@ module _ {N : ℕ} {m : LogMap} {s : State} {a b : List ℕ} {source : Source} {
       pub lost_a : HasHolder m1 da head_a
       lost_a = record {
         number = holder_a.number;
-        there = loss.others da (λ e. apart_first (sym e)) ∙ looks_a.header;
+        there = loss.changed.headers da (λ e. apart_first (sym e)) ∙ looks_a.header;
         kind = holder_a.kind;
         few = few_a;
       }
@@ -538,7 +377,7 @@ module _ {N : ℕ} {m : LogMap} {s : State} {a b : List ℕ} {source : Source} {
       pub lost_b : HasHolder m1 db head_b
       lost_b = record {
         number = holder_b.number;
-        there = loss.others db (λ e. apart_second (sym e)) ∙ looks_b.header;
+        there = loss.changed.headers db (λ e. apart_second (sym e)) ∙ looks_b.header;
         kind = holder_b.kind;
         few = few_b;
       }
@@ -576,7 +415,8 @@ module _ {N : ℕ} {m : LogMap} {s : State} {a b : List ℕ} {source : Source} {
             let none = nothing_at db k in
             let same_now : f.links ≡ links after k = omega (arith, one, two, was, now, none) in
             same_now ∙ loss.links_of k next.0 next.1
+            ∙ ap (λ (t : Tree). links t k) after_is
 
         pub over_moved : IsMoved N m5 s a b da db
         over_moved = moved_by (named_kept over_moving over_named)
-            (named_tree over_moving over_named ∙ loss.tree) over_links
+            (named_tree over_moving over_named ∙ loss.tree ∙ after_is) over_links

@@ -9,7 +9,7 @@ use Rattle.lfs_model.specs.Refusal as refusals
 use Rattle.lfs_model.specs.Refusal.{Refusal}
 use Rattle.lfs_model.specs.Stands.{LogMap}
 use Rattle.lfs_model.specs.Step.{Step, gives_dir, is_long, is_there, last_dots, no_last, target}
-use Rattle.lfs_model.specs.Tree.{Dir, Names, State, names_in, node}
+use Rattle.lfs_model.specs.Tree.{Dir, Names, State, names_in, node, Node, names_of, File, is_dir}
 use Rattle.lfs_model.specs.TreeOf.{node_by}
 use Rattle.lfs_model.specs.Walk.{At, Parent}
 use Rattle.lfs_files.specs.declared.header.Header.{Header}
@@ -30,13 +30,14 @@ use Rattle.lfs_fs.specs.Unlinking.{SeesEntry}
 use Rattle.lfs_fs.specs.Volume.{IsIn, Mounted, Serves, segments_of}
 use Rattle.lfs_fs.proofs.Behaving.{IsOrdinary}
 use Rattle.lfs_fs.proofs.Checks.{below, not_below}
-use Rattle.lfs_fs.proofs.Holding.{headers_of_volume}
+use Rattle.lfs_fs.proofs.Holding.{headers_of_volume, shape_of_volume, map_of_volume}
 use Rattle.lfs_fs.proofs.InDirectories.{size_of_directory}
 use Rattle.lfs_fs.proofs.NameLooks.{only_none}
-use Rattle.lfs_fs.proofs.OldEntries.{entry_is, found_there, gives_directory, gives_plain, is_directory, is_missing, long_is, never, object_node, object_there, rises, says, short_is, still, target_is, there_d, volume, IsRefused, walk_refuses, walk_zero}
+use Rattle.lfs_fs.proofs.OldEntries.{entry_is, found_there, gives_directory, gives_plain, is_directory, is_missing, long_is, never, object_node, object_there, rises, says, short_is, still, target_is, there_d, volume, IsRefused, walk_refuses, walk_zero, small}
 use Rattle.lfs_fs.proofs.ReadingEnds.{failed_serves}
-use Rattle.lfs_fs.proofs.RemovedDirectories.{links_many}
 use Rattle.lfs_fs.proofs.RmdirSteps.{removed, rmdir_done, rmdir_dots, rmdir_full, rmdir_long, rmdir_missing, rmdir_plain, rmdir_root}
+use Rattle.lfs_fs.proofs.RemovedEntries.{IsEntry, links_many}
+use Rattle.std.specs.Prelude.{unwrap_or}
 
 module _ {D : Type 0} (state : D → DeviceState) (lawful : (d : D) → IsLawful (state d))
     (v : Mounted D) (old : Fs D) (path : List ℕ) (d : ℕ) (piece : Option Last)
@@ -162,16 +163,24 @@ module _ {D : Type 0} (state : D → DeviceState) (lawful : (d : D) → IsLawful
             (target_has head n object has.sees has.dir false
             (not_below 0 (length (names_in s.tree n)) (omega (arith, size, none))))
 
+        pub placed : IsEntry (segments_of v) m s path d n head (as_header object)
+        placed = record {
+          map = map_of_volume state v k m0 m s is;
+          shaped = shape_of_volume state v k m0 m s is;
+          walk = walk;
+          gives = entry_is state lawful v old path d piece reached l is_last new only k m0 m s is
+              walk keeps head n has.sees.looks;
+          holder = there_d state lawful v old path d piece reached l is_last new only k m0 m s is
+              walk keeps head n has.sees.looks;
+          few = small state lawful v old path d piece reached l is_last new only k m0 m s is walk
+              keeps head n has.sees.looks;
+          there = object_there state lawful v old path d piece reached l is_last new only k m0 m s
+              is walk keeps head n has.sees.looks object has.sees.there;
+          empty = ap (λ (o : Option Node). names_of (unwrap_or o (File []))) empty_there;
+        }
+
         pub links_there : 3 ≤ head.links
-        links_there =
-            links_many (segments_of v) m s
-            (volume state lawful v old path d piece reached l is_last new only k m0 m s is walk)
-            path d walk n
-            (entry_is state lawful v old path d piece reached l is_last new only k m0 m s is walk
-            keeps head n has.sees.looks)
-            empty_there head
-            (there_d state lawful v old path d piece reached l is_last new only k m0 m s is walk
-            keeps head n has.sees.looks)
+        links_there = links_many placed (ap is_dir empty_there)
 
     -- ---- the call
     refused : (r : Refusal) → IsOrdinary (Refuse r)
