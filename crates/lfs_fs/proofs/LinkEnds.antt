@@ -6,7 +6,6 @@ use Rattle.lfs_model.specs.Call.{Done, LinkTo, Refuse}
 use Rattle.lfs_model.specs.Changing.{IsWithHeader}
 use Rattle.lfs_model.specs.Checkpoint.{CheckpointValue}
 use Rattle.lfs_model.specs.Device.{DeviceState, IsLawful}
-use Rattle.lfs_model.specs.Encodes.{IsLogMap}
 use Rattle.lfs_model.specs.Entry.{Inode}
 use Rattle.lfs_model.specs.Need.{need}
 use Rattle.lfs_model.specs.Objects.{IsDirectory, IsHeaderOf}
@@ -45,18 +44,19 @@ use Rattle.lfs_fs.specs.Naming.{DraftsNone, Reaches, TakesEntry}
 use Rattle.lfs_fs.specs.Refusals.{refusal_of}
 use Rattle.lfs_fs.specs.Seen.{OnlyReads, answer_by, seen}
 use Rattle.lfs_fs.specs.Volume.{IsIn, IsStill, Mounted, Serves, segments_of}
-use Rattle.lfs_fs.proofs.Files.{IsMapOf}
+use Rattle.lfs_fs.proofs.Files.{IsMapOf, IsShaped, need_shaped}
 use Rattle.lfs_fs.proofs.Headers.{directory_grows}
 use Rattle.lfs_fs.proofs.Holding.{headers_of_volume, map_of_volume, shape_of_volume}
 use Rattle.lfs_fs.proofs.InDirectories.{directory_formed, directory_kind}
 use Rattle.lfs_fs.proofs.LinkRefusals.{asks}
 use Rattle.lfs_fs.proofs.LinkSteps.{link_done, link_no_space, linked}
-use Rattle.lfs_fs.proofs.LinkedFiles.{NamesMore, linked_log, linked_map, linked_need, other, some_links}
 use Rattle.lfs_fs.proofs.NewEntrySteps.{IsTaken}
 use Rattle.lfs_fs.proofs.NewRefusals as rule
 use Rattle.lfs_fs.proofs.OldEntries.{dir, looked, says, still}
 use Rattle.lfs_fs.proofs.Told.{fault_serves, memory_serves}
 use Rattle.lfs_fs.proofs.WritingEnds.{still_more, draft_ends, totals_read}
+use Rattle.lfs_fs.proofs.LinkedFiles.{IsLink, linked_shape, linked_tree, linked_map, other, shape_1, some_links}
+use Rattle.lfs_model.proofs.Keeps.{link_keeps}
 
 module _ {D : Type 0} (state : D → DeviceState) (lawful : (d : D) → IsLawful (state d))
     (v : Mounted D) (old mid : Fs D) (a b : List ℕ) (da n : ℕ) (object : Header)
@@ -163,17 +163,23 @@ module _ {D : Type 0} (state : D → DeviceState) (lawful : (d : D) → IsLawful
       staged_n : (staged mid.store.draft.changes m).header n ≡ Some (as_header object)
       staged_n = ap (λ (x : LogMap). x.header n) (same_mid m) ∙ names.there
 
-      staged_map : IsLogMap (staged mid.store.draft.changes m)
-      staged_map = subst IsLogMap (sym (same_mid m)) map.map
-
       with_it : IsWithHeader m n (Some (as_header (relinked object (object.links + 1)))) (between m)
       with_it = header_put m (between m) n (relinked object (object.links + 1))
           (drafts.sets.map m
           ∙ ap (λ (x : LogMap). with_header x n
           (Some (as_header (relinked object (object.links + 1))))) (same_mid m))
 
-      log_between : IsLogMap (between m)
-      log_between = drafts.sets.keeps m staged_map staged_n
+      place : IsLink (segments_of v) m s a b da d n head object
+      place = record {
+        map = map;
+        shaped = shape_of_volume state v k m0 m s is;
+        names = names;
+        few = fits_n.most;
+        walk = walk;
+        absent = taken.new;
+        holder = found_d.0;
+        small = takes.room;
+      }
 
       -- and the directory the name
       same_directory : IsDirectory (between m) d (as_header head)
@@ -189,29 +195,22 @@ module _ {D : Type 0} (state : D → DeviceState) (lawful : (d : D) → IsLawful
           (ap (find byte_cmp l.name.now) same_directory.1
           ∙ ap (λ (x : List ℕ). find byte_cmp x (names_at m d head)) (sym piece_is) ∙ found_d.1)
 
-      does : NamesMore m (between m) (staged c m) d head n object (name b)
-      does = record {
-        map = log_between;
-        linked = with_it;
-        writes = subst (λ (x : List ℕ). WritesFile (between m) (staged c m) d head (grown head)
-            head.size (slot_for n x)) (sym piece_is) writes;
-        adds = subst (AddsName (between m) (staged c m) d head n) (sym piece_is) adds;
-      }
+      writes_b : WritesFile (between m) (staged c m) d head (grown head) head.size
+          (slot_for n (name b))
+      writes_b = subst (λ (x : List ℕ). WritesFile (between m) (staged c m) d head (grown head)
+          head.size (slot_for n x)) (sym piece_is) writes
 
-      log_after : IsLogMap (staged c m)
-      log_after = linked_log (segments_of v) m s map a b da n object names d walk taken.new head
-          found_d.0 (between m) (staged c m) takes.room does
+      adds_b : AddsName (between m) (staged c m) d head n (name b)
+      adds_b = subst (AddsName (between m) (staged c m) d head n) (sym piece_is) adds
 
-      apart : n ≢ d
-      apart = other (segments_of v) m s map a b da n object names d walk taken.new head found_d.0
-          (between m) (staged c m) takes.room does
+      shape_after : IsShaped (staged c m)
+      shape_after = linked_shape place with_it writes_b adds_b
 
       -- the draft fits
       linked_fits : FitsBatch m drafts.linked
       linked_fits =
           drafts.sets.fits m (draft_empty mid.store.draft.changes m none_drafted).1 staged_n
-          (some_links (segments_of v) m s map a b da n object names d walk taken.new head found_d.0
-          (between m) (staged c m) takes.room does)
+          (some_links place)
           (ap (λ (x : Loss). is_lost x (Inode n)) none_drafted.loss)
           record { links_few = omega (arith, few); size_fits = fits_n.size }
 
@@ -228,7 +227,7 @@ module _ {D : Type 0} (state : D → DeviceState) (lawful : (d : D) → IsLawful
 
       fits_here : FitsBatch m c
       fits_here = drafts.adds.fits k m0 m in_mid linked_fits record {
-        there = with_it.others d (λ e. apart (sym e)) ∙ found_d.0;
+        there = with_it.others d (λ e. other place (sym e)) ∙ found_d.0;
         apart = subst (λ (x : Loss). IsApart x d) (sym no_loss) (nothing_apart d);
         within = λ none. absurd
             (let both : None ≡ Some (as_header head) = sym none ∙ found_d.0 in cc);
@@ -238,17 +237,17 @@ module _ {D : Type 0} (state : D → DeviceState) (lawful : (d : D) → IsLawful
       -- its totals
       counted_here : IsCounted (staged c m) ready.store.drafted.data_blocks
           ready.store.drafted.meta_blocks
-      counted_here = drafts.recounts k m0 m keeps in_mid log_between log_after
+      counted_here = drafts.recounts k m0 m keeps in_mid (shape_1 place with_it).map
+          shape_after.map
           (drafts.counts m staged_n (subst (λ (x : LogMap). AreTotals x mid.store.drafted)
           (sym (same_mid m)) (totals_read state lawful v old mid reached.still reached.drafted only m
           is.counted)))
 
       -- what the tree needs after it
       needs : need (linked (segments_of v) s a b n d) ≡ need_of ready
-      needs = linked_need (segments_of v) m s map a b da n object names d walk taken.new head
-          found_d.0 (between m) (staged c m) takes.room does
-          totals_of_tree (shape_of_volume state v k m0 m s is) ready.store.drafted.data_blocks
-          ready.store.drafted.meta_blocks counted_here
+      needs = ap need (sym (linked_tree place with_it writes_b adds_b))
+          ∙ (need_shaped totals_of_tree (staged c m) shape_after ready.store.drafted.data_blocks
+          ready.store.drafted.meta_blocks counted_here).0
 
       few_links : links s.tree n < 1000
       few_links =
@@ -276,11 +275,9 @@ module _ {D : Type 0} (state : D → DeviceState) (lawful : (d : D) → IsLawful
 
         after : IsMapOf (segments_of v) (staged c m)
             (with_tree s (linked (segments_of v) s a b n d))
-        after = linked_map (segments_of v) m s map a b da n object names d walk taken.new head
-            found_d.0 (between m) (staged c m) takes.room does
-            (sees.bytes, reached.bytes)
-            taken
-            few_links need_fits
+        after = linked_map place with_it writes_b adds_b
+            (link_keeps (segments_of v) s (with_tree s (linked (segments_of v) s a b n d)) a b Done
+            is.log.sound (sees.bytes, reached.bytes) done)
 
     -- ---- the call
     module _ (new : Fs D) (rest : new.handles ≡ ready.handles) where

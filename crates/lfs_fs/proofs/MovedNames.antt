@@ -195,6 +195,21 @@ module _ {t : Tree} {d form : ℕ} {m m' : Names} {gone come : Option ℕ}
       let all = links_by q ne (node t q) refl in
       omega (arith, now, all))
 
+-- one name more
+pub links_more : (t : Tree) (d n form : ℕ) (ms : Names) (nm : List ℕ) → T (is_sorted nat_cmp t)
+    → node t d ≡ Some (Dir form ms) → T (is_sorted byte_cmp ms) → find byte_cmp nm ms ≡ None
+    → (q : ℕ) → links (with_node t d (Dir form (put byte_cmp nm n ms))) q
+    ≡ links t q + link_of (is_dir (node t n)) d n q
+links_more t d n form ms nm in_order is dir_order absent q =
+    let swapped : IsSwapped t d form ms (put byte_cmp nm n ms) None (Some n) = record {
+      in_order = in_order;
+      is = is;
+      swap = subst (λ (o : Option ℕ). IsSwap ms (put byte_cmp nm n ms) o (Some n)) absent
+          (swap_more nm n ms dir_order);
+    } in
+    let all = links_after swapped q in
+    omega (arith, all)
+
 -- ---- a node that no name gives, and that gives none
 
 same_count : (n : ℕ) (f g : ℕ → Bool) → ((k : ℕ) → k ≢ n → f k ≡ g k) → (ms : Names)
