@@ -1,5 +1,5 @@
 -- A further name that was drafted, as a step of the model.
-use Rattle.std.proofs.Common.{◌≡◌, ◌≢◌, ◌<◌, ◌≤◌, ◌+◌, ◌*◌, ℕ, true, false, List, length, Option, Some, None, Result, refl, sym, ◌∙◌, ap, subst, ⊎_elim, arith}
+use Rattle.std.proofs.Common.{◌≡◌, ◌≢◌, ◌<◌, ◌≤◌, ◌+◌, ◌*◌, ℕ, true, false, List, length, Option, Some, None, Result, refl, sym, ◌∙◌, ap, subst, ⊎_elim, arith, inl, inr}
 use Rattle.std.specs.Prelude.{IfErr, OnOk, max}
 use Rattle.std.specs.FinMap.{find}
 use Rattle.lfs_model.specs.Call.{Done, LinkTo, Refuse}
@@ -53,10 +53,10 @@ use Rattle.lfs_fs.proofs.LinkSteps.{link_done, link_no_space, linked}
 use Rattle.lfs_fs.proofs.NewEntrySteps.{IsTaken}
 use Rattle.lfs_fs.proofs.NewRefusals as rule
 use Rattle.lfs_fs.proofs.OldEntries.{dir, looked, says, still}
-use Rattle.lfs_fs.proofs.Told.{fault_serves, memory_serves}
 use Rattle.lfs_fs.proofs.WritingEnds.{still_more, draft_ends, totals_read}
 use Rattle.lfs_fs.proofs.LinkedFiles.{IsLink, linked_shape, linked_tree, linked_map, other, shape_1, some_links}
 use Rattle.lfs_model.proofs.Keeps.{link_keeps}
+use Rattle.lfs_fs.proofs.ReadingEnds.{none_serves}
 
 module _ {D : Type 0} (state : D → DeviceState) (lawful : (d : D) → IsLawful (state d))
     (v : Mounted D) (old mid : Fs D) (a b : List ℕ) (da n : ℕ) (object : Header)
@@ -82,16 +82,11 @@ module _ {D : Type 0} (state : D → DeviceState) (lawful : (d : D) → IsLawful
     undrafted_ends fault none =
         subst (λ (w : Mounted D). Serves state v w (LinkTo a b) (Refuse (refusal_of fault)))
         (sym same)
-        (⊎_elim
-        (λ memory. subst (λ (e : FsError). Serves state v (seen tried) (LinkTo a b)
-        (Refuse (refusal_of e))) (sym memory)
-        (memory_serves state v (seen tried) (LinkTo a b) (lawful v.log.device) still_tried was
-        refl))
-        (λ failed. subst (λ (e : FsError). Serves state v (seen tried) (LinkTo a b)
-        (Refuse (refusal_of e))) (sym failed.0)
-        (fault_serves state v (seen tried) (LinkTo a b) (lawful v.log.device) still_tried was refl
-        (fault_more state v.log mid.store.log tried.store.log still_mid.reads failed.1)))
-        none)
+        (none_serves state v (seen tried) (LinkTo a b) (lawful v.log.device) still_tried was refl
+        refl fault (⊎_elim inl (λ failed. inr (
+          failed.0,
+          fault_more state v.log mid.store.log tried.store.log still_mid.reads failed.1,
+        )) none))
 
   -- ---- a draft
   module _ (ready : Fs D) (drafted : IsStill state (seen mid) (seen ready))

@@ -1,5 +1,5 @@
 -- A rename that wasn't drafted: memory was refused, or a call of the device failed.
-use Rattle.std.proofs.Common.{◌≡◌, ◌≢◌, ◌⊎◌, ◌<◌, ℕ, Bool, true, false, List, Option, Some, None, refl, sym, ◌∙◌, ap, subst, inl, ⊎_elim, arith}
+use Rattle.std.proofs.Common.{◌≡◌, ◌≢◌, ◌⊎◌, ◌<◌, ℕ, Bool, true, false, List, Option, Some, None, refl, sym, ◌∙◌, ap, subst, inl, ⊎_elim, arith, inr}
 use Rattle.std.specs.FinMap.{find}
 use Rattle.lfs_model.specs.Call.{Refuse, Rename}
 use Rattle.lfs_model.specs.Checkpoint.{CheckpointValue}
@@ -31,13 +31,12 @@ use Rattle.lfs_fs.specs.Seen.{OnlyReads, seen}
 use Rattle.lfs_fs.specs.Volume.{IsIn, IsStill, Mounted, Serves}
 use Rattle.lfs_fs.proofs.DraftedNames.{first_there, second_there}
 use Rattle.lfs_fs.proofs.KeptMaps.{holder_directory}
-use Rattle.lfs_fs.proofs.ReadingEnds.{failed_serves}
 use Rattle.lfs_fs.proofs.RenamedFiles.{holder_a, holder_b, looks_o, shaped, other}
-use Rattle.lfs_fs.proofs.Told.{memory_serves}
 use Rattle.lfs_fs.proofs.WritingEnds.{still_more}
 use Rattle.lfs_fs.proofs.RenamedDrafts.{StartsRename, holds_mid, holds_old, behind, moving}
 use Rattle.lfs_fs.proofs.MovedMaps.{cut, takes as gone, second_directory}
 use Rattle.lfs_fs.proofs.RenameRefusals.{starts as checked_starts}
+use Rattle.lfs_fs.proofs.ReadingEnds.{fails_serves}
 
 -- ---- blocks where directories have other links
 
@@ -179,44 +178,43 @@ module _ {D : Type 0} (state : D → DeviceState) (lawful : (d : D) → IsLawful
         → (state mid.store.log.device).keeps_model
     kept_mid keeps = same.reads.looks.carries.kept_before keeps
 
-    no_memory : (fault : FsError) → fault ≡ error.NoMemory
+    fails_by : (fault : FsError)
+        → (fault ≡ error.NoMemory) ⊎ ((fault ≡ error.Device) × ((k : CheckpointValue)
+        (m0 m : LogMap) (s : State) → (state failed.store.log.device).keeps_model
+        → IsIn state v k m0 m s
+        → (state v.log.device).failures < (state failed.store.log.device).failures))
         → Serves state v (seen failed) (Rename a b) (Refuse (refusal_of fault))
-    no_memory fault is = subst
-        (λ (e : FsError). Serves state v (seen failed) (Rename a b) (Refuse (refusal_of e)))
-        (sym is)
-        (memory_serves state v (seen failed) (Rename a b) (lawful v.log.device) still_failed was
-        refl)
-
-    no_answer : (fault : FsError) → fault ≡ error.Device
-        → ((k : CheckpointValue) (m0 m : LogMap) (s : State)
-        → (state failed.store.log.device).keeps_model → IsIn state v k m0 m s
-        → (state v.log.device).failures < (state failed.store.log.device).failures)
-        → Serves state v (seen failed) (Rename a b) (Refuse (refusal_of fault))
-    no_answer fault is rises = subst
-        (λ (e : FsError). Serves state v (seen failed) (Rename a b) (Refuse (refusal_of e)))
-        (sym is)
-        (failed_serves state v (seen failed) (Rename a b) (lawful v.log.device) still_failed was
-        refl rises)
+    fails_by = fails_serves state v (seen failed) (Rename a b) (lawful v.log.device) still_failed was
+        refl refl
 
     undrafted : (fault : FsError) → FailsMove state mid failed source target fault
         → Serves state v (seen failed) (Rename a b) (Refuse (refusal_of fault))
-    undrafted fault (of_memory is) = no_memory fault is
-    undrafted fault (of_drop none) = ⊎_elim (no_memory fault)
-        (λ device. no_answer fault device.0 (λ k m0 m s keeps is. (
-        let rose = device.1 k m0 m keeps
-        (held_still state v.log mid.store.log k m0 m now.reads is.stores.holds) in
-        let low = now.reads.looks.carries.failures in
-        omega (arith, rose, low))))
-        none
-    undrafted fault (of_take linked links fails) = ⊎_elim (no_memory fault)
-        (λ device. no_answer fault device.0 (λ k m0 m s keeps is.
-        take_rises (starts k m0 m s (kept_mid keeps) is) links failed keeps device.1))
-        fails
-    undrafted fault (of_name taken takes next fails) = ⊎_elim (no_memory fault)
-        (λ device. no_answer fault device.0 (λ k m0 m s keeps is.
-        name_rises (starts k m0 m s (kept_mid keeps) is) takes
-        (next.reads.looks.carries.kept_before keeps) failed keeps device.1))
-        fails
+    undrafted fault (of_memory is) = fails_by fault (inl is)
+    undrafted fault (of_drop none) = fails_by fault (⊎_elim inl
+        (λ device. inr (
+          device.0,
+          λ k m0 m s keeps is. (
+              let rose = device.1 k m0 m keeps
+              (held_still state v.log mid.store.log k m0 m now.reads is.stores.holds) in
+              let low = now.reads.looks.carries.failures in
+              omega (arith, rose, low)),
+        ))
+        none)
+    undrafted fault (of_take linked links fails) = fails_by fault (⊎_elim inl
+        (λ device. inr (
+          device.0,
+          λ k m0 m s keeps is.
+              take_rises (starts k m0 m s (kept_mid keeps) is) links failed keeps device.1,
+        ))
+        fails)
+    undrafted fault (of_name taken takes next fails) = fails_by fault (⊎_elim inl
+        (λ device. inr (
+          device.0,
+          λ k m0 m s keeps is.
+              name_rises (starts k m0 m s (kept_mid keeps) is) takes
+              (next.reads.looks.carries.kept_before keeps) failed keeps device.1,
+        ))
+        fails)
 
   -- nothing was drafted
   pub move_undrafted : (new : Fs D) (fault : FsError)

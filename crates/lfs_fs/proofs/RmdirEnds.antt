@@ -45,10 +45,8 @@ use Rattle.lfs_fs.proofs.Headers.{directory_shrinks, links_fit}
 use Rattle.lfs_fs.proofs.Holding.{headers_of_volume, map_of_volume}
 use Rattle.lfs_fs.proofs.InDirectories.{slot_in_directory}
 use Rattle.lfs_fs.proofs.OldEntries.{found_d, says}
-use Rattle.lfs_fs.proofs.ReadingEnds.{failed_serves}
 use Rattle.lfs_fs.proofs.RmdirRefusals as checked
 use Rattle.lfs_fs.proofs.RmdirSteps.{removed}
-use Rattle.lfs_fs.proofs.Told.{memory_serves}
 use Rattle.lfs_fs.proofs.WritingEnds.{still_more, draft_ends, totals_read}
 use Rattle.lfs_fs.proofs.RemovedEntries.{IsEntry, apart, dir, holder_is, links_many, loss, shape_2, holder_2, removed_map, removed_shape}
 use Rattle.lfs_fs.proofs.LostNames.{LosesName}
@@ -56,6 +54,7 @@ use Rattle.lfs_fs.proofs.MovedDrafts.{all_lost, links_set}
 use Rattle.lfs_fs.proofs.MovedMaps.{Relinks}
 use Rattle.lfs_fs.proofs.KeptMaps.{HasHolder, holder_directory}
 use Rattle.lfs_model.proofs.KeepsNames.{rmdir_keeps}
+use Rattle.lfs_fs.proofs.ReadingEnds.{fails_serves}
 
 module _ {D : Type 0} (state : D → DeviceState) (lawful : (d : D) → IsLawful (state d))
     (v : Mounted D) (old mid : Fs D) (path : List ℕ) (d : ℕ) (piece : Option Last)
@@ -125,25 +124,19 @@ module _ {D : Type 0} (state : D → DeviceState) (lawful : (d : D) → IsLawful
   rmdir_undrafted ready still new same fault fails =
       subst (λ (w : Mounted D). Serves state v w (Rmdir path) (Refuse (refusal_of fault)))
       (sym same)
-      (⊎_elim
-      (λ (memory : fault ≡ error.NoMemory).
-      subst (λ (e : FsError). Serves state v (seen ready) (Rmdir path) (Refuse (refusal_of e)))
-      (sym memory)
-      (memory_serves state v (seen ready) (Rmdir path) (lawful v.log.device) still_ready was refl))
-      (λ failed.
-      subst (λ (e : FsError). Serves state v (seen ready) (Rmdir path) (Refuse (refusal_of e)))
-      (sym failed.0)
-      (failed_serves state v (seen ready) (Rmdir path) (lawful v.log.device) still_ready was refl
-      (λ k m0 m s keeps is. (
-      let kept = still.reads.looks.carries.kept_before keeps in
-      let there : find byte_cmp last.name.now (names_at m d head) ≡ Some n =
-      subst (λ (x : List ℕ). find byte_cmp x (names_at m d head) ≡ Some n)
-      (piece_is kept k m0 m s is) (found kept k m0 m s is) in
-      let rose = failed.1 k m0 m keeps (in_mid kept k m0 m s is) (formed_d kept k m0 m s is)
-      (λ none. let at = there in cc) (apart (placed kept k m0 m s is)) in
-      let before = still_mid.reads.looks.carries.failures in
-      omega (arith, rose, before)))))
-      fails)
+      (fails_serves state v (seen ready) (Rmdir path) (lawful v.log.device) still_ready was refl refl
+      fault (⊎_elim inl (λ failed. inr (
+        failed.0,
+        λ k m0 m s keeps is. (
+            let kept = still.reads.looks.carries.kept_before keeps in
+            let there : find byte_cmp last.name.now (names_at m d head) ≡ Some n =
+            subst (λ (x : List ℕ). find byte_cmp x (names_at m d head) ≡ Some n)
+            (piece_is kept k m0 m s is) (found kept k m0 m s is) in
+            let rose = failed.1 k m0 m keeps (in_mid kept k m0 m s is) (formed_d kept k m0 m s is)
+            (λ none. let at = there in cc) (apart (placed kept k m0 m s is)) in
+            let before = still_mid.reads.looks.carries.failures in
+            omega (arith, rose, before)),
+      )) fails))
     where
       still_ready : IsStill state v (seen ready)
       still_ready = still_more state lawful v (seen mid) (seen ready) still_mid still
