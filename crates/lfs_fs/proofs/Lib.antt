@@ -56,7 +56,6 @@ mod RenameRefusals
 mod DraftedNames
 mod RenameFails
 mod RenameFits
-mod RenameEnds
 mod RenameAnswers
 mod RenameSteps
 mod RenameViews

@@ -1,9 +1,8 @@
 -- A rename that wasn't drafted: memory was refused, or a call of the device failed.
-use Rattle.std.proofs.Common.{◌≡◌, ◌≢◌, ◌⊎◌, ◌<◌, ℕ, Bool, true, false, List, Option, Some, None, refl, sym, ◌∙◌, ap, subst, inl, ⊎_elim, arith, inr}
+use Rattle.std.proofs.Common.{◌≡◌, ◌≢◌, ◌⊎◌, ◌<◌, ℕ, Bool, true, false, List, Option, Some, None, refl, sym, ◌∙◌, ap, inl, ⊎_elim, arith}
 use Rattle.std.specs.FinMap.{find}
-use Rattle.lfs_model.specs.Call.{Refuse, Rename}
 use Rattle.lfs_model.specs.Checkpoint.{CheckpointValue}
-use Rattle.lfs_model.specs.Device.{DeviceState, IsLawful}
+use Rattle.lfs_model.specs.Device.{DeviceState}
 use Rattle.lfs_model.specs.Objects.{IsDirectory}
 use Rattle.lfs_model.specs.Stands.{LogMap}
 use Rattle.lfs_model.specs.Step.{name}
@@ -16,27 +15,19 @@ use Rattle.lfs_store.specs.memory.Present.{as_header}
 use Rattle.lfs_store.specs.Making.{relinked}
 use Rattle.lfs_store.proofs.LogReads.{held_still}
 use Rattle.lfs_store.proofs.Writings.{header_put}
-use Rattle.lfs_path.specs.declared.last.Last.{Last}
 use Rattle.lfs_path.specs.dirs.Directory.{names_at}
-use Rattle.lfs_path.specs.Pieces.{is_dots}
-use Rattle.lfs_fs.specs.declared.error.FsError.{FsError}
 use Rattle.lfs_fs.specs.declared.error.FsError.TheVariants as error
 use Rattle.lfs_fs.specs.declared.fs.Fs.{Fs}
 use Rattle.lfs_fs.specs.declared.moving.Object.{Object}
 use Rattle.lfs_fs.specs.declared.moving.Source.{Source}
 use Rattle.lfs_fs.specs.declared.moving.Target.{Target}
-use Rattle.lfs_fs.specs.Refusals.{refusal_of}
-use Rattle.lfs_fs.specs.Renaming.{ChecksRename, DraftsLinks, DraftsTake, FailsMove, GivesUpMove, HasNamed, InLog, ReachesBoth, RelinksWhere, Rises, fewer_links, first_holder, gains_directory, loses_directory, more_links, of_drop, of_memory, of_name, of_take, second_holder}
-use Rattle.lfs_fs.specs.Seen.{OnlyReads, seen}
-use Rattle.lfs_fs.specs.Volume.{IsIn, IsStill, Mounted, Serves}
+use Rattle.lfs_fs.specs.Renaming.{DraftsLinks, DraftsTake, HasNamed, InLog, RelinksWhere, Rises, fewer_links, first_holder, gains_directory, loses_directory, more_links, second_holder}
+use Rattle.lfs_fs.specs.Volume.{Mounted}
 use Rattle.lfs_fs.proofs.DraftedNames.{first_there, second_there}
 use Rattle.lfs_fs.proofs.KeptMaps.{holder_directory}
 use Rattle.lfs_fs.proofs.RenamedFiles.{holder_a, holder_b, looks_o, shaped, other}
-use Rattle.lfs_fs.proofs.WritingEnds.{still_more}
 use Rattle.lfs_fs.proofs.RenamedDrafts.{StartsRename, holds_mid, holds_old, behind, moving}
 use Rattle.lfs_fs.proofs.MovedMaps.{cut, takes as gone, second_directory}
-use Rattle.lfs_fs.proofs.RenameRefusals.{starts as checked_starts}
-use Rattle.lfs_fs.proofs.ReadingEnds.{fails_serves}
 
 -- ---- blocks where directories have other links
 
@@ -91,7 +82,7 @@ module _ {D : Type 0} {state : D → DeviceState} {v : Mounted D} {old : Fs D} {
         (λ i. blocks_3 da i (inl refl)) dir_first g.looks_a.gives
 
     -- the first name couldn't be taken out
-    take_rises : (failed : Fs D) → (state failed.store.log.device).keeps_model
+    pub take_rises : (failed : Fs D) → (state failed.store.log.device).keeps_model
         → InLog state mid failed (λ x. IsDirectory x da (as_header (first_holder source dest))
         → find byte_cmp source.name.now (names_at x da (first_holder source dest)) ≢ None
         → Rises state mid failed)
@@ -130,7 +121,7 @@ module _ {D : Type 0} {state : D → DeviceState} {v : Mounted D} {old : Fs D} {
         cc)
 
     -- the second couldn't give the object
-    name_rises : (failed : Fs D) → (state failed.store.log.device).keeps_model
+    pub name_rises : (failed : Fs D) → (state failed.store.log.device).keeps_model
         → InLog state taken failed
         (λ x. IsDirectory x db (as_header (second_holder source dest))
         → HasNamed state dest.replaced x db (second_holder source dest) dest.name.now
@@ -146,81 +137,3 @@ module _ {D : Type 0} {state : D → DeviceState} {v : Mounted D} {old : Fs D} {
         let third = takes.links.next.reads.looks.carries.failures in
         let fourth = takes.still.reads.looks.carries.failures in
         omega (arith, rose, first, second, third, fourth)
-
--- ---- the call
-
-module _ {D : Type 0} (state : D → DeviceState) (lawful : (d : D) → IsLawful (state d))
-    (v : Mounted D) (old : Fs D) (a : List ℕ) (da : ℕ) (from : Option Last) (b chain : List ℕ)
-    (to : Option Last) (reached : ReachesBoth state v old a da from b chain to)
-    (running : old.store.log.halted ≡ false) (l : Last) (is_from : from ≡ Some l) (o : Last)
-    (is_to : to ≡ Some o) (plain : is_dots l.name.now ≡ false)
-    (other_plain : is_dots o.name.now ≡ false) (mid : Fs D) (only : OnlyReads state old mid)
-    (source : Source) (target : Target)
-    (checks : ChecksRename state old mid da l.name.now l.slash chain o.name.now o.slash source
-    target) where
-  now : IsStill state v (seen mid)
-  now = still_more state lawful v (seen old) (seen mid) reached.still only.still
-
-  starts : (k : CheckpointValue) (m0 m : LogMap) (s : State)
-      → (state mid.store.log.device).keeps_model → IsIn state v k m0 m s
-      → StartsRename state v mid k m0 m s a b source target
-  starts = checked_starts state lawful v old a da from b chain to reached running l is_from o is_to
-      plain other_plain mid only source target checks
-
-  module _ (failed : Fs D) (same : IsStill state (seen mid) (seen failed)) where
-    still_failed : IsStill state v (seen failed)
-    still_failed = still_more state lawful v (seen mid) (seen failed) now same
-
-    was : v.log.halted ≡ false
-    was = sym reached.still.reads.halted ∙ running
-
-    kept_mid : (state failed.store.log.device).keeps_model
-        → (state mid.store.log.device).keeps_model
-    kept_mid keeps = same.reads.looks.carries.kept_before keeps
-
-    fails_by : (fault : FsError)
-        → (fault ≡ error.NoMemory) ⊎ ((fault ≡ error.Device) × ((k : CheckpointValue)
-        (m0 m : LogMap) (s : State) → (state failed.store.log.device).keeps_model
-        → IsIn state v k m0 m s
-        → (state v.log.device).failures < (state failed.store.log.device).failures))
-        → Serves state v (seen failed) (Rename a b) (Refuse (refusal_of fault))
-    fails_by = fails_serves state v (seen failed) (Rename a b) (lawful v.log.device) still_failed was
-        refl refl
-
-    undrafted : (fault : FsError) → FailsMove state mid failed source target fault
-        → Serves state v (seen failed) (Rename a b) (Refuse (refusal_of fault))
-    undrafted fault (of_memory is) = fails_by fault (inl is)
-    undrafted fault (of_drop none) = fails_by fault (⊎_elim inl
-        (λ device. inr (
-          device.0,
-          λ k m0 m s keeps is. (
-              let rose = device.1 k m0 m keeps
-              (held_still state v.log mid.store.log k m0 m now.reads is.stores.holds) in
-              let low = now.reads.looks.carries.failures in
-              omega (arith, rose, low)),
-        ))
-        none)
-    undrafted fault (of_take linked links fails) = fails_by fault (⊎_elim inl
-        (λ device. inr (
-          device.0,
-          λ k m0 m s keeps is.
-              take_rises (starts k m0 m s (kept_mid keeps) is) links failed keeps device.1,
-        ))
-        fails)
-    undrafted fault (of_name taken takes next fails) = fails_by fault (⊎_elim inl
-        (λ device. inr (
-          device.0,
-          λ k m0 m s keeps is.
-              name_rises (starts k m0 m s (kept_mid keeps) is) takes
-              (next.reads.looks.carries.kept_before keeps) failed keeps device.1,
-        ))
-        fails)
-
-  -- nothing was drafted
-  pub move_undrafted : (new : Fs D) (fault : FsError)
-      → GivesUpMove state mid new source target fault
-      → Serves state v (seen new) (Rename a b) (Refuse (refusal_of fault))
-  move_undrafted new fault gives = subst
-      (λ (x : Mounted D). Serves state v x (Rename a b) (Refuse (refusal_of fault)))
-      (sym gives.same)
-      (undrafted gives.mid gives.still fault gives.fails)
