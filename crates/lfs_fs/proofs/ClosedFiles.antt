@@ -1,5 +1,5 @@
 -- A handle that is closed, in a volume's log map: the file stays, or goes with its last handle.
-use Rattle.std.proofs.Common.{◌≡◌, ◌≢◌, ◌&&◌, ◌+◌, ℕ, false, Option, Some, None, sym, ◌∙◌, ap, ⊎_elim, arith, []}
+use Rattle.std.proofs.Common.{◌≡◌, ◌≢◌, ◌&&◌, ℕ, false, Option, Some, None, sym, ◌∙◌, ap, arith, []}
 use Rattle.std.specs.Prelude.{◌==◌, unwrap_or}
 use Rattle.std.specs.Ordering.{nat_cmp}
 use Rattle.std.specs.FinMap.{find}

@@ -1,8 +1,8 @@
 -- A further name of a file or a link, from the log map before the call to the state after it.
-use Rattle.std.proofs.Common.{◌≡◌, ◌≢◌, ◌<◌, ◌≤◌, ◌+◌, ◌∙◌, ℕ, Bool, true, false, List, None, Some, refl, sym, ap, subst, arith}
+use Rattle.std.proofs.Common.{◌≡◌, ◌≢◌, ◌<◌, ◌≤◌, ◌+◌, ◌∙◌, ℕ, Bool, true, false, List, Some, refl, sym, ap, subst, arith}
 use Rattle.lfs_model.specs.Entry as entry
 use Rattle.lfs_model.specs.Stands.{LogMap}
-use Rattle.lfs_model.specs.Tree.{State, Dir, Tree, byte_cmp, entry as entry_in, form_of, is_dir, links, names_in, node, with_name}
+use Rattle.lfs_model.specs.Tree.{State, Dir, Tree, entry as entry_in, form_of, is_dir, links, names_in, node, with_name}
 use Rattle.lfs_fs.proofs.Files.{IsMapOf, IsShaped, dir_there}
 use Rattle.lfs_fs.specs.HardLinks.{NamesObject}
 use Rattle.lfs_model.specs.Walk.{Parent, At}

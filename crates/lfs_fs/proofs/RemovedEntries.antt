@@ -1,5 +1,5 @@
 -- A name that goes with one link of what it gave, from the log map to the state after the call.
-use Rattle.std.proofs.Common.{◌≡◌, ◌≢◌, ◌≤◌, ◌+◌, ◌∙◌, ℕ, Bool, true, false, List, [], Option, Some, None, refl, sym, ap, subst, ⊎_elim, arith, not}
+use Rattle.std.proofs.Common.{◌≡◌, ◌≢◌, ◌≤◌, ◌+◌, ◌∙◌, ℕ, Bool, true, false, List, [], Option, Some, None, refl, sym, ap, subst, arith, not}
 use Rattle.lfs_model.specs.Entry as entry
 use Rattle.lfs_fs.proofs.MovedNames as trees
 use Rattle.std.specs.Prelude.{◌==◌, unwrap_or, T}

@@ -1,5 +1,5 @@
 -- What a rename answers, once both names were found.
-use Rattle.std.proofs.Common.{◌≡◌, ◌<◌, ◌≤◌, ◌^◌, ℕ, true, false, List, Option, Some, Result, Ok, Err, sym, subst, ⊎_elim, arith, ◌*◌, refl, ◌∙◌, ap, ◌≢◌, ◌⊎◌, inl, inr}
+use Rattle.std.proofs.Common.{◌≡◌, ◌<◌, ◌≤◌, ◌^◌, ℕ, true, false, List, Option, Some, Result, Ok, Err, sym, subst, ⊎_elim, arith, ◌*◌, refl, ◌∙◌, ap, ◌⊎◌, inl, inr}
 use Rattle.std.specs.Prelude.{IfErr, OnErr, OnOk}
 use Rattle.lfs_model.specs.Call.{Done, Refuse, Rename}
 use Rattle.lfs_model.specs.Device.{DeviceState, IsLawful}

@@ -6,12 +6,11 @@
 -- first name goes (`MovedMaps.DraftsMove`). The second then gives the object (`DraftsName`, or
 -- `DraftsOver` where it gave another). `free_moved` and `over_moved` say that m5 is the log map of
 -- the state after the call, whether there is room for it or not.
-use Rattle.std.proofs.Common.{length, ◌≡◌, ◌≢◌, ◌⊎◌, ◌≤◌, ◌+◌, ◌-◌, ◌&&◌, not, ℕ, Bool, true, false, List, [], Option, Some, None, refl, sym, ◌∙◌, ap, ⊎_elim, arith, ◌∷◌, ◌<◌, subst, ◌||◌}
+use Rattle.std.proofs.Common.{length, ◌≡◌, ◌≢◌, ◌≤◌, ◌+◌, ◌-◌, ◌&&◌, not, ℕ, Bool, true, false, List, [], Option, Some, None, refl, sym, ◌∙◌, ap, arith, ◌∷◌, ◌<◌, subst, ◌||◌}
 use Rattle.std.specs.Prelude.{nat_lt, T, ◌==◌, if◌then◌else◌, is_some, unwrap_or, is_none}
 use Rattle.std.proofs.lemmas.Bool.{eq-eqb}
 use Rattle.std.proofs.lemmas.Bool.Decides.{nat_tests}
 use Rattle.std.specs.FinMap.{is_sorted}
-use Rattle.lfs_model.specs.declared.Kind.TheVariants as kind
 use Rattle.lfs_model.specs.Call.{AreArguments, Done, Rename}
 use Rattle.lfs_model.specs.Entry as entry
 use Rattle.lfs_model.specs.Objects.{one_if, IsHeaderOf}
