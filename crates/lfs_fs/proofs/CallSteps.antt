@@ -103,18 +103,27 @@ module _ (N : ℕ) (m : LogMap) (s : State) (is : IsMapOf N m s) where
         needs : need (written N s h at w) ≡ blocks + 7 * others + 720
         needs = written_need N m m' s h n is opens head there at w writes end totals shaped blocks others counted
 
-        pub pwrite_full : 47 * N < blocks + 7 * others + 720 → Step N s (Pwrite h at w) (Refuse NoSpace) s
+        pwrite_full : 47 * N < blocks + 7 * others + 720 → Step N s (Pwrite h at w) (Refuse NoSpace) s
         pwrite_full lacks = write_no_space N s h at w n opens few some end (let same = needs in omega (arith, same, lacks))
 
         module _ (room : blocks + 7 * others + 720 ≤ 47 * N) where
           fits_in : need (written N s h at w) ≤ 47 * N
           fits_in = let same = needs in omega (arith, same, room)
 
-          pub pwrite_step : Step N s (Pwrite h at w) (Count (length w)) (with_tree s (written N s h at w))
+          pwrite_step : Step N s (Pwrite h at w) (Count (length w)) (with_tree s (written N s h at w))
           pwrite_step = write_done N s h at w n opens few some end fits_in
 
-          pub pwrite_map : AreBytes w → IsMapOf N m' (with_tree s (written N s h at w))
+          pwrite_map : AreBytes w → IsMapOf N m' (with_tree s (written N s h at w))
           pwrite_map bytes = written_map N m m' s h n is opens head there at w writes end bytes fits_in
+
+        -- with room it is done, and without refused
+        pub pwrite_ends : (47 * N < blocks + 7 * others + 720
+            → Step N s (Pwrite h at w) (Refuse NoSpace) s)
+            × (blocks + 7 * others + 720 ≤ 47 * N
+            → Step N s (Pwrite h at w) (Count (length w)) (with_tree s (written N s h at w)))
+            × (AreBytes w → blocks + 7 * others + 720 ≤ 47 * N
+            → IsMapOf N m' (with_tree s (written N s h at w)))
+        pwrite_ends = (pwrite_full, pwrite_step, λ bytes room. pwrite_map room bytes)
 
       -- a new entry
       module _ (version : s.version ≡ 1) (p : List ℕ) (d : ℕ) (walk : Parent s.tree p (At d)) (m1 : LogMap) (n : ℕ) (first : least s.tree ≡ n) (top : n ≤ 4095) (new : is_there s.tree d p ≡ false)
@@ -126,15 +135,22 @@ module _ (N : ℕ) (m : LogMap) (s : State) (is : IsMapOf N m s) where
         number : least s.tree ≤ 4095
         number = omega (arith, first, top)
 
-        pub entry_full : 47 * N < blocks + 7 * others + 720 → Step N s call (Refuse NoSpace) s
+        entry_full : 47 * N < blocks + 7 * others + 720 → Step N s call (Refuse NoSpace) s
         entry_full lacks = new_no_space N s p d call k is_mkdir e named short new plain space allowed number (let same = needs_entry in omega (arith, same, lacks))
 
         module _ (room : blocks + 7 * others + 720 ≤ 47 * N) where
           entry_fits : need (with_new s.tree d p (new_node k)) ≤ 47 * N
           entry_fits = let same = needs_entry in omega (arith, same, room)
 
-          pub entry_step : Step N s call e.answer (with_entry N s p d call k is_mkdir e)
+          entry_step : Step N s call e.answer (with_entry N s p d call k is_mkdir e)
           entry_step = new_done N s p d call k is_mkdir e named short new plain space allowed number entry_fits
 
-          pub entry_map : AreArguments call → IsMapOf N m' (with_entry N s p d call k is_mkdir e)
+          entry_map : AreArguments call → IsMapOf N m' (with_entry N s p d call k is_mkdir e)
           entry_map arguments = created_map N m m1 m' s is version p d walk n first top new k head size at w does call is_mkdir e arguments named short plain space allowed entry_fits
+
+        pub entry_ends : (47 * N < blocks + 7 * others + 720 → Step N s call (Refuse NoSpace) s)
+            × (blocks + 7 * others + 720 ≤ 47 * N
+            → Step N s call e.answer (with_entry N s p d call k is_mkdir e))
+            × (AreArguments call → blocks + 7 * others + 720 ≤ 47 * N
+            → IsMapOf N m' (with_entry N s p d call k is_mkdir e))
+        entry_ends = (entry_full, entry_step, λ arguments room. entry_map room arguments)

@@ -47,7 +47,7 @@ use Rattle.lfs_fs.proofs.ClosedFiles.{closed_map, gone_map, names_by}
 use Rattle.lfs_fs.proofs.ClosingSteps.{close_bad_handle, close_goes, close_stays, closed, fsync_bad_handle, fsync_done, named_stays, open_stays, rest}
 use Rattle.lfs_fs.proofs.Ending.{runs_on}
 use Rattle.lfs_fs.proofs.Files.{IsMapOf}
-use Rattle.lfs_fs.proofs.Holding.{map_of_volume}
+use Rattle.lfs_fs.proofs.Holding.{map_of_volume, shape_of_volume}
 use Rattle.lfs_fs.proofs.ReadingEnds.{header_there}
 use Rattle.lfs_fs.proofs.Serving.{point_of}
 use Rattle.lfs_fs.proofs.Turning.{quiet, table_serves}
@@ -256,7 +256,8 @@ module _ {D : Type 0} (state : D → DeviceState) (lawful : (d : D) → IsLawful
             let header = there k m0 m p.state keeps is in
             let no_name : names p.state.tree n ≡ 0 = names_by (segments_of old) m p.state map h n open_is header.0 header.1 ∙ header.2 ∙ nameless in
             let no_other : opened (rest (segments_of old) p.state h) n ≡ 0 = ap (λ hs. opened (without nat_cmp h hs) n) is.handles ∙ shut in
-            let next_map = gone_map (segments_of old) m p.state map h n open_is no_name no_other in
+            let next_map = gone_map (segments_of old) m p.state map h n open_is no_name no_other
+            (shape_of_volume state old k m0 m p.state is) in
             let hidden : is_nameless m n ≡ true = ap is_unlinked header.1 ∙ eq-eqb header.0.links 0 (header.2 ∙ nameless) in
             record {
               next = closed (segments_of old) p.state h (without nat_cmp n p.state.tree);

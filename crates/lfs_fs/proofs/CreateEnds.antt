@@ -2,16 +2,11 @@
 use Rattle.std.proofs.Common.{◌≡◌, ℕ, suc, false, List, [], ◌∷◌, slice_index_or, Fits, w8, Option, Some, refl, sym, ◌∙◌, ap, subst, arith}
 use Rattle.lfs_model.specs.Call.{Refuse, Symlink}
 use Rattle.lfs_model.specs.Bytes.{AreBytes}
-use Rattle.lfs_model.specs.Checkpoint.{CheckpointValue}
 use Rattle.lfs_model.specs.Device.{DeviceState, IsLawful}
 use Rattle.lfs_model.specs.PathText.{text_refusal}
 use Rattle.lfs_model.specs.Refusal.{Refusal}
-use Rattle.lfs_model.specs.Stands.{LogMap}
-use Rattle.lfs_model.specs.Tree.{State, Tree}
-use Rattle.lfs_model.specs.TreeOf.{tree_in}
 use Rattle.lfs_model.specs.Walk.{At}
 use Rattle.lfs_store.specs.memory.Batch.{IsNoChange}
-use Rattle.lfs_store.proofs.of_log.Volumes.{holds_one}
 use Rattle.lfs_store.specs.log.Held.{Reads}
 use Rattle.lfs_store.specs.declared.draft.Draft.{Draft}
 use Rattle.lfs_store.specs.declared.store.Store.{Store}
@@ -23,8 +18,7 @@ use Rattle.lfs_fs.specs.Drafted.{WalksTo}
 use Rattle.lfs_fs.specs.declared.fs.Fs.{Fs}
 use Rattle.lfs_fs.specs.Naming.{Reaches}
 use Rattle.lfs_fs.specs.Seen.{Begins, seen}
-use Rattle.lfs_fs.specs.Volume.{IsIn, IsStill, Mounted, Serves, segments_of}
-use Rattle.lfs_fs.proofs.Accepted.{InEach, OfEach}
+use Rattle.lfs_fs.specs.Volume.{IsStill, Mounted, Serves, segments_of}
 use Rattle.lfs_fs.proofs.NameLooks.{only_none}
 use Rattle.lfs_fs.proofs.NamingEnds.{still_read, was_running}
 use Rattle.lfs_fs.proofs.PathSteps.{symlink_bad_text, text_ordinary}
@@ -41,20 +35,6 @@ module _ {D : Type 0} (state : D → DeviceState) where
     others = two.others ∙ one.others;
     table = two.table ∙ one.table;
   }
-
-  -- a volume is in one state alone, by one log map
-  module _ (v : Mounted D) (k : CheckpointValue) (m0 m : LogMap) (s : State) (is : IsIn state v k m0 m s) where
-    pub of_each : (P : LogMap → Type 0) → P m → OfEach state v P
-    of_each P p k' m0' m' keeps holds = subst P ((holds_one state v.log).present k k' m0 m m0' m' is.stores.holds holds) p
-
-    pub in_each : (P : LogMap → State → Type 0) → P m s → InEach state v P
-    in_each P p k' m0' m' s' keeps is' =
-        let same = (holds_one state v.log).present k k' m0 m m0' m' is.stores.holds is'.stores.holds in
-        let tree : s.tree ≡ s'.tree = is.log.is ∙ ap (λ (x : LogMap). tree_in x) same ∙ sym is'.log.is in
-        let state_same : s ≡ s' =
-        ap (λ (t : Tree). record s { tree = t }) tree ∙ ap (λ h. record { tree = s'.tree; handles = h; version = s.version }) (is.handles ∙ sym is'.handles)
-        ∙ ap (λ (n : ℕ). record { tree = s'.tree; handles = s'.handles; version = n }) (is.version ∙ sym is'.version) in
-        subst (λ (x : State). P m' x) state_same (subst (λ (x : LogMap). P x s) same p)
 
 -- the bytes of a slice are bytes
 pub bytes_of : (b : List ℕ) → ((i : ℕ) → Fits w8 (slice_index_or b i 0)) → AreBytes b

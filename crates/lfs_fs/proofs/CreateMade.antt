@@ -1,5 +1,5 @@
 -- An object drafted under the last piece of a path, from what was read and drafted to the call as a step of the model.
-use Rattle.std.proofs.Common.{◌≡◌, ◌≢◌, ◌<◌, ◌≤◌, ◌+◌, ◌*◌, ◌||◌, ◌&&◌, not, ℕ, Bool, true, false, List, length, Some, None, refl, sym, ◌∙◌, ap, subst, arith}
+use Rattle.std.proofs.Common.{◌≡◌, ◌≢◌, ◌<◌, ◌≤◌, ◌+◌, ◌||◌, ◌&&◌, not, ℕ, Bool, true, false, List, length, Some, None, refl, sym, ◌∙◌, ap, subst, arith}
 use Rattle.std.specs.Prelude.{count_by, max}
 use Rattle.std.specs.FinMap.{find, put}
 use Rattle.lfs_model.specs.declared.Kind.{Kind}
@@ -13,7 +13,6 @@ use Rattle.lfs_model.specs.Entry.{Inode}
 use Rattle.lfs_model.specs.Objects.{IsHeaderOf}
 use Rattle.lfs_model.specs.Stands.{LogMap}
 use Rattle.lfs_model.specs.Step.{is_full, is_long, is_there, last_dots, name, no_last}
-use Rattle.lfs_model.specs.Refusal.{Halted}
 use Rattle.lfs_model.specs.Tree.{State, Tree, byte_cmp, is_dir, least, links, links_at, node}
 use Rattle.lfs_model.specs.Walk.{At, Parent}
 use Rattle.lfs_model.proofs.Keeps.{parent_dir}
@@ -21,7 +20,6 @@ use Rattle.lfs_store.specs.memory.declared.batch.Loss.{Loss}
 use Rattle.lfs_store.specs.memory.declared.batch.Loss.TheVariants.{Nothing}
 use Rattle.lfs_store.specs.memory.declared.changes.Changes.{Changes}
 use Rattle.lfs_files.specs.declared.header.Header.{Header}
-use Rattle.lfs_store.specs.memory.declared.memory.LogMemory.{LogMemory}
 use Rattle.lfs_store.specs.memory.Batch.{is_lost, staged, FitsBatch, IsNoChange}
 use Rattle.lfs_store.specs.memory.Changing.{FitsHeader}
 use Rattle.lfs_store.specs.memory.Present.{as_header}
@@ -44,25 +42,21 @@ use Rattle.lfs_path.specs.Laws.{SaysLast}
 use Rattle.lfs_path.proofs.LastPieces.{last_says}
 use Rattle.lfs_fs.specs.declared.error.FsError.{FsError}
 use Rattle.lfs_fs.specs.declared.fs.Fs.{Fs}
-use Rattle.lfs_fs.specs.Accepting.{StagesDraft, TurnsDown, limit_of, need_of}
+use Rattle.lfs_fs.specs.Accepting.{StagesDraft, TurnsDown}
 use Rattle.lfs_fs.specs.Handles.{handles_of}
 use Rattle.lfs_fs.specs.Naming.{IsDraftedNew, Reaches, RelinksParent, TakesEntry, kind_of_new, more_links}
 use Rattle.lfs_fs.specs.Refusals.{refusal_of}
 use Rattle.lfs_fs.specs.Seen.{OnlyReads, seen}
 use Rattle.lfs_fs.specs.Volume.{Behaves, IsIn, IsStill, Mounted, Serves, segments_of}
-use Rattle.lfs_fs.proofs.Accepted.{DraftsEntry, IsDrafted, entry_serves}
-use Rattle.lfs_fs.proofs.Behaving.{ok_refuses_none}
-use Rattle.lfs_fs.proofs.Created.{NamesNew}
-use Rattle.lfs_fs.proofs.CreateEnds.{of_each}
-use Rattle.lfs_fs.proofs.Declined.{entry_fits}
-use Rattle.lfs_fs.proofs.EntrySteps.{NewCall}
+use Rattle.lfs_fs.proofs.Created.{NamesNew, created_log}
+use Rattle.lfs_fs.proofs.EntrySteps.{NewCall, with_entry}
 use Rattle.lfs_fs.proofs.Files.{IsMapOf, no_header_none}
 use Rattle.lfs_fs.proofs.NewObjects.{IsMade, object_counted, object_fits, object_log, object_loss, object_made}
 use Rattle.lfs_fs.proofs.Headers.{directory_grows}
-use Rattle.lfs_fs.proofs.Holding.{headers_of_volume, map_of_volume}
-use Rattle.lfs_fs.proofs.Lacking.{entry_lacks, entry_worn}
+use Rattle.lfs_fs.proofs.Holding.{headers_of_volume, map_of_volume, shape_of_volume}
 use Rattle.lfs_fs.proofs.InDirectories.{directory_kind, directory_node, free_directory, least_number, linked_directory, linked_names, made_header, names_new, names_there, new_in_directory, short_in_directory}
-use Rattle.lfs_fs.proofs.WritingEnds.{accepts_old, by_fault, low_old, still_more, when_in}
+use Rattle.lfs_fs.proofs.WritingEnds.{still_more, AreDrafts, accepted_serves, with_table, draft_turned, totals_read}
+use Rattle.lfs_fs.proofs.CallSteps.{entry_ends}
 
 -- ---- the links of the directory, as they are drafted
 
@@ -123,10 +117,10 @@ module _ {D : Type 0} (state : D → DeviceState) (lawful : (d : D) → IsLawful
   still_mid : IsStill state v (seen mid)
   still_mid = still_more state lawful v (seen old) (seen mid) reached.still only.still
 
-  still_ready : IsStill state v (seen ready)
+  pub still_ready : IsStill state v (seen ready)
   still_ready = still_more state lawful v (seen mid) (seen ready) still_mid is_ready.still
 
-  was : v.log.halted ≡ false
+  pub was : v.log.halted ≡ false
   was = sym reached.still.reads.halted ∙ running
 
   none_drafted : IsNoChange mid.store.draft.changes
@@ -240,8 +234,8 @@ module _ {D : Type 0} (state : D → DeviceState) (lawful : (d : D) → IsLawful
           few_links kind.Link below = dir_fits.links
 
       -- the draft fits
-      fits_here : IsLogMap m → IsLogMap (staged c m) → FitsBatch m c
-      fits_here log after =
+      fits_here : FitsBatch m c
+      fits_here =
           is_ready.drafts.adds.fits k m0 m in_mid
           (linked_fits is_ready.drafts.between is_ready.drafts.linked d head is_ready.drafts.half (kind_of_new of.kind) is_ready.drafts.relinks m
           (object_fits state mid.store.log ready.store.log mid.store.draft.changes is_ready.drafts.between mid.store.drafted is_ready.drafts.half n k m0 m in_mid none_drafted (same_mid m) is.map vacant.some not_root free (draft_empty mid.store.draft.changes m none_drafted).1 of.kind of.short of.sized is_ready.drafts.object)
@@ -265,71 +259,72 @@ module _ {D : Type 0} (state : D → DeviceState) (lawful : (d : D) → IsLawful
               subst (λ (z : ℕ). FitsHeader head.kind (more_links (kind_of_new of.kind) head.links) z) writes.bytes.size record { links_few = links_fit.links_few; size_fits = larger.size_fits }
 
       -- and its totals are those of its log map
-      counted_here : IsLogMap m → IsLogMap (staged c m) → IsCounted m v.blocks v.others → IsCounted (staged c m) ready.store.drafted.data_blocks ready.store.drafted.meta_blocks
-      counted_here log after counted =
-          let before : AreTotals m old.store.log.totals = record { stored = reached.still.blocks ∙ counted.stored; above = reached.still.others ∙ counted.above } in
-          let totals_mid : AreTotals (staged mid.store.draft.changes m) mid.store.drafted =
-          subst (λ (x : LogMap). AreTotals x mid.store.drafted) (sym (same_mid m)) (subst (λ (t : BlockTotals). AreTotals m t) (sym (only.drafted ∙ reached.drafted)) before) in
+      counted_here : IsLogMap (staged c m)
+          → IsCounted (staged c m) ready.store.drafted.data_blocks ready.store.drafted.meta_blocks
+      counted_here after =
+          let totals_mid : AreTotals (staged mid.store.draft.changes m) mid.store.drafted
+          = subst (λ (x : LogMap). AreTotals x mid.store.drafted) (sym (same_mid m))
+          (totals_read state lawful v old mid reached.still reached.drafted only m is.counted) in
           is_ready.drafts.recounts k m0 m keeps in_mid
           (linked_keeps is_ready.drafts.between is_ready.drafts.linked d head is_ready.drafts.half (kind_of_new of.kind) is_ready.drafts.relinks m (object_log state mid.store.log ready.store.log mid.store.draft.changes is_ready.drafts.between mid.store.drafted is_ready.drafts.half n k m0 m in_mid none_drafted (same_mid m) is.map vacant.some not_root free keeps of.kind of.short is_ready.drafts.object) there_1) after
           (linked_counts is_ready.drafts.between is_ready.drafts.linked d head is_ready.drafts.half (kind_of_new of.kind) is_ready.drafts.relinks m there_1 (object_counted state mid.store.log ready.store.log mid.store.draft.changes is_ready.drafts.between mid.store.drafted is_ready.drafts.half n k m0 m in_mid none_drafted (same_mid m) is.map vacant.some not_root free keeps of.kind of.short is_ready.drafts.object totals_mid))
 
-      drafted : IsDrafted state v c ready.store.drafted.data_blocks ready.store.drafted.meta_blocks
-      drafted = record {
-        fits = of_each state v k m0 m s is (λ x. IsLogMap x → IsLogMap (staged c x) → FitsBatch x c) fits_here;
-        counted = of_each state v k m0 m s is
-            (λ x. IsLogMap x → IsLogMap (staged c x) → IsCounted x v.blocks v.others → IsCounted (staged c x) ready.store.drafted.data_blocks ready.store.drafted.meta_blocks) counted_here;
-      }
-
-    drafts_entry : DraftsEntry state v c path d of n between head (head.size + 64) head.size slot
-    drafts_entry = record {
-      top = (let most = vacant.few in omega (arith, most));
-      named = named;
-      plain = ap (λ (b : Bool). b && not of.is_mkdir) reached.last.1 ∙ takes.plain;
-      walk = λ k m0 m s before is. reached.walk k m0 m s kept_old is;
-      first = λ k m0 m s before is. least_is k m0 m s is;
-      new_name = λ k m0 m s before is. absent k m0 m s is;
-      short = λ k m0 m s before is. short k m0 m s is;
-      space = λ k m0 m s before is. space k m0 m s is;
-      allowed = λ k m0 m s before is walk. allowed k m0 m s kept_mid is walk;
-      does = λ k m0 m s before is. does k m0 m s is;
-    }
-
   -- ---- the calls
-  limit_same : limit_of ready ≡ 47 * segments_of v
-  limit_same = ap (λ (x : LogMemory). 47 * length x.usage.segments) still_ready.reads.memory
+  module _ (new : Fs D) (rest : new.handles ≡ ready.handles) where
+    entry_drafts : AreDrafts state lawful v ready new of.call Done still_ready was rest
+    entry_drafts keeps k m0 m s is =
+        let walk = reached.walk k m0 m s (kept_old keeps) is in
+        let makes = of.makes s is.version walk in
+        let map_here = map keeps k m0 m s is in
+        let first = least_is keeps k m0 m s is in
+        let top : n ≤ 4095 = (let most = vacant.few in omega (arith, most)) in
+        let absent_here = absent keeps k m0 m s is in
+        let does_here = does keeps k m0 m s is in
+        let counted = counted_here keeps k m0 m s is
+        (created_log (segments_of v) m (between m) (staged c m) s map_here is.version path d walk n
+        first top absent_here of.kind head (head.size + 64) head.size slot does_here) in
+        let ends = entry_ends (segments_of v) m s map_here totals_of_tree
+        (shape_of_volume state v k m0 m s is) (staged c m) ready.store.drafted.data_blocks
+        ready.store.drafted.meta_blocks counted is.version path d walk (between m) n first top
+        absent_here of.kind head (head.size + 64) head.size slot does_here of.call of.is_mkdir makes
+        named (short keeps k m0 m s is)
+        (ap (λ (b : Bool). b && not of.is_mkdir) reached.last.1 ∙ takes.plain)
+        (space keeps k m0 m s is) (allowed k m0 m s (kept_mid keeps) is walk) in
+        record {
+          next = with_entry (segments_of v) s path d of.call of.kind of.is_mkdir makes;
+          answer = makes.answer;
+          ok = makes.ok;
+          fits = fits_here keeps k m0 m s is;
+          counted = counted;
+          version = refl;
+          map = ends.2 of.arguments;
+          done = ends.1;
+          lacks = ends.0;
+        }
 
-  -- the draft isn't staged
-  pub turned_serves : (new : Fs D) → new.handles ≡ ready.handles → (fault : FsError) → TurnsDown state ready new fault → Serves state v (seen new) of.call (Refuse (refusal_of fault))
-  turned_serves new rest fault down =
-      by_fault state lawful v ready new of.call Done still_ready was rest of.changing of.uncommitted of.remembering
-      (λ keeps k m0 m s is.
-      entry_fits state v c ready.store.drafted.data_blocks ready.store.drafted.meta_blocks (drafted keeps k m0 m s is) path d of n between head (head.size + 64) head.size slot (drafts_entry keeps))
-      (λ same lacks keeps k m0 m s is.
-      entry_lacks state v (seen new) (lawful v.log.device) same was c ready.store.drafted.data_blocks ready.store.drafted.meta_blocks (drafted keeps k m0 m s is) totals_of_tree
-      path d of n between head (head.size + 64) head.size slot (drafts_entry keeps) (subst (λ (x : ℕ). x < need_of ready) limit_same lacks))
-      (λ same high room keeps k m0 m s is.
-      entry_worn state v (seen new) (lawful v.log.device) same was c ready.store.drafted.data_blocks ready.store.drafted.meta_blocks (drafted keeps k m0 m s is) totals_of_tree
-      path d of n between head (head.size + 64) head.size slot (drafts_entry keeps) high (subst (λ (x : ℕ). need_of ready ≤ x) limit_same room))
-      fault down
+    -- the draft isn't staged
+    pub turned_serves : (fault : FsError) → TurnsDown state ready new fault
+        → Serves state v (seen new) of.call (Refuse (refusal_of fault))
+    turned_serves = draft_turned state lawful v ready new of.call Done still_ready was rest
+        of.changing of.uncommitted of.remembering of.unclean entry_drafts
 
-  -- it is, and the table of open files is this one then
-  module _ (new : Fs D) (rest : new.handles ≡ ready.handles) (stages : StagesDraft state ready new) (table : List ℕ) where
-    abbrev pub with_table : Mounted D
-    with_table = record { log = new.store.log; saved = new.store.saved; blocks = new.store.log.totals.data_blocks; others = new.store.log.totals.meta_blocks; table = table }
+    -- it is, and the table of open files is this one then
+    module _ (stages : StagesDraft state ready new) (table : List ℕ) where
+      abbrev pub after : Mounted D
+      after = with_table state lawful v ready new of.call Done still_ready was rest table
 
-    -- what the answer is, and the open files, in each state that the volume may be in
-    abbrev pub EndsWith : Answer → Type 0
-    EndsWith a = (s : State) (version : s.version ≡ 1) (walk : Parent s.tree path (At d)) → s.handles ≡ handles_of v.table → least s.tree ≡ n → ((of.makes s version walk).answer ≡ a) × ((of.makes s version walk).handles ≡ handles_of table)
+      -- what the answer is, and the open files, in each state that the volume may be in
+      abbrev pub EndsWith : Answer → Type 0
+      EndsWith a = (s : State) (version : s.version ≡ 1) (walk : Parent s.tree path (At d))
+          → s.handles ≡ handles_of v.table → least s.tree ≡ n
+          → ((of.makes s version walk).answer ≡ a)
+          × ((of.makes s version walk).handles ≡ handles_of table)
 
-    pub made_serves : (a : Answer) → is_ok a ≡ true → Behaves state v with_table of.call a → EndsWith a → Serves state v with_table of.call a
-    made_serves a ok behaves ends =
-        let accepts = accepts_old state lawful v ready new of.call a still_ready was rest stages in
-        when_in state lawful v with_table of.call was a accepts.carries accepts.segments (ok_refuses_none a Halted ok) behaves (λ kept k m0 m s is. (
-        let keeps = stages.accepts.carries.kept_before kept in
-        entry_serves state v with_table (lawful v.log.device) (lawful new.store.log.device) was accepts.saves.number (low_old state lawful v ready new of.call a still_ready was rest stages.young) c accepts
-        (subst (λ (t : BlockTotals). IsDrafted state v c t.data_blocks t.meta_blocks) (sym stages.totals) (drafted keeps k m0 m s is)) totals_of_tree
-        path d of n between head (head.size + 64) head.size slot (drafts_entry keeps)
-        (subst (λ (t : BlockTotals). t.data_blocks + 7 * t.meta_blocks + 720 ≤ 47 * segments_of v) (sym stages.totals) (let room = stages.room in subst (λ (x : ℕ). need_of ready ≤ x) limit_same room))
-        a ok behaves
-        (λ k m0 m s before is walk. ends s is.version walk is.handles (least_is keeps k m0 m s is))))
+      pub made_serves : (a : Answer) → is_ok a ≡ true → Behaves state v after of.call a → EndsWith a
+          → Serves state v after of.call a
+      unfolding entry_drafts
+      made_serves a ok behaves ends = accepted_serves state lawful v ready new of.call Done
+          still_ready was rest of.uncommitted entry_drafts a ok table
+          (λ keeps k m0 m s is. ends s is.version (reached.walk k m0 m s (kept_old keeps) is)
+          is.handles (least_is keeps k m0 m s is))
+          behaves stages

@@ -17,7 +17,7 @@ use Rattle.lfs_fs.specs.Handles.{handles_of}
 use Rattle.lfs_fs.specs.Naming.{Reaches, RefusesEntry, TakesEntry}
 use Rattle.lfs_fs.specs.Refusals.{refusal_of}
 use Rattle.lfs_fs.specs.Seen.{OnlyReads, seen}
-use Rattle.lfs_fs.specs.Volume.{IsIn, IsStill, Mounted, Serves, segments_of}
+use Rattle.lfs_fs.specs.Volume.{IsIn, Mounted, Serves, segments_of}
 use Rattle.lfs_fs.proofs.Behaving.{IsOrdinary}
 use Rattle.lfs_fs.proofs.Checks.{at_most, not_at_most}
 use Rattle.lfs_fs.proofs.EntrySteps.{MakesEntry, NewCall, checks_new, create_call, mkdir_call, new_no_number, new_own}

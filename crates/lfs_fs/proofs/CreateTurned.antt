@@ -1,5 +1,5 @@
 -- An object that was to be made under the last piece of a path: it is, it isn't staged, or it wasn't drafted.
-use Rattle.std.proofs.Common.{◌≢◌, refl, Result, Ok, Err, arith, ap, true, ◌≡◌, ◌<◌, ℕ, false, List, Option, Some, None, sym, ◌∙◌, subst, ⊎_elim}
+use Rattle.std.proofs.Common.{◌≢◌, refl, Result, Ok, Err, arith, ap, true, ◌≡◌, ◌<◌, ℕ, false, List, Option, Some, None, sym, ◌∙◌, subst, ⊎_elim, inl, inr}
 use Rattle.std.specs.Prelude.{IfErr, OnOk}
 use Rattle.std.specs.Ordering.{nat_cmp}
 use Rattle.std.specs.FinMap.{put}
@@ -28,8 +28,8 @@ use Rattle.lfs_fs.proofs.CreateMade.{made_serves, turned_serves}
 use Rattle.lfs_fs.proofs.Behaving.{makes_behaves, write_behaves}
 use Rattle.lfs_fs.proofs.CreateRefusals.{handle_allowed, links_allowed}
 use Rattle.lfs_fs.proofs.EntrySteps.{NewCall, create_call, mkdir_call, symlink_call}
-use Rattle.lfs_fs.proofs.Told.{fault_serves, memory_serves}
 use Rattle.lfs_fs.proofs.WritingEnds.{still_more}
+use Rattle.lfs_fs.proofs.ReadingEnds.{none_serves}
 
 module _ {D : Type 0} (state : D → DeviceState) (lawful : (d : D) → IsLawful (state d)) (v : Mounted D) (old mid : Fs D) (path : List ℕ) (d : ℕ) (of : NewCall (segments_of v) path d) (piece : Option Last)
     (reached : Reaches state v old path d piece) (running : old.store.log.halted ≡ false) (last : Last) (some : piece ≡ Some last) (only : OnlyReads state old mid) (head : Header)
@@ -47,12 +47,12 @@ module _ {D : Type 0} (state : D → DeviceState) (lawful : (d : D) → IsLawful
 
   -- nothing was drafted
   undrafted_ends : (new : Fs D) → IsStill state (seen mid) (seen new) → (fault : FsError) → DraftsNone state mid new fault → Serves state v (seen new) of.call (Refuse (refusal_of fault))
-  undrafted_ends new same fault none = ⊎_elim
-      (λ memory. subst (λ (e : FsError). Serves state v (seen new) of.call (Refuse (refusal_of e))) (sym memory)
-      (memory_serves state v (seen new) of.call (lawful v.log.device) (still_more state lawful v (seen mid) (seen new) still same) was of.remembering))
-      (λ failed. subst (λ (e : FsError). Serves state v (seen new) of.call (Refuse (refusal_of e))) (sym failed.0)
-      (fault_serves state v (seen new) of.call (lawful v.log.device) (still_more state lawful v (seen mid) (seen new) still same) was of.uncommitted (fault_more state v.log mid.store.log new.store.log still.reads failed.1)))
-      none
+  undrafted_ends new same fault none = none_serves state v (seen new) of.call (lawful v.log.device)
+      (still_more state lawful v (seen mid) (seen new) still same) was of.uncommitted
+      of.remembering fault (⊎_elim inl (λ failed. inr (
+        failed.0,
+        fault_more state v.log mid.store.log new.store.log still.reads failed.1,
+      )) none)
 
   pub unmade_ends : (new : Fs D) (fault : FsError) → MakesNone state mid new d head n of.kind last.name.now fault → Serves state v (seen new) of.call (Refuse (refusal_of fault))
   unmade_ends new fault none = ⊎_elim

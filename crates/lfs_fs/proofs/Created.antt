@@ -36,7 +36,7 @@ use Rattle.lfs_store.specs.Writing.{WritesFile, resized}
 use Rattle.lfs_fs.specs.Naming.{NewKind, kind_of_new, more_links, new_directory, new_file, new_link, text_of_new}
 use Rattle.lfs_fs.proofs.Changed.{IsFormed, formed_same, long_kept, shape_kept}
 use Rattle.lfs_fs.proofs.EntrySteps.{MakesEntry, new_done, new_node, with_entry}
-use Rattle.lfs_fs.proofs.Files.{IsMapOf, IsShaped, dir_there, need_shaped, node_by_header, none_no_header}
+use Rattle.lfs_fs.proofs.Files.{IsMapOf, IsShaped, dir_there, need_shaped, node_by_header}
 use Rattle.lfs_fs.proofs.NewObjects.{IsMade, made_object, new_header, no_slots}
 use Rattle.lfs_fs.proofs.Growth.{HasLinks, after_dir, after_new, after_order, after_others, links_after}
 
@@ -64,9 +64,6 @@ blank_directory m n (new_link text) dir = absurd (cc)
 -- ---- the object is made, without a name
 
 module _ (N : ℕ) (m m1 : LogMap) (s : State) (is : IsMapOf N m s) (n : ℕ) (in_range : (1 ≤ n) × (n ≤ 4095)) (free : node s.tree n ≡ None) (k : NewKind) (made : IsMade m n k m1) where
-  pub no_header : m.header n ≡ None
-  no_header = none_no_header N m s is.log n in_range free
-
   pub not_root : n ≢ 1
   not_root root = let dir = is.log.sound.root in let none : node s.tree 1 ≡ None = ap (node s.tree) (sym root) ∙ free in cc
 

@@ -1,31 +1,17 @@
 -- A sync that is done, and drafts that were to be staged and weren't, as steps of the model.
-use Rattle.std.proofs.Common.{◌≡◌, ◌≤◌, ◌^◌, ◌<◌, ◌+◌, ℕ, Bool, true, false, List, length, Some, refl, sym, ◌∙◌, ap, subst, inl, inr, cond, arith}
-use Rattle.std.specs.Prelude.{max}
-use Rattle.std.specs.Ordering.{nat_cmp}
-use Rattle.std.specs.FinMap.{find}
+use Rattle.std.proofs.Common.{◌≡◌, ◌≤◌, ◌^◌, ◌<◌, ◌+◌, ℕ, Bool, true, false, refl, sym, subst, inl, inr, cond, arith}
 use Rattle.lfs_model.specs.Call.{Call, Done, Refuse, Sync, changes, commits, takes_no_memory}
 use Rattle.lfs_model.specs.Device.{DeviceState, IsLawful}
 use Rattle.lfs_model.specs.Refusal.{Device, NoMemory}
-use Rattle.lfs_model.specs.Stands.{LogMap}
 use Rattle.lfs_store.specs.memory.declared.changes.Changes.{Changes}
-use Rattle.lfs_files.specs.declared.header.Header.{Header}
-use Rattle.lfs_store.specs.memory.Batch.{staged, FitsBatch}
-use Rattle.lfs_store.specs.memory.Present.{as_header}
+use Rattle.lfs_store.specs.memory.Batch.{FitsBatch}
 use Rattle.lfs_store.specs.Accepting.{Commits, Declines, IsAcceptFault}
-use Rattle.lfs_store.specs.Writing.{SizesFile, WritesFile, resized}
-use Rattle.lfs_fs.specs.Handles.{handles_of}
 use Rattle.lfs_fs.specs.Volume.{Mounted, Serves, segments_of}
-use Rattle.lfs_fs.proofs.Accepted.{DraftsEntry, InEach, IsDrafted, OfEach}
 use Rattle.lfs_fs.proofs.Behaving.{change_writes, write_behaves}
 use Rattle.lfs_fs.proofs.CallSteps.{never_worn}
-use Rattle.lfs_fs.proofs.Created.{created_log}
-use Rattle.lfs_fs.proofs.EntrySteps.{NewCall}
-use Rattle.lfs_fs.proofs.Ending.{IsRest, commits_by, declines_by}
-use Rattle.lfs_fs.proofs.Holding.{map_of_volume}
+use Rattle.lfs_fs.proofs.Ending.{InEach, IsRest, commits_by, declines_by}
 use Rattle.lfs_fs.proofs.PathSteps.{sync_done}
 use Rattle.lfs_fs.proofs.Serving.{map_dropped}
-use Rattle.lfs_fs.proofs.Shortened.{shortened_log}
-use Rattle.lfs_fs.proofs.Written.{written_log}
 
 -- ---- sync
 
@@ -59,24 +45,3 @@ module _ {D : Type 0} (state : D → DeviceState) (old new : Mounted D) (call : 
       let fit = fits k m0 m p.state (declines.carries.kept_before keeps) is in
       let rose = fault k m0 m keeps is.stores fit (map_dropped state old new keeps lawful after declines.carries k m0 m p.state is) in
       (fit, inr (Device, refl, (free, (let f = at.failures in omega (arith, f, rose))), refl))))
-
--- ---- that they fit
-
-module _ {D : Type 0} (state : D → DeviceState) (old : Mounted D) (c : Changes) (blocks others : ℕ) (drafted : IsDrafted state old c blocks others) where
-  module _ (h n : ℕ) (opens : find nat_cmp h (handles_of old.table) ≡ Some n) (head : Header) (there : OfEach state old (λ m. m.header n ≡ Some (as_header head))) where
-    pub pwrite_fits : (at : ℕ) (w : List ℕ) → OfEach state old (λ m. WritesFile m (staged c m) n head (resized head (max head.size (at + length w))) at w) → at + length w ≤ 8511488
-        → InEach state old (λ m s. FitsBatch m c)
-    pwrite_fits at w writes end k m0 m s keeps is =
-        drafted.fits k m0 m keeps is.stores.holds is.map (written_log (segments_of old) m (staged c m) s h n (map_of_volume state old k m0 m s is) (ap (find nat_cmp h) is.handles ∙ opens) head (there k m0 m keeps is.stores.holds) at w
-        (writes k m0 m keeps is.stores.holds) end)
-
-    pub truncate_fits : (len : ℕ) → OfEach state old (λ m. SizesFile m (staged c m) n head (resized head len) len) → len ≤ 8511488 → InEach state old (λ m s. FitsBatch m c)
-    truncate_fits len sizes end k m0 m s keeps is =
-        drafted.fits k m0 m keeps is.stores.holds is.map (shortened_log (segments_of old) m (staged c m) s h n (map_of_volume state old k m0 m s is) (ap (find nat_cmp h) is.handles ∙ opens) head (there k m0 m keeps is.stores.holds) len
-        (sizes k m0 m keeps is.stores.holds) end)
-
-  pub entry_fits : (p : List ℕ) (d : ℕ) (of : NewCall (segments_of old) p d) (n : ℕ) (made : LogMap → LogMap) (head : Header) (size at : ℕ) (w : List ℕ) → DraftsEntry state old c p d of n made head size at w
-      → InEach state old (λ m s. FitsBatch m c)
-  entry_fits p d of n made head size at w drafts k m0 m s keeps is =
-      drafted.fits k m0 m keeps is.stores.holds is.map (created_log (segments_of old) m (made m) (staged c m) s (map_of_volume state old k m0 m s is) is.version p d (drafts.walk k m0 m s keeps is) n
-      (drafts.first k m0 m s keeps is) drafts.top (drafts.new_name k m0 m s keeps is) of.kind head size at w (drafts.does k m0 m s keeps is))

@@ -32,6 +32,11 @@ not_acknowledged call r e = no_commit (commits call) e
     no_commit false e = absurd (cc)
 
 module _ {D : Type 0} (state : D → DeviceState) where
+  -- What holds of each state that the volume may be in.
+  abbrev pub InEach : Mounted D → (LogMap → State → Type 0) → Type 0
+  InEach v P = (k : CheckpointValue) (m0 m : LogMap) (s : State) → (state v.log.device).keeps_model
+      → IsIn state v k m0 m s → P m s
+
   -- A volume with another log, of the same number of segments; its totals and its open files are as they were.
   pub record IsRest (old new : Mounted D) : Type 0 where
     pub blocks : new.blocks ≡ old.blocks

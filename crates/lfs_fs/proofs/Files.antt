@@ -1,5 +1,5 @@
 -- What a volume's log map says of the nodes of its tree: files that handles give, what stat tells, the ends of walks, and the need.
-use Rattle.std.proofs.Common.{◌≡◌, ◌≢◌, ◌≤◌, ◌+◌, ◌*◌, ◌/◌, ◌%◌, ℕ, zero, suc, Bool, true, false, List, [], length, Option, Some, None, refl, sym, ◌∙◌, ap, arith}
+use Rattle.std.proofs.Common.{◌≡◌, ◌≢◌, ◌≤◌, ◌+◌, ◌*◌, ◌/◌, ◌%◌, ℕ, zero, suc, Bool, true, false, List, [], length, Option, Some, None, refl, sym, ◌∙◌, ap, arith, subst}
 use Rattle.std.specs.Prelude.{MatchOption, if◌then◌else◌, unwrap_or}
 use Rattle.std.specs.Ordering.{nat_cmp}
 use Rattle.std.specs.FinMap.{find}
@@ -18,8 +18,7 @@ use Rattle.lfs_model.specs.Step.{kind_of, room, size_of, stat_of, the_node}
 use Rattle.lfs_model.specs.Tree.{Node, File, Link, State, Tree, is_dir, links, node, slot_len}
 use Rattle.lfs_model.specs.TreeOf.{map_of, node_by, node_of, object, slots, tree_in}
 use Rattle.lfs_model.specs.Volume.{IsLogOf}
-use Rattle.lfs_model.specs.Walk.{Walk, no_piece, stays, goes_up, too_long, not_there, directory, file, not_dir, link, loops, followed, start, End, At, Refused, Parent, Resolve}
-use Rattle.lfs_model.proofs.Keeps.{parent_dir}
+use Rattle.lfs_model.specs.Walk.{Walk, no_piece, stays, goes_up, too_long, not_there, directory, file, not_dir, link, loops, followed, start, End, At, Refused, Resolve}
 use Rattle.lfs_model.proofs.ObjectTrees.{no_header_no_node}
 use Rattle.lfs_model.proofs.Parents.{up_dir}
 use Rattle.lfs_model.proofs.Standing.{object_length, slots_length}
@@ -77,14 +76,6 @@ module _ (N : ℕ) (m : LogMap) (s : State) (log : IsLogOf N m s) where
       by : (o : Option Header) → m.header n ≡ o → (h : Header) × (m.header n ≡ Some h) × (node_by m h.kind n h ≡ x)
       by None none = absurd (let both : None ≡ Some x = sym (no_header_none n none) ∙ is in cc)
       by (Some h) there = (h, there, (let both : Some (node_by m h.kind n h) ≡ Some x = sym (node_by_header n h (number_of n x is) there) ∙ is in cc))
-
-  -- without a node there is no header
-  pub none_no_header : (n : ℕ) → (1 ≤ n) × (n ≤ 4095) → node s.tree n ≡ None → m.header n ≡ None
-  none_no_header n in_range none = by (m.header n) refl
-    where
-      by : (o : Option Header) → m.header n ≡ o → m.header n ≡ None
-      by None is = is
-      by (Some h) is = absurd (let both : None ≡ Some (node_by m h.kind n h) = sym none ∙ node_by_header n h in_range is in cc)
 
   -- ---- files
   pub file_of : (n : ℕ) → IsFile (node s.tree n) → IsFileOf m s.tree n
@@ -177,10 +168,6 @@ module _ (N : ℕ) (s : State) (sound : Sound N s) where
       by None w = walk_there w sound.root
       by (Some r) e = absurd (cc)
 
-  -- a path's parent is a directory
-  pub parent_is_dir : (p : List ℕ) (d : ℕ) → Parent s.tree p (At d) → is_dir (node s.tree d) ≡ true
-  parent_is_dir p d walk = (parent_dir N s sound p d walk).0
-
 -- ---- the need
 
 -- A log map whose blocks can be counted, whether there is room for its tree or not.
@@ -205,6 +192,13 @@ need_shaped totals m shaped blocks others counted =
     let stored : data_blocks (tree_in m) ≡ blocks = both.0 ∙ sym counted.stored in
     let above : meta_blocks (tree_in m) ≡ others = both.1 ∙ sym counted.above in
     (omega (arith, stored, above), stored, above)
+
+-- a state's tree has room for it
+pub room_shaped : TotalsOfTree → (N : ℕ) (m : LogMap) (s : State) → IsMapOf N m s → IsShaped m
+    → (blocks others : ℕ) → IsCounted m blocks others → blocks + 7 * others + 720 ≤ 47 * N
+room_shaped totals N m s is shaped blocks others counted =
+    let needs = (need_shaped totals m shaped blocks others counted).0 in
+    subst (λ (x : ℕ). x ≤ 47 * N) (ap need is.log.is ∙ needs) is.log.sound.room
 
 pub need_counted : TotalsOfTree → (N : ℕ) (m : LogMap) (s : State) → IsMapOf N m s → ((n : ℕ) (h : Header) → m.header n ≡ Some h → IsHeaderOf n h)
     → (blocks others : ℕ) → IsCounted m blocks others → (need s.tree ≡ blocks + 7 * others + 720) × (data_blocks s.tree ≡ blocks) × (meta_blocks s.tree ≡ others)

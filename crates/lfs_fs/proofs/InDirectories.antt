@@ -1,5 +1,5 @@
 -- A directory of a volume: its names as the model sees them, the same with a new object made, and the least number that is free.
-use Rattle.std.proofs.Common.{refl, take, drop, map, slice_index, ◌≡◌, ◌≢◌, ◌<◌, ◌≤◌, ◌*◌, ◌/◌, ◌%◌, ℕ, true, false, List, [], length, Option, Some, None, sym, ◌∙◌, ap, subst, ⊎_elim, arith, nat_lt}
+use Rattle.std.proofs.Common.{refl, take, drop, map, slice_index, ◌≡◌, ◌≢◌, ◌<◌, ◌≤◌, ◌*◌, ◌/◌, ◌%◌, ℕ, true, false, List, [], length, Option, Some, None, sym, ◌∙◌, ap, subst, ⊎_elim, arith, nat_lt, ◌∷◌}
 use Rattle.std.specs.Prelude.{is_some, unwrap_or}
 use Rattle.std.proofs.lemmas.Bool.{cases_lt}
 use Rattle.std.specs.List.{AllByRecursion, range_with_len}
@@ -28,6 +28,11 @@ use Rattle.lfs_fs.specs.Naming.{NewKind, kind_of_new, more_links}
 use Rattle.lfs_fs.proofs.Created.{NamesNew, kind_by_node}
 use Rattle.lfs_fs.proofs.NewObjects.{IsMade}
 use Rattle.lfs_fs.proofs.Files.{IsMapOf, dir_there, no_header_none, node_by_header}
+
+-- a map that has a name isn't empty
+some_names : (ms : Names) (nm : List ℕ) (n : ℕ) → find byte_cmp nm ms ≡ Some n → 0 < length ms
+some_names [] nm n found = cc
+some_names (e ∷ ms) nm n found = omega arith
 
 module _ (N : ℕ) (m : LogMap) (s : State) (is : IsMapOf N m s) (d : ℕ) (dir : is_dir (node s.tree d) ≡ true) (head : Header) (there : m.header d ≡ Some (as_header head)) where
   in_range : (1 ≤ d) × (d ≤ 4095)
@@ -60,11 +65,17 @@ module _ (N : ℕ) (m : LogMap) (s : State) (is : IsMapOf N m s) (d : ℕ) (dir 
       let whole : head.size % 64 ≡ 0 = fits.slots directory_kind in
       omega (arith, many, whole)
 
+  -- one that has a name has a slot
+  pub slot_in_directory : IsHeaderOf d (as_header head) → (nm : List ℕ) (n : ℕ)
+      → find byte_cmp nm names_there ≡ Some n → 64 ≤ head.size
+  slot_in_directory fits nm n found =
+      let size = size_of_directory fits in
+      let some = some_names names_there nm n found in
+      let same = ap length names_in_directory in
+      omega (arith, size, some, same)
+
   -- ---- what create asks of it
   module _ (p : List ℕ) where
-    pub long_in_directory : 59 < length (name p) → is_long s.tree d p ≡ true
-    long_in_directory long = ap (λ (k : ℕ). nat_lt k (length (name p))) limit_in_directory ∙ below 59 (length (name p)) long
-
     pub short_in_directory : length (name p) ≤ 59 → is_long s.tree d p ≡ false
     short_in_directory short = ap (λ (k : ℕ). nat_lt k (length (name p))) limit_in_directory ∙ not_below 59 (length (name p)) short
 

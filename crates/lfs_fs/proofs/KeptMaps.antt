@@ -1,38 +1,6 @@
 -- What the log map of a volume keeps through each step of a draft, whatever state it is of, and
 -- what becomes of links.
-use Rattle.std.proofs.Common.{
-  ◌≡◌,
-  ◌≢◌,
-  ◌⊎◌,
-  inl,
-  inr,
-  ◌<◌,
-  ◌≤◌,
-  ◌+◌,
-  ◌*◌,
-  ◌/◌,
-  ◌%◌,
-  ℕ,
-  Bool,
-  true,
-  false,
-  List,
-  length,
-  map,
-  take,
-  drop,
-  slice_index,
-  Some,
-  None,
-  refl,
-  sym,
-  ◌∙◌,
-  ap,
-  subst,
-  cond,
-  ⊎_elim,
-  arith,
-}
+use Rattle.std.proofs.Common.{◌≡◌, ◌≢◌, ◌⊎◌, inl, inr, ◌<◌, ◌≤◌, ◌+◌, ◌*◌, ◌/◌, ◌%◌, ℕ, Bool, true, false, List, length, map, take, drop, slice_index, Some, None, refl, sym, ◌∙◌, ap, subst, cond, ⊎_elim, arith}
 use Rattle.std.specs.Prelude.{◌==◌}
 use Rattle.std.specs.List.{AllByRecursion, range_with_len}
 use Rattle.std.specs.FinMap.{put}
@@ -45,16 +13,11 @@ use Rattle.lfs_model.specs.Entry as entry
 use Rattle.lfs_model.specs.Objects.{AreLong, IsChangedAt, IsDirectory, IsObject}
 use Rattle.lfs_model.specs.Slot.{slot_in}
 use Rattle.lfs_model.specs.Stands.{LogMap}
-use Rattle.lfs_model.specs.Tree.{byte_cmp, slot_len, with_name, without, without_name}
+use Rattle.lfs_model.specs.Tree.{byte_cmp, slot_len, with_name, without, without_name, State, Tree, links}
 use Rattle.lfs_model.specs.TreeOf.{map_of, slots, tree_in}
 use Rattle.lfs_model.proofs.ObjectBytes.{same_objects, write_ends}
 use Rattle.lfs_model.proofs.ObjectMaps.{object_fits, object_kept, object_lost}
-use Rattle.lfs_model.proofs.ObjectTrees.{
-  links_apart,
-  object_taken,
-  with_header_at,
-  without_file_at,
-}
+use Rattle.lfs_model.proofs.ObjectTrees.{links_apart, object_taken, with_header_at, without_file_at}
 use Rattle.lfs_files.specs.declared.header.Header.{Header}
 use Rattle.lfs_files.specs.Files.{WritesFile}
 use Rattle.lfs_files.specs.Headers.{as_header}
@@ -63,8 +26,9 @@ use Rattle.lfs_path.specs.dirs.Taking.{CutsSlot, TakesName, shrunk}
 use Rattle.lfs_path.proofs.of_dirs.InTrees.{name_in_tree, name_off_tree}
 use Rattle.lfs_path.proofs.of_dirs.Takings.{cut_kept}
 use Rattle.lfs_fs.proofs.Changed.{shape_kept}
-use Rattle.lfs_fs.proofs.Files.{IsShaped}
+use Rattle.lfs_fs.proofs.Files.{IsShaped, IsMapOf}
 use Rattle.lfs_fs.proofs.MovedNames.{never, only_at}
+use Rattle.lfs_model.specs.Sound.{Sound}
 
 -- Each object that is there was there, and its links are others by what goes and what comes.
 abbrev pub Shifts : LogMap → LogMap → (ℕ → ℕ) → (ℕ → ℕ) → Type 0
@@ -83,8 +47,19 @@ shifts_joined m mid m' less more less' more' first next k g' at =
     let f = two.2 in
     (two.0, two.1, omega (arith, e, f))
 
-pub no_shift : (m : LogMap) → Shifts m m none_at none_at
-no_shift m k g at = (g, at, refl)
+-- a log map with the tree and the links of a state
+pub map_by : {N : ℕ} {m : LogMap} {s : State} → IsShaped m → Sound N s → tree_in m ≡ s.tree
+    → ((k : ℕ) (g : entry.Header) → m.header k ≡ Some g → g.links ≡ links s.tree k) → IsMapOf N m s
+map_by shaped sound tree links_are = record {
+  map = shaped.map;
+  long = shaped.long;
+  log = record {
+    sound = sound;
+    is = sym tree;
+    formed = λ k g at dir. (let d = shaped.directories k g at dir in (d.formed, d.apart));
+    links = λ k g at. links_are k g at ∙ ap (λ (t : Tree). links t k) (sym tree);
+  };
+}
 
 here_at : (d x : ℕ) → only_at d x d ≡ x
 here_at d x = ap (λ (b : Bool). cond {A = ℕ} b x 0) (eq-eqb d d refl)

@@ -1,12 +1,11 @@
 -- A further name that was drafted, as a step of the model.
-use Rattle.std.proofs.Common.{◌≡◌, ◌≢◌, ◌<◌, ◌≤◌, ◌+◌, ◌*◌, ◌^◌, ℕ, true, false, List, length, Option, Some, None, Result, refl, sym, ◌∙◌, ap, subst, inl, inr, ⊎_elim, arith}
+use Rattle.std.proofs.Common.{◌≡◌, ◌<◌, ◌≤◌, ◌+◌, ◌*◌, ℕ, true, false, List, length, Option, Some, None, Result, refl, sym, ◌∙◌, ap, subst, ⊎_elim, arith, inl, inr}
 use Rattle.std.specs.Prelude.{IfErr, OnOk, max}
 use Rattle.std.specs.FinMap.{find}
 use Rattle.lfs_model.specs.Call.{Done, LinkTo, Refuse}
 use Rattle.lfs_model.specs.Changing.{IsWithHeader}
 use Rattle.lfs_model.specs.Checkpoint.{CheckpointValue}
 use Rattle.lfs_model.specs.Device.{DeviceState, IsLawful}
-use Rattle.lfs_model.specs.Encodes.{IsLogMap}
 use Rattle.lfs_model.specs.Entry.{Inode}
 use Rattle.lfs_model.specs.Need.{need}
 use Rattle.lfs_model.specs.Objects.{IsDirectory, IsHeaderOf}
@@ -19,11 +18,9 @@ use Rattle.lfs_model.specs.Walk.{At, Parent}
 use Rattle.lfs_files.specs.declared.header.Header.{Header}
 use Rattle.lfs_files.specs.Files.{WritesFile}
 use Rattle.lfs_store.specs.declared.draft.Draft.{Draft}
-use Rattle.lfs_store.specs.log.verify.declared.totals.BlockTotals.{BlockTotals}
 use Rattle.lfs_store.specs.memory.declared.batch.Loss.{Loss}
 use Rattle.lfs_store.specs.memory.declared.batch.Loss.TheVariants.{Nothing}
 use Rattle.lfs_store.specs.memory.declared.changes.Changes.{Changes}
-use Rattle.lfs_store.specs.memory.declared.memory.LogMemory.{LogMemory}
 use Rattle.lfs_store.specs.memory.Batch.{FitsBatch, IsNoChange, is_lost, staged}
 use Rattle.lfs_store.specs.memory.Changing.{FitsHeader, with_header}
 use Rattle.lfs_store.specs.memory.Present.{as_header}
@@ -41,30 +38,25 @@ use Rattle.lfs_path.specs.dirs.Directory.{names_at}
 use Rattle.lfs_path.proofs.of_dirs.SlotsKept.{directory_stays}
 use Rattle.lfs_fs.specs.declared.error.FsError.{FsError}
 use Rattle.lfs_fs.specs.declared.fs.Fs.{Fs}
-use Rattle.lfs_fs.specs.Accepting.{StagesDraft, TurnsDown, limit_of, need_of}
-use Rattle.lfs_fs.specs.Handles.{handles_of}
+use Rattle.lfs_fs.specs.Accepting.{StagesDraft, TurnsDown, need_of}
 use Rattle.lfs_fs.specs.HardLinks.{DraftsName, NamesObject, SeesObject}
 use Rattle.lfs_fs.specs.Naming.{DraftsNone, Reaches, TakesEntry}
 use Rattle.lfs_fs.specs.Refusals.{refusal_of}
 use Rattle.lfs_fs.specs.Seen.{OnlyReads, answer_by, seen}
 use Rattle.lfs_fs.specs.Volume.{IsIn, IsStill, Mounted, Serves, segments_of}
-use Rattle.lfs_fs.proofs.Behaving.{write_behaves}
-use Rattle.lfs_fs.proofs.CallSteps.{not_worn, refused_not_worn, worn}
-use Rattle.lfs_fs.proofs.CreateEnds.{in_each}
-use Rattle.lfs_fs.proofs.Ending.{accepts_by, not_acknowledged}
-use Rattle.lfs_fs.proofs.Files.{IsMapOf}
+use Rattle.lfs_fs.proofs.Files.{IsMapOf, IsShaped, need_shaped}
 use Rattle.lfs_fs.proofs.Headers.{directory_grows}
 use Rattle.lfs_fs.proofs.Holding.{headers_of_volume, map_of_volume, shape_of_volume}
 use Rattle.lfs_fs.proofs.InDirectories.{directory_formed, directory_kind}
 use Rattle.lfs_fs.proofs.LinkRefusals.{asks}
 use Rattle.lfs_fs.proofs.LinkSteps.{link_done, link_no_space, linked}
-use Rattle.lfs_fs.proofs.LinkedFiles.{NamesMore, linked_log, linked_map, linked_need, other, some_links}
 use Rattle.lfs_fs.proofs.NewEntrySteps.{IsTaken}
 use Rattle.lfs_fs.proofs.NewRefusals as rule
 use Rattle.lfs_fs.proofs.OldEntries.{dir, looked, says, still}
-use Rattle.lfs_fs.proofs.Serving.{point_of, served_still}
-use Rattle.lfs_fs.proofs.Told.{fault_serves, memory_serves}
-use Rattle.lfs_fs.proofs.WritingEnds.{accepts_old, ends_by, low_old, still_more, table_same}
+use Rattle.lfs_fs.proofs.WritingEnds.{still_more, draft_ends, totals_read}
+use Rattle.lfs_fs.proofs.LinkedFiles.{IsLink, linked_shape, linked_tree, linked_map, other, shape_1, some_links}
+use Rattle.lfs_model.proofs.Keeps.{link_keeps}
+use Rattle.lfs_fs.proofs.ReadingEnds.{none_serves}
 
 module _ {D : Type 0} (state : D → DeviceState) (lawful : (d : D) → IsLawful (state d))
     (v : Mounted D) (old mid : Fs D) (a b : List ℕ) (da n : ℕ) (object : Header)
@@ -90,16 +82,11 @@ module _ {D : Type 0} (state : D → DeviceState) (lawful : (d : D) → IsLawful
     undrafted_ends fault none =
         subst (λ (w : Mounted D). Serves state v w (LinkTo a b) (Refuse (refusal_of fault)))
         (sym same)
-        (⊎_elim
-        (λ memory. subst (λ (e : FsError). Serves state v (seen tried) (LinkTo a b)
-        (Refuse (refusal_of e))) (sym memory)
-        (memory_serves state v (seen tried) (LinkTo a b) (lawful v.log.device) still_tried was
-        refl))
-        (λ failed. subst (λ (e : FsError). Serves state v (seen tried) (LinkTo a b)
-        (Refuse (refusal_of e))) (sym failed.0)
-        (fault_serves state v (seen tried) (LinkTo a b) (lawful v.log.device) still_tried was refl
-        (fault_more state v.log mid.store.log tried.store.log still_mid.reads failed.1)))
-        none)
+        (none_serves state v (seen tried) (LinkTo a b) (lawful v.log.device) still_tried was refl
+        refl fault (⊎_elim inl (λ failed. inr (
+          failed.0,
+          fault_more state v.log mid.store.log tried.store.log still_mid.reads failed.1,
+        )) none))
 
   -- ---- a draft
   module _ (ready : Fs D) (drafted : IsStill state (seen mid) (seen ready))
@@ -171,17 +158,23 @@ module _ {D : Type 0} (state : D → DeviceState) (lawful : (d : D) → IsLawful
       staged_n : (staged mid.store.draft.changes m).header n ≡ Some (as_header object)
       staged_n = ap (λ (x : LogMap). x.header n) (same_mid m) ∙ names.there
 
-      staged_map : IsLogMap (staged mid.store.draft.changes m)
-      staged_map = subst IsLogMap (sym (same_mid m)) map.map
-
       with_it : IsWithHeader m n (Some (as_header (relinked object (object.links + 1)))) (between m)
       with_it = header_put m (between m) n (relinked object (object.links + 1))
           (drafts.sets.map m
           ∙ ap (λ (x : LogMap). with_header x n
           (Some (as_header (relinked object (object.links + 1))))) (same_mid m))
 
-      log_between : IsLogMap (between m)
-      log_between = drafts.sets.keeps m staged_map staged_n
+      place : IsLink (segments_of v) m s a b da d n head object
+      place = record {
+        map = map;
+        shaped = shape_of_volume state v k m0 m s is;
+        names = names;
+        few = fits_n.most;
+        walk = walk;
+        absent = taken.new;
+        holder = found_d.0;
+        small = takes.room;
+      }
 
       -- and the directory the name
       same_directory : IsDirectory (between m) d (as_header head)
@@ -197,29 +190,22 @@ module _ {D : Type 0} (state : D → DeviceState) (lawful : (d : D) → IsLawful
           (ap (find byte_cmp l.name.now) same_directory.1
           ∙ ap (λ (x : List ℕ). find byte_cmp x (names_at m d head)) (sym piece_is) ∙ found_d.1)
 
-      does : NamesMore m (between m) (staged c m) d head n object (name b)
-      does = record {
-        map = log_between;
-        linked = with_it;
-        writes = subst (λ (x : List ℕ). WritesFile (between m) (staged c m) d head (grown head)
-            head.size (slot_for n x)) (sym piece_is) writes;
-        adds = subst (AddsName (between m) (staged c m) d head n) (sym piece_is) adds;
-      }
+      writes_b : WritesFile (between m) (staged c m) d head (grown head) head.size
+          (slot_for n (name b))
+      writes_b = subst (λ (x : List ℕ). WritesFile (between m) (staged c m) d head (grown head)
+          head.size (slot_for n x)) (sym piece_is) writes
 
-      log_after : IsLogMap (staged c m)
-      log_after = linked_log (segments_of v) m s map a b da n object names d walk taken.new head
-          found_d.0 (between m) (staged c m) takes.room does
+      adds_b : AddsName (between m) (staged c m) d head n (name b)
+      adds_b = subst (AddsName (between m) (staged c m) d head n) (sym piece_is) adds
 
-      apart : n ≢ d
-      apart = other (segments_of v) m s map a b da n object names d walk taken.new head found_d.0
-          (between m) (staged c m) takes.room does
+      shape_after : IsShaped (staged c m)
+      shape_after = linked_shape place with_it writes_b adds_b
 
       -- the draft fits
       linked_fits : FitsBatch m drafts.linked
       linked_fits =
           drafts.sets.fits m (draft_empty mid.store.draft.changes m none_drafted).1 staged_n
-          (some_links (segments_of v) m s map a b da n object names d walk taken.new head found_d.0
-          (between m) (staged c m) takes.room does)
+          (some_links place)
           (ap (λ (x : Loss). is_lost x (Inode n)) none_drafted.loss)
           record { links_few = omega (arith, few); size_fits = fits_n.size }
 
@@ -236,7 +222,7 @@ module _ {D : Type 0} (state : D → DeviceState) (lawful : (d : D) → IsLawful
 
       fits_here : FitsBatch m c
       fits_here = drafts.adds.fits k m0 m in_mid linked_fits record {
-        there = with_it.others d (λ e. apart (sym e)) ∙ found_d.0;
+        there = with_it.others d (λ e. other place (sym e)) ∙ found_d.0;
         apart = subst (λ (x : Loss). IsApart x d) (sym no_loss) (nothing_apart d);
         within = λ none. absurd
             (let both : None ≡ Some (as_header head) = sym none ∙ found_d.0 in cc);
@@ -244,27 +230,19 @@ module _ {D : Type 0} (state : D → DeviceState) (lawful : (d : D) → IsLawful
       }
 
       -- its totals
-      mid_totals : AreTotals (staged mid.store.draft.changes m) mid.store.drafted
-      mid_totals =
-          let before : AreTotals m old.store.log.totals
-          = record {
-            stored = reached.still.blocks ∙ is.counted.stored;
-            above = reached.still.others ∙ is.counted.above;
-          } in
-          subst (λ (x : LogMap). AreTotals x mid.store.drafted) (sym (same_mid m))
-          (subst (λ (t : BlockTotals). AreTotals m t) (sym (only.drafted ∙ reached.drafted)) before)
-
       counted_here : IsCounted (staged c m) ready.store.drafted.data_blocks
           ready.store.drafted.meta_blocks
-      counted_here = drafts.recounts k m0 m keeps in_mid log_between log_after
-          (drafts.counts m staged_n mid_totals)
+      counted_here = drafts.recounts k m0 m keeps in_mid (shape_1 place with_it).map
+          shape_after.map
+          (drafts.counts m staged_n (subst (λ (x : LogMap). AreTotals x mid.store.drafted)
+          (sym (same_mid m)) (totals_read state lawful v old mid reached.still reached.drafted only m
+          is.counted)))
 
       -- what the tree needs after it
       needs : need (linked (segments_of v) s a b n d) ≡ need_of ready
-      needs = linked_need (segments_of v) m s map a b da n object names d walk taken.new head
-          found_d.0 (between m) (staged c m) takes.room does
-          totals_of_tree (shape_of_volume state v k m0 m s is) ready.store.drafted.data_blocks
-          ready.store.drafted.meta_blocks counted_here
+      needs = ap need (sym (linked_tree place with_it writes_b adds_b))
+          ∙ (need_shaped totals_of_tree (staged c m) shape_after ready.store.drafted.data_blocks
+          ready.store.drafted.meta_blocks counted_here).0
 
       few_links : links s.tree n < 1000
       few_links =
@@ -292,89 +270,24 @@ module _ {D : Type 0} (state : D → DeviceState) (lawful : (d : D) → IsLawful
 
         after : IsMapOf (segments_of v) (staged c m)
             (with_tree s (linked (segments_of v) s a b n d))
-        after = linked_map (segments_of v) m s map a b da n object names d walk taken.new head
-            found_d.0 (between m) (staged c m) takes.room does
-            (sees.bytes, reached.bytes)
-            taken
-            few_links need_fits
-
-    limit_same : limit_of ready ≡ 47 * segments_of v
-    limit_same = ap (λ (x : LogMemory). 47 * length x.usage.segments) still_ready.reads.memory
+        after = linked_map place with_it writes_b adds_b
+            (link_keeps (segments_of v) s (with_tree s (linked (segments_of v) s a b n d)) a b Done
+            is.log.sound (sees.bytes, reached.bytes) done)
 
     -- ---- the call
     module _ (new : Fs D) (rest : new.handles ≡ ready.handles) where
-      -- it is staged
-      staged_ends : StagesDraft state ready new → (state ready.store.log.device).keeps_model
-          → (k : CheckpointValue) (m0 m : LogMap) (s : State) → IsIn state v k m0 m s
-          → Serves state v (seen new) (LinkTo a b) Done
-      staged_ends stages keeps k m0 m s is =
-          let accepts = accepts_old state lawful v ready new (LinkTo a b) Done still_ready was rest
-          stages in
-          let table = table_same state lawful v ready new (LinkTo a b) Done still_ready was rest in
-          let low = low_old state lawful v ready new (LinkTo a b) Done still_ready was rest
-          stages.young in
-          let room : need_of ready ≤ 47 * segments_of v
-          = subst (λ (x : ℕ). need_of ready ≤ x) limit_same stages.room in
-          accepts_by state v (seen new) (LinkTo a b) (lawful v.log.device)
-          (lawful new.store.log.device) accepts.carries accepts.segments was accepts.saves.number c
-          accepts low Done (λ e. cc) (λ e. cc)
-          (write_behaves state v (seen new) (LinkTo a b) Done refl table (λ e. cc))
-          (λ p keeps_new here k' m0' m' is'. record {
-            next = with_tree p.state (linked (segments_of v) p.state a b n d);
-            fits = fits_here keeps k' m0' m' p.state is';
-            map = after keeps k' m0' m' p.state is' room;
-            version = is'.version;
-            handles = is'.handles ∙ ap handles_of (sym table);
-            counted = subst (λ (t : BlockTotals). IsCounted (staged c m') t.data_blocks
-                t.meta_blocks) (sym stages.totals) (counted_here keeps k' m0' m' p.state is');
-            steps = inl (
-              done keeps k' m0' m' p.state is' room,
-              not_worn (segments_of v) (LinkTo a b) p
-                  (let number = here.number in omega (arith, number, low)),
-            );
-          })
-
-      -- the tree would need more than there is
-      lacking_ends : IsStill state v (seen new) → limit_of ready < need_of ready
-          → (state ready.store.log.device).keeps_model
-          → (k : CheckpointValue) (m0 m : LogMap) (s : State) → IsIn state v k m0 m s
-          → Serves state v (seen new) (LinkTo a b) (Refuse refusals.NoSpace)
-      lacking_ends same lacks keeps k m0 m s is =
-          served_still state v (seen new) (LinkTo a b) (Refuse refusals.NoSpace)
-          (lawful v.log.device) same was tt (λ p keeps_new here k' m0' m' is'. (
-          let step = no_space keeps k' m0' m' p.state is'
-          (subst (λ (x : ℕ). x < need_of ready) limit_same lacks) in
-          inl (
-            step,
-            refused_not_worn (segments_of v) (LinkTo a b) p refusals.NoSpace p.state step refl,
-          )))
-          (not_acknowledged (LinkTo a b) refusals.NoSpace)
-
-      -- the last number is reached
-      worn_ends : IsStill state v (seen new) → 2 ^ 62 ≤ v.log.number
-          → need_of ready ≤ limit_of ready
-          → (state ready.store.log.device).keeps_model
-          → (k : CheckpointValue) (m0 m : LogMap) (s : State) → IsIn state v k m0 m s
-          → Serves state v (seen new) (LinkTo a b) (Refuse refusals.Worn)
-      worn_ends same high room keeps k m0 m s is =
-          served_still state v (seen new) (LinkTo a b) (Refuse refusals.Worn) (lawful v.log.device)
-          same was tt (λ p keeps_new here k' m0' m' is'. inr (
-            refusals.Worn,
-            refl,
-            worn (segments_of v) (LinkTo a b) p (point_of state (seen new) p.state)
-                (let number = here.number in omega (arith, number, high)) refl Done
-                (with_tree p.state (linked (segments_of v) p.state a b n d))
-                (done keeps k' m0' m' p.state is'
-                (subst (λ (x : ℕ). need_of ready ≤ x) limit_same room)) refl,
-            refl,
-          ))
-          (not_acknowledged (LinkTo a b) refusals.Worn)
-
       pub link_ends : {X : Type 0} (r : Result X FsError) → OnOk r (StagesDraft state ready new)
           → IfErr r (TurnsDown state ready new)
           → Serves state v (seen new) (LinkTo a b) (answer_by (λ _. Done) r)
-      link_ends = ends_by state lawful v ready new (LinkTo a b) Done still_ready was rest refl refl
-          refl refl
-          (λ keeps k m0 m s is. in_each state v k m0 m s is (λ x t. FitsBatch x c)
-          (fits_here keeps k m0 m s is))
-          staged_ends lacking_ends worn_ends
+      link_ends = draft_ends state lawful v ready new (LinkTo a b) Done still_ready was rest refl
+          refl refl refl (λ keeps k m0 m s is. record {
+            next = with_tree s (linked (segments_of v) s a b n d);
+            answer = Done;
+            ok = refl;
+            fits = fits_here keeps k m0 m s is;
+            counted = counted_here keeps k m0 m s is;
+            version = refl;
+            map = after keeps k m0 m s is;
+            done = done keeps k m0 m s is;
+            lacks = no_space keeps k m0 m s is;
+          }) refl (λ keeps k m0 m s is. (refl, is.handles))

@@ -40,10 +40,6 @@ there_by_names : (t : Tree) (d : ℕ) (es : List Entry) → ((e : Entry) → Are
 there_by_names t d [] gives all = tt
 there_by_names t d (e ∷ es) gives all = (gives e (all.0, tt), there_by_names t d es gives all.1)
 
-there_before : (t : Tree) (done rest : List Entry) → AreThere t (done ++ rest) → AreThere t done
-there_before t [] rest all = tt
-there_before t (e ∷ done) rest all = (all.0, there_before t done rest all.1)
-
 there_at : (t : Tree) (done rest : List Entry) (e : Entry) → AreThere t (done ++ e ∷ rest) → node t e.number ≢ None
 there_at t [] rest e all = all.0
 there_at t (x ∷ done) rest e all = there_at t done rest e all.1

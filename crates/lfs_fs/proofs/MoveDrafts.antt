@@ -1,22 +1,17 @@
 -- What the steps of a rename draft, from the contracts of the layers below.
-use Rattle.std.proofs.Common.{◌≡◌, ◌≢◌, ◌-◌, ◌+◌, ◌*◌, ℕ, Bool, true, false, List, Option, Some, None, Result, Ok, Err, refl, sym, ◌∙◌, ap, subst, inl, inr, ⊎_elim, arith}
-use Rattle.std.specs.Prelude.{if◌then◌else◌, IfErr, OnOk}
-use Rattle.std.specs.FinMap.{find}
-use Rattle.lfs_model.specs.Checkpoint.{CheckpointValue}
+use Rattle.std.proofs.Common.{◌≡◌, ◌-◌, ◌+◌, ◌*◌, ℕ, Bool, true, false, List, None, Result, Ok, Err, refl, sym, ◌∙◌, ap, subst, inl, inr, ⊎_elim}
+use Rattle.std.specs.Prelude.{if◌then◌else◌, OnOk}
 use Rattle.lfs_model.specs.Device.{DeviceState}
 use Rattle.lfs_model.specs.Entry.{Data, Entry, Inode}
 use Rattle.lfs_model.specs.Memory.{parent}
 use Rattle.lfs_model.specs.Objects.{IsDirectory}
 use Rattle.lfs_model.specs.Stands.{LogMap}
-use Rattle.lfs_model.specs.Tree.{byte_cmp}
 use Rattle.lfs_files.specs.declared.fault.LogFault.TheVariants as log
 use Rattle.lfs_files.specs.declared.fault.StoreFault.{StoreFault}
 use Rattle.lfs_files.specs.declared.fault.StoreFault.TheVariants as store
 use Rattle.lfs_files.specs.declared.header.Header.{Header}
-use Rattle.lfs_files.specs.Files as files
 use Rattle.lfs_files.specs.Files.{WritesFile}
 use Rattle.lfs_store.specs.declared.store.Store.{Store}
-use Rattle.lfs_store.specs.log.Held.{Holds}
 use Rattle.lfs_store.specs.log.verify.declared.totals.BlockTotals.{BlockTotals}
 use Rattle.lfs_store.specs.Drafting.{IsApart}
 use Rattle.lfs_store.specs.memory.declared.batch.Loss.{Loss}
@@ -24,20 +19,18 @@ use Rattle.lfs_store.specs.memory.Batch.{is_lost, staged}
 use Rattle.lfs_store.specs.memory.declared.changes.Changes.{Changes}
 use Rattle.lfs_store.specs.memory.Present.{as_header}
 use Rattle.lfs_path.specs.dirs.Adding.{slot_for}
-use Rattle.lfs_path.specs.dirs.Directory.{names_at}
 use Rattle.lfs_path.specs.dirs.Finding.{IsDirectoryFault}
 use Rattle.lfs_path.specs.dirs.Repointing as repointing
 use Rattle.lfs_path.specs.dirs.Repointing.{Lacks, RepointsName}
 use Rattle.lfs_fs.specs.declared.error.FsError.{FsError}
 use Rattle.lfs_fs.specs.declared.error.FsError.TheVariants as error
 use Rattle.lfs_fs.specs.declared.fs.Fs.{Fs}
-use Rattle.lfs_fs.specs.declared.moving.Object.{Object}
 use Rattle.lfs_fs.specs.declared.moving.Source.{Source}
 use Rattle.lfs_fs.specs.declared.moving.Target.{Target}
 use Rattle.lfs_fs.specs.Drafted.{files_of}
 use Rattle.lfs_fs.specs.Faults.{error_of_store}
 use Rattle.lfs_fs.specs.Naming.{DraftsNone}
-use Rattle.lfs_fs.specs.Renaming.{FailsName, FailsOver, RelinksBoth, RelinksWhere, RepointsTo, fewer_links, gains_directory, loses_directory, more_links}
+use Rattle.lfs_fs.specs.Renaming.{FailsName, FailsOver, RelinksBoth, RelinksWhere, RepointsTo, gains_directory, loses_directory}
 
 pub ok_then2 : {T E : Type 0} (r : Result T E) (P Q R : Type 0) → (P → Q → R) → OnOk r P → OnOk r Q → OnOk r R
 ok_then2 (Ok x) P Q R go p q = go p q

@@ -1,5 +1,5 @@
 -- What the store drafts of links, as steps of a rename from log map to log map.
-use Rattle.std.proofs.Common.{◌≡◌, ◌≢◌, ◌⊎◌, ◌≤◌, ◌-◌, ℕ, Some, sym, ap, subst, inl, inr}
+use Rattle.std.proofs.Common.{◌≡◌, ◌≢◌, ◌⊎◌, ◌≤◌, ◌-◌, ℕ, Some, sym, ap, subst, inl, inr, ⊎_elim, ◌∙◌, arith, ◌<◌}
 use Rattle.lfs_model.specs.declared.Kind.TheVariants as kind
 use Rattle.lfs_model.specs.Changing.{IsWithHeader}
 use Rattle.lfs_model.specs.Cutting.{IsWithoutFile}
@@ -7,14 +7,28 @@ use Rattle.lfs_model.specs.Stands.{LogMap}
 use Rattle.lfs_model.specs.Tree.{State, opened}
 use Rattle.lfs_files.specs.declared.header.Header.{Header}
 use Rattle.lfs_store.specs.memory.declared.changes.Changes.{Changes}
-use Rattle.lfs_store.specs.memory.Batch.{IsNoChange, staged}
+use Rattle.lfs_store.specs.memory.Batch.{IsNoChange, staged, FitsBatch, is_lost}
 use Rattle.lfs_store.specs.memory.Present.{as_header}
 use Rattle.lfs_store.specs.Making.{DraftsRemoval, SetsLinks, relinked}
-use Rattle.lfs_store.proofs.Apart.{no_change}
+use Rattle.lfs_store.proofs.Apart.{no_change, draft_empty}
 use Rattle.lfs_store.proofs.Writings.{header_put}
 use Rattle.lfs_store.proofs.of_memory.Removed.{is_without}
 use Rattle.lfs_fs.proofs.MovedMaps.{Relinks}
-use Rattle.lfs_fs.proofs.RenamedFiles.{KeepsLink, LosesAll}
+use Rattle.lfs_fs.specs.Unlinking as relinking
+use Rattle.lfs_fs.proofs.LostNames.{KeepsLink, LosesAll, LosesName}
+use Rattle.lfs_fs.specs.declared.fs.Fs.{Fs}
+use Rattle.lfs_fs.specs.Handles.{handles_of}
+use Rattle.lfs_model.specs.Device.{DeviceState}
+use Rattle.lfs_fs.specs.Unlinking.{LosesLink, GoesWhole}
+use Rattle.lfs_store.specs.Drafting.{IsApart}
+use Rattle.lfs_store.specs.memory.declared.batch.Loss.{Loss}
+use Rattle.lfs_model.specs.Entry.{Inode}
+use Rattle.lfs_fs.proofs.Headers.{links_fit}
+use Rattle.lfs_model.specs.Objects.{IsHeaderOf}
+use Rattle.lfs_model.specs.Checkpoint.{CheckpointValue}
+use Rattle.lfs_store.specs.log.Held.{Holds}
+use Rattle.lfs_model.specs.Encodes.{IsLogMap}
+use Rattle.lfs_store.specs.Recounting.{AreTotals}
 
 -- ---- a directory's links
 
@@ -50,3 +64,54 @@ module _ (s : State) (c c' : Changes) (m : LogMap) (old : ℕ) (object : Header)
     last = last;
     gone = subst (IsWithoutFile m old) (sym (removes.map m)) (is_without m old);
   }
+
+-- ---- an object that is no directory loses a link, or goes with its last
+
+module _ {D : Type 0} {state : D → DeviceState} (old mid : Fs D)
+    (empty : IsNoChange old.store.draft.changes) (m : LogMap) (n : ℕ) (object : Header)
+    (loses : LosesLink state old mid n object) where
+  abbrev c : Changes
+  c = mid.store.draft.changes
+
+  pub link_lost : (s : State) → s.handles ≡ handles_of old.handles.numbers.items
+      → object.kind ≢ kind.Directory → LosesName s m (staged c m) n (as_header object)
+  link_lost s handles plain = ⊎_elim
+      (λ (r : relinking.Relinks state old mid n object).
+      inl (link_kept s old.store.draft.changes c m n object empty r.links r.is
+      (subst (λ hs. (r.links ≢ 0) ⊎ (opened hs n ≢ 0)) (sym handles) r.stays) plain r.sets))
+      (λ (goes : GoesWhole state old mid n object).
+      inr (all_lost s old.store.draft.changes c m n object
+      (inr (goes.last, ap (λ hs. opened hs n) handles ∙ goes.shut)) goes.removes))
+      loses
+
+  pub link_apart : (k : ℕ) → k ≢ n → IsApart c.loss k
+  link_apart k ne = ⊎_elim
+      (λ (r : relinking.Relinks state old mid n object). r.apart k)
+      (λ (goes : GoesWhole state old mid n object). goes.apart k ne)
+      loses
+
+  module _ (there : m.header n ≡ Some (as_header object)) where
+    staged_there : (staged old.store.draft.changes m).header n ≡ Some (as_header object)
+    staged_there = ap (λ (x : LogMap). x.header n) (no_change old.store.draft.changes m empty) ∙ there
+
+    pub link_fits : IsHeaderOf n (as_header object) → 0 < object.links → FitsBatch m c
+    link_fits fits some = ⊎_elim
+        (λ (r : relinking.Relinks state old mid n object).
+        r.sets.fits m (draft_empty old.store.draft.changes m empty).1 staged_there some
+        (ap (λ (x : Loss). is_lost x (Inode n)) empty.loss)
+        (links_fit n object fits r.links (let less = r.is in omega (arith, less))))
+        (λ (goes : GoesWhole state old mid n object). goes.removes.fits m)
+        loses
+
+    pub link_totals : (k : CheckpointValue) (m0 : LogMap) → (state mid.store.log.device).keeps_model
+        → Holds state old.store.log k m0 m → IsLogMap (staged old.store.draft.changes m)
+        → IsLogMap (staged c m)
+        → AreTotals (staged old.store.draft.changes m) old.store.drafted
+        → AreTotals (staged c m) mid.store.drafted
+    link_totals k m0 keeps holds before after are = ⊎_elim
+        (λ (r : relinking.Relinks state old mid n object).
+        r.counts m staged_there
+        (subst (AreTotals (staged old.store.draft.changes m)) (sym r.drafted) are))
+        (λ (goes : GoesWhole state old mid n object).
+        goes.counts k m0 m keeps holds before after are)
+        loses

@@ -1,51 +1,15 @@
 -- A name moved from one directory to another, from log map to log map: a draft changes the links
 -- of both directories, takes
 -- the name out of the first, and writes it into the second. The two may be one directory.
-use Rattle.std.proofs.Common.{
-  ◌≡◌,
-  ◌≢◌,
-  ◌⊎◌,
-  ◌≤◌,
-  ◌+◌,
-  ℕ,
-  List,
-  [],
-  Option,
-  Some,
-  None,
-  refl,
-  sym,
-  ◌∙◌,
-  ap,
-  subst,
-  ⊎_elim,
-  arith,
-  Bool,
-  true,
-  false,
-  cond,
-  eqb,
-}
+use Rattle.std.proofs.Common.{◌≡◌, ◌≢◌, ◌⊎◌, ◌≤◌, ◌+◌, ℕ, List, [], Option, Some, None, refl, sym, ◌∙◌, ap, subst, ⊎_elim, arith, Bool, true, false, cond, eqb}
 use Rattle.std.specs.Prelude.{◌==◌, unwrap_or}
-use Rattle.std.specs.FinMap.{find}
-use Rattle.std.proofs.lemmas.Bool.{cases_eq}
+use Rattle.std.specs.FinMap.{find, put}
 use Rattle.std.proofs.lemmas.Bool.Decides.{eqb_tells}
 use Rattle.lfs_model.specs.declared.Kind.TheVariants as kind
 use Rattle.lfs_model.specs.Changing.{IsWithHeader}
-use Rattle.lfs_model.specs.Entry as entry
 use Rattle.lfs_model.specs.Objects.{IsDirectory}
 use Rattle.lfs_model.specs.Stands.{LogMap}
-use Rattle.lfs_model.specs.Tree.{
-  File,
-  Node,
-  Tree,
-  byte_cmp,
-  entry as entry_in,
-  names_of,
-  node,
-  with_name,
-  without_name,
-}
+use Rattle.lfs_model.specs.Tree.{File, Node, Tree, byte_cmp, entry as entry_in, names_of, node, with_name, without_name}
 use Rattle.lfs_model.specs.TreeOf.{tree_in}
 use Rattle.lfs_files.specs.declared.header.Header.{Header}
 use Rattle.lfs_files.specs.Files.{HasFile, WritesFile}
@@ -57,22 +21,7 @@ use Rattle.lfs_path.specs.dirs.Taking.{CutsSlot, TakesName, shrunk}
 use Rattle.lfs_path.proofs.of_dirs.InTrees.{directory_node}
 use Rattle.lfs_store.specs.Making.{relinked}
 use Rattle.lfs_fs.proofs.Files.{IsShaped}
-use Rattle.lfs_fs.proofs.KeptMaps.{
-  HasHolder,
-  Shifts,
-  holder_directory,
-  none_at,
-  relinked_kept,
-  relinked_shifts,
-  relinked_tree,
-  shifts_joined,
-  taken_kept,
-  taken_shifts,
-  taken_tree,
-  written_kept,
-  written_shifts,
-  written_tree,
-}
+use Rattle.lfs_fs.proofs.KeptMaps.{HasHolder, Shifts, holder_directory, relinked_kept, relinked_shifts, relinked_tree, shifts_joined, taken_kept, taken_shifts, taken_tree, written_kept, written_shifts, written_tree}
 use Rattle.lfs_fs.proofs.MovedNames.{nothing_at, only_at}
 
 -- ---- what the steps draft
@@ -111,6 +60,18 @@ pub record DraftsOver (m4 m5 : LogMap) (db n : ℕ) (b : Header) (nb : List ℕ)
   pub slot : List ℕ
   pub writes : WritesFile m4 m5 db b b at slot
   pub repoints : IsDirectory m4 db (as_header b) → RepointsName m4 m5 db b n nb
+
+-- The name gives n, whether it did before or not.
+pub record IsNamed (m4 m5 : LogMap) (db n : ℕ) (b : Header) (nb : List ℕ) : Type 0 where
+  pub after : Header
+  pub at : ℕ
+  pub slot : List ℕ
+  pub kind : after.kind ≡ kind.Directory
+  pub links : after.links ≡ b.links
+  pub small : after.size ≤ 8511488
+  pub writes : WritesFile m4 m5 db b after at slot
+  pub directory : IsDirectory m5 db (as_header after)
+  pub names : names_at m5 db after ≡ put byte_cmp nb n (names_at m4 db b)
 
 -- ---- what comes of them
 
@@ -158,9 +119,18 @@ module _ (m m' : LogMap) (d : ℕ) (head : Header) (l : ℕ) (kept : IsShaped m)
   other_holder q other ne is = record
       { number = is.number; there = made.others q ne ∙ is.there; kind = is.kind; few = is.few }
 
-module _ (m1 m2 m3 m4 : LogMap) (da db : ℕ) (a b : Header) (la lb : ℕ) (na : List ℕ)
-    (kept : IsShaped m1) (has_a : HasHolder m1 da a) (has_b : HasHolder m1 db b)
-    (drafts : DraftsMove m1 m2 m3 m4 da db a b la lb na) where
+-- Both directories have their headers in the first log map, and the steps are drafted over it.
+pub record IsMoving (m1 m2 m3 m4 : LogMap) (da db : ℕ) (a b : Header) (la lb : ℕ) (na : List ℕ)
+    : Type 0 where
+  pub kept : IsShaped m1
+  pub has_a : HasHolder m1 da a
+  pub has_b : HasHolder m1 db b
+  pub drafts : DraftsMove m1 m2 m3 m4 da db a b la lb na
+
+module _ {m1 m2 m3 m4 : LogMap} {da db : ℕ} {a b : Header} {la lb : ℕ} {na : List ℕ}
+    (moving : IsMoving m1 m2 m3 m4 da db a b la lb na) where
+  open moving use {kept, has_a, has_b, drafts}
+
   pub kept_2 : IsShaped m2
   kept_2 = linked_kept m1 m2 da a la kept has_a drafts.first
 
@@ -247,120 +217,94 @@ module _ (m1 m2 m3 m4 : LogMap) (da db : ℕ) (a b : Header) (la lb : ℕ) (na :
       first next)
 
   -- the second directory, when the name is written into it
-  pub apart_header : da ≢ db → m4.header db ≡ Some (as_header (relinked b lb))
-  apart_header ne = cut.only.headers db (λ e. ne (sym e)) ∙ (relinked_maps.3 ne).there
+  abbrev b4 : Header
+  b4 = second_after da db a b la lb
 
-  pub same_header : da ≡ db → m4.header db ≡ Some (as_header (shrunk (relinked a la)))
-  same_header e = ap m4.header (sym e) ∙ cut.header
-
-  -- its header then
-  pub second_there : m4.header db ≡ Some (as_header (second_after da db a b la lb))
-  second_there = ⊎_elim
-      (λ (h : (eqb da db ≡ true) × (da ≡ db)). same_header h.1
-      ∙ ap (λ (v : Bool). Some (as_header (cond v (shrunk (relinked a la)) (relinked b lb))))
-      (sym h.0))
-      (λ (h : (eqb da db ≡ false) × (da ≢ db)). apart_header h.1
-      ∙ ap (λ (v : Bool). Some (as_header (cond v (shrunk (relinked a la)) (relinked b lb))))
-      (sym h.0))
+  pub second_holder : HasHolder m4 db b4
+  second_holder = ⊎_elim
+      (λ (h : (eqb da db ≡ true) × (da ≡ db)).
+      subst (λ (v : Bool). HasHolder m4 db (cond v (shrunk (relinked a la)) (relinked b lb)))
+      (sym h.0)
+      record {
+        number = has_b.number;
+        there = ap m4.header (sym h.1) ∙ cut.header;
+        kind = has_a.kind;
+        few = (let few = has_a.few in omega (arith, few));
+      })
+      (λ (h : (eqb da db ≡ false) × (da ≢ db)).
+      subst (λ (v : Bool). HasHolder m4 db (cond v (shrunk (relinked a la)) (relinked b lb)))
+      (sym h.0)
+      record {
+        number = has_b.number;
+        there = cut.only.headers db (λ e. h.1 (sym e)) ∙ (relinked_maps.3 h.1).there;
+        kind = has_b.kind;
+        few = has_b.few;
+      })
       (eqb_tells da db)
 
-  module _ (b4 : Header) (there : m4.header db ≡ Some (as_header b4)) where
-    holder_with : (h : Header) → m4.header db ≡ Some (as_header h) → h.kind ≡ kind.Directory
-        → h.size ≤ 65536 → HasHolder m4 db b4
-    holder_with h is dir few =
-        let same : as_header h ≡ as_header b4 =
-        (let both : Some (as_header h) ≡ Some (as_header b4) = sym is ∙ there in cc) in
-        let size : h.size ≡ b4.size = ap (λ (g : entry.Header). g.size) same in
-        record {
-          number = has_b.number;
-          there = there;
-          kind =
-              sym (ap (λ (g : entry.Header). g.kind) same) ∙ dir;
-          few = omega (arith, size, few);
-        }
+  pub second_directory : IsDirectory m4 db (as_header b4)
+  second_directory = holder_directory m4 db b4 moved_kept second_holder
 
-    pub second_holder : HasHolder m4 db b4
-    second_holder = ⊎_elim
-        (λ (e : da ≡ db). holder_with (shrunk (relinked a la)) (same_header e)
-        has_a.kind (let few = has_a.few in omega (arith, few)))
-        (λ (ne : da ≡ db → ⊥). holder_with (relinked b lb) (apart_header ne) has_b.kind has_b.few)
-        (cases_eq da db)
+  -- what its names give
+  pub second_entry : (nb : List ℕ)
+      → find byte_cmp nb (names_at m4 db b4) ≡ entry_in (without_name (tree_in m1) da na) db nb
+  second_entry nb = sym (
+      ap (λ (o : Option Node). find byte_cmp nb (names_of (unwrap_or o (File []))))
+      (ap (λ (t : Tree). node t db) (sym moved_tree) ∙ directory_node m4 db b4 record
+      { number = has_b.number; header = second_holder.there; kind = second_holder.kind }))
 
-    pub second_directory : IsDirectory m4 db (as_header b4)
-    second_directory = holder_directory m4 db b4 moved_kept second_holder
+  -- ---- a name that it lacks, or one that it has
+  pub named_new : {m5 : LogMap} {n : ℕ} {nb : List ℕ} → DraftsName m4 m5 db n b4 nb
+      → entry_in (without_name (tree_in m1) da na) db nb ≡ None → IsNamed m4 m5 db n b4 nb
+  named_new {m5} {n} {nb} new lacks =
+      let adds : AddsName m4 m5 db b4 n nb = new.adds second_directory (second_entry nb ∙ lacks) in
+      record {
+        after = grown b4;
+        at = new.at;
+        slot = new.slot;
+        kind = second_holder.kind;
+        links = refl;
+        small = (let few = second_holder.few in omega (arith, few));
+        writes = new.writes;
+        directory = adds.directory;
+        names = adds.names;
+      }
 
-    second_node : node (without_name (tree_in m1) da na) db ≡ node (tree_in m4) db
-    second_node = ap (λ (t : Tree). node t db) (sym moved_tree)
+  pub named_over : {m5 : LogMap} {n : ℕ} {nb : List ℕ} → DraftsOver m4 m5 db n b4 nb
+      → IsNamed m4 m5 db n b4 nb
+  named_over {m5} {n} {nb} over =
+      let repoints : RepointsName m4 m5 db b4 n nb = over.repoints second_directory in
+      record {
+        after = b4;
+        at = over.at;
+        slot = over.slot;
+        kind = second_holder.kind;
+        links = refl;
+        small = (let few = second_holder.few in omega (arith, few));
+        writes = over.writes;
+        directory = repoints.directory;
+        names = repoints.names;
+      }
 
-    -- what its names give
-    pub second_entry : (nb : List ℕ)
-        → find byte_cmp nb (names_at m4 db b4) ≡ entry_in (without_name (tree_in m1) da na) db nb
-    second_entry nb = sym (
-        ap (λ (o : Option Node). find byte_cmp nb (names_of (unwrap_or o (File []))))
-        (second_node ∙ directory_node m4 db b4 record
-        { number = has_b.number; header = there; kind = second_holder.kind }))
+  module _ {m5 : LogMap} {n : ℕ} {nb : List ℕ} (named : IsNamed m4 m5 db n b4 nb) where
+    pub named_kept : IsShaped m5
+    named_kept = written_kept m4 m5 db n b4 named.after named.at named.slot nb moved_kept
+        second_holder named.kind named.links named.small named.writes named.directory named.names
 
-    -- ---- a name that it lacks
-    module _ (m5 : LogMap) (n : ℕ) (nb : List ℕ)
-        (lacks : entry_in (without_name (tree_in m1) da na) db nb ≡ None)
-        (new : DraftsName m4 m5 db n b4 nb) where
-      adds : AddsName m4 m5 db b4 n nb
-      adds = new.adds second_directory (second_entry nb ∙ lacks)
+    pub named_tree : tree_in m5 ≡ with_name (without_name (tree_in m1) da na) db nb n
+    named_tree =
+        written_tree m4 m5 db n b4 named.after named.at named.slot nb moved_kept second_holder
+        named.kind named.links named.small named.writes named.directory named.names
+        ∙ ap (λ (t : Tree). with_name t db nb n) moved_tree
 
-      pub new_kept : IsShaped m5
-      new_kept = written_kept m4 m5 db n b4 (grown b4)
-          new.at new.slot nb moved_kept second_holder second_holder.kind refl
-          (let few = second_holder.few in omega (arith, few)) new.writes adds.directory adds.names
-
-      pub new_tree : tree_in m5 ≡ with_name (without_name (tree_in m1) da na) db nb n
-      new_tree =
-          written_tree m4 m5 db n b4 (grown b4)
-          new.at new.slot nb moved_kept second_holder second_holder.kind refl
-          (let few = second_holder.few in omega (arith, few))
-          new.writes adds.directory adds.names
-          ∙ ap (λ (t : Tree). with_name t db nb n) moved_tree
-
-      pub new_shifts : (x y : ℕ) → la + x ≡ a.links → (da ≢ db → lb ≡ b.links + y)
-          → (da ≡ db → y ≡ 0) → Shifts m1 m5 (only_at da x) (only_at db y)
-      new_shifts x y less more none =
-          let first = moved_shifts x y less more none in
-          let next = written_shifts m4 m5 db n b4 (grown b4)
-          new.at new.slot nb moved_kept second_holder second_holder.kind refl
-          (let few = second_holder.few in omega (arith, few))
-          new.writes adds.directory adds.names in
-          shifts_as m1 m5 (λ k. only_at da x k + only_at db 0 k)
-          (λ k. only_at db y k + only_at db 0 k) (only_at da x) (only_at db y)
-          (λ k. omega arith)
-          (shifts_joined m1 m4 m5 (only_at da x) (only_at db y) (only_at db 0) (only_at db 0)
-          first next)
-
-    -- ---- one that it has
-    module _ (m5 : LogMap) (n : ℕ) (nb : List ℕ) (over : DraftsOver m4 m5 db n b4 nb) where
-      repoints : RepointsName m4 m5 db b4 n nb
-      repoints = over.repoints second_directory
-
-      pub over_kept : IsShaped m5
-      over_kept = written_kept m4 m5 db n b4 b4 over.at over.slot nb moved_kept second_holder
-          second_holder.kind refl (let few = second_holder.few in omega (arith, few))
-          over.writes repoints.directory repoints.names
-
-      pub over_tree : tree_in m5 ≡ with_name (without_name (tree_in m1) da na) db nb n
-      over_tree =
-          written_tree m4 m5 db n b4 b4 over.at over.slot nb moved_kept second_holder
-          second_holder.kind refl (let few = second_holder.few in omega (arith, few))
-          over.writes repoints.directory repoints.names
-          ∙ ap (λ (t : Tree). with_name t db nb n) moved_tree
-
-      pub over_shifts : (x : ℕ) → la + x ≡ a.links → (da ≢ db → lb ≡ b.links)
-          → Shifts m1 m5 (only_at da x) none_at
-      over_shifts x less same =
-          let first = moved_shifts x 0 less (λ ne. let is = same ne in omega (arith, is))
-          (λ e. refl) in
-          let next = written_shifts m4 m5 db n b4 b4 over.at over.slot nb moved_kept second_holder
-          second_holder.kind refl (let few = second_holder.few in omega (arith, few))
-          over.writes repoints.directory repoints.names in
-          shifts_as m1 m5 (λ k. only_at da x k + only_at db 0 k)
-          (λ k. only_at db 0 k + only_at db 0 k) (only_at da x) none_at
-          (λ k. let one = nothing_at db k in omega (arith, one))
-          (shifts_joined m1 m4 m5 (only_at da x) (only_at db 0) (only_at db 0) (only_at db 0)
-          first next)
+    pub named_shifts : (x y : ℕ) → la + x ≡ a.links → (da ≢ db → lb ≡ b.links + y)
+        → (da ≡ db → y ≡ 0) → Shifts m1 m5 (only_at da x) (only_at db y)
+    named_shifts x y less more none =
+        let next = written_shifts m4 m5 db n b4 named.after named.at named.slot nb moved_kept
+        second_holder named.kind named.links named.small named.writes named.directory
+        named.names in
+        shifts_as m1 m5 (λ k. only_at da x k + only_at db 0 k)
+        (λ k. only_at db y k + only_at db 0 k) (only_at da x) (only_at db y)
+        (λ k. omega arith)
+        (shifts_joined m1 m4 m5 (only_at da x) (only_at db y) (only_at db 0) (only_at db 0)
+        (moved_shifts x y less more none) next)

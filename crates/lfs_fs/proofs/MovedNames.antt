@@ -1,30 +1,5 @@
 -- Trees with the names of a directory changed: how many names and links each node has then.
-use Rattle.std.proofs.Common.{
-  ◌≡◌,
-  ◌≢◌,
-  ◌+◌,
-  ◌&&◌,
-  ℕ,
-  Bool,
-  true,
-  false,
-  not,
-  List,
-  [],
-  ◌∷◌,
-  Option,
-  Some,
-  None,
-  refl,
-  sym,
-  ◌∙◌,
-  ap,
-  subst,
-  cond,
-  ⊎_elim,
-  eqb,
-  arith,
-}
+use Rattle.std.proofs.Common.{◌≡◌, ◌≢◌, ◌+◌, ◌&&◌, ℕ, Bool, true, false, not, List, [], ◌∷◌, Option, Some, None, refl, sym, ◌∙◌, ap, subst, cond, ⊎_elim, eqb, arith}
 use Rattle.std.specs.Prelude.{T, ◌==◌, count_by, sum_by, unwrap_or}
 use Rattle.std.proofs.Math.Path.{fun_ext}
 use Rattle.std.proofs.lemmas.Bool.{eq-eqb}
@@ -36,28 +11,7 @@ use Rattle.std.specs.Ordering.{nat_cmp, eq_by_cmp}
 use Rattle.std.specs.FinMap.{find, is_sorted, put}
 use Rattle.std.specs.FinMap.Entries.{is_sorted-where_key}
 use Rattle.lfs_model.specs.Objects.{one_if}
-use Rattle.lfs_model.specs.Tree.{
-  Dir,
-  File,
-  Link,
-  Names,
-  Node,
-  Tree,
-  byte_cmp,
-  entry,
-  form_of,
-  is_dir,
-  links,
-  links_at,
-  names,
-  names_in,
-  names_of,
-  node,
-  with_name,
-  with_node,
-  without,
-  without_name,
-}
+use Rattle.lfs_model.specs.Tree.{Dir, File, Link, Names, Node, Tree, byte_cmp, entry, form_of, is_dir, links, links_at, names, names_in, names_of, node, with_name, with_node, without, without_name}
 use Rattle.lfs_model.proofs.Growing.{gives, same_or_not}
 use Rattle.lfs_model.proofs.Makes.{dir_at}
 use Rattle.lfs_model.proofs.Moves.{none_if}
@@ -129,9 +83,16 @@ swap_more nm n m order f =
     let same = value_is f (find byte_cmp nm m) in
     omega (arith, all, same)
 
-module _ (t : Tree) (d form : ℕ) (m m' : Names) (gone come : Option ℕ)
-    (in_order : T (is_sorted nat_cmp t)) (is : node t d ≡ Some (Dir form m))
-    (swap : IsSwap m m' gone come) where
+-- Directory d of the tree has these names, and others are to take their place.
+pub record IsSwapped (t : Tree) (d form : ℕ) (m m' : Names) (gone come : Option ℕ) : Type 0 where
+  pub in_order : T (is_sorted nat_cmp t)
+  pub is : node t d ≡ Some (Dir form m)
+  pub swap : IsSwap m m' gone come
+
+module _ {t : Tree} {d form : ℕ} {m m' : Names} {gone come : Option ℕ}
+    (swapped : IsSwapped t d form m m' gone come) where
+  open swapped use {in_order, is, swap}
+
   abbrev after : Tree
   after = with_node t d (Dir form m')
 
@@ -205,16 +166,19 @@ module _ (t : Tree) (d form : ℕ) (m m' : Names) (gone come : Option ℕ)
       let more = link_here come in
       omega (arith, now, was, both, less, more)
 
+  links_leaf : (q : ℕ) → q ≢ d → is_dir (node t q) ≡ false
+      → names after q + link_of_name t d gone q ≡ names t q + link_of_name t d come q
+  links_leaf q ne leaf =
+      let all = names_after q in
+      let less = link_leaf q ne leaf gone in
+      let more = link_leaf q ne leaf come in
+      omega (arith, all, less, more)
+
   links_by : (q : ℕ) → q ≢ d → (o : Option Node) → node t q ≡ o
       → links_at after q o + link_of_name t d gone q ≡ links_at t q o + link_of_name t d come q
-  links_by q ne None e = let all = names_after q in let less = link_leaf q ne (ap is_dir e) gone in
-      let more = link_leaf q ne (ap is_dir e) come in omega (arith, all, less, more)
-  links_by q ne (Some (File b)) e = let all = names_after q in let less =
-      link_leaf q ne (ap is_dir e) gone in let more = link_leaf q ne (ap is_dir e) come in
-      omega (arith, all, less, more)
-  links_by q ne (Some (Link text)) e = let all = names_after q in let less =
-      link_leaf q ne (ap is_dir e) gone in let more = link_leaf q ne (ap is_dir e) come in
-      omega (arith, all, less, more)
+  links_by q ne None e = links_leaf q ne (ap is_dir e)
+  links_by q ne (Some (File b)) e = links_leaf q ne (ap is_dir e)
+  links_by q ne (Some (Link text)) e = links_leaf q ne (ap is_dir e)
   links_by q ne (Some (Dir f ms)) e = let all = subdirs ms in let less =
       link_dir q ne (ap is_dir e) gone in let more = link_dir q ne (ap is_dir e) come in
       omega (arith, all, less, more)
@@ -230,6 +194,21 @@ module _ (t : Tree) (d form : ℕ) (m m' : Names) (gone come : Option ℕ)
       in
       let all = links_by q ne (node t q) refl in
       omega (arith, now, all))
+
+-- one name more
+pub links_more : (t : Tree) (d n form : ℕ) (ms : Names) (nm : List ℕ) → T (is_sorted nat_cmp t)
+    → node t d ≡ Some (Dir form ms) → T (is_sorted byte_cmp ms) → find byte_cmp nm ms ≡ None
+    → (q : ℕ) → links (with_node t d (Dir form (put byte_cmp nm n ms))) q
+    ≡ links t q + link_of (is_dir (node t n)) d n q
+links_more t d n form ms nm in_order is dir_order absent q =
+    let swapped : IsSwapped t d form ms (put byte_cmp nm n ms) None (Some n) = record {
+      in_order = in_order;
+      is = is;
+      swap = subst (λ (o : Option ℕ). IsSwap ms (put byte_cmp nm n ms) o (Some n)) absent
+          (swap_more nm n ms dir_order);
+    } in
+    let all = links_after swapped q in
+    omega (arith, all)
 
 -- ---- a node that no name gives, and that gives none
 
@@ -318,10 +297,18 @@ over_links true da db n old now was q x y all x_is y_is =
     let b : only_at old y q ≡ 0 = ap (λ (y : ℕ). only_at old y q) y_is ∙ nothing_at old q in
     omega (arith, all, a, b)
 
-module _ (t : Tree) (da db n : ℕ) (na nb : List ℕ) (in_order : T (is_sorted nat_cmp t))
-    (is_a : is_dir (node t da) ≡ true) (order_a : T (is_sorted byte_cmp (names_in t da)))
-    (found : entry t da na ≡ Some n)
-    (is_b : is_dir (node t db) ≡ true) (order_b : T (is_sorted byte_cmp (names_in t db))) where
+-- A name gives n in directory da of the tree, and db is a directory.
+pub record IsMove (t : Tree) (da db n : ℕ) (na : List ℕ) : Type 0 where
+  pub in_order : T (is_sorted nat_cmp t)
+  pub is_a : is_dir (node t da) ≡ true
+  pub order_a : T (is_sorted byte_cmp (names_in t da))
+  pub found : entry t da na ≡ Some n
+  pub is_b : is_dir (node t db) ≡ true
+  pub order_b : T (is_sorted byte_cmp (names_in t db))
+
+module _ {t : Tree} {da db n : ℕ} {na : List ℕ} (move : IsMove t da db n na) (nb : List ℕ) where
+  open move use {in_order, is_a, order_a, found, is_b, order_b}
+
   abbrev names_at : Option Node → Names
   names_at o = names_of (unwrap_or o (File []))
 
@@ -341,21 +328,22 @@ module _ (t : Tree) (da db n : ℕ) (na nb : List ℕ) (in_order : T (is_sorted 
   pub lost_order : T (is_sorted nat_cmp lost)
   lost_order = change_order t in_order (without byte_cmp na) da
 
-  lost_swap : IsSwap names_a (without byte_cmp na names_a) (Some n) None
-  lost_swap = subst (λ (o : Option ℕ). IsSwap names_a (without byte_cmp na names_a) o None)
-      found (swap_less na names_a order_a)
+  lost_swap : IsSwapped t da form_a names_a (without byte_cmp na names_a) (Some n) None
+  lost_swap = record {
+    in_order = in_order;
+    is = at_a;
+    swap = subst (λ (o : Option ℕ). IsSwap names_a (without byte_cmp na names_a) o None)
+        found (swap_less na names_a order_a);
+  }
 
   pub lost_dirs : (q : ℕ) → is_dir (node lost q) ≡ is_dir (node t q)
-  lost_dirs = dirs t da form_a names_a (without byte_cmp na names_a) (Some n)
-      None in_order at_a lost_swap
+  lost_dirs = dirs lost_swap
 
-  lost_names : (q : ℕ) → names lost q + one_if (n == q) ≡ names t q
-  lost_names q = let all = names_after t da form_a names_a (without byte_cmp na names_a) (Some n)
-      None in_order at_a lost_swap q in omega (arith, all)
+  pub lost_names : (q : ℕ) → names lost q + one_if (n == q) ≡ names t q
+  lost_names q = let all = names_after lost_swap q in omega (arith, all)
 
-  lost_links : (q : ℕ) → links lost q + link_of (is_dir (node t n)) da n q ≡ links t q
-  lost_links q = let all = links_after t da form_a names_a (without byte_cmp na names_a) (Some n)
-      None in_order at_a lost_swap q in omega (arith, all)
+  pub lost_links : (q : ℕ) → links lost q + link_of (is_dir (node t n)) da n q ≡ links t q
+  lost_links q = let all = links_after lost_swap q in omega (arith, all)
 
   -- the other's directory
   lost_b : is_dir (node lost db) ≡ true
@@ -382,11 +370,8 @@ module _ (t : Tree) (da db n : ℕ) (na nb : List ℕ) (in_order : T (is_sorted 
   -- what the other gave is what it gives then
   pub still_free : entry t db nb ≡ None → entry lost db nb ≡ None
   still_free none = none_if (entry lost db nb) (entry t db nb)
-      (λ k e. (
-        k,
-        shrinks.entry_after t da n form_a names_a na in_order at_a order_a found db nb k
-            e,
-      )) none
+      (λ k e. (k, shrinks.entry_after t da n form_a names_a na in_order at_a order_a found db nb k e))
+      none
 
   pub still_gives : (old : ℕ) → old ≢ n → entry t db nb ≡ Some old → entry lost db nb ≡ Some old
   still_gives old ne is = shrinks.entry_kept t da n form_a names_a na in_order at_a order_a found
@@ -400,18 +385,17 @@ module _ (t : Tree) (da db n : ℕ) (na nb : List ℕ) (in_order : T (is_sorted 
   moved_order = change_order lost lost_order (put byte_cmp nb n) db
 
   module _ (o : Option ℕ) (gives_b : entry lost db nb ≡ o) where
-    moved_swap : IsSwap names_b (put byte_cmp nb n names_b) o (Some n)
-    moved_swap = subst (λ (o : Option ℕ). IsSwap names_b (put byte_cmp nb n names_b) o (Some n))
-        gives_b (swap_more nb n names_b order_now)
-
-    moved_dirs : (q : ℕ) → is_dir (node moved q) ≡ is_dir (node t q)
-    moved_dirs q = dirs lost db form_b names_b (put byte_cmp nb n names_b) o (Some n)
-        lost_order at_b moved_swap q ∙ lost_dirs q
+    moved_swap : IsSwapped lost db form_b names_b (put byte_cmp nb n names_b) o (Some n)
+    moved_swap = record {
+      in_order = lost_order;
+      is = at_b;
+      swap = subst (λ (o : Option ℕ). IsSwap names_b (put byte_cmp nb n names_b) o (Some n))
+          gives_b (swap_more nb n names_b order_now);
+    }
 
     moved_names : (q : ℕ) → names moved q + value (λ k. one_if (k == q)) o ≡ names t q
     moved_names q =
-        let all = names_after lost db form_b names_b (put byte_cmp nb n names_b) o (Some n)
-        lost_order at_b moved_swap q in
+        let all = names_after moved_swap q in
         let was = lost_names q in
         omega (arith, all, was)
 
@@ -422,8 +406,7 @@ module _ (t : Tree) (da db n : ℕ) (na nb : List ℕ) (in_order : T (is_sorted 
     moved_links : (q : ℕ) → links moved q + link_of (is_dir (node t n))
         da n q + link_of_name t db o q ≡ links t q + link_of (is_dir (node t n)) db n q
     moved_links q =
-        let all = links_after lost db form_b names_b (put byte_cmp nb n names_b) o (Some n)
-        lost_order at_b moved_swap q in
+        let all = links_after moved_swap q in
         let was = lost_links q in
         let gone = same_link q o in
         let come = same_link q (Some n) in
@@ -444,9 +427,6 @@ module _ (t : Tree) (da db n : ℕ) (na nb : List ℕ) (in_order : T (is_sorted 
     pub names_over : names moved old + 1 ≡ names t old
     names_over = let all = moved_names (Some old) (still_gives old other there) old in let one =
         once old in omega (arith, all, one)
-
-    pub dirs_over : (q : ℕ) → is_dir (node moved q) ≡ is_dir (node t q)
-    dirs_over = moved_dirs (Some old) (still_gives old other there)
 
     pub links_over : (x y : ℕ) → x ≡ one_if (is_dir (node t n))
         → y ≡ one_if (not (is_dir (node t n))) → (q : ℕ)

@@ -1,5 +1,5 @@
 -- A name looked up in a directory, and the rule of a new entry.
-use Rattle.std.proofs.Common.{◌≡◌, ℕ, Bool, true, false, List, Option, Some, None, Result, Ok, Err, refl, sym, ◌∙◌, ap₂, subst, inl, inr, ⊎_elim, arith}
+use Rattle.std.proofs.Common.{◌≡◌, ℕ, Bool, true, false, List, Option, Some, None, Result, Ok, Err, refl, sym, ◌∙◌, subst, inl, inr, ⊎_elim, arith, ap₂}
 use Rattle.std.specs.Prelude.{IfErr, is_some}
 use Rattle.lfs_model.specs.Device.{DeviceState}
 use Rattle.lfs_files.specs.declared.fault.LogFault.{LogFault}
@@ -15,7 +15,7 @@ use Rattle.lfs_fs.specs.Drafted.{Finds, IsDirectoryFault}
 use Rattle.lfs_fs.specs.declared.error.FsError.{FsError}
 use Rattle.lfs_fs.specs.declared.fs.Fs.{Fs}
 use Rattle.lfs_fs.specs.Faults.{error_of_log, error_of_store}
-use Rattle.lfs_fs.specs.Naming.{DraftsNone, LooksNone, LooksUp, MakesNone, NewKind, RefusesEntry}
+use Rattle.lfs_fs.specs.Naming.{DraftsNone, LooksNone, LooksUp, MakesNone, NewKind}
 use Rattle.lfs_fs.specs.Seen.{HasHeader, LacksHeader, OnlyReads, seen}
 use Rattle.lfs_fs.specs.Volume.{IsStill, Mounted}
 
@@ -54,13 +54,6 @@ module _ {D : Type 0} (state : D → DeviceState) where
           let before = first.still.reads.looks.carries.failures in
           omega (arith, rose, before)),
     )
-
-  -- no answer refuses the entry
-  pub refuses_look : (old new : Fs D) (d : ℕ) (name : List ℕ) (ends is_mkdir : Bool) (fault : FsError) → LooksNone state old new d fault → RefusesEntry state old new d name ends is_mkdir fault
-  refuses_look old new d name ends is_mkdir fault none = ⊎_elim
-      (λ halted. subst (λ (e : FsError). RefusesEntry state old new d name ends is_mkdir e) (sym halted.0) halted.1)
-      (λ failed. subst (λ (e : FsError). RefusesEntry state old new d name ends is_mkdir e) (sym failed.0) failed.1)
-      none
 
   -- ---- whether a name was found
   pub some_is : (old new : Fs D) (d : ℕ) (name : List ℕ) (head : Header) (o : Option ℕ) → is_some o ≡ true → LooksUp state old new d name head o → (n : ℕ) × LooksUp state old new d name head (Some n)

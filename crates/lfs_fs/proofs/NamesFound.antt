@@ -1,24 +1,19 @@
 -- An object of a number, and what a name gives in a directory, as the steps of rename find them.
-use Rattle.std.proofs.Common.{◌≡◌, ◌≢◌, ◌<◌, ◌≤◌, ℕ, Bool, List, Option, Some, None, refl, sym, ◌∙◌, ap, subst, inl, inr, ⊎_elim, length, arith}
-use Rattle.std.specs.FinMap.{find}
+use Rattle.std.proofs.Common.{◌≡◌, ◌<◌, ◌≤◌, ℕ, Bool, List, Option, Some, None, refl, sym, ◌∙◌, ap, subst, inl, inr, ⊎_elim, arith}
 use Rattle.lfs_model.specs.declared.Kind.{Kind}
-use Rattle.lfs_model.specs.Checkpoint.{CheckpointValue}
 use Rattle.lfs_model.specs.Device.{DeviceState}
 use Rattle.lfs_model.specs.Stands.{LogMap}
-use Rattle.lfs_model.specs.Tree.{byte_cmp}
 use Rattle.lfs_files.specs.declared.header.Header.{Header}
 use Rattle.lfs_store.specs.memory.Batch.{staged}
 use Rattle.lfs_store.specs.memory.Present.{as_header}
-use Rattle.lfs_store.specs.log.Held.{Holds}
 use Rattle.lfs_store.specs.declared.draft.Draft.{Draft}
 use Rattle.lfs_store.proofs.LogReads.{held_still}
-use Rattle.lfs_path.specs.dirs.Directory.{names_at}
 use Rattle.lfs_fs.specs.declared.error.FsError.{FsError}
 use Rattle.lfs_fs.specs.declared.error.FsError.TheVariants as error
 use Rattle.lfs_fs.specs.declared.fs.Fs.{Fs}
 use Rattle.lfs_fs.specs.declared.moving.Object.{Object}
 use Rattle.lfs_fs.specs.Naming.{LooksNone, LooksUp}
-use Rattle.lfs_fs.specs.Renaming.{FailsWhere, FindsName, FindsObject, InLog, IsObject, LooksAt, MayLook, MayName, RefusesNext, RefusesSource}
+use Rattle.lfs_fs.specs.Renaming.{FailsWhere, FindsName, FindsObject, InLog, IsObject, MayLook, RefusesNext}
 use Rattle.lfs_fs.specs.Seen.{LacksHeader, OnlyReads}
 
 module _ {D : Type 0} (state : D → DeviceState) where
@@ -116,10 +111,4 @@ module _ {D : Type 0} (state : D → DeviceState) where
     next_refused ends kind fault fails = ⊎_elim
         (λ halted. subst (λ (e : FsError). RefusesNext state old new d name ends kind e) (sym halted.0) (inl (refl, halted.1)))
         (λ failed. subst (λ (e : FsError). RefusesNext state old new d name ends kind e) (sym failed.0) (inr (refl, λ k m0 m keeps holds is. failed.1 k m0 m keeps holds is.looks)))
-        fails
-
-    pub source_refused : (ends : Bool) (fault : FsError) → FailsWhere state old new (λ m. MayLook m d name) fault → RefusesSource state old new d name ends fault
-    source_refused ends fault fails = ⊎_elim
-        (λ halted. subst (λ (e : FsError). RefusesSource state old new d name ends e) (sym halted.0) (inl (refl, halted.1)))
-        (λ failed. subst (λ (e : FsError). RefusesSource state old new d name ends e) (sym failed.0) (inr (refl, failed.1)))
         fails

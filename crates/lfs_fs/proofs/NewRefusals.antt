@@ -1,5 +1,5 @@
 -- The refusals of the rule of a new entry, for any call that asks for one.
-use Rattle.std.proofs.Common.{not, ◌&&◌, ◌≡◌, ◌<◌, ◌≤◌, ◌%◌, ◌||◌, ℕ, Bool, true, false, List, length, Option, Some, None, sym, ◌∙◌, ap, subst, inl, ⊎_elim, arith}
+use Rattle.std.proofs.Common.{not, ◌&&◌, ◌≡◌, ◌<◌, ◌≤◌, ◌%◌, ◌||◌, ℕ, Bool, true, false, List, length, Option, Some, None, sym, ◌∙◌, ap, subst, ⊎_elim, arith}
 use Rattle.lfs_model.specs.Call.{Call, Refuse, cleans, commits}
 use Rattle.lfs_model.specs.Checkpoint.{CheckpointValue}
 use Rattle.lfs_model.specs.Device.{DeviceState, IsLawful}
@@ -11,7 +11,6 @@ use Rattle.lfs_model.specs.Stands.{LogMap}
 use Rattle.lfs_model.specs.Step.{Step, is_there, last_dots, no_last}
 use Rattle.lfs_model.specs.Tree.{State, Tree, is_dir, links, node}
 use Rattle.lfs_model.specs.Walk.{At, Parent}
-use Rattle.lfs_model.proofs.Keeps.{parent_dir}
 use Rattle.lfs_files.specs.declared.header.Header.{Header}
 use Rattle.lfs_store.specs.memory.Present.{as_header}
 use Rattle.lfs_path.specs.declared.last.Last.{Last}
@@ -24,19 +23,15 @@ use Rattle.lfs_fs.specs.declared.fs.Fs.{Fs}
 use Rattle.lfs_fs.specs.Naming.{LooksUp, Reaches, RefusesEntry, TakesEntry}
 use Rattle.lfs_fs.specs.Refusals.{refusal_of}
 use Rattle.lfs_fs.specs.Seen.{OnlyReads, seen}
-use Rattle.lfs_fs.specs.Volume.{IsIn, IsStill, Mounted, Serves, segments_of}
+use Rattle.lfs_fs.specs.Volume.{IsIn, Mounted, Serves, segments_of}
 use Rattle.lfs_fs.proofs.Behaving.{IsOrdinary}
-use Rattle.lfs_fs.proofs.CallSteps.{refused_not_worn}
-use Rattle.lfs_fs.proofs.CreateEnds.{still_more}
-use Rattle.lfs_fs.proofs.Ending.{not_acknowledged}
-use Rattle.lfs_fs.proofs.Files.{IsMapOf, dir_there}
+use Rattle.lfs_fs.proofs.Files.{IsMapOf}
 use Rattle.lfs_fs.proofs.InDirectories.{directory_kind, free_directory, full_directory}
 use Rattle.lfs_fs.proofs.LastNames.{last_is_name}
 use Rattle.lfs_fs.proofs.NameLooks.{only_none}
 use Rattle.lfs_fs.proofs.NewEntrySteps.{ChecksNew, IsTaken, new_dots, new_full, new_long, new_slash, new_there}
-use Rattle.lfs_fs.proofs.OldEntries.{dir, dots_are, fits, found_there, has_last, is_missing, limit_is, long_is, looked, rises, says, short_is, still, volume}
+use Rattle.lfs_fs.proofs.OldEntries.{dir, dots_are, fits, found_there, has_last, is_missing, limit_is, long_is, looked, rises, says, short_is, still, volume, IsRefused, walk_refuses, walk_zero}
 use Rattle.lfs_fs.proofs.ReadingEnds.{failed_serves}
-use Rattle.lfs_fs.proofs.Serving.{served_still}
 
 -- A call that asks for an entry in directory d, in each state that the volume may be in.
 pub record NewEntryCall {D : Type 0} (state : D → DeviceState) (v : Mounted D) (old : Fs D)
@@ -54,42 +49,20 @@ module _ {D : Type 0} (state : D → DeviceState) (lawful : (d : D) → IsLawful
   was : v.log.halted ≡ false
   was = sym reached.still.reads.halted ∙ running
 
-  -- a refusal by a step of the model in each state
-  pub new_refuses : (new : Fs D) → IsStill state (seen old) (seen new) → (r : Refusal)
-      → IsOrdinary (Refuse r)
-      → ((k : CheckpointValue) (m0 m : LogMap) (s : State)
-      → (state new.store.log.device).keeps_model → IsIn state v k m0 m s
-      → Parent s.tree path (At d) → Step (segments_of v) s call (Refuse r) s)
-      → Serves state v (seen new) call (Refuse r)
-  new_refuses new still r ordinary steps =
-      served_still state v (seen new) call (Refuse r) (lawful v.log.device)
-      (still_more state v (seen old) (seen new) (lawful v.log.device) reached.still still) was
-      ordinary (λ p keeps here k m0 m is. (
-      let before = still.reads.looks.carries.kept_before keeps in
-      let step = steps k m0 m p.state keeps is (reached.walk k m0 m p.state before is) in
-      inl (step, refused_not_worn (segments_of v) call p r p.state step of.unclean)))
-      (not_acknowledged call r)
-
   -- a path without a piece
   pub no_piece_exists : piece ≡ None → Serves state v (seen old) call (Refuse refusals.Exist)
   no_piece_exists none =
       let says : no_last path ≡ true
       = last_says path None (subst (HasLast path) none reached.last) in
-      new_refuses old (only_none state old).still refusals.Exist tt
+      walk_refuses state lawful v old path d piece reached running call of.unclean old
+      (only_none state old).still refusals.Exist tt
       (λ k m0 m s keeps is walk.
       new_dots (segments_of v) s path d call is_mkdir (of.checks k m0 m s keeps is walk)
       (ap (λ (b : Bool). b || last_dots path) says))
 
   -- no directory has number 0
   pub no_number_zero : d ≡ 0 → Serves state v (seen old) call (Refuse refusals.Device)
-  no_number_zero zero_is =
-      served_still state v (seen old) call (Refuse refusals.Device) (lawful v.log.device)
-      reached.still was tt (λ p keeps here k m0 m is. absurd (
-      let walk = reached.walk k m0 m p.state keeps is in
-      let dir = (parent_dir (segments_of v) p.state is.log.sound path d walk).0 in
-      let low = (is.log.sound.numbers d (dir_there p.state.tree d dir)).0 in
-      omega (arith, zero_is, low)))
-      (not_acknowledged call refusals.Device)
+  no_number_zero = walk_zero state lawful v old path d piece reached running call
 
   module _ (l : Last) (is_last : piece ≡ Some l) (new : Fs D) (only : OnlyReads state old new) where
     -- ---- the rule in one state
@@ -201,11 +174,10 @@ module _ {D : Type 0} (state : D → DeviceState) (lawful : (d : D) → IsLawful
 
     -- ---- the call
     pub refused : (r : Refusal) → IsOrdinary (Refuse r)
-        → ((k : CheckpointValue) (m0 m : LogMap) (s : State)
-        → (state new.store.log.device).keeps_model → IsIn state v k m0 m s
-        → Parent s.tree path (At d) → Step (segments_of v) s call (Refuse r) s)
+        → IsRefused state lawful v old path d piece reached running call new r
         → Serves state v (seen new) call (Refuse r)
-    refused = new_refuses new only.still
+    refused = walk_refuses state lawful v old path d piece reached running call of.unclean new
+        only.still
 
     -- the directory doesn't take the entry
     pub entry_refused : (fault : FsError)
@@ -235,18 +207,4 @@ module _ {D : Type 0} (state : D → DeviceState) (lawful : (d : D) → IsLawful
         let before = only.still.reads.looks.carries.kept_before keeps in
         rises state lawful v old path d piece reached l is_last new only k m0 m s is
         (reached.walk k m0 m s before is) keeps why))
-    entry_refused error.NotDir why = absurd why
-    entry_refused error.IsDir why = absurd why
-    entry_refused error.NotEmpty why = absurd why
-    entry_refused error.Loop why = absurd why
-    entry_refused error.Perm why = absurd why
-    entry_refused error.Busy why = absurd why
-    entry_refused error.BadHandle why = absurd why
-    entry_refused error.TooManyOpen why = absurd why
-    entry_refused error.TooManyLinks why = absurd why
-    entry_refused error.FileTooBig why = absurd why
-    entry_refused error.NoSpace why = absurd why
-    entry_refused error.NoNumber why = absurd why
-    entry_refused error.NoMemory why = absurd why
-    entry_refused error.Stuck why = absurd why
-    entry_refused error.Worn why = absurd why
+    entry_refused fault why = absurd why

@@ -1,6 +1,6 @@
 -- An entry that was looked up in the directory of a path's last piece, in each state that the
 -- volume may be in.
-use Rattle.std.proofs.Common.{◌≡◌, ◌≢◌, ◌⊎◌, ◌<◌, ◌≤◌, ◌||◌, ℕ, Bool, true, false, List, length, Option, Some, None, sym, ◌∙◌, ap, subst, ⊎_elim, nat_lt, arith}
+use Rattle.std.proofs.Common.{◌≡◌, ◌≢◌, ◌⊎◌, ◌<◌, ◌≤◌, ◌||◌, ℕ, Bool, true, false, List, length, Option, Some, None, sym, ◌∙◌, ap, subst, ⊎_elim, nat_lt, arith, inl}
 use Rattle.std.specs.Prelude.{unwrap_or}
 use Rattle.std.specs.FinMap.{find}
 use Rattle.lfs_model.specs.declared.Kind.{Kind}
@@ -9,7 +9,7 @@ use Rattle.lfs_model.specs.Checkpoint.{CheckpointValue}
 use Rattle.lfs_model.specs.Device.{DeviceState, IsLawful}
 use Rattle.lfs_model.specs.Objects.{IsDirectory, IsHeaderOf}
 use Rattle.lfs_model.specs.Stands.{LogMap}
-use Rattle.lfs_model.specs.Step.{gives_dir, is_long, is_there, last_dots, name, no_last, target}
+use Rattle.lfs_model.specs.Step.{gives_dir, is_long, is_there, last_dots, name, no_last, target, Step}
 use Rattle.lfs_model.specs.Tree.{Dir, Names, State, Tree, byte_cmp, entry, is_dir, name_limit, names_in, node}
 use Rattle.lfs_model.specs.TreeOf.{node_by}
 use Rattle.lfs_model.specs.Walk.{At, Parent}
@@ -30,15 +30,21 @@ use Rattle.lfs_fs.specs.declared.error.FsError.TheVariants as error
 use Rattle.lfs_fs.specs.declared.fs.Fs.{Fs}
 use Rattle.lfs_fs.specs.Naming.{FailsLook, LooksUp, Reaches}
 use Rattle.lfs_fs.specs.Seen.{HasHeader, LacksHeader, OnlyReads, seen}
-use Rattle.lfs_fs.specs.Volume.{IsIn, IsStill, Mounted, segments_of}
+use Rattle.lfs_fs.specs.Volume.{IsIn, IsStill, Mounted, segments_of, Serves}
 use Rattle.lfs_fs.proofs.Checks.{below, not_below}
 use Rattle.lfs_fs.proofs.CreateEnds.{still_more}
 use Rattle.lfs_fs.proofs.Files.{IsMapOf, dir_there, no_header_none, node_by_header}
 use Rattle.lfs_fs.proofs.Holding.{headers_of_volume, map_of_volume}
 use Rattle.lfs_fs.proofs.InDirectories.{directory_formed, directory_node, entry_in_directory, names_in_directory, new_in_directory, size_of_directory, there_in_directory}
 use Rattle.lfs_fs.proofs.OpenEnds.{no_dir_by}
-use Rattle.lfs_fs.proofs.Serving.{still_in}
+use Rattle.lfs_fs.proofs.Serving.{still_in, served_still}
 use Rattle.lfs_fs.proofs.WalkEnds.{tree_of_volume}
+use Rattle.lfs_model.specs.Call.{Call, Refuse, cleans}
+use Rattle.lfs_model.specs.Refusal as refusals
+use Rattle.lfs_model.specs.Refusal.{Refusal}
+use Rattle.lfs_fs.proofs.Behaving.{IsOrdinary}
+use Rattle.lfs_fs.proofs.CallSteps.{refused_not_worn}
+use Rattle.lfs_fs.proofs.Ending.{not_acknowledged}
 
 module _ {D : Type 0} (state : D → DeviceState) (lawful : (d : D) → IsLawful (state d))
     (v : Mounted D) (old : Fs D) (path : List ℕ) (d : ℕ) (piece : Option Last)
@@ -201,3 +207,41 @@ module _ {D : Type 0} (state : D → DeviceState) (lawful : (d : D) → IsLawful
           lacks)
           rest)
           why
+
+-- ---- a refusal at the end of the walk
+
+module _ {D : Type 0} (state : D → DeviceState) (lawful : (d : D) → IsLawful (state d))
+    (v : Mounted D) (old : Fs D) (path : List ℕ) (d : ℕ) (piece : Option Last)
+    (reached : Reaches state v old path d piece) (running : old.store.log.halted ≡ false)
+    (call : Call) where
+  was : v.log.halted ≡ false
+  was = sym reached.still.reads.halted ∙ running
+
+  -- The model refuses the call so in each state that the volume may be in.
+  abbrev pub IsRefused : Fs D → Refusal → Type 0
+  IsRefused new r = (k : CheckpointValue) (m0 m : LogMap) (s : State)
+      → (state new.store.log.device).keeps_model → IsIn state v k m0 m s
+      → Parent s.tree path (At d) → Step (segments_of v) s call (Refuse r) s
+
+  pub walk_refuses : cleans call ≡ false → (new : Fs D) → IsStill state (seen old) (seen new)
+      → (r : Refusal) → IsOrdinary (Refuse r) → IsRefused new r
+      → Serves state v (seen new) call (Refuse r)
+  walk_refuses unclean new still r ordinary steps =
+      served_still state v (seen new) call (Refuse r) (lawful v.log.device)
+      (still_more state v (seen old) (seen new) (lawful v.log.device) reached.still still) was
+      ordinary (λ p keeps here k m0 m is. (
+      let before = still.reads.looks.carries.kept_before keeps in
+      let step = steps k m0 m p.state keeps is (reached.walk k m0 m p.state before is) in
+      inl (step, refused_not_worn (segments_of v) call p r p.state step unclean)))
+      (not_acknowledged call r)
+
+  -- no directory has number 0
+  pub walk_zero : d ≡ 0 → Serves state v (seen old) call (Refuse refusals.Device)
+  walk_zero zero_is =
+      served_still state v (seen old) call (Refuse refusals.Device) (lawful v.log.device)
+      reached.still was tt (λ p keeps here k m0 m is. absurd (
+      let walk = reached.walk k m0 m p.state keeps is in
+      let dir = (parent_dir (segments_of v) p.state is.log.sound path d walk).0 in
+      let low = (is.log.sound.numbers d (dir_there p.state.tree d dir)).0 in
+      omega (arith, zero_is, low)))
+      (not_acknowledged call refusals.Device)

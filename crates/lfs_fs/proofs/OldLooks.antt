@@ -8,22 +8,12 @@ use Rattle.lfs_store.proofs.LogReads.{held_still}
 use Rattle.lfs_fs.specs.declared.error.FsError.{FsError}
 use Rattle.lfs_fs.specs.declared.error.FsError.TheVariants as error
 use Rattle.lfs_fs.specs.declared.fs.Fs.{Fs}
-use Rattle.lfs_fs.specs.Naming.{LooksNone, LooksUp}
+use Rattle.lfs_fs.specs.Naming.{LooksUp}
 use Rattle.lfs_fs.specs.Seen.{HasHeader, LacksHeader, OnlyReads}
 use Rattle.lfs_fs.specs.Unlinking.{RefusesOld, SeesEntry}
 use Rattle.lfs_fs.proofs.PathEnds.{has_again}
 
 module _ {D : Type 0} (state : D → DeviceState) (old mid : Fs D) (d : ℕ) (name : List ℕ) where
-  -- no answer refuses the entry
-  pub refuses_old : (ends : Bool) (fault : FsError) → LooksNone state old mid d fault
-      → RefusesOld state old mid d name ends fault
-  refuses_old ends fault none = ⊎_elim
-      (λ halted. subst (λ (e : FsError). RefusesOld state old mid d name ends e) (sym halted.0)
-      halted.1)
-      (λ failed. subst (λ (e : FsError). RefusesOld state old mid d name ends e) (sym failed.0)
-      (inl failed.1))
-      none
-
   -- what was found is this
   pub looks_as : (head : Header) (found o : Option ℕ) → found ≡ o
       → LooksUp state old mid d name head found → LooksUp state old mid d name head o

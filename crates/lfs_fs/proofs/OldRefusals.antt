@@ -1,5 +1,5 @@
 -- The refusals of a call that takes an old entry: those of the rule for it.
-use Rattle.std.proofs.Common.{◌≡◌, ◌≢◌, ◌<◌, ◌≤◌, ◌||◌, ℕ, Bool, true, false, List, length, Option, Some, None, sym, ◌∙◌, ap, subst, inl, ⊎_elim, arith}
+use Rattle.std.proofs.Common.{◌≡◌, ◌≢◌, ◌<◌, ◌≤◌, ◌||◌, ℕ, Bool, true, false, List, length, Option, Some, None, sym, ◌∙◌, ap, subst, ⊎_elim}
 use Rattle.lfs_model.specs.declared.Kind.TheVariants as kind
 use Rattle.lfs_model.specs.Call.{Call, Refuse}
 use Rattle.lfs_model.specs.Checkpoint.{CheckpointValue}
@@ -10,7 +10,6 @@ use Rattle.lfs_model.specs.Stands.{LogMap}
 use Rattle.lfs_model.specs.Step.{Step, last_dots, no_last}
 use Rattle.lfs_model.specs.Tree.{State}
 use Rattle.lfs_model.specs.Walk.{At, Parent}
-use Rattle.lfs_model.proofs.Keeps.{parent_dir}
 use Rattle.lfs_files.specs.declared.header.Header.{Header}
 use Rattle.lfs_path.specs.declared.last.Last.{Last}
 use Rattle.lfs_path.specs.Lasts.{HasLast}
@@ -23,17 +22,12 @@ use Rattle.lfs_fs.specs.Naming.{LooksUp, Reaches}
 use Rattle.lfs_fs.specs.Refusals.{refusal_of}
 use Rattle.lfs_fs.specs.Seen.{OnlyReads, seen}
 use Rattle.lfs_fs.specs.Unlinking.{RefusesOld, SeesEntry}
-use Rattle.lfs_fs.specs.Volume.{IsIn, IsStill, Mounted, Serves, segments_of}
+use Rattle.lfs_fs.specs.Volume.{IsIn, Mounted, Serves, segments_of}
 use Rattle.lfs_fs.proofs.Behaving.{IsOrdinary}
-use Rattle.lfs_fs.proofs.CallSteps.{refused_not_worn}
-use Rattle.lfs_fs.proofs.CreateEnds.{still_more}
-use Rattle.lfs_fs.proofs.Ending.{not_acknowledged}
-use Rattle.lfs_fs.proofs.Files.{dir_there}
 use Rattle.lfs_fs.proofs.NameLooks.{only_none}
-use Rattle.lfs_fs.proofs.OldEntries.{dots_are, found_there, gives_directory, gives_plain, has_last, is_missing, long_is, never, rises, short_is, still}
+use Rattle.lfs_fs.proofs.OldEntries.{dots_are, found_there, gives_directory, gives_plain, has_last, is_missing, long_is, never, rises, short_is, still, IsRefused, walk_refuses, walk_zero}
 use Rattle.lfs_fs.proofs.OldEntrySteps.{ChecksOld, OldCall, old_directory, old_dots, old_long, old_missing, old_slash}
 use Rattle.lfs_fs.proofs.ReadingEnds.{failed_serves}
-use Rattle.lfs_fs.proofs.Serving.{served_still}
 
 module _ {D : Type 0} (state : D → DeviceState) (lawful : (d : D) → IsLawful (state d))
     (v : Mounted D) (old : Fs D) (path : List ℕ) (d : ℕ) (call : Call)
@@ -42,49 +36,26 @@ module _ {D : Type 0} (state : D → DeviceState) (lawful : (d : D) → IsLawful
   was : v.log.halted ≡ false
   was = sym reached.still.reads.halted ∙ running
 
-  -- a refusal by a step of the model in each state
-  pub old_refuses : (new : Fs D) → IsStill state (seen old) (seen new) → (r : Refusal)
-      → IsOrdinary (Refuse r)
-      → ((k : CheckpointValue) (m0 m : LogMap) (s : State)
-      → (state new.store.log.device).keeps_model → IsIn state v k m0 m s
-      → Parent s.tree path (At d) → Step (segments_of v) s call (Refuse r) s)
-      → Serves state v (seen new) call (Refuse r)
-  old_refuses new still r ordinary steps =
-      served_still state v (seen new) call (Refuse r) (lawful v.log.device)
-      (still_more state v (seen old) (seen new) (lawful v.log.device) reached.still still) was
-      ordinary (λ p keeps here k m0 m is. (
-      let before = still.reads.looks.carries.kept_before keeps in
-      let step = steps k m0 m p.state keeps is (reached.walk k m0 m p.state before is) in
-      inl (step, refused_not_worn (segments_of v) call p r p.state step of.unclean)))
-      (not_acknowledged call r)
-
   -- a path without a piece
   pub no_piece_perm : piece ≡ None → Serves state v (seen old) call (Refuse refusals.Perm)
   no_piece_perm none =
       let says : no_last path ≡ true = last_says path None (subst (HasLast path) none reached.last) in
-      old_refuses old (only_none state old).still refusals.Perm tt
+      walk_refuses state lawful v old path d piece reached running call of.unclean old
+      (only_none state old).still refusals.Perm tt
       (λ k m0 m s keeps is walk.
       old_dots (segments_of v) s path d call (of.checks s is.log.sound walk)
       (ap (λ (b : Bool). b || last_dots path) says))
 
   -- no directory has number 0
   pub zero_device : d ≡ 0 → Serves state v (seen old) call (Refuse refusals.Device)
-  zero_device zero_is =
-      served_still state v (seen old) call (Refuse refusals.Device) (lawful v.log.device)
-      reached.still was tt (λ p keeps here k m0 m is. absurd (
-      let walk = reached.walk k m0 m p.state keeps is in
-      let dir = (parent_dir (segments_of v) p.state is.log.sound path d walk).0 in
-      let low = (is.log.sound.numbers d (dir_there p.state.tree d dir)).0 in
-      omega (arith, zero_is, low)))
-      (not_acknowledged call refusals.Device)
+  zero_device = walk_zero state lawful v old path d piece reached running call
 
   module _ (l : Last) (is_last : piece ≡ Some l) (new : Fs D) (only : OnlyReads state old new) where
     refused : (r : Refusal) → IsOrdinary (Refuse r)
-        → ((k : CheckpointValue) (m0 m : LogMap) (s : State)
-        → (state new.store.log.device).keeps_model → IsIn state v k m0 m s
-        → Parent s.tree path (At d) → Step (segments_of v) s call (Refuse r) s)
+        → IsRefused state lawful v old path d piece reached running call new r
         → Serves state v (seen new) call (Refuse r)
-    refused = old_refuses new only.still
+    refused = walk_refuses state lawful v old path d piece reached running call of.unclean new
+        only.still
 
     -- ---- the rule in one state
     module _ (k : CheckpointValue) (m0 m : LogMap) (s : State)
@@ -161,19 +132,4 @@ module _ {D : Type 0} (state : D → DeviceState) (lawful : (d : D) → IsLawful
         (λ fails. rises state lawful v old path d piece reached l is_last new only k m0 m s is walk keeps fails)
         (λ odd. never state lawful v old path d piece reached l is_last new only k m0 m s is walk keeps odd.0 odd.1 odd.2 odd.3)
         why))
-    entry_refused error.Exist why = absurd why
-    entry_refused error.Inval why = absurd why
-    entry_refused error.DirFull why = absurd why
-    entry_refused error.IsDir why = absurd why
-    entry_refused error.NotEmpty why = absurd why
-    entry_refused error.Loop why = absurd why
-    entry_refused error.Busy why = absurd why
-    entry_refused error.BadHandle why = absurd why
-    entry_refused error.TooManyOpen why = absurd why
-    entry_refused error.TooManyLinks why = absurd why
-    entry_refused error.FileTooBig why = absurd why
-    entry_refused error.NoSpace why = absurd why
-    entry_refused error.NoNumber why = absurd why
-    entry_refused error.NoMemory why = absurd why
-    entry_refused error.Stuck why = absurd why
-    entry_refused error.Worn why = absurd why
+    entry_refused fault why = absurd why

@@ -1,5 +1,5 @@
 -- The ends of the calls that read, and what a call that begins makes of its end.
-use Rattle.std.proofs.Common.{◌≡◌, ◌≢◌, ◌<◌, ◌≤◌, ◌+◌, ◌-◌, ◌*◌, ℕ, Bool, true, false, ◌&&◌, List, length, Some, None, Result, Ok, Err, Vec, Global, refl, sym, ◌∙◌, ap, subst, inl, inr, ⊎_elim, arith}
+use Rattle.std.proofs.Common.{◌≡◌, ◌≢◌, ◌<◌, ◌≤◌, ◌+◌, ◌-◌, ◌*◌, ℕ, Bool, true, false, ◌&&◌, List, length, Some, None, Result, Ok, Err, Vec, Global, refl, sym, ◌∙◌, ap, subst, inl, inr, ⊎_elim, arith, ◌⊎◌}
 use Rattle.lfs_model.specs.Call.{Answer, Call, Data, Pread, Refuse, Room, Space, changes, cleans, commits, is_ok, takes_no_memory}
 use Rattle.lfs_model.specs.Checkpoint.{CheckpointValue}
 use Rattle.lfs_model.specs.Device.{DeviceState, IsLawful}
@@ -131,6 +131,24 @@ module _ {D : Type 0} (state : D → DeviceState) (old new : Mounted D) (call : 
       let rose = rises k m0 m p.state keeps is in
       inr (Device, refl, (free, (let f = here.failures in omega (arith, f, rose))), refl)))
       (not_acknowledged call Device)
+
+  -- memory was refused, or a call of the device failed
+  pub fails_serves : commits call ≡ false → takes_no_memory call ≡ false → (fault : FsError)
+      → (fault ≡ error.NoMemory) ⊎ ((fault ≡ error.Device) × AfterEach
+      (λ m s. (state old.log.device).failures < (state new.log.device).failures))
+      → Serves state old new call (Refuse (refusal_of fault))
+  fails_serves free takes fault why = ⊎_elim
+      (λ memory. subst (λ (e : FsError). Serves state old new call (Refuse (refusal_of e)))
+      (sym memory) (memory_serves state old new call lawful still was takes))
+      (λ failed. subst (λ (e : FsError). Serves state old new call (Refuse (refusal_of e)))
+      (sym failed.0) (failed_serves free failed.1))
+      why
+
+  pub none_serves : commits call ≡ false → takes_no_memory call ≡ false → (fault : FsError)
+      → (fault ≡ error.NoMemory) ⊎ ((fault ≡ error.Device) × IsReadFault state old.log new.log)
+      → Serves state old new call (Refuse (refusal_of fault))
+  none_serves free takes fault why = fails_serves free takes fault (⊎_elim inl
+      (λ failed. inr (failed.0, λ k m0 m s keeps is. failed.1 k m0 m keeps is.stores.holds)) why)
 
 -- ---- where an object is there
 

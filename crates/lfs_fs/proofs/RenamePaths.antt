@@ -29,7 +29,7 @@ use Rattle.lfs_fs.specs.Naming.{Reaches}
 use Rattle.lfs_fs.specs.Refusals.{refusal_of}
 use Rattle.lfs_fs.specs.Renaming.{ReachesBoth}
 use Rattle.lfs_fs.specs.Seen.{OnlyReads, seen}
-use Rattle.lfs_fs.specs.Volume.{IsStill, Mounted, Serves, segments_of}
+use Rattle.lfs_fs.specs.Volume.{Mounted, Serves, segments_of}
 use Rattle.lfs_fs.proofs.CreateEnds.{still_more}
 use Rattle.lfs_fs.proofs.LaterPaths.{later_refused}
 use Rattle.lfs_fs.proofs.RenameSteps.{rename_refused, rename_refused_next}

@@ -1,5 +1,5 @@
 -- The refusals of rename, from what its steps tell of both names to the call as a step of the model.
-use Rattle.std.proofs.Common.{◌≡◌, ◌≢◌, ◌⊎◌, ◌<◌, ◌≤◌, ◌^◌, ◌||◌, ◌&&◌, not, ℕ, Bool, true, false, List, length, Option, Some, None, eqb, refl, sym, ◌∙◌, ap, subst, inl, inr, ⊎_elim, nat_le, nat_lt, arith}
+use Rattle.std.proofs.Common.{◌≡◌, ◌≢◌, ◌<◌, ◌≤◌, ◌^◌, ◌||◌, ◌&&◌, not, ℕ, Bool, true, false, List, length, Option, Some, None, eqb, refl, sym, ◌∙◌, ap, subst, inl, inr, ⊎_elim, nat_le, nat_lt, arith}
 use Rattle.std.specs.Prelude.{◌==◌, is_some}
 use Rattle.std.proofs.lemmas.Bool.{eq-eqb, eqb-true}
 use Rattle.std.proofs.lemmas.Bool.Decides.{nat_tests}
@@ -16,7 +16,6 @@ use Rattle.lfs_model.specs.Walk.{At, Parent}
 use Rattle.lfs_model.proofs.Growing.{same_or_not}
 use Rattle.lfs_model.proofs.Shrinking.{named_counts}
 use Rattle.lfs_files.specs.declared.header.Header.{Header}
-use Rattle.lfs_store.specs.memory.Batch.{staged}
 use Rattle.lfs_store.proofs.Apart.{no_change}
 use Rattle.lfs_path.specs.declared.last.Last.{Last}
 use Rattle.lfs_path.specs.Lasts.{HasLast}
@@ -45,10 +44,13 @@ use Rattle.lfs_fs.proofs.Files.{IsMapOf}
 use Rattle.lfs_fs.proofs.Holding.{headers_of_volume, map_of_volume}
 use Rattle.lfs_fs.proofs.NameLooks.{only_none}
 use Rattle.lfs_fs.proofs.ReadingEnds.{failed_serves}
-use Rattle.lfs_fs.proofs.RenameSteps.{AreNamed, NamesSource, PassesAll, StopsAt, before_space, conditions, from_directory, from_next, from_same, from_source, passes_new, passes_replaced, rename_stops, stops_directory, stops_done, stops_empty, stops_full, stops_is_dir, stops_links, stops_next, stops_not_dir, stops_same, stops_slash, stops_source, stops_within, stops_within_new}
-use Rattle.lfs_fs.proofs.RenameViews.{dir, full_is, free_is, given, gives_is, has_entries, is_empty, links_are, may_look, may_name, plain_empty, range_is, short_is, target_is, there_is}
+use Rattle.lfs_fs.proofs.RenameSteps.{AreNamed, NamesSource, PassesAll, StopsAt, before_space, conditions, from_directory, from_same, passes_new, passes_replaced, rename_stops, stops_directory, stops_done, stops_empty, stops_full, stops_is_dir, stops_links, stops_next, stops_not_dir, stops_same, stops_slash, stops_source, stops_within, stops_within_new}
+use Rattle.lfs_fs.proofs.RenameViews.{dir, full_is, free_is, given, gives_is, has_entries, is_empty, links_are, may_look, may_name, plain_empty, range_is, target_is, there_is}
 use Rattle.lfs_fs.proofs.Serving.{point_of, served_still, still_in}
 use Rattle.lfs_fs.proofs.WalkEnds.{tree_of_volume}
+use Rattle.lfs_store.specs.declared.draft.Draft.{Draft}
+use Rattle.lfs_store.specs.memory.Batch.{IsNoChange}
+use Rattle.lfs_fs.proofs.RenamedDrafts.{StartsRename}
 
 other_way : (x y : ℕ) (b : Bool) → eqb x y ≡ b → eqb y x ≡ b
 other_way x y true is = eq-eqb y x (sym (eqb-true x y is))
@@ -67,10 +69,6 @@ ordinary_room : (k : Kind) (h : Header) (fault : FsError) → RefusesRoom k h fa
 ordinary_room k h error.DirFull why = tt
 ordinary_room k h error.TooManyLinks why = tt
 ordinary_room k h fault why = absurd why
-
-and_none : (x y : Bool) → (x && false && y) ≡ false
-and_none true y = refl
-and_none false y = refl
 
 module _ {D : Type 0} (state : D → DeviceState) (lawful : (d : D) → IsLawful (state d)) (v : Mounted D) (old : Fs D) (a : List ℕ) (da : ℕ) (from : Option Last) (b chain : List ℕ) (to : Option Last)
     (reached : ReachesBoth state v old a da from b chain to) (running : old.store.log.halted ≡ false) where
@@ -480,5 +478,41 @@ module _ {D : Type 0} (state : D → DeviceState) (lawful : (d : D) → IsLawful
                     ∙ not_at_most 1000 (links s.tree db) (let same = links_b k m0 m s keeps is source checks.both.first dest checks.both.second none in let few = (fits (elsewhere ne)).links kind in omega (arith, same, few))
                 by_kind ne false kind = λ i. kind i && true && not (da == db) && nat_le 1000 (links s.tree db)
 
-        pub checks_pass : PassesAll (before_space N s a b da db)
+        checks_pass : PassesAll (before_space N s a b da db)
         checks_pass = passes_by dest.replaced refl checks.other checks.fits
+
+        -- the rename starts so
+        pub starts : StartsRename state v new k m0 m s a b source dest
+        starts = record {
+          still = now;
+          empty = subst (λ (x : Draft). IsNoChange x.changes) (sym only.draft) reached.empty;
+          is = is;
+          named_a = checks.both.first.named ∙ sym says.1;
+          named_b = checks.both.second.named ∙ sym says_other.1;
+          moves = record {
+            map = volume k m0 m s keeps is;
+            headers = headers_of_volume state v k m0 m s is;
+            walk_a = subst (λ (q : ℕ). Parent s.tree a (At q)) (sym checks.both.first.directory)
+                (walk k m0 m s keeps is);
+            walk_b = subst (λ (q : ℕ). Parent s.tree b (At q)) (sym checks.both.second.directory)
+                (comes k m0 m s keeps is).ends;
+            looks_a = subst (λ (q : ℕ). LooksAt m q (name a) source.holder (Some source.object))
+                (sym checks.both.first.directory)
+                (looks_first k m0 m s keeps is source checks.both.first);
+            looks_b = subst (λ (q : ℕ). LooksAt m q (name b) dest.holder dest.replaced)
+                (sym checks.both.second.directory)
+                (looks_second k m0 m s keeps is source checks.both.first dest checks.both.second
+                dest.replaced refl);
+            few_a = checks.both.first.finds.size;
+            few_b = checks.both.second.finds.size;
+            other = checks.other;
+            fits = checks.fits;
+          };
+        }
+
+        -- and nothing but the need of space may refuse it
+        pub passes : PassesAll (before_space N s a b source.directory dest.directory)
+        passes = subst (λ (q : ℕ). PassesAll (before_space N s a b q dest.directory))
+            (sym checks.both.first.directory)
+            (subst (λ (q : ℕ). PassesAll (before_space N s a b da q))
+            (sym checks.both.second.directory) checks_pass)

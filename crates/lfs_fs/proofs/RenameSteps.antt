@@ -1,5 +1,5 @@
 -- The call rename, exit by exit.
-use Rattle.std.proofs.Common.{◌≡◌, ◌⊎◌, ◌<◌, ◌≤◌, ◌*◌, ◌++◌, ℕ, Bool, true, false, not, ◌&&◌, ◌||◌, List, [], ◌∷◌, length, refl, sym, ◌∙◌, ap, inl, inr, ⊎_elim, nat_le, nat_lt}
+use Rattle.std.proofs.Common.{◌≡◌, ◌⊎◌, ◌<◌, ◌≤◌, ◌*◌, ◌++◌, ℕ, Bool, true, false, not, ◌&&◌, ◌||◌, List, [], ◌∷◌, length, refl, ◌∙◌, ap, inl, inr, ⊎_elim, nat_le, nat_lt}
 use Rattle.std.specs.Prelude.{◌==◌, if◌then◌else◌}
 use Rattle.lfs_model.specs.Call.{Answer, Done, Refuse, Rename}
 use Rattle.lfs_model.specs.Need.{need}

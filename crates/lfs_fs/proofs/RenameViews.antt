@@ -1,27 +1,24 @@
 -- What a name gives in the directory of a path's last piece, as the model sees it.
-use Rattle.std.proofs.Common.{◌≡◌, ◌≢◌, ◌<◌, ◌≤◌, ◌+◌, ◌*◌, ◌||◌, ℕ, Bool, true, false, List, [], length, Option, Some, None, refl, sym, ◌∙◌, ap, subst, nat_lt, arith}
-use Rattle.std.specs.Prelude.{count_by, is_some, unwrap_or}
-use Rattle.std.specs.FinMap.{find}
+use Rattle.std.proofs.Common.{◌≡◌, ◌<◌, ◌≤◌, ◌*◌, ◌||◌, ℕ, true, false, List, [], length, Option, Some, None, refl, sym, ◌∙◌, ap, nat_lt, arith}
+use Rattle.std.specs.Prelude.{is_some, unwrap_or}
 use Rattle.lfs_model.specs.declared.Kind.{Kind}
 use Rattle.lfs_model.specs.declared.Kind.TheVariants as kinds
 use Rattle.lfs_model.specs.Bytes.{AreBytes}
 use Rattle.lfs_model.specs.Entry as entries
 use Rattle.lfs_model.specs.Objects.{IsHeaderOf}
-use Rattle.lfs_model.specs.Slot.{IsName}
 use Rattle.lfs_model.specs.Stands.{LogMap}
-use Rattle.lfs_model.specs.Step.{gives_dir, is_full, is_long, is_there, last_dots, name, no_last, target}
-use Rattle.lfs_model.specs.Tree.{Dir, File, Link, Names, Node, State, Tree, byte_cmp, entry, is_dir, links, links_at, name_limit, names_in, names_of, node}
+use Rattle.lfs_model.specs.Step.{gives_dir, is_full, is_there, last_dots, name, no_last, target}
+use Rattle.lfs_model.specs.Tree.{Dir, File, Link, Names, Node, State, Tree, entry, is_dir, links, links_at, name_limit, names_in, names_of, node}
 use Rattle.lfs_model.specs.TreeOf.{node_by}
 use Rattle.lfs_model.specs.Walk.{At, Parent}
 use Rattle.lfs_model.proofs.Keeps.{parent_dir}
 use Rattle.lfs_files.specs.declared.header.Header.{Header}
 use Rattle.lfs_store.specs.memory.Present.{as_header}
-use Rattle.lfs_path.specs.dirs.Directory.{names_at}
 use Rattle.lfs_fs.specs.declared.moving.Object.{Object}
-use Rattle.lfs_fs.specs.Renaming.{IsObject, LooksAt, MayLook, MayName, is_directory, number_of}
+use Rattle.lfs_fs.specs.Renaming.{LooksAt, MayLook, MayName, is_directory, number_of}
 use Rattle.lfs_fs.proofs.Checks.{below, not_below}
 use Rattle.lfs_fs.proofs.Files.{IsMapOf, dir_there, no_header_none, node_by_header}
-use Rattle.lfs_fs.proofs.InDirectories.{directory_formed, directory_node, entry_in_directory, free_directory, full_directory, limit_in_directory, long_in_directory, names_in_directory, short_in_directory, size_of_directory}
+use Rattle.lfs_fs.proofs.InDirectories.{directory_formed, directory_node, entry_in_directory, free_directory, full_directory, names_in_directory, size_of_directory}
 use Rattle.lfs_fs.proofs.LastNames.{last_is_name}
 
 dir_by : (m : LogMap) (k : Kind) (n : ℕ) (h : entries.Header) → is_dir (Some (node_by m k n h)) ≡ is_directory k
@@ -29,7 +26,7 @@ dir_by m kinds.File n h = refl
 dir_by m kinds.Directory n h = refl
 dir_by m kinds.Link n h = refl
 
-none_in : (x : Option Node) → is_dir x ≡ false → names_of (unwrap_or x (File [])) ≡ []
+pub none_in : (x : Option Node) → is_dir x ≡ false → names_of (unwrap_or x (File [])) ≡ []
 none_in None plain = refl
 none_in (Some (File b)) plain = refl
 none_in (Some (Dir form ms)) plain = cc
@@ -39,7 +36,7 @@ found_is : (o : Option Object) → is_some (number_of o) ≡ is_some o
 found_is None = refl
 found_is (Some x) = refl
 
-two_links : (x : Option Node) (t : Tree) (d : ℕ) → is_dir x ≡ true → 2 ≤ links_at t d x
+pub two_links : (x : Option Node) (t : Tree) (d : ℕ) → is_dir x ≡ true → 2 ≤ links_at t d x
 two_links None t d dir = cc
 two_links (Some (File b)) t d dir = cc
 two_links (Some (Dir form ms)) t d dir = omega arith
@@ -108,12 +105,6 @@ module _ (N : ℕ) (m : LogMap) (s : State) (is : IsMapOf N m s) (headers : (n :
 
       pub there_is : is_there s.tree d p ≡ is_some found
       there_is = ap is_some entry_is ∙ found_is found
-
-      pub long_is : 59 < length (name p) → is_long s.tree d p ≡ true
-      long_is = long_in_directory N m s is d dir head looks.header p
-
-      pub short_is : length (name p) ≤ 59 → is_long s.tree d p ≡ false
-      short_is = short_in_directory N m s is d dir head looks.header p
 
       pub full_is : 65472 < head.size → is_full s.tree d ≡ true
       full_is large =

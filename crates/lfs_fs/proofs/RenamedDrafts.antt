@@ -1,169 +1,43 @@
 -- What the steps of a rename draft, as one change of the log map: that of the state after the
 -- call.
-use Rattle.std.proofs.Common.{
-  arith,
-  ◌≡◌,
-  ◌≢◌,
-  ◌⊎◌,
-  ◌≤◌,
-  ◌+◌,
-  ◌-◌,
-  ◌&&◌,
-  ◌||◌,
-  not,
-  ℕ,
-  Bool,
-  true,
-  false,
-  List,
-  length,
-  Option,
-  Some,
-  None,
-  refl,
-  sym,
-  ◌∙◌,
-  ap,
-  subst,
-  inl,
-  inr,
-  ⊎_elim,
-  eqb,
-  nat_lt,
-}
-use Rattle.std.specs.Prelude.{◌==◌, if◌then◌else◌, is_some, is_none}
-use Rattle.std.proofs.lemmas.Bool.Decides.{eqb_tells}
+use Rattle.std.proofs.Common.{◌≡◌, ◌≢◌, ◌⊎◌, ◌+◌, ◌-◌, ◌&&◌, not, ℕ, Bool, true, false, List, Option, Some, None, refl, sym, ◌∙◌, ap, subst, inl, inr, ⊎_elim}
+use Rattle.std.specs.Prelude.{if◌then◌else◌, is_none}
 use Rattle.lfs_model.specs.declared.Kind.{Kind}
 use Rattle.lfs_model.specs.declared.Kind.TheVariants as kinds
-use Rattle.lfs_model.specs.Call.{AreArguments, Done, Rename}
 use Rattle.lfs_model.specs.Checkpoint.{CheckpointValue}
 use Rattle.lfs_model.specs.Device.{DeviceState}
-use Rattle.lfs_model.specs.Entry as entries
-use Rattle.lfs_model.specs.Objects.{IsHeaderOf, one_if}
 use Rattle.lfs_model.specs.Stands.{LogMap}
-use Rattle.lfs_model.specs.Step.{Step, name}
-use Rattle.lfs_model.specs.Tree.{State, entry, is_dir, names_in, node, opened}
-use Rattle.lfs_model.specs.TreeOf.{tree_in}
-use Rattle.lfs_model.specs.Walk.{At, Parent}
-use Rattle.lfs_model.proofs.Keeps.{parent_dir}
+use Rattle.lfs_model.specs.Step.{name}
+use Rattle.lfs_model.specs.Tree.{State}
 use Rattle.lfs_files.specs.declared.header.Header.{Header}
 use Rattle.lfs_store.specs.memory.declared.changes.Changes.{Changes}
 use Rattle.lfs_store.specs.memory.Batch.{IsNoChange, staged}
 use Rattle.lfs_store.specs.memory.Present.{as_header}
-use Rattle.lfs_store.specs.log.Held.{Held, Holds}
+use Rattle.lfs_store.specs.log.Held.{Holds}
 use Rattle.lfs_store.specs.log.verify.declared.totals.BlockTotals.{BlockTotals}
-use Rattle.lfs_store.specs.Making.{relinked}
-use Rattle.lfs_store.specs.Recounting.{AreTotals}
+use Rattle.lfs_store.specs.Recounting.{AreTotals, Counts}
 use Rattle.lfs_store.proofs.Apart.{no_change}
 use Rattle.lfs_fs.specs.declared.fs.Fs.{Fs}
 use Rattle.lfs_fs.specs.declared.moving.Object.{Object}
 use Rattle.lfs_fs.specs.declared.moving.Source.{Source}
 use Rattle.lfs_fs.specs.declared.moving.Target.{Target}
-use Rattle.lfs_fs.specs.Drafted.{Adds}
 use Rattle.lfs_fs.specs.Handles.{handles_of}
-use Rattle.lfs_fs.specs.Renaming.{
-  NamesFound,
-  DropsFound,
-  DropsObject,
-  FitsReplaced,
-  LooksAt,
-  RelinksBoth,
-  RelinksWhere,
-  RepointsTo,
-  fewer_links,
-  gains_directory,
-  is_directory,
-  loses_directory,
-  more_links,
-}
-use Rattle.lfs_fs.specs.Unlinking.{GoesWhole, LosesLink, Relinks, TakesOut}
-use Rattle.lfs_fs.proofs.Files.{IsMapOf, IsShaped, shape_of}
-use Rattle.lfs_fs.proofs.InDirectories.{entry_in_directory}
-use Rattle.lfs_fs.proofs.MovedDrafts.{all_lost, link_kept, links_left, links_set}
+use Rattle.lfs_fs.specs.Renaming.{NamesFound, DropsFound, DropsObject, RelinksWhere, fewer_links, gains_directory, is_directory, loses_directory, more_links, DraftsTake, second_holder, DraftsMove, DraftsLinks}
+use Rattle.lfs_fs.specs.Unlinking.{LosesLink}
+use Rattle.lfs_fs.proofs.Files.{IsShaped}
+use Rattle.lfs_fs.proofs.MovedDrafts.{all_lost, links_left, links_set, link_lost, link_totals}
 use Rattle.lfs_fs.proofs.KeptMaps.{HasHolder}
 use Rattle.lfs_fs.proofs.MovedMaps as moves
-use Rattle.lfs_fs.proofs.MovedMaps.{DraftsMove, DraftsName, DraftsOver, second_after}
-use Rattle.lfs_fs.proofs.RenameViews.{is_empty, kind_is, plain_empty}
-use Rattle.lfs_fs.proofs.RenamedFiles.{
-  LosesName,
-  free_map,
-  free_shape,
-  free_tree,
-  lost_shape,
-  lost_a,
-  lost_b,
-  holder_a,
-  holder_b,
-  over_map,
-  over_shape,
-  over_tree_is,
-  renamed,
-  tree_after,
-}
-
--- The log map is that of the state after the call, if that comes to its end.
-pub record IsMoved (N : ℕ) (m5 : LogMap) (s : State) (a b : List ℕ) (da db : ℕ) : Type 0 where
-  pub shape : IsShaped m5
-  pub tree : tree_in m5 ≡ tree_after s a b da db
-  pub map : AreArguments (Rename a b) → Step N s (Rename a b) Done (renamed s a b da db)
-      → IsMapOf N m5 (renamed s a b da db)
-
--- The log maps up to it, with what is asked of each to draft the next.
-pub record AreStages (m1 m2 m3 m4 : LogMap) (da db : ℕ) (a b from to : Header) : Type 0 where
-  pub lost : IsShaped m1
-  pub first : HasHolder m1 da a
-  pub second : HasHolder m1 db b
-  pub between : IsShaped m2
-  pub linked : IsShaped m3
-  pub source : HasHolder m3 da from
-  pub moved : IsShaped m4
-  pub target : HasHolder m4 db to
-
-pub stages_of : (m1 m2 m3 m4 : LogMap) (da db : ℕ) (a b : Header) (la lb : ℕ) (na : List ℕ)
-    → IsShaped m1 → HasHolder m1 da a → HasHolder m1 db b
-    → DraftsMove m1 m2 m3 m4 da db a b la lb na
-    → AreStages m1 m2 m3 m4 da db a b (relinked a la) (second_after da db a b la lb)
-stages_of m1 m2 m3 m4 da db a b la lb na kept has_a has_b drafts = record {
-  lost = kept;
-  first = has_a;
-  second = has_b;
-  between = moves.kept_2 m1 m2 m3 m4 da db a b la lb na kept has_a has_b drafts;
-  linked = (moves.relinked_maps m1 m2 m3 m4 da db a b la lb na kept has_a has_b drafts).0;
-  source = moves.a_3 m1 m2 m3 m4 da db a b la lb na kept has_a has_b drafts;
-  moved = moves.moved_kept m1 m2 m3 m4 da db a b la lb na kept has_a has_b drafts;
-  target = moves.second_holder m1 m2 m3 m4 da db a b la lb na kept has_a has_b drafts
-      (second_after da db a b la lb)
-      (moves.second_there m1 m2 m3 m4 da db a b la lb na kept has_a has_b drafts);
-}
+use Rattle.lfs_fs.proofs.MovedMaps.{IsMoving}
+use Rattle.lfs_fs.proofs.LostNames.{LosesName, KeepsLink, LosesAll}
+use Rattle.lfs_fs.proofs.RenamedFiles.{lost_shape, lost_a, lost_b, holder_a, holder_b, IsMoved, IsRename, apart_first, apart_second, free_moved, looks_o, over_moved, shaped}
+use Rattle.lfs_fs.specs.Volume.{IsIn, IsStill, Mounted, segments_of}
+use Rattle.lfs_model.specs.Encodes.{IsLogMap}
+use Rattle.std.proofs.lemmas.Bool.{cases_eq, eq-eqb}
+use Rattle.lfs_store.proofs.LogReads.{held_still}
+use Rattle.lfs_fs.specs.Seen.{seen}
 
 -- ---- links
-
-fewer_free : (d e : Bool) (l : ℕ)
-    → (if d && (not e || false) then l - 1 else l) ≡ l - one_if (d && not e)
-fewer_free true true l = omega arith
-fewer_free true false l = refl
-fewer_free false e l = omega arith
-
-more_free : (d e : Bool) (l : ℕ)
-    → (if d && (not e && true) then l + 1 else l) ≡ l + one_if (d && not e)
-more_free true true l = omega arith
-more_free true false l = refl
-more_free false e l = omega arith
-
-fewer_over : (d e : Bool) (l : ℕ) → (if d && (not e || true) then l - 1 else l) ≡ l - one_if d
-fewer_over true true l = refl
-fewer_over true false l = refl
-fewer_over false e l = omega arith
-
-more_over : (d e : Bool) (l : ℕ) → (if d && (not e && false) then l + 1 else l) ≡ l
-more_over true true l = refl
-more_over true false l = refl
-more_over false e l = refl
-
-pub no_gain : (d e f : Bool) → e ≡ true → (d && (not e && f)) ≡ false
-no_gain true true f is = refl
-no_gain true false f is = cc
-no_gain false e f is = refl
 
 relinks_where : (v : Bool) (c c' : Changes) (m : LogMap) (d : ℕ) (head : Header) (l : ℕ)
     (t : BlockTotals) → (v ≡ false → l ≡ head.links) → RelinksWhere v c c' d head l t
@@ -171,128 +45,120 @@ relinks_where : (v : Bool) (c c' : Changes) (m : LogMap) (d : ℕ) (head : Heade
 relinks_where false c c' m d head l t same links = links_left c c' m d head l links (same refl)
 relinks_where true c c' m d head l t same links = links_set c c' m d head l links.0
 
--- ---- the moved name, in the draft
+totals_where : (v : Bool) (c c' : Changes) (m : LogMap) (d : ℕ) (head : Header) (l : ℕ)
+    (t : BlockTotals) → RelinksWhere v c c' d head l t
+    → (staged c m).header d ≡ Some (as_header head) → AreTotals (staged c m) t
+    → AreTotals (staged c' m) t
+totals_where false c c' m d head l t same there are =
+    subst (λ (x : Changes). AreTotals (staged x m) t) (sym same) are
+totals_where true c c' m d head l t relinks there are = relinks.1 m there are
 
-module _ {D : Type 0} (state : D → DeviceState) (h h' : Held D) (c1 c3 c4 : Changes)
-    (source : Source) (target : Target) (t t' u : BlockTotals)
-    (links : RelinksBoth c1 c3 source target u) (nm : List ℕ)
-    (takes : TakesOut state h h' c3 c4 source.directory
-    (relinked source.holder (fewer_links source target)) nm t t')
-    (k : CheckpointValue) (m0 m : LogMap) (keeps : (state h'.device).keeps_model)
-    (holds : Holds state h k m0 m) where
-  same_fewer : loses_directory source target ≡ false
-      → fewer_links source target ≡ source.holder.links
-  same_fewer off = ap
-      (λ (v : Bool). if v then source.holder.links - 1 else source.holder.links) off
+gains_none : (source : Source) (dest : Target) → source.directory ≡ dest.directory
+    → gains_directory source dest ≡ false
+gains_none source dest same =
+    ap (λ (b : Bool). is_directory source.object.header.kind && (not b && is_none dest.replaced))
+    (eq-eqb source.directory dest.directory same) ∙ never (is_directory source.object.header.kind)
+  where
+    never : (b : Bool) → (b && false) ≡ false
+    never true = refl
+    never false = refl
 
-  same_more : gains_directory source target ≡ false
-      → more_links source target ≡ target.holder.links
-  same_more off = ap
-      (λ (v : Bool). if v then target.holder.links + 1 else target.holder.links) off
+-- ---- the first name, in the draft
 
-  one_directory : source.directory ≡ target.directory → staged c3 m ≡ staged links.between m
-  one_directory e = ap (λ (c : Changes). staged c m) (by (gains_directory source target)
-      (⊎_elim
-      (λ (h : (eqb source.directory target.directory ≡ true)
-      × (source.directory ≡ target.directory)).
-      no_gain (is_directory source.object.header.kind) (source.directory == target.directory)
-      (is_none target.replaced) h.0)
-      (λ (h : (eqb source.directory target.directory ≡ false)
-      × (source.directory ≢ target.directory)). absurd (h.1 e))
-      (eqb_tells source.directory target.directory)) links.second)
-    where
-      by : (v : Bool) → v ≡ false
-          → RelinksWhere v links.between c3 target.directory target.holder
-          (more_links source target) u
-          → c3 ≡ links.between
-      by false off is = is
-      by true off is = cc
+pub holds_mid : {D : Type 0} {state : D → DeviceState} {old mid : Fs D} {source : Source}
+    {dest : Target} → DraftsLinks state old mid source dest
+    → (k : CheckpointValue) (m0 m : LogMap) → Holds state old.store.log k m0 m
+    → Holds state mid.store.log k m0 m
+holds_mid {D} {state} {old} {mid} links k m0 m holds =
+    held_still state links.lost.store.log mid.store.log k m0 m links.next.reads
+    (held_still state old.store.log links.lost.store.log k m0 m links.still.reads holds)
 
-  pub drafts_move : DraftsMove (staged c1 m) (staged links.between m) (staged c3 m) (staged c4 m)
-      source.directory target.directory source.holder target.holder
-      (fewer_links source target) (more_links source target) nm
-  drafts_move = record {
-    first = relinks_where (loses_directory source target) c1 links.between m source.directory
-        source.holder (fewer_links source target) u same_fewer links.first;
-    second = ⊎_elim
-        (λ (h : (eqb source.directory target.directory ≡ true)
-        × (source.directory ≡ target.directory)). inr (h.1, one_directory h.1))
-        (λ (h : (eqb source.directory target.directory ≡ false)
-        × (source.directory ≢ target.directory)). inl (
-          h.1,
-          relinks_where (gains_directory source target) links.between c3 m target.directory
-              target.holder (more_links source target) u same_more links.second,
-        ))
-        (eqb_tells source.directory target.directory);
-    cut = takes.cut k m0 m keeps holds;
-    takes = takes.names k m0 m keeps holds;
-  }
+module _ {D : Type 0} {state : D → DeviceState} {old taken : Fs D} {source : Source} {dest : Target}
+    (takes : DraftsTake state old taken source dest) where
+  abbrev lost : Fs D
+  lost = takes.links.lost
 
-  -- ---- the totals with it
-  totals_where : (v : Bool) (c c' : Changes) (d : ℕ) (head : Header) (l : ℕ)
-      → RelinksWhere v c c' d head l u → (v ≡ true → (staged c m).header d ≡ Some (as_header head))
-      → AreTotals (staged c m) u → AreTotals (staged c' m) u
-  totals_where false c c' d head l same there are =
-      subst (λ (x : Changes). AreTotals (staged x m) u) (sym same) are
-  totals_where true c c' d head l relinks there are = relinks.1 m (there refl) are
+  abbrev mid : Fs D
+  mid = takes.mid
 
-  module _ (kept : IsShaped (staged c1 m))
-      (has_a : HasHolder (staged c1 m) source.directory source.holder)
-      (has_b : HasHolder (staged c1 m) target.directory target.holder) where
-    pub totals_linked : AreTotals (staged c1 m) u → AreTotals (staged c3 m) u
-    totals_linked are = ⊎_elim
-        (λ (h : (eqb source.directory target.directory ≡ true)
-        × (source.directory ≡ target.directory)).
-        subst (λ (x : LogMap). AreTotals x u) (sym (one_directory h.1)) first)
-        (λ (h : (eqb source.directory target.directory ≡ false)
-        × (source.directory ≢ target.directory)).
-        totals_where (gains_directory source target) links.between c3 target.directory
-        target.holder (more_links source target) links.second
-        (λ on. (moves.b_2 (staged c1 m) (staged links.between m) (staged c3 m) (staged c4 m)
-        source.directory target.directory source.holder target.holder (fewer_links source target)
-        (more_links source target) nm kept has_a has_b drafts_move h.1).there)
-        first)
-        (eqb_tells source.directory target.directory)
-      where
-        first : AreTotals (staged links.between m) u
-        first = totals_where (loses_directory source target) c1 links.between source.directory
-            source.holder (fewer_links source target) links.first (λ on. has_a.there) are
+  abbrev c1 : Changes
+  c1 = lost.store.draft.changes
 
-    pub totals_taken : AreTotals (staged c3 m) t → AreTotals (staged c4 m) t'
-    totals_taken are = takes.counts k m0 m keeps holds
-        (moves.linked_file (staged c1 m) (staged links.between m) (staged c3 m) (staged c4 m)
-        source.directory target.directory source.holder target.holder (fewer_links source target)
-        (more_links source target) nm kept has_a has_b drafts_move)
-        ((moves.relinked_maps (staged c1 m) (staged links.between m) (staged c3 m) (staged c4 m)
-        source.directory target.directory source.holder target.holder (fewer_links source target)
-        (more_links source target) nm kept has_a has_b drafts_move).0.long source.directory)
-        (moves.moved_kept (staged c1 m) (staged links.between m) (staged c3 m) (staged c4 m)
-        source.directory target.directory source.holder target.holder (fewer_links source target)
-        (more_links source target) nm kept has_a has_b drafts_move).map
-        are
+  abbrev c2 : Changes
+  c2 = takes.links.relinks.between
 
--- ---- a name that is written
+  abbrev c3 : Changes
+  c3 = mid.store.draft.changes
 
-module _ {D : Type 0} (state : D → DeviceState) (h h' : Held D) (c4 c5 : Changes) (db n : ℕ)
-    (head : Header) (nm : List ℕ) (k : CheckpointValue) (m0 m : LogMap)
-    (keeps : (state h'.device).keeps_model) (holds : Holds state h k m0 m) where
-  pub drafts_name : Adds state h h' c4 c5 db head n nm
-      → DraftsName (staged c4 m) (staged c5 m) db n head nm
-  drafts_name adds = record {
-    at = _;
-    slot = _;
-    writes = adds.file k m0 m keeps holds;
-    adds = adds.more k m0 m keeps holds;
-  }
+  abbrev c4 : Changes
+  c4 = taken.store.draft.changes
 
-  pub drafts_over : RepointsTo state h h' c4 c5 db head n nm
-      → DraftsOver (staged c4 m) (staged c5 m) db n head nm
-  drafts_over repoints = record {
-    at = _;
-    slot = _;
-    writes = repoints.file k m0 m keeps holds;
-    repoints = repoints.names k m0 m keeps holds;
-  }
+  abbrev da : ℕ
+  da = source.directory
+
+  abbrev db : ℕ
+  db = dest.directory
+
+  abbrev la : ℕ
+  la = fewer_links source dest
+
+  abbrev lb : ℕ
+  lb = more_links source dest
+
+  -- where both names are in one directory, its links are counted once
+  pub second_none : da ≡ db → c3 ≡ c2
+  second_none same = subst
+      (λ (v : Bool). RelinksWhere v c2 c3 db dest.holder lb mid.store.drafted)
+      (gains_none source dest same) takes.links.relinks.second
+
+  module _ {k : CheckpointValue} {m0 m : LogMap} (kept : (state taken.store.log.device).keeps_model)
+      (holds : Holds state old.store.log k m0 m) where
+    holds_linked : Holds state mid.store.log k m0 m
+    holds_linked = holds_mid takes.links k m0 m holds
+
+    pub drafts_move : (nm : List ℕ) → source.name.now ≡ nm
+        → moves.DraftsMove (staged c1 m) (staged c2 m) (staged c3 m) (staged c4 m) da db source.holder
+        dest.holder la lb nm
+    drafts_move nm named = subst
+        (moves.DraftsMove (staged c1 m) (staged c2 m) (staged c3 m) (staged c4 m) da db source.holder
+        dest.holder la lb) named
+        record {
+          first = relinks_where (loses_directory source dest) c1 c2 m da source.holder la
+              mid.store.drafted
+              (ap (λ (v : Bool). if v then source.holder.links - 1 else source.holder.links))
+              takes.links.relinks.first;
+          second = ⊎_elim
+              (λ (same : da ≡ db). inr (same, ap (λ (c : Changes). staged c m) (second_none same)))
+              (λ (ne : da ≡ db → ⊥). inl (
+                ne,
+                relinks_where (gains_directory source dest) c2 c3 m db dest.holder lb
+                    mid.store.drafted
+                    (ap (λ (v : Bool). if v then dest.holder.links + 1 else dest.holder.links))
+                    takes.links.relinks.second,
+              ))
+              (cases_eq da db);
+          cut = takes.takes.cut k m0 m kept holds_linked;
+          takes = takes.takes.names k m0 m kept holds_linked;
+        }
+
+    -- its totals
+    module _ {nm : List ℕ} (moving : IsMoving (staged c1 m) (staged c2 m) (staged c3 m)
+        (staged c4 m) da db source.holder dest.holder la lb nm) where
+      pub totals_taken : AreTotals (staged c1 m) lost.store.drafted
+          → AreTotals (staged c4 m) taken.store.drafted
+      totals_taken are = takes.takes.counts k m0 m kept holds_linked (moves.linked_file moving)
+          ((moves.relinked_maps moving).0.long da) (moves.moved_kept moving).map
+          (⊎_elim
+          (λ (same : da ≡ db). subst (λ (c : Changes). AreTotals (staged c m) mid.store.drafted)
+          (sym (second_none same)) first)
+          (λ (ne : da ≡ db → ⊥). totals_where (gains_directory source dest) c2 c3 m db dest.holder
+          lb mid.store.drafted takes.links.relinks.second (moves.b_2 moving ne).there first)
+          (cases_eq da db))
+        where
+          first : AreTotals (staged c2 m) mid.store.drafted
+          first = totals_where (loses_directory source dest) c1 c2 m da source.holder la
+              mid.store.drafted takes.links.relinks.first moving.has_a.there
+              (subst (AreTotals (staged c1 m)) (sym takes.links.totals) are)
 
 -- ---- what the second name gave
 
@@ -306,22 +172,10 @@ plain_kind kinds.File plain e = absurd (cc)
 plain_kind kinds.Directory plain e = cc
 plain_kind kinds.Link plain e = absurd (cc)
 
-module _ {D : Type 0} (state : D → DeviceState) (old mid : Fs D) (s : State)
+module _ {D : Type 0} {state : D → DeviceState} (old mid : Fs D) (s : State)
     (handles : s.handles ≡ handles_of old.handles.numbers.items)
     (empty : IsNoChange old.store.draft.changes) (m : LogMap) where
-  stays_open : (n : ℕ) (l : ℕ)
-      → (l ≢ 0) ⊎ (opened (handles_of old.handles.numbers.items) n ≢ 0)
-      → (l ≢ 0) ⊎ (opened s.handles n ≢ 0)
-  stays_open n l stays = ⊎_elim (λ some. inl some)
-      (λ (some : opened (handles_of old.handles.numbers.items) n ≢ 0).
-      inr (λ none. some (ap (λ hs. opened hs n) (sym handles) ∙ none)))
-      stays
-
-  pub nothing_dropped : DropsFound state old mid None → staged mid.store.draft.changes m ≡ m
-  nothing_dropped same = ap (λ (c : Changes). staged c m) same.0
-      ∙ no_change old.store.draft.changes m empty
-
-  pub name_lost : (o : Object) → DropsFound state old mid (Some o)
+  name_lost : (o : Object) → DropsFound state old mid (Some o)
       → LosesName s m (staged mid.store.draft.changes m) o.number (as_header o.header)
   name_lost o drops = ⊎_elim
       (λ (goes : (is_directory o.header.kind ≡ true) × DropsObject state old mid o.number).
@@ -329,255 +183,184 @@ module _ {D : Type 0} (state : D → DeviceState) (old mid : Fs D) (s : State)
       (inl (directory_kind o.header.kind goes.0)) goes.1.removes))
       (λ (loses : (is_directory o.header.kind ≡ false)
       × LosesLink state old mid o.number o.header).
-      ⊎_elim
-      (λ (keeps : Relinks state old mid o.number o.header).
-      inl (link_kept s old.store.draft.changes mid.store.draft.changes m o.number o.header empty
-      keeps.links keeps.is (stays_open o.number keeps.links keeps.stays)
-      (plain_kind o.header.kind loses.0) keeps.sets))
-      (λ (goes : GoesWhole state old mid o.number o.header).
-      inr (all_lost s old.store.draft.changes mid.store.draft.changes m o.number o.header
-      (inr (goes.last, ap (λ hs. opened hs o.number) handles ∙ goes.shut)) goes.removes))
-      loses.1)
+      link_lost old mid empty m o.number o.header loses.1 s handles
+      (plain_kind o.header.kind loses.0))
       drops
 
--- ---- the log map after it
+-- ---- the whole draft, in each state of the volume
 
--- what the second name gives is another object of the same sort, without names
-abbrev pub GivesWay : Source → Option Object → Type 0
-GivesWay source None = Unit {0}
-GivesWay source (Some o) = (o.number ≢ source.object.number)
-    × FitsReplaced source.object.header.kind o.header
+-- A rename starts at volume v, which it has only read, with nothing drafted.
+pub record StartsRename {D : Type 0} (state : D → DeviceState) (v : Mounted D) (old : Fs D)
+    (k : CheckpointValue) (m0 m : LogMap) (s : State) (a b : List ℕ) (source : Source)
+    (dest : Target) : Type 0 where
+  pub still : IsStill state v (seen old)
+  pub empty : IsNoChange old.store.draft.changes
+  pub is : IsIn state v k m0 m s
+  pub named_a : source.name.now ≡ name a
+  pub named_b : dest.name.now ≡ name b
+  pub moves : IsRename (segments_of v) m s a b source dest
 
-module _ {D : Type 0} (state : D → DeviceState) (N : ℕ) (m : LogMap) (s : State)
-    (is : IsMapOf N m s)
-    (headers : (n : ℕ) (h : entries.Header) → m.header n ≡ Some h → IsHeaderOf n h)
-    (a b : List ℕ) (source : Source) (target : Target)
-    (walk_a : Parent s.tree a (At source.directory))
-    (walk_b : Parent s.tree b (At target.directory))
-    (looks_a : LooksAt m source.directory (name a) source.holder (Some source.object))
-    (few_a : source.holder.size ≤ 65536) (few_b : target.holder.size ≤ 65536)
-    (old dropped new : Fs D) (handles : s.handles ≡ handles_of old.handles.numbers.items)
-    (empty : IsNoChange old.store.draft.changes) (c3 c4 : Changes) (t t' u : BlockTotals)
-    (links : RelinksBoth dropped.store.draft.changes c3 source target u) (h1 h2 h3 h4 : Held D)
-    (takes : TakesOut state h1 h2 c3 c4 source.directory
-    (relinked source.holder (fewer_links source target)) (name a) t t')
-    (k : CheckpointValue) (m0 : LogMap) (keeps_2 : (state h2.device).keeps_model)
-    (holds_1 : Holds state h1 k m0 m) (keeps_4 : (state h4.device).keeps_model)
-    (holds_3 : Holds state h3 k m0 m) where
-  abbrev da : ℕ
-  da = source.directory
+-- Behind the loss of what is replaced both directories have their headers and their blocks.
+pub record IsBehindLoss (m m1 : LogMap) (da db : ℕ) (a b : Header) : Type 0 where
+  pub shape : IsShaped m1
+  pub first : HasHolder m1 da a
+  pub second : HasHolder m1 db b
+  pub blocks : (q i : ℕ) → (q ≡ da) ⊎ (q ≡ db) → m1.block q i ≡ m.block q i
 
-  abbrev db : ℕ
-  db = target.directory
+module _ {D : Type 0} {state : D → DeviceState} {v : Mounted D} {old : Fs D} {k : CheckpointValue}
+    {m0 m : LogMap} {s : State} {a b : List ℕ} {source : Source} {dest : Target}
+    (starts : StartsRename state v old k m0 m s a b source dest) where
+  open starts use {moves as g, empty}
 
   abbrev n : ℕ
   n = source.object.number
 
-  abbrev la : ℕ
-  la = fewer_links source target
+  handles : s.handles ≡ handles_of old.handles.numbers.items
+  handles = starts.is.handles ∙ ap handles_of (sym starts.still.table)
 
-  abbrev lb : ℕ
-  lb = more_links source target
+  pub holds_old : Holds state old.store.log k m0 m
+  holds_old = held_still state v.log old.store.log k m0 m starts.still.reads
+      starts.is.stores.holds
 
-  abbrev dir_of : Bool
-  dir_of = is_directory source.object.header.kind
+  same_old : staged old.store.draft.changes m ≡ m
+  same_old = no_change old.store.draft.changes m empty
 
-  abbrev m1 : LogMap
-  m1 = staged dropped.store.draft.changes m
+  -- ---- the loss
+  module _ (lost : Fs D) where
+    abbrev m1 : LogMap
+    m1 = staged lost.store.draft.changes m
 
-  abbrev m2 : LogMap
-  m2 = staged links.between m
+    nothing_lost : DropsFound state old lost None → m1 ≡ m
+    nothing_lost same = ap (λ (c : Changes). staged c m) same.0 ∙ same_old
 
-  abbrev m3 : LogMap
-  m3 = staged c3 m
+    behind_by : (found : Option Object) → dest.replaced ≡ found → DropsFound state old lost found
+        → IsBehindLoss m m1 source.directory dest.directory source.holder dest.holder
+    behind_by None none drops = subst
+        (λ (y : LogMap). IsBehindLoss m y source.directory dest.directory source.holder dest.holder)
+        (sym (nothing_lost drops))
+        record {
+          shape = shaped g;
+          first = holder_a g;
+          second = holder_b g;
+          blocks = λ q i at. refl;
+        }
+    behind_by (Some o) some drops =
+        let loses : LosesName s m m1 o.number (as_header o.header)
+        = name_lost old lost s handles empty m o drops in
+        record {
+          shape = lost_shape g o some loses;
+          first = lost_a g o some loses;
+          second = lost_b g o some loses;
+          blocks = λ q i at. ⊎_elim
+              (λ (kept : KeepsLink s m m1 o.number (as_header o.header)). kept.made.block q i)
+              (λ (all : LosesAll s m m1 o.number (as_header o.header)).
+              all.gone.blocks q i (λ e. ⊎_elim
+              (λ (same : q ≡ source.directory). apart_first g o some (sym e ∙ same))
+              (λ (same : q ≡ dest.directory). apart_second g o some (sym e ∙ same))
+              at))
+              loses;
+        }
 
-  abbrev m4 : LogMap
-  m4 = staged c4 m
+    pub behind : DropsFound state old lost dest.replaced
+        → IsBehindLoss m m1 source.directory dest.directory source.holder dest.holder
+    behind drops = behind_by dest.replaced refl drops
 
-  abbrev m5 : LogMap
-  m5 = staged new.store.draft.changes m
+    -- the totals with it
+    module _ (keeps : (state lost.store.log.device).keeps_model) (log : IsLogMap m1) where
+      counts_lost : Counts state old.store.log lost.store.log old.store.draft.changes
+          lost.store.draft.changes old.store.drafted lost.store.drafted
+          → AreTotals m old.store.drafted → AreTotals m1 lost.store.drafted
+      counts_lost counts are = counts k m0 m keeps holds_old
+          (subst IsLogMap (sym same_old) g.map.map) log
+          (subst (λ (x : LogMap). AreTotals x old.store.drafted) (sym same_old) are)
 
-  -- the second directory's header, when the name is written into it
-  abbrev pub holder_then : Header
-  holder_then = second_after da db source.holder target.holder la lb
+      totals_by : (found : Option Object) → dest.replaced ≡ found → DropsFound state old lost found
+          → AreTotals m old.store.drafted → AreTotals m1 lost.store.drafted
+      totals_by None none drops are = subst (AreTotals m1) (sym drops.1)
+          (subst (λ (x : LogMap). AreTotals x old.store.drafted) (sym (nothing_lost drops)) are)
+      totals_by (Some o) some drops are = ⊎_elim
+          (λ (goes : (is_directory o.header.kind ≡ true) × DropsObject state old lost o.number).
+          counts_lost goes.1.counts are)
+          (λ (loses : (is_directory o.header.kind ≡ false)
+          × LosesLink state old lost o.number o.header).
+          link_totals old lost empty m o.number o.header loses.1 (looks_o g o some).there k m0 keeps
+          holds_old (subst IsLogMap (sym same_old) g.map.map) log
+          (subst (λ (x : LogMap). AreTotals x old.store.drafted) (sym same_old) are))
+          drops
 
-  shaped : IsShaped m
-  shaped = shape_of N m s is headers
+  -- ---- the first name goes
+  module _ {taken : Fs D} (takes : DraftsTake state old taken source dest)
+      (kept : (state taken.store.log.device).keeps_model) where
+    pub moving : IsMoving (staged takes.links.lost.store.draft.changes m)
+        (staged takes.links.relinks.between m) (staged takes.mid.store.draft.changes m)
+        (staged taken.store.draft.changes m) source.directory dest.directory source.holder
+        dest.holder (fewer_links source dest) (more_links source dest) (name a)
+    moving =
+        let loss = behind takes.links.lost takes.links.drops in
+        record {
+          kept = loss.shape;
+          has_a = loss.first;
+          has_b = loss.second;
+          drafts = drafts_move takes kept holds_old (name a) starts.named_a;
+        }
 
-  found : entry s.tree da (name a) ≡ Some n
-  found = entry_in_directory N m s is da (parent_dir N s is.log.sound a da walk_a).0 source.holder
-      looks_a.header (name a) ∙ looks_a.gives
+  -- ---- and the second gives the object
+  module _ {new : Fs D} (drafts : DraftsMove state old new source dest)
+      (keeps : (state new.store.log.device).keeps_model) where
+    abbrev taken : Fs D
+    taken = drafts.taken
 
-  range_of : (d q : ℕ) (nm : List ℕ) → entry s.tree d nm ≡ Some q → (1 ≤ q) × (q ≤ 4095)
-  range_of d q nm at = is.log.sound.numbers q (is.log.sound.named d nm q at)
+    abbrev m5 : LogMap
+    m5 = staged new.store.draft.changes m
 
-  kind_n : is_dir (node s.tree n) ≡ dir_of
-  kind_n = kind_is N m s is headers source.object (range_of da n (name a) found) looks_a.there
+    kept_taken : (state taken.store.log.device).keeps_model
+    kept_taken = drafts.still.reads.looks.carries.kept_before keeps
 
-  drafts : DraftsMove m1 m2 m3 m4 da db source.holder target.holder la lb (name a)
-  drafts = drafts_move state h1 h2 dropped.store.draft.changes c3 c4
-      source target t t' u links (name a) takes k m0 m keeps_2 holds_1
+    pub holds_taken : Holds state taken.store.log k m0 m
+    holds_taken = held_still state drafts.takes.mid.store.log taken.store.log k m0 m
+        drafts.takes.still.reads (holds_mid drafts.takes.links k m0 m holds_old)
 
-  -- ---- the second name was free
-  module _ (none : target.replaced ≡ None)
-      (looks_b : LooksAt m db (name b) target.holder None)
-      (drops : DropsFound state old dropped None)
-      (adds : Adds state h3 h4 c4 new.store.draft.changes db holder_then n
-      (name b)) where
-    absent : entry s.tree db (name b) ≡ None
-    absent = entry_in_directory N m s is db (parent_dir N s is.log.sound b db walk_b).0
-        target.holder looks_b.header (name b) ∙ looks_b.gives
+    moved_by : (found : Option Object) → dest.replaced ≡ found
+        → DropsFound state old drafts.takes.links.lost found
+        → NamesFound state found taken.store.log new.store.log taken.store.draft.changes
+        new.store.draft.changes dest.directory (second_holder source dest) n (name b)
+        → IsMoved (segments_of v) m5 s a b source.directory dest.directory
+    moved_by None none drops names = free_moved g none
+        (subst
+        (λ (y : LogMap). moves.DraftsMove y (staged drafts.takes.links.relinks.between m)
+        (staged drafts.takes.mid.store.draft.changes m) (staged taken.store.draft.changes m)
+        source.directory dest.directory source.holder dest.holder (fewer_links source dest)
+        (more_links source dest) (name a))
+        (nothing_lost drafts.takes.links.lost drops) (moving drafts.takes kept_taken).drafts)
+        record {
+          at = _;
+          slot = _;
+          writes = names.file k m0 m keeps holds_taken;
+          adds = names.more k m0 m keeps holds_taken;
+        }
+    moved_by (Some o) some drops names = over_moved g o some
+        (name_lost old drafts.takes.links.lost s handles empty m o drops)
+        (moving drafts.takes kept_taken).drafts
+        record {
+          at = _;
+          slot = _;
+          writes = names.file k m0 m keeps holds_taken;
+          repoints = names.names k m0 m keeps holds_taken;
+        }
 
-    abbrev x : ℕ
-    x = one_if (is_dir (node s.tree n) && not (da == db))
+    pub draft_moved : IsMoved (segments_of v) m5 s a b source.directory dest.directory
+    draft_moved = moved_by dest.replaced refl drafts.takes.links.drops
+        (subst
+        (λ (nm : List ℕ). NamesFound state dest.replaced taken.store.log new.store.log
+        taken.store.draft.changes new.store.draft.changes dest.directory
+        (second_holder source dest) n nm)
+        starts.named_b drafts.names)
 
-    x_of : one_if (dir_of && not (da == db)) ≡ x
-    x_of = ap (λ (v : Bool). one_if (v && not (da == db))) (sym kind_n)
-
-    less : la ≡ source.holder.links - x
-    less =
-        ap (λ (o : Option Object). if dir_of && (not (da == db) || is_some o)
-        then source.holder.links - 1 else source.holder.links) none
-        ∙ fewer_free dir_of (da == db) source.holder.links
-        ∙ ap (λ (x : ℕ). source.holder.links - x) x_of
-
-    more : lb ≡ target.holder.links + x
-    more =
-        ap (λ (o : Option Object). if dir_of && (not (da == db) && is_none o)
-        then target.holder.links + 1 else target.holder.links) none
-        ∙ more_free dir_of (da == db) target.holder.links
-        ∙ ap (λ (x : ℕ). target.holder.links + x) x_of
-
-    drafts_free : DraftsMove m m2 m3 m4 da db source.holder target.holder la lb (name a)
-    drafts_free = subst
-        (λ (y : LogMap). DraftsMove y m2 m3 m4 da db source.holder target.holder la lb (name a))
-        (nothing_dropped state old dropped s handles empty m drops) drafts
-
-    pub free_stages : AreStages m m2 m3 m4 da db source.holder target.holder
-        (relinked source.holder la) holder_then
-    free_stages = stages_of m m2 m3 m4 da db source.holder target.holder la lb (name a) shaped
-        (holder_a N m s is shaped a b da db walk_a walk_b n found source.holder target.holder
-        looks_a.header looks_b.header few_a few_b)
-        (holder_b N m s is shaped a b da db walk_a walk_b n found source.holder target.holder
-        looks_a.header looks_b.header few_a few_b)
-        drafts_free
-
-    free_header : m4.header db ≡ Some (as_header holder_then)
-    free_header = free_stages.target.there
-
-    names : DraftsName m4 m5 db n holder_then (name b)
-    names = drafts_name state h3 h4 c4 new.store.draft.changes db n
-        holder_then (name b) k m0 m keeps_4 holds_3 adds
-
-    pub free_moved : IsMoved N m5 s a b da db
-    free_moved = record {
-      shape = free_shape N m s is shaped a b da db walk_a walk_b n found source.holder
-          target.holder looks_a.header looks_b.header few_a few_b absent la lb x refl less
-          (λ ne. more) m2 m3 m4 m5 drafts_free holder_then free_header names;
-      tree = free_tree N m s is shaped a b da db walk_a walk_b n found source.holder
-          target.holder looks_a.header looks_b.header few_a few_b absent la lb x refl less
-          (λ ne. more) m2 m3 m4 m5 drafts_free holder_then free_header names;
-      map = free_map N m s is shaped a b da db walk_a walk_b n found source.holder
-          target.holder looks_a.header looks_b.header few_a few_b absent la lb x refl less
-          (λ ne. more) m2 m3 m4 m5 drafts_free holder_then free_header names;
-    }
-
-  -- ---- it gave another object
-  module _ (o : Object) (some : target.replaced ≡ Some o)
-      (looks_b : LooksAt m db (name b) target.holder (Some o)) (other : o.number ≢ n)
-      (fits : FitsReplaced source.object.header.kind o.header)
-      (drops : DropsFound state old dropped (Some o))
-      (repoints : RepointsTo state h3 h4 c4 new.store.draft.changes db
-      holder_then n (name b)) where
-    gives_o : entry s.tree db (name b) ≡ Some o.number
-    gives_o = entry_in_directory N m s is db (parent_dir N s is.log.sound b db walk_b).0
-        target.holder looks_b.header (name b) ∙ looks_b.gives
-
-    kind_o : is_dir (node s.tree o.number) ≡ is_directory o.header.kind
-    kind_o = kind_is N m s is headers o (range_of db o.number (name b) gives_o) looks_b.there
-
-    alike : is_dir (node s.tree o.number) ≡ is_dir (node s.tree n)
-    alike = kind_o ∙ fits.same ∙ sym kind_n
-
-    light : nat_lt 0 (length (names_in s.tree o.number)) ≡ false
-    light = by (is_directory o.header.kind) refl
-      where
-        by : (v : Bool) → is_directory o.header.kind ≡ v
-            → nat_lt 0 (length (names_in s.tree o.number)) ≡ false
-        by true dir = is_empty N m s is headers o (range_of db o.number (name b) gives_o)
-            looks_b.there dir (fits.empty (sym fits.same ∙ dir))
-        by false plain = plain_empty N m s is headers o (range_of db o.number (name b) gives_o)
-            looks_b.there plain
-
-    lost : LosesName s m m1 o.number (as_header o.header)
-    lost = name_lost state old dropped s handles empty m o drops
-
-    fewer : la ≡ source.holder.links - one_if (is_dir (node s.tree n))
-    fewer =
-        ap (λ (p : Option Object). if dir_of && (not (da == db) || is_some p)
-        then source.holder.links - 1 else source.holder.links) some
-        ∙ fewer_over dir_of (da == db) source.holder.links
-        ∙ ap (λ (v : Bool). source.holder.links - one_if v) (sym kind_n)
-
-    same : lb ≡ target.holder.links
-    same =
-        ap (λ (p : Option Object). if dir_of && (not (da == db) && is_none p)
-        then target.holder.links + 1 else target.holder.links) some
-        ∙ more_over dir_of (da == db) target.holder.links
-
-    pub over_stages : AreStages m1 m2 m3 m4 da db source.holder target.holder
-        (relinked source.holder la) holder_then
-    over_stages = stages_of m1 m2 m3 m4 da db source.holder target.holder la lb (name a)
-        (lost_shape N m s is shaped a b da db walk_a walk_b n found source.holder target.holder
-        looks_a.header looks_b.header few_a few_b o.number gives_o other alike light
-        (as_header o.header) looks_b.there m1 lost)
-        (lost_a N m s is shaped a b da db walk_a walk_b n found source.holder target.holder
-        looks_a.header looks_b.header few_a few_b o.number gives_o other alike light
-        (as_header o.header) looks_b.there m1 lost)
-        (lost_b N m s is shaped a b da db walk_a walk_b n found source.holder target.holder
-        looks_a.header looks_b.header few_a few_b o.number gives_o other alike light
-        (as_header o.header) looks_b.there m1 lost)
-        drafts
-
-    over_header : m4.header db ≡ Some (as_header holder_then)
-    over_header = over_stages.target.there
-
-    over : DraftsOver m4 m5 db n holder_then (name b)
-    over = drafts_over state h3 h4 c4 new.store.draft.changes db n
-        holder_then (name b) k m0 m keeps_4 holds_3 repoints
-
-    pub over_moved : IsMoved N m5 s a b da db
-    over_moved = record {
-      shape = over_shape N m s is shaped a b da db walk_a walk_b n found source.holder
-          target.holder looks_a.header looks_b.header few_a few_b o.number gives_o other alike
-          light (as_header o.header) looks_b.there m1 lost la lb fewer (λ ne. same) m2 m3 m4 m5
-          drafts holder_then over_header over;
-      tree = over_tree_is N m s is shaped a b da db walk_a walk_b n found source.holder
-          target.holder looks_a.header looks_b.header few_a few_b o.number gives_o other alike
-          light (as_header o.header) looks_b.there m1 lost la lb fewer (λ ne. same) m2 m3 m4 m5
-          drafts holder_then over_header over;
-      map = over_map N m s is shaped a b da db walk_a walk_b n found source.holder
-          target.holder looks_a.header looks_b.header few_a few_b o.number gives_o other alike
-          light (as_header o.header) looks_b.there m1 lost la lb fewer (λ ne. same) m2 m3 m4 m5
-          drafts holder_then over_header over;
-    }
-
-  -- ---- whatever it gave
-  pub moved_found : (found : Option Object) → target.replaced ≡ found
-      → LooksAt m db (name b) target.holder found → GivesWay source found
-      → DropsFound state old dropped found
-      → NamesFound state found h3 h4 c4 new.store.draft.changes db holder_then n (name b)
-      → IsMoved N m5 s a b da db
-      × AreStages m1 m2 m3 m4 da db source.holder target.holder (relinked source.holder la)
-      holder_then
-  moved_found None is looks way drops names = (
-    free_moved is looks drops names,
-    subst (λ (y : LogMap). AreStages y m2 m3 m4 da db source.holder target.holder
-        (relinked source.holder la) holder_then)
-        (sym (nothing_dropped state old dropped s handles empty m drops))
-        (free_stages is looks drops names),
-  )
-  moved_found (Some o) is looks way drops names = (
-    over_moved o is looks way.0 way.1 drops names,
-    over_stages o is looks way.0 way.1 drops names,
-  )
+    pub draft_totals : AreTotals m old.store.drafted → AreTotals m5 new.store.drafted
+    draft_totals are = drafts.recounts k m0 m keeps holds_taken
+        (moves.moved_kept (moving drafts.takes kept_taken)).map draft_moved.shape.map
+        (totals_taken drafts.takes kept_taken holds_old (moving drafts.takes kept_taken)
+        (totals_by drafts.takes.links.lost
+        (drafts.takes.links.next.reads.looks.carries.kept_before
+        (drafts.takes.still.reads.looks.carries.kept_before kept_taken))
+        (moving drafts.takes kept_taken).kept.map dest.replaced refl drafts.takes.links.drops are))

@@ -1,123 +1,41 @@
 -- Another name for an object, from the headers and blocks of the log map to the state after the
 -- call.
 --
--- The draft goes from log map to log map, m, m1, m2, m3, m4, m5: what the second name gave loses a
--- link (`LosesName`; without
--- one m1 is m), the two directories' links are counted anew and the first name goes
--- (`MovedMaps.DraftsMove`), and the second
--- gives the object (`DraftsName`, or `DraftsOver` where it gave another). `free_map` and
--- `over_map` say that m5 is the log map
--- of the state after the call, `free_tree` and `over_tree_is` that its tree is the state's,
--- whether there is room or not, and
--- `free_shape` and `over_shape` that it can be counted.
-use Rattle.std.proofs.Common.{
-  length,
-  ◌≡◌,
-  ◌≢◌,
-  ◌⊎◌,
-  ◌≤◌,
-  ◌+◌,
-  ◌*◌,
-  ◌-◌,
-  ◌&&◌,
-  not,
-  ℕ,
-  Bool,
-  true,
-  false,
-  List,
-  [],
-  Option,
-  Some,
-  None,
-  refl,
-  sym,
-  ◌∙◌,
-  ap,
-  inl,
-  inr,
-  ⊎_elim,
-  eqb,
-  arith,
-  ◌∷◌,
-  ◌<◌,
-}
-use Rattle.std.specs.Prelude.{nat_lt, T, ◌==◌, if◌then◌else◌, is_some, unwrap_or}
+-- The draft goes from log map to log map, m, m1, m2, m3, m4, m5. What the second name gave loses a
+-- link (`LosesName`; without one m1 is m). The two directories' links are counted anew, and the
+-- first name goes (`MovedMaps.DraftsMove`). The second then gives the object (`DraftsName`, or
+-- `DraftsOver` where it gave another). `free_moved` and `over_moved` say that m5 is the log map of
+-- the state after the call, whether there is room for it or not.
+use Rattle.std.proofs.Common.{length, ◌≡◌, ◌≢◌, ◌≤◌, ◌+◌, ◌-◌, ◌&&◌, not, ℕ, Bool, true, false, List, [], Option, Some, None, refl, sym, ◌∙◌, ap, arith, ◌∷◌, ◌<◌, subst, ◌||◌}
+use Rattle.std.specs.Prelude.{nat_lt, T, ◌==◌, if◌then◌else◌, is_some, unwrap_or, is_none}
 use Rattle.std.proofs.lemmas.Bool.{eq-eqb}
-use Rattle.std.proofs.lemmas.Bool.Decides.{eqb_tells, nat_tests}
-use Rattle.std.specs.Ordering.{nat_cmp}
+use Rattle.std.proofs.lemmas.Bool.Decides.{nat_tests}
 use Rattle.std.specs.FinMap.{is_sorted}
-use Rattle.lfs_model.specs.declared.Kind.{Kind}
-use Rattle.lfs_model.specs.declared.Kind.TheVariants as kind
 use Rattle.lfs_model.specs.Call.{AreArguments, Done, Rename}
-use Rattle.lfs_model.specs.Changing.{IsWithHeader}
-use Rattle.lfs_model.specs.Cutting.{IsWithoutFile}
 use Rattle.lfs_model.specs.Entry as entry
-use Rattle.lfs_model.specs.Need.{need}
-use Rattle.lfs_model.specs.Objects.{one_if}
-use Rattle.lfs_model.specs.Sound.{IsWithinLimits, Sound}
+use Rattle.lfs_model.specs.Objects.{one_if, IsHeaderOf}
 use Rattle.lfs_model.specs.Stands.{LogMap}
 use Rattle.lfs_model.specs.Step.{Step, is_there, let_go, name, target, with_tree}
-use Rattle.lfs_model.specs.Totals.{IsCounted, TotalsOfTree}
-use Rattle.lfs_model.specs.Tree.{
-  Dir,
-  File,
-  Link,
-  Names,
-  Node,
-  State,
-  Tree,
-  byte_cmp,
-  entry as
-      entry_in,
-  form_of,
-  is_dir,
-  links,
-  links_at,
-  names,
-  names_in,
-  node,
-  opened,
-  with_name,
-  without,
-  without_name,
-}
-use Rattle.lfs_model.specs.TreeOf.{node_by, tree_in}
+use Rattle.lfs_model.specs.Tree.{Dir, Names, State, Tree, byte_cmp, entry as entry_in, form_of, is_dir, links, names, names_in, node, with_name, without_name}
+use Rattle.lfs_model.specs.TreeOf.{tree_in}
 use Rattle.lfs_model.specs.Walk.{At, Parent}
-use Rattle.lfs_model.proofs.Dropping.{opened_file}
-use Rattle.lfs_model.proofs.Keeps.{parent_dir}
 use Rattle.lfs_model.proofs.KeepsNames.{rename_keeps}
 use Rattle.lfs_model.proofs.Makes.{dir_at}
 use Rattle.lfs_model.proofs.Shrinking.{named_counts}
-use Rattle.lfs_model.proofs.Standing.{object_length}
 use Rattle.lfs_files.specs.declared.header.Header.{Header}
 use Rattle.lfs_files.specs.Headers.{as_header}
-use Rattle.lfs_fs.proofs.Files.{IsMapOf, IsShaped, dir_there, need_shaped, node_by_header}
-use Rattle.lfs_fs.proofs.KeptMaps.{
-  HasHolder,
-  Shifts,
-  gone_kept,
-  gone_tree,
-  none_at,
-  relinked_kept,
-  relinked_shifts,
-  relinked_tree,
-  shifts_gone,
-  shifts_joined,
-}
-use Rattle.lfs_fs.proofs.MovedMaps.{
-  DraftsMove,
-  DraftsName,
-  DraftsOver,
-  new_kept,
-  new_shifts,
-  new_tree,
-  over_kept,
-  over_shifts,
-  over_tree,
-}
+use Rattle.lfs_fs.proofs.Files.{IsMapOf, IsShaped, shape_of}
+use Rattle.lfs_fs.proofs.KeptMaps.{HasHolder, map_by}
+use Rattle.lfs_fs.proofs.MovedMaps.{DraftsMove, DraftsName, DraftsOver, IsMoving, IsNamed, named_kept, named_new, named_over, named_shifts, named_tree, second_after}
 use Rattle.lfs_fs.proofs.MovedNames as trees
 use Rattle.lfs_fs.proofs.MovedNames.{nothing_at, only_at}
+use Rattle.lfs_fs.specs.Renaming.{FitsFound, FitsReplaced, GivesName, FitsTarget, LooksAt, fewer_links, is_directory, more_links}
+use Rattle.lfs_fs.specs.declared.moving.Object.{Object}
+use Rattle.lfs_fs.specs.declared.moving.Source.{Source}
+use Rattle.lfs_fs.specs.declared.moving.Target.{Target}
+use Rattle.lfs_fs.proofs.RenameViews.{d_range, dir, entry_is, given, is_empty, kind_is, may_look, plain_empty, range_is}
+use Rattle.lfs_fs.proofs.InDirectories.{directory_kind}
+use Rattle.lfs_fs.proofs.LostNames.{IsLoss, LosesName, LosesOne, lost, own_links, names_plain as plain_names}
 
 -- ---- the state after it
 
@@ -131,23 +49,29 @@ module _ (s : State) (a b : List ℕ) (da db : ℕ) where
   abbrev pub renamed : State
   renamed = with_tree s tree_after
 
--- ---- what the second name gave loses it
+-- ---- a rename in a state
 
--- Object old, of this header, has a link less in the log map, and keeps another or a handle.
-pub record KeepsLink (s : State) (m m1 : LogMap) (old : ℕ) (h : entry.Header) : Type 0 where
-  pub links : ℕ
-  pub is : links ≡ h.links - 1
-  pub stays : (links ≢ 0) ⊎ (opened s.handles old ≢ 0)
-  pub plain : h.kind ≢ kind.Directory
-  pub made : IsWithHeader m old (Some (record h { links = links })) m1
+-- Both names' directories have these headers, the names give these objects, and nothing refuses
+-- the one in the place of the other.
+pub record IsRename (N : ℕ) (m : LogMap) (s : State) (a b : List ℕ) (source : Source)
+    (dest : Target) : Type 0 where
+  pub map : IsMapOf N m s
+  pub headers : (n : ℕ) (h : entry.Header) → m.header n ≡ Some h → IsHeaderOf n h
+  pub walk_a : Parent s.tree a (At source.directory)
+  pub walk_b : Parent s.tree b (At dest.directory)
+  pub looks_a : LooksAt m source.directory (name a) source.holder (Some source.object)
+  pub looks_b : LooksAt m dest.directory (name b) dest.holder dest.replaced
+  pub few_a : source.holder.size ≤ 65536
+  pub few_b : dest.holder.size ≤ 65536
+  pub other : GivesName dest.replaced source.object.number ≡ false
+  pub fits : FitsTarget source dest
 
--- It is gone: a directory, or what had one link, with no handle.
-pub record LosesAll (s : State) (m m1 : LogMap) (old : ℕ) (h : entry.Header) : Type 0 where
-  pub last : (h.kind ≡ kind.Directory) ⊎ ((h.links ≤ 1) × (opened s.handles old ≡ 0))
-  pub gone : IsWithoutFile m old m1
-
-abbrev pub LosesName : State → LogMap → LogMap → ℕ → entry.Header → Type 0
-LosesName s m m1 old h = KeepsLink s m m1 old h ⊎ LosesAll s m m1 old h
+-- The log map is that of the state after the call, if that comes to its end.
+pub record IsMoved (N : ℕ) (m5 : LogMap) (s : State) (a b : List ℕ) (da db : ℕ) : Type 0 where
+  pub shape : IsShaped m5
+  pub tree : tree_in m5 ≡ tree_after s a b da db
+  pub map : AreArguments (Rename a b) → Step N s (Rename a b) Done (renamed s a b da db)
+      → IsMapOf N m5 (renamed s a b da db)
 
 -- ---- small facts
 
@@ -155,131 +79,123 @@ target_found : (t : Tree) (d : ℕ) (p : List ℕ) (n : ℕ) → entry_in t d (n
     → target t d p ≡ n
 target_found t d p n is = ap (λ (o : Option ℕ). unwrap_or o 0) is
 
-not_both : (a b : ℕ) → (a ≢ 0) ⊎ (b ≢ 0) → (a == 0 && b == 0) ≡ false
-not_both a b some = by (a == 0) (b == 0) refl refl
-  where
-    none : (k : ℕ) → (k == 0) ≡ true → k ≡ 0
-    none k is = ⊎_elim (λ (h : (eqb k 0 ≡ true) × (k ≡ 0)). h.1)
-        (λ (h : (eqb k 0 ≡ false) × (k ≢ 0)). let no = h.0 in cc) (eqb_tells k 0)
+-- the links of both directories, where the second name was free, and where it gave an object
+fewer_free : (d e : Bool) (l : ℕ) → 2 ≤ l
+    → (if d && (not e || false) then l - 1 else l) + one_if (d && not e) ≡ l
+fewer_free true true l two = omega arith
+fewer_free true false l two = omega (arith, two)
+fewer_free false e l two = omega arith
 
-    by : (x y : Bool) → (a == 0) ≡ x → (b == 0) ≡ y → (x && y) ≡ false
-    by false y e f = refl
-    by true false e f = refl
-    by true true e f = absurd (⊎_elim (λ (ne : a ≢ 0). ne (none a e))
-        (λ (ne : b ≢ 0). ne (none b f)) some)
+more_free : (d e : Bool) (l : ℕ)
+    → (if d && (not e && true) then l + 1 else l) ≡ l + one_if (d && not e)
+more_free true true l = omega arith
+more_free true false l = refl
+more_free false e l = omega arith
 
-both_none : (a b : ℕ) → a ≡ 0 → b ≡ 0 → (a == 0 && b == 0) ≡ true
-both_none a b e f = by (a == 0) (b == 0) (eq-eqb a 0 e) (eq-eqb b 0 f)
-  where
-    by : (x y : Bool) → x ≡ true → y ≡ true → (x && y) ≡ true
-    by true y e f = f
-    by false y e f = cc
+fewer_over : (d e : Bool) (l : ℕ) → 2 ≤ l
+    → (if d && (not e || true) then l - 1 else l) + one_if d ≡ l
+fewer_over true true l two = omega (arith, two)
+fewer_over true false l two = omega (arith, two)
+fewer_over false e l two = omega arith
 
-leaf_links : (t : Tree) (n : ℕ) → is_dir (node t n) ≡ false → links t n ≡ names t n
-leaf_links t n = by (node t n)
-  where
-    by : (o : Option Node) → is_dir o ≡ false → links_at t n o ≡ names t n
-    by None off = refl
-    by (Some (File b)) off = refl
-    by (Some (Link text)) off = refl
-    by (Some (Dir f ms)) off = cc
+more_over : (d e : Bool) (l : ℕ) → (if d && (not e && false) then l + 1 else l) ≡ l
+more_over true true l = refl
+more_over true false l = refl
+more_over false e l = refl
 
-plain_by : (m : LogMap) (n : ℕ) (h : entry.Header) (k : Kind) → k ≢ kind.Directory
-    → is_dir (Some (node_by m k n h)) ≡ false
-plain_by m n h kind.File ne = refl
-plain_by m n h kind.Directory ne = absurd (ne refl)
-plain_by m n h kind.Link ne = refl
-
-small_by : (m : LogMap) (n : ℕ) (h : entry.Header) (k : Kind) → k ≢ kind.Directory
-    → IsWithinLimits (node_by m k n h) → h.size ≤ 8511488
-small_by m n h kind.File ne limits = let long = object_length m n h in let most = limits.0 in
-    omega (arith, long, most)
-small_by m n h kind.Directory ne limits = absurd (ne refl)
-small_by m n h kind.Link ne limits = let long = object_length m n h in let most = limits.1 in
-    omega (arith, long, most)
-
-dir_by : (m : LogMap) (n : ℕ) (h : entry.Header) (k : Kind)
-    → is_dir (Some (node_by m k n h)) ≡ true → k ≡ kind.Directory
-dir_by m n h kind.File dir = absurd (cc)
-dir_by m n h kind.Directory dir = refl
-dir_by m n h kind.Link dir = absurd (cc)
-
-two_links : (t : Tree) (d : ℕ) → is_dir (node t d) ≡ true → 2 ≤ links t d
-two_links t d = by (node t d)
-  where
-    by : (o : Option Node) → is_dir o ≡ true → 2 ≤ links_at t d o
-    by None dir = cc
-    by (Some (File b)) dir = cc
-    by (Some (Link text)) dir = cc
-    by (Some (Dir f ms)) dir = omega arith
-
-at_most_one : (v : Bool) → one_if v ≤ 1
-at_most_one true = omega arith
-at_most_one false = omega arith
+not_one : (d : Bool) → one_if (d && false) ≡ 0
+not_one true = refl
+not_one false = refl
 
 nothing_in : (ms : Names) → nat_lt 0 (length ms) ≡ false → ms ≡ []
 nothing_in [] none = refl
 nothing_in (e ∷ ms) none = absurd
     (let some : 0 < length (e ∷ ms) = omega arith in grind (arith, nat_tests))
 
--- a log map with this tree and its links
-map_of_state : (N : ℕ) (m : LogMap) (s : State) → IsShaped m → tree_in m ≡ s.tree
-    → ((k : ℕ) (g : entry.Header) → m.header k ≡ Some g → g.links ≡ links s.tree k) → Sound N s
-    → IsMapOf N m s
-map_of_state N m s shaped tree links_are sound = record {
-  map = shaped.map;
-  long = shaped.long;
-  log = record {
-    sound = sound;
-    is = sym tree;
-    formed = λ k g at dir. (let d = shaped.directories k g at dir in (d.formed, d.apart));
-    links = λ k g at. links_are k g at ∙ ap (λ (t : Tree). links t k) (sym tree);
-  };
-}
-
 -- ---- from log map to log map
 
-module _ (N : ℕ) (m : LogMap) (s : State) (is : IsMapOf N m s) (shaped : IsShaped m) (a b : List ℕ)
-    (da db : ℕ) (walk_a : Parent s.tree a (At da)) (walk_b : Parent s.tree b (At db))
-    (n : ℕ) (found : entry_in s.tree da (name a) ≡ Some n) (head_a head_b : Header)
-    (there_a : m.header da ≡ Some (as_header head_a))
-    (there_b : m.header db ≡ Some (as_header head_b)) (few_a : head_a.size ≤ 65536)
-    (few_b : head_b.size ≤ 65536) where
-  dir_a : is_dir (node s.tree da) ≡ true
-  dir_a = (parent_dir N s is.log.sound a da walk_a).0
+module _ {N : ℕ} {m : LogMap} {s : State} {a b : List ℕ} {source : Source} {dest : Target}
+    (g : IsRename N m s a b source dest) where
+  open g use {map as is, headers, walk_a, walk_b, looks_a, looks_b, few_a, few_b}
 
-  dir_b : is_dir (node s.tree db) ≡ true
-  dir_b = (parent_dir N s is.log.sound b db walk_b).0
+  abbrev da : ℕ
+  da = source.directory
+
+  abbrev db : ℕ
+  db = dest.directory
+
+  abbrev n : ℕ
+  n = source.object.number
+
+  abbrev head_a : Header
+  head_a = source.holder
+
+  abbrev head_b : Header
+  head_b = dest.holder
+
+  abbrev la : ℕ
+  la = fewer_links source dest
+
+  abbrev lb : ℕ
+  lb = more_links source dest
+
+  abbrev dir_of : Bool
+  dir_of = is_directory source.object.header.kind
+
+  pub shaped : IsShaped m
+  shaped = shape_of N m s is headers
+
+  found : entry_in s.tree da (name a) ≡ Some n
+  found = given N m s is headers a da walk_a head_a source.object looks_a
+
+  kind_n : is_dir (node s.tree n) ≡ dir_of
+  kind_n = kind_is N m s is headers source.object
+      (range_is N m s is headers a da walk_a head_a source.object looks_a) looks_a.there
+
+  pub dir_a : is_dir (node s.tree da) ≡ true
+  dir_a = dir N m s is headers a da walk_a
+
+  pub dir_b : is_dir (node s.tree db) ≡ true
+  dir_b = dir N m s is headers b db walk_b
 
   order_in : (d : ℕ) → is_dir (node s.tree d) ≡ true → T (is_sorted byte_cmp (names_in s.tree d))
   order_in d dir = (is.log.sound.limits d (Dir (form_of (node s.tree d)) (names_in s.tree d))
       (dir_at (node s.tree d) dir)).0
 
-  holder : (d : ℕ) (head : Header) → is_dir (node s.tree d) ≡ true
-      → m.header d ≡ Some (as_header head) → head.size ≤ 65536 → HasHolder m d head
-  holder d head dir there few =
-      let in_range = is.log.sound.numbers d (dir_there s.tree d dir) in
-      record {
-        number = in_range;
-        there = there;
-        kind = dir_by m d (as_header head)
-            head.kind (ap is_dir (sym (node_by_header N m s is.log d (as_header head)
-            in_range there)) ∙ dir);
-        few = few;
-      }
+  move : trees.IsMove s.tree da db n (name a)
+  move = record {
+    in_order = is.log.sound.in_order;
+    is_a = dir_a;
+    order_a = order_in da dir_a;
+    found = found;
+    is_b = dir_b;
+    order_b = order_in db dir_b;
+  }
 
   pub holder_a : HasHolder m da head_a
-  holder_a = holder da head_a dir_a there_a few_a
+  holder_a = record {
+    number = d_range N m s is headers a da walk_a;
+    there = looks_a.header;
+    kind = directory_kind N m s is da dir_a head_a looks_a.header;
+    few = few_a;
+  }
 
   pub holder_b : HasHolder m db head_b
-  holder_b = holder db head_b dir_b there_b few_b
+  holder_b = record {
+    number = d_range N m s is headers b db walk_b;
+    there = looks_b.header;
+    kind = directory_kind N m s is db dir_b head_b looks_b.header;
+    few = few_b;
+  }
 
-  linked : (k : ℕ) (g : entry.Header) → m.header k ≡ Some g → g.links ≡ links s.tree k
-  linked k g at = is.log.links k g at ∙ ap (λ (t : Tree). links t k) (sym is.log.is)
+  linked : (k : ℕ) (h : entry.Header) → m.header k ≡ Some h → h.links ≡ links s.tree k
+  linked k h at = is.log.links k h at ∙ ap (λ (t : Tree). links t k) (sym is.log.is)
 
-  linked_twice : 2 ≤ head_a.links
-  linked_twice = let are = linked da (as_header head_a) there_a in let two =
-      two_links s.tree da dir_a in omega (arith, are, two)
+  pub linked_twice : 2 ≤ head_a.links
+  linked_twice = (may_look N m s is headers a da walk_a).linked head_a looks_a.header
+
+  pub linked_twice_b : 2 ≤ head_b.links
+  linked_twice_b = (may_look N m s is headers b db walk_b).linked head_b looks_b.header
 
   abbrev after : Tree
   after = with_name (without_name s.tree da (name a)) db (name b) n
@@ -288,336 +204,218 @@ module _ (N : ℕ) (m : LogMap) (s : State) (is : IsMapOf N m s) (shaped : IsSha
   moved_is = ap (with_name (without_name s.tree da (name a)) db (name b))
       (target_found s.tree da a n found)
 
+  -- the log map is that of the state after the call
+  moved_by : {m5 : LogMap} → IsShaped m5 → tree_in m5 ≡ tree_after s a b da db
+      → ((k : ℕ) (h : entry.Header) → m5.header k ≡ Some h
+      → h.links ≡ links (tree_after s a b da db) k)
+      → IsMoved N m5 s a b da db
+  moved_by shape tree links_are = record {
+    shape = shape;
+    tree = tree;
+    map = λ arguments done. map_by shape
+        (rename_keeps N s (renamed s a b da db) a b Done is.log.sound arguments done) tree links_are;
+  }
+
   -- ---- the second name is free
-  module _ (none : entry_in s.tree db (name b) ≡ None) (la lb x : ℕ)
-      (x_is : x ≡ one_if (is_dir (node s.tree n) && not (da == db))) (less : la ≡ head_a.links - x)
-      (more : da ≢ db → lb ≡ head_b.links + x)
-      (m2 m3 m4 m5 : LogMap) (moves : DraftsMove m m2 m3 m4 da db head_a head_b la lb (name a))
-      (b4 : Header) (there_4 : m4.header db ≡ Some (as_header b4))
-      (new : DraftsName m4 m5 db n b4 (name b)) where
-    lacks : entry_in (without_name (tree_in m) da (name a)) db (name b) ≡ None
-    lacks = ap (λ (t : Tree). entry_in (without_name t da (name a)) db (name b)) (sym is.log.is)
-        ∙ trees.still_free s.tree da db n (name a) (name b)
-        is.log.sound.in_order dir_a (order_in da dir_a) found dir_b (order_in db dir_b) none
+  module _ (none : dest.replaced ≡ None) {m2 m3 m4 m5 : LogMap}
+      (drafts : DraftsMove m m2 m3 m4 da db head_a head_b la lb (name a))
+      (new : DraftsName m4 m5 db n (second_after da db head_a head_b la lb) (name b)) where
+    pub free_moving : IsMoving m m2 m3 m4 da db head_a head_b la lb (name a)
+    free_moving = record { kept = shaped; has_a = holder_a; has_b = holder_b; drafts = drafts }
 
-    less_by : la + x ≡ head_a.links
-    less_by = let some = linked_twice in let one =
-        at_most_one (is_dir (node s.tree n) && not (da == db)) in
-        omega (arith, less, some, one, x_is)
+    absent : entry_in s.tree db (name b) ≡ None
+    absent = entry_is N m s is headers b db walk_b head_b None
+        (subst (LooksAt m db (name b) head_b) none looks_b)
 
-    x_none : da ≡ db → x ≡ 0
-    x_none e = x_is ∙ ap (λ (b : Bool). one_if (is_dir (node s.tree n) && not b)) (eq-eqb da db e)
-        ∙ by (is_dir (node s.tree n))
-      where
-        by : (b : Bool) → one_if (b && false) ≡ 0
-        by true = refl
-        by false = refl
+    free_named : IsNamed m4 m5 db n (second_after da db head_a head_b la lb) (name b)
+    free_named = named_new free_moving new
+        (ap (λ (t : Tree). entry_in (without_name t da (name a)) db (name b)) (sym is.log.is)
+        ∙ trees.still_free move (name b) absent)
 
-    -- it can be counted
-    pub free_shape : IsShaped m5
-    free_shape = new_kept m m2 m3 m4 da db head_a head_b la lb (name a)
-        shaped holder_a holder_b moves b4 there_4 m5 n (name b) lacks new
+    abbrev crossing : ℕ
+    crossing = one_if (dir_of && not (da == db))
 
-    tree_is_after : tree_in m5 ≡ after
-    tree_is_after = new_tree m m2 m3 m4 da db head_a head_b la lb (name a)
-        shaped holder_a holder_b moves b4 there_4 m5 n (name b) lacks new
+    free_less : la + crossing ≡ head_a.links
+    free_less = ap (λ (o : Option Object). (if dir_of && (not (da == db) || is_some o)
+        then head_a.links - 1 else head_a.links) + crossing) none
+        ∙ fewer_free dir_of (da == db) head_a.links linked_twice
+
+    more : lb ≡ head_b.links + crossing
+    more = ap (λ (o : Option Object). if dir_of && (not (da == db) && is_none o)
+        then head_b.links + 1 else head_b.links) none
+        ∙ more_free dir_of (da == db) head_b.links
+
+    x_none : da ≡ db → crossing ≡ 0
+    x_none e = ap (λ (v : Bool). one_if (dir_of && not v)) (eq-eqb da db e) ∙ not_one dir_of
+
+    free_after : tree_after s a b da db ≡ after
+    free_after = ap (λ (o : Option ℕ). if is_some o then let_go (moved s a b da db)
+        s.handles (target s.tree db b) else moved s a b da db) absent ∙ moved_is
+
+    tree_is : tree_in m5 ≡ tree_after s a b da db
+    tree_is = named_tree free_moving free_named
         ∙ ap (λ (t : Tree). with_name (without_name t da (name a)) db (name b) n) (sym is.log.is)
+        ∙ sym free_after
 
-    after_is : tree_after s a b da db ≡ after
-    after_is = ap (λ (o : Option ℕ). if is_some o then let_go (moved s a b da db)
-        s.handles (target s.tree db b) else moved s a b da db) none ∙ moved_is
-
-    -- its tree is the state's
-    pub free_tree : tree_in m5 ≡ tree_after s a b da db
-    free_tree = tree_is_after ∙ sym after_is
-
-    pub free_need : TotalsOfTree → (blocks others : ℕ) → IsCounted m5 blocks others
-        → need (tree_after s a b da db) ≡ blocks + 7 * others + 720
-    free_need totals blocks others counted = ap need (sym free_tree)
-        ∙ (need_shaped totals m5 free_shape blocks others counted).0
-
-    links_free_at : (k : ℕ) (g : entry.Header) → m5.header k ≡ Some g
-        → g.links ≡ links (tree_after s a b da db) k
-    links_free_at k g at =
-        let shifts = new_shifts m m2 m3 m4 da db head_a head_b la lb (name a)
-        shaped holder_a holder_b moves b4 there_4 m5 n (name b)
-        lacks new x x less_by more x_none k g at in
+    free_links : (k : ℕ) (h : entry.Header) → m5.header k ≡ Some h
+        → h.links ≡ links (tree_after s a b da db) k
+    free_links k h at =
+        let shifts = named_shifts free_moving free_named crossing crossing free_less (λ ne. more) x_none k h at in
         let one = shifts.2 in
         let was = linked k shifts.0 shifts.1 in
-        let now = trees.links_free s.tree da db n (name a) (name b)
-        is.log.sound.in_order dir_a (order_in da dir_a) found dir_b (order_in db dir_b)
-        none x x_is k in
-        let same : g.links ≡ links after k = omega (arith, one, was, now) in
-        same ∙ ap (λ (t : Tree). links t k) (sym after_is)
+        let now = trees.links_free move (name b) absent crossing
+        (ap (λ (v : Bool). one_if (v && not (da == db))) (sym kind_n)) k in
+        let same : h.links ≡ links after k = omega (arith, one, was, now) in
+        same ∙ ap (λ (t : Tree). links t k) (sym free_after)
 
-    -- It is the log map of the state.
-    pub free_map : AreArguments (Rename a b) → Step N s (Rename a b) Done (renamed s a b da db)
-        → IsMapOf N m5 (renamed s a b da db)
-    free_map arguments done = map_of_state N m5 (renamed s a b da db)
-        free_shape free_tree links_free_at
-        (rename_keeps N s (renamed s a b da db) a b Done is.log.sound arguments done)
+    pub free_moved : IsMoved N m5 s a b da db
+    free_moved = moved_by (named_kept free_moving free_named) tree_is free_links
 
   -- ---- it gives another object of the same sort, no directory with names
-  module _ (old : ℕ) (there : entry_in s.tree db (name b) ≡ Some old) (other : old ≢ n)
-      (alike : is_dir (node s.tree old) ≡ is_dir (node s.tree n))
-      (light : nat_lt 0 (length (names_in s.tree old)) ≡ false) (h : entry.Header)
-      (there_old : m.header old ≡ Some h) where
-    empty : names_in s.tree old ≡ []
-    empty = nothing_in (names_in s.tree old) light
+  module _ (o : Object) (some : dest.replaced ≡ Some o) where
+    abbrev old : ℕ
+    old = o.number
 
-    -- ---- the object
-    there_node : node s.tree old ≢ None
-    there_node = is.log.sound.named db (name b) old there
+    abbrev h : entry.Header
+    h = as_header o.header
+
+    pub looks_o : LooksAt m db (name b) head_b (Some o)
+    looks_o = subst (LooksAt m db (name b) head_b) some looks_b
+
+    pub there : entry_in s.tree db (name b) ≡ Some old
+    there = given N m s is headers b db walk_b head_b o looks_o
 
     in_range : (1 ≤ old) × (old ≤ 4095)
-    in_range = is.log.sound.numbers old there_node
+    in_range = range_is N m s is headers b db walk_b head_b o looks_o
 
+    pub other : old ≢ n
+    other same =
+        let on = eq-eqb old n same in
+        let off : (old == n) ≡ false
+        = subst (λ (f : Option Object). GivesName f n ≡ false) some g.other in
+        cc
+
+    fits : FitsReplaced source.object.header.kind o.header
+    fits = subst (λ (f : Option Object). FitsFound f source dest) some g.fits
+
+    pub kind_o : is_dir (node s.tree old) ≡ is_directory o.header.kind
+    kind_o = kind_is N m s is headers o in_range looks_o.there
+
+    alike : is_dir (node s.tree old) ≡ is_dir (node s.tree n)
+    alike = kind_o ∙ fits.same ∙ sym kind_n
+
+    empty : names_in s.tree old ≡ []
+    empty = nothing_in (names_in s.tree old) (by (is_directory o.header.kind) refl)
+      where
+        by : (v : Bool) → is_directory o.header.kind ≡ v
+            → nat_lt 0 (length (names_in s.tree old)) ≡ false
+        by true dir = is_empty N m s is headers o in_range looks_o.there dir
+            (fits.empty (sym fits.same ∙ dir))
+        by false plain = plain_empty N m s is headers o in_range looks_o.there plain
+
+    -- ---- the object
     not_root : old ≢ 1
     not_root e =
         let some = named_counts s.tree db (name b) old there in
         let none : names s.tree old ≡ 0 = ap (names s.tree) e ∙ is.log.sound.root_unnamed in
         absurd (omega (arith, some, none))
 
-    node_is : node s.tree old ≡ Some (node_by m h.kind old h)
-    node_is = node_by_header N m s is.log old h in_range there_old
-
     pub apart_first : old ≢ da
-    apart_first = trees.not_first s.tree da db n (name a) (name b)
-        is.log.sound.in_order dir_a (order_in da dir_a) found dir_b (order_in db dir_b)
-        old there other alike empty
+    apart_first = trees.not_first move (name b) old there other alike empty
 
     pub apart_second : old ≢ db
-    apart_second = trees.not_second s.tree da db n (name a) (name b)
-        is.log.sound.in_order dir_a (order_in da dir_a) found dir_b (order_in db dir_b)
-        old there other alike empty
+    apart_second = trees.not_second move (name b) old there other alike empty
 
-    names_less : names after old + 1 ≡ names s.tree old
-    names_less = trees.names_over s.tree da db n (name a) (name b)
-        is.log.sound.in_order dir_a (order_in da dir_a) found dir_b (order_in db dir_b)
-        old there other alike
+    abbrev change : Tree → Tree
+    change t = with_name (without_name t da (name a)) db (name b) n
+
+    lose : LosesOne N m s change old h
+    lose = record {
+      map = is;
+      shaped = shaped;
+      there = looks_o.there;
+      named = is.log.sound.named db (name b) old there;
+      not_root = not_root;
+      less = trees.names_over move (name b) old there other alike;
+      goes_first = trees.goes_first move (name b) old there other alike empty;
+      links_gone = trees.links_gone move (name b) old there other alike empty;
+    }
+
+    pub names_plain : is_dir (node s.tree old) ≡ false → names s.tree old ≡ h.links
+    names_plain = plain_names lose
 
     abbrev x : ℕ
     x = one_if (is_dir (node s.tree n))
 
-    abbrev y : ℕ
-    y = one_if (not (is_dir (node s.tree n)))
+    links_less : (k : ℕ)
+        → links after k + (only_at old (own_links lose) k + only_at da x k) ≡ links s.tree k
+    links_less = trees.links_over move (name b) old there other alike x (own_links lose) refl
+        (ap (λ (v : Bool). one_if (not v)) alike)
 
-    links_less : (k : ℕ) → links after k + (only_at old y k + only_at da x k) ≡ links s.tree k
-    links_less = trees.links_over s.tree da db n (name a) (name b)
-        is.log.sound.in_order dir_a (order_in da dir_a) found dir_b (order_in db dir_b)
-        old there other alike x y refl refl
-
-    after_by : (v : Bool) → (names after old == 0 && opened s.handles old == 0) ≡ v
-        → tree_after s a b da db ≡ (if v then without nat_cmp old after else after)
-    after_by v by =
-        ap (λ (o : Option ℕ). if is_some o then let_go (moved s a b da db)
+    after_is : let_go after s.handles old ≡ tree_after s a b da db
+    after_is = sym (ap (λ (o : Option ℕ). if is_some o then let_go (moved s a b da db)
         s.handles (unwrap_or o 0) else moved s a b da db) there
-        ∙ ap (λ (t : Tree). let_go t s.handles old) moved_is
-        ∙ ap (λ (v : Bool). if v then without nat_cmp old after else after) by
-
-    pub names_plain : is_dir (node s.tree old) ≡ false → names s.tree old ≡ h.links
-    names_plain off = sym (leaf_links s.tree old off) ∙ sym (linked old h there_old)
-
-    -- ---- it stays, with a link less
-    module _ (m1 : LogMap) (keeps : KeepsLink s m m1 old h) where
-      plain : is_dir (node s.tree old) ≡ false
-      plain = ap is_dir node_is ∙ plain_by m old h h.kind keeps.plain
-
-      small : h.size ≤ 8511488
-      small = small_by m old h h.kind keeps.plain
-          (is.log.sound.limits old (node_by m h.kind old h) node_is)
-
-      y_one : y ≡ 1
-      y_one = ap (λ (b : Bool). one_if (not b)) (sym alike ∙ plain)
-
-      fewer : keeps.links + y ≡ h.links + 0
-      fewer =
-          let one = y_one in
-          let less = keeps.is in
-          let names_were = names_plain plain in
-          let gone = names_less in
-          omega (arith, one, less, names_were, gone)
-
-      stay_kept : IsShaped m1
-      stay_kept = relinked_kept m m1 old h keeps.links shaped there_old small keeps.made
-
-      stay_tree : tree_in m1 ≡ s.tree
-      stay_tree = relinked_tree m m1 old h keeps.links shaped there_old small keeps.made
-          ∙ sym is.log.is
-
-      stay_shifts : Shifts m m1 (only_at old y) (only_at old 0)
-      stay_shifts = relinked_shifts m m1 old h keeps.links shaped there_old small keeps.made y 0
-          fewer
-
-      stay_others : (k : ℕ) → k ≢ old → m1.header k ≡ m.header k
-      stay_others = keeps.made.others
-
-      stay_after : tree_after s a b da db ≡ after
-      stay_after = after_by false (not_both (names after old) (opened s.handles old) (⊎_elim
-          (λ (some : keeps.links ≢ 0). inl (λ none. some (
-          let one = y_one in
-          let less = keeps.is in
-          let names_were = names_plain plain in
-          let gone = names_less in
-          omega (arith, one, less, names_were, gone, none))))
-          (λ (some : opened s.handles old ≢ 0). inr some)
-          keeps.stays))
-
-    -- ---- or goes
-    module _ (m1 : LogMap) (loses : LosesAll s m m1 old h) where
-      shut_and_nameless : (names after old ≡ 0) × (opened s.handles old ≡ 0)
-      shut_and_nameless = ⊎_elim
-          (λ (is_kind : h.kind ≡ kind.Directory).
-          let dir : is_dir (node s.tree old) ≡ true = ap is_dir node_is
-          ∙ ap (λ (k : Kind). is_dir (Some (node_by m k old h))) is_kind in
-          let one = is.log.sound.one_name old not_root dir in
-          let less = names_less in (
-            omega (arith, one, less),
-            ⊎_elim (λ shut. shut)
-                (λ file. absurd (let off : is_dir (node s.tree old) ≡ false = ap is_dir file.1 in
-                cc)) (opened_file s old is.log.sound.handles_in_order is.log.sound.handles),
-          ))
-          (λ (last : (h.links ≤ 1) × (opened s.handles old ≡ 0)). (last_name last.0, last.1))
-          loses.last
-        where
-          last_name : h.links ≤ 1 → names after old ≡ 0
-          last_name few = by (is_dir (node s.tree old)) refl
-            where
-              by : (v : Bool) → is_dir (node s.tree old) ≡ v → names after old ≡ 0
-              by false off = let were = names_plain off in let less = names_less in
-                  omega (arith, were, less, few)
-              by true dir = let one = is.log.sound.one_name old not_root dir in let less =
-                  names_less in omega (arith, one, less)
-
-      gone_is_kept : IsShaped m1
-      gone_is_kept = gone_kept m m1 old shaped loses.gone not_root
-
-      gone_is_tree : tree_in m1 ≡ without nat_cmp old s.tree
-      gone_is_tree = gone_tree m m1 old shaped loses.gone not_root
-          ∙ ap (without nat_cmp old) (sym is.log.is)
-
-      gone_shifts : Shifts m m1 (only_at old y) none_at
-      gone_shifts = shifts_gone m m1 old y loses.gone
-
-      gone_others : (k : ℕ) → k ≢ old → m1.header k ≡ m.header k
-      gone_others = loses.gone.headers
-
-      gone_after : tree_after s a b da db ≡ without nat_cmp old after
-      gone_after = after_by true (both_none (names after old) (opened s.handles old)
-          shut_and_nameless.0 shut_and_nameless.1)
-
-      gone_first : with_name (without_name (without nat_cmp old s.tree) da (name a)) db (name b)
-          n ≡ without nat_cmp old after
-      gone_first = trees.goes_first s.tree da db n (name a) (name b)
-          is.log.sound.in_order dir_a (order_in da dir_a) found dir_b (order_in db dir_b)
-          old there other alike empty
-
-      gone_links : (k : ℕ) → k ≢ old → links (without nat_cmp old after) k ≡ links after k
-      gone_links = trees.links_gone s.tree da db n (name a) (name b)
-          is.log.sound.in_order dir_a (order_in da dir_a) found dir_b (order_in db dir_b)
-          old there other alike empty shut_and_nameless.0
+        ∙ ap (λ (t : Tree). let_go t s.handles old) moved_is)
 
     -- ---- in either case
-    module _ (m1 : LogMap) (loses : LosesName s m m1 old h) where
+    module _ {m1 : LogMap} (loses : LosesName s m m1 old h) where
+      loss : IsLoss lose m1
+      loss = lost lose loses
+
       pub lost_shape : IsShaped m1
-      lost_shape = ⊎_elim (λ (keeps : KeepsLink s m m1 old h). stay_kept m1 keeps)
-          (λ (all : LosesAll s m m1 old h). gone_is_kept m1 all) loses
-
-      lost_others : (k : ℕ) → k ≢ old → m1.header k ≡ m.header k
-      lost_others = ⊎_elim (λ (keeps : KeepsLink s m m1 old h). stay_others m1 keeps)
-          (λ (all : LosesAll s m m1 old h). gone_others m1 all) loses
-
-      pub lost_first : m1.header da ≡ Some (as_header head_a)
-      lost_first = lost_others da (λ e. apart_first (sym e)) ∙ there_a
-
-      pub lost_second : m1.header db ≡ Some (as_header head_b)
-      lost_second = lost_others db (λ e. apart_second (sym e)) ∙ there_b
+      lost_shape = loss.shape
 
       pub lost_a : HasHolder m1 da head_a
       lost_a = record {
         number = holder_a.number;
-        there = lost_first;
+        there = loss.changed.headers da (λ e. apart_first (sym e)) ∙ looks_a.header;
         kind = holder_a.kind;
-        few =
-            few_a;
+        few = few_a;
       }
 
       pub lost_b : HasHolder m1 db head_b
       lost_b = record {
         number = holder_b.number;
-        there = lost_second;
+        there = loss.changed.headers db (λ e. apart_second (sym e)) ∙ looks_b.header;
         kind = holder_b.kind;
-        few =
-            few_b;
+        few = few_b;
       }
 
-      module _ (la lb : ℕ) (less : la ≡ head_a.links - one_if (is_dir (node s.tree n)))
-          (same : da ≢ db → lb ≡ head_b.links)
-          (m2 m3 m4 m5 : LogMap) (moves : DraftsMove m1 m2 m3 m4 da db head_a head_b la lb
-          (name a)) (b4 : Header) (there_4 : m4.header db ≡ Some (as_header b4))
-          (over : DraftsOver m4 m5 db n b4 (name b)) where
-        -- it can be counted
-        pub over_shape : IsShaped m5
-        over_shape = over_kept m1 m2 m3 m4 da db head_a head_b la lb (name a)
-            lost_shape lost_a lost_b moves b4 there_4 m5 n (name b) over
+      module _ {m2 m3 m4 m5 : LogMap}
+          (drafts : DraftsMove m1 m2 m3 m4 da db head_a head_b la lb (name a))
+          (over : DraftsOver m4 m5 db n (second_after da db head_a head_b la lb) (name b)) where
+        pub over_moving : IsMoving m1 m2 m3 m4 da db head_a head_b la lb (name a)
+        over_moving = record { kept = lost_shape; has_a = lost_a; has_b = lost_b; drafts = drafts }
 
-        tree_from : tree_in m5 ≡ with_name (without_name (tree_in m1) da (name a)) db (name b) n
-        tree_from = over_tree m1 m2 m3 m4 da db head_a head_b la lb (name a)
-            lost_shape lost_a lost_b moves b4 there_4 m5 n (name b) over
+        over_named : IsNamed m4 m5 db n (second_after da db head_a head_b la lb) (name b)
+        over_named = named_over over_moving over
 
-        -- its tree is the state's
-        pub over_tree_is : tree_in m5 ≡ tree_after s a b da db
-        over_tree_is = tree_from ∙ ⊎_elim
-            (λ (keeps : KeepsLink s m m1 old h). ap
-            (λ (t : Tree). with_name (without_name t da (name a)) db (name b) n)
-            (stay_tree m1 keeps) ∙ sym (stay_after m1 keeps))
-            (λ (all : LosesAll s m m1 old h). ap
-            (λ (t : Tree). with_name (without_name t da (name a)) db (name b) n)
-            (gone_is_tree m1 all) ∙ gone_first m1 all ∙ sym (gone_after m1 all))
-            loses
+        over_less : la + x ≡ head_a.links
+        over_less = ap (λ (p : Option Object). (if dir_of && (not (da == db) || is_some p)
+            then head_a.links - 1 else head_a.links) + x) some
+            ∙ ap (λ (v : Bool). (if dir_of && (not (da == db) || true)
+            then head_a.links - 1 else head_a.links) + one_if v) kind_n
+            ∙ fewer_over dir_of (da == db) head_a.links linked_twice
 
-        pub over_need : TotalsOfTree → (blocks others : ℕ) → IsCounted m5 blocks others
-            → need (tree_after s a b da db) ≡ blocks + 7 * others + 720
-        over_need totals blocks others counted = ap need (sym over_tree_is)
-            ∙ (need_shaped totals m5 over_shape blocks others counted).0
+        same : lb ≡ head_b.links + 0
+        same = ap (λ (p : Option Object). if dir_of && (not (da == db) && is_none p)
+            then head_b.links + 1 else head_b.links) some
+            ∙ more_over dir_of (da == db) head_b.links ∙ omega arith
 
-        fewer_by : la + x ≡ head_a.links
-        fewer_by = let some = linked_twice in let one = at_most_one (is_dir (node s.tree n)) in
-            omega (arith, less, some, one)
-
-        shifts_from : Shifts m1 m5 (only_at da x) none_at
-        shifts_from = over_shifts m1 m2 m3 m4 da db head_a head_b la lb (name a)
-            lost_shape lost_a lost_b moves b4 there_4 m5 n (name b) over x fewer_by same
-
-        links_over_at : (k : ℕ) (g : entry.Header) → m5.header k ≡ Some g
-            → g.links ≡ links (tree_after s a b da db) k
-        links_over_at k g at = ⊎_elim
-            (λ (keeps : KeepsLink s m m1 old h).
-            let shifts = shifts_joined m m1 m5 (only_at old y) (only_at old 0) (only_at da x)
-            none_at (stay_shifts m1 keeps) shifts_from k g at in
-            let one = shifts.2 in
-            let was = linked k shifts.0 shifts.1 in
+        over_links : (k : ℕ) (f : entry.Header) → m5.header k ≡ Some f
+            → f.links ≡ links (tree_after s a b da db) k
+        over_links k f at =
+            let next = named_shifts over_moving over_named x 0 over_less (λ ne. same) (λ e. refl) k f at in
+            let first = loss.shifts k next.0 next.1 in
+            let one = next.2 in
+            let two = first.2 in
+            let was = linked k first.0 first.1 in
             let now = links_less k in
-            let none = nothing_at old k in
-            let same_now : g.links ≡ links after k = omega (arith, one, was, now, none) in
-            same_now ∙ ap (λ (t : Tree). links t k) (sym (stay_after m1 keeps)))
-            (λ (all : LosesAll s m m1 old h).
-            let before = shifts_from k g at in
-            let apart : k ≢ old = (λ e. let both : None ≡ Some before.0 = sym all.gone.header
-            ∙ ap m1.header (sym e) ∙ before.1 in absurd (cc)) in
-            let shifts = shifts_joined m m1 m5 (only_at old y) none_at (only_at da x)
-            none_at (gone_shifts m1 all) shifts_from k g at in
-            let one = shifts.2 in
-            let was = linked k shifts.0 shifts.1 in
-            let now = links_less k in
-            let same_now : g.links ≡ links after k = omega (arith, one, was, now) in
-            same_now ∙ sym (gone_links m1 all k apart)
-            ∙ ap (λ (t : Tree). links t k) (sym (gone_after m1 all)))
-            loses
+            let none = nothing_at db k in
+            let same_now : f.links ≡ links after k = omega (arith, one, two, was, now, none) in
+            same_now ∙ loss.links_of k next.0 next.1
+            ∙ ap (λ (t : Tree). links t k) after_is
 
-        -- It is the log map of the state.
-        pub over_map : AreArguments (Rename a b) → Step N s (Rename a b) Done (renamed s a b da db)
-            → IsMapOf N m5 (renamed s a b da db)
-        over_map arguments done = map_of_state N m5 (renamed s a b da db)
-            over_shape over_tree_is links_over_at
-            (rename_keeps N s (renamed s a b da db) a b Done is.log.sound arguments done)
+        pub over_moved : IsMoved N m5 s a b da db
+        over_moved = moved_by (named_kept over_moving over_named)
+            (named_tree over_moving over_named ∙ loss.tree ∙ after_is) over_links

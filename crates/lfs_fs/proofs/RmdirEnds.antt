@@ -1,30 +1,22 @@
 -- An empty directory that was drafted out of the volume, as a step of the model.
-use Rattle.std.proofs.Common.{◌≡◌, ◌≢◌, ◌<◌, ◌≤◌, ◌-◌, ◌*◌, ℕ, true, false, List, [], ◌∷◌, length, Option, Some, None, Result, refl, sym, ◌∙◌, ap, subst, inl, inr, ⊎_elim, arith}
+use Rattle.std.proofs.Common.{◌≡◌, ◌≢◌, ◌≤◌, ◌-◌, ◌*◌, ℕ, true, false, List, Option, Some, Result, refl, sym, ◌∙◌, ap, subst, ⊎_elim, arith, inl, inr, ◌+◌}
 use Rattle.std.specs.Prelude.{IfErr, OnOk}
 use Rattle.std.specs.FinMap.{find}
 use Rattle.lfs_model.specs.declared.Kind.TheVariants as kind
 use Rattle.lfs_model.specs.Call.{Done, Refuse, Rmdir}
-use Rattle.lfs_model.specs.Changing.{IsWithHeader}
 use Rattle.lfs_model.specs.Checkpoint.{CheckpointValue}
-use Rattle.lfs_model.specs.Cutting.{IsWithoutFile}
 use Rattle.lfs_model.specs.Device.{DeviceState, IsLawful}
 use Rattle.lfs_model.specs.Encodes.{IsLogMap}
-use Rattle.lfs_model.specs.Entry as entry
-use Rattle.lfs_model.specs.Need.{need}
-use Rattle.lfs_model.specs.Objects.{AreLong, IsChangedAt, IsDirectory, IsHeaderOf}
-use Rattle.lfs_model.specs.Refusal as refusals
+use Rattle.lfs_model.specs.Objects.{IsDirectory, IsHeaderOf, one_if}
 use Rattle.lfs_model.specs.Stands.{LogMap}
 use Rattle.lfs_model.specs.Step.{Step, name}
 use Rattle.lfs_model.specs.Totals.{IsCounted}
-use Rattle.lfs_model.specs.Tree.{Dir, Names, State, byte_cmp, entry as entry_in, is_dir, node}
+use Rattle.lfs_model.specs.Tree.{State, byte_cmp, is_dir, node}
 use Rattle.lfs_model.specs.Walk.{At, Parent}
-use Rattle.lfs_model.proofs.ObjectTrees.{with_header_at, without_file_at}
 use Rattle.lfs_files.specs.declared.header.Header.{Header}
 use Rattle.lfs_files.specs.Files.{HasFile}
 use Rattle.lfs_store.specs.declared.draft.Draft.{Draft}
-use Rattle.lfs_store.specs.log.verify.declared.totals.BlockTotals.{BlockTotals}
 use Rattle.lfs_store.specs.memory.declared.changes.Changes.{Changes}
-use Rattle.lfs_store.specs.memory.declared.memory.LogMemory.{LogMemory}
 use Rattle.lfs_store.specs.memory.Batch.{FitsBatch, IsNoChange, staged}
 use Rattle.lfs_store.specs.memory.Changing.{FitsHeader}
 use Rattle.lfs_store.specs.memory.Present.{as_header}
@@ -34,45 +26,33 @@ use Rattle.lfs_store.specs.Recounting.{AreTotals}
 use Rattle.lfs_store.proofs.Apart.{draft_empty}
 use Rattle.lfs_store.proofs.LogReads.{held_still}
 use Rattle.lfs_store.proofs.TreeTotals.{totals_of_tree}
-use Rattle.lfs_store.proofs.Writings.{header_put}
-use Rattle.lfs_store.proofs.of_memory.Removed.{is_without}
 use Rattle.lfs_path.specs.declared.last.Last.{Last}
 use Rattle.lfs_path.specs.dirs.Directory.{names_at}
-use Rattle.lfs_path.specs.dirs.Taking.{CutsSlot, TakesName, shrunk}
-use Rattle.lfs_path.proofs.of_dirs.SlotsKept.{directory_stays}
+use Rattle.lfs_path.specs.dirs.Taking.{CutsSlot, TakesName}
 use Rattle.lfs_fs.specs.declared.error.FsError.{FsError}
-use Rattle.lfs_fs.specs.declared.error.FsError.TheVariants as error
 use Rattle.lfs_fs.specs.declared.fs.Fs.{Fs}
-use Rattle.lfs_fs.specs.Accepting.{StagesDraft, TurnsDown, limit_of, need_of}
-use Rattle.lfs_fs.specs.Handles.{handles_of}
+use Rattle.lfs_fs.specs.Accepting.{StagesDraft, TurnsDown, need_of}
 use Rattle.lfs_fs.specs.Naming.{Reaches}
 use Rattle.lfs_fs.specs.Refusals.{refusal_of}
 use Rattle.lfs_fs.specs.Removing.{DraftsRmdir, HasEmpty, less_linked}
 use Rattle.lfs_fs.specs.Seen.{OnlyReads, answer_by, seen}
 use Rattle.lfs_fs.specs.Unlinking.{FailsUnlink}
 use Rattle.lfs_fs.specs.Volume.{IsIn, IsStill, Mounted, Serves, segments_of}
-use Rattle.lfs_fs.proofs.Behaving.{write_behaves}
-use Rattle.lfs_fs.proofs.CallSteps.{not_worn, worn}
-use Rattle.lfs_fs.proofs.Changed.{long_kept, shape_kept}
-use Rattle.lfs_fs.proofs.CreateEnds.{in_each}
-use Rattle.lfs_fs.proofs.Ending.{accepts_by}
-use Rattle.lfs_fs.proofs.Files.{IsMapOf, IsShaped, need_shaped}
+use Rattle.lfs_fs.proofs.Files.{IsMapOf, IsShaped, room_shaped}
 use Rattle.lfs_fs.proofs.Headers.{directory_shrinks, links_fit}
-use Rattle.lfs_fs.proofs.Holding.{headers_of_volume, map_of_volume, shape_of_volume}
-use Rattle.lfs_fs.proofs.InDirectories.{directory_formed, directory_kind, names_in_directory, size_of_directory}
-use Rattle.lfs_fs.proofs.OldEntries.{dir, entry_is, found_d, says, small, there_d}
-use Rattle.lfs_fs.proofs.ReadingEnds.{failed_serves}
-use Rattle.lfs_fs.proofs.RemovedDirectories.{apart, links_many, not_root, removed_map}
-use Rattle.lfs_fs.proofs.RmdirRefusals.{empty_step, empty_there}
+use Rattle.lfs_fs.proofs.Holding.{headers_of_volume, map_of_volume}
+use Rattle.lfs_fs.proofs.InDirectories.{slot_in_directory}
+use Rattle.lfs_fs.proofs.OldEntries.{found_d, says}
+use Rattle.lfs_fs.proofs.RmdirRefusals as checked
 use Rattle.lfs_fs.proofs.RmdirSteps.{removed}
-use Rattle.lfs_fs.proofs.Serving.{point_of, served_still}
-use Rattle.lfs_fs.proofs.Told.{memory_serves}
-use Rattle.lfs_fs.proofs.WritingEnds.{accepts_old, ends_by, low_old, still_more, table_same}
-
--- a map that has a name isn't empty
-some_names : (ms : Names) (nm : List ℕ) (n : ℕ) → find byte_cmp nm ms ≡ Some n → 0 < length ms
-some_names [] nm n found = cc
-some_names (e ∷ ms) nm n found = omega arith
+use Rattle.lfs_fs.proofs.WritingEnds.{still_more, draft_ends, totals_read}
+use Rattle.lfs_fs.proofs.RemovedEntries.{IsEntry, apart, dir, holder_is, links_many, loss, shape_2, holder_2, removed_map, removed_shape}
+use Rattle.lfs_fs.proofs.LostNames.{LosesName}
+use Rattle.lfs_fs.proofs.MovedDrafts.{all_lost, links_set}
+use Rattle.lfs_fs.proofs.MovedMaps.{Relinks}
+use Rattle.lfs_fs.proofs.KeptMaps.{HasHolder, holder_directory}
+use Rattle.lfs_model.proofs.KeepsNames.{rmdir_keeps}
+use Rattle.lfs_fs.proofs.ReadingEnds.{fails_serves}
 
 module _ {D : Type 0} (state : D → DeviceState) (lawful : (d : D) → IsLawful (state d))
     (v : Mounted D) (old mid : Fs D) (path : List ℕ) (d : ℕ) (piece : Option Last)
@@ -99,61 +79,40 @@ module _ {D : Type 0} (state : D → DeviceState) (lawful : (d : D) → IsLawful
     in_mid = held_still state v.log mid.store.log k m0 m still_mid.reads is.stores.holds
 
     -- the directory, and the one that stands in it
-    holder_is : is_dir (node s.tree d) ≡ true
-    holder_is = dir state lawful v old path d piece reached last is_last mid only k m0 m s is walk
+    placed : IsEntry (segments_of v) m s path d n head (as_header object)
+    placed = checked.placed state lawful v old path d piece reached running last is_last mid only k m0
+        m s kept_mid is walk head n object has
 
-    holder_there : m.header d ≡ Some (as_header head)
-    holder_there = there_d state lawful v old path d piece reached last is_last mid only k m0 m s is
-        walk kept_mid head n has.sees.looks
+    is_directory : is_dir (node s.tree n) ≡ true
+    is_directory = ap is_dir (checked.empty_there state lawful v old path d piece reached running
+        last is_last mid only k m0 m s kept_mid is walk head n object has)
+
+    done : Step (segments_of v) s (Rmdir path) Done (removed s path d)
+    done = checked.empty_step state lawful v old path d piece reached running last is_last mid only
+        k m0 m s kept_mid is walk head n object has
 
     found : find byte_cmp (name path) (names_at m d head) ≡ Some n
     found = found_d state lawful v old path d piece reached last is_last mid only k m0 m s is walk
         kept_mid head n has.sees.looks
 
-    entry_there : entry_in s.tree d (name path) ≡ Some n
-    entry_there = entry_is state lawful v old path d piece reached last is_last mid only k m0 m s is
-        walk kept_mid head n has.sees.looks
-
-    few : head.size ≤ 65536
-    few = small state lawful v old path d piece reached last is_last mid only k m0 m s is walk
-        kept_mid head n has.sees.looks
-
-    empty : node s.tree n ≡ Some (Dir 0 [])
-    empty = empty_there state lawful v old path d piece reached running last is_last mid only k m0 m
-        s kept_mid is walk head n object has
-
-    done : Step (segments_of v) s (Rmdir path) Done (removed s path d)
-    done = empty_step state lawful v old path d piece reached running last is_last mid only k m0 m s
-        kept_mid is walk head n object has
-
     fits_d : IsHeaderOf d (as_header head)
-    fits_d = headers_of_volume state v k m0 m s is d (as_header head) holder_there
+    fits_d = headers_of_volume state v k m0 m s is d (as_header head) placed.holder
 
     kind_d : head.kind ≡ kind.Directory
-    kind_d = directory_kind (segments_of v) m s map d holder_is head holder_there
+    kind_d = (holder_is placed).kind
 
     formed_d : IsDirectory m d (as_header head)
-    formed_d = directory_formed (segments_of v) m s map d holder_is head holder_there fits_d
+    formed_d = holder_directory m d head placed.shaped (holder_is placed)
 
     some_size : 64 ≤ head.size
-    some_size =
-        let size = size_of_directory (segments_of v) m s map d holder_is head holder_there fits_d in
-        let some = some_names (names_at m d head) (name path) n found in
-        let same = ap length (names_in_directory (segments_of v) m s map d holder_is head
-        holder_there) in
-        omega (arith, size, some, same)
+    some_size = slot_in_directory (segments_of v) m s placed.map d (dir placed) head placed.holder
+        fits_d (name path) n found
 
     piece_is : name path ≡ last.name.now
     piece_is = (says state lawful v old path d piece reached last is_last mid only).1
 
-    other : n ≢ d
-    other = apart (segments_of v) m s map path d walk n entry_there empty head holder_there
-
     many : 3 ≤ head.links
-    many = links_many (segments_of v) m s map path d walk n entry_there empty head holder_there
-
-    inner : n ≢ 1
-    inner = not_root (segments_of v) m s map path d walk n entry_there empty head holder_there
+    many = links_many placed is_directory
 
   -- ---- the draft isn't made
   pub rmdir_undrafted : (ready : Fs D) → IsStill state (seen mid) (seen ready) → (new : Mounted D)
@@ -163,25 +122,19 @@ module _ {D : Type 0} (state : D → DeviceState) (lawful : (d : D) → IsLawful
   rmdir_undrafted ready still new same fault fails =
       subst (λ (w : Mounted D). Serves state v w (Rmdir path) (Refuse (refusal_of fault)))
       (sym same)
-      (⊎_elim
-      (λ (memory : fault ≡ error.NoMemory).
-      subst (λ (e : FsError). Serves state v (seen ready) (Rmdir path) (Refuse (refusal_of e)))
-      (sym memory)
-      (memory_serves state v (seen ready) (Rmdir path) (lawful v.log.device) still_ready was refl))
-      (λ failed.
-      subst (λ (e : FsError). Serves state v (seen ready) (Rmdir path) (Refuse (refusal_of e)))
-      (sym failed.0)
-      (failed_serves state v (seen ready) (Rmdir path) (lawful v.log.device) still_ready was refl
-      (λ k m0 m s keeps is. (
-      let kept = still.reads.looks.carries.kept_before keeps in
-      let there : find byte_cmp last.name.now (names_at m d head) ≡ Some n =
-      subst (λ (x : List ℕ). find byte_cmp x (names_at m d head) ≡ Some n)
-      (piece_is kept k m0 m s is) (found kept k m0 m s is) in
-      let rose = failed.1 k m0 m keeps (in_mid kept k m0 m s is) (formed_d kept k m0 m s is)
-      (λ none. let at = there in cc) (other kept k m0 m s is) in
-      let before = still_mid.reads.looks.carries.failures in
-      omega (arith, rose, before)))))
-      fails)
+      (fails_serves state v (seen ready) (Rmdir path) (lawful v.log.device) still_ready was refl refl
+      fault (⊎_elim inl (λ failed. inr (
+        failed.0,
+        λ k m0 m s keeps is. (
+            let kept = still.reads.looks.carries.kept_before keeps in
+            let there : find byte_cmp last.name.now (names_at m d head) ≡ Some n =
+            subst (λ (x : List ℕ). find byte_cmp x (names_at m d head) ≡ Some n)
+            (piece_is kept k m0 m s is) (found kept k m0 m s is) in
+            let rose = failed.1 k m0 m keeps (in_mid kept k m0 m s is) (formed_d kept k m0 m s is)
+            (λ none. let at = there in cc) (apart (placed kept k m0 m s is)) in
+            let before = still_mid.reads.looks.carries.failures in
+            omega (arith, rose, before)),
+      )) fails))
     where
       still_ready : IsStill state v (seen ready)
       still_ready = still_more state lawful v (seen mid) (seen ready) still_mid still
@@ -213,59 +166,34 @@ module _ {D : Type 0} (state : D → DeviceState) (lawful : (d : D) → IsLawful
 
     module _ (keeps : (state ready.store.log.device).keeps_model) (k : CheckpointValue)
         (m0 m : LogMap) (s : State) (is : IsIn state v k m0 m s) where
-      apart_d : d ≡ n → ⊥
-      apart_d e = other (kept keeps) k m0 m s is (sym e)
+      placed_here : IsEntry (segments_of v) m s path d n head (as_header object)
+      placed_here = placed (kept keeps) k m0 m s is
 
-      -- ---- the directory goes
-      gone : IsWithoutFile m n (without_it m)
-      gone = subst (λ (x : LogMap). IsWithoutFile m n x) (sym (drafts.removes.map m))
-          (is_without m n)
+      apart_d : d ≢ n
+      apart_d e = apart placed_here (sym e)
 
-      changed_n : IsChangedAt m n (without_it m)
-      changed_n = without_file_at m (without_it m) n gone
+      -- the directory goes, and the other has a link less
+      loses : LosesName s m (without_it m) n (as_header object)
+      loses = inr (all_lost s mid.store.draft.changes drafts.gone m n object (inl has.dir)
+          drafts.removes)
 
-      map_1 : IsLogMap (without_it m)
-      map_1 = drafts.removes.keeps m is.map (inner (kept keeps) k m0 m s is)
+      links : Relinks (without_it m) (between m) d head (head.links - 1)
+      links = links_set drafts.gone drafts.linked m d head (head.links - 1) drafts.sets
 
       there_1 : (without_it m).header d ≡ Some (as_header head)
-      there_1 = gone.headers d apart_d ∙ holder_there (kept keeps) k m0 m s is
+      there_1 = (loss placed_here (head.links - 1) loses links).changed.headers d apart_d
+          ∙ placed_here.holder
 
-      none_long : AreLong (without_it m) n
-      none_long i has = let none = ap length (gone.block i) in absurd (omega (arith, none, has))
+      shaped_2 : IsShaped (between m)
+      shaped_2 = shape_2 placed_here (head.links - 1) loses links
 
-      no_header : (h : entry.Header) → (without_it m).header n ≡ Some h → ⊥
-      no_header h at = let both : None ≡ Some h = sym gone.header ∙ at in cc
-
-      long_1 : (q : ℕ) → AreLong (without_it m) q
-      long_1 = long_kept m (without_it m) n changed_n (map (kept keeps) k m0 m s is).long none_long
-
-      -- ---- the other has a link less
-      made : IsWithHeader (without_it m) d (Some (as_header (less_linked head))) (between m)
-      made = header_put (without_it m) (between m) d (less_linked head) (drafts.sets.map m)
-
-      changed_d : IsChangedAt (without_it m) d (between m)
-      changed_d = with_header_at (without_it m) (between m) d (Some (as_header (less_linked head)))
-          made
-
-      map_2 : IsLogMap (between m)
-      map_2 = drafts.sets.keeps m map_1 there_1
-
-      own_long : AreLong (between m) d
-      own_long i has = ap length (made.block d i)
-          ∙ long_1 d i (subst (λ (b : List ℕ). 0 < length b) (made.block d i) has)
-
-      long_2 : (q : ℕ) → AreLong (between m) q
-      long_2 = long_kept (without_it m) (between m) d changed_d long_1 own_long
-
-      same_directory : IsDirectory (between m) d (as_header (less_linked head))
-          × (names_at (between m) d (less_linked head) ≡ names_at m d head)
-      same_directory = directory_stays m (between m) d head (less_linked head)
-          (λ i. made.block d i ∙ gone.blocks d i apart_d) refl (formed_d (kept keeps) k m0 m s is)
+      holder_then : HasHolder (between m) d (less_linked head)
+      holder_then = holder_2 placed_here (head.links - 1) loses links
 
       has_directory : HasFile (between m) d (less_linked head)
-      has_directory = record { map = map_2; there = made.own }
+      has_directory = record { map = shaped_2.map; there = holder_then.there }
 
-      -- ---- its name goes
+      -- its name goes
       cut : CutsSlot (between m) (staged c m) d (less_linked head)
       cut = drafts.takes.cut k m0 m keeps (in_mid (kept keeps) k m0 m s is) has_directory
 
@@ -273,14 +201,19 @@ module _ {D : Type 0} (state : D → DeviceState) (lawful : (d : D) → IsLawful
       takes_it = subst (TakesName (between m) (staged c m) d (less_linked head))
           (sym (piece_is (kept keeps) k m0 m s is))
           (drafts.takes.names k m0 m keeps (in_mid (kept keeps) k m0 m s is) has_directory
-          same_directory.0)
+          (holder_directory (between m) d (less_linked head) shaped_2 holder_then))
+
+      less : head.links - 1 + one_if (is_dir (node s.tree n)) ≡ head.links
+      less =
+          let all = many (kept keeps) k m0 m s is in
+          let one : one_if (is_dir (node s.tree n)) ≡ 1
+          = ap one_if (is_directory (kept keeps) k m0 m s is) in
+          omega (arith, all, one)
 
       after : IsMapOf (segments_of v) (staged c m) (removed s path d)
-      after = removed_map (segments_of v) m s (map (kept keeps) k m0 m s is) path d
-          (walk (kept keeps) k m0 m s is) n (entry_there (kept keeps) k m0 m s is)
-          (empty (kept keeps) k m0 m s is) head (holder_there (kept keeps) k m0 m s is)
-          (few (kept keeps) k m0 m s is) (done (kept keeps) k m0 m s is) (without_it m) (between m)
-          (staged c m) gone made map_2 cut takes_it
+      after = removed_map placed_here (head.links - 1) loses links less cut takes_it refl
+          (rmdir_keeps (segments_of v) s (removed s path d) path Done is.log.sound
+          (done (kept keeps) k m0 m s is))
 
       -- ---- the draft fits
       links_less : FitsHeader head.kind (head.links - 1) head.size
@@ -300,120 +233,48 @@ module _ {D : Type 0} (state : D → DeviceState) (lawful : (d : D) → IsLawful
       fits_here : FitsBatch m c
       fits_here =
           drafts.takes.fits k m0 m keeps (in_mid (kept keeps) k m0 m s is) fits_linked
-          (λ none. (
-          let both : None ≡ Some (as_header head) = sym none ∙ holder_there (kept keeps) k m0 m s is
-          in
-          absurd (cc)))
-          made.own record { links_few = links_less.links_few; size_fits = size_less.size_fits }
+          (λ none. (let at = placed_here.holder in absurd (cc))) holder_then.there
+          record { links_few = links_less.links_few; size_fits = size_less.size_fits }
           (drafts.sets.apart d apart_1)
 
       -- ---- the totals
       totals_mid : AreTotals (staged mid.store.draft.changes m) mid.store.drafted
-      totals_mid =
-          let before : AreTotals m old.store.log.totals = record {
-            stored = reached.still.blocks ∙ is.counted.stored;
-            above = reached.still.others ∙ is.counted.above;
-          } in
-          subst (λ (x : LogMap). AreTotals x mid.store.drafted) (sym (same_mid m))
-          (subst (λ (t : BlockTotals). AreTotals m t) (sym (only.drafted ∙ reached.drafted)) before)
+      totals_mid = subst (λ (x : LogMap). AreTotals x mid.store.drafted) (sym (same_mid m))
+          (totals_read state lawful v old mid reached.still reached.drafted only m is.counted)
 
       map_mid : IsLogMap (staged mid.store.draft.changes m)
       map_mid = subst IsLogMap (sym (same_mid m)) is.map
 
       totals_1 : AreTotals (without_it m) drafts.half
-      totals_1 = drafts.counts k m0 m keeps (in_mid (kept keeps) k m0 m s is) map_mid map_1
-          totals_mid
-
-      totals_2 : AreTotals (between m) drafts.half
-      totals_2 = drafts.relinks m there_1 totals_1
+      totals_1 = drafts.counts k m0 m keeps (in_mid (kept keeps) k m0 m s is) map_mid
+          (loss placed_here (head.links - 1) loses links).shape.map totals_mid
 
       counted_here : IsCounted (staged c m) ready.store.drafted.data_blocks
           ready.store.drafted.meta_blocks
       counted_here = drafts.takes.counts k m0 m keeps (in_mid (kept keeps) k m0 m s is)
-          has_directory
-          (long_2 d) after.map totals_2
+          has_directory (shaped_2.long d) after.map (drafts.relinks m there_1 totals_1)
 
       -- the tree needs no more than there is
-      shaped : IsShaped (staged c m)
-      shaped =
-          shape_kept (between m) (staged c m) d cut.only
-          (shape_kept (without_it m) (between m) d changed_d
-          (shape_kept m (without_it m) n changed_n (shape_of_volume state v k m0 m s is) map_1
-          none_long
-          (λ h at is_kind. absurd (no_header h at)))
-          map_2 own_long
-          (λ h at is_kind. subst (IsDirectory (between m) d)
-          (let both : Some (as_header (less_linked head)) ≡ Some h = sym made.own ∙ at in cc)
-          same_directory.0))
-          after.map (after.long d)
-          (λ h at is_kind. subst (IsDirectory (staged c m) d)
-          (let both : Some (as_header (shrunk (less_linked head))) ≡ Some h = sym cut.header ∙ at in
-          cc)
-          takes_it.directory)
-
       room : need_of ready ≤ 47 * segments_of v
-      room =
-          let needs = (need_shaped totals_of_tree (staged c m) shaped
-          ready.store.drafted.data_blocks
-          ready.store.drafted.meta_blocks counted_here).0 in
-          subst (λ (x : ℕ). x ≤ 47 * segments_of v) (ap need after.log.is ∙ needs)
-          after.log.sound.room
-
-    limit_same : limit_of ready ≡ 47 * segments_of v
-    limit_same = ap (λ (x : LogMemory). 47 * length x.usage.segments) still_ready.reads.memory
+      room = room_shaped totals_of_tree (segments_of v) (staged c m) (removed s path d) after
+          (removed_shape placed_here (head.links - 1) loses links less cut takes_it)
+          ready.store.drafted.data_blocks ready.store.drafted.meta_blocks counted_here
 
     -- ---- the call
     module _ (new : Fs D) (rest : new.handles ≡ ready.handles) {X : Type 0} (r : Result X FsError)
         (done_by : OnOk r (StagesDraft state ready new)) (down : IfErr r (TurnsDown state ready new))
       where
         pub rmdir_ends : Serves state v (seen new) (Rmdir path) (answer_by (λ _. Done) r)
-        rmdir_ends =
-            ends_by state lawful v ready new (Rmdir path) Done still_ready was rest refl refl refl
-            refl
-            (λ keeps k m0 m s is.
-            in_each state v k m0 m s is (λ x t. FitsBatch x c)
-            (fits_here keeps k m0 m s is))
-            (λ stages keeps k m0 m s is. (
-            let accepts =
-            accepts_old state lawful v ready new (Rmdir path) Done still_ready was rest stages in
-            let table =
-            table_same state lawful v ready new (Rmdir path) Done still_ready was rest in
-            let low = low_old state lawful v ready new (Rmdir path) Done still_ready was rest
-            stages.young in
-            accepts_by state v (seen new) (Rmdir path) (lawful v.log.device)
-            (lawful new.store.log.device)
-            accepts.carries accepts.segments was accepts.saves.number c accepts low Done (λ e. cc)
-            (λ e. cc)
-            (write_behaves state v (seen new) (Rmdir path) Done refl table (λ e. cc))
-            (λ p keeps_new here k' m0' m' is'. record {
-              next = removed p.state path d;
-              fits = fits_here keeps k' m0' m' p.state is';
-              map = after keeps k' m0' m' p.state is';
-              version = is'.version;
-              handles = is'.handles ∙ ap handles_of (sym table);
-              counted = subst (λ (t : BlockTotals). IsCounted (staged c m') t.data_blocks
-                  t.meta_blocks)
-                  (sym stages.totals) (counted_here keeps k' m0' m' p.state is');
-              steps = inl (
-                done (kept keeps) k' m0' m' p.state is',
-                not_worn (segments_of v) (Rmdir path) p
-                    (let number = here.number in omega (arith, number, low)),
-              );
-            })))
-            (λ same lacks keeps k m0 m s is. absurd (
-            let most = room keeps k m0 m s is in
-            let more = subst (λ (x : ℕ). x < need_of ready) limit_same lacks in
-            omega (arith, most, more)))
-            (λ same high few keeps k m0 m s is.
-            served_still state v (seen new) (Rmdir path) (Refuse refusals.Worn)
-            (lawful v.log.device)
-            same was tt (λ p keeps_new here k' m0' m' is'. inr (
-              refusals.Worn,
-              refl,
-              worn (segments_of v) (Rmdir path) p (point_of state (seen new) p.state)
-                  (let number = here.number in omega (arith, number, high)) refl Done
-                  (removed p.state path d) (done (kept keeps) k' m0' m' p.state is') refl,
-              refl,
-            ))
-            (λ e. cc))
-            r done_by down
+        rmdir_ends = draft_ends state lawful v ready new (Rmdir path) Done still_ready was rest refl
+            refl refl refl (λ keeps k m0 m s is. record {
+              next = removed s path d;
+              answer = Done;
+              ok = refl;
+              fits = fits_here keeps k m0 m s is;
+              counted = counted_here keeps k m0 m s is;
+              version = refl;
+              map = λ has_room. after keeps k m0 m s is;
+              done = λ has_room. done (kept keeps) k m0 m s is;
+              lacks = λ more. absurd
+                  (let most = room keeps k m0 m s is in omega (arith, most, more));
+            }) refl (λ keeps k m0 m s is. (refl, is.handles)) r done_by down

@@ -1,5 +1,5 @@
 -- The refusals of rmdir: those of the rule of a directory that is to go.
-use Rattle.std.proofs.Common.{◌≡◌, ◌≢◌, ◌<◌, ◌≤◌, ◌*◌, ℕ, Bool, true, false, List, [], length, Option, Some, None, refl, sym, ◌∙◌, ap, subst, inl, ⊎_elim, nat_lt, arith}
+use Rattle.std.proofs.Common.{◌≡◌, ◌≢◌, ◌<◌, ◌≤◌, ◌*◌, ℕ, Bool, true, false, List, [], length, Option, Some, None, refl, sym, ◌∙◌, ap, subst, ⊎_elim, nat_lt, arith}
 use Rattle.lfs_model.specs.declared.Kind.{Kind}
 use Rattle.lfs_model.specs.declared.Kind.TheVariants as kind
 use Rattle.lfs_model.specs.Call.{Done, Refuse, Rmdir}
@@ -9,10 +9,9 @@ use Rattle.lfs_model.specs.Refusal as refusals
 use Rattle.lfs_model.specs.Refusal.{Refusal}
 use Rattle.lfs_model.specs.Stands.{LogMap}
 use Rattle.lfs_model.specs.Step.{Step, gives_dir, is_long, is_there, last_dots, no_last, target}
-use Rattle.lfs_model.specs.Tree.{Dir, Names, State, names_in, node}
+use Rattle.lfs_model.specs.Tree.{Dir, Names, State, names_in, node, Node, names_of, File, is_dir}
 use Rattle.lfs_model.specs.TreeOf.{node_by}
 use Rattle.lfs_model.specs.Walk.{At, Parent}
-use Rattle.lfs_model.proofs.Keeps.{parent_dir}
 use Rattle.lfs_files.specs.declared.header.Header.{Header}
 use Rattle.lfs_store.specs.memory.Present.{as_header}
 use Rattle.lfs_path.specs.declared.last.Last.{Last}
@@ -28,21 +27,17 @@ use Rattle.lfs_fs.specs.Refusals.{refusal_of}
 use Rattle.lfs_fs.specs.Removing.{HasEmpty, RefusesEmpty}
 use Rattle.lfs_fs.specs.Seen.{OnlyReads, seen}
 use Rattle.lfs_fs.specs.Unlinking.{SeesEntry}
-use Rattle.lfs_fs.specs.Volume.{IsIn, IsStill, Mounted, Serves, segments_of}
+use Rattle.lfs_fs.specs.Volume.{IsIn, Mounted, Serves, segments_of}
 use Rattle.lfs_fs.proofs.Behaving.{IsOrdinary}
-use Rattle.lfs_fs.proofs.CallSteps.{refused_not_worn}
 use Rattle.lfs_fs.proofs.Checks.{below, not_below}
-use Rattle.lfs_fs.proofs.CreateEnds.{still_more}
-use Rattle.lfs_fs.proofs.Ending.{not_acknowledged}
-use Rattle.lfs_fs.proofs.Files.{dir_there}
-use Rattle.lfs_fs.proofs.Holding.{headers_of_volume}
+use Rattle.lfs_fs.proofs.Holding.{headers_of_volume, shape_of_volume, map_of_volume}
 use Rattle.lfs_fs.proofs.InDirectories.{size_of_directory}
 use Rattle.lfs_fs.proofs.NameLooks.{only_none}
-use Rattle.lfs_fs.proofs.OldEntries.{entry_is, found_there, gives_directory, gives_plain, is_directory, is_missing, long_is, never, object_node, object_there, rises, says, short_is, still, target_is, there_d, volume}
+use Rattle.lfs_fs.proofs.OldEntries.{entry_is, found_there, gives_directory, gives_plain, is_directory, is_missing, long_is, never, object_node, object_there, rises, says, short_is, still, target_is, there_d, volume, IsRefused, walk_refuses, walk_zero, small}
 use Rattle.lfs_fs.proofs.ReadingEnds.{failed_serves}
-use Rattle.lfs_fs.proofs.RemovedDirectories.{links_many}
 use Rattle.lfs_fs.proofs.RmdirSteps.{removed, rmdir_done, rmdir_dots, rmdir_full, rmdir_long, rmdir_missing, rmdir_plain, rmdir_root}
-use Rattle.lfs_fs.proofs.Serving.{served_still}
+use Rattle.lfs_fs.proofs.RemovedEntries.{IsEntry, links_many}
+use Rattle.std.specs.Prelude.{unwrap_or}
 
 module _ {D : Type 0} (state : D → DeviceState) (lawful : (d : D) → IsLawful (state d))
     (v : Mounted D) (old : Fs D) (path : List ℕ) (d : ℕ) (piece : Option Last)
@@ -50,40 +45,18 @@ module _ {D : Type 0} (state : D → DeviceState) (lawful : (d : D) → IsLawful
   was : v.log.halted ≡ false
   was = sym reached.still.reads.halted ∙ running
 
-  -- a refusal by a step of the model in each state
-  pub rmdir_refuses : (new : Fs D) → IsStill state (seen old) (seen new) → (r : Refusal)
-      → IsOrdinary (Refuse r)
-      → ((k : CheckpointValue) (m0 m : LogMap) (s : State)
-      → (state new.store.log.device).keeps_model → IsIn state v k m0 m s
-      → Parent s.tree path (At d) → Step (segments_of v) s (Rmdir path) (Refuse r) s)
-      → Serves state v (seen new) (Rmdir path) (Refuse r)
-  rmdir_refuses new still r ordinary steps =
-      served_still state v (seen new) (Rmdir path) (Refuse r) (lawful v.log.device)
-      (still_more state v (seen old) (seen new) (lawful v.log.device) reached.still still) was
-      ordinary (λ p keeps here k m0 m is. (
-      let before = still.reads.looks.carries.kept_before keeps in
-      let step = steps k m0 m p.state keeps is (reached.walk k m0 m p.state before is) in
-      inl (step, refused_not_worn (segments_of v) (Rmdir path) p r p.state step refl)))
-      (not_acknowledged (Rmdir path) r)
-
   -- the path of the root has no piece
   pub root_busy : piece ≡ None → Serves state v (seen old) (Rmdir path) (Refuse refusals.Busy)
   root_busy none =
       let says : no_last path ≡ true = last_says path None (subst (HasLast path) none reached.last)
       in
-      rmdir_refuses old (only_none state old).still refusals.Busy tt
+      walk_refuses state lawful v old path d piece reached running (Rmdir path) refl old
+      (only_none state old).still refusals.Busy tt
       (λ k m0 m s keeps is walk. rmdir_root (segments_of v) s path d walk says)
 
   -- no directory has number 0
   pub number_zero : d ≡ 0 → Serves state v (seen old) (Rmdir path) (Refuse refusals.Device)
-  number_zero zero_is =
-      served_still state v (seen old) (Rmdir path) (Refuse refusals.Device) (lawful v.log.device)
-      reached.still was tt (λ p keeps here k m0 m is. absurd (
-      let walk = reached.walk k m0 m p.state keeps is in
-      let dir = (parent_dir (segments_of v) p.state is.log.sound path d walk).0 in
-      let low = (is.log.sound.numbers d (dir_there p.state.tree d dir)).0 in
-      omega (arith, zero_is, low)))
-      (not_acknowledged (Rmdir path) refusals.Device)
+  number_zero = walk_zero state lawful v old path d piece reached running (Rmdir path)
 
   module _ (l : Last) (is_last : piece ≡ Some l) (new : Fs D) (only : OnlyReads state old new) where
     -- ---- the rule in one state
@@ -190,24 +163,31 @@ module _ {D : Type 0} (state : D → DeviceState) (lawful : (d : D) → IsLawful
             (target_has head n object has.sees has.dir false
             (not_below 0 (length (names_in s.tree n)) (omega (arith, size, none))))
 
+        pub placed : IsEntry (segments_of v) m s path d n head (as_header object)
+        placed = record {
+          map = map_of_volume state v k m0 m s is;
+          shaped = shape_of_volume state v k m0 m s is;
+          walk = walk;
+          gives = entry_is state lawful v old path d piece reached l is_last new only k m0 m s is
+              walk keeps head n has.sees.looks;
+          holder = there_d state lawful v old path d piece reached l is_last new only k m0 m s is
+              walk keeps head n has.sees.looks;
+          few = small state lawful v old path d piece reached l is_last new only k m0 m s is walk
+              keeps head n has.sees.looks;
+          there = object_there state lawful v old path d piece reached l is_last new only k m0 m s
+              is walk keeps head n has.sees.looks object has.sees.there;
+          empty = ap (λ (o : Option Node). names_of (unwrap_or o (File []))) empty_there;
+        }
+
         pub links_there : 3 ≤ head.links
-        links_there =
-            links_many (segments_of v) m s
-            (volume state lawful v old path d piece reached l is_last new only k m0 m s is walk)
-            path d walk n
-            (entry_is state lawful v old path d piece reached l is_last new only k m0 m s is walk
-            keeps head n has.sees.looks)
-            empty_there head
-            (there_d state lawful v old path d piece reached l is_last new only k m0 m s is walk
-            keeps head n has.sees.looks)
+        links_there = links_many placed (ap is_dir empty_there)
 
     -- ---- the call
     refused : (r : Refusal) → IsOrdinary (Refuse r)
-        → ((k : CheckpointValue) (m0 m : LogMap) (s : State)
-        → (state new.store.log.device).keeps_model → IsIn state v k m0 m s
-        → Parent s.tree path (At d) → Step (segments_of v) s (Rmdir path) (Refuse r) s)
+        → IsRefused state lawful v old path d piece reached running (Rmdir path) new r
         → Serves state v (seen new) (Rmdir path) (Refuse r)
-    refused = rmdir_refuses new only.still
+    refused = walk_refuses state lawful v old path d piece reached running (Rmdir path) refl new
+        only.still
 
     pub empty_refused : (fault : FsError) → RefusesEmpty state old new d l.name.now fault
         → Serves state v (seen new) (Rmdir path) (Refuse (refusal_of fault))
@@ -244,18 +224,4 @@ module _ {D : Type 0} (state : D → DeviceState) (lawful : (d : D) → IsLawful
         let few = lacks.4 in
         omega (arith, many, few)))
         why))
-    empty_refused error.Perm why = absurd why
-    empty_refused error.Exist why = absurd why
-    empty_refused error.DirFull why = absurd why
-    empty_refused error.IsDir why = absurd why
-    empty_refused error.Loop why = absurd why
-    empty_refused error.Busy why = absurd why
-    empty_refused error.BadHandle why = absurd why
-    empty_refused error.TooManyOpen why = absurd why
-    empty_refused error.TooManyLinks why = absurd why
-    empty_refused error.FileTooBig why = absurd why
-    empty_refused error.NoSpace why = absurd why
-    empty_refused error.NoNumber why = absurd why
-    empty_refused error.NoMemory why = absurd why
-    empty_refused error.Stuck why = absurd why
-    empty_refused error.Worn why = absurd why
+    empty_refused fault why = absurd why

@@ -1,17 +1,16 @@
 -- The ends of a call: what each of them makes of a volume.
-use Rattle.std.proofs.Common.{◌≡◌, ◌⊎◌, ◌≤◌, ◌<◌, ◌+◌, ◌/◌, ℕ, Bool, true, false, ◌&&◌, List, [], ◌∷◌, length, refl, sym, ◌∙◌, subst, ap, inl, inr, ⊎_elim, arith}
+use Rattle.std.proofs.Common.{◌≡◌, ◌⊎◌, ◌≤◌, ◌<◌, ◌+◌, ◌/◌, ℕ, Bool, true, false, ◌&&◌, List, [], ◌∷◌, length, refl, sym, ◌∙◌, subst, ap, inl, inr, arith}
 use Rattle.std.specs.List.{Contains}
 use Rattle.lfs_model.specs.Call.{Call, Answer, Refuse, commits}
 use Rattle.lfs_model.specs.Checkpoint.{CheckpointValue, layout_of}
 use Rattle.lfs_model.specs.Device.{DeviceState, IsLawful, AllLeft, Carries, LeavesOnly}
 use Rattle.lfs_model.specs.Refusal.{Refusal, Halted}
 use Rattle.lfs_model.specs.Run.{Point, StepsOr, acknowledges}
-use Rattle.lfs_model.specs.Content.{Content}
 use Rattle.lfs_model.specs.Stands.{LogMap}
 use Rattle.lfs_model.specs.Tree.{State, drop_nameless}
 use Rattle.lfs_model.specs.TreeOf.{IsTree, Left, LeavesOne, LeavesStates, Stands, dropped}
 use Rattle.lfs_model.specs.Encodes.{IsLogMap}
-use Rattle.lfs_model.proofs.Committed.{dropped_log, dropped_tree}
+use Rattle.lfs_model.proofs.Committed.{dropped_log}
 use Rattle.lfs_model.specs.Crash.{StandsForOn}
 use Rattle.lfs_fs.proofs.Leaving.{leaves_states}
 use Rattle.lfs_model.specs.Volume.{IsLogOf}
@@ -24,9 +23,6 @@ use Rattle.lfs_store.proofs.LogReads.{stores_still}
 use Rattle.lfs_fs.specs.Handles.{handles_of}
 use Rattle.lfs_fs.specs.Volume.{IsStill, Mounted, segments_of, IsIn, Runs, IsAt, LeavesSome, ServesAt, Serves}
 use Rattle.lfs_fs.proofs.Behaving.{IsOrdinary, halted_behaves, not_halted, still_behaves}
-
-abbrev OneOf : DeviceState → List State → Content → Type 0
-OneOf d ss c = (s : State) × Stands c s × (Left d s ⊎ Contains ss s)
 
 not_acknowledged : (call : Call) (r : Refusal) → acknowledges call (Refuse r) ≡ true → ⊥
 not_acknowledged call r e = no_commit (commits call) e
@@ -153,9 +149,6 @@ module _ {D : Type 0} (state : D → DeviceState) where
     pub map_dropped : IsLogMap (dropped m)
     map_dropped = dropped_log N m s is.log is.map
 
-    pub tree_dropped : IsTree N (dropped m)
-    tree_dropped = (dropped_tree N m s is.log).tree
-
     pub leaves_by : (ss : List State) → LeavesOnly (state old.log.device) (state new.log.device) (StandsForOn (layout_of k) m0 (dropped m)) → LeavesStates (state old.log.device) (state new.log.device) (drop_nameless s ∷ ss)
     leaves_by ss leaves =
         leaves_states (state old.log.device) lawful (carries.kept_before keeps) k m0 is.stores.holds.log.running.settled (subst (λ (n : ℕ). IsTree n m0) same_count is.acknowledged)
@@ -164,12 +157,6 @@ module _ {D : Type 0} (state : D → DeviceState) where
     -- what is left at the end is left meanwhile
     pub some_left : (ss : List State) → LeavesStates (state old.log.device) (state new.log.device) ss → LeavesSome state (state new.log.device)
     some_left ss leaves c left = let one = leaves.each c (after.counts_now (state old.log.device).moment c carries.later left) in (one.0, one.1)
-
-    -- the acknowledged map is a tree's still
-    pub acknowledged_tree : (new0 : LogMap) → (new0 ≡ m0) ⊎ (new0 ≡ dropped m) → segments_of new ≡ N → IsTree (segments_of new) new0
-    acknowledged_tree new0 either same = subst (λ (n : ℕ). IsTree n new0) (sym same) (⊎_elim
-        (λ (e : new0 ≡ m0). subst (IsTree N) (sym e) is.acknowledged)
-        (λ (e : new0 ≡ dropped m). subst (IsTree N) (sym e) tree_dropped) either)
 
     -- the volume runs on, in this state
     module _ (call : Call) (a : Answer) (p : Point) (at : IsAt state old p) (here : p.state ≡ s) (was : old.log.halted ≡ false) (running : new.log.halted ≡ false) (later : old.log.number ≤ new.log.number)

@@ -59,10 +59,6 @@ module _ (N : ℕ) (m m' : LogMap) (s : State) (h n : ℕ) (is : IsMapOf N m s) 
       ap (λ (k : ℕ). with_node s.tree k (File (cut (file_bytes (the_node s.tree k)) len))) (file_is N s h n opens)
       ∙ ap (λ (x : Node). with_node s.tree n (File (cut (file_bytes x) len))) was.bytes
 
-  -- the tree after the call
-  pub shortened_tree : tree_in m' ≡ shortened N s h len
-  shortened_tree = tree_after ∙ sym shortened_is
-
   -- it needs no more than before
   room_after : need (with_node s.tree n (File after)) ≤ 47 * N
   room_after =
@@ -71,9 +67,6 @@ module _ (N : ℕ) (m m' : LogMap) (s : State) (h n : ℕ) (is : IsMapOf N m s) 
       let less = cut_cost (object m n was.head) len in
       let room = is.log.sound.room in
       omega (arith, change, before, less, room)
-
-  pub shortened_room : need (shortened N s h len) ≤ 47 * N
-  shortened_room = subst (λ (t : Tree). need t ≤ 47 * N) (sym shortened_is) room_after
 
   module _ (end : len ≤ 8511488) where
     old_fits : IsObject m n (as_header head)

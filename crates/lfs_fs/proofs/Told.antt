@@ -7,10 +7,9 @@ use Rattle.lfs_model.specs.Step.{Step}
 use Rattle.lfs_store.specs.log.Held.{IsReadFault}
 use Rattle.lfs_model.specs.Totals.{TotalsOfTree}
 use Rattle.lfs_fs.specs.Volume.{IsStill, Mounted, Serves, segments_of}
-use Rattle.lfs_fs.proofs.Accepted.{InEach}
 use Rattle.lfs_fs.proofs.Behaving.{IsOrdinary}
 use Rattle.lfs_fs.proofs.CallSteps.{never_worn, refused_not_worn, space_step}
-use Rattle.lfs_fs.proofs.Ending.{not_acknowledged}
+use Rattle.lfs_fs.proofs.Ending.{InEach, not_acknowledged}
 use Rattle.lfs_fs.proofs.Holding.{headers_of_volume, map_of_volume}
 use Rattle.lfs_fs.proofs.Serving.{served_still}
 

@@ -1,75 +1,54 @@
 -- A name that was drafted out of its directory, as a step of the model.
-use Rattle.std.proofs.Common.{◌≡◌, ◌≢◌, ◌⊎◌, ◌<◌, ◌≤◌, ◌*◌, ℕ, true, false, List, [], ◌∷◌, length, Option, Some, None, Result, refl, sym, ◌∙◌, ap, subst, inl, inr, ⊎_elim, arith}
+use Rattle.std.proofs.Common.{◌≡◌, ◌<◌, ◌≤◌, ◌*◌, ℕ, true, false, List, Option, Some, Result, refl, sym, ◌∙◌, ap, subst, inl, arith, ◌+◌}
 use Rattle.std.specs.Prelude.{IfErr, OnOk}
 use Rattle.std.specs.FinMap.{find}
-use Rattle.lfs_model.specs.declared.Kind.TheVariants as kind
-use Rattle.lfs_model.specs.Call.{Done, Refuse, Unlink}
-use Rattle.lfs_model.specs.Changing.{IsWithHeader}
+use Rattle.lfs_model.specs.Call.{Done, Unlink}
 use Rattle.lfs_model.specs.Checkpoint.{CheckpointValue}
-use Rattle.lfs_model.specs.Cutting.{IsWithoutFile}
 use Rattle.lfs_model.specs.Device.{DeviceState, IsLawful}
 use Rattle.lfs_model.specs.Encodes.{IsLogMap}
-use Rattle.lfs_model.specs.Entry as entry
-use Rattle.lfs_model.specs.Entry.{Inode}
-use Rattle.lfs_model.specs.Need.{need}
-use Rattle.lfs_model.specs.Objects.{AreLong, IsChangedAt, IsDirectory, IsHeaderOf}
-use Rattle.lfs_model.specs.Refusal as refusals
+use Rattle.lfs_model.specs.Objects.{IsHeaderOf, one_if}
 use Rattle.lfs_model.specs.Stands.{LogMap}
 use Rattle.lfs_model.specs.Step.{Step, name}
 use Rattle.lfs_model.specs.Totals.{IsCounted}
-use Rattle.lfs_model.specs.Tree.{Names, State, byte_cmp, entry as entry_in, is_dir, node, opened}
+use Rattle.lfs_model.specs.Tree.{State, byte_cmp, entry as entry_in, is_dir, node}
 use Rattle.lfs_model.specs.Walk.{At, Parent}
-use Rattle.lfs_model.proofs.ObjectTrees.{with_header_at, without_file_at}
 use Rattle.lfs_files.specs.declared.header.Header.{Header}
 use Rattle.lfs_files.specs.Files.{HasFile}
 use Rattle.lfs_store.specs.declared.draft.Draft.{Draft}
-use Rattle.lfs_store.specs.log.verify.declared.totals.BlockTotals.{BlockTotals}
-use Rattle.lfs_store.specs.memory.declared.batch.Loss.{Loss}
 use Rattle.lfs_store.specs.memory.declared.changes.Changes.{Changes}
-use Rattle.lfs_store.specs.memory.declared.memory.LogMemory.{LogMemory}
-use Rattle.lfs_store.specs.memory.Batch.{FitsBatch, IsNoChange, is_lost, staged}
-use Rattle.lfs_store.specs.memory.Changing.{with_header}
+use Rattle.lfs_store.specs.memory.Batch.{FitsBatch, IsNoChange, staged}
 use Rattle.lfs_store.specs.memory.Present.{as_header}
 use Rattle.lfs_store.specs.log.Held.{Holds}
-use Rattle.lfs_store.specs.Drafting.{IsApart}
-use Rattle.lfs_store.specs.Making.{relinked}
 use Rattle.lfs_store.specs.Recounting.{AreTotals}
 use Rattle.lfs_store.proofs.Apart.{draft_empty}
 use Rattle.lfs_store.proofs.LogReads.{held_still}
 use Rattle.lfs_store.proofs.TreeTotals.{totals_of_tree}
-use Rattle.lfs_store.proofs.Writings.{header_put}
-use Rattle.lfs_store.proofs.of_memory.Removed.{is_without}
 use Rattle.lfs_path.specs.declared.last.Last.{Last}
 use Rattle.lfs_path.specs.dirs.Directory.{names_at}
-use Rattle.lfs_path.specs.dirs.Taking.{CutsSlot, TakesName, shrunk}
-use Rattle.lfs_path.proofs.of_dirs.SlotsKept.{directory_stays}
+use Rattle.lfs_path.specs.dirs.Taking.{CutsSlot, TakesName}
 use Rattle.lfs_fs.specs.declared.error.FsError.{FsError}
 use Rattle.lfs_fs.specs.declared.fs.Fs.{Fs}
-use Rattle.lfs_fs.specs.Accepting.{StagesDraft, TurnsDown, limit_of, need_of}
+use Rattle.lfs_fs.specs.Accepting.{StagesDraft, TurnsDown, need_of}
 use Rattle.lfs_fs.specs.Handles.{handles_of}
 use Rattle.lfs_fs.specs.Naming.{Reaches}
 use Rattle.lfs_fs.specs.Seen.{OnlyReads, answer_by, seen}
-use Rattle.lfs_fs.specs.Unlinking.{DraftsUnlink, GoesWhole, HasEntry, Relinks}
+use Rattle.lfs_fs.specs.Unlinking.{DraftsUnlink, HasEntry}
 use Rattle.lfs_fs.specs.Volume.{IsIn, IsStill, Mounted, Serves, segments_of}
-use Rattle.lfs_fs.proofs.Behaving.{write_behaves}
-use Rattle.lfs_fs.proofs.CallSteps.{not_worn, worn}
-use Rattle.lfs_fs.proofs.Changed.{long_kept, shape_kept}
-use Rattle.lfs_fs.proofs.CreateEnds.{in_each}
-use Rattle.lfs_fs.proofs.Ending.{accepts_by}
-use Rattle.lfs_fs.proofs.Files.{IsMapOf, IsShaped, need_shaped}
-use Rattle.lfs_fs.proofs.Headers.{directory_shrinks, links_fit}
+use Rattle.lfs_fs.proofs.Files.{IsMapOf, IsShaped, room_shaped}
+use Rattle.lfs_fs.proofs.Headers.{directory_shrinks}
 use Rattle.lfs_fs.proofs.Holding.{headers_of_volume, map_of_volume, shape_of_volume}
-use Rattle.lfs_fs.proofs.InDirectories.{directory_formed, directory_kind, names_in_directory, size_of_directory}
-use Rattle.lfs_fs.proofs.Serving.{point_of, served_still}
-use Rattle.lfs_fs.proofs.UnlinkedFiles.{apart_object, gone_map, linked, relinked_map}
+use Rattle.lfs_fs.proofs.InDirectories.{slot_in_directory}
 use Rattle.lfs_fs.proofs.OldEntries.{dir, dots_are, entry_is, found_d as name_found, found_there, gives_plain, has_last, is_plain, object_there, says, short_is, small, there_d as head_there}
 use Rattle.lfs_fs.proofs.UnlinkSteps.{unlink_done, unlinked}
-use Rattle.lfs_fs.proofs.WritingEnds.{accepts_old, ends_by, low_old, still_more, table_same}
-
--- a map that has a name isn't empty
-some_names : (ms : Names) (nm : List ℕ) (n : ℕ) → find byte_cmp nm ms ≡ Some n → 0 < length ms
-some_names [] nm n found = cc
-some_names (e ∷ ms) nm n found = omega arith
+use Rattle.lfs_fs.proofs.WritingEnds.{still_more, draft_ends, totals_read}
+use Rattle.lfs_fs.proofs.RemovedEntries.{IsEntry, apart, holder_is, names_plain, shape_2, holder_2, removed_map, removed_shape}
+use Rattle.lfs_fs.proofs.LostNames.{LosesName}
+use Rattle.lfs_fs.proofs.MovedDrafts.{link_lost, link_fits, link_apart, link_totals}
+use Rattle.lfs_fs.proofs.MovedMaps.{Relinks}
+use Rattle.lfs_fs.proofs.KeptMaps.{HasHolder, holder_directory}
+use Rattle.lfs_model.proofs.Keeps.{unlink_keeps}
+use Rattle.lfs_model.proofs.Shrinking.{named_counts}
+use Rattle.lfs_fs.proofs.RenameViews.{none_in}
 
 module _ {D : Type 0} (state : D → DeviceState) (lawful : (d : D) → IsLawful (state d)) (v : Mounted D) (old mid ready : Fs D) (path : List ℕ) (d : ℕ) (piece : Option Last) (reached : Reaches state v old path d piece)
     (running : old.store.log.halted ≡ false) (last : Last) (is_last : piece ≡ Some last) (only : OnlyReads state old mid) (head : Header) (n : ℕ) (object : Header)
@@ -142,11 +121,8 @@ module _ {D : Type 0} (state : D → DeviceState) (lawful : (d : D) → IsLawful
     fits_n = headers_of_volume state v k m0 m s is n (as_header object) there_n
 
     some_size : 64 ≤ head.size
-    some_size =
-        let size = size_of_directory (segments_of v) m s map d is_directory head there_d fits_d in
-        let some = some_names (names_at m d head) (name path) n found_d in
-        let same = ap length (names_in_directory (segments_of v) m s map d is_directory head there_d) in
-        omega (arith, size, some, same)
+    some_size = slot_in_directory (segments_of v) m s map d is_directory head there_d fits_d
+        (name path) n found_d
 
     piece_is : name path ≡ last.name.now
     piece_is = (says state lawful v old path d piece reached last is_last mid only).1
@@ -160,158 +136,103 @@ module _ {D : Type 0} (state : D → DeviceState) (lawful : (d : D) → IsLawful
         ((has_last state lawful v old path d piece reached last is_last mid only).1 ∙ has.plain)
         (gives_plain state lawful v old path d piece reached last is_last mid only k m0 m s is walk kept_mid head n has.sees.looks object has.sees.there has.other)
 
-    other : n ≢ d
-    other = apart_object (segments_of v) m s map path d walk n entry_there plain (as_header object) there_n head there_d few done
+    placed : IsEntry (segments_of v) m s path d n head (as_header object)
+    placed = record {
+      map = map;
+      shaped = shape_of_volume state v k m0 m s is;
+      walk = walk;
+      gives = entry_there;
+      holder = there_d;
+      few = few;
+      there = there_n;
+      empty = none_in (node s.tree n) plain;
+    }
 
     some_links : 0 < object.links
-    some_links = linked (segments_of v) m s map path d walk n entry_there plain (as_header object) there_n head there_d few done
-
-    staged_n : (staged mid.store.draft.changes m).header n ≡ Some (as_header object)
-    staged_n = ap (λ (x : LogMap). x.header n) (same_mid m) ∙ there_n
-
-    staged_map : IsLogMap (staged mid.store.draft.changes m)
-    staged_map = subst IsLogMap (sym (same_mid m)) map.map
+    some_links =
+        let are = names_plain placed plain in
+        let some = named_counts s.tree d (name path) n entry_there in
+        omega (arith, are, some)
 
     mid_totals : AreTotals (staged mid.store.draft.changes m) mid.store.drafted
-    mid_totals =
-        let before : AreTotals m old.store.log.totals = record { stored = reached.still.blocks ∙ is.counted.stored; above = reached.still.others ∙ is.counted.above } in
-        subst (λ (x : LogMap). AreTotals x mid.store.drafted) (sym (same_mid m)) (subst (λ (t : BlockTotals). AreTotals m t) (sym (only.drafted ∙ reached.drafted)) before)
+    mid_totals = subst (λ (x : LogMap). AreTotals x mid.store.drafted) (sym (same_mid m))
+        (totals_read state lawful v old mid reached.still reached.drafted only m is.counted)
 
-    -- What becomes of the log map as the object loses a link.
-    pub record Lost : Type 0 where
-      pub changed : IsChangedAt m n (between m)
-      pub log : IsLogMap (between m)
-      pub long : AreLong (between m) n
-      pub no_directory : (h : entry.Header) → (between m).header n ≡ Some h → h.kind ≡ kind.Directory → ⊥
-      pub apart : IsApart drafts.mid.store.draft.changes.loss d
-      pub fit : FitsBatch m drafts.mid.store.draft.changes
-      pub totals : AreTotals (between m) drafts.mid.store.drafted
-      pub after : (m' : LogMap) → CutsSlot (between m) m' d head → TakesName (between m) m' d head (name path) → IsMapOf (segments_of v) m' (unlinked s path d)
+    -- the object loses a link, or goes
+    loses : LosesName s m (between m) n (as_header object)
+    loses = link_lost mid drafts.mid none_drafted m n object drafts.loses s
+        (is.handles ∙ ap handles_of (sym still_mid.table)) has.other
 
-    relinks : Relinks state mid drafts.mid n object → Lost
-    relinks r = record {
-      changed = with_header_at m (between m) n (Some (as_header (relinked object r.links))) made;
-      log = log;
-      long = λ i has_data. ap length (made.block n i) ∙ map.long n i (subst (λ (b : List ℕ). 0 < length b) (made.block n i) has_data);
-      no_directory = λ h at is_kind. has.other ((let same : as_header (relinked object r.links) ≡ h = header_is h at in ap (λ (x : entry.Header). x.kind) same) ∙ is_kind);
-      apart = r.apart d;
-      fit = r.sets.fits m (draft_empty mid.store.draft.changes m none_drafted).1 staged_n some_links (ap (λ (x : Loss). is_lost x (Inode n)) none_drafted.loss)
-          (links_fit n object fits_n r.links (let less = r.is in omega (arith, less)));
-      totals = r.counts m staged_n (subst (λ (t : BlockTotals). AreTotals (staged mid.store.draft.changes m) t) (sym r.drafted) mid_totals);
-      after = λ m' cut takes. relinked_map (segments_of v) m s map path d walk n entry_there plain (as_header object) there_n head there_d few done
-          r.links (let less = r.is in let some = some_links in omega (arith, less, some)) stays (between m) m' log made cut takes;
-    }
-      where
-        made : IsWithHeader m n (Some (as_header (relinked object r.links))) (between m)
-        made = header_put m (between m) n (relinked object r.links) (r.sets.map m ∙ ap (λ (x : LogMap). with_header x n (Some (as_header (relinked object r.links)))) (same_mid m))
+    links : Relinks (between m) (between m) d head head.links
+    links = inl (refl, refl)
 
-        log : IsLogMap (between m)
-        log = r.sets.keeps m staged_map staged_n
+    shape_between : IsShaped (between m)
+    shape_between = shape_2 placed head.links loses links
 
-        header_is : (h : entry.Header) → (between m).header n ≡ Some h → as_header (relinked object r.links) ≡ h
-        header_is h at = let both : Some (as_header (relinked object r.links)) ≡ Some h = sym made.own ∙ at in cc
-
-        stays : (r.links ≢ 0) ⊎ (opened s.handles n ≢ 0)
-        stays = ⊎_elim (λ some. inl some) (λ some. inr (subst (λ hs. opened hs n ≢ 0) (sym (is.handles ∙ ap handles_of (sym still_mid.table))) some)) r.stays
-
-    goes : GoesWhole state mid drafts.mid n object → Lost
-    goes g = record {
-      changed = without_file_at m (between m) n gone;
-      log = log;
-      long = λ i has_data. (let none = ap length (gone.block i) in absurd (omega (arith, none, has_data)));
-      no_directory = λ h at is_kind. (let both : None ≡ Some h = sym gone.header ∙ at in absurd (cc));
-      apart = g.apart d (λ e. other (sym e));
-      fit = g.removes.fits m;
-      totals = g.counts k m0 m (drafts.reads.looks.carries.kept_before keeps) in_mid staged_map log mid_totals;
-      after = λ m' cut takes. gone_map (segments_of v) m s map path d walk n entry_there plain (as_header object) there_n head there_d few done
-          (let most = g.last in let some = some_links in omega (arith, most, some))
-          (subst (λ hs. opened hs n ≡ 0) (sym (is.handles ∙ ap handles_of (sym still_mid.table))) g.shut) (between m) m' log gone cut takes;
-    }
-      where
-        gone : IsWithoutFile m n (between m)
-        gone = subst (λ (x : LogMap). IsWithoutFile m n x) (sym (g.removes.map m)) (is_without m n)
-
-        not_root : n ≢ 1
-        not_root root = let on = is.log.sound.root in let off : is_dir (node s.tree 1) ≡ false = subst (λ (x : ℕ). is_dir (node s.tree x) ≡ false) root plain in cc
-
-        log : IsLogMap (between m)
-        log = g.removes.keeps m map.map not_root
-
-    lost : Lost
-    lost = ⊎_elim relinks goes drafts.loses
+    holder_between : HasHolder (between m) d head
+    holder_between = holder_2 placed head.links loses links
 
     -- ---- the name goes
     has_directory : HasFile (between m) d head
-    has_directory = record { map = lost.log; there = lost.changed.headers d (λ e. other (sym e)) ∙ there_d }
-
-    same_directory : IsDirectory (between m) d (as_header head) × (names_at (between m) d head ≡ names_at m d head)
-    same_directory = directory_stays m (between m) d head head (λ i. lost.changed.blocks d i (λ e. other (sym e))) refl (directory_formed (segments_of v) m s map d is_directory head there_d fits_d)
+    has_directory = record { map = shape_between.map; there = holder_between.there }
 
     cut : CutsSlot (between m) (staged c m) d head
     cut = drafts.takes.cut k m0 m keeps in_mid has_directory
 
     takes_it : TakesName (between m) (staged c m) d head (name path)
-    takes_it = subst (TakesName (between m) (staged c m) d head) (sym piece_is) (drafts.takes.names k m0 m keeps in_mid has_directory same_directory.0)
+    takes_it = subst (TakesName (between m) (staged c m) d head) (sym piece_is)
+        (drafts.takes.names k m0 m keeps in_mid has_directory
+        (holder_directory (between m) d head shape_between holder_between))
+
+    less : head.links + one_if (is_dir (node s.tree n)) ≡ head.links
+    less =
+        let none : one_if (is_dir (node s.tree n)) ≡ 0 = ap one_if plain in
+        omega (arith, none)
 
     after : IsMapOf (segments_of v) (staged c m) (unlinked s path d)
-    after = lost.after (staged c m) cut takes_it
+    after = removed_map placed head.links loses links less cut takes_it refl
+        (unlink_keeps (segments_of v) s (unlinked s path d) path Done is.log.sound done)
 
     fits_here : FitsBatch m c
     fits_here =
-        drafts.takes.fits k m0 m keeps in_mid lost.fit (λ none. (let both : None ≡ Some (as_header head) = sym none ∙ there_d in absurd (cc))) has_directory.there
-        (directory_shrinks d head fits_d (directory_kind (segments_of v) m s map d is_directory head there_d) some_size) lost.apart
+        drafts.takes.fits k m0 m keeps in_mid
+        (link_fits mid drafts.mid none_drafted m n object drafts.loses there_n fits_n some_links)
+        (λ none. (let at = there_d in absurd (cc))) has_directory.there
+        (directory_shrinks d head fits_d (holder_is placed).kind some_size)
+        (link_apart mid drafts.mid none_drafted m n object drafts.loses d
+        (λ e. apart placed (sym e)))
 
-    long_between : (q : ℕ) → AreLong (between m) q
-    long_between = long_kept m (between m) n lost.changed map.long lost.long
-
-    counted_here : IsCounted (staged c m) ready.store.drafted.data_blocks ready.store.drafted.meta_blocks
-    counted_here = drafts.takes.counts k m0 m keeps in_mid has_directory (long_between d) after.map lost.totals
+    counted_here : IsCounted (staged c m) ready.store.drafted.data_blocks
+        ready.store.drafted.meta_blocks
+    counted_here = drafts.takes.counts k m0 m keeps in_mid has_directory (shape_between.long d)
+        after.map
+        (link_totals mid drafts.mid none_drafted m n object drafts.loses there_n k m0
+        (drafts.reads.looks.carries.kept_before keeps) in_mid
+        (subst IsLogMap (sym (same_mid m)) map.map) shape_between.map mid_totals)
 
     -- the tree needs no more than there is
     shaped : IsShaped (staged c m)
-    shaped =
-        shape_kept (between m) (staged c m) d cut.only
-        (shape_kept m (between m) n lost.changed (shape_of_volume state v k m0 m s is) lost.log lost.long (λ h at is_kind. absurd (lost.no_directory h at is_kind)))
-        after.map (after.long d)
-        (λ h at is_kind. subst (IsDirectory (staged c m) d) (let both : Some (as_header (shrunk head)) ≡ Some h = sym cut.header ∙ at in cc) takes_it.directory)
+    shaped = removed_shape placed head.links loses links less cut takes_it
 
     room : need_of ready ≤ 47 * segments_of v
-    room =
-        let needs = (need_shaped totals_of_tree (staged c m) shaped ready.store.drafted.data_blocks ready.store.drafted.meta_blocks counted_here).0 in
-        subst (λ (x : ℕ). x ≤ 47 * segments_of v) (ap need after.log.is ∙ needs) after.log.sound.room
-
-  limit_same : limit_of ready ≡ 47 * segments_of v
-  limit_same = ap (λ (x : LogMemory). 47 * length x.usage.segments) still_ready.reads.memory
+    room = room_shaped totals_of_tree (segments_of v) (staged c m) (unlinked s path d) after shaped
+        ready.store.drafted.data_blocks ready.store.drafted.meta_blocks counted_here
 
   -- ---- the call
-  module _ (new : Fs D) (rest : new.handles ≡ ready.handles) {X : Type 0} (r : Result X FsError) (done_by : OnOk r (StagesDraft state ready new)) (down : IfErr r (TurnsDown state ready new)) where
-    pub unlink_ends : Serves state v (seen new) (Unlink path) (answer_by (λ _. Done) r)
-    unlink_ends =
-        ends_by state lawful v ready new (Unlink path) Done still_ready was rest refl refl refl refl
-        (λ keeps k m0 m s is. in_each state v k m0 m s is (λ x t. FitsBatch x c) (fits_here keeps k m0 m s is))
-        (λ stages keeps k m0 m s is. (
-        let accepts = accepts_old state lawful v ready new (Unlink path) Done still_ready was rest stages in
-        let table = table_same state lawful v ready new (Unlink path) Done still_ready was rest in
-        let low = low_old state lawful v ready new (Unlink path) Done still_ready was rest stages.young in
-        accepts_by state v (seen new) (Unlink path) (lawful v.log.device) (lawful new.store.log.device) accepts.carries accepts.segments was accepts.saves.number c accepts low Done (λ e. cc) (λ e. cc)
-        (write_behaves state v (seen new) (Unlink path) Done refl table (λ e. cc)) (λ p keeps_new here k' m0' m' is'. record {
-          next = unlinked p.state path d;
-          fits = fits_here keeps k' m0' m' p.state is';
-          map = after keeps k' m0' m' p.state is';
-          version = is'.version;
-          handles = is'.handles ∙ ap handles_of (sym table);
-          counted = subst (λ (t : BlockTotals). IsCounted (staged c m') t.data_blocks t.meta_blocks) (sym stages.totals) (counted_here keeps k' m0' m' p.state is');
-          steps = inl (done keeps k' m0' m' p.state is', not_worn (segments_of v) (Unlink path) p (let number = here.number in omega (arith, number, low)));
-        })))
-        (λ same lacks keeps k m0 m s is. absurd (
-        let most = room keeps k m0 m s is in
-        let more = subst (λ (x : ℕ). x < need_of ready) limit_same lacks in
-        omega (arith, most, more)))
-        (λ same high few keeps k m0 m s is. served_still state v (seen new) (Unlink path) (Refuse refusals.Worn) (lawful v.log.device) same was tt (λ p keeps_new here k' m0' m' is'. inr (
-          refusals.Worn,
-          refl,
-          worn (segments_of v) (Unlink path) p (point_of state (seen new) p.state) (let number = here.number in omega (arith, number, high)) refl Done (unlinked p.state path d) (done keeps k' m0' m' p.state is') refl,
-          refl,
-        ))
-        (λ e. cc))
-        r done_by down
+  module _ (new : Fs D) (rest : new.handles ≡ ready.handles) {X : Type 0} (r : Result X FsError)
+      (done_by : OnOk r (StagesDraft state ready new)) (down : IfErr r (TurnsDown state ready new))
+    where
+      pub unlink_ends : Serves state v (seen new) (Unlink path) (answer_by (λ _. Done) r)
+      unlink_ends = draft_ends state lawful v ready new (Unlink path) Done still_ready was rest refl
+          refl refl refl (λ keeps k m0 m s is. record {
+            next = unlinked s path d;
+            answer = Done;
+            ok = refl;
+            fits = fits_here keeps k m0 m s is;
+            counted = counted_here keeps k m0 m s is;
+            version = refl;
+            map = λ has_room. after keeps k m0 m s is;
+            done = λ has_room. done keeps k m0 m s is;
+            lacks = λ more. absurd
+                (let most = room keeps k m0 m s is in omega (arith, most, more));
+          }) refl (λ keeps k m0 m s is. (refl, is.handles)) r done_by down

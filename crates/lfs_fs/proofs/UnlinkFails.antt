@@ -1,5 +1,5 @@
 -- A name that wasn't drafted out of its directory: memory was refused, or a call of the device failed.
-use Rattle.std.proofs.Common.{◌≡◌, ◌≢◌, ◌<◌, ℕ, true, false, List, Option, Some, None, sym, ◌∙◌, ap, subst, ⊎_elim, arith}
+use Rattle.std.proofs.Common.{◌≡◌, ◌≢◌, ◌<◌, ℕ, true, false, List, Option, Some, None, sym, ◌∙◌, ap, subst, ⊎_elim, arith, inl, inr}
 use Rattle.std.specs.FinMap.{find}
 use Rattle.lfs_model.specs.Call.{Call, Refuse, commits, takes_no_memory}
 use Rattle.lfs_model.specs.Checkpoint.{CheckpointValue}
@@ -22,8 +22,7 @@ use Rattle.lfs_fs.specs.Volume.{IsIn, IsStill, Mounted, Serves, segments_of}
 use Rattle.lfs_fs.proofs.CreateEnds.{still_more}
 use Rattle.lfs_fs.proofs.InDirectories.{directory_formed}
 use Rattle.lfs_fs.proofs.OldEntries.{dir, fits, found_d, is_plain, says, still, there_d, volume}
-use Rattle.lfs_fs.proofs.ReadingEnds.{failed_serves}
-use Rattle.lfs_fs.proofs.Told.{memory_serves}
+use Rattle.lfs_fs.proofs.ReadingEnds.{fails_serves}
 
 module _ {D : Type 0} (state : D → DeviceState) (lawful : (d : D) → IsLawful (state d))
     (v : Mounted D) (old : Fs D) (path : List ℕ) (d : ℕ) (piece : Option Last)
@@ -87,10 +86,8 @@ module _ {D : Type 0} (state : D → DeviceState) (lawful : (d : D) → IsLawful
       → Serves state v (seen new) call (Refuse (refusal_of fault))
   undrafted_serves call uncommitted takes new seen_is fault why =
       subst (λ (x : Mounted D). Serves state v x call (Refuse (refusal_of fault))) (sym seen_is)
-      (⊎_elim
-      (λ memory. subst (λ (e : FsError). Serves state v (seen failed) call (Refuse (refusal_of e))) (sym memory)
-      (memory_serves state v (seen failed) call (lawful v.log.device) still_failed was takes))
-      (λ device. subst (λ (e : FsError). Serves state v (seen failed) call (Refuse (refusal_of e))) (sym device.0)
-      (failed_serves state v (seen failed) call (lawful v.log.device) still_failed was uncommitted
-      (λ k m0 m s keeps is. drop_rises k m0 m s keeps is device.1)))
-      why)
+      (fails_serves state v (seen failed) call (lawful v.log.device) still_failed was uncommitted
+      takes fault (⊎_elim inl (λ device. inr (
+        device.0,
+        λ k m0 m s keeps is. drop_rises k m0 m s keeps is device.1,
+      )) why))

@@ -1,9 +1,9 @@
 -- Calls that draft a change, from what they read to what becomes of the draft, as steps of the model.
-use Rattle.std.proofs.Common.{◌≡◌, ◌<◌, ◌≤◌, ◌+◌, ◌/◌, ◌^◌, ℕ, Bool, true, false, length, Some, None, Ok, Err, refl, sym, ◌∙◌, ap, subst, inl, inr, ⊎_elim, arith}
+use Rattle.std.proofs.Common.{◌≡◌, ◌<◌, ◌≤◌, ◌+◌, ◌/◌, ◌^◌, ℕ, Bool, true, false, length, Some, None, Ok, Err, refl, sym, ◌∙◌, ap, subst, inl, inr, ⊎_elim, arith, List, ◌*◌, ◌&&◌}
 use Rattle.std.specs.Prelude.{IsTrue, Result, OnOk, IfErr}
 use Rattle.std.specs.Ordering.{nat_cmp}
 use Rattle.std.specs.FinMap.{find}
-use Rattle.lfs_model.specs.Call.{Call, Answer, Refuse, changes, commits, is_ok, takes_no_memory}
+use Rattle.lfs_model.specs.Call.{Call, Answer, Refuse, changes, commits, is_ok, takes_no_memory, cleans}
 use Rattle.lfs_model.specs.Checkpoint.{CheckpointValue, layout_of}
 use Rattle.lfs_model.specs.Crash.{StandsForOn}
 use Rattle.lfs_model.specs.Device.{AllLeft, Carries, DeviceState, IsLawful, LeavesOnly}
@@ -16,7 +16,7 @@ use Rattle.lfs_model.proofs.Settled.{settled_stands}
 use Rattle.lfs_store.specs.memory.declared.changes.Changes.{Changes}
 use Rattle.lfs_files.specs.declared.fault.LogFault.TheVariants as log
 use Rattle.lfs_store.specs.memory.declared.memory.LogMemory.{LogMemory}
-use Rattle.lfs_store.specs.memory.Batch.{FitsBatch, IsNoChange}
+use Rattle.lfs_store.specs.memory.Batch.{FitsBatch, IsNoChange, staged}
 use Rattle.lfs_store.specs.segments.Table.{clean_in}
 use Rattle.lfs_store.specs.cleaner.Room.{HaltsLater}
 use Rattle.lfs_store.specs.log.Held.{Held, Holds, IsReadFault, Reads}
@@ -35,16 +35,20 @@ use Rattle.lfs_fs.specs.Accepting.{IsDeclined, StagesDraft, TurnsDown, limit_of,
 use Rattle.lfs_fs.specs.Faults.{error_of_store}
 use Rattle.lfs_fs.specs.Handles.{handles_of}
 use Rattle.lfs_fs.specs.Refusals.{refusal_of}
-use Rattle.lfs_fs.specs.Seen.{LacksHeader, answer_by, seen}
+use Rattle.lfs_fs.specs.Seen.{LacksHeader, answer_by, seen, OnlyReads}
 use Rattle.lfs_fs.specs.Volume.{Behaves, IsIn, IsStill, Mounted, Serves, may_write, segments_of}
-use Rattle.lfs_fs.proofs.Accepted.{InEach}
 use Rattle.lfs_fs.proofs.Behaving.{IsOrdinary, change_writes, not_halted, ok_refuses_none, still_behaves, write_behaves}
 use Rattle.lfs_fs.proofs.Declined.{accept_fault_serves, no_room_serves}
-use Rattle.lfs_fs.proofs.Ending.{IsRest, not_acknowledged}
-use Rattle.lfs_fs.proofs.Files.{IsFileOf, opened_file}
+use Rattle.lfs_fs.proofs.Ending.{InEach, IsRest, not_acknowledged, accepts_by}
+use Rattle.lfs_fs.proofs.Files.{IsFileOf, opened_file, IsMapOf}
 use Rattle.lfs_fs.proofs.RoomFound.{has_room}
-use Rattle.lfs_fs.proofs.Serving.{halts_at, map_dropped, served_still, still_in}
+use Rattle.lfs_fs.proofs.Serving.{halts_at, map_dropped, served_still, still_in, point_of}
 use Rattle.lfs_fs.proofs.Told.{fault_serves, memory_serves}
+use Rattle.lfs_model.specs.Totals.{IsCounted}
+use Rattle.lfs_model.specs.Step.{Step}
+use Rattle.lfs_model.specs.Run.{acknowledges}
+use Rattle.lfs_fs.proofs.CallSteps.{not_worn, refused_not_worn, worn}
+use Rattle.lfs_store.specs.Recounting.{AreTotals}
 
 -- why a draft isn't staged, by the fault of the store
 pub turned_down : {D : Type 0} (state : D → DeviceState) (old new : Fs D) (fault : StoreFault) (e : FsError) → e ≡ error_of_store fault → old.store.log.halted ≡ false → old.store.log.number < 2 ^ 62 → new.store.log.totals ≡ old.store.log.totals
@@ -190,6 +194,17 @@ module _ {D : Type 0} (state : D → DeviceState) (lawful : (d : D) → IsLawful
       pub opened_in : (k : CheckpointValue) (m0 m : LogMap) (s : State) → IsIn state old k m0 m s → IsFileOf m s.tree n
       opened_in k m0 m s is = opened_file (segments_of old) m s is.log h n (ap (find nat_cmp h) is.handles ∙ opens)
 
+  -- the totals of a log map, as they stand before a draft
+  pub totals_read : (v : Mounted D) (old mid : Fs D) → IsStill state v (seen old)
+      → old.store.drafted ≡ old.store.log.totals → OnlyReads state old mid → (m : LogMap)
+      → IsCounted m v.blocks v.others → AreTotals m mid.store.drafted
+  totals_read v old mid still drafted only m counted =
+      let before : AreTotals m old.store.log.totals = record {
+        stored = still.blocks ∙ counted.stored;
+        above = still.others ∙ counted.above;
+      } in
+      subst (λ (t : BlockTotals). AreTotals m t) (sym (only.drafted ∙ drafted)) before
+
   -- no draft is made: memory was refused, or a call of the device failed
   pub undrafted_serves : (old new : Mounted D) (call : Call) → old.log.halted ≡ false → IsStill state old new → commits call ≡ false → takes_no_memory call ≡ false
       → (fault : StoreFault) → ((fault ≡ store.NoMemory → ⊥) → IsReadFault state old.log new.log) → (fault ≡ store.Log log.Halted → old.log.halted ≡ true) → (fault ≡ store.Log log.Full → ⊥)
@@ -315,30 +330,127 @@ module _ {D : Type 0} (state : D → DeviceState) (lawful : (d : D) → IsLawful
           down.1)
       by_fault error.Halted down =
           halts_serves v (seen new) call was (change_writes call change) table_same _ (halts_after v.log ready.store.log still.reads new.store.log (most_written ready.store.log ready.store.saved) down)
-      by_fault error.NoEntry down = absurd down
-      by_fault error.NotDir down = absurd down
-      by_fault error.IsDir down = absurd down
-      by_fault error.Exist down = absurd down
-      by_fault error.NotEmpty down = absurd down
-      by_fault error.Inval down = absurd down
-      by_fault error.NameTooLong down = absurd down
-      by_fault error.Loop down = absurd down
-      by_fault error.Perm down = absurd down
-      by_fault error.Busy down = absurd down
-      by_fault error.BadHandle down = absurd down
-      by_fault error.Stuck down = absurd down
-      by_fault error.TooManyOpen down = absurd down
-      by_fault error.TooManyLinks down = absurd down
-      by_fault error.FileTooBig down = absurd down
-      by_fault error.NoNumber down = absurd down
-      by_fault error.DirFull down = absurd down
+      by_fault fault down = absurd down
 
-    pub ends_by : changes call ≡ true → commits call ≡ false → takes_no_memory call ≡ false → is_ok a ≡ true
-        → (Kept → (k : CheckpointValue) (m0 m : LogMap) (s : State) → IsIn state v k m0 m s → InEach state v (λ m s. FitsBatch m c))
-        → (StagesDraft state ready new → InState a)
-        → (IsStill state v (seen new) → limit_of ready < need_of ready → InState (Refuse refusal.NoSpace))
-        → (IsStill state v (seen new) → 2 ^ 62 ≤ v.log.number → need_of ready ≤ limit_of ready → InState (Refuse refusal.Worn))
-        → {X : Type 0} (r : Result X FsError) → OnOk r (StagesDraft state ready new) → IfErr r (TurnsDown state ready new) → Serves state v (seen new) call (answer_by (λ _. a) r)
-    ends_by change free takes ok fits done_ends lacks_ends worn_ends (Ok x) done down = when_in v (seen new) call was a (accepts_old done).carries (accepts_old done).segments (ok_refuses_none a refusal.Halted ok)
-        (write_behaves state v (seen new) call a (change_writes call change) table_same (ok_refuses_none a refusal.Stuck ok)) (λ keeps. done_ends done (done.accepts.carries.kept_before keeps))
-    ends_by change free takes ok fits done_ends lacks_ends worn_ends (Err e) done down = by_fault change free takes fits lacks_ends worn_ends e down
+    -- ---- a draft that is one step of the model
+    limit_same : limit_of ready ≡ 47 * segments_of v
+    limit_same = ap (λ (x : LogMemory). 47 * length x.usage.segments) still.reads.memory
+
+    -- the volume with the draft, and with this table of open files
+    abbrev pub with_table : List ℕ → Mounted D
+    with_table table = record {
+      log = new.store.log;
+      saved = new.store.saved;
+      blocks = new.store.log.totals.data_blocks;
+      others = new.store.log.totals.meta_blocks;
+      table = table;
+    }
+
+    abbrev pub HasRoom : Type 0
+    HasRoom = need_of ready ≤ 47 * segments_of v
+
+    -- What the draft makes of a state: with room the next one, by a step with this answer.
+    pub record IsDraft (m : LogMap) (s : State) : Type 0 where
+      pub next : State
+      pub answer : Answer
+      pub ok : is_ok answer ≡ true
+      pub fits : FitsBatch m c
+      pub counted : IsCounted (staged c m) ready.store.drafted.data_blocks
+          ready.store.drafted.meta_blocks
+      pub version : next.version ≡ s.version
+      pub map : HasRoom → IsMapOf (segments_of v) (staged c m) next
+      pub done : HasRoom → Step (segments_of v) s call answer next
+      pub lacks : 47 * segments_of v < need_of ready
+          → Step (segments_of v) s call (Refuse refusal.NoSpace) s
+
+    abbrev pub AreDrafts : Type 0
+    AreDrafts = Kept → (k : CheckpointValue) (m0 m : LogMap) (s : State) → IsIn state v k m0 m s
+        → IsDraft m s
+
+    -- the answer, and the open files
+    abbrev pub EndIn : AreDrafts → Answer → List ℕ → Type 0
+    EndIn drafts x table = (keeps : Kept) (k : CheckpointValue) (m0 m : LogMap) (s : State)
+        (is : IsIn state v k m0 m s) → ((drafts keeps k m0 m s is).answer ≡ x)
+        × ((drafts keeps k m0 m s is).next.handles ≡ handles_of table)
+
+    -- it is staged
+    pub accepted_serves : commits call ≡ false → (drafts : AreDrafts) (x : Answer)
+        → is_ok x ≡ true → (table : List ℕ) → EndIn drafts x table
+        → Behaves state v (with_table table) call x → StagesDraft state ready new
+        → Serves state v (with_table table) call x
+    accepted_serves free drafts x ok table ends behaves stages =
+        let accepts = accepts_old stages in
+        let low = low_old stages.young in
+        accepts_by state v (with_table table) call (lawful v.log.device)
+        (lawful new.store.log.device) accepts.carries accepts.segments was accepts.saves.number c
+        accepts low x (ok_refuses_none x refusal.Halted ok)
+        (λ e. let no : acknowledges call x ≡ false = ap (λ (b : Bool). b && is_ok x) free in cc)
+        behaves
+        (λ p keeps here k m0 m is. (
+        let before = stages.accepts.carries.kept_before keeps in
+        let draft = drafts before k m0 m p.state is in
+        let end = ends before k m0 m p.state is in
+        let room : HasRoom = subst (λ (n : ℕ). need_of ready ≤ n) limit_same stages.room in
+        record {
+          next = draft.next;
+          fits = draft.fits;
+          map = draft.map room;
+          version = draft.version ∙ is.version;
+          handles = end.1;
+          counted = subst (λ (t : BlockTotals). IsCounted (staged c m) t.data_blocks t.meta_blocks)
+              (sym stages.totals) draft.counted;
+          steps = inl (
+            subst (λ (y : Answer). Step (segments_of v) p.state call y draft.next) end.0
+                (draft.done room),
+            not_worn (segments_of v) call p (let n = here.number in omega (arith, n, low)),
+          );
+        }))
+
+    module _ (change : changes call ≡ true) (free : commits call ≡ false)
+        (takes : takes_no_memory call ≡ false) (unclean : cleans call ≡ false)
+        (drafts : AreDrafts) where
+      fits_each : Kept → (k : CheckpointValue) (m0 m : LogMap) (s : State) → IsIn state v k m0 m s
+          → InEach state v (λ m s. FitsBatch m c)
+      fits_each keeps k m0 m s is k' m0' m' s' before is' = (drafts keeps k' m0' m' s' is').fits
+
+      -- the tree would need more than there is
+      lacks_by : IsStill state v (seen new) → limit_of ready < need_of ready
+          → InState (Refuse refusal.NoSpace)
+      lacks_by same more keeps k m0 m s is = served_still state v (seen new) call
+          (Refuse refusal.NoSpace) (lawful v.log.device) same was tt
+          (λ p keeps_new here k' m0' m' is'. (
+          let step = (drafts keeps k' m0' m' p.state is').lacks
+          (subst (λ (n : ℕ). n < need_of ready) limit_same more) in
+          inl (step, refused_not_worn (segments_of v) call p refusal.NoSpace p.state step unclean)))
+          (not_acknowledged call refusal.NoSpace)
+
+      -- the last number is reached
+      past_last : IsStill state v (seen new) → 2 ^ 62 ≤ v.log.number → need_of ready ≤ limit_of ready
+          → InState (Refuse refusal.Worn)
+      past_last same high room keeps k m0 m s is = served_still state v (seen new) call
+          (Refuse refusal.Worn) (lawful v.log.device) same was tt
+          (λ p keeps_new here k' m0' m' is'. (
+          let draft = drafts keeps k' m0' m' p.state is' in inr (
+            refusal.Worn,
+            refl,
+            worn (segments_of v) call p (point_of state (seen new) p.state)
+                (let n = here.number in omega (arith, n, high)) change draft.answer draft.next
+                (draft.done (subst (λ (n : ℕ). need_of ready ≤ n) limit_same room)) draft.ok,
+            refl,
+          )))
+          (not_acknowledged call refusal.Worn)
+
+      -- it isn't
+      pub draft_turned : (e : FsError) → TurnsDown state ready new e
+          → Serves state v (seen new) call (Refuse (refusal_of e))
+      draft_turned = by_fault change free takes fits_each lacks_by past_last
+
+      -- it is, or it isn't; the open files stay
+      pub draft_ends : is_ok a ≡ true → EndIn drafts a v.table → {X : Type 0} (r : Result X FsError)
+          → OnOk r (StagesDraft state ready new) → IfErr r (TurnsDown state ready new)
+          → Serves state v (seen new) call (answer_by (λ _. a) r)
+      draft_ends ok ends (Ok x) stages down = accepted_serves free drafts a ok
+          new.handles.numbers.items (subst (EndIn drafts a) (sym table_same) ends)
+          (write_behaves state v (seen new) call a (change_writes call change) table_same
+          (ok_refuses_none a refusal.Stuck ok)) stages
+      draft_ends ok ends (Err e) stages down = draft_turned e down
