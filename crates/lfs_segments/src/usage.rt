@@ -330,7 +330,7 @@ fn noted(mut state: SegmentState, lives: bool) -> SegmentState
     state
 }
 
-fn continued(mut state: SegmentState, age: u32) -> SegmentState
+fn continued(state: SegmentState, age: u32) -> SegmentState
     requires room { state.used ≤ 62 }
     requires fits { FitsSegment state }
     ensures used { result.used ≡ suc state.used }
@@ -339,9 +339,11 @@ fn continued(mut state: SegmentState, age: u32) -> SegmentState
     ensures age { result.age ≡ age }
     ensures kept { result.kept ≡ state.kept }
 {
-    state.used += 1;
-    state.age = age;
-    state
+    SegmentState {
+        used: state.used + 1,
+        age,
+        ..state
+    }
 }
 
 fn lifted(mut state: SegmentState, lives: bool) -> SegmentState
@@ -399,10 +401,10 @@ fn released(state: SegmentState) -> SegmentState
     ensures fits { FitsSegment result }
 {
     let empty = state.live == 0 && state.held == 0;
-    let used = if empty { 0 } else { state.used };
+    let left = if empty { 0 } else { state.used };
     SegmentState {
-        used,
-        kept: used,
+        used: left,
+        kept: left,
         ..state
     }
 }
