@@ -235,7 +235,8 @@ module _ {D : Type 0} (state : D → DeviceState) (lawful : (d : D) → IsLawful
       counted_here = drafts.recounts k m0 m keeps in_mid (shape_1 place with_it).map
           shape_after.map
           (drafts.counts m staged_n (subst (λ (x : LogMap). AreTotals x mid.store.drafted)
-          (sym (same_mid m)) (totals_read state lawful v old mid reached.still reached.drafted only m
+          (sym (same_mid m))
+          (totals_read state lawful v old mid reached.still reached.drafted only m
           is.counted)))
 
       -- what the tree needs after it

@@ -92,7 +92,8 @@ module _ {D : Type 0} {state : D → DeviceState} (old mid : Fs D)
 
   module _ (there : m.header n ≡ Some (as_header object)) where
     staged_there : (staged old.store.draft.changes m).header n ≡ Some (as_header object)
-    staged_there = ap (λ (x : LogMap). x.header n) (no_change old.store.draft.changes m empty) ∙ there
+    staged_there = ap (λ (x : LogMap). x.header n) (no_change old.store.draft.changes m empty)
+        ∙ there
 
     pub link_fits : IsHeaderOf n (as_header object) → 0 < object.links → FitsBatch m c
     link_fits fits some = ⊎_elim

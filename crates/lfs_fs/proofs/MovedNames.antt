@@ -370,7 +370,8 @@ module _ {t : Tree} {da db n : ℕ} {na : List ℕ} (move : IsMove t da db n na)
   -- what the other gave is what it gives then
   pub still_free : entry t db nb ≡ None → entry lost db nb ≡ None
   still_free none = none_if (entry lost db nb) (entry t db nb)
-      (λ k e. (k, shrinks.entry_after t da n form_a names_a na in_order at_a order_a found db nb k e))
+      (λ k e.
+      (k, shrinks.entry_after t da n form_a names_a na in_order at_a order_a found db nb k e))
       none
 
   pub still_gives : (old : ℕ) → old ≢ n → entry t db nb ≡ Some old → entry lost db nb ≡ Some old

@@ -95,7 +95,8 @@ module _ {N : ℕ} {m : LogMap} {s : State} {p : List ℕ} {d n : ℕ} {head : H
       let none : names s.tree n ≡ 0 = ap (names s.tree) e ∙ is.log.sound.root_unnamed in
       absurd (omega (arith, some, none))
 
-  links_left : (q : ℕ) → links_in left q + link_of (is_dir (node s.tree n)) d n q ≡ links_in s.tree q
+  links_left : (q : ℕ)
+      → links_in left q + link_of (is_dir (node s.tree n)) d n q ≡ links_in s.tree q
   links_left = trees.lost_links move nm
 
   names_less : names left n + 1 ≡ names s.tree n
@@ -110,7 +111,8 @@ module _ {N : ℕ} {m : LogMap} {s : State} {p : List ℕ} {d n : ℕ} {head : H
       let are : head.links ≡ links_in s.tree d = is.log.links d (as_header head) holder
       ∙ ap (λ (t : Tree). links_in t d) (sym is.log.is) in
       let all : links_in left d + link_of true d n d ≡ links_in s.tree d
-      = subst (λ (b : Bool). links_in left d + link_of b d n d ≡ links_in s.tree d) on (links_left d) in
+      = subst (λ (b : Bool). links_in left d + link_of b d n d ≡ links_in s.tree d) on
+      (links_left d) in
       let one = once d in
       let two = two_links (node left d) left d (trees.lost_dirs move nm d ∙ dir) in
       omega (arith, are, all, one, two)
@@ -164,7 +166,8 @@ module _ {N : ℕ} {m : LogMap} {s : State} {p : List ℕ} {d n : ℕ} {head : H
 
       -- ---- and the name goes
       module _ {m' : LogMap} (less : l + one_if (is_dir (node s.tree n)) ≡ head.links)
-          (cut : CutsSlot m2 m' d (relinked head l)) (takes : TakesName m2 m' d (relinked head l) nm)
+          (cut : CutsSlot m2 m' d (relinked head l))
+          (takes : TakesName m2 m' d (relinked head l) nm)
         where
           pub removed_shape : IsShaped m'
           removed_shape = taken_kept m2 m' d (relinked head l) nm shape_2 holder_2 cut takes

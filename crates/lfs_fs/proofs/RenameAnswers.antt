@@ -63,8 +63,8 @@ module _ {D : Type 0} (state : D → DeviceState) (lawful : (d : D) → IsLawful
       (let one = reached.still.reads.number in let two = only.still.reads.number in
       omega (arith, one, two, aged)))
 
-  module _ (checks : ChecksRename state old mid da l.name.now l.slash chain o.name.now o.slash source
-      target) where
+  module _ (checks : ChecksRename state old mid da l.name.now l.slash chain o.name.now o.slash
+      source target) where
     abbrev N : ℕ
     N = segments_of v
 
@@ -77,8 +77,8 @@ module _ {D : Type 0} (state : D → DeviceState) (lawful : (d : D) → IsLawful
     -- in one state
     starts : (state mid.store.log.device).keeps_model → (k : CheckpointValue) (m0 m : LogMap)
         (s : State) → IsIn state v k m0 m s → StartsRename state v mid k m0 m s a b source target
-    starts keeps k m0 m s is = checked.starts state lawful v old a da from b chain to reached running
-        l is_from o is_to plain other_plain mid only source target checks k m0 m s keeps is
+    starts keeps k m0 m s is = checked.starts state lawful v old a da from b chain to reached
+        running l is_from o is_to plain other_plain mid only source target checks k m0 m s keeps is
 
     -- ---- the draft
     module _ (ready : Fs D) (move : IsMoveReady state mid ready source target) where
@@ -174,8 +174,8 @@ module _ {D : Type 0} (state : D → DeviceState) (lawful : (d : D) → IsLawful
           → IsIn state v k m0 m s
           → (state v.log.device).failures < (state failed.store.log.device).failures))
           → Serves state v (seen failed) (Rename a b) (Refuse (refusal_of fault))
-      fails_by = fails_serves state v (seen failed) (Rename a b) (lawful v.log.device) still_failed was
-          refl refl
+      fails_by = fails_serves state v (seen failed) (Rename a b) (lawful v.log.device) still_failed
+          was refl refl
 
       undrafted : (fault : FsError) → FailsMove state mid failed source target fault
           → Serves state v (seen failed) (Rename a b) (Refuse (refusal_of fault))

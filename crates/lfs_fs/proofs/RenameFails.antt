@@ -1,4 +1,4 @@
--- A rename that wasn't drafted: memory was refused, or a call of the device failed.
+-- Where a rename couldn't be drafted, a call of the device failed: the count of failures rose.
 use Rattle.std.proofs.Common.{◌≡◌, ◌≢◌, ◌⊎◌, ◌<◌, ℕ, Bool, true, false, List, Option, Some, None, refl, sym, ◌∙◌, ap, inl, arith}
 use Rattle.std.specs.FinMap.{find}
 use Rattle.lfs_model.specs.Checkpoint.{CheckpointValue}

@@ -84,7 +84,8 @@ pub record IsLossFit (c : Changes) (m : LogMap) (da db : ℕ) : Type 0 where
   pub second : IsApart c.loss db
 
 relinks_fit : (v : Bool) (c c' : Changes) (m : LogMap) (da db d : ℕ) (head : Header) (l : ℕ)
-    (t : BlockTotals) → RelinksWhere v c c' d head l t → (staged c m).header d ≡ Some (as_header head)
+    (t : BlockTotals) → RelinksWhere v c c' d head l t
+    → (staged c m).header d ≡ Some (as_header head)
     → 2 ≤ head.links → IsApart c.loss d → FitsHeader head.kind l head.size → IsLossFit c m da db
     → IsLossFit c' m da db
 relinks_fit false c c' m da db d head l t is there two apart header fit =
@@ -241,8 +242,8 @@ module _ {D : Type 0} {state : D → DeviceState} {v : Mounted D} {old : Fs D} {
         (cases_eq da db)
 
     fits_4 : FitsBatch m c4
-    fits_4 = takes.takes.fits k m0 m kept (holds_mid takes.links k m0 m (holds_old starts)) loss_3.fits
-        (λ none. let at = g.looks_a.header in cc) (a_3 moves).there cut_fits loss_3.first
+    fits_4 = takes.takes.fits k m0 m kept (holds_mid takes.links k m0 m (holds_old starts))
+        loss_3.fits (λ none. let at = g.looks_a.header in cc) (a_3 moves).there cut_fits loss_3.first
 
     -- the second directory is written to
     write : (at : ℕ) (slot : List ℕ) → FitsHeader to.kind to.links (max to.size (at + length slot))

@@ -117,11 +117,11 @@ module _ {D : Type 0} {state : D → DeviceState} {old taken : Fs D} {source : S
     holds_linked = holds_mid takes.links k m0 m holds
 
     pub drafts_move : (nm : List ℕ) → source.name.now ≡ nm
-        → moves.DraftsMove (staged c1 m) (staged c2 m) (staged c3 m) (staged c4 m) da db source.holder
-        dest.holder la lb nm
+        → moves.DraftsMove (staged c1 m) (staged c2 m) (staged c3 m) (staged c4 m) da db
+        source.holder dest.holder la lb nm
     drafts_move nm named = subst
-        (moves.DraftsMove (staged c1 m) (staged c2 m) (staged c3 m) (staged c4 m) da db source.holder
-        dest.holder la lb) named
+        (moves.DraftsMove (staged c1 m) (staged c2 m) (staged c3 m) (staged c4 m) da db
+        source.holder dest.holder la lb) named
         record {
           first = relinks_where (loses_directory source dest) c1 c2 m da source.holder la
               mid.store.drafted

@@ -213,7 +213,8 @@ module _ {N : ℕ} {m : LogMap} {s : State} {a b : List ℕ} {source : Source} {
     shape = shape;
     tree = tree;
     map = λ arguments done. map_by shape
-        (rename_keeps N s (renamed s a b da db) a b Done is.log.sound arguments done) tree links_are;
+        (rename_keeps N s (renamed s a b da db) a b Done is.log.sound arguments done) tree
+        links_are;
   }
 
   -- ---- the second name is free
@@ -260,7 +261,8 @@ module _ {N : ℕ} {m : LogMap} {s : State} {a b : List ℕ} {source : Source} {
     free_links : (k : ℕ) (h : entry.Header) → m5.header k ≡ Some h
         → h.links ≡ links (tree_after s a b da db) k
     free_links k h at =
-        let shifts = named_shifts free_moving free_named crossing crossing free_less (λ ne. more) x_none k h at in
+        let shifts = named_shifts free_moving free_named crossing crossing free_less (λ ne. more)
+        x_none k h at in
         let one = shifts.2 in
         let was = linked k shifts.0 shifts.1 in
         let now = trees.links_free move (name b) absent crossing
@@ -405,7 +407,8 @@ module _ {N : ℕ} {m : LogMap} {s : State} {a b : List ℕ} {source : Source} {
         over_links : (k : ℕ) (f : entry.Header) → m5.header k ≡ Some f
             → f.links ≡ links (tree_after s a b da db) k
         over_links k f at =
-            let next = named_shifts over_moving over_named x 0 over_less (λ ne. same) (λ e. refl) k f at in
+            let next = named_shifts over_moving over_named x 0 over_less (λ ne. same)
+            (λ e. refl) k f at in
             let first = loss.shifts k next.0 next.1 in
             let one = next.2 in
             let two = first.2 in

@@ -80,8 +80,8 @@ module _ {D : Type 0} (state : D → DeviceState) (lawful : (d : D) → IsLawful
 
     -- the directory, and the one that stands in it
     placed : IsEntry (segments_of v) m s path d n head (as_header object)
-    placed = checked.placed state lawful v old path d piece reached running last is_last mid only k m0
-        m s kept_mid is walk head n object has
+    placed = checked.placed state lawful v old path d piece reached running last is_last mid only k
+        m0 m s kept_mid is walk head n object has
 
     is_directory : is_dir (node s.tree n) ≡ true
     is_directory = ap is_dir (checked.empty_there state lawful v old path d piece reached running
@@ -122,8 +122,8 @@ module _ {D : Type 0} (state : D → DeviceState) (lawful : (d : D) → IsLawful
   rmdir_undrafted ready still new same fault fails =
       subst (λ (w : Mounted D). Serves state v w (Rmdir path) (Refuse (refusal_of fault)))
       (sym same)
-      (fails_serves state v (seen ready) (Rmdir path) (lawful v.log.device) still_ready was refl refl
-      fault (⊎_elim inl (λ failed. inr (
+      (fails_serves state v (seen ready) (Rmdir path) (lawful v.log.device) still_ready was refl
+      refl fault (⊎_elim inl (λ failed. inr (
         failed.0,
         λ k m0 m s keeps is. (
             let kept = still.reads.looks.carries.kept_before keeps in

@@ -425,8 +425,8 @@ module _ {D : Type 0} (state : D → DeviceState) (lawful : (d : D) → IsLawful
           (not_acknowledged call refusal.NoSpace)
 
       -- the last number is reached
-      past_last : IsStill state v (seen new) → 2 ^ 62 ≤ v.log.number → need_of ready ≤ limit_of ready
-          → InState (Refuse refusal.Worn)
+      past_last : IsStill state v (seen new) → 2 ^ 62 ≤ v.log.number
+          → need_of ready ≤ limit_of ready → InState (Refuse refusal.Worn)
       past_last same high room keeps k m0 m s is = served_still state v (seen new) call
           (Refuse refusal.Worn) (lawful v.log.device) same was tt
           (λ p keeps_new here k' m0' m' is'. (
