@@ -75,9 +75,9 @@ relinks_others m m' d head l k other relinks = ⊎_elim
 differs : (x y : ℕ) → x ≢ y → eqb x y ≡ false
 differs x y ne = grind (arith, nat_tests)
 
-one_directory : (source : Source) (target : Target) → source.directory ≡ target.directory → gains_directory source target ≡ false
+one_directory : (source : Source) (target : Target) → source.directory.value ≡ target.directory.value → gains_directory source target ≡ false
 one_directory source target same =
-    ap (λ (b : Bool). is_directory source.object.header.kind && (not b && is_none target.replaced)) (eq-eqb source.directory target.directory same) ∙ never (is_directory source.object.header.kind)
+    ap (λ (b : Bool). is_directory source.object.header.kind && (not b && is_none target.replaced)) (eq-eqb source.directory.value target.directory.value same) ∙ never (is_directory source.object.header.kind)
   where
     never : (b : Bool) → (b && false) ≡ false
     never true = refl
@@ -110,10 +110,10 @@ module _ {D : Type 0} (state : D → DeviceState) (old new : Fs D) (source : Sou
   m5 = staged new.store.draft.changes m
 
   abbrev da : ℕ
-  da = source.directory
+  da = source.directory.value
 
   abbrev db : ℕ
-  db = target.directory
+  db = target.directory.value
 
   kept_taken : (state taken.store.log.device).keeps_model
   kept_taken = drafts.still.reads.looks.carries.kept_before keeps
@@ -193,11 +193,11 @@ module _ {D : Type 0} (state : D → DeviceState) (old new : Fs D) (source : Sou
         cut : CutsSlot m3 m4 da (first_holder source target)
         cut = drafts.takes.takes.cut k m0 m kept_taken held_linked file_3
 
-    pub new_name : target.replaced ≡ None → DraftsName m4 m5 db source.object.number (second_holder source target) target.name.now
-    new_name none = by (subst (λ (f : Option Object). steps.NamesFound state f taken.store.log new.store.log taken.store.draft.changes new.store.draft.changes db (second_holder source target) source.object.number target.name.now) none drafts.names)
+    pub new_name : target.replaced ≡ None → DraftsName m4 m5 db source.object.number.value (second_holder source target) target.name.now
+    new_name none = by (subst (λ (f : Option Object). steps.NamesFound state f taken.store.log new.store.log taken.store.draft.changes new.store.draft.changes db (second_holder source target) source.object.number.value target.name.now) none drafts.names)
       where
-        by : Adds state taken.store.log new.store.log taken.store.draft.changes new.store.draft.changes db (second_holder source target) source.object.number target.name.now
-            → DraftsName m4 m5 db source.object.number (second_holder source target) target.name.now
+        by : Adds state taken.store.log new.store.log taken.store.draft.changes new.store.draft.changes db (second_holder source target) source.object.number.value target.name.now
+            → DraftsName m4 m5 db source.object.number.value (second_holder source target) target.name.now
         by adds = record {
           at = _;
           slot = _;
@@ -205,11 +205,11 @@ module _ {D : Type 0} (state : D → DeviceState) (old new : Fs D) (source : Sou
           adds = adds.more k m0 m keeps held_taken;
         }
 
-    pub over_name : (x : Object) → target.replaced ≡ Some x → DraftsOver m4 m5 db source.object.number (second_holder source target) target.name.now
-    over_name x some = by (subst (λ (f : Option Object). steps.NamesFound state f taken.store.log new.store.log taken.store.draft.changes new.store.draft.changes db (second_holder source target) source.object.number target.name.now) some drafts.names)
+    pub over_name : (x : Object) → target.replaced ≡ Some x → DraftsOver m4 m5 db source.object.number.value (second_holder source target) target.name.now
+    over_name x some = by (subst (λ (f : Option Object). steps.NamesFound state f taken.store.log new.store.log taken.store.draft.changes new.store.draft.changes db (second_holder source target) source.object.number.value target.name.now) some drafts.names)
       where
-        by : steps.RepointsTo state taken.store.log new.store.log taken.store.draft.changes new.store.draft.changes db (second_holder source target) source.object.number target.name.now
-            → DraftsOver m4 m5 db source.object.number (second_holder source target) target.name.now
+        by : steps.RepointsTo state taken.store.log new.store.log taken.store.draft.changes new.store.draft.changes db (second_holder source target) source.object.number.value target.name.now
+            → DraftsOver m4 m5 db source.object.number.value (second_holder source target) target.name.now
         by points = record {
           at = _;
           slot = _;

@@ -46,7 +46,7 @@ module _ {D : Type 0} (state : D → DeviceState) (lawful : (d : D) → IsLawful
   -- where both names give one object
   pub same_ends : FindsBoth state old mid da l.name.now l.slash (here chain) o.name.now o.slash
       source target
-      → GivesName target.replaced source.object.number ≡ true → (r : Result (Unit {0}) FsError)
+      → GivesName target.replaced source.object.number.value ≡ true → (r : Result (Unit {0}) FsError)
       → OnOk r (mid.store.log.number < 2 ^ 62) → OnErr r (2 ^ 62 ≤ mid.store.log.number)
       → IfErr r (λ fault. fault ≡ error.Worn)
       → Serves state v (seen mid) (Rename a b) (answer_by (λ _. Done) r)

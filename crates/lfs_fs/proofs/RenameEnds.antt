@@ -85,11 +85,11 @@ use Rattle.lfs_fs.proofs.WritingEnds.{
 
 -- what is replaced is another object, of the same sort
 gives_way : (source : Source) (target : Target) (found : Option Object)
-    → GivesName found source.object.number ≡ false → FitsFound found source target
+    → GivesName found source.object.number.value ≡ false → FitsFound found source target
     → GivesWay source found
 gives_way source target None other fits = tt
 gives_way source target (Some o) other fits = (
-  λ same. (let on = eq-eqb o.number source.object.number same in let off = other in cc),
+  λ same. (let on = eq-eqb o.number.value source.object.number.value same in let off = other in cc),
   fits,
 )
 
@@ -106,10 +106,10 @@ module _ {D : Type 0} (state : D → DeviceState) (lawful : (d : D) → IsLawful
   N = segments_of v
 
   abbrev sd : ℕ
-  sd = source.directory
+  sd = source.directory.value
 
   abbrev td : ℕ
-  td = target.directory
+  td = target.directory.value
 
   still_mid : IsStill state v (seen mid)
   still_mid = still_more state lawful v (seen old) (seen mid) reached.still only.still

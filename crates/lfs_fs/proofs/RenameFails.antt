@@ -71,19 +71,19 @@ both_blocks : (c c' : Changes) (m : LogMap) (source : Source) (target : Target) 
     → RelinksBoth c c' source target t
     → (q i : ℕ) → (staged c' m).block q i ≡ (staged c m).block q i
 both_blocks c c' m source target t both q i =
-    relinked_blocks both.between c' m (gains_directory source target) target.directory
+    relinked_blocks both.between c' m (gains_directory source target) target.directory.value
     target.holder (more_links source target) t both.second q i
-    ∙ relinked_blocks c both.between m (loses_directory source target) source.directory
+    ∙ relinked_blocks c both.between m (loses_directory source target) source.directory.value
     source.holder (fewer_links source target) t both.first q i
 
 -- what is replaced may be
 way_of : (source : Source) (target : Target) (found : Option Object)
-    → GivesName found source.object.number ≡ false → FitsFound found source target
+    → GivesName found source.object.number.value ≡ false → FitsFound found source target
     → GivesWay source found
 way_of source target None other fits = tt
 way_of source target (Some o) other fits = (
-  λ same. (let on : (o.number == source.object.number) ≡ true
-      = eq-eqb o.number source.object.number same in
+  λ same. (let on : (o.number.value == source.object.number.value) ≡ true
+      = eq-eqb o.number.value source.object.number.value same in
       cc),
   fits,
 )
@@ -102,23 +102,23 @@ module _ {D : Type 0} (state : D → DeviceState) (lawful : (d : D) → IsLawful
     (still_old : IsStill state v (seen old)) (empty : IsNoChange old.store.draft.changes)
     (named_a : source.name.now ≡ name a) (named_b : target.name.now ≡ name b)
     (k : CheckpointValue) (m0 m : LogMap) (s : State) (is : IsIn state v k m0 m s)
-    (walk_a : Parent s.tree a (At source.directory))
-    (walk_b : Parent s.tree b (At target.directory))
-    (looks_a : LooksAt m source.directory (name a) source.holder (Some source.object))
-    (looks_b : LooksAt m target.directory (name b) target.holder target.replaced)
+    (walk_a : Parent s.tree a (At source.directory.value))
+    (walk_b : Parent s.tree b (At target.directory.value))
+    (looks_a : LooksAt m source.directory.value (name a) source.holder (Some source.object))
+    (looks_b : LooksAt m target.directory.value (name b) target.holder target.replaced)
     (few_a : source.holder.size ≤ 65536) (few_b : target.holder.size ≤ 65536)
     (way : GivesWay source target.replaced) where
   abbrev N : ℕ
   N = segments_of v
 
   abbrev da : ℕ
-  da = source.directory
+  da = source.directory.value
 
   abbrev db : ℕ
-  db = target.directory
+  db = target.directory.value
 
   abbrev n : ℕ
-  n = source.object.number
+  n = source.object.number.value
 
   abbrev dir_of : Bool
   dir_of = is_directory source.object.header.kind
@@ -165,55 +165,55 @@ module _ {D : Type 0} (state : D → DeviceState) (lawful : (d : D) → IsLawful
 
     -- another object is replaced
     module _ (o : Object) (looks_o : LooksAt m db (name b) target.holder (Some o))
-        (other : o.number ≢ n) (fits : FitsReplaced source.object.header.kind o.header)
+        (other : o.number.value ≢ n) (fits : FitsReplaced source.object.header.kind o.header)
         (drops : DropsFound state old lost (Some o)) where
-      gives_o : entry s.tree db (name b) ≡ Some o.number
+      gives_o : entry s.tree db (name b) ≡ Some o.number.value
       gives_o = entry_in_directory N m s map db (parent_dir N s map.log.sound b db walk_b).0
           target.holder looks_o.header (name b) ∙ looks_o.gives
 
-      kind_o : is_dir (node s.tree o.number) ≡ is_directory o.header.kind
-      kind_o = kind_is N m s map headers o (range_of db o.number (name b) gives_o) looks_o.there
+      kind_o : is_dir (node s.tree o.number.value) ≡ is_directory o.header.kind
+      kind_o = kind_is N m s map headers o (range_of db o.number.value (name b) gives_o) looks_o.there
 
-      alike : is_dir (node s.tree o.number) ≡ is_dir (node s.tree n)
+      alike : is_dir (node s.tree o.number.value) ≡ is_dir (node s.tree n)
       alike = kind_o ∙ fits.same ∙ sym kind_n
 
-      light : nat_lt 0 (length (names_in s.tree o.number)) ≡ false
+      light : nat_lt 0 (length (names_in s.tree o.number.value)) ≡ false
       light = by (is_directory o.header.kind) refl
         where
           by : (on : Bool) → is_directory o.header.kind ≡ on
-              → nat_lt 0 (length (names_in s.tree o.number)) ≡ false
-          by true dir = is_empty N m s map headers o (range_of db o.number (name b) gives_o)
+              → nat_lt 0 (length (names_in s.tree o.number.value)) ≡ false
+          by true dir = is_empty N m s map headers o (range_of db o.number.value (name b) gives_o)
               looks_o.there dir (fits.empty (sym fits.same ∙ dir))
-          by false plain = plain_empty N m s map headers o (range_of db o.number (name b) gives_o)
+          by false plain = plain_empty N m s map headers o (range_of db o.number.value (name b) gives_o)
               looks_o.there plain
 
-      loses : LosesName s m m1 o.number (as_header o.header)
+      loses : LosesName s m m1 o.number.value (as_header o.header)
       loses = name_lost state old lost s handles empty m o drops
 
-      apart : (q : ℕ) → (q ≡ da) ⊎ (q ≡ db) → q ≢ o.number
+      apart : (q : ℕ) → (q ≡ da) ⊎ (q ≡ db) → q ≢ o.number.value
       apart q at e = ⊎_elim
           (λ (same : q ≡ da). apart_first N m s map shaped a b da db walk_a walk_b n found source.holder
-          target.holder looks_a.header looks_b.header few_a few_b o.number gives_o other alike
+          target.holder looks_a.header looks_b.header few_a few_b o.number.value gives_o other alike
           light (as_header o.header) looks_o.there (sym e ∙ same))
           (λ (same : q ≡ db). apart_second N m s map shaped a b da db walk_a walk_b n found source.holder
-          target.holder looks_a.header looks_b.header few_a few_b o.number gives_o other alike
+          target.holder looks_a.header looks_b.header few_a few_b o.number.value gives_o other alike
           light (as_header o.header) looks_o.there (sym e ∙ same))
           at
 
       object_lost : IsBehindLoss m m1 da db source.holder target.holder
       object_lost = record {
         shape = lost_shape N m s map shaped a b da db walk_a walk_b n found source.holder
-            target.holder looks_a.header looks_b.header few_a few_b o.number gives_o other alike
+            target.holder looks_a.header looks_b.header few_a few_b o.number.value gives_o other alike
             light (as_header o.header) looks_o.there m1 loses;
         first = lost_a N m s map shaped a b da db walk_a walk_b n found source.holder
-            target.holder looks_a.header looks_b.header few_a few_b o.number gives_o other alike
+            target.holder looks_a.header looks_b.header few_a few_b o.number.value gives_o other alike
             light (as_header o.header) looks_o.there m1 loses;
         second = lost_b N m s map shaped a b da db walk_a walk_b n found source.holder
-            target.holder looks_a.header looks_b.header few_a few_b o.number gives_o other alike
+            target.holder looks_a.header looks_b.header few_a few_b o.number.value gives_o other alike
             light (as_header o.header) looks_o.there m1 loses;
         blocks = λ q i at. ⊎_elim
-            (λ (kept : KeepsLink s m m1 o.number (as_header o.header)). kept.made.block q i)
-            (λ (all : LosesAll s m m1 o.number (as_header o.header)).
+            (λ (kept : KeepsLink s m m1 o.number.value (as_header o.header)). kept.made.block q i)
+            (λ (all : LosesAll s m m1 o.number.value (as_header o.header)).
             all.gone.blocks q i (apart q at))
             loses;
       }
@@ -325,10 +325,10 @@ module _ {D : Type 0} (state : D → DeviceState) (lawful : (d : D) → IsLawful
     named None looks gives = tt
     named (Some o) looks gives = λ none. (
         let there = second_there m linked m4 da db source.holder target.holder
-        (fewer_links source target) (more_links source target) (name a) (name b) n o.number
+        (fewer_links source target) (more_links source target) (name a) (name b) n o.number.value
         (λ d i at. blocks_3 takes.mid takes.links d i at) looks_a.header looks.header dir_a dir_b
         looks_a.gives looks.gives gives.0 cut gone in
-        let both : None ≡ Some o.number = sym none
+        let both : None ≡ Some o.number.value = sym none
         ∙ ap (λ (x : List ℕ). find byte_cmp x (names_at m4 db (second_holder source target)))
         named_b ∙ there.1 in
         cc)
@@ -379,24 +379,24 @@ module _ {D : Type 0} (state : D → DeviceState) (lawful : (d : D) → IsLawful
 
   module _ (k : CheckpointValue) (m0 m : LogMap) (s : State)
       (keeps : (state mid.store.log.device).keeps_model) (is : IsIn state v k m0 m s) where
-    first_walk : Parent s.tree a (At source.directory)
+    first_walk : Parent s.tree a (At source.directory.value)
     first_walk = subst (λ (d : ℕ). Parent s.tree a (At d)) (sym checks.both.first.directory)
         (walk state lawful v old a da from b chain to reached running l is_from o is_to plain
         other_plain mid only k m0 m s keeps is)
 
-    second_walk : Parent s.tree b (At target.directory)
+    second_walk : Parent s.tree b (At target.directory.value)
     second_walk = subst (λ (d : ℕ). Parent s.tree b (At d)) (sym checks.both.second.directory)
         (comes state lawful v old a da from b chain to reached running l is_from o is_to plain
         other_plain mid only k m0 m s keeps is).ends
 
-    first_looks : LooksAt m source.directory (name a) source.holder (Some source.object)
+    first_looks : LooksAt m source.directory.value (name a) source.holder (Some source.object)
     first_looks = subst
         (λ (d : ℕ). LooksAt m d (name a) source.holder (Some source.object))
         (sym checks.both.first.directory)
         (looks_first state lawful v old a da from b chain to reached running l is_from o is_to plain
         other_plain mid only k m0 m s keeps is source checks.both.first)
 
-    second_looks : LooksAt m target.directory (name b) target.holder target.replaced
+    second_looks : LooksAt m target.directory.value (name b) target.holder target.replaced
     second_looks = subst
         (λ (d : ℕ). LooksAt m d (name b) target.holder target.replaced)
         (sym checks.both.second.directory)

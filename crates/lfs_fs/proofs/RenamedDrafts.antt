@@ -176,7 +176,7 @@ relinks_where true c c' m d head l t same links = links_set c c' m d head l link
 module _ {D : Type 0} (state : D → DeviceState) (h h' : Held D) (c1 c3 c4 : Changes)
     (source : Source) (target : Target) (t t' u : BlockTotals)
     (links : RelinksBoth c1 c3 source target u) (nm : List ℕ)
-    (takes : TakesOut state h h' c3 c4 source.directory
+    (takes : TakesOut state h h' c3 c4 source.directory.value
     (relinked source.holder (fewer_links source target)) nm t t')
     (k : CheckpointValue) (m0 m : LogMap) (keeps : (state h'.device).keeps_model)
     (holds : Holds state h k m0 m) where
@@ -190,40 +190,40 @@ module _ {D : Type 0} (state : D → DeviceState) (h h' : Held D) (c1 c3 c4 : Ch
   same_more off = ap
       (λ (v : Bool). if v then target.holder.links + 1 else target.holder.links) off
 
-  one_directory : source.directory ≡ target.directory → staged c3 m ≡ staged links.between m
+  one_directory : source.directory.value ≡ target.directory.value → staged c3 m ≡ staged links.between m
   one_directory e = ap (λ (c : Changes). staged c m) (by (gains_directory source target)
       (⊎_elim
-      (λ (h : (eqb source.directory target.directory ≡ true)
-      × (source.directory ≡ target.directory)).
-      no_gain (is_directory source.object.header.kind) (source.directory == target.directory)
+      (λ (h : (eqb source.directory.value target.directory.value ≡ true)
+      × (source.directory.value ≡ target.directory.value)).
+      no_gain (is_directory source.object.header.kind) (source.directory.value == target.directory.value)
       (is_none target.replaced) h.0)
-      (λ (h : (eqb source.directory target.directory ≡ false)
-      × (source.directory ≢ target.directory)). absurd (h.1 e))
-      (eqb_tells source.directory target.directory)) links.second)
+      (λ (h : (eqb source.directory.value target.directory.value ≡ false)
+      × (source.directory.value ≢ target.directory.value)). absurd (h.1 e))
+      (eqb_tells source.directory.value target.directory.value)) links.second)
     where
       by : (v : Bool) → v ≡ false
-          → RelinksWhere v links.between c3 target.directory target.holder
+          → RelinksWhere v links.between c3 target.directory.value target.holder
           (more_links source target) u
           → c3 ≡ links.between
       by false off is = is
       by true off is = cc
 
   pub drafts_move : DraftsMove (staged c1 m) (staged links.between m) (staged c3 m) (staged c4 m)
-      source.directory target.directory source.holder target.holder
+      source.directory.value target.directory.value source.holder target.holder
       (fewer_links source target) (more_links source target) nm
   drafts_move = record {
-    first = relinks_where (loses_directory source target) c1 links.between m source.directory
+    first = relinks_where (loses_directory source target) c1 links.between m source.directory.value
         source.holder (fewer_links source target) u same_fewer links.first;
     second = ⊎_elim
-        (λ (h : (eqb source.directory target.directory ≡ true)
-        × (source.directory ≡ target.directory)). inr (h.1, one_directory h.1))
-        (λ (h : (eqb source.directory target.directory ≡ false)
-        × (source.directory ≢ target.directory)). inl (
+        (λ (h : (eqb source.directory.value target.directory.value ≡ true)
+        × (source.directory.value ≡ target.directory.value)). inr (h.1, one_directory h.1))
+        (λ (h : (eqb source.directory.value target.directory.value ≡ false)
+        × (source.directory.value ≢ target.directory.value)). inl (
           h.1,
-          relinks_where (gains_directory source target) links.between c3 m target.directory
+          relinks_where (gains_directory source target) links.between c3 m target.directory.value
               target.holder (more_links source target) u same_more links.second,
         ))
-        (eqb_tells source.directory target.directory);
+        (eqb_tells source.directory.value target.directory.value);
     cut = takes.cut k m0 m keeps holds;
     takes = takes.names k m0 m keeps holds;
   }
@@ -237,37 +237,37 @@ module _ {D : Type 0} (state : D → DeviceState) (h h' : Held D) (c1 c3 c4 : Ch
   totals_where true c c' d head l relinks there are = relinks.1 m (there refl) are
 
   module _ (kept : IsShaped (staged c1 m))
-      (has_a : HasHolder (staged c1 m) source.directory source.holder)
-      (has_b : HasHolder (staged c1 m) target.directory target.holder) where
+      (has_a : HasHolder (staged c1 m) source.directory.value source.holder)
+      (has_b : HasHolder (staged c1 m) target.directory.value target.holder) where
     pub totals_linked : AreTotals (staged c1 m) u → AreTotals (staged c3 m) u
     totals_linked are = ⊎_elim
-        (λ (h : (eqb source.directory target.directory ≡ true)
-        × (source.directory ≡ target.directory)).
+        (λ (h : (eqb source.directory.value target.directory.value ≡ true)
+        × (source.directory.value ≡ target.directory.value)).
         subst (λ (x : LogMap). AreTotals x u) (sym (one_directory h.1)) first)
-        (λ (h : (eqb source.directory target.directory ≡ false)
-        × (source.directory ≢ target.directory)).
-        totals_where (gains_directory source target) links.between c3 target.directory
+        (λ (h : (eqb source.directory.value target.directory.value ≡ false)
+        × (source.directory.value ≢ target.directory.value)).
+        totals_where (gains_directory source target) links.between c3 target.directory.value
         target.holder (more_links source target) links.second
         (λ on. (moves.b_2 (staged c1 m) (staged links.between m) (staged c3 m) (staged c4 m)
-        source.directory target.directory source.holder target.holder (fewer_links source target)
+        source.directory.value target.directory.value source.holder target.holder (fewer_links source target)
         (more_links source target) nm kept has_a has_b drafts_move h.1).there)
         first)
-        (eqb_tells source.directory target.directory)
+        (eqb_tells source.directory.value target.directory.value)
       where
         first : AreTotals (staged links.between m) u
-        first = totals_where (loses_directory source target) c1 links.between source.directory
+        first = totals_where (loses_directory source target) c1 links.between source.directory.value
             source.holder (fewer_links source target) links.first (λ on. has_a.there) are
 
     pub totals_taken : AreTotals (staged c3 m) t → AreTotals (staged c4 m) t'
     totals_taken are = takes.counts k m0 m keeps holds
         (moves.linked_file (staged c1 m) (staged links.between m) (staged c3 m) (staged c4 m)
-        source.directory target.directory source.holder target.holder (fewer_links source target)
+        source.directory.value target.directory.value source.holder target.holder (fewer_links source target)
         (more_links source target) nm kept has_a has_b drafts_move)
         ((moves.relinked_maps (staged c1 m) (staged links.between m) (staged c3 m) (staged c4 m)
-        source.directory target.directory source.holder target.holder (fewer_links source target)
-        (more_links source target) nm kept has_a has_b drafts_move).0.long source.directory)
+        source.directory.value target.directory.value source.holder target.holder (fewer_links source target)
+        (more_links source target) nm kept has_a has_b drafts_move).0.long source.directory.value)
         (moves.moved_kept (staged c1 m) (staged links.between m) (staged c3 m) (staged c4 m)
-        source.directory target.directory source.holder target.holder (fewer_links source target)
+        source.directory.value target.directory.value source.holder target.holder (fewer_links source target)
         (more_links source target) nm kept has_a has_b drafts_move).map
         are
 
@@ -322,21 +322,21 @@ module _ {D : Type 0} (state : D → DeviceState) (old mid : Fs D) (s : State)
       ∙ no_change old.store.draft.changes m empty
 
   pub name_lost : (o : Object) → DropsFound state old mid (Some o)
-      → LosesName s m (staged mid.store.draft.changes m) o.number (as_header o.header)
+      → LosesName s m (staged mid.store.draft.changes m) o.number.value (as_header o.header)
   name_lost o drops = ⊎_elim
-      (λ (goes : (is_directory o.header.kind ≡ true) × DropsObject state old mid o.number).
-      inr (all_lost s old.store.draft.changes mid.store.draft.changes m o.number o.header
+      (λ (goes : (is_directory o.header.kind ≡ true) × DropsObject state old mid o.number.value).
+      inr (all_lost s old.store.draft.changes mid.store.draft.changes m o.number.value o.header
       (inl (directory_kind o.header.kind goes.0)) goes.1.removes))
       (λ (loses : (is_directory o.header.kind ≡ false)
-      × LosesLink state old mid o.number o.header).
+      × LosesLink state old mid o.number.value o.header).
       ⊎_elim
-      (λ (keeps : Relinks state old mid o.number o.header).
-      inl (link_kept s old.store.draft.changes mid.store.draft.changes m o.number o.header empty
-      keeps.links keeps.is (stays_open o.number keeps.links keeps.stays)
+      (λ (keeps : Relinks state old mid o.number.value o.header).
+      inl (link_kept s old.store.draft.changes mid.store.draft.changes m o.number.value o.header empty
+      keeps.links keeps.is (stays_open o.number.value keeps.links keeps.stays)
       (plain_kind o.header.kind loses.0) keeps.sets))
-      (λ (goes : GoesWhole state old mid o.number o.header).
-      inr (all_lost s old.store.draft.changes mid.store.draft.changes m o.number o.header
-      (inr (goes.last, ap (λ hs. opened hs o.number) handles ∙ goes.shut)) goes.removes))
+      (λ (goes : GoesWhole state old mid o.number.value o.header).
+      inr (all_lost s old.store.draft.changes mid.store.draft.changes m o.number.value o.header
+      (inr (goes.last, ap (λ hs. opened hs o.number.value) handles ∙ goes.shut)) goes.removes))
       loses.1)
       drops
 
@@ -345,33 +345,33 @@ module _ {D : Type 0} (state : D → DeviceState) (old mid : Fs D) (s : State)
 -- what the second name gives is another object of the same sort, without names
 abbrev pub GivesWay : Source → Option Object → Type 0
 GivesWay source None = Unit {0}
-GivesWay source (Some o) = (o.number ≢ source.object.number)
+GivesWay source (Some o) = (o.number.value ≢ source.object.number.value)
     × FitsReplaced source.object.header.kind o.header
 
 module _ {D : Type 0} (state : D → DeviceState) (N : ℕ) (m : LogMap) (s : State)
     (is : IsMapOf N m s)
     (headers : (n : ℕ) (h : entries.Header) → m.header n ≡ Some h → IsHeaderOf n h)
     (a b : List ℕ) (source : Source) (target : Target)
-    (walk_a : Parent s.tree a (At source.directory))
-    (walk_b : Parent s.tree b (At target.directory))
-    (looks_a : LooksAt m source.directory (name a) source.holder (Some source.object))
+    (walk_a : Parent s.tree a (At source.directory.value))
+    (walk_b : Parent s.tree b (At target.directory.value))
+    (looks_a : LooksAt m source.directory.value (name a) source.holder (Some source.object))
     (few_a : source.holder.size ≤ 65536) (few_b : target.holder.size ≤ 65536)
     (old dropped new : Fs D) (handles : s.handles ≡ handles_of old.handles.numbers.items)
     (empty : IsNoChange old.store.draft.changes) (c3 c4 : Changes) (t t' u : BlockTotals)
     (links : RelinksBoth dropped.store.draft.changes c3 source target u) (h1 h2 h3 h4 : Held D)
-    (takes : TakesOut state h1 h2 c3 c4 source.directory
+    (takes : TakesOut state h1 h2 c3 c4 source.directory.value
     (relinked source.holder (fewer_links source target)) (name a) t t')
     (k : CheckpointValue) (m0 : LogMap) (keeps_2 : (state h2.device).keeps_model)
     (holds_1 : Holds state h1 k m0 m) (keeps_4 : (state h4.device).keeps_model)
     (holds_3 : Holds state h3 k m0 m) where
   abbrev da : ℕ
-  da = source.directory
+  da = source.directory.value
 
   abbrev db : ℕ
-  db = target.directory
+  db = target.directory.value
 
   abbrev n : ℕ
-  n = source.object.number
+  n = source.object.number.value
 
   abbrev la : ℕ
   la = fewer_links source target
@@ -484,32 +484,32 @@ module _ {D : Type 0} (state : D → DeviceState) (N : ℕ) (m : LogMap) (s : St
 
   -- ---- it gave another object
   module _ (o : Object) (some : target.replaced ≡ Some o)
-      (looks_b : LooksAt m db (name b) target.holder (Some o)) (other : o.number ≢ n)
+      (looks_b : LooksAt m db (name b) target.holder (Some o)) (other : o.number.value ≢ n)
       (fits : FitsReplaced source.object.header.kind o.header)
       (drops : DropsFound state old dropped (Some o))
       (repoints : RepointsTo state h3 h4 c4 new.store.draft.changes db
       holder_then n (name b)) where
-    gives_o : entry s.tree db (name b) ≡ Some o.number
+    gives_o : entry s.tree db (name b) ≡ Some o.number.value
     gives_o = entry_in_directory N m s is db (parent_dir N s is.log.sound b db walk_b).0
         target.holder looks_b.header (name b) ∙ looks_b.gives
 
-    kind_o : is_dir (node s.tree o.number) ≡ is_directory o.header.kind
-    kind_o = kind_is N m s is headers o (range_of db o.number (name b) gives_o) looks_b.there
+    kind_o : is_dir (node s.tree o.number.value) ≡ is_directory o.header.kind
+    kind_o = kind_is N m s is headers o (range_of db o.number.value (name b) gives_o) looks_b.there
 
-    alike : is_dir (node s.tree o.number) ≡ is_dir (node s.tree n)
+    alike : is_dir (node s.tree o.number.value) ≡ is_dir (node s.tree n)
     alike = kind_o ∙ fits.same ∙ sym kind_n
 
-    light : nat_lt 0 (length (names_in s.tree o.number)) ≡ false
+    light : nat_lt 0 (length (names_in s.tree o.number.value)) ≡ false
     light = by (is_directory o.header.kind) refl
       where
         by : (v : Bool) → is_directory o.header.kind ≡ v
-            → nat_lt 0 (length (names_in s.tree o.number)) ≡ false
-        by true dir = is_empty N m s is headers o (range_of db o.number (name b) gives_o)
+            → nat_lt 0 (length (names_in s.tree o.number.value)) ≡ false
+        by true dir = is_empty N m s is headers o (range_of db o.number.value (name b) gives_o)
             looks_b.there dir (fits.empty (sym fits.same ∙ dir))
-        by false plain = plain_empty N m s is headers o (range_of db o.number (name b) gives_o)
+        by false plain = plain_empty N m s is headers o (range_of db o.number.value (name b) gives_o)
             looks_b.there plain
 
-    lost : LosesName s m m1 o.number (as_header o.header)
+    lost : LosesName s m m1 o.number.value (as_header o.header)
     lost = name_lost state old dropped s handles empty m o drops
 
     fewer : la ≡ source.holder.links - one_if (is_dir (node s.tree n))
@@ -529,13 +529,13 @@ module _ {D : Type 0} (state : D → DeviceState) (N : ℕ) (m : LogMap) (s : St
         (relinked source.holder la) holder_then
     over_stages = stages_of m1 m2 m3 m4 da db source.holder target.holder la lb (name a)
         (lost_shape N m s is shaped a b da db walk_a walk_b n found source.holder target.holder
-        looks_a.header looks_b.header few_a few_b o.number gives_o other alike light
+        looks_a.header looks_b.header few_a few_b o.number.value gives_o other alike light
         (as_header o.header) looks_b.there m1 lost)
         (lost_a N m s is shaped a b da db walk_a walk_b n found source.holder target.holder
-        looks_a.header looks_b.header few_a few_b o.number gives_o other alike light
+        looks_a.header looks_b.header few_a few_b o.number.value gives_o other alike light
         (as_header o.header) looks_b.there m1 lost)
         (lost_b N m s is shaped a b da db walk_a walk_b n found source.holder target.holder
-        looks_a.header looks_b.header few_a few_b o.number gives_o other alike light
+        looks_a.header looks_b.header few_a few_b o.number.value gives_o other alike light
         (as_header o.header) looks_b.there m1 lost)
         drafts
 
@@ -549,15 +549,15 @@ module _ {D : Type 0} (state : D → DeviceState) (N : ℕ) (m : LogMap) (s : St
     pub over_moved : IsMoved N m5 s a b da db
     over_moved = record {
       shape = over_shape N m s is shaped a b da db walk_a walk_b n found source.holder
-          target.holder looks_a.header looks_b.header few_a few_b o.number gives_o other alike
+          target.holder looks_a.header looks_b.header few_a few_b o.number.value gives_o other alike
           light (as_header o.header) looks_b.there m1 lost la lb fewer (λ ne. same) m2 m3 m4 m5
           drafts holder_then over_header over;
       tree = over_tree_is N m s is shaped a b da db walk_a walk_b n found source.holder
-          target.holder looks_a.header looks_b.header few_a few_b o.number gives_o other alike
+          target.holder looks_a.header looks_b.header few_a few_b o.number.value gives_o other alike
           light (as_header o.header) looks_b.there m1 lost la lb fewer (λ ne. same) m2 m3 m4 m5
           drafts holder_then over_header over;
       map = over_map N m s is shaped a b da db walk_a walk_b n found source.holder
-          target.holder looks_a.header looks_b.header few_a few_b o.number gives_o other alike
+          target.holder looks_a.header looks_b.header few_a few_b o.number.value gives_o other alike
           light (as_header o.header) looks_b.there m1 lost la lb fewer (λ ne. same) m2 m3 m4 m5
           drafts holder_then over_header over;
     }

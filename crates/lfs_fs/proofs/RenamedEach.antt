@@ -77,16 +77,16 @@ module _ {D : Type 0} (state : D → DeviceState) (old lost : Fs D) (k : Checkpo
       subst (λ (t : BlockTotals). AreTotals (staged lost.store.draft.changes m) t) (sym drops.1)
       (subst (λ (c : Changes). AreTotals (staged c m) old.store.drafted) (sym drops.0) are)
   totals_dropped (Some o) drops there are = ⊎_elim
-      (λ (goes : (is_directory o.header.kind ≡ true) × DropsObject state old lost o.number).
+      (λ (goes : (is_directory o.header.kind ≡ true) × DropsObject state old lost o.number.value).
       goes.1.counts k m0 m keeps holds map after are)
       (λ (loses : (is_directory o.header.kind ≡ false)
-      × LosesLink state old lost o.number o.header).
+      × LosesLink state old lost o.number.value o.header).
       ⊎_elim
-      (λ (r : Relinks state old lost o.number o.header).
+      (λ (r : Relinks state old lost o.number.value o.header).
       r.counts m there
       (subst (λ (t : BlockTotals). AreTotals (staged old.store.draft.changes m) t)
       (sym r.drafted) are))
-      (λ (g : GoesWhole state old lost o.number o.header). g.counts k m0 m keeps holds map after are)
+      (λ (g : GoesWhole state old lost o.number.value o.header). g.counts k m0 m keeps holds map after are)
       loses.1)
       drops
 
@@ -98,10 +98,10 @@ module _ {D : Type 0} (state : D → DeviceState) (lawful : (d : D) → IsLawful
     (drafts : DraftsMove state old new source target) (named_a : source.name.now ≡ name a)
     (named_b : target.name.now ≡ name b) (keeps : (state new.store.log.device).keeps_model)
     (k : CheckpointValue) (m0 m : LogMap) (s : State) (is : IsIn state v k m0 m s)
-    (walk_a : Parent s.tree a (At source.directory))
-    (walk_b : Parent s.tree b (At target.directory))
-    (looks_a : LooksAt m source.directory (name a) source.holder (Some source.object))
-    (looks_b : LooksAt m target.directory (name b) target.holder target.replaced)
+    (walk_a : Parent s.tree a (At source.directory.value))
+    (walk_b : Parent s.tree b (At target.directory.value))
+    (looks_a : LooksAt m source.directory.value (name a) source.holder (Some source.object))
+    (looks_b : LooksAt m target.directory.value (name b) target.holder target.replaced)
     (few_a : source.holder.size ≤ 65536) (few_b : target.holder.size ≤ 65536) where
   abbrev lost : Fs D
   lost = drafts.takes.links.lost
@@ -147,29 +147,29 @@ module _ {D : Type 0} (state : D → DeviceState) (lawful : (d : D) → IsLawful
   same_handles = is.handles ∙ ap handles_of (sym still_old.table)
 
   takes : TakesOut state mid.store.log taken.store.log mid.store.draft.changes
-      taken.store.draft.changes source.directory (first_holder source target) (name a)
+      taken.store.draft.changes source.directory.value (first_holder source target) (name a)
       mid.store.drafted taken.store.drafted
   takes = subst
       (λ (nm : List ℕ). TakesOut state mid.store.log taken.store.log mid.store.draft.changes
-      taken.store.draft.changes source.directory (first_holder source target) nm
+      taken.store.draft.changes source.directory.value (first_holder source target) nm
       mid.store.drafted taken.store.drafted)
       named_a drafts.takes.takes
 
   names : NamesFound state target.replaced taken.store.log new.store.log
-      taken.store.draft.changes new.store.draft.changes target.directory
-      (second_holder source target) source.object.number (name b)
+      taken.store.draft.changes new.store.draft.changes target.directory.value
+      (second_holder source target) source.object.number.value (name b)
   names = subst
       (λ (nm : List ℕ). NamesFound state target.replaced taken.store.log new.store.log
-      taken.store.draft.changes new.store.draft.changes target.directory
-      (second_holder source target) source.object.number nm)
+      taken.store.draft.changes new.store.draft.changes target.directory.value
+      (second_holder source target) source.object.number.value nm)
       named_b drafts.names
 
   module _ (way : GivesWay source target.replaced) where
-    both : IsMoved (segments_of v) (staged new.store.draft.changes m) s a b source.directory
-        target.directory
+    both : IsMoved (segments_of v) (staged new.store.draft.changes m) s a b source.directory.value
+        target.directory.value
         × AreStages (staged lost.store.draft.changes m)
         (staged drafts.takes.links.relinks.between m) (staged mid.store.draft.changes m)
-        (staged taken.store.draft.changes m) source.directory target.directory source.holder
+        (staged taken.store.draft.changes m) source.directory.value target.directory.value source.holder
         target.holder (first_holder source target) (second_holder source target)
     both = moved_found state (segments_of v) m s map (headers_of_volume state v k m0 m s is) a b
         source target walk_a walk_b looks_a few_a few_b old lost new same_handles empty
@@ -180,12 +180,12 @@ module _ {D : Type 0} (state : D → DeviceState) (lawful : (d : D) → IsLawful
 
     -- the log map with the draft, and those before it
     pub each_moved : IsMoved (segments_of v) (staged new.store.draft.changes m) s a b
-        source.directory target.directory
+        source.directory.value target.directory.value
     each_moved = both.0
 
     pub each_stages : AreStages (staged lost.store.draft.changes m)
         (staged drafts.takes.links.relinks.between m) (staged mid.store.draft.changes m)
-        (staged taken.store.draft.changes m) source.directory target.directory source.holder
+        (staged taken.store.draft.changes m) source.directory.value target.directory.value source.holder
         target.holder (first_holder source target) (second_holder source target)
     each_stages = both.1
 
