@@ -1,6 +1,7 @@
 -- A name looked up among the first slots of a block, slot by slot.
 use Rattle.std.proofs.Common.{◌≡◌, ◌≢◌, ◌<◌, ◌≤◌, ◌+◌, ◌*◌, ◌-◌, ℕ, suc, List, [], ◌∷◌, Option, Some, None, refl, sym, ◌∙◌, ap, ap₂, arith}
 use Rattle.std.specs.FinMap.{find}
+use Rattle.lfs_model.specs.declared.number.FileNumber.{FileNumber}
 use Rattle.lfs_model.specs.Fields.{part}
 use Rattle.lfs_model.specs.Slot.{SlotValue, slot_in}
 use Rattle.lfs_model.specs.Tree.{byte_cmp}
@@ -31,7 +32,7 @@ module _ (block : List ℕ) (count : ℕ) (name : List ℕ) where
   abbrev pub ScannedTo : ℕ → Type 0
   ScannedTo at = find byte_cmp name (map_of 0 (slots_in block at (count - at))) ≡ find byte_cmp name (map_of 0 (first_slots block count))
 
-  pub scan_hit : (at n : ℕ) (s : SlotValue) → at < count → ScannedTo at → slot_in 0 (part (64 * at) 64 block) ≡ Some s → name ≡ s.name → n ≡ s.number → IsSlotOf (first_slots block count) name record { place = at; number = n }
+  pub scan_hit : (at : ℕ) (n : FileNumber) (s : SlotValue) → at < count → ScannedTo at → slot_in 0 (part (64 * at) 64 block) ≡ Some s → name ≡ s.name → n.value ≡ s.number → IsSlotOf (first_slots block count) name record { place = at; number = n }
   scan_hit at n s low was is same number = record {
     gives =
         sym was ∙ ap (λ (a : List (List ℕ)). find byte_cmp name (map_of 0 a)) (next_slot block at count low)

@@ -100,7 +100,7 @@ module _ {S D : Type 0} (d : ℕ) (head : Header) (name : List ℕ) where
           gives =
               sym (was.behind m m' (reads.looks.carries.kept_before keeps) has)
               ∙ ap (λ (s : List (List ℕ)). find byte_cmp name (map_of 0 s)) (block_and_rest slots index count (head.size / 64) (slots_many m' d head) is)
-              ∙ gives_some (take count (drop (8 * index) slots)) (drop (8 * (index + 1)) slots) name found.number slot.gives;
+              ∙ gives_some (take count (drop (8 * index) slots)) (drop (8 * (index + 1)) slots) name found.number.value slot.gives;
           inside = omega (arith, taken, left, inside);
           slot = ap (slot_in 0) (sym (get_or-take count (drop (8 * index) slots) found.place [] within ∙ get_or-drop (8 * index) slots found.place [])) ∙ slot.slot;
         }

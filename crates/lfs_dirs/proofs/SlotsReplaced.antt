@@ -91,15 +91,15 @@ module _ (m m' : LogMap) (d : ℕ) (head : Header) (n : ℕ) (name : List ℕ) (
 
   pub repoints_name : RepointsName m m' d head n name
   repoints_name = record {
-    there = λ none. let bad : Some found.number ≡ None = sym is.gives ∙ none in absurd (cc);
+    there = λ none. let bad : Some found.number.value ≡ None = sym is.gives ∙ none in absurd (cc);
     directory = record {
       whole = dir.whole;
       formed = subst AreFormed (sym now) (replaced_formed before behind (get_or old found.place []) (slot_for n name) is_slot (subst AreFormed was dir.formed));
-      apart = subst AreApart (sym now) (replaced_apart before behind (get_or old found.place []) record { number = found.number; name = name } is.slot were_apart (slot_for n name) record { number = n; name = name } spelt refl);
+      apart = subst AreApart (sym now) (replaced_apart before behind (get_or old found.place []) record { number = found.number.value; name = name } is.slot were_apart (slot_for n name) record { number = n; name = name } spelt refl);
     };
     names =
         ap (map_of 0) now
-        ∙ replaced before behind (get_or old found.place []) record { number = found.number; name = name } is.slot were_apart (slot_for n name) record { number = n; name = name } spelt refl
+        ∙ replaced before behind (get_or old found.place []) record { number = found.number.value; name = name } is.slot were_apart (slot_for n name) record { number = n; name = name } spelt refl
         ∙ ap (λ (a : List (List ℕ)). put byte_cmp name n (map_of 0 a)) (sym was);
   }
 

@@ -144,13 +144,13 @@ module _ (a : List (List ℕ)) (place : ℕ) (s : SlotValue) (inside : place < l
 pub takes_name : (m m' : LogMap) (d : ℕ) (head : Header) (name : List ℕ) (found : Found) → IsSlotOf (slots_at m d head) name found → IsDirectory m d (as_header head)
     → slots_at m' d (shrunk head) ≡ swap_remove (slots_at m d head) found.place [] → TakesName m m' d head name
 takes_name m m' d head name found is dir slots =
-    let s : SlotValue = record { number = found.number; name = name } in
+    let s : SlotValue = record { number = found.number.value; name = name } in
     let gone = removes (slots_at m d head) found.place s is.inside is.slot dir.apart dir.formed in
     let whole = dir.whole in
     let many = slots_many m d head in
     let inside = is.inside in
     record {
-      there = λ none. let bad : Some found.number ≡ None = sym is.gives ∙ none in absurd (cc);
+      there = λ none. let bad : Some found.number.value ≡ None = sym is.gives ∙ none in absurd (cc);
       directory = record {
         whole = omega (arith, whole, many, inside);
         formed = subst AreFormed (sym slots) gone.formed_still;

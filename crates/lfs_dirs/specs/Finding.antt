@@ -1,6 +1,7 @@
 -- What a search for a name in a directory answers.
-use Rattle.std.specs.Prelude.{◌≡◌, ◌<◌, ◌≤◌, ◌+◌, ◌*◌, ◌/◌, ℕ, List, Option, None}
+use Rattle.std.specs.Prelude.{◌≡◌, ◌<◌, ◌≤◌, ◌+◌, ◌*◌, ◌/◌, ℕ, List, Option, Some, None}
 use Rattle.std.specs.FinMap.{find}
+use Rattle.lfs_model.specs.declared.number.FileNumber.{FileNumber}
 use Rattle.lfs_model.specs.Fields.{part}
 use Rattle.lfs_model.specs.Objects.{IsDirectory}
 use Rattle.lfs_model.specs.Slot.{slot_in}
@@ -17,10 +18,15 @@ pub record HasNoSlot (block : List ℕ) (count : ℕ) : Type 0 where
   pub inside : place < count
   pub none : slot_in 0 (part (64 * place) 64 block) ≡ None
 
+-- the file's number as a plain one
+abbrev pub value_of : Option FileNumber → Option ℕ
+value_of None = None
+value_of (Some n) = Some n.value
+
 module _ {S D : Type 0} (s s' : FilesState S D) where
   -- what the name gives in directory d, if it is there
-  abbrev pub Finds : ℕ → Header → List ℕ → Option ℕ → Type 0
-  Finds d head name found = (m m' : LogMap) → s'.device.keeps_model → s.has m m' → found ≡ find byte_cmp name (names_at m' d head)
+  abbrev pub Finds : ℕ → Header → List ℕ → Option FileNumber → Type 0
+  Finds d head name found = (m m' : LogMap) → s'.device.keeps_model → s.has m m' → value_of found ≡ find byte_cmp name (names_at m' d head)
 
   -- a call of the device failed, where d is a directory
   abbrev pub IsDirectoryFault : ℕ → Header → Type 0

@@ -15,7 +15,7 @@ use Rattle.lfs_dirs.specs.Directory.{names_at, slots_at}
 
 -- an entry as a name with the number that it gives
 abbrev pub pair : Entry → List ℕ × ℕ
-pair e = (e.name.items, e.number)
+pair e = (e.name.items, e.number.value)
 
 abbrev pub pairs : List Entry → Names
 pairs es = map pair es

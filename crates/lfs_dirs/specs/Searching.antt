@@ -12,9 +12,9 @@ use Rattle.lfs_dirs.specs.Directory.{slots_at}
 
 -- Among slots this one has the name, and what it gives is what they give.
 pub record IsSlotOf (slots : List (List ℕ)) (name : List ℕ) (found : Found) : Type 0 where
-  pub gives : find byte_cmp name (map_of 0 slots) ≡ Some found.number
+  pub gives : find byte_cmp name (map_of 0 slots) ≡ Some found.number.value
   pub inside : found.place < length slots
-  pub slot : slot_in 0 (get_or slots found.place []) ≡ Some record { number = found.number; name = name }
+  pub slot : slot_in 0 (get_or slots found.place []) ≡ Some record { number = found.number.value; name = name }
 
 abbrev pub FindsIn : List (List ℕ) → List ℕ → Option Found → Type 0
 FindsIn slots name None = find byte_cmp name (map_of 0 slots) ≡ None

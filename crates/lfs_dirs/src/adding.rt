@@ -7,6 +7,7 @@ ghost use Rattle.lfs_dirs.specs.Growing.{GrowsDirectory};
 
 use lfs_files::{Files, Header, LogFault, StoreFault};
 use lfs_layout::encode_slot;
+use lfs_model::FileNumber;
 
 /// Drafts a slot behind those of a directory of this header, which has at most 1,023. Its names
 /// aren't looked at: `find` tells whether it has this one.
@@ -16,20 +17,16 @@ use lfs_layout::encode_slot;
 /// As those of `Files::write_at`.
 pub fn add<F: Files>(
     files: &mut F,
-    directory: u16,
+    directory: FileNumber,
     header: Header,
-    number: u16,
+    number: FileNumber,
     name: &[u8],
 ) -> Result<(), StoreFault>
-    requires some { 1 ≤ directory }
-    requires few { directory ≤ 4095 }
     requires room { header.size ≤ 65472 }
-    requires first { 1 ≤ number }
-    requires last { number ≤ 4095 }
     requires name { IsName 59 name.now }
     ensures redrafts { Redrafts (F.state files.old) (F.state files.new) }
     ensures done { OnOk result (Adds (F.state files.old) (F.state files.new)
-        directory header number name.now) }
+        directory.value header number.value name.now) }
     ensures small { OnOk result (GrowsDirectory (F.state files.old) (F.state files.new) 1 2) }
     ensures counted { OnOk result (Counts (F.state files.old) (F.state files.new)) }
     ensures failed { IfErr result (λ fault. (fault ≡ StoreFault.NoMemory → ⊥)
@@ -38,6 +35,6 @@ pub fn add<F: Files>(
         → (F.state files.old).halted ≡ true }
     ensures other { IsErrOf result (StoreFault.Log LogFault.Full) → ⊥ }
 {
-    let slot = encode_slot(u32::from(number), name);
+    let slot = encode_slot(u32::from(number.value), name);
     files.write_at(directory, header, header.size, &slot)
 }

@@ -5,6 +5,7 @@ ghost use Rattle.std.specs.FinMap.{put};
 ghost use Rattle.lfs_model.specs.Tree.{byte_cmp};
 ghost use Rattle.lfs_dirs.specs.Listing.{IsPlace, pairs};
 
+use lfs_model::FileNumber;
 use std::alloc::{AllocError, Global};
 use std::cmp::Ordering;
 
@@ -13,7 +14,7 @@ use std::cmp::Ordering;
 pub struct Entry {
     /// 1 to 59 bytes.
     pub name: Vec<u8>,
-    pub number: u16,
+    pub number: FileNumber,
 }
 
 /// Where a name is among entries, or the place at which it comes in.
@@ -35,9 +36,9 @@ pub fn put_entry(
     alloc: Global,
     entries: &mut Vec<Entry>,
     name: &[u8],
-    number: u16,
+    number: FileNumber,
 ) -> Result<(), AllocError>
-    ensures { OnOk result (pairs entries.new.items ≡ put byte_cmp name.now number
+    ensures { OnOk result (pairs entries.new.items ≡ put byte_cmp name.now number.value
         (pairs entries.old.items)) }
 {
     match locate(entries, name) {
@@ -55,11 +56,11 @@ fn insert_entry(
     entries: &mut Vec<Entry>,
     place: usize,
     name: &[u8],
-    number: u16,
+    number: FileNumber,
 ) -> Result<(), AllocError>
     requires { place ≤ length entries.old.items }
     ensures { OnOk result (pairs entries.new.items ≡ insert (pairs entries.old.items)
-        place (name.now, number)) }
+        place (name.now, number.value)) }
 {
     let name = name.to_vec(alloc)?;
     let Ok(()) = entries.insert(place, Entry { name, number }) else {

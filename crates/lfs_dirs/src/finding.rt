@@ -5,6 +5,7 @@ ghost use Rattle.lfs_dirs.specs.Finding.{Finds, IsDirectoryFault};
 
 use crate::searching::search;
 use lfs_files::{Files, Header, LogFault};
+use lfs_model::FileNumber;
 
 /// The number that a name gives in a directory of this header, if it is there.
 ///
@@ -14,17 +15,15 @@ use lfs_files::{Files, Header, LogFault};
 /// directory is.
 pub fn find<F: Files>(
     files: &mut F,
-    directory: u16,
+    directory: FileNumber,
     header: Header,
     name: &[u8],
-) -> Result<Option<u16>, LogFault>
-    requires { directory < 4096 }
+) -> Result<Option<FileNumber>, LogFault>
     ensures reads { Reads (F.state files.old) (F.state files.new) }
     ensures answer { IfOk result (Finds (F.state files.old) (F.state files.new)
-        directory header name.now) }
-    ensures number { IfOk result (λ found. IfSome found (λ n. n < 4096)) }
+        directory.value header name.now) }
     ensures failed { OnErr result (IsDirectoryFault (F.state files.old)
-        (F.state files.new) directory header) }
+        (F.state files.new) directory.value header) }
     ensures halted { IsErrOf result LogFault.Halted → (F.state files.old).halted ≡ true }
     ensures other { IsErrOf result LogFault.Full → ⊥ }
 {

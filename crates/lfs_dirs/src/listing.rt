@@ -11,6 +11,7 @@ use crate::entry::{Entry, put_entry};
 use crate::slots::{SLOT, SLOTS_IN_BLOCK};
 use lfs_files::{Files, Header, LogFault, StoreFault};
 use lfs_layout::{SlotView, nth_slot};
+use lfs_model::FileNumber;
 use std::alloc::Global;
 
 /// The names in a directory of this header with the numbers that they give, in the order of the
@@ -22,15 +23,14 @@ use std::alloc::Global;
 pub fn list<F: Files>(
     alloc: Global,
     files: &mut F,
-    directory: u16,
+    directory: FileNumber,
     header: Header,
 ) -> Result<Vec<Entry>, StoreFault>
-    requires { directory < 4096 }
     ensures reads { Reads (F.state files.old) (F.state files.new) }
     ensures answer { IfOk result (λ entries. Lists (F.state files.old) (F.state files.new)
-        directory header entries.items) }
+        directory.value header entries.items) }
     ensures failed { IfErr result (λ fault. (fault ≡ StoreFault.NoMemory → ⊥)
-        → IsDirectoryFault (F.state files.old) (F.state files.new) directory header) }
+        → IsDirectoryFault (F.state files.old) (F.state files.new) directory.value header) }
     ensures halted { IsErrOf result (StoreFault.Log LogFault.Halted)
         → (F.state files.old).halted ≡ true }
     ensures other { IsErrOf result (StoreFault.Log LogFault.Full) → ⊥ }
@@ -62,17 +62,16 @@ pub enum ListFault {
 pub fn inspect<F: Files>(
     alloc: Global,
     files: &mut F,
-    directory: u16,
+    directory: FileNumber,
     header: Header,
 ) -> Result<Vec<Entry>, ListFault>
-    requires { directory < 4096 }
     ensures reads { Reads (F.state files.old) (F.state files.new) }
     ensures answer { IfOk result (λ entries. Inspects (F.state files.old) (F.state files.new)
-        directory header entries.items) }
+        directory.value header entries.items) }
     ensures failed { IfErr result (λ fault. (fault ≡ ListFault.NoMemory → ⊥)
-        → IsDirectoryFault (F.state files.old) (F.state files.new) directory header) }
+        → IsDirectoryFault (F.state files.old) (F.state files.new) directory.value header) }
     ensures malformed { IsErrOf result ListFault.NoSlot
-        → LacksSlot (F.state files.old) (F.state files.new) directory header }
+        → LacksSlot (F.state files.old) (F.state files.new) directory.value header }
     ensures device { IsErrOf result (ListFault.Log LogFault.Device)
         → IsFault (F.state files.old) (F.state files.new) }
     ensures halted { IsErrOf result (ListFault.Log LogFault.Halted)
@@ -98,20 +97,19 @@ pub fn inspect<F: Files>(
 fn list_block<F: Files>(
     alloc: Global,
     files: &mut F,
-    directory: u16,
+    directory: FileNumber,
     index: u32,
     count: usize,
     entries: &mut Vec<Entry>,
 ) -> Result<(), ListFault>
-    requires number { directory < 4096 }
     requires few { count ≤ 8 }
     ensures reads { Reads (F.state files.old) (F.state files.new) }
-    ensures done { OnOk result (ListsBlock (F.state files.old) (F.state files.new) directory index
-        count entries.old.items entries.new.items) }
+    ensures done { OnOk result (ListsBlock (F.state files.old) (F.state files.new) directory.value
+        index count entries.old.items entries.new.items) }
     ensures failed { IfErr result (λ fault. (fault ≡ ListFault.NoMemory → ⊥)
-        → IsBlockFault (F.state files.old) (F.state files.new) directory index count) }
+        → IsBlockFault (F.state files.old) (F.state files.new) directory.value index count) }
     ensures malformed { IsErrOf result ListFault.NoSlot
-        → LacksBlockSlot (F.state files.old) (F.state files.new) directory index count }
+        → LacksBlockSlot (F.state files.old) (F.state files.new) directory.value index count }
     ensures device { IsErrOf result (ListFault.Log LogFault.Device)
         → IsFault (F.state files.old) (F.state files.new) }
     ensures halted { IsErrOf result (ListFault.Log LogFault.Halted)
@@ -171,7 +169,10 @@ fn put_slot(alloc: Global, slot: &[u8; 64], entries: &mut Vec<Entry>) -> Result<
     let Some(view) = SlotView::decode(slot) else {
         return Err(SlotFault::NoSlot);
     };
-    match put_entry(alloc, entries, view.name(), view.number() as u16) {
+    let number = FileNumber {
+        value: view.number() as u16,
+    };
+    match put_entry(alloc, entries, view.name(), number) {
         Ok(()) => Ok(()),
         Err(_) => Err(SlotFault::NoMemory),
     }

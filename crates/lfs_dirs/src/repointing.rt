@@ -10,6 +10,7 @@ use crate::searching::search;
 use crate::slots::SLOT;
 use lfs_files::{Files, Header, LogFault, StoreFault};
 use lfs_layout::encode_slot;
+use lfs_model::FileNumber;
 
 /// Drafts another number for a name of a directory of this header, if it has the name.
 ///
@@ -18,20 +19,16 @@ use lfs_layout::encode_slot;
 /// As those of `find` and of `Files::write_at`.
 pub fn repoint<F: Files>(
     files: &mut F,
-    directory: u16,
+    directory: FileNumber,
     header: Header,
     name: &[u8],
-    number: u16,
+    number: FileNumber,
 ) -> Result<bool, StoreFault>
-    requires some { 1 ≤ directory }
-    requires few { directory ≤ 4095 }
     requires size { header.size ≤ 65536 }
-    requires first { 1 ≤ number }
-    requires last { number ≤ 4095 }
     requires name { IsName 59 name.now }
     ensures redrafts { Redrafts (F.state files.old) (F.state files.new) }
-    ensures done { IfOk result (λ found. IsTrue found
-        → Repoints (F.state files.old) (F.state files.new) directory header number name.now) }
+    ensures done { IfOk result (λ found. IsTrue found → Repoints (F.state files.old) (F.state
+        files.new) directory.value header number.value name.now) }
     ensures small { IfOk result (λ found. IsTrue found
         → GrowsDirectory (F.state files.old) (F.state files.new) 1 2) }
     ensures counted { IfOk result (λ found. IsTrue found
@@ -39,9 +36,9 @@ pub fn repoint<F: Files>(
     ensures same { IfOk result (λ found. IsFalse found
         → Reads (F.state files.old) (F.state files.new)) }
     ensures none { IfOk result (λ found. IsFalse found
-        → Lacks (F.state files.old) (F.state files.new) directory header name.now) }
+        → Lacks (F.state files.old) (F.state files.new) directory.value header name.now) }
     ensures failed { IfErr result (λ fault. (fault ≡ StoreFault.NoMemory → ⊥)
-        → IsDirectoryFault (F.state files.old) (F.state files.new) directory header) }
+        → IsDirectoryFault (F.state files.old) (F.state files.new) directory.value header) }
     ensures halted { IsErrOf result (StoreFault.Log LogFault.Halted)
         → (F.state files.old).halted ≡ true }
     ensures other { IsErrOf result (StoreFault.Log LogFault.Full) → ⊥ }
@@ -51,7 +48,7 @@ pub fn repoint<F: Files>(
         Ok(None) => return Ok(false),
         Err(fault) => return Err(StoreFault::Log(fault)),
     };
-    let slot = encode_slot(u32::from(number), name);
+    let slot = encode_slot(u32::from(number.value), name);
     match files.write_at(directory, header, SLOT * found.place, &slot) {
         Ok(()) => {}
         Err(fault) => return Err(fault),

@@ -8,13 +8,14 @@ ghost use Rattle.lfs_dirs.specs.Searching.{FindsIn, FindsInBlock, FindsSlot};
 use crate::slots::{SLOT, SLOTS_IN_BLOCK};
 use lfs_files::{Files, Header, LogFault};
 use lfs_layout::{SlotView, nth_slot};
+use lfs_model::FileNumber;
 
 /// A slot that has the name looked for.
 #[derive(Clone, Copy)]
 pub struct Found {
     /// The slots before it.
     pub place: u32,
-    pub number: u16,
+    pub number: FileNumber,
 }
 
 /// The first slot of this name in a directory of this header, if there is one.
@@ -25,18 +26,16 @@ pub struct Found {
 /// directory is.
 pub fn search<F: Files>(
     files: &mut F,
-    directory: u16,
+    directory: FileNumber,
     header: Header,
     name: &[u8],
 ) -> Result<Option<Found>, LogFault>
-    requires { directory < 4096 }
     ensures reads { Reads (F.state files.old) (F.state files.new) }
     ensures answer { IfOk result (FindsSlot (F.state files.old) (F.state files.new)
-        directory header name.now) }
+        directory.value header name.now) }
     ensures inside { IfOk result (λ found. IfSome found (λ slot. slot.place < header.size / 64)) }
-    ensures number { IfOk result (λ found. IfSome found (λ slot. slot.number < 4096)) }
     ensures failed { OnErr result (IsDirectoryFault (F.state files.old)
-        (F.state files.new) directory header) }
+        (F.state files.new) directory.value header) }
     ensures halted { IsErrOf result LogFault.Halted → (F.state files.old).halted ≡ true }
     ensures other { IsErrOf result LogFault.Full → ⊥ }
 {
@@ -61,20 +60,18 @@ pub fn search<F: Files>(
 /// The same in one block of a directory, whose first slots are the directory's.
 fn search_block<F: Files>(
     files: &mut F,
-    directory: u16,
+    directory: FileNumber,
     index: u32,
     count: u32,
     name: &[u8],
 ) -> Result<Option<Found>, LogFault>
-    requires number { directory < 4096 }
     requires few { count ≤ 8 }
     ensures reads { Reads (F.state files.old) (F.state files.new) }
     ensures answer { IfOk result (FindsInBlock (F.state files.old) (F.state files.new)
-        directory index count name.now) }
+        directory.value index count name.now) }
     ensures inside { IfOk result (λ found. IfSome found (λ slot. slot.place < count)) }
-    ensures number { IfOk result (λ found. IfSome found (λ slot. slot.number < 4096)) }
     ensures failed { OnErr result (IsBlockFault (F.state files.old)
-        (F.state files.new) directory index count) }
+        (F.state files.new) directory.value index count) }
     ensures halted { IsErrOf result LogFault.Halted → (F.state files.old).halted ≡ true }
     ensures other { IsErrOf result LogFault.Full → ⊥ }
 {
@@ -97,7 +94,6 @@ fn search_slots(block: &[u8; 512], count: u32, name: &[u8]) -> Result<Option<Fou
     requires { count ≤ 8 }
     ensures found { IfOk result (FindsIn (first_slots block.now count) name.now) }
     ensures inside { IfOk result (λ found. IfSome found (λ slot. slot.place < count)) }
-    ensures number { IfOk result (λ found. IfSome found (λ slot. slot.number < 4096)) }
     ensures broken { OnErr result (HasNoSlot block.now count) }
 {
     for place in 0..count {
@@ -107,7 +103,9 @@ fn search_slots(block: &[u8; 512], count: u32, name: &[u8]) -> Result<Option<Fou
         if view.name() == name {
             return Ok(Some(Found {
                 place,
-                number: view.number() as u16,
+                number: FileNumber {
+                    value: view.number() as u16,
+                },
             }));
         }
     }

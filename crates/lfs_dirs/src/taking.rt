@@ -9,6 +9,7 @@ use crate::searching::search;
 use crate::slots::{SLOT, SLOTS_IN_BLOCK};
 use lfs_files::{Files, Header, LogFault, StoreFault};
 use lfs_layout::nth_slot;
+use lfs_model::FileNumber;
 
 /// Drafts a directory of this header without a name, if it has the name. Its last slot comes into
 /// the gap. No block is lost, so the draft may lose others.
@@ -19,24 +20,22 @@ use lfs_layout::nth_slot;
 /// directory.
 pub fn take<F: Files>(
     files: &mut F,
-    directory: u16,
+    directory: FileNumber,
     header: Header,
     name: &[u8],
 ) -> Result<bool, StoreFault>
-    requires some { 1 ≤ directory }
-    requires few { directory ≤ 4095 }
     requires size { header.size ≤ 65536 }
     ensures redrafts { Redrafts (F.state files.old) (F.state files.new) }
     ensures done { IfOk result (λ found. IsTrue found
-        → Takes (F.state files.old) (F.state files.new) directory header name.now) }
+        → Takes (F.state files.old) (F.state files.new) directory.value header name.now) }
     ensures counted { IfOk result (λ found. IsTrue found
-        → CountsDropped (F.state files.old) (F.state files.new) directory header) }
+        → CountsDropped (F.state files.old) (F.state files.new) directory.value header) }
     ensures same { IfOk result (λ found. IsFalse found
         → Reads (F.state files.old) (F.state files.new)) }
     ensures none { IfOk result (λ found. IsFalse found
-        → Lacks (F.state files.old) (F.state files.new) directory header name.now) }
+        → Lacks (F.state files.old) (F.state files.new) directory.value header name.now) }
     ensures failed { IfErr result (λ fault. (fault ≡ StoreFault.NoMemory → ⊥)
-        → IsDirectoryFault (F.state files.old) (F.state files.new) directory header) }
+        → IsDirectoryFault (F.state files.old) (F.state files.new) directory.value header) }
     ensures halted { IsErrOf result (StoreFault.Log LogFault.Halted)
         → (F.state files.old).halted ≡ true }
     ensures other { IsErrOf result (StoreFault.Log LogFault.Full) → ⊥ }
@@ -59,20 +58,18 @@ pub fn take<F: Files>(
 /// DropsSlot a slot: the last one comes into its place.
 fn drop_slot<F: Files>(
     files: &mut F,
-    directory: u16,
+    directory: FileNumber,
     header: Header,
     place: u32,
 ) -> Result<(), StoreFault>
-    requires some { 1 ≤ directory }
-    requires few { directory ≤ 4095 }
     requires size { header.size ≤ 65536 }
     requires even { header.size % 64 ≡ 0 }
     requires inside { place < header.size / 64 }
     ensures redrafts { Redrafts (F.state files.old) (F.state files.new) }
     ensures done { OnOk result (DropsSlot (F.state files.old)
-        (F.state files.new) directory header place) }
+        (F.state files.new) directory.value header place) }
     ensures counted { OnOk result
-        (CountsDropped (F.state files.old) (F.state files.new) directory header) }
+        (CountsDropped (F.state files.old) (F.state files.new) directory.value header) }
     ensures failed { IfErr result (λ fault. (fault ≡ StoreFault.NoMemory → ⊥)
         → IsFault (F.state files.old) (F.state files.new)) }
     ensures halted { IsErrOf result (StoreFault.Log LogFault.Halted)
@@ -105,11 +102,10 @@ fn drop_slot<F: Files>(
 }
 
 /// The bytes of a slot of a directory.
-fn slot_at<F: Files>(files: &mut F, directory: u16, place: u32) -> Result<[u8; 64], LogFault>
-    requires { directory < 4096 }
+fn slot_at<F: Files>(files: &mut F, directory: FileNumber, place: u32) -> Result<[u8; 64], LogFault>
     ensures reads { Reads (F.state files.old) (F.state files.new) }
     ensures answer { IfOk result (ReadsSlot (F.state files.old)
-        (F.state files.new) directory place) }
+        (F.state files.new) directory.value place) }
     ensures failed { OnErr result (IsFault (F.state files.old) (F.state files.new)) }
     ensures halted { IsErrOf result LogFault.Halted → (F.state files.old).halted ≡ true }
     ensures other { IsErrOf result LogFault.Full → ⊥ }

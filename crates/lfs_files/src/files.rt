@@ -5,6 +5,7 @@ ghost use Rattle.lfs_files.specs.Files.{Counts, FilesState, IsFault, Reads, Redr
 
 use crate::fault::{LogFault, StoreFault};
 use crate::header::Header;
+use lfs_model::FileNumber;
 
 /// The files of a volume, and a draft of changes to them, which reads see.
 pub trait Files {
@@ -19,10 +20,9 @@ pub trait Files {
     /// # Errors
     ///
     /// `Halted` once a commit failed, `Device` where a call of the device failed.
-    fn header(&mut self, number: u16) -> Result<Option<Header>, LogFault>
-        requires { number < 4096 }
+    fn header(&mut self, number: FileNumber) -> Result<Option<Header>, LogFault>
         ensures reads { Reads (state self.old) (state self.new) }
-        ensures answer { IfOk result (TellsHeader (state self.old) (state self.new) number) }
+        ensures answer { IfOk result (TellsHeader (state self.old) (state self.new) number.value) }
         ensures failed { OnErr result (IsFault (state self.old) (state self.new)) }
         ensures halted { IsErrOf result LogFault.Halted → (state self.old).halted ≡ true }
         ensures other { IsErrOf result LogFault.Full → ⊥ };
@@ -32,11 +32,15 @@ pub trait Files {
     /// # Errors
     ///
     /// As those of `header`.
-    fn block(&mut self, number: u16, index: u32, out: &mut [u8; 512]) -> Result<bool, LogFault>
-        requires { number < 4096 }
+    fn block(
+        &mut self,
+        number: FileNumber,
+        index: u32,
+        out: &mut [u8; 512],
+    ) -> Result<bool, LogFault>
         ensures reads { Reads (state self.old) (state self.new) }
         ensures answer { OnOk result
-            (TellsBlock (state self.old) (state self.new) number index out.new) }
+            (TellsBlock (state self.old) (state self.new) number.value index out.new) }
         ensures failed { OnErr result (IsFault (state self.old) (state self.new)) }
         ensures halted { IsErrOf result LogFault.Halted → (state self.old).halted ≡ true }
         ensures other { IsErrOf result LogFault.Full → ⊥ };
@@ -50,18 +54,16 @@ pub trait Files {
     /// no use.
     fn write_at(
         &mut self,
-        number: u16,
+        number: FileNumber,
         header: Header,
         at: u32,
         bytes: &[u8],
     ) -> Result<(), StoreFault>
-        requires some { 1 ≤ number }
-        requires few { number ≤ 4095 }
         requires bytes { 0 < length bytes.now }
         requires end { at + length bytes.now ≤ 8511488 }
         ensures redrafts { Redrafts (state self.old) (state self.new) }
         ensures done { OnOk result
-            (Writes (state self.old) (state self.new) number header at bytes.now) }
+            (Writes (state self.old) (state self.new) number.value header at bytes.now) }
         ensures counted { OnOk result (Counts (state self.old) (state self.new)) }
         ensures failed { IfErr result (λ fault. (fault ≡ StoreFault.NoMemory → ⊥)
             → IsFault (state self.old) (state self.new)) }
@@ -74,13 +76,12 @@ pub trait Files {
     /// # Errors
     ///
     /// As those of `write_at`.
-    fn set_len(&mut self, number: u16, header: Header, len: u32) -> Result<(), StoreFault>
-        requires some { 1 ≤ number }
-        requires few { number ≤ 4095 }
+    fn set_len(&mut self, number: FileNumber, header: Header, len: u32) -> Result<(), StoreFault>
         requires most { len ≤ 8511488 }
         requires empty { (state self.old).empty }
         ensures redrafts { Redrafts (state self.old) (state self.new) }
-        ensures done { OnOk result (SetsLen (state self.old) (state self.new) number header len) }
+        ensures done { OnOk result (SetsLen (state self.old) (state self.new) number.value header
+            len) }
         ensures counted { OnOk result (Counts (state self.old) (state self.new)) }
         ensures failed { IfErr result (λ fault. (fault ≡ StoreFault.NoMemory → ⊥)
             → IsFault (state self.old) (state self.new)) }
@@ -94,14 +95,13 @@ pub trait Files {
     /// # Errors
     ///
     /// As those of `write_at`.
-    fn shrink(&mut self, number: u16, header: Header, len: u32) -> Result<(), StoreFault>
-        requires some { 1 ≤ number }
-        requires few { number ≤ 4095 }
+    fn shrink(&mut self, number: FileNumber, header: Header, len: u32) -> Result<(), StoreFault>
         requires less { len < header.size }
         requires last { header.size ≤ 512 * (len / 512) + 512 }
         requires most { header.size ≤ 8511488 }
         ensures redrafts { Redrafts (state self.old) (state self.new) }
-        ensures done { OnOk result (Shrinks (state self.old) (state self.new) number header len) }
+        ensures done { OnOk result (Shrinks (state self.old) (state self.new) number.value header
+            len) }
         ensures counted { OnOk result (Counts (state self.old) (state self.new)) }
         ensures failed { IfErr result (λ fault. (fault ≡ StoreFault.NoMemory → ⊥)
             → IsFault (state self.old) (state self.new)) }

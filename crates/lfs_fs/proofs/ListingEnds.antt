@@ -36,11 +36,11 @@ use Rattle.lfs_fs.proofs.Serving.{still_in}
 use Rattle.lfs_fs.proofs.TreeEnds.{in_directory, lacks_after, names}
 
 -- names give what is there
-there_by_names : (t : Tree) (d : ℕ) (es : List Entry) → ((e : Entry) → AreNames t d (e ∷ []) → node t e.number ≢ None) → AreNames t d es → AreThere t es
+there_by_names : (t : Tree) (d : ℕ) (es : List Entry) → ((e : Entry) → AreNames t d (e ∷ []) → node t e.number.value ≢ None) → AreNames t d es → AreThere t es
 there_by_names t d [] gives all = tt
 there_by_names t d (e ∷ es) gives all = (gives e (all.0, tt), there_by_names t d es gives all.1)
 
-there_at : (t : Tree) (done rest : List Entry) (e : Entry) → AreThere t (done ++ e ∷ rest) → node t e.number ≢ None
+there_at : (t : Tree) (done rest : List Entry) (e : Entry) → AreThere t (done ++ e ∷ rest) → node t e.number.value ≢ None
 there_at t [] rest e all = all.0
 there_at t (x ∷ done) rest e all = there_at t done rest e all.1
 
@@ -50,24 +50,24 @@ pairs_entries t (x ∷ l) = ap (λ zs. entry_at t (pair x) ∷ zs) (pairs_entrie
 
 module _ {D : Type 0} (state : D → DeviceState) where
   -- ---- one entry
-  pub entry_told : (old new : Fs D) (e : Entry) (stat : Stat) → TellsStat state old new e.number stat → (told : rows.Entry) → told ≡ record { name = e.name; number = stat.number; kind = stat.kind }
+  pub entry_told : (old new : Fs D) (e : Entry) (stat : Stat) → TellsStat state old new e.number.value stat → (told : rows.Entry) → told ≡ record { name = e.name; number = stat.number; kind = stat.kind }
       → TellsEntry state old new e told
   entry_told old new e stat tells told is empty k m0 m s keeps at =
-      let there : m.header e.number ≡ Some (as_header tells.head) = ap (λ (x : LogMap). x.header e.number) (sym (no_change old.store.draft.changes m empty)) ∙ tells.there k m0 m keeps at.stores.holds in
-      let fits = headers_of_volume state (seen old) k m0 m s at e.number (as_header tells.head) there in
-      let same = stat_is (segments_of (seen old)) m s at.log e.number (as_header tells.head) there fits in
+      let there : m.header e.number.value ≡ Some (as_header tells.head) = ap (λ (x : LogMap). x.header e.number.value) (sym (no_change old.store.draft.changes m empty)) ∙ tells.there k m0 m keeps at.stores.holds in
+      let fits = headers_of_volume state (seen old) k m0 m s at e.number.value (as_header tells.head) there in
+      let same = stat_is (segments_of (seen old)) m s at.log e.number.value (as_header tells.head) there fits in
       ap entry_of is ∙ (λ i. record { name = e.name.items; number = tells.number i; kind = (tells.kind ∙ sym (ap (λ (x : call.Stat). x.kind) same)) i })
 
-  pub entry_lacks : (old new : Fs D) (e : Entry) (fault : FsError) → LacksObject state old new e.number fault → LacksEntry state old new e fault
+  pub entry_lacks : (old new : Fs D) (e : Entry) (fault : FsError) → LacksObject state old new e.number.value fault → LacksEntry state old new e fault
   entry_lacks old new e fault lacks = ⊎_elim
-      (λ past. inr (inr (past.0, λ empty k m0 m s keeps is there. absurd (let few = (is.log.sound.numbers e.number there).1 in let many = past.1 in omega (arith, few, many)))))
+      (λ past. inr (inr (past.0, λ empty k m0 m s keeps is there. absurd (let few = (is.log.sound.numbers e.number.value there).1 in let many = past.1 in omega (arith, few, many)))))
       (λ header. ⊎_elim
       (λ halted. inr (inl halted))
       (λ failed. inr (inr (
         failed.0,
         λ empty k m0 m s keeps is there. ⊎_elim
             (λ rose. rose)
-            (λ none. absurd (there (no_header_none (segments_of (seen old)) m s is.log e.number (ap (λ (x : LogMap). x.header e.number) (sym (no_change old.store.draft.changes m empty)) ∙ none))))
+            (λ none. absurd (there (no_header_none (segments_of (seen old)) m s is.log e.number.value (ap (λ (x : LogMap). x.header e.number.value) (sym (no_change old.store.draft.changes m empty)) ∙ none))))
             (failed.1 k m0 m keeps is.stores.holds),
       )))
       header)
@@ -114,7 +114,7 @@ module _ {D : Type 0} (state : D → DeviceState) where
     }
 
     pub entries_lack : (fault : FsError) → OnlyReads state mid new → LacksEntry state mid new e fault → LacksEntries state old new es fault
-    entries_lack fault next lacks = lacks_after state old mid new so.reads (λ m s. node s.tree e.number ≢ None) (λ m s. AreThere s.tree es) fault
+    entries_lack fault next lacks = lacks_after state old mid new so.reads (λ m s. node s.tree e.number.value ≢ None) (λ m s. AreThere s.tree es) fault
         (λ empty k m0 m s keeps is there. there_at s.tree done rest e (subst (AreThere s.tree) (sym so.all ∙ ap (λ (l : List Entry). done ++ l) steps) there)) lacks
 
   pub entries_all : (old new : Fs D) (es done rest : List Entry) (left : ℕ) (told : List rows.Entry) → EntriesSoFar old new es done rest left told → left ≡ 0 → TellsEntries state old new es told
@@ -132,7 +132,7 @@ module _ {D : Type 0} (state : D → DeviceState) where
 
     pub listing_lacks : (fault : FsError) → LacksEntries state listed new es fault → LacksDirectory state old new d head fault
     listing_lacks fault lacks = lacks_after state old listed new first (λ m s. AreThere s.tree es) (λ m s. HasDirectory m d head) fault
-        (λ empty k m0 m s keeps is has. there_by_names s.tree d es (λ e name. is.log.sound.named d e.name.items e.number name.0) (names state old listed first d head es lists new next empty k m0 m s keeps is has)) lacks
+        (λ empty k m0 m s keeps is has. there_by_names s.tree d es (λ e name. is.log.sound.named d e.name.items e.number.value name.0) (names state old listed first d head es lists new next empty k m0 m s keeps is has)) lacks
 
   -- ---- the directory at a number
 

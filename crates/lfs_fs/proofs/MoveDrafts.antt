@@ -44,15 +44,15 @@ apart_still a b same k apart = record { inode = same (Inode k) ∙ apart.inode; 
 pub relinks_both : (c mid c' : Changes) (source : Source) (target : Target) (t t' : BlockTotals) (loses gains : Bool) (fewer more : ℕ)
     → loses ≡ loses_directory source target → fewer ≡ (if loses then source.holder.links - 1 else source.holder.links)
     → gains ≡ gains_directory source target → more ≡ (if gains then target.holder.links + 1 else target.holder.links)
-    → RelinksWhere loses c mid source.directory source.holder fewer t → t' ≡ t → RelinksWhere gains mid c' target.directory target.holder more t'
+    → RelinksWhere loses c mid source.directory.value source.holder fewer t → t' ≡ t → RelinksWhere gains mid c' target.directory.value target.holder more t'
     → RelinksBoth c c' source target t'
 relinks_both c mid c' source target t t' loses gains fewer more loses_is fewer_is gains_is more_is first same second = record {
   between = mid;
-  first = subst (λ (l : ℕ). RelinksWhere (loses_directory source target) c mid source.directory source.holder l t') (fewer_is ∙ ap (λ (b : Bool). if b then source.holder.links - 1 else source.holder.links) loses_is)
-      (subst (λ (b : Bool). RelinksWhere b c mid source.directory source.holder fewer t') loses_is
-      (subst (λ (u : BlockTotals). RelinksWhere loses c mid source.directory source.holder fewer u) (sym same) first));
-  second = subst (λ (l : ℕ). RelinksWhere (gains_directory source target) mid c' target.directory target.holder l t') (more_is ∙ ap (λ (b : Bool). if b then target.holder.links + 1 else target.holder.links) gains_is)
-      (subst (λ (b : Bool). RelinksWhere b mid c' target.directory target.holder more t') gains_is second);
+  first = subst (λ (l : ℕ). RelinksWhere (loses_directory source target) c mid source.directory.value source.holder l t') (fewer_is ∙ ap (λ (b : Bool). if b then source.holder.links - 1 else source.holder.links) loses_is)
+      (subst (λ (b : Bool). RelinksWhere b c mid source.directory.value source.holder fewer t') loses_is
+      (subst (λ (u : BlockTotals). RelinksWhere loses c mid source.directory.value source.holder fewer u) (sym same) first));
+  second = subst (λ (l : ℕ). RelinksWhere (gains_directory source target) mid c' target.directory.value target.holder l t') (more_is ∙ ap (λ (b : Bool). if b then target.holder.links + 1 else target.holder.links) gains_is)
+      (subst (λ (b : Bool). RelinksWhere b mid c' target.directory.value target.holder more t') gains_is second);
 }
 
 -- ---- a name that gives another number

@@ -17,17 +17,13 @@ use Rattle.lfs_fs.proofs.NamesFound.{log_again, log_still}
 module _ {D : Type 0} (state : D → DeviceState) (old mid new : Fs D) (first : OnlyReads state old mid) where
   name_again : (d : ℕ) (name : List ℕ) (head : Header) (found : Option Object) → FindsName state mid new d name head found → FindsName state old new d name head found
   name_again d name head found finds = record {
-    some = finds.some;
     size = finds.size;
-    range = finds.range;
     looks = log_again state old mid new first (λ m. LooksAt m d name head found) finds.looks;
   }
 
   name_still : OnlyReads state mid new → (d : ℕ) (name : List ℕ) (head : Header) (found : Option Object) → FindsName state old mid d name head found → FindsName state old new d name head found
   name_still next d name head found finds = record {
-    some = finds.some;
     size = finds.size;
-    range = finds.range;
     looks = log_still state old mid new first next (λ m. LooksAt m d name head found) finds.looks;
   }
 

@@ -52,11 +52,9 @@ module _ {D : Type 0} (state : D → DeviceState) where
             omega (arith, large, small)),
       )
 
-      pub none_there : 1 ≤ d → head.size ≤ 65536 → o ≡ None → FindsName state old new d name head None
-      none_there some size none = record {
-        some = some;
+      pub none_there : head.size ≤ 65536 → o ≡ None → FindsName state old new d name head None
+      none_there size none = record {
         size = size;
-        range = tt;
         looks = λ k m0 m keeps holds. (
             let found = looks k m0 m keeps holds in
             record { header = found.0; gives = sym found.1 ∙ none; there = tt });
@@ -67,11 +65,9 @@ module _ {D : Type 0} (state : D → DeviceState) where
     before : (state new.store.log.device).keeps_model → (state mid.store.log.device).keeps_model
     before keeps = next.still.reads.looks.carries.kept_before keeps
 
-    pub some_there : 1 ≤ d → head.size ≤ 65536 → (x : Object) → FindsObject state mid new n x → FindsName state old new d name head (Some x)
-    some_there some size x finds = record {
-      some = some;
+    pub some_there : head.size ≤ 65536 → (x : Object) → FindsObject state mid new n x → FindsName state old new d name head (Some x)
+    some_there size x finds = record {
       size = size;
-      range = (let low = finds.first in let same = finds.number in omega (arith, low, same), (let high = finds.last in let same = finds.number in omega (arith, high, same)));
       looks = λ k m0 m keeps holds. (
           let found = looks k m0 m (before keeps) holds in
           record {

@@ -47,7 +47,7 @@ module _ {D : Type 0} (state : D → DeviceState) (lawful : (d : D) → IsLawful
   -- where both names give one object
   pub same_ends : FindsBoth state old mid da l.name.now l.slash (here chain) o.name.now o.slash
       source target
-      → GivesName target.replaced source.object.number ≡ true → (r : Result (Unit {0}) FsError)
+      → GivesName target.replaced source.object.number.value ≡ true → (r : Result (Unit {0}) FsError)
       → OnOk r (mid.store.log.number < 2 ^ 62) → OnErr r (2 ^ 62 ≤ mid.store.log.number)
       → IfErr r (λ fault. fault ≡ error.Worn)
       → Serves state v (seen mid) (Rename a b) (answer_by (λ _. Done) r)
@@ -97,11 +97,11 @@ module _ {D : Type 0} (state : D → DeviceState) (lawful : (d : D) → IsLawful
         start : StartsRename state v mid k m0 m s a b source target
         start = starts kept k m0 m s is
 
-        passes : PassesAll (before_space N s a b source.directory target.directory)
+        passes : PassesAll (before_space N s a b source.directory.value target.directory.value)
         passes = checked.passes state lawful v old a da from b chain to reached running l is_from o
             is_to plain other_plain mid only source target checks k m0 m s kept is
 
-        moved : IsMoved N (staged c m) s a b source.directory target.directory
+        moved : IsMoved N (staged c m) s a b source.directory.value target.directory.value
         moved = draft_moved start move.drafts keeps
 
         counted_here : IsCounted (staged c m) ready.store.drafted.data_blocks
@@ -110,14 +110,14 @@ module _ {D : Type 0} (state : D → DeviceState) (lawful : (d : D) → IsLawful
             (totals_read state lawful v old mid reached.still reached.drafted only m is.counted)
 
         -- what the tree needs after it
-        needs : need (tree_after s a b source.directory target.directory) ≡ need_of ready
+        needs : need (tree_after s a b source.directory.value target.directory.value) ≡ need_of ready
         needs = ap need (sym moved.tree)
             ∙ (need_shaped totals_of_tree (staged c m) moved.shape ready.store.drafted.data_blocks
             ready.store.drafted.meta_blocks counted_here).0
 
         done : need_of ready ≤ 47 * N
-            → Step N s (Rename a b) Done (renamed s a b source.directory target.directory)
-        done room = rename_done N s a b source.directory target.directory start.moves.walk_a
+            → Step N s (Rename a b) Done (renamed s a b source.directory.value target.directory.value)
+        done room = rename_done N s a b source.directory.value target.directory.value start.moves.walk_a
             start.moves.walk_b passes (subst (λ (x : ℕ). x ≤ 47 * N) (sym needs) room)
 
       -- ---- the call
@@ -125,7 +125,7 @@ module _ {D : Type 0} (state : D → DeviceState) (lawful : (d : D) → IsLawful
         drafts : AreDrafts state lawful v ready new (Rename a b) Done still_ready was rest
         drafts keeps k m0 m s is =
             let begun = start keeps k m0 m s is in record {
-              next = renamed s a b source.directory target.directory;
+              next = renamed s a b source.directory.value target.directory.value;
               answer = Done;
               ok = refl;
               fits = draft_fits begun move.drafts keeps;
@@ -134,7 +134,7 @@ module _ {D : Type 0} (state : D → DeviceState) (lawful : (d : D) → IsLawful
               map = λ room. (moved keeps k m0 m s is).map (reached.bytes, reached.other_bytes)
                   (done keeps k m0 m s is room);
               done = done keeps k m0 m s is;
-              lacks = λ more. rename_lacks N s a b source.directory target.directory
+              lacks = λ more. rename_lacks N s a b source.directory.value target.directory.value
                   begun.moves.walk_a begun.moves.walk_b (passes keeps k m0 m s is)
                   (subst (λ (x : ℕ). 47 * N < x) (sym (needs keeps k m0 m s is)) more);
             }

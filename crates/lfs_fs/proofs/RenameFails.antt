@@ -46,13 +46,13 @@ module _ {D : Type 0} {state : D → DeviceState} {v : Mounted D} {old : Fs D} {
   open starts use {moves as g}
 
   abbrev da : ℕ
-  da = source.directory
+  da = source.directory.value
 
   abbrev db : ℕ
-  db = dest.directory
+  db = dest.directory.value
 
   abbrev n : ℕ
-  n = source.object.number
+  n = source.object.number.value
 
   dir_first : IsDirectory m da (as_header source.holder)
   dir_first = holder_directory m da source.holder (shaped g) (holder_a g)
@@ -110,11 +110,11 @@ module _ {D : Type 0} {state : D → DeviceState} {v : Mounted D} {old : Fs D} {
     named None is = tt
     named (Some o) is = λ none. (
         let there = second_there m (m3 takes.links) m4 da db source.holder dest.holder
-        (fewer_links source dest) (more_links source dest) (name a) (name b) n o.number
+        (fewer_links source dest) (more_links source dest) (name a) (name b) n o.number.value
         (λ d i at. blocks_3 takes.links d i at) g.looks_a.header g.looks_b.header dir_first
         dir_second g.looks_a.gives (looks_o g o is).gives (other g o is)
         (cut (moving starts takes kept)) (gone (moving starts takes kept)) in
-        let both : None ≡ Some o.number = sym none
+        let both : None ≡ Some o.number.value = sym none
         ∙ ap (λ (x : List ℕ). find byte_cmp x (names_at m4 db (second_holder source dest)))
         starts.named_b ∙ there.1 in
         cc)

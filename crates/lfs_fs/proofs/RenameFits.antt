@@ -62,18 +62,18 @@ gains_none false e gains = cc
 few_links : (source : Source) (target : Target) (found : Option Object)
     → FitsFound found source target
     → (is_directory source.object.header.kind
-    && (not (source.directory == target.directory) && is_none found)) ≡ true
+    && (not (source.directory.value == target.directory.value) && is_none found)) ≡ true
     → target.holder.links < 1000
 few_links source target None fits gains =
     let both = gains_new (is_directory source.object.header.kind)
-    (source.directory == target.directory) gains in
+    (source.directory.value == target.directory.value) gains in
     (fits (λ same. (
-    let on = eq-eqb source.directory target.directory same in
+    let on = eq-eqb source.directory.value target.directory.value same in
     let off = both.1 in
     cc))).links both.0
 few_links source target (Some o) fits gains =
     absurd (gains_none (is_directory source.object.header.kind)
-    (source.directory == target.directory) gains)
+    (source.directory.value == target.directory.value) gains)
 
 -- ---- what is lost
 
@@ -105,10 +105,10 @@ module _ {D : Type 0} {state : D → DeviceState} {v : Mounted D} {old : Fs D} {
   N = segments_of v
 
   abbrev da : ℕ
-  da = source.directory
+  da = source.directory.value
 
   abbrev db : ℕ
-  db = dest.directory
+  db = dest.directory.value
 
   module _ (lost : Fs D) where
     lost_fit : (found : Option Object) → dest.replaced ≡ found → DropsFound state old lost found
@@ -120,32 +120,32 @@ module _ {D : Type 0} {state : D → DeviceState} {v : Mounted D} {old : Fs D} {
     }
     -- a directory goes, or what had one link; or it has a link less
     lost_fit (Some o) some drops = ⊎_elim
-        (λ (goes : (is_directory o.header.kind ≡ true) × DropsObject state old lost o.number).
+        (λ (goes : (is_directory o.header.kind ≡ true) × DropsObject state old lost o.number.value).
         record {
           fits = goes.1.removes.fits m;
           first = goes.1.removes.apart da not_first;
           second = goes.1.removes.apart db not_second;
         })
         (λ (loses : (is_directory o.header.kind ≡ false)
-        × LosesLink state old lost o.number o.header).
+        × LosesLink state old lost o.number.value o.header).
         record {
-          fits = link_fits old lost empty m o.number o.header loses.1 there
-              (g.headers o.number (as_header o.header) there)
+          fits = link_fits old lost empty m o.number.value o.header loses.1 there
+              (g.headers o.number.value (as_header o.header) there)
               (let are = names_plain g o some (kind_o g o some ∙ loses.0) in
-              let some = named_counts s.tree db (name b) o.number (there_o g o some) in
+              let some = named_counts s.tree db (name b) o.number.value (there_o g o some) in
               omega (arith, are, some));
-          first = link_apart old lost empty m o.number o.header loses.1 da not_first;
-          second = link_apart old lost empty m o.number o.header loses.1 db not_second;
+          first = link_apart old lost empty m o.number.value o.header loses.1 da not_first;
+          second = link_apart old lost empty m o.number.value o.header loses.1 db not_second;
         })
         drops
       where
-        there : m.header o.number ≡ Some (as_header o.header)
+        there : m.header o.number.value ≡ Some (as_header o.header)
         there = (looks_o g o some).there
 
-        not_first : da ≢ o.number
+        not_first : da ≢ o.number.value
         not_first e = apart_first g o some (sym e)
 
-        not_second : db ≢ o.number
+        not_second : db ≢ o.number.value
         not_second e = apart_second g o some (sym e)
 
   -- ---- the headers of both directories
@@ -157,7 +157,7 @@ module _ {D : Type 0} {state : D → DeviceState} {v : Mounted D} {old : Fs D} {
 
   some_size : 64 ≤ source.holder.size
   some_size = slot_in_directory N m s g.map da (dir_a g) source.holder g.looks_a.header fits_a
-      (name a) source.object.number g.looks_a.gives
+      (name a) source.object.number.value g.looks_a.gives
 
   less : FitsHeader source.holder.kind (fewer_links source dest) source.holder.size
   less = links_fit da source.holder fits_a (fewer_links source dest)
@@ -257,15 +257,15 @@ module _ {D : Type 0} {state : D → DeviceState} {v : Mounted D} {old : Fs D} {
 
     name_fits : (found : Option Object) → dest.replaced ≡ found
         → NamesFound state found drafts.taken.store.log new.store.log c4 new.store.draft.changes
-        db to source.object.number dest.name.now
+        db to source.object.number.value dest.name.now
         → FitsBatch m new.store.draft.changes
     name_fits None none adds = adds.fits k m0 m (holds_taken starts drafts keeps) fits_4
-        (write to.size (slot_for source.object.number dest.name.now)
+        (write to.size (slot_for source.object.number.value dest.name.now)
         (subst (λ (z : ℕ). FitsHeader to.kind to.links z)
         (adds.file k m0 m keeps (holds_taken starts drafts keeps)).bytes.size
         (new_fits (da == db) refl none)))
     name_fits (Some o) some points = points.fits k m0 m (holds_taken starts drafts keeps) fits_4
-        (write (64 * points.place) (slot_for source.object.number dest.name.now)
+        (write (64 * points.place) (slot_for source.object.number.value dest.name.now)
         (subst (λ (z : ℕ). FitsHeader to.kind to.links z)
         (points.file k m0 m keeps (holds_taken starts drafts keeps)).bytes.size
         (over_fits (da == db))))

@@ -205,7 +205,7 @@ module _ {D : Type 0} (state : D → DeviceState) (lawful : (d : D) → IsLawful
           pub looks_first : LooksAt m da (name a) source.holder (Some source.object)
           looks_first = looks_a source.holder (Some source.object) finds.finds.looks
 
-          pub names_source : NamesSource N s a b da db source.object.number (is_directory source.object.header.kind)
+          pub names_source : NamesSource N s a b da db source.object.number.value (is_directory source.object.header.kind)
           names_source = record {
             short = short_a finds.short;
             there = there_is N m s volume (headers_of_volume state v k m0 m s is) a da walk source.holder (Some source.object) looks_first;
@@ -215,17 +215,17 @@ module _ {D : Type 0} (state : D → DeviceState) (lawful : (d : D) → IsLawful
           }
 
           -- it isn't the root
-          inner : source.object.number ≢ 1
+          inner : source.object.number.value ≢ 1
           inner at =
-              let counts = named_counts s.tree da (name a) source.object.number (given N m s volume (headers_of_volume state v k m0 m s is) a da walk source.holder source.object looks_first) in
-              let none : names s.tree source.object.number ≡ 0 = subst (λ (q : ℕ). names s.tree q ≡ 0) (sym at) is.log.sound.root_unnamed in
+              let counts = named_counts s.tree da (name a) source.object.number.value (given N m s volume (headers_of_volume state v k m0 m s is) a da walk source.holder source.object looks_first) in
+              let none : names s.tree source.object.number.value ≡ 0 = subst (λ (q : ℕ). names s.tree q ≡ 0) (sym at) is.log.sound.root_unnamed in
               omega (arith, counts, none)
 
-          within_is : IsAbove chain source.object.number → is_within s.tree source.object.number db ≡ true
-          within_is above = above_within N s is.log.sound chain comes.directories source.object.number inner above
+          within_is : IsAbove chain source.object.number.value → is_within s.tree source.object.number.value db ≡ true
+          within_is above = above_within N s is.log.sound chain comes.directories source.object.number.value inner above
 
-          within_not : IsNotAbove chain source.object.number → is_within s.tree source.object.number db ≡ false
-          within_not apart = apart_not_within N s is.log.sound chain comes.directories source.object.number apart
+          within_not : IsNotAbove chain source.object.number.value → is_within s.tree source.object.number.value db ≡ false
+          within_not apart = apart_not_within N s is.log.sound chain comes.directories source.object.number.value apart
 
           -- ---- the second may be its name
           module _ (dest : Target) (also : FindsTarget state old new db o.name.now o.slash source.object.header.kind dest) where
@@ -237,8 +237,8 @@ module _ {D : Type 0} (state : D → DeviceState) (lawful : (d : D) → IsLawful
 
             pub from_both : (x : _) → StopsAt (from_same N s a b da db) x → StopsAt (conditions N s a b da db) x
             from_both x at = stops_source N s a b da db (named s) x
-                (stops_next N s a b da db source.object.number (is_directory source.object.header.kind) names_source x
-                (stops_same N s a b da db source.object.number (is_directory source.object.header.kind) names_source short_name ends_b x at))
+                (stops_next N s a b da db source.object.number.value (is_directory source.object.header.kind) names_source x
+                (stops_same N s a b da db source.object.number.value (is_directory source.object.header.kind) names_source short_name ends_b x at))
 
             module _ (found : Option Object) (is_found : dest.replaced ≡ found) where
               pub looks_second : LooksAt m db (name b) dest.holder found
@@ -248,49 +248,49 @@ module _ {D : Type 0} (state : D → DeviceState) (lawful : (d : D) → IsLawful
               there_b = there_is N m s volume (headers_of_volume state v k m0 m s is) b db comes.ends dest.holder found looks_second
 
             -- there is another object of that name
-            module _ (x : Object) (is_found : dest.replaced ≡ Some x) (other : GivesName (Some x) source.object.number ≡ false) where
+            module _ (x : Object) (is_found : dest.replaced ≡ Some x) (other : GivesName (Some x) source.object.number.value ≡ false) where
               looks_other : LooksAt m db (name b) dest.holder (Some x)
               looks_other = looks_second (Some x) is_found
 
-              is_other : target s.tree db b ≡ x.number
+              is_other : target s.tree db b ≡ x.number.value
               is_other = target_is N m s volume (headers_of_volume state v k m0 m s is) b db comes.ends dest.holder x looks_other
 
               kind_other : gives_dir s.tree db b ≡ is_directory x.header.kind
               kind_other = gives_is N m s volume (headers_of_volume state v k m0 m s is) b db comes.ends dest.holder x looks_other
 
-              range_other : (1 ≤ x.number) × (x.number ≤ 4095)
+              range_other : (1 ≤ x.number.value) × (x.number.value ≤ 4095)
               range_other = range_is N m s volume (headers_of_volume state v k m0 m s is) b db comes.ends dest.holder x looks_other
 
-              not_same : (source.object.number == x.number) ≡ false
-              not_same = other_way x.number source.object.number false other
+              not_same : (source.object.number.value == x.number.value) ≡ false
+              not_same = other_way x.number.value source.object.number.value false other
 
-              pub other_within : IsAbove chain source.object.number → StopsAt (conditions N s a b da db) (Refuse refusals.Inval)
+              pub other_within : IsAbove chain source.object.number.value → StopsAt (conditions N s a b da db) (Refuse refusals.Inval)
               other_within above = from_both (Refuse refusals.Inval)
-                  (stops_within N s a b da db source.object.number (is_directory source.object.header.kind) names_source x.number (there_b (Some x) is_found) is_other not_same (within_is above))
+                  (stops_within N s a b da db source.object.number.value (is_directory source.object.header.kind) names_source x.number.value (there_b (Some x) is_found) is_other not_same (within_is above))
 
-              module _ (apart : IsNotAbove chain source.object.number) where
+              module _ (apart : IsNotAbove chain source.object.number.value) where
                 from_kinds : (y : _) → StopsAt (from_directory N s a b da db) y → StopsAt (conditions N s a b da db) y
                 from_kinds y at = from_both y
-                    (stops_directory N s a b da db source.object.number (is_directory source.object.header.kind) names_source x.number (there_b (Some x) is_found) is_other not_same (within_not apart) y at)
+                    (stops_directory N s a b da db source.object.number.value (is_directory source.object.header.kind) names_source x.number.value (there_b (Some x) is_found) is_other not_same (within_not apart) y at)
 
                 pub other_refuses : (fault : FsError) → RefusesReplaced source.object.header.kind x.header fault → StopsAt (conditions N s a b da db) (Refuse (refusal_of fault))
                 other_refuses error.IsDir why = from_kinds (Refuse refusals.IsDir)
-                    (stops_is_dir N s a b da db source.object.number (is_directory source.object.header.kind) names_source x.number (there_b (Some x) is_found) is_other not_same (within_not apart)
+                    (stops_is_dir N s a b da db source.object.number.value (is_directory source.object.header.kind) names_source x.number.value (there_b (Some x) is_found) is_other not_same (within_not apart)
                     (is_directory x.header.kind) kind_other (λ i. why.0 i && not (why.1 i)))
                 other_refuses error.NotDir why = from_kinds (Refuse refusals.NotDir)
-                    (stops_not_dir N s a b da db source.object.number (is_directory source.object.header.kind) names_source x.number (there_b (Some x) is_found) is_other not_same (within_not apart)
+                    (stops_not_dir N s a b da db source.object.number.value (is_directory source.object.header.kind) names_source x.number.value (there_b (Some x) is_found) is_other not_same (within_not apart)
                     (is_directory x.header.kind) kind_other (λ i. why.0 i && not (why.1 i)) (λ i. why.1 i && not (why.0 i)))
                 other_refuses error.NotEmpty why = from_kinds (Refuse refusals.NotEmpty)
-                    (stops_empty N s a b da db source.object.number (is_directory source.object.header.kind) names_source x.number (there_b (Some x) is_found) is_other not_same (within_not apart)
+                    (stops_empty N s a b da db source.object.number.value (is_directory source.object.header.kind) names_source x.number.value (there_b (Some x) is_found) is_other not_same (within_not apart)
                     (is_directory x.header.kind) kind_other (λ i. why.0 i && not (why.1 i)) (λ i. why.1 i && not (why.0 i))
                     (ap (λ (q : ℕ). nat_lt 0 (length (names_in s.tree q))) is_other ∙ has_entries N m s volume (headers_of_volume state v k m0 m s is) x range_other looks_other.there why.0 why.2))
                 other_refuses fault why = absurd why
 
             -- there is none
             module _ (none : dest.replaced ≡ None) where
-              pub new_within : IsAbove chain source.object.number → StopsAt (conditions N s a b da db) (Refuse refusals.Inval)
+              pub new_within : IsAbove chain source.object.number.value → StopsAt (conditions N s a b da db) (Refuse refusals.Inval)
               new_within above = from_both (Refuse refusals.Inval)
-                  (stops_within_new N s a b da db source.object.number (is_directory source.object.header.kind) names_source (there_b None none) (within_is above))
+                  (stops_within_new N s a b da db source.object.number.value (is_directory source.object.header.kind) names_source (there_b None none) (within_is above))
 
               links_b : dest.holder.links ≡ links s.tree db
               links_b = links_are N m s volume (headers_of_volume state v k m0 m s is) b db comes.ends dest.holder None (looks_second None none)
@@ -301,15 +301,15 @@ module _ {D : Type 0} (state : D → DeviceState) (lawful : (d : D) → IsLawful
               free_b : dest.holder.size ≤ 65472 → is_full s.tree db ≡ false
               free_b = free_is N m s volume (headers_of_volume state v k m0 m s is) b db comes.ends dest.holder None (looks_second None none)
 
-              module _ (apart : IsNotAbove chain source.object.number) (elsewhere : source.directory ≢ dest.directory) where
+              module _ (apart : IsNotAbove chain source.object.number.value) (elsewhere : source.directory.value ≢ dest.directory.value) where
                 other_directory : (da == db) ≡ false
                 other_directory = differs da db (λ same. elsewhere (finds.directory ∙ same ∙ sym also.directory))
 
                 pub room_refuses : (fault : FsError) → RefusesRoom source.object.header.kind dest.holder fault → StopsAt (conditions N s a b da db) (Refuse (refusal_of fault))
                 room_refuses error.DirFull why = from_both (Refuse refusals.DirFull)
-                    (stops_full N s a b da db source.object.number (is_directory source.object.header.kind) names_source (there_b None none) (within_not apart) other_directory (full_b why))
+                    (stops_full N s a b da db source.object.number.value (is_directory source.object.header.kind) names_source (there_b None none) (within_not apart) other_directory (full_b why))
                 room_refuses error.TooManyLinks why = from_both (Refuse refusals.TooManyLinks)
-                    (stops_links N s a b da db source.object.number (is_directory source.object.header.kind) names_source (there_b None none) (within_not apart) other_directory
+                    (stops_links N s a b da db source.object.number.value (is_directory source.object.header.kind) names_source (there_b None none) (within_not apart) other_directory
                     (free_b why.0) why.1 (at_most 1000 (links s.tree db) (let same = links_b in let many = why.2 in omega (arith, same, many))))
                 room_refuses fault why = absurd why
 
@@ -359,25 +359,25 @@ module _ {D : Type 0} (state : D → DeviceState) (lawful : (d : D) → IsLawful
           → Serves state v (seen new) (Rename a b) (Refuse (refusal_of fault))
       second_refused source finds error.NameTooLong long = refused refusals.NameTooLong tt (λ k m0 m s keeps is.
           stops_source N s a b da db (named s) (Refuse refusals.NameTooLong)
-          (stops_next N s a b da db source.object.number (is_directory source.object.header.kind) (names_source k m0 m s keeps is source finds) (Refuse refusals.NameTooLong)
+          (stops_next N s a b da db source.object.number.value (is_directory source.object.header.kind) (names_source k m0 m s keeps is source finds) (Refuse refusals.NameTooLong)
           (inl (long_at k m0 m s keeps is b db (dir_b k m0 m s keeps is) (let same = ap length says_other.1 in omega (arith, same, long)), refl))))
       second_refused source finds error.NotDir why = refused refusals.NotDir tt (λ k m0 m s keeps is.
           stops_source N s a b da db (named s) (Refuse refusals.NotDir)
-          (stops_next N s a b da db source.object.number (is_directory source.object.header.kind) (names_source k m0 m s keeps is source finds) (Refuse refusals.NotDir)
-          (stops_slash N s a b da db source.object.number (is_directory source.object.header.kind) (names_source k m0 m s keeps is source finds) (short_b k m0 m s keeps is why.0)
+          (stops_next N s a b da db source.object.number.value (is_directory source.object.header.kind) (names_source k m0 m s keeps is source finds) (Refuse refusals.NotDir)
+          (stops_slash N s a b da db source.object.number.value (is_directory source.object.header.kind) (names_source k m0 m s keeps is source finds) (short_b k m0 m s keeps is why.0)
           (ap (λ (x : Bool). x && not (is_directory source.object.header.kind)) has_other.1 ∙ why.1))))
       second_refused source finds fault why = fails_second fault why
 
-      module _ (source : Source) (dest : Target) (both : FindsBoth state old new da l.name.now l.slash db o.name.now o.slash source dest) (other : GivesName dest.replaced source.object.number ≡ false) where
-        within_refused : IsAbove chain source.object.number → (found : Option Object) → dest.replaced ≡ found → Serves state v (seen new) (Rename a b) (Refuse refusals.Inval)
+      module _ (source : Source) (dest : Target) (both : FindsBoth state old new da l.name.now l.slash db o.name.now o.slash source dest) (other : GivesName dest.replaced source.object.number.value ≡ false) where
+        within_refused : IsAbove chain source.object.number.value → (found : Option Object) → dest.replaced ≡ found → Serves state v (seen new) (Rename a b) (Refuse refusals.Inval)
         within_refused above (Some x) is_found = refused refusals.Inval tt (λ k m0 m s keeps is.
-            other_within k m0 m s keeps is source both.first dest both.second x is_found (ap (λ (f : Option Object). GivesName f source.object.number) (sym is_found) ∙ other) above)
+            other_within k m0 m s keeps is source both.first dest both.second x is_found (ap (λ (f : Option Object). GivesName f source.object.number.value) (sym is_found) ∙ other) above)
         within_refused above None is_found = refused refusals.Inval tt (λ k m0 m s keeps is. new_within k m0 m s keeps is source both.first dest both.second is_found above)
 
-        room_refused : IsNotAbove chain source.object.number → (fault : FsError) → (found : Option Object) → dest.replaced ≡ found → RefusesFound found source dest fault
+        room_refused : IsNotAbove chain source.object.number.value → (fault : FsError) → (found : Option Object) → dest.replaced ≡ found → RefusesFound found source dest fault
             → Serves state v (seen new) (Rename a b) (Refuse (refusal_of fault))
         room_refused apart fault (Some x) is_found why = refused (refusal_of fault) (ordinary_replaced source.object.header.kind x.header fault why) (λ k m0 m s keeps is.
-            other_refuses k m0 m s keeps is source both.first dest both.second x is_found (ap (λ (f : Option Object). GivesName f source.object.number) (sym is_found) ∙ other) apart fault why)
+            other_refuses k m0 m s keeps is source both.first dest both.second x is_found (ap (λ (f : Option Object). GivesName f source.object.number.value) (sym is_found) ∙ other) apart fault why)
         room_refused apart fault None is_found why = refused (refusal_of fault) (ordinary_room source.object.header.kind dest.holder fault why.1) (λ k m0 m s keeps is.
             room_refuses k m0 m s keeps is source both.first dest both.second is_found apart why.0 fault why.1)
 
@@ -389,15 +389,15 @@ module _ {D : Type 0} (state : D → DeviceState) (lawful : (d : D) → IsLawful
       checks_refused fault (of_target source dest both other apart why) = room_refused source dest both other apart fault dest.replaced refl why
 
       -- ---- both names give one object
-      module _ (source : Source) (dest : Target) (both : FindsBoth state old new da l.name.now l.slash db o.name.now o.slash source dest) (gives : GivesName dest.replaced source.object.number ≡ true) where
-        one_object : (found : Option Object) → dest.replaced ≡ found → GivesName found source.object.number ≡ true → InEach new (λ m s. StopsAt (conditions N s a b da db) Done)
+      module _ (source : Source) (dest : Target) (both : FindsBoth state old new da l.name.now l.slash db o.name.now o.slash source dest) (gives : GivesName dest.replaced source.object.number.value ≡ true) where
+        one_object : (found : Option Object) → dest.replaced ≡ found → GivesName found source.object.number.value ≡ true → InEach new (λ m s. StopsAt (conditions N s a b da db) Done)
         one_object None is_found is = λ k m0 m s keeps at. absurd (let wrong : false ≡ true = is in cc)
         one_object (Some x) is_found is = λ k m0 m s keeps at.
             from_both k m0 m s keeps at source both.first dest both.second Done
-            (stops_done N s a b da db source.object.number (is_directory source.object.header.kind) (names_source k m0 m s keeps at source both.first) x.number
+            (stops_done N s a b da db source.object.number.value (is_directory source.object.header.kind) (names_source k m0 m s keeps at source both.first) x.number.value
             (there_b k m0 m s keeps at source both.first dest both.second (Some x) is_found)
             (target_is N m s (volume k m0 m s keeps at) (headers_of_volume state v k m0 m s at) b db (comes k m0 m s keeps at).ends dest.holder x (looks_second k m0 m s keeps at source both.first dest both.second (Some x) is_found))
-            (other_way x.number source.object.number true is))
+            (other_way x.number.value source.object.number.value true is))
 
         pub same_step : InEach new (λ m s. Step N s (Rename a b) Done s)
         same_step k m0 m s keeps is = rename_stops N s a b da db (walk k m0 m s keeps is) (comes k m0 m s keeps is).ends Done (one_object dest.replaced refl gives k m0 m s keeps is)
@@ -424,11 +424,11 @@ module _ {D : Type 0} (state : D → DeviceState) (lawful : (d : D) → IsLawful
         abbrev is_dir_a : Bool
         is_dir_a = is_directory source.object.header.kind
 
-        passes_by : (found : Option Object) → dest.replaced ≡ found → GivesName found source.object.number ≡ false → FitsFound found source dest → PassesAll (before_space N s a b da db)
+        passes_by : (found : Option Object) → dest.replaced ≡ found → GivesName found source.object.number.value ≡ false → FitsFound found source dest → PassesAll (before_space N s a b da db)
         passes_by (Some x) is_found other fits =
-            passes_replaced N s a b da db source.object.number is_dir_a (names_source k m0 m s keeps is source checks.both.first) x.number
+            passes_replaced N s a b da db source.object.number.value is_dir_a (names_source k m0 m s keeps is source checks.both.first) x.number.value
             (there_b k m0 m s keeps is source checks.both.first dest checks.both.second (Some x) is_found) at_other
-            (other_way x.number source.object.number false other) (within_not k m0 m s keeps is source checks.both.first checks.apart) (is_directory x.header.kind)
+            (other_way x.number.value source.object.number.value false other) (within_not k m0 m s keeps is source checks.both.first checks.apart) (is_directory x.header.kind)
             (gives_is N m s (volume k m0 m s keeps is) (headers_of_volume state v k m0 m s is) b db (comes k m0 m s keeps is).ends dest.holder x looks)
             (ap (λ (y : Bool). y && not is_dir_a) fits.same ∙ never is_dir_a) (ap (λ (y : Bool). is_dir_a && not y) fits.same ∙ never is_dir_a) (named s)
             (ends_b k m0 m s keeps is source checks.both.first dest checks.both.second) (short_name k m0 m s keeps is source checks.both.first dest checks.both.second)
@@ -437,26 +437,26 @@ module _ {D : Type 0} (state : D → DeviceState) (lawful : (d : D) → IsLawful
             looks : LooksAt m db (name b) dest.holder (Some x)
             looks = looks_second k m0 m s keeps is source checks.both.first dest checks.both.second (Some x) is_found
 
-            at_other : target s.tree db b ≡ x.number
+            at_other : target s.tree db b ≡ x.number.value
             at_other = target_is N m s (volume k m0 m s keeps is) (headers_of_volume state v k m0 m s is) b db (comes k m0 m s keeps is).ends dest.holder x looks
 
-            range : (1 ≤ x.number) × (x.number ≤ 4095)
+            range : (1 ≤ x.number.value) × (x.number.value ≤ 4095)
             range = range_is N m s (volume k m0 m s keeps is) (headers_of_volume state v k m0 m s is) b db (comes k m0 m s keeps is).ends dest.holder x looks
 
             never : (y : Bool) → (y && not y) ≡ false
             never true = refl
             never false = refl
 
-            nothing_in : (y : Bool) → is_directory x.header.kind ≡ y → nat_lt 0 (length (names_in s.tree x.number)) ≡ false
+            nothing_in : (y : Bool) → is_directory x.header.kind ≡ y → nat_lt 0 (length (names_in s.tree x.number.value)) ≡ false
             nothing_in true kind = is_empty N m s (volume k m0 m s keeps is) (headers_of_volume state v k m0 m s is) x range looks.there kind (fits.empty (sym fits.same ∙ kind))
             nothing_in false kind = plain_empty N m s (volume k m0 m s keeps is) (headers_of_volume state v k m0 m s is) x range looks.there kind
         passes_by None none other fits =
-            passes_new N s a b da db source.object.number is_dir_a (names_source k m0 m s keeps is source checks.both.first)
+            passes_new N s a b da db source.object.number.value is_dir_a (names_source k m0 m s keeps is source checks.both.first)
             (there_b k m0 m s keeps is source checks.both.first dest checks.both.second None none) (named s)
             (ends_b k m0 m s keeps is source checks.both.first dest checks.both.second) (short_name k m0 m s keeps is source checks.both.first dest checks.both.second)
             (within_not k m0 m s keeps is source checks.both.first checks.apart) not_full few_links
           where
-            elsewhere : da ≢ db → source.directory ≢ dest.directory
+            elsewhere : da ≢ db → source.directory.value ≢ dest.directory.value
             elsewhere ne same = ne (sym checks.both.first.directory ∙ same ∙ checks.both.second.directory)
 
             not_full : (not (da == db) && is_full s.tree db) ≡ false
@@ -511,8 +511,8 @@ module _ {D : Type 0} (state : D → DeviceState) (lawful : (d : D) → IsLawful
         }
 
         -- and nothing but the need of space may refuse it
-        pub passes : PassesAll (before_space N s a b source.directory dest.directory)
-        passes = subst (λ (q : ℕ). PassesAll (before_space N s a b q dest.directory))
+        pub passes : PassesAll (before_space N s a b source.directory.value dest.directory.value)
+        passes = subst (λ (q : ℕ). PassesAll (before_space N s a b q dest.directory.value))
             (sym checks.both.first.directory)
             (subst (λ (q : ℕ). PassesAll (before_space N s a b da q))
             (sym checks.both.second.directory) checks_pass)

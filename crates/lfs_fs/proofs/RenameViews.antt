@@ -44,21 +44,21 @@ two_links (Some (Link text)) t d dir = cc
 
 module _ (N : ℕ) (m : LogMap) (s : State) (is : IsMapOf N m s) (headers : (n : ℕ) (h : entries.Header) → m.header n ≡ Some h → IsHeaderOf n h) where
   -- ---- an object
-  module _ (o : Object) (range : (1 ≤ o.number) × (o.number ≤ 4095)) (there : m.header o.number ≡ Some (as_header o.header)) where
-    pub kind_is : is_dir (node s.tree o.number) ≡ is_directory o.header.kind
-    kind_is = ap is_dir (node_by_header N m s is.log o.number (as_header o.header) range there) ∙ dir_by m o.header.kind o.number (as_header o.header)
+  module _ (o : Object) (range : (1 ≤ o.number.value) × (o.number.value ≤ 4095)) (there : m.header o.number.value ≡ Some (as_header o.header)) where
+    pub kind_is : is_dir (node s.tree o.number.value) ≡ is_directory o.header.kind
+    kind_is = ap is_dir (node_by_header N m s is.log o.number.value (as_header o.header) range there) ∙ dir_by m o.header.kind o.number.value (as_header o.header)
 
-    dir_names : is_directory o.header.kind ≡ true → 64 * length (names_in s.tree o.number) ≡ o.header.size
-    dir_names dir = size_of_directory N m s is o.number (kind_is ∙ dir) o.header there (headers o.number (as_header o.header) there)
+    dir_names : is_directory o.header.kind ≡ true → 64 * length (names_in s.tree o.number.value) ≡ o.header.size
+    dir_names dir = size_of_directory N m s is o.number.value (kind_is ∙ dir) o.header there (headers o.number.value (as_header o.header) there)
 
-    pub has_entries : is_directory o.header.kind ≡ true → 0 < o.header.size → nat_lt 0 (length (names_in s.tree o.number)) ≡ true
-    has_entries dir some = let many = dir_names dir in below 0 (length (names_in s.tree o.number)) (omega (arith, many, some))
+    pub has_entries : is_directory o.header.kind ≡ true → 0 < o.header.size → nat_lt 0 (length (names_in s.tree o.number.value)) ≡ true
+    has_entries dir some = let many = dir_names dir in below 0 (length (names_in s.tree o.number.value)) (omega (arith, many, some))
 
-    pub is_empty : is_directory o.header.kind ≡ true → o.header.size ≡ 0 → nat_lt 0 (length (names_in s.tree o.number)) ≡ false
-    is_empty dir none = let many = dir_names dir in not_below 0 (length (names_in s.tree o.number)) (omega (arith, many, none))
+    pub is_empty : is_directory o.header.kind ≡ true → o.header.size ≡ 0 → nat_lt 0 (length (names_in s.tree o.number.value)) ≡ false
+    is_empty dir none = let many = dir_names dir in not_below 0 (length (names_in s.tree o.number.value)) (omega (arith, many, none))
 
-    pub plain_empty : is_directory o.header.kind ≡ false → nat_lt 0 (length (names_in s.tree o.number)) ≡ false
-    plain_empty plain = ap (λ (ms : Names). nat_lt 0 (length ms)) (none_in (node s.tree o.number) (kind_is ∙ plain))
+    pub plain_empty : is_directory o.header.kind ≡ false → nat_lt 0 (length (names_in s.tree o.number.value)) ≡ false
+    plain_empty plain = ap (λ (ms : Names). nat_lt 0 (length ms)) (none_in (node s.tree o.number.value) (kind_is ∙ plain))
 
   -- ---- the directory of a path's last piece
   module _ (p : List ℕ) (d : ℕ) (walk : Parent s.tree p (At d)) where
@@ -118,14 +118,14 @@ module _ (N : ℕ) (m : LogMap) (s : State) (is : IsMapOf N m s) (headers : (n :
       links_are = is.log.links d (as_header head) looks.header ∙ ap (λ (t : Tree). links t d) (sym is.log.is)
 
     module _ (head : Header) (o : Object) (looks : LooksAt m d (name p) head (Some o)) where
-      pub given : entry s.tree d (name p) ≡ Some o.number
+      pub given : entry s.tree d (name p) ≡ Some o.number.value
       given = entry_is head (Some o) looks
 
-      pub target_is : target s.tree d p ≡ o.number
+      pub target_is : target s.tree d p ≡ o.number.value
       target_is = ap (λ (x : Option ℕ). unwrap_or x 0) given
 
-      pub range_is : (1 ≤ o.number) × (o.number ≤ 4095)
-      range_is = is.log.sound.numbers o.number (is.log.sound.named d (name p) o.number given)
+      pub range_is : (1 ≤ o.number.value) × (o.number.value ≤ 4095)
+      range_is = is.log.sound.numbers o.number.value (is.log.sound.named d (name p) o.number.value given)
 
       pub gives_is : gives_dir s.tree d p ≡ is_directory o.header.kind
       gives_is = ap (λ (q : ℕ). is_dir (node s.tree q)) target_is ∙ kind_is o range_is looks.there

@@ -53,11 +53,11 @@ totals_where false c c' m d head l t same there are =
     subst (λ (x : Changes). AreTotals (staged x m) t) (sym same) are
 totals_where true c c' m d head l t relinks there are = relinks.1 m there are
 
-gains_none : (source : Source) (dest : Target) → source.directory ≡ dest.directory
+gains_none : (source : Source) (dest : Target) → source.directory.value ≡ dest.directory.value
     → gains_directory source dest ≡ false
 gains_none source dest same =
     ap (λ (b : Bool). is_directory source.object.header.kind && (not b && is_none dest.replaced))
-    (eq-eqb source.directory dest.directory same) ∙ never (is_directory source.object.header.kind)
+    (eq-eqb source.directory.value dest.directory.value same) ∙ never (is_directory source.object.header.kind)
   where
     never : (b : Bool) → (b && false) ≡ false
     never true = refl
@@ -94,10 +94,10 @@ module _ {D : Type 0} {state : D → DeviceState} {old taken : Fs D} {source : S
   c4 = taken.store.draft.changes
 
   abbrev da : ℕ
-  da = source.directory
+  da = source.directory.value
 
   abbrev db : ℕ
-  db = dest.directory
+  db = dest.directory.value
 
   abbrev la : ℕ
   la = fewer_links source dest
@@ -176,14 +176,14 @@ module _ {D : Type 0} {state : D → DeviceState} (old mid : Fs D) (s : State)
     (handles : s.handles ≡ handles_of old.handles.numbers.items)
     (empty : IsNoChange old.store.draft.changes) (m : LogMap) where
   name_lost : (o : Object) → DropsFound state old mid (Some o)
-      → LosesName s m (staged mid.store.draft.changes m) o.number (as_header o.header)
+      → LosesName s m (staged mid.store.draft.changes m) o.number.value (as_header o.header)
   name_lost o drops = ⊎_elim
-      (λ (goes : (is_directory o.header.kind ≡ true) × DropsObject state old mid o.number).
-      inr (all_lost s old.store.draft.changes mid.store.draft.changes m o.number o.header
+      (λ (goes : (is_directory o.header.kind ≡ true) × DropsObject state old mid o.number.value).
+      inr (all_lost s old.store.draft.changes mid.store.draft.changes m o.number.value o.header
       (inl (directory_kind o.header.kind goes.0)) goes.1.removes))
       (λ (loses : (is_directory o.header.kind ≡ false)
-      × LosesLink state old mid o.number o.header).
-      link_lost old mid empty m o.number o.header loses.1 s handles
+      × LosesLink state old mid o.number.value o.header).
+      link_lost old mid empty m o.number.value o.header loses.1 s handles
       (plain_kind o.header.kind loses.0))
       drops
 
@@ -213,7 +213,7 @@ module _ {D : Type 0} {state : D → DeviceState} {v : Mounted D} {old : Fs D} {
   open starts use {moves as g, empty}
 
   abbrev n : ℕ
-  n = source.object.number
+  n = source.object.number.value
 
   handles : s.handles ≡ handles_of old.handles.numbers.items
   handles = starts.is.handles ∙ ap handles_of (sym starts.still.table)
@@ -234,9 +234,9 @@ module _ {D : Type 0} {state : D → DeviceState} {v : Mounted D} {old : Fs D} {
     nothing_lost same = ap (λ (c : Changes). staged c m) same.0 ∙ same_old
 
     behind_by : (found : Option Object) → dest.replaced ≡ found → DropsFound state old lost found
-        → IsBehindLoss m m1 source.directory dest.directory source.holder dest.holder
+        → IsBehindLoss m m1 source.directory.value dest.directory.value source.holder dest.holder
     behind_by None none drops = subst
-        (λ (y : LogMap). IsBehindLoss m y source.directory dest.directory source.holder dest.holder)
+        (λ (y : LogMap). IsBehindLoss m y source.directory.value dest.directory.value source.holder dest.holder)
         (sym (nothing_lost drops))
         record {
           shape = shaped g;
@@ -245,24 +245,24 @@ module _ {D : Type 0} {state : D → DeviceState} {v : Mounted D} {old : Fs D} {
           blocks = λ q i at. refl;
         }
     behind_by (Some o) some drops =
-        let loses : LosesName s m m1 o.number (as_header o.header)
+        let loses : LosesName s m m1 o.number.value (as_header o.header)
         = name_lost old lost s handles empty m o drops in
         record {
           shape = lost_shape g o some loses;
           first = lost_a g o some loses;
           second = lost_b g o some loses;
           blocks = λ q i at. ⊎_elim
-              (λ (kept : KeepsLink s m m1 o.number (as_header o.header)). kept.made.block q i)
-              (λ (all : LosesAll s m m1 o.number (as_header o.header)).
+              (λ (kept : KeepsLink s m m1 o.number.value (as_header o.header)). kept.made.block q i)
+              (λ (all : LosesAll s m m1 o.number.value (as_header o.header)).
               all.gone.blocks q i (λ e. ⊎_elim
-              (λ (same : q ≡ source.directory). apart_first g o some (sym e ∙ same))
-              (λ (same : q ≡ dest.directory). apart_second g o some (sym e ∙ same))
+              (λ (same : q ≡ source.directory.value). apart_first g o some (sym e ∙ same))
+              (λ (same : q ≡ dest.directory.value). apart_second g o some (sym e ∙ same))
               at))
               loses;
         }
 
     pub behind : DropsFound state old lost dest.replaced
-        → IsBehindLoss m m1 source.directory dest.directory source.holder dest.holder
+        → IsBehindLoss m m1 source.directory.value dest.directory.value source.holder dest.holder
     behind drops = behind_by dest.replaced refl drops
 
     -- the totals with it
@@ -279,11 +279,11 @@ module _ {D : Type 0} {state : D → DeviceState} {v : Mounted D} {old : Fs D} {
       totals_by None none drops are = subst (AreTotals m1) (sym drops.1)
           (subst (λ (x : LogMap). AreTotals x old.store.drafted) (sym (nothing_lost drops)) are)
       totals_by (Some o) some drops are = ⊎_elim
-          (λ (goes : (is_directory o.header.kind ≡ true) × DropsObject state old lost o.number).
+          (λ (goes : (is_directory o.header.kind ≡ true) × DropsObject state old lost o.number.value).
           counts_lost goes.1.counts are)
           (λ (loses : (is_directory o.header.kind ≡ false)
-          × LosesLink state old lost o.number o.header).
-          link_totals old lost empty m o.number o.header loses.1 (looks_o g o some).there k m0 keeps
+          × LosesLink state old lost o.number.value o.header).
+          link_totals old lost empty m o.number.value o.header loses.1 (looks_o g o some).there k m0 keeps
           holds_old (subst IsLogMap (sym same_old) g.map.map) log
           (subst (λ (x : LogMap). AreTotals x old.store.drafted) (sym same_old) are))
           drops
@@ -293,7 +293,7 @@ module _ {D : Type 0} {state : D → DeviceState} {v : Mounted D} {old : Fs D} {
       (kept : (state taken.store.log.device).keeps_model) where
     pub moving : IsMoving (staged takes.links.lost.store.draft.changes m)
         (staged takes.links.relinks.between m) (staged takes.mid.store.draft.changes m)
-        (staged taken.store.draft.changes m) source.directory dest.directory source.holder
+        (staged taken.store.draft.changes m) source.directory.value dest.directory.value source.holder
         dest.holder (fewer_links source dest) (more_links source dest) (name a)
     moving =
         let loss = behind takes.links.lost takes.links.drops in
@@ -323,13 +323,13 @@ module _ {D : Type 0} {state : D → DeviceState} {v : Mounted D} {old : Fs D} {
     moved_by : (found : Option Object) → dest.replaced ≡ found
         → DropsFound state old drafts.takes.links.lost found
         → NamesFound state found taken.store.log new.store.log taken.store.draft.changes
-        new.store.draft.changes dest.directory (second_holder source dest) n (name b)
-        → IsMoved (segments_of v) m5 s a b source.directory dest.directory
+        new.store.draft.changes dest.directory.value (second_holder source dest) n (name b)
+        → IsMoved (segments_of v) m5 s a b source.directory.value dest.directory.value
     moved_by None none drops names = free_moved g none
         (subst
         (λ (y : LogMap). moves.DraftsMove y (staged drafts.takes.links.relinks.between m)
         (staged drafts.takes.mid.store.draft.changes m) (staged taken.store.draft.changes m)
-        source.directory dest.directory source.holder dest.holder (fewer_links source dest)
+        source.directory.value dest.directory.value source.holder dest.holder (fewer_links source dest)
         (more_links source dest) (name a))
         (nothing_lost drafts.takes.links.lost drops) (moving drafts.takes kept_taken).drafts)
         record {
@@ -348,11 +348,11 @@ module _ {D : Type 0} {state : D → DeviceState} {v : Mounted D} {old : Fs D} {
           repoints = names.names k m0 m keeps holds_taken;
         }
 
-    pub draft_moved : IsMoved (segments_of v) m5 s a b source.directory dest.directory
+    pub draft_moved : IsMoved (segments_of v) m5 s a b source.directory.value dest.directory.value
     draft_moved = moved_by dest.replaced refl drafts.takes.links.drops
         (subst
         (λ (nm : List ℕ). NamesFound state dest.replaced taken.store.log new.store.log
-        taken.store.draft.changes new.store.draft.changes dest.directory
+        taken.store.draft.changes new.store.draft.changes dest.directory.value
         (second_holder source dest) n nm)
         starts.named_b drafts.names)
 

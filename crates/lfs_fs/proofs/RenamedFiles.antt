@@ -57,13 +57,13 @@ pub record IsRename (N : ℕ) (m : LogMap) (s : State) (a b : List ℕ) (source 
     (dest : Target) : Type 0 where
   pub map : IsMapOf N m s
   pub headers : (n : ℕ) (h : entry.Header) → m.header n ≡ Some h → IsHeaderOf n h
-  pub walk_a : Parent s.tree a (At source.directory)
-  pub walk_b : Parent s.tree b (At dest.directory)
-  pub looks_a : LooksAt m source.directory (name a) source.holder (Some source.object)
-  pub looks_b : LooksAt m dest.directory (name b) dest.holder dest.replaced
+  pub walk_a : Parent s.tree a (At source.directory.value)
+  pub walk_b : Parent s.tree b (At dest.directory.value)
+  pub looks_a : LooksAt m source.directory.value (name a) source.holder (Some source.object)
+  pub looks_b : LooksAt m dest.directory.value (name b) dest.holder dest.replaced
   pub few_a : source.holder.size ≤ 65536
   pub few_b : dest.holder.size ≤ 65536
-  pub other : GivesName dest.replaced source.object.number ≡ false
+  pub other : GivesName dest.replaced source.object.number.value ≡ false
   pub fits : FitsTarget source dest
 
 -- The log map is that of the state after the call, if that comes to its end.
@@ -119,13 +119,13 @@ module _ {N : ℕ} {m : LogMap} {s : State} {a b : List ℕ} {source : Source} {
   open g use {map as is, headers, walk_a, walk_b, looks_a, looks_b, few_a, few_b}
 
   abbrev da : ℕ
-  da = source.directory
+  da = source.directory.value
 
   abbrev db : ℕ
-  db = dest.directory
+  db = dest.directory.value
 
   abbrev n : ℕ
-  n = source.object.number
+  n = source.object.number.value
 
   abbrev head_a : Header
   head_a = source.holder
@@ -276,7 +276,7 @@ module _ {N : ℕ} {m : LogMap} {s : State} {a b : List ℕ} {source : Source} {
   -- ---- it gives another object of the same sort, no directory with names
   module _ (o : Object) (some : dest.replaced ≡ Some o) where
     abbrev old : ℕ
-    old = o.number
+    old = o.number.value
 
     abbrev h : entry.Header
     h = as_header o.header

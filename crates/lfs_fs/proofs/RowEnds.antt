@@ -74,28 +74,28 @@ module _ {D : Type 0} (state : D → DeviceState) where
       pub shown : ShowsHead m n (as_header told.head) told.head.kind out
       shown = shown_by told.head.kind (subst (λ (x : Kind). ReadsHead state mid new n x out) told.kind read)
 
-  module _ (old mid new : Fs D) (first : OnlyReads state old mid) (next : OnlyReads state mid new) (d : ℕ) (e : Entry) (stat : Stat) (out : List ℕ) (told : TellsStat state old mid e.number stat)
-      (read : ReadsHead state mid new e.number stat.kind out) (dir : ℕ) (dir_is : dir ≡ d) where
+  module _ (old mid new : Fs D) (first : OnlyReads state old mid) (next : OnlyReads state mid new) (d : ℕ) (e : Entry) (stat : Stat) (out : List ℕ) (told : TellsStat state old mid e.number.value stat)
+      (read : ReadsHead state mid new e.number.value stat.kind out) (dir : ℕ) (dir_is : dir ≡ d) where
     abbrev row : call.TreeRow
     row = record { directory = dir; name = e.name.items; stat = record { number = stat.number; kind = stat.kind; links = stat.links; size = stat.size }; head = out }
 
     module _ (empty : IsNoChange old.store.draft.changes) (k : CheckpointValue) (m0 m : LogMap) (s : State) (keeps : (state new.store.log.device).keeps_model) (is : IsIn state (seen old) k m0 m s)
-        (found : entry_in s.tree d e.name.items ≡ Some e.number) where
+        (found : entry_in s.tree d e.name.items ≡ Some e.number.value) where
       pub row_is : row ≡ row_at s.tree d (pair e)
       row_is =
-          let there = told_there old mid new first next e.number stat out told read empty k m0 m s keeps is in
-          let fits = told_fits old mid new first next e.number stat out told read empty k m0 m s keeps is in
+          let there = told_there old mid new first next e.number.value stat out told read empty k m0 m s keeps is in
+          let fits = told_fits old mid new first next e.number.value stat out told read empty k m0 m s keeps is in
           (λ i. record { directory = dir_is i; name = e.name.items; stat = record { number = told.number i; kind = told.kind i; links = told.links i; size = told.size i }; head = out })
-          ∙ sym (row_by (segments_of (seen old)) m s (map_of_volume state (seen old) k m0 m s is) e.number told.head there fits d e.name.items out
-          (shown old mid new first next e.number stat out told read empty k m0 m s keeps is))
+          ∙ sym (row_by (segments_of (seen old)) m s (map_of_volume state (seen old) k m0 m s is) e.number.value told.head there fits d e.name.items out
+          (shown old mid new first next e.number.value stat out told read empty k m0 m s keeps is))
 
   -- a name gives an object
-  named_there : (v : Fs D) (k : CheckpointValue) (m0 m : LogMap) (s : State) → IsIn state (seen v) k m0 m s → (d : ℕ) (e : Entry) → entry_in s.tree d e.name.items ≡ Some e.number → (e.number ≤ 4095) × (m.header e.number ≢ None)
+  named_there : (v : Fs D) (k : CheckpointValue) (m0 m : LogMap) (s : State) → IsIn state (seen v) k m0 m s → (d : ℕ) (e : Entry) → entry_in s.tree d e.name.items ≡ Some e.number.value → (e.number.value ≤ 4095) × (m.header e.number.value ≢ None)
   named_there v k m0 m s is d e found =
-      let there = is.log.sound.named d e.name.items e.number found in
-      ((is.log.sound.numbers e.number there).1, λ none. there (no_header_none (segments_of (seen v)) m s is.log e.number none))
+      let there = is.log.sound.named d e.name.items e.number.value found in
+      ((is.log.sound.numbers e.number.value there).1, λ none. there (no_header_none (segments_of (seen v)) m s is.log e.number.value none))
 
-  pub lacks_row : (old new : Fs D) (d : ℕ) (e : Entry) (fault : FsError) → LacksBytes state old new e.number fault → LacksRow state old new d e fault
+  pub lacks_row : (old new : Fs D) (d : ℕ) (e : Entry) (fault : FsError) → LacksBytes state old new e.number.value fault → LacksRow state old new d e fault
   lacks_row old new d e fault lacks = ⊎_elim
       (λ memory. inl memory)
       (λ object. ⊎_elim
@@ -106,7 +106,7 @@ module _ {D : Type 0} (state : D → DeviceState) where
         failed.0,
         λ empty k m0 m s keeps is found. ⊎_elim
             (λ rose. rose)
-            (λ none. absurd ((named_there old k m0 m s is d e found).1 (ap (λ (x : LogMap). x.header e.number) (sym (no_change old.store.draft.changes m empty)) ∙ none)))
+            (λ none. absurd ((named_there old k m0 m s is d e found).1 (ap (λ (x : LogMap). x.header e.number.value) (sym (no_change old.store.draft.changes m empty)) ∙ none)))
             (failed.1 k m0 m keeps is.stores.holds),
       )))
       header)

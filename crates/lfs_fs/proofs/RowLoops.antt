@@ -36,7 +36,7 @@ names_before : (t : Tree) (d : ℕ) (done rest : List Entry) → AreNames t d (d
 names_before t d [] rest all = tt
 names_before t d (e ∷ done) rest all = (all.0, names_before t d done rest all.1)
 
-name_at : (t : Tree) (d : ℕ) (done rest : List Entry) (e : Entry) → AreNames t d (done ++ e ∷ rest) → entry_in t d e.name.items ≡ Some e.number
+name_at : (t : Tree) (d : ℕ) (done rest : List Entry) (e : Entry) → AreNames t d (done ++ e ∷ rest) → entry_in t d e.name.items ≡ Some e.number.value
 name_at t d [] rest e all = all.0
 name_at t d (x ∷ done) rest e all = name_at t d done rest e all.1
 

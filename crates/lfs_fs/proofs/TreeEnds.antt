@@ -56,7 +56,7 @@ answer_then (Err e) P Q go p = tt
 are_names : (t : Tree) (d : ℕ) (es : List Entry) → ((name : List ℕ) (n : ℕ) → find byte_cmp name (pairs es) ≡ Some n → entry_in t d name ≡ Some n) → T (is_sorted byte_cmp (pairs es)) → AreNames t d es
 are_names t d [] gives order = tt
 are_names t d (e ∷ es) gives order = (
-  gives e.name.items e.number (find_first nat_list_cmp_total (λ x. 0) (pair e) (pairs es)),
+  gives e.name.items e.number.value (find_first nat_list_cmp_total (λ x. 0) (pair e) (pairs es)),
   are_names t d es (λ name n found. gives name n (find_after nat_list_cmp_total (λ x. 0) name (pair e) (pairs es) n order found)) (T_right (below_all byte_cmp e.name.items (pairs es)) (is_sorted byte_cmp (pairs es)) order),
 )
 

@@ -56,12 +56,12 @@ HasDirectory m d head = (m.header d ≡ Some (as_header head)) × (head.kind ≡
 -- entries give objects of a tree
 abbrev pub AreThere : Tree → List Entry → Type 0
 AreThere t [] = Unit {0}
-AreThere t (e ∷ es) = (node t e.number ≢ None) × AreThere t es
+AreThere t (e ∷ es) = (node t e.number.value ≢ None) × AreThere t es
 
 -- entries are names of directory d
 abbrev pub AreNames : Tree → ℕ → List Entry → Type 0
 AreNames t d [] = Unit {0}
-AreNames t d (e ∷ es) = (entry t d e.name.items ≡ Some e.number) × AreNames t d es
+AreNames t d (e ∷ es) = (entry t d e.name.items ≡ Some e.number.value) × AreNames t d es
 
 module _ {D : Type 0} (state : D → DeviceState) where
   -- The bytes of object n from a place on, at most so many.
@@ -116,7 +116,7 @@ module _ {D : Type 0} (state : D → DeviceState) where
 
   -- the row of a name of directory d
   abbrev pub TellsRow : Fs D → Fs D → ℕ → Entry → TreeRow → Type 0
-  TellsRow old new d e row = Undrafted old new (λ s. entry s.tree d e.name.items ≡ Some e.number
+  TellsRow old new d e row = Undrafted old new (λ s. entry s.tree d e.name.items ≡ Some e.number.value
       → row_of row ≡ row_at s.tree d (pair e))
 
   -- the rows of such names
@@ -146,7 +146,7 @@ module _ {D : Type 0} (state : D → DeviceState) where
       → (state old.store.log.device).failures < (state new.store.log.device).failures)))
 
   abbrev pub LacksRow : Fs D → Fs D → ℕ → Entry → FsError → Type 0
-  LacksRow old new d e = LacksWhere old new (λ m s. entry s.tree d e.name.items ≡ Some e.number)
+  LacksRow old new d e = LacksWhere old new (λ m s. entry s.tree d e.name.items ≡ Some e.number.value)
 
   abbrev pub LacksRows : Fs D → Fs D → ℕ → List Entry → FsError → Type 0
   LacksRows old new d es = LacksWhere old new (λ m s. AreNames s.tree d es)
@@ -179,7 +179,7 @@ module _ {D : Type 0} (state : D → DeviceState) where
       × (map entry_of told ≡ map (entry_at s.tree) (names_in s.tree n)))
 
   abbrev pub LacksEntry : Fs D → Fs D → Entry → FsError → Type 0
-  LacksEntry old new e = LacksWhere old new (λ m s. node s.tree e.number ≢ None)
+  LacksEntry old new e = LacksWhere old new (λ m s. node s.tree e.number.value ≢ None)
 
   abbrev pub LacksEntries : Fs D → Fs D → List Entry → FsError → Type 0
   LacksEntries old new es = LacksWhere old new (λ m s. AreThere s.tree es)

@@ -55,12 +55,12 @@ is_directory kind.Link = false
 -- the number that was found
 abbrev pub number_of : Option Object → Option ℕ
 number_of None = None
-number_of (Some o) = Some o.number
+number_of (Some o) = Some o.number.value
 
 -- what was found has this header
 abbrev pub HasFound : LogMap → Option Object → Type 0
 HasFound m None = Unit {0}
-HasFound m (Some o) = m.header o.number ≡ Some (as_header o.header)
+HasFound m (Some o) = m.header o.number.value ≡ Some (as_header o.header)
 
 -- Directory d has this header, and a name gives that in it.
 pub record LooksAt (m : LogMap) (d : ℕ) (name : List ℕ) (head : Header) (found : Option Object) : Type 0 where
@@ -135,11 +135,11 @@ RefusesRoom k holder _ = ⊥
 
 -- the same by what is replaced, if anything is
 abbrev pub FitsFound : Option Object → Source → Target → Type 0
-FitsFound None source target = source.directory ≢ target.directory → FitsRoom source.object.header.kind target.holder
+FitsFound None source target = source.directory.value ≢ target.directory.value → FitsRoom source.object.header.kind target.holder
 FitsFound (Some o) source target = FitsReplaced source.object.header.kind o.header
 
 abbrev pub RefusesFound : Option Object → Source → Target → FsError → Type 0
-RefusesFound None source target fault = (source.directory ≢ target.directory) × RefusesRoom source.object.header.kind target.holder fault
+RefusesFound None source target fault = (source.directory.value ≢ target.directory.value) × RefusesRoom source.object.header.kind target.holder fault
 RefusesFound (Some o) source target fault = RefusesReplaced source.object.header.kind o.header fault
 
 abbrev pub FitsTarget : Source → Target → Type 0
@@ -150,23 +150,18 @@ RefusesTarget source target = RefusesFound target.replaced source target
 
 -- ---- what may be drafted
 
--- a number that an object may have
-abbrev pub InRange : Option Object → Type 0
-InRange None = Unit {0}
-InRange (Some o) = (1 ≤ o.number) × (o.number ≤ 4095)
-
 -- what was found is this object
 abbrev pub GivesName : Option Object → ℕ → Bool
 GivesName None n = false
-GivesName (Some o) n = o.number == n
+GivesName (Some o) n = o.number.value == n
 
 -- the first directory has a directory less: one goes to another directory, or takes the place of one
 abbrev pub loses_directory : Source → Target → Bool
-loses_directory source target = is_directory source.object.header.kind && (not (source.directory == target.directory) || is_some target.replaced)
+loses_directory source target = is_directory source.object.header.kind && (not (source.directory.value == target.directory.value) || is_some target.replaced)
 
 -- the second has one more
 abbrev pub gains_directory : Source → Target → Bool
-gains_directory source target = is_directory source.object.header.kind && (not (source.directory == target.directory) && is_none target.replaced)
+gains_directory source target = is_directory source.object.header.kind && (not (source.directory.value == target.directory.value) && is_none target.replaced)
 
 -- the links of both
 abbrev pub fewer_links : Source → Target → ℕ
@@ -180,21 +175,14 @@ abbrev pub first_holder : Source → Target → Header
 first_holder source target = relinked source.holder (fewer_links source target)
 
 abbrev pub second_holder : Source → Target → Header
-second_holder source target = if source.directory == target.directory then shrunk (first_holder source target) else relinked target.holder (more_links source target)
+second_holder source target = if source.directory.value == target.directory.value then shrunk (first_holder source target) else relinked target.holder (more_links source target)
 
--- Numbers, sizes and links are those of a volume.
+-- Sizes and links are those of a volume.
 pub record MayMove (source : Source) (target : Target) : Type 0 where
-  pub from_some : 1 ≤ source.directory
-  pub from_few : source.directory ≤ 4095
   pub from_size : source.holder.size ≤ 65536
   pub from_links : 2 ≤ source.holder.links
-  pub first : 1 ≤ source.object.number
-  pub last : source.object.number ≤ 4095
-  pub to_some : 1 ≤ target.directory
-  pub to_few : target.directory ≤ 4095
   pub to_size : target.holder.size ≤ 65536
   pub name : IsName 59 target.name.now
-  pub found : InRange target.replaced
   pub fits : FitsTarget source target
 
 -- Other links of directory d, where they change; the totals stay.
@@ -205,8 +193,8 @@ RelinksWhere true c c' d head links t = SetsLinks c c' d head links × CountsRel
 -- Those of both directories.
 pub record RelinksBoth (c c' : Changes) (source : Source) (target : Target) (t : BlockTotals) : Type 0 where
   pub between : Changes
-  pub first : RelinksWhere (loses_directory source target) c between source.directory source.holder (fewer_links source target) t
-  pub second : RelinksWhere (gains_directory source target) between c' target.directory target.holder (more_links source target) t
+  pub first : RelinksWhere (loses_directory source target) c between source.directory.value source.holder (fewer_links source target) t
+  pub second : RelinksWhere (gains_directory source target) between c' target.directory.value target.holder (more_links source target) t
 
 module _ {D : Type 0} (state : D → DeviceState) where
   -- this is so of the log map with the draft, whichever the log holds
@@ -225,21 +213,17 @@ module _ {D : Type 0} (state : D → DeviceState) where
   -- ---- an object, and what a name gives
 
   pub record FindsObject (old new : Fs D) (n : ℕ) (o : Object) : Type 0 where
-    pub number : o.number ≡ n
-    pub first : 1 ≤ n
-    pub last : n ≤ 4095
+    pub number : o.number.value ≡ n
     pub there : InLog old new (λ m. m.header n ≡ Some (as_header o.header))
 
   pub record FindsName (old new : Fs D) (d : ℕ) (name : List ℕ) (head : Header) (found : Option Object) : Type 0 where
-    pub some : 1 ≤ d
     pub size : head.size ≤ 65536
-    pub range : InRange found
     pub looks : InLog old new (λ m. LooksAt m d name head found)
 
   -- ---- the first name
 
   pub record FindsSource (old new : Fs D) (d : ℕ) (name : List ℕ) (ends : Bool) (source : Source) : Type 0 where
-    pub directory : source.directory ≡ d
+    pub directory : source.directory.value ≡ d
     pub named : source.name.now ≡ name
     pub finds : FindsName old new d name source.holder (Some source.object)
     pub links : 2 ≤ source.holder.links
@@ -256,7 +240,7 @@ module _ {D : Type 0} (state : D → DeviceState) where
   -- ---- the second
 
   pub record FindsTarget (old new : Fs D) (d : ℕ) (name : List ℕ) (ends : Bool) (k : Kind) (target : Target) : Type 0 where
-    pub directory : target.directory ≡ d
+    pub directory : target.directory.value ≡ d
     pub named : target.name.now ≡ name
     pub finds : FindsName old new d name target.holder target.replaced
     pub is_name : IsName 59 name
@@ -276,14 +260,14 @@ module _ {D : Type 0} (state : D → DeviceState) where
   -- The object isn't what it replaces, nor within itself, and what it replaces may be replaced.
   pub record ChecksRename (old new : Fs D) (da : ℕ) (na : List ℕ) (ea : Bool) (chain nb : List ℕ) (eb : Bool) (source : Source) (target : Target) : Type 0 where
     pub both : FindsBoth old new da na ea (here chain) nb eb source target
-    pub other : GivesName target.replaced source.object.number ≡ false
-    pub apart : IsNotAbove chain source.object.number
+    pub other : GivesName target.replaced source.object.number.value ≡ false
+    pub apart : IsNotAbove chain source.object.number.value
     pub fits : FitsTarget source target
 
   -- nothing is left to do where both names give one object
   abbrev pub TakesRename : Fs D → Fs D → ℕ → List ℕ → Bool → List ℕ → List ℕ → Bool → Option (Source × Target) → Type 0
   TakesRename old new da na ea chain nb eb None = (source : Source) × (target : Target)
-      × FindsBoth old new da na ea (here chain) nb eb source target × (GivesName target.replaced source.object.number ≡ true)
+      × FindsBoth old new da na ea (here chain) nb eb source target × (GivesName target.replaced source.object.number.value ≡ true)
   TakesRename old new da na ea chain nb eb (Some p) = ChecksRename old new da na ea chain nb eb p.0 p.1
 
   -- Why a rename is refused: for the first name, for the second, or for what both give.
@@ -291,10 +275,10 @@ module _ {D : Type 0} (state : D → DeviceState) where
     of_first : RefusesSource old new da na ea fault → RefusesRename old new da na ea chain nb eb fault
     of_second : (source : Source) → FindsSource old new da na ea source → RefusesNext old new (here chain) nb eb source.object.header.kind fault
         → RefusesRename old new da na ea chain nb eb fault
-    of_within : (source : Source) (target : Target) → FindsBoth old new da na ea (here chain) nb eb source target → GivesName target.replaced source.object.number ≡ false
-        → IsAbove chain source.object.number → fault ≡ error.Inval → RefusesRename old new da na ea chain nb eb fault
-    of_target : (source : Source) (target : Target) → FindsBoth old new da na ea (here chain) nb eb source target → GivesName target.replaced source.object.number ≡ false
-        → IsNotAbove chain source.object.number → RefusesTarget source target fault → RefusesRename old new da na ea chain nb eb fault
+    of_within : (source : Source) (target : Target) → FindsBoth old new da na ea (here chain) nb eb source target → GivesName target.replaced source.object.number.value ≡ false
+        → IsAbove chain source.object.number.value → fault ≡ error.Inval → RefusesRename old new da na ea chain nb eb fault
+    of_target : (source : Source) (target : Target) → FindsBoth old new da na ea (here chain) nb eb source target → GivesName target.replaced source.object.number.value ≡ false
+        → IsNotAbove chain source.object.number.value → RefusesTarget source target fault → RefusesRename old new da na ea chain nb eb fault
 
   -- ---- the directories of both paths
 
@@ -320,8 +304,8 @@ module _ {D : Type 0} (state : D → DeviceState) where
   -- a directory goes, and another object has a link less
   abbrev pub DropsFound : Fs D → Fs D → Option Object → Type 0
   DropsFound old new None = (new.store.draft.changes ≡ old.store.draft.changes) × (new.store.drafted ≡ old.store.drafted)
-  DropsFound old new (Some o) = ((is_directory o.header.kind ≡ true) × DropsObject old new o.number)
-      ⊎ ((is_directory o.header.kind ≡ false) × LosesLink state old new o.number o.header)
+  DropsFound old new (Some o) = ((is_directory o.header.kind ≡ true) × DropsObject old new o.number.value)
+      ⊎ ((is_directory o.header.kind ≡ false) × LosesLink state old new o.number.value o.header)
 
   -- A name of directory d that it has is drafted to give another number.
   pub record RepointsTo (h h' : Held D) (c c' : Changes) (d : ℕ) (head : Header) (n : ℕ) (name : List ℕ) : Type 0 where
@@ -369,7 +353,7 @@ module _ {D : Type 0} (state : D → DeviceState) where
     pub mid : Fs D
     pub links : DraftsLinks old mid source target
     pub still : IsStill state (seen mid) (seen taken)
-    pub takes : TakesOut state mid.store.log taken.store.log mid.store.draft.changes taken.store.draft.changes source.directory (first_holder source target) source.name.now
+    pub takes : TakesOut state mid.store.log taken.store.log mid.store.draft.changes taken.store.draft.changes source.directory.value (first_holder source target) source.name.now
         mid.store.drafted taken.store.drafted
     pub apart : (k : ℕ) → IsApart mid.store.draft.changes.loss k → IsApart taken.store.draft.changes.loss k
 
@@ -378,17 +362,17 @@ module _ {D : Type 0} (state : D → DeviceState) where
     pub taken : Fs D
     pub takes : DraftsTake old taken source target
     pub still : IsStill state (seen taken) (seen new)
-    pub names : NamesFound target.replaced taken.store.log new.store.log taken.store.draft.changes new.store.draft.changes target.directory (second_holder source target)
-        source.object.number target.name.now
+    pub names : NamesFound target.replaced taken.store.log new.store.log taken.store.draft.changes new.store.draft.changes target.directory.value (second_holder source target)
+        source.object.number.value target.name.now
     pub recounts : Counts state taken.store.log new.store.log taken.store.draft.changes new.store.draft.changes taken.store.drafted new.store.drafted
 
   -- Why it isn't drafted.
   pub data FailsMove (old new : Fs D) (source : Source) (target : Target) (fault : FsError) : Type 0 where
     of_drop : DraftsNone state old new fault → FailsMove old new source target fault
     of_memory : fault ≡ error.NoMemory → FailsMove old new source target fault
-    of_take : (mid : Fs D) → DraftsLinks old mid source target → FailsOver mid new source.directory (first_holder source target) source.name.now fault
+    of_take : (mid : Fs D) → DraftsLinks old mid source target → FailsOver mid new source.directory.value (first_holder source target) source.name.now fault
         → FailsMove old new source target fault
-    of_name : (taken : Fs D) → DraftsTake old taken source target → IsStill state (seen taken) (seen new) → FailsName taken new target.directory (second_holder source target) target.name.now target.replaced fault
+    of_name : (taken : Fs D) → DraftsTake old taken source target → IsStill state (seen taken) (seen new) → FailsName taken new target.directory.value (second_holder source target) target.name.now target.replaced fault
         → FailsMove old new source target fault
 
   -- ---- a rename that nothing refuses

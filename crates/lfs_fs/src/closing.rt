@@ -12,6 +12,7 @@ ghost use Rattle.lfs_fs.specs.Seen.{seen, answer_by};
 use crate::error::FsError;
 use crate::fs::Fs;
 use lfs_device::SectorDevice;
+use lfs_model::FileNumber;
 
 impl<D: SectorDevice> Fs<D> {
     /// Closes a handle, which is free then. With its last handle a file without a name goes for
@@ -40,14 +41,14 @@ impl<D: SectorDevice> Fs<D> {
     }
 
     /// Closes the last handle of a file.
-    fn close_last(&mut self, handle: u32, number: u16) -> Result<(), FsError>
+    fn close_last(&mut self, handle: u32, number: FileNumber) -> Result<(), FsError>
         requires place { handle < 64 }
-        requires some { 1 ≤ number }
-        requires few { number ≤ 4095 }
         requires running { self.old.store.log.halted ≡ false }
         requires empty { IsNoChange self.old.store.draft.changes }
-        ensures { find nat_cmp handle (handles_of self.old.handles.numbers.items) ≡ Some number
-            → opened (without nat_cmp handle (handles_of self.old.handles.numbers.items)) number ≡ 0
+        ensures { find nat_cmp handle (handles_of self.old.handles.numbers.items)
+            ≡ Some number.value
+            → opened (without nat_cmp handle (handles_of self.old.handles.numbers.items))
+            number.value ≡ 0
             → Serves D.SectorDevice.state (seen self.old) (seen self.new) (Close handle)
             (answer_by (λ _. Done) result) }
     {

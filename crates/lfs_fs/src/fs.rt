@@ -12,11 +12,9 @@ use crate::error::FsError;
 use crate::handles::Handles;
 use crate::rows::Space;
 use lfs_device::SectorDevice;
+use lfs_model::FileNumber;
 use lfs_store::{BlockTotals, Header, Store};
 use std::alloc::Global;
-
-/// The root's number.
-pub const ROOT: u16 = 1;
 
 /// From this checkpoint number on nothing is changed.
 const WORN: u64 = 1 << 62;
@@ -45,32 +43,27 @@ impl<D: SectorDevice> Fs<D> {
     }
 
     /// The file of an open handle.
-    pub(crate) fn file(&self, handle: u32) -> Result<u16, FsError>
-        ensures some { IfOk result (λ number. 1 ≤ number) }
-        ensures few { IfOk result (λ number. number ≤ 4095) }
+    pub(crate) fn file(&self, handle: u32) -> Result<FileNumber, FsError>
         ensures opens { IfOk result (λ number. find nat_cmp handle
-            (handles_of self.now.handles.numbers.items) ≡ Some number) }
+            (handles_of self.now.handles.numbers.items) ≡ Some number.value) }
         ensures missing { IfErr result (λ fault. GivesNone self.now.handles.numbers.items handle
             fault) }
     {
         match self.handles.get(handle) {
-            Some(number) => {
+            Some(number) => match FileNumber::new(number) {
+                Some(number) => Ok(number),
                 // No volume has a file of a greater number.
-                if number > 4_095 {
-                    return Err(FsError::Device);
-                }
-                Ok(number)
-            }
+                None => Err(FsError::Device),
+            },
             None => Err(FsError::BadHandle),
         }
     }
 
     /// The header of what stands at a number, if something does.
-    pub(crate) fn find_header(&mut self, number: u16) -> Result<Option<Header>, FsError>
-        requires { number < 4096 }
+    pub(crate) fn find_header(&mut self, number: FileNumber) -> Result<Option<Header>, FsError>
         ensures reads { OnlyReads D.SectorDevice.state self.old self.new }
         ensures answer { IfOk result (λ found. FindsHeader D.SectorDevice.state self.old self.new
-            number found) }
+            number.value found) }
         ensures missing { IfErr result (λ fault. LacksAnswer D.SectorDevice.state self.old self.new
             fault) }
     {
@@ -81,13 +74,12 @@ impl<D: SectorDevice> Fs<D> {
     }
 
     /// The header of an object that is there.
-    pub(crate) fn header(&mut self, number: u16) -> Result<Header, FsError>
-        requires { number ≤ 4095 }
+    pub(crate) fn header(&mut self, number: FileNumber) -> Result<Header, FsError>
         ensures reads { OnlyReads D.SectorDevice.state self.old self.new }
         ensures answer { IfOk result (λ header. HasHeader D.SectorDevice.state self.old self.new
-            number header) }
+            number.value header) }
         ensures missing { IfErr result (λ fault. LacksHeader D.SectorDevice.state self.old self.new
-            number fault) }
+            number.value fault) }
     {
         match self.store.header(number) {
             Ok(Some(header)) => Ok(header),

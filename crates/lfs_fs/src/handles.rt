@@ -7,6 +7,7 @@ ghost use Rattle.lfs_model.specs.Tree.{least_handle, opened, without};
 ghost use Rattle.lfs_fs.specs.Handles.{handles_of, AreHandles};
 
 use arrayvec::ArrayVec;
+use lfs_model::FileNumber;
 
 /// Handles 0 to 63, each with the number of its file; 0 where the handle is free.
 #[derive(Drop)]
@@ -64,13 +65,13 @@ impl Handles {
     }
 
     /// Opens a handle on a file.
-    pub fn open(&mut self, handle: u32, number: u16)
+    pub fn open(&mut self, handle: u32, number: FileNumber)
         requires { handle < 64 }
-        ensures at { self.new.numbers.items ≡ slice_set self.old.numbers.items handle number }
-        ensures opened { number ≢ 0 → handles_of self.new.numbers.items
-            ≡ put nat_cmp handle number (handles_of self.old.numbers.items) }
+        ensures at { self.new.numbers.items ≡ slice_set self.old.numbers.items handle number.value }
+        ensures opened { handles_of self.new.numbers.items
+            ≡ put nat_cmp handle number.value (handles_of self.old.numbers.items) }
     {
-        self.numbers[handle as usize] = number;
+        self.numbers[handle as usize] = number.value;
     }
 
     /// Closes a handle.
@@ -83,15 +84,14 @@ impl Handles {
     }
 
     /// Whether another handle than this one is open on a file.
-    pub fn is_shared(&self, handle: u32, number: u16) -> bool
-        requires { number ≢ 0 }
+    pub fn is_shared(&self, handle: u32, number: FileNumber) -> bool
         ensures shared { IsTrue result →
-            opened (without nat_cmp handle (handles_of self.now.numbers.items)) number ≢ 0 }
+            opened (without nat_cmp handle (handles_of self.now.numbers.items)) number.value ≢ 0 }
         ensures single { IsFalse result →
-            opened (without nat_cmp handle (handles_of self.now.numbers.items)) number ≡ 0 }
+            opened (without nat_cmp handle (handles_of self.now.numbers.items)) number.value ≡ 0 }
     {
         for other in 0..64u32 {
-            if other != handle && self.numbers[other as usize] == number {
+            if other != handle && self.numbers[other as usize] == number.value {
                 return true;
             }
         }
@@ -99,13 +99,13 @@ impl Handles {
     }
 
     /// Whether a handle is open on a file.
-    pub fn gives(&self, number: u16) -> bool
-        requires { number ≢ 0 }
-        ensures open { IsTrue result → opened (handles_of self.now.numbers.items) number ≢ 0 }
-        ensures shut { IsFalse result → opened (handles_of self.now.numbers.items) number ≡ 0 }
+    pub fn gives(&self, number: FileNumber) -> bool
+        ensures open { IsTrue result → opened (handles_of self.now.numbers.items) number.value ≢ 0 }
+        ensures shut { IsFalse result → opened (handles_of self.now.numbers.items) number.value
+            ≡ 0 }
     {
         for handle in 0..64u32 {
-            if self.numbers[handle as usize] == number {
+            if self.numbers[handle as usize] == number.value {
                 return true;
             }
         }

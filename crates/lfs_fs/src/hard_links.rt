@@ -15,6 +15,7 @@ use crate::error::FsError;
 use crate::fs::Fs;
 use crate::naming::MOST_LINKS;
 use lfs_device::SectorDevice;
+use lfs_model::FileNumber;
 use lfs_path::Last;
 use lfs_path::dirs::add;
 use lfs_path::tree::parent;
@@ -46,22 +47,17 @@ impl<D: SectorDevice> Fs<D> {
     /// Gives what the last piece of a path names, which stands in this directory, a further name.
     fn link_from(
         &mut self,
-        directory: u16,
+        directory: FileNumber,
         last: Option<Last<'_>>,
         to: &[u8],
     ) -> Result<(), FsError>
-        requires few { directory ≤ 4095 }
         requires running { self.old.store.log.halted ≡ false }
         requires empty { IsNoChange self.old.store.draft.changes }
         ensures { (v : Mounted D) (from : List ℕ)
-            → Reaches D.SectorDevice.state v self.old from directory last.entry
+            → Reaches D.SectorDevice.state v self.old from directory.value last.entry
             → Serves D.SectorDevice.state v (seen self.new) (LinkTo from to.now)
             (answer_by (λ _. Done) result) }
     {
-        // No volume has an object of this number.
-        if directory == 0 {
-            return Err(FsError::Device);
-        }
         let Some(last) = last else {
             return Err(FsError::Perm);
         };
@@ -86,26 +82,19 @@ impl<D: SectorDevice> Fs<D> {
     /// as a further name.
     fn link_to(
         &mut self,
-        number: u16,
+        number: FileNumber,
         header: Header,
-        directory: u16,
+        directory: FileNumber,
         last: Option<Last<'_>>,
     ) -> Result<(), FsError>
-        requires first { 1 ≤ number }
-        requires last { number ≤ 4095 }
-        requires few { directory ≤ 4095 }
         requires running { self.old.store.log.halted ≡ false }
         requires empty { IsNoChange self.old.store.draft.changes }
         ensures { (v : Mounted D) (from to : List ℕ) (holder : ℕ)
-            → SeesObject D.SectorDevice.state v self.old from holder number header
-            → Reaches D.SectorDevice.state v self.old to directory last.entry
+            → SeesObject D.SectorDevice.state v self.old from holder number.value header
+            → Reaches D.SectorDevice.state v self.old to directory.value last.entry
             → Serves D.SectorDevice.state v (seen self.new) (LinkTo from to)
             (answer_by (λ _. Done) result) }
     {
-        // No volume has an object of this number.
-        if directory == 0 {
-            return Err(FsError::Device);
-        }
         let Some(last) = last else {
             return Err(FsError::Exist);
         };
@@ -128,23 +117,19 @@ impl<D: SectorDevice> Fs<D> {
     /// Drafts one link more of an object of this header, and then its name in a directory.
     fn draft_name(
         &mut self,
-        directory: u16,
+        directory: FileNumber,
         holder: Header,
-        number: u16,
+        number: FileNumber,
         header: Header,
         name: &[u8],
     ) -> Result<(), FsError>
-        requires some { 1 ≤ directory }
-        requires few { directory ≤ 4095 }
         requires room { holder.size ≤ 65472 }
-        requires first { 1 ≤ number }
-        requires last { number ≤ 4095 }
         requires linked { header.links < 1000 }
         requires name { IsName 59 name.now }
         requires running { self.old.store.log.halted ≡ false }
         ensures still { IsStill D.SectorDevice.state (seen self.old) (seen self.new) }
-        ensures drafted { OnOk result (DraftsName D.SectorDevice.state self.old self.new directory
-            holder number header name.now) }
+        ensures drafted { OnOk result (DraftsName D.SectorDevice.state self.old self.new
+            directory.value holder number.value header name.now) }
         ensures small { OnOk result (GrowsBy self.old.store.draft.changes
             self.new.store.draft.changes 2 2) }
         ensures refused { IfErr result (DraftsNone D.SectorDevice.state self.old self.new) }

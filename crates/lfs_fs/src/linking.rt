@@ -12,7 +12,7 @@ ghost use Rattle.lfs_fs.specs.Volume.{IsStill, Mounted, Serves};
 use crate::error::FsError;
 use crate::fs::Fs;
 use lfs_device::SectorDevice;
-use lfs_model::Kind;
+use lfs_model::{FileNumber, Kind};
 use lfs_path::text::check_text;
 use lfs_path::tree::parent;
 use lfs_path::{Last, WalkFault};
@@ -47,23 +47,18 @@ impl<D: SectorDevice> Fs<D> {
     /// Makes a symbolic link under the last piece of a path, which stands in this directory.
     fn symlink_at(
         &mut self,
-        directory: u16,
+        directory: FileNumber,
         last: Option<Last<'_>>,
         text: &[u8],
     ) -> Result<(), FsError>
-        requires few { directory ≤ 4095 }
         requires good { text_refusal text.now ≡ None }
         requires running { self.old.store.log.halted ≡ false }
         requires empty { IsNoChange self.old.store.draft.changes }
         ensures { (v : Mounted D) (path : List ℕ)
-            → Reaches D.SectorDevice.state v self.old path directory last.entry
+            → Reaches D.SectorDevice.state v self.old path directory.value last.entry
             → Serves D.SectorDevice.state v (seen self.new) (Symlink text.now path)
             (answer_by (λ _. Done) result) }
     {
-        // No volume has an object of this number.
-        if directory == 0 {
-            return Err(FsError::Device);
-        }
         let Some(last) = last else {
             return Err(FsError::Exist);
         };
@@ -78,15 +73,13 @@ impl<D: SectorDevice> Fs<D> {
     }
 
     /// Drafts a link with its text, without a name.
-    pub(crate) fn draft_link(&mut self, number: u16, text: &[u8]) -> Result<(), FsError>
-        requires first { 1 ≤ number }
-        requires last { number ≤ 4095 }
+    pub(crate) fn draft_link(&mut self, number: FileNumber, text: &[u8]) -> Result<(), FsError>
         requires good { text_refusal text.now ≡ None }
         requires running { self.old.store.log.halted ≡ false }
         ensures still { IsStill D.SectorDevice.state (seen self.old) (seen self.new) }
         ensures drafted { OnOk result (DraftsLink D.SectorDevice.state self.old.store.log
             self.new.store.log self.old.store.draft.changes self.new.store.draft.changes
-            self.old.store.drafted self.new.store.drafted number text.now) }
+            self.old.store.drafted self.new.store.drafted number.value text.now) }
         ensures small { OnOk result (GrowsBy self.old.store.draft.changes
             self.new.store.draft.changes 2 2) }
         ensures refused { IfErr result (DraftsNone D.SectorDevice.state self.old self.new) }

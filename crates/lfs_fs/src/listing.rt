@@ -10,7 +10,7 @@ use crate::error::FsError;
 use crate::fs::Fs;
 use crate::rows::Entry;
 use lfs_device::SectorDevice;
-use lfs_model::Kind;
+use lfs_model::{FileNumber, Kind};
 use lfs_path::dirs;
 use lfs_path::tree::resolve;
 use lfs_store::Header;
@@ -37,17 +37,13 @@ impl<D: SectorDevice> Fs<D> {
     }
 
     /// The entries of a directory that is there.
-    fn entries_at(&mut self, number: u16) -> Result<Vec<Entry>, FsError>
+    fn entries_at(&mut self, number: FileNumber) -> Result<Vec<Entry>, FsError>
         ensures reads { OnlyReads D.SectorDevice.state self.old self.new }
         ensures answer { IfOk result (λ entries. TellsNode D.SectorDevice.state self.old self.new
-            number entries.items) }
+            number.value entries.items) }
         ensures missing { IfErr result (λ fault. LacksNode D.SectorDevice.state self.old self.new
-            number fault) }
+            number.value fault) }
     {
-        // No volume has an object of a greater number.
-        if number > 4_095 {
-            return Err(FsError::Device);
-        }
         let header = match self.header(number) {
             Ok(header) => header,
             Err(fault) => return Err(fault),
@@ -60,13 +56,12 @@ impl<D: SectorDevice> Fs<D> {
     }
 
     /// The entries of a directory of this header.
-    fn entries_in(&mut self, directory: u16, header: Header) -> Result<Vec<Entry>, FsError>
-        requires { directory < 4096 }
+    fn entries_in(&mut self, directory: FileNumber, header: Header) -> Result<Vec<Entry>, FsError>
         ensures reads { OnlyReads D.SectorDevice.state self.old self.new }
         ensures answer { IfOk result (λ entries. TellsListing D.SectorDevice.state self.old self.new
-            directory header entries.items) }
+            directory.value header entries.items) }
         ensures missing { IfErr result (λ fault. LacksDirectory D.SectorDevice.state self.old
-            self.new directory header fault) }
+            self.new directory.value header fault) }
     {
         match dirs::list(self.alloc, &mut self.store, directory, header) {
             Ok(names) => self.entries(names),

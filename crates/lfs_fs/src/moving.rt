@@ -9,7 +9,7 @@ ghost use Rattle.lfs_store.specs.Recounting.{Counts};
 ghost use Rattle.lfs_path.specs.dirs.Taking.{shrunk};
 ghost use Rattle.lfs_fs.specs.Drafted.{Adds};
 ghost use Rattle.lfs_fs.specs.Naming.{DraftsNone};
-ghost use Rattle.lfs_fs.specs.Renaming.{DraftsLinks, DraftsMove, DropsFound, DropsObject, FailsMove, FailsName, FailsOver, InRange, MayMove, MovesEntry, MovesNone, NamesFound, RepointsTo, RelinksBoth, RelinksWhere, fewer_links as fewer_of, first_holder, gains_directory as gains_of, is_directory as holds_names, loses_directory as loses_of, more_links as more_of};
+ghost use Rattle.lfs_fs.specs.Renaming.{DraftsLinks, DraftsMove, DropsFound, DropsObject, FailsMove, FailsName, FailsOver, MayMove, MovesEntry, MovesNone, NamesFound, RepointsTo, RelinksBoth, RelinksWhere, fewer_links as fewer_of, first_holder, gains_directory as gains_of, is_directory as holds_names, loses_directory as loses_of, more_links as more_of};
 ghost use Rattle.lfs_fs.specs.Seen.{seen};
 ghost use Rattle.lfs_fs.specs.Unlinking.{TakesOut};
 ghost use Rattle.lfs_fs.specs.Volume.{IsStill};
@@ -17,21 +17,21 @@ ghost use Rattle.lfs_fs.specs.Volume.{IsStill};
 use crate::error::FsError;
 use crate::fs::Fs;
 use lfs_device::SectorDevice;
-use lfs_model::Kind;
+use lfs_model::{FileNumber, Kind};
 use lfs_path::dirs::{add, repoint, take};
 use lfs_store::Header;
 
 /// An object, and its header.
 #[derive(Clone, Copy)]
 pub(crate) struct Object {
-    pub number: u16,
+    pub number: FileNumber,
     pub header: Header,
 }
 
 /// A name of an object, which is to go.
 #[derive(Clone, Copy)]
 pub(crate) struct Source<'a> {
-    pub directory: u16,
+    pub directory: FileNumber,
     /// The directory's header.
     pub holder: Header,
     pub name: &'a [u8],
@@ -41,7 +41,7 @@ pub(crate) struct Source<'a> {
 /// A name that is to give it, and what that gives.
 #[derive(Clone, Copy)]
 pub(crate) struct Target<'a> {
-    pub directory: u16,
+    pub directory: FileNumber,
     /// The directory's header.
     pub holder: Header,
     pub name: &'a [u8],
@@ -130,21 +130,24 @@ impl<D: SectorDevice> Fs<D> {
     }
 
     /// Drafts a name away that is there.
-    fn take_name(&mut self, directory: u16, holder: Header, name: &[u8]) -> Result<(), FsError>
-        requires some { 1 ≤ directory }
-        requires few { directory ≤ 4095 }
+    fn take_name(
+        &mut self,
+        directory: FileNumber,
+        holder: Header,
+        name: &[u8],
+    ) -> Result<(), FsError>
         requires size { holder.size ≤ 65536 }
         requires running { self.old.store.log.halted ≡ false }
         ensures still { IsStill D.SectorDevice.state (seen self.old) (seen self.new) }
         ensures taken { OnOk result (TakesOut D.SectorDevice.state self.old.store.log
-            self.new.store.log self.old.store.draft.changes self.new.store.draft.changes directory
-            holder name.now self.old.store.drafted self.new.store.drafted) }
+            self.new.store.log self.old.store.draft.changes self.new.store.draft.changes
+            directory.value holder name.now self.old.store.drafted self.new.store.drafted) }
         ensures apart { OnOk result ((k : ℕ) → IsApart self.old.store.draft.changes.loss k
             → IsApart self.new.store.draft.changes.loss k) }
         ensures small { OnOk result (GrowsBy self.old.store.draft.changes
             self.new.store.draft.changes 2 2) }
-        ensures refused { IfErr result (FailsOver D.SectorDevice.state self.old self.new directory
-            holder name.now) }
+        ensures refused { IfErr result (FailsOver D.SectorDevice.state self.old self.new
+            directory.value holder name.now) }
     {
         match take(&mut self.store, directory, holder, name) {
             Ok(true) => Ok(()),
@@ -157,7 +160,6 @@ impl<D: SectorDevice> Fs<D> {
     /// Drafts a link less for what is replaced: without one it goes, unless a handle is open on it.
     /// A directory goes.
     pub(crate) fn drop_replaced(&mut self, replaced: Option<Object>) -> Result<(), FsError>
-        requires range { InRange replaced }
         requires running { self.old.store.log.halted ≡ false }
         requires empty { IsNoChange self.old.store.draft.changes }
         ensures still { IsStill D.SectorDevice.state (seen self.old) (seen self.new) }
@@ -179,13 +181,12 @@ impl<D: SectorDevice> Fs<D> {
     }
 
     /// Drafts a directory away, with all its blocks.
-    fn drop_directory(&mut self, number: u16) -> Result<(), FsError>
-        requires first { 1 ≤ number }
-        requires last { number ≤ 4095 }
+    fn drop_directory(&mut self, number: FileNumber) -> Result<(), FsError>
         requires running { self.old.store.log.halted ≡ false }
         requires empty { IsNoChange self.old.store.draft.changes }
         ensures still { IsStill D.SectorDevice.state (seen self.old) (seen self.new) }
-        ensures dropped { OnOk result (DropsObject D.SectorDevice.state self.old self.new number) }
+        ensures dropped { OnOk result (DropsObject D.SectorDevice.state self.old self.new
+            number.value) }
         ensures small { OnOk result (GrowsBy self.old.store.draft.changes
             self.new.store.draft.changes 0 0) }
         ensures refused { IfErr result (DraftsNone D.SectorDevice.state self.old self.new) }
@@ -237,20 +238,16 @@ impl<D: SectorDevice> Fs<D> {
         &mut self,
         target: Target<'_>,
         holder: Header,
-        number: u16,
+        number: FileNumber,
     ) -> Result<(), FsError>
-        requires some { 1 ≤ target.directory }
-        requires few { target.directory ≤ 4095 }
         requires size { holder.size ≤ 65536 }
         requires room { target.replaced ≡ None → holder.size ≤ 65472 }
-        requires first { 1 ≤ number }
-        requires last { number ≤ 4095 }
         requires name { IsName 59 target.name.now }
         requires running { self.old.store.log.halted ≡ false }
         ensures still { IsStill D.SectorDevice.state (seen self.old) (seen self.new) }
         ensures named { OnOk result (NamesFound D.SectorDevice.state target.entry.replaced
             self.old.store.log self.new.store.log self.old.store.draft.changes
-            self.new.store.draft.changes target.entry.directory holder number
+            self.new.store.draft.changes target.entry.directory.value holder number.value
             target.entry.name.now) }
         ensures counted { OnOk result (Counts D.SectorDevice.state self.old.store.log
             self.new.store.log self.old.store.draft.changes self.new.store.draft.changes
@@ -258,7 +255,7 @@ impl<D: SectorDevice> Fs<D> {
         ensures small { OnOk result (GrowsBy self.old.store.draft.changes
             self.new.store.draft.changes 1 2) }
         ensures refused { IfErr result (FailsName D.SectorDevice.state self.old self.new
-            target.entry.directory holder target.entry.name.now target.entry.replaced) }
+            target.entry.directory.value holder target.entry.name.now target.entry.replaced) }
     {
         match target.replaced {
             None => self.add_name(target.directory, holder, number, target.name),
@@ -269,22 +266,18 @@ impl<D: SectorDevice> Fs<D> {
     /// Drafts a name more.
     fn add_name(
         &mut self,
-        directory: u16,
+        directory: FileNumber,
         holder: Header,
-        number: u16,
+        number: FileNumber,
         name: &[u8],
     ) -> Result<(), FsError>
-        requires some { 1 ≤ directory }
-        requires few { directory ≤ 4095 }
         requires room { holder.size ≤ 65472 }
-        requires first { 1 ≤ number }
-        requires last { number ≤ 4095 }
         requires name { IsName 59 name.now }
         requires running { self.old.store.log.halted ≡ false }
         ensures still { IsStill D.SectorDevice.state (seen self.old) (seen self.new) }
-        ensures named { OnOk result (Adds D.SectorDevice.state self.old.store.log
-            self.new.store.log self.old.store.draft.changes self.new.store.draft.changes directory
-            holder number name.now) }
+        ensures named { OnOk result (Adds D.SectorDevice.state self.old.store.log self.new.store.log
+            self.old.store.draft.changes self.new.store.draft.changes directory.value holder
+            number.value name.now) }
         ensures counted { OnOk result (Counts D.SectorDevice.state self.old.store.log
             self.new.store.log self.old.store.draft.changes self.new.store.draft.changes
             self.old.store.drafted self.new.store.drafted) }
@@ -301,29 +294,25 @@ impl<D: SectorDevice> Fs<D> {
     /// Drafts another number for a name that is there.
     fn repoint_name(
         &mut self,
-        directory: u16,
+        directory: FileNumber,
         holder: Header,
-        number: u16,
+        number: FileNumber,
         name: &[u8],
     ) -> Result<(), FsError>
-        requires some { 1 ≤ directory }
-        requires few { directory ≤ 4095 }
         requires size { holder.size ≤ 65536 }
-        requires first { 1 ≤ number }
-        requires last { number ≤ 4095 }
         requires name { IsName 59 name.now }
         requires running { self.old.store.log.halted ≡ false }
         ensures still { IsStill D.SectorDevice.state (seen self.old) (seen self.new) }
         ensures named { OnOk result (RepointsTo D.SectorDevice.state self.old.store.log
-            self.new.store.log self.old.store.draft.changes self.new.store.draft.changes directory
-            holder number name.now) }
+            self.new.store.log self.old.store.draft.changes self.new.store.draft.changes
+            directory.value holder number.value name.now) }
         ensures counted { OnOk result (Counts D.SectorDevice.state self.old.store.log
             self.new.store.log self.old.store.draft.changes self.new.store.draft.changes
             self.old.store.drafted self.new.store.drafted) }
         ensures small { OnOk result (GrowsBy self.old.store.draft.changes
             self.new.store.draft.changes 1 2) }
-        ensures refused { IfErr result (FailsOver D.SectorDevice.state self.old self.new directory
-            holder name.now) }
+        ensures refused { IfErr result (FailsOver D.SectorDevice.state self.old self.new
+            directory.value holder name.now) }
     {
         match repoint(&mut self.store, directory, holder, name, number) {
             Ok(true) => Ok(()),
@@ -337,12 +326,10 @@ impl<D: SectorDevice> Fs<D> {
     fn relink_where(
         &mut self,
         changes: bool,
-        directory: u16,
+        directory: FileNumber,
         header: Header,
         links: u32,
     ) -> Result<Header, FsError>
-        requires some { 1 ≤ directory }
-        requires few { directory ≤ 4095 }
         requires linked { changes ≡ true → 1 ≤ links }
         requires same { changes ≡ false → links ≡ header.links }
         ensures log { self.new.store.log ≡ self.old.store.log }
@@ -351,7 +338,7 @@ impl<D: SectorDevice> Fs<D> {
         ensures handles { self.new.handles ≡ self.old.handles }
         ensures header { IfOk result (λ now. now ≡ relinked header links) }
         ensures done { OnOk result (RelinksWhere changes self.old.store.draft.changes
-            self.new.store.draft.changes directory header links self.new.store.drafted) }
+            self.new.store.draft.changes directory.value header links self.new.store.drafted) }
         ensures small { OnOk result (GrowsBy self.old.store.draft.changes
             self.new.store.draft.changes 1 0) }
         ensures fault { IfErr result (λ fault. fault ≡ FsError.NoMemory) }
@@ -386,7 +373,7 @@ fn loses_directory(source: Source<'_>, target: Target<'_>) -> bool
     ensures { result ≡ loses_of source.entry target.entry }
 {
     is_directory(source.object.header.kind)
-        && (source.directory != target.directory || target.replaced.is_some())
+        && (source.directory.value != target.directory.value || target.replaced.is_some())
 }
 
 /// Whether the second directory has a directory more.
@@ -394,7 +381,7 @@ fn gains_directory(source: Source<'_>, target: Target<'_>) -> bool
     ensures { result ≡ gains_of source.entry target.entry }
 {
     is_directory(source.object.header.kind)
-        && (source.directory != target.directory && target.replaced.is_none())
+        && (source.directory.value != target.directory.value && target.replaced.is_none())
 }
 
 /// The links of a directory that may have a directory less.
@@ -418,10 +405,14 @@ fn more_links(gains: bool, links: u32) -> u32
 
 /// The header of the second directory behind the loss of a name: where it is the first, it is a
 /// slot shorter.
-fn later_holder(first: u16, second: u16, from: Header, to: Header) -> Header
-    ensures { result ≡ (if first == second then shrunk from else to) }
+fn later_holder(first: FileNumber, second: FileNumber, from: Header, to: Header) -> Header
+    ensures { result ≡ (if first.value == second.value then shrunk from else to) }
 {
-    if first == second { shorter(from) } else { to }
+    if first.value == second.value {
+        shorter(from)
+    } else {
+        to
+    }
 }
 
 /// The header of a directory that has a slot less.

@@ -6,6 +6,7 @@ ghost use Rattle.lfs_model.specs.Slot.{IsName};
 ghost use Rattle.lfs_store.specs.memory.Batch.{IsNoChange};
 ghost use Rattle.lfs_store.specs.Growing.{GrowsBy};
 ghost use Rattle.lfs_store.specs.Making.{relinked};
+ghost use Rattle.lfs_path.specs.dirs.Finding.{value_of};
 ghost use Rattle.lfs_fs.specs.Volume.{IsStill, Mounted, Serves};
 ghost use Rattle.lfs_fs.specs.Seen.{seen, answer_by, OnlyReads};
 ghost use Rattle.lfs_fs.specs.Naming.{DraftsEmpty, DraftsNew, DraftsNone, DraftsObject, LooksNone, LooksUp, MakesNew, MakesNone, OpensNone, OpensNumber, Reaches, RefusesEntry, RelinksParent, TakesEntry, more_links, new_kind};
@@ -14,7 +15,7 @@ use crate::error::FsError;
 use crate::fs::Fs;
 use lfs_device::SectorDevice;
 use lfs_layout::is_name;
-use lfs_model::Kind;
+use lfs_model::{FileNumber, Kind};
 use lfs_path::Last;
 use lfs_path::dirs::{add, find};
 use lfs_path::text::is_dots;
@@ -51,9 +52,11 @@ impl<D: SectorDevice> Fs<D> {
     }
 
     /// A handle on the file of a number.
-    fn open_number(&mut self, number: u16) -> Result<u32, FsError>
-        ensures opened { IfOk result (OpensNumber D.SectorDevice.state self.old self.new number) }
-        ensures refused { IfErr result (OpensNone D.SectorDevice.state self.old self.new number) }
+    fn open_number(&mut self, number: FileNumber) -> Result<u32, FsError>
+        ensures opened { IfOk result (OpensNumber D.SectorDevice.state self.old self.new
+            number.value) }
+        ensures refused { IfErr result (OpensNone D.SectorDevice.state self.old self.new
+            number.value) }
     {
         let stat = match self.stat_of(number) {
             Ok(stat) => stat,
@@ -93,19 +96,14 @@ impl<D: SectorDevice> Fs<D> {
     }
 
     /// Makes an empty file under the last piece of a path, which stands in this directory.
-    fn create_at(&mut self, directory: u16, last: Option<Last<'_>>) -> Result<u32, FsError>
-        requires few { directory ≤ 4095 }
+    fn create_at(&mut self, directory: FileNumber, last: Option<Last<'_>>) -> Result<u32, FsError>
         requires running { self.old.store.log.halted ≡ false }
         requires empty { IsNoChange self.old.store.draft.changes }
         ensures { (v : Mounted D) (path : List ℕ)
-            → Reaches D.SectorDevice.state v self.old path directory last.entry
+            → Reaches D.SectorDevice.state v self.old path directory.value last.entry
             → Serves D.SectorDevice.state v (seen self.new) (Create path)
             (answer_by Handle result) }
     {
-        // No volume has an object of this number.
-        if directory == 0 {
-            return Err(FsError::Device);
-        }
         let Some(last) = last else {
             return Err(FsError::Exist);
         };
@@ -149,19 +147,14 @@ impl<D: SectorDevice> Fs<D> {
     }
 
     /// Makes an empty directory under the last piece of a path, which stands in this directory.
-    fn mkdir_at(&mut self, directory: u16, last: Option<Last<'_>>) -> Result<(), FsError>
-        requires few { directory ≤ 4095 }
+    fn mkdir_at(&mut self, directory: FileNumber, last: Option<Last<'_>>) -> Result<(), FsError>
         requires running { self.old.store.log.halted ≡ false }
         requires empty { IsNoChange self.old.store.draft.changes }
         ensures { (v : Mounted D) (path : List ℕ)
-            → Reaches D.SectorDevice.state v self.old path directory last.entry
+            → Reaches D.SectorDevice.state v self.old path directory.value last.entry
             → Serves D.SectorDevice.state v (seen self.new) (Mkdir path)
             (answer_by (λ _. Done) result) }
     {
-        // No volume has an object of this number.
-        if directory == 0 {
-            return Err(FsError::Device);
-        }
         let Some(last) = last else {
             return Err(FsError::Exist);
         };
@@ -181,16 +174,14 @@ impl<D: SectorDevice> Fs<D> {
     /// The header of a directory, and the number that a name gives in it.
     pub(crate) fn look_in(
         &mut self,
-        directory: u16,
+        directory: FileNumber,
         name: &[u8],
-    ) -> Result<(Header, Option<u16>), FsError>
-        requires { directory ≤ 4095 }
+    ) -> Result<(Header, Option<FileNumber>), FsError>
         ensures reads { OnlyReads D.SectorDevice.state self.old self.new }
         ensures answer { IfOk result (λ found. LooksUp D.SectorDevice.state self.old self.new
-            directory name.now found.0 found.1) }
-        ensures number { IfOk result (λ found. IfSome found.1 (λ number. number < 4096)) }
+            directory.value name.now found.0 (value_of found.1)) }
         ensures missing { IfErr result (LooksNone D.SectorDevice.state self.old self.new
-            directory) }
+            directory.value) }
     {
         let header = match self.header(directory) {
             Ok(header) => header,
@@ -206,16 +197,15 @@ impl<D: SectorDevice> Fs<D> {
     /// of a directory that is to be made.
     pub(crate) fn check_new_entry(
         &mut self,
-        directory: u16,
+        directory: FileNumber,
         last: Last<'_>,
         is_mkdir: bool,
     ) -> Result<Header, FsError>
-        requires { directory ≤ 4095 }
         ensures reads { OnlyReads D.SectorDevice.state self.old self.new }
-        ensures taken { IfOk result (TakesEntry D.SectorDevice.state self.old self.new directory
-            last.entry.name.now last.entry.slash is_mkdir) }
+        ensures taken { IfOk result (TakesEntry D.SectorDevice.state self.old self.new
+            directory.value last.entry.name.now last.entry.slash is_mkdir) }
         ensures refused { IfErr result (RefusesEntry D.SectorDevice.state self.old self.new
-            directory last.entry.name.now last.entry.slash is_mkdir) }
+            directory.value last.entry.name.now last.entry.slash is_mkdir) }
     {
         if is_dots(last.name) {
             return Err(FsError::Exist);
@@ -246,27 +236,23 @@ impl<D: SectorDevice> Fs<D> {
     /// Makes an object of this number, with this name in a directory. Only a link has a text.
     pub(crate) fn make_entry(
         &mut self,
-        directory: u16,
+        directory: FileNumber,
         header: Header,
-        number: u16,
+        number: FileNumber,
         kind: Kind,
         text: &[u8],
         name: &[u8],
     ) -> Result<(), FsError>
-        requires some { 1 ≤ directory }
-        requires few { directory ≤ 4095 }
         requires room { header.size ≤ 65472 }
         requires linked { kind ≡ Kind.Directory → header.links < 1000 }
-        requires first { 1 ≤ number }
-        requires last { number ≤ 4095 }
         requires text { kind ≡ Kind.Link → text_refusal text.now ≡ None }
         requires name { IsName 59 name.now }
         requires running { self.old.store.log.halted ≡ false }
         requires empty { IsNoChange self.old.store.draft.changes }
-        ensures made { OnOk result (MakesNew D.SectorDevice.state self.old self.new directory header
-            number (new_kind kind text.now) name.now) }
-        ensures refused { IfErr result (MakesNone D.SectorDevice.state self.old self.new directory
-            header number (new_kind kind text.now) name.now) }
+        ensures made { OnOk result (MakesNew D.SectorDevice.state self.old self.new directory.value
+            header number.value (new_kind kind text.now) name.now) }
+        ensures refused { IfErr result (MakesNone D.SectorDevice.state self.old self.new
+            directory.value header number.value (new_kind kind text.now) name.now) }
     {
         match self.draft_entry(directory, header, number, kind, text, name) {
             Ok(()) => self.accept(),
@@ -280,25 +266,21 @@ impl<D: SectorDevice> Fs<D> {
     /// Drafts an object and its name.
     fn draft_entry(
         &mut self,
-        directory: u16,
+        directory: FileNumber,
         header: Header,
-        number: u16,
+        number: FileNumber,
         kind: Kind,
         text: &[u8],
         name: &[u8],
     ) -> Result<(), FsError>
-        requires some { 1 ≤ directory }
-        requires few { directory ≤ 4095 }
         requires room { header.size ≤ 65472 }
         requires linked { kind ≡ Kind.Directory → header.links < 1000 }
-        requires first { 1 ≤ number }
-        requires last { number ≤ 4095 }
         requires text { kind ≡ Kind.Link → text_refusal text.now ≡ None }
         requires name { IsName 59 name.now }
         requires running { self.old.store.log.halted ≡ false }
         ensures still { IsStill D.SectorDevice.state (seen self.old) (seen self.new) }
-        ensures drafted { OnOk result (DraftsNew D.SectorDevice.state self.old self.new directory
-            header number (new_kind kind text.now) name.now) }
+        ensures drafted { OnOk result (DraftsNew D.SectorDevice.state self.old self.new
+            directory.value header number.value (new_kind kind text.now) name.now) }
         ensures small { OnOk result (GrowsBy self.old.store.draft.changes
             self.new.store.draft.changes 4 4) }
         ensures refused { IfErr result (DraftsNone D.SectorDevice.state self.old self.new) }
@@ -318,15 +300,13 @@ impl<D: SectorDevice> Fs<D> {
     }
 
     /// Drafts an object without a name.
-    fn draft_object(&mut self, number: u16, kind: Kind, text: &[u8]) -> Result<(), FsError>
-        requires first { 1 ≤ number }
-        requires last { number ≤ 4095 }
+    fn draft_object(&mut self, number: FileNumber, kind: Kind, text: &[u8]) -> Result<(), FsError>
         requires text { kind ≡ Kind.Link → text_refusal text.now ≡ None }
         requires running { self.old.store.log.halted ≡ false }
         ensures still { IsStill D.SectorDevice.state (seen self.old) (seen self.new) }
         ensures drafted { OnOk result (DraftsObject D.SectorDevice.state self.old.store.log
             self.new.store.log self.old.store.draft.changes self.new.store.draft.changes
-            self.old.store.drafted self.new.store.drafted number (new_kind kind text.now)) }
+            self.old.store.drafted self.new.store.drafted number.value (new_kind kind text.now)) }
         ensures small { OnOk result (GrowsBy self.old.store.draft.changes
             self.new.store.draft.changes 2 2) }
         ensures refused { IfErr result (DraftsNone D.SectorDevice.state self.old self.new) }
@@ -339,12 +319,10 @@ impl<D: SectorDevice> Fs<D> {
     }
 
     /// Drafts a file or a directory without a byte.
-    fn draft_empty(&mut self, number: u16, kind: Kind) -> Result<(), FsError>
-        requires first { 1 ≤ number }
-        requires last { number ≤ 4095 }
+    fn draft_empty(&mut self, number: FileNumber, kind: Kind) -> Result<(), FsError>
         ensures still { IsStill D.SectorDevice.state (seen self.old) (seen self.new) }
         ensures drafted { OnOk result (DraftsEmpty self.old.store.draft.changes
-            self.new.store.draft.changes self.old.store.drafted self.new.store.drafted number
+            self.new.store.draft.changes self.old.store.drafted self.new.store.drafted number.value
             kind) }
         ensures small { OnOk result (GrowsBy self.old.store.draft.changes
             self.new.store.draft.changes 1 0) }
@@ -359,12 +337,10 @@ impl<D: SectorDevice> Fs<D> {
     /// Drafts the links of a directory that gets an entry of this kind, and gives its header.
     fn relink_parent(
         &mut self,
-        directory: u16,
+        directory: FileNumber,
         header: Header,
         kind: Kind,
     ) -> Result<Header, FsError>
-        requires some { 1 ≤ directory }
-        requires few { directory ≤ 4095 }
         requires linked { kind ≡ Kind.Directory → header.links < 1000 }
         ensures log { self.new.store.log ≡ self.old.store.log }
         ensures saved { self.new.store.saved ≡ self.old.store.saved }
@@ -372,7 +348,7 @@ impl<D: SectorDevice> Fs<D> {
         ensures handles { self.new.handles ≡ self.old.handles }
         ensures header { IfOk result (λ now. now ≡ relinked header (more_links kind header.links)) }
         ensures done { OnOk result (RelinksParent self.old.store.draft.changes
-            self.new.store.draft.changes directory header self.new.store.drafted kind) }
+            self.new.store.draft.changes directory.value header self.new.store.drafted kind) }
         ensures small { OnOk result (GrowsBy self.old.store.draft.changes
             self.new.store.draft.changes 1 0) }
         ensures fault { IfErr result (λ fault. fault ≡ FsError.NoMemory) }
@@ -385,9 +361,7 @@ impl<D: SectorDevice> Fs<D> {
     }
 
     /// Drafts one link more of a directory.
-    fn add_link(&mut self, directory: u16, header: Header) -> Result<Header, FsError>
-        requires some { 1 ≤ directory }
-        requires few { directory ≤ 4095 }
+    fn add_link(&mut self, directory: FileNumber, header: Header) -> Result<Header, FsError>
         requires linked { header.links < 1000 }
         ensures log { self.new.store.log ≡ self.old.store.log }
         ensures saved { self.new.store.saved ≡ self.old.store.saved }
@@ -395,7 +369,8 @@ impl<D: SectorDevice> Fs<D> {
         ensures handles { self.new.handles ≡ self.old.handles }
         ensures header { IfOk result (λ now. now ≡ relinked header (header.links + 1)) }
         ensures done { OnOk result (RelinksParent self.old.store.draft.changes
-            self.new.store.draft.changes directory header self.new.store.drafted Kind.Directory) }
+            self.new.store.draft.changes directory.value header self.new.store.drafted
+            Kind.Directory) }
         ensures small { OnOk result (GrowsBy self.old.store.draft.changes
             self.new.store.draft.changes 1 0) }
         ensures fault { IfErr result (λ fault. fault ≡ FsError.NoMemory) }

@@ -7,7 +7,7 @@ use crate::error::FsError;
 use crate::fs::Fs;
 use crate::naming::LONGEST_NAME;
 use lfs_device::SectorDevice;
-use lfs_model::Kind;
+use lfs_model::{FileNumber, Kind};
 use lfs_path::Last;
 use lfs_path::text::is_dots;
 use lfs_store::Header;
@@ -20,7 +20,7 @@ pub(crate) const MOST_BYTES: u32 = 65_536;
 pub(crate) struct OldEntry {
     /// The directory's header.
     pub holder: Header,
-    pub number: u16,
+    pub number: FileNumber,
     /// The object's header.
     pub header: Header,
 }
@@ -34,18 +34,15 @@ impl<D: SectorDevice> Fs<D> {
     /// follows the name of what is no directory; `Perm` for a directory.
     pub(crate) fn check_old_entry(
         &mut self,
-        directory: u16,
+        directory: FileNumber,
         last: Last<'_>,
     ) -> Result<OldEntry, FsError>
-        requires { directory ≤ 4095 }
         ensures reads { OnlyReads D.SectorDevice.state self.old self.new }
-        ensures has { IfOk result (λ e. HasEntry D.SectorDevice.state self.old self.new directory
-            last.entry.name.now last.entry.slash e.holder e.number e.header) }
-        ensures first { IfOk result (λ e. 1 ≤ e.number) }
-        ensures few { IfOk result (λ e. e.number ≤ 4095) }
+        ensures has { IfOk result (λ e. HasEntry D.SectorDevice.state self.old self.new
+            directory.value last.entry.name.now last.entry.slash e.holder e.number.value e.header) }
         ensures size { IfOk result (λ e. e.holder.size ≤ 65536) }
-        ensures refused { IfErr result (RefusesOld D.SectorDevice.state self.old self.new directory
-            last.entry.name.now last.entry.slash) }
+        ensures refused { IfErr result (RefusesOld D.SectorDevice.state self.old self.new
+            directory.value last.entry.name.now last.entry.slash) }
     {
         if is_dots(last.name) {
             return Err(FsError::Perm);
@@ -60,11 +57,8 @@ impl<D: SectorDevice> Fs<D> {
         let Some(number) = found else {
             return Err(FsError::NoEntry);
         };
-        // No volume has such a directory, or an object of this number.
+        // No volume has such a directory.
         if holder.size > MOST_BYTES {
-            return Err(FsError::Device);
-        }
-        if number == 0 {
             return Err(FsError::Device);
         }
         let header = match self.header(number) {

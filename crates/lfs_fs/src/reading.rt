@@ -11,7 +11,7 @@ use crate::error::FsError;
 use crate::fs::Fs;
 use crate::rows::{Space, Stat, TreeRow};
 use lfs_device::SectorDevice;
-use lfs_model::Kind;
+use lfs_model::{FileNumber, Kind};
 use lfs_path::dirs::{Entry, list};
 use lfs_path::tree::resolve;
 use lfs_store::Header;
@@ -56,19 +56,16 @@ impl<D: SectorDevice> Fs<D> {
     /// The bytes of a file from `offset` on, at most `len`.
     pub(crate) fn read_file(
         &mut self,
-        number: u16,
+        number: FileNumber,
         offset: u64,
         len: u32,
     ) -> Result<Vec<u8>, FsError>
         ensures reads { OnlyReads D.SectorDevice.state self.old self.new }
         ensures answer { IfOk result (λ bytes. ReadsFile D.SectorDevice.state self.old self.new
-            number offset len bytes.items) }
+            number.value offset len bytes.items) }
         ensures missing { IfErr result (λ fault. LacksBytes D.SectorDevice.state self.old self.new
-            number fault) }
+            number.value fault) }
     {
-        if number > 4_095 {
-            return Err(FsError::Device);
-        }
         let size = match self.header(number) {
             Ok(header) => header.size,
             Err(fault) => return Err(fault),
@@ -126,22 +123,19 @@ impl<D: SectorDevice> Fs<D> {
     }
 
     /// What is told of an object that is there.
-    pub(crate) fn stat_of(&mut self, number: u16) -> Result<Stat, FsError>
+    pub(crate) fn stat_of(&mut self, number: FileNumber) -> Result<Stat, FsError>
         ensures reads { OnlyReads D.SectorDevice.state self.old self.new }
         ensures answer { IfOk result (λ stat. TellsStat D.SectorDevice.state self.old self.new
-            number stat) }
+            number.value stat) }
         ensures missing { IfErr result (λ fault. LacksObject D.SectorDevice.state self.old self.new
-            number fault) }
+            number.value fault) }
     {
-        if number > 4_095 {
-            return Err(FsError::Device);
-        }
         let header = match self.header(number) {
             Ok(header) => header,
             Err(fault) => return Err(fault),
         };
         Ok(Stat {
-            number: u32::from(number),
+            number: u32::from(number.value),
             kind: header.kind,
             links: header.links,
             size: u64::from(header.size),
@@ -168,12 +162,12 @@ impl<D: SectorDevice> Fs<D> {
     }
 
     /// The text of a link that is there.
-    fn text_of(&mut self, number: u16) -> Result<Vec<u8>, FsError>
+    fn text_of(&mut self, number: FileNumber) -> Result<Vec<u8>, FsError>
         ensures reads { OnlyReads D.SectorDevice.state self.old self.new }
         ensures answer { IfOk result (λ text. TellsText D.SectorDevice.state self.old self.new
-            number text.items) }
+            number.value text.items) }
         ensures missing { IfErr result (λ fault. LacksText D.SectorDevice.state self.old self.new
-            number fault) }
+            number.value fault) }
     {
         let stat = match self.stat_of(number) {
             Ok(stat) => stat,
@@ -229,6 +223,7 @@ impl<D: SectorDevice> Fs<D> {
     {
         let mut rows = Vec::new(self.alloc);
         for number in 1..NUMBERS {
+            let number = FileNumber { value: number };
             match self.push_rows(number, &mut rows) {
                 Ok(()) => {}
                 Err(fault) => return Err(fault),
@@ -238,11 +233,10 @@ impl<D: SectorDevice> Fs<D> {
     }
 
     /// Puts the rows of what stands at a number behind others.
-    fn push_rows(&mut self, number: u16, rows: &mut Vec<TreeRow>) -> Result<(), FsError>
-        requires { number < 4096 }
+    fn push_rows(&mut self, number: FileNumber, rows: &mut Vec<TreeRow>) -> Result<(), FsError>
         ensures reads { OnlyReads D.SectorDevice.state self.old self.new }
         ensures answer { OnOk result ((more : List TreeRow) × (rows.new.items ≡ rows.old.items ++
-            more) × TellsNames D.SectorDevice.state self.old self.new number more) }
+            more) × TellsNames D.SectorDevice.state self.old self.new number.value more) }
         ensures missing { IfErr result (λ fault. LacksNames D.SectorDevice.state self.old self.new
             fault) }
     {
@@ -254,11 +248,10 @@ impl<D: SectorDevice> Fs<D> {
     }
 
     /// The rows of the names in what stands at a number: only a directory has some.
-    fn rows_at(&mut self, number: u16) -> Result<Vec<TreeRow>, FsError>
-        requires { number < 4096 }
+    fn rows_at(&mut self, number: FileNumber) -> Result<Vec<TreeRow>, FsError>
         ensures reads { OnlyReads D.SectorDevice.state self.old self.new }
         ensures answer { IfOk result (λ rows. TellsNames D.SectorDevice.state self.old self.new
-            number rows.items) }
+            number.value rows.items) }
         ensures missing { IfErr result (λ fault. LacksNames D.SectorDevice.state self.old self.new
             fault) }
     {
@@ -274,13 +267,12 @@ impl<D: SectorDevice> Fs<D> {
     }
 
     /// The rows of the names in a directory of this header.
-    fn rows_in(&mut self, directory: u16, header: Header) -> Result<Vec<TreeRow>, FsError>
-        requires { directory < 4096 }
+    fn rows_in(&mut self, directory: FileNumber, header: Header) -> Result<Vec<TreeRow>, FsError>
         ensures reads { OnlyReads D.SectorDevice.state self.old self.new }
         ensures answer { IfOk result (λ rows. TellsDirectory D.SectorDevice.state self.old self.new
-            directory header rows.items) }
+            directory.value header rows.items) }
         ensures missing { IfErr result (λ fault. LacksDirectory D.SectorDevice.state self.old
-            self.new directory header fault) }
+            self.new directory.value header fault) }
     {
         match list(self.alloc, &mut self.store, directory, header) {
             Ok(entries) => self.entry_rows(directory, entries),
@@ -289,12 +281,16 @@ impl<D: SectorDevice> Fs<D> {
     }
 
     /// The rows of entries of a directory.
-    fn entry_rows(&mut self, directory: u16, entries: Vec<Entry>) -> Result<Vec<TreeRow>, FsError>
+    fn entry_rows(
+        &mut self,
+        directory: FileNumber,
+        entries: Vec<Entry>,
+    ) -> Result<Vec<TreeRow>, FsError>
         ensures reads { OnlyReads D.SectorDevice.state self.old self.new }
         ensures answer { IfOk result (λ rows. TellsRows D.SectorDevice.state self.old self.new
-            directory entries.items rows.items) }
+            directory.value entries.items rows.items) }
         ensures missing { IfErr result (λ fault. LacksRows D.SectorDevice.state self.old self.new
-            directory entries.items fault) }
+            directory.value entries.items fault) }
     {
         let Ok(mut rows) = Vec::with_capacity(self.alloc, entries.len()) else {
             return Err(FsError::NoMemory);
@@ -311,15 +307,15 @@ impl<D: SectorDevice> Fs<D> {
     /// Puts the row of an entry of a directory behind others.
     fn push_row(
         &mut self,
-        directory: u16,
+        directory: FileNumber,
         entry: Entry,
         rows: &mut Vec<TreeRow>,
     ) -> Result<(), FsError>
         ensures reads { OnlyReads D.SectorDevice.state self.old self.new }
         ensures answer { OnOk result ((row : TreeRow) × (rows.new.items ≡ rows.old.items ++ row ∷
-            []) × TellsRow D.SectorDevice.state self.old self.new directory entry row) }
+            []) × TellsRow D.SectorDevice.state self.old self.new directory.value entry row) }
         ensures missing { IfErr result (λ fault. LacksRow D.SectorDevice.state self.old self.new
-            directory entry fault) }
+            directory.value entry fault) }
     {
         let row = match self.row(directory, entry) {
             Ok(row) => row,
@@ -329,12 +325,12 @@ impl<D: SectorDevice> Fs<D> {
     }
 
     /// The row of an entry of a directory.
-    fn row(&mut self, directory: u16, entry: Entry) -> Result<TreeRow, FsError>
+    fn row(&mut self, directory: FileNumber, entry: Entry) -> Result<TreeRow, FsError>
         ensures reads { OnlyReads D.SectorDevice.state self.old self.new }
         ensures answer { IfOk result (λ row. TellsRow D.SectorDevice.state self.old self.new
-            directory entry row) }
+            directory.value entry row) }
         ensures missing { IfErr result (λ fault. LacksRow D.SectorDevice.state self.old self.new
-            directory entry fault) }
+            directory.value entry fault) }
     {
         let stat = match self.stat_of(entry.number) {
             Ok(stat) => stat,
@@ -345,7 +341,7 @@ impl<D: SectorDevice> Fs<D> {
             Err(fault) => return Err(fault),
         };
         Ok(TreeRow {
-            directory: u32::from(directory),
+            directory: u32::from(directory.value),
             name: entry.name,
             kind: stat.kind,
             number: stat.number,
@@ -356,12 +352,12 @@ impl<D: SectorDevice> Fs<D> {
     }
 
     /// What `tree` shows of an object of this kind: the first bytes of a file, the text of a link.
-    fn head_of(&mut self, number: u16, kind: Kind) -> Result<Vec<u8>, FsError>
+    fn head_of(&mut self, number: FileNumber, kind: Kind) -> Result<Vec<u8>, FsError>
         ensures reads { OnlyReads D.SectorDevice.state self.old self.new }
         ensures answer { IfOk result (λ head. ReadsHead D.SectorDevice.state self.old self.new
-            number kind head.items) }
+            number.value kind head.items) }
         ensures missing { IfErr result (λ fault. LacksBytes D.SectorDevice.state self.old self.new
-            number fault) }
+            number.value fault) }
     {
         match kind {
             Kind::File => self.read_file(number, 0, LONGEST_HEAD),

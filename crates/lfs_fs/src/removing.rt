@@ -16,6 +16,7 @@ use crate::fs::Fs;
 use crate::naming::LONGEST_NAME;
 use crate::old_entry::{MOST_BYTES, OldEntry, is_directory};
 use lfs_device::SectorDevice;
+use lfs_model::FileNumber;
 use lfs_path::Last;
 use lfs_path::dirs::take;
 use lfs_path::text::is_dots;
@@ -49,19 +50,14 @@ impl<D: SectorDevice> Fs<D> {
 
     /// Takes the empty directory away that is the last piece of a path, which stands in this
     /// directory.
-    fn rmdir_at(&mut self, directory: u16, last: Option<Last<'_>>) -> Result<(), FsError>
-        requires few { directory ≤ 4095 }
+    fn rmdir_at(&mut self, directory: FileNumber, last: Option<Last<'_>>) -> Result<(), FsError>
         requires running { self.old.store.log.halted ≡ false }
         requires empty { IsNoChange self.old.store.draft.changes }
         ensures { (v : Mounted D) (path : List ℕ)
-            → Reaches D.SectorDevice.state v self.old path directory last.entry
+            → Reaches D.SectorDevice.state v self.old path directory.value last.entry
             → Serves D.SectorDevice.state v (seen self.new) (Rmdir path)
             (answer_by (λ _. Done) result) }
     {
-        // No volume has an object of this number.
-        if directory == 0 {
-            return Err(FsError::Device);
-        }
         let Some(last) = last else {
             return Err(FsError::Busy);
         };
@@ -79,17 +75,14 @@ impl<D: SectorDevice> Fs<D> {
     }
 
     /// The rule of a directory that is to go, which it gives.
-    fn check_empty(&mut self, directory: u16, name: &[u8]) -> Result<OldEntry, FsError>
-        requires { directory ≤ 4095 }
+    fn check_empty(&mut self, directory: FileNumber, name: &[u8]) -> Result<OldEntry, FsError>
         ensures reads { OnlyReads D.SectorDevice.state self.old self.new }
-        ensures has { IfOk result (λ e. HasEmpty D.SectorDevice.state self.old self.new directory
-            name.now e.holder e.number e.header) }
-        ensures first { IfOk result (λ e. 1 ≤ e.number) }
-        ensures few { IfOk result (λ e. e.number ≤ 4095) }
+        ensures has { IfOk result (λ e. HasEmpty D.SectorDevice.state self.old self.new
+            directory.value name.now e.holder e.number.value e.header) }
         ensures size { IfOk result (λ e. e.holder.size ≤ 65536) }
         ensures links { IfOk result (λ e. 3 ≤ e.holder.links) }
         ensures refused { IfErr result (RefusesEmpty D.SectorDevice.state self.old self.new
-            directory name.now) }
+            directory.value name.now) }
     {
         if is_dots(name) {
             return Err(FsError::Inval);
@@ -104,11 +97,8 @@ impl<D: SectorDevice> Fs<D> {
         let Some(number) = found else {
             return Err(FsError::NoEntry);
         };
-        // No volume has such a directory, or an object of this number.
+        // No volume has such a directory.
         if holder.size > MOST_BYTES {
-            return Err(FsError::Device);
-        }
-        if number == 0 {
             return Err(FsError::Device);
         }
         let header = match self.header(number) {
@@ -133,22 +123,23 @@ impl<D: SectorDevice> Fs<D> {
     }
 
     /// Drafts a directory without the name of an empty one, which is gone.
-    fn draft_rmdir(&mut self, directory: u16, entry: OldEntry, name: &[u8]) -> Result<(), FsError>
-        requires some { 1 ≤ directory }
-        requires few { directory ≤ 4095 }
+    fn draft_rmdir(
+        &mut self,
+        directory: FileNumber,
+        entry: OldEntry,
+        name: &[u8],
+    ) -> Result<(), FsError>
         requires size { entry.holder.size ≤ 65536 }
         requires links { 3 ≤ entry.holder.links }
-        requires first { 1 ≤ entry.number }
-        requires last { entry.number ≤ 4095 }
         requires running { self.old.store.log.halted ≡ false }
         requires empty { IsNoChange self.old.store.draft.changes }
         ensures still { IsStill D.SectorDevice.state (seen self.old) (seen self.new) }
-        ensures drafted { OnOk result (DraftsRmdir D.SectorDevice.state self.old self.new directory
-            entry.holder entry.number name.now) }
+        ensures drafted { OnOk result (DraftsRmdir D.SectorDevice.state self.old self.new
+            directory.value entry.holder entry.number.value name.now) }
         ensures small { OnOk result (GrowsBy self.old.store.draft.changes
             self.new.store.draft.changes 3 2) }
         ensures refused { IfErr result (FailsUnlink D.SectorDevice.state self.old self.new
-            directory entry.holder entry.number name.now) }
+            directory.value entry.holder entry.number.value name.now) }
     {
         match self.drop_object(entry.number) {
             Ok(()) => {}
@@ -167,13 +158,12 @@ impl<D: SectorDevice> Fs<D> {
     }
 
     /// Drafts a volume without an object.
-    fn drop_object(&mut self, number: u16) -> Result<(), FsError>
-        requires first { 1 ≤ number }
-        requires last { number ≤ 4095 }
+    fn drop_object(&mut self, number: FileNumber) -> Result<(), FsError>
         requires running { self.old.store.log.halted ≡ false }
         requires empty { IsNoChange self.old.store.draft.changes }
         ensures still { IsStill D.SectorDevice.state (seen self.old) (seen self.new) }
-        ensures lost { OnOk result (LosesObject D.SectorDevice.state self.old self.new number) }
+        ensures lost { OnOk result (LosesObject D.SectorDevice.state self.old self.new
+            number.value) }
         ensures small { OnOk result (GrowsBy self.old.store.draft.changes
             self.new.store.draft.changes 0 0) }
         ensures refused { IfErr result (DraftsNone D.SectorDevice.state self.old self.new) }
@@ -185,9 +175,11 @@ impl<D: SectorDevice> Fs<D> {
     }
 
     /// Drafts one link less of a directory, and gives its header.
-    fn drop_subdirectory(&mut self, directory: u16, header: Header) -> Result<Header, FsError>
-        requires some { 1 ≤ directory }
-        requires few { directory ≤ 4095 }
+    fn drop_subdirectory(
+        &mut self,
+        directory: FileNumber,
+        header: Header,
+    ) -> Result<Header, FsError>
         requires links { 3 ≤ header.links }
         ensures log { self.new.store.log ≡ self.old.store.log }
         ensures saved { self.new.store.saved ≡ self.old.store.saved }
@@ -195,9 +187,9 @@ impl<D: SectorDevice> Fs<D> {
         ensures handles { self.new.handles ≡ self.old.handles }
         ensures header { IfOk result (λ now. now ≡ relinked header (header.links - 1)) }
         ensures done { OnOk result (SetsLinks self.old.store.draft.changes
-            self.new.store.draft.changes directory header (header.links - 1)) }
+            self.new.store.draft.changes directory.value header (header.links - 1)) }
         ensures counted { OnOk result (CountsRelinked self.old.store.draft.changes
-            self.new.store.draft.changes directory header self.old.store.drafted) }
+            self.new.store.draft.changes directory.value header self.old.store.drafted) }
         ensures small { OnOk result (GrowsBy self.old.store.draft.changes
             self.new.store.draft.changes 1 0) }
         ensures fault { IfErr result (λ fault. fault ≡ FsError.NoMemory) }

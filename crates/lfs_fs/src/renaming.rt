@@ -13,7 +13,7 @@ use crate::moving::{Object, Source, Target, is_directory};
 use crate::naming::LONGEST_NAME;
 use lfs_device::SectorDevice;
 use lfs_layout::is_name;
-use lfs_model::Kind;
+use lfs_model::{FileNumber, Kind};
 use lfs_path::text::is_dots;
 use lfs_path::tree::parent;
 use lfs_path::{Chain, Last};
@@ -27,9 +27,6 @@ const MOST_SLOTS: u32 = 65_472;
 
 /// The most links of a directory: 2, and one for each directory in it.
 const MOST_LINKS: u32 = 1_000;
-
-/// The greatest number of an object.
-const LAST_NUMBER: u16 = 4_095;
 
 impl<D: SectorDevice> Fs<D> {
     /// GivesName an object another name, in any directory; what has that name loses it (POSIX.1-2017,
@@ -62,15 +59,14 @@ impl<D: SectorDevice> Fs<D> {
     /// Renames what the last piece of a path names, which stands in this directory.
     fn rename_from(
         &mut self,
-        directory: u16,
+        directory: FileNumber,
         last: Option<Last<'_>>,
         to: &[u8],
     ) -> Result<(), FsError>
-        requires few { directory ≤ 4095 }
         requires running { self.old.store.log.halted ≡ false }
         requires empty { IsNoChange self.old.store.draft.changes }
         ensures { (v : Mounted D) (from : List ℕ)
-            → Reaches D.SectorDevice.state v self.old from directory last.entry
+            → Reaches D.SectorDevice.state v self.old from directory.value last.entry
             → Serves D.SectorDevice.state v (seen self.new) (Rename from to.now)
             (answer_by (λ _. Done) result) }
     {
@@ -83,16 +79,16 @@ impl<D: SectorDevice> Fs<D> {
     /// Renames it to the last piece of another path, which stands in the directory of this chain.
     fn rename_at(
         &mut self,
-        directory: u16,
+        directory: FileNumber,
         from: Option<Last<'_>>,
         chain: Chain,
         to: Option<Last<'_>>,
     ) -> Result<(), FsError>
-        requires few { directory ≤ 4095 }
         requires running { self.old.store.log.halted ≡ false }
         requires empty { IsNoChange self.old.store.draft.changes }
         ensures { (v : Mounted D) (a b : List ℕ)
-            → ReachesBoth D.SectorDevice.state v self.old a directory from.entry b chain to.entry
+            → ReachesBoth D.SectorDevice.state v self.old a directory.value from.entry b chain
+            to.entry
             → Serves D.SectorDevice.state v (seen self.new) (Rename a b)
             (answer_by (λ _. Done) result) }
     {
@@ -118,17 +114,18 @@ impl<D: SectorDevice> Fs<D> {
     /// What is to be moved, and where to. Nothing is where both names give one object.
     fn check_rename<'a>(
         &mut self,
-        directory: u16,
+        directory: FileNumber,
         from: Last<'a>,
         chain: Chain,
         to: Last<'a>,
     ) -> Result<Option<(Source<'a>, Target<'a>)>, FsError>
-        requires { directory ≤ 4095 }
         ensures reads { OnlyReads D.SectorDevice.state self.old self.new }
-        ensures taken { IfOk result (TakesRename D.SectorDevice.state self.old self.new directory
-            from.entry.name.now from.entry.slash chain to.entry.name.now to.entry.slash) }
+        ensures taken { IfOk result (TakesRename D.SectorDevice.state self.old self.new
+            directory.value from.entry.name.now from.entry.slash chain to.entry.name.now
+            to.entry.slash) }
         ensures refused { IfErr result (RefusesRename D.SectorDevice.state self.old self.new
-            directory from.entry.name.now from.entry.slash chain to.entry.name.now to.entry.slash) }
+            directory.value from.entry.name.now from.entry.slash chain to.entry.name.now
+            to.entry.slash) }
     {
         let source = match self.find_source(directory, from) {
             Ok(source) => source,
@@ -151,13 +148,16 @@ impl<D: SectorDevice> Fs<D> {
     }
 
     /// What is to get another name.
-    fn find_source<'a>(&mut self, directory: u16, last: Last<'a>) -> Result<Source<'a>, FsError>
-        requires { directory ≤ 4095 }
+    fn find_source<'a>(
+        &mut self,
+        directory: FileNumber,
+        last: Last<'a>,
+    ) -> Result<Source<'a>, FsError>
         ensures reads { OnlyReads D.SectorDevice.state self.old self.new }
-        ensures found { IfOk result (FindsSource D.SectorDevice.state self.old self.new directory
-            last.entry.name.now last.entry.slash) }
+        ensures found { IfOk result (FindsSource D.SectorDevice.state self.old self.new
+            directory.value last.entry.name.now last.entry.slash) }
         ensures refused { IfErr result
-            (RefusesSource D.SectorDevice.state self.old self.new directory
+            (RefusesSource D.SectorDevice.state self.old self.new directory.value
             last.entry.name.now last.entry.slash) }
     {
         if last.name.len() > LONGEST_NAME {
@@ -188,16 +188,15 @@ impl<D: SectorDevice> Fs<D> {
     /// What has the name that an object of this kind is to get.
     fn find_target<'a>(
         &mut self,
-        directory: u16,
+        directory: FileNumber,
         last: Last<'a>,
         kind: Kind,
     ) -> Result<Target<'a>, FsError>
-        requires { directory ≤ 4095 }
         ensures reads { OnlyReads D.SectorDevice.state self.old self.new }
-        ensures found { IfOk result (FindsTarget D.SectorDevice.state self.old self.new directory
-            last.entry.name.now last.entry.slash kind) }
-        ensures refused { IfErr result (RefusesNext D.SectorDevice.state self.old self.new directory
-            last.entry.name.now last.entry.slash kind) }
+        ensures found { IfOk result (FindsTarget D.SectorDevice.state self.old self.new
+            directory.value last.entry.name.now last.entry.slash kind) }
+        ensures refused { IfErr result (RefusesNext D.SectorDevice.state self.old self.new
+            directory.value last.entry.name.now last.entry.slash kind) }
     {
         if last.name.len() > LONGEST_NAME {
             return Err(FsError::NameTooLong);
@@ -221,18 +220,17 @@ impl<D: SectorDevice> Fs<D> {
     }
 
     /// The header of a directory, and what a name gives in it.
-    fn look_at(&mut self, directory: u16, name: &[u8]) -> Result<(Header, Option<Object>), FsError>
-        requires { directory ≤ 4095 }
+    fn look_at(
+        &mut self,
+        directory: FileNumber,
+        name: &[u8],
+    ) -> Result<(Header, Option<Object>), FsError>
         ensures reads { OnlyReads D.SectorDevice.state self.old self.new }
-        ensures found { IfOk result (λ r. FindsName D.SectorDevice.state self.old self.new directory
-            name.now r.0 r.1) }
+        ensures found { IfOk result (λ r. FindsName D.SectorDevice.state self.old self.new
+            directory.value name.now r.0 r.1) }
         ensures missing { IfErr result (FailsWhere D.SectorDevice.state self.old self.new
-            (λ m. MayLook m directory name.now)) }
+            (λ m. MayLook m directory.value name.now)) }
     {
-        // No volume has an object of this number.
-        if directory == 0 {
-            return Err(FsError::Device);
-        }
         let (holder, found) = match self.look_in(directory, name) {
             Ok(found) => found,
             Err(fault) => return Err(fault),
@@ -251,19 +249,13 @@ impl<D: SectorDevice> Fs<D> {
     }
 
     /// The object of a number.
-    fn object(&mut self, number: u16) -> Result<Object, FsError>
+    fn object(&mut self, number: FileNumber) -> Result<Object, FsError>
         ensures reads { OnlyReads D.SectorDevice.state self.old self.new }
-        ensures found { IfOk result (FindsObject D.SectorDevice.state self.old self.new number) }
+        ensures found { IfOk result (FindsObject D.SectorDevice.state self.old self.new
+            number.value) }
         ensures missing { IfErr result (FailsWhere D.SectorDevice.state self.old self.new
-            (λ m. IsObject m number)) }
+            (λ m. IsObject m number.value)) }
     {
-        // No volume has an object of such a number.
-        if number == 0 {
-            return Err(FsError::Device);
-        }
-        if number > LAST_NUMBER {
-            return Err(FsError::Device);
-        }
         match self.header(number) {
             Ok(header) => Ok(Object { number, header }),
             Err(fault) => Err(fault),
@@ -279,26 +271,26 @@ fn lacks_directory(slash: bool, kind: Kind) -> bool
 }
 
 /// Whether an object of this number was found.
-fn is_object(found: Option<Object>, number: u16) -> bool
-    ensures { result ≡ GivesName found number }
+fn is_object(found: Option<Object>, number: FileNumber) -> bool
+    ensures { result ≡ GivesName found number.value }
 {
     match found {
-        Some(object) => object.number == number,
+        Some(object) => object.number.value == number.value,
         None => false,
     }
 }
 
 /// Whether an object is the directory of a chain, or stands above it.
-fn stands_in(mut chain: Chain, number: u16) -> bool
-    ensures above { IsTrue result → IsAbove chain number }
-    ensures apart { IsFalse result → IsNotAbove chain number }
+fn stands_in(mut chain: Chain, number: FileNumber) -> bool
+    ensures above { IsTrue result → IsAbove chain number.value }
+    ensures apart { IsFalse result → IsNotAbove chain number.value }
 {
     let mut directory = chain.directory();
-    while directory != number {
+    while directory.value != number.value {
         chain.ascend();
         let above = chain.directory();
         // Only the root stays where it is.
-        if above == directory {
+        if above.value == directory.value {
             return false;
         }
         directory = above;
@@ -314,7 +306,7 @@ fn check_target(source: Source<'_>, target: Target<'_>) -> Result<(), FsError>
     match target.replaced {
         Some(object) => check_replaced(source.object.header.kind, object.header),
         None => {
-            if source.directory == target.directory {
+            if source.directory.value == target.directory.value {
                 return Ok(());
             }
             check_room(source.object.header.kind, target.holder)

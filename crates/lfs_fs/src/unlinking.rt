@@ -14,6 +14,7 @@ use crate::error::FsError;
 use crate::fs::Fs;
 use crate::old_entry::OldEntry;
 use lfs_device::SectorDevice;
+use lfs_model::FileNumber;
 use lfs_path::Last;
 use lfs_path::dirs::take;
 use lfs_path::tree::parent;
@@ -43,19 +44,14 @@ impl<D: SectorDevice> Fs<D> {
     }
 
     /// Takes the name away that is the last piece of a path, which stands in this directory.
-    fn unlink_at(&mut self, directory: u16, last: Option<Last<'_>>) -> Result<(), FsError>
-        requires few { directory ≤ 4095 }
+    fn unlink_at(&mut self, directory: FileNumber, last: Option<Last<'_>>) -> Result<(), FsError>
         requires running { self.old.store.log.halted ≡ false }
         requires empty { IsNoChange self.old.store.draft.changes }
         ensures { (v : Mounted D) (path : List ℕ)
-            → Reaches D.SectorDevice.state v self.old path directory last.entry
+            → Reaches D.SectorDevice.state v self.old path directory.value last.entry
             → Serves D.SectorDevice.state v (seen self.new) (Unlink path)
             (answer_by (λ _. Done) result) }
     {
-        // No volume has an object of this number.
-        if directory == 0 {
-            return Err(FsError::Device);
-        }
         let Some(last) = last else {
             return Err(FsError::Perm);
         };
@@ -74,21 +70,22 @@ impl<D: SectorDevice> Fs<D> {
 
     /// Drafts a directory without the name of an entry, whose object has a link less, or goes with
     /// its last.
-    fn draft_unlink(&mut self, directory: u16, entry: OldEntry, name: &[u8]) -> Result<(), FsError>
-        requires some { 1 ≤ directory }
-        requires few { directory ≤ 4095 }
+    fn draft_unlink(
+        &mut self,
+        directory: FileNumber,
+        entry: OldEntry,
+        name: &[u8],
+    ) -> Result<(), FsError>
         requires size { entry.holder.size ≤ 65536 }
-        requires first { 1 ≤ entry.number }
-        requires last { entry.number ≤ 4095 }
         requires running { self.old.store.log.halted ≡ false }
         requires empty { IsNoChange self.old.store.draft.changes }
         ensures still { IsStill D.SectorDevice.state (seen self.old) (seen self.new) }
         ensures drafted { OnOk result (DraftsUnlink D.SectorDevice.state self.old self.new
-            directory entry.holder entry.number entry.header name.now) }
+            directory.value entry.holder entry.number.value entry.header name.now) }
         ensures small { OnOk result (GrowsBy self.old.store.draft.changes
             self.new.store.draft.changes 3 2) }
         ensures refused { IfErr result (FailsUnlink D.SectorDevice.state self.old self.new
-            directory entry.holder entry.number name.now) }
+            directory.value entry.holder entry.number.value name.now) }
     {
         match self.drop_link(entry.number, entry.header) {
             Ok(()) => {}
@@ -104,13 +101,11 @@ impl<D: SectorDevice> Fs<D> {
 
     /// Drafts a link less for an object of this header. Without one it goes, unless a handle is
     /// open on it.
-    pub(crate) fn drop_link(&mut self, number: u16, header: Header) -> Result<(), FsError>
-        requires first { 1 ≤ number }
-        requires last { number ≤ 4095 }
+    pub(crate) fn drop_link(&mut self, number: FileNumber, header: Header) -> Result<(), FsError>
         requires running { self.old.store.log.halted ≡ false }
         requires empty { IsNoChange self.old.store.draft.changes }
         ensures still { IsStill D.SectorDevice.state (seen self.old) (seen self.new) }
-        ensures lost { OnOk result (LosesLink D.SectorDevice.state self.old self.new number
+        ensures lost { OnOk result (LosesLink D.SectorDevice.state self.old self.new number.value
             header) }
         ensures small { OnOk result (GrowsBy self.old.store.draft.changes
             self.new.store.draft.changes 1 0) }
@@ -129,15 +124,13 @@ impl<D: SectorDevice> Fs<D> {
     }
 
     /// Drafts other links for an object of this header.
-    fn relink(&mut self, number: u16, header: Header, links: u32) -> Result<(), FsError>
-        requires first { 1 ≤ number }
-        requires last { number ≤ 4095 }
+    fn relink(&mut self, number: FileNumber, header: Header, links: u32) -> Result<(), FsError>
         requires empty { IsNoChange self.old.store.draft.changes }
         ensures still { IsStill D.SectorDevice.state (seen self.old) (seen self.new) }
         ensures sets { OnOk result (SetsLinks self.old.store.draft.changes
-            self.new.store.draft.changes number header links) }
+            self.new.store.draft.changes number.value header links) }
         ensures counted { OnOk result (CountsRelinked self.old.store.draft.changes
-            self.new.store.draft.changes number header self.new.store.drafted) }
+            self.new.store.draft.changes number.value header self.new.store.drafted) }
         ensures drafted { self.new.store.drafted ≡ self.old.store.drafted }
         ensures small { OnOk result (GrowsBy self.old.store.draft.changes
             self.new.store.draft.changes 1 0) }

@@ -12,6 +12,7 @@ use crate::error::FsError;
 use crate::fs::Fs;
 use crate::reading::LONGEST_TRANSFER;
 use lfs_device::SectorDevice;
+use lfs_model::FileNumber;
 
 /// The most bytes of a file: 16,624 blocks.
 const LARGEST_FILE: u64 = 8_511_488;
@@ -56,9 +57,7 @@ impl<D: SectorDevice> Fs<D> {
     }
 
     /// Puts bytes into a file, where they end within the greatest size.
-    fn write_file(&mut self, number: u16, at: u32, bytes: &[u8]) -> Result<(), FsError>
-        requires some { 1 ≤ number }
-        requires few { number ≤ 4095 }
+    fn write_file(&mut self, number: FileNumber, at: u32, bytes: &[u8]) -> Result<(), FsError>
         requires bytes { 0 < length bytes.now }
         requires end { at + length bytes.now ≤ 8511488 }
         requires running { self.old.store.log.halted ≡ false }
@@ -66,7 +65,7 @@ impl<D: SectorDevice> Fs<D> {
         requires counted { self.old.store.drafted ≡ self.old.store.log.totals }
         requires most { length bytes.now ≤ 65536 }
         ensures { (handle : ℕ) → find nat_cmp handle (handles_of self.old.handles.numbers.items)
-            ≡ Some number → length bytes.now ≤ 65536
+            ≡ Some number.value → length bytes.now ≤ 65536
             → Serves D.SectorDevice.state (seen self.old) (seen self.new)
             (Pwrite handle at bytes.now) (answer_by (λ _. Count (length bytes.now)) result) }
     {
@@ -107,15 +106,13 @@ impl<D: SectorDevice> Fs<D> {
     }
 
     /// Cuts a file to a length, or makes it longer.
-    fn cut_file(&mut self, number: u16, len: u32) -> Result<(), FsError>
-        requires some { 1 ≤ number }
-        requires few { number ≤ 4095 }
+    fn cut_file(&mut self, number: FileNumber, len: u32) -> Result<(), FsError>
         requires most { len ≤ 8511488 }
         requires running { self.old.store.log.halted ≡ false }
         requires empty { IsNoChange self.old.store.draft.changes }
         requires counted { self.old.store.drafted ≡ self.old.store.log.totals }
         ensures { (handle : ℕ) → find nat_cmp handle (handles_of self.old.handles.numbers.items)
-            ≡ Some number → Serves D.SectorDevice.state (seen self.old) (seen self.new)
+            ≡ Some number.value → Serves D.SectorDevice.state (seen self.old) (seen self.new)
             (Truncate handle len) (answer_by (λ _. Done) result) }
     {
         let header = match self.header(number) {

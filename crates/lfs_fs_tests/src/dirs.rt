@@ -5,6 +5,7 @@ use lfs_device::MemDevice;
 use lfs_fs::path::dirs::{Entry, find, list, repoint, take};
 use lfs_fs::store::Store;
 use lfs_layout::is_name;
+use lfs_model::FileNumber;
 use std::alloc::Global;
 use std::test::Fail;
 
@@ -21,12 +22,24 @@ enum Step<'a> {
     List(u8, &'a [(&'a [u8], u16)]),
 }
 
+/// Whether a name gives this number, or isn't there.
+fn is_found(store: &mut Store<MemDevice>, slots: u8, name: &[u8], number: Option<u16>) -> bool {
+    match find(store, FileNumber::ROOT, root(slots), name) {
+        Ok(Some(found)) => number == Some(found.value),
+        Ok(None) => number == None,
+        Err(_) => false,
+    }
+}
+
 /// Whether a name is there, and comes to give another number.
 fn is_repointed(store: &mut Store<MemDevice>, slots: u8, name: &[u8], number: u16) -> bool {
-    if number == 0 || number > 4_095 || !is_name(name) {
+    let Some(number) = FileNumber::new(number) else {
+        return false;
+    };
+    if !is_name(name) {
         return false;
     }
-    repoint(store, 1, root(slots), name, number) == Ok(true)
+    repoint(store, FileNumber::ROOT, root(slots), name, number) == Ok(true)
 }
 
 /// Whether the draft is staged, and a name is there and is then taken out.
@@ -35,13 +48,13 @@ fn is_taken(store: &mut Store<MemDevice>, slots: u8, name: &[u8]) -> bool {
         return false;
     }
     store.draft.clear();
-    take(store, 1, root(slots), name) == Ok(true)
+    take(store, FileNumber::ROOT, root(slots), name) == Ok(true)
 }
 
 /// Whether the entries of a directory are these.
 fn are_entries(entries: &[Entry], rows: &[(&[u8], u16)]) -> bool {
     for (entry, (name, number)) in entries.iter().zip(rows) {
-        if entry.name.as_slice() != *name || entry.number != *number {
+        if entry.name.as_slice() != *name || entry.number.value != *number {
             return false;
         }
     }
@@ -51,11 +64,11 @@ fn are_entries(entries: &[Entry], rows: &[(&[u8], u16)]) -> bool {
 /// Whether a call answers what the step says.
 fn is_well(alloc: Global, store: &mut Store<MemDevice>, step: Step) -> Result<bool, Fail> {
     match step {
-        Step::Find(slots, name, number) => Ok(find(store, 1, root(slots), name) == Ok(number)),
+        Step::Find(slots, name, number) => Ok(is_found(store, slots, name, number)),
         Step::Repoint(slots, name, number) => Ok(is_repointed(store, slots, name, number)),
         Step::Take(slots, name) => Ok(is_taken(store, slots, name)),
         Step::List(slots, rows) => {
-            let entries = list(alloc, store, 1, root(slots))?;
+            let entries = list(alloc, store, FileNumber::ROOT, root(slots))?;
             Ok(are_entries(&entries, rows))
         }
     }

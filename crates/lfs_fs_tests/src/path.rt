@@ -1,19 +1,19 @@
 //! Walks over a root with two files, and the texts of paths.
 
-use crate::volume::store_with;
+use crate::volume::{file, plain, store_with};
 use lfs_device::MemDevice;
 use lfs_fs::path::text::check_text;
 use lfs_fs::path::tree::{parent, resolve};
 use lfs_fs::path::{Last, WalkFault};
 use lfs_fs::store::Store;
-use lfs_model::Kind;
+use lfs_model::{FileNumber, Kind};
 use std::alloc::Global;
 use std::test::Fail;
 
 /// Drafts the two files that the root names.
 fn make_files(store: &mut Store<MemDevice>) -> Result<(), Fail> {
-    store.create(2, Kind::File)?;
-    store.create(3, Kind::File)?;
+    store.create(file(2)?, Kind::File)?;
+    store.create(file(3)?, Kind::File)?;
     Ok(())
 }
 
@@ -26,7 +26,7 @@ fn first_wrong(
     let mut store = store_with(alloc, b"ab")?;
     make_files(&mut store)?;
     for (place, (path, want)) in rows.iter().enumerate() {
-        if resolve(alloc, &mut *store, path, true) != *want {
+        if plain(resolve(alloc, &mut *store, path, true)) != *want {
             return Ok(Some(place));
         }
     }
@@ -54,7 +54,7 @@ fn names_and_dots_are_walked(rt: HostRuntime) -> Result<(), Fail> {
 /// Whether a path is walked to its last piece, which is this name in the root, or none.
 fn ends_in(alloc: Global, store: &mut Store<MemDevice>, path: &[u8], name: Option<&[u8]>) -> bool {
     match parent(alloc, store, path) {
-        Ok(place) => place.chain.directory() == 1 && is_last(place.last, name),
+        Ok(place) => place.chain.directory() == FileNumber::ROOT && is_last(place.last, name),
         Err(_) => false,
     }
 }

@@ -1,13 +1,13 @@
 //! Walks over a tree of directories, files and symbolic links.
 
-use crate::volume::{mounted, store_with};
+use crate::volume::{file, mounted, plain, store_with};
 use lfs_device::MemDevice;
 use lfs_fs::path::dirs::add;
 use lfs_fs::path::tree::{parent, resolve};
 use lfs_fs::path::{Last, WalkFault};
 use lfs_fs::store::{Header, Store};
 use lfs_layout::is_name;
-use lfs_model::Kind;
+use lfs_model::{FileNumber, Kind};
 use std::alloc::Global;
 use std::test::Fail;
 
@@ -20,10 +20,7 @@ enum Object<'a> {
 }
 
 /// Drafts a new object.
-fn make(store: &mut Store<MemDevice>, number: u16, object: Object) -> Result<(), Fail> {
-    if number == 0 || number > 4_095 {
-        return Err(Fail::from("no number"));
-    }
+fn make(store: &mut Store<MemDevice>, number: FileNumber, object: Object) -> Result<(), Fail> {
     match object {
         Object::Directory => store.create(number, Kind::Directory)?,
         Object::File => store.create(number, Kind::File)?,
@@ -33,8 +30,8 @@ fn make(store: &mut Store<MemDevice>, number: u16, object: Object) -> Result<(),
 }
 
 /// Drafts a new link of this text.
-fn make_link(store: &mut Store<MemDevice>, number: u16, text: &[u8]) -> Result<(), Fail> {
-    if number == 0 || number > 4_095 || text.is_empty() || text.len() > 1_023 {
+fn make_link(store: &mut Store<MemDevice>, number: FileNumber, text: &[u8]) -> Result<(), Fail> {
+    if text.is_empty() || text.len() > 1_023 {
         return Err(Fail::from("no link"));
     }
     let size = text.len() as u32;
@@ -51,11 +48,11 @@ fn make_link(store: &mut Store<MemDevice>, number: u16, text: &[u8]) -> Result<(
 /// Drafts a name in a directory.
 fn name(
     store: &mut Store<MemDevice>,
-    directory: u16,
+    directory: FileNumber,
     name: &[u8],
-    number: u16,
+    number: FileNumber,
 ) -> Result<(), Fail> {
-    if directory == 0 || directory > 4_095 || number == 0 || number > 4_095 || !is_name(name) {
+    if !is_name(name) {
         return Err(Fail::from("no name"));
     }
     match store.header(directory)? {
@@ -71,8 +68,8 @@ fn name(
 fn tree_of(alloc: Global, objects: &[(u16, &[u8], Object)]) -> Result<Box<Store<MemDevice>>, Fail> {
     let mut store = store_with(alloc, b"")?;
     for (number, (directory, text, object)) in (2..99u16).zip(objects) {
-        make(&mut store, number, *object)?;
-        name(&mut store, *directory, text, number)?;
+        make(&mut store, file(number)?, *object)?;
+        name(&mut store, file(*directory)?, text, file(number)?)?;
     }
     Ok(store)
 }
@@ -117,7 +114,7 @@ fn directories_and_links_are_walked(rt: HostRuntime) -> Result<(), Fail> {
         (b"/d/q".as_slice(), true, Err(WalkFault::NoEntry)),
         (b"".as_slice(), true, Err(WalkFault::NoEntry)),
     ] {
-        assert!(rt; resolve(rt.alloc(), &mut *store, path, follow) == want);
+        assert!(rt; plain(resolve(rt.alloc(), &mut *store, path, follow)) == want);
     }
     Ok(())
 }
@@ -131,7 +128,7 @@ fn ends_in(
     name: Option<&[u8]>,
 ) -> bool {
     match parent(alloc, store, path) {
-        Ok(place) => place.chain.directory() == directory && is_last(place.last, name),
+        Ok(place) => place.chain.directory().value == directory && is_last(place.last, name),
         Err(_) => false,
     }
 }
@@ -167,18 +164,19 @@ fn forty_links_are_followed(rt: HostRuntime) -> Result<(), Fail> {
     let mut text = [b'l'; 42];
     for links in 1..42u16 {
         let end = links as usize;
-        make(&mut store, 2 + links, Object::Link(&text[..end]))?;
-        name(&mut store, 1, &text[..end + 1], 2 + links)?;
+        let number = file(2 + links)?;
+        make(&mut store, number, Object::Link(&text[..end]))?;
+        name(&mut store, FileNumber::ROOT, &text[..end + 1], number)?;
     }
     text[0] = b'l';
-    assert!(rt; resolve(alloc, &mut *store, &text[..41], true) == Ok(2));
-    assert!(rt; resolve(alloc, &mut *store, &text, true) == Err(WalkFault::Loop));
+    assert!(rt; plain(resolve(alloc, &mut *store, &text[..41], true)) == Ok(2));
+    assert!(rt; plain(resolve(alloc, &mut *store, &text, true)) == Err(WalkFault::Loop));
     Ok(())
 }
 
 /// Drafts other links of a directory.
-fn relink(store: &mut Store<MemDevice>, number: u16, links: u32) -> Result<(), Fail> {
-    if number == 0 || number > 4_095 || links == 0 || links > 1_000 {
+fn relink(store: &mut Store<MemDevice>, number: FileNumber, links: u32) -> Result<(), Fail> {
+    if links == 0 || links > 1_000 {
         return Err(Fail::from("no links"));
     }
     match store.header(number)? {
@@ -191,8 +189,8 @@ fn relink(store: &mut Store<MemDevice>, number: u16, links: u32) -> Result<(), F
 /// The device of a volume with the small tree, saved.
 fn device_with_tree(alloc: Global) -> Result<MemDevice, Fail> {
     let mut store = small_tree(alloc)?;
-    relink(&mut store, 1, 3)?;
-    relink(&mut store, 2, 3)?;
+    relink(&mut store, FileNumber::ROOT, 3)?;
+    relink(&mut store, file(2)?, 3)?;
     store.accept()?;
     store.commit()?;
     Ok(Box::into_inner(store).into_device())

@@ -2,11 +2,12 @@
 ghost use Rattle.std.specs.Prelude.{◌≤◌};
 
 use lfs_device::MemDevice;
+use lfs_fs::path::WalkFault;
 use lfs_fs::path::dirs::add;
 use lfs_fs::store::{Header, Store};
 use lfs_fs::{Fs, format};
 use lfs_layout::is_name;
-use lfs_model::Kind;
+use lfs_model::{FileNumber, Kind};
 use std::alloc::Global;
 use std::test::Fail;
 
@@ -46,6 +47,22 @@ pub fn root(slots: u8) -> Header
     }
 }
 
+/// The file of this number.
+pub fn file(number: u16) -> Result<FileNumber, Fail> {
+    match FileNumber::new(number) {
+        Some(number) => Ok(number),
+        None => Err(Fail::from("no number")),
+    }
+}
+
+/// The plain number of what a walk came to.
+pub fn plain(found: Result<FileNumber, WalkFault>) -> Result<u16, WalkFault> {
+    match found {
+        Ok(number) => Ok(number.value),
+        Err(fault) => Err(fault),
+    }
+}
+
 /// Adds names of one letter, at most nine, for the files from 2 on.
 fn add_names(store: &mut Store<MemDevice>, letters: &[u8]) -> Result<(), Fail> {
     for (slots, letter) in (0..9u8).zip(letters) {
@@ -53,7 +70,8 @@ fn add_names(store: &mut Store<MemDevice>, letters: &[u8]) -> Result<(), Fail> {
         if !is_name(&name) {
             return Err(Fail::from("no name"));
         }
-        add(store, 1, root(slots), 2 + u16::from(slots), &name)?;
+        let number = file(2 + u16::from(slots))?;
+        add(store, FileNumber::ROOT, root(slots), number, &name)?;
     }
     Ok(())
 }

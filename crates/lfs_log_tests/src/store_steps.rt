@@ -4,7 +4,7 @@ ghost use Rattle.std.specs.Prelude.{◌≡◌, ◌<◌, ◌≤◌};
 use crate::devices::{Probe, is_probe_well};
 use crate::volume::{Wrong, new_volume};
 use lfs_device::MemDevice;
-use lfs_model::Kind;
+use lfs_model::{FileNumber, Kind};
 use lfs_store::volume_log::{Cut, Header, LastLink, LogFault, Loss, Removal};
 use lfs_store::{BlockTotals, Draft, Measure, Store, StoreFault};
 use std::alloc::Global;
@@ -104,6 +104,16 @@ pub enum Step {
     On(Probe),
 }
 
+/// The file of most steps.
+const FILE_2: FileNumber = FileNumber { value: 2 };
+
+/// The nearest number that a file may have.
+fn number_of(file: u16) -> FileNumber {
+    FileNumber {
+        value: file.clamp(1, 4_095),
+    }
+}
+
 fn file_of(links: u32, size: u32) -> Header {
     Header {
         kind: Kind::File,
@@ -114,7 +124,7 @@ fn file_of(links: u32, size: u32) -> Header {
 
 /// Drafts a file of 512 bytes with blocks of sevens before this one.
 fn draft_file(draft: &mut Draft, file: u16, end: u32) -> bool {
-    let number = file.clamp(1, 4_095);
+    let number = number_of(file);
     for index in 0..end {
         if draft
             .put_block(number, index.min(16_623), &[7; 512])
@@ -130,13 +140,11 @@ fn draft_file(draft: &mut Draft, file: u16, end: u32) -> bool {
 fn draft(draft: &mut Draft, edit: Edit) -> bool {
     match edit {
         Edit::Header(file, size) => {
-            return draft
-                .put_header(file.clamp(1, 4_095), file_of(1, size))
-                .is_ok();
+            return draft.put_header(number_of(file), file_of(1, size)).is_ok();
         }
         Edit::Block(file, index, byte) => {
             return draft
-                .put_block(file.clamp(1, 4_095), index.min(16_623), &[byte; 512])
+                .put_block(number_of(file), index.min(16_623), &[byte; 512])
                 .is_ok();
         }
         Edit::File(file, end) => return draft_file(draft, file, end),
@@ -175,7 +183,7 @@ fn write(store: &mut Store<MemDevice>, size: u32, at: u32, len: usize, byte: u8)
     let bytes = [byte; 1_200];
     store
         .write_at(
-            2,
+            FILE_2,
             file_of(1, size),
             at.min(8_510_288),
             &bytes[..len.clamp(1, 1_200)],
@@ -187,12 +195,12 @@ fn write(store: &mut Store<MemDevice>, size: u32, at: u32, len: usize, byte: u8)
 fn change(store: &mut Store<MemDevice>, call: Call) -> bool {
     store.give_up();
     match call {
-        Call::SetLinks(links) => store.set_links(2, file_of(1, 0), links).is_ok(),
+        Call::SetLinks(links) => store.set_links(FILE_2, file_of(1, 0), links).is_ok(),
         Call::SetLen(size, len) => store
-            .set_len(2, file_of(1, size), len.min(8_511_488))
+            .set_len(FILE_2, file_of(1, size), len.min(8_511_488))
             .is_ok(),
-        Call::Remove => store.remove(2).is_ok(),
-        Call::Forget => store.forget(2).is_ok(),
+        Call::Remove => store.remove(FILE_2).is_ok(),
+        Call::Forget => store.forget(FILE_2).is_ok(),
         _ => true,
     }
 }
@@ -200,10 +208,8 @@ fn change(store: &mut Store<MemDevice>, call: Call) -> bool {
 /// Calls the store: whether the call was done.
 fn is_done(store: &mut Store<MemDevice>, call: Call) -> bool {
     match call {
-        Call::Create(file, kind) => store.create(file.clamp(1, 4_095), kind).is_ok(),
-        Call::CreateLink(file, size) => store
-            .create_link(file.clamp(1, 4_095), size.min(1_023))
-            .is_ok(),
+        Call::Create(file, kind) => store.create(number_of(file), kind).is_ok(),
+        Call::CreateLink(file, size) => store.create_link(number_of(file), size.min(1_023)).is_ok(),
         Call::WriteBlock(size, index, byte) => {
             write(store, size, index.min(16_623) * 512, 512, byte)
         }
@@ -216,13 +222,13 @@ fn is_done(store: &mut Store<MemDevice>, call: Call) -> bool {
 /// Whether a block of a file is filled with this byte: 0 where it isn't stored.
 fn reads(store: &mut Store<MemDevice>, file: u16, index: u32, byte: u8) -> bool {
     let mut bytes = [255; 512];
-    store.block(file % 4_096, index, &mut bytes) == Ok(byte != 0) && bytes == [byte; 512]
+    store.block(number_of(file), index, &mut bytes) == Ok(byte != 0) && bytes == [byte; 512]
 }
 
 /// Whether files from number 2 to before this one have 512 bytes, and a block of sevens.
 fn holds(store: &mut Store<MemDevice>, first: u16, end: u16) -> bool {
     for file in first..end {
-        if store.header(file % 4_096) != Ok(Some(file_of(1, 512))) || !reads(store, file, 0, 7) {
+        if store.header(number_of(file)) != Ok(Some(file_of(1, 512))) || !reads(store, file, 0, 7) {
             return false;
         }
     }
@@ -232,7 +238,7 @@ fn holds(store: &mut Store<MemDevice>, first: u16, end: u16) -> bool {
 /// The byte of file 2 at a place, if its block is stored.
 fn byte_at(store: &mut Store<MemDevice>, place: u32) -> Result<Option<u8>, LogFault> {
     let mut bytes = [255; 512];
-    if store.block(2, place / 512, &mut bytes)? {
+    if store.block(FILE_2, place / 512, &mut bytes)? {
         Ok(Some(bytes[(place % 512) as usize]))
     } else {
         Ok(None)
@@ -241,7 +247,7 @@ fn byte_at(store: &mut Store<MemDevice>, place: u32) -> Result<Option<u8>, LogFa
 
 /// Whether these are bytes of file 2 from a place on.
 fn has_bytes(store: &mut Store<MemDevice>, alloc: Global, from: u32, want: [u8; 4]) -> bool {
-    match store.read_at(alloc, 2, from, from.saturating_add(4)) {
+    match store.read_at(alloc, FILE_2, from, from.saturating_add(4)) {
         Ok(bytes) => bytes.as_slice() == want.as_slice(),
         Err(_) => false,
     }
@@ -250,9 +256,9 @@ fn has_bytes(store: &mut Store<MemDevice>, alloc: Global, from: u32, want: [u8; 
 fn is_seen(store: &mut Store<MemDevice>, alloc: Global, look: Look) -> bool {
     match look {
         Look::Is(file, kind, links, size) => {
-            store.header(file % 4_096) == Ok(Some(Header { kind, links, size }))
+            store.header(number_of(file)) == Ok(Some(Header { kind, links, size }))
         }
-        Look::Lacks(file) => store.header(file % 4_096) == Ok(None),
+        Look::Lacks(file) => store.header(number_of(file)) == Ok(None),
         Look::Holds(file) => holds(store, file, file.saturating_add(1)),
         Look::HoldsTo(end) => holds(store, 2, end),
         Look::Reads(index, byte) => reads(store, 2, index, byte),
@@ -273,7 +279,7 @@ fn totals_of(data_blocks: u32, meta_blocks: u32) -> BlockTotals {
 fn measures(store: &mut Store<MemDevice>, from: u32, to: u32, want: (u32, u32)) -> bool {
     let to = to.min(16_624);
     let (data_blocks, meta_blocks) = want;
-    store.measure(2, from.min(to), to)
+    store.measure(FILE_2, from.min(to), to)
         == Ok(Measure {
             data_blocks,
             meta_blocks,
@@ -286,7 +292,7 @@ fn is_counted(store: &mut Store<MemDevice>, count: Count) -> bool {
         Count::Drafted(blocks) => store.draft.changes.blocks.len() == blocks,
         Count::Number(number) => store.log.number() == number,
         Count::Clean(segments) => store.log.clean_segments() == segments,
-        Count::LeastFree(number) => store.least_free() == Some(number),
+        Count::LeastFree(number) => store.least_free() == FileNumber::new(number),
         Count::Space(data, meta) => store.space() == totals_of(data, meta),
         Count::Staged(data, meta) => store.log.totals() == totals_of(data, meta),
         Count::Measured(from, to, data, meta) => measures(store, from, to, (data, meta)),

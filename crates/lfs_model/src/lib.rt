@@ -1,11 +1,14 @@
 //! The formats of a volume, its tree of files and the calls on it, as definitions that contracts
-//! cite. No code runs here.
+//! cite. No code runs here but that of `FileNumber`.
 #![tactic(auto)]
 
 pub mod laws;
 pub mod log;
+mod number;
 pub mod objects;
 pub mod stands;
+
+pub use number::FileNumber;
 
 /// What an object is.
 #[derive(Clone, Copy, Debug, PartialEq, Eq)]

@@ -5,6 +5,7 @@ use Rattle.std.proofs.lemmas.Bool.{cases_lt}
 use Rattle.std.specs.FinMap.{find}
 use Rattle.lfs_model.specs.declared.Kind.{Kind}
 use Rattle.lfs_model.specs.declared.Kind.TheVariants as kind
+use Rattle.lfs_model.specs.declared.number.FileNumber.{FileNumber}
 use Rattle.lfs_model.specs.Entry as entries
 use Rattle.lfs_model.specs.Objects.{IsDirectory}
 use Rattle.lfs_model.specs.Refusal as refusals
@@ -124,21 +125,21 @@ module _ (m : LogMap) where
           (cases_lt 4095 n))
           (cases_lt n 1)
 
-  module _ (d : ℕ) (name : List ℕ) (n : ℕ) (tree : HasTree m) (named : NamesObject d name n m) (head : Header) (is : HasHeader n head m) where
-    gives : (k : Kind) → head.kind ≡ k → Gives (tree_in m) d name n (node_by m k n (as_header head))
+  module _ (d : ℕ) (name : List ℕ) (n : FileNumber) (tree : HasTree m) (named : NamesObject d name n.value m) (head : Header) (is : HasHeader n.value head m) where
+    gives : (k : Kind) → head.kind ≡ k → Gives (tree_in m) d name n.value (node_by m k n.value (as_header head))
     gives k same =
-        let number = (tree.headers n (as_header head) is).number in
+        let number = (tree.headers n.value (as_header head) is).number in
         record {
           is_name = named.is_name;
           is_there = named.is_there;
-          is_node = node_in m n number.0 number.1 ∙ ap (node_of m n) is ∙ ap (λ (k : Kind). Some (node_by m k n (as_header head))) same;
+          is_node = node_in m n.value number.0 number.1 ∙ ap (node_of m n.value) is ∙ ap (λ (k : Kind). Some (node_by m k n.value (as_header head))) same;
         }
 
     pub gives_file : head.kind ≡ kind.File → IsSeen d name (seen.File n) m
-    gives_file same = (object m n (as_header head), gives kind.File same)
+    gives_file same = (object m n.value (as_header head), gives kind.File same)
 
     pub gives_directory : head.kind ≡ kind.Directory → IsSeen d name (seen.Directory n) m
-    gives_directory same = (0, names_at m n head, gives kind.Directory same)
+    gives_directory same = (0, names_at m n.value head, gives kind.Directory same)
 
-    pub gives_link : head.kind ≡ kind.Link → Gives (tree_in m) d name n (Link (object m n (as_header head)))
+    pub gives_link : head.kind ≡ kind.Link → Gives (tree_in m) d name n.value (Link (object m n.value (as_header head)))
     gives_link same = gives kind.Link same

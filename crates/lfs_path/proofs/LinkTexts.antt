@@ -60,9 +60,9 @@ module _ {S D : Type 0} (n size : ℕ) where
     }
 
 module _ {S D : Type 0} where
-  pub read_ends : (s s' : FilesState S D) (l : Link) (index : ℕ) (text : List ℕ) → l.header.size ≤ 512 * index → ReadTo l.number l.header.size s s' index text → ReadsText s s' l text
+  pub read_ends : (s s' : FilesState S D) (l : Link) (index : ℕ) (text : List ℕ) → l.header.size ≤ 512 * index → ReadTo l.number.value l.header.size s s' index text → ReadsText s s' l text
   read_ends s s' l index text past was m m' keeps has =
       let all = was.read m m' keeps has in
       let long = all.long in
-      object_is m' l.number (as_header l.header) text (omega (arith, long, past)) (λ p low. all.bytes p (omega (arith, long, low, past)))
+      object_is m' l.number.value (as_header l.header) text (omega (arith, long, past)) (λ p low. all.bytes p (omega (arith, long, low, past)))
   -- ---- the text that is left

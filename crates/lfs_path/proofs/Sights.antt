@@ -1,5 +1,6 @@
 -- Pieces looked up, over files with a draft.
 use Rattle.std.proofs.Common.{◌≡◌, ◌≢◌, ◌<◌, ◌≤◌, ℕ, List, length, Some, None, arith}
+use Rattle.lfs_model.specs.declared.number.FileNumber.{FileNumber}
 use Rattle.lfs_model.specs.declared.Kind.TheVariants as kind
 use Rattle.lfs_model.specs.Walk.{dot, dot_dot}
 use Rattle.lfs_model.specs.Stands.{LogMap}
@@ -32,8 +33,8 @@ module _ {S D : Type 0} where
     header_is : (m m' : LogMap) → b.device.keeps_model → s.has m m' → HasHeader d head m'
     header_is m m' keeps has = read m m' (two.looks.carries.kept_before keeps) has tt
 
-    pub found : (name : List ℕ) (n : ℕ) → (name ≢ dot) × (name ≢ dot_dot) → length name ≤ 59 → Finds a b d head name (Some n) → Tells s b (InDirectory d) (NamesObject d name n)
-    found name n dots short finds m m' keeps has within = is_name m' d within head (header_is m m' keeps has) name dots short n (finds m m' keeps (one.has m m' has))
+    pub found : (name : List ℕ) (n : FileNumber) → (name ≢ dot) × (name ≢ dot_dot) → length name ≤ 59 → Finds a b d head name (Some n) → Tells s b (InDirectory d) (NamesObject d name n.value)
+    found name n dots short finds m m' keeps has within = is_name m' d within head (header_is m m' keeps has) name dots short n.value (finds m m' keeps (one.has m m' has))
 
     pub found_none : (name : List ℕ) → (name ≢ dot) × (name ≢ dot_dot) → length name ≤ 59 → Finds a b d head name None → TellsRefusal s b (InDirectory d) (EndsAtPiece d name) NoEntry
     found_none name dots short finds m m' keeps has within = no_name m' d within head (header_is m m' keeps has) name dots short (finds m m' keeps (one.has m m' has))
@@ -45,16 +46,16 @@ module _ {S D : Type 0} where
         omega (arith, rose, before)
 
   -- ---- what it gives
-  module _ (s a b : FilesState S D) (d n : ℕ) (name : List ℕ) (one : Reads s a) (two : Reads a b) (named : Tells s a (InDirectory d) (NamesObject d name n)) where
-    pub object_failed : TellsFault a b (HasObject n) → TellsFault s b (InDirectory d)
-    object_failed = fails_then s a b (InDirectory d) (HasObject n) one
-        (λ m m' keeps has within. named_object m' d name n within.tree (named m m' (two.looks.carries.kept_before keeps) has within))
+  module _ (s a b : FilesState S D) (d : ℕ) (n : FileNumber) (name : List ℕ) (one : Reads s a) (two : Reads a b) (named : Tells s a (InDirectory d) (NamesObject d name n.value)) where
+    pub object_failed : TellsFault a b (HasObject n.value) → TellsFault s b (InDirectory d)
+    object_failed = fails_then s a b (InDirectory d) (HasObject n.value) one
+        (λ m m' keeps has within. named_object m' d name n.value within.tree (named m m' (two.looks.carries.kept_before keeps) has within))
 
-    module _ (head : Header) (read : Tells a b (λ m. Unit {0}) (HasHeader n head)) where
-      named_at : (m m' : LogMap) → b.device.keeps_model → s.has m m' → InDirectory d m' → NamesObject d name n m'
+    module _ (head : Header) (read : Tells a b (λ m. Unit {0}) (HasHeader n.value head)) where
+      named_at : (m m' : LogMap) → b.device.keeps_model → s.has m m' → InDirectory d m' → NamesObject d name n.value m'
       named_at m m' keeps has within = named m m' (two.looks.carries.kept_before keeps) has within
 
-      header_at : (m m' : LogMap) → b.device.keeps_model → s.has m m' → HasHeader n head m'
+      header_at : (m m' : LogMap) → b.device.keeps_model → s.has m m' → HasHeader n.value head m'
       header_at m m' keeps has = read m m' keeps (one.has m m' has) tt
 
       pub seen_file : head.kind ≡ kind.File → Tells s b (InDirectory d) (IsSeen d name (seen.File n))

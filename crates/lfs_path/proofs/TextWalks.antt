@@ -1,6 +1,7 @@
 -- A text walked piece by piece, until it ends or an object that is no directory is met.
 use Rattle.std.proofs.Common.{◌≡◌, refl, sym, ap, subst, ◌∙◌, ℕ, Bool, true, false, ◌||◌, List, [], ◌∷◌, Option, Some}
 use Rattle.std.specs.Prelude.{IfOk, IfErr, Result, Ok, Err}
+use Rattle.lfs_model.specs.declared.number.FileNumber.{FileNumber}
 use Rattle.lfs_model.specs.PathText.{comps, slash}
 use Rattle.lfs_model.specs.Refusal as refusals
 use Rattle.lfs_model.specs.Stands.{LogMap}
@@ -73,11 +74,11 @@ module _ (slash_end follow : Bool) where
       pub stops : (x : Met) (y : Stop) → Meets (here chain') piece x m → IsStop slash_end follow after x (Ok y) → StopsAtLink slash_end follow chain text chain'' y m
       stops (met.File n) (stop.Node q) meets is = record {
         directories = directories_are;
-        stop = λ k. from_piece k (At q) (subst (λ (j : ℕ). Walk (tree_in m) follow (here chain') (piece ∷ comps after) (slash_end || slash after) k (At j)) (sym is.0) (file meets.1 (left_is ∙ is.1)));
+        stop = λ k. from_piece k (At q.value) (subst (λ (j : FileNumber). Walk (tree_in m) follow (here chain') (piece ∷ comps after) (slash_end || slash after) k (At j.value)) (sym is.0) (file meets.1 (left_is ∙ is.1)));
       }
       stops (met.Symbolic l) (stop.Node q) meets is = record {
         directories = directories_are;
-        stop = λ k. from_piece k (At q) (subst (λ (j : ℕ). Walk (tree_in m) follow (here chain') (piece ∷ comps after) (slash_end || slash after) k (At j)) (sym is.0) (link meets (ap (λ (b : Bool). b || follow) left_is ∙ is.1)));
+        stop = λ k. from_piece k (At q.value) (subst (λ (j : FileNumber). Walk (tree_in m) follow (here chain') (piece ∷ comps after) (slash_end || slash after) k (At j.value)) (sym is.0) (link meets (ap (λ (b : Bool). b || follow) left_is ∙ is.1)));
       }
       stops (met.Symbolic l) (stop.Followed x rest') meets is = record {
         directories = directories_are;

@@ -15,7 +15,7 @@ started text chain = if from_root text then 1 ∷ [] else chain
 
 -- what a link's text is
 abbrev pub text_of : LogMap → Link → List ℕ
-text_of m l = object m l.number (as_header l.header)
+text_of m l = object m l.number.value (as_header l.header)
 
 -- The first bytes of a file's block are behind a text.
 pub record HasTaken (m : LogMap) (n index count : ℕ) (old new : List ℕ) : Type 0 where

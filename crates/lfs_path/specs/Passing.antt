@@ -25,18 +25,13 @@ pub record Leads (piece : List ℕ) (chain chain' : List ℕ) (m : LogMap) : Typ
 
 -- what a directory has under its name
 abbrev pub Meets : ℕ → List ℕ → Met → LogMap → Type 0
-Meets d piece (met.File n) m = (bytes : List ℕ) × Gives (tree_in m) d piece n (File bytes)
-Meets d piece (met.Symbolic l) m = Gives (tree_in m) d piece l.number (Link (text_of m l))
+Meets d piece (met.File n) m = (bytes : List ℕ) × Gives (tree_in m) d piece n.value (File bytes)
+Meets d piece (met.Symbolic l) m = Gives (tree_in m) d piece l.number.value (Link (text_of m l))
 
 -- to a directory, or to another object, and the directory stays
 abbrev pub PassesText : List ℕ → List ℕ → List ℕ → Option Met → LogMap → Type 0
 PassesText piece chain chain' None m = Leads piece chain chain' m
 PassesText piece chain chain' (Some x) m = (chain' ≡ chain) × Meets (here chain) piece x m
-
--- a link's number is one of an object
-abbrev pub HasLinkNumber : Option Met → Type 0
-HasLinkNumber (Some (met.Symbolic l)) = l.number < 4096
-HasLinkNumber _ = Unit {0}
 
 -- ---- a whole text
 
@@ -63,7 +58,7 @@ EndsText slash_end follow d text t e = (k : ℕ) → WalksText slash_end follow 
 -- A link that is followed is met in directory at: the walk from there, with the text behind the link left, is one of the whole.
 pub record MeetsLink (slash_end follow : Bool) (d : ℕ) (text : List ℕ) (at : ℕ) (l : LinkValue) (rest : List ℕ) (m : LogMap) : Type 0 where
   pub piece : List ℕ
-  pub gives : Gives (tree_in m) at piece l.number (Link (text_of m l))
+  pub gives : Gives (tree_in m) at piece l.number.value (Link (text_of m l))
   pub goes : (more (comps rest) (slash_end || slash rest) || follow) ≡ true
   pub walks : (k : ℕ) (e : End) → Walk (tree_in m) follow at (piece ∷ comps rest) (slash_end || slash rest) k e → WalksText slash_end follow d text k (tree_in m) e
   pub begins : from_root rest ≡ nat_lt 0 (length rest)
@@ -71,7 +66,7 @@ pub record MeetsLink (slash_end follow : Bool) (d : ℕ) (text : List ℕ) (at :
 
 abbrev pub StopsAt : Bool → Bool → List ℕ → List ℕ → List ℕ → Stop → LogMap → Type 0
 StopsAt slash_end follow chain text chain' stop.Directory m = EndsText slash_end follow (here chain) text (tree_in m) (At (here chain'))
-StopsAt slash_end follow chain text chain' (stop.Node n) m = EndsText slash_end follow (here chain) text (tree_in m) (At n)
+StopsAt slash_end follow chain text chain' (stop.Node n) m = EndsText slash_end follow (here chain) text (tree_in m) (At n.value)
 StopsAt slash_end follow chain text chain' (stop.Followed l rest) m = MeetsLink slash_end follow (here chain) text (here chain') l rest.now m
 
 -- Where the walk of a text stops, and at which directories.
@@ -79,8 +74,8 @@ pub record StopsAtLink (slash_end follow : Bool) (chain text chain' : List ℕ) 
   pub directories : IsChain (tree_in m) chain'
   pub stop : StopsAt slash_end follow chain text chain' x m
 
--- what is known of it whatever the tree is: the number of a link, and that it isn't at a node where a directory has to be
+-- what is known of it whatever the tree is: it isn't at a node where a directory has to be
 abbrev pub FitsStop : Bool → Stop → Type 0
 FitsStop slash_end stop.Directory = Unit {0}
 FitsStop slash_end (stop.Node n) = slash_end ≡ false
-FitsStop slash_end (stop.Followed l rest) = l.number < 4096
+FitsStop slash_end (stop.Followed l rest) = Unit {0}

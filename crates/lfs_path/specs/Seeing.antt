@@ -29,12 +29,6 @@ pub record NamesObject (d : ℕ) (name : List ℕ) (n : ℕ) (m : LogMap) : Type
 abbrev pub IsSeen : ℕ → List ℕ → Seen → LogMap → Type 0
 IsSeen d piece seen.Here m = piece ≡ dot
 IsSeen d piece seen.Above m = piece ≡ dot_dot
-IsSeen d piece (seen.Directory n) m = (form : ℕ) × (names : Names) × Gives (tree_in m) d piece n (Dir form names)
-IsSeen d piece (seen.File n) m = (bytes : List ℕ) × Gives (tree_in m) d piece n (File bytes)
-IsSeen d piece (seen.Symbolic l) m = Gives (tree_in m) d piece l.number (Link (object m l.number (as_header l.header)))
-
--- its number is one of an object
-abbrev pub HasNumber : Seen → Type 0
-HasNumber (seen.Directory n) = n < 4096
-HasNumber (seen.Symbolic l) = l.number < 4096
-HasNumber _ = Unit {0}
+IsSeen d piece (seen.Directory n) m = (form : ℕ) × (names : Names) × Gives (tree_in m) d piece n.value (Dir form names)
+IsSeen d piece (seen.File n) m = (bytes : List ℕ) × Gives (tree_in m) d piece n.value (File bytes)
+IsSeen d piece (seen.Symbolic l) m = Gives (tree_in m) d piece l.number.value (Link (object m l.number.value (as_header l.header)))

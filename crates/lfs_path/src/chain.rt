@@ -1,30 +1,25 @@
 //! The directories from the root to the one where a walk is.
-ghost use Rattle.std.specs.Prelude.{◌≡◌, ◌<◌, [], ◌∷◌, OnOk};
+ghost use Rattle.std.specs.Prelude.{◌≡◌, [], ◌∷◌, OnOk};
 ghost use Rattle.lfs_path.specs.Trees.{here, risen};
 
+use lfs_model::FileNumber;
 use std::alloc::{AllocError, Global};
 use std::marker::Model;
-
-/// The number of the root.
-const ROOT: u16 = 1;
 
 /// A directory and those above it as far as the root: contracts see their numbers, its own first.
 #[derive(Drop)]
 pub struct Chain {
     /// From the root on.
-    above: Vec<u16>,
-    directory: u16,
+    above: Vec<FileNumber>,
+    directory: FileNumber,
 }
 
 impl Model for Chain {
-    ghost use Rattle.std.specs.Prelude.{ℕ, List, ◌∷◌, ◌<◌, reverse};
-    ghost use Rattle.std.specs.List.{AllByRecursion};
+    ghost use Rattle.std.specs.Prelude.{ℕ, List, ◌∷◌, map, reverse};
 
     ghost Value = { List ℕ };
 
-    ghost view = { λ c. c.directory ∷ reverse c.above.items };
-
-    ghost invariant = { λ c. AllByRecursion (λ n. n < 4096) (c.directory ∷ reverse c.above.items) };
+    ghost view = { λ c. map (λ n. n.value) (c.directory ∷ reverse c.above.items) };
 }
 
 impl Chain {
@@ -34,14 +29,13 @@ impl Chain {
     {
         Chain {
             above: Vec::new(alloc),
-            directory: ROOT,
+            directory: FileNumber::ROOT,
         }
     }
 
     /// The directory itself.
-    pub fn directory(&self) -> u16
-        ensures value { result ≡ here self.now }
-        ensures few { result < 4096 }
+    pub fn directory(&self) -> FileNumber
+        ensures value { result.value ≡ here self.now }
     {
         self.directory
     }
@@ -56,9 +50,8 @@ impl Chain {
     }
 
     /// To a directory in this one.
-    pub fn descend(&mut self, directory: u16) -> Result<(), AllocError>
-        requires { directory < 4096 }
-        ensures { OnOk result (self.new ≡ directory ∷ self.old) }
+    pub fn descend(&mut self, directory: FileNumber) -> Result<(), AllocError>
+        ensures { OnOk result (self.new ≡ directory.value ∷ self.old) }
     {
         let Ok(()) = self.above.push(self.directory) else {
             return Err(AllocError);
@@ -72,6 +65,6 @@ impl Chain {
         ensures { self.new ≡ 1 ∷ [] }
     {
         self.above.clear();
-        self.directory = ROOT;
+        self.directory = FileNumber::ROOT;
     }
 }

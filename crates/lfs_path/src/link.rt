@@ -8,6 +8,7 @@ use crate::chain::Chain;
 use crate::seen::Link;
 use crate::walk_fault::WalkFault;
 use lfs_files::{Files, LogFault};
+use lfs_model::FileNumber;
 use std::alloc::Global;
 
 /// The bytes of a block.
@@ -22,7 +23,6 @@ pub fn follow_link<F: Files>(
     link: Link,
     rest: &[u8],
 ) -> Result<Vec<u8>, WalkFault>
-    requires { link.number < 4096 }
     ensures reads { Reads (F.state files.old) (F.state files.new) }
     ensures answer { IfOk result (λ text. Follows (F.state files.old) (F.state files.new) link
         rest.now chain.old chain.new text.items) }
@@ -56,7 +56,6 @@ fn begins_with_slash(text: &[u8]) -> bool
 
 /// The text of a link.
 fn read_text<F: Files>(alloc: Global, files: &mut F, link: Link) -> Result<Vec<u8>, WalkFault>
-    requires { link.number < 4096 }
     ensures reads { Reads (F.state files.old) (F.state files.new) }
     ensures answer { IfOk result (λ text. ReadsText (F.state files.old) (F.state files.new) link
         text.items) }
@@ -80,16 +79,15 @@ fn read_text<F: Files>(alloc: Global, files: &mut F, link: Link) -> Result<Vec<u
 /// Adds the first bytes of a block of an object.
 fn read_block<F: Files>(
     files: &mut F,
-    number: u16,
+    number: FileNumber,
     index: u32,
     count: usize,
     text: &mut Vec<u8>,
 ) -> Result<(), WalkFault>
-    requires number { number < 4096 }
     requires few { count ≤ 512 }
     ensures reads { Reads (F.state files.old) (F.state files.new) }
-    ensures done { OnOk result (TakesBytes (F.state files.old) (F.state files.new) number index
-        count text.old.items text.new.items) }
+    ensures done { OnOk result (TakesBytes (F.state files.old) (F.state files.new) number.value
+        index count text.old.items text.new.items) }
     ensures failed { IfErr result (IsReadFault (F.state files.old) (F.state files.new)) }
     ensures halted { IsErrOf result (WalkFault.Log LogFault.Halted)
         → (F.state files.old).halted ≡ true }

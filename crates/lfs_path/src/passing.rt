@@ -1,7 +1,7 @@
 //! The pieces of a text, walked one after the other.
 ghost use Rattle.std.specs.Prelude.{◌≡◌, ◌<◌, true, IfOk, IfErr, IsErrOf};
 ghost use Rattle.lfs_files.specs.Files.{Reads};
-ghost use Rattle.lfs_path.specs.Passing.{EndsText, FitsStop, HasLinkNumber, IsStop, PassesText, StopsAtLink};
+ghost use Rattle.lfs_path.specs.Passing.{EndsText, FitsStop, IsStop, PassesText, StopsAtLink};
 ghost use Rattle.lfs_path.specs.Seeing.{EndsAtPiece};
 ghost use Rattle.lfs_path.specs.Telling.{TellsRefusal, Tells};
 ghost use Rattle.lfs_path.specs.Trees.{InChain, here};
@@ -11,11 +11,12 @@ use crate::seen::{Link, Seen, look};
 use crate::text::next_piece;
 use crate::walk_fault::WalkFault;
 use lfs_files::{Files, LogFault};
+use lfs_model::FileNumber;
 
 /// An object that is no directory.
 #[derive(Clone, Copy)]
 pub enum Met {
-    File(u16),
+    File(FileNumber),
     Symbolic(Link),
 }
 
@@ -25,7 +26,7 @@ pub enum Stop<'a> {
     /// At a directory: no piece is left.
     Directory,
     /// At a file, or at a link that isn't followed.
-    Node(u16),
+    Node(FileNumber),
     /// At a link that is followed; the text behind it.
     Followed(Link, &'a [u8]),
 }
@@ -55,10 +56,12 @@ pub fn walk_text<'a, F: Files>(
 {
     let mut rest = text;
     while let Some((piece, after)) = next_piece(rest) {
-        match pass(files, chain, piece) {
-            Ok(None) => {}
-            Ok(Some(met)) => return stop_at(met, after, slash_end, follow),
+        let met = match pass(files, chain, piece) {
+            Ok(met) => met,
             Err(fault) => return Err(fault),
+        };
+        if let Some(met) = met {
+            return stop_at(met, after, slash_end, follow);
         }
         rest = after;
     }
@@ -68,7 +71,6 @@ pub fn walk_text<'a, F: Files>(
 /// Walks one piece: to the directory that it leads to, or an object that is none.
 fn pass<F: Files>(files: &mut F, chain: &mut Chain, piece: &[u8]) -> Result<Option<Met>, WalkFault>
     ensures reads { Reads (F.state files.old) (F.state files.new) }
-    ensures number { IfOk result HasLinkNumber }
     ensures answer { IfOk result (λ met. Tells (F.state files.old) (F.state files.new)
         (InChain chain.old) (PassesText piece.now chain.old chain.new met)) }
     ensures refused { IfErr result (TellsRefusal (F.state files.old) (F.state files.new)

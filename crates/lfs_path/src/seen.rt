@@ -2,14 +2,14 @@
 ghost use Rattle.std.specs.Prelude.{◌≡◌, ◌≢◌, ◌<◌, true, IfOk, IfErr, OnErr, IsErrOf};
 ghost use Rattle.lfs_model.specs.Walk.{dot, dot_dot};
 ghost use Rattle.lfs_files.specs.Files.{Reads};
-ghost use Rattle.lfs_path.specs.Seeing.{EndsAtPiece, HasHeader, HasNumber, HasObject, IsSeen, NamesObject};
+ghost use Rattle.lfs_path.specs.Seeing.{EndsAtPiece, HasHeader, HasObject, IsSeen, NamesObject};
 ghost use Rattle.lfs_path.specs.Telling.{TellsFault, TellsRefusal, Tells};
 ghost use Rattle.lfs_path.specs.Trees.{InDirectory};
 
 use crate::walk_fault::WalkFault;
 use lfs_dirs::find;
 use lfs_files::{Files, Header, LogFault};
-use lfs_model::Kind;
+use lfs_model::{FileNumber, Kind};
 
 /// The most bytes of a name.
 const LONGEST_NAME: usize = 59;
@@ -17,7 +17,7 @@ const LONGEST_NAME: usize = 59;
 /// A symbolic link.
 #[derive(Clone, Copy)]
 pub struct Link {
-    pub number: u16,
+    pub number: FileNumber,
     pub header: Header,
 }
 
@@ -29,9 +29,9 @@ pub enum Seen {
     /// Dot-dot.
     Above,
     /// A name of a directory.
-    Directory(u16),
+    Directory(FileNumber),
     /// A name of a file.
-    File(u16),
+    File(FileNumber),
     /// A name of a symbolic link.
     Symbolic(Link),
 }
@@ -42,14 +42,12 @@ pub enum Seen {
 ///
 /// `NameTooLong`, or `NoEntry` where the directory doesn't have the name. `Log` where the log gives
 /// no answer.
-pub fn look<F: Files>(files: &mut F, directory: u16, piece: &[u8]) -> Result<Seen, WalkFault>
-    requires { directory < 4096 }
+pub fn look<F: Files>(files: &mut F, directory: FileNumber, piece: &[u8]) -> Result<Seen, WalkFault>
     ensures reads { Reads (F.state files.old) (F.state files.new) }
-    ensures number { IfOk result HasNumber }
     ensures answer { IfOk result (λ seen. Tells (F.state files.old) (F.state files.new)
-        (InDirectory directory) (IsSeen directory piece.now seen)) }
+        (InDirectory directory.value) (IsSeen directory.value piece.now seen)) }
     ensures refused { IfErr result (TellsRefusal (F.state files.old) (F.state files.new)
-        (InDirectory directory) (EndsAtPiece directory piece.now)) }
+        (InDirectory directory.value) (EndsAtPiece directory.value piece.now)) }
     ensures halted { IsErrOf result (WalkFault.Log LogFault.Halted)
         → (F.state files.old).halted ≡ true }
     ensures other { IsErrOf result (WalkFault.Log LogFault.Full) → ⊥ }
@@ -76,13 +74,12 @@ pub fn look<F: Files>(files: &mut F, directory: u16, piece: &[u8]) -> Result<See
 }
 
 /// What the inode of an object says of it.
-fn header_of<F: Files>(files: &mut F, number: u16) -> Result<Header, LogFault>
-    requires { number < 4096 }
+fn header_of<F: Files>(files: &mut F, number: FileNumber) -> Result<Header, LogFault>
     ensures reads { Reads (F.state files.old) (F.state files.new) }
     ensures answer { IfOk result (λ header. Tells (F.state files.old) (F.state files.new)
-        (λ m. Unit {0}) (HasHeader number header)) }
+        (λ m. Unit {0}) (HasHeader number.value header)) }
     ensures failed { OnErr result (TellsFault (F.state files.old) (F.state files.new)
-        (HasObject number)) }
+        (HasObject number.value)) }
     ensures halted { IsErrOf result LogFault.Halted → (F.state files.old).halted ≡ true }
     ensures other { IsErrOf result LogFault.Full → ⊥ }
 {
@@ -94,15 +91,17 @@ fn header_of<F: Files>(files: &mut F, number: u16) -> Result<Header, LogFault>
 }
 
 /// The object that a name gives in a directory.
-fn entry_in<F: Files>(files: &mut F, directory: u16, name: &[u8]) -> Result<u16, WalkFault>
-    requires few { directory < 4096 }
+fn entry_in<F: Files>(
+    files: &mut F,
+    directory: FileNumber,
+    name: &[u8],
+) -> Result<FileNumber, WalkFault>
     requires dots { (name.now ≢ dot) × (name.now ≢ dot_dot) }
     ensures reads { Reads (F.state files.old) (F.state files.new) }
-    ensures number { IfOk result (λ n. n < 4096) }
     ensures answer { IfOk result (λ n. Tells (F.state files.old) (F.state files.new)
-        (InDirectory directory) (NamesObject directory name.now n)) }
+        (InDirectory directory.value) (NamesObject directory.value name.now n.value)) }
     ensures refused { IfErr result (TellsRefusal (F.state files.old) (F.state files.new)
-        (InDirectory directory) (EndsAtPiece directory name.now)) }
+        (InDirectory directory.value) (EndsAtPiece directory.value name.now)) }
     ensures halted { IsErrOf result (WalkFault.Log LogFault.Halted)
         → (F.state files.old).halted ≡ true }
     ensures other { IsErrOf result (WalkFault.Log LogFault.Full) → ⊥ }

@@ -13,6 +13,7 @@ use crate::text::check_text;
 use crate::walk_fault::WalkFault;
 use crate::walking::walk;
 use lfs_files::{Files, LogFault};
+use lfs_model::FileNumber;
 use std::alloc::Global;
 
 /// The directory that a path's last piece stands in, and that piece, where the path has one.
@@ -35,10 +36,10 @@ pub fn resolve<F: Files>(
     files: &mut F,
     path: &[u8],
     follow: bool,
-) -> Result<u16, WalkFault>
+) -> Result<FileNumber, WalkFault>
     ensures reads { Reads (F.state files.old) (F.state files.new) }
     ensures answer { IfOk result (λ n. Tells (F.state files.old) (F.state files.new) HasTree
-        (ResolvesTo path.now follow n)) }
+        (ResolvesTo path.now follow n.value)) }
     ensures refused { IfErr result (TellsRefusal (F.state files.old) (F.state files.new) HasTree
         (EndsResolve path.now follow)) }
     ensures halted { IsErrOf result (WalkFault.Log LogFault.Halted)

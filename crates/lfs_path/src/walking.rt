@@ -10,6 +10,7 @@ use crate::link::follow_link;
 use crate::passing::{Stop, walk_text};
 use crate::walk_fault::WalkFault;
 use lfs_files::{Files, LogFault};
+use lfs_model::FileNumber;
 use std::alloc::Global;
 
 /// The most links that a walk follows.
@@ -28,12 +29,12 @@ pub fn walk<F: Files>(
     path: &[u8],
     slash_end: bool,
     follow: bool,
-) -> Result<u16, WalkFault>
+) -> Result<FileNumber, WalkFault>
     requires { chain.old ≡ 1 ∷ [] }
     ensures reads { Reads (F.state files.old) (F.state files.new) }
-    ensures last { IfOk result (λ n. slash_end ≡ true → n ≡ here chain.new) }
+    ensures last { IfOk result (λ n. slash_end ≡ true → n.value ≡ here chain.new) }
     ensures answer { IfOk result (λ n. Tells (F.state files.old) (F.state files.new) HasTree
-        (Reaches slash_end follow path.now chain.new n)) }
+        (Reaches slash_end follow path.now chain.new n.value)) }
     ensures refused { IfErr result (TellsRefusal (F.state files.old) (F.state files.new) HasTree
         (EndsPath slash_end follow path.now)) }
     ensures halted { IsErrOf result (WalkFault.Log LogFault.Halted)

@@ -9,6 +9,7 @@ ghost use Rattle.lfs_model.specs.Fields.{zeros};
 use crate::losing::{header_after, takes_block};
 use lfs_cleaner::volume_log::{BlockEdit, Changes, Header, HeaderEdit, Loss};
 use lfs_layout::is_zero;
+use lfs_model::FileNumber;
 use std::alloc::{AllocError, Global};
 
 /// The changes of one call. A later change of a header or of a block takes the place of the one
@@ -51,10 +52,10 @@ impl Draft {
     }
 
     /// The header that the draft gives a file.
-    pub fn find_header(&self, number: u16) -> Option<Header>
-        ensures { DraftsHeader self.now.changes number result }
+    pub fn find_header(&self, number: FileNumber) -> Option<Header>
+        ensures { DraftsHeader self.now.changes number.value result }
     {
-        let Some(place) = last_header(&self.changes.headers, number) else {
+        let Some(place) = last_header(&self.changes.headers, number.value) else {
             return None;
         };
         Some(self.changes.headers[place].header)
@@ -65,27 +66,30 @@ impl Draft {
     /// # Errors
     ///
     /// Where memory runs out: the draft is as it was.
-    pub fn put_header(&mut self, number: u16, header: Header) -> Result<(), AllocError>
-        requires some { 1 ≤ number }
-        requires few { number ≤ 4095 }
-        ensures done { OnOk result (PutsHeader self.old.changes self.new.changes number header) }
+    pub fn put_header(&mut self, number: FileNumber, header: Header) -> Result<(), AllocError>
+        ensures done { OnOk result (PutsHeader self.old.changes self.new.changes number.value
+            header) }
         ensures same { OnErr result (IsAsBefore self.old.changes self.new.changes) }
     {
-        let Some(place) = last_header(&self.changes.headers, number) else {
-            return self.changes.put_header(number, header);
+        let Some(place) = last_header(&self.changes.headers, number.value) else {
+            return self.changes.put_header(number.value, header);
         };
-        self.changes.headers[place] = HeaderEdit { number, header };
+        let edit = HeaderEdit {
+            number: number.value,
+            header,
+        };
+        self.changes.headers[place] = edit;
         Ok(())
     }
 
     /// The bytes that the draft gives a block of a file.
-    pub fn find_block(&self, number: u16, index: u32) -> Option<&[u8; 512]>
-        ensures some { IfSome result (λ bytes. DraftsBlock self.now.changes number index
+    pub fn find_block(&self, number: FileNumber, index: u32) -> Option<&[u8; 512]>
+        ensures some { IfSome result (λ bytes. DraftsBlock self.now.changes number.value index
             bytes.now) }
-        ensures none { IfNone result (LeavesBlock self.now.changes number index) }
+        ensures none { IfNone result (LeavesBlock self.now.changes number.value index) }
         ensures long { IfSome result (λ bytes. length bytes.now ≡ 512) }
     {
-        let Some(place) = last_block(&self.changes.blocks, number, index) else {
+        let Some(place) = last_block(&self.changes.blocks, number.value, index) else {
             return None;
         };
         Some(&self.changes.blocks[place].bytes)
@@ -98,23 +102,22 @@ impl Draft {
     /// Where memory runs out: the draft is as it was.
     pub fn put_block(
         &mut self,
-        number: u16,
+        number: FileNumber,
         index: u32,
         bytes: &[u8; 512],
     ) -> Result<(), AllocError>
-        requires some { 1 ≤ number }
-        requires few { number ≤ 4095 }
         requires low { index ≤ 16623 }
-        ensures done { OnOk result (PutsBlock self.old.changes self.new.changes number index
+        ensures done { OnOk result (PutsBlock self.old.changes self.new.changes number.value index
             bytes.now) }
-        ensures placed { OnOk result (PlacesBlock self.old.changes self.new.changes number index) }
+        ensures placed { OnOk result (PlacesBlock self.old.changes self.new.changes number.value
+            index) }
         ensures same { OnErr result (IsAsBefore self.old.changes self.new.changes) }
     {
-        let Some(place) = last_block(&self.changes.blocks, number, index) else {
-            return self.changes.put_block(number, index, bytes);
+        let Some(place) = last_block(&self.changes.blocks, number.value, index) else {
+            return self.changes.put_block(number.value, index, bytes);
         };
         self.changes.blocks[place] = BlockEdit {
-            number,
+            number: number.value,
             index,
             bytes: *bytes,
         };
@@ -123,26 +126,26 @@ impl Draft {
 
     /// The header that a file has after the draft, or that it isn't there; `None` where the draft
     /// leaves it as it is.
-    pub fn header(&self, number: u16) -> Option<Option<Header>>
-        ensures { SaysHeader self.now.changes number result }
+    pub fn header(&self, number: FileNumber) -> Option<Option<Header>>
+        ensures { SaysHeader self.now.changes number.value result }
     {
         match self.find_header(number) {
             Some(header) => Some(Some(header)),
-            None => header_after(&self.changes.loss, number),
+            None => header_after(&self.changes.loss, number.value),
         }
     }
 
     /// Whether a block of a file is stored after the draft, and its bytes; zeros where it isn't.
     /// `None` where the draft leaves it as it is.
-    pub fn block(&self, number: u16, index: u32, out: &mut [u8; 512]) -> Option<bool>
-        ensures says { SaysBlock self.now.changes number index out.new result }
+    pub fn block(&self, number: FileNumber, index: u32, out: &mut [u8; 512]) -> Option<bool>
+        ensures says { SaysBlock self.now.changes number.value index out.new result }
         ensures zeros { IfSome result (λ found. IsFalse found → out.new ≡ zeros 512) }
     {
         if let Some(bytes) = self.find_block(number, index) {
             *out = *bytes;
             return Some(!is_zero(bytes));
         }
-        if !takes_block(&self.changes.loss, number, index) {
+        if !takes_block(&self.changes.loss, number.value, index) {
             return None;
         }
         clear(out);

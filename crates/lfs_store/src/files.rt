@@ -2,6 +2,7 @@
 use crate::store::Store;
 use lfs_device::SectorDevice;
 use lfs_files::{Files, Header, LogFault, StoreFault};
+use lfs_model::FileNumber;
 
 impl<D: SectorDevice> Files for Store<D> {
     ghost use Rattle.lfs_store.specs.declared.draft.Draft.{Draft};
@@ -13,17 +14,22 @@ impl<D: SectorDevice> Files for Store<D> {
 
     ghost state = { λ s. state_of D.SectorDevice.state s.log s.draft s.saved s.drafted };
 
-    fn header(&mut self, number: u16) -> Result<Option<Header>, LogFault> {
+    fn header(&mut self, number: FileNumber) -> Result<Option<Header>, LogFault> {
         Store::header(self, number)
     }
 
-    fn block(&mut self, number: u16, index: u32, out: &mut [u8; 512]) -> Result<bool, LogFault> {
+    fn block(
+        &mut self,
+        number: FileNumber,
+        index: u32,
+        out: &mut [u8; 512],
+    ) -> Result<bool, LogFault> {
         Store::block(self, number, index, out)
     }
 
     fn write_at(
         &mut self,
-        number: u16,
+        number: FileNumber,
         header: Header,
         at: u32,
         bytes: &[u8],
@@ -31,11 +37,11 @@ impl<D: SectorDevice> Files for Store<D> {
         Store::write_at(self, number, header, at, bytes)
     }
 
-    fn set_len(&mut self, number: u16, header: Header, len: u32) -> Result<(), StoreFault> {
+    fn set_len(&mut self, number: FileNumber, header: Header, len: u32) -> Result<(), StoreFault> {
         Store::set_len(self, number, header, len)
     }
 
-    fn shrink(&mut self, number: u16, header: Header, len: u32) -> Result<(), StoreFault> {
+    fn shrink(&mut self, number: FileNumber, header: Header, len: u32) -> Result<(), StoreFault> {
         Store::shrink(self, number, header, len)
     }
 

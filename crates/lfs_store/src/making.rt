@@ -11,7 +11,7 @@ use crate::totals::{Measure, NO_BLOCK};
 use lfs_cleaner::volume_log::{Header, LastLink, LogFault, Loss, Removal};
 use lfs_device::SectorDevice;
 use lfs_files::StoreFault;
-use lfs_model::Kind;
+use lfs_model::{FileNumber, Kind};
 
 /// The links of a file that is made.
 fn first_links(kind: Kind) -> u32
@@ -29,11 +29,15 @@ impl<D: SectorDevice> Store<D> {
     ghost use Rattle.lfs_store.specs.Recounting.{Counts, CountsGone};
 
     /// The least number that no file has in the log.
-    pub fn least_free(&self) -> Option<u16>
-        ensures some { IfSome result (IsVacant D.SectorDevice.state self.now.log) }
+    pub fn least_free(&self) -> Option<FileNumber>
+        ensures some { IfSome result (λ number. IsVacant D.SectorDevice.state self.now.log
+            number.value) }
         ensures none { IfNone result (HasAll D.SectorDevice.state self.now.log) }
     {
-        self.log.least_free()
+        match self.log.least_free() {
+            Some(number) => Some(FileNumber { value: number }),
+            None => None,
+        }
     }
 
     /// Makes a file that isn't there, without a byte: a regular file or a directory.
@@ -41,15 +45,13 @@ impl<D: SectorDevice> Store<D> {
     /// # Errors
     ///
     /// `NoMemory` where memory runs out. What the draft holds then is of no use.
-    pub fn create(&mut self, number: u16, kind: Kind) -> Result<(), StoreFault>
-        requires some { 1 ≤ number }
-        requires few { number ≤ 4095 }
+    pub fn create(&mut self, number: FileNumber, kind: Kind) -> Result<(), StoreFault>
         ensures log { self.new.log ≡ self.old.log }
         ensures saved { self.new.saved ≡ self.old.saved }
-        ensures done { OnOk result (Makes self.old.draft.changes self.new.draft.changes number
+        ensures done { OnOk result (Makes self.old.draft.changes self.new.draft.changes number.value
             (first_header kind 0)) }
         ensures counted { OnOk result (CountsMade self.old.draft.changes self.new.draft.changes
-            number self.old.drafted self.new.drafted) }
+            number.value self.old.drafted self.new.drafted) }
         ensures failed { IfErr result (λ fault. fault ≡ StoreFault.NoMemory) }
     {
         self.make(number, kind, 0)
@@ -61,32 +63,28 @@ impl<D: SectorDevice> Store<D> {
     /// # Errors
     ///
     /// As those of `create`.
-    pub fn create_link(&mut self, number: u16, size: u32) -> Result<(), StoreFault>
-        requires some { 1 ≤ number }
-        requires few { number ≤ 4095 }
+    pub fn create_link(&mut self, number: FileNumber, size: u32) -> Result<(), StoreFault>
         requires most { size ≤ 1023 }
         ensures log { self.new.log ≡ self.old.log }
         ensures saved { self.new.saved ≡ self.old.saved }
-        ensures done { OnOk result (Makes self.old.draft.changes self.new.draft.changes number
+        ensures done { OnOk result (Makes self.old.draft.changes self.new.draft.changes number.value
             (first_header Kind.Link size)) }
         ensures counted { OnOk result (CountsMade self.old.draft.changes self.new.draft.changes
-            number self.old.drafted self.new.drafted) }
+            number.value self.old.drafted self.new.drafted) }
         ensures failed { IfErr result (λ fault. fault ≡ StoreFault.NoMemory) }
     {
         self.make(number, Kind::Link, size)
     }
 
     /// Makes a file, and counts its inode.
-    fn make(&mut self, number: u16, kind: Kind, size: u32) -> Result<(), StoreFault>
-        requires some { 1 ≤ number }
-        requires few { number ≤ 4095 }
+    fn make(&mut self, number: FileNumber, kind: Kind, size: u32) -> Result<(), StoreFault>
         requires most { size ≤ 8511488 }
         ensures log { self.new.log ≡ self.old.log }
         ensures saved { self.new.saved ≡ self.old.saved }
-        ensures done { OnOk result (Makes self.old.draft.changes self.new.draft.changes number
+        ensures done { OnOk result (Makes self.old.draft.changes self.new.draft.changes number.value
             (first_header kind size)) }
         ensures counted { OnOk result (CountsMade self.old.draft.changes self.new.draft.changes
-            number self.old.drafted self.new.drafted) }
+            number.value self.old.drafted self.new.drafted) }
         ensures failed { IfErr result (λ fault. fault ≡ StoreFault.NoMemory) }
     {
         let header = Header {
@@ -110,17 +108,20 @@ impl<D: SectorDevice> Store<D> {
     /// # Errors
     ///
     /// As those of `create`.
-    pub fn set_links(&mut self, number: u16, header: Header, links: u32) -> Result<(), StoreFault>
-        requires some { 1 ≤ number }
-        requires few { number ≤ 4095 }
+    pub fn set_links(
+        &mut self,
+        number: FileNumber,
+        header: Header,
+        links: u32,
+    ) -> Result<(), StoreFault>
         requires last { links ≡ 0 → IsNoChange self.old.draft.changes }
         ensures log { self.new.log ≡ self.old.log }
         ensures saved { self.new.saved ≡ self.old.saved }
         ensures drafted { self.new.drafted ≡ self.old.drafted }
-        ensures done { OnOk result (SetsLinks self.old.draft.changes self.new.draft.changes number
-            header links) }
+        ensures done { OnOk result (SetsLinks self.old.draft.changes self.new.draft.changes
+            number.value header links) }
         ensures counted { OnOk result (CountsRelinked self.old.draft.changes self.new.draft.changes
-            number header self.new.drafted) }
+            number.value header self.new.drafted) }
         ensures failed { IfErr result (λ fault. fault ≡ StoreFault.NoMemory) }
     {
         if links == 0 {
@@ -131,32 +132,29 @@ impl<D: SectorDevice> Store<D> {
     }
 
     /// A file of this header has no link any more.
-    fn lose_link(&mut self, number: u16, header: Header)
-        requires some { 1 ≤ number }
-        requires few { number ≤ 4095 }
+    fn lose_link(&mut self, number: FileNumber, header: Header)
         requires empty { IsNoChange self.old.draft.changes }
         ensures log { self.new.log ≡ self.old.log }
         ensures saved { self.new.saved ≡ self.old.saved }
         ensures drafted { self.new.drafted ≡ self.old.drafted }
-        ensures done { SetsLinks self.old.draft.changes self.new.draft.changes number header 0 }
+        ensures done { SetsLinks self.old.draft.changes self.new.draft.changes number.value
+            header 0 }
     {
         self.draft.lose(Loss::Link(LastLink {
-            number,
+            number: number.value,
             kind: header.kind,
             size: header.size,
         }));
     }
 
     /// A file of this header has other links, and at least one.
-    fn relink(&mut self, number: u16, header: Header, links: u32) -> Result<(), StoreFault>
-        requires some { 1 ≤ number }
-        requires few { number ≤ 4095 }
+    fn relink(&mut self, number: FileNumber, header: Header, links: u32) -> Result<(), StoreFault>
         requires linked { 1 ≤ links }
         ensures log { self.new.log ≡ self.old.log }
         ensures saved { self.new.saved ≡ self.old.saved }
         ensures drafted { self.new.drafted ≡ self.old.drafted }
-        ensures done { OnOk result (SetsLinks self.old.draft.changes self.new.draft.changes number
-            header links) }
+        ensures done { OnOk result (SetsLinks self.old.draft.changes self.new.draft.changes
+            number.value header links) }
         ensures failed { IfErr result (λ fault. fault ≡ StoreFault.NoMemory) }
     {
         let header = Header {
@@ -175,13 +173,11 @@ impl<D: SectorDevice> Store<D> {
     /// # Errors
     ///
     /// As those of `header`. What the draft holds then is of no use.
-    pub fn remove(&mut self, number: u16) -> Result<(), LogFault>
-        requires some { 1 ≤ number }
-        requires few { number ≤ 4095 }
+    pub fn remove(&mut self, number: FileNumber) -> Result<(), LogFault>
         requires empty { IsNoChange self.old.draft.changes }
         ensures reads { Reads D.SectorDevice.state self.old.log self.new.log }
         ensures saved { self.new.saved ≡ self.old.saved }
-        ensures done { OnOk result (DraftsRemoval self.new.draft.changes number) }
+        ensures done { OnOk result (DraftsRemoval self.new.draft.changes number.value) }
         ensures counted { OnOk result (Counts D.SectorDevice.state self.old.log self.new.log
             self.old.draft.changes self.new.draft.changes self.old.drafted self.new.drafted) }
         ensures failed { OnErr result (IsReadFault D.SectorDevice.state self.old.log self.new.log) }
@@ -200,15 +196,16 @@ impl<D: SectorDevice> Store<D> {
     }
 
     /// A file goes with all its blocks, in the draft.
-    fn lose_file(&mut self, number: u16)
-        requires few { number ≤ 4095 }
+    fn lose_file(&mut self, number: FileNumber)
         requires empty { IsNoChange self.old.draft.changes }
         ensures log { self.new.log ≡ self.old.log }
         ensures saved { self.new.saved ≡ self.old.saved }
         ensures drafted { self.new.drafted ≡ self.old.drafted }
-        ensures done { DraftsRemoval self.new.draft.changes number }
+        ensures done { DraftsRemoval self.new.draft.changes number.value }
     {
-        self.draft.lose(Loss::File(Removal { number }));
+        self.draft.lose(Loss::File(Removal {
+            number: number.value,
+        }));
     }
 
     /// DraftsRemoval a file with all its blocks at once, without a draft. It takes no memory.
@@ -217,19 +214,17 @@ impl<D: SectorDevice> Store<D> {
     ///
     /// With the files as they were: `Device` where a call of the device failed. `Halted` once a
     /// commit failed.
-    pub fn forget(&mut self, number: u16) -> Result<(), LogFault>
-        requires some { 1 ≤ number }
-        requires few { number ≤ 4095 }
+    pub fn forget(&mut self, number: FileNumber) -> Result<(), LogFault>
         requires empty { IsNoChange self.old.draft.changes }
         ensures done { OnOk result (IsRemoved D.SectorDevice.state self.old.log self.new.log
-            number) }
+            number.value) }
         ensures stores { OnOk result (Forgets D.SectorDevice.state self.old.log self.old.saved
-            self.new.log number) }
+            self.new.log number.value) }
         ensures kept { OnErr result (IsKept D.SectorDevice.state self.old.log self.new.log) }
         ensures draft { self.new.draft ≡ self.old.draft }
         ensures saved { self.new.saved ≡ self.old.saved }
         ensures counted { OnOk result (CountsGone D.SectorDevice.state self.old.log self.new.log
-            number self.old.log.totals self.new.log.totals) }
+            number.value self.old.log.totals self.new.log.totals) }
         ensures drafted { OnOk result (self.new.drafted ≡ self.new.log.totals) }
         ensures same { OnErr result (self.new.log.totals ≡ self.old.log.totals) }
         ensures same_drafted { OnErr result (self.new.drafted ≡ self.old.drafted) }
@@ -242,7 +237,7 @@ impl<D: SectorDevice> Store<D> {
             Err(fault) => return Err(fault),
         };
         let totals = recounted(self.log.totals(), before, NO_BLOCK);
-        match self.log.remove(number, totals) {
+        match self.log.remove(number.value, totals) {
             Ok(()) => {}
             Err(fault) => return Err(fault),
         }

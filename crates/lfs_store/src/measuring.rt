@@ -12,6 +12,7 @@ use lfs_cleaner::volume_log::memory::inodes::{DIRECT, POINTERS};
 use lfs_cleaner::volume_log::{BlockEdit, Log, LogFault, Loss};
 use lfs_device::SectorDevice;
 use lfs_layout::is_zero;
+use lfs_model::FileNumber;
 
 /// How many blocks a file has at most.
 pub const BLOCKS: u32 = 16_624;
@@ -29,15 +30,14 @@ impl<D: SectorDevice> Store<D> {
     /// # Errors
     ///
     /// As those of `header`.
-    pub fn measure(&mut self, number: u16, from: u32, to: u32) -> Result<Measure, LogFault>
-        requires number { number < 4096 }
+    pub fn measure(&mut self, number: FileNumber, from: u32, to: u32) -> Result<Measure, LogFault>
         requires order { from ≤ to }
         requires low { to ≤ 16624 }
         ensures reads { ReadsStore D.SectorDevice.state self.old self.new }
         ensures few { IfOk result (λ found. found.data_blocks ≤ to - from) }
         ensures few_above { IfOk result (λ found. found.meta_blocks ≤ 131) }
         ensures answer { IfOk result (Measures D.SectorDevice.state self.old.log self.new.log
-            self.old.draft.changes number from to) }
+            self.old.draft.changes number.value from to) }
         ensures failed { OnErr result (IsReadFault D.SectorDevice.state self.old.log self.new.log) }
         ensures halted { IsErrOf result LogFault.Halted → self.old.log.halted ≡ true }
         ensures other { IsErrOf result LogFault.Full → ⊥ }
@@ -78,20 +78,19 @@ impl<D: SectorDevice> Store<D> {
 fn is_stored<D: SectorDevice>(
     log: &mut Log<D>,
     draft: &Draft,
-    number: u16,
+    number: FileNumber,
     index: u32,
 ) -> Result<bool, LogFault>
-    requires { number < 4096 }
     ensures reads { Reads D.state log.old log.new }
     ensures answer { IfOk result
-        (TellsStored D.state log.old log.new draft.now.changes number index) }
+        (TellsStored D.state log.old log.new draft.now.changes number.value index) }
     ensures failed { OnErr result (IsReadFault D.state log.old log.new) }
     ensures halted { IsErrOf result LogFault.Halted → log.old.halted ≡ true }
     ensures other { IsErrOf result LogFault.Full → ⊥ }
 {
     match stored_after(draft, number, index) {
         Some(stored) => Ok(stored),
-        None => log.has_block(number, index),
+        None => log.has_block(number.value, index),
     }
 }
 
@@ -100,14 +99,13 @@ fn is_stored<D: SectorDevice>(
 fn has_leaf<D: SectorDevice>(
     log: &mut Log<D>,
     draft: &Draft,
-    number: u16,
+    number: FileNumber,
     leaf: u32,
 ) -> Result<bool, LogFault>
-    requires number { number < 4096 }
     requires leaf { leaf ≤ 128 }
     ensures reads { Reads D.state log.old log.new }
     ensures answer { IfOk result
-        (TellsLeaf D.state log.old log.new draft.now.changes number leaf) }
+        (TellsLeaf D.state log.old log.new draft.now.changes number.value leaf) }
     ensures failed { OnErr result (IsReadFault D.state log.old log.new) }
     ensures halted { IsErrOf result LogFault.Halted → log.old.halted ≡ true }
     ensures other { IsErrOf result LogFault.Full → ⊥ }
@@ -118,21 +116,20 @@ fn has_leaf<D: SectorDevice>(
     if changes_leaf(draft, number, leaf) {
         return search_leaf(log, draft, number, leaf);
     }
-    log.has_leaf(number, leaf)
+    log.has_leaf(number.value, leaf)
 }
 
 /// Looks at each block below a leaf of pointers, until one is stored.
 fn search_leaf<D: SectorDevice>(
     log: &mut Log<D>,
     draft: &Draft,
-    number: u16,
+    number: FileNumber,
     leaf: u32,
 ) -> Result<bool, LogFault>
-    requires number { number < 4096 }
     requires leaf { leaf ≤ 128 }
     ensures reads { Reads D.state log.old log.new }
     ensures answer { IfOk result
-        (TellsLeaf D.state log.old log.new draft.now.changes number leaf) }
+        (TellsLeaf D.state log.old log.new draft.now.changes number.value leaf) }
     ensures failed { OnErr result (IsReadFault D.state log.old log.new) }
     ensures halted { IsErrOf result LogFault.Halted → log.old.halted ≡ true }
     ensures other { IsErrOf result LogFault.Full → ⊥ }
@@ -152,16 +149,15 @@ fn search_leaf<D: SectorDevice>(
 fn count_stored<D: SectorDevice>(
     log: &mut Log<D>,
     draft: &Draft,
-    number: u16,
+    number: FileNumber,
     from: u32,
     to: u32,
 ) -> Result<u32, LogFault>
-    requires number { number < 4096 }
     requires order { from ≤ to }
     ensures reads { Reads D.state log.old log.new }
     ensures few { IfOk result (λ count. count ≤ to - from) }
     ensures answer { IfOk result
-        (CountsStored D.state log.old log.new draft.now.changes number from to) }
+        (CountsStored D.state log.old log.new draft.now.changes number.value from to) }
     ensures failed { OnErr result (IsReadFault D.state log.old log.new) }
     ensures halted { IsErrOf result LogFault.Halted → log.old.halted ≡ true }
     ensures other { IsErrOf result LogFault.Full → ⊥ }
@@ -180,17 +176,16 @@ fn count_stored<D: SectorDevice>(
 fn count_leaves<D: SectorDevice>(
     log: &mut Log<D>,
     draft: &Draft,
-    number: u16,
+    number: FileNumber,
     from: u32,
     to: u32,
 ) -> Result<u32, LogFault>
-    requires number { number < 4096 }
     requires order { from ≤ to }
     requires low { to ≤ 129 }
     ensures reads { Reads D.state log.old log.new }
     ensures few { IfOk result (λ count. count ≤ to - from) }
     ensures answer { IfOk result
-        (CountsLeaves D.state log.old log.new draft.now.changes number from to) }
+        (CountsLeaves D.state log.old log.new draft.now.changes number.value from to) }
     ensures failed { OnErr result (IsReadFault D.state log.old log.new) }
     ensures halted { IsErrOf result LogFault.Halted → log.old.halted ≡ true }
     ensures other { IsErrOf result LogFault.Full → ⊥ }
@@ -209,13 +204,12 @@ fn count_leaves<D: SectorDevice>(
 fn has_double<D: SectorDevice>(
     log: &mut Log<D>,
     draft: &Draft,
-    number: u16,
+    number: FileNumber,
     size: u32,
 ) -> Result<bool, LogFault>
-    requires { number < 4096 }
     ensures reads { Reads D.state log.old log.new }
     ensures answer { IfOk result
-        (TellsDouble D.state log.old log.new draft.now.changes number size) }
+        (TellsDouble D.state log.old log.new draft.now.changes number.value size) }
     ensures failed { OnErr result (IsReadFault D.state log.old log.new) }
     ensures halted { IsErrOf result LogFault.Halted → log.old.halted ≡ true }
     ensures other { IsErrOf result LogFault.Full → ⊥ }
@@ -251,18 +245,17 @@ fn leaf_range(size: u32, from: u32, to: u32) -> (u32, u32)
 fn count_pointers<D: SectorDevice>(
     log: &mut Log<D>,
     draft: &Draft,
-    number: u16,
+    number: FileNumber,
     size: u32,
     from: u32,
     to: u32,
 ) -> Result<u32, LogFault>
-    requires number { number < 4096 }
     requires order { from ≤ to }
     requires low { to ≤ 16624 }
     ensures reads { Reads D.state log.old log.new }
     ensures few { IfOk result (λ count. count ≤ 130) }
     ensures answer { IfOk result
-        (CountsPointers D.state log.old log.new draft.now.changes number size from to) }
+        (CountsPointers D.state log.old log.new draft.now.changes number.value size from to) }
     ensures failed { OnErr result (IsReadFault D.state log.old log.new) }
     ensures halted { IsErrOf result LogFault.Halted → log.old.halted ≡ true }
     ensures other { IsErrOf result LogFault.Full → ⊥ }
@@ -283,13 +276,13 @@ fn count_pointers<D: SectorDevice>(
 }
 
 /// Whether a block of a file is stored after a draft; `None` where the draft leaves it as it is.
-fn stored_after(draft: &Draft, number: u16, index: u32) -> Option<bool>
-    ensures { SaysStored draft.now.changes number index result }
+fn stored_after(draft: &Draft, number: FileNumber, index: u32) -> Option<bool>
+    ensures { SaysStored draft.now.changes number.value index result }
 {
     if let Some(bytes) = draft.find_block(number, index) {
         return Some(!is_zero(bytes));
     }
-    if !takes_block(&draft.changes.loss, number, index) {
+    if !takes_block(&draft.changes.loss, number.value, index) {
         return None;
     }
     Some(false)
@@ -297,11 +290,11 @@ fn stored_after(draft: &Draft, number: u16, index: u32) -> Option<bool>
 
 /// Whether a draft stores a block below a leaf of pointers of a file: it looks at the last that it
 /// has there.
-fn stores_leaf(draft: &Draft, number: u16, leaf: u32) -> bool
+fn stores_leaf(draft: &Draft, number: FileNumber, leaf: u32) -> bool
     requires { leaf ≤ 128 }
-    ensures { IsTrue result → StoresLeaf draft.now.changes number leaf }
+    ensures { IsTrue result → StoresLeaf draft.now.changes number.value leaf }
 {
-    let Some(index) = index_below(&draft.changes.blocks, number, leaf) else {
+    let Some(index) = index_below(&draft.changes.blocks, number.value, leaf) else {
         return false;
     };
     match stored_after(draft, number, index) {
@@ -311,13 +304,13 @@ fn stores_leaf(draft: &Draft, number: u16, leaf: u32) -> bool
 }
 
 /// Whether a draft changes a block below a leaf of pointers of a file.
-fn changes_leaf(draft: &Draft, number: u16, leaf: u32) -> bool
+fn changes_leaf(draft: &Draft, number: FileNumber, leaf: u32) -> bool
     requires { leaf ≤ 128 }
-    ensures { IsFalse result → LeavesLeaf draft.now.changes number leaf }
+    ensures { IsFalse result → LeavesLeaf draft.now.changes number.value leaf }
 {
-    match index_below(&draft.changes.blocks, number, leaf) {
+    match index_below(&draft.changes.blocks, number.value, leaf) {
         Some(_) => true,
-        None => takes_below(&draft.changes.loss, number, leaf),
+        None => takes_below(&draft.changes.loss, number.value, leaf),
     }
 }
 

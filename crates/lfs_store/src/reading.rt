@@ -9,6 +9,7 @@ use crate::store::Store;
 use lfs_cleaner::volume_log::{Log, LogFault};
 use lfs_device::SectorDevice;
 use lfs_files::StoreFault;
+use lfs_model::FileNumber;
 use std::alloc::Global;
 
 impl<D: SectorDevice> Store<D> {
@@ -20,16 +21,15 @@ impl<D: SectorDevice> Store<D> {
     pub fn read_at(
         &mut self,
         alloc: Global,
-        number: u16,
+        number: FileNumber,
         from: u32,
         to: u32,
     ) -> Result<Vec<u8>, StoreFault>
-        requires number { number < 4096 }
         requires order { from ≤ to }
         ensures reads { ReadsStore D.SectorDevice.state self.old self.new }
         ensures long { IfOk result (λ bytes. from + length bytes.items ≡ to) }
         ensures answer { IfOk result (λ bytes. ReadsPart D.SectorDevice.state self.old.log
-            self.new.log self.old.draft.changes number from to bytes.items) }
+            self.new.log self.old.draft.changes number.value from to bytes.items) }
         ensures failed { IfErr result (λ fault. (fault ≡ StoreFault.NoMemory → ⊥)
             → IsReadFault D.SectorDevice.state self.old.log self.new.log) }
         ensures halted { IsErrOf result (StoreFault.Log LogFault.Halted)
@@ -48,14 +48,13 @@ impl<D: SectorDevice> Store<D> {
 pub fn read_block<D: SectorDevice>(
     log: &mut Log<D>,
     draft: &Draft,
-    number: u16,
+    number: FileNumber,
     index: u32,
     out: &mut [u8; 512],
 ) -> Result<bool, LogFault>
-    requires { number < 4096 }
     ensures reads { Reads D.state log.old log.new }
     ensures answer { IfOk result
-        (ReadsBlock D.state log.old log.new draft.now.changes number index out.new) }
+        (ReadsBlock D.state log.old log.new draft.now.changes number.value index out.new) }
     ensures zeros { IfOk result (λ found. IsFalse found → out.new ≡ zeros 512) }
     ensures failed { OnErr result (IsReadFault D.state log.old log.new) }
     ensures halted { IsErrOf result LogFault.Halted → log.old.halted ≡ true }
@@ -63,7 +62,7 @@ pub fn read_block<D: SectorDevice>(
 {
     match draft.block(number, index, out) {
         Some(stored) => Ok(stored),
-        None => log.block(number, index, out),
+        None => log.block(number.value, index, out),
     }
 }
 
@@ -72,16 +71,15 @@ fn read_part<D: SectorDevice>(
     alloc: Global,
     log: &mut Log<D>,
     draft: &Draft,
-    number: u16,
+    number: FileNumber,
     from: u32,
     to: u32,
 ) -> Result<Vec<u8>, StoreFault>
-    requires number { number < 4096 }
     requires order { from ≤ to }
     ensures reads { Reads D.state log.old log.new }
     ensures long { IfOk result (λ bytes. from + length bytes.items ≡ to) }
     ensures answer { IfOk result (λ bytes.
-        ReadsPart D.state log.old log.new draft.now.changes number from to bytes.items) }
+        ReadsPart D.state log.old log.new draft.now.changes number.value from to bytes.items) }
     ensures failed { IfErr result (λ fault.
         (fault ≡ StoreFault.NoMemory → ⊥) → IsReadFault D.state log.old log.new) }
     ensures halted { IsErrOf result (StoreFault.Log LogFault.Halted) → log.old.halted ≡ true }
@@ -106,16 +104,15 @@ fn read_part<D: SectorDevice>(
 fn append<D: SectorDevice>(
     log: &mut Log<D>,
     draft: &Draft,
-    number: u16,
+    number: FileNumber,
     at: u32,
     len: u32,
     bytes: &mut Vec<u8>,
 ) -> Result<(), StoreFault>
-    requires number { number < 4096 }
     requires inside { at % 512 + len ≤ 512 }
     ensures reads { Reads D.state log.old log.new }
     ensures done { OnOk result (Appends D.state log.old log.new
-        draft.now.changes number at len bytes.old.items bytes.new.items) }
+        draft.now.changes number.value at len bytes.old.items bytes.new.items) }
     ensures failed { IfErr result (λ fault.
         (fault ≡ StoreFault.NoMemory → ⊥) → IsReadFault D.state log.old log.new) }
     ensures halted { IsErrOf result (StoreFault.Log LogFault.Halted) → log.old.halted ≡ true }

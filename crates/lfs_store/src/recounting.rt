@@ -6,6 +6,7 @@ use crate::store::Store;
 use crate::totals::Measure;
 use lfs_cleaner::volume_log::{BlockTotals, LogFault};
 use lfs_device::SectorDevice;
+use lfs_model::FileNumber;
 
 /// A total with one share in place of another.
 fn replaced(total: u32, before: u32, after: u32) -> u32
@@ -44,19 +45,18 @@ impl<D: SectorDevice> Store<D> {
     /// As those of `measure`.
     pub fn recount(
         &mut self,
-        number: u16,
+        number: FileNumber,
         from: u32,
         to: u32,
         before: Measure,
     ) -> Result<(), LogFault>
-        requires number { number < 4096 }
         requires order { from ≤ to }
         requires low { to ≤ 16624 }
         ensures reads { Reads D.SectorDevice.state self.old.log self.new.log }
         ensures draft { self.new.draft ≡ self.old.draft }
         ensures saved { self.new.saved ≡ self.old.saved }
         ensures done { OnOk result (Remeasures D.SectorDevice.state self.old.log self.new.log
-            self.old.draft.changes number from to before self.old.drafted self.new.drafted) }
+            self.old.draft.changes number.value from to before self.old.drafted self.new.drafted) }
         ensures failed { OnErr result (IsReadFault D.SectorDevice.state self.old.log self.new.log) }
         ensures halted { IsErrOf result LogFault.Halted → self.old.log.halted ≡ true }
         ensures other { IsErrOf result LogFault.Full → ⊥ }

@@ -7,6 +7,7 @@ use crate::store::Store;
 use lfs_cleaner::volume_log::{Header, LogFault};
 use lfs_device::SectorDevice;
 use lfs_files::StoreFault;
+use lfs_model::FileNumber;
 
 impl<D: SectorDevice> Store<D> {
     ghost use Rattle.lfs_store.specs.Recounting.{Counts};
@@ -18,16 +19,14 @@ impl<D: SectorDevice> Store<D> {
     /// # Errors
     ///
     /// As those of `write_at`.
-    pub fn shrink(&mut self, number: u16, header: Header, len: u32) -> Result<(), StoreFault>
-        requires some { 1 ≤ number }
-        requires few { number ≤ 4095 }
+    pub fn shrink(&mut self, number: FileNumber, header: Header, len: u32) -> Result<(), StoreFault>
         requires less { len < header.size }
         requires last { header.size ≤ 512 * (len / 512) + 512 }
         requires most { header.size ≤ 8511488 }
         ensures reads { Reads D.SectorDevice.state self.old.log self.new.log }
         ensures saved { self.new.saved ≡ self.old.saved }
         ensures done { OnOk result (Shrinks D.SectorDevice.state self.old.log self.new.log
-            self.old.draft.changes self.new.draft.changes number header len) }
+            self.old.draft.changes self.new.draft.changes number.value header len) }
         ensures counted { OnOk result (Counts D.SectorDevice.state self.old.log self.new.log
             self.old.draft.changes self.new.draft.changes self.old.drafted self.new.drafted) }
         ensures failed { IfErr result (λ fault. (fault ≡ StoreFault.NoMemory → ⊥)
@@ -52,9 +51,12 @@ impl<D: SectorDevice> Store<D> {
     }
 
     /// Cuts a file in its last block, in the draft.
-    fn draft_shrink(&mut self, number: u16, header: Header, len: u32) -> Result<(), StoreFault>
-        requires some { 1 ≤ number }
-        requires few { number ≤ 4095 }
+    fn draft_shrink(
+        &mut self,
+        number: FileNumber,
+        header: Header,
+        len: u32,
+    ) -> Result<(), StoreFault>
         requires less { len < header.size }
         requires last { header.size ≤ 512 * (len / 512) + 512 }
         requires most { header.size ≤ 8511488 }
@@ -62,7 +64,7 @@ impl<D: SectorDevice> Store<D> {
         ensures saved { self.new.saved ≡ self.old.saved }
         ensures drafted { self.new.drafted ≡ self.old.drafted }
         ensures done { OnOk result (Shrinks D.SectorDevice.state self.old.log self.new.log
-            self.old.draft.changes self.new.draft.changes number header len) }
+            self.old.draft.changes self.new.draft.changes number.value header len) }
         ensures failed { IfErr result (λ fault. (fault ≡ StoreFault.NoMemory → ⊥)
             → IsReadFault D.SectorDevice.state self.old.log self.new.log) }
         ensures halted { IsErrOf result (StoreFault.Log LogFault.Halted)
@@ -74,15 +76,13 @@ impl<D: SectorDevice> Store<D> {
     }
 
     /// The block of a place of a file ends there.
-    fn clear_tail(&mut self, number: u16, len: u32) -> Result<(), StoreFault>
-        requires some { 1 ≤ number }
-        requires few { number ≤ 4095 }
+    fn clear_tail(&mut self, number: FileNumber, len: u32) -> Result<(), StoreFault>
         requires most { len < 8511488 }
         ensures reads { Reads D.SectorDevice.state self.old.log self.new.log }
         ensures saved { self.new.saved ≡ self.old.saved }
         ensures drafted { self.new.drafted ≡ self.old.drafted }
         ensures done { OnOk result (ClearsTail D.SectorDevice.state self.old.log self.new.log
-            self.old.draft.changes self.new.draft.changes number len) }
+            self.old.draft.changes self.new.draft.changes number.value len) }
         ensures failed { IfErr result (λ fault. (fault ≡ StoreFault.NoMemory → ⊥)
             → IsReadFault D.SectorDevice.state self.old.log self.new.log) }
         ensures halted { IsErrOf result (StoreFault.Log LogFault.Halted)

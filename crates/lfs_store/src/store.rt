@@ -6,6 +6,7 @@ use crate::draft::Draft;
 use crate::reading::read_block;
 use lfs_cleaner::volume_log::{BlockTotals, Header, Log, LogFault};
 use lfs_device::SectorDevice;
+use lfs_model::FileNumber;
 
 /// A log, and the changes of the present call, which reads see.
 #[derive(Drop)]
@@ -27,18 +28,17 @@ impl<D: SectorDevice> Store<D> {
     /// # Errors
     ///
     /// `Halted` once a commit failed, `Device` where a call of the device failed.
-    pub fn header(&mut self, number: u16) -> Result<Option<Header>, LogFault>
-        requires { number < 4096 }
+    pub fn header(&mut self, number: FileNumber) -> Result<Option<Header>, LogFault>
         ensures reads { ReadsStore D.SectorDevice.state self.old self.new }
         ensures answer { IfOk result (ReadsHeader D.SectorDevice.state self.old.log self.new.log
-            self.old.draft.changes number) }
+            self.old.draft.changes number.value) }
         ensures failed { OnErr result (IsReadFault D.SectorDevice.state self.old.log self.new.log) }
         ensures halted { IsErrOf result LogFault.Halted → self.old.log.halted ≡ true }
         ensures other { IsErrOf result LogFault.Full → ⊥ }
     {
         match self.draft.header(number) {
             Some(header) => Ok(header),
-            None => self.log.header(number),
+            None => self.log.header(number.value),
         }
     }
 
@@ -47,11 +47,15 @@ impl<D: SectorDevice> Store<D> {
     /// # Errors
     ///
     /// As those of `header`.
-    pub fn block(&mut self, number: u16, index: u32, out: &mut [u8; 512]) -> Result<bool, LogFault>
-        requires { number < 4096 }
+    pub fn block(
+        &mut self,
+        number: FileNumber,
+        index: u32,
+        out: &mut [u8; 512],
+    ) -> Result<bool, LogFault>
         ensures reads { ReadsStore D.SectorDevice.state self.old self.new }
         ensures answer { IfOk result (ReadsBlock D.SectorDevice.state self.old.log self.new.log
-            self.old.draft.changes number index out.new) }
+            self.old.draft.changes number.value index out.new) }
         ensures zeros { IfOk result (λ found. IsFalse found → out.new ≡ zeros 512) }
         ensures failed { OnErr result (IsReadFault D.SectorDevice.state self.old.log self.new.log) }
         ensures halted { IsErrOf result LogFault.Halted → self.old.log.halted ≡ true }

@@ -15,6 +15,7 @@ use crate::store::Store;
 use lfs_cleaner::volume_log::{Cut, Header, Log, LogFault, Loss};
 use lfs_device::SectorDevice;
 use lfs_files::StoreFault;
+use lfs_model::FileNumber;
 
 /// Whether bytes that begin at a place of a file cover its block at an index whole.
 fn covers(at: u32, bytes: &[u8], index: u32) -> bool
@@ -30,18 +31,17 @@ fn covers(at: u32, bytes: &[u8], index: u32) -> bool
 fn block_beneath<D: SectorDevice>(
     log: &mut Log<D>,
     draft: &Draft,
-    number: u16,
+    number: FileNumber,
     index: u32,
     at: u32,
     bytes: &[u8],
     out: &mut [u8; 512],
 ) -> Result<(), LogFault>
-    requires few { number ≤ 4095 }
     requires low { index ≤ 16623 }
     requires end { at + length bytes.now ≤ 8511488 }
     ensures reads { Reads D.state log.old log.new }
-    ensures done { OnOk result
-        (ReadsBeneath D.state log.old log.new draft.now.changes number index at bytes.now out.new) }
+    ensures done { OnOk result (ReadsBeneath D.state log.old log.new draft.now.changes number.value
+        index at bytes.now out.new) }
     ensures failed { OnErr result (IsReadFault D.state log.old log.new) }
     ensures halted { IsErrOf result LogFault.Halted → log.old.halted ≡ true }
     ensures other { IsErrOf result LogFault.Full → ⊥ }
@@ -68,19 +68,17 @@ impl<D: SectorDevice> Store<D> {
     /// no use.
     pub fn write_at(
         &mut self,
-        number: u16,
+        number: FileNumber,
         header: Header,
         at: u32,
         bytes: &[u8],
     ) -> Result<(), StoreFault>
-        requires some { 1 ≤ number }
-        requires few { number ≤ 4095 }
         requires bytes { 0 < length bytes.now }
         requires end { at + length bytes.now ≤ 8511488 }
         ensures reads { Reads D.SectorDevice.state self.old.log self.new.log }
         ensures saved { self.new.saved ≡ self.old.saved }
         ensures done { OnOk result (Writes D.SectorDevice.state self.old.log self.new.log
-            self.old.draft.changes self.new.draft.changes number header at bytes.now) }
+            self.old.draft.changes self.new.draft.changes number.value header at bytes.now) }
         ensures room { OnOk result (IsNoChange self.old.draft.changes → length bytes.now ≤ 65536
             → room_for self.new.draft.changes ≤ 144) }
         ensures counted { OnOk result (Counts D.SectorDevice.state self.old.log self.new.log
@@ -110,20 +108,18 @@ impl<D: SectorDevice> Store<D> {
     /// Lays bytes over a file, into the draft.
     fn draft_write(
         &mut self,
-        number: u16,
+        number: FileNumber,
         header: Header,
         at: u32,
         bytes: &[u8],
     ) -> Result<(), StoreFault>
-        requires some { 1 ≤ number }
-        requires few { number ≤ 4095 }
         requires bytes { 0 < length bytes.now }
         requires end { at + length bytes.now ≤ 8511488 }
         ensures reads { Reads D.SectorDevice.state self.old.log self.new.log }
         ensures saved { self.new.saved ≡ self.old.saved }
         ensures drafted { self.new.drafted ≡ self.old.drafted }
         ensures done { OnOk result (Writes D.SectorDevice.state self.old.log self.new.log
-            self.old.draft.changes self.new.draft.changes number header at bytes.now) }
+            self.old.draft.changes self.new.draft.changes number.value header at bytes.now) }
         ensures room { OnOk result (IsNoChange self.old.draft.changes → length bytes.now ≤ 65536
             → room_for self.new.draft.changes ≤ 144) }
         ensures failed { IfErr result (λ fault. (fault ≡ StoreFault.NoMemory → ⊥)
@@ -142,22 +138,20 @@ impl<D: SectorDevice> Store<D> {
     /// Lays those of the bytes that lie in one block over it.
     fn write_block(
         &mut self,
-        number: u16,
+        number: FileNumber,
         index: u32,
         at: u32,
         bytes: &[u8],
     ) -> Result<(), StoreFault>
-        requires some { 1 ≤ number }
-        requires few { number ≤ 4095 }
         requires low { index ≤ 16623 }
         requires end { at + length bytes.now ≤ 8511488 }
         ensures reads { Reads D.SectorDevice.state self.old.log self.new.log }
         ensures saved { self.new.saved ≡ self.old.saved }
         ensures drafted { self.new.drafted ≡ self.old.drafted }
         ensures done { OnOk result (WritesBlock D.SectorDevice.state self.old.log self.new.log
-            self.old.draft.changes self.new.draft.changes number index at bytes.now) }
+            self.old.draft.changes self.new.draft.changes number.value index at bytes.now) }
         ensures placed { OnOk result (PlacesBlock self.old.draft.changes self.new.draft.changes
-            number index) }
+            number.value index) }
         ensures failed { IfErr result (λ fault. (fault ≡ StoreFault.NoMemory → ⊥)
             → IsReadFault D.SectorDevice.state self.old.log self.new.log) }
         ensures halted { IsErrOf result (StoreFault.Log LogFault.Halted)
@@ -189,15 +183,18 @@ impl<D: SectorDevice> Store<D> {
     /// # Errors
     ///
     /// As those of `write_at`.
-    pub fn set_len(&mut self, number: u16, header: Header, len: u32) -> Result<(), StoreFault>
-        requires some { 1 ≤ number }
-        requires few { number ≤ 4095 }
+    pub fn set_len(
+        &mut self,
+        number: FileNumber,
+        header: Header,
+        len: u32,
+    ) -> Result<(), StoreFault>
         requires most { len ≤ 8511488 }
         requires empty { IsNoChange self.old.draft.changes }
         ensures reads { Reads D.SectorDevice.state self.old.log self.new.log }
         ensures saved { self.new.saved ≡ self.old.saved }
         ensures done { OnOk result (SetsLen D.SectorDevice.state self.old.log self.new.log
-            self.new.draft.changes number header len) }
+            self.new.draft.changes number.value header len) }
         ensures counted { OnOk result (Counts D.SectorDevice.state self.old.log self.new.log
             self.old.draft.changes self.new.draft.changes self.old.drafted self.new.drafted) }
         ensures failed { IfErr result (λ fault. (fault ≡ StoreFault.NoMemory → ⊥)
@@ -221,16 +218,14 @@ impl<D: SectorDevice> Store<D> {
     }
 
     /// Cuts a file, or makes it longer, in the draft.
-    fn draft_len(&mut self, number: u16, header: Header, len: u32) -> Result<(), StoreFault>
-        requires some { 1 ≤ number }
-        requires few { number ≤ 4095 }
+    fn draft_len(&mut self, number: FileNumber, header: Header, len: u32) -> Result<(), StoreFault>
         requires most { len ≤ 8511488 }
         requires empty { IsNoChange self.old.draft.changes }
         ensures reads { Reads D.SectorDevice.state self.old.log self.new.log }
         ensures saved { self.new.saved ≡ self.old.saved }
         ensures drafted { self.new.drafted ≡ self.old.drafted }
         ensures done { OnOk result (SetsLen D.SectorDevice.state self.old.log self.new.log
-            self.new.draft.changes number header len) }
+            self.new.draft.changes number.value header len) }
         ensures failed { IfErr result (λ fault. (fault ≡ StoreFault.NoMemory → ⊥)
             → IsReadFault D.SectorDevice.state self.old.log self.new.log) }
         ensures halted { IsErrOf result (StoreFault.Log LogFault.Halted)
@@ -245,16 +240,14 @@ impl<D: SectorDevice> Store<D> {
     }
 
     /// The blocks of a file end at a length.
-    fn cut_blocks(&mut self, number: u16, len: u32) -> Result<(), StoreFault>
-        requires some { 1 ≤ number }
-        requires few { number ≤ 4095 }
+    fn cut_blocks(&mut self, number: FileNumber, len: u32) -> Result<(), StoreFault>
         requires most { len ≤ 8511488 }
         requires empty { IsNoChange self.old.draft.changes }
         ensures reads { Reads D.SectorDevice.state self.old.log self.new.log }
         ensures saved { self.new.saved ≡ self.old.saved }
         ensures drafted { self.new.drafted ≡ self.old.drafted }
         ensures done { OnOk result (CutsDraft D.SectorDevice.state self.old.log self.new.log
-            self.new.draft.changes number len) }
+            self.new.draft.changes number.value len) }
         ensures failed { IfErr result (λ fault. (fault ≡ StoreFault.NoMemory → ⊥)
             → IsReadFault D.SectorDevice.state self.old.log self.new.log) }
         ensures halted { IsErrOf result (StoreFault.Log LogFault.Halted)
@@ -269,33 +262,30 @@ impl<D: SectorDevice> Store<D> {
     }
 
     /// A file loses its blocks from a length on.
-    fn lose_blocks(&mut self, number: u16, len: u32)
-        requires few { number ≤ 4095 }
+    fn lose_blocks(&mut self, number: FileNumber, len: u32)
         requires most { len ≤ 8511488 }
         requires empty { IsNoChange self.old.draft.changes }
         ensures log { self.new.log ≡ self.old.log }
         ensures saved { self.new.saved ≡ self.old.saved }
         ensures drafted { self.new.drafted ≡ self.old.drafted }
-        ensures draft { DraftsCut self.new.draft.changes number len }
+        ensures draft { DraftsCut self.new.draft.changes number.value len }
     {
         self.draft.changes.loss = Loss::Blocks(Cut {
-            number,
+            number: number.value,
             first: len.div_ceil(512),
         });
     }
 
     /// Cuts off the tail of the last block of a file that has lost those behind it.
-    fn cut_last(&mut self, number: u16, len: u32) -> Result<(), StoreFault>
-        requires some { 1 ≤ number }
-        requires few { number ≤ 4095 }
+    fn cut_last(&mut self, number: FileNumber, len: u32) -> Result<(), StoreFault>
         requires most { len ≤ 8511488 }
         requires inside { 0 < len % 512 }
-        requires lost { DraftsCut self.old.draft.changes number len }
+        requires lost { DraftsCut self.old.draft.changes number.value len }
         ensures reads { Reads D.SectorDevice.state self.old.log self.new.log }
         ensures saved { self.new.saved ≡ self.old.saved }
         ensures drafted { self.new.drafted ≡ self.old.drafted }
         ensures done { OnOk result (CutsDraft D.SectorDevice.state self.old.log self.new.log
-            self.new.draft.changes number len) }
+            self.new.draft.changes number.value len) }
         ensures failed { IfErr result (λ fault. (fault ≡ StoreFault.NoMemory → ⊥)
             → IsReadFault D.SectorDevice.state self.old.log self.new.log) }
         ensures halted { IsErrOf result (StoreFault.Log LogFault.Halted)
@@ -320,17 +310,15 @@ impl<D: SectorDevice> Store<D> {
     /// A file of this header has another size.
     pub(crate) fn resize(
         &mut self,
-        number: u16,
+        number: FileNumber,
         header: Header,
         size: u32,
     ) -> Result<(), StoreFault>
-        requires some { 1 ≤ number }
-        requires few { number ≤ 4095 }
         ensures log { self.new.log ≡ self.old.log }
         ensures saved { self.new.saved ≡ self.old.saved }
         ensures drafted { self.new.drafted ≡ self.old.drafted }
-        ensures done { OnOk result (PutsHeader self.old.draft.changes self.new.draft.changes number
-            (resized header size)) }
+        ensures done { OnOk result (PutsHeader self.old.draft.changes self.new.draft.changes
+            number.value (resized header size)) }
         ensures failed { IfErr result (λ fault. fault ≡ StoreFault.NoMemory) }
     {
         let header = Header {

@@ -9,4 +9,4 @@ pub returns-in-Ok : goal.returns-in-Ok
 returns-in-Ok c =
     let place = subst (λ (es : List Entry). IsPlace es c.args.name.now (Ok c.in-Ok.place)) c.deref.ensures.value c.in-Ok.ensures in
     pairs_set c.args.entries.now.items c.in-Ok.place record { name = c.index_mut.result.now.name; number = c.args.number } place.0
-    ∙ sym (place.1 c.args.number c.index_mut.result.now c.index_mut.ensures.value)
+    ∙ sym (place.1 c.args.number.value c.index_mut.result.now c.index_mut.ensures.value)

@@ -27,24 +27,24 @@ returns-clause-redrafts g c =
 
 pub returns-in-Ok-None-clause-none : goal.returns-in-Ok-None-clause-none
 returns-in-Ok-None-clause-none g c is =
-    subst (λ (o : Option Found). FindsSlot (g.F.Files.state c.args.files.now) (g.F.Files.state c.search.new.files) c.args.directory c.args.header c.args.name.now o)
+    subst (λ (o : Option Found). FindsSlot (g.F.Files.state c.args.files.now) (g.F.Files.state c.search.new.files) c.args.directory.value c.args.header c.args.name.now o)
     c.in-Ok-None.field-0-is c.in-Ok-None.ensures.answer
 
 pub returns-in-Err-write_at-clause-failed : goal.returns-in-Err-write_at-clause-failed
 returns-in-Err-write_at-clause-failed g c other =
-    fails_behind (g.F.Files.state c.args.files.now) (g.F.Files.state c.search.new.files) (g.F.Files.state c.write_at.new.self) c.args.directory c.args.header
+    fails_behind (g.F.Files.state c.args.files.now) (g.F.Files.state c.search.new.files) (g.F.Files.state c.write_at.new.self) c.args.directory.value c.args.header
     c.search.ensures.reads (c.in-Err-write_at.ensures.failed other)
 
 pub returns-clause-done : goal.returns-clause-done
 returns-clause-done g c is =
-    let slot : c.encode_slot-slot.result ≡ slot_for c.args.number c.args.name.now = c.encode_slot-slot.ensures ∙ ap (λ (n : ℕ). slot_for n c.args.name.now) c.from.ensures in
+    let slot : c.encode_slot-slot.result ≡ slot_for c.args.number.value c.args.name.now = c.encode_slot-slot.ensures ∙ ap (λ (n : ℕ). slot_for n c.args.name.now) c.from.ensures in
     let long : length c.encode_slot-slot.result ≡ 64 = search rules in
-    let found = subst (λ (o : Option Found). FindsSlot (g.F.Files.state c.args.files.now) (g.F.Files.state c.search.new.files) c.args.directory c.args.header c.args.name.now o)
+    let found = subst (λ (o : Option Found). FindsSlot (g.F.Files.state c.args.files.now) (g.F.Files.state c.search.new.files) c.args.directory.value c.args.header c.args.name.now o)
     c.in-Ok-Some.field-0-is c.in-Ok-Some.ensures.answer in
     let inside : c.in-Ok-Some.found.place < c.args.header.size / 64 = search rules in
-    repoints (g.F.Files.state c.args.files.now) (g.F.Files.state c.search.new.files) (g.F.Files.state c.write_at.new.self) c.args.directory c.args.header c.args.number c.args.name.now c.in-Ok-Some.found
-    (fits_slot c.args.number c.args.name.now c.requires.first c.requires.last c.requires.name) (sym (ap length slot) ∙ long) inside c.search.ensures.reads c.write_at.ensures.redrafts found
-    (subst (λ (w : List ℕ). Writes (g.F.Files.state c.search.new.files) (g.F.Files.state c.write_at.new.self) c.args.directory c.args.header (64 * c.in-Ok-Some.found.place) w) slot c.in-Ok.ensures.done)
+    repoints (g.F.Files.state c.args.files.now) (g.F.Files.state c.search.new.files) (g.F.Files.state c.write_at.new.self) c.args.directory.value c.args.header c.args.number.value c.args.name.now c.in-Ok-Some.found
+    (fits_slot c.args.number.value c.args.name.now c.args.number.some c.args.number.few c.requires.name) (sym (ap length slot) ∙ long) inside c.search.ensures.reads c.write_at.ensures.redrafts found
+    (subst (λ (w : List ℕ). Writes (g.F.Files.state c.search.new.files) (g.F.Files.state c.write_at.new.self) c.args.directory.value c.args.header (64 * c.in-Ok-Some.found.place) w) slot c.in-Ok.ensures.done)
 
 pub returns-clause-counted : goal.returns-clause-counted
 returns-clause-counted g c is =
@@ -54,4 +54,4 @@ pub returns-clause-small : goal.returns-clause-small
 returns-clause-small g c is =
     let long : length c.encode_slot-slot.result ≡ 64 = search rules in
     grows_behind (g.F.Files.state c.args.files.now) (g.F.Files.state c.search.new.files) (g.F.Files.state c.write_at.new.self) 1 2 c.search.ensures.reads
-    (slot_grows (g.F.Files.state c.search.new.files) (g.F.Files.state c.write_at.new.self) c.args.directory c.args.header (64 * c.in-Ok-Some.found.place) c.encode_slot-slot.result long c.in-Ok.ensures.done)
+    (slot_grows (g.F.Files.state c.search.new.files) (g.F.Files.state c.write_at.new.self) c.args.directory.value c.args.header (64 * c.in-Ok-Some.found.place) c.encode_slot-slot.result long c.in-Ok.ensures.done)

@@ -12,9 +12,9 @@ returns-in-Ok-Some-clause-answer g c =
     let m = c.min-count.ensures in
     let low : 8 * c.loop-index.index < c.args.header.size / 64 = omega (arith, t, e) in
     let is : c.min-count.result ≡ min (c.args.header.size / 64 - 8 * c.loop-index.index) 8 = omega (arith, m) in
-    search_hits c.args.directory c.args.header c.args.name.now (g.F.Files.state c.args.files.now) (g.F.Files.state c.loop-index.files) (g.F.Files.state c.search_block.new.files)
+    search_hits c.args.directory.value c.args.header c.args.name.now (g.F.Files.state c.args.files.now) (g.F.Files.state c.loop-index.files) (g.F.Files.state c.search_block.new.files)
     c.loop-index.index c.min-count.result is low c.loop-index.invariant c.in-Ok-Some.found c.search_block.ensures.reads
-    (subst (λ (found : Option Found). FindsInBlock (g.F.Files.state c.loop-index.files) (g.F.Files.state c.search_block.new.files) c.args.directory c.loop-index.index c.min-count.result c.args.name.now found)
+    (subst (λ (found : Option Found). FindsInBlock (g.F.Files.state c.loop-index.files) (g.F.Files.state c.search_block.new.files) c.args.directory.value c.loop-index.index c.min-count.result c.args.name.now found)
     c.in-Ok-Some.field-0-is c.in-Ok-Some.ensures.answer)
 
 pub returns-in-Err-clause-failed : goal.returns-in-Err-clause-failed
@@ -24,7 +24,7 @@ returns-in-Err-clause-failed g c =
     let m = c.min-count.ensures in
     let low : 8 * c.loop-index.index < c.args.header.size / 64 = omega (arith, t, e) in
     let is : c.min-count.result ≡ min (c.args.header.size / 64 - 8 * c.loop-index.index) 8 = omega (arith, m) in
-    search_fails c.args.directory c.args.header c.args.name.now (g.F.Files.state c.args.files.now) (g.F.Files.state c.loop-index.files) (g.F.Files.state c.search_block.new.files)
+    search_fails c.args.directory.value c.args.header c.args.name.now (g.F.Files.state c.args.files.now) (g.F.Files.state c.loop-index.files) (g.F.Files.state c.search_block.new.files)
     c.loop-index.index c.min-count.result is low c.loop-index.invariant c.in-Err.ensures.failed
 
 pub loop-index-preserved : goal.loop-index-preserved
@@ -34,14 +34,14 @@ loop-index-preserved g c =
     let m = c.min-count.ensures in
     let low : 8 * c.loop-index.index < c.args.header.size / 64 = omega (arith, t, e) in
     let is : c.min-count.result ≡ min (c.args.header.size / 64 - 8 * c.loop-index.index) 8 = omega (arith, m) in
-    search_goes_on c.args.directory c.args.header c.args.name.now (g.F.Files.state c.args.files.now) (g.F.Files.state c.loop-index.files) (g.F.Files.state c.search_block.new.files)
+    search_goes_on c.args.directory.value c.args.header c.args.name.now (g.F.Files.state c.args.files.now) (g.F.Files.state c.loop-index.files) (g.F.Files.state c.search_block.new.files)
     c.loop-index.index c.min-count.result is low c.loop-index.invariant (g.met.F.Files.lawful c.args.files.now) c.search_block.ensures.reads
-    (subst (λ (found : Option Found). FindsInBlock (g.F.Files.state c.loop-index.files) (g.F.Files.state c.search_block.new.files) c.args.directory c.loop-index.index c.min-count.result c.args.name.now found)
+    (subst (λ (found : Option Found). FindsInBlock (g.F.Files.state c.loop-index.files) (g.F.Files.state c.search_block.new.files) c.args.directory.value c.loop-index.index c.min-count.result c.args.name.now found)
     c.in-Ok-None.field-0-is c.in-Ok-None.ensures.answer)
 
 pub returns-clause-answer : goal.returns-clause-answer
 returns-clause-answer g c =
     let t = c.loop-index-test.false in
     let e = c.div_ceil-index-end.ensures in
-    search_ends c.args.directory c.args.header c.args.name.now (g.F.Files.state c.args.files.now) (g.F.Files.state c.loop-index.files)
+    search_ends c.args.directory.value c.args.header c.args.name.now (g.F.Files.state c.args.files.now) (g.F.Files.state c.loop-index.files)
     c.loop-index.index (omega (arith, t, e)) c.loop-index.invariant

@@ -9,7 +9,7 @@ pub returns-then-eq-clause-found : goal.returns-then-eq-clause-found
 returns-then-eq-clause-found c =
     let is : slot_in 0 (part (64 * c.loop-place.place) 64 c.args.block.now) ≡ Some c.in-Some.view = sym (ap (slot_in 0) c.nth_slot.ensures) ∙ sym c.decode.ensures.exact ∙ c.in-Some.is in
     let same : c.args.name.now ≡ c.in-Some.view.name = sym ((bytes_eq-Decides c.name.result.now c.args.name.now).0 (sym c.eq.ensures ∙ c.if-eq.true)) ∙ c.name.ensures in
-    scan_hit c.args.block.now c.args.count c.args.name.now c.loop-place.place c.number.result c.in-Some.view c.loop-place-test.true c.loop-place.invariant is same c.number.ensures
+    scan_hit c.args.block.now c.args.count c.args.name.now c.loop-place.place _ c.in-Some.view c.loop-place-test.true c.loop-place.invariant is same c.number.ensures
 
 pub loop-place-preserved : goal.loop-place-preserved
 loop-place-preserved c =

@@ -10,7 +10,7 @@ returns-then-place-last-clause-done g c =
     let at = c.if-place-last.true in
     let inside = c.requires.inside in
     on_ok_weaker c.shrink.result
-    (drops_last (g.F.Files.state c.args.files.now) (g.F.Files.state c.shrink.new.self) c.args.directory c.args.header c.args.place (omega (arith, at, inside)))
+    (drops_last (g.F.Files.state c.args.files.now) (g.F.Files.state c.shrink.new.self) c.args.directory.value c.args.header c.args.place (omega (arith, at, inside)))
     c.shrink.ensures.done
 
 pub returns-in-Err-clause-redrafts : goal.returns-in-Err-clause-redrafts
@@ -35,7 +35,7 @@ returns-in-Err-shrink-clause-failed g c other = fault_more (g.F.Files.state c.ar
 
 pub returns-in-Err-write_at-clause-failed : goal.returns-in-Err-write_at-clause-failed
 returns-in-Err-write_at-clause-failed g c other =
-    fails_last (g.F.Files.state c.args.files.now) (g.F.Files.state c.slot_at.new.files) (g.F.Files.state c.shrink-2.new.self) (g.F.Files.state c.write_at.new.self) c.args.directory c.args.header (c.args.header.size - 64)
+    fails_last (g.F.Files.state c.args.files.now) (g.F.Files.state c.slot_at.new.files) (g.F.Files.state c.shrink-2.new.self) (g.F.Files.state c.write_at.new.self) c.args.directory.value c.args.header (c.args.header.size - 64)
     c.slot_at.ensures.reads c.shrink-2.ensures.redrafts c.write_at.ensures.redrafts c.in-Ok-shrink.ensures.done (c.in-Err-write_at.ensures.failed other)
 
 pub returns-clause-done : goal.returns-clause-done
@@ -44,14 +44,14 @@ returns-clause-done g c =
     let inside = c.requires.inside in
     let last : (c.args.header.size - 64) / 64 ≡ c.args.header.size / 64 - 1 = omega (arith, inside) in
     let long : length c.in-Ok.slot ≡ 64 = search rules in
-    drops_other (g.F.Files.state c.args.files.now) (g.F.Files.state c.slot_at.new.files) (g.F.Files.state c.shrink-2.new.self) (g.F.Files.state c.write_at.new.self) c.args.directory c.args.header c.args.place c.in-Ok.slot
+    drops_other (g.F.Files.state c.args.files.now) (g.F.Files.state c.slot_at.new.files) (g.F.Files.state c.shrink-2.new.self) (g.F.Files.state c.write_at.new.self) c.args.directory.value c.args.header c.args.place c.in-Ok.slot
     (omega (arith, other, inside)) long c.slot_at.ensures.reads c.shrink-2.ensures.redrafts c.write_at.ensures.redrafts
-    (subst (λ (p : ℕ). ReadsSlot (g.F.Files.state c.args.files.now) (g.F.Files.state c.slot_at.new.files) c.args.directory p c.in-Ok.slot) last c.in-Ok.ensures.answer)
+    (subst (λ (p : ℕ). ReadsSlot (g.F.Files.state c.args.files.now) (g.F.Files.state c.slot_at.new.files) c.args.directory.value p c.in-Ok.slot) last c.in-Ok.ensures.answer)
     c.in-Ok-shrink.ensures.done c.in-Ok-write_at.ensures.done
 
 pub returns-then-place-last-clause-counted : goal.returns-then-place-last-clause-counted
 returns-then-place-last-clause-counted g c =
-    on_ok_weaker c.shrink.result (counts_last (g.F.Files.state c.args.files.now) (g.F.Files.state c.shrink.new.self) c.args.directory c.args.header) c.shrink.ensures.counted
+    on_ok_weaker c.shrink.result (counts_last (g.F.Files.state c.args.files.now) (g.F.Files.state c.shrink.new.self) c.args.directory.value c.args.header) c.shrink.ensures.counted
 
 pub returns-clause-counted : goal.returns-clause-counted
 returns-clause-counted g c =
@@ -59,8 +59,8 @@ returns-clause-counted g c =
     let inside = c.requires.inside in
     let last : (c.args.header.size - 64) / 64 ≡ c.args.header.size / 64 - 1 = omega (arith, inside) in
     let long : length c.in-Ok.slot ≡ 64 = search rules in
-    counts_other (g.F.Files.state c.args.files.now) (g.F.Files.state c.slot_at.new.files) (g.F.Files.state c.shrink-2.new.self) (g.F.Files.state c.write_at.new.self) c.args.directory c.args.header c.args.place c.in-Ok.slot
+    counts_other (g.F.Files.state c.args.files.now) (g.F.Files.state c.slot_at.new.files) (g.F.Files.state c.shrink-2.new.self) (g.F.Files.state c.write_at.new.self) c.args.directory.value c.args.header c.args.place c.in-Ok.slot
     (omega (arith, other, inside)) long c.slot_at.ensures.reads c.shrink-2.ensures.redrafts c.write_at.ensures.redrafts
-    (subst (λ (p : ℕ). ReadsSlot (g.F.Files.state c.args.files.now) (g.F.Files.state c.slot_at.new.files) c.args.directory p c.in-Ok.slot) last c.in-Ok.ensures.answer)
+    (subst (λ (p : ℕ). ReadsSlot (g.F.Files.state c.args.files.now) (g.F.Files.state c.slot_at.new.files) c.args.directory.value p c.in-Ok.slot) last c.in-Ok.ensures.answer)
     c.in-Ok-shrink.ensures.done c.in-Ok-write_at.ensures.done c.requires.size
     c.in-Ok-shrink.ensures.counted c.in-Ok-write_at.ensures.counted

@@ -24,23 +24,23 @@ returns-clause-redrafts g c =
 
 pub returns-in-Ok-None-clause-none : goal.returns-in-Ok-None-clause-none
 returns-in-Ok-None-clause-none g c is =
-    subst (λ (o : Option Found). FindsSlot (g.F.Files.state c.args.files.now) (g.F.Files.state c.search.new.files) c.args.directory c.args.header c.args.name.now o)
+    subst (λ (o : Option Found). FindsSlot (g.F.Files.state c.args.files.now) (g.F.Files.state c.search.new.files) c.args.directory.value c.args.header c.args.name.now o)
     c.in-Ok-None.field-0-is c.in-Ok-None.ensures.answer
 
 pub returns-in-Err-drop_slot-clause-failed : goal.returns-in-Err-drop_slot-clause-failed
 returns-in-Err-drop_slot-clause-failed g c other =
-    fails_behind (g.F.Files.state c.args.files.now) (g.F.Files.state c.search.new.files) (g.F.Files.state c.drop_slot.new.files) c.args.directory c.args.header
+    fails_behind (g.F.Files.state c.args.files.now) (g.F.Files.state c.search.new.files) (g.F.Files.state c.drop_slot.new.files) c.args.directory.value c.args.header
     c.search.ensures.reads (c.in-Err-drop_slot.ensures.failed other)
 
 pub returns-clause-done : goal.returns-clause-done
 returns-clause-done g c is =
-    takes (g.F.Files.state c.args.files.now) (g.F.Files.state c.search.new.files) (g.F.Files.state c.drop_slot.new.files) c.args.directory c.args.header c.args.name.now c.in-Ok-Some.found
+    takes (g.F.Files.state c.args.files.now) (g.F.Files.state c.search.new.files) (g.F.Files.state c.drop_slot.new.files) c.args.directory.value c.args.header c.args.name.now c.in-Ok-Some.found
     c.search.ensures.reads c.drop_slot.ensures.redrafts
-    (subst (λ (o : Option Found). FindsSlot (g.F.Files.state c.args.files.now) (g.F.Files.state c.search.new.files) c.args.directory c.args.header c.args.name.now o)
+    (subst (λ (o : Option Found). FindsSlot (g.F.Files.state c.args.files.now) (g.F.Files.state c.search.new.files) c.args.directory.value c.args.header c.args.name.now o)
     c.in-Ok-Some.field-0-is c.in-Ok-Some.ensures.answer)
     c.in-Ok.ensures.done
 
 pub returns-clause-counted : goal.returns-clause-counted
 returns-clause-counted g c is =
-    counts_behind (g.F.Files.state c.args.files.now) (g.F.Files.state c.search.new.files) (g.F.Files.state c.drop_slot.new.files) c.args.directory c.args.header
+    counts_behind (g.F.Files.state c.args.files.now) (g.F.Files.state c.search.new.files) (g.F.Files.state c.drop_slot.new.files) c.args.directory.value c.args.header
     c.search.ensures.reads c.in-Ok.ensures.counted

@@ -5,7 +5,7 @@ use Rattle.lfs_fs.proofs.GrownDrafts.{adds_grow}
 use Rattle.lfs_fs.proofs.fs.Fs.add_name.Goals as goal
 
 pub returns-in-Ok-clause-named : goal.returns-in-Ok-clause-named
-returns-in-Ok-clause-named g c = log_adds g.D.SectorDevice.state c.args.self.now.store c.add.new.files c.args.directory c.args.holder c.args.number c.args.name.now c.in-Ok.ensures.done
+returns-in-Ok-clause-named g c = log_adds g.D.SectorDevice.state c.args.self.now.store c.add.new.files c.args.directory.value c.args.holder c.args.number.value c.args.name.now c.in-Ok.ensures.done
 
 pub returns-in-Ok-clause-counted : goal.returns-in-Ok-clause-counted
 returns-in-Ok-clause-counted g c = log_counts g.D.SectorDevice.state c.args.self.now.store c.add.new.files c.add.ensures.redrafts c.in-Ok.ensures.counted

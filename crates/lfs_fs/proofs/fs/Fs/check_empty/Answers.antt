@@ -1,11 +1,12 @@
-use Rattle.std.proofs.Common.{◌≤◌, length, sym, ◌∙◌, inl, inr, arith}
+use Rattle.std.proofs.Common.{ap, ◌≤◌, length, sym, ◌∙◌, inl, inr, arith}
 use Rattle.lfs_fs.proofs.RmdirLooks.{header_refuses, look_is, look_refuses, sees_entry}
+use Rattle.lfs_path.specs.dirs.Finding.{value_of}
 use Rattle.lfs_fs.proofs.fs.Fs.check_empty.Goals as goal
 
 -- ---- the name is looked up
 pub returns-in-Err-clause-refused : goal.returns-in-Err-clause-refused
 returns-in-Err-clause-refused g c =
-    look_refuses g.D.SectorDevice.state c.args.self.now c.look_in.new.self c.args.directory
+    look_refuses g.D.SectorDevice.state c.args.self.now c.look_in.new.self c.args.directory.value
     c.args.name.now c.in-Err.fault c.in-Err.ensures.missing
 
 pub returns-in_default-clause-refused : goal.returns-in_default-clause-refused
@@ -15,8 +16,8 @@ returns-in_default-clause-refused g c =
       short,
       (
         c.in-Ok.found.0,
-        look_is g.D.SectorDevice.state c.args.self.now c.look_in.new.self c.args.directory
-            c.args.name.now c.in-Ok.found.0 c.in-Ok.found.1 _ c.in_default.is
+        look_is g.D.SectorDevice.state c.args.self.now c.look_in.new.self c.args.directory.value
+            c.args.name.now c.in-Ok.found.0 (value_of c.in-Ok.found.1) _ (ap value_of c.in_default.is)
             c.in-Ok.ensures.answer,
       ),
     )
@@ -26,30 +27,20 @@ pub returns-then-holder-gt-MOST_BYTES-clause-refused :
 returns-then-holder-gt-MOST_BYTES-clause-refused g c =
     inl (inr (
       c.in-Ok.found.0,
-      c.in-Some.number,
-      look_is g.D.SectorDevice.state c.args.self.now c.look_in.new.self c.args.directory
-          c.args.name.now c.in-Ok.found.0 c.in-Ok.found.1 _ c.in-Some.is c.in-Ok.ensures.answer,
+      c.in-Some.number.value,
+      look_is g.D.SectorDevice.state c.args.self.now c.look_in.new.self c.args.directory.value
+          c.args.name.now c.in-Ok.found.0 (value_of c.in-Ok.found.1) _ (ap value_of c.in-Some.is) c.in-Ok.ensures.answer,
       inl c.if-holder-gt-MOST_BYTES.true,
-    ))
-
-pub returns-then-number-eq0-clause-refused : goal.returns-then-number-eq0-clause-refused
-returns-then-number-eq0-clause-refused g c =
-    inl (inr (
-      c.in-Ok.found.0,
-      c.in-Some.number,
-      look_is g.D.SectorDevice.state c.args.self.now c.look_in.new.self c.args.directory
-          c.args.name.now c.in-Ok.found.0 c.in-Ok.found.1 _ c.in-Some.is c.in-Ok.ensures.answer,
-      inr (inl c.if-number-eq0.true),
     ))
 
 -- ---- what it gives is looked at
 pub returns-in-Err-header-clause-refused : goal.returns-in-Err-header-clause-refused
 returns-in-Err-header-clause-refused g c =
-    header_refuses g.D.SectorDevice.state c.args.self.now c.look_in.new.self c.args.directory
+    header_refuses g.D.SectorDevice.state c.args.self.now c.look_in.new.self c.args.directory.value
     c.args.name.now c.in-Ok.ensures.reads c.header.new.self c.in-Err-header.ensures.reads
-    c.in-Ok.found.0 c.in-Some.number
-    (look_is g.D.SectorDevice.state c.args.self.now c.look_in.new.self c.args.directory
-    c.args.name.now c.in-Ok.found.0 c.in-Ok.found.1 _ c.in-Some.is c.in-Ok.ensures.answer)
+    c.in-Ok.found.0 c.in-Some.number.value
+    (look_is g.D.SectorDevice.state c.args.self.now c.look_in.new.self c.args.directory.value
+    c.args.name.now c.in-Ok.found.0 (value_of c.in-Ok.found.1) _ (ap value_of c.in-Some.is) c.in-Ok.ensures.answer)
     c.in-Err-header.fault c.in-Err-header.ensures.missing
 
 pub returns-then-not-is_directory-clause-refused : goal.returns-then-not-is_directory-clause-refused
@@ -59,13 +50,13 @@ returns-then-not-is_directory-clause-refused g c =
       short,
       (
         c.in-Ok.found.0,
-        c.in-Some.number,
+        c.in-Some.number.value,
         c.in-Ok-header.header,
-        sees_entry g.D.SectorDevice.state c.args.self.now c.look_in.new.self c.args.directory
+        sees_entry g.D.SectorDevice.state c.args.self.now c.look_in.new.self c.args.directory.value
             c.args.name.now c.in-Ok.ensures.reads c.header.new.self c.in-Ok-header.ensures.reads
-            c.in-Ok.found.0 c.in-Some.number
-            (look_is g.D.SectorDevice.state c.args.self.now c.look_in.new.self c.args.directory
-            c.args.name.now c.in-Ok.found.0 c.in-Ok.found.1 _ c.in-Some.is c.in-Ok.ensures.answer)
+            c.in-Ok.found.0 c.in-Some.number.value
+            (look_is g.D.SectorDevice.state c.args.self.now c.look_in.new.self c.args.directory.value
+            c.args.name.now c.in-Ok.found.0 (value_of c.in-Ok.found.1) _ (ap value_of c.in-Some.is) c.in-Ok.ensures.answer)
             c.in-Ok-header.header c.in-Ok-header.ensures.answer,
         c.is_directory.ensures.no c.if-not-is_directory.true,
       ),
@@ -78,13 +69,13 @@ returns-then-header-gt0-clause-refused g c =
       short,
       (
         c.in-Ok.found.0,
-        c.in-Some.number,
+        c.in-Some.number.value,
         c.in-Ok-header.header,
-        sees_entry g.D.SectorDevice.state c.args.self.now c.look_in.new.self c.args.directory
+        sees_entry g.D.SectorDevice.state c.args.self.now c.look_in.new.self c.args.directory.value
             c.args.name.now c.in-Ok.ensures.reads c.header.new.self c.in-Ok-header.ensures.reads
-            c.in-Ok.found.0 c.in-Some.number
-            (look_is g.D.SectorDevice.state c.args.self.now c.look_in.new.self c.args.directory
-            c.args.name.now c.in-Ok.found.0 c.in-Ok.found.1 _ c.in-Some.is c.in-Ok.ensures.answer)
+            c.in-Ok.found.0 c.in-Some.number.value
+            (look_is g.D.SectorDevice.state c.args.self.now c.look_in.new.self c.args.directory.value
+            c.args.name.now c.in-Ok.found.0 (value_of c.in-Ok.found.1) _ (ap value_of c.in-Some.is) c.in-Ok.ensures.answer)
             c.in-Ok-header.header c.in-Ok-header.ensures.answer,
         (c.is_directory.ensures.yes c.if-not-is_directory.false, c.if-header-gt0.true),
       ),
@@ -97,14 +88,14 @@ returns-then-holder-lt-LEAST_LINKS-clause-refused g c =
     let none = c.if-header-gt0.false in
     inr (
       c.in-Ok.found.0,
-      c.in-Some.number,
+      c.in-Some.number.value,
       c.in-Ok-header.header,
       record {
-        sees = sees_entry g.D.SectorDevice.state c.args.self.now c.look_in.new.self c.args.directory
+        sees = sees_entry g.D.SectorDevice.state c.args.self.now c.look_in.new.self c.args.directory.value
             c.args.name.now c.in-Ok.ensures.reads c.header.new.self c.in-Ok-header.ensures.reads
-            c.in-Ok.found.0 c.in-Some.number
-            (look_is g.D.SectorDevice.state c.args.self.now c.look_in.new.self c.args.directory
-            c.args.name.now c.in-Ok.found.0 c.in-Ok.found.1 _ c.in-Some.is c.in-Ok.ensures.answer)
+            c.in-Ok.found.0 c.in-Some.number.value
+            (look_is g.D.SectorDevice.state c.args.self.now c.look_in.new.self c.args.directory.value
+            c.args.name.now c.in-Ok.found.0 (value_of c.in-Ok.found.1) _ (ap value_of c.in-Some.is) c.in-Ok.ensures.answer)
             c.in-Ok-header.header c.in-Ok-header.ensures.answer;
         named = sym c.is_dots.ensures ∙ c.if-is_dots.false;
         short = short;
@@ -119,11 +110,11 @@ returns-clause-has g c =
     let short : length c.args.name.now ≤ 59 = search in
     let none = c.if-header-gt0.false in
     record {
-      sees = sees_entry g.D.SectorDevice.state c.args.self.now c.look_in.new.self c.args.directory
+      sees = sees_entry g.D.SectorDevice.state c.args.self.now c.look_in.new.self c.args.directory.value
           c.args.name.now c.in-Ok.ensures.reads c.header.new.self c.in-Ok-header.ensures.reads
-          c.in-Ok.found.0 c.in-Some.number
-          (look_is g.D.SectorDevice.state c.args.self.now c.look_in.new.self c.args.directory
-          c.args.name.now c.in-Ok.found.0 c.in-Ok.found.1 _ c.in-Some.is c.in-Ok.ensures.answer)
+          c.in-Ok.found.0 c.in-Some.number.value
+          (look_is g.D.SectorDevice.state c.args.self.now c.look_in.new.self c.args.directory.value
+          c.args.name.now c.in-Ok.found.0 (value_of c.in-Ok.found.1) _ (ap value_of c.in-Some.is) c.in-Ok.ensures.answer)
           c.in-Ok-header.header c.in-Ok-header.ensures.answer;
       named = sym c.is_dots.ensures ∙ c.if-is_dots.false;
       short = short;

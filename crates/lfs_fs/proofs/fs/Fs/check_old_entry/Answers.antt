@@ -1,5 +1,6 @@
-use Rattle.std.proofs.Common.{◌≤◌, length, None, Some, sym, ◌∙◌, inl, inr}
+use Rattle.std.proofs.Common.{ap, ◌≤◌, length, None, Some, sym, ◌∙◌, inl, inr}
 use Rattle.lfs_fs.proofs.OldLooks.{looks_as, refuses_header, sees_entry}
+use Rattle.lfs_path.specs.dirs.Finding.{value_of}
 use Rattle.lfs_fs.proofs.fs.Fs.check_old_entry.Goals as goal
 
 -- the directory has no such name
@@ -10,8 +11,8 @@ returns-in_default-clause-refused g c =
       short,
       (
         c.in-Ok.found.0,
-        looks_as g.D.SectorDevice.state c.args.self.now c.look_in.new.self c.args.directory
-            c.args.last.name.now c.in-Ok.found.0 c.in-Ok.found.1 None c.in_default.is
+        looks_as g.D.SectorDevice.state c.args.self.now c.look_in.new.self c.args.directory.value
+            c.args.last.name.now c.in-Ok.found.0 (value_of c.in-Ok.found.1) None (ap value_of c.in_default.is)
             c.in-Ok.ensures.answer,
       ),
     )
@@ -21,30 +22,19 @@ pub returns-then-holder-gt-MOST_BYTES-clause-refused :
     goal.returns-then-holder-gt-MOST_BYTES-clause-refused
 returns-then-holder-gt-MOST_BYTES-clause-refused g c = inr (
   c.in-Ok.found.0,
-  c.in-Some.number,
-  looks_as g.D.SectorDevice.state c.args.self.now c.look_in.new.self c.args.directory
-      c.args.last.name.now c.in-Ok.found.0 c.in-Ok.found.1 (Some c.in-Some.number) c.in-Some.is
+  c.in-Some.number.value,
+  looks_as g.D.SectorDevice.state c.args.self.now c.look_in.new.self c.args.directory.value
+      c.args.last.name.now c.in-Ok.found.0 (value_of c.in-Ok.found.1) (Some c.in-Some.number.value) (ap value_of c.in-Some.is)
       c.in-Ok.ensures.answer,
   inl c.if-holder-gt-MOST_BYTES.true,
 )
 
--- or an object of this number
-pub returns-then-number-eq0-clause-refused : goal.returns-then-number-eq0-clause-refused
-returns-then-number-eq0-clause-refused g c = inr (
-  c.in-Ok.found.0,
-  c.in-Some.number,
-  looks_as g.D.SectorDevice.state c.args.self.now c.look_in.new.self c.args.directory
-      c.args.last.name.now c.in-Ok.found.0 c.in-Ok.found.1 (Some c.in-Some.number) c.in-Some.is
-      c.in-Ok.ensures.answer,
-  inr (inl c.if-number-eq0.true),
-)
-
 pub returns-in-Err-header-clause-refused : goal.returns-in-Err-header-clause-refused
 returns-in-Err-header-clause-refused g c =
-    refuses_header g.D.SectorDevice.state c.args.self.now c.look_in.new.self c.args.directory
-    c.args.last.name.now c.in-Ok.ensures.reads c.in-Ok.found.0 c.in-Some.number
-    (looks_as g.D.SectorDevice.state c.args.self.now c.look_in.new.self c.args.directory
-    c.args.last.name.now c.in-Ok.found.0 c.in-Ok.found.1 (Some c.in-Some.number) c.in-Some.is
+    refuses_header g.D.SectorDevice.state c.args.self.now c.look_in.new.self c.args.directory.value
+    c.args.last.name.now c.in-Ok.ensures.reads c.in-Ok.found.0 c.in-Some.number.value
+    (looks_as g.D.SectorDevice.state c.args.self.now c.look_in.new.self c.args.directory.value
+    c.args.last.name.now c.in-Ok.found.0 (value_of c.in-Ok.found.1) (Some c.in-Some.number.value) (ap value_of c.in-Some.is)
     c.in-Ok.ensures.answer)
     c.header.new.self c.in-Err-header.ensures.reads c.args.last.slash c.in-Err-header.fault
     c.in-Err-header.ensures.missing
@@ -58,13 +48,13 @@ returns-then-is_directory-clause-refused g c =
       short,
       (
         c.in-Ok.found.0,
-        c.in-Some.number,
+        c.in-Some.number.value,
         c.in-Ok-header.header,
-        sees_entry g.D.SectorDevice.state c.args.self.now c.look_in.new.self c.args.directory
-            c.args.last.name.now c.in-Ok.ensures.reads c.in-Ok.found.0 c.in-Some.number
-            (looks_as g.D.SectorDevice.state c.args.self.now c.look_in.new.self c.args.directory
-            c.args.last.name.now c.in-Ok.found.0 c.in-Ok.found.1 (Some c.in-Some.number)
-            c.in-Some.is c.in-Ok.ensures.answer)
+        sees_entry g.D.SectorDevice.state c.args.self.now c.look_in.new.self c.args.directory.value
+            c.args.last.name.now c.in-Ok.ensures.reads c.in-Ok.found.0 c.in-Some.number.value
+            (looks_as g.D.SectorDevice.state c.args.self.now c.look_in.new.self c.args.directory.value
+            c.args.last.name.now c.in-Ok.found.0 (value_of c.in-Ok.found.1) (Some c.in-Some.number.value)
+            (ap value_of c.in-Some.is) c.in-Ok.ensures.answer)
             c.header.new.self c.in-Ok-header.ensures.reads c.in-Ok-header.header
             c.in-Ok-header.ensures.answer,
         c.is_directory.ensures.yes c.if-is_directory.true,
@@ -80,13 +70,13 @@ returns-then-last-clause-refused g c =
       c.if-last.true,
       (
         c.in-Ok.found.0,
-        c.in-Some.number,
+        c.in-Some.number.value,
         c.in-Ok-header.header,
-        sees_entry g.D.SectorDevice.state c.args.self.now c.look_in.new.self c.args.directory
-            c.args.last.name.now c.in-Ok.ensures.reads c.in-Ok.found.0 c.in-Some.number
-            (looks_as g.D.SectorDevice.state c.args.self.now c.look_in.new.self c.args.directory
-            c.args.last.name.now c.in-Ok.found.0 c.in-Ok.found.1 (Some c.in-Some.number)
-            c.in-Some.is c.in-Ok.ensures.answer)
+        sees_entry g.D.SectorDevice.state c.args.self.now c.look_in.new.self c.args.directory.value
+            c.args.last.name.now c.in-Ok.ensures.reads c.in-Ok.found.0 c.in-Some.number.value
+            (looks_as g.D.SectorDevice.state c.args.self.now c.look_in.new.self c.args.directory.value
+            c.args.last.name.now c.in-Ok.found.0 (value_of c.in-Ok.found.1) (Some c.in-Some.number.value)
+            (ap value_of c.in-Some.is) c.in-Ok.ensures.answer)
             c.header.new.self c.in-Ok-header.ensures.reads c.in-Ok-header.header
             c.in-Ok-header.ensures.answer,
         c.is_directory.ensures.no c.if-is_directory.false,
@@ -96,10 +86,10 @@ returns-then-last-clause-refused g c =
 pub returns-clause-has : goal.returns-clause-has
 returns-clause-has g c =
     let short : length c.args.last.name.now ≤ 59 = search in record {
-      sees = sees_entry g.D.SectorDevice.state c.args.self.now c.look_in.new.self c.args.directory
-          c.args.last.name.now c.in-Ok.ensures.reads c.in-Ok.found.0 c.in-Some.number
-          (looks_as g.D.SectorDevice.state c.args.self.now c.look_in.new.self c.args.directory
-          c.args.last.name.now c.in-Ok.found.0 c.in-Ok.found.1 (Some c.in-Some.number) c.in-Some.is
+      sees = sees_entry g.D.SectorDevice.state c.args.self.now c.look_in.new.self c.args.directory.value
+          c.args.last.name.now c.in-Ok.ensures.reads c.in-Ok.found.0 c.in-Some.number.value
+          (looks_as g.D.SectorDevice.state c.args.self.now c.look_in.new.self c.args.directory.value
+          c.args.last.name.now c.in-Ok.found.0 (value_of c.in-Ok.found.1) (Some c.in-Some.number.value) (ap value_of c.in-Some.is)
           c.in-Ok.ensures.answer)
           c.header.new.self c.in-Ok-header.ensures.reads c.in-Ok-header.header
           c.in-Ok-header.ensures.answer;

@@ -12,13 +12,13 @@ set_len-requires-clause-empty g c = subst (λ (d : Draft). IsNoChange d.changes)
 
 pub returns-in-Err : goal.returns-in-Err
 returns-in-Err g c handle opens =
-    headerless_serves g.D.SectorDevice.state g.met.D.SectorDevice.lawful c.args.self.now c.header.new.self _ handle c.args.number opens c.requires.running c.requires.empty
+    headerless_serves g.D.SectorDevice.state g.met.D.SectorDevice.lawful c.args.self.now c.header.new.self _ handle c.args.number.value opens c.requires.running c.requires.empty
     c.in-Err.ensures.reads.still refl c.in-Err.fault c.in-Err.ensures.missing
 
 pub returns-in-Ok-set_len : goal.returns-in-Ok-set_len
 returns-in-Ok-set_len g c handle opens =
     cut_ends g.D.SectorDevice.state g.met.D.SectorDevice.lawful c.args.self.now c.header.new.self record { alloc = c.header.new.self.alloc; store = c.set_len.new.self; handles = c.header.new.self.handles }
-    handle c.args.number opens c.requires.running c.requires.empty c.requires.counted c.in-Ok.ensures.reads c.in-Ok.header c.in-Ok.ensures.answer
+    handle c.args.number.value opens c.requires.running c.requires.empty c.requires.counted c.in-Ok.ensures.reads c.in-Ok.header c.in-Ok.ensures.answer
     record {
       reads = c.in-Ok-set_len.ensures.reads;
       saved = c.in-Ok-set_len.ensures.saved;
@@ -36,4 +36,4 @@ returns-in-Err-set_len g c handle opens =
 
 pub accept-requires-clause-room : goal.accept-requires-clause-room
 accept-requires-clause-room g c =
-    cut_fits g.D.SectorDevice.state c.header.new.self.store.log c.set_len.new.self.log c.set_len.new.self.draft.changes c.args.number c.in-Ok.header c.args.len c.in-Ok-set_len.ensures.done
+    cut_fits g.D.SectorDevice.state c.header.new.self.store.log c.set_len.new.self.log c.set_len.new.self.draft.changes c.args.number.value c.in-Ok.header c.args.len c.in-Ok-set_len.ensures.done

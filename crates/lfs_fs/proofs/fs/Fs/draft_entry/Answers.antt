@@ -38,15 +38,15 @@ returns-in-Ok-add-clause-drafted g c =
       between = object.draft.changes;
       linked = store.draft.changes;
       half = object.drafted;
-      object = object_later state c.args.self.now.store.log object.log files.log c.args.self.now.store.draft.changes object.draft.changes c.args.self.now.store.drafted object.drafted c.args.number
+      object = object_later state c.args.self.now.store.log object.log files.log c.args.self.now.store.draft.changes object.draft.changes c.args.self.now.store.drafted object.drafted c.args.number.value
           (new_kind c.args.kind c.args.text.now) later made.drafted;
-      relinks = subst (λ (k : Kind). RelinksParent object.draft.changes store.draft.changes c.args.directory c.args.header object.drafted k) back
-          (subst (λ (t : BlockTotals). RelinksParent object.draft.changes store.draft.changes c.args.directory c.args.header t c.args.kind) links.drafted links.done);
-      adds = subst (λ (k : Kind). Adds state c.args.self.now.store.log files.log store.draft.changes files.draft.changes c.args.directory (relinked c.args.header (more_links k c.args.header.links)) c.args.number c.args.name.now) back
-          (adds_after state c.args.self.now.store.log object.log files.log made.still.reads store.draft.changes files.draft.changes c.args.directory (relinked c.args.header (more_links c.args.kind c.args.header.links)) c.args.number c.args.name.now
-          (subst (λ (h : Header). Adds state object.log files.log store.draft.changes files.draft.changes c.args.directory h c.args.number c.args.name.now) links.header
-          (subst (λ (h : Held g.row.D.Denot). Adds state h files.log store.draft.changes files.draft.changes c.args.directory c.in-Ok-relink_parent.header c.args.number c.args.name.now) links.log
-          (log_adds state store files c.args.directory c.in-Ok-relink_parent.header c.args.number c.args.name.now added.done))));
+      relinks = subst (λ (k : Kind). RelinksParent object.draft.changes store.draft.changes c.args.directory.value c.args.header object.drafted k) back
+          (subst (λ (t : BlockTotals). RelinksParent object.draft.changes store.draft.changes c.args.directory.value c.args.header t c.args.kind) links.drafted links.done);
+      adds = subst (λ (k : Kind). Adds state c.args.self.now.store.log files.log store.draft.changes files.draft.changes c.args.directory.value (relinked c.args.header (more_links k c.args.header.links)) c.args.number.value c.args.name.now) back
+          (adds_after state c.args.self.now.store.log object.log files.log made.still.reads store.draft.changes files.draft.changes c.args.directory.value (relinked c.args.header (more_links c.args.kind c.args.header.links)) c.args.number.value c.args.name.now
+          (subst (λ (h : Header). Adds state object.log files.log store.draft.changes files.draft.changes c.args.directory.value h c.args.number.value c.args.name.now) links.header
+          (subst (λ (h : Held g.row.D.Denot). Adds state h files.log store.draft.changes files.draft.changes c.args.directory.value c.in-Ok-relink_parent.header c.args.number.value c.args.name.now) links.log
+          (log_adds state store files c.args.directory.value c.in-Ok-relink_parent.header c.args.number.value c.args.name.now added.done))));
       recounts = counts_after state c.args.self.now.store.log object.log files.log made.still.reads store.draft.changes files.draft.changes object.drafted files.drafted
           (subst (λ (t : BlockTotals). Counts state object.log files.log store.draft.changes files.draft.changes t files.drafted) links.drafted
           (subst (λ (h : Held g.row.D.Denot). Counts state h files.log store.draft.changes files.draft.changes store.drafted files.drafted) links.log

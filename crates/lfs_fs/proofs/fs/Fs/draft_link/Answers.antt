@@ -20,7 +20,7 @@ returns-in-Ok-write_at-clause-drafted g c =
       half = blank.drafted;
       makes = made.done;
       counts = made.counted;
-      writes = subst (λ (h : Held g.row.D.Denot). Writes state h done.log blank.draft.changes done.draft.changes c.args.number (first_header kind.Link (length c.args.text.now)) 0 c.args.text.now) made.log wrote.done;
+      writes = subst (λ (h : Held g.row.D.Denot). Writes state h done.log blank.draft.changes done.draft.changes c.args.number.value (first_header kind.Link (length c.args.text.now)) 0 c.args.text.now) made.log wrote.done;
       recounts = subst (λ (h : Held g.row.D.Denot). Counts state h done.log blank.draft.changes done.draft.changes blank.drafted done.drafted) made.log wrote.counted;
     }
 
@@ -36,5 +36,5 @@ returns-in-Err-write_at-clause-refused g c =
 pub returns-in-Ok-write_at-clause-small : goal.returns-in-Ok-write_at-clause-small
 returns-in-Ok-write_at-clause-small g c =
     let few : length c.args.text.now ≤ 1023 = search rules in
-    grows_then c.args.self.now.store.draft.changes c.create_link.new.self.draft.changes c.write_at.new.self.draft.changes 1 0 1 2 (makes_grows c.args.self.now.store.draft.changes c.create_link.new.self.draft.changes c.args.number _ c.in-Ok.ensures.done)
-    (text_grows g.D.SectorDevice.state c.create_link.new.self.log c.write_at.new.self.log c.create_link.new.self.draft.changes c.write_at.new.self.draft.changes c.args.number _ c.args.text.now few c.in-Ok-write_at.ensures.done)
+    grows_then c.args.self.now.store.draft.changes c.create_link.new.self.draft.changes c.write_at.new.self.draft.changes 1 0 1 2 (makes_grows c.args.self.now.store.draft.changes c.create_link.new.self.draft.changes c.args.number.value _ c.in-Ok.ensures.done)
+    (text_grows g.D.SectorDevice.state c.create_link.new.self.log c.write_at.new.self.log c.create_link.new.self.draft.changes c.write_at.new.self.draft.changes c.args.number.value _ c.args.text.now few c.in-Ok-write_at.ensures.done)

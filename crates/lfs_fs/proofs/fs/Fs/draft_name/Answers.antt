@@ -21,11 +21,11 @@ returns-in-Ok-add-clause-drafted g c =
       linked = store.draft.changes;
       sets = links.done;
       counts = subst (λ (t : BlockTotals). CountsRelinked c.args.self.now.store.draft.changes
-          store.draft.changes c.args.number c.args.header t) links.drafted links.counted;
+          store.draft.changes c.args.number.value c.args.header t) links.drafted links.counted;
       adds = subst (λ (h : Held g.row.D.Denot). Adds state h files.log store.draft.changes
-          files.draft.changes c.args.directory c.args.holder c.args.number c.args.name.now)
+          files.draft.changes c.args.directory.value c.args.holder c.args.number.value c.args.name.now)
           links.log
-          (log_adds state store files c.args.directory c.args.holder c.args.number c.args.name.now
+          (log_adds state store files c.args.directory.value c.args.holder c.args.number.value c.args.name.now
           added.done);
       recounts = subst (λ (t : BlockTotals). Counts state c.args.self.now.store.log files.log
           store.draft.changes files.draft.changes t files.drafted) links.drafted
@@ -54,5 +54,5 @@ pub returns-in-Ok-add-clause-small : goal.returns-in-Ok-add-clause-small
 returns-in-Ok-add-clause-small g c =
     let linked = c.set_links.new.self in
     grows_then c.args.self.now.store.draft.changes linked.draft.changes c.add.new.files.draft.changes 1 0 1 2
-    (relinks_grows c.args.self.now.store.draft.changes linked.draft.changes c.args.number c.args.header _ c.in-Ok.ensures.done)
+    (relinks_grows c.args.self.now.store.draft.changes linked.draft.changes c.args.number.value c.args.header _ c.in-Ok.ensures.done)
     (adds_grow g.D.SectorDevice.state linked c.add.new.files 1 2 c.in-Ok-add.ensures.small)

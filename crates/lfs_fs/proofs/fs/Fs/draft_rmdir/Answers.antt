@@ -17,8 +17,8 @@ use Rattle.lfs_store.proofs.Growths.{grows_then}
 use Rattle.lfs_fs.proofs.GrownDrafts.{takes_grow}
 use Rattle.lfs_fs.proofs.fs.Fs.draft_rmdir.Goals as goal
 
-pub take-requires-clause-size : goal.take-requires-clause-size
-take-requires-clause-size g c =
+pub take-requires : goal.take-requires
+take-requires g c =
     let size = ap (λ (h : Header). h.size) c.in-Ok-drop_subdirectory.ensures.header in
     let small = c.requires.size in
     omega (arith, size, small)
@@ -26,8 +26,8 @@ take-requires-clause-size g c =
 -- ---- the object stays
 pub returns-in-Err-clause-refused : goal.returns-in-Err-clause-refused
 returns-in-Err-clause-refused g c =
-    none_lost g.D.SectorDevice.state c.args.self.now c.drop_object.new.self c.args.directory
-    c.args.entry.holder c.args.entry.number c.args.name.now c.in-Err.fault c.in-Err.ensures.refused
+    none_lost g.D.SectorDevice.state c.args.self.now c.drop_object.new.self c.args.directory.value
+    c.args.entry.holder c.args.entry.number.value c.args.name.now c.in-Err.fault c.in-Err.ensures.refused
 
 -- ---- the directory keeps its links
 pub returns-in-Err-drop_subdirectory-clause-still :
@@ -71,18 +71,18 @@ returns-in-Ok-true-clause-drafted g c =
       sets = links.done;
       relinks = links.counted;
       takes = takes_behind state c.args.self.now.store.log gone.log files.log store.draft.changes
-          files.draft.changes c.args.directory (less_linked c.args.entry.holder) c.args.name.now
+          files.draft.changes c.args.directory.value (less_linked c.args.entry.holder) c.args.name.now
           gone.drafted files.drafted lost.still.reads
           (subst (λ (h : Header). TakesOut state gone.log files.log store.draft.changes
-          files.draft.changes c.args.directory h c.args.name.now gone.drafted files.drafted)
+          files.draft.changes c.args.directory.value h c.args.name.now gone.drafted files.drafted)
           links.header
           (subst (λ (t : BlockTotals). TakesOut state gone.log files.log store.draft.changes
-          files.draft.changes c.args.directory c.in-Ok-drop_subdirectory.holder c.args.name.now t
+          files.draft.changes c.args.directory.value c.in-Ok-drop_subdirectory.holder c.args.name.now t
           files.drafted) links.drafted
           (subst (λ (h : Held g.row.D.Denot). TakesOut state h files.log store.draft.changes
-          files.draft.changes c.args.directory c.in-Ok-drop_subdirectory.holder c.args.name.now
+          files.draft.changes c.args.directory.value c.in-Ok-drop_subdirectory.holder c.args.name.now
           store.drafted files.drafted) links.log
-          (log_takes state store files c.take.ensures.redrafts c.args.directory
+          (log_takes state store files c.take.ensures.redrafts c.args.directory.value
           c.in-Ok-drop_subdirectory.holder c.args.name.now (taken.done c.in-Ok-true.field-0-test)
           (taken.counted c.in-Ok-true.field-0-test)))));
     }
@@ -106,11 +106,11 @@ returns-in-Ok-false-clause-refused g c =
     inr (
       refl,
       linked_has state c.args.self.now new store gone.draft.changes store.draft.changes
-          c.args.entry.number c.args.directory c.args.entry.holder lost.lost.removes links.done refl
+          c.args.entry.number.value c.args.directory.value c.args.entry.holder lost.lost.removes links.done refl
           reads
           c.args.name.now
           (subst (λ (h : Header). Lacks (files_of state store) (files_of state files)
-          c.args.directory h
+          c.args.directory.value h
           c.args.name.now) links.header (c.in-Ok-false.ensures.none c.in-Ok-false.field-0-test)),
     )
 
@@ -132,10 +132,10 @@ returns-in-Err-take-clause-refused g c =
     subst (λ (h : Held g.row.D.Denot). Reads state c.args.self.now.store.log h) (sym links.log)
     lost.still.reads in
     fails_rmdir state c.args.self.now new store gone.draft.changes store.draft.changes
-    c.args.entry.number c.args.directory c.args.entry.holder lost.lost.removes links.done refl reads
+    c.args.entry.number.value c.args.directory.value c.args.entry.holder lost.lost.removes links.done refl reads
     c.args.name.now c.in-Err-take.fault (reads.halted ∙ c.requires.running)
     (λ device. subst (λ (h : Header). IsDirectoryFault (files_of state store) (files_of state files)
-    c.args.directory h) links.header (failed.failed device))
+    c.args.directory.value h) links.header (failed.failed device))
     (λ on. failed.halted (ap Err on)) (λ full. failed.other (ap Err full)) c.from.result
     c.from.ensures
 
@@ -145,5 +145,5 @@ returns-in-Ok-true-clause-small g c =
     let mid = c.drop_subdirectory.new.self.store in
     grows_then c.args.self.now.store.draft.changes mid.draft.changes c.take.new.files.draft.changes 1 0 2 2
     (grows_then c.args.self.now.store.draft.changes gone mid.draft.changes 0 0 1 0 c.in-Ok.ensures.small c.in-Ok-drop_subdirectory.ensures.small)
-    (takes_grow g.D.SectorDevice.state mid c.take.new.files c.args.directory c.in-Ok-drop_subdirectory.holder c.args.name.now
+    (takes_grow g.D.SectorDevice.state mid c.take.new.files c.args.directory.value c.in-Ok-drop_subdirectory.holder c.args.name.now
     (c.in-Ok-true.ensures.done c.in-Ok-true.field-0-test))

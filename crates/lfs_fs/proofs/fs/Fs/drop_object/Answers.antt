@@ -33,4 +33,4 @@ returns-in-Err-clause-refused g c =
 
 pub returns-in-Ok-clause-small : goal.returns-in-Ok-clause-small
 returns-in-Ok-clause-small g c =
-    removes_grows c.args.self.now.store.draft.changes c.remove.new.self.draft.changes c.args.number c.in-Ok.ensures.done
+    removes_grows c.args.self.now.store.draft.changes c.remove.new.self.draft.changes c.args.number.value c.in-Ok.ensures.done

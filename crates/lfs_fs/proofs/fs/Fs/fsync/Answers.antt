@@ -17,4 +17,4 @@ pub returns : goal.returns
 returns g c =
     begun g.D.SectorDevice.state g.met.D.SectorDevice.lawful c.args.self.now c.begin.new.self c.sync.new.self _ _ c.in-Ok.ensures.done
     (fsync_serves g.D.SectorDevice.state (seen c.begin.new.self) (seen c.sync.new.self) (still_running g.D.SectorDevice.state g.met.D.SectorDevice.lawful c.args.self.now c.begin.new.self c.in-Ok.ensures.done)
-    c.args.handle c.in-Ok-file.field-0 c.in-Ok-file.ensures.opens _ c.sync.ensures)
+    c.args.handle c.in-Ok-file.field-0.value c.in-Ok-file.ensures.opens _ c.sync.ensures)

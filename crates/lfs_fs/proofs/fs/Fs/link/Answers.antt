@@ -37,10 +37,10 @@ returns-in-Ok-parent g c =
     (c.link_from.ensures (seen c.begin.new.self) c.args.from.now
     (reaches state g.met.D.SectorDevice.lawful c.args.self.now c.begin.new.self begun
     c.parent.new.files reads walk.reads.saved totals walk.reads.draft drafted
-    c.args.from.now (bytes_of c.args.from.now c.type_inv.from) c.directory.result
+    c.args.from.now (bytes_of c.args.from.now c.type_inv.from) c.directory.result.value
     c.in-Ok-parent.place.last walk.last
     (ends_parent state c.begin.new.self.store c.parent.new.files c.args.from.now
-    c.in-Ok-parent.place.chain c.directory.result c.directory.ensures.value walk.answer)))
+    c.in-Ok-parent.place.chain c.directory.result.value c.directory.ensures.value walk.answer)))
 
 pub returns-in-Err-parent : goal.returns-in-Err-parent
 returns-in-Err-parent g c =

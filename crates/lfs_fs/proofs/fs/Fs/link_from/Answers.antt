@@ -14,26 +14,19 @@ use Rattle.lfs_store.specs.declared.draft.Draft.{Draft}
 use Rattle.lfs_store.specs.memory.Batch.{IsNoChange}
 use Rattle.lfs_fs.proofs.fs.Fs.link_from.Goals as goal
 
-pub returns-then-directory-eq0 : goal.returns-then-directory-eq0
-returns-then-directory-eq0 g c v from reached =
-    zero_device g.D.SectorDevice.state g.met.D.SectorDevice.lawful v c.args.self.now from
-    c.args.directory (LinkTo from c.args.to.now)
-    (link_call (segments_of v) from c.args.to.now c.args.directory) c.args.last reached
-    c.requires.running c.if-directory-eq0.true
-
 -- the path has no piece
 pub returns-in_default : goal.returns-in_default
 returns-in_default g c v from reached =
     no_piece_perm g.D.SectorDevice.state g.met.D.SectorDevice.lawful v c.args.self.now from
-    c.args.directory (LinkTo from c.args.to.now)
-    (link_call (segments_of v) from c.args.to.now c.args.directory) c.args.last reached
+    c.args.directory.value (LinkTo from c.args.to.now)
+    (link_call (segments_of v) from c.args.to.now c.args.directory.value) c.args.last reached
     c.requires.running c.in_default.is
 
 pub returns-in-Err : goal.returns-in-Err
 returns-in-Err g c v from reached =
     entry_refused g.D.SectorDevice.state g.met.D.SectorDevice.lawful v c.args.self.now from
-    c.args.directory (LinkTo from c.args.to.now)
-    (link_call (segments_of v) from c.args.to.now c.args.directory) c.args.last reached
+    c.args.directory.value (LinkTo from c.args.to.now)
+    (link_call (segments_of v) from c.args.to.now c.args.directory.value) c.args.last reached
     c.requires.running
     c.in-Some.last c.in-Some.is c.check_old_entry.new.self c.in-Err.ensures.reads c.in-Err.fault
     c.in-Err.ensures.refused
@@ -50,17 +43,17 @@ returns-in-Ok-parent g c v from reached =
     (log_reads state mid.store c.parent.new.files walk.reads) walk.reads.draft walk.reads.saved
     (same_totals state mid.store c.parent.new.files walk.reads)
     (same_drafted state mid.store c.parent.new.files walk.reads) refl in
-    c.link_to.ensures v from c.args.to.now c.args.directory
-    (sees_object state g.met.D.SectorDevice.lawful v c.args.self.now from c.args.directory
+    c.link_to.ensures v from c.args.to.now c.args.directory.value
+    (sees_object state g.met.D.SectorDevice.lawful v c.args.self.now from c.args.directory.value
     c.args.last reached c.requires.running c.in-Some.last c.in-Some.is mid c.in-Ok.ensures.reads
-    entry.holder entry.number entry.header c.in-Ok.ensures.has next later)
-    (second_reaches state g.met.D.SectorDevice.lawful v c.args.self.now from c.args.directory
+    entry.holder entry.number.value entry.header c.in-Ok.ensures.has next later)
+    (second_reaches state g.met.D.SectorDevice.lawful v c.args.self.now from c.args.directory.value
     c.args.last reached c.requires.running c.in-Some.last c.in-Some.is mid c.in-Ok.ensures.reads
-    entry.holder entry.number entry.header c.in-Ok.ensures.has next later
-    c.args.to.now (bytes_of c.args.to.now c.type_inv.to) c.directory.result
+    entry.holder entry.number.value entry.header c.in-Ok.ensures.has next later
+    c.args.to.now (bytes_of c.args.to.now c.type_inv.to) c.directory.result.value
     c.in-Ok-parent.place.last walk.last
     (ends_parent state mid.store c.parent.new.files c.args.to.now
-    c.in-Ok-parent.place.chain c.directory.result c.directory.ensures.value walk.answer))
+    c.in-Ok-parent.place.chain c.directory.result.value c.directory.ensures.value walk.answer))
 
 pub returns-in-Err-parent : goal.returns-in-Err-parent
 returns-in-Err-parent g c v from reached =
@@ -74,9 +67,9 @@ returns-in-Err-parent g c v from reached =
     (log_reads state mid.store c.parent.new.files walk.reads) walk.reads.draft walk.reads.saved
     (same_totals state mid.store c.parent.new.files walk.reads)
     (same_drafted state mid.store c.parent.new.files walk.reads) refl in
-    second_ends state g.met.D.SectorDevice.lawful v c.args.self.now from c.args.directory
+    second_ends state g.met.D.SectorDevice.lawful v c.args.self.now from c.args.directory.value
     c.args.last reached c.requires.running c.in-Some.last c.in-Some.is mid c.in-Ok.ensures.reads
-    entry.holder entry.number entry.header c.in-Ok.ensures.has next later
+    entry.holder entry.number.value entry.header c.in-Ok.ensures.has next later
     c.args.to.now c.in-Err-parent.fault c.from.result c.from.ensures
     (ends_refused state mid.store c.parent.new.files (EndsParent c.args.to.now)
     c.in-Err-parent.fault walk.refused) (λ e. walk.halted (ap Err e)) (λ e. walk.other (ap Err e))

@@ -6,23 +6,17 @@ use Rattle.std.proofs.Common.{arith}
 use Rattle.lfs_fs.proofs.GrownDrafts.{begun_fits}
 use Rattle.lfs_fs.proofs.fs.Fs.link_to.Goals as goal
 
-pub returns-then-directory-eq0 : goal.returns-then-directory-eq0
-returns-then-directory-eq0 g c v from to holder sees reached =
-    link_zero g.D.SectorDevice.state g.met.D.SectorDevice.lawful v c.args.self.now from to holder
-    c.args.number c.args.header sees c.args.directory c.args.last reached c.requires.running
-    c.if-directory-eq0.true
-
 -- the path has no piece
 pub returns-in_default : goal.returns-in_default
 returns-in_default g c v from to holder sees reached =
     link_no_piece g.D.SectorDevice.state g.met.D.SectorDevice.lawful v c.args.self.now from to
-    holder c.args.number c.args.header sees c.args.directory c.args.last reached c.requires.running
+    holder c.args.number.value c.args.header sees c.args.directory.value c.args.last reached c.requires.running
     c.in_default.is
 
 pub returns-in-Err : goal.returns-in-Err
 returns-in-Err g c v from to holder sees reached =
     link_entry_refused g.D.SectorDevice.state g.met.D.SectorDevice.lawful v c.args.self.now from to
-    holder c.args.number c.args.header sees c.args.directory c.args.last reached c.requires.running
+    holder c.args.number.value c.args.header sees c.args.directory.value c.args.last reached c.requires.running
     c.in-Some.last c.in-Some.is c.check_new_entry.new.self c.in-Err.ensures.reads c.in-Err.fault
     c.in-Err.ensures.refused
 
@@ -30,14 +24,14 @@ returns-in-Err g c v from to holder sees reached =
 pub returns-then-header-ge-MOST_LINKS : goal.returns-then-header-ge-MOST_LINKS
 returns-then-header-ge-MOST_LINKS g c v from to holder sees reached =
     link_many_refused g.D.SectorDevice.state g.met.D.SectorDevice.lawful v c.args.self.now from to
-    holder c.args.number c.args.header sees c.args.directory c.args.last reached c.requires.running
+    holder c.args.number.value c.args.header sees c.args.directory.value c.args.last reached c.requires.running
     c.in-Some.last c.in-Some.is c.check_new_entry.new.self c.in-Ok.ensures.reads c.in-Ok.holder
     c.in-Ok.ensures.taken c.if-header-ge-MOST_LINKS.true
 
 pub returns-in-Ok-draft_name : goal.returns-in-Ok-draft_name
 returns-in-Ok-draft_name g c v from to holder sees reached =
     link_ends g.D.SectorDevice.state g.met.D.SectorDevice.lawful v c.args.self.now
-    c.check_new_entry.new.self from to holder c.args.number c.args.header sees c.args.directory
+    c.check_new_entry.new.self from to holder c.args.number.value c.args.header sees c.args.directory.value
     c.args.last reached c.requires.running
     c.in-Some.last c.in-Some.is c.in-Ok.ensures.reads c.in-Ok.holder c.in-Ok.ensures.taken
     c.if-header-ge-MOST_LINKS.false
@@ -49,7 +43,7 @@ pub returns-in-Err-draft_name : goal.returns-in-Err-draft_name
 returns-in-Err-draft_name g c v from to holder sees reached =
     let tried : Fs g.row.D.Denot = c.draft_name.new.self in
     undrafted_ends g.D.SectorDevice.state g.met.D.SectorDevice.lawful v c.args.self.now
-    c.check_new_entry.new.self from to holder c.args.number c.args.header sees c.args.directory
+    c.check_new_entry.new.self from to holder c.args.number.value c.args.header sees c.args.directory.value
     c.args.last reached c.requires.running
     c.in-Some.last c.in-Some.is c.in-Ok.ensures.reads c.in-Ok.holder c.in-Ok.ensures.taken
     c.if-header-ge-MOST_LINKS.false

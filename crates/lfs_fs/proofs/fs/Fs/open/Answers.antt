@@ -25,7 +25,7 @@ returns-in-Ok-resolve g c =
     let first = store_reads state c.begin.new.self mid (log_reads state c.begin.new.self.store c.resolve.new.files walk.reads) walk.reads.draft walk.reads.saved (same_totals state c.begin.new.self.store c.resolve.new.files walk.reads) (same_drafted state c.begin.new.self.store c.resolve.new.files walk.reads) refl in
     begun_serves state c.args.self.now c.begin.new.self (seen c.open_number.new.self) (Open c.args.path.now) (answer_by Handle c.open_number.result) begun
     (open_ends state g.met.D.SectorDevice.lawful c.begin.new.self mid (begun_running state c.args.self.now c.begin.new.self begun) begun.empty first c.args.path.now
-    c.in-Ok-resolve.number (each_drafted state c.begin.new.self.store c.resolve.new.files _ walk.answer) c.open_number.new.self c.open_number.result c.open_number.ensures.opened c.open_number.ensures.refused)
+    c.in-Ok-resolve.number.value (each_drafted state c.begin.new.self.store c.resolve.new.files _ walk.answer) c.open_number.new.self c.open_number.result c.open_number.ensures.opened c.open_number.ensures.refused)
 
 pub returns-in-Err-resolve : goal.returns-in-Err-resolve
 returns-in-Err-resolve g c =

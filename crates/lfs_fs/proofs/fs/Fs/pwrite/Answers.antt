@@ -17,22 +17,22 @@ pub returns-then-bytes : goal.returns-then-bytes
 returns-then-bytes g c =
     begun g.D.SectorDevice.state g.met.D.SectorDevice.lawful c.args.self.now c.begin.new.self c.begin.new.self _ _ c.in-Ok.ensures.done
     (write_refused g.D.SectorDevice.state g.met.D.SectorDevice.lawful (seen c.begin.new.self) (still_running g.D.SectorDevice.state g.met.D.SectorDevice.lawful c.args.self.now c.begin.new.self c.in-Ok.ensures.done)
-    c.args.handle c.in-Ok-file.number c.in-Ok-file.ensures.opens c.args.offset c.args.bytes.now c.if-bytes.true)
+    c.args.handle c.in-Ok-file.number.value c.in-Ok-file.ensures.opens c.args.offset c.args.bytes.now c.if-bytes.true)
 
 pub returns-in-Ok-check_worn : goal.returns-in-Ok-check_worn
 returns-in-Ok-check_worn g c =
     begun g.D.SectorDevice.state g.met.D.SectorDevice.lawful c.args.self.now c.begin.new.self c.begin.new.self _ _ c.in-Ok.ensures.done
     (write_none g.D.SectorDevice.state g.met.D.SectorDevice.lawful (seen c.begin.new.self) (still_running g.D.SectorDevice.state g.met.D.SectorDevice.lawful c.args.self.now c.begin.new.self c.in-Ok.ensures.done)
-    c.args.handle c.in-Ok-file.number c.in-Ok-file.ensures.opens c.args.offset c.args.bytes.now (omega (arith, c.if-bytes.false)) (none_of (length c.args.bytes.now) (sym c.is_empty.ensures ∙ c.if-is_empty.true)) c.in-Ok-check_worn.ensures.young)
+    c.args.handle c.in-Ok-file.number.value c.in-Ok-file.ensures.opens c.args.offset c.args.bytes.now (omega (arith, c.if-bytes.false)) (none_of (length c.args.bytes.now) (sym c.is_empty.ensures ∙ c.if-is_empty.true)) c.in-Ok-check_worn.ensures.young)
 
 pub returns-in-Err-check_worn : goal.returns-in-Err-check_worn
 returns-in-Err-check_worn g c =
     begun g.D.SectorDevice.state g.met.D.SectorDevice.lawful c.args.self.now c.begin.new.self c.begin.new.self _ _ c.in-Ok.ensures.done
     (write_none_worn g.D.SectorDevice.state g.met.D.SectorDevice.lawful (seen c.begin.new.self) (still_running g.D.SectorDevice.state g.met.D.SectorDevice.lawful c.args.self.now c.begin.new.self c.in-Ok.ensures.done)
-    c.args.handle c.in-Ok-file.number c.in-Ok-file.ensures.opens c.args.offset c.args.bytes.now (omega (arith, c.if-bytes.false)) (none_of (length c.args.bytes.now) (sym c.is_empty.ensures ∙ c.if-is_empty.true)) c.in-Err-check_worn.fault c.in-Err-check_worn.ensures.fault c.in-Err-check_worn.ensures.old)
+    c.args.handle c.in-Ok-file.number.value c.in-Ok-file.ensures.opens c.args.offset c.args.bytes.now (omega (arith, c.if-bytes.false)) (none_of (length c.args.bytes.now) (sym c.is_empty.ensures ∙ c.if-is_empty.true)) c.in-Err-check_worn.fault c.in-Err-check_worn.ensures.fault c.in-Err-check_worn.ensures.old)
 
 pub returns-then-offset-len : goal.returns-then-offset-len
 returns-then-offset-len g c =
     begun g.D.SectorDevice.state g.met.D.SectorDevice.lawful c.args.self.now c.begin.new.self c.begin.new.self _ _ c.in-Ok.ensures.done
     (write_past g.D.SectorDevice.state g.met.D.SectorDevice.lawful (seen c.begin.new.self) (still_running g.D.SectorDevice.state g.met.D.SectorDevice.lawful c.args.self.now c.begin.new.self c.in-Ok.ensures.done)
-    c.args.handle c.in-Ok-file.number c.in-Ok-file.ensures.opens c.args.offset c.args.bytes.now (omega (arith, c.if-bytes.false)) (some_of (length c.args.bytes.now) (sym c.is_empty.ensures ∙ c.if-is_empty.false)) (omega (arith, c.if-offset-len.true)))
+    c.args.handle c.in-Ok-file.number.value c.in-Ok-file.ensures.opens c.args.offset c.args.bytes.now (omega (arith, c.if-bytes.false)) (some_of (length c.args.bytes.now) (sym c.is_empty.ensures ∙ c.if-is_empty.false)) (omega (arith, c.if-offset-len.true)))

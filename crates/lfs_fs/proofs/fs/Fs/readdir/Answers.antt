@@ -25,7 +25,7 @@ returns-in-Ok-resolve g c =
     let first = store_reads state c.begin.new.self mid (log_reads state c.begin.new.self.store c.resolve.new.files walk.reads) walk.reads.draft walk.reads.saved (same_totals state c.begin.new.self.store c.resolve.new.files walk.reads) (same_drafted state c.begin.new.self.store c.resolve.new.files walk.reads) refl in
     begun_serves state c.args.self.now c.begin.new.self (seen c.entries_at.new.self) (Readdir c.args.path.now) (answer_by (λ entries. Entries (map entry_of entries.items)) c.entries_at.result) begun
     (readdir_ends state c.begin.new.self mid (g.met.D.SectorDevice.lawful c.begin.new.self.store.log.device) (begun_running state c.args.self.now c.begin.new.self begun) begun.empty first c.args.path.now
-    c.in-Ok-resolve.number (each_drafted state c.begin.new.self.store c.resolve.new.files _ walk.answer) c.entries_at.new.self c.entries_at.ensures.reads c.entries_at.result c.entries_at.ensures.answer c.entries_at.ensures.missing)
+    c.in-Ok-resolve.number.value (each_drafted state c.begin.new.self.store c.resolve.new.files _ walk.answer) c.entries_at.new.self c.entries_at.ensures.reads c.entries_at.result c.entries_at.ensures.answer c.entries_at.ensures.missing)
 
 pub returns-in-Err-resolve : goal.returns-in-Err-resolve
 returns-in-Err-resolve g c =

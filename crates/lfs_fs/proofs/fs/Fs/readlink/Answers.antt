@@ -24,7 +24,7 @@ returns-in-Ok-resolve g c =
     let first = store_reads state c.begin.new.self mid (log_reads state c.begin.new.self.store c.resolve.new.files walk.reads) walk.reads.draft walk.reads.saved (same_totals state c.begin.new.self.store c.resolve.new.files walk.reads) (same_drafted state c.begin.new.self.store c.resolve.new.files walk.reads) refl in
     begun_serves state c.args.self.now c.begin.new.self (seen c.text_of.new.self) (Readlink c.args.path.now) (answer_by (λ text. Text text.items) c.text_of.result) begun
     (readlink_ends state c.begin.new.self mid (g.met.D.SectorDevice.lawful c.begin.new.self.store.log.device) (begun_running state c.args.self.now c.begin.new.self begun) begun.empty first c.args.path.now
-    c.in-Ok-resolve.number (each_drafted state c.begin.new.self.store c.resolve.new.files _ walk.answer) c.text_of.new.self c.text_of.ensures.reads c.text_of.result c.text_of.ensures.answer c.text_of.ensures.missing)
+    c.in-Ok-resolve.number.value (each_drafted state c.begin.new.self.store c.resolve.new.files _ walk.answer) c.text_of.new.self c.text_of.ensures.reads c.text_of.result c.text_of.ensures.answer c.text_of.ensures.missing)
 
 pub returns-in-Err-resolve : goal.returns-in-Err-resolve
 returns-in-Err-resolve g c =

@@ -22,7 +22,7 @@ returns-in-Ok g c v from reached =
     (same_totals state old.store c.parent.new.files walk.reads)
     (same_drafted state old.store c.parent.new.files walk.reads) refl in
     c.rename_at.ensures v from c.args.to.now
-    (reaches_both state g.met.D.SectorDevice.lawful v old from c.args.directory c.args.last
+    (reaches_both state g.met.D.SectorDevice.lawful v old from c.args.directory.value c.args.last
     reached c.requires.running next later
     c.args.to.now (bytes_of c.args.to.now c.type_inv.to) c.in-Ok.place.chain c.in-Ok.place.last
     walk.last
@@ -39,7 +39,7 @@ returns-in-Err g c v from reached =
     (log_reads state old.store c.parent.new.files walk.reads) walk.reads.draft walk.reads.saved
     (same_totals state old.store c.parent.new.files walk.reads)
     (same_drafted state old.store c.parent.new.files walk.reads) refl in
-    second_ends state g.met.D.SectorDevice.lawful v old from c.args.directory c.args.last
+    second_ends state g.met.D.SectorDevice.lawful v old from c.args.directory.value c.args.last
     reached c.requires.running next later
     c.args.to.now c.in-Err.fault c.from.result c.from.ensures
     (ends_refused state old.store c.parent.new.files (EndsParent c.args.to.now)

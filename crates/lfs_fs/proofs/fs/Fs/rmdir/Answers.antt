@@ -31,10 +31,10 @@ returns-in-Ok-parent g c =
     (c.rmdir_at.ensures (seen c.begin.new.self) c.args.path.now
     (reaches state g.met.D.SectorDevice.lawful c.args.self.now c.begin.new.self begun
     c.parent.new.files reads walk.reads.saved totals walk.reads.draft drafted
-    c.args.path.now (bytes_of c.args.path.now c.type_inv.path) c.directory.result
+    c.args.path.now (bytes_of c.args.path.now c.type_inv.path) c.directory.result.value
     c.in-Ok-parent.place.last walk.last
     (ends_parent state c.begin.new.self.store c.parent.new.files c.args.path.now
-    c.in-Ok-parent.place.chain c.directory.result c.directory.ensures.value walk.answer)))
+    c.in-Ok-parent.place.chain c.directory.result.value c.directory.ensures.value walk.answer)))
 
 pub returns-in-Err-parent : goal.returns-in-Err-parent
 returns-in-Err-parent g c =

@@ -12,17 +12,12 @@ use Rattle.lfs_fs.proofs.fs.Fs.rmdir_at.Goals as goal
 pub returns-in_default : goal.returns-in_default
 returns-in_default g c v path reached =
     root_busy g.D.SectorDevice.state g.met.D.SectorDevice.lawful v c.args.self.now path
-    c.args.directory c.args.last reached c.requires.running c.in_default.is
-
-pub returns-then-directory-eq0 : goal.returns-then-directory-eq0
-returns-then-directory-eq0 g c v path reached =
-    number_zero g.D.SectorDevice.state g.met.D.SectorDevice.lawful v c.args.self.now path
-    c.args.directory c.args.last reached c.requires.running c.if-directory-eq0.true
+    c.args.directory.value c.args.last reached c.requires.running c.in_default.is
 
 pub returns-in-Err : goal.returns-in-Err
 returns-in-Err g c v path reached =
     empty_refused g.D.SectorDevice.state g.met.D.SectorDevice.lawful v c.args.self.now path
-    c.args.directory c.args.last reached c.requires.running c.in-Some.last c.in-Some.is
+    c.args.directory.value c.args.last reached c.requires.running c.in-Some.last c.in-Some.is
     c.check_empty.new.self c.in-Err.ensures.reads c.in-Err.fault c.in-Err.ensures.refused
 
 pub draft_rmdir-requires-clause-running : goal.draft_rmdir-requires-clause-running
@@ -47,8 +42,8 @@ accept-requires-clause-room g c =
 pub returns-in-Ok-draft_rmdir : goal.returns-in-Ok-draft_rmdir
 returns-in-Ok-draft_rmdir g c v path reached =
     rmdir_ends g.D.SectorDevice.state g.met.D.SectorDevice.lawful v c.args.self.now
-    c.check_empty.new.self path c.args.directory c.args.last reached c.requires.running
-    c.in-Some.last c.in-Some.is c.in-Ok.ensures.reads c.in-Ok.entry.holder c.in-Ok.entry.number
+    c.check_empty.new.self path c.args.directory.value c.args.last reached c.requires.running
+    c.in-Some.last c.in-Some.is c.in-Ok.ensures.reads c.in-Ok.entry.holder c.in-Ok.entry.number.value
     c.in-Ok.entry.header c.in-Ok.ensures.has c.draft_rmdir.new.self
     c.in-Ok-draft_rmdir.ensures.still c.in-Ok-draft_rmdir.ensures.drafted c.accept.new.self
     c.accept.ensures.rest c.accept.result c.accept.ensures.done c.accept.ensures.refused
@@ -56,8 +51,8 @@ returns-in-Ok-draft_rmdir g c v path reached =
 pub returns-in-Err-draft_rmdir : goal.returns-in-Err-draft_rmdir
 returns-in-Err-draft_rmdir g c v path reached =
     rmdir_undrafted g.D.SectorDevice.state g.met.D.SectorDevice.lawful v c.args.self.now
-    c.check_empty.new.self path c.args.directory c.args.last reached c.requires.running
-    c.in-Some.last c.in-Some.is c.in-Ok.ensures.reads c.in-Ok.entry.holder c.in-Ok.entry.number
+    c.check_empty.new.self path c.args.directory.value c.args.last reached c.requires.running
+    c.in-Some.last c.in-Some.is c.in-Ok.ensures.reads c.in-Ok.entry.holder c.in-Ok.entry.number.value
     c.in-Ok.entry.header c.in-Ok.ensures.has c.draft_rmdir.new.self
     c.in-Err-draft_rmdir.ensures.still
     (seen record {

@@ -21,7 +21,7 @@ returns-in-Ok-clause-answer g c =
     let listed : Fs g.row.D.Denot = record { alloc = c.args.self.now.alloc; store = c.list.new.files; handles = c.args.self.now.handles } in
     let first = store_reads state c.args.self.now listed (log_reads state c.args.self.now.store c.list.new.files list.reads) list.reads.draft list.reads.saved (same_totals state c.args.self.now.store c.list.new.files list.reads) (same_drafted state c.args.self.now.store c.list.new.files list.reads) refl in
     answer_then c.entry_rows.result _ _
-    (λ rows told. directory_tells state c.args.self.now listed first c.args.directory c.args.header c.in-Ok.entries.items (each_drafted state c.args.self.now.store c.list.new.files _ list.answer) c.entry_rows.new.self c.entry_rows.ensures.reads rows.items told)
+    (λ rows told. directory_tells state c.args.self.now listed first c.args.directory.value c.args.header c.in-Ok.entries.items (each_drafted state c.args.self.now.store c.list.new.files _ list.answer) c.entry_rows.new.self c.entry_rows.ensures.reads rows.items told)
     c.entry_rows.ensures.answer
 
 pub returns-in-Ok-clause-missing : goal.returns-in-Ok-clause-missing
@@ -31,7 +31,7 @@ returns-in-Ok-clause-missing g c =
     let listed : Fs g.row.D.Denot = record { alloc = c.args.self.now.alloc; store = c.list.new.files; handles = c.args.self.now.handles } in
     let first = store_reads state c.args.self.now listed (log_reads state c.args.self.now.store c.list.new.files list.reads) list.reads.draft list.reads.saved (same_totals state c.args.self.now.store c.list.new.files list.reads) (same_drafted state c.args.self.now.store c.list.new.files list.reads) refl in
     fault_then c.entry_rows.result _ _
-    (λ fault lacks. directory_lacks state c.args.self.now listed first c.args.directory c.args.header c.in-Ok.entries.items (each_drafted state c.args.self.now.store c.list.new.files _ list.answer) c.entry_rows.new.self c.entry_rows.ensures.reads fault lacks)
+    (λ fault lacks. directory_lacks state c.args.self.now listed first c.args.directory.value c.args.header c.in-Ok.entries.items (each_drafted state c.args.self.now.store c.list.new.files _ list.answer) c.entry_rows.new.self c.entry_rows.ensures.reads fault lacks)
     c.entry_rows.ensures.missing
 
 pub returns-in-Err-clause-reads : goal.returns-in-Err-clause-reads
@@ -47,5 +47,5 @@ returns-in-Err-clause-missing g c =
     let list = c.in-Err.ensures in
     let listed : Fs g.row.D.Denot = record { alloc = c.args.self.now.alloc; store = c.list.new.files; handles = c.args.self.now.handles } in
     let first = store_reads state c.args.self.now listed (log_reads state c.args.self.now.store c.list.new.files list.reads) list.reads.draft list.reads.saved (same_totals state c.args.self.now.store c.list.new.files list.reads) (same_drafted state c.args.self.now.store c.list.new.files list.reads) refl in
-    list_lacks state c.args.self.now listed first c.args.directory c.args.header c.in-Err.fault c.from.result c.from.ensures
+    list_lacks state c.args.self.now listed first c.args.directory.value c.args.header c.in-Err.fault c.from.result c.from.ensures
     (λ other. each_drafted state c.args.self.now.store c.list.new.files _ (list.failed other)) (λ e. list.halted (ap Err e)) (λ e. list.other (ap Err e))

@@ -26,7 +26,7 @@ returns-in-Ok-resolve g c =
     let first = store_reads state c.begin.new.self mid (log_reads state c.begin.new.self.store c.resolve.new.files walk.reads) walk.reads.draft walk.reads.saved (same_totals state c.begin.new.self.store c.resolve.new.files walk.reads) (same_drafted state c.begin.new.self.store c.resolve.new.files walk.reads) refl in
     begun_serves state c.args.self.now c.begin.new.self (seen c.stat_of.new.self) (stat_call c.args.follow c.args.path.now) (answer_by (λ stat. Status (status_of stat)) c.stat_of.result) begun
     (stat_ends state c.begin.new.self mid (g.met.D.SectorDevice.lawful c.begin.new.self.store.log.device) (begun_running state c.args.self.now c.begin.new.self begun) begun.empty first c.args.path.now c.args.follow
-    c.in-Ok-resolve.number (each_drafted state c.begin.new.self.store c.resolve.new.files _ walk.answer) c.stat_of.new.self c.stat_of.ensures.reads c.stat_of.result c.stat_of.ensures.answer c.stat_of.ensures.missing)
+    c.in-Ok-resolve.number.value (each_drafted state c.begin.new.self.store c.resolve.new.files _ walk.answer) c.stat_of.new.self c.stat_of.ensures.reads c.stat_of.result c.stat_of.ensures.answer c.stat_of.ensures.missing)
 
 pub returns-in-Err-resolve : goal.returns-in-Err-resolve
 returns-in-Err-resolve g c =

@@ -35,8 +35,8 @@ returns-in-Ok-parent g c =
     begun_serves state c.args.self.now c.begin.new.self (seen c.symlink_at.new.self) (Symlink c.args.text.now c.args.path.now) (answer_by (λ _. Done) c.symlink_at.result) begun
     (c.symlink_at.ensures (seen c.begin.new.self) c.args.path.now
     (reaches state g.met.D.SectorDevice.lawful c.args.self.now c.begin.new.self begun c.parent.new.files reads walk.reads.saved totals walk.reads.draft drafted
-    c.args.path.now (bytes_of c.args.path.now c.type_inv.path) c.directory.result c.in-Ok-parent.place.last walk.last
-    (ends_parent state c.begin.new.self.store c.parent.new.files c.args.path.now c.in-Ok-parent.place.chain c.directory.result c.directory.ensures.value walk.answer)))
+    c.args.path.now (bytes_of c.args.path.now c.type_inv.path) c.directory.result.value c.in-Ok-parent.place.last walk.last
+    (ends_parent state c.begin.new.self.store c.parent.new.files c.args.path.now c.in-Ok-parent.place.chain c.directory.result.value c.directory.ensures.value walk.answer)))
 
 pub returns-in-Err-parent : goal.returns-in-Err-parent
 returns-in-Err-parent g c =

@@ -16,4 +16,4 @@ pub returns-then-len-gt-LARGEST_FILE : goal.returns-then-len-gt-LARGEST_FILE
 returns-then-len-gt-LARGEST_FILE g c =
     begun g.D.SectorDevice.state g.met.D.SectorDevice.lawful c.args.self.now c.begin.new.self c.begin.new.self _ _ c.in-Ok.ensures.done
     (cut_refused g.D.SectorDevice.state g.met.D.SectorDevice.lawful (seen c.begin.new.self) (still_running g.D.SectorDevice.state g.met.D.SectorDevice.lawful c.args.self.now c.begin.new.self c.in-Ok.ensures.done)
-    c.args.handle c.in-Ok-file.number c.in-Ok-file.ensures.opens c.args.len c.if-len-gt-LARGEST_FILE.true)
+    c.args.handle c.in-Ok-file.number.value c.in-Ok-file.ensures.opens c.args.len c.if-len-gt-LARGEST_FILE.true)

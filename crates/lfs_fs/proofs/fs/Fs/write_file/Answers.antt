@@ -9,13 +9,13 @@ use Rattle.lfs_fs.proofs.fs.Fs.write_file.Goals as goal
 
 pub returns-in-Err : goal.returns-in-Err
 returns-in-Err g c handle opens few =
-    headerless_serves g.D.SectorDevice.state g.met.D.SectorDevice.lawful c.args.self.now c.header.new.self _ handle c.args.number opens c.requires.running c.requires.empty
+    headerless_serves g.D.SectorDevice.state g.met.D.SectorDevice.lawful c.args.self.now c.header.new.self _ handle c.args.number.value opens c.requires.running c.requires.empty
     c.in-Err.ensures.reads.still refl c.in-Err.fault c.in-Err.ensures.missing
 
 pub returns-in-Ok-write_at : goal.returns-in-Ok-write_at
 returns-in-Ok-write_at g c handle opens few =
     write_ends g.D.SectorDevice.state g.met.D.SectorDevice.lawful c.args.self.now c.header.new.self record { alloc = c.header.new.self.alloc; store = c.write_at.new.self; handles = c.header.new.self.handles }
-    handle c.args.number opens c.requires.running c.requires.empty c.requires.counted c.in-Ok.ensures.reads c.in-Ok.header c.in-Ok.ensures.answer
+    handle c.args.number.value opens c.requires.running c.requires.empty c.requires.counted c.in-Ok.ensures.reads c.in-Ok.header c.in-Ok.ensures.answer
     record {
       reads = c.in-Ok-write_at.ensures.reads;
       saved = c.in-Ok-write_at.ensures.saved;

@@ -19,4 +19,4 @@ pub returns-clause-answer : goal.returns-clause-answer
 returns-clause-answer g c =
     seen_block_then g.D.SectorDevice.state c.args.self.now.log c.block.new.self.log c.args.self.now.draft c.block.new.self.draft
     c.args.self.now.saved c.block.new.self.saved c.args.self.now.drafted c.block.new.self.drafted
-    c.args.number c.args.index c.block.new.out c.block.result c.block.array_long c.block.ensures.zeros c.block.ensures.answer
+    c.args.number.value c.args.index c.block.new.out c.block.result c.block.array_long c.block.ensures.zeros c.block.ensures.answer

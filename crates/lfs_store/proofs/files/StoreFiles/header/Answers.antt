@@ -20,4 +20,4 @@ returns-clause-answer g c =
     IfOk-weaker c.header.result _ _
     (seen_header g.D.SectorDevice.state c.args.self.now.log c.header.new.self.log c.args.self.now.draft c.header.new.self.draft
     c.args.self.now.saved c.header.new.self.saved c.args.self.now.drafted c.header.new.self.drafted
-    c.args.number) c.header.ensures.answer
+    c.args.number.value) c.header.ensures.answer

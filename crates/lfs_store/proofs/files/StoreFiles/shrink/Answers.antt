@@ -13,7 +13,7 @@ returns-clause-done g c =
     ok_then c.shrink.result _ _
     (seen_shrunk g.D.SectorDevice.state c.args.self.now.log c.shrink.new.self.log c.args.self.now.draft c.shrink.new.self.draft
     c.args.self.now.saved c.shrink.new.self.saved c.args.self.now.drafted c.shrink.new.self.drafted
-    c.args.number c.args.header c.args.len c.shrink.ensures.reads) c.shrink.ensures.done
+    c.args.number.value c.args.header c.args.len c.shrink.ensures.reads) c.shrink.ensures.done
 
 pub returns-clause-counted : goal.returns-clause-counted
 returns-clause-counted g c =

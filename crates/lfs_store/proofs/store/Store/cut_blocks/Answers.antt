@@ -8,7 +8,7 @@ use Rattle.lfs_store.proofs.store.Store.cut_blocks.Goals as goal
 
 pub returns-then-len-eq0-clause-done : goal.returns-then-len-eq0-clause-done
 returns-then-len-eq0-clause-done g c =
-    cuts_even g.D.SectorDevice.state c.args.self.now.log c.lose_blocks.new.self.log c.lose_blocks.new.self.draft.changes c.args.number c.args.len (search rules) c.lose_blocks.ensures.draft
+    cuts_even g.D.SectorDevice.state c.args.self.now.log c.lose_blocks.new.self.log c.lose_blocks.new.self.draft.changes c.args.number.value c.args.len (search rules) c.lose_blocks.ensures.draft
 
 pub returns-clause-failed : goal.returns-clause-failed
 returns-clause-failed g c =

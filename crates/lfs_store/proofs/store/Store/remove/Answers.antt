@@ -19,9 +19,9 @@ pub returns-in-Ok-recount-clause-counted : goal.returns-in-Ok-recount-clause-cou
 returns-in-Ok-recount-clause-counted g c =
     let state = g.D.SectorDevice.state in
     let next = subst (λ (l : Held _). Reads state c.measure.new.self.log l) (sym c.lose_file.ensures.log) (reads_none state c.measure.new.self.log) in
-    let again = subst (λ (t : BlockTotals). Remeasures state c.lose_file.new.self.log c.recount.new.self.log c.lose_file.new.self.draft.changes c.args.number 0 16624 c.in-Ok.measure t c.recount.new.self.drafted)
+    let again = subst (λ (t : BlockTotals). Remeasures state c.lose_file.new.self.log c.recount.new.self.log c.lose_file.new.self.draft.changes c.args.number.value 0 16624 c.in-Ok.measure t c.recount.new.self.drafted)
     (c.lose_file.ensures.drafted ∙ c.measure.ensures.reads.drafted) c.in-Ok-recount.ensures.done in
     subst (λ (d : Draft). Counts state c.args.self.now.log c.recount.new.self.log c.args.self.now.draft.changes d.changes c.args.self.now.drafted c.recount.new.self.drafted) (sym c.recount.ensures.draft)
-    (remove_counts state c.args.self.now.log c.measure.new.self.log c.lose_file.new.self.log c.recount.new.self.log c.args.self.now.draft.changes c.lose_file.new.self.draft.changes c.args.number c.in-Ok.measure
-    c.args.self.now.drafted c.recount.new.self.drafted c.requires.some c.requires.few c.measure.ensures.reads.log next c.recount.ensures.reads
+    (remove_counts state c.args.self.now.log c.measure.new.self.log c.lose_file.new.self.log c.recount.new.self.log c.args.self.now.draft.changes c.lose_file.new.self.draft.changes c.args.number.value c.in-Ok.measure
+    c.args.self.now.drafted c.recount.new.self.drafted c.args.number.some c.args.number.few c.measure.ensures.reads.log next c.recount.ensures.reads
     c.requires.empty c.in-Ok.ensures.answer c.lose_file.ensures.done again)

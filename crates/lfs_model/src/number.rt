@@ -1,0 +1,26 @@
+//! The number of a file.
+ghost use Rattle.std.specs.Prelude.{◌≡◌, ◌≤◌, IfSome, IfNone};
+
+/// The number of a file, 1 to 4,095.
+#[derive(Clone, Copy, Debug, PartialEq, Eq)]
+pub struct FileNumber {
+    pub value: u16,
+    ghost some: { 1 ≤ value },
+    ghost few: { value ≤ 4095 },
+}
+
+impl FileNumber {
+    /// The number of the root.
+    pub const ROOT: FileNumber = FileNumber { value: 1 };
+
+    /// This number, if a file may have it.
+    pub fn new(number: u16) -> Option<FileNumber>
+        ensures found { IfSome result (λ file. file.value ≡ number) }
+        ensures none { IfNone result (1 ≤ number → number ≤ 4095 → ⊥) }
+    {
+        if number == 0 || number > 4_095 {
+            return None;
+        }
+        Some(FileNumber { value: number })
+    }
+}
