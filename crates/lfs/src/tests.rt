@@ -479,8 +479,7 @@ const FIFTY: &[u8] = b"ok 50\n\
     1 y5 file 6 1 0 -\n1 y50 file 51 1 0 -\n1 y6 file 7 1 0 -\n1 y7 file 8 1 0 -\n\
     1 y8 file 9 1 0 -\n1 y9 file 10 1 0 -\n";
 
-// Each commit leaves an inode in a segment of its own. Of 64 segments at least 16 have to be clean
-// for a change: the cleaner sees to it.
+// The 50 commits of a run fill a few segments, for each goes on behind the last one.
 const MANY_FILES: &[Step] = &[
     Step::Says(&["lfs mkfs c.img --segments 72"], b"", 0, OK),
     Step::Fills("lfs run c.img", 50),

@@ -329,7 +329,7 @@ fn run(alloc: Global, segments: u32, seed: u32, steps: u32) -> Result<(), Wrong>
 
 #[test]
 fn random_changes_beside_a_plain_map(rt: HostRuntime) -> Result<(), Wrong> {
-    for (segments, steps, seeds) in [(64, 60, 3), (72, 60, 2), (1_024, 20, 2)] {
+    for (segments, steps, seeds) in [(64, 200, 4), (72, 200, 3), (1_024, 40, 2)] {
         for seed in 0..seeds {
             run(rt.alloc(), segments, seed, steps)?;
         }
