@@ -1,4 +1,4 @@
-ghost use Rattle.std.specs.Prelude.{◌<◌, ◌≤◌};
+ghost use Rattle.std.specs.Prelude.{◌<◌, ◌≤◌, ◌+◌, ◌*◌};
 ghost use Rattle.lfs_memory.specs.segments.Chunk.{IsOpenChunk};
 
 use crate::helpers::{Row, all_well, name};
@@ -28,6 +28,14 @@ fn fill(chunk: &mut ChunkWriter, usage: &mut Usage, count: u32) -> u32
     right
 }
 
+/// The first sector behind the chunk.
+fn end_of(chunk: &ChunkWriter, usage: &Usage) -> u32
+    requires { IsOpenChunk chunk.now usage.now }
+    ensures { chunk.now.segment * 64 + chunk.now.start + 2 < result }
+{
+    2 + 64 * chunk.segment() + u32::from(usage.state(chunk.segment()).used)
+}
+
 /// What the summary at a place of a segment names, if it is one: how many blocks, and the last
 /// one's index.
 fn named(device: &mut MemDevice, segment: u32, place: u32) -> Option<(usize, u32)>
@@ -54,7 +62,7 @@ fn write_chunk(
     let mut chunk = ChunkWriter::new();
     let segment = chunk.begin(usage, 5)?;
     let right = fill(&mut chunk, usage, count);
-    if chunk.is_empty() || 2 + 64 * chunk.segment() + 63 >= device.sectors() {
+    if chunk.is_empty() || end_of(&chunk, usage) >= device.sectors() {
         return None;
     }
     chunk.seal(device, usage).ok()?;
@@ -149,7 +157,7 @@ fn write_next(
     if fill(chunk, usage, count) != count || chunk.is_empty() {
         return None;
     }
-    if 2 + 64 * chunk.segment() + 63 >= device.sectors() {
+    if end_of(chunk, usage) >= device.sectors() {
         return None;
     }
     chunk.seal(device, usage).ok()

@@ -168,7 +168,11 @@ fn make_files(store: &mut Store<MemDevice>, end: u16) -> bool {
         if !draft_file(&mut store.draft, file, 1) || !draft_file(&mut store.draft, 100, 58) {
             return false;
         }
-        if store.draft.put_header(number_of(100), file_of(1, 29_696)).is_err() {
+        if store
+            .draft
+            .put_header(number_of(100), file_of(1, 29_696))
+            .is_err()
+        {
             return false;
         }
         if store.accept().is_err() || store.commit().is_err() {
