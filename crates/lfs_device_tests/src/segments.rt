@@ -62,7 +62,7 @@ fn write_chunk(
     let mut chunk = ChunkWriter::new();
     let segment = chunk.begin(usage, 5)?;
     let right = fill(&mut chunk, usage, count);
-    if chunk.is_empty() || end_of(&chunk, usage) >= device.sectors() {
+    if chunk.is_empty() || end_of(&chunk, usage) > device.sectors() {
         return None;
     }
     chunk.seal(device, usage).ok()?;
@@ -157,7 +157,7 @@ fn write_next(
     if fill(chunk, usage, count) != count || chunk.is_empty() {
         return None;
     }
-    if end_of(chunk, usage) >= device.sectors() {
+    if end_of(chunk, usage) > device.sectors() {
         return None;
     }
     chunk.seal(device, usage).ok()
