@@ -144,8 +144,7 @@ module _ (old new : UsageTable) (j : ℕ) (is : IsFilled old new j) where
       let e = is.address i in
       let le = was.0 in
       let size = ap length is.segments in
-      let inside = was.1 in
-      (
+      let inside = was.1 in (
         omega arith,
         omega arith,
         subst (λ (a : ℕ). IsUnkeptBy new a) (sym e) (subst (λ (x : List SegmentNumbers). (get_or x (segment_of (address_of old i)) no_segment).kept ≤ (address_of old i - 2) % 64) (sym is.segments) was.2),
