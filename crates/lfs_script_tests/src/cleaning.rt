@@ -10,8 +10,9 @@ const PIECES: usize = 16;
 
 const PIECE: usize = 65_536;
 
-/// Blocks that change, of those with an even number: 450 are a commit of at most eight segments.
-const CHANGES: u64 = 450;
+/// Blocks that change at a time, of every fourth: 380 and their leaves are one commit, of at most
+/// eight segments.
+const CHANGES: u64 = 380;
 
 /// No clean writes or reads so often.
 const MANY: u64 = 5_000;
