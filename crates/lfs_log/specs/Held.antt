@@ -98,8 +98,8 @@ name_code =
 
 abbrev pub chunk_code : Coded Chunk
 chunk_code =
-    code_by (ℕ × (ℕ × List BlockNameValue)) (coded× coded_ℕ (coded× coded_ℕ (coded_list name_code)))
-    (λ c. (c.segment, (c.start, c.names))) (λ p. record { segment = p.0; start = p.1.0; names = p.1.1 }) (λ _. refl)
+    code_by (ℕ × (ℕ × (Bool × List BlockNameValue))) (coded× coded_ℕ (coded× coded_ℕ (coded× coded_bool (coded_list name_code))))
+    (λ c. (c.segment, (c.start, (c.sealed, c.names)))) (λ p. record { segment = p.0; start = p.1.0; sealed = p.1.1.0; names = p.1.1.1 }) (λ _. refl)
 
 abbrev pub memory_code : Coded LogMemory
 memory_code =

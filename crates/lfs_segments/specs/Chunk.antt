@@ -1,14 +1,16 @@
 -- The chunk that is being filled. Chunks of blocks behind a summary are those of the Sprite LFS paper (1992, section 3.3), called partial segments there.
-use Rattle.std.specs.Prelude.{◌≡◌, ◌<◌, ◌≤◌, ◌+◌, ◌-◌, ◌/◌, ◌%◌, ◌==◌, cond, ℕ, suc, List, map, length, get_or}
+use Rattle.std.specs.Prelude.{◌≡◌, ◌<◌, ◌≤◌, ◌+◌, ◌-◌, ◌/◌, ◌%◌, ◌==◌, cond, ℕ, suc, Bool, List, map, length, get_or}
 use Rattle.lfs_model.specs.Entry.{Entry, entry_of}
 use Rattle.lfs_model.specs.Summary.{BlockNameValue, IsPlaced, no_block}
-use Rattle.lfs_segments.specs.Table.{UsageTable, used_of, kept_of}
+use Rattle.lfs_segments.specs.Table.{UsageTable, used_of, live_of, held_of, kept_of}
 
 pub record Chunk : Type 0 where
   -- the segment that it is written to
   pub segment : ℕ
   -- the place of its summary there
   pub start : ℕ
+  -- whether a chunk was written to the segment, behind which the next may begin
+  pub sealed : Bool
   -- the blocks that have a place in it
   pub names : List BlockNameValue
 
@@ -25,6 +27,13 @@ pub record IsOpenChunk (c : Chunk) (t : UsageTable) : Type 0 where
   pub inside : c.segment < length t.segments
   pub used : used_of t c.segment ≡ c.start + suc (length c.names)
   pub free : kept_of t c.segment ≤ c.start
+
+-- A chunk more may begin in segment s: a summary and a block have room behind what is in use, and
+-- something lives there or holds it.
+pub record TakesChunk (t : UsageTable) (s : ℕ) : Type 0 where
+  pub inside : s < length t.segments
+  pub some : 0 < live_of t s + held_of t s
+  pub room : used_of t s ≤ 62
 
 -- the acknowledged checkpoint needs nothing at an address
 abbrev pub IsUnkeptBy : UsageTable → ℕ → Type 0

@@ -1,11 +1,11 @@
 //! Chunks: a summary and the blocks behind it, in a clean segment or behind other chunks.
-ghost use Rattle.std.specs.Prelude.{◌≡◌, ◌≢◌, ◌<◌, ◌≤◌, ◌+◌, ◌-◌, ◌*◌, ◌/◌, ◌++◌, [], ◌∷◌, ℕ, suc, Some, true, length, IfSome, IfNone, OnOk, OnErr};
+ghost use Rattle.std.specs.Prelude.{◌≡◌, ◌≢◌, ◌<◌, ◌≤◌, ◌+◌, ◌-◌, ◌*◌, ◌/◌, ◌++◌, [], ◌∷◌, ℕ, suc, Some, true, false, length, IfSome, IfNone, OnOk, OnErr};
 ghost use Rattle.lfs_model.specs.Device.{put, MayWrite, CrashWrites, Carries, Elapses};
 ghost use Rattle.lfs_model.specs.Entry.{entries_in};
 ghost use Rattle.lfs_model.specs.Summary.{IsPlaced, summary_sector};
-ghost use Rattle.lfs_segments.specs.Table.{used_of, live_of, held_of};
-ghost use Rattle.lfs_segments.specs.Steps.{Begins, Notes};
-ghost use Rattle.lfs_segments.specs.Chunk.{IsOpenChunk, IsUnkeptBy, entries_of};
+ghost use Rattle.lfs_segments.specs.Table.{used_of};
+ghost use Rattle.lfs_segments.specs.Steps.{Begins, GoesOn, Notes, TakesSegment};
+ghost use Rattle.lfs_segments.specs.Chunk.{IsOpenChunk, IsUnkeptBy, TakesChunk, entries_of};
 
 use crate::usage::Usage;
 use arrayvec::ArrayVec;
@@ -30,15 +30,16 @@ impl Model for ChunkWriter {
 
     ghost Value = { Chunk };
 
-    ghost view = { λ c. record { segment = c.segment; start = c.start; names = c.names.items } };
+    ghost view = { λ c. record { segment = c.segment; start = c.start; sealed = c.is_sealed; names = c.names.items } };
 
     ghost invariant = { λ c. (c.segment < 1024) × (c.start ≤ 62) × IsChunk c.names.items };
 }
 
 impl ChunkWriter {
-    /// No chunk.
+    /// No chunk, and none that was written: the first one begins in a clean segment.
     pub fn new() -> ChunkWriter
-        ensures { result.names ≡ [] }
+        ensures names { result.names ≡ [] }
+        ensures sealed { result.sealed ≡ false }
     {
         ChunkWriter {
             segment: 0,
@@ -81,13 +82,13 @@ impl ChunkWriter {
         self.start as usize + self.names.len() == 63
     }
 
-    /// Whether a chunk may begin behind the last one, if there was one: its segment has room for a summary and a
-    /// block, and something lives there or holds it.
+    /// Whether a chunk may begin behind the last one, if there was one: its segment has room for a
+    /// summary and a block, and something lives there or holds it.
     fn may_go_on(&self, usage: &Usage) -> bool
-        ensures inside { result ≡ true → self.now.segment < length usage.now.segments }
-        ensures room { result ≡ true → used_of usage.now self.now.segment ≤ 62 }
-        ensures some { result ≡ true
-            → 0 < live_of usage.now self.now.segment + held_of usage.now self.now.segment }
+        ensures yes { result ≡ true → TakesChunk usage.now self.now.segment }
+        ensures no { result ≢ true → self.now.sealed ≡ true
+            → TakesChunk usage.now self.now.segment → ⊥ }
+        ensures sealed { result ≡ true → self.now.sealed ≡ true }
     {
         if !self.is_sealed || self.segment >= usage.segments() {
             return false;
@@ -101,6 +102,11 @@ impl ChunkWriter {
     pub fn begin(&mut self, usage: &mut Usage, age: u32) -> Option<u32>
         requires { self.old.names ≡ [] }
         ensures begun { IfSome result (λ s. Begins usage.old usage.new s age) }
+        ensures goes_on { self.old.sealed ≡ true → TakesChunk usage.old self.old.segment
+            → (result ≡ Some self.old.segment)
+            × GoesOn usage.old usage.new self.old.segment age }
+        ensures first { self.old.sealed ≡ false
+            → IfSome result (λ s. TakesSegment usage.old usage.new s age) }
         ensures segment { IfSome result (λ s. self.new.segment ≡ s) }
         ensures names { self.new.names ≡ [] }
         ensures opened { IfSome result (λ s. IsOpenChunk self.new usage.new) }
@@ -129,6 +135,7 @@ impl ChunkWriter {
         ensures names { self.new.names ≡ self.old.names ++ name ∷ [] }
         ensures segment { self.new.segment ≡ self.old.segment }
         ensures start { self.new.start ≡ self.old.start }
+        ensures sealed { self.new.sealed ≡ self.old.sealed }
         ensures noted { Notes usage.old usage.new self.old.segment lives }
         ensures opened { IsOpenChunk self.new usage.new }
     {
@@ -161,6 +168,7 @@ impl ChunkWriter {
         ensures crash { CrashWrites (2 + 64 * self.old.segment + self.old.start)
             (summary_sector self.old.names) (D.state device.old) (D.state device.new) }
         ensures ended { OnOk result (self.new.names ≡ []) }
+        ensures sealed { OnOk result (self.new.sealed ≡ true) }
         ensures kept { OnErr result (self.new ≡ self.old) }
         ensures segment { self.new.segment ≡ self.old.segment }
         ensures start { self.new.start ≡ self.old.start }

@@ -5,6 +5,7 @@ ghost use Rattle.lfs_segments.specs.Steps.{Notes, Lifts, TakesAway, HidesBlocks,
 ghost use Rattle.lfs_segments.specs.Steps as steps;
 ghost use Rattle.lfs_model.specs.Usage.{IsUse, no_use};
 ghost use Rattle.lfs_segments.specs.Table.{SegmentNumbers, PlaceInSegment, no_segment, no_place, used_of, live_of, held_of, age_of, kept_of, address_of, stale_of, clean_in, FitsSegment, FitsTable};
+ghost use Rattle.lfs_segments.specs.Chunk.{TakesChunk};
 
 use crate::state::{SegmentState, UsageBlock};
 use lfs_layout::{SegmentUsage, encode_usage};
@@ -133,9 +134,7 @@ impl Usage {
 
     /// One sector more of a segment is in use, for a summary, and the segment has this age.
     pub fn go_on(&mut self, segment: u32, age: u32)
-        requires inside { segment < length self.old.segments }
-        requires some { 0 < live_of self.old segment + held_of self.old segment }
-        requires room { used_of self.old segment ≤ 62 }
+        requires { TakesChunk self.old segment }
         ensures { GoesOn self.old self.new segment age }
     {
         let state = continued(self.state(segment), age);
