@@ -1,13 +1,12 @@
 -- Lemmas on texts.
-use Rattle.std.proofs.Common.{◌≡◌, ◌≢◌, refl, sym, ap, subst, ◌∙◌, ℕ, zero, suc, ◌+◌, ◌<◌, Bool, true, false, ◌&&◌, Some, List, [], ◌∷◌, ◌++◌, length, drop, take, get_or, cond, eqb, arith, add-one, append_assoc, append-nil, not, ◌≤◌, ◌-◌}
-use Rattle.std.specs.Prelude.{nat_eq, filter, nat_lt, if◌then◌else◌, ◌==◌, find as first_that}
+use Rattle.std.proofs.Common.{◌≡◌, refl, sym, ap, subst, ◌∙◌, ℕ, zero, suc, ◌+◌, ◌<◌, Bool, true, false, ◌&&◌, Some, List, [], ◌∷◌, ◌++◌, length, drop, take, get_or, cond, arith, add-one, ◌≤◌, ◌-◌}
+use Rattle.std.specs.Prelude.{nat_eq, filter, nat_lt, ◌==◌, find as first_that}
 use Rattle.std.proofs.lemmas.List.{take_more}
 use Rattle.std.proofs.lemmas.Grind.{common_steps}
 use Rattle.std.proofs.Math.Seq.{drop-cons}
 use lib.Pointwise.{pointwise}
 use Rattle.lfs_model.specs.Tree as model
 use Rattle.lfs_model.specs.Plain.{Seen, look, walk_to}
-use Rattle.std.proofs.lemmas.Bool.Decides.{nat_tests}
 use Rattle.lfs_model.specs.Walk.{At}
 use Rattle.lfs_model.proofs.Walks.{turns_at, one_turn, at_once}
 use Rattle.std.specs.Prelude.{Vec}
@@ -16,7 +15,7 @@ use Rattle.lfs_plain.specs.Pieces.{texts}
 use Rattle.lfs_plain.specs.Meaning.{tree_of, node_of}
 use Rattle.lfs_plain.specs.declared.tree.Numbered.{Numbered}
 use Rattle.lfs_model.specs.Tree.{same_name}
-use Rattle.lfs_model.specs.PathText.{slash, parts, before_parts, comps}
+use Rattle.lfs_model.specs.PathText.{slash, parts}
 
 -- `==` on two texts
 pub same_is : (x y : List ℕ) → pointwise nat_eq x y ≡ same_name x y
@@ -75,44 +74,6 @@ drop_past (x ∷ xs) (suc i) h = drop_past xs i (omega arith)
 
 pub none_left : (n : ℕ) (t : model.Tree) (follow : Bool) (d : ℕ) (pieces : List (Vec ℕ Global)) (i : ℕ) (s : Bool) → length pieces ≤ i → walk_to n t follow d (texts (drop i pieces)) s ≡ Some (At d)
 none_left n t follow d pieces i s h = ap (λ ps. walk_to n t follow d (texts ps) s) (drop_past pieces i h) ∙ at_once n t follow d s
-
-pub not_true : (b : Bool) → not b ≡ true → b ≡ false
-not_true true e = cc
-not_true false e = refl
-
--- ---- the pieces of a text, byte by byte
-
-pub at_start : (text : List ℕ) → pieces_after [] text ≡ comps text
-at_start text = by (parts text)
-  where
-    by : (ps : List (List ℕ)) → filter (λ p. nat_lt 0 (length p)) (onto [] ps) ≡ filter (λ p. nat_lt 0 (length p)) ps
-    by [] = refl
-    by (p ∷ ps) = refl
-
-onto_byte : (piece : List ℕ) (c : ℕ) (ps : List (List ℕ)) → eqb c 47 ≡ false → onto piece (before_parts c ps) ≡ onto (piece ++ c ∷ []) ps
-onto_byte piece c [] h = rw h refl
-onto_byte piece c (p ∷ ps) h = rw (h, append_assoc) refl
-
-pub after_byte : (piece : List ℕ) (c : ℕ) (rest : List ℕ) → c ≢ 47 → pieces_after piece (c ∷ rest) ≡ pieces_after (piece ++ c ∷ []) rest
-after_byte piece c rest h = let no : eqb c 47 ≡ false = grind (arith, nat_tests) in ap (filter (λ p. nat_lt 0 (length p))) (onto_byte piece c (parts rest) no)
-
-onto_slash : (piece : List ℕ) (ps : List (List ℕ)) → filter (λ p. nat_lt 0 (length p)) (onto piece (before_parts 47 ps)) ≡ (if nat_lt 0 (length piece) then piece ∷ [] else []) ++ filter (λ p. nat_lt 0 (length p)) (onto [] ps)
-onto_slash piece [] = rw append-nil (by (nat_lt 0 (length piece)))
-  where
-    by : (b : Bool) → cond b (piece ∷ []) [] ≡ (if b then piece ∷ [] else []) ++ []
-    by true = refl
-    by false = refl
-onto_slash piece (p ∷ ps) = rw append-nil (by (nat_lt 0 (length piece)))
-  where
-    by : (b : Bool) → cond b (piece ∷ filter (λ p. nat_lt 0 (length p)) (p ∷ ps)) (filter (λ p. nat_lt 0 (length p)) (p ∷ ps)) ≡ (if b then piece ∷ [] else []) ++ filter (λ p. nat_lt 0 (length p)) (p ∷ ps)
-    by true = refl
-    by false = refl
-
-pub after_slash : (piece rest : List ℕ) → pieces_after piece (47 ∷ rest) ≡ (if nat_lt 0 (length piece) then piece ∷ [] else []) ++ pieces_after [] rest
-after_slash piece rest = onto_slash piece (parts rest)
-
-pub at_end : (piece : List ℕ) → pieces_after piece [] ≡ (if nat_lt 0 (length piece) then piece ∷ [] else [])
-at_end piece = rw append-nil refl
 
 pub rest_whole : {A : Type 0} (xs : List A) (k : ℕ) → take (length xs - k) (drop k xs) ≡ drop k xs
 rest_whole xs k = grind (arith, common_steps)

@@ -45,11 +45,6 @@ module _ (N : ℕ) (s : State) (a b : List ℕ) (da db : ℕ) where
   same_at : (u : Tree) (x : Bool) → u ≡ s.tree → (is_there u db b && target u da a == target u db b) ≡ x → (is_there s.tree db b && target s.tree da a == target s.tree db b) ≡ x
   same_at u x tree h = ap (λ u. is_there u db b && target u da a == target u db b) (sym tree) ∙ h
 
-  pub renamed_same : (u : Tree) → u ≡ s.tree → (is_there u db b && target u da a == target u db b) ≡ true → renamed N s a b da db ≡ (Done, s)
-  renamed_same u tree same =
-      ap (λ x. checked s ((x, Done) ∷ rename_nodes s.tree a b da db (target s.tree da a) (target s.tree db b) ++ no_space N (rename_tree s.tree s.handles a b da db) ∷ []) (Done, with_tree s (rename_tree s.tree s.handles a b da db)))
-      (same_at u true tree same)
-
   pub renamed_refused : (u : Tree) (x : Answer) → u ≡ s.tree → (is_there u db b && target u da a == target u db b) ≡ false
       → refused_by (rename_nodes u a b da db (target u da a) (target u db b)) ≡ Some x → renamed N s a b da db ≡ (x, s)
   unfolding after
