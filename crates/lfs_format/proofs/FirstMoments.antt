@@ -66,16 +66,6 @@ module _ (N : ℕ) (count : IsSegmentCount N) (c0 c1 : Content) (long : 2 + 64 *
       second : cell_at c2 1 ≡ None
       second = ap (λ (x : Content). cell_at x 1) is ∙ get_or-set_same c1 1 None None (omega (arith, room))
 
--- all that is written: the slots and the chunk
-pub all_others : (N : ℕ) (c0 c1 c2 c3 : Content) (b : List ℕ) → SameOutside 0 2 c0 c1 → HasChunk N (usage_blocks N) c1 c2 → c3 ≡ put c2 1 b → SameOutside 0 (5 + usage_blocks N) c0 c3
-all_others N c0 c1 c2 c3 b slots chunk is = record {
-  size = ap length is ∙ length-set c2 1 (Some b) ∙ chunk.others.size ∙ slots.size;
-  before = λ k lt. absurd (omega (arith, lt));
-  after = λ k le.
-      ap (λ (x : Content). cell_at x k) is ∙ get_or-set_other c2 1 k (Some b) None (λ e. omega (arith, e, le))
-      ∙ chunk.others.after k (omega (arith, le)) ∙ slots.after k (omega (arith, le));
-}
-
 -- ---- at any moment
 
 -- the device before, and with clear slots

@@ -1,13 +1,10 @@
 -- What the calls that make an empty volume do to its content.
-use Rattle.std.proofs.Common.{◌≡◌, ◌≢◌, ⊎_elim, ℕ, zero, suc, ◌+◌, ◌<◌, ◌≤◌, List, length, Some, None, refl, sym, ◌∙◌, ap, subst, arith, length-set, get_or-set_other, get_or-set_same}
+use Rattle.std.proofs.Common.{◌≡◌, ◌≢◌, ⊎_elim, ℕ, zero, suc, ◌+◌, ◌<◌, ◌≤◌, List, length, Some, None, refl, sym, ◌∙◌, ap, subst, arith, get_or-set_other, get_or-set_same}
 use Rattle.std.proofs.lemmas.Bool.{cases_eq, cases_lt}
 use Rattle.std.specs.Prelude.{slice_set}
 use Rattle.lfs_model.specs.Content.{Content}
 use Rattle.lfs_model.specs.Device.{Cell, cell_at, put, MayWrite, left_old, left_new, left_bad, DeviceState, IsLawful, AllLeft, Carries, Elapses, CrashWrites, ComesFrom, SameOutside}
-use Rattle.lfs_model.specs.Image.{blank, first_names, first_pointers, first_uses, root_inode}
-use Rattle.lfs_model.specs.Inode.{inode_sector}
-use Rattle.lfs_model.specs.Pointers.{pointer_sector}
-use Rattle.lfs_model.specs.Summary.{summary_sector}
+use Rattle.lfs_model.specs.Image.{blank, first_uses}
 use Rattle.lfs_model.specs.Usage.{usage_sector}
 use Rattle.lfs_model.proofs.Image.{unused_spelled}
 use Rattle.lfs_model.proofs.Moments.{Run, run_none, run_call, run_write, all_left_write, Survives, same_outside_none, write_outside}
@@ -62,38 +59,6 @@ here c e s b is low = ap (λ (x : Content). cell_at x s) is ∙ get_or-set_same 
 there : (c e : Content) (s : ℕ) (b : List ℕ) → e ≡ put c s b → (k : ℕ) → k ≢ s → cell_at e k ≡ cell_at c k
 there c e s b is k other = ap (λ (x : Content). cell_at x k) is ∙ get_or-set_other c s k (Some b) None other
 
-put_size : (c e : Content) (s : ℕ) (b : List ℕ) → e ≡ put c s b → length e ≡ length c
-put_size c e s b is = ap length is ∙ length-set c s (Some b)
-
--- its first four writes
-pub chunk_first : (N : ℕ) (c0 c1 c2 c3 c4 : Content) (two three four five : List ℕ) → 6 ≤ length c0
-    → c1 ≡ put c0 2 two → c2 ≡ put c1 3 three → c3 ≡ put c2 4 four → c4 ≡ put c3 5 five
-    → two ≡ summary_sector (first_names N) → three ≡ inode_sector root_inode → four ≡ pointer_sector first_pointers → five ≡ usage_sector (first_uses N 0)
-    → HasChunk N 1 c0 c4
-chunk_first N c0 c1 c2 c3 c4 two three four five long is1 is2 is3 is4 summary inode pointers uses =
-    let size1 = put_size c0 c1 2 two is1 in
-    let size2 = put_size c1 c2 3 three is2 in
-    let size3 = put_size c2 c3 4 four is3 in
-    record {
-      others =
-          write_outside 2 4 5 five (omega arith) (omega arith) c0 c3 c4
-          (write_outside 2 4 4 four (omega arith) (omega arith) c0 c2 c3
-          (write_outside 2 4 3 three (omega arith) (omega arith) c0 c1 c2
-          (write_outside 2 4 2 two (omega arith) (omega arith) c0 c0 c1 (same_outside_none 2 4 c0) (left_new is1)) (left_new is2)) (left_new is3)) (left_new is4);
-      summary =
-          there c3 c4 5 five is4 2 (λ e. omega arith) ∙ there c2 c3 4 four is3 2 (λ e. omega arith) ∙ there c1 c2 3 three is2 2 (λ e. omega arith)
-          ∙ here c0 c1 2 two is1 (omega (arith, long)) ∙ ap (λ (b : List ℕ). Some b) summary;
-      inode =
-          there c3 c4 5 five is4 3 (λ e. omega arith) ∙ there c2 c3 4 four is3 3 (λ e. omega arith) ∙ here c1 c2 3 three is2 (omega (arith, long, size1))
-          ∙ ap (λ (b : List ℕ). Some b) inode;
-      pointers = there c3 c4 5 five is4 4 (λ e. omega arith) ∙ here c2 c3 4 four is3 (omega (arith, long, size1, size2)) ∙ ap (λ (b : List ℕ). Some b) pointers;
-      uses = uses_first (here c3 c4 5 five is4 (omega (arith, long, size1, size2, size3)) ∙ ap (λ (b : List ℕ). Some b) uses);
-    }
-  where
-    uses_first : cell_at c4 5 ≡ Some (usage_sector (first_uses N 0)) → (j : ℕ) → j < 1 → cell_at c4 (5 + j) ≡ Some (usage_sector (first_uses N j))
-    uses_first is zero lt = is
-    uses_first is (suc j) lt = absurd (omega (arith, lt))
-
 wider : (first n m : ℕ) (d c : Content) → n ≤ m → SameOutside first n d c → SameOutside first m d c
 wider first n m d c le same = record { size = same.size; before = λ k lt. same.before k lt; after = λ k past. same.after k (omega (arith, le, past)) }
 
@@ -128,9 +93,6 @@ clear_survives s b past = record { written = λ c clear. kept c (Some b) clear; 
 
 abbrev pub Chunk : DeviceState → DeviceState → Type 0
 Chunk old new = AllLeft old AreClear → Run old new AreClear
-
-pub chunk_start : (d : DeviceState) → IsLawful d → Chunk d d
-chunk_start d lawful clear = run_none d AreClear lawful clear
 
 pub chunk_write : (old mid new : DeviceState) (s : ℕ) (b : List ℕ) → 2 ≤ s → Chunk old mid → CrashWrites s b mid new → Carries mid new → Elapses mid new → Chunk old new
 chunk_write old mid new s b past run crash carries time clear = run_write old mid new AreClear s b (run clear) (clear_survives s b past) crash carries time
