@@ -1,6 +1,6 @@
 -- A name looked up in a directory, block by block.
-use Rattle.std.specs.Prelude.{IsFalse, min}
-use Rattle.std.proofs.Common.{◌≡◌, ◌≢◌, ◌<◌, ◌≤◌, ⊎_elim, ◌+◌, ◌*◌, ◌-◌, ◌/◌, ℕ, zero, suc, Bool, List, [], ◌∷◌, ◌++◌, length, take, drop, get_or, Option, Some, None, refl, sym, ◌∙◌, ap, subst, arith}
+use Rattle.std.specs.Prelude.{min}
+use Rattle.std.proofs.Common.{◌≡◌, ◌≢◌, ◌<◌, ◌≤◌, ⊎_elim, ◌+◌, ◌*◌, ◌-◌, ◌/◌, ℕ, zero, suc, List, [], ◌∷◌, ◌++◌, length, take, drop, get_or, Option, Some, None, sym, ◌∙◌, ap, subst, arith}
 use Rattle.std.proofs.lemmas.Bool.{cases_lt}
 use Rattle.std.proofs.lemmas.List.{take-append-drop, drop-drop, drop_all, get_or-take, get_or-drop, length-take, length-drop}
 use Rattle.std.specs.FinMap.{find}
@@ -12,7 +12,7 @@ use Rattle.lfs_model.specs.Tree.{byte_cmp}
 use Rattle.lfs_model.specs.TreeOf.{map_of}
 use Rattle.lfs_files.specs.declared.header.Header.{Header}
 use Rattle.lfs_files.specs.Files.{FilesState, HoldsBlock, IsFault, Reads, TellsBlock}
-use Rattle.lfs_files.proofs.FilesCompose.{reads_more, reads_none}
+use Rattle.lfs_files.proofs.FilesCompose.{reads_more}
 use Rattle.lfs_dirs.specs.Directory.{first_slots, names_at, slots_at}
 use Rattle.lfs_dirs.specs.declared.searching.Found.{Found}
 use Rattle.lfs_dirs.specs.Finding.{HasNoSlot, IsDirectoryFault, IsBlockFault}
@@ -65,9 +65,6 @@ module _ {S D : Type 0} (d : ℕ) (head : Header) (name : List ℕ) where
     pub reads : Reads s s'
     pub behind : (m m' : LogMap) → s'.device.keeps_model → s.has m m'
         → find byte_cmp name (map_of 0 (drop (8 * index) (slots_at m' d head))) ≡ find byte_cmp name (names_at m' d head)
-
-  pub search_begins : (s : FilesState S D) → SearchedTo s s 0
-  search_begins s = record { reads = reads_none s; behind = λ m m' keeps has. refl }
 
   pub search_ends : (s a : FilesState S D) (index : ℕ) → head.size / 64 ≤ 8 * index → SearchedTo s a index → FindsSlot s a d head name None
   search_ends s a index past was m m' keeps has =

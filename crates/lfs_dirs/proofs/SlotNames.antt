@@ -43,11 +43,6 @@ pub found_behind : (name : List ℕ) (s : SlotValue) (o : Option SlotValue) (m :
 found_behind name s o m is other =
     ap (λ (x : Option SlotValue). find byte_cmp name (with_slot x m)) is ∙ found_with name s m ∙ ap (λ b. cond b (Some s.number) (find byte_cmp name m)) (apart name s.name other)
 
--- what a slot says of a name over other names depends on what these say of it
-with_same : (name : List ℕ) (o : Option SlotValue) (m m' : Names) → find byte_cmp name m ≡ find byte_cmp name m' → find byte_cmp name (with_slot o m) ≡ find byte_cmp name (with_slot o m')
-with_same name None m m' same = same
-with_same name (Some s) m m' same = found_with name s m ∙ ap (cond (eq_by_cmp byte_cmp name s.name) (Some s.number)) same ∙ sym (found_with name s m')
-
 -- ---- slots behind others
 first_some : (o : Option SlotValue) (m m' : Names) (name : List ℕ) (n : ℕ) → (find byte_cmp name m ≡ Some n → find byte_cmp name m' ≡ Some n) → find byte_cmp name (with_slot o m) ≡ Some n → find byte_cmp name (with_slot o m') ≡ Some n
 first_some None m m' name n go is = go is

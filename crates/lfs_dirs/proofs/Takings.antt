@@ -1,11 +1,10 @@
 -- A draft that takes a name out of a directory.
 use Rattle.std.specs.Prelude.{max}
-use Rattle.std.proofs.Common.{◌≡◌, ◌≢◌, ◌<◌, ◌≤◌, ◌+◌, ◌*◌, ◌-◌, ◌/◌, ◌%◌, ℕ, List, [], length, get_or, Option, Some, None, refl, sym, ◌∙◌, ap, subst, arith}
+use Rattle.std.proofs.Common.{◌≡◌, ◌<◌, ◌≤◌, ◌+◌, ◌*◌, ◌-◌, ◌/◌, ◌%◌, ℕ, List, [], length, get_or, Some, sym, ◌∙◌, ap, subst, arith}
 use Rattle.lfs_model.specs.Encodes.{IsLogMap}
 use Rattle.lfs_model.specs.Fields.{part}
-use Rattle.lfs_model.specs.Objects.{AreLong, IsDirectory, IsObject}
+use Rattle.lfs_model.specs.Objects.{AreLong}
 use Rattle.lfs_model.specs.Stands.{LogMap}
-use Rattle.lfs_model.proofs.ObjectBytes.{cut_ends}
 use Rattle.lfs_model.proofs.ObjectMaps.{object_fits, object_kept}
 use Rattle.lfs_files.specs.declared.header.Header.{Header}
 use Rattle.lfs_files.specs.Files.{AreCounted, Counted, Counts, FilesState, HasFile, HasShrunk, IsApart, IsFault, Reads, Redrafts, Shrinks, TellsBlock, Writes, WritesFile}

@@ -55,7 +55,7 @@ pub fn take<F: Files>(
     Ok(true)
 }
 
-/// DropsSlot a slot: the last one comes into its place.
+/// Drops a slot: the last one comes into its place.
 fn drop_slot<F: Files>(
     files: &mut F,
     directory: FileNumber,
