@@ -29,7 +29,7 @@ const MOST_SLOTS: u32 = 65_472;
 const MOST_LINKS: u32 = 1_000;
 
 impl<D: SectorDevice> Fs<D> {
-    /// GivesName an object another name, in any directory; what has that name loses it (POSIX.1-2017,
+    /// Gives an object another name, in any directory; what has that name loses it (POSIX.1-2017,
     /// rename).
     ///
     /// # Errors

@@ -9,7 +9,7 @@ use crate::reading::fetch;
 use crate::values::is_data;
 use lfs_device::{DeviceFault, SectorDevice};
 
-/// TakesAddress the data block at an address, where there is one.
+/// Takes the data block at an address, where there is one.
 ///
 /// # Errors
 ///

@@ -9,7 +9,7 @@ use crate::reading::fetch;
 use crate::values::is_inode;
 use lfs_device::{DeviceFault, SectorDevice};
 
-/// TakesAddress the inode at an address, where there is one.
+/// Takes the inode at an address, where there is one.
 ///
 /// # Errors
 ///

@@ -8,7 +8,7 @@ use crate::reading::fetch;
 use crate::values::has_word;
 use lfs_device::{DeviceFault, SectorDevice};
 
-/// TakesAddress the block of addresses at an address, where there is one.
+/// Takes the block of addresses at an address, where there is one.
 ///
 /// # Errors
 ///

@@ -5,7 +5,7 @@ ghost use Rattle.lfs_verify.specs.Take.{Looks, ReadsContent};
 
 use lfs_device::{DeviceFault, ReadFault, SectorDevice};
 
-/// ReadsContent the block at an address: true where it can be read. One that can't be read counts as
+/// Reads the block at an address: true where it can be read. One that can't be read counts as
 /// empty.
 ///
 /// # Errors
