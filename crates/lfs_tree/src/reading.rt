@@ -9,7 +9,7 @@ ghost use Rattle.lfs_tree.specs.Reading.{FailsToRead, InodeAnswer, OfInode, OfLo
 use lfs_device::{DeviceFault, ReadFault, SectorDevice};
 use lfs_inodes::{InodeMap, locate};
 
-/// ReadsContent the block at an address.
+/// Reads the block at an address.
 ///
 /// # Errors
 ///
@@ -66,7 +66,7 @@ pub fn read_inode<D: SectorDevice>(
     }
 }
 
-/// ReadsContent a block of the file of an inode; one that isn't stored reads as zeros.
+/// Reads a block of the file of an inode; one that isn't stored reads as zeros.
 ///
 /// # Errors
 ///
