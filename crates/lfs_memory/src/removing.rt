@@ -61,7 +61,7 @@ fn drop_file(memory: &mut LogMemory, number: u16, lives: bool, counts: &SegmentC
     memory.map.set_hidden(number, false);
 }
 
-/// RemovesFile a file with all its blocks, whether it has a name or not. Its blocks are counted in
+/// Removes a file with all its blocks, whether it has a name or not. Its blocks are counted in
 /// `counts`.
 ///
 /// # Errors

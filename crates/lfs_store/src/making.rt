@@ -168,7 +168,7 @@ impl<D: SectorDevice> Store<D> {
         Ok(())
     }
 
-    /// DraftsRemoval a file with all its blocks. The draft was empty.
+    /// Drafts that a file goes with all its blocks. The draft was empty.
     ///
     /// # Errors
     ///
@@ -208,7 +208,7 @@ impl<D: SectorDevice> Store<D> {
         }));
     }
 
-    /// DraftsRemoval a file with all its blocks at once, without a draft. It takes no memory.
+    /// Removes a file with all its blocks at once, without a draft. It takes no memory.
     ///
     /// # Errors
     ///
