@@ -1,5 +1,5 @@
 -- The stages of a tree, where all that they look at is in tables.
-use Rattle.std.proofs.Common.{◌≡◌, ◌<◌, ◌↔◌, ◌+◌, ◌*◌, ◌/◌, ◌%◌, ◌∙◌, ℕ, List, length, Option, Some, refl, sym, ap, subst, arith}
+use Rattle.std.proofs.Common.{◌≡◌, ◌<◌, ◌↔◌, ◌+◌, ◌*◌, ◌/◌, ◌%◌, ◌∙◌, ℕ, List, Option, Some, refl, sym, ap, subst, arith}
 use Rattle.lfs_model.specs.Checkpoint.{CheckpointValue}
 use Rattle.lfs_model.specs.Content.{Content}
 use Rattle.lfs_model.specs.Entry.{Header}
@@ -18,26 +18,25 @@ use Rattle.lfs_verify.specs.declared.fault.MountFault.TheVariants as fault
 use Rattle.lfs_verify.specs.declared.tables.Tables.{Tables}
 use Rattle.lfs_verify.specs.Loading.{HoldsTables}
 use Rattle.lfs_verify.specs.Take.{Looks}
-use Rattle.lfs_tree.specs.declared.tables.NameTables.{NameTables}
 use Rattle.lfs_tree.specs.Checking.{IsDamagedTree, IsFaultOf, IsGathered, IsOfLog, IsRefusedTree, IsTreeDamage, links_fail, reached_fail, room_fail}
 use Rattle.lfs_tree.specs.Linking.{AreLinksFit, FitsRoom}
-use Rattle.lfs_tree.specs.Naming.{AreTables}
+use Rattle.lfs_tree.specs.Naming.{NamesValue}
 use Rattle.lfs_tree.specs.Objects.{AreNamed}
 use Rattle.lfs_tree.specs.Reading.{Leads, Sees, TellsHeaders}
 use Rattle.lfs_tree.specs.Reaching.{AllClimb, AreNamesFit}
 use Rattle.lfs_tree.proofs.ReachStages.{fit_if_links, fit_if_reached, links_if_fit, reached_if_fit}
 use Rattle.lfs_tree.proofs.TreeStages.{damage_of_tree, need_is, same_log}
 
-module _ (c : Content) (k : CheckpointValue) (m : LogMap) (headers : List (Option files.Header)) (whole : length headers ≡ 4096) (names : NameTables) (sizes : AreTables names) (t : Tables)
+module _ (c : Content) (k : CheckpointValue) (m : LogMap) (headers : List (Option files.Header)) (names : NamesValue) (t : Tables)
     (is : IsGathered c k m headers names t) where
   root_at : (h : Header) × (m.header 1 ≡ Some h)
   root_at = let root = (formed c k m is.sized is.holds).root in (root.0, root.1)
 
-  pub tree_reached : AreNamesFit headers names × AllClimb headers names.up.items → AreReached m
-  tree_reached fit = reached_if_fit m (headers_are c k m is.holds) headers whole is.told names sizes is.named root_at.0 root_at.1 fit.0 fit.1
+  pub tree_reached : AreNamesFit headers names × AllClimb headers names.up → AreReached m
+  tree_reached fit = reached_if_fit m (headers_are c k m is.holds) headers is.told names is.named root_at.0 root_at.1 fit.0 fit.1
 
   pub tree_links : AreLinksFit headers names → AreLinks m
-  tree_links fit = links_if_fit m (headers_are c k m is.holds) headers whole is.told names sizes is.named fit
+  tree_links fit = links_if_fit m (headers_are c k m is.holds) headers is.told names is.named is.slots fit
 
   need_here : HasRoom m k.segments ↔ FitsRoom t.data_blocks t.meta_blocks t.segments
   need_here =
@@ -45,12 +44,12 @@ module _ (c : Content) (k : CheckpointValue) (m : LogMap) (headers : List (Optio
       let same = is.of_log.segments in
       (λ room. omega (arith, room, need, same), λ fit. omega (arith, fit, need, same))
 
-  pub fails_reached : (AreNamesFit headers names × AllClimb headers names.up.items → ⊥) → IsTreeDamage k.segments m 12
-  fails_reached other = reached_fail refl is.slots is.texts (λ reached. other (fit_if_reached m (headers_are c k m is.holds) headers whole is.told names sizes is.named reached))
+  pub fails_reached : (AreNamesFit headers names × AllClimb headers names.up → ⊥) → IsTreeDamage k.segments m 12
+  fails_reached other = reached_fail refl is.slots is.texts (λ reached. other (fit_if_reached m (headers_are c k m is.holds) headers is.told names is.named reached))
 
-  module _ (fit : AreNamesFit headers names × AllClimb headers names.up.items) where
+  module _ (fit : AreNamesFit headers names × AllClimb headers names.up) where
     pub fails_links : (AreLinksFit headers names → ⊥) → IsTreeDamage k.segments m 13
-    fails_links other = links_fail refl is.slots is.texts (tree_reached fit) (λ links. other (fit_if_links m (headers_are c k m is.holds) headers whole is.told names sizes is.named links))
+    fails_links other = links_fail refl is.slots is.texts (tree_reached fit) (λ links. other (fit_if_links m (headers_are c k m is.holds) headers is.told names is.named is.slots links))
 
     module _ (links : AreLinksFit headers names) where
       pub fails_room : (FitsRoom t.data_blocks t.meta_blocks t.segments → ⊥) → IsTreeDamage k.segments m 14
@@ -59,7 +58,7 @@ module _ (c : Content) (k : CheckpointValue) (m : LogMap) (headers : List (Optio
       pub tree_whole : FitsRoom t.data_blocks t.meta_blocks t.segments → IsTree k.segments m
       tree_whole room = record { slots = is.slots; texts = is.texts; reached = tree_reached fit; links = tree_links links; room = need_here.1 room }
 
-pub gathered : (c : Content) (k : CheckpointValue) (m : LogMap) (headers : List (Option files.Header)) (names : NameTables) (t : Tables) → HoldsAt c k m → IsSized c → TellsHeaders m headers 4096
+pub gathered : (c : Content) (k : CheckpointValue) (m : LogMap) (headers : List (Option files.Header)) (names : NamesValue) (t : Tables) → HoldsAt c k m → IsSized c → TellsHeaders m headers 4096
     → AreSlots m → AreTexts m → AreNamed m headers names 4096 → IsOfLog c k m t → IsGathered c k m headers names t
 gathered c k m headers names t holds sized told slots texts named of_log = record { holds = holds; sized = sized; told = told; named = named; slots = slots; texts = texts; of_log = of_log }
 

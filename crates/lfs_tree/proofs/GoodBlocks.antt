@@ -13,21 +13,20 @@ use Rattle.lfs_files.specs.Files.{HoldsBlock}
 use Rattle.lfs_dirs.specs.Directory.{first_slots, slots_at}
 use Rattle.lfs_dirs.proofs.Searches.{block_and_rest}
 use Rattle.lfs_dirs.proofs.SlotPlaces.{slots_many, slots_of_block}
-use Rattle.lfs_tree.specs.declared.tables.NameTables.{NameTables}
-use Rattle.lfs_tree.specs.Naming.{AreGoodSlots, Base, IsNoted, IsTaken, HasNames, TakesNames, TakesSlots}
+use Rattle.lfs_tree.specs.Naming.{AreGoodSlots, Base, HasNames, IsNoted, IsTaken, NamesValue, TakesNames, TakesSlots}
 use Rattle.lfs_tree.proofs.GoodSlots.{good_behind, good_none}
 
 module _ (headers : List (Option Header)) (d : ℕ) (base : Base) (m : LogMap) (head : Header) where
-  pub blocks_begin : (index : ℕ) (set : BTreeSet (Vec ℕ Global)) (t : NameTables) → head.size / 64 ≤ 8 * index → IsTaken headers d base [] set t → IsTaken headers d base (drop (8 * index) (slots_at m d head)) set t
+  pub blocks_begin : (index : ℕ) (set : BTreeSet (Vec ℕ Global)) (t : NamesValue) → head.size / 64 ≤ 8 * index → IsTaken headers d base [] set t → IsTaken headers d base (drop (8 * index) (slots_at m d head)) set t
   blocks_begin index set t past was =
       let many = slots_many m d head in
       subst (λ (a : List (List ℕ)). IsTaken headers d base a set t) (sym (drop_all (8 * index) (slots_at m d head) (omega (arith, many, past)))) was
 
-  pub blocks_end : (index : ℕ) (set : BTreeSet (Vec ℕ Global)) (t : NameTables) → index ≡ 0 → IsTaken headers d base (drop (8 * index) (slots_at m d head)) set t → TakesNames headers d base (slots_at m d head) t true
+  pub blocks_end : (index : ℕ) (set : BTreeSet (Vec ℕ Global)) (t : NamesValue) → index ≡ 0 → IsTaken headers d base (drop (8 * index) (slots_at m d head)) set t → TakesNames headers d base (slots_at m d head) t true
   blocks_end index set t all was = let whole = subst (λ (i : ℕ). IsTaken headers d base (drop (8 * i) (slots_at m d head)) set t) all was in (whole.good, whole.noted)
 
   module _ (index next count : ℕ) (block : List ℕ) (holds : HoldsBlock m d next block) (is : count ≡ min (head.size / 64 - 8 * next) 8) (low : 8 * next < head.size / 64) (here : index ≡ next + 1)
-      (set set' : BTreeSet (Vec ℕ Global)) (t t' : NameTables) (was : IsTaken headers d base (drop (8 * index) (slots_at m d head)) set t) where
+      (set set' : BTreeSet (Vec ℕ Global)) (t t' : NamesValue) (was : IsTaken headers d base (drop (8 * index) (slots_at m d head)) set t) where
     parts : first_slots block count ++ drop (8 * index) (slots_at m d head) ≡ drop (8 * next) (slots_at m d head)
     parts =
         ap (λ (a : List (List ℕ)). a ++ drop (8 * index) (slots_at m d head)) (sym (slots_of_block m d head next count block holds (omega (arith, is)) (omega (arith, is, low))))
@@ -44,7 +43,7 @@ module _ (headers : List (Option Header)) (d : ℕ) (base : Base) (m : LogMap) (
         (good_behind headers (take (8 * next) (slots_at m d head)) (drop (8 * next) (slots_at m d head))
         (subst (AreGoodSlots headers) (sym (take-append-drop (8 * next) (slots_at m d head))) good)))
 
-pub nothing_taken : (headers : List (Option Header)) (d : ℕ) (base : Base) (set : BTreeSet (Vec ℕ Global)) (t : NameTables) → HasNames set [] → IsNoted headers d base [] t → IsTaken headers d base [] set t
+pub nothing_taken : (headers : List (Option Header)) (d : ℕ) (base : Base) (set : BTreeSet (Vec ℕ Global)) (t : NamesValue) → HasNames set [] → IsNoted headers d base [] t → IsTaken headers d base [] set t
 nothing_taken headers d base set t none was = record { good = good_none headers; names = none; noted = was }
 
 pub names_none : (set : BTreeSet (Vec ℕ Global)) → set.keys ≡ [] → HasNames set []

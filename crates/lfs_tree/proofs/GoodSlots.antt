@@ -15,8 +15,7 @@ use Rattle.lfs_dirs.specs.Directory.{first_slots, slots_in}
 use Rattle.lfs_dirs.proofs.Scans.{next_slot, no_slots}
 use Rattle.lfs_dirs.proofs.SlotNames.{sorted_names}
 use Rattle.lfs_dirs.proofs.SlotPlaces.{block_slot, block_slots_many}
-use Rattle.lfs_tree.specs.declared.tables.NameTables.{NameTables}
-use Rattle.lfs_tree.specs.Naming.{AreGoodSlots, AreTables, Base, HasNames, IsNoted, IsTaken, Notes, TakesSlots, leads}
+use Rattle.lfs_tree.specs.Naming.{AreGoodSlots, AreTables, Base, HasNames, IsNoted, IsTaken, NamesValue, Notes, TakesSlots, leads}
 use Rattle.lfs_tree.proofs.Notings.{noted_more}
 
 -- ---- those behind are good too
@@ -50,17 +49,7 @@ module _ (headers : List (Option Header)) where
 
 -- ---- one slot more
 module _ (headers : List (Option Header)) (d : ℕ) (slot : List ℕ) where
-  pub slot_malformed : (behind : List (List ℕ)) → slot_in 0 slot ≡ None → AreGoodSlots headers (slot ∷ behind) → ⊥
-  slot_malformed behind none good = let own = good.each.0 in let both : Some own.value ≡ None = sym own.spelt ∙ none in absurd (cc)
-
   module _ (s : SlotValue) (is : slot_in 0 slot ≡ Some s) where
-    pub slot_missing : (behind : List (List ℕ)) → get_or headers s.number None ≡ None → AreGoodSlots headers (slot ∷ behind) → ⊥
-    slot_missing behind none good =
-        let own = good.each.0 in
-        let both : Some own.value ≡ Some s = sym own.spelt ∙ is in
-        let same : own.value ≡ s = cc in
-        own.there (ap (λ (v : SlotValue). get_or headers v.number None) same ∙ none)
-
     map_more : (behind : List (List ℕ)) → map_of 0 (slot ∷ behind) ≡ put byte_cmp s.name s.number (map_of 0 behind)
     map_more behind = ap (λ (o : Option SlotValue). with_slot o (map_of 0 behind)) is
 
@@ -74,7 +63,7 @@ module _ (headers : List (Option Header)) (d : ℕ) (slot : List ℕ) where
           | Some n ↦ λ e long. let all = good.apart in let some = rest.apart in omega (arith, long, all, some)
         ] refl (long_more behind)
 
-    pub slot_taken : (set set' : BTreeSet (Vec ℕ Global)) (t t' : NameTables) (base : Base) (behind : List (List ℕ)) → d < 4096 → s.number < 4096 → (get_or headers s.number None ≡ None → ⊥) → AreTables t
+    pub slot_taken : (set set' : BTreeSet (Vec ℕ Global)) (t t' : NamesValue) (base : Base) (behind : List (List ℕ)) → d < 4096 → s.number < 4096 → (get_or headers s.number None ≡ None → ⊥) → AreTables t
         → IsTaken headers d base behind set t → find byte_cmp s.name (map_of 0 behind) ≡ None
         → HasNames set' (put byte_cmp s.name s.number (map_of 0 behind)) → Notes t t' d s.number (leads headers s.number) → IsTaken headers d base (slot ∷ behind) set' t'
     slot_taken set set' t t' base behind low inside there sizes was new names notes = record {
@@ -90,7 +79,7 @@ module _ (headers : List (Option Header)) (d : ℕ) (slot : List ℕ) where
     }
 
 -- ---- the slots of a block, from its last on
-module _ (headers : List (Option Header)) (d : ℕ) (block : List ℕ) (count : ℕ) (set : BTreeSet (Vec ℕ Global)) (t : NameTables) where
+module _ (headers : List (Option Header)) (d : ℕ) (block : List ℕ) (count : ℕ) (set : BTreeSet (Vec ℕ Global)) (t : NamesValue) where
   pub slots_begin : TakesSlots headers d (slots_in block count (count - count)) set set t t true
   slots_begin base behind was = subst (λ (a : List (List ℕ)). IsTaken headers d base (a ++ behind) set t) (sym (no_slots block count count (omega arith))) was
 
@@ -102,7 +91,7 @@ module _ (headers : List (Option Header)) (d : ℕ) (block : List ℕ) (count : 
         ∙ ap (λ (k : ℕ). part (64 * next) 64 block ∷ slots_in block k (count - k)) here
         ∙ ap (λ (s : List ℕ). s ∷ slots_in block place (count - place)) (sym own)
 
-    pub slots_go_on : (set1 set2 : BTreeSet (Vec ℕ Global)) (t1 t2 : NameTables) → TakesSlots headers d (slots_in block place (count - place)) set set1 t t1 true
+    pub slots_go_on : (set1 set2 : BTreeSet (Vec ℕ Global)) (t1 t2 : NamesValue) → TakesSlots headers d (slots_in block place (count - place)) set set1 t t1 true
         → TakesSlots headers d (slot ∷ []) set1 set2 t1 t2 true → TakesSlots headers d (slots_in block next (count - next)) set set2 t t2 true
     slots_go_on set1 set2 t1 t2 was one base behind taken =
         subst (λ (a : List (List ℕ)). IsTaken headers d base (a ++ behind) set2 t2) (sym split) (one base (slots_in block place (count - place) ++ behind) (was base behind taken))
@@ -121,15 +110,10 @@ module _ (headers : List (Option Header)) (d : ℕ) (block : List ℕ) (count : 
         ∙ ap (λ (j : ℕ). part (64 * j) 64 block) (omega arith)
         ∙ sym (block_slot block next (count - next) k inside))
 
-    pub slots_fail : (set1 set2 : BTreeSet (Vec ℕ Global)) (t1 t2 : NameTables) → TakesSlots headers d (slots_in block place (count - place)) set set1 t t1 true
+    pub slots_fail : (set1 set2 : BTreeSet (Vec ℕ Global)) (t1 t2 : NamesValue) → TakesSlots headers d (slots_in block place (count - place)) set set1 t t1 true
         → TakesSlots headers d (slot ∷ []) set1 set2 t1 t2 false → TakesSlots headers d (first_slots block count) set set2 t t2 false
     slots_fail set1 set2 t1 t2 was one base behind taken good =
         one base (slots_in block place (count - place) ++ behind) (was base behind taken)
         (subst (λ (a : List (List ℕ)). AreGoodSlots headers (a ++ behind)) (dropped ∙ split)
         (good_behind headers (take next (first_slots block count)) (drop next (first_slots block count) ++ behind)
         (subst (AreGoodSlots headers) (ap (λ (a : List (List ℕ)). a ++ behind) (sym (take-append-drop next (first_slots block count))) ∙ append_assoc (take next (first_slots block count)) (drop next (first_slots block count)) behind) good)))
-
-  pub slots_end : (place : ℕ) (set1 : BTreeSet (Vec ℕ Global)) (t1 : NameTables) → place ≡ 0 → TakesSlots headers d (slots_in block place (count - place)) set set1 t t1 true → TakesSlots headers d (first_slots block count) set set1 t t1 true
-  slots_end place set1 t1 none was =
-      let all : count - 0 ≡ count = omega arith in
-      subst (λ (c : ℕ). TakesSlots headers d (slots_in block 0 c) set set1 t t1 true) all (subst (λ (p : ℕ). TakesSlots headers d (slots_in block p (count - p)) set set1 t t1 true) none was)

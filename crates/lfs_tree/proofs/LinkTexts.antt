@@ -3,7 +3,6 @@ use Rattle.std.specs.Prelude.{min}
 use Rattle.std.proofs.Common.{◌≡◌, ◌≢◌, ◌<◌, ◌≤◌, ⊎_elim, ◌+◌, ◌-◌, ◌*◌, ℕ, true, false, Bool, List, get_or, Option, Some, None, refl, sym, ◌∙◌, ap, subst, arith, slice_index}
 use Rattle.std.proofs.lemmas.Bool.{cases_lt}
 use Rattle.std.specs.List.{AllByRecursion}
-use Rattle.std.specs.Option.{option_map}
 use Rattle.lfs_model.specs.declared.Kind.{Kind}
 use Rattle.lfs_model.specs.declared.Kind.TheVariants as kind
 use Rattle.lfs_model.specs.Entry as entry
@@ -71,15 +70,9 @@ module _ (m : LogMap) (are : AreHeaders m) where
 
 -- ---- one object
 module _ (m : LogMap) (headers : List (Option Header)) (told : TellsHeaders m headers 4096) (n : ℕ) (low : n < 4096) where
-  pub text_none : get_or headers n None ≡ None → IsGoodText m n
-  text_none none h at link = let gone : None ≡ Some h = sym (told n low ∙ ap (option_map as_header) none) ∙ at in absurd (cc)
-
   module _ (head : Header) (is : get_or headers n None ≡ Some head) where
     own : (h : entry.Header) → m.header n ≡ Some h → as_header head ≡ h
     own h at = let both : Some (as_header head) ≡ Some h = sym (head_told m headers told n low head is) ∙ at in cc
-
-    pub text_other : (head.kind ≡ kind.Link → ⊥) → IsGoodText m n
-    text_other other h at link = absurd (other (ap (λ (x : entry.Header). x.kind) (own h at) ∙ link))
 
     pub text_decided : (r : Bool) → head.kind ≡ kind.Link → Decides (HasNoZero m n head.size) r → Decides (IsGoodText m n) r
     text_decided true link good = λ h at also. subst (λ (x : entry.Header). HasNoZero m n x.size) (own h at) good

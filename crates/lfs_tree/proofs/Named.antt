@@ -4,8 +4,7 @@ use Rattle.std.proofs.Common.{◌≡◌, ◌<◌, ◌≤◌, ⊎_elim, ◌+◌, 
 use Rattle.std.proofs.lemmas.Bool.{cases_eq, cases_lt}
 use Rattle.lfs_model.specs.Stands.{LogMap}
 use Rattle.lfs_files.specs.declared.header.Header.{Header}
-use Rattle.lfs_tree.specs.declared.tables.NameTables.{NameTables}
-use Rattle.lfs_tree.specs.Naming.{AreEmpty, Base, IsNoted, capped, giving, leads}
+use Rattle.lfs_tree.specs.Naming.{AreEmpty, Base, IsNoted, NamesValue, capped, giving, leads}
 use Rattle.lfs_tree.specs.Objects.{AreNamed, IsGoodObject, given_below, names_at, sum_below}
 
 pub sum_none : (f : ℕ → ℕ) → sum_below f 0 ≡ 0
@@ -21,10 +20,10 @@ sum_more f n = let next : n + 1 ≡ suc n = omega arith in ap (sum_below f) next
 
 module _ (m : LogMap) (headers : List (Option Header)) where
   -- what is known before the next object
-  abbrev pub base_at : NameTables → ℕ → Base
-  base_at t upto = record { counts = given_below m upto; up = slice_index t.up.items; below = slice_index t.below.items }
+  abbrev pub base_at : NamesValue → ℕ → Base
+  base_at t upto = record { counts = given_below m upto; up = slice_index t.up; below = slice_index t.below }
 
-  pub named_none : (t : NameTables) → AreEmpty t → AreNamed m headers t 0
+  pub named_none : (t : NamesValue) → AreEmpty t → AreNamed m headers t 0
   named_none t empty = record {
     counts = λ n low. let none = sum_none (λ d. giving (names_at m d) n) in let zero_at = empty.counts n in omega (arith, none, zero_at);
     up = λ n low some. let none = sum_none (λ d. giving (names_at m d) n) in absurd (omega (arith, none, some));
@@ -33,7 +32,7 @@ module _ (m : LogMap) (headers : List (Option Header)) where
     good = λ n low. absurd (omega (arith, low));
   }
 
-  module _ (t : NameTables) (upto : ℕ) (was : AreNamed m headers t upto) where
+  module _ (t : NamesValue) (upto : ℕ) (was : AreNamed m headers t upto) where
     pub noted_begin : IsNoted headers upto (base_at t upto) [] t
     noted_begin = record {
       counts = λ n low. let own = was.counts n low in omega (arith, own);
@@ -43,8 +42,8 @@ module _ (m : LogMap) (headers : List (Option Header)) where
       others = λ e other. refl;
     }
 
-    module _ (t' : NameTables) (good : IsGoodObject m headers upto) (noted : IsNoted headers upto (base_at t upto) (names_at m upto) t') where
-      up_then : (n : ℕ) → n < 4096 → 0 < given_below m (upto + 1) n → 0 < giving (names_at m (slice_index t'.up.items n)) n
+    module _ (t' : NamesValue) (good : IsGoodObject m headers upto) (noted : IsNoted headers upto (base_at t upto) (names_at m upto) t') where
+      up_then : (n : ℕ) → n < 4096 → 0 < given_below m (upto + 1) n → 0 < giving (names_at m (slice_index t'.up n)) n
       up_then n low some = ⊎_elim
           (λ (here : 0 < giving (names_at m upto) n). subst (λ (d : ℕ). 0 < giving (names_at m d) n) (sym (noted.given n low here)) here)
           (λ (none : giving (names_at m upto) n ≤ 0).
@@ -52,13 +51,13 @@ module _ (m : LogMap) (headers : List (Option Header)) where
           subst (λ (d : ℕ). 0 < giving (names_at m d) n) (sym (noted.kept n low (omega (arith, none)))) (was.up n low (omega (arith, more, none, some))))
           (cases_lt 0 (giving (names_at m upto) n))
 
-      below_then : (d : ℕ) → d < upto + 1 → slice_index t'.below.items d ≡ capped (count_by (λ x. leads headers x.1) (names_at m d))
+      below_then : (d : ℕ) → d < upto + 1 → slice_index t'.below d ≡ capped (count_by (λ x. leads headers x.1) (names_at m d))
       below_then d low = ⊎_elim
           (λ (here : d ≡ upto).
           let own = noted.own in
           let none = was.none upto (omega arith) in
-          let last : slice_index t'.below.items upto ≡ capped (count_by (λ x. leads headers x.1) (names_at m upto)) = omega (arith, own, none) in
-          subst (λ (x : ℕ). slice_index t'.below.items x ≡ capped (count_by (λ y. leads headers y.1) (names_at m x))) (sym here) last)
+          let last : slice_index t'.below upto ≡ capped (count_by (λ x. leads headers x.1) (names_at m upto)) = omega (arith, own, none) in
+          subst (λ (x : ℕ). slice_index t'.below x ≡ capped (count_by (λ y. leads headers y.1) (names_at m x))) (sym here) last)
           (λ (other : d ≡ upto → ⊥). noted.others d other ∙ was.below d (omega (arith, low, other)))
           (cases_eq d upto)
 

@@ -9,8 +9,7 @@ use Rattle.std.specs.FinMap.{find, is_sorted, put}
 use Rattle.lfs_model.specs.Tree.{Names, byte_cmp}
 use Rattle.lfs_model.proofs.Sums.{total_put, weight}
 use Rattle.lfs_files.specs.declared.header.Header.{Header}
-use Rattle.lfs_tree.specs.declared.tables.NameTables.{NameTables}
-use Rattle.lfs_tree.specs.Naming.{AreTables, Base, IsNoted, Notes, capped, giving, leads}
+use Rattle.lfs_tree.specs.Naming.{AreTables, Base, IsNoted, NamesValue, Notes, capped, giving, leads}
 
 -- one name more, of a number that passes a test or not
 pub counted_put : (p : ℕ → Bool) (names : Names) (name : List ℕ) (v : ℕ) → T (is_sorted byte_cmp names) → find byte_cmp name names ≡ None
@@ -20,7 +19,7 @@ counted_put p names name v order new =
     let none = ap (λ (o : Option ℕ). weight nat_list_cmp_total (λ w. cond {A = ℕ} (p w) 1 0) o) new in
     omega (arith, put_in, none)
 
-module _ (headers : List (Option Header)) (d : ℕ) (base : Base) (names : Names) (t t' : NameTables) (n : ℕ) (name : List ℕ) (here : d < 4096) (inside : n < 4096)
+module _ (headers : List (Option Header)) (d : ℕ) (base : Base) (names : Names) (t t' : NamesValue) (n : ℕ) (name : List ℕ) (here : d < 4096) (inside : n < 4096)
     (sizes : AreTables t) (order : T (is_sorted byte_cmp names)) (new : find byte_cmp name names ≡ None) (was : IsNoted headers d base names t) (notes : Notes t t' d n (leads headers n)) where
   given_more : (q : ℕ) → giving (put byte_cmp name n names) q ≡ giving names q + cond {A = ℕ} (n == q) 1 0
   given_more q = counted_put (λ w. w == q) names name n order new
@@ -36,26 +35,26 @@ module _ (headers : List (Option Header)) (d : ℕ) (base : Base) (names : Names
       let e = given_more q ∙ ap (λ (b : Bool). giving names q + cond {A = ℕ} b 1 0) no in
       omega (arith, e)
 
-  count_own : (q : ℕ) → q ≡ n → slice_index t'.counts.items q ≡ min (slice_index t.counts.items q + 1) 65535
+  count_own : (q : ℕ) → q ≡ n → slice_index t'.counts q ≡ min (slice_index t.counts q + 1) 65535
   count_own q same =
       let size = sizes.counts in
-      let low : n < length t.counts.items = omega (arith, size, inside) in
-      ap (λ (l : List ℕ). slice_index l q) notes.counts ∙ ap (slice_index (slice_set t.counts.items n (min (slice_index t.counts.items n + 1) 65535))) same
-      ∙ get_or-set_same t.counts.items n (min (slice_index t.counts.items n + 1) 65535) 0 low ∙ ap (λ (x : ℕ). min (slice_index t.counts.items x + 1) 65535) (sym same)
+      let low : n < length t.counts = omega (arith, size, inside) in
+      ap (λ (l : List ℕ). slice_index l q) notes.counts ∙ ap (slice_index (slice_set t.counts n (min (slice_index t.counts n + 1) 65535))) same
+      ∙ get_or-set_same t.counts n (min (slice_index t.counts n + 1) 65535) 0 low ∙ ap (λ (x : ℕ). min (slice_index t.counts x + 1) 65535) (sym same)
 
-  count_other : (q : ℕ) → (q ≡ n → ⊥) → slice_index t'.counts.items q ≡ slice_index t.counts.items q
-  count_other q other = ap (λ (l : List ℕ). slice_index l q) notes.counts ∙ get_or-set_other t.counts.items n q (min (slice_index t.counts.items n + 1) 65535) 0 other
+  count_other : (q : ℕ) → (q ≡ n → ⊥) → slice_index t'.counts q ≡ slice_index t.counts q
+  count_other q other = ap (λ (l : List ℕ). slice_index l q) notes.counts ∙ get_or-set_other t.counts n q (min (slice_index t.counts n + 1) 65535) 0 other
 
-  up_own : (q : ℕ) → q ≡ n → slice_index t'.up.items q ≡ d
+  up_own : (q : ℕ) → q ≡ n → slice_index t'.up q ≡ d
   up_own q same =
       let size = sizes.up in
-      let low : n < length t.up.items = omega (arith, size, inside) in
-      ap (λ (l : List ℕ). slice_index l q) notes.up ∙ ap (slice_index (slice_set t.up.items n d)) same ∙ get_or-set_same t.up.items n d 0 low
+      let low : n < length t.up = omega (arith, size, inside) in
+      ap (λ (l : List ℕ). slice_index l q) notes.up ∙ ap (slice_index (slice_set t.up n d)) same ∙ get_or-set_same t.up n d 0 low
 
-  up_other : (q : ℕ) → (q ≡ n → ⊥) → slice_index t'.up.items q ≡ slice_index t.up.items q
-  up_other q other = ap (λ (l : List ℕ). slice_index l q) notes.up ∙ get_or-set_other t.up.items n q d 0 other
+  up_other : (q : ℕ) → (q ≡ n → ⊥) → slice_index t'.up q ≡ slice_index t.up q
+  up_other q other = ap (λ (l : List ℕ). slice_index l q) notes.up ∙ get_or-set_other t.up n q d 0 other
 
-  counts_then : (q : ℕ) → q < 4096 → slice_index t'.counts.items q ≡ capped (base.counts q + giving (put byte_cmp name n names) q)
+  counts_then : (q : ℕ) → q < 4096 → slice_index t'.counts q ≡ capped (base.counts q + giving (put byte_cmp name n names) q)
   counts_then q low =
       let before = was.counts q low in
       ⊎_elim
@@ -63,23 +62,23 @@ module _ (headers : List (Option Header)) (d : ℕ) (base : Base) (names : Names
       (λ (other : q ≡ n → ⊥). let own = count_other q other in let more = given_other q other in omega (arith, own, more, before))
       (cases_eq q n)
 
-  given_then : (q : ℕ) → q < 4096 → 0 < giving (put byte_cmp name n names) q → slice_index t'.up.items q ≡ d
+  given_then : (q : ℕ) → q < 4096 → 0 < giving (put byte_cmp name n names) q → slice_index t'.up q ≡ d
   given_then q low some = ⊎_elim
       (λ (same : q ≡ n). up_own q same)
       (λ (other : q ≡ n → ⊥). let more = given_other q other in up_other q other ∙ was.given q low (omega (arith, some, more)))
       (cases_eq q n)
 
-  kept_then : (q : ℕ) → q < 4096 → giving (put byte_cmp name n names) q ≡ 0 → slice_index t'.up.items q ≡ base.up q
+  kept_then : (q : ℕ) → q < 4096 → giving (put byte_cmp name n names) q ≡ 0 → slice_index t'.up q ≡ base.up q
   kept_then q low none = ⊎_elim
       (λ (same : q ≡ n). let more = given_own q same in absurd (omega (arith, none, more)))
       (λ (other : q ≡ n → ⊥). let more = given_other q other in up_other q other ∙ was.kept q low (omega (arith, none, more)))
       (cases_eq q n)
 
-  own_then : slice_index t'.below.items d ≡ capped (base.below d + count_by (λ x. leads headers x.1) (put byte_cmp name n names))
+  own_then : slice_index t'.below d ≡ capped (base.below d + count_by (λ x. leads headers x.1) (put byte_cmp name n names))
   own_then =
       let size = sizes.below in
-      let low : d < length t.below.items = omega (arith, size, here) in
-      let own = ap (λ (l : List ℕ). slice_index l d) notes.below ∙ get_or-set_same t.below.items d (min (slice_index t.below.items d + cond {A = ℕ} (leads headers n) 1 0) 65535) 0 low in
+      let low : d < length t.below = omega (arith, size, here) in
+      let own = ap (λ (l : List ℕ). slice_index l d) notes.below ∙ get_or-set_same t.below d (min (slice_index t.below d + cond {A = ℕ} (leads headers n) 1 0) 65535) 0 low in
       let more = counted_put (leads headers) names name n order new in
       let before = was.own in
       omega (arith, own, more, before)
@@ -90,5 +89,5 @@ module _ (headers : List (Option Header)) (d : ℕ) (base : Base) (names : Names
     given = given_then;
     kept = kept_then;
     own = own_then;
-    others = λ e other. ap (λ (l : List ℕ). slice_index l e) notes.below ∙ get_or-set_other t.below.items d e (min (slice_index t.below.items d + cond {A = ℕ} (leads headers n) 1 0) 65535) 0 other ∙ was.others e other;
+    others = λ e other. ap (λ (l : List ℕ). slice_index l e) notes.below ∙ get_or-set_other t.below d e (min (slice_index t.below d + cond {A = ℕ} (leads headers n) 1 0) 65535) 0 other ∙ was.others e other;
   }

@@ -19,8 +19,7 @@ use Rattle.lfs_files.specs.declared.header.Header.{Header}
 use Rattle.lfs_files.specs.Headers.{as_header}
 use Rattle.lfs_dirs.specs.Directory.{slots_at}
 use Rattle.lfs_dirs.proofs.SlotsGive.{slot_gives}
-use Rattle.lfs_tree.specs.declared.tables.NameTables.{NameTables}
-use Rattle.lfs_tree.specs.Naming.{AreGoodSlots, Base, IsGoodSlot, IsNoted, TakesNames, is_directory_kind}
+use Rattle.lfs_tree.specs.Naming.{AreGoodSlots, Base, IsGoodSlot, IsNoted, NamesValue, TakesNames, is_directory_kind}
 use Rattle.lfs_tree.specs.Objects.{IsGoodObject, TakesObject, names_at}
 use Rattle.lfs_tree.specs.Reading.{TellsHeaders}
 
@@ -170,7 +169,7 @@ module _ (m : LogMap) (are : AreHeaders m) where
     }
 
     -- ---- one object
-    module _ (n : ℕ) (low : n < 4096) (base : Base) (t : NameTables) where
+    module _ (n : ℕ) (low : n < 4096) (base : Base) (t : NamesValue) where
       module _ (head : Header) (is : get_or headers n None ≡ Some head) where
         at_head : m.header n ≡ Some (as_header head)
         at_head = head_told m headers told n low head is

@@ -1,8 +1,8 @@
 -- What the tables say of the tree: numbers that are named, directories that are reached, and links.
-use Rattle.std.specs.Prelude.{T, count_by, unwrap_or}
-use Rattle.std.proofs.Common.{◌≡◌, ◌≢◌, ◌<◌, ◌≤◌, ◌↔◌, ⊎_elim, ◌+◌, cond, true, false, Bool, ℕ, List, [], ◌∷◌, length, get_or, Option, Some, None, refl, sym, ◌∙◌, ap, subst, arith, slice_index}
-use Rattle.std.proofs.lemmas.Bool.{cases_eq, cases_lt}
-use Rattle.std.proofs.lemmas.List.{get_or_past}
+use Rattle.std.specs.Prelude.{◌==◌, T, count_by, unwrap_or}
+use Rattle.std.proofs.Common.{◌≡◌, ◌≢◌, ◌<◌, ◌≤◌, ◌↔◌, ⊎_elim, ◌+◌, cond, true, false, Bool, eqb, ℕ, List, [], ◌∷◌, get_or, Option, Some, None, refl, sym, ◌∙◌, ap, subst, arith, slice_index}
+use Rattle.std.proofs.lemmas.Bool.{cases_eq}
+use Rattle.std.proofs.lemmas.Bool.Decides.{nat_tests}
 use Rattle.std.proofs.lemmas.List.Sums.{sum_by-cons}
 use Rattle.std.specs.FinMap.{find, is_sorted}
 use Rattle.std.specs.Option.{option_map}
@@ -12,14 +12,12 @@ use Rattle.lfs_model.specs.Entry as entry
 use Rattle.lfs_model.specs.Sound.{IsReachable, below, root}
 use Rattle.lfs_model.specs.Stands.{LogMap}
 use Rattle.lfs_model.specs.Tree.{Dir, File, Link, Names, Node, byte_cmp, entry as entry_in, is_dir, links, links_at, names, names_of, node}
-use Rattle.lfs_model.specs.TreeOf.{AreLinks, AreReached, node_by, node_of, slots, tree_in}
-use Rattle.lfs_model.proofs.Volume.{no_node_past}
+use Rattle.lfs_model.specs.TreeOf.{AreLinks, AreReached, AreSlots, node_by, node_of, slots, tree_in}
 use Rattle.lfs_files.specs.declared.header.Header.{Header}
 use Rattle.lfs_files.specs.Headers.{as_header}
 use Rattle.lfs_dirs.proofs.SlotNames.{sorted_names}
-use Rattle.lfs_tree.specs.declared.tables.NameTables.{NameTables}
 use Rattle.lfs_tree.specs.Linking.{AreLinksFit, FitsLinks}
-use Rattle.lfs_tree.specs.Naming.{AreTables, capped, giving, is_directory, is_directory_kind, leads}
+use Rattle.lfs_tree.specs.Naming.{NamesValue, capped, giving, is_directory, is_directory_kind, leads}
 use Rattle.lfs_tree.specs.Objects.{AreNamed, names_at}
 use Rattle.lfs_tree.specs.Reaching.{AllClimb, AreNamesFit, Climbs, FitsNames}
 use Rattle.lfs_tree.specs.Reaching as way
@@ -27,16 +25,29 @@ use Rattle.lfs_tree.specs.Reading.{TellsHeaders}
 use Rattle.lfs_tree.proofs.ObjectNames.{AreHeaders, head_told, names_directory, names_in_is, names_other, names_slots, no_names, node_at}
 use Rattle.lfs_tree.proofs.TreeNames.{found_given, given_found, names_given, sum_both}
 
-count_same : (p q : ℕ → Bool) → ((n : ℕ) → p n ≡ q n) → (ms : Names) → count_by (λ x. p x.1) ms ≡ count_by (λ x. q x.1) ms
-count_same p q same [] = refl
-count_same p q same (e ∷ ms) =
-    let rest = count_same p q same ms in
+-- ---- tests that agree on the numbers that names give
+given_first : (e : List ℕ × ℕ) (ms : Names) → 0 < giving (e ∷ ms) e.1
+given_first e ms =
+    let yes : eqb e.1 e.1 ≡ true = grind (arith, nat_tests) in
+    let one = ap {B = ℕ} (λ (t : Bool). cond t 1 0) yes in
+    let more = sum_by-cons (λ (x : List ℕ × ℕ). cond {A = ℕ} (x.1 == e.1) 1 0) e ms in
+    omega (arith, one, more)
+
+given_behind : (e : List ℕ × ℕ) (ms : Names) (n : ℕ) → 0 < giving ms n → 0 < giving (e ∷ ms) n
+given_behind e ms n some =
+    let more = sum_by-cons (λ (x : List ℕ × ℕ). cond {A = ℕ} (x.1 == n) 1 0) e ms in
+    omega (arith, some, more)
+
+count_same : (p q : ℕ → Bool) (ms : Names) → ((n : ℕ) → 0 < giving ms n → p n ≡ q n) → count_by (λ x. p x.1) ms ≡ count_by (λ x. q x.1) ms
+count_same p q [] same = refl
+count_same p q (e ∷ ms) same =
+    let rest = count_same p q ms (λ n some. same n (given_behind e ms n some)) in
     let a = sum_by-cons (λ (x : List ℕ × ℕ). cond {A = ℕ} (p x.1) 1 0) e ms in
     let b = sum_by-cons (λ (x : List ℕ × ℕ). cond {A = ℕ} (q x.1) 1 0) e ms in
-    let own = ap {B = ℕ} (λ (t : Bool). cond t 1 0) (same e.1) in
+    let own = ap {B = ℕ} (λ (t : Bool). cond t 1 0) (same e.1 (given_first e ms)) in
     omega (arith, rest, a, b, own)
 
-module _ (m : LogMap) (are : AreHeaders m) (headers : List (Option Header)) (whole : length headers ≡ 4096) (told : TellsHeaders m headers 4096) where
+module _ (m : LogMap) (are : AreHeaders m) (headers : List (Option Header)) (told : TellsHeaders m headers 4096) where
   -- ---- what stands at a number
   dir_by : (n : ℕ) (h : entry.Header) (k : Kind) → is_dir (Some (node_by m k n h)) ≡ is_directory_kind k
   dir_by n h kind.File = refl
@@ -49,15 +60,12 @@ module _ (m : LogMap) (are : AreHeaders m) (headers : List (Option Header)) (who
   node_not : (n : ℕ) → n < 4096 → get_or headers n None ≡ None → node (tree_in m) n ≡ None
   node_not n low none = node_at m are n ∙ ap (node_of m n) (told n low ∙ ap (option_map as_header) none)
 
-  leads_low : (n : ℕ) → n < 4096 → (o : Option Header) → get_or headers n None ≡ o → leads headers n ≡ is_dir (node (tree_in m) n)
-  leads_low n low None is = ap is_directory is ∙ sym (ap is_dir (node_not n low is))
-  leads_low n low (Some hd) is = ap is_directory is ∙ sym (ap is_dir (node_there n hd low is) ∙ dir_by n (as_header hd) hd.kind)
+  leads_by : (n : ℕ) → n < 4096 → (o : Option Header) → get_or headers n None ≡ o → leads headers n ≡ is_dir (node (tree_in m) n)
+  leads_by n low None is = ap is_directory is ∙ sym (ap is_dir (node_not n low is))
+  leads_by n low (Some hd) is = ap is_directory is ∙ sym (ap is_dir (node_there n hd low is) ∙ dir_by n (as_header hd) hd.kind)
 
-  pub leads_is : (n : ℕ) → leads headers n ≡ is_dir (node (tree_in m) n)
-  leads_is n = ⊎_elim
-      (λ (low : n < 4096). leads_low n low (get_or headers n None) refl)
-      (λ (past : 4096 ≤ n). ap is_directory (get_or_past headers n None (omega (arith, whole, past))) ∙ sym (ap is_dir (no_node_past m n past)))
-      (cases_lt n 4096)
+  leads_is : (n : ℕ) → n < 4096 → leads headers n ≡ is_dir (node (tree_in m) n)
+  leads_is n low = leads_by n low (get_or headers n None) refl
 
   -- a number that is there
   low_of : (n : ℕ) (h : entry.Header) → m.header n ≡ Some h → n < 4096
@@ -110,28 +118,25 @@ module _ (m : LogMap) (are : AreHeaders m) (headers : List (Option Header)) (who
   entry_given d name n given = found_given (names_at m d) name n (sym (ap (find byte_cmp name) (names_in_is m are d)) ∙ given)
 
   -- ---- the tables
-  module _ (t : NameTables) (sizes : AreTables t) (named : AreNamed m headers t 4096) where
-    pub count_is : (n : ℕ) → n < 4096 → slice_index t.counts.items n ≡ capped (names (tree_in m) n)
+  module _ (t : NamesValue) (named : AreNamed m headers t 4096) where
+    pub count_is : (n : ℕ) → n < 4096 → slice_index t.counts n ≡ capped (names (tree_in m) n)
     count_is n low = named.counts n low ∙ ap capped (sym (names_given m are n))
 
-    up : ℕ → ℕ
-    up n = slice_index t.up.items n
-
     -- the directory above one that is named
-    up_names : (n : ℕ) → n < 4096 → 0 < names (tree_in m) n → 0 < giving (names_at m (slice_index t.up.items n)) n
+    up_names : (n : ℕ) → n < 4096 → 0 < names (tree_in m) n → 0 < giving (names_at m (slice_index t.up n)) n
     up_names n low some = let same = names_given m are n in named.up n low (omega (arith, some, same))
 
-    up_entry : (n : ℕ) → n < 4096 → 0 < names (tree_in m) n → (name : List ℕ) × (entry_in (tree_in m) (slice_index t.up.items n) name ≡ Some n)
+    up_entry : (n : ℕ) → n < 4096 → 0 < names (tree_in m) n → (name : List ℕ) × (entry_in (tree_in m) (slice_index t.up n) name ≡ Some n)
     up_entry n low some =
-        let found = given_found (names_at m (slice_index t.up.items n)) n (sorted_at (slice_index t.up.items n)) (up_names n low some) in
-        (found.0, ap (find byte_cmp found.0) (names_in_is m are (slice_index t.up.items n)) ∙ found.1)
+        let found = given_found (names_at m (slice_index t.up n)) n (sorted_at (slice_index t.up n)) (up_names n low some) in
+        (found.0, ap (find byte_cmp found.0) (names_in_is m are (slice_index t.up n)) ∙ found.1)
 
     -- ---- numbers named
     module _ (fit : AreNamesFit headers t) where
-      fits_at : (n : ℕ) (h : entry.Header) → m.header n ≡ Some h → (hd : Header) × (h ≡ as_header hd) × FitsNames (Some hd) n (slice_index t.counts.items n)
+      fits_at : (n : ℕ) (h : entry.Header) → m.header n ≡ Some h → (hd : Header) × (h ≡ as_header hd) × FitsNames (Some hd) n (slice_index t.counts n)
       fits_at n h at =
           let is = header_of n h at in
-          (is.0, is.2, subst (λ (o : Option Header). FitsNames o n (slice_index t.counts.items n)) is.1 (fit n (low_of n h at)))
+          (is.0, is.2, subst (λ (o : Option Header). FitsNames o n (slice_index t.counts n)) is.1 (fit n (low_of n h at)))
 
       pub named_some : (n : ℕ) → n ≢ 1 → node (tree_in m) n ≢ None → 0 < names (tree_in m) n
       named_some n other there =
@@ -160,12 +165,12 @@ module _ (m : LogMap) (are : AreHeaders m) (headers : List (Option Header)) (who
     pub names_fit : AreReached m → AreNamesFit headers t
     names_fit reached n low = by (get_or headers n None) refl
       where
-        by : (o : Option Header) → get_or headers n None ≡ o → FitsNames (get_or headers n None) n (slice_index t.counts.items n)
-        by None is = subst (λ (o : Option Header). FitsNames o n (slice_index t.counts.items n)) (sym is) tt
+        by : (o : Option Header) → get_or headers n None ≡ o → FitsNames (get_or headers n None) n (slice_index t.counts n)
+        by None is = subst (λ (o : Option Header). FitsNames o n (slice_index t.counts n)) (sym is) tt
         by (Some hd) is =
             let same = count_is n low in
             let at = node_there n hd low is in
-            subst (λ (o : Option Header). FitsNames o n (slice_index t.counts.items n)) (sym is) (
+            subst (λ (o : Option Header). FitsNames o n (slice_index t.counts n)) (sym is) (
               λ one. (let none = ap (names (tree_in m)) one ∙ reached.root in omega (arith, same, none)),
               λ other. (let some = reached.some n other (λ none. let both : Some (node_by m hd.kind n (as_header hd)) ≡ None = sym at ∙ none in absurd (cc)) in omega (arith, same, some)),
               λ other dir. (let one = reached.one n other (ap is_dir at ∙ dir_by n (as_header hd) hd.kind ∙ dir) in omega (arith, same, one)),
@@ -176,38 +181,41 @@ module _ (m : LogMap) (are : AreHeaders m) (headers : List (Option Header)) (who
       dir_low : (n : ℕ) → is_dir (node (tree_in m) n) ≡ true → n < 4096
       dir_low n dir = let at = header_in n (dir_there n dir) in low_of n at.0 at.1
 
-      pub climbs_reached : {n : ℕ} → Climbs (slice_index t.up.items) n → is_dir (node (tree_in m) n) ≡ true → IsReachable (tree_in m) n
+      pub climbs_reached : {n : ℕ} → Climbs (slice_index t.up) n → is_dir (node (tree_in m) n) ≡ true → IsReachable (tree_in m) n
       climbs_reached way.root dir = root
       climbs_reached (way.more n rest) dir = ⊎_elim
           (λ (here : n ≡ 1). subst (IsReachable (tree_in m)) (sym here) root)
           (λ (other : n ≡ 1 → ⊥).
           let once = one n other dir in
           let given = up_entry n (dir_low n dir) (omega (arith, once)) in
-          below given.0 (climbs_reached rest (entry_dir (slice_index t.up.items n) given.0 n given.1)) given.1)
+          below given.0 (climbs_reached rest (entry_dir (slice_index t.up n) given.0 n given.1)) given.1)
           (cases_eq n 1)
 
-      same_up : (n d : ℕ) (name : List ℕ) → n ≢ 1 → is_dir (node (tree_in m) n) ≡ true → entry_in (tree_in m) d name ≡ Some n → d ≡ slice_index t.up.items n
+      up_low : (n : ℕ) → n < 4096 → 0 < names (tree_in m) n → slice_index t.up n < 4096
+      up_low n low some = let given = up_entry n low some in dir_low (slice_index t.up n) (entry_dir (slice_index t.up n) given.0 n given.1)
+
+      same_up : (n d : ℕ) (name : List ℕ) → n ≢ 1 → is_dir (node (tree_in m) n) ≡ true → entry_in (tree_in m) d name ≡ Some n → d ≡ slice_index t.up n
       same_up n d name other dir given = ⊎_elim
-          (λ (same : d ≡ slice_index t.up.items n). same)
-          (λ (apart : d ≡ slice_index t.up.items n → ⊥).
+          (λ (same : d ≡ slice_index t.up n). same)
+          (λ (apart : d ≡ slice_index t.up n → ⊥).
           let once = one n other dir in
           let first = entry_given d name n given in
           let second = up_names n (dir_low n dir) (omega (arith, once)) in
-          let both = sum_both (λ (x : ℕ). giving (names_at m x) n) d (slice_index t.up.items n) 4096 (dir_low d (entry_dir d name n given)) (sizes.inside n) apart in
+          let both = sum_both (λ (x : ℕ). giving (names_at m x) n) d (slice_index t.up n) 4096 (dir_low d (entry_dir d name n given)) (up_low n (dir_low n dir) (omega (arith, once))) apart in
           let all = names_given m are n in
           absurd (omega (arith, once, first, second, both, all)))
-          (cases_eq d (slice_index t.up.items n))
+          (cases_eq d (slice_index t.up n))
 
-      pub reached_climbs : {n : ℕ} → IsReachable (tree_in m) n → is_dir (node (tree_in m) n) ≡ true → Climbs (slice_index t.up.items) n
+      pub reached_climbs : {n : ℕ} → IsReachable (tree_in m) n → is_dir (node (tree_in m) n) ≡ true → Climbs (slice_index t.up) n
       reached_climbs root dir = way.root
       reached_climbs (below {d} {n} name from given) dir = ⊎_elim
-          (λ (here : n ≡ 1). subst (Climbs (slice_index t.up.items)) (sym here) way.root)
+          (λ (here : n ≡ 1). subst (Climbs (slice_index t.up)) (sym here) way.root)
           (λ (other : n ≡ 1 → ⊥).
-          way.more n (subst (Climbs (slice_index t.up.items)) (same_up n d name other dir given) (reached_climbs from (entry_dir d name n given))))
+          way.more n (subst (Climbs (slice_index t.up)) (same_up n d name other dir given) (reached_climbs from (entry_dir d name n given))))
           (cases_eq n 1)
 
     -- ---- the stage
-    pub reached_if_fit : (h : entry.Header) → m.header 1 ≡ Some h → AreNamesFit headers t → AllClimb headers t.up.items → AreReached m
+    pub reached_if_fit : (h : entry.Header) → m.header 1 ≡ Some h → AreNamesFit headers t → AllClimb headers t.up → AreReached m
     reached_if_fit h at fit climb = record {
       some = named_some fit;
       root = named_root fit h at;
@@ -215,49 +223,57 @@ module _ (m : LogMap) (are : AreHeaders m) (headers : List (Option Header)) (who
       down = λ n dir.
           let there = header_in n (dir_there n dir) in
           let range = (are n there.0 there.1).number in
-          climbs_reached (named_one fit) (climb n range.0 (low_of n there.0 there.1) (leads_is n ∙ dir)) dir;
+          climbs_reached (named_one fit) (climb n range.0 (low_of n there.0 there.1) (leads_is n (low_of n there.0 there.1) ∙ dir)) dir;
     }
 
-    pub fit_if_reached : AreReached m → AreNamesFit headers t × AllClimb headers t.up.items
-    fit_if_reached reached = (names_fit reached, λ n some low on. (let dir = sym (leads_is n) ∙ on in reached_climbs reached.one (reached.down n dir) dir))
+    pub fit_if_reached : AreReached m → AreNamesFit headers t × AllClimb headers t.up
+    fit_if_reached reached = (names_fit reached, λ n some low on. (let dir = sym (leads_is n low) ∙ on in reached_climbs reached.one (reached.down n dir) dir))
 
     -- ---- links
-    links_of : (n : ℕ) (hd : Header) → n < 4096 → get_or headers n None ≡ Some hd → hd.links ≤ 1000 → (k : Kind) → hd.kind ≡ k
-        → (hd.links ≡ cond (is_directory_kind hd.kind) (2 + slice_index t.below.items n) (slice_index t.counts.items n)) ↔ (hd.links ≡ links (tree_in m) n)
-    links_of n hd low is few kind.File e =
-        let same = count_is n low in
-        let tree = ap (links_at (tree_in m) n) (node_there n hd low is ∙ ap (λ (k : Kind). Some (node_by m k n (as_header hd))) e) in
-        let test = ap {B = ℕ} (λ (k : Kind). cond (is_directory_kind k) (2 + slice_index t.below.items n) (slice_index t.counts.items n)) e in
-        (λ l. omega (arith, l, same, tree, test, few), λ l. omega (arith, l, same, tree, test, few))
-    links_of n hd low is few kind.Link e =
-        let same = count_is n low in
-        let tree = ap (links_at (tree_in m) n) (node_there n hd low is ∙ ap (λ (k : Kind). Some (node_by m k n (as_header hd))) e) in
-        let test = ap {B = ℕ} (λ (k : Kind). cond (is_directory_kind k) (2 + slice_index t.below.items n) (slice_index t.counts.items n)) e in
-        (λ l. omega (arith, l, same, tree, test, few), λ l. omega (arith, l, same, tree, test, few))
-    links_of n hd low is few kind.Directory e =
-        let own = names_directory m are n (as_header hd) (head_told m headers told n low hd is) e in
-        let same = named.below n low in
-        let counted = count_same (leads headers) (λ (v : ℕ). is_dir (node (tree_in m) v)) leads_is (names_at m n) in
-        let moved = ap (λ (ms : Names). count_by (λ x. is_dir (node (tree_in m) x.1)) ms) own in
-        let tree = ap (links_at (tree_in m) n) (node_there n hd low is ∙ ap (λ (k : Kind). Some (node_by m k n (as_header hd))) e) in
-        let test = ap {B = ℕ} (λ (k : Kind). cond (is_directory_kind k) (2 + slice_index t.below.items n) (slice_index t.counts.items n)) e in
-        (λ l. omega (arith, l, same, counted, moved, tree, test, few), λ l. omega (arith, l, same, counted, moved, tree, test, few))
+    module _ (entries : AreSlots m) where
+      -- a number that a name gives
+      given_low : (d n : ℕ) → 0 < giving (names_at m d) n → n < 4096
+      given_low d n some =
+          let found = given_found (names_at m d) n (sorted_at d) some in
+          let at = header_in n (entries.there d found.0 n (ap (find byte_cmp found.0) (names_in_is m are d) ∙ found.1)) in
+          low_of n at.0 at.1
 
-    few_links : (n : ℕ) (hd : Header) → n < 4096 → get_or headers n None ≡ Some hd → hd.links ≤ 1000
-    few_links n hd low is = (are n (as_header hd) (head_told m headers told n low hd is)).links.1
+      links_of : (n : ℕ) (hd : Header) → n < 4096 → get_or headers n None ≡ Some hd → hd.links ≤ 1000 → (k : Kind) → hd.kind ≡ k
+          → (hd.links ≡ cond (is_directory_kind hd.kind) (2 + slice_index t.below n) (slice_index t.counts n)) ↔ (hd.links ≡ links (tree_in m) n)
+      links_of n hd low is few kind.File e =
+          let same = count_is n low in
+          let tree = ap (links_at (tree_in m) n) (node_there n hd low is ∙ ap (λ (k : Kind). Some (node_by m k n (as_header hd))) e) in
+          let test = ap {B = ℕ} (λ (k : Kind). cond (is_directory_kind k) (2 + slice_index t.below n) (slice_index t.counts n)) e in
+          (λ l. omega (arith, l, same, tree, test, few), λ l. omega (arith, l, same, tree, test, few))
+      links_of n hd low is few kind.Link e =
+          let same = count_is n low in
+          let tree = ap (links_at (tree_in m) n) (node_there n hd low is ∙ ap (λ (k : Kind). Some (node_by m k n (as_header hd))) e) in
+          let test = ap {B = ℕ} (λ (k : Kind). cond (is_directory_kind k) (2 + slice_index t.below n) (slice_index t.counts n)) e in
+          (λ l. omega (arith, l, same, tree, test, few), λ l. omega (arith, l, same, tree, test, few))
+      links_of n hd low is few kind.Directory e =
+          let own = names_directory m are n (as_header hd) (head_told m headers told n low hd is) e in
+          let same = named.below n low in
+          let counted = count_same (leads headers) (λ (v : ℕ). is_dir (node (tree_in m) v)) (names_at m n) (λ v some. leads_is v (given_low n v some)) in
+          let moved = ap (λ (ms : Names). count_by (λ x. is_dir (node (tree_in m) x.1)) ms) own in
+          let tree = ap (links_at (tree_in m) n) (node_there n hd low is ∙ ap (λ (k : Kind). Some (node_by m k n (as_header hd))) e) in
+          let test = ap {B = ℕ} (λ (k : Kind). cond (is_directory_kind k) (2 + slice_index t.below n) (slice_index t.counts n)) e in
+          (λ l. omega (arith, l, same, counted, moved, tree, test, few), λ l. omega (arith, l, same, counted, moved, tree, test, few))
 
-    pub links_if_fit : AreLinksFit headers t → AreLinks m
-    links_if_fit fit n h at =
-        let is = header_of n h at in
-        let low = low_of n h at in
-        let fits = subst (λ (o : Option Header). FitsLinks o (slice_index t.counts.items n) (slice_index t.below.items n)) is.1 (fit n low) in
-        ap (λ (x : entry.Header). x.links) is.2 ∙ (links_of n is.0 low is.1 (few_links n is.0 low is.1) is.0.kind refl).0 fits
+      few_links : (n : ℕ) (hd : Header) → n < 4096 → get_or headers n None ≡ Some hd → hd.links ≤ 1000
+      few_links n hd low is = (are n (as_header hd) (head_told m headers told n low hd is)).links.1
 
-    pub fit_if_links : AreLinks m → AreLinksFit headers t
-    fit_if_links all n low = by (get_or headers n None) refl
-      where
-        by : (o : Option Header) → get_or headers n None ≡ o → FitsLinks (get_or headers n None) (slice_index t.counts.items n) (slice_index t.below.items n)
-        by None is = subst (λ (o : Option Header). FitsLinks o (slice_index t.counts.items n) (slice_index t.below.items n)) (sym is) tt
-        by (Some hd) is =
-            subst (λ (o : Option Header). FitsLinks o (slice_index t.counts.items n) (slice_index t.below.items n)) (sym is)
-            ((links_of n hd low is (few_links n hd low is) hd.kind refl).1 (all n (as_header hd) (head_told m headers told n low hd is)))
+      pub links_if_fit : AreLinksFit headers t → AreLinks m
+      links_if_fit fit n h at =
+          let is = header_of n h at in
+          let low = low_of n h at in
+          let fits = subst (λ (o : Option Header). FitsLinks o (slice_index t.counts n) (slice_index t.below n)) is.1 (fit n low) in
+          ap (λ (x : entry.Header). x.links) is.2 ∙ (links_of n is.0 low is.1 (few_links n is.0 low is.1) is.0.kind refl).0 fits
+
+      pub fit_if_links : AreLinks m → AreLinksFit headers t
+      fit_if_links all n low = by (get_or headers n None) refl
+        where
+          by : (o : Option Header) → get_or headers n None ≡ o → FitsLinks (get_or headers n None) (slice_index t.counts n) (slice_index t.below n)
+          by None is = subst (λ (o : Option Header). FitsLinks o (slice_index t.counts n) (slice_index t.below n)) (sym is) tt
+          by (Some hd) is =
+              subst (λ (o : Option Header). FitsLinks o (slice_index t.counts n) (slice_index t.below n)) (sym is)
+              ((links_of n hd low is (few_links n hd low is) hd.kind refl).1 (all n (as_header hd) (head_told m headers told n low hd is)))

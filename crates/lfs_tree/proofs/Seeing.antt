@@ -80,11 +80,6 @@ module _ (c : Content) (k : CheckpointValue) (m : LogMap) (sized : (at : ℕ) (b
         block = same;
       }
 
-  pub inode_not : (n at : ℕ) → at ≡ address c k (Inode n) → at ≡ 0 → m.header n ≡ None
-  inode_not n at is none =
-      let zero_at : address c k (Inode n) ≡ 0 = sym is ∙ none in
-      st.header n ∙ ap (λ (a : ℕ). cond (nat_lt 0 a) (Some (header (block c (address c k (Inode n))))) None) zero_at
-
   -- ---- blocks
   leaf_is : (n q : ℕ) (bytes : List ℕ) → bytes ≡ block c (address c k (Inode n)) → leaf_in c bytes q ≡ address c k (Leaf n q)
   unfolding address

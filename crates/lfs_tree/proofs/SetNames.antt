@@ -1,6 +1,6 @@
 -- A set of names, with one name more.
-use Rattle.std.proofs.Common.{◌≡◌, ◌≢◌, ◌↔◌, true, false, cond, Bool, ℕ, List, Option, Some, None, Vec, Global, refl, sym, ◌∙◌, ap}
-use Rattle.std.specs.Prelude.{is_some, not}
+use Rattle.std.proofs.Common.{◌≡◌, ◌≢◌, true, false, cond, ℕ, List, Some, Vec, Global, refl, sym, ◌∙◌, ap}
+use Rattle.std.specs.Prelude.{is_some}
 use Rattle.std.specs.BTreeSet as tree
 use Rattle.std.specs.BTreeMap.{is_at}
 use Rattle.std.specs.BTreeSet.{BTreeSet}
@@ -13,19 +13,6 @@ use Rattle.lfs_dirs.proofs.SlotNames.{apart, tied, ties}
 use Rattle.lfs_tree.specs.Naming.{HasNames}
 
 module _ (set : BTreeSet (Vec ℕ Global)) (key : Vec ℕ Global) (name : List ℕ) (is : key.items ≡ name) (names : Names) (had : HasNames set names) where
-  asked : tree.contains (λ (x y : Vec ℕ Global). slice_cmp nat_cmp x.items y.items) set key ≡ is_some (find byte_cmp name names)
-  asked = had key ∙ ap (λ (q : List ℕ). is_some (find byte_cmp q names)) is
-
-  none_found : (o : Option ℕ) → (not (is_some o) ≡ true) ↔ (o ≡ None)
-  none_found None = (λ e. refl, λ e. refl)
-  none_found (Some n) = (λ e. absurd (cc), λ e. absurd (cc))
-
-  pub name_new : (new : Bool) → new ≡ not (tree.contains (λ (x y : Vec ℕ Global). slice_cmp nat_cmp x.items y.items) set key) → (new ≡ true) ↔ (find byte_cmp name names ≡ None)
-  name_new new told =
-      let same : new ≡ not (is_some (find byte_cmp name names)) = told ∙ ap not asked in
-      let both = none_found (find byte_cmp name names) in
-      (λ e. both.0 (sym same ∙ e), λ e. same ∙ both.1 e)
-
   pub name_more : (set' : BTreeSet (Vec ℕ Global)) (v : ℕ)
       → ((q : Vec ℕ Global) → tree.contains (λ (x y : Vec ℕ Global). slice_cmp nat_cmp x.items y.items) set' q ≡ cond (is_at (slice_cmp nat_cmp key.items) q.items) true (tree.contains (λ (x y : Vec ℕ Global). slice_cmp nat_cmp x.items y.items) set q))
       → HasNames set' (put byte_cmp name v names)

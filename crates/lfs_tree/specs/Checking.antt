@@ -17,8 +17,7 @@ use Rattle.lfs_verify.specs.declared.tables.Tables.{Tables}
 use Rattle.lfs_verify.specs.Faults.{IsFault}
 use Rattle.lfs_verify.specs.Loading.{HasTables}
 use Rattle.lfs_verify.specs.Verified.{IsDamagedIn}
-use Rattle.lfs_tree.specs.declared.tables.NameTables.{NameTables}
-use Rattle.lfs_tree.specs.Naming.{AreEmpty}
+use Rattle.lfs_tree.specs.Naming.{AreEmpty, NamesValue}
 use Rattle.lfs_tree.specs.Objects.{AreNamed}
 use Rattle.lfs_tree.specs.Reading.{Leads, Sees, TellsHeaders}
 
@@ -45,7 +44,7 @@ IsFaultOf failed damage NoCheckpoint = ⊥
 IsFaultOf failed damage (Damaged code) = damage code
 
 -- all that the stages of names look at is in tables, and the stages before hold
-pub record IsGathered (c : Content) (k : CheckpointValue) (m : LogMap) (headers : List (Option Header)) (names : NameTables) (t : Tables) : Type 0 where
+pub record IsGathered (c : Content) (k : CheckpointValue) (m : LogMap) (headers : List (Option Header)) (names : NamesValue) (t : Tables) : Type 0 where
   pub holds : HoldsAt c k m
   pub sized : IsSized c
   pub told : TellsHeaders m headers 4096
@@ -63,7 +62,7 @@ abbrev pub IsRefusedTree : DeviceState → DeviceState → MountFault → Type 0
 IsRefusedTree old new = IsFaultOf (old.failures < new.failures) (IsDamagedTree old.content)
 
 -- Of each log map that the device holds, and whose tables these are, this is so, with tables of names that were empty.
-abbrev pub OfTables : DeviceState → DeviceState → Tables → NameTables → (CheckpointValue → LogMap → Type 0) → Type 0
+abbrev pub OfTables : DeviceState → DeviceState → Tables → NamesValue → (CheckpointValue → LogMap → Type 0) → Type 0
 OfTables old new t names P = (k : CheckpointValue) (m : LogMap) → Sees old new k m → IsOfLog old.content k m t → AreEmpty names → P k m
 
 -- ---- a whole volume

@@ -14,7 +14,6 @@ use Rattle.lfs_model.specs.Slot.{SlotValue, slot_in}
 use Rattle.lfs_model.specs.Tree.{Names, byte_cmp}
 use Rattle.lfs_model.specs.TreeOf.{map_of}
 use Rattle.lfs_files.specs.declared.header.Header.{Header}
-use Rattle.lfs_tree.specs.declared.tables.NameTables.{NameTables}
 
 abbrev pub is_directory_kind : Kind → Bool
 is_directory_kind kind.File = false
@@ -45,22 +44,32 @@ HasNames set names = (q : Vec ℕ Global) → tree.contains (λ (x y : Vec ℕ G
 
 -- ---- tables by number
 
-pub record AreTables (t : NameTables) : Type 0 where
-  pub counts : length t.counts.items ≡ 4096
-  pub up : length t.up.items ≡ 4096
-  pub below : length t.below.items ≡ 4096
-  pub inside : (n : ℕ) → slice_index t.up.items n < 4096
+-- what the entries that were gone through say, in lists by number
+pub record NamesValue : Type 0 where
+  -- how many give the number, at most 65,535
+  pub counts : List ℕ
+  -- a directory with such an entry, if there is one
+  pub up : List ℕ
+  -- how many of this directory give directories, at most 65,535
+  pub below : List ℕ
+
+-- each has 4,096 numbers, and those of directories are among them
+pub record AreTables (t : NamesValue) : Type 0 where
+  pub counts : length t.counts ≡ 4096
+  pub up : length t.up ≡ 4096
+  pub below : length t.below ≡ 4096
+  pub inside : (n : ℕ) → slice_index t.up n < 4096
 
 -- tables of no entries
-pub record AreEmpty (t : NameTables) : Type 0 where
-  pub counts : (n : ℕ) → slice_index t.counts.items n ≡ 0
-  pub below : (n : ℕ) → slice_index t.below.items n ≡ 0
+pub record AreEmpty (t : NamesValue) : Type 0 where
+  pub counts : (n : ℕ) → slice_index t.counts n ≡ 0
+  pub below : (n : ℕ) → slice_index t.below n ≡ 0
 
 -- Directory d gives number n once more; whether a directory stands there.
-pub record Notes (old new : NameTables) (d n : ℕ) (is_dir : Bool) : Type 0 where
-  pub counts : new.counts.items ≡ slice_set old.counts.items n (min (slice_index old.counts.items n + 1) 65535)
-  pub up : new.up.items ≡ slice_set old.up.items n d
-  pub below : new.below.items ≡ slice_set old.below.items d (min (slice_index old.below.items d + cond {A = ℕ} is_dir 1 0) 65535)
+pub record Notes (old new : NamesValue) (d n : ℕ) (is_dir : Bool) : Type 0 where
+  pub counts : new.counts ≡ slice_set old.counts n (min (slice_index old.counts n + 1) 65535)
+  pub up : new.up ≡ slice_set old.up n d
+  pub below : new.below ≡ slice_set old.below d (min (slice_index old.below d + cond {A = ℕ} is_dir 1 0) 65535)
 
 -- what is known before a directory is gone through: how often each number is given, by which directory, and how many directories each gives
 pub record Base : Type 0 where
@@ -69,12 +78,12 @@ pub record Base : Type 0 where
   pub below : ℕ → ℕ
 
 -- The tables tell these names of directory d too.
-pub record IsNoted (headers : List (Option Header)) (d : ℕ) (base : Base) (names : Names) (t : NameTables) : Type 0 where
-  pub counts : (n : ℕ) → n < 4096 → slice_index t.counts.items n ≡ capped (base.counts n + giving names n)
-  pub given : (n : ℕ) → n < 4096 → 0 < giving names n → slice_index t.up.items n ≡ d
-  pub kept : (n : ℕ) → n < 4096 → giving names n ≡ 0 → slice_index t.up.items n ≡ base.up n
-  pub own : slice_index t.below.items d ≡ capped (base.below d + count_by (λ x. leads headers x.1) names)
-  pub others : (e : ℕ) → e ≢ d → slice_index t.below.items e ≡ base.below e
+pub record IsNoted (headers : List (Option Header)) (d : ℕ) (base : Base) (names : Names) (t : NamesValue) : Type 0 where
+  pub counts : (n : ℕ) → n < 4096 → slice_index t.counts n ≡ capped (base.counts n + giving names n)
+  pub given : (n : ℕ) → n < 4096 → 0 < giving names n → slice_index t.up n ≡ d
+  pub kept : (n : ℕ) → n < 4096 → giving names n ≡ 0 → slice_index t.up n ≡ base.up n
+  pub own : slice_index t.below d ≡ capped (base.below d + count_by (λ x. leads headers x.1) names)
+  pub others : (e : ℕ) → e ≢ d → slice_index t.below e ≡ base.below e
 
 -- ---- slots
 
@@ -90,16 +99,16 @@ pub record AreGoodSlots (headers : List (Option Header)) (slots : List (List ℕ
   pub apart : length (map_of 0 slots) ≡ length slots
 
 -- slots of directory d were gone through
-pub record IsTaken (headers : List (Option Header)) (d : ℕ) (base : Base) (slots : List (List ℕ)) (set : BTreeSet (Vec ℕ Global)) (t : NameTables) : Type 0 where
+pub record IsTaken (headers : List (Option Header)) (d : ℕ) (base : Base) (slots : List (List ℕ)) (set : BTreeSet (Vec ℕ Global)) (t : NamesValue) : Type 0 where
   pub good : AreGoodSlots headers slots
   pub names : HasNames set (map_of 0 slots)
   pub noted : IsNoted headers d base (map_of 0 slots) t
 
 -- More slots are gone through, which stand before those; or they aren't good.
-abbrev pub TakesSlots : List (Option Header) → ℕ → List (List ℕ) → BTreeSet (Vec ℕ Global) → BTreeSet (Vec ℕ Global) → NameTables → NameTables → Bool → Type 0
+abbrev pub TakesSlots : List (Option Header) → ℕ → List (List ℕ) → BTreeSet (Vec ℕ Global) → BTreeSet (Vec ℕ Global) → NamesValue → NamesValue → Bool → Type 0
 TakesSlots headers d more set set' t t' taken = (base : Base) (behind : List (List ℕ)) → IsTaken headers d base behind set t
     → MatchBool taken (IsTaken headers d base (more ++ behind) set' t') (AreGoodSlots headers (more ++ behind) → ⊥)
 
 -- Whether slots are good and the tables tell their names too, or they aren't good.
-abbrev pub TakesNames : List (Option Header) → ℕ → Base → List (List ℕ) → NameTables → Bool → Type 0
+abbrev pub TakesNames : List (Option Header) → ℕ → Base → List (List ℕ) → NamesValue → Bool → Type 0
 TakesNames headers d base slots t taken = MatchBool taken (AreGoodSlots headers slots × IsNoted headers d base (map_of 0 slots) t) (AreGoodSlots headers slots → ⊥)

@@ -7,8 +7,7 @@ use Rattle.lfs_model.specs.Stands.{LogMap}
 use Rattle.lfs_model.specs.Tree.{Names, File, names_of}
 use Rattle.lfs_model.specs.TreeOf.{AreSlots, node_of, slots}
 use Rattle.lfs_files.specs.declared.header.Header.{Header}
-use Rattle.lfs_tree.specs.declared.tables.NameTables.{NameTables}
-use Rattle.lfs_tree.specs.Naming.{AreGoodSlots, Base, IsNoted, capped, giving, leads}
+use Rattle.lfs_tree.specs.Naming.{AreGoodSlots, Base, IsNoted, NamesValue, capped, giving, leads}
 
 -- the names that object n gives: none where it is no directory
 abbrev pub names_at : LogMap → ℕ → Names
@@ -28,17 +27,17 @@ abbrev pub given_below : LogMap → ℕ → ℕ → ℕ
 given_below m upto n = sum_below (λ d. giving (names_at m d) n) upto
 
 -- The tables tell the names of the objects below a number, which are good.
-pub record AreNamed (m : LogMap) (headers : List (Option Header)) (t : NameTables) (upto : ℕ) : Type 0 where
-  pub counts : (n : ℕ) → n < 4096 → slice_index t.counts.items n ≡ capped (given_below m upto n)
-  pub up : (n : ℕ) → n < 4096 → 0 < given_below m upto n → 0 < giving (names_at m (slice_index t.up.items n)) n
-  pub below : (d : ℕ) → d < upto → slice_index t.below.items d ≡ capped (count_by (λ x. leads headers x.1) (names_at m d))
-  pub none : (d : ℕ) → upto ≤ d → slice_index t.below.items d ≡ 0
+pub record AreNamed (m : LogMap) (headers : List (Option Header)) (t : NamesValue) (upto : ℕ) : Type 0 where
+  pub counts : (n : ℕ) → n < 4096 → slice_index t.counts n ≡ capped (given_below m upto n)
+  pub up : (n : ℕ) → n < 4096 → 0 < given_below m upto n → 0 < giving (names_at m (slice_index t.up n)) n
+  pub below : (d : ℕ) → d < upto → slice_index t.below d ≡ capped (count_by (λ x. leads headers x.1) (names_at m d))
+  pub none : (d : ℕ) → upto ≤ d → slice_index t.below d ≡ 0
   pub good : (n : ℕ) → n < upto → IsGoodObject m headers n
 
 -- Object n is good and the tables tell its names too, or it isn't good.
-abbrev pub TakesObject : LogMap → List (Option Header) → ℕ → Base → NameTables → Bool → Type 0
+abbrev pub TakesObject : LogMap → List (Option Header) → ℕ → Base → NamesValue → Bool → Type 0
 TakesObject m headers n base t taken = MatchBool taken (IsGoodObject m headers n × IsNoted headers n base (names_at m n) t) (IsGoodObject m headers n → ⊥)
 
 -- The stage holds and the tables tell all names, or it fails.
-abbrev pub SlotStage : LogMap → List (Option Header) → NameTables → Bool → Type 0
+abbrev pub SlotStage : LogMap → List (Option Header) → NamesValue → Bool → Type 0
 SlotStage m headers t holds = MatchBool holds (AreSlots m × AreNamed m headers t 4096) (AreSlots m → ⊥)

@@ -2,16 +2,15 @@
 -- All of it is an own choice.
 use Rattle.std.specs.Prelude.{◌≡◌, ◌≢◌, ◌<◌, ◌≤◌, ◌+◌, ℕ, Bool, true, List, get_or, slice_index, Option, Some, None, MatchBool}
 use Rattle.lfs_files.specs.declared.header.Header.{Header}
-use Rattle.lfs_tree.specs.declared.tables.NameTables.{NameTables}
-use Rattle.lfs_tree.specs.Naming.{is_directory_kind, leads}
+use Rattle.lfs_tree.specs.Naming.{NamesValue, is_directory_kind, leads}
 
 -- what stands at number n is named so often: the root never, a directory once, all else at least once
 abbrev pub FitsNames : Option Header → ℕ → ℕ → Type 0
 FitsNames None n count = Unit {0}
 FitsNames (Some h) n count = (n ≡ 1 → count ≡ 0) × (n ≢ 1 → 0 < count) × (n ≢ 1 → is_directory_kind h.kind ≡ true → count ≡ 1)
 
-abbrev pub AreNamesFit : List (Option Header) → NameTables → Type 0
-AreNamesFit headers t = (n : ℕ) → n < 4096 → FitsNames (get_or headers n None) n (slice_index t.counts.items n)
+abbrev pub AreNamesFit : List (Option Header) → NamesValue → Type 0
+AreNamesFit headers t = (n : ℕ) → n < 4096 → FitsNames (get_or headers n None) n (slice_index t.counts n)
 
 -- from number n one comes to the root, by going up
 pub data Climbs (up : ℕ → ℕ) : ℕ → Type 0 where

@@ -1,5 +1,5 @@
 //! The stages of a tree in order, with the number of the first that fails.
-ghost use Rattle.std.specs.Prelude.{◌≡◌, ◌<◌, length, OnOk, IfOk, IfErr};
+ghost use Rattle.std.specs.Prelude.{OnOk, IfErr};
 ghost use Rattle.lfs_model.specs.Checkpoint.{CheckpointValue};
 ghost use Rattle.lfs_model.specs.Content.{Content};
 ghost use Rattle.lfs_model.specs.Stands.{LogMap};
@@ -7,22 +7,21 @@ ghost use Rattle.lfs_model.specs.TreeOf.{AreSlots, AreTexts, IsTree, TreeOf, tre
 ghost use Rattle.lfs_verify.specs.Loading.{HoldsTables};
 ghost use Rattle.lfs_verify.specs.Take.{Looks};
 ghost use Rattle.lfs_tree.specs.Checking.{IsFaultOf, IsGathered, IsRefusedTree, IsTreeDamage, OfTables};
-ghost use Rattle.lfs_tree.specs.Naming.{AreEmpty, AreTables};
+ghost use Rattle.lfs_tree.specs.Naming.{AreEmpty};
 ghost use Rattle.lfs_tree.specs.Objects.{AreNamed};
 ghost use Rattle.lfs_tree.specs.Reading.{FailsToRead, OfHeaders};
 
 use crate::fault::CheckFault;
-use crate::headers::{NUMBERS, read_headers};
+use crate::headers::{Headers, read_headers};
 use crate::links::{stage_links, stage_room};
 use crate::reached::stage_reached;
 use crate::slot_stage::stage_slots;
 use crate::tables::NameTables;
 use crate::texts::stage_texts;
 use lfs_device::SectorDevice;
-use lfs_files::Header;
 use lfs_inodes::InodeMap;
 use lfs_verify::{MountFault, Tables};
-use std::alloc::{AllocError, Global};
+use std::alloc::Global;
 
 /// The codes of damage of the tree's stages.
 const SLOTS: u8 = 10;
@@ -45,11 +44,9 @@ fn check_objects<D: SectorDevice>(
     alloc: Global,
     device: &mut D,
     map: &InodeMap,
-    headers: &[Option<Header>],
+    headers: &Headers,
     names: &mut NameTables,
 ) -> Result<(), MountFault>
-    requires whole { length headers.now ≡ 4096 }
-    requires sizes { AreTables names.old }
     ensures done { OnOk result (OfHeaders (D.state device.old) (D.state device.new)
         map.now headers.now
         (λ k m. AreEmpty names.old
@@ -59,7 +56,6 @@ fn check_objects<D: SectorDevice>(
         (λ k m. AreEmpty names.old
         → IsFaultOf (FailsToRead (D.state device.old) (D.state device.new))
         (IsTreeDamage k.segments m) e)) }
-    ensures sizes { AreTables names.new }
     ensures looks { Looks (D.state device.old) (D.state device.new) }
 {
     match stage_slots(alloc, device, map, headers, names) {
@@ -83,11 +79,9 @@ fn check_objects<D: SectorDevice>(
 fn check_names(
     alloc: Global,
     tables: &Tables,
-    headers: &[Option<Header>],
+    headers: &Headers,
     names: &NameTables,
 ) -> Result<(), MountFault>
-    requires whole { length headers.now ≡ 4096 }
-    requires sizes { AreTables names.now }
     ensures done { OnOk result ((c : Content) (k : CheckpointValue) (m : LogMap)
         → IsGathered c k m headers.now names.now tables.now → IsTree k.segments m) }
     ensures reason { IfErr result (λ e. (c : Content) (k : CheckpointValue) (m : LogMap)
@@ -117,11 +111,9 @@ fn check_stages<D: SectorDevice>(
     alloc: Global,
     device: &mut D,
     tables: &Tables,
-    headers: &mut [Option<Header>],
+    headers: &mut Headers,
     names: &mut NameTables,
 ) -> Result<(), MountFault>
-    requires whole { length headers.old ≡ 4096 }
-    requires sizes { AreTables names.old }
     ensures done { OnOk result (OfTables (D.state device.old) (D.state device.new)
         tables.now names.old
         (λ k m. IsTree k.segments m)) }
@@ -143,18 +135,6 @@ fn check_stages<D: SectorDevice>(
         Ok(()) => Ok(()),
         Err(fault) => Err(fault),
     }
-}
-
-/// A table of no headers.
-///
-/// # Errors
-///
-/// Where memory runs out.
-fn no_headers(alloc: Global) -> Result<Vec<Option<Header>>, AllocError>
-    ensures { IfOk result (λ v. length v.items ≡ 4096) }
-{
-    let headers = Vec::from_elem(alloc, None, NUMBERS as usize)?;
-    Ok(headers)
 }
 
 /// Checks the tree of the log map to which the tables of a volume lead: its stages in order, each
@@ -179,7 +159,7 @@ pub fn check_tree<D: SectorDevice>(
         → IsRefusedTree (D.state device.old) (D.state device.new) e) }
     ensures looks { Looks (D.state device.old) (D.state device.new) }
 {
-    let Ok(mut headers) = no_headers(alloc) else {
+    let Ok(mut headers) = Headers::new(alloc) else {
         return Err(MountFault::NoMemory);
     };
     let Ok(mut names) = NameTables::new(alloc) else {

@@ -1,14 +1,14 @@
 //! The directories of a log map, gone through one by one.
-ghost use Rattle.std.specs.Prelude.{◌≡◌, ◌<◌, ◌/◌, [], length, Some, IfOk, IsErrOf};
+ghost use Rattle.std.specs.Prelude.{◌≡◌, ◌<◌, ◌/◌, [], Some, IfOk, IsErrOf};
 ghost use Rattle.lfs_model.specs.Content.{block};
 ghost use Rattle.lfs_dirs.specs.Directory.{slots_at};
 ghost use Rattle.lfs_files.specs.Headers.{as_header};
 ghost use Rattle.lfs_verify.specs.Take.{Looks};
-ghost use Rattle.lfs_tree.specs.Naming.{AreTables, Base, IsNoted, IsTaken, TakesNames};
+ghost use Rattle.lfs_tree.specs.Naming.{Base, IsNoted, IsTaken, TakesNames};
 ghost use Rattle.lfs_tree.specs.Reading.{FailsToRead, OfInodeAt, OfLog};
 
 use crate::fault::CheckFault;
-use crate::headers::NUMBERS;
+use crate::headers::Headers;
 use crate::reading::{read_block, read_inode};
 use crate::slots::{is_directory, take_slots};
 use crate::tables::NameTables;
@@ -33,14 +33,12 @@ fn take_blocks<D: SectorDevice>(
     device: &mut D,
     inode: &[u8; 512],
     header: Header,
-    headers: &[Option<Header>],
+    headers: &Headers,
     directory: u16,
     names: &mut BTreeSet<Vec<u8>>,
     tables: &mut NameTables,
 ) -> Result<bool, CheckFault>
-    requires whole { length headers.now ≡ 4096 }
-    requires directory { directory < 4096 }
-    requires sizes { AreTables tables.old }
+    requires { directory < 4096 }
     ensures takes { IfOk result (λ taken. OfInodeAt (D.state device.old) (D.state device.new)
         inode.now directory
         (λ m. (base : Base) → IsTaken headers.now directory base [] names.old tables.old
@@ -48,7 +46,6 @@ fn take_blocks<D: SectorDevice>(
     ensures failed { IsErrOf result CheckFault.Device
         → OfInodeAt (D.state device.old) (D.state device.new) inode.now directory
         (λ m. FailsToRead (D.state device.old) (D.state device.new)) }
-    ensures sizes { AreTables tables.new }
     ensures looks { Looks (D.state device.old) (D.state device.new) }
 {
     let slots = header.size / SLOT;
@@ -80,14 +77,12 @@ pub(crate) fn take_directory<D: SectorDevice>(
     alloc: Global,
     device: &mut D,
     map: &InodeMap,
-    headers: &[Option<Header>],
+    headers: &Headers,
     directory: u16,
     header: Header,
     tables: &mut NameTables,
 ) -> Result<bool, CheckFault>
-    requires whole { length headers.now ≡ 4096 }
-    requires directory { directory < 4096 }
-    requires sizes { AreTables tables.old }
+    requires { directory < 4096 }
     ensures takes { IfOk result (λ taken. OfLog (D.state device.old) (D.state device.new) map.now
         (λ k m. (base : Base) → IsNoted headers.now directory base [] tables.old
         → TakesNames headers.now directory base (slots_at m directory header) tables.new taken)) }
@@ -95,7 +90,6 @@ pub(crate) fn take_directory<D: SectorDevice>(
         → OfLog (D.state device.old) (D.state device.new) map.now
         (λ k m. m.header directory ≡ Some (as_header header)
         → FailsToRead (D.state device.old) (D.state device.new)) }
-    ensures sizes { AreTables tables.new }
     ensures looks { Looks (D.state device.old) (D.state device.new) }
 {
     let mut inode = [0; 512];

@@ -1,5 +1,5 @@
 //! The headers of all files.
-ghost use Rattle.std.specs.Prelude.{◌≡◌, ◌<◌, length, IfOk, OnOk, OnErr};
+ghost use Rattle.std.specs.Prelude.{◌≡◌, ◌<◌, ℕ, length, get_or, slice_set, None, IfOk, OnOk, OnErr};
 ghost use Rattle.std.specs.Option.{option_map};
 ghost use Rattle.lfs_model.specs.Entry.{header};
 ghost use Rattle.lfs_model.specs.Inode.{kind_of};
@@ -13,9 +13,59 @@ use lfs_files::Header;
 use lfs_inodes::InodeMap;
 use lfs_layout::word;
 use lfs_model::Kind;
+use std::alloc::{AllocError, Global};
+use std::marker::Model;
 
 /// Numbers are below this one.
 pub const NUMBERS: u16 = 4_096;
+
+/// The headers of all files, by number. Contracts see the list.
+#[derive(Drop)]
+pub struct Headers {
+    headers: Vec<Option<Header>>,
+}
+
+impl Model for Headers {
+    ghost use Rattle.std.specs.Prelude.{◌≡◌, List, Option, length};
+    ghost use Rattle.lfs_files.specs.declared.header.Header.{Header};
+
+    ghost Value = { List (Option Header) };
+
+    ghost view = { λ h. h.headers.items };
+
+    ghost invariant = { λ h. length h.headers.items ≡ 4096 };
+}
+
+impl Headers {
+    /// Headers of no files.
+    ///
+    /// # Errors
+    ///
+    /// Where memory runs out.
+    pub fn new(alloc: Global) -> Result<Headers, AllocError>
+        ensures { IfOk result (λ h. (n : ℕ) → n < 4096 → get_or h n None ≡ None) }
+    {
+        let headers = Vec::from_elem(alloc, None, NUMBERS as usize)?;
+        Ok(Headers { headers })
+    }
+
+    /// The header of the file of a number, if that is there.
+    pub fn get(&self, number: u16) -> Option<Header>
+        requires { number < 4096 }
+        ensures { result ≡ get_or self.now number None }
+    {
+        self.headers[number as usize]
+    }
+
+    /// The file of a number has this header, or isn't there.
+    fn set(&mut self, number: u16, found: Option<Header>)
+        requires { number < 4096 }
+        ensures set { self.new ≡ slice_set self.old number found }
+        ensures whole { length self.old ≡ 4096 }
+    {
+        self.headers[number as usize] = found;
+    }
+}
 
 fn kind_of(byte: u8) -> Kind
     ensures { result ≡ kind_of byte }
@@ -72,22 +122,20 @@ fn read_header<D: SectorDevice>(
 pub fn read_headers<D: SectorDevice>(
     device: &mut D,
     map: &InodeMap,
-    headers: &mut [Option<Header>],
+    headers: &mut Headers,
 ) -> Result<(), DeviceFault>
-    requires { length headers.old ≡ 4096 }
     ensures told { OnOk result (OfLog (D.state device.old) (D.state device.new) map.now
         (λ k m. TellsHeaders m headers.new 4096)) }
     ensures failed { OnErr result (OfLog (D.state device.old) (D.state device.new) map.now
         (λ k m. FailsToRead (D.state device.old) (D.state device.new))) }
-    ensures size { length headers.new ≡ length headers.old }
     ensures looks { Looks (D.state device.old) (D.state device.new) }
 {
     let mut inode = [0; 512];
     for number in 0..NUMBERS {
-        headers[number as usize] = match read_header(device, map, number, &mut inode) {
-            Ok(found) => found,
+        match read_header(device, map, number, &mut inode) {
+            Ok(found) => headers.set(number, found),
             Err(fault) => return Err(fault),
-        };
+        }
     }
     Ok(())
 }

@@ -6,6 +6,7 @@ mod directories;
 pub mod fault;
 pub mod headers;
 pub mod links;
+mod marks;
 pub mod reached;
 pub mod reading;
 pub mod slot_stage;

@@ -1,10 +1,9 @@
 //! Stage 13: each inode's links are those of the tree. Stage 14: the tree's need is within the
 //! limit.
-ghost use Rattle.std.specs.Prelude.{◌≡◌, ◌<◌, ◌↔◌, length, IsTrue};
+ghost use Rattle.std.specs.Prelude.{◌↔◌, IsTrue};
 ghost use Rattle.lfs_tree.specs.Linking.{AreLinksFit, FitsLinks, FitsRoom};
-ghost use Rattle.lfs_tree.specs.Naming.{AreTables};
 
-use crate::headers::NUMBERS;
+use crate::headers::{Headers, NUMBERS};
 use crate::slots::is_directory;
 use crate::tables::NameTables;
 use lfs_files::Header;
@@ -32,14 +31,15 @@ fn has_links(found: Option<Header>, count: u16, below: u16) -> bool
 }
 
 /// Whether all inodes' links are those of the tree: false where the stage fails.
-pub fn stage_links(headers: &[Option<Header>], tables: &NameTables) -> bool
-    requires whole { length headers.now ≡ 4096 }
-    requires sizes { AreTables tables.now }
+pub fn stage_links(headers: &Headers, tables: &NameTables) -> bool
     ensures { IsTrue result ↔ AreLinksFit headers.now tables.now }
 {
     for number in 0..NUMBERS {
-        let place = number as usize;
-        if !has_links(headers[place], tables.counts[place], tables.below[place]) {
+        if !has_links(
+            headers.get(number),
+            tables.count(number),
+            tables.below(number),
+        ) {
             return false;
         }
     }

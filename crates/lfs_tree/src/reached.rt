@@ -1,12 +1,13 @@
 //! Stage 12: each number but the root's is named, the root's isn't, and each other directory is
 //! named once and reached from the root.
-ghost use Rattle.std.specs.Prelude.{◌≡◌, ◌<◌, ◌≤◌, ◌↔◌, ℕ, length, slice_index, IfOk, IsTrue};
-ghost use Rattle.lfs_tree.specs.Naming.{AreTables, leads};
+ghost use Rattle.std.specs.Prelude.{◌≡◌, ◌<◌, ◌≤◌, ◌↔◌, IfOk, IsTrue};
+ghost use Rattle.lfs_tree.specs.Naming.{leads};
 ghost use Rattle.lfs_tree.specs.Reaching.{AllClimb, AreNamesFit, FitsNames, Marked, MarksDirectory, MarksUp};
 
-use crate::headers::NUMBERS;
+use crate::headers::{Headers, NUMBERS};
+use crate::marks::Marks;
 use crate::slots::is_directory;
-use crate::tables::{NameTables, zeros};
+use crate::tables::NameTables;
 use lfs_files::Header;
 use std::alloc::{AllocError, Global};
 
@@ -30,14 +31,11 @@ fn is_named(found: Option<Header>, number: u16, count: u16) -> bool
 }
 
 /// Whether each number is named as often as it may be.
-fn are_named(headers: &[Option<Header>], tables: &NameTables) -> bool
-    requires whole { length headers.now ≡ 4096 }
-    requires sizes { AreTables tables.now }
+fn are_named(headers: &Headers, tables: &NameTables) -> bool
     ensures { IsTrue result ↔ AreNamesFit headers.now tables.now }
 {
     for number in 0..NUMBERS {
-        let place = number as usize;
-        if !is_named(headers[place], number, tables.counts[place]) {
+        if !is_named(headers.get(number), number, tables.count(number)) {
             return false;
         }
     }
@@ -47,45 +45,31 @@ fn are_named(headers: &[Option<Header>], tables: &NameTables) -> bool
 /// Marks a number and all on the way up from it, as far as they have no mark, with this number:
 /// false where the way leads back into itself. Numbers with marks come to the root, and their marks
 /// are less.
-fn climb(up: &[u16], marks: &mut Vec<u16>, start: u16) -> bool
-    requires whole { length up.now ≡ 4096 }
-    requires inside { (n : ℕ) → slice_index up.now n < 4096 }
-    requires size { length marks.old.items ≡ 4096 }
+fn climb(tables: &NameTables, marks: &mut Marks, start: u16) -> bool
     requires some { 2 ≤ start }
     requires few { start < 4096 }
-    ensures marks { Marked up.now marks.old.items start
-        → MarksUp up.now marks.new.items start result }
-    ensures size { length marks.new.items ≡ 4096 }
+    ensures { Marked tables.now.up marks.old start
+        → MarksUp tables.now.up marks.new start result }
 {
     let mut at = start;
-    while marks[at as usize] == 0 {
-        marks[at as usize] = start;
-        at = up[at as usize];
+    while marks.get(at) == 0 {
+        marks.set(at, start);
+        at = tables.up(at);
     }
-    marks[at as usize] != start
+    marks.get(at) != start
 }
 
 /// The same of a number where a directory stands; others are passed by.
-fn climb_directory(
-    headers: &[Option<Header>],
-    up: &[u16],
-    marks: &mut Vec<u16>,
-    number: u16,
-) -> bool
-    requires headers { length headers.now ≡ 4096 }
-    requires whole { length up.now ≡ 4096 }
-    requires inside { (n : ℕ) → slice_index up.now n < 4096 }
-    requires size { length marks.old.items ≡ 4096 }
+fn climb_directory(headers: &Headers, tables: &NameTables, marks: &mut Marks, number: u16) -> bool
     requires some { 2 ≤ number }
     requires few { number < 4096 }
-    ensures marks { Marked up.now marks.old.items number
-        → MarksDirectory headers.now up.now marks.new.items number result }
-    ensures size { length marks.new.items ≡ 4096 }
+    ensures { Marked tables.now.up marks.old number
+        → MarksDirectory headers.now tables.now.up marks.new number result }
 {
     if !leads(headers, number) {
         return true;
     }
-    climb(up, marks, number)
+    climb(tables, marks, number)
 }
 
 /// Whether one comes from each directory to the root, by going up. It goes once from each.
@@ -93,16 +77,12 @@ fn climb_directory(
 /// # Errors
 ///
 /// Where memory runs out.
-fn all_climb(alloc: Global, headers: &[Option<Header>], up: &[u16]) -> Result<bool, AllocError>
-    requires whole { length headers.now ≡ 4096 }
-    requires size { length up.now ≡ 4096 }
-    requires inside { (n : ℕ) → slice_index up.now n < 4096 }
-    ensures { IfOk result (λ all. IsTrue all ↔ AllClimb headers.now up.now) }
+fn all_climb(alloc: Global, headers: &Headers, tables: &NameTables) -> Result<bool, AllocError>
+    ensures { IfOk result (λ all. IsTrue all ↔ AllClimb headers.now tables.now.up) }
 {
-    let mut marks = zeros(alloc)?;
-    marks[ROOT as usize] = ROOT;
+    let mut marks = Marks::new(alloc)?;
     for number in 2..NUMBERS {
-        if !climb_directory(headers, up, &mut marks, number) {
+        if !climb_directory(headers, tables, &mut marks, number) {
             return Ok(false);
         }
     }
@@ -110,12 +90,11 @@ fn all_climb(alloc: Global, headers: &[Option<Header>], up: &[u16]) -> Result<bo
 }
 
 /// Whether a directory stands at a number.
-fn leads(headers: &[Option<Header>], number: u16) -> bool
-    requires whole { length headers.now ≡ 4096 }
-    requires number { number < 4096 }
+fn leads(headers: &Headers, number: u16) -> bool
+    requires { number < 4096 }
     ensures { result ≡ leads headers.now number }
 {
-    match headers[number as usize] {
+    match headers.get(number) {
         Some(header) => is_directory(header),
         None => false,
     }
@@ -129,16 +108,14 @@ fn leads(headers: &[Option<Header>], number: u16) -> bool
 /// Where memory runs out.
 pub fn stage_reached(
     alloc: Global,
-    headers: &[Option<Header>],
+    headers: &Headers,
     tables: &NameTables,
 ) -> Result<bool, AllocError>
-    requires whole { length headers.now ≡ 4096 }
-    requires sizes { AreTables tables.now }
     ensures { IfOk result (λ holds. IsTrue holds ↔
-        (AreNamesFit headers.now tables.now × AllClimb headers.now tables.now.up.items)) }
+        (AreNamesFit headers.now tables.now × AllClimb headers.now tables.now.up)) }
 {
     if !are_named(headers, tables) {
         return Ok(false);
     }
-    all_climb(alloc, headers, &tables.up)
+    all_climb(alloc, headers, tables)
 }

@@ -1,17 +1,16 @@
 //! Stage 10: each directory's slots are well-formed, its names differ, and its numbers are there.
-ghost use Rattle.std.specs.Prelude.{◌≡◌, ◌<◌, [], length, IfOk, IsErrOf};
+ghost use Rattle.std.specs.Prelude.{◌<◌, [], IfOk, IsErrOf};
 ghost use Rattle.lfs_verify.specs.Take.{Looks};
-ghost use Rattle.lfs_tree.specs.Naming.{AreEmpty, AreTables, Base, IsNoted};
+ghost use Rattle.lfs_tree.specs.Naming.{AreEmpty, Base, IsNoted};
 ghost use Rattle.lfs_tree.specs.Objects.{SlotStage, TakesObject};
 ghost use Rattle.lfs_tree.specs.Reading.{FailsToRead, OfHeaders};
 
 use crate::directories::take_directory;
 use crate::fault::CheckFault;
-use crate::headers::NUMBERS;
+use crate::headers::{Headers, NUMBERS};
 use crate::slots::is_directory;
 use crate::tables::NameTables;
 use lfs_device::SectorDevice;
-use lfs_files::Header;
 use lfs_inodes::InodeMap;
 use std::alloc::Global;
 
@@ -24,13 +23,11 @@ fn take_object<D: SectorDevice>(
     alloc: Global,
     device: &mut D,
     map: &InodeMap,
-    headers: &[Option<Header>],
+    headers: &Headers,
     number: u16,
     tables: &mut NameTables,
 ) -> Result<bool, CheckFault>
-    requires whole { length headers.now ≡ 4096 }
-    requires number { number < 4096 }
-    requires sizes { AreTables tables.old }
+    requires { number < 4096 }
     ensures takes { IfOk result (λ taken. OfHeaders (D.state device.old) (D.state device.new)
         map.now headers.now
         (λ k m. (base : Base) → IsNoted headers.now number base [] tables.old
@@ -38,10 +35,9 @@ fn take_object<D: SectorDevice>(
     ensures failed { IsErrOf result CheckFault.Device
         → OfHeaders (D.state device.old) (D.state device.new) map.now headers.now
         (λ k m. FailsToRead (D.state device.old) (D.state device.new)) }
-    ensures sizes { AreTables tables.new }
     ensures looks { Looks (D.state device.old) (D.state device.new) }
 {
-    let Some(header) = headers[number as usize] else {
+    let Some(header) = headers.get(number) else {
         return Ok(true);
     };
     if !is_directory(header) {
@@ -63,18 +59,15 @@ pub fn stage_slots<D: SectorDevice>(
     alloc: Global,
     device: &mut D,
     map: &InodeMap,
-    headers: &[Option<Header>],
+    headers: &Headers,
     tables: &mut NameTables,
 ) -> Result<bool, CheckFault>
-    requires whole { length headers.now ≡ 4096 }
-    requires sizes { AreTables tables.old }
     ensures holds { IfOk result (λ holds. OfHeaders (D.state device.old) (D.state device.new)
         map.now headers.now
         (λ k m. AreEmpty tables.old → SlotStage m headers.now tables.new holds)) }
     ensures failed { IsErrOf result CheckFault.Device
         → OfHeaders (D.state device.old) (D.state device.new) map.now headers.now
         (λ k m. FailsToRead (D.state device.old) (D.state device.new)) }
-    ensures sizes { AreTables tables.new }
     ensures looks { Looks (D.state device.old) (D.state device.new) }
 {
     for number in 0..NUMBERS {

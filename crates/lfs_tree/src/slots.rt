@@ -1,11 +1,12 @@
 //! The slots of directories, gone through one by one.
 ghost use Rattle.std.specs.Prelude.{ℕ};
-ghost use Rattle.std.specs.Prelude.{◌≡◌, ◌<◌, ◌≤◌, ◌↔◌, [], ◌∷◌, length, IfOk, IsTrue, None};
+ghost use Rattle.std.specs.Prelude.{◌≡◌, ◌<◌, ◌≤◌, ◌↔◌, [], ◌∷◌, IfOk, IsTrue, None};
 ghost use Rattle.std.specs.FinMap.{find, put};
 ghost use Rattle.lfs_model.specs.Tree.{Names, byte_cmp};
 ghost use Rattle.lfs_dirs.specs.Directory.{first_slots};
-ghost use Rattle.lfs_tree.specs.Naming.{AreTables, HasNames, TakesSlots, is_directory_kind};
+ghost use Rattle.lfs_tree.specs.Naming.{HasNames, TakesSlots, is_directory_kind};
 
+use crate::headers::Headers;
 use crate::tables::NameTables;
 use lfs_files::Header;
 use lfs_layout::{SlotView, nth_slot};
@@ -55,23 +56,20 @@ fn insert_name(
 fn take_slot(
     alloc: Global,
     slot: &[u8; 64],
-    headers: &[Option<Header>],
+    headers: &Headers,
     directory: u16,
     names: &mut BTreeSet<Vec<u8>>,
     tables: &mut NameTables,
 ) -> Result<bool, AllocError>
-    requires whole { length headers.now ≡ 4096 }
-    requires directory { directory < 4096 }
-    requires sizes { AreTables tables.old }
-    ensures takes { IfOk result (λ taken. TakesSlots headers.now directory (slot.now ∷ [])
+    requires { directory < 4096 }
+    ensures { IfOk result (λ taken. TakesSlots headers.now directory (slot.now ∷ [])
         names.old names.new tables.old tables.new taken) }
-    ensures sizes { AreTables tables.new }
 {
     let Some(view) = SlotView::decode(slot) else {
         return Ok(false);
     };
     let number = view.number() as u16;
-    let Some(header) = headers[number as usize] else {
+    let Some(header) = headers.get(number) else {
         return Ok(false);
     };
     if !insert_name(alloc, names, view.name())? {
@@ -90,18 +88,15 @@ pub(crate) fn take_slots(
     alloc: Global,
     block: &[u8; 512],
     count: usize,
-    headers: &[Option<Header>],
+    headers: &Headers,
     directory: u16,
     names: &mut BTreeSet<Vec<u8>>,
     tables: &mut NameTables,
 ) -> Result<bool, AllocError>
     requires few { count ≤ 8 }
-    requires whole { length headers.now ≡ 4096 }
     requires directory { directory < 4096 }
-    requires sizes { AreTables tables.old }
-    ensures takes { IfOk result (λ taken. TakesSlots headers.now directory
+    ensures { IfOk result (λ taken. TakesSlots headers.now directory
         (first_slots block.now count) names.old names.new tables.old tables.new taken) }
-    ensures sizes { AreTables tables.new }
 {
     let mut place = count;
     while place > 0 {

@@ -1,20 +1,31 @@
 //! What the entries of directories say of numbers.
 ghost use Rattle.std.specs.Prelude.{◌≡◌, ◌<◌, ℕ, length, slice_index, IfOk};
-ghost use Rattle.lfs_tree.specs.Naming.{AreEmpty, AreTables, Notes};
+ghost use Rattle.lfs_tree.specs.Naming.{AreEmpty, AreTables, NamesValue, Notes};
 
 use crate::headers::NUMBERS;
 use std::alloc::{AllocError, Global};
+use std::marker::Model;
 
 /// Tables by number, of the entries that were gone through. A count is at most 65,535; one that
-/// would be more stays there.
+/// would be more stays there. Contracts see the lists.
 #[derive(Drop)]
 pub struct NameTables {
     /// How many entries give the number.
-    pub counts: Vec<u16>,
+    counts: Vec<u16>,
     /// A directory with such an entry, if there is one.
-    pub up: Vec<u16>,
+    up: Vec<u16>,
     /// How many entries of this directory give directories.
-    pub below: Vec<u16>,
+    below: Vec<u16>,
+}
+
+impl Model for NameTables {
+    ghost use Rattle.lfs_tree.specs.Naming.{AreTables, NamesValue};
+
+    ghost Value = { NamesValue };
+
+    ghost view = { λ t. record { counts = t.counts.items; up = t.up.items; below = t.below.items } };
+
+    ghost invariant = { λ t. AreTables (record { counts = t.counts.items; up = t.up.items; below = t.below.items }) };
 }
 
 /// A table of 4,096 numbers, all 0.
@@ -33,8 +44,7 @@ impl NameTables {
     ///
     /// Where memory runs out.
     pub fn new(alloc: Global) -> Result<NameTables, AllocError>
-        ensures sizes { IfOk result AreTables }
-        ensures empty { IfOk result AreEmpty }
+        ensures { IfOk result AreEmpty }
     {
         let counts = zeros(alloc)?;
         let up = zeros(alloc)?;
@@ -42,13 +52,37 @@ impl NameTables {
         Ok(NameTables { counts, up, below })
     }
 
+    /// How many entries give a number.
+    pub(crate) fn count(&self, number: u16) -> u16
+        requires { number < 4096 }
+        ensures { result ≡ slice_index self.now.counts number }
+    {
+        self.counts[number as usize]
+    }
+
+    /// A directory with an entry that gives a number, if there is one.
+    pub(crate) fn up(&self, number: u16) -> u16
+        requires { number < 4096 }
+        ensures value { result ≡ slice_index self.now.up number }
+        ensures inside { result < 4096 }
+    {
+        self.up[number as usize]
+    }
+
+    /// How many entries of a directory give directories.
+    pub(crate) fn below(&self, directory: u16) -> u16
+        requires { directory < 4096 }
+        ensures { result ≡ slice_index self.now.below directory }
+    {
+        self.below[directory as usize]
+    }
+
     /// An entry of a directory gives a number, at which a directory stands or not.
     pub(crate) fn note(&mut self, directory: u16, number: u16, is_directory: bool)
-        requires sizes { AreTables self.old }
         requires directory { directory < 4096 }
         requires number { number < 4096 }
         ensures notes { Notes self.old self.new directory number is_directory }
-        ensures sizes { AreTables self.new }
+        ensures sizes { AreTables self.old }
     {
         let count = self.counts[number as usize];
         self.counts[number as usize] = count.saturating_add(1);

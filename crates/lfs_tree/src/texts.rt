@@ -1,5 +1,5 @@
 //! Stage 11: no link's text has a zero byte.
-ghost use Rattle.std.specs.Prelude.{◌≡◌, ◌≢◌, ◌<◌, ◌≤◌, ◌↔◌, ℕ, length, slice_index, Some, IfOk, OnErr, IsTrue};
+ghost use Rattle.std.specs.Prelude.{◌≡◌, ◌≢◌, ◌<◌, ◌≤◌, ◌↔◌, ℕ, slice_index, Some, IfOk, OnErr, IsTrue};
 ghost use Rattle.lfs_model.specs.Content.{block};
 ghost use Rattle.lfs_model.specs.TreeOf.{AreTexts};
 ghost use Rattle.lfs_files.specs.Headers.{as_header};
@@ -7,7 +7,7 @@ ghost use Rattle.lfs_verify.specs.Take.{Looks};
 ghost use Rattle.lfs_tree.specs.Reading.{FailsToRead, OfHeaders, OfInode, OfLog};
 ghost use Rattle.lfs_tree.specs.Texts.{Decides, HasNoZero, IsGoodText};
 
-use crate::headers::NUMBERS;
+use crate::headers::{Headers, NUMBERS};
 use crate::reading::{read_block, read_inode};
 use lfs_device::{DeviceFault, SectorDevice};
 use lfs_files::Header;
@@ -111,11 +111,10 @@ fn is_link(header: Header) -> bool
 fn check_object<D: SectorDevice>(
     device: &mut D,
     map: &InodeMap,
-    headers: &[Option<Header>],
+    headers: &Headers,
     number: u16,
 ) -> Result<bool, DeviceFault>
-    requires whole { length headers.now ≡ 4096 }
-    requires number { number < 4096 }
+    requires { number < 4096 }
     ensures holds { IfOk result (λ holds. OfHeaders (D.state device.old) (D.state device.new)
         map.now headers.now
         (λ k m. Decides (IsGoodText m number) holds)) }
@@ -124,7 +123,7 @@ fn check_object<D: SectorDevice>(
         (λ k m. FailsToRead (D.state device.old) (D.state device.new))) }
     ensures looks { Looks (D.state device.old) (D.state device.new) }
 {
-    let Some(header) = headers[number as usize] else {
+    let Some(header) = headers.get(number) else {
         return Ok(true);
     };
     if !is_link(header) {
@@ -144,9 +143,8 @@ fn check_object<D: SectorDevice>(
 pub fn stage_texts<D: SectorDevice>(
     device: &mut D,
     map: &InodeMap,
-    headers: &[Option<Header>],
+    headers: &Headers,
 ) -> Result<bool, DeviceFault>
-    requires { length headers.now ≡ 4096 }
     ensures holds { IfOk result (λ holds. OfHeaders (D.state device.old) (D.state device.new)
         map.now headers.now
         (λ k m. Decides (AreTexts m) holds)) }

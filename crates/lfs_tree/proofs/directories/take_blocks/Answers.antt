@@ -13,7 +13,6 @@ loop-index-init g c =
     record {
       low = omega (arith, e);
       looks = looks_none (g.D.SectorDevice.state c.args.device.now) (g.met.D.SectorDevice.lawful c.args.device.now);
-      sizes = c.requires.sizes;
       taken = λ k m sees is base was. blocks_begin c.args.headers.now c.args.directory base m c.args.header c.div_ceil-index.result c.args.names.now c.args.tables.now (omega (arith, e)) was;
     }
 
@@ -41,13 +40,12 @@ loop-index-preserved g c =
     record {
       low = omega (arith, low);
       looks = looks_then old mid new here.looks c.in-Ok.ensures.looks;
-      sizes = c.take_slots.ensures.sizes;
       taken = λ k m sees own base was.
           blocks_go_on c.args.headers.now c.args.directory base m c.args.header c.loop-index.index (c.loop-index.index - 1) c.min-count.result c.read_block.new.out
           (c.in-Ok.ensures.answer k m c.args.directory (sees_then old mid new k m sees here.looks) (inode_then old mid k c.args.directory c.args.inode.now own here.looks))
           is low (omega (arith, t)) c.loop-index.names c.take_slots.new.names c.loop-index.tables c.take_slots.new.tables
           (here.taken k m (sees_first old mid new k m sees c.in-Ok.ensures.looks) own base was)
-          (subst (TakesSlots c.args.headers.now c.args.directory (first_slots c.read_block.new.out c.min-count.result) c.loop-index.names c.take_slots.new.names c.loop-index.tables c.take_slots.new.tables) c.in-Ok-true.field-0-test c.in-Ok-true.ensures.takes);
+          (subst (TakesSlots c.args.headers.now c.args.directory (first_slots c.read_block.new.out c.min-count.result) c.loop-index.names c.take_slots.new.names c.loop-index.tables c.take_slots.new.tables) c.in-Ok-true.field-0-test c.in-Ok-true.ensures);
     }
 
 pub returns-in-Ok-false-clause-takes : goal.returns-in-Ok-false-clause-takes
@@ -65,7 +63,7 @@ returns-in-Ok-false-clause-takes g c k m sees own base was =
     (c.in-Ok.ensures.answer k m c.args.directory (sees_then old mid new k m sees here.looks) (inode_then old mid k c.args.directory c.args.inode.now own here.looks))
     is low (omega (arith, t)) c.loop-index.names c.take_slots.new.names c.loop-index.tables c.take_slots.new.tables
     (here.taken k m (sees_first old mid new k m sees c.in-Ok.ensures.looks) own base was)
-    (subst (TakesSlots c.args.headers.now c.args.directory (first_slots c.read_block.new.out c.min-count.result) c.loop-index.names c.take_slots.new.names c.loop-index.tables c.take_slots.new.tables) c.in-Ok-false.field-0-test c.in-Ok-false.ensures.takes)
+    (subst (TakesSlots c.args.headers.now c.args.directory (first_slots c.read_block.new.out c.min-count.result) c.loop-index.names c.take_slots.new.names c.loop-index.tables c.take_slots.new.tables) c.in-Ok-false.field-0-test c.in-Ok-false.ensures)
 
 pub returns-clause-takes : goal.returns-clause-takes
 returns-clause-takes g c k m sees own base was =

@@ -6,7 +6,7 @@ use Rattle.lfs_model.specs.Reach.{address}
 use Rattle.lfs_model.specs.Stands.{LogMap}
 use Rattle.lfs_dirs.specs.Directory.{slots_at}
 use Rattle.lfs_verify.specs.Take.{Looks}
-use Rattle.lfs_tree.specs.Naming.{AreTables, Base, IsTaken}
+use Rattle.lfs_tree.specs.Naming.{Base, IsTaken}
 use Rattle.lfs_tree.specs.Reading.{Sees}
 use Rattle.lfs_tree.proofs.directories.take_blocks.Given as goal
 
@@ -17,7 +17,6 @@ invariant-loop-index g l =
     record {
       low : 8 * l.index < l.fn.header.size / 64 + 8;
       looks : Looks old now;
-      sizes : AreTables l.tables;
       taken : (k : CheckpointValue) (m : LogMap) → Sees old now k m → l.inode ≡ block old.content (address old.content k (Inode l.fn.directory))
           → (base : Base) → IsTaken l.headers l.fn.directory base [] l.initial.names l.initial.tables
           → IsTaken l.headers l.fn.directory base (drop (8 * l.index) (slots_at m l.fn.directory l.fn.header)) l.names l.tables;

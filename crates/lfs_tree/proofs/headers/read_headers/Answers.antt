@@ -1,6 +1,7 @@
-use Rattle.std.proofs.Common.{◌∙◌, arith}
-use Rattle.std.proofs.lemmas.List.{length-set}
+use Rattle.std.proofs.Common.{◌+◌, List, Option, arith, subst, sym}
+use Rattle.lfs_files.specs.declared.header.Header.{Header}
 use Rattle.lfs_verify.proofs.Takes.{looks_then}
+use Rattle.lfs_tree.specs.Reading.{TellsHeaders}
 use Rattle.lfs_tree.proofs.Seeing.{leads_then, sees_first, sees_then, told_next}
 use Rattle.lfs_tree.proofs.headers.read_headers.Goals as goal
 
@@ -21,16 +22,15 @@ loop-number-preserved g c =
     let new = g.D.SectorDevice.state c.read_header.new.device in
     let here = c.loop-number.invariant in
     let step = c.in-Ok.ensures in
-    let size = here.size in
-    let whole = c.requires in
+    let whole = c.set.ensures.whole in
     let below = c.loop-number-test.true in
     record {
       looks = looks_then old mid new here.looks step.looks;
-      size = length-set c.loop-number.headers c.loop-number.number c.in-Ok.found ∙ here.size;
       told = λ k m sees leads.
-          told_next m c.loop-number.headers c.loop-number.number c.in-Ok.found (omega (arith, size, whole, below))
+          subst (λ (hs : List (Option Header)). TellsHeaders m hs (c.loop-number.number + 1)) (sym c.set.ensures.set)
+          (told_next m c.loop-number.headers c.loop-number.number c.in-Ok.found (omega (arith, whole, below))
           (here.told k m (sees_first old mid new k m sees step.looks) leads)
-          (step.answer k m (sees_then old mid new k m sees here.looks) (leads_then old mid k c.args.map.now leads here.looks));
+          (step.answer k m (sees_then old mid new k m sees here.looks) (leads_then old mid k c.args.map.now leads here.looks)));
     }
 
 pub returns-clause-told : goal.returns-clause-told

@@ -1,4 +1,3 @@
-use Rattle.std.proofs.Common.{◌≡◌, length}
 use Rattle.lfs_model.specs.Checkpoint.{CheckpointValue}
 use Rattle.lfs_model.specs.Stands.{LogMap}
 use Rattle.lfs_verify.specs.Take.{Looks}
@@ -11,6 +10,5 @@ invariant-loop-number g l =
     let now = g.D.SectorDevice.state l.device in
     record {
       looks : Looks old now;
-      size : length l.headers ≡ length l.initial.headers;
       told : (k : CheckpointValue) (m : LogMap) → Sees old now k m → Leads old.content k l.map → TellsHeaders m l.headers l.number;
     }

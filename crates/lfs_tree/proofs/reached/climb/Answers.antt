@@ -1,47 +1,32 @@
 use Rattle.std.proofs.Common.{◌<◌, ◌∙◌, length, sym, arith}
-use Rattle.std.proofs.lemmas.Grind.{get_or_default_zero}
-use Rattle.std.proofs.lemmas.List.{length-set}
 use Rattle.lfs_tree.proofs.Climbing.{fewer_left, way_begins, way_done, way_goes_on}
 use Rattle.lfs_tree.proofs.reached.climb.Goals as goal
 
 pub loop-marks-init : goal.loop-marks-init
-loop-marks-init c = record {
-  few = c.requires.few;
-  size = c.requires.size;
-  way = way_begins c.args.up.now c.args.marks.now.items c.args.start c.requires.some;
-}
+loop-marks-init c = record { few = c.requires.few; way = way_begins c.args.tables.now.up c.args.marks.now c.args.start c.requires.some }
 
 pub loop-marks-smaller : goal.loop-marks-smaller
 loop-marks-smaller c =
-    let here = c.loop-marks.invariant in
-    let size = here.size in
-    let few = here.few in
+    let few = c.loop-marks.invariant.few in
+    let whole = c.get.ensures.whole in
     let some = c.requires.some in
-    let inside : c.loop-marks.at < length c.loop-marks.marks.items = omega (arith, size, few) in
-    fewer_left c.loop-marks.marks.items c.loop-marks.at c.args.start inside
-    (sym (c.index.ensures ∙ get_or_default_zero c.loop-marks.marks.items c.loop-marks.at c.index.result.now inside) ∙ c.loop-marks-test.true) (omega (arith, some)) few
+    let inside : c.loop-marks.at < length c.loop-marks.marks = omega (arith, whole, few) in
+    rw c.set.ensures (fewer_left c.loop-marks.marks c.loop-marks.at c.args.start inside (sym c.get.ensures.value ∙ c.loop-marks-test.true) (omega (arith, some)) few)
 
 pub loop-marks-preserved : goal.loop-marks-preserved
 loop-marks-preserved c =
-    let here = c.loop-marks.invariant in
-    let size = here.size in
-    let few = here.few in
-    let inside : c.loop-marks.at < length c.loop-marks.marks.items = omega (arith, size, few) in
+    let few = c.loop-marks.invariant.few in
+    let whole = c.get.ensures.whole in
+    let inside : c.loop-marks.at < length c.loop-marks.marks = omega (arith, whole, few) in
     record {
-      few = c.requires.inside c.loop-marks.at;
-      size = length-set c.loop-marks.marks.items c.loop-marks.at c.args.start ∙ here.size;
+      few = c.up-at.ensures.inside;
       way = λ marked.
-          way_goes_on c.args.up.now c.args.marks.now.items c.args.start c.requires.some c.loop-marks.marks.items c.loop-marks.at (here.way marked) inside
-          (sym (c.index.ensures ∙ get_or_default_zero c.loop-marks.marks.items c.loop-marks.at c.index.result.now inside) ∙ c.loop-marks-test.true);
+          rw (c.set.ensures, c.up-at.ensures.value) (way_goes_on c.args.tables.now.up c.args.marks.now c.args.start c.requires.some c.loop-marks.marks c.loop-marks.at (c.loop-marks.invariant.way marked) inside
+          (sym c.get.ensures.value ∙ c.loop-marks-test.true));
     }
 
-pub returns-clause-marks : goal.returns-clause-marks
-returns-clause-marks c marked =
-    let here = c.loop-marks.invariant in
-    let size = here.size in
-    let few = here.few in
-    let inside : c.loop-marks.at < length c.loop-marks.marks.items = omega (arith, size, few) in
-    let first = c.index.ensures ∙ get_or_default_zero c.loop-marks.marks.items c.loop-marks.at c.index.result.now inside in
-    let last = c.index-2.ensures ∙ get_or_default_zero c.loop-marks.marks.items c.loop-marks.at c.index-2.result.now inside in
+pub returns : goal.returns
+returns c marked =
+    let first = c.get.ensures.value in
     let some = c.loop-marks-test.false in
-    way_done c.args.up.now c.args.marks.now.items c.args.start c.requires.some c.loop-marks.marks.items c.loop-marks.at (here.way marked) (omega (arith, first, some)) c.index-2.result.now last
+    way_done c.args.tables.now.up c.args.marks.now c.args.start c.requires.some c.loop-marks.marks c.loop-marks.at (c.loop-marks.invariant.way marked) (omega (arith, first, some)) c.get-2.result c.get-2.ensures.value

@@ -10,7 +10,6 @@ use Rattle.lfs_tree.proofs.slot_stage.stage_slots.Goals as goal
 pub loop-number-init : goal.loop-number-init
 loop-number-init g c = record {
   looks = looks_none (g.D.SectorDevice.state c.args.device.now) (g.met.D.SectorDevice.lawful c.args.device.now);
-  sizes = c.requires.sizes;
   named = λ k m sees leads told empty. named_none m c.args.headers.now c.args.tables.now empty;
 }
 
@@ -24,7 +23,6 @@ loop-number-preserved g c =
     let headers = c.args.headers.now in
     record {
       looks = looks_then old mid new here.looks c.in-Ok-true.ensures.looks;
-      sizes = c.take_object.ensures.sizes;
       named = λ k m sees leads told empty.
           let was = here.named k m (sees_first old mid new k m sees c.in-Ok-true.ensures.looks) leads told empty in
           let base = base_at m headers c.loop-number.tables number in

@@ -1,7 +1,7 @@
 use Rattle.lfs_model.specs.Checkpoint.{CheckpointValue}
 use Rattle.lfs_model.specs.Stands.{LogMap}
 use Rattle.lfs_verify.specs.Take.{Looks}
-use Rattle.lfs_tree.specs.Naming.{AreEmpty, AreTables}
+use Rattle.lfs_tree.specs.Naming.{AreEmpty}
 use Rattle.lfs_tree.specs.Objects.{AreNamed}
 use Rattle.lfs_tree.specs.Reading.{Leads, Sees, TellsHeaders}
 use Rattle.lfs_tree.proofs.slot_stage.stage_slots.Given as goal
@@ -12,7 +12,6 @@ invariant-loop-number g l =
     let now = g.D.SectorDevice.state l.device in
     record {
       looks : Looks old now;
-      sizes : AreTables l.tables;
       named : (k : CheckpointValue) (m : LogMap) → Sees old now k m → Leads old.content k l.map → TellsHeaders m l.headers 4096
           → AreEmpty l.initial.tables → AreNamed m l.headers l.tables l.number;
     }
