@@ -3,6 +3,7 @@ use Rattle.std.specs.Prelude.{count_by}
 use Rattle.std.proofs.Common.{◌≡◌, ◌<◌, ◌≤◌, ⊎_elim, ◌+◌, ℕ, suc, List, [], Option, refl, sym, ◌∙◌, ap, subst, arith, slice_index}
 use Rattle.std.proofs.lemmas.Bool.{cases_eq, cases_lt}
 use Rattle.lfs_model.specs.Stands.{LogMap}
+use Rattle.lfs_model.specs.Tree.{Names}
 use Rattle.lfs_files.specs.declared.header.Header.{Header}
 use Rattle.lfs_tree.specs.Naming.{AreEmpty, Base, IsNoted, NamesValue, capped, giving, leads}
 use Rattle.lfs_tree.specs.Objects.{AreNamed, IsGoodObject, given_below, names_at, sum_below}
@@ -23,7 +24,7 @@ module _ (m : LogMap) (headers : List (Option Header)) where
   abbrev pub base_at : NamesValue → ℕ → Base
   base_at t upto = record { counts = given_below m upto; up = slice_index t.up; below = slice_index t.below }
 
-  pub named_none : (t : NamesValue) → AreEmpty t → AreNamed m headers t 0
+  named_none : (t : NamesValue) → AreEmpty t → AreNamed m headers t 0
   named_none t empty = record {
     counts = λ n low. let none = sum_none (λ d. giving (names_at m d) n) in let zero_at = empty.counts n in omega (arith, none, zero_at);
     up = λ n low some. let none = sum_none (λ d. giving (names_at m d) n) in absurd (omega (arith, none, some));
@@ -75,3 +76,9 @@ module _ (m : LogMap) (headers : List (Option Header)) where
         none = λ d le. noted.others d (λ e. omega (arith, e, le)) ∙ was.none d (omega (arith, le));
         good = good_then;
       }
+
+  -- before the first number that a file has
+  pub named_first : (t : NamesValue) → AreEmpty t → IsGoodObject m headers 0 → names_at m 0 ≡ [] → AreNamed m headers t 1
+  named_first t empty good nothing =
+      let was = named_none t empty in
+      named_more t 0 was t good (subst (λ (ms : Names). IsNoted headers 0 (base_at t 0) ms t) (sym nothing) (noted_begin t 0 was))

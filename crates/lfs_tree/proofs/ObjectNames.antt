@@ -52,6 +52,10 @@ module _ (m : LogMap) (are : AreHeaders m) where
     | Some h ↦ λ e. let range = (are n h e).number in absurd (out range.0 range.1)
   ] refl
 
+  -- number 0 is nobody's
+  pub nobody : m.header 0 ≡ None
+  nobody = outside 0 (λ low high. omega (arith, low))
+
   -- a number's node is that of its header
   pub node_at : (n : ℕ) → node (tree_in m) n ≡ node_of m n (m.header n)
   node_at n = ⊎_elim
@@ -191,3 +195,12 @@ module _ (m : LogMap) (are : AreHeaders m) where
           subst (λ (ms : Names). IsNoted headers n base ms t) (sym (names_slots n (as_header head) at_head (kind_dir head.kind dir))) taken.1,
         )
         object_directory false dir taken = λ good. taken (good (as_header head) at_head (kind_dir head.kind dir))
+
+        other_kind : is_directory_kind head.kind ≡ false → head.kind ≡ kind.Directory → ⊥
+        other_kind apart dir = let both : true ≡ false = sym (ap is_directory_kind dir) ∙ apart in absurd (cc)
+
+        pub object_other : is_directory_kind head.kind ≡ false → IsNoted headers n base [] t → IsGoodObject m headers n × IsNoted headers n base (names_at m n) t
+        object_other apart was = (
+          λ h at dir. (let both : Some (as_header head) ≡ Some h = sym at_head ∙ at in let same : as_header head ≡ h = cc in absurd (other_kind apart (ap (λ (x : entry.Header). x.kind) same ∙ dir))),
+          subst (λ (ms : Names). IsNoted headers n base ms t) (sym (names_other n (as_header head) at_head (other_kind apart))) was,
+        )

@@ -7,7 +7,6 @@ use Rattle.std.specs.Cmp.Lexicographic.{nat_list_cmp_total}
 use Rattle.std.specs.FinMap.{find, is_sorted}
 use Rattle.std.specs.Prelude.{◌==◌}
 use Rattle.std.proofs.lemmas.Bool.Decides.{nat_tests}
-use Rattle.lfs_model.specs.Entry.{Header}
 use Rattle.lfs_model.specs.Stands.{LogMap}
 use Rattle.lfs_model.specs.Tree.{File, Names, Node, Tree, byte_cmp, names, names_of}
 use Rattle.lfs_model.specs.TreeOf.{node_of, nodes_from, tree_in, with_object}
@@ -15,7 +14,7 @@ use Rattle.lfs_model.proofs.Sums.{T_right, find_after, find_first, weight-le-tot
 use Rattle.lfs_tree.specs.Naming.{giving}
 use Rattle.lfs_tree.specs.Objects.{given_below, names_at, sum_below}
 use Rattle.lfs_tree.proofs.Named.{sum_more, sum_none}
-use Rattle.lfs_tree.proofs.ObjectNames.{AreHeaders, no_names}
+use Rattle.lfs_tree.proofs.ObjectNames.{AreHeaders, no_names, nobody}
 
 -- ---- a sum over the nodes, by their numbers
 module _ (m : LogMap) (f : Node → ℕ) (w : ℕ → ℕ) where
@@ -71,17 +70,11 @@ module _ (m : LogMap) (are : AreHeaders m) (n : ℕ) where
   given_each d None = refl
   given_each d (Some x) = refl
 
-  no_root : m.header 0 ≡ None
-  no_root = elim (m.header 0) as (λ (o : Option Header). m.header 0 ≡ o → o ≡ None) [
-    | None ↦ λ e. refl
-    | Some h ↦ λ e. let range = (are 0 h e).number in let low = range.0 in absurd (omega (arith, low))
-  ] refl
-
   -- how often the tree gives a number
   pub names_given : names (tree_in m) n ≡ given_below m 4096 n
   names_given =
       tree_sum m (λ x. giving (names_of x) n) (λ d. giving (names_at m d) n) (λ d. given_each d (node_of m d (m.header d)))
-      (ap (λ (ms : Names). giving ms n) (no_names m are 0 no_root))
+      (ap (λ (ms : Names). giving ms n) (no_names m are 0 (nobody m are)))
 
 -- what is given is found, and what is found is given
 pub given_found : (ms : Names) (n : ℕ) → T (is_sorted byte_cmp ms) → 0 < giving ms n → (name : List ℕ) × (find byte_cmp name ms ≡ Some n)

@@ -15,6 +15,7 @@ use crate::tables::NameTables;
 use lfs_device::SectorDevice;
 use lfs_files::Header;
 use lfs_inodes::InodeMap;
+use lfs_model::FileNumber;
 use std::alloc::Global;
 use std::collections::BTreeSet;
 
@@ -34,17 +35,17 @@ fn take_blocks<D: SectorDevice>(
     inode: &[u8; 512],
     header: Header,
     headers: &Headers,
-    directory: u16,
+    directory: FileNumber,
     names: &mut BTreeSet<Vec<u8>>,
     tables: &mut NameTables,
 ) -> Result<bool, CheckFault>
-    requires { directory < 4096 }
     ensures takes { IfOk result (λ taken. OfInodeAt (D.state device.old) (D.state device.new)
-        inode.now directory
-        (λ m. (base : Base) → IsTaken headers.now directory base [] names.old tables.old
-        → TakesNames headers.now directory base (slots_at m directory header) tables.new taken)) }
+        inode.now directory.value
+        (λ m. (base : Base) → IsTaken headers.now directory.value base [] names.old tables.old
+        → TakesNames headers.now directory.value base (slots_at m directory.value header)
+        tables.new taken)) }
     ensures failed { IsErrOf result CheckFault.Device
-        → OfInodeAt (D.state device.old) (D.state device.new) inode.now directory
+        → OfInodeAt (D.state device.old) (D.state device.new) inode.now directory.value
         (λ m. FailsToRead (D.state device.old) (D.state device.new)) }
     ensures looks { Looks (D.state device.old) (D.state device.new) }
 {
@@ -78,22 +79,22 @@ pub(crate) fn take_directory<D: SectorDevice>(
     device: &mut D,
     map: &InodeMap,
     headers: &Headers,
-    directory: u16,
+    directory: FileNumber,
     header: Header,
     tables: &mut NameTables,
 ) -> Result<bool, CheckFault>
-    requires { directory < 4096 }
     ensures takes { IfOk result (λ taken. OfLog (D.state device.old) (D.state device.new) map.now
-        (λ k m. (base : Base) → IsNoted headers.now directory base [] tables.old
-        → TakesNames headers.now directory base (slots_at m directory header) tables.new taken)) }
+        (λ k m. (base : Base) → IsNoted headers.now directory.value base [] tables.old
+        → TakesNames headers.now directory.value base (slots_at m directory.value header)
+        tables.new taken)) }
     ensures failed { IsErrOf result CheckFault.Device
         → OfLog (D.state device.old) (D.state device.new) map.now
-        (λ k m. m.header directory ≡ Some (as_header header)
+        (λ k m. m.header directory.value ≡ Some (as_header header)
         → FailsToRead (D.state device.old) (D.state device.new)) }
     ensures looks { Looks (D.state device.old) (D.state device.new) }
 {
     let mut inode = [0; 512];
-    match read_inode(device, map, directory, &mut inode) {
+    match read_inode(device, map, directory.value, &mut inode) {
         Ok(true) => {}
         Ok(false) => return Err(CheckFault::Device),
         Err(_) => return Err(CheckFault::Device),

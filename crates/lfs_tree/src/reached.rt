@@ -9,6 +9,7 @@ use crate::marks::Marks;
 use crate::slots::is_directory;
 use crate::tables::NameTables;
 use lfs_files::Header;
+use lfs_model::FileNumber;
 use std::alloc::{AllocError, Global};
 
 /// The root's number.
@@ -45,26 +46,29 @@ fn are_named(headers: &Headers, tables: &NameTables) -> bool
 /// Marks a number and all on the way up from it, as far as they have no mark, with this number:
 /// false where the way leads back into itself. Numbers with marks come to the root, and their marks
 /// are less.
-fn climb(tables: &NameTables, marks: &mut Marks, start: u16) -> bool
-    requires some { 2 ≤ start }
-    requires few { start < 4096 }
-    ensures { Marked tables.now.up marks.old start
-        → MarksUp tables.now.up marks.new start result }
+fn climb(tables: &NameTables, marks: &mut Marks, start: FileNumber) -> bool
+    requires { 2 ≤ start.value }
+    ensures { Marked tables.now.up marks.old start.value
+        → MarksUp tables.now.up marks.new start.value result }
 {
-    let mut at = start;
+    let mut at = start.value;
     while marks.get(at) == 0 {
-        marks.set(at, start);
+        marks.set(at, start.value);
         at = tables.up(at);
     }
-    marks.get(at) != start
+    marks.get(at) != start.value
 }
 
 /// The same of a number where a directory stands; others are passed by.
-fn climb_directory(headers: &Headers, tables: &NameTables, marks: &mut Marks, number: u16) -> bool
-    requires some { 2 ≤ number }
-    requires few { number < 4096 }
-    ensures { Marked tables.now.up marks.old number
-        → MarksDirectory headers.now tables.now.up marks.new number result }
+fn climb_directory(
+    headers: &Headers,
+    tables: &NameTables,
+    marks: &mut Marks,
+    number: FileNumber,
+) -> bool
+    requires { 2 ≤ number.value }
+    ensures { Marked tables.now.up marks.old number.value
+        → MarksDirectory headers.now tables.now.up marks.new number.value result }
 {
     if !leads(headers, number) {
         return true;
@@ -82,6 +86,7 @@ fn all_climb(alloc: Global, headers: &Headers, tables: &NameTables) -> Result<bo
 {
     let mut marks = Marks::new(alloc)?;
     for number in 2..NUMBERS {
+        let number = FileNumber { value: number };
         if !climb_directory(headers, tables, &mut marks, number) {
             return Ok(false);
         }
@@ -90,11 +95,10 @@ fn all_climb(alloc: Global, headers: &Headers, tables: &NameTables) -> Result<bo
 }
 
 /// Whether a directory stands at a number.
-fn leads(headers: &Headers, number: u16) -> bool
-    requires { number < 4096 }
-    ensures { result ≡ leads headers.now number }
+fn leads(headers: &Headers, number: FileNumber) -> bool
+    ensures { result ≡ leads headers.now number.value }
 {
-    match headers.get(number) {
+    match headers.get(number.value) {
         Some(header) => is_directory(header),
         None => false,
     }

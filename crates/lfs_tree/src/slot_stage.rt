@@ -12,6 +12,7 @@ use crate::slots::is_directory;
 use crate::tables::NameTables;
 use lfs_device::SectorDevice;
 use lfs_inodes::InodeMap;
+use lfs_model::FileNumber;
 use std::alloc::Global;
 
 /// Goes through the object at a number, if it is a directory.
@@ -24,20 +25,19 @@ fn take_object<D: SectorDevice>(
     device: &mut D,
     map: &InodeMap,
     headers: &Headers,
-    number: u16,
+    number: FileNumber,
     tables: &mut NameTables,
 ) -> Result<bool, CheckFault>
-    requires { number < 4096 }
     ensures takes { IfOk result (λ taken. OfHeaders (D.state device.old) (D.state device.new)
         map.now headers.now
-        (λ k m. (base : Base) → IsNoted headers.now number base [] tables.old
-        → TakesObject m headers.now number base tables.new taken)) }
+        (λ k m. (base : Base) → IsNoted headers.now number.value base [] tables.old
+        → TakesObject m headers.now number.value base tables.new taken)) }
     ensures failed { IsErrOf result CheckFault.Device
         → OfHeaders (D.state device.old) (D.state device.new) map.now headers.now
         (λ k m. FailsToRead (D.state device.old) (D.state device.new)) }
     ensures looks { Looks (D.state device.old) (D.state device.new) }
 {
-    let Some(header) = headers.get(number) else {
+    let Some(header) = headers.get(number.value) else {
         return Ok(true);
     };
     if !is_directory(header) {
@@ -70,7 +70,8 @@ pub fn stage_slots<D: SectorDevice>(
         (λ k m. FailsToRead (D.state device.old) (D.state device.new)) }
     ensures looks { Looks (D.state device.old) (D.state device.new) }
 {
-    for number in 0..NUMBERS {
+    for number in 1..NUMBERS {
+        let number = FileNumber { value: number };
         match take_object(alloc, device, map, headers, number, tables) {
             Ok(true) => {}
             Ok(false) => return Ok(false),

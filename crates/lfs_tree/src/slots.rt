@@ -10,7 +10,7 @@ use crate::headers::Headers;
 use crate::tables::NameTables;
 use lfs_files::Header;
 use lfs_layout::{SlotView, nth_slot};
-use lfs_model::Kind;
+use lfs_model::{FileNumber, Kind};
 use std::alloc::{AllocError, Global};
 use std::collections::BTreeSet;
 
@@ -57,19 +57,20 @@ fn take_slot(
     alloc: Global,
     slot: &[u8; 64],
     headers: &Headers,
-    directory: u16,
+    directory: FileNumber,
     names: &mut BTreeSet<Vec<u8>>,
     tables: &mut NameTables,
 ) -> Result<bool, AllocError>
-    requires { directory < 4096 }
-    ensures { IfOk result (λ taken. TakesSlots headers.now directory (slot.now ∷ [])
+    ensures { IfOk result (λ taken. TakesSlots headers.now directory.value (slot.now ∷ [])
         names.old names.new tables.old tables.new taken) }
 {
     let Some(view) = SlotView::decode(slot) else {
         return Ok(false);
     };
-    let number = view.number() as u16;
-    let Some(header) = headers.get(number) else {
+    let number = FileNumber {
+        value: view.number() as u16,
+    };
+    let Some(header) = headers.get(number.value) else {
         return Ok(false);
     };
     if !insert_name(alloc, names, view.name())? {
@@ -89,13 +90,12 @@ pub(crate) fn take_slots(
     block: &[u8; 512],
     count: usize,
     headers: &Headers,
-    directory: u16,
+    directory: FileNumber,
     names: &mut BTreeSet<Vec<u8>>,
     tables: &mut NameTables,
 ) -> Result<bool, AllocError>
-    requires few { count ≤ 8 }
-    requires directory { directory < 4096 }
-    ensures { IfOk result (λ taken. TakesSlots headers.now directory
+    requires { count ≤ 8 }
+    ensures { IfOk result (λ taken. TakesSlots headers.now directory.value
         (first_slots block.now count) names.old names.new tables.old tables.new taken) }
 {
     let mut place = count;

@@ -3,6 +3,7 @@ ghost use Rattle.std.specs.Prelude.{◌≡◌, ◌<◌, ℕ, length, slice_index
 ghost use Rattle.lfs_tree.specs.Naming.{AreEmpty, AreTables, NamesValue, Notes};
 
 use crate::headers::NUMBERS;
+use lfs_model::FileNumber;
 use std::alloc::{AllocError, Global};
 use std::marker::Model;
 
@@ -78,16 +79,14 @@ impl NameTables {
     }
 
     /// An entry of a directory gives a number, at which a directory stands or not.
-    pub(crate) fn note(&mut self, directory: u16, number: u16, is_directory: bool)
-        requires directory { directory < 4096 }
-        requires number { number < 4096 }
-        ensures notes { Notes self.old self.new directory number is_directory }
+    pub(crate) fn note(&mut self, directory: FileNumber, number: FileNumber, is_directory: bool)
+        ensures notes { Notes self.old self.new directory.value number.value is_directory }
         ensures sizes { AreTables self.old }
     {
-        let count = self.counts[number as usize];
-        self.counts[number as usize] = count.saturating_add(1);
-        self.up[number as usize] = directory;
-        let below = self.below[directory as usize];
-        self.below[directory as usize] = below.saturating_add(u16::from(is_directory));
+        let place = number.value as usize;
+        let above = directory.value as usize;
+        self.counts[place] = self.counts[place].saturating_add(1);
+        self.up[place] = directory.value;
+        self.below[above] = self.below[above].saturating_add(u16::from(is_directory));
     }
 }

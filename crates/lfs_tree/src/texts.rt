@@ -12,7 +12,7 @@ use crate::reading::{read_block, read_inode};
 use lfs_device::{DeviceFault, SectorDevice};
 use lfs_files::Header;
 use lfs_inodes::InodeMap;
-use lfs_model::Kind;
+use lfs_model::{FileNumber, Kind};
 
 /// The bytes of a block.
 const BLOCK: u32 = 512;
@@ -69,19 +69,18 @@ fn check_bytes<D: SectorDevice>(
 fn check_text<D: SectorDevice>(
     device: &mut D,
     map: &InodeMap,
-    number: u16,
+    number: FileNumber,
     header: Header,
 ) -> Result<bool, DeviceFault>
-    requires { number < 4096 }
     ensures holds { IfOk result (λ holds. OfLog (D.state device.old) (D.state device.new) map.now
-        (λ k m. Decides (HasNoZero m number header.size) holds)) }
+        (λ k m. Decides (HasNoZero m number.value header.size) holds)) }
     ensures failed { OnErr result (OfLog (D.state device.old) (D.state device.new) map.now
-        (λ k m. m.header number ≡ Some (as_header header)
+        (λ k m. m.header number.value ≡ Some (as_header header)
         → FailsToRead (D.state device.old) (D.state device.new))) }
     ensures looks { Looks (D.state device.old) (D.state device.new) }
 {
     let mut inode = [0; 512];
-    match read_inode(device, map, number, &mut inode) {
+    match read_inode(device, map, number.value, &mut inode) {
         Ok(true) => {}
         Ok(false) => return Err(DeviceFault),
         Err(fault) => return Err(fault),
@@ -112,18 +111,17 @@ fn check_object<D: SectorDevice>(
     device: &mut D,
     map: &InodeMap,
     headers: &Headers,
-    number: u16,
+    number: FileNumber,
 ) -> Result<bool, DeviceFault>
-    requires { number < 4096 }
     ensures holds { IfOk result (λ holds. OfHeaders (D.state device.old) (D.state device.new)
         map.now headers.now
-        (λ k m. Decides (IsGoodText m number) holds)) }
+        (λ k m. Decides (IsGoodText m number.value) holds)) }
     ensures failed { OnErr result (OfHeaders (D.state device.old) (D.state device.new)
         map.now headers.now
         (λ k m. FailsToRead (D.state device.old) (D.state device.new))) }
     ensures looks { Looks (D.state device.old) (D.state device.new) }
 {
-    let Some(header) = headers.get(number) else {
+    let Some(header) = headers.get(number.value) else {
         return Ok(true);
     };
     if !is_link(header) {
@@ -153,7 +151,8 @@ pub fn stage_texts<D: SectorDevice>(
         (λ k m. FailsToRead (D.state device.old) (D.state device.new))) }
     ensures looks { Looks (D.state device.old) (D.state device.new) }
 {
-    for number in 0..NUMBERS {
+    for number in 1..NUMBERS {
+        let number = FileNumber { value: number };
         match check_object(device, map, headers, number) {
             Ok(true) => {}
             Ok(false) => return Ok(false),

@@ -13,7 +13,7 @@ loop-index-init g c =
     record {
       low = omega (arith, e);
       looks = looks_none (g.D.SectorDevice.state c.args.device.now) (g.met.D.SectorDevice.lawful c.args.device.now);
-      taken = λ k m sees is base was. blocks_begin c.args.headers.now c.args.directory base m c.args.header c.div_ceil-index.result c.args.names.now c.args.tables.now (omega (arith, e)) was;
+      taken = λ k m sees is base was. blocks_begin c.args.headers.now c.args.directory.value base m c.args.header c.div_ceil-index.result c.args.names.now c.args.tables.now (omega (arith, e)) was;
     }
 
 pub returns-in-Err-clause-failed : goal.returns-in-Err-clause-failed
@@ -22,7 +22,7 @@ returns-in-Err-clause-failed g c same k m sees is =
     let mid = g.D.SectorDevice.state c.loop-index.device in
     let new = g.D.SectorDevice.state c.read_block.new.device in
     let looks = c.loop-index.invariant.looks in
-    let rose = c.in-Err.ensures.failed k m c.args.directory (sees_then old mid new k m sees looks) (inode_then old mid k c.args.directory c.args.inode.now is looks) in
+    let rose = c.in-Err.ensures.failed k m c.args.directory.value (sees_then old mid new k m sees looks) (inode_then old mid k c.args.directory.value c.args.inode.now is looks) in
     let earlier = looks.carries.failures in
     omega (arith, rose, earlier)
 
@@ -41,11 +41,11 @@ loop-index-preserved g c =
       low = omega (arith, low);
       looks = looks_then old mid new here.looks c.in-Ok.ensures.looks;
       taken = λ k m sees own base was.
-          blocks_go_on c.args.headers.now c.args.directory base m c.args.header c.loop-index.index (c.loop-index.index - 1) c.min-count.result c.read_block.new.out
-          (c.in-Ok.ensures.answer k m c.args.directory (sees_then old mid new k m sees here.looks) (inode_then old mid k c.args.directory c.args.inode.now own here.looks))
+          blocks_go_on c.args.headers.now c.args.directory.value base m c.args.header c.loop-index.index (c.loop-index.index - 1) c.min-count.result c.read_block.new.out
+          (c.in-Ok.ensures.answer k m c.args.directory.value (sees_then old mid new k m sees here.looks) (inode_then old mid k c.args.directory.value c.args.inode.now own here.looks))
           is low (omega (arith, t)) c.loop-index.names c.take_slots.new.names c.loop-index.tables c.take_slots.new.tables
           (here.taken k m (sees_first old mid new k m sees c.in-Ok.ensures.looks) own base was)
-          (subst (TakesSlots c.args.headers.now c.args.directory (first_slots c.read_block.new.out c.min-count.result) c.loop-index.names c.take_slots.new.names c.loop-index.tables c.take_slots.new.tables) c.in-Ok-true.field-0-test c.in-Ok-true.ensures);
+          (subst (TakesSlots c.args.headers.now c.args.directory.value (first_slots c.read_block.new.out c.min-count.result) c.loop-index.names c.take_slots.new.names c.loop-index.tables c.take_slots.new.tables) c.in-Ok-true.field-0-test c.in-Ok-true.ensures);
     }
 
 pub returns-in-Ok-false-clause-takes : goal.returns-in-Ok-false-clause-takes
@@ -59,13 +59,13 @@ returns-in-Ok-false-clause-takes g c k m sees own base was =
     let e = c.min-count.ensures in
     let low : 8 * (c.loop-index.index - 1) < c.args.header.size / 64 = omega (arith, t, u) in
     let is : c.min-count.result ≡ min (c.args.header.size / 64 - 8 * (c.loop-index.index - 1)) 8 = omega (arith, e) in
-    blocks_fail c.args.headers.now c.args.directory base m c.args.header c.loop-index.index (c.loop-index.index - 1) c.min-count.result c.read_block.new.out
-    (c.in-Ok.ensures.answer k m c.args.directory (sees_then old mid new k m sees here.looks) (inode_then old mid k c.args.directory c.args.inode.now own here.looks))
+    blocks_fail c.args.headers.now c.args.directory.value base m c.args.header c.loop-index.index (c.loop-index.index - 1) c.min-count.result c.read_block.new.out
+    (c.in-Ok.ensures.answer k m c.args.directory.value (sees_then old mid new k m sees here.looks) (inode_then old mid k c.args.directory.value c.args.inode.now own here.looks))
     is low (omega (arith, t)) c.loop-index.names c.take_slots.new.names c.loop-index.tables c.take_slots.new.tables
     (here.taken k m (sees_first old mid new k m sees c.in-Ok.ensures.looks) own base was)
-    (subst (TakesSlots c.args.headers.now c.args.directory (first_slots c.read_block.new.out c.min-count.result) c.loop-index.names c.take_slots.new.names c.loop-index.tables c.take_slots.new.tables) c.in-Ok-false.field-0-test c.in-Ok-false.ensures)
+    (subst (TakesSlots c.args.headers.now c.args.directory.value (first_slots c.read_block.new.out c.min-count.result) c.loop-index.names c.take_slots.new.names c.loop-index.tables c.take_slots.new.tables) c.in-Ok-false.field-0-test c.in-Ok-false.ensures)
 
 pub returns-clause-takes : goal.returns-clause-takes
 returns-clause-takes g c k m sees own base was =
     let ended = c.loop-index-test.false in
-    blocks_end c.args.headers.now c.args.directory base m c.args.header c.loop-index.index c.loop-index.names c.loop-index.tables (omega (arith, ended)) (c.loop-index.invariant.taken k m sees own base was)
+    blocks_end c.args.headers.now c.args.directory.value base m c.args.header c.loop-index.index c.loop-index.names c.loop-index.tables (omega (arith, ended)) (c.loop-index.invariant.taken k m sees own base was)

@@ -17,9 +17,9 @@ invariant-loop-index g l =
     record {
       low : 8 * l.index < l.fn.header.size / 64 + 8;
       looks : Looks old now;
-      taken : (k : CheckpointValue) (m : LogMap) → Sees old now k m → l.inode ≡ block old.content (address old.content k (Inode l.fn.directory))
-          → (base : Base) → IsTaken l.headers l.fn.directory base [] l.initial.names l.initial.tables
-          → IsTaken l.headers l.fn.directory base (drop (8 * l.index) (slots_at m l.fn.directory l.fn.header)) l.names l.tables;
+      taken : (k : CheckpointValue) (m : LogMap) → Sees old now k m → l.inode ≡ block old.content (address old.content k (Inode l.fn.directory.value))
+          → (base : Base) → IsTaken l.headers l.fn.directory.value base [] l.initial.names l.initial.tables
+          → IsTaken l.headers l.fn.directory.value base (drop (8 * l.index) (slots_at m l.fn.directory.value l.fn.header)) l.names l.tables;
     }
 
 abbrev pub decreases-loop-index : goal.decreases-loop-index

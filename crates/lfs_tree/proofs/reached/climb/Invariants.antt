@@ -6,7 +6,7 @@ use Rattle.lfs_tree.proofs.reached.climb.Given as goal
 abbrev pub invariant-loop-marks : goal.invariant-loop-marks
 invariant-loop-marks l = record {
   few : l.at < 4096;
-  way : Marked l.tables.up l.initial.marks l.start → OnTheWay l.tables.up l.initial.marks l.marks l.start l.at;
+  way : Marked l.tables.up l.initial.marks l.start.value → OnTheWay l.tables.up l.initial.marks l.marks l.start.value l.at;
 }
 
 abbrev pub decreases-loop-marks : goal.decreases-loop-marks

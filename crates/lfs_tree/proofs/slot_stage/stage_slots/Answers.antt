@@ -1,16 +1,19 @@
-use Rattle.std.proofs.Common.{◌≡◌, subst, arith}
+use Rattle.std.proofs.Common.{◌≡◌, ◌∙◌, Some, None, subst, sym, arith}
 use Rattle.lfs_model.proofs.Standing.{headers_are}
 use Rattle.lfs_verify.proofs.Takes.{looks_none, looks_then}
 use Rattle.lfs_tree.specs.Objects.{AreNamed, TakesObject}
-use Rattle.lfs_tree.proofs.Named.{base_at, named_more, named_none, noted_begin}
-use Rattle.lfs_tree.proofs.ObjectNames.{good_if_stage, stage_if_good}
+use Rattle.lfs_tree.proofs.Named.{base_at, named_first, named_more, noted_begin}
+use Rattle.lfs_tree.proofs.ObjectNames.{good_if_stage, no_names, nobody, stage_if_good}
 use Rattle.lfs_tree.proofs.Seeing.{leads_then, sees_first, sees_then}
 use Rattle.lfs_tree.proofs.slot_stage.stage_slots.Goals as goal
 
 pub loop-number-init : goal.loop-number-init
 loop-number-init g c = record {
   looks = looks_none (g.D.SectorDevice.state c.args.device.now) (g.met.D.SectorDevice.lawful c.args.device.now);
-  named = λ k m sees leads told empty. named_none m c.args.headers.now c.args.tables.now empty;
+  named = λ k m sees leads told empty.
+      let are = headers_are (g.D.SectorDevice.state c.args.device.now).content k m sees.holds in
+      let none = nobody m are in
+      named_first m c.args.headers.now c.args.tables.now empty (λ h at dir. (let both : None ≡ Some h = sym none ∙ at in absurd (cc))) (no_names m are 0 none);
 }
 
 pub loop-number-preserved : goal.loop-number-preserved

@@ -9,7 +9,10 @@ use Rattle.lfs_tree.proofs.texts.stage_texts.Goals as goal
 pub loop-number-init : goal.loop-number-init
 loop-number-init g c = record {
   looks = looks_none (g.D.SectorDevice.state c.args.device.now) (g.met.D.SectorDevice.lawful c.args.device.now);
-  good = λ k m sees leads told n low. absurd (omega (arith, low));
+  good = λ k m sees leads told n low h at link.
+      let range = (headers_are (g.D.SectorDevice.state c.args.device.now).content k m sees.holds n h at).number in
+      let some = range.0 in
+      absurd (omega (arith, low, some));
 }
 
 pub loop-number-preserved : goal.loop-number-preserved
