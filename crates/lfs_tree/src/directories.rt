@@ -1,5 +1,5 @@
 //! The directories of a log map, gone through one by one.
-ghost use Rattle.std.specs.Prelude.{◌≡◌, ◌<◌, ◌/◌, [], Some, IfOk, IsErrOf};
+ghost use Rattle.std.specs.Prelude.{◌≡◌, ◌/◌, [], Some, IfOk, IsErrOf};
 ghost use Rattle.lfs_model.specs.Content.{block};
 ghost use Rattle.lfs_dirs.specs.Directory.{slots_at};
 ghost use Rattle.lfs_files.specs.Headers.{as_header};

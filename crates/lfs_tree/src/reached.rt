@@ -1,6 +1,6 @@
 //! Stage 12: each number but the root's is named, the root's isn't, and each other directory is
 //! named once and reached from the root.
-ghost use Rattle.std.specs.Prelude.{◌≡◌, ◌<◌, ◌≤◌, ◌↔◌, IfOk, IsTrue};
+ghost use Rattle.std.specs.Prelude.{◌≡◌, ◌≤◌, ◌↔◌, IfOk, IsTrue};
 ghost use Rattle.lfs_tree.specs.Naming.{leads};
 ghost use Rattle.lfs_tree.specs.Reaching.{AllClimb, AreNamesFit, FitsNames, Marked, MarksDirectory, MarksUp};
 

@@ -1,5 +1,5 @@
 //! Stage 10: each directory's slots are well-formed, its names differ, and its numbers are there.
-ghost use Rattle.std.specs.Prelude.{◌<◌, [], IfOk, IsErrOf};
+ghost use Rattle.std.specs.Prelude.{[], IfOk, IsErrOf};
 ghost use Rattle.lfs_verify.specs.Take.{Looks};
 ghost use Rattle.lfs_tree.specs.Naming.{AreEmpty, Base, IsNoted};
 ghost use Rattle.lfs_tree.specs.Objects.{SlotStage, TakesObject};

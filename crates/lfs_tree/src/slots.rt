@@ -1,6 +1,6 @@
 //! The slots of directories, gone through one by one.
 ghost use Rattle.std.specs.Prelude.{ℕ};
-ghost use Rattle.std.specs.Prelude.{◌≡◌, ◌<◌, ◌≤◌, ◌↔◌, [], ◌∷◌, IfOk, IsTrue, None};
+ghost use Rattle.std.specs.Prelude.{◌≡◌, ◌≤◌, ◌↔◌, [], ◌∷◌, IfOk, IsTrue, None};
 ghost use Rattle.std.specs.FinMap.{find, put};
 ghost use Rattle.lfs_model.specs.Tree.{Names, byte_cmp};
 ghost use Rattle.lfs_dirs.specs.Directory.{first_slots};
