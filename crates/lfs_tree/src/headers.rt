@@ -43,7 +43,8 @@ impl Headers {
     ///
     /// Where memory runs out.
     pub fn new(alloc: Global) -> Result<Headers, AllocError>
-        ensures { IfOk result (λ h. (n : ℕ) → n < 4096 → get_or h n None ≡ None) }
+        ensures whole { IfOk result (λ h. length h ≡ 4096) }
+        ensures empty { IfOk result (λ h. (n : ℕ) → n < 4096 → get_or h n None ≡ None) }
     {
         let headers = Vec::from_elem(alloc, None, NUMBERS as usize)?;
         Ok(Headers { headers })

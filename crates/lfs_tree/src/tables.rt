@@ -45,7 +45,8 @@ impl NameTables {
     ///
     /// Where memory runs out.
     pub fn new(alloc: Global) -> Result<NameTables, AllocError>
-        ensures { IfOk result AreEmpty }
+        ensures sizes { IfOk result AreTables }
+        ensures empty { IfOk result AreEmpty }
     {
         let counts = zeros(alloc)?;
         let up = zeros(alloc)?;
@@ -82,6 +83,7 @@ impl NameTables {
     pub(crate) fn note(&mut self, directory: FileNumber, number: FileNumber, is_directory: bool)
         ensures notes { Notes self.old self.new directory.value number.value is_directory }
         ensures sizes { AreTables self.old }
+        ensures kept { AreTables self.new }
     {
         let place = number.value as usize;
         let above = directory.value as usize;
