@@ -1,15 +1,26 @@
 """Files on a Pansuyog volume, from Python: a client of the program `lfs` that needs the standard library alone.
 
-    from pansuyog import Volume
+    from pansuyog import NoEntry, Volume
 
     with Volume("disk.img") as volume:
-        handle = volume.create("/log")
-        volume.pwrite(handle, 0, b"first record\\n")
+        try:
+            handle = volume.open("/notes")
+        except NoEntry:
+            handle = volume.create("/notes")
+        volume.pwrite(handle, volume.stat("/notes").size, b"a record\\n")
         volume.sync()
 
-Each method is one call of the volume (docs/CALLS.md) and one line of a script (docs/SCRIPT.md), which a child process `lfs run IMAGE`
-answers before the method returns. A refusal is an exception of the refusal's name: `NoEntry`, `NoSpace`, `Device` and so on. What
-was acknowledged by `sync` stays through any stop of the device or of the child; what wasn't may be gone at the next mount.
+Whole files and folders go in and out by the methods of `Files`:
+
+        volume.append("/notes", b"a record\\n")
+        volume.write_file("/day1", b"whole, or not at all")
+        volume.write_tree("a folder")
+        volume.export("a new folder")
+
+Each other method is one call of the volume (docs/CALLS.md), and one line of a script (docs/SCRIPT.md), which a child process `lfs run IMAGE`
+answers before the method returns. A refusal is an exception of the refusal's name: `NoEntry`, `NoSpace`, `Device` and so on. Its text
+has the call and the cause. What was acknowledged by `sync` stays through any stop of the device or of the child; what wasn't may be gone
+at the next mount.
 
 Paths are `str` (taken as UTF-8) or `bytes`. Nothing is saved when the volume is closed: call `sync` before.
 """
@@ -17,7 +28,37 @@ import os
 import subprocess
 from typing import NamedTuple
 
-__all__ = ["Volume", "Refused", "ChildDied", "BadLine", "Space", "Stat", "TreeRow", "make"]
+__all__ = ["Calls", "Files", "Volume", "Refused", "ChildDied", "BadLine", "Entry", "Space", "Stat", "TreeRow", "make"]
+
+# What people are told of a call that is refused, as in crates/lfs_command/src/reason.rt: the reply to a line has the name alone.
+_NO_MEMORY = "there isn't enough memory"
+_DEVICE = "a read, a write or a sync of it failed"
+_CALL_TEXTS = {
+    "NoEntry": "the volume has nothing of this name",
+    "NotDir": "a directory is needed here",
+    "IsDir": "this is a directory",
+    "Exist": "this is there already",
+    "NotEmpty": "the directory has entries",
+    "Inval": "an argument isn't taken",
+    "NameTooLong": "a name or a path is too long",
+    "Loop": "more than 40 links were to be followed",
+    "Perm": "a directory isn't linked or unlinked",
+    "Busy": "the root can't be removed or renamed",
+    "BadHandle": "no such handle is open",
+    "TooManyOpen": "64 handles are open",
+    "TooManyLinks": "the object has 1000 links",
+    "FileTooBig": "this is past the greatest size of a file",
+    "NoSpace": "the volume has no space for this",
+    "NoNumber": "the volume has 4095 objects",
+    "DirFull": "the directory has 1024 entries",
+    "NoMemory": _NO_MEMORY,
+    "Device": _DEVICE,
+    "Halted": "it can't be written: a write or a sync of it failed",
+    "Stuck": "too few of its segments are clean",
+    "Worn": "it was changed too often to be changed again",
+}
+# The other names, with which a volume isn't made or mounted. Standard error says why.
+_VOLUME_NAMES = ["Image", "TooSmall", "NoCheckpoint", "Damaged"]
 
 
 class Refused(Exception):
@@ -70,21 +111,17 @@ class TreeRow(NamedTuple):
     head: bytes
 
 
-_REFUSALS = {}
+_REFUSALS = {
+    name: type(name, (Refused,), {"__module__": __name__, "__doc__": f"The refusal {name} of docs/CALLS.md."})
+    for name in [*_CALL_TEXTS, *_VOLUME_NAMES]
+}
+globals().update(_REFUSALS)
+__all__ += _REFUSALS
 
 
-def _refusal(name):
-    """The class of a refusal, which is made where it is first met."""
-    if name not in _REFUSALS:
-        _REFUSALS[name] = type(name, (Refused,), {"__doc__": f"The refusal {name} of docs/CALLS.md."})
-    return _REFUSALS[name]
-
-
-def __getattr__(name):
-    """`pansuyog.NoEntry` and its like, so that callers can name a refusal before it was met."""
-    if name[:1].isupper():
-        return _refusal(name)
-    raise AttributeError(name)
+def _refusal(name, text):
+    """The exception of a refusal. One that this client doesn't know is a plain `Refused`."""
+    return _REFUSALS[name](text) if name in _REFUSALS else Refused(f"{text} ({name})")
 
 
 def _bytes(text):
@@ -123,69 +160,40 @@ def _head(kind, word):
     return _unescape(word) if kind == "link" else _unhex(word)
 
 
+def _started(lfs, words):
+    """The program, begun on these words."""
+    try:
+        return subprocess.Popen([lfs, *words], stdin=subprocess.PIPE, stdout=subprocess.PIPE, stderr=subprocess.PIPE)
+    except FileNotFoundError:
+        where = "there" if os.path.dirname(lfs) else "in PATH"
+        raise FileNotFoundError(f'the program {lfs} isn\'t {where}; pass Volume(image, lfs="../lfs")') from None
+
+
+def _cause(errors, reply):
+    """What standard error says, without the program's name, or else the reply."""
+    return errors.decode(errors="replace").strip().removeprefix("lfs: ") or reply
+
+
 def make(image, segments, lfs="lfs"):
     """Makes an empty volume in an image file: a multiple of 8 segments of 32 KiB, from 64 to 1,024. An earlier content is gone."""
-    done = subprocess.run([lfs, "mkfs", os.fspath(image), "--segments", str(segments)], capture_output=True, text=True, check=False)
-    words = done.stdout.split()
-    if words[:1] == ["err"]:
-        raise _refusal(words[1])(" ".join(words[1:]))
-    if done.returncode != 0:
-        raise ChildDied(f"lfs mkfs ended with status {done.returncode}: {done.stderr.strip()}")
+    with _started(lfs, ["mkfs", os.fspath(image), "--segments", str(segments)]) as child:
+        output, errors = child.communicate()
+    reply = output.decode(errors="replace").strip()
+    if reply.startswith("err "):
+        raise _refusal(reply.split()[1], _cause(errors, reply))
+    if child.returncode != 0:
+        raise ChildDied(f"lfs mkfs ended with status {child.returncode}: {_cause(errors, reply)}")
 
 
-class Volume:
-    """A mounted volume. `lfs` is the program's path; one process at a time may have an image."""
-
-    def __init__(self, image, lfs="lfs"):
-        self._child = subprocess.Popen([lfs, "run", os.fspath(image)], stdin=subprocess.PIPE, stdout=subprocess.PIPE, stderr=subprocess.PIPE)
-
-    def __enter__(self):
-        return self
-
-    def __exit__(self, *_):
-        self.close()
-
-    def close(self):
-        """Ends the child. What wasn't synced may be gone."""
-        for pipe in (self._child.stdin, self._child.stdout, self._child.stderr):
-            try:
-                pipe.close()
-            except BrokenPipeError:
-                pass
-        self._child.wait()
-
-    def kill(self):
-        """Ends the child at once, as a stop would."""
-        self._child.kill()
-        self.close()
-
-    # ---- one line and its reply
-
-    def _died(self):
-        status = self._child.wait()
-        text = self._child.stderr.read().decode(errors="replace").strip()
-        return ChildDied(f"lfs run ended with status {status}" + (f": {text}" if text else ""))
-
-    def _line(self):
-        line = self._child.stdout.readline()
-        if not line.endswith(b"\n"):
-            raise self._died()
-        return line[:-1].decode("ascii").split(" ")
+class Calls:
+    """The calls of a volume. A subclass has `_call`, which makes one call, a line of words, and answers the words behind `ok`, and `_row`,
+    which answers the words of the next row where the reply to `readdir` or `tree` has rows."""
 
     def _call(self, *words):
-        try:
-            self._child.stdin.write(" ".join(words).encode("ascii") + b"\n")
-            self._child.stdin.flush()
-        except (BrokenPipeError, ValueError):
-            pass  # the child's last line says why, if it wrote one
-        first, *rest = self._line()
-        if first == "err":
-            raise _refusal(rest[0])(" ".join(rest))
-        if first == "bad":
-            raise BadLine(" ".join(words)[:80])
-        return rest
+        raise NotImplementedError
 
-    # ---- the calls
+    def _row(self):
+        raise NotImplementedError
 
     def create(self, path):
         """Makes a file and opens it: its handle."""
@@ -276,16 +284,254 @@ class Volume:
     def tree(self):
         """Each entry of each directory."""
         count = int(self._call("tree")[0])
-        return [self._row() for _ in range(count)]
+        return [self._tree_row() for _ in range(count)]
 
     def _status(self, word, path):
         number, kind, links, size = self._call(word, _escape(path))
         return Stat(int(number), kind, int(links), int(size))
 
     def _entry(self):
-        name, number, kind = self._line()
+        name, number, kind = self._row()
         return Entry(_unescape(name), int(number), kind)
 
-    def _row(self):
-        directory, name, kind, number, links, size, head = self._line()
+    def _tree_row(self):
+        directory, name, kind, number, links, size, head = self._row()
         return TreeRow(int(directory), _unescape(name), kind, int(number), int(links), int(size), _head(kind, head))
+
+
+# The name under which a file stands until it is whole, in the directory that is to have it. `lfs put` has the same.
+_UNFINISHED = b".lfs-put"
+_LONGEST_NAME = 59
+_LONGEST_PATH = 1_023
+_LONGEST_TRANSFER = 65_536
+
+
+def _check_text(path):
+    """Refuses a path by its text alone, in the order of the calls."""
+    if not path:
+        raise _refusal("NoEntry", "a path is empty")
+    if len(path) > _LONGEST_PATH:
+        raise _refusal("NameTooLong", f"a path has {len(path)} bytes")
+    if b"\0" in path:
+        raise _refusal("Inval", "a path has a zero byte")
+
+
+def _beside(path):
+    """The path of the unfinished file of a path. What no file is put at is refused, as `lfs put` does."""
+    _check_text(path)
+    trimmed = path.rstrip(b"/")
+    shown = _escape(path)
+    if not trimmed:
+        raise _refusal("Busy", f"{shown}: {_CALL_TEXTS['Busy']}")
+    above, slash, name = trimmed.rpartition(b"/")
+    if name in (b".", b"..", _UNFINISHED):
+        raise _refusal("Inval", f"{shown}: no file is put under this name")
+    if len(name) > _LONGEST_NAME:
+        raise _refusal("NameTooLong", f"{shown}: {_CALL_TEXTS['NameTooLong']}")
+    if trimmed != path:
+        raise _refusal("NotDir", f"{shown}: {_CALL_TEXTS['NotDir']}")
+    return above + slash + _UNFINISHED
+
+
+def _below(path, name):
+    return path.rstrip(b"/") + b"/" + name
+
+
+class Files(Calls):
+    """Whole files and folders, over the calls alone."""
+
+    def read(self, path):
+        """All bytes of a file."""
+        handle = self.open(path)
+        try:
+            pieces = [self.pread(handle, 0, _LONGEST_TRANSFER)]
+            while len(pieces[-1]) == _LONGEST_TRANSFER:
+                pieces.append(self.pread(handle, len(pieces) * _LONGEST_TRANSFER, _LONGEST_TRANSFER))
+        finally:
+            self.close_handle(handle)
+        return b"".join(pieces)
+
+    def write_file(self, path, data):
+        """Makes these the bytes of a file, synced, as `lfs put` does: after any stop the old file is there or the new one."""
+        path = _bytes(path)
+        unfinished = _beside(path)
+        self._refuse_directory(path)
+        self._remove_left(unfinished)
+        try:
+            self._write_new(unfinished, data)
+            self.sync()
+            self.rename(unfinished, path)
+            self.sync()
+        except Refused:
+            self._give_up(unfinished)
+            raise
+
+    def append(self, path, record):
+        """Writes a record behind the end of a file, which is made where it isn't there, and syncs: where it began. More than 65,536 bytes are
+        refused, as `Inval`."""
+        try:
+            handle = self.open(path)
+        except _REFUSALS["NoEntry"]:
+            handle = self.create(path)
+        try:
+            offset = self.stat(path).size
+            self.pwrite(handle, offset, record)
+            self.sync()
+        finally:
+            self.close_handle(handle)
+        return offset
+
+    def walk(self, path="/"):
+        """Each directory from a path on, above those in it: its path, the names of its directories, and those of its files and links."""
+        path = _bytes(path)
+        entries = self.readdir(path)
+        directories = [entry.name for entry in entries if entry.kind == "dir"]
+        yield path, directories, [entry.name for entry in entries if entry.kind != "dir"]
+        for name in directories:
+            yield from self.walk(_below(path, name))
+
+    def write_tree(self, folder, path="/"):
+        """Puts what is in a folder of the host into a directory: files by `write_file`, links as links, directories where they aren't there yet.
+        How many files, and how many bytes."""
+        path = _bytes(path)
+        files, size = 0, 0
+        with os.scandir(os.fsencode(folder)) as entries:
+            for entry in sorted(entries, key=lambda it: it.name):
+                more_files, more_bytes = self._write_entry(entry, _below(path, entry.name))
+                files, size = files + more_files, size + more_bytes
+        self.sync()
+        return files, size
+
+    def export(self, folder, path="/"):
+        """Makes a new folder of the host, with all that is below a directory, links as links: how many files, and how many bytes."""
+        files, size = 0, 0
+        folder, path = os.fsencode(folder), _bytes(path)
+        os.mkdir(folder)
+        for entry in self.readdir(path):
+            inner, name = _below(path, entry.name), os.path.join(folder, entry.name)
+            if entry.kind == "dir":
+                more_files, more_bytes = self.export(name, inner)
+                files, size = files + more_files, size + more_bytes
+            elif entry.kind == "link":
+                os.symlink(self.readlink(inner), name)
+            else:
+                data = self.read(inner)
+                with open(name, "xb") as file:
+                    file.write(data)
+                files, size = files + 1, size + len(data)
+        return files, size
+
+    def _refuse_directory(self, path):
+        try:
+            kind = self.lstat(path).kind
+        except _REFUSALS["NoEntry"]:
+            return
+        if kind == "dir":
+            raise _refusal("IsDir", f"{_escape(path)}: {_CALL_TEXTS['IsDir']}")
+
+    def _remove_left(self, path):
+        try:
+            self.unlink(path)
+        except _REFUSALS["NoEntry"]:
+            pass
+
+    def _write_new(self, path, data):
+        handle = self.create(path)
+        try:
+            for offset in range(0, len(data), _LONGEST_TRANSFER):
+                self.pwrite(handle, offset, data[offset : offset + _LONGEST_TRANSFER])
+        finally:
+            self.close_handle(handle)
+
+    def _give_up(self, unfinished):
+        """Removes what isn't whole, as far as the volume lets it."""
+        for call in (lambda: self.unlink(unfinished), self.sync):
+            try:
+                call()
+            except Refused:
+                pass
+
+    def _write_entry(self, entry, path):
+        if entry.is_symlink():
+            self._remove_left(path)
+            self.symlink(os.readlink(entry.path), path)
+            return 0, 0
+        if entry.is_dir():
+            self._make_directory(path)
+            return self.write_tree(entry.path, path)
+        with open(entry.path, "rb") as file:
+            data = file.read()
+        self.write_file(path, data)
+        return 1, len(data)
+
+    def _make_directory(self, path):
+        try:
+            self.mkdir(path)
+        except _REFUSALS["Exist"]:
+            if self.lstat(path).kind != "dir":
+                raise
+
+
+class Volume(Files):
+    """A mounted volume. `lfs` is the program's path; one process at a time may have an image. A volume that isn't mounted is refused here."""
+
+    def __init__(self, image, lfs="lfs"):
+        self._child = _started(lfs, ["run", os.fspath(image)])
+        try:
+            self._send("space")
+            first, *rest = self._row()
+            if first == "err":
+                _, cause = self._end(" ".join(rest))
+                raise _refusal(rest[0], cause)
+        except BaseException:
+            self.kill()
+            raise
+
+    def __enter__(self):
+        return self
+
+    def __exit__(self, *_):
+        self.close()
+
+    def close(self):
+        """Ends the child. What wasn't synced may be gone."""
+        for pipe in (self._child.stdin, self._child.stdout, self._child.stderr):
+            try:
+                pipe.close()
+            except BrokenPipeError:
+                pass
+        self._child.wait()
+
+    def kill(self):
+        """Ends the child at once, as a stop would."""
+        self._child.kill()
+        self.close()
+
+    def _send(self, line):
+        self._sent = line[:80]
+        try:
+            self._child.stdin.write(line.encode("ascii") + b"\n")
+            self._child.stdin.flush()
+        except (BrokenPipeError, ValueError):
+            pass  # the child's last line says why, if it wrote one
+
+    def _row(self):
+        line = self._child.stdout.readline()
+        if not line.endswith(b"\n"):
+            status, cause = self._end("it said nothing")
+            raise ChildDied(f"{self._sent}: lfs run ended with status {status}: {cause}")
+        return line[:-1].decode("ascii").split(" ")
+
+    def _end(self, reply):
+        """The child's status, once it has ended, and what it says of that."""
+        return self._child.wait(), _cause(self._child.stderr.read(), reply)
+
+    def _call(self, *words):
+        self._send(" ".join(words))
+        first, *rest = self._row()
+        if first == "err":
+            raise _refusal(rest[0], f"{self._sent}: {_CALL_TEXTS.get(rest[0], ' '.join(rest))}")
+        if first == "bad":
+            _, cause = self._end("the program doesn't know this line")
+            raise BadLine(f"{self._sent}: {cause}")
+        return rest

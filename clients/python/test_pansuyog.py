@@ -1,10 +1,12 @@
 """Tests of the client against the real program: python3 test_pansuyog.py LFS"""
 import os
 import random
+import re
 import signal
 import subprocess
 import sys
 import tempfile
+import textwrap
 import time
 import unittest
 
@@ -108,22 +110,135 @@ class Calls(OnAVolume):
         space = self.mounted().space()
         self.assertEqual((space.data, space.need, space.limit), (0, 7 * space.meta + 720, 47 * 64))
 
-    def test_a_volume_of_no_such_size_is_refused(self):
-        with self.assertRaises(pansuyog.Inval):
-            pansuyog.make(self.image, 65, LFS)
+    def test_each_call_of_the_base_is_a_call_of_a_volume(self):
+        with self.assertRaises(NotImplementedError):
+            pansuyog.Calls().sync()
+        self.assertTrue(issubclass(pansuyog.Volume, pansuyog.Files) and issubclass(pansuyog.Files, pansuyog.Calls))
+
+
+class Files(OnAVolume):
+    def test_a_whole_file_goes_in_and_out(self):
+        volume = self.mounted()
+        for size in (0, 1, 65_535, 65_536, 65_537, 200_000):
+            data = random.Random(size).randbytes(size)
+            volume.write_file("/f", data)
+            self.assertEqual(volume.read("/f"), data)
+        self.assertEqual([entry.name for entry in volume.readdir("/")], [b"f"])
+
+    def test_no_file_is_put_where_lfs_put_puts_none(self):
+        volume = self.mounted()
+        volume.mkdir("/d")
+        volume.write_file("/f", b"kept")
+        refused = {"": "NoEntry", "/": "Busy", "/..": "Inval", "/.lfs-put": "Inval", "/" + "n" * 60: "NameTooLong", "/f/": "NotDir", "/d": "IsDir"}
+        for path, name in refused.items():
+            self.assertRaises(getattr(pansuyog, name), volume.write_file, path, b"new")
+        self.assertRaises(pansuyog.NoSpace, volume.write_file, "/f", b"x" * 1_200_000)
+        self.assertEqual(volume.read("/f"), b"kept")
+        self.assertEqual([entry.name for entry in volume.readdir("/")], [b"d", b"f"])
+
+    def test_records_stand_behind_one_another_and_are_synced(self):
+        volume = self.mounted()
+        self.assertEqual([volume.append("/log", record) for record in (b"one", b"two", b"")], [0, 3, 6])
+        volume.kill()
+        volume = self.mounted()
+        self.assertEqual(volume.read("/log"), b"onetwo")
+        self.assertRaises(pansuyog.Inval, volume.append, "/log", bytes(65_537))
+
+    def test_a_tree_is_walked_from_above(self):
+        volume = self.mounted()
+        for path in ("/a", "/a/b", "/c"):
+            volume.mkdir(path)
+        volume.write_file("/a/b/f", b"")
+        volume.symlink("a", "/l")
+        self.assertEqual(list(volume.walk()), [(b"/", [b"a", b"c"], [b"l"]), (b"/a", [b"b"], []), (b"/a/b", [], [b"f"]), (b"/c", [], [])])
+
+    def test_a_folder_comes_out_as_it_went_in(self):
+        with tempfile.TemporaryDirectory() as room:
+            folder, out = os.path.join(room, "in"), os.path.join(room, "out")
+            os.makedirs(os.path.join(folder, "empty"))
+            os.symlink("empty", os.path.join(folder, "link"))
+            for number in range(40):
+                inner = os.path.join(folder, f"d {number % 3}")
+                os.makedirs(inner, exist_ok=True)
+                with open(os.path.join(inner, f"fä{number}"), "wb") as file:
+                    file.write(random.Random(number).randbytes(97 * number))
+            volume = self.mounted()
+            told = (40, 97 * 40 * 39 // 2)
+            self.assertEqual(volume.write_tree(folder), told)
+            volume.kill()
+            self.assertEqual(self.mounted().export(out), told)
+            self.assertEqual(subprocess.run(["diff", "-r", "--no-dereference", folder, out]).returncode, 0)
+
+    def test_nothing_is_written_over(self):
+        with tempfile.TemporaryDirectory() as room:
+            self.assertRaises(FileExistsError, self.mounted().export, room)
+
+
+class Page(OnAVolume):
+    def test_what_readme_shows_can_be_run_twice(self):
+        with open(f"{HERE}/../../README.md", encoding="utf-8") as file:
+            shown = re.search(r"^    from pansuyog .*?\n(?=\S)", file.read(), re.M | re.S).group(0)
+        code = textwrap.dedent(shown).replace('Volume("disk.img")', f"Volume({self.image!r}, {LFS!r})")
+        for _ in range(2):
+            exec(code, {})
+        self.assertEqual(self.mounted().tree(), [pansuyog.TreeRow(1, b"notes", "file", 2, 1, 18, (b"a record\n" * 2)[:16])])
+
+
+class Refusals(OnAVolume):
+    def refused(self, kind, call, *arguments):
+        """The text with which a call is refused."""
+        with self.assertRaises(kind) as caught:
+            call(*arguments)
+        self.assertIs(type(caught.exception), kind)
+        return str(caught.exception)
+
+    def test_a_call_tells_itself_and_the_cause(self):
+        volume = self.mounted()
+        self.assertEqual(self.refused(pansuyog.NoEntry, volume.open, "/a/b"), "open /a/b: the volume has nothing of this name")
+        self.assertEqual(self.refused(pansuyog.BadHandle, volume.pwrite, 7, 0, b"x" * 99)[:24], "pwrite 7 0 7878787878787")
+        self.assertEqual(self.refused(pansuyog.Busy, volume.rename, "/", "/a b"), "rename / /a\\20b: the root can't be removed or renamed")
+
+    def test_a_volume_that_is_not_made_tells_the_cause(self):
+        text = self.refused(pansuyog.Inval, pansuyog.make, self.image, 65, LFS)
+        self.assertEqual(text, f"{self.image}: a volume has 64 to 1024 segments, a multiple of 8")
+
+    def test_a_volume_that_is_not_mounted_tells_the_cause(self):
+        missing = f"{self.image}.none"
+        self.assertEqual(self.refused(pansuyog.Image, pansuyog.Volume, missing, LFS), f"{missing}: there is no such file or folder")
+        os.truncate(self.image, 512)
+        self.assertTrue(self.refused(pansuyog.TooSmall, pansuyog.Volume, self.image, LFS).startswith(f"{self.image}: "))
+
+    def test_a_second_volume_of_an_image_is_refused(self):
+        self.mounted()
+        self.assertIn("it is in use", self.refused(pansuyog.Image, pansuyog.Volume, self.image, LFS))
+
+    def test_a_program_that_is_not_there_is_told(self):
+        text = self.refused(FileNotFoundError, pansuyog.Volume, self.image, "no-such-lfs")
+        self.assertEqual(text, 'the program no-such-lfs isn\'t in PATH; pass Volume(image, lfs="../lfs")')
+        self.assertIn("isn't there", self.refused(FileNotFoundError, pansuyog.make, self.image, 64, f"{HERE}/no-such-lfs"))
+
+    def test_a_misspelt_refusal_is_no_name(self):
+        self.assertFalse(hasattr(pansuyog, "NoEntri"))
+        self.assertIn("NoEntry", pansuyog.__all__)
+
+    def test_texts_are_those_of_the_program(self):
+        with open(f"{HERE}/../../crates/lfs_command/src/reason.rt", encoding="utf-8") as file:
+            source = file.read()
+        constants = dict(re.findall(r'const (\w+): &str =\s*"(.*)";', source))
+        texts = re.findall(r'FsError::(\w+) => \{?\s*(?:"(.*)"|(\w+))', source)
+        self.assertEqual(pansuyog._CALL_TEXTS, {name: text or constants[constant] for name, text, constant in texts})
 
 
 class Child(OnAVolume):
     def test_a_child_that_dies_is_told(self):
         volume = self.mounted()
         volume._child.kill()
-        with self.assertRaises(pansuyog.ChildDied):
+        with self.assertRaisesRegex(pansuyog.ChildDied, "^sync: lfs run ended with status -9"):
             volume.sync()
 
-    def test_a_mount_that_is_refused_is_told(self):
-        os.truncate(self.image, 512)
-        with self.assertRaises(pansuyog.TooSmall):
-            self.mounted().sync()
+    def test_a_line_that_the_program_does_not_know_is_told(self):
+        with self.assertRaisesRegex(pansuyog.BadLine, "^frob: line 2: no command has the word 'frob'"):
+            self.mounted()._call("frob")
 
 
 class Recorder(unittest.TestCase):

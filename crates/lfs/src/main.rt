@@ -1,13 +1,6 @@
 //! A log-structured file system in an image file, from the command line.
 #![tactic(auto)]
 
-#[cfg(test)]
-mod example;
-#[cfg(test)]
-mod stops;
-#[cfg(test)]
-mod tests;
-
 pub use lfs_command::command;
 use std::io::ErrorKind;
 use std::process::ExitCode;

@@ -1,3 +1,2 @@
 pub mod Asking
 pub mod Playing
-pub mod Putting

@@ -1,20 +1,19 @@
 -- What a command does that runs a script on a device. The command line is an own choice.
-use Rattle.std.specs.Prelude.{◌≡◌, ◌⊎◌, ℕ, Option, List}
+use Rattle.std.specs.Prelude.{◌≡◌, ◌⊎◌, ℕ, true, false, Option, List}
 use Rattle.std.specs.Io.KnownBytes.{Keeps}
 use Rattle.lfs_model.specs.Device.{AllLeft, DeviceState}
 use Rattle.lfs_script.specs.fs.Mounting.{IsRefused}
 use Rattle.lfs_script.specs.fs.log.verify.declared.fault.MountFault.{MountFault}
-use Rattle.lfs_script.specs.Session.{Session}
-use Rattle.lfs_script.specs.Strict.{StrictSession}
-use Rattle.lfs_script.specs.declared.script.ScriptEnd.{ScriptEnd}
+use Rattle.lfs_script.specs.Session.{SessionTold}
+use Rattle.lfs_script.specs.Told.{Look}
 use Rattle.lfs_script.specs.declared.script.StrictEnd.{StrictEnd}
 use Rattle.lfs_script.specs.declared.script.StrictEnd.TheVariants.{Refused}
 
--- A use of the device's volume, whose replies were printed.
-pub record IsPlayed (r r' w w' : Option (List ℕ)) (d d' : DeviceState) : Type 0 where
-  pub end : ScriptEnd
+-- A use of the device's volume before a witness, whose replies were printed.
+pub record IsPlayed (r r' w w' : Option (List ℕ)) (d d' : DeviceState) (s s' : List Look) : Type 0 where
+  pub end : StrictEnd
   pub printed : Option (List ℕ)
-  pub session : Session end r r' w printed d d'
+  pub session : SessionTold false end r r' w printed d d' s s'
   pub kept : Keeps printed w'
 
 -- The volume wasn't mounted, with a reason: nothing was read, and a stop leaves what it might have left before.
@@ -24,18 +23,18 @@ pub record IsUnmounted (r r' : Option (List ℕ)) (d d' : DeviceState) : Type 0 
   pub unread : r' ≡ r
   pub left : AllLeft d' d.may_leave
 
-abbrev pub Plays : Option (List ℕ) → Option (List ℕ) → Option (List ℕ) → Option (List ℕ) → DeviceState → DeviceState → Type 0
-Plays r r' w w' d d' = IsPlayed r r' w w' d d' ⊎ IsUnmounted r r' d d'
+abbrev pub Plays : Option (List ℕ) → Option (List ℕ) → Option (List ℕ) → Option (List ℕ) → DeviceState → DeviceState → List Look → List Look → Type 0
+Plays r r' w w' d d' s s' = IsPlayed r r' w w' d d' s s' ⊎ IsUnmounted r r' d d'
 
 -- A use of the device's volume by a strict script, whose replies were printed.
-pub record IsPlayedStrictly (end : StrictEnd) (r r' w w' : Option (List ℕ)) (d d' : DeviceState) : Type 0 where
+pub record IsPlayedStrictly (end : StrictEnd) (r r' w w' : Option (List ℕ)) (d d' : DeviceState) (s s' : List Look) : Type 0 where
   pub printed : Option (List ℕ)
-  pub session : StrictSession end r r' w printed d d'
+  pub session : SessionTold true end r r' w printed d d' s s'
   pub kept : Keeps printed w'
 
 -- and it ended at a refusal
-abbrev pub PlaysToRefusal : Option (List ℕ) → Option (List ℕ) → Option (List ℕ) → Option (List ℕ) → DeviceState → DeviceState → Type 0
+abbrev pub PlaysToRefusal : Option (List ℕ) → Option (List ℕ) → Option (List ℕ) → Option (List ℕ) → DeviceState → DeviceState → List Look → List Look → Type 0
 PlaysToRefusal = IsPlayedStrictly Refused
 
-abbrev pub PlaysStrictly : Option (List ℕ) → Option (List ℕ) → Option (List ℕ) → Option (List ℕ) → DeviceState → DeviceState → Type 0
-PlaysStrictly r r' w w' d d' = ((end : StrictEnd) × IsPlayedStrictly end r r' w w' d d') ⊎ IsUnmounted r r' d d'
+abbrev pub PlaysStrictly : Option (List ℕ) → Option (List ℕ) → Option (List ℕ) → Option (List ℕ) → DeviceState → DeviceState → List Look → List Look → Type 0
+PlaysStrictly r r' w w' d d' s s' = ((end : StrictEnd) × IsPlayedStrictly end r r' w w' d d' s s') ⊎ IsUnmounted r r' d d'

@@ -7,84 +7,48 @@ ghost use Rattle.lfs_command.specs.Asking.{HasWord};
 ghost use Rattle.lfs_command.specs.Playing.{PlaysToRefusal, Plays, PlaysStrictly};
 
 use crate::bad_line::{BadLine, reason_of};
-use crate::describing::describe;
+use crate::changing::change_volume;
 use crate::fault::{Ending, Fault, Outcome, Refusal, Told};
-use crate::looking::{Look, look_at, path_of, read_path, show};
+use crate::foreign::explained;
+use crate::image::Making;
+use crate::looking::{end_look, read_path, show};
 use crate::printing::{flush, print, put_count, refuse};
-use crate::putting::{PutFault, put};
 use crate::remembering::LineKeeper;
 use crate::request::{Action, Request, read_request};
 use crate::simulation::{Plan, read_plan};
-use crate::{image, simulation};
+use crate::viewing::look;
+use crate::{image, making, simulation};
 use lfs_device::{Left, MemDevice, SectorDevice, ThisWorld, World};
-use lfs_script::{ScriptEnd, StrictEnd, read_u32, use_and_stop, use_volume, use_volume_strict};
+use lfs_put::{PutFault, put};
+use lfs_script::{
+    Looks, ScriptEnd, StrictEnd, Witness, read_u32, use_and_stop_told, use_volume_told,
+};
 use std::alloc::{AllocError, Global};
 use std::fs::File;
 use std::io::{BufWriter, Read, Write};
 use std::rt::Files;
+use std::time::Clock;
 
 /// What a command is about that has no image.
 const IN_MEMORY: &str = "a volume in memory";
 
-fn mkfs<Here: World, R: Files<File = File>, W: Write>(
+fn mkfs<Here: World, R: Files<File = File> + Clock, W: Write>(
     rt: &R,
+    alloc: Global,
     image: &str,
     segments: &str,
-    force: bool,
+    (force, reserve): (bool, bool),
     output: &mut W,
 ) -> Result<Ending, Fault> {
     let Some(segments) = read_u32(segments.as_bytes()) else {
         return Err(Fault::Segments);
     };
-    match image::make::<Here, R>(rt, image, segments, force) {
-        Ok(()) => {
-            print(output, "ok\n")?;
-            Ok(Ending::Done)
-        }
-        Err(refusal) => refuse(output, refusal),
-    }
-}
-
-// Looks at the volume of an image, at a path whose bytes these are.
-fn look_in<Here: World, R: Files<File = File>, W: Write>(
-    rt: &R,
-    alloc: Global,
-    image: &str,
-    look: Look<'_>,
-    path: &[u8],
-    output: &mut W,
-) -> Result<Ending, Fault> {
-    match image::mount::<Here, R>(rt, alloc, image) {
-        Ok(mut fs) => look_at(alloc, &mut fs, look, path, output),
-        Err(refusal) => refuse(output, refusal),
-    }
-}
-
-// Looks at a volume. The spelling of a path comes before the image.
-fn look<Here: World, R: Files<File = File>, W: Write>(
-    rt: &R,
-    alloc: Global,
-    image: &str,
-    look: Look<'_>,
-    output: &mut W,
-) -> Result<Ending, Fault> {
-    match path_of(alloc, look) {
-        Ok(path) => look_in::<Here, R, W>(rt, alloc, image, look, path.as_slice(), output),
-        Err(fault) => Err(fault),
-    }
-}
-
-// Describes the volume of an image.
-fn info<Here: World, R: Files<File = File>, W: Write>(
-    rt: &R,
-    alloc: Global,
-    image: &str,
-    output: &mut W,
-) -> Result<Ending, Fault> {
-    match image::mount::<Here, R>(rt, alloc, image) {
-        Ok(fs) => describe(alloc, fs, output),
-        Err(refusal) => refuse(output, refusal),
-    }
+    let making = Making {
+        segments,
+        force,
+        reserve,
+    };
+    making::mkfs::<Here, R, W>(rt, alloc, image, making, output)
 }
 
 // Ends a put: prints the number of bytes, or the line of a refusal.
@@ -103,7 +67,7 @@ fn end_put<W: Write>(done: Result<u64, PutFault>, output: &mut W) -> Result<Endi
 }
 
 // Makes the input a file of the volume of an image.
-fn put_into<Here: World, R: Files<File = File>, I: Read, W: Write>(
+fn put_into<Here: World, R: Files<File = File> + Clock, I: Read, W: Write>(
     rt: &R,
     alloc: Global,
     image: &str,
@@ -139,25 +103,67 @@ fn end_script<W: Write>(end: ScriptEnd, output: &mut W) -> Result<Ending, Fault>
     Ok(ending)
 }
 
+// Ends a script that isn't strict, which no refusal ends.
+fn end_plain<W: Write>(end: StrictEnd, output: &mut W) -> Result<Ending, Fault>
+    requires plain { end ≢ StrictEnd.Refused }
+    ensures kept { Keeps (W.contents output.old) (W.contents output.new) }
+{
+    match end {
+        StrictEnd::Script(end) => end_script(end, output),
+        StrictEnd::Refused => unreachable!(),
+    }
+}
+
 // Runs a script on the volume of a device. Where it can't be mounted its line is printed, and the
 // ending is `Refused`, which no script has.
-fn play<D: SectorDevice, I: Read, W: Write>(
+fn play<D: SectorDevice, I: Read, W: Write, S: Witness<D, W>>(
     alloc: Global,
     device: D,
     input: &mut I,
     output: &mut W,
+    witness: &mut S,
 ) -> (Result<Ending, Fault>, D)
     ensures plays { Plays (I.remaining input.old) (I.remaining input.new)
-        (W.contents output.old) (W.contents output.new) (D.state device) (D.state result.1) }
+        (W.contents output.old) (W.contents output.new) (D.state device) (D.state result.1)
+        (S.looks witness.old) (S.looks witness.new) }
     ensures carries { Carries (D.state device) (D.state result.1) }
 {
-    match use_volume(alloc, input, output, device) {
-        (Ok(end), device) => (end_script(end, output), device),
+    match use_volume_told(alloc, false, input, output, witness, device) {
+        (Ok(end), device) => (end_plain(end, output), device),
         (Err(fault), device) => (refuse(output, Refusal::from(fault)), device),
     }
 }
 
-fn run<Here: World, R: Files<File = File>, I: Read, W: Write>(
+// Says more of a volume that wasn't mounted, by its device.
+fn explain_ending<D: SectorDevice>(
+    ending: Result<Ending, Fault>,
+    device: &mut D,
+) -> Result<Ending, Fault> {
+    match ending {
+        Ok(Ending::Refused(Refusal::Mount(fault))) => {
+            Ok(Ending::Refused(explained(fault, device)))
+        }
+        ending => ending,
+    }
+}
+
+// The same of a strict run.
+fn explain_outcome<D: SectorDevice>(
+    outcome: Result<Outcome, Fault>,
+    device: &mut D,
+) -> Result<Outcome, Fault>
+    ensures { result ≡ Ok Outcome.CallRefused → outcome ≡ Ok Outcome.CallRefused }
+{
+    match outcome {
+        Ok(Outcome::Ended(Ending::Refused(Refusal::Mount(fault)))) => {
+            let refusal = explained(fault, device);
+            Ok(Outcome::Ended(Ending::Refused(refusal)))
+        }
+        outcome => outcome,
+    }
+}
+
+fn run<Here: World, R: Files<File = File> + Clock, I: Read, W: Write>(
     rt: &R,
     alloc: Global,
     image: &str,
@@ -166,8 +172,9 @@ fn run<Here: World, R: Files<File = File>, I: Read, W: Write>(
 ) -> Result<Ending, Fault> {
     match image::open_to_write::<Here, R>(rt, image) {
         Ok(device) => {
-            let (ending, _) = play(alloc, device, input, output);
-            ending
+            let mut looks = Looks::new();
+            let (ending, mut device) = play(alloc, device, input, output, &mut looks);
+            explain_ending(ending, &mut device)
         }
         Err(fault) => refuse(output, Refusal::Image(fault)),
     }
@@ -198,26 +205,29 @@ fn end_strict<W: Write>(end: StrictEnd, output: &mut W) -> Result<Outcome, Fault
 }
 
 // As `play`, by a strict run of the script.
-fn play_strict<D: SectorDevice, I: Read, W: Write>(
+fn play_strict<D: SectorDevice, I: Read, W: Write, S: Witness<D, W>>(
     alloc: Global,
     device: D,
     input: &mut I,
     output: &mut W,
+    witness: &mut S,
 ) -> (Result<Outcome, Fault>, D)
     ensures plays { PlaysStrictly (I.remaining input.old) (I.remaining input.new)
-        (W.contents output.old) (W.contents output.new) (D.state device) (D.state result.1) }
+        (W.contents output.old) (W.contents output.new) (D.state device) (D.state result.1)
+        (S.looks witness.old) (S.looks witness.new) }
     ensures refused { result.0 ≡ Ok Outcome.CallRefused
         → PlaysToRefusal (I.remaining input.old) (I.remaining input.new) (W.contents output.old)
-        (W.contents output.new) (D.state device) (D.state result.1) }
+        (W.contents output.new) (D.state device) (D.state result.1) (S.looks witness.old)
+        (S.looks witness.new) }
     ensures carries { Carries (D.state device) (D.state result.1) }
 {
-    match use_volume_strict(alloc, input, output, device) {
+    match use_volume_told(alloc, true, input, output, witness, device) {
         (Ok(end), device) => (end_strict(end, output), device),
         (Err(fault), device) => (outcome_of(refuse(output, Refusal::from(fault))), device),
     }
 }
 
-fn run_strict<Here: World, R: Files<File = File>, I: Read, W: Write>(
+fn run_strict<Here: World, R: Files<File = File> + Clock, I: Read, W: Write>(
     rt: &R,
     alloc: Global,
     image: &str,
@@ -226,27 +236,30 @@ fn run_strict<Here: World, R: Files<File = File>, I: Read, W: Write>(
 ) -> Result<Outcome, Fault> {
     match image::open_to_write::<Here, R>(rt, image) {
         Ok(device) => {
-            let (outcome, _) = play_strict(alloc, device, input, output);
-            outcome
+            let mut looks = Looks::new();
+            let (outcome, mut device) = play_strict(alloc, device, input, output, &mut looks);
+            explain_outcome(outcome, &mut device)
         }
         Err(fault) => outcome_of(refuse(output, Refusal::Image(fault))),
     }
 }
 
 // As `play` on a device in memory, which stops then.
-fn play_and_stop<I: Read, W: Write>(
+fn play_and_stop<I: Read, W: Write, S: Witness<MemDevice, W>>(
     alloc: Global,
     device: MemDevice,
     left: Left,
     input: &mut I,
     output: &mut W,
+    witness: &mut S,
 ) -> (Result<Ending, Fault>, MemDevice)
     ensures plays { Plays (I.remaining input.old) (I.remaining input.new) (W.contents output.old)
-        (W.contents output.new) (device_state device) (device_state result.1) }
+        (W.contents output.new) (device_state device) (device_state result.1)
+        (S.looks witness.old) (S.looks witness.new) }
     ensures carries { Carries (device_state device) (device_state result.1) }
 {
-    match use_and_stop(alloc, input, output, device, left) {
-        (Ok(end), device) => (end_script(end, output), device),
+    match use_and_stop_told(alloc, false, input, output, witness, device, left) {
+        (Ok(end), device) => (end_plain(end, output), device),
         (Err(fault), device) => (refuse(output, Refusal::from(fault)), device),
     }
 }
@@ -260,7 +273,10 @@ fn print_writes<W: Write>(writes: u64, output: &mut W) -> Result<(), Fault> {
 // Prints the tree of what a stop left on a device in memory.
 fn show_left<W: Write>(alloc: Global, device: MemDevice, output: &mut W) -> Result<Ending, Fault> {
     match simulation::mount(alloc, device) {
-        Ok(mut fs) => show(&mut fs, output),
+        Ok(mut fs) => {
+            let shown = show(&mut fs, output)?;
+            end_look(shown, output)
+        }
         Err(refusal) => refuse(output, refusal),
     }
 }
@@ -288,7 +304,8 @@ fn sim<I: Read, W: Write>(
         Ok(device) => device,
         Err(refusal) => return refuse(output, refusal),
     };
-    let (played, device) = play_and_stop(alloc, device, plan.left, input, output);
+    let mut looks = Looks::new();
+    let (played, device) = play_and_stop(alloc, device, plan.left, input, output, &mut looks);
     match played {
         Ok(Ending::Refused(refusal)) => Ok(Ending::Refused(refusal)),
         Ok(played) => finish_sim(alloc, played, device, output),
@@ -297,7 +314,7 @@ fn sim<I: Read, W: Write>(
 }
 
 // Does what is asked for with an image, in any world, which only contracts see.
-fn act<Here: World, R: Files<File = File>, I: Read, W: Write>(
+fn act<Here: World, R: Files<File = File> + Clock, I: Read, W: Write>(
     rt: &R,
     alloc: Global,
     image: &str,
@@ -306,23 +323,30 @@ fn act<Here: World, R: Files<File = File>, I: Read, W: Write>(
     output: &mut W,
 ) -> Result<Ending, Fault> {
     match action {
-        Action::Mkfs { segments, force } => {
-            mkfs::<Here, R, W>(rt, image, segments, force, output)
-        }
-        Action::Info => info::<Here, R, W>(rt, alloc, image, output),
+        Action::Mkfs {
+            segments,
+            force,
+            reserve,
+        } => mkfs::<Here, R, W>(rt, alloc, image, segments, (force, reserve), output),
         Action::Look(asked) => look::<Here, R, W>(rt, alloc, image, asked, output),
+        Action::Change(asked) => change_volume::<Here, R, W>(rt, alloc, image, asked, output),
         Action::Run => run::<Here, R, I, W>(rt, alloc, image, input, output),
         Action::Put(path) => put_into::<Here, R, I, W>(rt, alloc, image, path, input, output),
     }
 }
 
 // Tells what a command was about that ended so.
-fn told<'a>(subject: &'a str, ending: Result<Ending, Fault>) -> Result<Told<'a>, Fault>
+fn told<'a>(
+    subject: &'a str,
+    path: Option<&'a str>,
+    ending: Result<Ending, Fault>,
+) -> Result<Told<'a>, Fault>
     ensures { IfOk result (λ told. told.outcome ≢ Outcome.CallRefused) }
 {
     match ending {
         Ok(ending) => Ok(Told {
             subject,
+            path,
             outcome: Outcome::Ended(ending),
         }),
         Err(fault) => Err(fault),
@@ -334,7 +358,7 @@ fn help<W: Write>(text: &str, output: &mut W) -> Result<Ending, Fault> {
     Ok(Ending::Done)
 }
 
-fn answer<'a, R: Files<File = File>, I: Read, W: Write>(
+fn answer<'a, R: Files<File = File> + Clock, I: Read, W: Write>(
     rt: &R,
     alloc: Global,
     words: &'a [String],
@@ -345,15 +369,16 @@ fn answer<'a, R: Files<File = File>, I: Read, W: Write>(
         → HasWord words.now (codes "--strict")) }
 {
     match read_request(alloc, words)? {
-        Request::Help(text) => told(IN_MEMORY, help(text.as_str(), output)),
+        Request::Help(text) => told(IN_MEMORY, None, help(text.as_str(), output)),
         Request::Image { image, action } => {
             let ending = act::<ThisWorld, R, I, W>(rt, alloc, image, action, input, output);
-            told(image, ending)
+            told(image, action.path(), ending)
         }
         Request::Strict { image } => {
             match run_strict::<ThisWorld, R, I, W>(rt, alloc, image, input, output) {
                 Ok(outcome) => Ok(Told {
                     subject: image,
+                    path: None,
                     outcome,
                 }),
                 Err(fault) => Err(fault),
@@ -364,14 +389,14 @@ fn answer<'a, R: Files<File = File>, I: Read, W: Write>(
             stop,
             left,
         } => match read_plan(segments, stop, left) {
-            Ok(plan) => told(IN_MEMORY, sim(alloc, plan, input, output)),
+            Ok(plan) => told(IN_MEMORY, None, sim(alloc, plan, input, output)),
             Err(fault) => Err(fault),
         },
     }
 }
 
 // What came before a fault goes out before its text.
-fn answer_and_flush<'a, R: Files<File = File>, I: Read, W: Write>(
+fn answer_and_flush<'a, R: Files<File = File> + Clock, I: Read, W: Write>(
     rt: &R,
     alloc: Global,
     words: &'a [String],
@@ -390,7 +415,7 @@ fn answer_and_flush<'a, R: Files<File = File>, I: Read, W: Write>(
 
 // Hands the command a buffer before the output. Each part of a command flushes what it wrote, and a
 // script its replies before each read.
-fn answer_buffered<'a, R: Files<File = File>, I: Read, O: Write>(
+fn answer_buffered<'a, R: Files<File = File> + Clock, I: Read, O: Write>(
     rt: &R,
     alloc: Global,
     words: &'a [String],
@@ -419,8 +444,8 @@ fn tell<I, E: Write>(alloc: Global, told: Told<'_>, input: &LineKeeper<I>, error
 /// Runs a command line, whose first word is the program's name, and answers the exit status: 0
 /// done, 1 a command refused, or input, output or memory failed, 2 a bad line of the script or a
 /// bad command line, 3 a call of a script refused, where the words ask for an end there. Where it
-/// isn't 0, a text for people goes to `errors`.
-pub fn command<R: Files<File = File>, I: Read, O: Write, E: Write>(
+/// isn't 0, a text for people goes to `errors`, and behind a look beside another program's writes.
+pub fn command<R: Files<File = File> + Clock, I: Read, O: Write, E: Write>(
     rt: &R,
     alloc: Global,
     words: &[String],
@@ -435,7 +460,7 @@ pub fn command<R: Files<File = File>, I: Read, O: Write, E: Write>(
     match answer_buffered(rt, alloc, words, &mut input, output) {
         Ok(told) => {
             let status = told.outcome.status();
-            if status != 0 {
+            if told.has_text() {
                 tell(alloc, told, &input, errors);
             }
             status

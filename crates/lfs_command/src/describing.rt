@@ -1,6 +1,7 @@
 //! What a volume is, for people: its space, and what a walk over it finds of its segments.
-use crate::fault::{Ending, Fault, Refusal};
-use crate::printing::{print, put, put_count, refuse};
+use crate::fault::{Fault, Refusal};
+use crate::looking::Looked;
+use crate::printing::{print, put, put_count};
 use lfs_device::SectorDevice;
 use lfs_script::fs::{Fs, Space};
 use lfs_verify::Tables;
@@ -58,14 +59,14 @@ fn put_description<D: SectorDevice, W: Write>(
     device: &mut D,
     space: &Space,
     output: &mut W,
-) -> Result<Ending, Fault> {
+) -> Result<Looked, Fault> {
     match verify(alloc, device) {
         Ok(tables) => {
             put_numbers(&tables, space, output)?;
             put_picture(&tables, output)?;
-            Ok(Ending::Done)
+            Ok(Looked::Done)
         }
-        Err(fault) => refuse(output, Refusal::from(fault)),
+        Err(fault) => Ok(Looked::Refused(Refusal::from(fault))),
     }
 }
 
@@ -74,13 +75,13 @@ pub fn describe<D: SectorDevice + Drop, W: Write>(
     alloc: Global,
     fs: Fs<D>,
     output: &mut W,
-) -> Result<Ending, Fault> {
+) -> Result<Looked, Fault> {
     let mut fs = fs;
     match fs.space() {
         Ok(space) => {
             let mut device = fs.into_device();
             put_description(alloc, &mut device, &space, output)
         }
-        Err(refusal) => refuse(output, Refusal::Call(refusal)),
+        Err(refusal) => Ok(Looked::Refused(Refusal::Call(refusal))),
     }
 }

@@ -25,8 +25,14 @@ pub enum ImageFault {
     Unforced,
     /// Another program holds its lock.
     InUse,
+    /// Another program writes it, and no whole state was seen.
+    Unsteady,
     /// The file can't have the length of the volume.
     Length,
+    /// There is no room for each of its sectors.
+    Room,
+    /// The folder that has its name can't be synced.
+    Unnamed,
     /// The system refuses a call on it.
     System,
 }
@@ -53,6 +59,10 @@ pub enum Refusal {
     /// The first stage that the volume fails.
     Damaged(u8),
     Mount(MountFault),
+    /// It isn't mounted, and neither of its first two sectors begins as a checkpoint does.
+    Foreign(MountFault),
+    /// It is shorter than its volume, of so many segments.
+    Cut(u32),
     Call(FsError),
     /// A file is to have the name under which files stand until they are whole.
     Unfinished,
@@ -66,19 +76,49 @@ impl Refusal {
             Refusal::Image(_) => "Image",
             Refusal::Format(fault) => fault.name(),
             Refusal::Damaged(_) => "Damaged",
-            Refusal::Mount(fault) => fault.name(),
+            Refusal::Mount(fault) | Refusal::Foreign(fault) => fault.name(),
+            Refusal::Cut(_) => MountFault::TooSmall.name(),
             Refusal::Call(fault) => fault.name(),
         }
     }
 
-    /// What people are told of it.
-    pub fn reason(self) -> &'static str {
+    /// Whether it may come of what another program writes meanwhile.
+    pub fn is_doubtful(self) -> bool {
+        matches!(
+            self,
+            Refusal::Damaged(_)
+                | Refusal::Mount(MountFault::NoCheckpoint | MountFault::Device)
+                | Refusal::Foreign(MountFault::NoCheckpoint)
+                | Refusal::Call(FsError::Device)
+        )
+    }
+
+    /// Whether it is about the path that a command has.
+    pub fn is_of_path(self) -> bool {
+        match self {
+            Refusal::Unfinished => true,
+            Refusal::Call(fault) => !matches!(
+                fault,
+                FsError::NoMemory
+                    | FsError::Device
+                    | FsError::Halted
+                    | FsError::Stuck
+                    | FsError::Worn
+            ),
+            _ => false,
+        }
+    }
+
+    // What people are told of it, but of an image that is cut.
+    fn reason(self) -> &'static str {
         match self {
             Refusal::Inval => reason::of_format(FormatFault::Inval),
             Refusal::Image(fault) => reason::of_image(fault),
             Refusal::Format(fault) => reason::of_format(fault),
             Refusal::Damaged(code) => reason::of_damage(code),
             Refusal::Mount(fault) => reason::of_mount(fault),
+            Refusal::Foreign(_) => reason::FOREIGN,
+            Refusal::Cut(_) => reason::of_mount(MountFault::TooSmall),
             Refusal::Call(fault) => reason::of_call(fault),
             Refusal::Unfinished => reason::UNFINISHED,
         }
@@ -114,6 +154,8 @@ impl From<MountFault> for Refusal {
 pub enum Ending {
     /// The work is done, whatever the replies were.
     Done,
+    /// A look is done, beside another program that writes.
+    DoneBeside,
     Refused(Refusal),
     /// The script's line of this number, counted from 1, is bad.
     BadLine(u64),
@@ -125,7 +167,7 @@ impl Ending {
         ensures { result ≤ 2 }
     {
         match self {
-            Ending::Done => 0,
+            Ending::Done | Ending::DoneBeside => 0,
             Ending::Refused(_) => 1,
             Ending::BadLine(_) => 2,
         }
@@ -167,13 +209,34 @@ impl Outcome {
 pub struct Told<'a> {
     /// What the command was about.
     pub subject: &'a str,
+    /// The path that the command has, as a word of scripts.
+    pub path: Option<&'a str>,
     pub outcome: Outcome,
+}
+
+impl Told<'_> {
+    /// Whether people are told of it.
+    pub fn has_text(&self) -> bool {
+        !matches!(self.outcome, Outcome::Ended(Ending::Done))
+    }
+
+    // The path, where the outcome is about it.
+    fn shown_path(&self) -> Option<&str> {
+        match self.outcome {
+            Outcome::Ended(Ending::Refused(refusal)) if refusal.is_of_path() => self.path,
+            _ => None,
+        }
+    }
 }
 
 impl Display for Ending {
     fn fmt<W: fmt::Write>(&self, f: &mut Formatter<W>) -> fmt::Result {
         match self {
             Ending::Done => f.write_str("done"),
+            Ending::DoneBeside => f.write_str(reason::BESIDE),
+            Ending::Refused(Refusal::Cut(segments)) => {
+                write!(f, "it is cut: its checkpoint names {segments} segments")
+            }
             Ending::Refused(refusal) => f.write_str(refusal.reason()),
             Ending::BadLine(line) => write!(f, "line {line} of the script is bad"),
         }
@@ -191,7 +254,11 @@ impl Display for Outcome {
 
 impl Display for Told<'_> {
     fn fmt<W: fmt::Write>(&self, f: &mut Formatter<W>) -> fmt::Result {
-        write!(f, "lfs: {}: {}", self.subject, self.outcome)
+        write!(f, "lfs: {}: ", self.subject)?;
+        if let Some(path) = self.shown_path() {
+            write!(f, "{path}: ")?;
+        }
+        write!(f, "{}", self.outcome)
     }
 }
 
@@ -206,6 +273,9 @@ pub enum Fault {
     Stop,
     #[error("lfs: PATH is no word of the script language, whose escapes are a backslash and two digits")]
     Path,
+    /// A block device is mounted on a folder.
+    #[error("lfs: {image}: it is mounted on {folder}; unmount it first")]
+    Mounted { image: String, folder: String },
     #[error("lfs: standard input can't be read")]
     Input,
     #[error("lfs: standard output can't be written")]
@@ -221,7 +291,7 @@ impl Fault {
     {
         match self {
             Fault::Line(_) | Fault::Segments | Fault::Stop | Fault::Path => 2,
-            Fault::Input | Fault::Output | Fault::Memory(_) => 1,
+            Fault::Mounted { .. } | Fault::Input | Fault::Output | Fault::Memory(_) => 1,
         }
     }
 }

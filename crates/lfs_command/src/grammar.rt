@@ -15,6 +15,11 @@ pub enum Verb {
     Tree,
     Cat,
     Put,
+    Rm,
+    Mv,
+    Mkdir,
+    Clean,
+    Df,
     Info,
 }
 
@@ -59,9 +64,15 @@ pub const IMAGE: &str = "IMAGE";
 
 pub const PATH: &str = "PATH";
 
+pub const FROM: &str = "FROM";
+
+pub const TO: &str = "TO";
+
 pub const SEGMENTS: &str = "segments";
 
 pub const FORCE: &str = "force";
+
+pub const RESERVE: &str = "reserve";
 
 pub const STRICT: &str = "strict";
 
@@ -84,14 +95,28 @@ const THE_PATH: Parameter = Parameter {
     name: PATH,
     form: Form::Word,
     value: PATH,
-    help: "A path in the volume, as a word of the script language",
+    help: "A path in the volume; with a backslash, a word of the script language",
+};
+
+const FROM_PATH: Parameter = Parameter {
+    name: FROM,
+    form: Form::Word,
+    value: FROM,
+    help: "The path that is there",
+};
+
+const TO_PATH: Parameter = Parameter {
+    name: TO,
+    form: Form::Word,
+    value: TO,
+    help: "The path that it gets, not that of a folder to put it in",
 };
 
 const A_PATH: Parameter = Parameter {
     name: PATH,
     form: Form::OptionalWord,
     value: PATH,
-    help: "A path in the volume, as a word of the script language. Without one it is the root",
+    help: "A path in the volume; with a backslash, a word of the script language. Without one it is the root",
 };
 
 const THE_SEGMENTS: Parameter = Parameter {
@@ -106,6 +131,13 @@ const BY_FORCE: Parameter = Parameter {
     form: Form::Switch,
     value: "",
     help: "Format IMAGE also where it is a block device",
+};
+
+const WITH_ROOM: Parameter = Parameter {
+    name: RESERVE,
+    form: Form::Switch,
+    value: "",
+    help: "Write every sector first, so that there is room for it",
 };
 
 const STRICTLY: Parameter = Parameter {
@@ -135,8 +167,10 @@ const USAGES: &[Usage] = &[
         name: "mkfs",
         about: "Make an empty volume",
         details: "Make an empty volume. A regular file is made, or emptied without a question. \
-            A block device keeps its length, and is formatted only with --force.",
-        parameters: &[THE_IMAGE, THE_SEGMENTS, BY_FORCE],
+            A block device keeps its length, and is formatted only with --force, and only while \
+            it isn't mounted. An image in a file is sparse without --reserve, so that a full disk \
+            shows only as the image is written.",
+        parameters: &[THE_IMAGE, THE_SEGMENTS, BY_FORCE, WITH_ROOM],
     },
     Usage {
         verb: Verb::Check,
@@ -152,7 +186,7 @@ const USAGES: &[Usage] = &[
         name: "mount",
         about: "Print the tree as a script's reply",
         details: "Check the whole volume, and print its tree as the reply to the line `tree` of a \
-            script. Nothing is written, and no lock is taken.",
+            script. Nothing is written.",
         parameters: &[THE_IMAGE],
     },
     Usage {
@@ -205,6 +239,45 @@ const USAGES: &[Usage] = &[
             is there. What stood as `.lfs-put` is removed. Of a symbolic link the link itself is \
             replaced; a directory is refused.",
         parameters: &[THE_IMAGE, THE_PATH],
+    },
+    Usage {
+        verb: Verb::Rm,
+        name: "rm",
+        about: "Remove a file, a link or an empty directory",
+        details: "Remove the file, the symbolic link or the empty directory at PATH, and print \
+            `ok` once that is synced. A link that ends PATH is removed itself.",
+        parameters: &[THE_IMAGE, THE_PATH],
+    },
+    Usage {
+        verb: Verb::Mv,
+        name: "mv",
+        about: "Rename a file, a link or a directory",
+        details: "Give what stands at FROM the path TO, and print `ok` once that is synced. What \
+            stood at TO is replaced, but for a directory with entries.",
+        parameters: &[THE_IMAGE, FROM_PATH, TO_PATH],
+    },
+    Usage {
+        verb: Verb::Mkdir,
+        name: "mkdir",
+        about: "Make an empty directory",
+        details: "Make an empty directory at PATH, and print `ok` once that is synced.",
+        parameters: &[THE_IMAGE, THE_PATH],
+    },
+    Usage {
+        verb: Verb::Clean,
+        name: "clean",
+        about: "Clean segments until a quarter of them is clean",
+        details: "Clean segments until a quarter of them is clean, and print `ok`. The tree stays \
+            as it is, and so does the space that is free.",
+        parameters: &[THE_IMAGE],
+    },
+    Usage {
+        verb: Verb::Df,
+        name: "df",
+        about: "Print how much of the volume is used and free",
+        details: "Print the size of the volume, the bytes of its files, and the bytes of the \
+            largest new file that the root has room for.",
+        parameters: &[THE_IMAGE],
     },
     Usage {
         verb: Verb::Info,

@@ -1,28 +1,54 @@
 //! Image files and block devices, in any world.
-ghost use Rattle.std.specs.Prelude.{◌↔◌, IsTrue};
-ghost use Rattle.lfs_model.specs.Checkpoint.{IsSegmentCount};
+ghost use Rattle.std.specs.Prelude.{◌<◌, ◌^◌};
 
 use crate::fault::{ImageFault, Refusal};
+use crate::foreign::explained;
 use lfs_device::{FileDeviceIn, World};
+use lfs_layout::is_segment_count;
 use lfs_script::fs::{Fs, format};
 use std::alloc::Global;
 use std::fs;
-use std::fs::{File, Metadata, TryLockError};
+use std::fs::{File, Metadata, OpenOptions, TryLockError};
 use std::io::ErrorKind;
-use std::os::unix::fs::FileTypeExt;
+use std::os::fd::{AsRawFd, RawFd};
+use std::os::unix::fs::{FileExt, FileTypeExt};
 use std::rt::Files;
+use std::thread::sleep;
+use std::time::{Clock, Duration};
 
-const SECTOR_BYTES: u64 = 512;
+const SECTOR_LEN: usize = 512;
+
+const SECTOR_BYTES: u64 = SECTOR_LEN as u64;
 
 const CHECKPOINT_SLOTS: u64 = 2;
 
 const SEGMENT_SECTORS: u64 = 64;
 
-/// Whether a volume may have this many segments.
-pub fn is_segment_count(segments: u32) -> bool
-    ensures { IsTrue result ↔ IsSegmentCount segments }
+/// Standard input, output and error.
+const STANDARD_STREAMS: usize = 3;
+
+const LAST_STREAM: RawFd = 2;
+
+/// A writer waits about a second for a lock, which a look may hold.
+const LOCK_TRIES: u32 = 1000;
+
+const LOCK_PAUSE_MILLIS: u64 = 1;
+
+/// How a volume is made.
+#[derive(Clone, Copy)]
+pub struct Making {
+    pub segments: u32,
+    /// Also on a block device.
+    pub force: bool,
+    /// With room for each sector.
+    pub reserve: bool,
+}
+
+// The sectors of a volume of so many segments.
+fn sectors_of(segments: u32) -> u64
+    ensures { result < 2 ^ 39 }
 {
-    64 <= segments && segments <= 1024 && segments % 8 == 0
+    CHECKPOINT_SLOTS + SEGMENT_SECTORS * u64::from(segments)
 }
 
 /// What holds an image.
@@ -56,12 +82,54 @@ fn look_up<R: Files<File = File>>(rt: &R, image: &str) -> Result<Medium, ImageFa
     }
 }
 
-// Refuses an image that another program writes. A file system without locks refuses nothing.
-fn lock(file: &File) -> Result<(), ImageFault> {
-    match file.try_lock() {
-        Err(TryLockError::WouldBlock) => Err(ImageFault::InUse),
-        _ => Ok(()),
+// Opens a file, at no descriptor of a standard stream. Where such a stream is closed, the system
+// gives its descriptor to the next file: that file is held until another one is open, and closed then.
+fn open_apart<R: Files<File = File>>(
+    rt: &R,
+    how: &OpenOptions,
+    image: &str,
+) -> Result<File, ImageFault> {
+    let mut held = [const { None }; STANDARD_STREAMS];
+    for place in &mut held {
+        match how.open(rt, image) {
+            Ok(file) if file.as_raw_fd() > LAST_STREAM => return Ok(file),
+            Ok(file) => *place = Some(file),
+            Err(error) => return Err(ImageFault::from(error)),
+        }
     }
+    match how.open(rt, image) {
+        Ok(file) => Ok(file),
+        Err(error) => Err(ImageFault::from(error)),
+    }
+}
+
+/// Who has an image beside a program that looks at it.
+#[derive(Clone, Copy, PartialEq, Eq)]
+pub enum Beside {
+    /// Nobody writes it: a lock keeps writers out. In a file system without locks nobody knows.
+    Nobody,
+    /// Another program holds the lock of writers.
+    Writer,
+}
+
+// Keeps writers out, if there is none yet.
+fn lock_to_look(file: &File) -> Beside {
+    match file.try_lock_shared() {
+        Err(TryLockError::WouldBlock) => Beside::Writer,
+        _ => Beside::Nobody,
+    }
+}
+
+// Refuses an image that another program has for longer than a look takes. A file system without
+// locks refuses nothing.
+fn lock<R: Clock>(rt: &R, file: &File) -> Result<(), ImageFault> {
+    for _ in 0..LOCK_TRIES {
+        match file.try_lock() {
+            Err(TryLockError::WouldBlock) => sleep(rt, Duration::from_millis(LOCK_PAUSE_MILLIS)),
+            _ => return Ok(()),
+        }
+    }
+    Err(ImageFault::InUse)
 }
 
 fn device_of<Here: World>(file: File) -> Result<FileDeviceIn<Here>, ImageFault> {
@@ -71,31 +139,37 @@ fn device_of<Here: World>(file: File) -> Result<FileDeviceIn<Here>, ImageFault> 
     Ok(device)
 }
 
-/// The device of an image that is only looked at: it is opened for reading, and no lock is taken.
+/// The device of an image that is only looked at, and who has it beside. It is opened for reading.
 pub fn open_to_look<Here: World, R: Files<File = File>>(
     rt: &R,
     image: &str,
-) -> Result<FileDeviceIn<Here>, ImageFault> {
+) -> Result<(FileDeviceIn<Here>, Beside), ImageFault> {
     look_up(rt, image)?;
-    match File::open(rt, image) {
-        Ok(file) => device_of(file),
-        Err(error) => Err(ImageFault::from(error)),
-    }
+    let mut how = File::options();
+    how.read(true);
+    let file = open_apart(rt, &how, image)?;
+    let beside = lock_to_look(&file);
+    Ok((device_of(file)?, beside))
+}
+
+// How an image is opened that is written.
+fn to_write() -> OpenOptions {
+    let mut how = File::options();
+    how.read(true).write(true);
+    how
 }
 
 // Opens a file for writing, and locks it.
-fn open_locked<R: Files<File = File>>(rt: &R, image: &str) -> Result<File, ImageFault> {
-    match File::options().read(true).write(true).open(rt, image) {
-        Ok(file) => match lock(&file) {
-            Ok(()) => Ok(file),
-            Err(fault) => Err(fault),
-        },
-        Err(error) => Err(ImageFault::from(error)),
+fn open_locked<R: Files<File = File> + Clock>(rt: &R, image: &str) -> Result<File, ImageFault> {
+    let file = open_apart(rt, &to_write(), image)?;
+    match lock(rt, &file) {
+        Ok(()) => Ok(file),
+        Err(fault) => Err(fault),
     }
 }
 
 /// The device of an image that is written. It is locked until the device is dropped.
-pub fn open_to_write<Here: World, R: Files<File = File>>(
+pub fn open_to_write<Here: World, R: Files<File = File> + Clock>(
     rt: &R,
     image: &str,
 ) -> Result<FileDeviceIn<Here>, ImageFault> {
@@ -141,46 +215,61 @@ fn clear(file: &File, old: u64, len: u64) -> Result<(), ImageFault> {
     Ok(())
 }
 
-// Opens a file, or makes an empty one.
-fn open_or_make<R: Files<File = File>>(rt: &R, image: &str) -> Result<File, ImageFault> {
-    match File::options()
-        .read(true)
-        .write(true)
-        .create(true)
-        .open(rt, image)
-    {
-        Ok(file) => Ok(file),
+// Makes an empty file where nothing has the name, and tells whether it did.
+fn touch<R: Files<File = File>>(rt: &R, image: &str) -> Result<bool, ImageFault> {
+    match File::options().write(true).create_new(true).open(rt, image) {
+        Ok(_) => Ok(true),
+        Err(error) if error.kind() == ErrorKind::AlreadyExists => Ok(false),
         Err(error) => Err(ImageFault::from(error)),
     }
 }
 
-// Locks what was opened, and makes a file's bytes zeros. It is looked at again: the name may have
-// had another file before.
-fn prepare(file: &File, len: u64, force: bool) -> Result<(), ImageFault> {
-    lock(file)?;
+// Writes each sector, so that there is room for it: a file that only has a length has none.
+fn reserve(file: &File, segments: u32) -> Result<(), ImageFault> {
+    for sector in 0..sectors_of(segments) {
+        if file
+            .write_all_at(&[0; SECTOR_LEN], SECTOR_BYTES * sector)
+            .is_err()
+        {
+            return Err(ImageFault::Room);
+        }
+    }
+    if file.sync_all().is_err() {
+        return Err(ImageFault::Room);
+    }
+    Ok(())
+}
+
+// Makes all of a locked file's bytes zeros. It is looked at again: the name may have had another
+// file before.
+fn empty(file: &File, making: Making) -> Result<(), ImageFault> {
     let Ok(metadata) = file.metadata() else {
         return Err(ImageFault::System);
     };
-    match check_medium(&metadata, force) {
-        Ok(Medium::File) => clear(file, metadata.len(), len),
+    match check_medium(&metadata, making.force) {
+        Ok(Medium::File) => clear(
+            file,
+            metadata.len(),
+            SECTOR_BYTES * sectors_of(making.segments),
+        ),
         Ok(Medium::Blocks) => Ok(()),
         Err(fault) => Err(fault),
     }
 }
 
-// Opens what a volume is to be made in.
-fn open_to_make<R: Files<File = File>>(
+// Opens and locks what a volume is to be made in, and makes it ready.
+fn open_to_make<R: Files<File = File> + Clock>(
     rt: &R,
     image: &str,
-    len: u64,
-    force: bool,
+    making: Making,
 ) -> Result<File, ImageFault> {
-    check_name(rt, image, force)?;
-    let file = open_or_make(rt, image)?;
-    match prepare(&file, len, force) {
-        Ok(()) => Ok(file),
-        Err(fault) => Err(fault),
+    let file = open_apart(rt, to_write().create(true), image)?;
+    lock(rt, &file)?;
+    empty(&file, making)?;
+    if making.reserve {
+        reserve(&file, making.segments)?;
     }
+    Ok(file)
 }
 
 fn format_file<Here: World>(file: File, segments: u32) -> Result<(), Refusal> {
@@ -190,49 +279,90 @@ fn format_file<Here: World>(file: File, segments: u32) -> Result<(), Refusal> {
     }
 }
 
-/// Makes a volume. A regular file is made, or emptied, and gets the volume's length; a block device
-/// keeps its own, which has to be enough, and is formatted only by force. A wrong number of
-/// segments is refused with no file touched.
-pub fn make<Here: World, R: Files<File = File>>(
+// Makes a volume in what has the name, which may be nothing yet.
+fn make_in<Here: World, R: Files<File = File> + Clock>(
     rt: &R,
     image: &str,
-    segments: u32,
-    force: bool,
+    making: Making,
 ) -> Result<(), Refusal> {
-    if !is_segment_count(segments) {
-        return Err(Refusal::Inval);
-    }
-    let sectors = CHECKPOINT_SLOTS + SEGMENT_SECTORS * u64::from(segments);
-    match open_to_make(rt, image, SECTOR_BYTES * sectors, force) {
-        Ok(file) => format_file::<Here>(file, segments),
+    match open_to_make(rt, image, making) {
+        Ok(file) => format_file::<Here>(file, making.segments),
         Err(fault) => Err(Refusal::Image(fault)),
     }
 }
 
-fn mount_device<Here: World>(
+// The folder that a file of this name is in.
+fn folder_of(image: &str) -> &str {
+    match image.rfind('/') {
+        Some(0) => "/",
+        Some(slash) => &image[..slash],
+        None => ".",
+    }
+}
+
+// Syncs the folder of a new file, so that its name stays. Not every folder can be read, and not
+// every file system syncs one.
+fn sync_folder<R: Files<File = File>>(rt: &R, image: &str) -> Result<(), ImageFault> {
+    let Ok(folder) = File::open(rt, folder_of(image)) else {
+        return Ok(());
+    };
+    match folder.sync_all() {
+        Err(error) if error.kind() != ErrorKind::InvalidInput => Err(ImageFault::Unnamed),
+        _ => Ok(()),
+    }
+}
+
+// Makes a volume in a new file, of which nothing is left where that is refused.
+fn make_new<Here: World, R: Files<File = File> + Clock>(
+    rt: &R,
+    image: &str,
+    making: Making,
+) -> Result<(), Refusal> {
+    let made = make_in::<Here, R>(rt, image, making);
+    match made.and_then(|()| sync_folder(rt, image).map_err(Refusal::Image)) {
+        Ok(()) => Ok(()),
+        Err(refusal) => {
+            let _ = fs::remove_file(rt, image);
+            Err(refusal)
+        }
+    }
+}
+
+/// Makes a volume. A regular file is made, or emptied, and gets the volume's length; a block device
+/// keeps its own, which has to be enough, and is formatted only by force. Where that is asked for,
+/// each sector is written first. A wrong number of segments is refused with no file touched.
+pub fn make<Here: World, R: Files<File = File> + Clock>(
+    rt: &R,
+    image: &str,
+    making: Making,
+) -> Result<(), Refusal> {
+    if !is_segment_count(making.segments) {
+        return Err(Refusal::Inval);
+    }
+    check_name(rt, image, making.force)?;
+    if touch(rt, image)? {
+        make_new::<Here, R>(rt, image, making)
+    } else {
+        make_in::<Here, R>(rt, image, making)
+    }
+}
+
+/// Mounts the volume of a device.
+pub fn mount<Here: World>(
     alloc: Global,
     device: FileDeviceIn<Here>,
 ) -> Result<Fs<FileDeviceIn<Here>>, Refusal> {
     match Fs::mount(alloc, device) {
         Ok(fs) => Ok(fs),
-        Err((fault, _)) => Err(Refusal::from(fault)),
+        Err((fault, mut device)) => Err(explained(fault, &mut device)),
     }
 }
 
-/// Mounts the volume of an image that is only looked at.
-pub fn mount<Here: World, R: Files<File = File>>(
-    rt: &R,
-    alloc: Global,
-    image: &str,
-) -> Result<Fs<FileDeviceIn<Here>>, Refusal> {
-    mount_device(alloc, open_to_look(rt, image)?)
-}
-
 /// Mounts the volume of an image that is written. It is locked until the volume is dropped.
-pub fn mount_to_write<Here: World, R: Files<File = File>>(
+pub fn mount_to_write<Here: World, R: Files<File = File> + Clock>(
     rt: &R,
     alloc: Global,
     image: &str,
 ) -> Result<Fs<FileDeviceIn<Here>>, Refusal> {
-    mount_device(alloc, open_to_write(rt, image)?)
+    mount(alloc, open_to_write(rt, image)?)
 }

@@ -1,9 +1,12 @@
 //! Commands that look at a mounted volume, over its calls alone.
+use crate::describing::describe;
 use crate::fault::{Ending, Fault, Refusal};
 use crate::printing::{flush, print, put, put_count, put_word, refuse};
+use crate::room::put_free;
 use lfs_device::SectorDevice;
 use lfs_model::Kind;
-use lfs_script::fs::{Fs, FsError, Space, TreeRow};
+use lfs_put::{GetFault, get};
+use lfs_script::fs::{Fs, Space, TreeRow};
 use lfs_script::{Answer, WordFault, put_reply, read_escaped};
 use std::alloc::{AllocError, Global};
 use std::io::Write;
@@ -21,16 +24,33 @@ pub enum Look<'a> {
     List(&'a str),
     /// The bytes of a file.
     Cat(&'a str),
+    /// The space and the segments, for people.
+    Info,
+    /// How much is used and free, for people.
+    Free,
+}
+
+/// How a look ends.
+#[derive(Clone, Copy)]
+pub enum Looked {
+    Done,
+    /// Nothing was printed.
+    Refused(Refusal),
+    /// A beginning was printed, as of a file.
+    Broken(Refusal),
+}
+
+/// Prints the line of a look that is refused. Behind a beginning it would be a part of that.
+pub fn end_look<W: Write>(looked: Looked, output: &mut W) -> Result<Ending, Fault> {
+    match looked {
+        Looked::Done => Ok(Ending::Done),
+        Looked::Refused(refusal) => refuse(output, refusal),
+        Looked::Broken(refusal) => Ok(Ending::Refused(refusal)),
+    }
 }
 
 /// The limit of the need, for each segment.
-const SEGMENT_LIMIT: u64 = 47;
-
-/// The most bytes of one read.
-const PART: u32 = 65_536;
-
-/// How many such reads the longest file takes.
-const PARTS: u64 = 130;
+pub const SEGMENT_LIMIT: u64 = 47;
 
 // Prints the reply that has these rows.
 fn put_rows<W: Write>(rows: Vec<TreeRow>, output: &mut W) -> Result<(), Fault> {
@@ -41,13 +61,13 @@ fn put_rows<W: Write>(rows: Vec<TreeRow>, output: &mut W) -> Result<(), Fault> {
 }
 
 // Prints a volume's tree as a script's reply.
-pub fn show<D: SectorDevice, W: Write>(fs: &mut Fs<D>, output: &mut W) -> Result<Ending, Fault> {
+pub fn show<D: SectorDevice, W: Write>(fs: &mut Fs<D>, output: &mut W) -> Result<Looked, Fault> {
     match fs.tree() {
         Ok(rows) => {
             put_rows(rows, output)?;
-            Ok(Ending::Done)
+            Ok(Looked::Done)
         }
-        Err(refusal) => refuse(output, Refusal::Call(refusal)),
+        Err(refusal) => Ok(Looked::Refused(Refusal::Call(refusal))),
     }
 }
 
@@ -66,13 +86,13 @@ fn put_space<W: Write>(space: &Space, output: &mut W) -> Result<(), Fault> {
 }
 
 // Prints the number of segments and the space of a volume.
-fn check<D: SectorDevice, W: Write>(fs: &mut Fs<D>, output: &mut W) -> Result<Ending, Fault> {
+fn check<D: SectorDevice, W: Write>(fs: &mut Fs<D>, output: &mut W) -> Result<Looked, Fault> {
     match fs.space() {
         Ok(space) => {
             put_space(&space, output)?;
-            Ok(Ending::Done)
+            Ok(Looked::Done)
         }
-        Err(refusal) => refuse(output, Refusal::Call(refusal)),
+        Err(refusal) => Ok(Looked::Refused(Refusal::Call(refusal))),
     }
 }
 
@@ -174,13 +194,13 @@ fn tree<D: SectorDevice, W: Write>(
     alloc: Global,
     fs: &mut Fs<D>,
     output: &mut W,
-) -> Result<Ending, Fault> {
+) -> Result<Looked, Fault> {
     match fs.tree() {
         Ok(rows) => {
             put_tree(alloc, output, rows.as_slice())?;
-            Ok(Ending::Done)
+            Ok(Looked::Done)
         }
-        Err(refusal) => refuse(output, Refusal::Call(refusal)),
+        Err(refusal) => Ok(Looked::Refused(Refusal::Call(refusal))),
     }
 }
 
@@ -199,21 +219,21 @@ fn list_directory<D: SectorDevice, W: Write>(
     fs: &mut Fs<D>,
     directory: u32,
     output: &mut W,
-) -> Result<Ending, Fault> {
+) -> Result<Looked, Fault> {
     match fs.tree() {
         Ok(rows) => {
             put_names(output, rows.as_slice(), directory)?;
-            Ok(Ending::Done)
+            Ok(Looked::Done)
         }
-        Err(refusal) => refuse(output, Refusal::Call(refusal)),
+        Err(refusal) => Ok(Looked::Refused(Refusal::Call(refusal))),
     }
 }
 
 // Prints the word of a path that is no directory's.
-fn list_path<W: Write>(path: &[u8], output: &mut W) -> Result<Ending, Fault> {
+fn list_path<W: Write>(path: &[u8], output: &mut W) -> Result<Looked, Fault> {
     put_word(output, path)?;
     print(output, "\n")?;
-    Ok(Ending::Done)
+    Ok(Looked::Done)
 }
 
 // Prints the names in a directory, one a line, or the word of what is none.
@@ -221,44 +241,14 @@ fn list<D: SectorDevice, W: Write>(
     fs: &mut Fs<D>,
     path: &[u8],
     output: &mut W,
-) -> Result<Ending, Fault> {
+) -> Result<Looked, Fault> {
     match fs.stat(path) {
         Ok(stat) => match stat.kind {
             Kind::Directory => list_directory(fs, stat.number, output),
             Kind::File | Kind::Link => list_path(path, output),
         },
-        Err(refusal) => refuse(output, Refusal::Call(refusal)),
+        Err(refusal) => Ok(Looked::Refused(Refusal::Call(refusal))),
     }
-}
-
-// Ends a copy at a read that is refused. Its line doesn't go between the bytes of the file.
-fn end_copy<W: Write>(offset: u64, refusal: FsError, output: &mut W) -> Result<Ending, Fault> {
-    if offset == 0 {
-        return refuse(output, Refusal::Call(refusal));
-    }
-    flush(output)?;
-    Ok(Ending::Refused(Refusal::Call(refusal)))
-}
-
-// Prints the bytes of an open file of this size.
-fn copy_out<D: SectorDevice, W: Write>(
-    fs: &mut Fs<D>,
-    handle: u32,
-    size: u64,
-    output: &mut W,
-) -> Result<Ending, Fault> {
-    for part in 0..PARTS {
-        let offset = part * u64::from(PART);
-        if offset >= size {
-            break;
-        }
-        match fs.pread(handle, offset, PART) {
-            Ok(bytes) => put(output, bytes.as_slice())?,
-            Err(refusal) => return end_copy(offset, refusal, output),
-        }
-    }
-    flush(output)?;
-    Ok(Ending::Done)
 }
 
 // Prints the bytes of a file.
@@ -266,19 +256,31 @@ fn cat<D: SectorDevice, W: Write>(
     fs: &mut Fs<D>,
     path: &[u8],
     output: &mut W,
-) -> Result<Ending, Fault> {
-    let size = match fs.stat(path) {
-        Ok(stat) => stat.size,
-        Err(refusal) => return refuse(output, Refusal::Call(refusal)),
-    };
-    match fs.open(path) {
-        Ok(handle) => copy_out(fs, handle, size, output),
-        Err(refusal) => refuse(output, Refusal::Call(refusal)),
+) -> Result<Looked, Fault> {
+    let got = get(fs, path, output);
+    match got {
+        Ok(_) => flush(output).map(|()| Looked::Done),
+        Err(GetFault::Call(refusal)) => Ok(Looked::Refused(Refusal::Call(refusal))),
+        Err(GetFault::CutShort(refusal)) => {
+            flush(output).map(|()| Looked::Broken(Refusal::Call(refusal)))
+        }
+        Err(GetFault::Output) => Err(Fault::Output),
     }
 }
 
-/// The bytes of a path by its word.
+// The bytes of a path that are those of its word.
+fn plain_path(alloc: Global, word: &str) -> Result<Vec<u8>, Fault> {
+    let mut path = Vec::new(alloc);
+    path.extend_from_slice(word.as_bytes())?;
+    Ok(path)
+}
+
+/// The bytes of a path by its word: its own bytes, or as a word of scripts where it has a
+/// backslash.
 pub fn read_path(alloc: Global, word: &str) -> Result<Vec<u8>, Fault> {
+    if !word.as_bytes().contains(&b'\\') {
+        return plain_path(alloc, word);
+    }
     match read_escaped(alloc, word.as_bytes()) {
         Ok(path) => Ok(path),
         Err(WordFault::Memory) => Err(Fault::Memory(AllocError)),
@@ -290,23 +292,25 @@ pub fn read_path(alloc: Global, word: &str) -> Result<Vec<u8>, Fault> {
 pub fn path_of(alloc: Global, look: Look<'_>) -> Result<Vec<u8>, Fault> {
     match look {
         Look::List(word) | Look::Cat(word) => read_path(alloc, word),
-        Look::Check | Look::Mount | Look::Tree => Ok(Vec::new(alloc)),
+        Look::Check | Look::Mount | Look::Tree | Look::Info | Look::Free => { Ok(Vec::new(alloc)) }
     }
 }
 
 /// Looks at a mounted volume.
-pub fn look_at<D: SectorDevice, W: Write>(
+pub fn look_at<D: SectorDevice + Drop, W: Write>(
     alloc: Global,
-    fs: &mut Fs<D>,
+    mut fs: Fs<D>,
     look: Look<'_>,
     path: &[u8],
     output: &mut W,
-) -> Result<Ending, Fault> {
+) -> Result<Looked, Fault> {
     match look {
-        Look::Check => check(fs, output),
-        Look::Mount => show(fs, output),
-        Look::Tree => tree(alloc, fs, output),
-        Look::List(_) => list(fs, path, output),
-        Look::Cat(_) => cat(fs, path, output),
+        Look::Check => check(&mut fs, output),
+        Look::Mount => show(&mut fs, output),
+        Look::Tree => tree(alloc, &mut fs, output),
+        Look::List(_) => list(&mut fs, path, output),
+        Look::Cat(_) => cat(&mut fs, path, output),
+        Look::Info => describe(alloc, fs, output),
+        Look::Free => put_free(&mut fs, output),
     }
 }

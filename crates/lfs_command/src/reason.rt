@@ -9,6 +9,13 @@ const DEVICE: &str = "a read, a write or a sync of it failed";
 /// Of a file that is to have the name under which files stand until they are whole.
 pub const UNFINISHED: &str = "this is the name under which `put` keeps a file that isn't whole yet";
 
+/// Of an image that isn't mounted, and whose first two sectors begin as no checkpoint does.
+pub const FOREIGN: &str =
+    "this is no Pansuyog volume, or both its checkpoints are lost; mkfs would empty it";
+
+/// Of a look that is done, beside another program that writes.
+pub const BESIDE: &str = "another program writes it, so what was printed may be of two moments";
+
 /// Of an image that isn't used.
 pub fn of_image(fault: ImageFault) -> &'static str {
     match fault {
@@ -18,8 +25,13 @@ pub fn of_image(fault: ImageFault) -> &'static str {
         ImageFault::Folder => "it is a folder",
         ImageFault::NoBlocks => "it is neither a regular file nor a block device",
         ImageFault::Unforced => "it is a block device, which is formatted only with --force",
-        ImageFault::InUse => "it is in use: another program holds its lock",
+        ImageFault::InUse => "it is in use: another program has held its lock for a second",
+        ImageFault::Unsteady => {
+            "another program writes it, and no whole state was seen; try again"
+        }
         ImageFault::Length => "the file can't have the length of the volume",
+        ImageFault::Room => "there is no room for all of its sectors",
+        ImageFault::Unnamed => "the folder that has it can't be synced",
         ImageFault::System => "the system refuses to open it or to tell its length",
     }
 }
@@ -88,7 +100,7 @@ pub fn of_call(fault: FsError) -> &'static str {
         FsError::DirFull => "the directory has 1024 entries",
         FsError::NoMemory => NO_MEMORY,
         FsError::Device => DEVICE,
-        FsError::Halted => "a write or a sync of it failed: it has to be mounted again",
+        FsError::Halted => "it can't be written: a write or a sync of it failed",
         FsError::Stuck => "too few of its segments are clean",
         FsError::Worn => "it was changed too often to be changed again",
     }

@@ -1,5 +1,5 @@
 //! A reader that remembers the lines that a script may be at.
-ghost use Rattle.std.specs.Prelude.{◌≡◌};
+ghost use Rattle.std.specs.Prelude.{◌≡◌, ◌<◌, vec_len};
 
 use lfs_script::LONGEST_LINE;
 use std::alloc::Global;
@@ -13,6 +13,8 @@ use std::io::Read;
 pub struct LineKeeper<R> {
     reader: R,
     kept: Vec<u8>,
+    /// How many bytes of what is kept are known to have no newline.
+    looked_at: usize,
     /// The number of the first line that is kept, counted from 1.
     first: u64,
     /// Memory for a line was refused.
@@ -26,24 +28,35 @@ impl<R> LineKeeper<R> {
         LineKeeper {
             reader,
             kept: Vec::new(alloc),
+            looked_at: 0,
             first: 1,
             lost: false,
         }
     }
 
-    // Lets go of the lines whose ends were read.
-    fn forget(&mut self)
+    // Lets go of the lines up to this newline.
+    fn let_go(&mut self, newline: usize)
+        requires { newline < vec_len self.old.kept }
         ensures { self.new.reader ≡ self.old.reader }
     {
-        let Some(newline) = self.kept.iter().rposition(|byte| *byte == b'\n') else {
-            return;
-        };
         let whole = &self.kept[..newline];
         let lines = whole.iter().filter(|byte| **byte == b'\n').count() as u64 + 1;
         self.first = self.first.saturating_add(lines);
         let left = self.kept.len() - newline - 1;
         self.kept.copy_within(newline + 1.., 0);
         self.kept.truncate(left);
+    }
+
+    // Lets go of the lines whose ends were read. Only bytes of the last read are looked at.
+    fn forget(&mut self)
+        ensures { self.new.reader ≡ self.old.reader }
+    {
+        let before = self.looked_at.min(self.kept.len());
+        let found = self.kept[before..].iter().rposition(|byte| *byte == b'\n');
+        if let Some(newline) = found {
+            self.let_go(before + newline);
+        }
+        self.looked_at = self.kept.len();
     }
 
     /// The line of this number, as far as it was read, without its newline. None where it isn't

@@ -3,8 +3,11 @@ ghost use Rattle.std.specs.Prelude.{◌≡◌, IfOk, codes};
 ghost use Rattle.std.specs.Bool.{OnTrue};
 ghost use Rattle.lfs_command.specs.Asking.{HasWord, IsStrict};
 
+use crate::changing::Change;
 use crate::fault::Fault;
-use crate::grammar::{FORCE, IMAGE, LEFT, PATH, SEGMENTS, STOP, STRICT, Verb, program, verb_of};
+use crate::grammar::{
+    FORCE, FROM, IMAGE, LEFT, PATH, RESERVE, SEGMENTS, STOP, STRICT, TO, Verb, program, verb_of,
+};
 use crate::looking::Look;
 use clap::error::ErrorKind;
 use clap::{ArgMatches, Error};
@@ -17,12 +20,27 @@ const ROOT: &str = "/";
 /// What is done with an image. Numbers and paths are words still.
 #[derive(Clone, Copy)]
 pub enum Action<'a> {
-    Mkfs { segments: &'a str, force: bool },
+    Mkfs {
+        segments: &'a str,
+        force: bool,
+        reserve: bool,
+    },
     Look(Look<'a>),
-    Info,
+    Change(Change<'a>),
     Run,
     /// Standard input becomes the file of this path.
     Put(&'a str),
+}
+
+impl<'a> Action<'a> {
+    /// The path that it has, as a word of scripts.
+    pub fn path(self) -> Option<&'a str> {
+        match self {
+            Action::Look(Look::List(path) | Look::Cat(path)) | Action::Put(path) => Some(path),
+            Action::Change(change) => change.path(),
+            Action::Mkfs { .. } | Action::Look(_) | Action::Run => None,
+        }
+    }
 }
 
 /// What a command line asks for. Numbers are words still.
@@ -66,6 +84,7 @@ fn read_mkfs<'a>(found: &ArgMatches<'a>) -> Option<Action<'a>> {
     Some(Action::Mkfs {
         segments: found.get_str(SEGMENTS)?,
         force: found.get_flag(FORCE),
+        reserve: found.get_flag(RESERVE),
     })
 }
 
@@ -80,6 +99,14 @@ fn looks<'a>(look: Look<'a>, found: &ArgMatches<'a>) -> Option<Request<'a>> {
     on_image(Some(Action::Look(look)), found)
 }
 
+fn changes<'a>(change: Option<Change<'a>>, found: &ArgMatches<'a>) -> Option<Request<'a>> {
+    on_image(Some(Action::Change(change?)), found)
+}
+
+fn read_rename<'a>(found: &ArgMatches<'a>) -> Option<Change<'a>> {
+    Some(Change::Rename(found.get_str(FROM)?, found.get_str(TO)?))
+}
+
 fn asked<'a>(verb: Verb, found: &ArgMatches<'a>) -> Option<Request<'a>> {
     match verb {
         Verb::Mkfs => on_image(read_mkfs(found), found),
@@ -89,7 +116,12 @@ fn asked<'a>(verb: Verb, found: &ArgMatches<'a>) -> Option<Request<'a>> {
         Verb::Ls => looks(Look::List(found.get_str(PATH).unwrap_or(ROOT)), found),
         Verb::Cat => looks(Look::Cat(found.get_str(PATH)?), found),
         Verb::Put => on_image(Some(Action::Put(found.get_str(PATH)?)), found),
-        Verb::Info => on_image(Some(Action::Info), found),
+        Verb::Info => looks(Look::Info, found),
+        Verb::Df => looks(Look::Free, found),
+        Verb::Rm => changes(Some(Change::Remove(found.get_str(PATH)?)), found),
+        Verb::Mv => changes(read_rename(found), found),
+        Verb::Mkdir => changes(Some(Change::MakeDirectory(found.get_str(PATH)?)), found),
+        Verb::Clean => changes(Some(Change::Clean), found),
         Verb::Run if found.get_flag(STRICT) => Some(Request::Strict {
             image: found.get_str(IMAGE)?,
         }),

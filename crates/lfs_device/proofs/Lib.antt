@@ -1,3 +1,4 @@
+pub mod Carried
 pub mod Stops
 pub mod Syncs
 pub mod Whole

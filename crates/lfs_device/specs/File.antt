@@ -3,6 +3,8 @@ use Rattle.std.specs.Prelude.{◌≡◌, ◌⊎◌, ℕ, ◌+◌, ◌^◌, ◌<�
 use Rattle.std.specs.List.{AllByRecursion}
 use Rattle.std.proofs.Common.{inl, inr, sym, ◌∙◌, ap, subst, arith, length-set}
 use Rattle.lfs_model.specs.Device.{Cell, cell_at, put, lose, MayWrite, left_old, left_new, left_bad, IsSector, AreSectorBytes, DeviceState, IsLawful}
+use Rattle.lfs_model.specs.declared.Order.{Order}
+use Rattle.lfs_model.specs.declared.Order.TheVariants as order
 use Rattle.lfs_model.proofs.Cells.{all_set, bytes_prop, size_written, cells_written}
 use Rattle.lfs_device.specs.Fate.{Fate}
 use Rattle.lfs_device.specs.declared.rows.Left.{Left}
@@ -57,6 +59,15 @@ failures_in (Refused sector bytes ∷ calls) = failures_in calls + 1
 failures_in (Synced ∷ calls) = failures_in calls
 failures_in (Failed ∷ calls) = failures_in calls + 1
 
+-- the writes, done or failed, and the syncs that succeeded
+abbrev pub orders_in : List Call → List Order
+orders_in [] = []
+orders_in (Given sector bytes ∷ calls) = orders_in calls
+orders_in (Written sector bytes ∷ calls) = order.Write sector bytes.value ∷ orders_in calls
+orders_in (Refused sector bytes ∷ calls) = order.Write sector bytes.value ∷ orders_in calls
+orders_in (Synced ∷ calls) = order.Sync ∷ orders_in calls
+orders_in (Failed ∷ calls) = orders_in calls
+
 abbrev pub file_state : (n : ℕ) → Fate n → List Call → DeviceState
 file_state n fate calls = record {
   size = n;
@@ -66,6 +77,8 @@ file_state n fate calls = record {
   left_since = LeftSince fate calls;
   failures = failures_in calls;
   keeps_model = AreAnswers fate calls;
+  start = fate.content;
+  told = orders_in calls;
 }
 
 -- the bytes of each write are a sector's
@@ -158,6 +171,11 @@ module _ {n : ℕ} (fate : Fate n) where
   only_left (call ∷ calls) c (inl here) = here.1
   only_left (call ∷ calls) c (inr there) = let late : length (call ∷ calls) ≤ length calls = ended calls (length (call ∷ calls)) c there in absurd (omega arith)
 
+pub earlier_file : {n : ℕ} (fate : Fate n) (calls : List Call) (t u : ℕ) (c : List Cell) → t ≤ u → LeftSince fate calls u c → LeftSince fate calls t c
+earlier_file fate [] t u c le left = ((let was = left.0 in omega (arith, le, was)), left.1)
+earlier_file fate (call ∷ calls) t u c le (inl now) = inl ((let was = now.0 in omega (arith, le, was)), now.1)
+earlier_file fate (call ∷ calls) t u c le (inr then') = inr (earlier_file fate calls t u c le then')
+
 pub file_lawful : (n : ℕ) (fate : Fate n) (calls : List Call) → n < 2 ^ 32 → AreWhole calls → IsLawful (file_state n fate calls)
 file_lawful n fate calls fits whole = record {
   fits = fits;
@@ -168,4 +186,5 @@ file_lawful n fate calls fits whole = record {
   present = λ keeps. present_left fate calls;
   counts_now = counts_left fate calls;
   only_now = only_left fate calls;
+  earlier = earlier_file fate calls;
 }

@@ -6,3 +6,4 @@ pub mod History
 pub mod Memory
 pub mod MemoryDevice
 pub mod Rows
+pub mod Told

@@ -1,16 +1,22 @@
 -- A memory device as contracts see it.
-use Rattle.std.specs.Prelude.{◌≡◌, ◌⊎◌, ℕ, zero, suc, ◌^◌, ◌<◌, None, List, [], ◌∷◌, length, slice_index_or, map, refl}
+use Rattle.std.specs.Prelude.{◌≡◌, ◌⊎◌, ℕ, zero, suc, ◌^◌, ◌<◌, ◌≤◌, None, List, [], ◌∷◌, length, slice_index_or, map, refl}
 use Rattle.std.specs.List.{AllByRecursion, AllByRecursion-prop}
 use Rattle.std.proofs.Common.{inl, inr, sym, subst, arith}
 use Rattle.std.proofs.lemmas.List.{length-map}
 use Rattle.lfs_model.specs.Device.{Cell, DeviceState, IsSector, IsLawful}
+use Rattle.lfs_model.specs.declared.Order.{Order}
 use Rattle.lfs_model.proofs.Cells.{sector_prop}
 use Rattle.lfs_device.specs.declared.rows.Row.{Row}
 use Rattle.lfs_device.specs.declared.rows.Count.{Count}
 use Rattle.lfs_device.specs.Rows.{IsSectorRow, AreSectorRows, stands_at, CellLeft, CanLeave, PassedThrough, present_of, LeftIn, count}
 
-abbrev pub memory_state : List Row → List (List Row) → Count → DeviceState
-memory_state rows past failed = record {
+-- the first of these states
+abbrev pub first_of : List Row → List (List Row) → List Row
+first_of rows [] = rows
+first_of rows (before ∷ past) = first_of before past
+
+abbrev pub memory_state : List Row → List (List Row) → Count → List Order → DeviceState
+memory_state rows past failed told = record {
   size = length rows;
   content = map present_of rows;
   may_leave = CanLeave rows (PassedThrough past);
@@ -18,6 +24,8 @@ memory_state rows past failed = record {
   left_since = λ t c. CanLeave rows (PassedThrough past) c ⊎ LeftIn past t c;
   failures = count failed;
   keeps_model = Unit {0};
+  start = map present_of (first_of rows past);
+  told = told;
 }
 
 sizes : (rows : List Row) (Before : ℕ → Cell → Type 0) (c : List Cell) → CanLeave rows Before c → length c ≡ length rows
@@ -70,8 +78,13 @@ AreWhole-prop rows = AllByRecursion-prop IsSectorRow (λ row. Prim.hlevel (secto
 pub AreAllWhole-prop : (past : List (List Row)) → IsProp (AllByRecursion AreSectorRows past)
 AreAllWhole-prop past = AllByRecursion-prop AreSectorRows AreWhole-prop past
 
-pub memory_lawful : (rows : List Row) (past : List (List Row)) (failed : Count) → length rows < 2 ^ 32 → AreSectorRows rows → AllByRecursion AreSectorRows past → IsLawful (memory_state rows past failed)
-memory_lawful rows past failed fits whole were_whole = record {
+earlier_memory : (past : List (List Row)) (t u : ℕ) (c : List Cell) → t ≤ u → LeftIn past u c → LeftIn past t c
+earlier_memory [] t u c le left = left
+earlier_memory (rows ∷ past) t u c le (inl now) = inl ((let was = now.0 in omega (arith, le, was)), now.1)
+earlier_memory (rows ∷ past) t u c le (inr then') = inr (earlier_memory past t u c le then')
+
+pub memory_lawful : (rows : List Row) (past : List (List Row)) (failed : Count) (told : List Order) → length rows < 2 ^ 32 → AreSectorRows rows → AllByRecursion AreSectorRows past → IsLawful (memory_state rows past failed told)
+memory_lawful rows past failed told fits whole were_whole = record {
   fits = fits;
   size = length-map rows present_of;
   sizes = sizes rows (PassedThrough past);
@@ -80,4 +93,5 @@ memory_lawful rows past failed fits whole were_whole = record {
   present = λ kept. present rows (PassedThrough past);
   counts_now = λ t c le now. inl now;
   only_now = λ c left. elim left [ inl now ↦ now | inr was ↦ (let late : length past < length past = ended past (length past) c was in absurd (omega arith)) ];
+  earlier = λ t u c le left. elim left [ inl now ↦ inl now | inr was ↦ inr (earlier_memory past t u c le was) ];
 }

@@ -1,6 +1,7 @@
 // What a layer above may know of a device.
-ghost use Rattle.std.specs.Prelude.{◌≡◌, ◌<◌, ◌≤◌, ℕ, List, Some, None, IsOk, OnOk, OnErr, IsErrOf};
-ghost use Rattle.lfs_model.specs.Device.{DeviceState, cell_at, put, MayWrite, Only, Carries, Elapses, IsUntouched, CrashWrites, IsLawful};
+ghost use Rattle.std.specs.Prelude.{◌≡◌, ◌<◌, ◌≤◌, ◌∷◌, ℕ, List, Some, None, IsOk, OnOk, OnErr, IsErrOf};
+ghost use Rattle.lfs_model.specs.Device.{DeviceState, cell_at, put, MayWrite, Only, Carries, Elapses, IsUntouched, CrashWrites, IsLawful, MayTell};
+ghost use Rattle.lfs_model.specs.declared.Order.TheVariants as order;
 
 /// Why a read gives no bytes.
 #[derive(Clone, Copy, Debug, PartialEq, Eq)]
@@ -48,7 +49,8 @@ pub trait SectorDevice {
             → (state self.new).failures ≡ (state self.old).failures }
         ensures untouched { IsUntouched (state self.old) (state self.new) }
         ensures carries { Carries (state self.old) (state self.new) }
-        ensures time { Elapses (state self.old) (state self.new) };
+        ensures time { Elapses (state self.old) (state self.new) }
+        ensures told { (state self.new).told ≡ (state self.old).told };
 
     /// Writes a sector. It is durable after the next sync that succeeds.
     ///
@@ -66,7 +68,11 @@ pub trait SectorDevice {
         ensures failed { OnErr result ((state self.old).failures < (state self.new).failures) }
         ensures no_failure { OnOk result ((state self.new).failures ≡ (state self.old).failures) }
         ensures carries { Carries (state self.old) (state self.new) }
-        ensures time { Elapses (state self.old) (state self.new) };
+        ensures time { Elapses (state self.old) (state self.new) }
+        ensures told { OnOk result ((state self.new).told
+            ≡ order.Write sector bytes.now ∷ (state self.old).told) }
+        ensures may_tell { OnErr result (MayTell (order.Write sector bytes.now)
+            (state self.old).told (state self.new).told) };
 
     /// Makes all contents durable.
     ///
@@ -80,7 +86,11 @@ pub trait SectorDevice {
         ensures no_failure { OnOk result ((state self.new).failures ≡ (state self.old).failures) }
         ensures untouched { IsUntouched (state self.old) (state self.new) }
         ensures carries { Carries (state self.old) (state self.new) }
-        ensures time { Elapses (state self.old) (state self.new) };
+        ensures time { Elapses (state self.old) (state self.new) }
+        ensures told { OnOk result ((state self.new).told
+            ≡ order.Sync ∷ (state self.old).told) }
+        ensures may_tell { OnErr result (MayTell order.Sync
+            (state self.old).told (state self.new).told) };
 
     ghost lawful: { (d : Self) → IsLawful (state d) };
 }

@@ -71,8 +71,9 @@ impl<W: World> FileDeviceIn<W> {
 }
 
 impl<W: World> SectorDevice for FileDeviceIn<W> {
-    ghost use Rattle.std.specs.Prelude.{◌≡◌, Some, None, OnOk, OnErr, IsErrOf};
-    ghost use Rattle.lfs_model.specs.Device.{cell_at, put, MayWrite, Carries, Elapses, IsUntouched, CrashWrites, CrashSpreads};
+    ghost use Rattle.std.specs.Prelude.{◌≡◌, ◌∷◌, Some, None, OnOk, OnErr, IsErrOf};
+    ghost use Rattle.lfs_model.specs.Device.{cell_at, put, MayWrite, Carries, Elapses, IsUntouched, CrashWrites, CrashSpreads, MayTell};
+    ghost use Rattle.lfs_model.specs.declared.Order.TheVariants as order;
     ghost use Rattle.lfs_device.specs.FileDevice.{state_of_file};
 
     ghost state = { state_of_file };
@@ -99,6 +100,7 @@ impl<W: World> SectorDevice for FileDeviceIn<W> {
         ensures untouched { IsUntouched (state_of_file self.old) (state_of_file self.new) }
         ensures carries { Carries (state_of_file self.old) (state_of_file self.new) }
         ensures time { Elapses (state_of_file self.old) (state_of_file self.new) }
+        ensures told { (state_of_file self.new).told ≡ (state_of_file self.old).told }
         ensures never_unreadable { ¬ (IsErrOf result ReadFault.Unreadable) }
     {
         if self.file.read_exact_at(out, offset(sector)).is_err() {
@@ -125,6 +127,10 @@ impl<W: World> SectorDevice for FileDeviceIn<W> {
             ((state_of_file self.new).failures ≡ (state_of_file self.old).failures) }
         ensures carries { Carries (state_of_file self.old) (state_of_file self.new) }
         ensures time { Elapses (state_of_file self.old) (state_of_file self.new) }
+        ensures told { OnOk result ((state_of_file self.new).told
+            ≡ order.Write sector bytes.now ∷ (state_of_file self.old).told) }
+        ensures may_tell { OnErr result (MayTell (order.Write sector bytes.now)
+            (state_of_file self.old).told (state_of_file self.new).told) }
         ensures spreads { CrashSpreads sector bytes.now (state_of_file self.old)
             (state_of_file self.new) }
     {

@@ -7,6 +7,7 @@ mod file;
 mod history;
 mod memory;
 mod rows;
+mod told;
 mod world;
 
 pub use bench::DeviceCall;

@@ -3,10 +3,12 @@ ghost use Rattle.std.specs.Prelude.{◌≡◌, ◌<◌, ◌^◌, length, replica
 ghost use Rattle.lfs_model.specs.Device.{Cell, Only, Carries, Elapses};
 ghost use Rattle.lfs_device.specs.Memory.{AreWhole-prop, AreAllWhole-prop, memory_lawful};
 ghost use Rattle.lfs_device.specs.Rows.{AreSectorRows, states_of};
+ghost use Rattle.lfs_device.specs.Told.{orders_of};
 ghost use Rattle.std.specs.List.{AllByRecursion};
 
 use crate::bench::{Bench, DeviceCall};
 use crate::rows::{Count, Left, Past, Row, add_one, note, settle, stands, stop_rows};
+use crate::told::{Told, tell_sync, tell_write};
 use crate::{DeviceFault, ReadFault, SectorDevice};
 use std::alloc::{AllocError, Global};
 use std::snapshot::Snapshot;
@@ -38,6 +40,7 @@ pub struct MemDevice {
     past: Snapshot<Past>,
     ghost were_whole: { AllByRecursion AreSectorRows (states_of past.value) } by { AreAllWhole-prop (states_of past.value) },
     failed: Snapshot<Count>,
+    told: Snapshot<Told>,
 }
 
 impl MemDevice {
@@ -53,6 +56,7 @@ impl MemDevice {
         ensures zeros { IfOk result
             (λ d. (device_state d).content ≡ replicate sectors (Some (replicate 512 0))) }
         ensures durable { IfOk result (λ d. Only (device_state d).content (device_state d)) }
+        ensures told { IfOk result (λ d. (device_state d).told ≡ []) }
         ensures bench { IfOk result (λ d. bench_of d ≡ no_faults) }
         ensures keeps { IfOk result (λ d. (device_state d).keeps_model) }
     {
@@ -63,6 +67,7 @@ impl MemDevice {
             bench: Bench::new(),
             past: Snapshot::of(&Past::Start),
             failed: Snapshot::of(&Count::Zero),
+            told: Snapshot::of(&Told::Nothing),
         })
     }
 
@@ -167,14 +172,15 @@ impl MemDevice {
 }
 
 impl SectorDevice for MemDevice {
-    ghost use Rattle.std.specs.Prelude.{◌↔◌, OnOk, OnErr, IsErr, IsErrOf, IsTrue};
-    ghost use Rattle.lfs_model.specs.Device.{cell_at, put, MayWrite, IsUntouched, CrashWrites, CrashSpreads};
+    ghost use Rattle.std.specs.Prelude.{◌∷◌, ◌↔◌, OnOk, OnErr, IsErr, IsErrOf, IsTrue};
+    ghost use Rattle.lfs_model.specs.Device.{cell_at, put, MayWrite, IsUntouched, CrashWrites, CrashSpreads, MayTell};
+    ghost use Rattle.lfs_model.specs.declared.Order.TheVariants as order;
     ghost use Rattle.lfs_device.specs.Bench.{fails_at, after_call};
     ghost use Rattle.lfs_device.specs.MemoryDevice.{device_state, rows_of, bench_of};
 
     ghost state = { device_state };
 
-    ghost lawful = { λ d. memory_lawful d.rows.items (states_of d.past.value) d.failed.value d.fits d.whole d.were_whole };
+    ghost lawful = { λ d. memory_lawful d.rows.items (states_of d.past.value) d.failed.value (orders_of d.told.value) d.fits d.whole d.were_whole };
 
     fn sectors(&self) -> u32 {
         self.sectors
@@ -196,6 +202,7 @@ impl SectorDevice for MemDevice {
         ensures untouched { IsUntouched (device_state self.old) (device_state self.new) }
         ensures carries { Carries (device_state self.old) (device_state self.new) }
         ensures time { Elapses (device_state self.old) (device_state self.new) }
+        ensures told { (device_state self.new).told ≡ (device_state self.old).told }
         ensures bench { bench_of self.new ≡ after_call DeviceCall.Read (bench_of self.old) }
         ensures keeps { (device_state self.new).keeps_model }
         ensures fault { IsErrOf result ReadFault.Failed
@@ -231,6 +238,10 @@ impl SectorDevice for MemDevice {
             ((device_state self.new).failures ≡ (device_state self.old).failures) }
         ensures carries { Carries (device_state self.old) (device_state self.new) }
         ensures time { Elapses (device_state self.old) (device_state self.new) }
+        ensures told { OnOk result ((device_state self.new).told
+            ≡ order.Write sector bytes.now ∷ (device_state self.old).told) }
+        ensures may_tell { OnErr result (MayTell (order.Write sector bytes.now)
+            (device_state self.old).told (device_state self.new).told) }
         ensures bench { bench_of self.new ≡ after_call DeviceCall.Write (bench_of self.old) }
         ensures keeps { (device_state self.new).keeps_model }
         ensures fault { IsErr result ↔ IsTrue (fails_at DeviceCall.Write (bench_of self.old)) }
@@ -241,6 +252,7 @@ impl SectorDevice for MemDevice {
     {
         let fails = self.bench.call(DeviceCall::Write);
         note(&self.rows, &mut self.past);
+        tell_write(sector, bytes, &mut self.told);
         let row = &mut self.rows[sector as usize];
         row.written = Some(*bytes);
         if fails {
@@ -261,6 +273,10 @@ impl SectorDevice for MemDevice {
         ensures untouched { IsUntouched (device_state self.old) (device_state self.new) }
         ensures carries { Carries (device_state self.old) (device_state self.new) }
         ensures time { Elapses (device_state self.old) (device_state self.new) }
+        ensures told { OnOk result ((device_state self.new).told
+            ≡ order.Sync ∷ (device_state self.old).told) }
+        ensures may_tell { OnErr result (MayTell order.Sync
+            (device_state self.old).told (device_state self.new).told) }
         ensures bench { bench_of self.new ≡ after_call DeviceCall.Sync (bench_of self.old) }
         ensures keeps { (device_state self.new).keeps_model }
         ensures fault { IsErr result ↔ IsTrue (fails_at DeviceCall.Sync (bench_of self.old)) }
@@ -271,6 +287,7 @@ impl SectorDevice for MemDevice {
             return Err(DeviceFault);
         }
         note(&self.rows, &mut self.past);
+        tell_sync(&mut self.told);
         settle(&mut self.rows);
         Ok(())
     }

@@ -13,7 +13,7 @@ use Rattle.lfs_store.specs.log.Held.{Held}
 use Rattle.lfs_store.specs.declared.store.Store.{Store}
 use Rattle.lfs_store.specs.log.verify.declared.totals.BlockTotals.{BlockTotals}
 use Rattle.lfs_store.specs.Accepting.{CannotMakeRoom, HasClean, MakesRoom, most_written}
-use Rattle.lfs_store.proofs.Acceptings.{room_stores}
+use Rattle.lfs_store.proofs.Acceptings.{room_stores, written_most}
 use Rattle.lfs_fs.specs.declared.error.FsError.{FsError}
 use Rattle.lfs_fs.specs.declared.error.FsError.TheVariants as error
 use Rattle.lfs_fs.specs.declared.fs.Fs.{Fs}
@@ -50,7 +50,7 @@ module _ {D : Type 0} (state : D → DeviceState) (lawful : (d : D) → IsLawful
           → Serves state old new Clean a
       ends_by a fine none steps =
           runs_on state old new Clean (lawful old.log.device) (lawful new.log.device) room.keeps.carries room.keeps.segments was room.keeps.later a fine
-          (write_behaves state old new Clean a refl rest.table none) room.keeps.running (λ p keeps at k m0 m is. (
+          (write_behaves state old new Clean a refl rest.table none (λ never e. absurd (cc)) (let few = room.keeps.number in let most = written_most D old.log old.saved in omega (arith, few, most))) room.keeps.running (λ p keeps at k m0 m is. (
           let log = map_dropped state old new keeps (lawful old.log.device) (lawful new.log.device) room.keeps.carries k m0 m p.state is in record {
             next = p.state;
             runs = runs_over state old new k m0 m p.state is m p.state (room_stores state old.log old.saved new.log new.saved room k m0 m keeps is.stores log) room.keeps.segments
@@ -92,7 +92,7 @@ module _ {D : Type 0} (state : D → DeviceState) (lawful : (d : D) → IsLawful
         → Serves state (seen old) (seen new) Clean (Refuse (refusal_of (error_of_log fault)))
     clean_fault log.Full full never kept failed halted = clean_full_serves (seen old) (seen new) was rest low (full refl) refl refl (never refl)
     clean_fault log.Device full never kept failed halted = clean_failed_serves (seen old) (seen new) was rest low (kept refl) (failed refl)
-    clean_fault log.Halted full never kept failed halted = halts_serves state lawful (seen old) (seen new) Clean was refl refl (most_written old.store.log old.store.saved) (halted refl)
+    clean_fault log.Halted full never kept failed halted = halts_serves state lawful (seen old) (seen new) Clean was refl refl (most_written old.store.log old.store.saved) (written_most D old.store.log old.store.saved) (halted refl)
 
     pub clean_fails : (fault : LogFault) (e : FsError) → e ≡ error_of_log fault → (fault ≡ log.Full → MakesRoom state old.store.log old.store.saved store.log store.saved)
         → (fault ≡ log.Full → CannotMakeRoom state old.store.log old.store.saved store.log)

@@ -41,7 +41,7 @@ use Rattle.lfs_fs.specs.Handles.{handles_of}
 use Rattle.lfs_fs.specs.Refusals.{refusal_of}
 use Rattle.lfs_fs.specs.Seen.{GivesNone, HasHeader, OnlyReads, seen}
 use Rattle.lfs_fs.specs.Volume.{Behaves, IsAt, IsIn, Mounted, Serves, ServesAt, changes_handles, segments_of}
-use Rattle.lfs_fs.proofs.Behaving.{IsOrdinary, not_halted, not_stuck, ok_refuses_none}
+use Rattle.lfs_fs.proofs.Behaving.{IsOrdinary, not_halted, not_memory, not_stuck, ok_refuses_none}
 use Rattle.lfs_fs.proofs.CallSteps.{never_worn}
 use Rattle.lfs_fs.proofs.ClosedFiles.{closed_map, gone_map, names_by}
 use Rattle.lfs_fs.proofs.ClosingSteps.{close_bad_handle, close_goes, close_stays, closed, fsync_bad_handle, fsync_done, named_stays, open_stays, rest}
@@ -103,6 +103,9 @@ module _ {D : Type 0} (state : D → DeviceState) (old new : Mounted D) (was : o
       goes_on = sync.answers.goes_on;
       failures = sync.answers.failures;
       number = sync.answers.number;
+      few = sync.answers.few;
+      quiet = sync.answers.quiet;
+      first_halted = sync.answers.first_halted;
     };
     leaves = sync.leaves;
     saves = sync.saves;
@@ -121,6 +124,8 @@ module _ {D : Type 0} (state : D → DeviceState) (old new : Mounted D) (was : o
       first_halted = sync.behaves.first_halted;
       quiet = sync.behaves.quiet;
       number = sync.behaves.number;
+      few = sync.behaves.few;
+      memory = sync.behaves.memory;
       stuck = sync.behaves.stuck;
     };
     model = λ p keeps at. fsync_at p at (sync.model p keeps at);
@@ -184,6 +189,8 @@ module _ {D : Type 0} (state : D → DeviceState) (lawful : (d : D) → IsLawful
     first_halted = λ e. absurd (ok_refuses_none a Halted ok e);
     quiet = λ e. alters.looks.untouched;
     number = λ e. alters.number;
+    few = (let same = alters.number in omega (arith, same));
+    memory = λ takes e. absurd (ok_refuses_none a NoMemory ok e);
     stuck = λ e. absurd (ok_refuses_none a Stuck ok e);
   }
 
@@ -195,6 +202,8 @@ module _ {D : Type 0} (state : D → DeviceState) (lawful : (d : D) → IsLawful
     first_halted = λ e. absurd (not_halted a ordinary e);
     quiet = λ e. alters.looks.untouched;
     number = λ e. alters.number;
+    few = (let same = alters.number in omega (arith, same));
+    memory = λ takes e. absurd (not_memory a ordinary e);
     stuck = λ e. absurd (not_stuck a ordinary e);
   }
 

@@ -23,7 +23,7 @@ use Rattle.lfs_fs.specs.Handles.{handles_of}
 use Rattle.lfs_fs.specs.Naming.{DraftsNone, MakesNew, MakesNone, Reaches, TakesEntry, kind_of_new, new_directory, new_file, new_link}
 use Rattle.lfs_fs.specs.Refusals.{refusal_of}
 use Rattle.lfs_fs.specs.Seen.{OnlyReads, answer_by, seen}
-use Rattle.lfs_fs.specs.Volume.{Behaves, IsIn, IsStill, Mounted, Serves, segments_of}
+use Rattle.lfs_fs.specs.Volume.{Behaves, CommitsFew, IsIn, IsStill, Mounted, Serves, segments_of}
 use Rattle.lfs_fs.proofs.CreateMade.{made_serves, turned_serves}
 use Rattle.lfs_fs.proofs.Behaving.{makes_behaves, write_behaves}
 use Rattle.lfs_fs.proofs.CreateRefusals.{handle_allowed, links_allowed}
@@ -65,7 +65,7 @@ module _ {D : Type 0} (state : D → DeviceState) (lawful : (d : D) → IsLawful
     abbrev pub after : Mounted D
     after = record { log = new.store.log; saved = new.store.saved; blocks = new.store.log.totals.data_blocks; others = new.store.log.totals.meta_blocks; table = table }
 
-    pub made_ends : (a : Answer) → is_ok a ≡ true → Behaves state v after of.call a
+    pub made_ends : (a : Answer) → is_ok a ≡ true → (CommitsFew v after → Behaves state v after of.call a)
         → ((s : State) (version : s.version ≡ 1) (walk : Parent s.tree path (At d)) → s.handles ≡ handles_of v.table → least s.tree ≡ n → ((of.makes s version walk).answer ≡ a) × ((of.makes s version walk).handles ≡ handles_of table))
         → Serves state v after of.call a
     made_ends a ok behaves ends =
@@ -117,7 +117,7 @@ module _ {D : Type 0} (state : D → DeviceState) (lawful : (d : D) → IsLawful
       (links_allowed state lawful v old path d piece reached running last some mid only head takes few) new makes new.handles.numbers.items in
       made_ends state lawful v old mid path d (mkdir_call (segments_of v) path d reached.bytes) piece reached running last some only head takes (λ e. few) n vacant
       (links_allowed state lawful v old path d piece reached running last some mid only head takes few) new makes new.handles.numbers.items Done refl
-      (write_behaves state v (seen new) (Mkdir path) Done refl was (λ e. cc))
+      (write_behaves state v (seen new) (Mkdir path) Done refl was (λ e. cc) (λ never e. absurd (cc)))
       (λ s version walk handles least_is. (refl, handles ∙ ap handles_of (sym was)))
 
   pub mkdir_ends : (r : Result (Unit {0}) FsError) → OnOk r (MakesNew state mid new d head n new_directory last.name.now) → IfErr r (MakesNone state mid new d head n new_directory last.name.now)
@@ -141,7 +141,7 @@ module _ {D : Type 0} (state : D → DeviceState) (lawful : (d : D) → IsLawful
       let was : new.handles.numbers.items ≡ v.table =
       table_was state lawful v old mid path d links piece reached running last some only head takes (λ e. absurd (cc)) n vacant (λ k m0 m s keeps is walk. refl) new makes new.handles.numbers.items in
       made_ends state lawful v old mid path d links piece reached running last some only head takes (λ e. absurd (cc)) n vacant (λ k m0 m s keeps is walk. refl) new makes new.handles.numbers.items Done refl
-      (write_behaves state v (seen new) (Symlink text path) Done refl was (λ e. cc))
+      (write_behaves state v (seen new) (Symlink text path) Done refl was (λ e. cc) (λ never e. absurd (cc)))
       (λ s version walk handles least_is. (refl, handles ∙ ap handles_of (sym was)))
 
   pub symlink_ends : (r : Result (Unit {0}) FsError) → OnOk r (MakesNew state mid new d head n (new_link text) last.name.now) → IfErr r (MakesNone state mid new d head n (new_link text) last.name.now)

@@ -70,7 +70,7 @@ module _ {D : Type 0} (state : D → DeviceState) where
       model = λ p keeps at. (
           let r = at.running was in
           let end = each p keeps at r.checkpoint r.saved r.present r.is in
-          goes_on_at state old new keeps lawful after carries r.checkpoint r.saved r.present p.state r.is call a p at refl was running later fine end.next end.runs end.steps end.moment end.saves);
+          goes_on_at state old new keeps lawful after carries r.checkpoint r.saved r.present p.state r.is call a p at refl was running later behaves fine end.next end.runs end.steps end.moment end.saves);
     }
 
     -- ---- a draft is staged

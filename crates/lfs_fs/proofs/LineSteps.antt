@@ -47,8 +47,11 @@ module _ {D : Type 0} (state : D → DeviceState) where
           halted = λ e. refl;
           halts = λ e. at.halted ∙ was;
           goes_on = λ e. refl;
+          first_halted = λ e. inl (at.halted ∙ was);
           failures = omega arith;
           number = omega arith;
+          few = omega arith;
+          quiet = λ e. refl;
         }))
         (not_acknowledged (call_of line) Halted)
 

@@ -1,5 +1,5 @@
 -- The ends of a sync, as steps of the model.
-use Rattle.std.proofs.Common.{◌≡◌, true, false, refl, sym, ap, subst}
+use Rattle.std.proofs.Common.{◌≡◌, true, false, refl, sym, ap, subst, arith}
 use Rattle.lfs_model.specs.Call.{Done, Refuse, Sync}
 use Rattle.lfs_model.specs.Device.{DeviceState, IsLawful}
 use Rattle.lfs_files.specs.declared.fault.LogFault.{LogFault}
@@ -38,7 +38,7 @@ module _ {D : Type 0} (state : D → DeviceState) (lawful : (d : D) → IsLawful
         → Serves state (seen old) (seen new) Sync (Refuse (refusal_of (error_of_log fault)))
     sync_fault log.Full full unsaved halted device =
         subst (λ (v : Mounted D). Serves state (seen old) v Sync (Refuse (refusal_of (error_of_log log.Full)))) (sym (same_seen (full refl).0)) (full_serves state (seen old) (lawful old.store.log.device) was (unsaved refl) (full refl).1)
-    sync_fault log.Halted full unsaved halted device = halts_serves state lawful (seen old) (seen new) Sync was refl refl 0 (halts_at_once state old.store.log store.log (halted refl))
+    sync_fault log.Halted full unsaved halted device = halts_serves state lawful (seen old) (seen new) Sync was refl refl 0 (omega arith) (halts_at_once state old.store.log store.log (halted refl))
     sync_fault log.Device full unsaved halted device = absurd (device refl)
 
     pub sync_fails : (fault : LogFault) (e : FsError) → e ≡ error_of_log fault → (fault ≡ log.Full → (store.log ≡ old.store.log) × IsFull old.store.log) → (fault ≡ log.Full → old.store.saved ≡ false) → (fault ≡ log.Halted → Halts state old.store.log store.log) → (fault ≡ log.Device → ⊥)

@@ -1,6 +1,7 @@
 -- Lines of a script on a volume, one after the other: a run of the model, and what a stop in it leaves.
-use Rattle.std.proofs.Common.{◌≡◌, ◌⊎◌, ◌<◌, ℕ, zero, suc, List, [], ◌∷◌, ◌++◌, length, map, slice_get, slice_index_or, refl, sym, ◌∙◌, ap, subst, inl, inr, ⊎_elim, arith}
+use Rattle.std.proofs.Common.{◌≡◌, ◌⊎◌, ◌<◌, ℕ, zero, suc, List, [], ◌∷◌, ◌++◌, length, length-append, map, slice_get, slice_index_or, refl, sym, ◌∙◌, ap, subst, inl, inr, ⊎_elim, arith}
 use Rattle.std.specs.List.{Contains}
+use Rattle.std.proofs.lemmas.List.{length-map}
 use Rattle.std.proofs.lemmas.List.Elements.{Contains-append_left, Contains-append_right}
 use Rattle.lfs_model.specs.Call.{Answer, Call, Refuse}
 use Rattle.lfs_model.specs.Content.{Content}
@@ -8,6 +9,7 @@ use Rattle.lfs_model.specs.Device.{DeviceState, IsLawful, LeavesOnly}
 use Rattle.lfs_model.specs.Refusal.{Stuck}
 use Rattle.lfs_model.specs.Run.{LineAnswers, LineRun, Point, final}
 use Rattle.lfs_model.specs.Script.{Line, call_of}
+use Rattle.lfs_model.specs.Since.{AreKeptSince}
 use Rattle.lfs_model.specs.Tree.{State, drop_nameless}
 use Rattle.lfs_model.specs.TreeOf.{Left, LeavesOne, LeavesStates, Stands}
 use Rattle.lfs_model.specs.Volume.{LeavesPrefix}
@@ -15,9 +17,10 @@ use Rattle.lfs_model.proofs.CrashRuns.{IsRunSoFar, leaves_first, leaves_more}
 use Rattle.lfs_model.proofs.Lefts.{left_only}
 use Rattle.lfs_model.proofs.Moments.{carries_none, carries_then, joined, weaker}
 use Rattle.lfs_model.proofs.Pendings.{at_final}
+use Rattle.lfs_model.proofs.SinceRuns.{kept_more, kept_none, kept_told}
 use Rattle.lfs_model.proofs.Volume.{single_state}
 use Rattle.lfs_model.specs.Use.{AreUnstuck, StandsForSome, left_states}
-use Rattle.lfs_fs.specs.Scripts.{RanAt, RunsLines, ServesLine}
+use Rattle.lfs_fs.specs.Scripts.{RanAt, RunsLines, ServesLine, ServesLines, TellsLines, ToldAt}
 use Rattle.lfs_fs.specs.Volume.{IsAt, Mounted, Serves, segments_of}
 use Rattle.lfs_fs.proofs.LineSteps.{StepsLine, left_none, line_carries, line_running, line_segments, line_steps}
 
@@ -146,11 +149,20 @@ module _ {D : Type 0} (state : D → DeviceState) (lawful : (d : D) → IsLawful
   unstuck_more [] answer those one = (one, tt)
   unstuck_more (first ∷ answers) answer those one = (those.0, unstuck_more answers answer those.1 one)
 
+  -- a line more, on the volume as the others left it
+  serves_more : (old mid new : Mounted D) (lines : List Line) (answers : List Answer) (line : Line) (answer : Answer) → ServesLines state old mid lines answers
+      → ServesLine state mid new line answer → ServesLines state old new (lines ++ line ∷ []) (answers ++ answer ∷ [])
+  serves_more old mid new [] [] line answer same more = (new, subst (λ (v : Mounted D). ServesLine state v new line answer) same more, refl)
+  serves_more old mid new (l ∷ lines) (a ∷ answers) line answer those more = (those.0, those.1, serves_more those.0 mid new lines answers line answer those.2 more)
+  serves_more old mid new [] (a ∷ answers) line answer those more = absurd those
+  serves_more old mid new (l ∷ lines) [] line answer those more = absurd those
+
   -- no line
   pub ran_none : (old : Mounted D) → RunsLines state old old [] []
   ran_none old = record {
     carries = carries_none (state old.log.device);
     segments = λ e. refl;
+    through = refl;
     unstuck = tt;
     model = λ p keeps at. none_at old p at;
   }
@@ -176,8 +188,52 @@ module _ {D : Type 0} (state : D → DeviceState) (lawful : (d : D) → IsLawful
         let carries = line_carries state lawful mid new line answer serves in record {
           carries = carries_then (state old.log.device) (state mid.log.device) (state new.log.device) runs.carries carries;
           segments = λ now. line_segments state lawful mid new line answer serves now ∙ runs.segments (line_running state lawful mid new line answer serves now);
+          through = serves_more old mid new lines answers line answer runs.through serves;
           unstuck = unstuck_more answers answer runs.unstuck (line_unstuck mid new line answer serves);
           model = λ p keeps at. (
               let ran = runs.model p (carries.kept_before keeps) at in
               more_at p ran (line_steps state lawful mid new line answer (segments_of old) (final p ran.points) runs.segments keeps ran.at serves));
         }
+
+  -- ---- their replies go out
+
+  pub told_none : (old : Mounted D) → TellsLines state old old [] [] []
+  told_none old = record {
+    runs = ran_none old;
+    one_each = refl;
+    told = λ p keeps at. record {
+      ran = none_at old p at;
+      kept = λ one. kept_none (state old.log.device) (p ∷ (none_at old p at).points) [] [];
+    };
+  }
+
+  module _ (old mid new : Mounted D) (lines : List Line) (answers : List Answer) (clocks : List ℕ) (line : Line) (answer : Answer) where
+    abbrev d' : DeviceState
+    d' = state new.log.device
+
+    -- one line more, and its reply
+    told_at : length clocks ≡ length lines → (p : Point) (told : ToldAt state old mid lines answers clocks p) → StepsLine state (segments_of old) mid new line answer (final p told.ran.points)
+        → ToldAt state old new (lines ++ line ∷ []) (answers ++ answer ∷ []) (clocks ++ d'.moment ∷ []) p
+    unfolding more_at
+    told_at long p told step =
+        let so = so_far (segments_of old) p lines answers told.ran.points told.ran.run in
+        let few : length (map call_of lines) ≡ length lines = length-map lines call_of in
+        let pending : (LeavesOne (state old.log.device) (drop_nameless p.state) → LeavesPrefix d' (p ∷ (told.ran.points ++ step.next ∷ [])) (map call_of lines ++ call_of line ∷ []) (answers ++ answer ∷ [])) =
+        λ one. leaves_more (state mid.log.device) d' (p ∷ told.ran.points) (map call_of lines) answers (final p told.ran.points) step.next (call_of line) answer so (lawful new.log.device) (told.ran.pending one) step.leaves step.saves in record {
+          ran = more_at old mid new lines answers line answer p told.ran step;
+          kept = λ one. subst (λ (calls : List Call). AreKeptSince d' (p ∷ (told.ran.points ++ step.next ∷ [])) calls (answers ++ answer ∷ []) (clocks ++ d'.moment ∷ [])) (sym (calls_more lines line))
+              (kept_told d' (p ∷ (told.ran.points ++ step.next ∷ [])) (map call_of lines ++ call_of line ∷ []) (answers ++ answer ∷ []) clocks (lawful new.log.device)
+              (omega (arith, length-append answers (answer ∷ []), length-append (map call_of lines) (call_of line ∷ []), so.answers_length))
+              (omega (arith, length-append (map call_of lines) (call_of line ∷ []), few, long))
+              (pending one)
+              (kept_more (state mid.log.device) d' (p ∷ told.ran.points) (map call_of lines) answers (final p told.ran.points) step.next (call_of line) answer clocks so (lawful mid.log.device) (omega (arith, few, long)) (told.kept one) step.leaves));
+        }
+
+    pub tells_more : TellsLines state old mid lines answers clocks → ServesLine state mid new line answer → TellsLines state old new (lines ++ line ∷ []) (answers ++ answer ∷ []) (clocks ++ d'.moment ∷ [])
+    tells_more tells serves = record {
+      runs = ran_more old mid new lines answers line answer tells.runs serves;
+      one_each = (let long = tells.one_each in omega (arith, length-append clocks (d'.moment ∷ []), length-append lines (line ∷ []), long));
+      told = λ p keeps at. (
+          let told = tells.told p ((line_carries state lawful mid new line answer serves).kept_before keeps) at in
+          told_at tells.one_each p told (line_steps state lawful mid new line answer (segments_of old) (final p told.ran.points) tells.runs.segments keeps told.ran.at serves));
+    }

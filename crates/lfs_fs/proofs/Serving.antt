@@ -1,5 +1,5 @@
 -- The ends of a call: what each of them makes of a volume.
-use Rattle.std.proofs.Common.{◌≡◌, ◌⊎◌, ◌≤◌, ◌<◌, ◌+◌, ◌/◌, ℕ, Bool, true, false, ◌&&◌, List, [], ◌∷◌, length, refl, sym, ◌∙◌, subst, ap, inl, inr, arith}
+use Rattle.std.proofs.Common.{◌≡◌, ◌⊎◌, ◌≤◌, ◌<◌, ◌+◌, ◌/◌, ℕ, Bool, true, false, ◌&&◌, List, [], ◌∷◌, length, refl, sym, ◌∙◌, subst, ap, inl, inr, ⊎_elim, arith}
 use Rattle.std.specs.List.{Contains}
 use Rattle.lfs_model.specs.Call.{Call, Answer, Refuse, commits}
 use Rattle.lfs_model.specs.Checkpoint.{CheckpointValue, layout_of}
@@ -21,7 +21,7 @@ use Rattle.lfs_store.specs.segments.Table.{clean_in}
 use Rattle.lfs_store.specs.Accepting.{Stores}
 use Rattle.lfs_store.proofs.LogReads.{stores_still}
 use Rattle.lfs_fs.specs.Handles.{handles_of}
-use Rattle.lfs_fs.specs.Volume.{IsStill, Mounted, segments_of, IsIn, Runs, IsAt, LeavesSome, ServesAt, Serves}
+use Rattle.lfs_fs.specs.Volume.{Behaves, IsStill, Mounted, segments_of, IsIn, Runs, IsAt, LeavesSome, ServesAt, Serves}
 use Rattle.lfs_fs.proofs.Behaving.{IsOrdinary, halted_behaves, not_halted, still_behaves}
 
 not_acknowledged : (call : Call) (r : Refusal) → acknowledges call (Refuse r) ≡ true → ⊥
@@ -63,10 +63,8 @@ module _ {D : Type 0} (state : D → DeviceState) where
       was c left = let is = some c left in (is.0, is.1, inl (record { content = c; may_leave = left; stands = is.1 }))
 
   -- ---- calls that leave the state
-  module _ (old new : Mounted D) (call : Call) (a : Answer) (lawful : IsLawful (state old.log.device)) (still : IsStill state old new) (was : old.log.halted ≡ false) (ordinary : IsOrdinary a) where
-    fine : a ≡ Refuse Halted → ⊥
-    fine = not_halted a ordinary
-
+  module _ (old new : Mounted D) (call : Call) (a : Answer) (lawful : IsLawful (state old.log.device)) (still : IsStill state old new) (was : old.log.halted ≡ false) (fine : a ≡ Refuse Halted → ⊥)
+      (behaves : Behaves state old new call a) where
     now : new.log.halted ≡ false
     now = still.reads.halted ∙ was
 
@@ -89,23 +87,31 @@ module _ {D : Type 0} (state : D → DeviceState) where
         halted = λ e. absurd (let h = is.halted in cc);
         halts = λ e. absurd (fine e);
         goes_on = λ e. absurd (let h = now in cc);
+        first_halted = λ e. absurd (fine e);
         failures = (let f = is.failures in let more = still.reads.looks.carries.failures in omega (arith, f, more));
         number = (let n = is.number in let same = still.reads.number in omega (arith, n, same));
+        few = (let n = is.number in let same = still.reads.number in omega (arith, n, same));
+        quiet = λ e. still.reads.number ∙ sym is.number;
       };
       leaves = left_still (state old.log.device) (state new.log.device) (drop_nameless p.state ∷ drop_nameless p.state ∷ []) lawful is.leaves still.reads.looks;
       saves = λ e. absurd (none e);
     }
 
-    pub served_still : ((p : Point) → (state new.log.device).keeps_model → IsAt state old p → (k : CheckpointValue) (m0 m : LogMap) → IsIn state old k m0 m p.state → StepsOr (segments_of old) call p a (point_of new p.state))
+    pub served_by : ((p : Point) → (state new.log.device).keeps_model → IsAt state old p → (k : CheckpointValue) (m0 m : LogMap) → IsIn state old k m0 m p.state → StepsOr (segments_of old) call p a (point_of new p.state))
         → (acknowledges call a ≡ true → ⊥) → Serves state old new call a
-    served_still steps none = record {
+    served_by steps none = record {
       carries = still.reads.looks.carries;
       segments = λ e. segments_same;
       orderly = λ e. absurd (cc);
       halts = λ e. absurd (fine e);
-      behaves = still_behaves state old new call a still ordinary;
+      behaves = behaves;
       model = λ p keeps is. (let r = is.running was in still_at p keeps is (steps p keeps is r.checkpoint r.saved r.present r.is) none);
     }
+
+  pub served_still : (old new : Mounted D) (call : Call) (a : Answer) → IsLawful (state old.log.device) → (still : IsStill state old new) → old.log.halted ≡ false → IsOrdinary a
+      → ((p : Point) → (state new.log.device).keeps_model → IsAt state old p → (k : CheckpointValue) (m0 m : LogMap) → IsIn state old k m0 m p.state → StepsOr (segments_of old) call p a (point_of new p.state))
+      → (acknowledges call a ≡ true → ⊥) → Serves state old new call a
+  served_still old new call a lawful still was ordinary = served_by old new call a lawful still was (not_halted a ordinary) (still_behaves state old new call a still ordinary)
 
   -- ---- a volume that was halted
   pub served_halted : (v : Mounted D) (call : Call) → IsLawful (state v.log.device) → v.log.halted ≡ true → Serves state v v call (Refuse Halted)
@@ -123,8 +129,11 @@ module _ {D : Type 0} (state : D → DeviceState) where
         halted = λ e. refl;
         halts = λ e. is.halted ∙ was;
         goes_on = λ e. refl;
+        first_halted = λ e. inl (is.halted ∙ was);
         failures = omega arith;
         number = omega arith;
+        few = omega arith;
+        quiet = λ e. refl;
       };
       leaves = left_none (state v.log.device) (drop_nameless p.state ∷ drop_nameless p.state ∷ []) lawful is.leaves;
       saves = λ e. absurd (not_acknowledged call Halted e);
@@ -160,7 +169,7 @@ module _ {D : Type 0} (state : D → DeviceState) where
 
     -- the volume runs on, in this state
     module _ (call : Call) (a : Answer) (p : Point) (at : IsAt state old p) (here : p.state ≡ s) (was : old.log.halted ≡ false) (running : new.log.halted ≡ false) (later : old.log.number ≤ new.log.number)
-        (fine : a ≡ Refuse Halted → ⊥) (next : State) (runs : Runs state new next)
+        (behaves : Behaves state old new call a) (fine : a ≡ Refuse Halted → ⊥) (next : State) (runs : Runs state new next)
         (steps : StepsOr N call p a (point_of new next)) (moment : LeavesOnly (state old.log.device) (state new.log.device) (StandsForOn (layout_of k) m0 (dropped m)))
         (saves : acknowledges call a ≡ true → LeavesOne (state new.log.device) (drop_nameless next)) where
       states : LeavesStates (state old.log.device) (state new.log.device) (drop_nameless p.state ∷ drop_nameless next ∷ [])
@@ -175,8 +184,11 @@ module _ {D : Type 0} (state : D → DeviceState) where
           halted = λ e. absurd (let h = at.halted in cc);
           halts = λ e. absurd (fine e);
           goes_on = λ e. absurd (let h = running in cc);
+          first_halted = λ e. absurd (fine e);
           failures = (let f = at.failures in let more = carries.failures in omega (arith, f, more));
           number = (let n = at.number in omega (arith, n, later));
+          few = (let n = at.number in let few = behaves.few in omega (arith, n, few));
+          quiet = λ e. behaves.number e ∙ sym at.number;
         };
         leaves = states;
         saves = saves;
@@ -184,6 +196,7 @@ module _ {D : Type 0} (state : D → DeviceState) where
 
     -- a commit failed
     module _ (call : Call) (p : Point) (at : IsAt state old p) (here : p.state ≡ s) (was : old.log.halted ≡ false) (halted : new.log.halted ≡ true) (later : old.log.number ≤ new.log.number)
+        (behaves : Behaves state old new call (Refuse Halted))
         (rose : (state old.log.device).failures < (state new.log.device).failures) (moment : LeavesOnly (state old.log.device) (state new.log.device) (StandsForOn (layout_of k) m0 (dropped m))) where
       states_halted : LeavesStates (state old.log.device) (state new.log.device) (drop_nameless p.state ∷ drop_nameless p.state ∷ [])
       states_halted = subst (λ (x : State). LeavesStates (state old.log.device) (state new.log.device) (drop_nameless x ∷ drop_nameless x ∷ [])) (sym here) (leaves_by (drop_nameless s ∷ []) moment)
@@ -197,8 +210,11 @@ module _ {D : Type 0} (state : D → DeviceState) where
           halted = λ e. refl;
           halts = λ e. halted;
           goes_on = λ e. refl;
+          first_halted = λ e. ⊎_elim (λ before. inl (at.halted ∙ before)) (λ may. inr may) (behaves.first_halted e);
           failures = (let f = at.failures in omega (arith, f, rose));
           number = (let n = at.number in omega (arith, n, later));
+          few = (let n = at.number in let few = behaves.few in omega (arith, n, few));
+          quiet = λ e. behaves.number e ∙ sym at.number;
         };
         leaves = states_halted;
         saves = λ e. absurd (not_acknowledged call Halted e);

@@ -6,6 +6,7 @@ use Rattle.lfs_model.specs.Content.{Content, newest}
 use Rattle.lfs_model.specs.Device.{AllLeft, DeviceState, Carries, IsLawful, IsUntouched, LeavesOnly, Only}
 use Rattle.lfs_model.specs.Run.{Point, final}
 use Rattle.lfs_model.specs.Script.{Line}
+use Rattle.lfs_model.specs.Since.{UsesTold}
 use Rattle.lfs_model.specs.Tree.{State, drop_nameless}
 use Rattle.lfs_model.specs.TreeOf.{LeavesOne, Stands, TreeOf}
 use Rattle.lfs_model.specs.Use.{Continues, IsNumbered, StandsForSome, UsesVolume}
@@ -16,7 +17,7 @@ use Rattle.lfs_model.proofs.Volume.{single_state}
 use Rattle.lfs_model.proofs.Walks.{Some-injective}
 use Rattle.lfs_fs.specs.declared.fs.Fs.{Fs}
 use Rattle.lfs_fs.specs.Mounting.{FindsState, MountsAt}
-use Rattle.lfs_fs.specs.Scripts.{RanAt, RunsLines}
+use Rattle.lfs_fs.specs.Scripts.{RanAt, RunsLines, TellsLines}
 use Rattle.lfs_fs.specs.Seen.{seen}
 use Rattle.lfs_fs.specs.Volume.{IsAt, Mounted, Runs, segments_of}
 
@@ -44,7 +45,9 @@ module _ {D : Type 0} (state : D → DeviceState) (d : D) (lawful : IsLawful (st
     (durable : (state v.store.log.device).keeps_model → Only (state d).content (state v.store.log.device))
     (untouched : IsUntouched (state d) (state v.store.log.device))
     (carries : Carries (state d) (state v.store.log.device)) (moment : LeavesOnly (state d) (state v.store.log.device) (state d).may_leave)
-    (runs : RunsLines state (seen v) new lines answers) (keeps : (state new.log.device).keeps_model) where
+    (no_failure : (state v.store.log.device).failures ≡ (state d).failures)
+    (runs : RunsLines state (seen v) new lines answers) (keeps : (state new.log.device).keeps_model)
+    (rans : (p : Point) → IsAt state (seen v) p → RanAt state (seen v) new lines answers p) where
   kept : (state v.store.log.device).keeps_model
   kept = runs.carries.kept_before keeps
 
@@ -64,8 +67,8 @@ module _ {D : Type 0} (state : D → DeviceState) (d : D) (lawful : IsLawful (st
       let same : drop_nameless at.point.state ≡ at.point.state = nothing_dropped (state d).content at.point.state stands in
       subst (Stands c) (sym same) (subst (λ (x : Content). Stands x at.point.state) (sym (durable kept c left)) stands)
 
-  ran : RanAt state (seen v) new lines answers at.point
-  ran = runs.model at.point keeps at.at
+  abbrev ran : RanAt state (seen v) new lines answers at.point
+  ran = rans at.point at.at
 
   running : Runs state (seen v) at.point.state
   running = at.at.running at.running
@@ -94,8 +97,8 @@ module _ {D : Type 0} (state : D → DeviceState) (d : D) (lawful : IsLawful (st
       moments = moments_by (λ c. StandsForPrefix c before calls given) was;
     }
 
-  pub uses_volume : UsesVolume (state d) (state new.log.device) lines answers
-  uses_volume = record {
+  uses_by : UsesVolume (state d) (state new.log.device) lines answers
+  uses_by = record {
     first = at.point;
     points = ran.points;
     segments = segments_of (seen v);
@@ -105,10 +108,28 @@ module _ {D : Type 0} (state : D → DeviceState) (d : D) (lawful : IsLawful (st
     running = at.at.halted ∙ at.running;
     run = ran.run;
     unstuck = runs.unstuck;
-    failures_before = subst (λ (n : ℕ). (state d).failures ≤ n) (sym at.at.failures) carries.failures;
+    failures_before = at.at.failures ∙ no_failure;
     failures_after = ran.at.failures;
     number_after = numbered state new (final at.point ran.points) ran.at;
     moments = moments_by (state d).may_leave (λ c left. left);
     pending = ran.pending alone;
     continues = goes_on_from;
   }
+
+module _ {D : Type 0} (state : D → DeviceState) (d : D) (lawful : IsLawful (state d)) (v : Fs D) (new : Mounted D) (lines : List Line) (answers : List Answer)
+    (finds : FindsState state d v)
+    (durable : (state v.store.log.device).keeps_model → Only (state d).content (state v.store.log.device))
+    (untouched : IsUntouched (state d) (state v.store.log.device))
+    (carries : Carries (state d) (state v.store.log.device)) (moment : LeavesOnly (state d) (state v.store.log.device) (state d).may_leave)
+    (no_failure : (state v.store.log.device).failures ≡ (state d).failures) where
+  pub uses_volume : RunsLines state (seen v) new lines answers → (state new.log.device).keeps_model → UsesVolume (state d) (state new.log.device) lines answers
+  uses_volume runs keeps = uses_by state d lawful v new lines answers finds durable untouched carries moment no_failure runs keeps (λ p is. runs.model p keeps is)
+
+  pub uses_told : (clocks : List ℕ) → TellsLines state (seen v) new lines answers clocks → (state new.log.device).keeps_model → UsesTold (state d) (state new.log.device) lines answers clocks
+  unfolding uses_by
+  uses_told clocks tells keeps =
+      let rans : ((p : Point) → IsAt state (seen v) p → RanAt state (seen v) new lines answers p) = λ p is. (tells.told p keeps is).ran in
+      let mounted = at state d lawful v new lines answers finds durable untouched carries moment no_failure tells.runs keeps rans in record {
+        uses = uses_by state d lawful v new lines answers finds durable untouched carries moment no_failure tells.runs keeps rans;
+        since = (tells.told mounted.point keeps mounted.at).kept (alone state d lawful v new lines answers finds durable untouched carries moment no_failure tells.runs keeps rans);
+      }

@@ -35,6 +35,6 @@ module _ {D : Type 0} (state : D → DeviceState) (v : Mounted D) (lawful : IsLa
     segments = λ e. refl;
     orderly = λ e. absurd (cc);
     halts = λ e. absurd (cc);
-    behaves = write_behaves state v v Sync (Refuse Device) refl refl (λ e. cc);
+    behaves = write_behaves state v v Sync (Refuse Device) refl refl (λ e. cc) (λ takes e. absurd (cc)) (omega arith);
     model = λ p keeps at. absurd (never_full p.state (at.running was));
   }

@@ -7,11 +7,11 @@ use Rattle.lfs_model.specs.Step.{Step}
 use Rattle.lfs_store.specs.log.Held.{IsReadFault}
 use Rattle.lfs_model.specs.Totals.{TotalsOfTree}
 use Rattle.lfs_fs.specs.Volume.{IsStill, Mounted, Serves, segments_of}
-use Rattle.lfs_fs.proofs.Behaving.{IsOrdinary}
+use Rattle.lfs_fs.proofs.Behaving.{IsOrdinary, memory_behaves}
 use Rattle.lfs_fs.proofs.CallSteps.{never_worn, refused_not_worn, space_step}
 use Rattle.lfs_fs.proofs.Ending.{InEach, not_acknowledged}
 use Rattle.lfs_fs.proofs.Holding.{headers_of_volume, map_of_volume}
-use Rattle.lfs_fs.proofs.Serving.{served_still}
+use Rattle.lfs_fs.proofs.Serving.{served_by, served_still}
 
 -- ---- faults
 
@@ -25,7 +25,8 @@ module _ {D : Type 0} (state : D → DeviceState) (old new : Mounted D) (call : 
 
   -- memory was refused
   pub memory_serves : takes_no_memory call ≡ false → Serves state old new call (Refuse NoMemory)
-  memory_serves takes = served_still state old new call (Refuse NoMemory) lawful still was tt (λ p keeps here k m0 m is. inr (NoMemory, refl, takes, refl)) (not_acknowledged call NoMemory)
+  memory_serves takes = served_by state old new call (Refuse NoMemory) lawful still was (λ e. absurd (cc)) (memory_behaves state old new call still takes)
+      (λ p keeps here k m0 m is. inr (NoMemory, refl, takes, refl)) (not_acknowledged call NoMemory)
 
   -- a refusal of the model's, where nothing has changed
   pub refused_serves : (r : Refusal) → IsOrdinary (Refuse r) → cleans call ≡ false → InEach state old (λ m s. Step (segments_of old) s call (Refuse r) s) → Serves state old new call (Refuse r)

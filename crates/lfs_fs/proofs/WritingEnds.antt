@@ -3,7 +3,7 @@ use Rattle.std.proofs.Common.{◌≡◌, ◌<◌, ◌≤◌, ◌+◌, ◌/◌, �
 use Rattle.std.specs.Prelude.{IsTrue, Result, OnOk, IfErr}
 use Rattle.std.specs.Ordering.{nat_cmp}
 use Rattle.std.specs.FinMap.{find}
-use Rattle.lfs_model.specs.Call.{Call, Answer, Refuse, changes, commits, is_ok, takes_no_memory, cleans}
+use Rattle.lfs_model.specs.Call.{Call, Answer, Refuse, changes, commits, is_ok, may_write, takes_no_memory, cleans}
 use Rattle.lfs_model.specs.Checkpoint.{CheckpointValue, layout_of}
 use Rattle.lfs_model.specs.Crash.{StandsForOn}
 use Rattle.lfs_model.specs.Device.{AllLeft, Carries, DeviceState, IsLawful, LeavesOnly}
@@ -36,12 +36,13 @@ use Rattle.lfs_fs.specs.Faults.{error_of_store}
 use Rattle.lfs_fs.specs.Handles.{handles_of}
 use Rattle.lfs_fs.specs.Refusals.{refusal_of}
 use Rattle.lfs_fs.specs.Seen.{LacksHeader, answer_by, seen, OnlyReads}
-use Rattle.lfs_fs.specs.Volume.{Behaves, IsIn, IsStill, Mounted, Serves, may_write, segments_of}
-use Rattle.lfs_fs.proofs.Behaving.{IsOrdinary, change_writes, not_halted, ok_refuses_none, still_behaves, write_behaves}
+use Rattle.lfs_fs.specs.Volume.{Behaves, CommitsFew, IsIn, IsStill, Mounted, Serves, segments_of}
+use Rattle.lfs_fs.proofs.Behaving.{IsOrdinary, change_writes, not_both, not_halted, ok_refuses_none, still_behaves, write_behaves}
 use Rattle.lfs_fs.proofs.Declined.{accept_fault_serves, no_room_serves}
 use Rattle.lfs_fs.proofs.Ending.{InEach, IsRest, not_acknowledged, accepts_by}
 use Rattle.lfs_fs.proofs.Files.{IsFileOf, opened_file, IsMapOf}
 use Rattle.lfs_fs.proofs.RoomFound.{has_room}
+use Rattle.lfs_store.proofs.Acceptings.{written_most}
 use Rattle.lfs_fs.proofs.Serving.{halts_at, map_dropped, served_still, still_in, point_of}
 use Rattle.lfs_fs.proofs.Told.{fault_serves, memory_serves}
 use Rattle.lfs_model.specs.Totals.{IsCounted}
@@ -174,20 +175,23 @@ module _ {D : Type 0} (state : D → DeviceState) (lawful : (d : D) → IsLawful
     }
 
     -- a commit failed, or a pass
-    pub halts_serves : IsTrue (may_write call) → new.table ≡ old.table → (most : ℕ) → HaltsLater state old.log new.log most → Serves state old new call (Refuse refusal.Halted)
-    halts_serves may table most halts = record {
+    pub halts_serves : IsTrue (may_write call) → new.table ≡ old.table → (most : ℕ) → most ≤ segments_of old / 8 + 1 → HaltsLater state old.log new.log most → Serves state old new call (Refuse refusal.Halted)
+    halts_serves may table most low halts = record {
       carries = halts.carries;
       segments = λ e. absurd (let is = halts.halted in cc);
       orderly = λ e. absurd (let is = was in cc);
       halts = λ e. halts.halted;
-      behaves = write_behaves state old new call (Refuse refusal.Halted) may table (λ e. absurd (cc));
+      behaves = behaves;
       model = λ p keeps at. (
           let r = at.running was in
           halts_at state old new keeps (lawful old.log.device) (lawful new.log.device) halts.carries r.checkpoint r.saved r.present p.state r.is call p at refl was halts.halted
-          halts.later
+          halts.later behaves
           (halts.cause r.checkpoint r.saved r.present keeps r.is.stores.holds (map_dropped state old new keeps (lawful old.log.device) (lawful new.log.device) halts.carries r.checkpoint r.saved r.present p.state r.is))
           (halts.moment r.checkpoint r.saved r.present keeps r.is.stores.holds (map_dropped state old new keeps (lawful old.log.device) (lawful new.log.device) halts.carries r.checkpoint r.saved r.present p.state r.is)));
     }
+      where
+        behaves : Behaves state old new call (Refuse refusal.Halted)
+        behaves = write_behaves state old new call (Refuse refusal.Halted) may table (λ e. absurd (cc)) (λ takes e. absurd (cc)) (let few = halts.number in omega (arith, few, low))
 
     -- ---- calls of an open file
     module _ (h n : ℕ) (opens : find nat_cmp h (handles_of old.table) ≡ Some n) where
@@ -311,9 +315,14 @@ module _ {D : Type 0} (state : D → DeviceState) (lawful : (d : D) → IsLawful
           (not_halted x ordinary) (still_behaves state v (seen new) call x (still_new same) ordinary)
           (λ keeps. each (subst (λ (x : Mounted D). (state x.log.device).keeps_model) same keeps))
 
+      few_written : most_written ready.store.log ready.store.saved ≤ segments_of v / 8 + 1
+      few_written =
+          subst (λ (n : ℕ). most_written ready.store.log ready.store.saved ≤ n / 8 + 1) (ap (λ (x : LogMemory). length x.usage.segments) still.reads.memory)
+          (written_most D ready.store.log ready.store.saved)
+
       declined_by : (x : Answer) → (x ≡ Refuse refusal.Halted → ⊥) → (x ≡ Refuse refusal.Stuck → ⊥) → (done : IsDeclined state ready new) → ((state new.store.log.device).keeps_model → InState x) → Serves state v (seen new) call x
       declined_by x other none done each = when_in v (seen new) call was x (declines_old done).carries (declines_old done).segments other
-          (write_behaves state v (seen new) call x (change_writes call change) table_same none) (λ keeps. each keeps (done.declines.carries.kept_before keeps))
+          (write_behaves state v (seen new) call x (change_writes call change) table_same none (λ never e. absurd (not_both (takes_no_memory call) never takes)) (declines_old done).saves.few) (λ keeps. each keeps (done.declines.carries.kept_before keeps))
 
       pub by_fault : (e : FsError) → TurnsDown state ready new e → Serves state v (seen new) call (Refuse (refusal_of e))
       by_fault error.NoSpace down = same_by (Refuse refusal.NoSpace) tt down.0 (lacks_ends (still_new down.0) down.1)
@@ -329,7 +338,7 @@ module _ {D : Type 0} (state : D → DeviceState) (lawful : (d : D) → IsLawful
           absurd (cannot k m0 m after (has_room state (seen ready) (lawful ready.store.log.device) refl refl down.0.young k m0 m s (still_in state v (seen ready) k m0 m s still is))))
           down.1)
       by_fault error.Halted down =
-          halts_serves v (seen new) call was (change_writes call change) table_same _ (halts_after v.log ready.store.log still.reads new.store.log (most_written ready.store.log ready.store.saved) down)
+          halts_serves v (seen new) call was (change_writes call change) table_same _ few_written (halts_after v.log ready.store.log still.reads new.store.log (most_written ready.store.log ready.store.saved) down)
       by_fault fault down = absurd down
 
     -- ---- a draft that is one step of the model
@@ -376,7 +385,7 @@ module _ {D : Type 0} (state : D → DeviceState) (lawful : (d : D) → IsLawful
     -- it is staged
     pub accepted_serves : commits call ≡ false → (drafts : AreDrafts) (x : Answer)
         → is_ok x ≡ true → (table : List ℕ) → EndIn drafts x table
-        → Behaves state v (with_table table) call x → StagesDraft state ready new
+        → (CommitsFew v (with_table table) → Behaves state v (with_table table) call x) → StagesDraft state ready new
         → Serves state v (with_table table) call x
     accepted_serves free drafts x ok table ends behaves stages =
         let accepts = accepts_old stages in
@@ -385,7 +394,7 @@ module _ {D : Type 0} (state : D → DeviceState) (lawful : (d : D) → IsLawful
         (lawful new.store.log.device) accepts.carries accepts.segments was accepts.saves.number c
         accepts low x (ok_refuses_none x refusal.Halted ok)
         (λ e. let no : acknowledges call x ≡ false = ap (λ (b : Bool). b && is_ok x) free in cc)
-        behaves
+        (behaves accepts.saves.few)
         (λ p keeps here k m0 m is. (
         let before = stages.accepts.carries.kept_before keeps in
         let draft = drafts before k m0 m p.state is in
@@ -452,5 +461,6 @@ module _ {D : Type 0} (state : D → DeviceState) (lawful : (d : D) → IsLawful
       draft_ends ok ends (Ok x) stages down = accepted_serves free drafts a ok
           new.handles.numbers.items (subst (EndIn drafts a) (sym table_same) ends)
           (write_behaves state v (seen new) call a (change_writes call change) table_same
-          (ok_refuses_none a refusal.Stuck ok)) stages
+          (ok_refuses_none a refusal.Stuck ok)
+          (λ never. ok_refuses_none a refusal.NoMemory ok)) stages
       draft_ends ok ends (Err e) stages down = draft_turned e down

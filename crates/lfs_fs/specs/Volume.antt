@@ -1,11 +1,11 @@
 -- What contracts see of a mounted volume, the state that it is in, and what its calls do.
 -- The calls are those of POSIX.1-2017; which refusals are excused and what a stop leaves is an own choice.
-use Rattle.std.specs.Prelude.{◌≡◌, ◌⊎◌, ◌≤◌, ◌+◌, ◌/◌, ◌^◌, ℕ, Bool, true, false, ◌||◌, IsTrue, List, [], ◌∷◌, length}
-use Rattle.lfs_model.specs.Call.{Call, Open, Create, Close, Answer, Refuse, changes, cleans, commits}
+use Rattle.std.specs.Prelude.{◌≡◌, ◌⊎◌, ◌≤◌, ◌+◌, ◌/◌, ◌^◌, ℕ, Bool, true, false, IsTrue, List, [], ◌∷◌, length}
+use Rattle.lfs_model.specs.Call.{Call, Open, Create, Close, Answer, Refuse, may_write, takes_no_memory}
 use Rattle.lfs_model.specs.Checkpoint.{CheckpointValue, layout_version}
 use Rattle.lfs_model.specs.Device.{DeviceState, Carries, AllLeft, IsUntouched}
 use Rattle.lfs_model.specs.Encodes.{IsLogMap}
-use Rattle.lfs_model.specs.Refusal.{Refusal, Halted, Stuck}
+use Rattle.lfs_model.specs.Refusal.{Refusal, NoMemory, Halted, Stuck}
 use Rattle.lfs_model.specs.Run.{Point, Answers, acknowledges}
 use Rattle.lfs_model.specs.Stands.{LogMap}
 use Rattle.lfs_model.specs.Tree.{State, drop_nameless}
@@ -28,9 +28,9 @@ pub record Mounted (D : Type 0) : Type 0 where
 abbrev pub segments_of : {D : Type 0} → Mounted D → ℕ
 segments_of v = length v.log.memory.usage.segments
 
--- the calls that may write to the device
-abbrev pub may_write : Call → Bool
-may_write call = changes call || commits call || cleans call
+-- so many checkpoints are written at most in one call
+abbrev pub CommitsFew : {D : Type 0} → Mounted D → Mounted D → Type 0
+CommitsFew old new = new.log.number ≤ old.log.number + segments_of old / 8 + 1
 
 -- the calls that may change which files are open
 abbrev pub changes_handles : Call → Bool
@@ -89,6 +89,10 @@ module _ {D : Type 0} (state : D → DeviceState) where
     -- a call that may not write leaves the content, what a stop leaves, and the checkpoint's number
     pub quiet : may_write call ≡ false → IsUntouched (state old.log.device) (state new.log.device)
     pub number : may_write call ≡ false → new.log.number ≡ old.log.number
+    -- one that may write commits at most once for each eighth of the segments, and once more
+    pub few : CommitsFew old new
+    -- close, fsync, sync and space are never refused for memory
+    pub memory : takes_no_memory call ≡ true → answer ≡ Refuse NoMemory → ⊥
     -- no call is stuck
     pub stuck : answer ≡ Refuse Stuck → ⊥
 

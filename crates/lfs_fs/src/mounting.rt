@@ -25,6 +25,8 @@ impl<D: SectorDevice> Fs<D> {
         ensures only { IfOk result (λ fs. FindsState D.SectorDevice.state device fs) }
         ensures durable { IfOk result (λ fs. (D.state fs.store.log.device).keeps_model
             → Only (D.state device).content (D.state fs.store.log.device)) }
+        ensures no_failure { IfOk result (λ fs. (D.state fs.store.log.device).failures
+            ≡ (D.state device).failures) }
         ensures cause { IfErr result (λ e. (e.0 ≡ MountFault.NoMemory → ⊥)
             → IsMountFault (D.state device) (D.state e.1) e.0) }
         ensures reason { IfErr result (λ e. IsRefused (D.state device) (D.state e.1) e.0) }
@@ -52,6 +54,13 @@ impl<D: SectorDevice> Fs<D> {
             }),
             Err(fault) => Err(fault),
         }
+    }
+
+    /// The device as it is, to look at.
+    pub fn device(&self) -> &D
+        ensures { result.now ≡ self.now.store.log.device }
+    {
+        self.store.log.device()
     }
 
     /// The device as it is. What wasn't saved is gone.

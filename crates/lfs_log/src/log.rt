@@ -173,6 +173,13 @@ impl<D: SectorDevice> Log<D> {
         self.device
     }
 
+    /// The device as it is, to look at.
+    pub fn device(&self) -> &D
+        ensures { result.now ≡ self.now.device }
+    {
+        &self.device
+    }
+
     /// Whether a commit failed.
     pub fn is_halted(&self) -> bool
         ensures { result ≡ self.now.halted }

@@ -46,10 +46,11 @@ impl SectorDevice for WiredDevice<'_> {
     ghost use Rattle.lfs_device.specs.MemoryDevice.{device_state};
     ghost use Rattle.lfs_device.specs.Memory.{memory_lawful};
     ghost use Rattle.lfs_device.specs.Rows.{states_of};
+    ghost use Rattle.lfs_device.specs.Told.{orders_of};
 
     ghost state = { λ w. device_state w.device };
 
-    ghost lawful = { λ w. memory_lawful w.device.rows.items (states_of w.device.past.value) w.device.failed.value w.device.fits w.device.whole w.device.were_whole };
+    ghost lawful = { λ w. memory_lawful w.device.rows.items (states_of w.device.past.value) w.device.failed.value (orders_of w.device.told.value) w.device.fits w.device.whole w.device.were_whole };
 
     fn sectors(&self) -> u32 {
         self.device.sectors()

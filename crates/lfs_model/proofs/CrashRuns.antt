@@ -18,12 +18,12 @@ none_append [] (b ∷ answers) call a h ne = absurd h
 none_append (d ∷ calls) [] call a h ne = absurd h
 none_append (d ∷ calls) (b ∷ answers) call a h ne = (h.0, none_append calls answers call a h.1 ne)
 
-get_front : (points : List Point) (q : Point) (n : ℕ) (p : Point) → slice_get points n ≡ Some p → slice_get (points ++ q ∷ []) n ≡ Some p
+pub get_front : (points : List Point) (q : Point) (n : ℕ) (p : Point) → slice_get points n ≡ Some p → slice_get (points ++ q ∷ []) n ≡ Some p
 get_front [] q n p is = cc
 get_front (r ∷ points) q zero p is = is
 get_front (r ∷ points) q (suc n) p is = get_front points q n p is
 
-get_last : (points : List Point) (q : Point) → slice_get (points ++ q ∷ []) (length points) ≡ Some q
+pub get_last : (points : List Point) (q : Point) → slice_get (points ++ q ∷ []) (length points) ≡ Some q
 get_last [] q = refl
 get_last (r ∷ points) q = get_last points q
 

@@ -68,6 +68,7 @@ pub mod Standing
 pub mod Committed
 pub mod Lefts
 pub mod CrashRuns
+pub mod SinceRuns
 pub mod UsageStage
 pub mod Entries
 pub mod Patching

@@ -1,10 +1,44 @@
 -- How a run of device calls goes on.
 use Rattle.std.proofs.Common.{◌≢◌, inl, inr, ⊎_elim, ℕ, ◌+◌, ◌<◌, ◌≤◌, Some, None, List, refl, sym, ◌∙◌, subst, arith, length-set, get_or-set_other}
-use Rattle.std.specs.Prelude.{slice_set}
-use Rattle.lfs_model.specs.Device.{Cell, DeviceState, put, lose, MayWrite, left_old, left_new, left_bad, Only, AllLeft, Carries, Elapses, IsUntouched, CrashWrites, IsLawful, LeavesOnly, ComesFrom, SameOutside, SameWhere}
+use Rattle.std.specs.Prelude.{◌≡◌, ◌⊎◌, [], ◌∷◌, ◌++◌, slice_set}
+use Rattle.std.proofs.Common.{ap}
+use Rattle.lfs_model.specs.Device.{Cell, DeviceState, put, lose, MayWrite, left_old, left_new, left_bad, Only, AllLeft, Carries, Elapses, IsUntouched, CrashWrites, IsLawful, LeavesOnly, ComesFrom, SameOutside, SameWhere, IsBeginning, Grows, MayTell}
+use Rattle.lfs_model.specs.declared.Order.{Order}
 
 abbrev Set : Type 1
 Set = List Cell → Type 0
+
+begins_later : (first : List Order) (order : Order) (told : List Order) → IsBeginning first told → IsBeginning first (order ∷ told)
+unfolding IsBeginning
+begins_later first order told begins = inr begins
+
+pub grows_none : (old new : List Order) → new ≡ old → Grows old new
+grows_none old new is first begins = subst (λ (l : List Order). IsBeginning first l) (sym is) begins
+
+pub grows_one : (order : Order) (old new : List Order) → new ≡ order ∷ old → Grows old new
+grows_one order old new is first begins = subst (λ (l : List Order). IsBeginning first l) (sym is) (begins_later first order old begins)
+
+pub grows_maybe : (order : Order) (old new : List Order) → MayTell order old new → Grows old new
+grows_maybe order old new (inl is) = grows_one order old new is
+grows_maybe order old new (inr is) = grows_none old new is
+
+-- the whole is a beginning
+pub begins_all : (told : List Order) → IsBeginning told told
+unfolding IsBeginning
+begins_all [] = refl
+begins_all (order ∷ told) = inl refl
+
+-- behind a beginning come later orders
+pub orders_behind : (first told : List Order) → IsBeginning first told → (later : List Order) × (told ≡ later ++ first)
+unfolding IsBeginning
+orders_behind first [] is = ([], sym is)
+orders_behind first (order ∷ told) (inl is) = ([], sym is)
+orders_behind first (order ∷ told) (inr begins) =
+    let rest = orders_behind first told begins in (order ∷ rest.0, ap (λ (l : List Order). order ∷ l) rest.1)
+
+-- so it was told more, and nothing else before
+pub told_later : (old new : List Order) → Grows old new → (later : List Order) × (new ≡ later ++ old)
+told_later old new grows = orders_behind old new (grows old (begins_all old))
 
 pub carries_none : (d : DeviceState) → Carries d d
 carries_none d = record {
@@ -13,6 +47,8 @@ carries_none d = record {
   failures = omega arith;
   later = omega arith;
   remembers = λ t c le left. left;
+  start = refl;
+  told = λ first begins. begins;
 }
 
 pub carries_then : (a b c : DeviceState) → Carries a b → Carries b c → Carries a c
@@ -22,6 +58,8 @@ carries_then a b c one two = record {
   failures = omega (arith, one.failures, two.failures);
   later = omega (arith, one.later, two.later);
   remembers = λ t x le left. two.remembers t x (omega (arith, le, one.later)) (one.remembers t x le left);
+  start = two.start ∙ one.start;
+  told = λ first begins. two.told first (one.told first begins);
 }
 
 -- before the first call

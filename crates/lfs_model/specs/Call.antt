@@ -1,6 +1,6 @@
 -- The calls of a volume and their answers (POSIX.1-2017: open, close, pread, pwrite, ftruncate, mkdir, link, symlink, readlink,
 -- unlink, rmdir, rename, stat, lstat, readdir, fsync, sync). A path is a list of bytes; clean, space and tree are own choices.
-use Rattle.std.specs.Prelude.{ℕ, ◌<◌, ◌^◌, Bool, true, false, List}
+use Rattle.std.specs.Prelude.{ℕ, ◌<◌, ◌^◌, Bool, true, false, ◌||◌, List}
 use Rattle.lfs_model.specs.Bytes.{AreBytes}
 use Rattle.lfs_model.specs.Refusal.{Refusal}
 use Rattle.lfs_model.specs.declared.Kind.{Kind}
@@ -156,6 +156,10 @@ cleans Sync = false
 cleans Clean = true
 cleans Space = false
 cleans ListTree = false
+
+-- the calls that may write to the device
+abbrev pub may_write : Call → Bool
+may_write call = changes call || commits call || cleans call
 
 -- the calls that are never refused for memory
 abbrev pub takes_no_memory : Call → Bool

@@ -1,7 +1,9 @@
 -- What contracts see of a sector device, what its calls do, and what a stop leaves.
 -- All of it is an own choice: it is what is assumed of a disk.
-use Rattle.std.specs.Prelude.{◌≡◌, ◌⊎◌, ℕ, ◌+◌, ◌^◌, ◌<◌, ◌≤◌, Option, Some, None, List, length, slice_set, slice_index, slice_index_or}
+use Rattle.std.specs.Prelude.{◌≡◌, ◌⊎◌, ℕ, ◌+◌, ◌^◌, ◌<◌, ◌≤◌, Option, Some, None, List, [], ◌∷◌, length, slice_set, slice_index, slice_index_or}
 use Rattle.std.specs.List.{AllByRecursion}
+use Rattle.lfs_model.specs.declared.Order.{Order}
+use Rattle.lfs_model.specs.declared.Order.TheVariants.{Write, Sync}
 
 -- what a sector holds: its 512 bytes, or None where it can't be read
 abbrev pub Cell : Type 0
@@ -33,6 +35,10 @@ pub record DeviceState : Type 1 where
   pub failures : ℕ
   -- that the calls so far were those of a device that keeps the device model: the clauses on contents rest on it
   pub keeps_model : Type 0
+  -- the content before the first order
+  pub start : List Cell
+  -- the writes and syncs that it was told, the newest first
+  pub told : List Order
 
 abbrev pub cell_at : List Cell → ℕ → Cell
 cell_at content sector = slice_index_or content sector None
@@ -59,6 +65,19 @@ Only content d = (c : List Cell) → d.may_leave c → c ≡ content
 abbrev pub AllLeft : DeviceState → (List Cell → Type 0) → Type 0
 AllLeft d P = (c : List Cell) → d.may_leave c → P c
 
+-- the first orders that were told are these
+unfoldable pub IsBeginning : List Order → List Order → Type 0
+IsBeginning first [] = first ≡ []
+IsBeginning first (order ∷ told) = (first ≡ order ∷ told) ⊎ IsBeginning first told
+
+-- what was told grows at its end: each beginning of it is one still
+abbrev pub Grows : List Order → List Order → Type 0
+Grows old new = (first : List Order) → IsBeginning first old → IsBeginning first new
+
+-- a call added this order, or nothing
+abbrev pub MayTell : Order → List Order → List Order → Type 0
+MayTell order old new = (new ≡ order ∷ old) ⊎ (new ≡ old)
+
 -- What holds of each call, and of any run of calls: no sector comes or goes, a device that keeps the model after it kept
 -- it before, no failure and no moment is forgotten.
 pub record Carries (old new : DeviceState) : Type 0 where
@@ -67,6 +86,8 @@ pub record Carries (old new : DeviceState) : Type 0 where
   pub failures : old.failures ≤ new.failures
   pub later : old.moment ≤ new.moment
   pub remembers : (t : ℕ) (c : List Cell) → t ≤ old.moment → old.left_since t c → new.left_since t c
+  pub start : new.start ≡ old.start
+  pub told : Grows old.told new.told
 
 -- What holds of one call: a stop since an earlier moment might have left what it might have left before the call, or what it may leave after it.
 abbrev pub Elapses : DeviceState → DeviceState → Type 0
@@ -98,6 +119,8 @@ pub record IsLawful (d : DeviceState) : Type 0 where
   pub counts_now : (t : ℕ) (c : List Cell) → t ≤ d.moment → d.may_leave c → d.left_since t c
   -- since this moment there is no other
   pub only_now : (c : List Cell) → d.left_since d.moment c → d.may_leave c
+  -- a stop since a later moment is one since an earlier one
+  pub earlier : (t u : ℕ) (c : List Cell) → t ≤ u → d.left_since u c → d.left_since t c
 
 -- A stop at any moment since old leaves a content that has P.
 pub record LeavesOnly (old new : DeviceState) (P : List Cell → Type 0) : Type 0 where

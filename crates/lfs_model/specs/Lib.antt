@@ -30,6 +30,7 @@ pub mod Plain
 pub mod Script
 pub mod Run
 pub mod Use
+pub mod Since
 pub mod UseLaws
 pub mod Laws
 pub mod TreeOf

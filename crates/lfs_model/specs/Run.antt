@@ -1,8 +1,8 @@
 -- Runs of calls: the answers that a volume may give, and the states that a stop may leave.
-use Rattle.std.specs.Prelude.{ℕ, ◌<◌, ◌≤◌, ◌^◌, ◌≡◌, ◌⊎◌, Bool, true, false, ◌&&◌, IsTrue, Some, List, [], ◌∷◌, drop, slice_get}
+use Rattle.std.specs.Prelude.{ℕ, ◌<◌, ◌≤◌, ◌+◌, ◌/◌, ◌^◌, ◌≡◌, ◌⊎◌, Bool, true, false, ◌&&◌, IsTrue, Some, List, [], ◌∷◌, drop, slice_get}
 use Rattle.lfs_model.specs.Tree.{State}
 use Rattle.lfs_model.specs.Refusal.{Refusal, NoMemory, Device, Halted, Stuck, Worn}
-use Rattle.lfs_model.specs.Call.{Call, Open, Create, Close, Pread, Pwrite, Truncate, Mkdir, LinkTo, Symlink, Readlink, Unlink, Rmdir, Rename, StatOf, LstatOf, Readdir, Fsync, Sync, Clean, Space, ListTree, Answer, Refuse, is_ok, changes, cleans, commits, takes_no_memory}
+use Rattle.lfs_model.specs.Call.{Call, Open, Create, Close, Pread, Pwrite, Truncate, Mkdir, LinkTo, Symlink, Readlink, Unlink, Rmdir, Rename, StatOf, LstatOf, Readdir, Fsync, Sync, Clean, Space, ListTree, Answer, Refuse, is_ok, changes, cleans, commits, may_write, takes_no_memory}
 use Rattle.lfs_model.specs.Step.{Step}
 use Rattle.lfs_model.specs.Script.{Line, Plain, Fill, call_of}
 
@@ -45,8 +45,13 @@ pub record Answers (N : ℕ) (call : Call) (old : Point) (answer : Answer) (new 
   pub halted : IsTrue old.halted → answer ≡ Refuse Halted
   pub halts : answer ≡ Refuse Halted → IsTrue new.halted
   pub goes_on : IsTrue new.halted → answer ≡ Refuse Halted
+  -- the first Halted is the answer of a call that may write
+  pub first_halted : answer ≡ Refuse Halted → IsTrue old.halted ⊎ IsTrue (may_write call)
   pub failures : old.failures ≤ new.failures
+  -- a call commits at most once for each eighth of the segments, and once more; one that may not write never does
   pub number : old.number ≤ new.number
+  pub few : new.number ≤ old.number + N / 8 + 1
+  pub quiet : may_write call ≡ false → new.number ≡ old.number
 
 -- the lines with a word that spells bytes, for which memory is needed before the call is made
 abbrev pub has_word : Line → Bool

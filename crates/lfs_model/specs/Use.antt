@@ -1,6 +1,6 @@
 -- A whole use of a volume: a mount, the lines of a script, and what a stop leaves meanwhile and afterwards.
 -- All of it is an own choice: POSIX.1-2017 says neither what a mount gives nor what a stop leaves.
-use Rattle.std.specs.Prelude.{◌≡◌, ◌⊎◌, ◌≤◌, ℕ, false, List, ◌∷◌, map, Some}
+use Rattle.std.specs.Prelude.{◌≡◌, ◌⊎◌, ℕ, false, List, ◌∷◌, map, Some}
 use Rattle.std.specs.List.{AllByRecursion, Contains}
 use Rattle.lfs_model.specs.Call.{Answer, Call, Refuse}
 use Rattle.lfs_model.specs.Checkpoint.{CheckpointValue}
@@ -48,8 +48,8 @@ pub record UsesVolume (d d' : DeviceState) (lines : List Line) (answers : List A
   pub running : first.halted ≡ false
   pub run : LineRun segments first lines answers points
   pub unstuck : AreUnstuck answers
-  -- the failures that it counts are calls of the device that failed
-  pub failures_before : d.failures ≤ first.failures
+  -- the failures that it counts are calls of the device that failed: none did in the mount
+  pub failures_before : first.failures ≡ d.failures
   pub failures_after : (final first points).failures ≡ d'.failures
   -- the last number is that of the checkpoint which a stop now leaves, unless a commit failed
   pub number_after : (final first points).halted ≡ false → AllLeft d' (IsNumbered (final first points).number)

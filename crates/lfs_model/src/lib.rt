@@ -28,3 +28,12 @@ pub enum BlockKind {
     Map,
     Usage,
 }
+
+/// A call that a device of sectors is given.
+#[derive(Clone, Copy, Debug, PartialEq, Eq)]
+pub enum Order {
+    /// These bytes into this sector.
+    Write(u32, [u8; 512]),
+    /// All that was written becomes durable.
+    Sync,
+}

@@ -136,6 +136,8 @@ module _ {D : Type 0} (state : D → DeviceState) (old new : Mounted D) (h off :
     first_halted = behaves.first_halted;
     quiet = behaves.quiet;
     number = behaves.number;
+    few = behaves.few;
+    memory = behaves.memory;
     stuck = behaves.stuck;
   }
 
@@ -147,6 +149,8 @@ module _ {D : Type 0} (state : D → DeviceState) (old new : Mounted D) (h off :
     first_halted = λ e. inr refl;
     quiet = λ e. absurd (cc);
     number = λ e. absurd (cc);
+    few = behaves.few;
+    memory = λ takes e. absurd (cc);
     stuck = none;
   }
 
@@ -167,8 +171,11 @@ module _ {D : Type 0} (state : D → DeviceState) (old new : Mounted D) (h off :
             halted = answers.halted;
             halts = answers.halts;
             goes_on = answers.goes_on;
+            first_halted = answers.first_halted;
             failures = answers.failures;
             number = answers.number;
+            few = answers.few;
+            quiet = answers.quiet;
           };
           leaves = does.leaves;
           saves = does.saves;
@@ -203,8 +210,11 @@ module _ {D : Type 0} (state : D → DeviceState) (old new : Mounted D) (h off :
             halted = λ on. (let e = answers.halted on in absurd (cc));
             halts = λ e. absurd (no_halt e);
             goes_on = λ on. (let e = answers.goes_on on in absurd (cc));
+            first_halted = λ e. absurd (no_halt e);
             failures = answers.failures;
             number = answers.number;
+            few = answers.few;
+            quiet = λ e. absurd (cc);
           };
           leaves = does.leaves;
           saves = λ e. absurd (cc);
@@ -229,8 +239,11 @@ module _ {D : Type 0} (state : D → DeviceState) (old new : Mounted D) (h off :
             halted = answers.halted;
             halts = answers.halts;
             goes_on = answers.goes_on;
+            first_halted = λ e. inr refl;
             failures = answers.failures;
             number = answers.number;
+            few = answers.few;
+            quiet = λ e. absurd (cc);
           };
           leaves = does.leaves;
           saves = does.saves;

@@ -2,6 +2,7 @@ pub mod Numbers
 pub mod ScriptBytes
 pub mod ScriptTurns
 pub mod Sent
+pub mod Looking
 pub mod Pieces
 pub mod Digits
 pub mod Escapes

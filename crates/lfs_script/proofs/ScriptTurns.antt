@@ -10,7 +10,7 @@ use Rattle.lfs_model.specs.Device.{DeviceState}
 use Rattle.lfs_model.specs.Refusal.{NoMemory}
 use Rattle.lfs_model.specs.Run.{has_word}
 use Rattle.lfs_model.specs.Script.{InRange, Line, bad, lines, reply, text_of}
-use Rattle.lfs_fs.specs.Scripts.{RunsLines, ServesLine}
+use Rattle.lfs_fs.specs.Scripts.{RunsLines, ServesLine, TellsLines}
 use Rattle.lfs_fs.specs.Volume.{Mounted}
 use Rattle.lfs_script.specs.Bytes.{AppendsSome}
 use Rattle.lfs_script.specs.LineEnd.{OnTooLong, consumed_by_line}
@@ -19,7 +19,9 @@ use Rattle.lfs_script.specs.declared.line.LineEnd.TheVariants.{TooLong}
 use Rattle.lfs_script.specs.declared.source.ReadError.{ReadError}
 use Rattle.lfs_script.specs.Lines.{IsUnknown}
 use Rattle.lfs_script.specs.Ending.{EndOf, IsBadLine, IsBadText, IsText, EndsWithLine, ended_texts, replies}
-use Rattle.lfs_script.specs.Running.{AnswersText, Called, Ends, EndsBy, Finishes, RepliesBadLine, SoFar, Turns}
+use Rattle.lfs_script.specs.Running.{AnswersText, Called, Ends, EndsBy, EndsTold, Finishes, LooksBeforeReply, RepliesBadLine, SoFar, Turns}
+use Rattle.lfs_script.specs.Told.{Look, Looked, LooksAt}
+use Rattle.lfs_script.proofs.Looking.{looked_more, looked_none}
 use Rattle.lfs_script.specs.Strict.{Follows, EndsBehind, GoesOnBehind, StrictEndOf}
 use Rattle.lfs_script.specs.declared.script.ScriptEnd.{ScriptEnd}
 use Rattle.lfs_script.specs.declared.script.ScriptEnd.TheVariants.{Done, BadLine, Read, Write, Memory}
@@ -64,33 +66,53 @@ module _ {D : Type 0} (state : D → DeviceState) where
   turned (Some Refused) strict w w1 old new text n answer answers replied decides = (called (Appends w w1) old new text answer answers replied, decides)
   turned (Some (Script end)) strict w w1 old new text n answer answers replied decides = absurd decides
 
+  -- device and writer were looked at behind the call
+  pub looks_called : (v : Mounted D) (d : D) (w : Option (List ℕ)) (answer : Answer) (old : Mounted D) (text : List ℕ) (s s1 : List Look) → AnswersText state (Some answer) old v text → d ≡ v.log.device
+      → LooksAt (state d).moment w s s1 → LooksBeforeReply state v w text s s1
+  looks_called v d w answer old text s s1 answers same looks = record {
+    once = λ line spells. subst (λ (x : D). LooksAt (state x).moment w s s1) same looks;
+    never = λ bad. absurd (bad answers.0 answers.1);
+  }
+
+  -- a bad text isn't looked at
+  pub looks_never : (v : Mounted D) (w : Option (List ℕ)) (text : List ℕ) (s : List Look) → IsBadText text → LooksBeforeReply state v w text s s
+  looks_never v w text s bad = record { once = λ line spells. absurd (bad line spells); never = λ e. refl }
+
+  -- the line as a slice
+  pub looks_of : (v : Mounted D) (w : Option (List ℕ)) (slice text : List ℕ) (s s1 : List Look) → slice ≡ text → LooksBeforeReply state v w slice s s1 → LooksBeforeReply state v w text s s1
+  looks_of v w slice text s s1 is looks = subst (λ (t : List ℕ). LooksBeforeReply state v w t s s1) is looks
+
 module _ {D : Type 0} (state : D → DeviceState) (strict : Bool) where
   -- the last line is none, or goes on, or ends the script
-  pub finish_none : (w : Option (List ℕ)) (v : Mounted D) (text : List ℕ) (n : ℕ) → true ≡ (length text == 0) → Finishes state strict (Script Done) w w v v text n
-  finish_none w v text n e = inl (nothing text (zero_length (length text) e), refl, refl, refl)
+  pub finish_none : (w : Option (List ℕ)) (v : Mounted D) (text : List ℕ) (n : ℕ) (s : List Look) → true ≡ (length text == 0) → Finishes state strict (Script Done) w w v v text n s s
+  finish_none w v text n s e = inl (nothing text (zero_length (length text) e), refl, refl, refl, refl)
 
-  pub finish_done : (w w1 : Option (List ℕ)) (old new : Mounted D) (text : List ℕ) (n : ℕ) → false ≡ (length text == 0) → Turns state strict None w w1 old new text n → Finishes state strict (Script Done) w w1 old new text n
-  finish_done w w1 old new text n e turns = inr (some_length (length text) e, inl (refl, turns))
+  pub finish_done : (w w1 : Option (List ℕ)) (old new : Mounted D) (text : List ℕ) (n : ℕ) (s s1 : List Look) → false ≡ (length text == 0) → Turns state strict None w w1 old new text n → LooksBeforeReply state new w text s s1
+      → Finishes state strict (Script Done) w w1 old new text n s s1
+  finish_done w w1 old new text n s s1 e turns looks = inr (some_length (length text) e, looks, inl (refl, turns))
 
-  pub finish_end : (end : StrictEnd) (w w1 : Option (List ℕ)) (old new : Mounted D) (text : List ℕ) (n : ℕ) → false ≡ (length text == 0) → Turns state strict (Some end) w w1 old new text n → Finishes state strict end w w1 old new text n
-  finish_end end w w1 old new text n e turns = inr (some_length (length text) e, inr turns)
+  pub finish_end : (end : StrictEnd) (w w1 : Option (List ℕ)) (old new : Mounted D) (text : List ℕ) (n : ℕ) (s s1 : List Look) → false ≡ (length text == 0) → Turns state strict (Some end) w w1 old new text n → LooksBeforeReply state new w text s s1
+      → Finishes state strict end w w1 old new text n s s1
+  finish_end end w w1 old new text n s s1 e turns looks = inr (some_length (length text) e, looks, inr turns)
 
   -- the line as a slice
   pub turns_of : (end : Option StrictEnd) (w w1 : Option (List ℕ)) (old new : Mounted D) (slice text : List ℕ) (n : ℕ) → slice ≡ text → Turns state strict end w w1 old new slice n → Turns state strict end w w1 old new text n
   turns_of end w w1 old new slice text n is turns = subst (λ (t : List ℕ). Turns state strict end w w1 old new t n) is turns
 
-  pub finishes_of : (end : StrictEnd) (w w1 : Option (List ℕ)) (old new : Mounted D) (slice text : List ℕ) (n : ℕ) → slice ≡ text → Finishes state strict end w w1 old new slice n → Finishes state strict end w w1 old new text n
-  finishes_of end w w1 old new slice text n is finishes = subst (λ (t : List ℕ). Finishes state strict end w w1 old new t n) is finishes
+  pub finishes_of : (end : StrictEnd) (w w1 : Option (List ℕ)) (old new : Mounted D) (slice text : List ℕ) (n : ℕ) (s s1 : List Look) → slice ≡ text → Finishes state strict end w w1 old new slice n s s1 → Finishes state strict end w w1 old new text n s s1
+  finishes_of end w w1 old new slice text n s s1 is finishes = subst (λ (t : List ℕ). Finishes state strict end w w1 old new t n s s1) is finishes
 
   -- the replies so far are flushed
-  pub so_far_flushed : (n : ℕ) (r left w w1 w2 : Option (List ℕ)) (old now : Mounted D) → Keeps w1 w2 → SoFar state strict n r left w w1 old now → SoFar state strict n r left w w2 old now
-  so_far_flushed n r left w w1 w2 old now keeps so = record {
+  pub so_far_flushed : (n : ℕ) (r left w w1 w2 : Option (List ℕ)) (old now : Mounted D) (s s1 : List Look) → Keeps w1 w2 → SoFar state strict n r left w w1 old now s s1 → SoFar state strict n r left w w2 old now s s1
+  so_far_flushed n r left w w1 w2 old now s s1 keeps so = record {
     texts = so.texts;
     script = so.script;
     answers = so.answers;
     plain = so.plain;
     spelled = so.spelled;
-    run = so.run;
+    clocks = so.clocks;
+    told = so.told;
+    looked = so.looked;
     goes_on = so.goes_on;
     consumed = so.consumed;
     appended = Appends-kept w w1 w2 (replies so.answers) so.appended keeps;
@@ -106,41 +128,51 @@ long_ended end b P is long = subst (λ (l : LineEnd). OnTooLong {E = ReadError} 
 
 -- ---- a line more, and the ends
 
-module _ {D : Type 0} (state : D → DeviceState) (strict : Bool) (none : (old : Mounted D) → RunsLines state old old [] [])
-    (more : (old mid new : Mounted D) (script : List Line) (answers : List Answer) (line : Line) (answer : Answer) → RunsLines state old mid script answers → ServesLine state mid new line answer → RunsLines state old new (script ++ line ∷ []) (answers ++ answer ∷ [])) where
-  pub so_far_none : (r w : Option (List ℕ)) (left : List ℕ) (old : Mounted D) → left ≡ [] → SoFar state strict 1 r (prepend_known left r) w w old old
-  so_far_none r w left old empty = record {
+module _ {D : Type 0} (state : D → DeviceState) (strict : Bool) (none : (old : Mounted D) → TellsLines state old old [] [] [])
+    (more : (old mid new : Mounted D) (script : List Line) (answers : List Answer) (clocks : List ℕ) (line : Line) (answer : Answer) → TellsLines state old mid script answers clocks → ServesLine state mid new line answer
+    → TellsLines state old new (script ++ line ∷ []) (answers ++ answer ∷ []) (clocks ++ (state new.log.device).moment ∷ [])) where
+  pub so_far_none : (r w : Option (List ℕ)) (left : List ℕ) (old : Mounted D) (s : List Look) → left ≡ [] → SoFar state strict 1 r (prepend_known left r) w w old old s s
+  so_far_none r w left old s empty = record {
     texts = [];
     script = [];
     answers = [];
     plain = tt;
     spelled = tt;
-    run = none old;
+    clocks = [];
+    told = none old;
+    looked = looked_none w s;
     goes_on = tt;
     consumed = none_read r left empty;
     appended = Appends-nil w;
     count = refl;
   }
 
-  pub no_room : (r w : Option (List ℕ)) (old : Mounted D) → EndsBy state strict (Script Memory) r r w w old old
-  no_room r w old = record {
-    texts = [];
-    script = [];
-    answers = [];
-    spelled = tt;
-    run = none old;
-    bytes = ((Keeps-refl r, Keeps-refl w, refl), tt);
+  pub no_room : (r w : Option (List ℕ)) (old : Mounted D) (s : List Look) → EndsTold state strict (Script Memory) r r w w old old s s
+  no_room r w old s = record {
+    ends = record {
+      texts = [];
+      script = [];
+      answers = [];
+      spelled = tt;
+      run = (none old).runs;
+      bytes = ((Keeps-refl r, Keeps-refl w, refl), tt);
+    };
+    clocks = [];
+    told = none old;
+    looked = looked_none w s;
   }
 
-  pub so_far_more : (n : ℕ) (r mid left w w1 w2 : Option (List ℕ)) (old now new : Mounted D) (text : List ℕ) → SoFar state strict n r mid w w1 old now → IsText text → Consumes mid left (text ++ 10 ∷ [])
-      → Turns state strict None w1 w2 now new text n → SoFar state strict (n + 1) r left w w2 old new
-  so_far_more n r mid left w w1 w2 old now new text so plain consumes (call, goes_on) = record {
+  pub so_far_more : (n : ℕ) (r mid left w w1 w2 : Option (List ℕ)) (old now new : Mounted D) (text : List ℕ) (s s1 s2 : List Look) → SoFar state strict n r mid w w1 old now s s1 → IsText text → Consumes mid left (text ++ 10 ∷ [])
+      → Turns state strict None w1 w2 now new text n → LooksBeforeReply state new w1 text s1 s2 → SoFar state strict (n + 1) r left w w2 old new s s2
+  so_far_more n r mid left w w1 w2 old now new text s s1 s2 so plain consumes (call, goes_on) looks = record {
     texts = so.texts ++ text ∷ [];
     script = so.script ++ call.line ∷ [];
     answers = so.answers ++ call.answer ∷ [];
     plain = all_more so.texts text so.plain plain;
     spelled = spelled_more so.texts so.script text call.line so.spelled call.spells;
-    run = more old now new so.script so.answers call.line call.answer so.run call.serves;
+    clocks = so.clocks ++ (state new.log.device).moment ∷ [];
+    told = more old now new so.script so.answers so.clocks call.line call.answer so.told call.serves;
+    looked = looked_more w w1 so.answers call.answer so.clocks (state new.log.device).moment s s1 s2 so.looked so.appended (looks.once call.line call.spells);
     goes_on = each_more (GoesOnBehind strict) so.answers call.answer so.goes_on goes_on;
     consumed = line_more r mid left so.texts text so.consumed consumes;
     appended = replies_after w w1 w2 so.answers call.answer so.appended call.replied;
@@ -148,16 +180,46 @@ module _ {D : Type 0} (state : D → DeviceState) (strict : Bool) (none : (old :
   }
 
   -- a reply that went out in part
-  reply_stops : (n : ℕ) (r mid now w w1 w2 : Option (List ℕ)) (old at new : Mounted D) (text input rest : List ℕ) (so : SoFar state strict n r mid w w1 old at) → Called state (AppendsSome w1 w2) at new text
-      → lines input ≡ so.texts ++ text ∷ [] → EndsWithLine input rest now → Consumes r now (input ++ rest) → EndsBy state strict (Script Write) r now w w2 old new
-  reply_stops n r mid now w w1 w2 old at new text input rest so call cut whole consumes = record {
-    texts = so.texts ++ text ∷ [];
-    script = so.script ++ call.line ∷ [];
-    answers = so.answers ++ call.answer ∷ [];
-    spelled = spelled_more so.texts so.script text call.line so.spelled call.spells;
-    run = more old at new so.script so.answers call.line call.answer so.run call.serves;
-    bytes = inl (
-      record {
+  reply_stops : (n : ℕ) (r mid now w w1 w2 : Option (List ℕ)) (old at new : Mounted D) (text input rest : List ℕ) (s s1 s2 : List Look) (so : SoFar state strict n r mid w w1 old at s s1) → LooksAt (state new.log.device).moment w1 s1 s2 → Called state (AppendsSome w1 w2) at new text
+      → lines input ≡ so.texts ++ text ∷ [] → EndsWithLine input rest now → Consumes r now (input ++ rest) → EndsTold state strict (Script Write) r now w w2 old new s s2
+  reply_stops n r mid now w w1 w2 old at new text input rest s s1 s2 so looks call cut whole consumes = record {
+    ends = record {
+      texts = so.texts ++ text ∷ [];
+      script = so.script ++ call.line ∷ [];
+      answers = so.answers ++ call.answer ∷ [];
+      spelled = spelled_more so.texts so.script text call.line so.spelled call.spells;
+      run = (more old at new so.script so.answers so.clocks call.line call.answer so.told call.serves).runs;
+      bytes = inl (
+        record {
+          input = input;
+          more = rest;
+          before = so.answers;
+          last = call.answer;
+          cut = cut;
+          whole = whole;
+          read = consumes;
+          all = refl;
+          written = some_after w w1 w2 (replies so.answers) (reply call.answer) so.appended call.replied;
+        },
+        so.goes_on,
+      );
+    };
+    clocks = so.clocks ++ (state new.log.device).moment ∷ [];
+    told = more old at new so.script so.answers so.clocks call.line call.answer so.told call.serves;
+    looked = looked_more w w1 so.answers call.answer so.clocks (state new.log.device).moment s s1 s2 so.looked so.appended looks;
+  }
+
+  -- a reply behind which a strict run ends
+  refusal_stops : (n : ℕ) (r mid now w w1 w2 : Option (List ℕ)) (old at new : Mounted D) (text input rest : List ℕ) (s s1 s2 : List Look) (so : SoFar state strict n r mid w w1 old at s s1) → LooksAt (state new.log.device).moment w1 s1 s2 → (call : Called state (Appends w1 w2) at new text)
+      → EndsBehind strict call.answer → lines input ≡ so.texts ++ text ∷ [] → EndsWithLine input rest now → Consumes r now (input ++ rest) → EndsTold state strict Refused r now w w2 old new s s2
+  refusal_stops n r mid now w w1 w2 old at new text input rest s s1 s2 so looks call refused cut whole consumes = record {
+    ends = record {
+      texts = so.texts ++ text ∷ [];
+      script = so.script ++ call.line ∷ [];
+      answers = so.answers ++ call.answer ∷ [];
+      spelled = spelled_more so.texts so.script text call.line so.spelled call.spells;
+      run = (more old at new so.script so.answers so.clocks call.line call.answer so.told call.serves).runs;
+      bytes = record {
         input = input;
         more = rest;
         before = so.answers;
@@ -166,58 +228,43 @@ module _ {D : Type 0} (state : D → DeviceState) (strict : Bool) (none : (old :
         whole = whole;
         read = consumes;
         all = refl;
-        written = some_after w w1 w2 (replies so.answers) (reply call.answer) so.appended call.replied;
-      },
-      so.goes_on,
-    );
-  }
-
-  -- a reply behind which a strict run ends
-  refusal_stops : (n : ℕ) (r mid now w w1 w2 : Option (List ℕ)) (old at new : Mounted D) (text input rest : List ℕ) (so : SoFar state strict n r mid w w1 old at) (call : Called state (Appends w1 w2) at new text)
-      → EndsBehind strict call.answer → lines input ≡ so.texts ++ text ∷ [] → EndsWithLine input rest now → Consumes r now (input ++ rest) → EndsBy state strict Refused r now w w2 old new
-  refusal_stops n r mid now w w1 w2 old at new text input rest so call refused cut whole consumes = record {
-    texts = so.texts ++ text ∷ [];
-    script = so.script ++ call.line ∷ [];
-    answers = so.answers ++ call.answer ∷ [];
-    spelled = spelled_more so.texts so.script text call.line so.spelled call.spells;
-    run = more old at new so.script so.answers call.line call.answer so.run call.serves;
-    bytes = record {
-      input = input;
-      more = rest;
-      before = so.answers;
-      last = call.answer;
-      cut = cut;
-      whole = whole;
-      read = consumes;
-      all = refl;
-      first = so.goes_on;
-      refused = refused;
-      written = replies_after w w1 w2 so.answers call.answer so.appended call.replied;
+        first = so.goes_on;
+        refused = refused;
+        written = replies_after w w1 w2 so.answers call.answer so.appended call.replied;
+      };
     };
+    clocks = so.clocks ++ (state new.log.device).moment ∷ [];
+    told = more old at new so.script so.answers so.clocks call.line call.answer so.told call.serves;
+    looked = looked_more w w1 so.answers call.answer so.clocks (state new.log.device).moment s s1 s2 so.looked so.appended looks;
   }
 
   -- an end at which no call is made
-  stays : (end : StrictEnd) (n : ℕ) (r mid now w w1 w2 : Option (List ℕ)) (old at new : Mounted D) (so : SoFar state strict n r mid w w1 old at) → new ≡ at → StrictEndOf strict end r now w w2 so.texts so.answers → EndsBy state strict end r now w w2 old new
-  stays end n r mid now w w1 w2 old at new so same bytes = record {
-    texts = so.texts;
-    script = so.script;
-    answers = so.answers;
-    spelled = so.spelled;
-    run = subst (λ (v : Mounted D). RunsLines state old v so.script so.answers) (sym same) so.run;
-    bytes = bytes;
+  stays : (end : StrictEnd) (n : ℕ) (r mid now w w1 w2 : Option (List ℕ)) (old at new : Mounted D) (s s1 s2 : List Look) (so : SoFar state strict n r mid w w1 old at s s1) → new ≡ at → s2 ≡ s1 → StrictEndOf strict end r now w w2 so.texts so.answers → EndsTold state strict end r now w w2 old new s s2
+  stays end n r mid now w w1 w2 old at new s s1 s2 so same seen bytes = record {
+    ends = record {
+      texts = so.texts;
+      script = so.script;
+      answers = so.answers;
+      spelled = so.spelled;
+      run = subst (λ (v : Mounted D). RunsLines state old v so.script so.answers) (sym same) so.told.runs;
+      bytes = bytes;
+    };
+    clocks = so.clocks;
+    told = subst (λ (v : Mounted D). TellsLines state old v so.script so.answers so.clocks) (sym same) so.told;
+    looked = subst (Looked w so.answers so.clocks s) (sym seen) so.looked;
   }
 
   -- a bad line
-  bad_ends : (end : ScriptEnd) (n : ℕ) (r mid now w w1 w2 : Option (List ℕ)) (old at new : Mounted D) (text rest : List ℕ) (so : SoFar state strict n r mid w w1 old at) → new ≡ at → IsBadLine text rest now
-      → Consumes r now (ended_texts so.texts ++ (text ++ rest)) → RepliesBadLine end w1 w2 n → EndsBy state strict (Script end) r now w w2 old new
-  bad_ends Done n r mid now w w1 w2 old at new text rest so same line consumes refuses = absurd refuses
-  bad_ends Read n r mid now w w1 w2 old at new text rest so same line consumes refuses = absurd refuses
-  bad_ends Memory n r mid now w w1 w2 old at new text rest so same line consumes refuses = absurd refuses
-  bad_ends (BadLine m) n r mid now w w1 w2 old at new text rest so same line consumes (is, appends) =
-      stays (Script (BadLine m)) n r mid now w w1 w2 old at new so same
+  bad_ends : (end : ScriptEnd) (n : ℕ) (r mid now w w1 w2 : Option (List ℕ)) (old at new : Mounted D) (text rest : List ℕ) (s s1 s2 : List Look) (so : SoFar state strict n r mid w w1 old at s s1) → new ≡ at → s2 ≡ s1 → IsBadLine text rest now
+      → Consumes r now (ended_texts so.texts ++ (text ++ rest)) → RepliesBadLine end w1 w2 n → EndsTold state strict (Script end) r now w w2 old new s s2
+  bad_ends Done n r mid now w w1 w2 old at new text rest s s1 s2 so same seen line consumes refuses = absurd refuses
+  bad_ends Read n r mid now w w1 w2 old at new text rest s s1 s2 so same seen line consumes refuses = absurd refuses
+  bad_ends Memory n r mid now w w1 w2 old at new text rest s s1 s2 so same seen line consumes refuses = absurd refuses
+  bad_ends (BadLine m) n r mid now w w1 w2 old at new text rest s s1 s2 so same seen line consumes (is, appends) =
+      stays (Script (BadLine m)) n r mid now w w1 w2 old at new s s1 s2 so same seen
       ((is ∙ sym so.count, text, rest, line, consumes, Appends-trans w w1 w2 (replies so.answers) (bad m) so.appended (subst (λ k. Appends w1 w2 (bad k)) (sym is) appends)), so.goes_on)
-  bad_ends Write n r mid now w w1 w2 old at new text rest so same line consumes appends =
-      stays (Script Write) n r mid now w w1 w2 old at new so same
+  bad_ends Write n r mid now w w1 w2 old at new text rest s s1 s2 so same seen line consumes appends =
+      stays (Script Write) n r mid now w w1 w2 old at new s s1 s2 so same seen
       (inr (
         record {
           text = text;
@@ -230,49 +277,49 @@ module _ {D : Type 0} (state : D → DeviceState) (strict : Bool) (none : (old :
       ))
 
   -- a line with its newline, which is the last
-  pub turned_end : (end : StrictEnd) (n : ℕ) (r mid now w w1 w2 : Option (List ℕ)) (old at new : Mounted D) (text left : List ℕ) → SoFar state strict n r mid w w1 old at → IsText text
-      → Consumes mid (prepend_known left now) (text ++ 10 ∷ []) → Turns state strict (Some end) w1 w2 at new text n → EndsBy state strict end r now w w2 old new
-  turned_end Refused n r mid now w w1 w2 old at new text left so plain consumes (call, refused) =
-      refusal_stops n r mid now w w1 w2 old at new text (ended_texts (so.texts ++ text ∷ [])) left so call refused (lines_whole (so.texts ++ text ∷ []) (all_more so.texts text so.plain plain))
+  pub turned_end : (end : StrictEnd) (n : ℕ) (r mid now w w1 w2 : Option (List ℕ)) (old at new : Mounted D) (text left : List ℕ) (s s1 s2 : List Look) → SoFar state strict n r mid w w1 old at s s1 → IsText text
+      → Consumes mid (prepend_known left now) (text ++ 10 ∷ []) → Turns state strict (Some end) w1 w2 at new text n → LooksBeforeReply state new w1 text s1 s2 → EndsTold state strict end r now w w2 old new s s2
+  turned_end Refused n r mid now w w1 w2 old at new text left s s1 s2 so plain consumes (call, refused) looks =
+      refusal_stops n r mid now w w1 w2 old at new text (ended_texts (so.texts ++ text ∷ [])) left s s1 s2 so (looks.once call.line call.spells) call refused (lines_whole (so.texts ++ text ∷ []) (all_more so.texts text so.plain plain))
       (inl (ended_texts so.texts ++ text, ended_more so.texts text)) (with_left r now left (ended_texts (so.texts ++ text ∷ [])) (line_more r mid (prepend_known left now) so.texts text so.consumed consumes))
-  turned_end (Script end) n r mid now w w1 w2 old at new text left so plain consumes (inl (is, call)) =
-      subst (λ (e : ScriptEnd). EndsBy state strict (Script e) r now w w2 old new) (sym is)
-      (reply_stops n r mid now w w1 w2 old at new text (ended_texts (so.texts ++ text ∷ [])) left so call (lines_whole (so.texts ++ text ∷ []) (all_more so.texts text so.plain plain))
+  turned_end (Script end) n r mid now w w1 w2 old at new text left s s1 s2 so plain consumes (inl (is, call)) looks =
+      subst (λ (e : ScriptEnd). EndsTold state strict (Script e) r now w w2 old new s s2) (sym is)
+      (reply_stops n r mid now w w1 w2 old at new text (ended_texts (so.texts ++ text ∷ [])) left s s1 s2 so (looks.once call.line call.spells) call (lines_whole (so.texts ++ text ∷ []) (all_more so.texts text so.plain plain))
       (inl (ended_texts so.texts ++ text, ended_more so.texts text)) (with_left r now left (ended_texts (so.texts ++ text ∷ [])) (line_more r mid (prepend_known left now) so.texts text so.consumed consumes)))
-  turned_end (Script end) n r mid now w w1 w2 old at new text left so plain consumes (inr (unspelled, refuses, same)) =
-      bad_ends end n r mid now w w1 w2 old at new text (10 ∷ left) so same (record { plain = plain; is_bad = inr (unspelled, inl (left, refl)) })
+  turned_end (Script end) n r mid now w w1 w2 old at new text left s s1 s2 so plain consumes (inr (unspelled, refuses, same)) looks =
+      bad_ends end n r mid now w w1 w2 old at new text (10 ∷ left) s s1 s2 so same (looks.never unspelled) (record { plain = plain; is_bad = inr (unspelled, inl (left, refl)) })
       (line_read r mid now (ended_texts so.texts) text (10 ∷ []) left so.consumed consumes) refuses
 
   -- a line that is too long
-  pub too_long : (end : ScriptEnd) (n : ℕ) (r mid now w w1 w2 : Option (List ℕ)) (old at : Mounted D) (text left : List ℕ) (b : ℕ) → SoFar state strict n r mid w w1 old at → IsText text → b ≢ 10 → length text ≡ 140000
-      → Consumes mid (prepend_known left now) (text ++ b ∷ []) → RepliesBadLine end w1 w2 n → EndsBy state strict (Script end) r now w w2 old at
-  too_long end n r mid now w w1 w2 old at text left b so plain apart long consumes refuses =
-      bad_ends end n r mid now w w1 w2 old at at (text ++ b ∷ []) left so refl
+  pub too_long : (end : ScriptEnd) (n : ℕ) (r mid now w w1 w2 : Option (List ℕ)) (old at : Mounted D) (text left : List ℕ) (b : ℕ) (s s1 : List Look) → SoFar state strict n r mid w w1 old at s s1 → IsText text → b ≢ 10 → length text ≡ 140000
+      → Consumes mid (prepend_known left now) (text ++ b ∷ []) → RepliesBadLine end w1 w2 n → EndsTold state strict (Script end) r now w w2 old at s s1
+  too_long end n r mid now w w1 w2 old at text left b s s1 so plain apart long consumes refuses =
+      bad_ends end n r mid now w w1 w2 old at at (text ++ b ∷ []) left s s1 s1 so refl refl
       (record { plain = plain_more text b plain apart; is_bad = inl (let l = length-append text (b ∷ []) in omega (arith, l, long)) })
       (subst (Consumes r now) (append_assoc (ended_texts so.texts) (text ++ b ∷ []) left)
       (with_left r now left (ended_texts so.texts ++ (text ++ b ∷ [])) (Consumes-trans r mid (prepend_known left now) (ended_texts so.texts) (text ++ b ∷ []) so.consumed consumes)))
       refuses
 
   -- a read that failed
-  pub read_fails : (n : ℕ) (r mid now w w1 : Option (List ℕ)) (old at : Mounted D) (text left : List ℕ) → SoFar state strict n r mid w w1 old at → IsText text
-      → Consumes mid (prepend_known left now) (text ++ []) → left ≡ [] → EndsBy state strict (Script Read) r now w w1 old at
-  read_fails n r mid now w w1 old at text left so plain consumes empty =
+  pub read_fails : (n : ℕ) (r mid now w w1 : Option (List ℕ)) (old at : Mounted D) (text left : List ℕ) (s s1 : List Look) → SoFar state strict n r mid w w1 old at s s1 → IsText text
+      → Consumes mid (prepend_known left now) (text ++ []) → left ≡ [] → EndsTold state strict (Script Read) r now w w1 old at s s1
+  read_fails n r mid now w w1 old at text left s s1 so plain consumes empty =
       let read : Consumes mid now text = subst (Consumes mid now) (append-nil text) (subst (λ o. Consumes mid o (text ++ [])) (ap (λ l. prepend_known l now) empty ∙ prepend_known-nil now) consumes) in
-      stays (Script Read) n r mid now w w1 w1 old at at so refl ((text, inl plain, Consumes-trans r mid now (ended_texts so.texts) text so.consumed read, so.appended), so.goes_on)
+      stays (Script Read) n r mid now w w1 w1 old at at s s1 s1 so refl refl ((text, inl plain, Consumes-trans r mid now (ended_texts so.texts) text so.consumed read, so.appended), so.goes_on)
 
   -- as many lines as have a number
-  pub numbers_end : (n : ℕ) (r now w w1 : Option (List ℕ)) (old at : Mounted D) (left : List ℕ) → SoFar state strict n r (prepend_known left now) w w1 old at → 2 ^ 64 - 1 ≤ n → EndsBy state strict (Script Read) r now w w1 old at
-  numbers_end n r now w w1 old at left so last =
-      stays (Script Read) n r (prepend_known left now) now w w1 w1 old at at so refl
+  pub numbers_end : (n : ℕ) (r now w w1 : Option (List ℕ)) (old at : Mounted D) (left : List ℕ) (s s1 : List Look) → SoFar state strict n r (prepend_known left now) w w1 old at s s1 → 2 ^ 64 - 1 ≤ n → EndsTold state strict (Script Read) r now w w1 old at s s1
+  numbers_end n r now w w1 old at left s s1 so last =
+      stays (Script Read) n r (prepend_known left now) now w w1 w1 old at at s s1 s1 so refl refl
       ((left, inr (let c = so.count in omega (arith, c, last)), with_left r now left (ended_texts so.texts) so.consumed, so.appended), so.goes_on)
 
   -- the end of the input
-  pub finished : (end : StrictEnd) (n : ℕ) (r mid now w w1 w2 : Option (List ℕ)) (old at new : Mounted D) (text left : List ℕ) → SoFar state strict n r mid w w1 old at → IsText text
-      → Consumes mid (prepend_known left now) (text ++ []) → IsAtEnd (prepend_known left now) → Finishes state strict end w1 w2 at new text n → EndsBy state strict end r now w w2 old new
-  finished end n r mid now w w1 w2 old at new text left so plain consumes ended (inl (empty, is, still, same)) =
+  pub finished : (end : StrictEnd) (n : ℕ) (r mid now w w1 w2 : Option (List ℕ)) (old at new : Mounted D) (text left : List ℕ) (s s1 s2 : List Look) → SoFar state strict n r mid w w1 old at s s1 → IsText text
+      → Consumes mid (prepend_known left now) (text ++ []) → IsAtEnd (prepend_known left now) → Finishes state strict end w1 w2 at new text n s1 s2 → EndsTold state strict end r now w w2 old new s s2
+  finished end n r mid now w w1 w2 old at new text left s s1 s2 so plain consumes ended (inl (empty, is, still, same, seen)) =
       let read = last_read r mid now (ended_texts so.texts) text left so.consumed consumes ended in
-      subst (λ (e : StrictEnd). EndsBy state strict e r now w w2 old new) (sym is)
-      (stays (Script Done) n r mid now w w1 w2 old at new so same (
+      subst (λ (e : StrictEnd). EndsTold state strict e r now w w2 old new s s2) (sym is)
+      (stays (Script Done) n r mid now w w1 w2 old at new s s1 s2 so same seen (
         (
           ended_texts so.texts,
           subst (Consumes r now) (ap (λ t. ended_texts so.texts ++ t) empty ∙ append-nil (ended_texts so.texts)) read.0,
@@ -282,38 +329,43 @@ module _ {D : Type 0} (state : D → DeviceState) (strict : Bool) (none : (old :
         ),
         so.goes_on,
       ))
-  finished end n r mid now w w1 w2 old at new text left so plain consumes ended (inr (some, inl (is, (call, goes_on)))) =
+  finished end n r mid now w w1 w2 old at new text left s s1 s2 so plain consumes ended (inr (some, looks, inl (is, (call, goes_on)))) =
       let read = last_read r mid now (ended_texts so.texts) text left so.consumed consumes ended in
-      subst (λ (e : StrictEnd). EndsBy state strict e r now w w2 old new) (sym is)
+      subst (λ (e : StrictEnd). EndsTold state strict e r now w w2 old new s s2) (sym is)
       (record {
-        texts = so.texts ++ text ∷ [];
-        script = so.script ++ call.line ∷ [];
-        answers = so.answers ++ call.answer ∷ [];
-        spelled = spelled_more so.texts so.script text call.line so.spelled call.spells;
-        run = more old at new so.script so.answers call.line call.answer so.run call.serves;
-        bytes = (
-          (
-            ended_texts so.texts ++ text,
-            read.0,
-            read.1,
-            lines_last so.texts text so.plain plain some,
-            replies_after w w1 w2 so.answers call.answer so.appended call.replied,
-          ),
-          each_more (GoesOnBehind strict) so.answers call.answer so.goes_on goes_on,
-        );
+        ends = record {
+          texts = so.texts ++ text ∷ [];
+          script = so.script ++ call.line ∷ [];
+          answers = so.answers ++ call.answer ∷ [];
+          spelled = spelled_more so.texts so.script text call.line so.spelled call.spells;
+          run = (more old at new so.script so.answers so.clocks call.line call.answer so.told call.serves).runs;
+          bytes = (
+            (
+              ended_texts so.texts ++ text,
+              read.0,
+              read.1,
+              lines_last so.texts text so.plain plain some,
+              replies_after w w1 w2 so.answers call.answer so.appended call.replied,
+            ),
+            each_more (GoesOnBehind strict) so.answers call.answer so.goes_on goes_on,
+          );
+        };
+        clocks = so.clocks ++ (state new.log.device).moment ∷ [];
+        told = more old at new so.script so.answers so.clocks call.line call.answer so.told call.serves;
+        looked = looked_more w w1 so.answers call.answer so.clocks (state new.log.device).moment s s1 s2 so.looked so.appended (looks.once call.line call.spells);
       })
-  finished Refused n r mid now w w1 w2 old at new text left so plain consumes ended (inr (some, inr (call, refused))) =
+  finished Refused n r mid now w w1 w2 old at new text left s s1 s2 so plain consumes ended (inr (some, looks, inr (call, refused))) =
       let read = last_read r mid now (ended_texts so.texts) text left so.consumed consumes ended in
-      refusal_stops n r mid now w w1 w2 old at new text (ended_texts so.texts ++ text) [] so call refused (lines_last so.texts text so.plain plain some) (inr (refl, read.1))
+      refusal_stops n r mid now w w1 w2 old at new text (ended_texts so.texts ++ text) [] s s1 s2 so (looks.once call.line call.spells) call refused (lines_last so.texts text so.plain plain some) (inr (refl, read.1))
       (subst (Consumes r now) (sym (append-nil (ended_texts so.texts ++ text))) read.0)
-  finished (Script end) n r mid now w w1 w2 old at new text left so plain consumes ended (inr (some, inr (inl (is, call)))) =
+  finished (Script end) n r mid now w w1 w2 old at new text left s s1 s2 so plain consumes ended (inr (some, looks, inr (inl (is, call)))) =
       let read = last_read r mid now (ended_texts so.texts) text left so.consumed consumes ended in
-      subst (λ (e : ScriptEnd). EndsBy state strict (Script e) r now w w2 old new) (sym is)
-      (reply_stops n r mid now w w1 w2 old at new text (ended_texts so.texts ++ text) [] so call (lines_last so.texts text so.plain plain some) (inr (refl, read.1))
+      subst (λ (e : ScriptEnd). EndsTold state strict (Script e) r now w w2 old new s s2) (sym is)
+      (reply_stops n r mid now w w1 w2 old at new text (ended_texts so.texts ++ text) [] s s1 s2 so (looks.once call.line call.spells) call (lines_last so.texts text so.plain plain some) (inr (refl, read.1))
       (subst (Consumes r now) (sym (append-nil (ended_texts so.texts ++ text))) read.0))
-  finished (Script end) n r mid now w w1 w2 old at new text left so plain consumes ended (inr (some, inr (inr (unspelled, refuses, same)))) =
+  finished (Script end) n r mid now w w1 w2 old at new text left s s1 s2 so plain consumes ended (inr (some, looks, inr (inr (unspelled, refuses, same)))) =
       let read = last_read r mid now (ended_texts so.texts) text left so.consumed consumes ended in
-      bad_ends end n r mid now w w1 w2 old at new text [] so same (record { plain = plain; is_bad = inr (unspelled, inr (refl, some, read.1)) })
+      bad_ends end n r mid now w w1 w2 old at new text [] s s1 s2 so same (looks.never unspelled) (record { plain = plain; is_bad = inr (unspelled, inr (refl, some, read.1)) })
       (subst (λ t. Consumes r now (ended_texts so.texts ++ t)) (sym (append-nil text)) read.0) refuses
 
 -- ---- a run that isn't strict

@@ -1,9 +1,11 @@
 -- What a mount and a run of a script say together, and what a stop after them leaves: a use of a volume.
-use Rattle.std.proofs.Common.{◌≡◌, ◌<◌, ◌≤◌, ℕ, true, Option, Result, Ok, Err, List, sym, ◌∙◌, subst, IfOk, IfErr}
+use Rattle.std.proofs.Common.{◌≡◌, ◌<◌, ◌≤◌, ◌∷◌, ⊎_elim, arith, map, ℕ, Bool, true, false, Option, Result, Ok, Err, List, sym, ◌∙◌, subst, IfOk, IfErr}
 use Rattle.lfs_model.specs.Content.{Content}
 use Rattle.lfs_model.specs.Device.{Carries, DeviceState, Elapses, IsLawful, IsUntouched, LeavesOnly, Only}
-use Rattle.lfs_model.specs.Script.{Line}
-use Rattle.lfs_model.specs.Call.{Answer}
+use Rattle.lfs_model.specs.Run.{Point}
+use Rattle.lfs_model.specs.Script.{Line, call_of}
+use Rattle.lfs_model.specs.Call.{Answer, Call}
+use Rattle.lfs_model.specs.Since.{AreKeptSince}
 use Rattle.lfs_model.specs.Use.{UsesVolume}
 use Rattle.lfs_model.proofs.Moments.{goes_on}
 use Rattle.lfs_fs.specs.declared.fs.Fs.{Fs}
@@ -12,38 +14,65 @@ use Rattle.lfs_fs.specs.Seen.{seen}
 use Rattle.lfs_fs.specs.Volume.{Mounted}
 use Rattle.lfs_fs.specs.log.verify.declared.fault.MountFault.{MountFault}
 use Rattle.lfs_fs.specs.log.verify.declared.fault.MountFault.TheVariants.{NoMemory, Device, TooSmall, NoCheckpoint, Damaged}
-use Rattle.lfs_fs.proofs.Sessions.{uses_volume}
-use Rattle.lfs_script.specs.Running.{Ends, EndsBy}
-use Rattle.lfs_script.specs.Session.{Session}
+use Rattle.lfs_fs.proofs.Sessions.{uses_told, uses_volume}
+use Rattle.lfs_script.specs.Running.{Ends, EndsBy, EndsTold}
+use Rattle.lfs_script.specs.Session.{Session, SessionTold}
 use Rattle.lfs_script.specs.Strict.{StrictSession}
+use Rattle.lfs_script.specs.Told.{Look}
 use Rattle.lfs_script.specs.declared.script.ScriptEnd.{ScriptEnd}
 use Rattle.lfs_script.specs.declared.script.StrictEnd.{StrictEnd}
+use Rattle.lfs_script.specs.declared.script.StrictEnd.TheVariants.{Refused}
 
 -- a mount, and then a run of a script
 pub used : {D : Type 0} (state : D → DeviceState) (d : D) (end : ScriptEnd) (r r' w w' : Option (List ℕ)) (v : Fs D) (new : Mounted D) → IsLawful (state d) → FindsState state d v
     → ((state v.store.log.device).keeps_model → Only (state d).content (state v.store.log.device)) → IsUntouched (state d) (state v.store.log.device) → Carries (state d) (state v.store.log.device)
-    → LeavesOnly (state d) (state v.store.log.device) (state d).may_leave → Ends state end r r' w w' (seen v) new → Session end r r' w w' (state d) (state new.log.device)
-used state d end r r' w w' v new lawful finds durable untouched carries moment ends = record {
+    → LeavesOnly (state d) (state v.store.log.device) (state d).may_leave → (state v.store.log.device).failures ≡ (state d).failures → Ends state end r r' w w' (seen v) new → Session end r r' w w' (state d) (state new.log.device)
+used state d end r r' w w' v new lawful finds durable untouched carries moment no_failure ends = record {
   texts = ends.texts;
   script = ends.script;
   answers = ends.answers;
   spelled = ends.spelled;
   bytes = ends.bytes;
-  uses = λ keeps. uses_volume state d lawful v new ends.script ends.answers finds durable untouched carries moment ends.run keeps;
+  uses = λ keeps. uses_volume state d lawful v new ends.script ends.answers finds durable untouched carries moment no_failure ends.run keeps;
 }
 
 -- and a strict one
 pub used_strictly : {D : Type 0} (state : D → DeviceState) (d : D) (end : StrictEnd) (r r' w w' : Option (List ℕ)) (v : Fs D) (new : Mounted D) → IsLawful (state d) → FindsState state d v
     → ((state v.store.log.device).keeps_model → Only (state d).content (state v.store.log.device)) → IsUntouched (state d) (state v.store.log.device) → Carries (state d) (state v.store.log.device)
-    → LeavesOnly (state d) (state v.store.log.device) (state d).may_leave → EndsBy state true end r r' w w' (seen v) new → StrictSession end r r' w w' (state d) (state new.log.device)
-used_strictly state d end r r' w w' v new lawful finds durable untouched carries moment ends = record {
+    → LeavesOnly (state d) (state v.store.log.device) (state d).may_leave → (state v.store.log.device).failures ≡ (state d).failures → EndsBy state true end r r' w w' (seen v) new → StrictSession end r r' w w' (state d) (state new.log.device)
+used_strictly state d end r r' w w' v new lawful finds durable untouched carries moment no_failure ends = record {
   texts = ends.texts;
   script = ends.script;
   answers = ends.answers;
   spelled = ends.spelled;
   bytes = ends.bytes;
-  uses = λ keeps. uses_volume state d lawful v new ends.script ends.answers finds durable untouched carries moment ends.run keeps;
+  uses = λ keeps. uses_volume state d lawful v new ends.script ends.answers finds durable untouched carries moment no_failure ends.run keeps;
 }
+
+-- and one before a witness
+pub used_told : {D : Type 0} (state : D → DeviceState) (d : D) (strict : Bool) (end : StrictEnd) (r r' w w' : Option (List ℕ)) (v : Fs D) (new : Mounted D) (s s' : List Look) → IsLawful (state d) → FindsState state d v
+    → ((state v.store.log.device).keeps_model → Only (state d).content (state v.store.log.device)) → IsUntouched (state d) (state v.store.log.device) → Carries (state d) (state v.store.log.device)
+    → LeavesOnly (state d) (state v.store.log.device) (state d).may_leave → (state v.store.log.device).failures ≡ (state d).failures → EndsTold state strict end r r' w w' (seen v) new s s' → SessionTold strict end r r' w w' (state d) (state new.log.device) s s'
+used_told state d strict end r r' w w' v new s s' lawful finds durable untouched carries moment no_failure ends = record {
+  texts = ends.ends.texts;
+  script = ends.ends.script;
+  answers = ends.ends.answers;
+  clocks = ends.clocks;
+  spelled = ends.ends.spelled;
+  bytes = ends.ends.bytes;
+  looked = ends.looked;
+  uses = λ keeps. uses_told state d lawful v new ends.ends.script ends.ends.answers finds durable untouched carries moment no_failure ends.clocks ends.told keeps;
+}
+
+-- where it isn't strict, no refusal ends it
+pub told_goes_on : (end : StrictEnd) (r r' w w' : Option (List ℕ)) (d d' : DeviceState) (s s' : List Look) → end ≡ Refused → SessionTold false end r r' w w' d d' s s' → ⊥
+told_goes_on end r r' w w' d d' s s' is session =
+    let ended = subst (λ (e : StrictEnd). SessionTold false e r r' w w' d d' s s') is session in
+    let bad : false ≡ true = ended.bytes.refused.0 in cc
+
+-- a session whose end is known
+pub told_of : (strict : Bool) (end is : StrictEnd) (r r' w w' : Option (List ℕ)) (d d' : DeviceState) (s s' : List Look) → end ≡ is → SessionTold strict end r r' w w' d d' s s' → SessionTold strict is r r' w w' d d' s s'
+told_of strict end is r r' w w' d d' s s' same session = subst (λ (e : StrictEnd). SessionTold strict e r r' w w' d d' s s') same session
 
 -- a strict session, whose end is known
 pub session_of : (end is : StrictEnd) (r r' w w' : Option (List ℕ)) (d d' : DeviceState) → end ≡ is → StrictSession end r r' w w' d d' → StrictSession is r r' w w' d d'
@@ -94,6 +123,30 @@ module _ (mid new : DeviceState) (counts : (t : ℕ) (c : Content) → t ≤ mid
     spelled = session.spelled;
     bytes = session.bytes;
     uses = λ keeps. stopped_use d session.script session.answers (session.uses (carries.kept_before keeps));
+  }
+
+  -- what was told is kept over the stop
+  kept_over : (points : List Point) (calls : List Call) (answers : List Answer) (clocks : List ℕ) → AreKeptSince mid points calls answers clocks → AreKeptSince new points calls answers clocks
+  kept_over points calls answers clocks kept = record {
+    past = λ i t is. (let was = kept.past i t is in let later = carries.later in omega (arith, was, later));
+    since = λ i t is c left. kept.since i t is c (⊎_elim (λ was. was) (λ now. counts t c (kept.past i t is) (was_left c now)) (time t c (kept.past i t is) left));
+  }
+
+  pub stopped_told : (d : DeviceState) (strict : Bool) (end : StrictEnd) (r r' w w' : Option (List ℕ)) (s s' : List Look) → SessionTold strict end r r' w w' d mid s s' → SessionTold strict end r r' w w' d new s s'
+  unfolding stopped_use
+  stopped_told d strict end r r' w w' s s' session = record {
+    texts = session.texts;
+    script = session.script;
+    answers = session.answers;
+    clocks = session.clocks;
+    spelled = session.spelled;
+    bytes = session.bytes;
+    looked = session.looked;
+    uses = λ keeps. (
+        let was = session.uses (carries.kept_before keeps) in record {
+          uses = stopped_use d session.script session.answers was.uses;
+          since = kept_over (was.uses.first ∷ was.uses.points) (map call_of session.script) session.answers session.clocks was.since;
+        });
   }
 
   -- and the reason of a mount that was refused before it stays one

@@ -10,5 +10,7 @@ pub mod Ending
 pub mod Strict
 pub mod Running
 pub mod Session
+pub mod Seen
+pub mod Told
 pub mod Series
 pub use Rattle.lfs_fs.specs as fs

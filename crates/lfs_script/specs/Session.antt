@@ -1,10 +1,14 @@
 -- A whole use of a volume: mounted, a script run on it, and what a stop leaves of it. The language is an own choice.
-use Rattle.std.specs.Prelude.{ℕ, Option, List}
+use Rattle.std.specs.Prelude.{ℕ, Bool, Option, List}
 use Rattle.lfs_model.specs.Call.{Answer}
 use Rattle.lfs_model.specs.Device.{DeviceState}
 use Rattle.lfs_model.specs.Script.{Line}
+use Rattle.lfs_model.specs.Since.{UsesTold}
 use Rattle.lfs_model.specs.Use.{UsesVolume}
 use Rattle.lfs_script.specs.Ending.{AreSpelled, EndOf}
+use Rattle.lfs_script.specs.Strict.{StrictEndOf}
+use Rattle.lfs_script.specs.Told.{Look, Looked}
+use Rattle.lfs_script.specs.declared.script.StrictEnd.{StrictEnd}
 use Rattle.lfs_script.specs.declared.script.ScriptEnd.{ScriptEnd}
 
 -- A use of a volume by a script, from the reader, the writer and the device before its mount to those at the end. The texts of these lines were
@@ -16,3 +20,14 @@ pub record Session (end : ScriptEnd) (r r' w w' : Option (List ℕ)) (d d' : Dev
   pub spelled : AreSpelled texts script
   pub bytes : EndOf end r r' w w' texts answers
   pub uses : d'.keeps_model → UsesVolume d d' script answers
+
+-- The same, before a witness, which looked at device and writer before each reply went out.
+pub record SessionTold (strict : Bool) (end : StrictEnd) (r r' w w' : Option (List ℕ)) (d d' : DeviceState) (s s' : List Look) : Type 0 where
+  pub texts : List (List ℕ)
+  pub script : List Line
+  pub answers : List Answer
+  pub clocks : List ℕ
+  pub spelled : AreSpelled texts script
+  pub bytes : StrictEndOf strict end r r' w w' texts answers
+  pub looked : Looked w answers clocks s s'
+  pub uses : d'.keeps_model → UsesTold d d' script answers clocks

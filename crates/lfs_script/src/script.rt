@@ -2,7 +2,7 @@
 ghost use Rattle.std.specs.Prelude.{◌≤◌, length, option_map, true};
 ghost use Rattle.lfs_fs.specs.Seen.{seen};
 ghost use Rattle.lfs_script.specs.Answers.{result_of};
-ghost use Rattle.lfs_script.specs.Running.{AnswersText, Ends, EndsBy, Finishes, RepliesBadLine, Turns};
+ghost use Rattle.lfs_script.specs.Running.{AnswersText, Ends, EndsBy, EndsTold, Finishes, LooksBeforeReply, RepliesBadLine, Turns};
 ghost use Rattle.lfs_script.specs.Strict.{Follows};
 
 use crate::answer::{Answer, make};
@@ -10,6 +10,7 @@ use crate::call::parse;
 use crate::line::{LONGEST, LineEnd, next_line};
 use crate::reply::{put_bad, put_reply};
 use crate::source::Source;
+use crate::witness::{Looks, Witness};
 use crate::word::WordFault;
 use lfs_device::SectorDevice;
 use lfs_fs::{Fs, FsError};
@@ -78,21 +79,25 @@ fn decide(strict: bool, answer: &Result<Answer, FsError>) -> Option<StrictEnd>
 }
 
 // Makes a line's call and writes its reply. None where the script goes on.
-fn turn<W: Write, D: SectorDevice>(
+fn turn<W: Write, D: SectorDevice, S: Witness<D, W>>(
     alloc: Global,
     strict: bool,
     writer: &mut W,
+    witness: &mut S,
     fs: &mut Fs<D>,
     line: &[u8],
     count: u64,
 ) -> Option<StrictEnd>
     requires short { length line.now ≤ 140000 }
-    ensures { Turns D.SectorDevice.state strict result (W.contents writer.old)
+    ensures turns { Turns D.SectorDevice.state strict result (W.contents writer.old)
         (W.contents writer.new) (seen fs.old) (seen fs.new) line.now count }
+    ensures looks { LooksBeforeReply D.SectorDevice.state (seen fs.new) (W.contents writer.old)
+        line.now (S.looks witness.old) (S.looks witness.new) }
 {
     let Some(answer) = answer_line(alloc, fs, line) else {
         return Some(StrictEnd::Script(refuse(writer, count)));
     };
+    witness.look(fs.device(), writer);
     match put_reply(writer, &answer) {
         Ok(()) => decide(strict, &answer),
         Err(_) => Some(StrictEnd::Script(ScriptEnd::Write)),
@@ -100,38 +105,41 @@ fn turn<W: Write, D: SectorDevice>(
 }
 
 // The last line, which may be none.
-fn finish<W: Write, D: SectorDevice>(
+fn finish<W: Write, D: SectorDevice, S: Witness<D, W>>(
     alloc: Global,
     strict: bool,
     writer: &mut W,
+    witness: &mut S,
     fs: &mut Fs<D>,
     line: &[u8],
     count: u64,
 ) -> StrictEnd
     requires short { length line.now ≤ 140000 }
     ensures { Finishes D.SectorDevice.state strict result (W.contents writer.old)
-        (W.contents writer.new) (seen fs.old) (seen fs.new) line.now count }
+        (W.contents writer.new) (seen fs.old) (seen fs.new) line.now count (S.looks witness.old)
+        (S.looks witness.new) }
 {
     if line.is_empty() {
         return StrictEnd::Script(ScriptEnd::Done);
     }
-    match turn(alloc, strict, writer, fs, line, count) {
+    match turn(alloc, strict, writer, witness, fs, line, count) {
         Some(end) => end,
         None => StrictEnd::Script(ScriptEnd::Done),
     }
 }
 
 // Runs a script, to the first refusal where it is strict.
-fn run_lines<R: Read, W: Write, D: SectorDevice>(
+fn run_lines<R: Read, W: Write, D: SectorDevice, S: Witness<D, W>>(
     alloc: Global,
     strict: bool,
     reader: &mut R,
     writer: &mut W,
+    witness: &mut S,
     fs: &mut Fs<D>,
 ) -> StrictEnd
-    ensures { EndsBy D.SectorDevice.state strict result (R.remaining reader.old)
+    ensures { EndsTold D.SectorDevice.state strict result (R.remaining reader.old)
         (R.remaining reader.new) (W.contents writer.old) (W.contents writer.new) (seen fs.old)
-        (seen fs.new) }
+        (seen fs.new) (S.looks witness.old) (S.looks witness.new) }
 {
     let Ok(mut line) = Vec::with_capacity(alloc, LONGEST) else {
         return StrictEnd::Script(ScriptEnd::Memory);
@@ -142,12 +150,20 @@ fn run_lines<R: Read, W: Write, D: SectorDevice>(
     for count in 1..u64::MAX {
         match next_line(&mut source, reader, writer, &mut line) {
             Ok(LineEnd::Newline) => {
-                if let Some(end) = turn(alloc, strict, writer, fs, line.as_slice(), count) {
+                if let Some(end) = turn(
+                    alloc,
+                    strict,
+                    writer,
+                    witness,
+                    fs,
+                    line.as_slice(),
+                    count,
+                ) {
                     return end;
                 }
             }
             Ok(LineEnd::Input) => {
-                return finish(alloc, strict, writer, fs, line.as_slice(), count);
+                return finish(alloc, strict, writer, witness, fs, line.as_slice(), count);
             }
             Ok(LineEnd::TooLong(_)) => return StrictEnd::Script(refuse(writer, count)),
             Err(_) => return StrictEnd::Script(ScriptEnd::Read),
@@ -168,7 +184,8 @@ pub fn run<R: Read, W: Write, D: SectorDevice>(
     ensures { Ends D.SectorDevice.state result (R.remaining reader.old) (R.remaining reader.new)
         (W.contents writer.old) (W.contents writer.new) (seen fs.old) (seen fs.new) }
 {
-    match run_lines(alloc, false, reader, writer, fs) {
+    let mut looks = Looks::<D, W>::new();
+    match run_lines(alloc, false, reader, writer, &mut looks, fs) {
         StrictEnd::Script(end) => end,
         StrictEnd::Refused => unreachable!(),
     }
@@ -185,5 +202,23 @@ pub fn run_strict<R: Read, W: Write, D: SectorDevice>(
         (R.remaining reader.new) (W.contents writer.old) (W.contents writer.new) (seen fs.old)
         (seen fs.new) }
 {
-    run_lines(alloc, true, reader, writer, fs)
+    let mut looks = Looks::<D, W>::new();
+    run_lines(alloc, true, reader, writer, &mut looks, fs)
+}
+
+/// As `run` or `run_strict`, before a witness, which looks at device and writer between each call
+/// and its reply.
+pub fn run_told<R: Read, W: Write, D: SectorDevice, S: Witness<D, W>>(
+    alloc: Global,
+    strict: bool,
+    reader: &mut R,
+    writer: &mut W,
+    witness: &mut S,
+    fs: &mut Fs<D>,
+) -> StrictEnd
+    ensures { EndsTold D.SectorDevice.state strict result (R.remaining reader.old)
+        (R.remaining reader.new) (W.contents writer.old) (W.contents writer.new) (seen fs.old)
+        (seen fs.new) (S.looks witness.old) (S.looks witness.new) }
+{
+    run_lines(alloc, strict, reader, writer, witness, fs)
 }

@@ -1,5 +1,5 @@
 //! The stages of a tree in order, with the number of the first that fails.
-ghost use Rattle.std.specs.Prelude.{OnOk, IfErr};
+ghost use Rattle.std.specs.Prelude.{◌≡◌, OnOk, IfErr};
 ghost use Rattle.lfs_model.specs.Checkpoint.{CheckpointValue};
 ghost use Rattle.lfs_model.specs.Content.{Content};
 ghost use Rattle.lfs_model.specs.Stands.{LogMap};
@@ -56,6 +56,8 @@ fn check_objects<D: SectorDevice>(
         (λ k m. AreEmpty names.old
         → IsFaultOf (FailsToRead (D.state device.old) (D.state device.new))
         (IsTreeDamage k.segments m) e)) }
+    ensures no_failure { OnOk result
+        ((D.state device.new).failures ≡ (D.state device.old).failures) }
     ensures looks { Looks (D.state device.old) (D.state device.new) }
 {
     match stage_slots(alloc, device, map, headers, names) {
@@ -121,6 +123,8 @@ fn check_stages<D: SectorDevice>(
         tables.now names.old
         (λ k m. IsFaultOf (FailsToRead (D.state device.old) (D.state device.new))
         (IsTreeDamage k.segments m) e)) }
+    ensures no_failure { OnOk result
+        ((D.state device.new).failures ≡ (D.state device.old).failures) }
     ensures looks { Looks (D.state device.old) (D.state device.new) }
 {
     match read_headers(device, &tables.map, headers) {
@@ -157,6 +161,8 @@ pub fn check_tree<D: SectorDevice>(
     ensures reason { IfErr result (λ e. (D.state device.new).keeps_model
         → HoldsTables (D.state device.old).content tables.now
         → IsRefusedTree (D.state device.old) (D.state device.new) e) }
+    ensures no_failure { OnOk result
+        ((D.state device.new).failures ≡ (D.state device.old).failures) }
     ensures looks { Looks (D.state device.old) (D.state device.new) }
 {
     let Ok(mut headers) = Headers::new(alloc) else {

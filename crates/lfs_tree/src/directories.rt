@@ -1,5 +1,5 @@
 //! The directories of a log map, gone through one by one.
-ghost use Rattle.std.specs.Prelude.{◌≡◌, ◌/◌, [], Some, IfOk, IsErrOf};
+ghost use Rattle.std.specs.Prelude.{◌≡◌, ◌/◌, [], Some, IfOk, IsErrOf, OnOk};
 ghost use Rattle.lfs_model.specs.Content.{block};
 ghost use Rattle.lfs_dirs.specs.Directory.{slots_at};
 ghost use Rattle.lfs_files.specs.Headers.{as_header};
@@ -47,6 +47,8 @@ fn take_blocks<D: SectorDevice>(
     ensures failed { IsErrOf result CheckFault.Device
         → OfInodeAt (D.state device.old) (D.state device.new) inode.now directory.value
         (λ m. FailsToRead (D.state device.old) (D.state device.new)) }
+    ensures no_failure { OnOk result
+        ((D.state device.new).failures ≡ (D.state device.old).failures) }
     ensures looks { Looks (D.state device.old) (D.state device.new) }
 {
     let slots = header.size / SLOT;
@@ -91,6 +93,8 @@ pub(crate) fn take_directory<D: SectorDevice>(
         → OfLog (D.state device.old) (D.state device.new) map.now
         (λ k m. m.header directory.value ≡ Some (as_header header)
         → FailsToRead (D.state device.old) (D.state device.new)) }
+    ensures no_failure { OnOk result
+        ((D.state device.new).failures ≡ (D.state device.old).failures) }
     ensures looks { Looks (D.state device.old) (D.state device.new) }
 {
     let mut inode = [0; 512];

@@ -106,6 +106,8 @@ fn read_header<D: SectorDevice>(
         (λ k m. m.header number ≡ option_map as_header found)) }
     ensures failed { OnErr result (OfLog (D.state device.old) (D.state device.new) map.now
         (λ k m. FailsToRead (D.state device.old) (D.state device.new))) }
+    ensures no_failure { OnOk result
+        ((D.state device.new).failures ≡ (D.state device.old).failures) }
     ensures looks { Looks (D.state device.old) (D.state device.new) }
 {
     match read_inode(device, map, number, inode) {
@@ -129,6 +131,8 @@ pub fn read_headers<D: SectorDevice>(
         (λ k m. TellsHeaders m headers.new 4096)) }
     ensures failed { OnErr result (OfLog (D.state device.old) (D.state device.new) map.now
         (λ k m. FailsToRead (D.state device.old) (D.state device.new))) }
+    ensures no_failure { OnOk result
+        ((D.state device.new).failures ≡ (D.state device.old).failures) }
     ensures looks { Looks (D.state device.old) (D.state device.new) }
 {
     let mut inode = [0; 512];

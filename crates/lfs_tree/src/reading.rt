@@ -26,6 +26,8 @@ fn read_sector<D: SectorDevice>(
         → ReadsContent (D.state device.old) (D.state device.new) c
         → address < length c → 0 < length (block c address)
         → (D.state device.old).failures < (D.state device.new).failures) }
+    ensures no_failure { OnOk result
+        ((D.state device.new).failures ≡ (D.state device.old).failures) }
     ensures looks { Looks (D.state device.old) (D.state device.new) }
 {
     if address >= device.sectors() {
@@ -54,6 +56,8 @@ pub fn read_inode<D: SectorDevice>(
         (λ k m. InodeAnswer (D.state device.old).content k m number out.new found)) }
     ensures failed { OnErr result (OfLog (D.state device.old) (D.state device.new) map.now
         (λ k m. FailsToRead (D.state device.old) (D.state device.new))) }
+    ensures no_failure { OnOk result
+        ((D.state device.new).failures ≡ (D.state device.old).failures) }
     ensures looks { Looks (D.state device.old) (D.state device.new) }
 {
     let address = map.address(number);
@@ -81,6 +85,8 @@ pub fn read_block<D: SectorDevice>(
         (λ m n. HoldsBlock m n index out.new)) }
     ensures failed { OnErr result (OfInode (D.state device.old) (D.state device.new) inode.now
         (λ m n. FailsToRead (D.state device.old) (D.state device.new))) }
+    ensures no_failure { OnOk result
+        ((D.state device.new).failures ≡ (D.state device.old).failures) }
     ensures looks { Looks (D.state device.old) (D.state device.new) }
 {
     let address = match locate(device, inode, index) {

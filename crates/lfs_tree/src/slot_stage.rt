@@ -1,5 +1,5 @@
 //! Stage 10: each directory's slots are well-formed, its names differ, and its numbers are there.
-ghost use Rattle.std.specs.Prelude.{[], IfOk, IsErrOf};
+ghost use Rattle.std.specs.Prelude.{◌≡◌, [], IfOk, IsErrOf, OnOk};
 ghost use Rattle.lfs_verify.specs.Take.{Looks};
 ghost use Rattle.lfs_tree.specs.Naming.{AreEmpty, Base, IsNoted};
 ghost use Rattle.lfs_tree.specs.Objects.{SlotStage, TakesObject};
@@ -35,6 +35,8 @@ fn take_object<D: SectorDevice>(
     ensures failed { IsErrOf result CheckFault.Device
         → OfHeaders (D.state device.old) (D.state device.new) map.now headers.now
         (λ k m. FailsToRead (D.state device.old) (D.state device.new)) }
+    ensures no_failure { OnOk result
+        ((D.state device.new).failures ≡ (D.state device.old).failures) }
     ensures looks { Looks (D.state device.old) (D.state device.new) }
 {
     let Some(header) = headers.get(number.value) else {
@@ -68,6 +70,8 @@ pub fn stage_slots<D: SectorDevice>(
     ensures failed { IsErrOf result CheckFault.Device
         → OfHeaders (D.state device.old) (D.state device.new) map.now headers.now
         (λ k m. FailsToRead (D.state device.old) (D.state device.new)) }
+    ensures no_failure { OnOk result
+        ((D.state device.new).failures ≡ (D.state device.old).failures) }
     ensures looks { Looks (D.state device.old) (D.state device.new) }
 {
     for number in 1..NUMBERS {

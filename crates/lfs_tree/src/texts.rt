@@ -1,5 +1,5 @@
 //! Stage 11: no link's text has a zero byte.
-ghost use Rattle.std.specs.Prelude.{◌≡◌, ◌≢◌, ◌<◌, ◌≤◌, ◌↔◌, ℕ, slice_index, Some, IfOk, OnErr, IsTrue};
+ghost use Rattle.std.specs.Prelude.{◌≡◌, ◌≢◌, ◌<◌, ◌≤◌, ◌↔◌, ℕ, slice_index, Some, IfOk, OnErr, IsTrue, OnOk};
 ghost use Rattle.lfs_model.specs.Content.{block};
 ghost use Rattle.lfs_model.specs.TreeOf.{AreTexts};
 ghost use Rattle.lfs_files.specs.Headers.{as_header};
@@ -45,6 +45,8 @@ fn check_bytes<D: SectorDevice>(
         (λ m n. Decides (HasNoZero m n size) holds)) }
     ensures failed { OnErr result (OfInode (D.state device.old) (D.state device.new) inode.now
         (λ m n. FailsToRead (D.state device.old) (D.state device.new))) }
+    ensures no_failure { OnOk result
+        ((D.state device.new).failures ≡ (D.state device.old).failures) }
     ensures looks { Looks (D.state device.old) (D.state device.new) }
 {
     let mut block = [0; 512];
@@ -77,6 +79,8 @@ fn check_text<D: SectorDevice>(
     ensures failed { OnErr result (OfLog (D.state device.old) (D.state device.new) map.now
         (λ k m. m.header number.value ≡ Some (as_header header)
         → FailsToRead (D.state device.old) (D.state device.new))) }
+    ensures no_failure { OnOk result
+        ((D.state device.new).failures ≡ (D.state device.old).failures) }
     ensures looks { Looks (D.state device.old) (D.state device.new) }
 {
     let mut inode = [0; 512];
@@ -119,6 +123,8 @@ fn check_object<D: SectorDevice>(
     ensures failed { OnErr result (OfHeaders (D.state device.old) (D.state device.new)
         map.now headers.now
         (λ k m. FailsToRead (D.state device.old) (D.state device.new))) }
+    ensures no_failure { OnOk result
+        ((D.state device.new).failures ≡ (D.state device.old).failures) }
     ensures looks { Looks (D.state device.old) (D.state device.new) }
 {
     let Some(header) = headers.get(number.value) else {
@@ -149,6 +155,8 @@ pub fn stage_texts<D: SectorDevice>(
     ensures failed { OnErr result (OfHeaders (D.state device.old) (D.state device.new)
         map.now headers.now
         (λ k m. FailsToRead (D.state device.old) (D.state device.new))) }
+    ensures no_failure { OnOk result
+        ((D.state device.new).failures ≡ (D.state device.old).failures) }
     ensures looks { Looks (D.state device.old) (D.state device.new) }
 {
     for number in 1..NUMBERS {

@@ -30,6 +30,8 @@ pub fn verify_tree<D: SectorDevice>(alloc: Global, device: &mut D) -> Result<Tab
     ensures reason { IfErr result (IsRefusedVolume (D.state device.old) (D.state device.new)) }
     ensures cause { IfErr result (λ e. (e ≡ MountFault.NoMemory → ⊥)
         → IsTreeFault (D.state device.old) (D.state device.new) e) }
+    ensures no_failure { OnOk result
+        ((D.state device.new).failures ≡ (D.state device.old).failures) }
     ensures looks { Looks (D.state device.old) (D.state device.new) }
 {
     let found = match verify_log(alloc, device) {

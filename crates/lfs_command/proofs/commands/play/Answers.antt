@@ -1,19 +1,22 @@
 use Rattle.std.proofs.Common.{ap, inl, inr}
-use Rattle.lfs_script.proofs.Used.{err_of, ok_of}
+use Rattle.lfs_script.proofs.Used.{err_of, ok_of, told_goes_on}
 use Rattle.lfs_command.proofs.commands.play.Goals as goal
 
 pub returns-in-Ok-default-clause-plays : goal.returns-in-Ok-default-clause-plays
 returns-in-Ok-default-clause-plays g c = inl (record {
   end = c.in-Ok-default.end;
   printed = _;
-  session = ok_of _ _ _ c.in-Ok-default.is-0 c.use_volume.ensures.ran;
-  kept = c.end_script.ensures.kept;
+  session = ok_of _ _ _ c.in-Ok-default.is-0 c.use_volume_told.ensures.ran;
+  kept = c.end_plain.ensures.kept;
 })
 
 pub returns-in-Err-default-clause-plays : goal.returns-in-Err-default-clause-plays
 returns-in-Err-default-clause-plays g c = inr (record {
   fault = c.in-Err-default.fault;
-  reason = err_of _ _ _ c.in-Err-default.is-0 c.use_volume.ensures.reason;
-  unread = ap g.I.Read.remaining (err_of _ _ _ c.in-Err-default.is-0 c.use_volume.ensures.unread);
-  left = (err_of _ _ _ c.in-Err-default.is-0 c.use_volume.ensures.untouched).crash;
+  reason = err_of _ _ _ c.in-Err-default.is-0 c.use_volume_told.ensures.reason;
+  unread = ap g.I.Read.remaining (err_of _ _ _ c.in-Err-default.is-0 c.use_volume_told.ensures.unread);
+  left = (err_of _ _ _ c.in-Err-default.is-0 c.use_volume_told.ensures.untouched).crash;
 })
+
+pub end_plain-requires : goal.end_plain-requires
+end_plain-requires g c = record { plain = λ is. told_goes_on _ _ _ _ _ _ _ _ _ is (ok_of _ _ _ c.in-Ok-default.is-0 c.use_volume_told.ensures.ran) }

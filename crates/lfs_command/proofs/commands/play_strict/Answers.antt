@@ -1,5 +1,5 @@
 use Rattle.std.proofs.Common.{ap, inl, inr}
-use Rattle.lfs_script.proofs.Used.{err_of, ok_of, session_of}
+use Rattle.lfs_script.proofs.Used.{err_of, ok_of, told_of}
 use Rattle.lfs_command.proofs.commands.play_strict.Goals as goal
 
 pub returns-in-Ok-default-clause-plays : goal.returns-in-Ok-default-clause-plays
@@ -7,7 +7,7 @@ returns-in-Ok-default-clause-plays g c = inl (
   c.in-Ok-default.end,
   record {
     printed = _;
-    session = ok_of _ _ _ c.in-Ok-default.is-0 c.use_volume_strict.ensures.ran;
+    session = ok_of _ _ _ c.in-Ok-default.is-0 c.use_volume_told.ensures.ran;
     kept = c.end_strict.ensures.kept;
   },
 )
@@ -15,14 +15,14 @@ returns-in-Ok-default-clause-plays g c = inl (
 pub returns-in-Ok-default-clause-refused : goal.returns-in-Ok-default-clause-refused
 returns-in-Ok-default-clause-refused g c = λ refused. record {
   printed = _;
-  session = session_of _ _ _ _ _ _ _ _ (c.end_strict.ensures.refused refused) (ok_of _ _ _ c.in-Ok-default.is-0 c.use_volume_strict.ensures.ran);
+  session = told_of _ _ _ _ _ _ _ _ _ _ _ (c.end_strict.ensures.refused refused) (ok_of _ _ _ c.in-Ok-default.is-0 c.use_volume_told.ensures.ran);
   kept = c.end_strict.ensures.kept;
 }
 
 pub returns-in-Err-default-clause-plays : goal.returns-in-Err-default-clause-plays
 returns-in-Err-default-clause-plays g c = inr (record {
   fault = c.in-Err-default.fault;
-  reason = err_of _ _ _ c.in-Err-default.is-0 c.use_volume_strict.ensures.reason;
-  unread = ap g.I.Read.remaining (err_of _ _ _ c.in-Err-default.is-0 c.use_volume_strict.ensures.unread);
-  left = (err_of _ _ _ c.in-Err-default.is-0 c.use_volume_strict.ensures.untouched).crash;
+  reason = err_of _ _ _ c.in-Err-default.is-0 c.use_volume_told.ensures.reason;
+  unread = ap g.I.Read.remaining (err_of _ _ _ c.in-Err-default.is-0 c.use_volume_told.ensures.unread);
+  left = (err_of _ _ _ c.in-Err-default.is-0 c.use_volume_told.ensures.untouched).crash;
 })

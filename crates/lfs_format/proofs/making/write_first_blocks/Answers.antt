@@ -3,6 +3,14 @@ use Rattle.lfs_model.specs.Image.{usage_blocks}
 use Rattle.lfs_format.proofs.FirstMoments.{touches_none, touches_write}
 use Rattle.lfs_format.proofs.making.write_first_blocks.Goals as goal
 
+pub returns-in_err-write-2-clause-touched : goal.returns-in_err-write-2-clause-touched
+returns-in_err-write-2-clause-touched g c =
+    let lawful = g.met.D.SectorDevice.lawful in
+    let n : ℕ = 5 + usage_blocks c.args.segments in
+    let none = touches_none n _ (lawful c.args.device.now) in
+    let one = touches_write n _ _ _ 2 _ (omega arith) (lawful c.args.device.now) none c.write.ensures.crash c.write.ensures.carries c.write.ensures.time in
+    touches_write n _ _ _ 3 _ (omega arith) (lawful c.write.new.self) one c.write-2.ensures.crash c.write-2.ensures.carries c.write-2.ensures.time
+
 pub returns-in_err-write-3-clause-touched : goal.returns-in_err-write-3-clause-touched
 returns-in_err-write-3-clause-touched g c =
     let lawful = g.met.D.SectorDevice.lawful in

@@ -1,5 +1,5 @@
 use Rattle.std.specs.Prelude.{min}
-use Rattle.std.proofs.Common.{◌≡◌, ◌<◌, ◌-◌, ◌*◌, ◌/◌, subst, arith}
+use Rattle.std.proofs.Common.{◌≡◌, ◌<◌, ◌-◌, ◌*◌, ◌/◌, subst, arith, ◌∙◌, refl}
 use Rattle.lfs_dirs.specs.Directory.{first_slots}
 use Rattle.lfs_tree.specs.Naming.{TakesSlots}
 use Rattle.lfs_verify.proofs.Takes.{looks_none, looks_then}
@@ -13,6 +13,7 @@ loop-index-init g c =
     record {
       low = omega (arith, e);
       looks = looks_none (g.D.SectorDevice.state c.args.device.now) (g.met.D.SectorDevice.lawful c.args.device.now);
+      no_failure = refl;
       taken = λ k m sees is base was. blocks_begin c.args.headers.now c.args.directory.value base m c.args.header c.div_ceil-index.result c.args.names.now c.args.tables.now (omega (arith, e)) was;
     }
 
@@ -40,6 +41,7 @@ loop-index-preserved g c =
     record {
       low = omega (arith, low);
       looks = looks_then old mid new here.looks c.in-Ok.ensures.looks;
+      no_failure = c.in-Ok.ensures.no_failure ∙ here.no_failure;
       taken = λ k m sees own base was.
           blocks_go_on c.args.headers.now c.args.directory.value base m c.args.header c.loop-index.index (c.loop-index.index - 1) c.min-count.result c.read_block.new.out
           (c.in-Ok.ensures.answer k m c.args.directory.value (sees_then old mid new k m sees here.looks) (inode_then old mid k c.args.directory.value c.args.inode.now own here.looks))

@@ -17,6 +17,7 @@ invariant-loop-index g l =
     record {
       low : 8 * l.index < l.fn.header.size / 64 + 8;
       looks : Looks old now;
+      no_failure : now.failures ≡ old.failures;
       taken : (k : CheckpointValue) (m : LogMap) → Sees old now k m → l.inode ≡ block old.content (address old.content k (Inode l.fn.directory.value))
           → (base : Base) → IsTaken l.headers l.fn.directory.value base [] l.initial.names l.initial.tables
           → IsTaken l.headers l.fn.directory.value base (drop (8 * l.index) (slots_at m l.fn.directory.value l.fn.header)) l.names l.tables;

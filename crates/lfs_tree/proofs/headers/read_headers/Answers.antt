@@ -1,4 +1,4 @@
-use Rattle.std.proofs.Common.{◌+◌, List, Option, arith, subst, sym}
+use Rattle.std.proofs.Common.{◌+◌, List, Option, arith, subst, sym, ◌∙◌, refl}
 use Rattle.lfs_files.specs.declared.header.Header.{Header}
 use Rattle.lfs_verify.proofs.Takes.{looks_then}
 use Rattle.lfs_tree.specs.Reading.{TellsHeaders}
@@ -26,6 +26,7 @@ loop-number-preserved g c =
     let below = c.loop-number-test.true in
     record {
       looks = looks_then old mid new here.looks step.looks;
+      no_failure = step.no_failure ∙ here.no_failure;
       told = λ k m sees leads.
           subst (λ (hs : List (Option Header)). TellsHeaders m hs (c.loop-number.number + 1)) (sym c.set.ensures.set)
           (told_next m c.loop-number.headers c.loop-number.number c.in-Ok.found (omega (arith, whole, below))

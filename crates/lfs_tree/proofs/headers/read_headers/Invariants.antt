@@ -1,3 +1,4 @@
+use Rattle.std.proofs.Common.{◌≡◌}
 use Rattle.lfs_model.specs.Checkpoint.{CheckpointValue}
 use Rattle.lfs_model.specs.Stands.{LogMap}
 use Rattle.lfs_verify.specs.Take.{Looks}
@@ -10,5 +11,6 @@ invariant-loop-number g l =
     let now = g.D.SectorDevice.state l.device in
     record {
       looks : Looks old now;
+      no_failure : now.failures ≡ old.failures;
       told : (k : CheckpointValue) (m : LogMap) → Sees old now k m → Leads old.content k l.map → TellsHeaders m l.headers l.number;
     }

@@ -1,4 +1,4 @@
-use Rattle.std.proofs.Common.{◌≡◌, ◌∙◌, Some, None, subst, sym, arith}
+use Rattle.std.proofs.Common.{◌≡◌, ◌∙◌, Some, None, subst, sym, arith, refl}
 use Rattle.lfs_model.proofs.Standing.{headers_are}
 use Rattle.lfs_verify.proofs.Takes.{looks_none, looks_then}
 use Rattle.lfs_tree.specs.Objects.{AreNamed, TakesObject}
@@ -10,6 +10,7 @@ use Rattle.lfs_tree.proofs.slot_stage.stage_slots.Goals as goal
 pub loop-number-init : goal.loop-number-init
 loop-number-init g c = record {
   looks = looks_none (g.D.SectorDevice.state c.args.device.now) (g.met.D.SectorDevice.lawful c.args.device.now);
+  no_failure = refl;
   named = λ k m sees leads told empty.
       let are = headers_are (g.D.SectorDevice.state c.args.device.now).content k m sees.holds in
       let none = nobody m are in
@@ -26,6 +27,7 @@ loop-number-preserved g c =
     let headers = c.args.headers.now in
     record {
       looks = looks_then old mid new here.looks c.in-Ok-true.ensures.looks;
+      no_failure = c.in-Ok-true.ensures.no_failure ∙ here.no_failure;
       named = λ k m sees leads told empty.
           let was = here.named k m (sees_first old mid new k m sees c.in-Ok-true.ensures.looks) leads told empty in
           let base = base_at m headers c.loop-number.tables number in

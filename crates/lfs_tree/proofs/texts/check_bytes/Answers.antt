@@ -1,5 +1,5 @@
 use Rattle.std.specs.Prelude.{min}
-use Rattle.std.proofs.Common.{◌≡◌, ◌<◌, ◌-◌, ◌*◌, arith}
+use Rattle.std.proofs.Common.{◌≡◌, ◌<◌, ◌-◌, ◌*◌, arith, ◌∙◌, refl}
 use Rattle.lfs_verify.proofs.Takes.{looks_none, looks_then}
 use Rattle.lfs_tree.proofs.LinkTexts.{texts_fail, texts_go_on}
 use Rattle.lfs_tree.proofs.Seeing.{inode_then, sees_first, sees_then}
@@ -8,6 +8,7 @@ use Rattle.lfs_tree.proofs.texts.check_bytes.Goals as goal
 pub loop-index-init : goal.loop-index-init
 loop-index-init g c = record {
   looks = looks_none (g.D.SectorDevice.state c.args.device.now) (g.met.D.SectorDevice.lawful c.args.device.now);
+  no_failure = refl;
   none = λ k m n sees is p low none. omega (arith, low);
 }
 
@@ -34,6 +35,7 @@ loop-index-preserved g c =
     let is : c.min-count.result ≡ min (c.args.size - 512 * c.loop-index.index) 512 = omega (arith, e) in
     record {
       looks = looks_then old mid new here.looks c.in-Ok.ensures.looks;
+      no_failure = c.in-Ok.ensures.no_failure ∙ here.no_failure;
       none = λ k m n sees own.
           texts_go_on m n c.loop-index.index c.args.size c.min-count.result c.read_block.new.out
           (c.in-Ok.ensures.answer k m n (sees_then old mid new k m sees here.looks) (inode_then old mid k n c.args.inode.now own here.looks))

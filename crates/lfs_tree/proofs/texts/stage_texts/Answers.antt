@@ -1,4 +1,4 @@
-use Rattle.std.proofs.Common.{below_more, arith}
+use Rattle.std.proofs.Common.{below_more, arith, ◌∙◌, refl}
 use Rattle.lfs_model.proofs.Standing.{headers_are}
 use Rattle.lfs_verify.proofs.Takes.{looks_none, looks_then}
 use Rattle.lfs_tree.specs.Texts.{IsGoodText}
@@ -9,6 +9,7 @@ use Rattle.lfs_tree.proofs.texts.stage_texts.Goals as goal
 pub loop-number-init : goal.loop-number-init
 loop-number-init g c = record {
   looks = looks_none (g.D.SectorDevice.state c.args.device.now) (g.met.D.SectorDevice.lawful c.args.device.now);
+  no_failure = refl;
   good = λ k m sees leads told n low h at link.
       let range = (headers_are (g.D.SectorDevice.state c.args.device.now).content k m sees.holds n h at).number in
       let some = range.0 in
@@ -24,6 +25,7 @@ loop-number-preserved g c =
     let number = c.loop-number.number in
     record {
       looks = looks_then old mid new here.looks c.in-Ok-true.ensures.looks;
+      no_failure = c.in-Ok-true.ensures.no_failure ∙ here.no_failure;
       good = λ k m sees leads told.
           below_more (IsGoodText m) number (here.good k m (sees_first old mid new k m sees c.in-Ok-true.ensures.looks) leads told)
           (decided_true (IsGoodText m number) c.in-Ok-true.field-0 c.in-Ok-true.field-0-test (c.in-Ok-true.ensures.holds k m (sees_then old mid new k m sees here.looks) (leads_then old mid k c.args.map.now leads here.looks) told));

@@ -1,3 +1,9 @@
+use Rattle.std.proofs.Common.{List, length, ap, map, arith, ◌∙◌}
+use Rattle.std.proofs.lemmas.List.{length-map}
+use Rattle.lfs_model.proofs.Moments.{grows_one}
+use Rattle.lfs_device.specs.Rows.{settled}
+use Rattle.lfs_device.specs.declared.rows.Row.{Row}
+use Rattle.lfs_device.proofs.Carried.{change_carries}
 use Rattle.lfs_device.proofs.Stops.{only_after_sync, present_after_sync, crash_after_sync, were_whole}
 use Rattle.lfs_device.proofs.Whole.{whole_after_sync}
 use Rattle.lfs_device.proofs.memory.MemDeviceSectorDevice.sync.Goals as goal
@@ -13,3 +19,7 @@ invariant_of-self-2-clause-whole c = whole_after_sync _ _ c.settle.ensures c.arg
 
 pub invariant_of-self-2-clause-were_whole : goal.invariant_of-self-2-clause-were_whole
 invariant_of-self-2-clause-were_whole c = were_whole _ _ _ c.note.ensures c.args.self.now.whole c.args.self.now.were_whole
+
+pub returns-clause-carries : goal.returns-clause-carries
+returns-clause-carries c =
+    change_carries _ _ _ _ _ _ _ _ (ap (λ (l : List Row). length l) c.settle.ensures ∙ length-map c.args.self.now.rows.items settled) c.note.ensures (omega arith) (grows_one _ _ _ c.tell_sync.ensures)

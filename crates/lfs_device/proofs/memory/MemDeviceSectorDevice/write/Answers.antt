@@ -1,4 +1,6 @@
-use Rattle.std.proofs.Common.{inl, inr, refl, rules}
+use Rattle.std.proofs.Common.{inl, inr, refl, rules, arith, length-set}
+use Rattle.lfs_model.proofs.Moments.{grows_one}
+use Rattle.lfs_device.proofs.Carried.{change_carries}
 use Rattle.lfs_model.specs.Device.{AreSectorBytes, left_old}
 use Rattle.lfs_device.proofs.Stops.{crash_write, crash_spreads, were_whole, present_set, present_same}
 use Rattle.lfs_device.proofs.Whole.{whole_row, whole_set, fits_set}
@@ -51,3 +53,11 @@ invariant_of-self-clause-fits c = fits_set _ _ _ c.args.self.now.fits
 
 pub invariant_of-self-2-clause-fits : goal.invariant_of-self-2-clause-fits
 invariant_of-self-2-clause-fits c = fits_set _ _ _ c.args.self.now.fits
+
+pub returns-then-fails-clause-carries : goal.returns-then-fails-clause-carries
+returns-then-fails-clause-carries c =
+    change_carries _ _ _ _ _ _ _ _ (length-set c.args.self.now.rows.items c.args.sector _) c.note.ensures (omega (arith, c.add_one.ensures)) (grows_one _ _ _ c.tell_write.ensures)
+
+pub returns-clause-carries : goal.returns-clause-carries
+returns-clause-carries c =
+    change_carries _ _ _ _ _ _ _ _ (length-set c.args.self.now.rows.items c.args.sector _) c.note.ensures (omega arith) (grows_one _ _ _ c.tell_write.ensures)

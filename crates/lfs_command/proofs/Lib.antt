@@ -1,2 +1,0 @@
-mod PutCalls
-mod PutNames

@@ -1,0 +1,49 @@
+//! The command that makes a volume.
+use crate::fault::{Ending, Fault, ImageFault, Refusal};
+use crate::image::Making;
+use crate::printing::{print, refuse};
+use crate::{image, mounts};
+use lfs_device::World;
+use lfs_layout::is_segment_count;
+use std::alloc::Global;
+use std::fs::File;
+use std::io::Write;
+use std::rt::Files;
+use std::time::Clock;
+
+// Refuses a block device that is mounted. What it holds would be lost under who reads it.
+fn refuse_mounted<R: Files<File = File>, W: Write>(
+    rt: &R,
+    alloc: Global,
+    image: &str,
+    output: &mut W,
+) -> Result<(), Fault> {
+    let Some(folder) = mounts::folder_of(rt, alloc, image)? else {
+        return Ok(());
+    };
+    refuse(output, Refusal::Image(ImageFault::InUse))?;
+    Err(Fault::Mounted {
+        image: image.to_string(alloc)?,
+        folder,
+    })
+}
+
+/// Makes a volume in an image.
+pub fn mkfs<Here: World, R: Files<File = File> + Clock, W: Write>(
+    rt: &R,
+    alloc: Global,
+    image: &str,
+    making: Making,
+    output: &mut W,
+) -> Result<Ending, Fault> {
+    if making.force && is_segment_count(making.segments) {
+        refuse_mounted(rt, alloc, image, output)?;
+    }
+    match image::make::<Here, R>(rt, image, making) {
+        Ok(()) => {
+            print(output, "ok\n")?;
+            Ok(Ending::Done)
+        }
+        Err(refusal) => refuse(output, refusal),
+    }
+}

@@ -1,0 +1,95 @@
+//! How much of a volume is used and how much is free, for people.
+use crate::fault::{Fault, Refusal};
+use crate::looking::{Looked, SEGMENT_LIMIT};
+use crate::printing::{print, put_count};
+use lfs_device::SectorDevice;
+use lfs_model::Kind;
+use lfs_put::largest_new_file;
+use lfs_script::fs::{Fs, FsError, TreeRow};
+use std::io::Write;
+
+/// The bytes of a segment, and of the sectors before the first one.
+const SEGMENT_BYTES: u64 = 32_768;
+
+const FRONT_BYTES: u64 = 1_024;
+
+/// What is told of a volume.
+#[derive(Clone, Copy)]
+struct Room {
+    segments: u64,
+    files: u64,
+    /// The bytes of all files.
+    used: u64,
+    /// The bytes of the largest new file.
+    free: u64,
+}
+
+// Whether a row is the first one of its object, behind these.
+fn is_first(before: &[TreeRow], row: &TreeRow) -> bool {
+    row.links == 1 || before.iter().all(|other| other.number != row.number)
+}
+
+// How many files there are, and how many bytes they have.
+fn count_files(rows: &[TreeRow]) -> (u64, u64) {
+    let mut files: u64 = 0;
+    let mut bytes: u64 = 0;
+    for (index, row) in rows.iter().enumerate() {
+        if row.kind == Kind::File && is_first(&rows[..index], row) {
+            files = files.saturating_add(1);
+            bytes = bytes.saturating_add(row.size);
+        }
+    }
+    (files, bytes)
+}
+
+fn room_of<D: SectorDevice>(fs: &mut Fs<D>) -> Result<Room, FsError> {
+    let space = match fs.space() {
+        Ok(space) => space,
+        Err(fault) => return Err(fault),
+    };
+    let (files, used) = match fs.tree() {
+        Ok(rows) => count_files(rows.as_slice()),
+        Err(fault) => return Err(fault),
+    };
+    match largest_new_file(fs) {
+        Ok(free) => Ok(Room {
+            segments: space.limit / SEGMENT_LIMIT,
+            files,
+            used,
+            free,
+        }),
+        Err(fault) => Err(fault),
+    }
+}
+
+fn put_room<W: Write>(room: Room, output: &mut W) -> Result<(), Fault> {
+    let size = room
+        .segments
+        .saturating_mul(SEGMENT_BYTES)
+        .saturating_add(FRONT_BYTES);
+    let counts = [
+        (b"size ".as_slice(), size),
+        (b" bytes, segments ", room.segments),
+        (b"\nused ", room.used),
+        (b" bytes, files ", room.files),
+        (b"\nfree ", room.free),
+    ];
+    for (text, count) in counts {
+        put_count(output, text, count)?;
+    }
+    print(output, " bytes, in one new file\n")
+}
+
+/// Prints how much of a volume is used and free.
+pub fn put_free<D: SectorDevice, W: Write>(
+    fs: &mut Fs<D>,
+    output: &mut W,
+) -> Result<Looked, Fault> {
+    match room_of(fs) {
+        Ok(room) => {
+            put_room(room, output)?;
+            Ok(Looked::Done)
+        }
+        Err(fault) => Ok(Looked::Refused(Refusal::Call(fault))),
+    }
+}

@@ -1,0 +1,34 @@
+-- What a stop leaves from the moment on at which a reply went out. It is an own choice: POSIX.1-2017 doesn't say what a stop leaves.
+use Rattle.std.specs.Prelude.{◌≡◌, ℕ, suc, ◌≤◌, Some, List, ◌∷◌, drop, map, take, slice_get}
+use Rattle.lfs_model.specs.Call.{Answer, Call}
+use Rattle.lfs_model.specs.Content.{Content}
+use Rattle.lfs_model.specs.Device.{DeviceState}
+use Rattle.lfs_model.specs.Run.{NoneAcknowledged, Point}
+use Rattle.lfs_model.specs.Script.{Line, call_of}
+use Rattle.lfs_model.specs.Tree.{drop_nameless}
+use Rattle.lfs_model.specs.TreeOf.{Stands}
+use Rattle.lfs_model.specs.Use.{UsesVolume}
+
+-- The content stands for the state after some of the calls, behind every acknowledged one among the first k: points are those before the
+-- first call and after each.
+pub record StandsFrom (points : List Point) (calls : List Call) (answers : List Answer) (k : ℕ) (c : Content) : Type 0 where
+  pub n : ℕ
+  pub point : Point
+  pub at : slice_get points n ≡ Some point
+  pub none_later : NoneAcknowledged (drop n (take k calls)) (drop n (take k answers))
+  pub stands : Stands c (drop_nameless point.state)
+
+-- A stop at any moment since that one leaves such a content.
+abbrev pub Since : DeviceState → List Point → List Call → List Answer → ℕ → ℕ → Type 0
+Since d points calls answers k t = (c : Content) → d.left_since t c → StandsFrom points calls answers k c
+
+-- So it is for each reply, by the clock at which its last byte went out: the first clock is that of the first reply.
+pub record AreKeptSince (d : DeviceState) (points : List Point) (calls : List Call) (answers : List Answer) (clocks : List ℕ) : Type 0 where
+  pub past : (i t : ℕ) → slice_get clocks i ≡ Some t → t ≤ d.moment
+  pub since : (i t : ℕ) → slice_get clocks i ≡ Some t → Since d points calls answers (suc i) t
+
+-- As `UsesVolume`, with the clocks at which the replies went out: a stop at any moment since that of a reply leaves the state behind
+-- every call that was acknowledged by then, or a later one.
+pub record UsesTold (d d' : DeviceState) (lines : List Line) (answers : List Answer) (clocks : List ℕ) : Type 0 where
+  pub uses : UsesVolume d d' lines answers
+  pub since : AreKeptSince d' (uses.first ∷ uses.points) (map call_of lines) answers clocks

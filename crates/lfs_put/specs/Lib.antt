@@ -1,0 +1,5 @@
+pub mod Calls
+pub mod Changing
+pub mod Getting
+pub mod Largest
+pub mod Putting

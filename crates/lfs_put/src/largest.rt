@@ -1,0 +1,82 @@
+//! How large a new file may be.
+ghost use Rattle.std.specs.Prelude.{◌≡◌, ◌≤◌, ◌<◌, ◌↔◌, IsTrue};
+ghost use Rattle.std.specs.List.{range_with_len};
+ghost use Rattle.lfs_model.specs.Need.{pointers};
+ghost use Rattle.lfs_put.specs.Largest.{Fits, IsLargest, cost_of_blocks, cost_of_entries};
+
+/// The bytes of a block.
+pub const BLOCK: u64 = 512;
+
+/// The bytes of a directory's entry.
+pub const SLOT: u64 = 64;
+
+/// The most blocks of a file.
+const MOST_BLOCKS: u64 = 16_624;
+
+/// The most entries of a directory.
+pub const MOST_ENTRIES: u64 = 1_024;
+
+/// The last number of an object.
+pub const LAST_NUMBER: u64 = 4_095;
+
+/// How many blocks an inode points to itself.
+const DIRECT: u64 = 112;
+
+/// How many blocks a block of pointers points to.
+const POINTERS: u64 = 128;
+
+// How many blocks of pointers an object has whose first blocks are all stored, so many.
+fn pointer_blocks(blocks: u64) -> u64
+    requires { blocks ≤ MOST_BLOCKS }
+    ensures counted { result ≡ pointers (range_with_len 0 blocks) }
+    ensures few { result ≤ 130 }
+{
+    if blocks <= DIRECT {
+        return 0;
+    }
+    if blocks <= DIRECT + POINTERS {
+        return 1;
+    }
+    2 + (blocks - DIRECT - POINTERS).div_ceil(POINTERS)
+}
+
+// What an object adds to the need whose first blocks are all stored, so many.
+fn cost_of(blocks: u64) -> u64
+    requires { blocks ≤ MOST_BLOCKS }
+    ensures cost { result ≡ cost_of_blocks blocks }
+    ensures few { result ≤ 20000 }
+{
+    blocks + 7 * (1 + pointer_blocks(blocks))
+}
+
+// What a directory of so many entries adds to the need.
+fn directory_cost(entries: u64) -> u64
+    requires { entries ≤ MOST_ENTRIES }
+    ensures cost { result ≡ cost_of_entries entries }
+    ensures few { result ≤ 20000 }
+{
+    cost_of((SLOT * entries).div_ceil(BLOCK))
+}
+
+// Whether a new file of so many blocks fits.
+fn fits(need: u64, limit: u64, entries: u64, blocks: u64) -> bool
+    requires entries { entries < MOST_ENTRIES }
+    requires blocks { blocks ≤ MOST_BLOCKS }
+    ensures { IsTrue result ↔ Fits need limit entries blocks }
+{
+    let added = cost_of(blocks) + directory_cost(entries + 1);
+    let most = u128::from(limit) + u128::from(directory_cost(entries));
+    u128::from(need) + u128::from(added) <= most
+}
+
+/// The greatest number of blocks of a new file that fits.
+pub fn most_blocks(need: u64, limit: u64, entries: u64) -> u64
+    requires { entries < MOST_ENTRIES }
+    ensures { IsLargest need limit entries result }
+{
+    let mut blocks = MOST_BLOCKS;
+    while blocks > 0 && !fits(need, limit, entries, blocks) {
+        blocks -= 1;
+    }
+    blocks
+}

@@ -1,0 +1,13 @@
+//! Files in and out of a volume, and changes of it that are saved: each a fixed list of its calls.
+#![tactic(auto)]
+
+mod changing;
+mod getting;
+mod largest;
+mod putting;
+mod telling;
+
+pub use changing::{clean, make_directory, remove, rename};
+pub use getting::{GetFault, get};
+pub use putting::{PutFault, UNFINISHED, put};
+pub use telling::largest_new_file;

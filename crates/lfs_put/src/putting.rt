@@ -1,0 +1,307 @@
+//! The command that puts a file into a volume. Its bytes stand under another name until they are
+//! whole and synced: so the old file or the new one is there after any stop.
+ghost use Rattle.std.specs.Prelude.{◌≡◌, ◌≢◌, ◌≤◌, ◌<◌, ◌⊎◌, ◌-◌, IfOk, OnOk, ℕ, false, codes, length, slice_index};
+ghost use Rattle.lfs_model.specs.Call.{LstatOf, Unlink};
+ghost use Rattle.lfs_fs.specs.Seen.{seen};
+ghost use Rattle.lfs_put.specs.Calls.{Asks};
+ghost use Rattle.lfs_put.specs.Putting.{Copies, GivesUp, IsBeside, MakesFile, PutsFile, RenamesFile, Replaces};
+
+use lfs_device::SectorDevice;
+use lfs_fs::path::text::{check_text, is_dots};
+use lfs_fs::{Fs, FsError};
+use lfs_model::Kind;
+use std::alloc::{AllocError, Global};
+use std::io::Read;
+use thiserror::Error;
+
+/// The name under which a file stands until it is whole, in the directory that is to have it. What
+/// a stop left there is removed.
+pub const UNFINISHED: &[u8] = b".lfs-put";
+
+/// The most bytes that are read and written at once.
+const MOST_BYTES: usize = 65_536;
+
+/// The most bytes of a name.
+const LONGEST_NAME: usize = 59;
+
+/// Why a file isn't put into a volume.
+#[derive(Debug, Drop, Error)]
+pub enum PutFault {
+    #[error("the volume refuses it")]
+    Call(FsError),
+    #[error("it has the name under which files stand until they are whole")]
+    Unfinished,
+    #[error("its bytes can't be read")]
+    Input,
+    #[error(transparent)]
+    Memory(#[from(alloc)] AllocError),
+}
+
+// How many bytes of a path stand before the slashes that end it.
+fn trimmed_len(path: &[u8]) -> usize
+    ensures { result ≤ length path.now }
+{
+    let mut len = 0;
+    for (index, byte) in path.iter().enumerate() {
+        if *byte != b'/' {
+            len = index + 1;
+        }
+    }
+    len
+}
+
+// How many bytes of a path stand before its last piece, the last slash with them. No slash ends the
+// path.
+fn above_len(path: &[u8]) -> usize
+    ensures within { result ≤ length path.now }
+    ensures plain { (i : ℕ) → result ≤ i → i < length path.now
+        → slice_index path.now i ≢ 47 }
+    ensures place { (result ≡ 0) ⊎ (slice_index path.now (result - 1) ≡ 47) }
+{
+    let mut len = 0;
+    for (index, byte) in path.iter().enumerate() {
+        if *byte == b'/' {
+            len = index + 1;
+        }
+    }
+    len
+}
+
+// Refuses what no file is renamed to, by its text alone and in the order of `rename`.
+fn check_name(name: &[u8], slash_end: bool) -> Result<(), PutFault>
+    ensures other { OnOk result (name.now ≢ codes ".lfs-put") }
+    ensures ends { OnOk result (slash_end ≡ false) }
+{
+    if is_dots(name) {
+        return Err(PutFault::Call(FsError::Inval));
+    }
+    if name == UNFINISHED {
+        return Err(PutFault::Unfinished);
+    }
+    if name.len() > LONGEST_NAME {
+        return Err(PutFault::Call(FsError::NameTooLong));
+    }
+    if slash_end {
+        return Err(PutFault::Call(FsError::NotDir));
+    }
+    Ok(())
+}
+
+// The path of the name under which the file of a path stands until it is whole.
+fn unfinished_path(alloc: Global, path: &[u8]) -> Result<Vec<u8>, PutFault>
+    ensures { IfOk result (λ unfinished. IsBeside path.now unfinished.items) }
+{
+    match check_text(path) {
+        Ok(()) => {}
+        Err(fault) => return Err(PutFault::Call(FsError::from(fault))),
+    }
+    let trimmed = &path[..trimmed_len(path)];
+    if trimmed.is_empty() {
+        return Err(PutFault::Call(FsError::Busy));
+    }
+    let above = above_len(trimmed);
+    check_name(&trimmed[above..], trimmed.len() < path.len())?;
+    let mut unfinished = Vec::new(alloc);
+    unfinished.extend_from_slice(&path[..above])?;
+    unfinished.extend_from_slice(UNFINISHED)?;
+    Ok(unfinished)
+}
+
+// Refuses a directory. A link at the end of the path is none.
+fn refuse_directory<D: SectorDevice>(fs: &mut Fs<D>, path: &[u8]) -> Result<(), PutFault>
+    ensures { Asks D.SectorDevice.state (seen fs.old) (seen fs.new) (LstatOf path.now) }
+{
+    match fs.lstat(path) {
+        Ok(stat) => match stat.kind {
+            Kind::Directory => Err(PutFault::Call(FsError::IsDir)),
+            Kind::File | Kind::Link => Ok(()),
+        },
+        Err(FsError::NoEntry) => Ok(()),
+        Err(fault) => Err(PutFault::Call(fault)),
+    }
+}
+
+// Removes what a stop left.
+fn remove_left<D: SectorDevice>(fs: &mut Fs<D>, unfinished: &[u8]) -> Result<(), PutFault>
+    ensures { Asks D.SectorDevice.state (seen fs.old) (seen fs.new) (Unlink unfinished.now) }
+{
+    match fs.unlink(unfinished) {
+        Ok(()) | Err(FsError::NoEntry) => Ok(()),
+        Err(fault) => Err(PutFault::Call(fault)),
+    }
+}
+
+// Writes all bytes of a reader to an open file, from its beginning on: their number.
+fn copy_in<D: SectorDevice, I: Read>(
+    fs: &mut Fs<D>,
+    handle: u32,
+    input: &mut I,
+    buffer: &mut [u8],
+) -> Result<u64, PutFault>
+    requires { 0 < length buffer.old }
+    ensures { Copies D.SectorDevice.state (seen fs.old) (seen fs.new) handle
+        (I.remaining input.old) (I.remaining input.new) result }
+{
+    let mut offset: u64 = 0;
+    for _ in 0..u64::MAX {
+        let Ok(count) = input.read(buffer) else {
+            return Err(PutFault::Input);
+        };
+        if count == 0 {
+            return Ok(offset);
+        }
+        let Some(end) = offset.checked_add(count as u64) else {
+            return Err(PutFault::Call(FsError::FileTooBig));
+        };
+        match fs.pwrite(handle, offset, &buffer[..count]) {
+            Ok(_) => offset = end,
+            Err(fault) => return Err(PutFault::Call(fault)),
+        }
+    }
+    Err(PutFault::Input)
+}
+
+// Makes a file of all bytes of a reader: their number.
+fn make_file<D: SectorDevice, I: Read>(
+    fs: &mut Fs<D>,
+    unfinished: &[u8],
+    input: &mut I,
+    buffer: &mut [u8],
+) -> Result<u64, PutFault>
+    requires { 0 < length buffer.old }
+    ensures { MakesFile D.SectorDevice.state (seen fs.old) (seen fs.new) unfinished.now
+        (I.remaining input.old) (I.remaining input.new) result }
+{
+    let handle = match fs.create(unfinished) {
+        Ok(handle) => handle,
+        Err(fault) => return Err(PutFault::Call(fault)),
+    };
+    let copied = copy_in(fs, handle, input, buffer);
+    let closed = fs.close(handle);
+    let count = match copied {
+        Ok(count) => count,
+        Err(fault) => return Err(fault),
+    };
+    match closed {
+        Ok(()) => Ok(count),
+        Err(fault) => Err(PutFault::Call(fault)),
+    }
+}
+
+// Syncs a file, gives it its name, and syncs that.
+fn rename_file<D: SectorDevice>(
+    fs: &mut Fs<D>,
+    unfinished: &[u8],
+    path: &[u8],
+) -> Result<(), PutFault>
+    ensures { RenamesFile D.SectorDevice.state (seen fs.old) (seen fs.new) unfinished.now path.now
+        result }
+{
+    match fs.sync() {
+        Ok(()) => {}
+        Err(fault) => return Err(PutFault::Call(fault)),
+    }
+    match fs.rename(unfinished, path) {
+        Ok(()) => {}
+        Err(fault) => return Err(PutFault::Call(fault)),
+    }
+    match fs.sync() {
+        Ok(()) => Ok(()),
+        Err(fault) => Err(PutFault::Call(fault)),
+    }
+}
+
+// Makes the file, and gives it its name.
+fn replace<D: SectorDevice, I: Read>(
+    fs: &mut Fs<D>,
+    unfinished: &[u8],
+    path: &[u8],
+    input: &mut I,
+    buffer: &mut [u8],
+) -> Result<u64, PutFault>
+    requires { 0 < length buffer.old }
+    ensures { Replaces D.SectorDevice.state (seen fs.old) (seen fs.new) unfinished.now path.now
+        (I.remaining input.old) (I.remaining input.new) result }
+{
+    let count = match make_file(fs, unfinished, input, buffer) {
+        Ok(count) => count,
+        Err(fault) => return Err(fault),
+    };
+    match rename_file(fs, unfinished, path) {
+        Ok(()) => Ok(count),
+        Err(fault) => Err(fault),
+    }
+}
+
+// Removes what isn't whole, as far as the volume lets it.
+fn give_up<D: SectorDevice>(fs: &mut Fs<D>, unfinished: &[u8])
+    ensures { GivesUp D.SectorDevice.state (seen fs.old) (seen fs.new) unfinished.now }
+{
+    let _ = fs.unlink(unfinished);
+    let _ = fs.sync();
+}
+
+// The calls of a put, with the path of the unfinished file.
+fn put_by<D: SectorDevice, I: Read>(
+    fs: &mut Fs<D>,
+    unfinished: &[u8],
+    path: &[u8],
+    input: &mut I,
+    buffer: &mut [u8],
+) -> Result<u64, PutFault>
+    requires some { 0 < length buffer.old }
+    requires beside { IsBeside path.now unfinished.now }
+    ensures { PutsFile D.SectorDevice.state (seen fs.old) (seen fs.new) path.now
+        (I.remaining input.old) (I.remaining input.new) result }
+{
+    match refuse_directory(fs, path) {
+        Ok(()) => {}
+        Err(fault) => return Err(fault),
+    }
+    match remove_left(fs, unfinished) {
+        Ok(()) => {}
+        Err(fault) => return Err(fault),
+    }
+    match replace(fs, unfinished, path, input, buffer) {
+        Ok(count) => Ok(count),
+        Err(fault) => {
+            give_up(fs, unfinished);
+            Err(fault)
+        }
+    }
+}
+
+/// Makes all bytes of a reader the file of a path, synced, and answers their number. A link at the
+/// end of the path is replaced itself.
+///
+/// # Errors
+///
+/// `Memory` where memory for a buffer or for a path is refused. Of the path's text, in this order:
+/// `NoEntry`, `NameTooLong` and `Inval` as of any path; `Busy` where it has no piece; `Inval` where
+/// the last one is dot or dot-dot; `Unfinished`; `NameTooLong`; `NotDir` where a slash ends it.
+/// `IsDir` of a directory. Then what `unlink`, `create`, `pwrite`, `sync` and `rename` refuse, and
+/// `Input`. What stood at the path stands there still, but where the last sync fails: then a stop
+/// leaves that or the new file.
+pub fn put<D: SectorDevice, I: Read>(
+    alloc: Global,
+    fs: &mut Fs<D>,
+    path: &[u8],
+    input: &mut I,
+) -> Result<u64, PutFault>
+    ensures { PutsFile D.SectorDevice.state (seen fs.old) (seen fs.new) path.now
+        (I.remaining input.old) (I.remaining input.new) result }
+{
+    let Ok(mut buffer) = vec![in alloc; 0; MOST_BYTES] else {
+        return Err(PutFault::Memory(AllocError));
+    };
+    match unfinished_path(alloc, path) {
+        Ok(unfinished) => put_by(
+            fs,
+            unfinished.as_slice(),
+            path,
+            input,
+            buffer.as_mut_slice(),
+        ),
+        Err(fault) => Err(fault),
+    }
+}

@@ -1,0 +1,1673 @@
+// Rows of commands over image files and over volumes in memory, carried out one after another.
+use lfs_command::command;
+use std::alloc::{AllocError, Global};
+use std::fs::{File, Permissions};
+use std::io::{Read, Write};
+use std::os::unix::fs::{FileExt, PermissionsExt};
+use std::process::Abort;
+use std::rt::Files;
+use std::time::Clock;
+use std::{fs, io};
+
+/// What a command line has to say.
+#[derive(Clone, Copy)]
+enum Said<'a> {
+    /// These bytes on standard output, and a text on standard error exactly where the status isn't
+    /// 0.
+    Reply(&'a [u8]),
+    /// These bytes on standard output, and these on standard error.
+    Tells(&'a [u8], &'a [u8]),
+    /// These bytes on standard output, and on standard error this text about the path, the last word
+    /// of the command line.
+    OfPath(&'a [u8], &'a [u8]),
+    /// Something on standard output, and these bytes on standard error.
+    Explains(&'a [u8]),
+    /// A text on standard output alone.
+    Help,
+    /// A text on standard error alone.
+    Fault,
+}
+
+// Whether a text is these parts, one behind another.
+fn joins(text: &[u8], parts: &[&[u8]]) -> bool {
+    let mut rest = text;
+    for part in parts {
+        match rest.strip_prefix(*part) {
+            Some(left) => rest = left,
+            None => return false,
+        }
+    }
+    rest.is_empty()
+}
+
+// Whether this is what people are told of the path of a command line.
+fn is_of_path(errors: &[u8], line: &str, text: &[u8]) -> bool {
+    let mut words = line.split(' ').skip(2);
+    match (words.next(), words.next()) {
+        (Some(image), Some(path)) => {
+            let parts: [&[u8]; 7] = [
+                b"lfs: ",
+                image.as_bytes(),
+                b": ",
+                path.as_bytes(),
+                b": ",
+                text,
+                b"\n",
+            ];
+            joins(errors, &parts)
+        }
+        _ => false,
+    }
+}
+
+impl Said<'_> {
+    fn is(self, line: &str, status: u8, output: &[u8], errors: &[u8]) -> bool {
+        match self {
+            Said::Reply(reply) => output == reply && errors.is_empty() == (status == 0),
+            Said::Tells(reply, text) => output == reply && errors == text,
+            Said::OfPath(reply, text) => output == reply && is_of_path(errors, line, text),
+            Said::Explains(text) => !output.is_empty() && errors == text,
+            Said::Help => !output.is_empty() && errors.is_empty(),
+            Said::Fault => output.is_empty() && !errors.is_empty(),
+        }
+    }
+}
+
+/// A sector of an image, a place in it, and the bytes from there on.
+type Piece<'a> = (u64, u64, &'a [u8]);
+
+/// What a test does next, and what has to come of it.
+#[derive(Clone, Copy)]
+enum Step<'a> {
+    /// Command lines, the standard input of each, its exit status, and what it says.
+    Says(&'a [&'a str], &'a [u8], u8, Said<'a>),
+    /// A command line that is given so many letters, its exit status, and what it says.
+    Reads(&'a str, usize, u8, Said<'a>),
+    /// A command line that is given a text so many times and these bytes behind it, its exit
+    /// status, and what it says.
+    Repeats(&'a str, usize, &'a [u8], &'a [u8], u8, Said<'a>),
+    /// A command line that is given these bytes one at a time, and then a failed read.
+    Breaks(&'a str, &'a [u8]),
+    /// A command line that prints a text so many times, and these bytes behind it.
+    Copies(&'a str, usize, &'a [u8], &'a [u8]),
+    /// Makes the files /y1, /y2, .. up to this number by a command line, each in a mount of its
+    /// own.
+    Fills(&'a str, u32),
+    /// Gives a file this length and these pieces. Where it isn't there it is made; what is new in
+    /// it is zero.
+    Change(&'a str, u64, &'a [Piece<'a>]),
+    /// Makes a file of so many sectors of noise.
+    Noise(&'a str, u32),
+    /// Changes a byte in a copy of `whole.img`, at a place of a sector: `mount` and `check` refuse
+    /// the copy with this reply.
+    Damage(u64, u64, u8, &'a [u8]),
+    /// The files have one length, and the same bytes as far as a volume of 64 segments goes.
+    Same(&'a str, &'a str),
+    Lacks(&'a str),
+    Remove(&'a str),
+    /// Takes the lock of a file while such command lines are read, each of which ends and speaks
+    /// so.
+    Locked(&'a str, &'a [&'a str], u8, Said<'a>),
+    /// Lets nobody write a file.
+    Protect(&'a str),
+}
+
+fn words(alloc: Global, line: &str) -> Result<Vec<String>, AllocError> {
+    let mut all = Vec::new(alloc);
+    for word in line.split(' ') {
+        all.push(word.to_string(alloc)?)?;
+    }
+    Ok(all)
+}
+
+// Gives its bytes one at a time, and then fails.
+#[derive(Drop)]
+struct Broken<'a> {
+    rest: &'a [u8],
+}
+
+impl Read for Broken<'_> {
+    fn read(&mut self, buf: &mut [u8]) -> io::Result<usize> {
+        match (self.rest.split_first(), buf.first_mut()) {
+            (Some((byte, rest)), Some(place)) => {
+                *place = *byte;
+                self.rest = rest;
+                Ok(1)
+            }
+            _ => Err(io::Error::from(io::ErrorKind::BrokenPipe)),
+        }
+    }
+}
+
+// Whether a command line, of words with one space between two, ends and speaks so over an input.
+fn speaks<R: Files<File = File> + Clock + AllocGlobal, I: Read>(
+    rt: &R,
+    line: &str,
+    input: &mut I,
+    status: u8,
+    said: Said<'_>,
+) -> bool {
+    let alloc = rt.alloc();
+    let Ok(words) = words(alloc, line) else {
+        return false;
+    };
+    let mut output = Vec::new(alloc);
+    let mut errors = Vec::new(alloc);
+    let found = command(rt, alloc, words.as_slice(), input, &mut output, &mut errors);
+    found == status && said.is(line, status, output.as_slice(), errors.as_slice())
+}
+
+// The same over these bytes.
+fn says<R: Files<File = File> + Clock + AllocGlobal>(
+    rt: &R,
+    line: &str,
+    mut input: &[u8],
+    status: u8,
+    said: Said<'_>,
+) -> bool {
+    speaks(rt, line, &mut input, status, said)
+}
+
+// The same over these bytes and a failed read behind them.
+fn breaks<R: Files<File = File> + Clock + AllocGlobal>(rt: &R, line: &str, bytes: &[u8]) -> bool {
+    let mut input = Broken { rest: bytes };
+    let said = Said::Tells(b"", b"lfs: standard input can't be read\n");
+    speaks(rt, line, &mut input, 1, said)
+}
+
+fn each_says<R: Files<File = File> + Clock + AllocGlobal>(
+    rt: &R,
+    lines: &[&str],
+    input: &[u8],
+    status: u8,
+    said: Said<'_>,
+) -> bool {
+    for line in lines {
+        if !says(rt, line, input, status, said) {
+            return false;
+        }
+    }
+    true
+}
+
+fn reads<R: Files<File = File> + Clock + AllocGlobal>(
+    rt: &R,
+    line: &str,
+    letters: usize,
+    status: u8,
+    said: Said<'_>,
+) -> bool {
+    match vec![in rt.alloc(); b'a'; letters] {
+        Ok(input) => says(rt, line, input.as_slice(), status, said),
+        Err(_) => false,
+    }
+}
+
+// A text so many times, and these bytes behind it.
+fn repeated(alloc: Global, times: usize, text: &[u8], last: &[u8]) -> Result<Vec<u8>, AllocError> {
+    let mut all = Vec::new(alloc);
+    for _ in 0..times {
+        all.extend_from_slice(text)?;
+    }
+    all.extend_from_slice(last)?;
+    Ok(all)
+}
+
+fn repeats<R: Files<File = File> + Clock + AllocGlobal>(
+    rt: &R,
+    line: &str,
+    input: Result<Vec<u8>, AllocError>,
+    status: u8,
+    said: Said<'_>,
+) -> bool {
+    match input {
+        Ok(input) => says(rt, line, input.as_slice(), status, said),
+        Err(_) => false,
+    }
+}
+
+fn copies<R: Files<File = File> + Clock + AllocGlobal>(
+    rt: &R,
+    line: &str,
+    wanted: Result<Vec<u8>, AllocError>,
+) -> bool {
+    match wanted {
+        Ok(wanted) => says(rt, line, b"", 0, Said::Reply(wanted.as_slice())),
+        Err(_) => false,
+    }
+}
+
+fn fills<R: Files<File = File> + Clock + AllocGlobal>(rt: &R, line: &str, last: u32) -> bool {
+    for number in 1..=last {
+        let Ok(script) = format!(in rt.alloc(); "create /y{number}\nsync\n") else {
+            return false;
+        };
+        if !says(rt, line, script.as_bytes(), 0, Said::Reply(b"ok 0\nok\n")) {
+            return false;
+        }
+    }
+    true
+}
+
+fn change<R: Files<File = File>>(
+    rt: &R,
+    path: &str,
+    len: u64,
+    pieces: &[Piece<'_>],
+) -> io::Result<()> {
+    let file = File::options().write(true).create(true).open(rt, path)?;
+    file.set_len(len)?;
+    for (sector, at, bytes) in pieces {
+        file.write_all_at(bytes, sector.saturating_mul(512).saturating_add(*at))?;
+    }
+    Ok(())
+}
+
+// The next sector of a linear congruential generator.
+fn noise(state: &mut u32) -> [u8; 512] {
+    let mut sector = [0; 512];
+    for byte in &mut sector {
+        *state = state.wrapping_mul(1_664_525).wrapping_add(1_013_904_223);
+        *byte = (*state >> 24) as u8;
+    }
+    sector
+}
+
+fn write_noise<R: Files<File = File>>(rt: &R, path: &str, sectors: u32) -> io::Result<()> {
+    let mut file = File::create(rt, path)?;
+    let mut state = 1;
+    for _ in 0..sectors {
+        file.write_all(&noise(&mut state))?;
+    }
+    Ok(())
+}
+
+fn is_refused<R: Files<File = File> + Clock + AllocGlobal>(
+    rt: &R,
+    damage: Piece<'_>,
+    reply: &[u8],
+) -> bool {
+    let lines = ["lfs mount damaged.img", "lfs check damaged.img"];
+    fs::copy(rt, "whole.img", "damaged.img").is_ok()
+        && change(rt, "damaged.img", LEN, &[damage]).is_ok()
+        && each_says(rt, &lines, b"", 1, Said::Reply(reply))
+}
+
+// The length of an image of 64 segments.
+const LEN: u64 = 4_098 * 512;
+
+fn are_same(one: &[u8], other: &[u8]) -> bool {
+    let looked_at = one.len().min(LEN as usize);
+    one.len() == other.len() && one[..looked_at] == other[..looked_at]
+}
+
+fn same<R: Files<File = File> + Clock + AllocGlobal>(rt: &R, one: &str, other: &str) -> bool {
+    match (fs::read(rt, one), fs::read(rt, other)) {
+        (Ok(one), Ok(other)) => are_same(one.as_slice(), other.as_slice()),
+        _ => false,
+    }
+}
+
+fn locked<R: Files<File = File> + Clock + AllocGlobal>(
+    rt: &R,
+    path: &str,
+    lines: &[&str],
+    status: u8,
+    said: Said<'_>,
+) -> bool {
+    let Ok(file) = File::open(rt, path) else {
+        return false;
+    };
+    file.try_lock().is_ok() && each_says(rt, lines, b"space\n", status, said)
+}
+
+fn is_well<R: Files<File = File> + Clock + AllocGlobal>(rt: &R, step: Step<'_>) -> bool {
+    match step {
+        Step::Says(lines, input, status, said) => each_says(rt, lines, input, status, said),
+        Step::Reads(line, letters, status, said) => reads(rt, line, letters, status, said),
+        Step::Repeats(line, times, text, last, status, said) => {
+            let input = repeated(rt.alloc(), times, text, last);
+            repeats(rt, line, input, status, said)
+        }
+        Step::Breaks(line, bytes) => breaks(rt, line, bytes),
+        Step::Copies(line, times, text, last) => {
+            copies(rt, line, repeated(rt.alloc(), times, text, last))
+        }
+        Step::Fills(line, last) => fills(rt, line, last),
+        Step::Change(path, len, pieces) => change(rt, path, len, pieces).is_ok(),
+        Step::Noise(path, sectors) => write_noise(rt, path, sectors).is_ok(),
+        Step::Damage(sector, at, byte, reply) => is_refused(rt, (sector, at, &[byte]), reply),
+        Step::Same(one, other) => same(rt, one, other),
+        Step::Lacks(path) => matches!(fs::exists(rt, path), Ok(false)),
+        Step::Remove(path) => fs::remove_file(rt, path).is_ok(),
+        Step::Locked(path, lines, status, said) => locked(rt, path, lines, status, said),
+        Step::Protect(path) => {
+            fs::set_permissions(rt, path, Permissions::from_mode(0o444)).is_ok()
+        }
+    }
+}
+
+// Carries out the steps, and stops at the first that isn't well.
+fn want<R: Abort + Files<File = File> + Clock + AllocGlobal>(rt: &R, steps: &[Step<'_>]) {
+    for (place, step) in steps.iter().enumerate() {
+        assert!(rt; is_well(rt, *step), "step {place}");
+    }
+}
+
+const OK: Said = Said::Reply(b"ok\n");
+
+// The bytes of a new image of 64 segments that aren't zero.
+const NEW: &[Piece] = &[
+    (1, 0, &[0x53, 0x4c, 0x46, 0x53, 0x43, 0x4b, 0x50, 0x31]),
+    (1, 8, &[1, 0, 0, 0, 0, 0, 0, 0]),
+    (1, 16, &[0x40, 0, 0, 0, 1, 0, 0, 0]),
+    (1, 32, &[4, 0, 0, 0]),
+    (1, 160, &[5, 0, 0, 0]),
+    (2, 0, &[3, 0]),
+    (2, 8, &[1, 0, 4, 0, 0, 0, 0, 0]),
+    (2, 16, &[0, 0, 5, 0, 0, 0, 0, 0]),
+    (2, 24, &[0, 0, 6, 0, 0, 0, 0, 0]),
+    (3, 0, &[2, 0, 0, 0, 1, 0, 0, 0, 2, 0, 0, 0]),
+    (4, 4, &[3, 0, 0, 0]),
+    (5, 0, &[4, 0, 3, 0, 1, 0, 0, 0]),
+];
+
+// What an image of 72 segments has in their place, and one of 1,024 in the place of both.
+const OF_72: &[Piece] = &[
+    (1, 16, &[72]),
+    (1, 164, &[6]),
+    (2, 0, &[4]),
+    (2, 32, &[0, 0, 6, 0, 1]),
+    (5, 0, &[5, 0, 4]),
+];
+
+const OF_1024: &[Piece] = &[
+    (1, 16, &[0, 4]),
+    (1, 164, &[6, 0, 0, 0, 7, 0, 0, 0, 8, 0, 0, 0, 9, 0, 0, 0]),
+    (1, 180, &[10, 0, 0, 0, 11, 0, 0, 0, 12, 0, 0, 0, 13]),
+    (1, 196, &[14, 0, 0, 0, 15, 0, 0, 0, 16, 0, 0, 0, 17]),
+    (1, 212, &[18, 0, 0, 0, 19, 0, 0, 0, 20]),
+    (2, 0, &[18]),
+    (2, 32, &[0, 0, 6, 0, 1, 0, 0, 0, 0, 0, 6, 0, 2]),
+    (2, 48, &[0, 0, 6, 0, 3, 0, 0, 0, 0, 0, 6, 0, 4]),
+    (2, 64, &[0, 0, 6, 0, 5, 0, 0, 0, 0, 0, 6, 0, 6]),
+    (2, 80, &[0, 0, 6, 0, 7, 0, 0, 0, 0, 0, 6, 0, 8]),
+    (2, 96, &[0, 0, 6, 0, 9, 0, 0, 0, 0, 0, 6, 0, 10]),
+    (2, 112, &[0, 0, 6, 0, 11, 0, 0, 0, 0, 0, 6, 0, 12]),
+    (2, 128, &[0, 0, 6, 0, 13, 0, 0, 0, 0, 0, 6, 0, 14]),
+    (2, 144, &[0, 0, 6, 0, 15]),
+    (5, 0, &[19, 0, 18]),
+];
+
+const NEW_IMAGES: &[Step] = &[
+    Step::Says(&["lfs mkfs a.img --segments 64"], b"", 0, OK),
+    Step::Change("a.want", 0, &[]),
+    Step::Change("a.want", LEN, NEW),
+    Step::Same("a.img", "a.want"),
+    Step::Says(&["lfs mkfs a.img --segments 72"], b"", 0, OK),
+    Step::Change("a.want", 4_610 * 512, OF_72),
+    Step::Same("a.img", "a.want"),
+    Step::Says(&["lfs mount a.img"], b"", 0, EMPTY),
+    Step::Says(&["lfs mkfs --segments 128 a.img"], b"", 0, OK),
+    Step::Change("a.want", 8_194 * 512, &[(1, 16, &[128])]),
+    Step::Same("a.img", "a.want"),
+    Step::Says(&["lfs mount a.img"], b"", 0, EMPTY),
+    Step::Says(&["lfs mkfs --segments=1024 a.img"], b"", 0, OK),
+    Step::Change("a.want", 65_538 * 512, OF_1024),
+    Step::Same("a.img", "a.want"),
+    Step::Says(&["lfs mount a.img"], b"", 0, EMPTY),
+    Step::Says(&["lfs mkfs a.img --segments 64"], b"", 0, OK),
+    Step::Change("a.want", 0, &[]),
+    Step::Change("a.want", LEN, NEW),
+    Step::Same("a.img", "a.want"),
+    Step::Says(&["lfs mount a.img"], b"", 0, EMPTY),
+    Step::Remove("a.img"),
+    Step::Remove("a.want"),
+];
+
+#[test]
+fn new_images(rt: HostRuntime) {
+    want(&rt, NEW_IMAGES);
+}
+
+// The tree of an empty volume.
+const EMPTY: Said = Said::Reply(b"ok 0\n");
+
+const SCRIPTS: &[Step] = &[
+    Step::Says(&["lfs mkfs b.img --segments 64"], b"", 0, OK),
+    Step::Says(&["lfs run b.img"], b"", 0, Said::Reply(b"")),
+    Step::Says(&["lfs mount b.img"], b"", 0, EMPTY),
+    Step::Says(&["lfs mkfs b.img --segments 64"], b"", 0, OK),
+    Step::Says(
+        &["lfs run b.img"],
+        b"space",
+        0,
+        Said::Reply(b"ok 0 1 727 3008\n"),
+    ),
+    Step::Says(&["lfs mount b.img"], b"", 0, EMPTY),
+    Step::Says(&["lfs mkfs b.img --segments 64"], b"", 0, OK),
+    Step::Says(
+        &["lfs run b.img"],
+        b"create /f\npwrite 0 0 61\nsync\nspace\npread 0 0 9\n",
+        0,
+        Said::Reply(b"ok 0\nok 1\nok\nok 2 2 736 3008\nok 61\n"),
+    ),
+    Step::Says(
+        &["lfs mount b.img"],
+        b"",
+        0,
+        Said::Reply(b"ok 1\n1 f file 2 1 1 61\n"),
+    ),
+    Step::Says(&["lfs mkfs b.img --segments 64"], b"", 0, OK),
+    Step::Says(
+        &["lfs run b.img"],
+        b"create /f\npwrite 0 0 616263\npread 0 3 5\npread 0 0 0\npread 0 1 65536\npread 0 0 65537\npwrite 0 99999999 -\n",
+        0,
+        Said::Reply(b"ok 0\nok 3\nok -\nok -\nok 6263\nerr Inval\nok 0\n"),
+    ),
+    Step::Says(&["lfs mount b.img"], b"", 0, EMPTY),
+    Step::Says(&["lfs mkfs b.img --segments 64"], b"", 0, OK),
+    Step::Says(
+        &["lfs run b.img"],
+        b"space\npread 00 0 1\nspace\n",
+        2,
+        Said::Reply(b"ok 0 1 727 3008\nbad 2\n"),
+    ),
+    Step::Says(&["lfs mount b.img"], b"", 0, EMPTY),
+    Step::Says(&["lfs mkfs b.img --segments 64"], b"", 0, OK),
+    Step::Says(
+        &["lfs run b.img"],
+        b"create /a\\20c\npwrite 0 0 000102030405060708090a0b0c0d0e0f1011\nsync\nbad\n",
+        2,
+        Said::Reply(b"ok 0\nok 18\nok\nbad 4\n"),
+    ),
+    Step::Says(
+        &["lfs mount b.img"],
+        b"",
+        0,
+        Said::Reply(b"ok 1\n1 a\\20c file 2 1 18 000102030405060708090a0b0c0d0e0f\n"),
+    ),
+    Step::Says(&["lfs mkfs b.img --segments 64"], b"", 0, OK),
+    Step::Change("b.want", 0, &[]),
+    Step::Change("b.want", LEN, NEW),
+    Step::Reads("lfs run b.img", 140_001, 2, Said::Reply(b"bad 1\n")),
+    Step::Same("b.img", "b.want"),
+    Step::Remove("b.img"),
+    Step::Remove("b.want"),
+];
+
+#[test]
+fn scripts_over_an_image(rt: HostRuntime) {
+    want(&rt, SCRIPTS);
+}
+
+const FIFTY: &[u8] = b"ok 50\n\
+    1 y1 file 2 1 0 -\n1 y10 file 11 1 0 -\n1 y11 file 12 1 0 -\n1 y12 file 13 1 0 -\n\
+    1 y13 file 14 1 0 -\n1 y14 file 15 1 0 -\n1 y15 file 16 1 0 -\n1 y16 file 17 1 0 -\n\
+    1 y17 file 18 1 0 -\n1 y18 file 19 1 0 -\n1 y19 file 20 1 0 -\n1 y2 file 3 1 0 -\n\
+    1 y20 file 21 1 0 -\n1 y21 file 22 1 0 -\n1 y22 file 23 1 0 -\n1 y23 file 24 1 0 -\n\
+    1 y24 file 25 1 0 -\n1 y25 file 26 1 0 -\n1 y26 file 27 1 0 -\n1 y27 file 28 1 0 -\n\
+    1 y28 file 29 1 0 -\n1 y29 file 30 1 0 -\n1 y3 file 4 1 0 -\n1 y30 file 31 1 0 -\n\
+    1 y31 file 32 1 0 -\n1 y32 file 33 1 0 -\n1 y33 file 34 1 0 -\n1 y34 file 35 1 0 -\n\
+    1 y35 file 36 1 0 -\n1 y36 file 37 1 0 -\n1 y37 file 38 1 0 -\n1 y38 file 39 1 0 -\n\
+    1 y39 file 40 1 0 -\n1 y4 file 5 1 0 -\n1 y40 file 41 1 0 -\n1 y41 file 42 1 0 -\n\
+    1 y42 file 43 1 0 -\n1 y43 file 44 1 0 -\n1 y44 file 45 1 0 -\n1 y45 file 46 1 0 -\n\
+    1 y46 file 47 1 0 -\n1 y47 file 48 1 0 -\n1 y48 file 49 1 0 -\n1 y49 file 50 1 0 -\n\
+    1 y5 file 6 1 0 -\n1 y50 file 51 1 0 -\n1 y6 file 7 1 0 -\n1 y7 file 8 1 0 -\n\
+    1 y8 file 9 1 0 -\n1 y9 file 10 1 0 -\n";
+
+// The 50 commits of a run fill a few segments, for each goes on behind the last one.
+const MANY_FILES: &[Step] = &[
+    Step::Says(&["lfs mkfs c.img --segments 72"], b"", 0, OK),
+    Step::Fills("lfs run c.img", 50),
+    Step::Says(&["lfs mount c.img"], b"", 0, Said::Reply(FIFTY)),
+    Step::Says(&["lfs mkfs c.img --segments 64"], b"", 0, OK),
+    Step::Fills("lfs run c.img", 50),
+    Step::Says(
+        &["lfs run c.img"],
+        b"clean\nspace\n",
+        0,
+        Said::Reply(b"ok\nok 7 51 1084 3008\n"),
+    ),
+    Step::Says(&["lfs mount c.img"], b"", 0, Said::Reply(FIFTY)),
+    Step::Remove("c.img"),
+];
+
+#[test]
+fn fifty_files_with_a_mount_between(rt: HostRuntime) {
+    want(&rt, MANY_FILES);
+}
+
+// The checkpoint's number is one below 2^62: one commit more, and no change is taken.
+const WORN: &[Step] = &[
+    Step::Says(&["lfs mkfs w.img --segments 64"], b"", 0, OK),
+    Step::Change("w.img", LEN, &[(1, 8, b"\xff\xff\xff\xff\xff\xff\xff\x3f")]),
+    Step::Says(
+        &["lfs run w.img"],
+        b"create /a\nsync\ncreate /b\nsync\nclean\n",
+        0,
+        Said::Reply(b"ok 0\nok\nerr Worn\nok\nerr Worn\n"),
+    ),
+    Step::Says(
+        &["lfs mount w.img"],
+        b"",
+        0,
+        Said::Reply(b"ok 1\n1 a file 2 1 0 -\n"),
+    ),
+    Step::Remove("w.img"),
+];
+
+#[test]
+fn a_worn_volume_takes_no_change(rt: HostRuntime) {
+    want(&rt, WORN);
+}
+
+const TOO_SMALL: Said = Said::Reply(b"err TooSmall\n");
+
+const NO_CHECKPOINT: Said = Said::Reply(b"err NoCheckpoint\n");
+
+const READERS: &[&str] = &["lfs mount d.img", "lfs run d.img"];
+
+const STRANGERS: &[Step] = &[
+    Step::Says(
+        &[
+            "lfs mount none.img",
+            "lfs run none.img",
+            "lfs mount none/d.img",
+            "lfs run none/d.img",
+            "lfs mkfs none/d.img --segments 64",
+            "lfs mount .",
+            "lfs run .",
+            "lfs mkfs . --segments 64",
+        ],
+        b"space\n",
+        1,
+        Said::Reply(b"err Image\n"),
+    ),
+    Step::Lacks("none.img"),
+    Step::Lacks("none"),
+    Step::Change("d.img", 0, &[]),
+    Step::Change("d.want", 0, &[]),
+    Step::Says(READERS, b"space\n", 1, TOO_SMALL),
+    Step::Same("d.img", "d.want"),
+    Step::Change("d.img", 4_097 * 512, &[]),
+    Step::Change("d.want", 4_097 * 512, &[]),
+    Step::Says(READERS, b"space\n", 1, TOO_SMALL),
+    Step::Same("d.img", "d.want"),
+    Step::Change("d.img", 4_098 * 512, &[]),
+    Step::Change("d.want", 4_098 * 512, &[]),
+    Step::Says(READERS, b"space\n", 1, NO_CHECKPOINT),
+    Step::Same("d.img", "d.want"),
+    Step::Change("d.img", 4_097 * 512, NEW),
+    Step::Change("d.want", 4_097 * 512, NEW),
+    Step::Says(READERS, b"space\n", 1, TOO_SMALL),
+    Step::Same("d.img", "d.want"),
+    Step::Noise("d.img", 4_096),
+    Step::Noise("d.want", 4_096),
+    Step::Says(READERS, b"space\n", 1, TOO_SMALL),
+    Step::Same("d.img", "d.want"),
+    Step::Noise("d.img", 4_098),
+    Step::Noise("d.want", 4_098),
+    Step::Says(READERS, b"space\n", 1, NO_CHECKPOINT),
+    Step::Same("d.img", "d.want"),
+    Step::Remove("d.img"),
+    Step::Remove("d.want"),
+];
+
+#[test]
+fn images_of_strangers(rt: HostRuntime) {
+    want(&rt, STRANGERS);
+}
+
+// What differs from a new image where the root has one file, `f`, whose one byte is `a`.
+const ONE_BYTE: &[Piece] = &[
+    (2, 0, &[6]),
+    (2, 32, &[1, 0, 1, 0, 0, 0, 0, 0]),
+    (2, 40, &[2, 0, 4, 0, 0, 0, 0, 0]),
+    (2, 48, &[2, 0, 1, 0, 0, 0, 0, 0]),
+    (3, 12, &[0x40]),
+    (3, 32, &[6]),
+    (4, 8, &[7]),
+    (5, 0, &[7, 0, 6, 0]),
+    (6, 0, &[2, 0, 0, 0, 1, 0x66]),
+    (7, 0, &[1, 0, 0, 0, 2, 0, 0, 0, 1, 0, 0, 0, 1, 0, 0, 0]),
+    (7, 32, &[8]),
+    (8, 0, &[0x61]),
+];
+
+// What differs from that image where the file is an empty directory, and named `g` too, but for the
+// count of live blocks.
+const TWO_NAMES: &[Piece] = &[
+    (3, 12, &[0x80]),
+    (6, 64, &[2, 0, 0, 0, 1, 0x67]),
+    (7, 0, &[2]),
+    (7, 12, &[0]),
+    (7, 32, &[0]),
+];
+
+// What `check` says of a new volume of 64 segments.
+const NEW_SPACE: Said = Said::Reply(b"ok 64 0 1 727 3008\n");
+
+const DAMAGED: &[Step] = &[
+    Step::Change("whole.img", 0, &[]),
+    Step::Change("whole.img", LEN, NEW),
+    Step::Says(&["lfs mount whole.img"], b"", 0, EMPTY),
+    Step::Says(&["lfs check whole.img"], b"", 0, NEW_SPACE),
+    Step::Damage(1, 0, 0, b"err NoCheckpoint\n"),
+    Step::Damage(5, 8, 1, b"err Damaged 1\n"),
+    Step::Damage(2, 0, 4, b"err Damaged 2\n"),
+    Step::Damage(1, 32, 5, b"err Damaged 3\n"),
+    Step::Damage(4, 4, 0, b"err Damaged 3\n"),
+    Step::Damage(3, 16, 1, b"err Damaged 4\n"),
+    Step::Damage(3, 32, 5, b"err Damaged 7\n"),
+    Step::Damage(2, 8, 2, b"err Damaged 8\n"),
+    Step::Damage(5, 2, 2, b"err Damaged 9\n"),
+    Step::Damage(3, 8, 3, b"err Damaged 13\n"),
+    Step::Change("whole.img", LEN, ONE_BYTE),
+    Step::Says(
+        &["lfs mount whole.img"],
+        b"",
+        0,
+        Said::Reply(b"ok 1\n1 f file 2 1 1 61\n"),
+    ),
+    Step::Damage(4, 12, 8, b"err Damaged 4\n"),
+    Step::Damage(4, 12, 7, b"err Damaged 4\n"),
+    Step::Damage(7, 0, 2, b"err Damaged 4\n"),
+    Step::Damage(7, 36, 8, b"err Damaged 7\n"),
+    Step::Damage(7, 12, 0, b"err Damaged 7\n"),
+    Step::Damage(8, 0, 0, b"err Damaged 7\n"),
+    Step::Damage(8, 1, 0x62, b"err Damaged 7\n"),
+    Step::Damage(2, 50, 2, b"err Damaged 8\n"),
+    Step::Damage(6, 0, 3, b"err Damaged 10\n"),
+    Step::Damage(6, 4, 0, b"err Damaged 10\n"),
+    Step::Damage(6, 5, 0x2f, b"err Damaged 10\n"),
+    Step::Damage(6, 0, 1, b"err Damaged 12\n"),
+    Step::Damage(7, 8, 2, b"err Damaged 13\n"),
+    // The file as a link, and then as a directory that two names give.
+    Step::Change("whole.img", LEN, &[(7, 0, &[3])]),
+    Step::Says(
+        &["lfs mount whole.img"],
+        b"",
+        0,
+        Said::Reply(b"ok 1\n1 f link 2 1 1 a\n"),
+    ),
+    Step::Says(
+        &["lfs check whole.img"],
+        b"",
+        0,
+        Said::Reply(b"ok 64 2 2 736 3008\n"),
+    ),
+    Step::Damage(7, 12, 2, b"err Damaged 11\n"),
+    Step::Change("whole.img", LEN, TWO_NAMES),
+    Step::Damage(5, 2, 5, b"err Damaged 12\n"),
+    Step::Remove("whole.img"),
+    Step::Remove("damaged.img"),
+];
+
+#[test]
+fn damaged_images(rt: HostRuntime) {
+    want(&rt, DAMAGED);
+}
+
+const ONE_FILE: &[u8] = b"create /a\nsync\n";
+
+const LINES: &[Step] = &[
+    Step::Change("kept.img", 4, &[(0, 0, b"kept")]),
+    Step::Change("kept.want", 4, &[(0, 0, b"kept")]),
+    Step::Says(
+        &[
+            "lfs mkfs kept.img --segments 0",
+            "lfs mkfs kept.img --segments 8",
+            "lfs mkfs kept.img --segments 63",
+            "lfs mkfs kept.img --segments 65",
+            "lfs mkfs kept.img --segments 1032",
+            "lfs mkfs kept.img --segments 4294967295",
+            "lfs mkfs new.img --segments 0",
+            "lfs mkfs new.img --segments 8",
+            "lfs mkfs new.img --segments 63",
+            "lfs mkfs new.img --segments 65",
+            "lfs mkfs new.img --segments 1032",
+            "lfs mkfs new.img --segments 4294967295",
+            "lfs sim --segments 0 --stop 0 --left old",
+            "lfs sim --segments 8 --stop 0 --left old",
+            "lfs sim --segments 63 --stop 0 --left old",
+            "lfs sim --segments 65 --stop 0 --left old",
+            "lfs sim --segments 1032 --stop 0 --left old",
+            "lfs sim --segments 4294967295 --stop 0 --left old",
+        ],
+        ONE_FILE,
+        1,
+        Said::Reply(b"err Inval\n"),
+    ),
+    Step::Says(
+        &[
+            "lfs",
+            "lfs frob",
+            "lfs help",
+            "lfs mkfs kept.img",
+            "lfs mkfs --segments 64",
+            "lfs mkfs kept.img --segments 064",
+            "lfs mkfs kept.img --segments +64",
+            "lfs mkfs kept.img --segments=",
+            "lfs mkfs kept.img --segments 64x",
+            "lfs mkfs kept.img --segments 4294967296",
+            "lfs mkfs kept.img --segments 64 --segments 64",
+            "lfs mkfs kept.img new.img --segments 64",
+            "lfs mount",
+            "lfs mount kept.img --segments 64",
+            "lfs run",
+            "lfs run kept.img new.img",
+            "lfs sim --segments 64 --stop 0",
+            "lfs sim --segments 64 --left old",
+            "lfs sim --stop 0 --left old",
+            "lfs sim x.img --segments 64 --stop 0 --left old",
+            "lfs sim --segments 064 --stop 0 --left old",
+            "lfs sim --segments 64 --stop 00 --left old",
+            "lfs sim --segments 64 --stop +0 --left old",
+            "lfs sim --segments 64 --stop 18446744073709551616 --left old",
+            "lfs sim --segments 64 --stop 0 --left Old",
+            "lfs sim --segments 64 --stop 0 --left other",
+            "lfs sim --segments 64 --stop 0 --left=",
+            "lfs sim --segments 63 --stop 0 --left other",
+            "lfs check",
+            "lfs check kept.img /f",
+            "lfs tree",
+            "lfs info",
+            "lfs ls",
+            "lfs ls kept.img / /",
+            "lfs ls kept.img \\2f",
+            "lfs cat kept.img",
+            "lfs cat kept.img \\2F",
+            "lfs put",
+            "lfs put kept.img",
+            "lfs put kept.img \\2F",
+            "lfs put kept.img /f /g",
+        ],
+        ONE_FILE,
+        2,
+        Said::Fault,
+    ),
+    Step::Same("kept.img", "kept.want"),
+    Step::Lacks("new.img"),
+    Step::Says(
+        &[
+            "lfs --help",
+            "lfs -h",
+            "lfs --version",
+            "lfs mkfs --help",
+            "lfs run -h",
+            "lfs sim -h",
+            "lfs ls --help",
+            "lfs put --help",
+        ],
+        b"",
+        0,
+        Said::Help,
+    ),
+    Step::Remove("kept.img"),
+    Step::Remove("kept.want"),
+];
+
+#[test]
+fn command_lines(rt: HostRuntime) {
+    want(&rt, LINES);
+}
+
+const IN_USE: Said = Said::Tells(
+    b"err Image\n",
+    b"lfs: e.img: it is in use: another program has held its lock for a second\n",
+);
+
+const EMPTY_BESIDE: Said = Said::Tells(
+    b"ok 0\n",
+    b"lfs: e.img: another program writes it, so what was printed may be of two moments\n",
+);
+
+// What writes an image is refused while another holds its lock, and what only looks at it isn't.
+const MEDIA: &[Step] = &[
+    Step::Says(&["lfs mkfs e.img --segments 64"], b"", 0, OK),
+    Step::Change("e.want", 0, &[]),
+    Step::Change("e.want", LEN, NEW),
+    Step::Locked(
+        "e.img",
+        &[
+            "lfs run e.img",
+            "lfs put e.img /f",
+            "lfs mkfs e.img --segments 72",
+        ],
+        1,
+        IN_USE,
+    ),
+    Step::Locked("e.img", &["lfs mount e.img"], 0, EMPTY_BESIDE),
+    Step::Same("e.img", "e.want"),
+    Step::Protect("e.img"),
+    Step::Says(&["lfs mount e.img"], b"", 0, EMPTY),
+    Step::Same("e.img", "e.want"),
+    Step::Remove("e.img"),
+    Step::Remove("e.want"),
+    Step::Says(
+        &[
+            "lfs mount .",
+            "lfs run .",
+            "lfs put . /f",
+            "lfs mkfs . --segments 64",
+            "lfs mkfs --force . --segments 64",
+        ],
+        b"space\n",
+        1,
+        Said::Tells(b"err Image\n", b"lfs: .: it is a folder\n"),
+    ),
+    Step::Says(
+        &[
+            "lfs mount /dev/null",
+            "lfs run /dev/null",
+            "lfs put /dev/null /f",
+            "lfs mkfs /dev/null --segments 64",
+            "lfs mkfs /dev/null --segments 64 --force",
+        ],
+        b"space\n",
+        1,
+        Said::Tells(
+            b"err Image\n",
+            b"lfs: /dev/null: it is neither a regular file nor a block device\n",
+        ),
+    ),
+    Step::Says(
+        &[
+            "lfs mount none.img",
+            "lfs run none.img",
+            "lfs put none.img /",
+        ],
+        b"space\n",
+        1,
+        Said::Tells(
+            b"err Image\n",
+            b"lfs: none.img: there is no such file or folder\n",
+        ),
+    ),
+    Step::Lacks("none.img"),
+    // What an image is that isn't mounted.
+    Step::Change("f.img", LEN, &[]),
+    Step::Says(
+        &["lfs mount f.img", "lfs run f.img", "lfs run f.img --strict"],
+        b"space\n",
+        1,
+        Said::Tells(
+            b"err NoCheckpoint\n",
+            b"lfs: f.img: this is no Pansuyog volume, or both its checkpoints are lost; mkfs would empty it\n",
+        ),
+    ),
+    Step::Change("f.img", 700, &[]),
+    Step::Says(
+        &["lfs check f.img", "lfs put f.img /f"],
+        b"space\n",
+        1,
+        Said::Tells(
+            b"err TooSmall\n",
+            b"lfs: f.img: this is no Pansuyog volume, or both its checkpoints are lost; mkfs would empty it\n",
+        ),
+    ),
+    Step::Remove("f.img"),
+    Step::Says(&["lfs mkfs f.img --segments 72 --reserve"], b"", 0, OK),
+    Step::Change("f.img", LEN, &[]),
+    Step::Says(
+        &["lfs check f.img", "lfs run f.img"],
+        b"space\n",
+        1,
+        Said::Tells(
+            b"err TooSmall\n",
+            b"lfs: f.img: it is cut: its checkpoint names 72 segments\n",
+        ),
+    ),
+    Step::Remove("f.img"),
+];
+
+#[test]
+fn images_that_others_use(rt: HostRuntime) {
+    want(&rt, MEDIA);
+}
+
+const NOT_THERE: Said = Said::OfPath(b"err NoEntry\n", b"the volume has nothing of this name");
+
+// Four blocks of data, three inodes, a leaf, and a block each of the inode map and of usage live in
+// segment 1: ten. Segment 0 is clean again.
+const FULLNESS: Said = Said::Reply(
+    b"checkpoint 2\nsegments 64\nclean 63\ndata blocks 4\nmeta blocks 4\nneed 752\nlimit 3008\n\
+    live blocks of each segment:\n\
+    .2..............................................................\n",
+);
+
+// A file of more than one read, and one whose name is a word with an escape.
+const LOOKS: &[Step] = &[
+    Step::Says(&["lfs mkfs l.img --segments 64"], b"", 0, OK),
+    Step::Says(&["lfs check l.img"], b"", 0, NEW_SPACE),
+    Step::Says(&["lfs tree l.img"], b"", 0, Said::Reply(b"/\n")),
+    Step::Says(
+        &["lfs ls l.img", "lfs ls l.img /", "lfs ls l.img //"],
+        b"",
+        0,
+        Said::Reply(b""),
+    ),
+    Step::Says(
+        &["lfs run l.img"],
+        b"create /b\npwrite 0 0 0061ff\ncreate /a\\20c\nfill 1 65535 2 98\nsync\n",
+        0,
+        Said::Reply(b"ok 0\nok 3\nok 1\nok 2\nok\n"),
+    ),
+    Step::Says(
+        &["lfs tree l.img"],
+        b"",
+        0,
+        Said::Reply(b"/\n  a\\20c  65537\n  b  3\n"),
+    ),
+    Step::Says(
+        &["lfs ls l.img", "lfs ls l.img /"],
+        b"",
+        0,
+        Said::Reply(b"a\\20c\nb\n"),
+    ),
+    Step::Says(&["lfs ls l.img /a\\20c"], b"", 0, Said::Reply(b"/a\\20c\n")),
+    Step::Says(&["lfs cat l.img /b"], b"", 0, Said::Reply(b"\x00a\xff")),
+    Step::Copies("lfs cat l.img /a\\20c", 65_535, b"\0", b"bb"),
+    Step::Says(&["lfs ls l.img /c", "lfs cat l.img /c"], b"", 1, NOT_THERE),
+    Step::Says(
+        &["lfs cat l.img /"],
+        b"",
+        1,
+        Said::OfPath(b"err IsDir\n", b"this is a directory"),
+    ),
+    Step::Says(&["lfs info l.img"], b"", 0, FULLNESS),
+    Step::Says(
+        &["lfs run l.img"],
+        b"mkdir /d\nmkdir /d/e\ncreate /d/e/f\nsymlink b /l\nsync\n",
+        0,
+        Said::Reply(b"ok\nok\nok 0\nok\nok\n"),
+    ),
+    Step::Says(
+        &["lfs tree l.img"],
+        b"",
+        0,
+        Said::Reply(b"/\n  a\\20c  65537\n  b  3\n  d/  64\n    e/  64\n      f  0\n  l  1\n"),
+    ),
+    Step::Says(
+        &["lfs ls l.img /d", "lfs ls l.img d/e/.."],
+        b"",
+        0,
+        Said::Reply(b"e/\n"),
+    ),
+    Step::Remove("l.img"),
+    Step::Says(
+        &[
+            "lfs check none.img",
+            "lfs tree none.img",
+            "lfs info none.img",
+            "lfs ls none.img",
+            "lfs cat none.img /",
+        ],
+        b"",
+        1,
+        Said::Tells(
+            b"err Image\n",
+            b"lfs: none.img: there is no such file or folder\n",
+        ),
+    ),
+];
+
+#[test]
+fn looks_at_a_volume(rt: HostRuntime) {
+    want(&rt, LOOKS);
+}
+
+// A new volume of 64 segments takes one file of 2,154 blocks.
+const CHANGES: &[Step] = &[
+    Step::Says(&["lfs mkfs c.img --segments 64"], b"", 0, OK),
+    Step::Says(
+        &["lfs df c.img"],
+        b"",
+        0,
+        Said::Reply(
+            b"size 2098176 bytes, segments 64\nused 0 bytes, files 0\n\
+            free 1102848 bytes, in one new file\n",
+        ),
+    ),
+    Step::Says(&["lfs mkdir c.img /d"], b"", 0, OK),
+    Step::Says(&["lfs put c.img /a"], b"one", 0, Said::Reply(b"ok 3\n")),
+    Step::Says(&["lfs mv c.img /a /d/b"], b"", 0, OK),
+    Step::Says(&["lfs clean c.img"], b"", 0, OK),
+    Step::Says(
+        &["lfs tree c.img"],
+        b"",
+        0,
+        Said::Reply(b"/\n  d/  64\n    b  3\n"),
+    ),
+    Step::Says(
+        &["lfs rm c.img /d"],
+        b"",
+        1,
+        Said::OfPath(b"err NotEmpty\n", b"the directory has entries"),
+    ),
+    Step::Says(
+        &["lfs rm c.img /e"],
+        b"",
+        1,
+        Said::OfPath(b"err NoEntry\n", b"the volume has nothing of this name"),
+    ),
+    Step::Says(&["lfs rm c.img /d/b"], b"", 0, OK),
+    Step::Says(&["lfs rm c.img /d"], b"", 0, OK),
+    Step::Says(&["lfs mount c.img"], b"", 0, EMPTY),
+    Step::Remove("c.img"),
+];
+
+#[test]
+fn changes_of_a_volume(rt: HostRuntime) {
+    want(&rt, CHANGES);
+}
+
+// The sync makes seven writes: a summary, the root's slots, two inodes, a block of the inode map,
+// one of usage, the checkpoint.
+const STOPS: &[Step] = &[
+    Step::Says(
+        &[
+            "lfs sim --segments 64 --stop 0 --left old",
+            "lfs sim --segments 64 --stop 0 --left new",
+            "lfs sim --segments 64 --stop 0 --left bad",
+        ],
+        ONE_FILE,
+        0,
+        Said::Reply(b"ok 0\nerr Halted\nwrites 1\nok 0\n"),
+    ),
+    Step::Says(
+        &[
+            "lfs sim --segments 64 --stop 1 --left old",
+            "lfs sim --segments 64 --stop 1 --left new",
+            "lfs sim --segments 64 --stop 1 --left bad",
+        ],
+        ONE_FILE,
+        0,
+        Said::Reply(b"ok 0\nerr Halted\nwrites 2\nok 0\n"),
+    ),
+    Step::Says(
+        &[
+            "lfs sim --segments 64 --stop 2 --left old",
+            "lfs sim --segments 64 --stop 2 --left new",
+            "lfs sim --segments 64 --stop 2 --left bad",
+        ],
+        ONE_FILE,
+        0,
+        Said::Reply(b"ok 0\nerr Halted\nwrites 3\nok 0\n"),
+    ),
+    Step::Says(
+        &[
+            "lfs sim --segments 64 --stop 3 --left old",
+            "lfs sim --segments 64 --stop 3 --left new",
+            "lfs sim --segments 64 --stop 3 --left bad",
+        ],
+        ONE_FILE,
+        0,
+        Said::Reply(b"ok 0\nerr Halted\nwrites 4\nok 0\n"),
+    ),
+    Step::Says(
+        &[
+            "lfs sim --segments 64 --stop 4 --left old",
+            "lfs sim --segments 64 --stop 4 --left new",
+            "lfs sim --segments 64 --stop 4 --left bad",
+        ],
+        ONE_FILE,
+        0,
+        Said::Reply(b"ok 0\nerr Halted\nwrites 5\nok 0\n"),
+    ),
+    Step::Says(
+        &[
+            "lfs sim --segments 64 --stop 5 --left old",
+            "lfs sim --segments 64 --stop 5 --left new",
+            "lfs sim --segments 64 --stop 5 --left bad",
+        ],
+        ONE_FILE,
+        0,
+        Said::Reply(b"ok 0\nerr Halted\nwrites 6\nok 0\n"),
+    ),
+    Step::Says(
+        &[
+            "lfs sim --segments 64 --stop 6 --left old",
+            "lfs sim --segments 64 --stop 6 --left bad",
+        ],
+        ONE_FILE,
+        0,
+        Said::Reply(b"ok 0\nerr Halted\nwrites 7\nok 0\n"),
+    ),
+    Step::Says(
+        &["lfs sim --segments 64 --stop 6 --left new"],
+        ONE_FILE,
+        0,
+        Said::Reply(b"ok 0\nerr Halted\nwrites 7\nok 1\n1 a file 2 1 0 -\n"),
+    ),
+    Step::Says(
+        &[
+            "lfs sim --segments 64 --stop 7 --left old",
+            "lfs sim --segments 64 --stop 18446744073709551615 --left bad",
+        ],
+        ONE_FILE,
+        0,
+        Said::Reply(b"ok 0\nok\nwrites 7\nok 1\n1 a file 2 1 0 -\n"),
+    ),
+    Step::Says(
+        &["lfs sim --segments 64 --stop 0 --left old"],
+        b"space\nbad\n",
+        2,
+        Said::Reply(b"ok 0 1 727 3008\nbad 2\nwrites 0\nok 0\n"),
+    ),
+    Step::Says(
+        &["lfs sim --segments 64 --stop 0 --left old"],
+        b"",
+        0,
+        Said::Reply(b"writes 0\nok 0\n"),
+    ),
+];
+
+#[test]
+fn a_stop_at_each_write(rt: HostRuntime) {
+    want(&rt, STOPS);
+}
+
+const CALL_REFUSED: &[u8] = b"lfs: s.img: a call of the script was refused\n";
+
+// The script ends at the first refusal, and what was synced before it stays.
+const STRICT: &[Step] = &[
+    Step::Says(&["lfs mkfs s.img --segments 64"], b"", 0, OK),
+    Step::Says(
+        &["lfs run s.img --strict", "lfs run --strict s.img"],
+        b"space\n",
+        0,
+        Said::Tells(b"ok 0 1 727 3008\n", b""),
+    ),
+    Step::Says(
+        &["lfs run s.img --strict", "lfs run --strict s.img"],
+        b"create /a\nopen /b\ncreate /c\nsync\n",
+        3,
+        Said::Tells(b"ok 0\nerr NoEntry\n", CALL_REFUSED),
+    ),
+    Step::Says(&["lfs mount s.img"], b"", 0, EMPTY),
+    Step::Says(
+        &["lfs run s.img --strict"],
+        b"open /b",
+        3,
+        Said::Tells(b"err NoEntry\n", CALL_REFUSED),
+    ),
+    Step::Says(
+        &["lfs run s.img --strict"],
+        b"open /b\nfrob\n",
+        3,
+        Said::Tells(b"err NoEntry\n", CALL_REFUSED),
+    ),
+    Step::Says(
+        &["lfs run s.img --strict"],
+        b"create /a\nfrob\nopen /b\n",
+        2,
+        Said::Reply(b"ok 0\nbad 2\n"),
+    ),
+    Step::Says(
+        &["lfs run s.img"],
+        b"open /b\nspace\n",
+        0,
+        Said::Tells(b"err NoEntry\nok 0 1 727 3008\n", b""),
+    ),
+    Step::Says(
+        &["lfs run s.img --strict"],
+        b"create /a\nsync\ncreate /a\ncreate /c\nsync\n",
+        3,
+        Said::Tells(b"ok 0\nok\nerr Exist\n", CALL_REFUSED),
+    ),
+    Step::Says(
+        &["lfs mount s.img"],
+        b"",
+        0,
+        Said::Reply(b"ok 1\n1 a file 2 1 0 -\n"),
+    ),
+    Step::Remove("s.img"),
+    Step::Says(
+        &["lfs run -- --strict"],
+        b"space\n",
+        1,
+        Said::Tells(
+            b"err Image\n",
+            b"lfs: --strict: there is no such file or folder\n",
+        ),
+    ),
+    Step::Says(
+        &[
+            "lfs mount s.img --strict",
+            "lfs sim --segments 64 --stop 0 --left old --strict",
+            "lfs run s.img --strict=yes",
+            "lfs run --strict",
+        ],
+        b"space\n",
+        2,
+        Said::Fault,
+    ),
+];
+
+#[test]
+fn strict_scripts(rt: HostRuntime) {
+    want(&rt, STRICT);
+}
+
+const BAD: &[u8] = b"bad 1\n";
+
+// What people are told of a bad line: its words, their count, and how each is spelt.
+const BAD_LINES: &[Step] = &[
+    Step::Says(&["lfs mkfs r.img --segments 64"], b"", 0, OK),
+    Step::Says(
+        &["lfs run r.img"],
+        b"\nspace\n",
+        2,
+        Said::Tells(BAD, b"lfs: line 1: it is empty\n"),
+    ),
+    Step::Says(
+        &["lfs run r.img"],
+        b"tree \n",
+        2,
+        Said::Tells(
+            BAD,
+            b"lfs: line 1: one space stands between two words, and nowhere else\n",
+        ),
+    ),
+    Step::Says(
+        &["lfs run r.img"],
+        b"space\nfrob 1\nspace\n",
+        2,
+        Said::Tells(
+            b"ok 0 1 727 3008\nbad 2\n",
+            b"lfs: line 2: no command has the word 'frob'\n",
+        ),
+    ),
+    Step::Says(
+        &["lfs run r.img"],
+        b"sync\r\n",
+        2,
+        Said::Tells(BAD, b"lfs: line 1: no command has the word 'sync\\0d'\n"),
+    ),
+    Step::Says(
+        &["lfs run r.img"],
+        b"fill 0 0 1",
+        2,
+        Said::Tells(BAD, b"lfs: line 1: 'fill' takes 4 arguments, 3 given\n"),
+    ),
+    Step::Says(
+        &["lfs run r.img"],
+        b"open /a /b\n",
+        2,
+        Said::Tells(BAD, b"lfs: line 1: 'open' takes 1 argument, 2 given\n"),
+    ),
+    Step::Says(
+        &["lfs run r.img"],
+        b"pread 00 0 1\n",
+        2,
+        Said::Tells(
+            BAD,
+            b"lfs: line 1: H of 'pread' has to be decimal digits without leading zeros, at most 4294967295\n",
+        ),
+    ),
+    Step::Says(
+        &["lfs run r.img"],
+        b"fill 0 0 1 256\n",
+        2,
+        Said::Tells(
+            BAD,
+            b"lfs: line 1: BYTE of 'fill' has to be decimal digits without leading zeros, at most 255\n",
+        ),
+    ),
+    Step::Says(
+        &["lfs run r.img"],
+        b"truncate 0 18446744073709551616\n",
+        2,
+        Said::Tells(
+            BAD,
+            b"lfs: line 1: LEN of 'truncate' has to be decimal digits without leading zeros, at most 18446744073709551615\n",
+        ),
+    ),
+    Step::Says(
+        &["lfs run r.img"],
+        b"pwrite 0 0 6G\n",
+        2,
+        Said::Tells(
+            BAD,
+            b"lfs: line 1: HEX of 'pwrite' has to be two lower case digits for each byte, or - for none\n",
+        ),
+    ),
+    Step::Says(
+        &["lfs run r.img"],
+        b"create \\2f\n",
+        2,
+        Said::Tells(
+            BAD,
+            b"lfs: line 1: P of 'create' has to be an escaped word: a backslash and two lower case digits for a backslash and for a byte outside 0x21 to 0x7e\n",
+        ),
+    ),
+    Step::Reads(
+        "lfs run r.img",
+        140_000,
+        2,
+        Said::Tells(
+            BAD,
+            b"lfs: line 1: no command has the word 'aaaaaaaaaaaaaaaaaaaaaaaaaaaaaaaaaaaaaaaa..'\n",
+        ),
+    ),
+    Step::Reads(
+        "lfs run r.img",
+        140_001,
+        2,
+        Said::Tells(BAD, b"lfs: line 1: it has more than 140000 bytes\n"),
+    ),
+    Step::Repeats(
+        "lfs run r.img",
+        1_000,
+        b"sync\n",
+        b"frob\n",
+        2,
+        Said::Explains(b"lfs: line 1001: no command has the word 'frob'\n"),
+    ),
+    Step::Remove("r.img"),
+    Step::Says(
+        &["lfs sim --segments 64 --stop 0 --left old"],
+        b"sync it\n",
+        2,
+        Said::Tells(
+            b"bad 1\nwrites 0\nok 0\n",
+            b"lfs: line 1: 'sync' takes 0 arguments, 1 given\n",
+        ),
+    ),
+];
+
+#[test]
+fn reasons_of_bad_lines(rt: HostRuntime) {
+    want(&rt, BAD_LINES);
+}
+
+const A_DIRECTORY: Said = Said::OfPath(b"err IsDir\n", b"this is a directory");
+
+const A_FILE_ABOVE: Said = Said::OfPath(b"err NotDir\n", b"a directory is needed here");
+
+const WRONG_PIECE: Said = Said::OfPath(b"err Inval\n", b"an argument isn't taken");
+
+const UNFINISHED: Said = Said::OfPath(
+    b"err Inval\n",
+    b"this is the name under which `put` keeps a file that isn't whole yet",
+);
+
+const TOO_LONG: Said = Said::OfPath(b"err NameTooLong\n", b"a name or a path is too long");
+
+// The new file takes the least number that is free, while the old one still has its own.
+const PUTS: &[Step] = &[
+    Step::Says(&["lfs mkfs p.img --segments 64"], b"", 0, OK),
+    Step::Says(&["lfs put p.img /f"], b"old", 0, Said::Reply(b"ok 3\n")),
+    Step::Says(
+        &["lfs mount p.img"],
+        b"",
+        0,
+        Said::Reply(b"ok 1\n1 f file 2 1 3 6f6c64\n"),
+    ),
+    Step::Says(
+        &["lfs put p.img //f"],
+        b"new\n\x00\xff",
+        0,
+        Said::Reply(b"ok 6\n"),
+    ),
+    Step::Says(
+        &["lfs mount p.img"],
+        b"",
+        0,
+        Said::Reply(b"ok 1\n1 f file 3 1 6 6e65770a00ff\n"),
+    ),
+    Step::Says(&["lfs put p.img f"], b"", 0, Said::Reply(b"ok 0\n")),
+    Step::Says(
+        &["lfs mount p.img"],
+        b"",
+        0,
+        Said::Reply(b"ok 1\n1 f file 2 1 0 -\n"),
+    ),
+    // Seven doesn't divide the bytes of a piece.
+    Step::Repeats(
+        "lfs put p.img /a\\20c",
+        28_571,
+        b"0123456",
+        b"end",
+        0,
+        Said::Reply(b"ok 200000\n"),
+    ),
+    Step::Copies("lfs cat p.img /a\\20c", 28_571, b"0123456", b"end"),
+    Step::Says(
+        &["lfs tree p.img"],
+        b"",
+        0,
+        Said::Reply(b"/\n  a\\20c  200000\n  f  0\n"),
+    ),
+    // A read that fails leaves the old file, or none.
+    Step::Breaks("lfs put p.img /f", b"new"),
+    Step::Breaks("lfs put p.img /g", b""),
+    Step::Says(
+        &["lfs tree p.img"],
+        b"",
+        0,
+        Said::Reply(b"/\n  a\\20c  200000\n  f  0\n"),
+    ),
+    Step::Remove("p.img"),
+];
+
+#[test]
+fn files_are_put(rt: HostRuntime) {
+    want(&rt, PUTS);
+}
+
+// What stands in the volume of the paths below.
+const PLACES: Said = Said::Reply(
+    b"ok 4\n1 d dir 2 2 64 -\n1 f file 4 1 2 6161\n1 l link 5 1 1 f\n2 x file 3 1 0 -\n",
+);
+
+const PATHS: &[Step] = &[
+    Step::Says(&["lfs mkfs p.img --segments 64"], b"", 0, OK),
+    Step::Says(
+        &["lfs run p.img"],
+        b"mkdir /d\ncreate /d/x\ncreate /f\npwrite 1 0 6161\nsymlink f /l\nsync\n",
+        0,
+        Said::Reply(b"ok\nok 0\nok 1\nok 2\nok\nok\n"),
+    ),
+    Step::Says(
+        &["lfs put p.img /d", "lfs put p.img d"],
+        b"new",
+        1,
+        A_DIRECTORY,
+    ),
+    Step::Says(
+        &[
+            "lfs put p.img /d/",
+            "lfs put p.img /f/",
+            "lfs put p.img /g/",
+            "lfs put p.img /f/x",
+        ],
+        b"new",
+        1,
+        A_FILE_ABOVE,
+    ),
+    Step::Says(
+        &["lfs put p.img /", "lfs put p.img //"],
+        b"new",
+        1,
+        Said::OfPath(b"err Busy\n", b"the root can't be removed or renamed"),
+    ),
+    Step::Says(
+        &[
+            "lfs put p.img .",
+            "lfs put p.img /d/..",
+            "lfs put p.img /d/./",
+            "lfs put p.img /a\\00b",
+        ],
+        b"new",
+        1,
+        WRONG_PIECE,
+    ),
+    Step::Says(
+        &["lfs put p.img /.lfs-put", "lfs put p.img d/.lfs-put/"],
+        b"new",
+        1,
+        UNFINISHED,
+    ),
+    Step::Says(
+        &["lfs put p.img \\", "lfs put p.img /none/f"],
+        b"new",
+        1,
+        Said::OfPath(b"err NoEntry\n", b"the volume has nothing of this name"),
+    ),
+    Step::Says(
+        &["lfs put p.img 0123456789012345678901234567890123456789012345678901234567890"],
+        b"new",
+        1,
+        TOO_LONG,
+    ),
+    Step::Says(&["lfs mount p.img"], b"", 0, PLACES),
+    // A link is replaced itself, and one on the way is followed.
+    Step::Says(&["lfs put p.img /l"], b"b", 0, Said::Reply(b"ok 1\n")),
+    Step::Says(&["lfs put p.img /d/x"], b"cc", 0, Said::Reply(b"ok 2\n")),
+    Step::Says(
+        &["lfs mount p.img"],
+        b"",
+        0,
+        Said::Reply(
+            b"ok 4\n1 d dir 2 2 64 -\n1 f file 4 1 2 6161\n1 l file 6 1 1 62\n2 x file 5 1 2 6363\n",
+        ),
+    ),
+    Step::Remove("p.img"),
+];
+
+#[test]
+fn paths_of_files_that_are_put(rt: HostRuntime) {
+    want(&rt, PATHS);
+}
+
+const FULL: Said = Said::OfPath(b"err NoSpace\n", b"the volume has no space for this");
+
+// The old file alone, and its space: a block of its own and the root's.
+const OLD_FILE: Said = Said::Reply(b"ok 1\n1 f file 2 1 3 6f6c64\n");
+
+const OLD_SPACE: Said = Said::Reply(b"ok 64 2 2 736 3008\n");
+
+// A new volume of 64 segments takes a file of 1,102,848 bytes: 2,154 blocks, the root's one, and 19
+// inodes and blocks of pointers need 3,008.
+const FULL_VOLUME: &[Step] = &[
+    Step::Says(&["lfs mkfs p.img --segments 64"], b"", 0, OK),
+    Step::Reads("lfs put p.img /f", 1_102_849, 1, FULL),
+    Step::Says(&["lfs mount p.img"], b"", 0, EMPTY),
+    Step::Says(&["lfs check p.img"], b"", 0, NEW_SPACE),
+    Step::Says(&["lfs put p.img /f"], b"old", 0, Said::Reply(b"ok 3\n")),
+    Step::Reads("lfs put p.img /f", 1_102_848, 1, FULL),
+    Step::Says(&["lfs mount p.img"], b"", 0, OLD_FILE),
+    Step::Says(&["lfs check p.img"], b"", 0, OLD_SPACE),
+    // What a stop left is gone too.
+    Step::Says(
+        &["lfs run p.img"],
+        b"create /.lfs-put\npwrite 0 0 61\nsync\n",
+        0,
+        Said::Reply(b"ok 0\nok 1\nok\n"),
+    ),
+    Step::Reads("lfs put p.img /f", 1_102_848, 1, FULL),
+    Step::Says(&["lfs mount p.img"], b"", 0, OLD_FILE),
+    Step::Says(&["lfs check p.img"], b"", 0, OLD_SPACE),
+    Step::Says(
+        &["lfs run p.img"],
+        b"unlink /f\nsync\n",
+        0,
+        Said::Reply(b"ok\nok\n"),
+    ),
+    Step::Reads(
+        "lfs put p.img /f",
+        1_102_848,
+        0,
+        Said::Reply(b"ok 1102848\n"),
+    ),
+    Step::Says(
+        &["lfs check p.img"],
+        b"",
+        0,
+        Said::Reply(b"ok 64 2155 19 3008 3008\n"),
+    ),
+    Step::Says(&["lfs put p.img /f"], b"new", 1, FULL),
+    Step::Says(
+        &["lfs tree p.img"],
+        b"",
+        0,
+        Said::Reply(b"/\n  f  1102848\n"),
+    ),
+    Step::Remove("p.img"),
+    // The longest file of a volume.
+    Step::Says(&["lfs mkfs p.img --segments 1024"], b"", 0, OK),
+    Step::Says(&["lfs put p.img /f"], b"old", 0, Said::Reply(b"ok 3\n")),
+    Step::Reads(
+        "lfs put p.img /f",
+        8_511_489,
+        1,
+        Said::OfPath(
+            b"err FileTooBig\n",
+            b"this is past the greatest size of a file",
+        ),
+    ),
+    Step::Says(&["lfs mount p.img"], b"", 0, OLD_FILE),
+    Step::Reads(
+        "lfs put p.img /f",
+        8_511_488,
+        0,
+        Said::Reply(b"ok 8511488\n"),
+    ),
+    Step::Says(
+        &["lfs tree p.img"],
+        b"",
+        0,
+        Said::Reply(b"/\n  f  8511488\n"),
+    ),
+    Step::Remove("p.img"),
+];
+
+#[test]
+fn files_that_find_no_space(rt: HostRuntime) {
+    want(&rt, FULL_VOLUME);
+}
+
+const LEFT: &[Step] = &[
+    // What a stop left goes, whatever it is, but a directory.
+    Step::Says(&["lfs mkfs p.img --segments 64"], b"", 0, OK),
+    Step::Says(
+        &["lfs run p.img"],
+        b"create /.lfs-put\npwrite 0 0 61\nlink /.lfs-put /g\nsync\n",
+        0,
+        Said::Reply(b"ok 0\nok 1\nok\nok\n"),
+    ),
+    Step::Says(&["lfs put p.img /f"], b"b", 0, Said::Reply(b"ok 1\n")),
+    Step::Says(
+        &["lfs mount p.img"],
+        b"",
+        0,
+        Said::Reply(b"ok 2\n1 f file 3 1 1 62\n1 g file 2 1 1 61\n"),
+    ),
+    Step::Says(
+        &["lfs run p.img"],
+        b"mkdir /.lfs-put\nsync\n",
+        0,
+        Said::Reply(b"ok\nok\n"),
+    ),
+    Step::Says(
+        &["lfs put p.img /f"],
+        b"c",
+        1,
+        Said::OfPath(b"err Perm\n", b"a directory isn't linked or unlinked"),
+    ),
+    Step::Says(
+        &["lfs mount p.img"],
+        b"",
+        0,
+        Said::Reply(b"ok 3\n1 .lfs-put dir 4 2 0 -\n1 f file 3 1 1 62\n1 g file 2 1 1 61\n"),
+    ),
+    Step::Remove("p.img"),
+];
+
+#[test]
+fn what_a_stop_left_is_removed(rt: HostRuntime) {
+    want(&rt, LEFT);
+}
