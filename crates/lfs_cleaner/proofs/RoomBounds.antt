@@ -2,6 +2,7 @@
 use Rattle.std.proofs.Common.{◌≡◌, ◌<◌, ◌≤◌, ◌+◌, ◌-◌, ◌*◌, ◌/◌, ◌^◌, ⊎_elim, ℕ, false, List, [], ◌∷◌, length, refl, sym, ◌∙◌, ap, subst, arith}
 use Rattle.std.specs.Prelude.{Result, Ok, Err, OnOk, min}
 use Rattle.lfs_model.specs.Checkpoint.{CheckpointValue, IsSegmentCount}
+use Rattle.lfs_model.specs.declared.Order.{Order}
 use Rattle.lfs_model.specs.Device.{DeviceState, IsLawful, Carries}
 use Rattle.lfs_model.specs.Stands.{LogMap}
 use Rattle.lfs_model.specs.Totals.{IsCounted}
@@ -13,7 +14,9 @@ use Rattle.lfs_log.specs.Publishing.{AreUntaken}
 use Rattle.lfs_log.specs.Cleaning.{Cleans}
 use Rattle.lfs_log.specs.Held.{Held, Halts, Holds, IsFull, Saves}
 use Rattle.lfs_cleaner.specs.Passing.{CanPass}
-use Rattle.lfs_cleaner.specs.Room.{CleansQuarter, HaltsLater, HasQuarter, IsReadied, IsRoomFault, IsWithin, KeepsMap, MayMakeRoom, MayNotMakeRoom, PassesDone, Repeats, most_checkpoints}
+use Rattle.lfs_log.specs.Saving.{commit_orders, pass_orders}
+use Rattle.std.proofs.Math.Nat.{add-mul, mul-le-mul_right, one-mul}
+use Rattle.lfs_cleaner.specs.Room.{CleansQuarter, HaltsLater, HasQuarter, IsReadied, IsRoomFault, IsWithin, KeepsMap, MayMakeRoom, MayNotMakeRoom, PassesDone, Repeats, most_checkpoints, passes_orders, room_orders}
 use Rattle.lfs_cleaner.proofs.Rooms.{fault_then, halts_at_once, halts_then, halts_weaker, keeps_then, keeps_weaker, repeats_cleans, repeats_none, repeats_saves, repeats_then, repeats_weaker}
 
 -- a list without length is empty
@@ -26,6 +29,41 @@ pub on_success : {T E : Type 0} (r : Result T E) (P Q R : Type 0) → (P → Q �
 on_success (Ok x) P Q R give p q = give p q
 on_success (Err f) P Q R give p q = tt
 
+-- ---- orders
+one_more : (count p : ℕ) → (count + 1) * p ≡ count * p + p
+one_more count p = add-mul count 1 p ∙ ap (λ (n : ℕ). count * p + n) (one-mul p)
+
+-- a pass more
+pub pass_more : (t0 t1 t2 count n n' : ℕ) → n' ≡ n → t1 ≤ t0 + count * pass_orders n → t2 ≤ t1 + pass_orders n' → t2 ≤ t0 + (count + 1) * pass_orders n
+pass_more t0 t1 t2 count n n' same first second =
+    let e = one_more count (pass_orders n) in
+    let last : t2 ≤ t1 + pass_orders n = subst (λ (x : ℕ). t2 ≤ t1 + pass_orders x) same second in
+    more (count * pass_orders n) ((count + 1) * pass_orders n) (pass_orders n) e first last
+  where
+    more : (a b p : ℕ) → b ≡ a + p → t1 ≤ t0 + a → t2 ≤ t1 + p → t2 ≤ t0 + b
+    more a b p e first last = omega (arith, e, first, last)
+
+-- no more passes than so many
+pub passes_most : (t0 t1 count most p : ℕ) → count ≤ most → t1 ≤ t0 + count * p → t1 ≤ t0 + most * p
+passes_most t0 t1 count most p le told = more (count * p) (most * p) (mul-le-mul_right p le) told
+  where
+    more : (a b : ℕ) → a ≤ b → t1 ≤ t0 + a → t1 ≤ t0 + b
+    more a b le told = omega (arith, le, told)
+
+-- a commit, and passes behind it
+pub room_told : (t0 t1 t2 n n' : ℕ) → n' ≡ n → t1 ≤ t0 + commit_orders → t2 ≤ t1 + n' / 8 * pass_orders n' → t2 ≤ t0 + room_orders n
+room_told t0 t1 t2 n n' same first second =
+    let last : t2 ≤ t1 + n / 8 * pass_orders n = subst (λ (x : ℕ). t2 ≤ t1 + x / 8 * pass_orders x) same second in
+    more commit_orders (n / 8 * pass_orders n) first last
+  where
+    more : (a b : ℕ) → t1 ≤ t0 + a → t2 ≤ t1 + b → t2 ≤ t0 + (a + b)
+    more a b first last = omega (arith, first, last)
+
+-- passes alone
+pub passes_told : (told0 told1 : List Order) (t2 n n' : ℕ) → n' ≡ n → told1 ≡ told0 → t2 ≤ length told1 + passes_orders n' → t2 ≤ length told0 + passes_orders n
+passes_told told0 told1 t2 n n' same first second =
+    subst (λ (l : List Order). t2 ≤ length l + passes_orders n) first (subst (λ (x : ℕ). t2 ≤ length told1 + passes_orders x) same second)
+
 module _ {D : Type 0} (state : D → DeviceState) where
   -- a log that holds a map has as many segments as a volume may have
   pub segment_count : (h : Held D) (k : CheckpointValue) (m0 m : LogMap) → IsLawful (state h.device) → Holds state h k m0 m → IsSegmentCount (length h.memory.usage.segments)
@@ -34,13 +72,20 @@ module _ {D : Type 0} (state : D → DeviceState) where
       subst IsSegmentCount (sym is.log.segments) fits.held.fits.segments
 
   pub passes_none : (h : Held D) → IsLawful (state h.device) → h.halted ≡ false → PassesDone state h h 0
-  passes_none h lawful running = record { repeats = repeats_none state h lawful running; gains = omega arith }
+  passes_none h lawful running = record {
+    repeats = repeats_none state h lawful running;
+    gains = omega arith;
+    told = omega arith;
+  }
 
   -- a pass more
-  pub passes_more : (h now next : Held D) (count : ℕ) (vs : List ℕ) → PassesDone state h now count → Cleans state now next vs → next.totals ≡ now.totals → PassesDone state h next (count + 1)
-  passes_more h now next count vs done one totals = record {
+  pub passes_more : (h now next : Held D) (count : ℕ) (vs : List ℕ) → PassesDone state h now count → Cleans state now next vs → next.totals ≡ now.totals
+      → length (state next.device).told ≤ length (state now.device).told + pass_orders (length now.memory.usage.segments) → PassesDone state h next (count + 1)
+  passes_more h now next count vs done one totals more = record {
     repeats = repeats_then state h now next count 1 done.repeats (repeats_cleans state now next vs one totals);
     gains = (let g = done.gains in let g' = one.gains in omega (arith, g, g'));
+    told = pass_more (length (state h.device).told) (length (state now.device).told) (length (state next.device).told) count (length h.memory.usage.segments) (length now.memory.usage.segments)
+        done.repeats.keeps.segments done.told more;
   }
 
   pub same_need : (h now : Held D) → now.totals ≡ h.totals → length now.memory.usage.segments ≡ length h.memory.usage.segments → IsWithin h → IsWithin now

@@ -1,5 +1,5 @@
 -- What is left where the cleaner makes room: it commits what is unsaved, and passes until a quarter of the segments is clean.
-use Rattle.std.specs.Prelude.{◌≡◌, ◌⊎◌, ◌<◌, ◌≤◌, ◌+◌, ◌-◌, ◌*◌, ◌/◌, ◌^◌, ℕ, true, false, [], length, min}
+use Rattle.std.specs.Prelude.{◌≡◌, ◌⊎◌, ◌<◌, ◌≤◌, ◌+◌, ◌-◌, ◌*◌, ◌/◌, ◌^◌, ℕ, true, false, length, min}
 use Rattle.lfs_model.specs.Checkpoint.{CheckpointValue, Layout, layout_of}
 use Rattle.lfs_model.specs.Device.{DeviceState, Carries, AllLeft}
 use Rattle.lfs_model.specs.Encodes.{IsLogMap}
@@ -9,6 +9,7 @@ use Rattle.lfs_model.specs.TreeOf.{dropped}
 use Rattle.lfs_log.specs.memory.segments.Table.{clean_in}
 use Rattle.lfs_log.specs.Held.{Held, Holds, IsSaved, LeavesSaved, AreAllSaved, unsaved_in}
 use Rattle.lfs_log.specs.Publishing.{AreUntaken}
+use Rattle.lfs_log.specs.Saving.{commit_orders, pass_orders}
 
 -- the need of the files, by the totals of the log, is within the volume
 abbrev pub IsWithin : {D : Type 0} → Held D → Type 0
@@ -25,6 +26,14 @@ pub record IsAtRest {D : Type 0} (h : Held D) : Type 0 where
   pub nothing : AreAllSaved h
   pub untaken : AreUntaken h.memory.usage
   pub many : length h.memory.usage.segments ≤ 8 * clean_in h.memory.usage.segments
+
+-- how many orders passes give the device at most, where there are so many segments: they are an eighth of these
+abbrev pub passes_orders : ℕ → ℕ
+passes_orders segments = segments / 8 * pass_orders segments
+
+-- and with a commit before them
+abbrev pub room_orders : ℕ → ℕ
+room_orders segments = commit_orders + passes_orders segments
 
 -- how many checkpoints are written at most: one where anything is unsaved, and one for each pass
 abbrev pub most_checkpoints : {D : Type 0} → Held D → ℕ
@@ -72,6 +81,8 @@ module _ {D : Type 0} (state : D → DeviceState) where
   pub record PassesDone (h h' : Held D) (count : ℕ) : Type 0 where
     pub repeats : Repeats h h' count
     pub gains : clean_in h.memory.usage.segments + count ≤ clean_in h'.memory.usage.segments
+    pub told : length (state h'.device).told
+        ≤ length (state h.device).told + count * pass_orders (length h.memory.usage.segments)
 
   -- A quarter of the segments is clean.
   abbrev pub CleansQuarter : Held D → Held D → Type 0

@@ -1,6 +1,7 @@
 //! One pass of the cleaner.
-ghost use Rattle.std.specs.Prelude.{◌≡◌, ◌≢◌, true, OnOk, IsErrOf};
+ghost use Rattle.std.specs.Prelude.{◌≡◌, ◌≢◌, ◌≤◌, ◌+◌, true, length, OnOk, IsErrOf};
 ghost use Rattle.lfs_log.specs.Held.{Halts, IsReadFault, Reads};
+ghost use Rattle.lfs_log.specs.Saving.{pass_orders};
 ghost use Rattle.lfs_cleaner.specs.Passing.{IsUnfit, Passes};
 
 use lfs_device::SectorDevice;
@@ -27,6 +28,8 @@ pub fn pass<D: SectorDevice>(log: &mut Log<D>) -> Result<(), LogFault>
         → Halts D.SectorDevice.state log.old log.new }
     ensures still { log.old.halted ≡ true → (log.new ≡ log.old)
         × IsErrOf result LogFault.Halted }
+    ensures told { length (D.state log.new.device).told ≤ length (D.state log.old.device).told
+        + pass_orders (length log.old.memory.usage.segments) }
 {
     if log.is_halted() {
         return Err(LogFault::Halted);

@@ -3,7 +3,8 @@
 ghost use Rattle.std.specs.Prelude.{◌≡◌, ◌≢◌, ◌<◌, ◌≤◌, ◌+◌, ◌*◌, ◌/◌, true, false, [], length, OnOk, IsErrOf, IsTrue, IsFalse};
 ghost use Rattle.lfs_log.specs.memory.segments.Table.{clean_in};
 ghost use Rattle.lfs_log.specs.Held.{Halts, IsFull, AreAllSaved, unsaved_in};
-ghost use Rattle.lfs_cleaner.specs.Room.{CleansQuarter, HaltsLater, HasQuarter, IsReadied, IsRoomFault, KeepsMap, MayNotMakeRoom, Repeats, most_checkpoints};
+ghost use Rattle.lfs_cleaner.specs.Room.{CleansQuarter, HaltsLater, HasQuarter, IsReadied, IsRoomFault, KeepsMap, MayNotMakeRoom, Repeats, most_checkpoints, passes_orders, room_orders};
+ghost use Rattle.lfs_log.specs.Saving.{commit_orders};
 
 use crate::passing::pass;
 use lfs_device::SectorDevice;
@@ -43,6 +44,8 @@ fn pass_until_quarter<D: SectorDevice>(log: &mut Log<D>) -> Result<(), LogFault>
     ensures halted { IsErrOf result LogFault.Halted
         → HaltsLater D.SectorDevice.state log.old log.new
         (length log.old.memory.usage.segments / 8) }
+    ensures told { length (D.state log.new.device).told ≤ length (D.state log.old.device).told
+        + passes_orders (length log.old.memory.usage.segments) }
 {
     let most = log.segments() / 8;
     for _ in 0..most {
@@ -73,6 +76,10 @@ fn commit_unsaved<D: SectorDevice>(log: &mut Log<D>) -> Result<(), LogFault>
     ensures unsaved { IsErrOf result LogFault.Full → 0 < unsaved_in log.old }
     ensures halted { IsErrOf result LogFault.Halted → Halts D.SectorDevice.state log.old log.new }
     ensures other { IsErrOf result LogFault.Device → ⊥ }
+    ensures told { length (D.state log.new.device).told
+        ≤ length (D.state log.old.device).told + commit_orders }
+    ensures quiet { AreAllSaved log.old
+        → (D.state log.new.device).told ≡ (D.state log.old.device).told }
 {
     if log.unsaved() == 0 {
         return Ok(());
@@ -107,6 +114,11 @@ pub fn make_room<D: SectorDevice>(log: &mut Log<D>) -> Result<(), LogFault>
         → HaltsLater D.SectorDevice.state log.old log.new (most_checkpoints log.old) }
     ensures still { log.old.halted ≡ true → (log.new ≡ log.old)
         × IsErrOf result LogFault.Halted }
+    ensures told { length (D.state log.new.device).told ≤ length (D.state log.old.device).told
+        + room_orders (length log.old.memory.usage.segments) }
+    ensures saved { AreAllSaved log.old → length (D.state log.new.device).told
+        ≤ length (D.state log.old.device).told
+        + passes_orders (length log.old.memory.usage.segments) }
 {
     if log.is_halted() {
         return Err(LogFault::Halted);

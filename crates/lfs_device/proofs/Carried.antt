@@ -1,5 +1,5 @@
 -- A call that is noted carries a device on.
-use Rattle.std.proofs.Common.{◌≡◌, ◌⊎◌, inl, inr, ℕ, ◌≤◌, List, [], ◌∷◌, length, refl, sym, subst, arith}
+use Rattle.std.proofs.Common.{◌≡◌, ◌⊎◌, inl, inr, ℕ, ◌≤◌, List, ◌∷◌, length, refl, sym, subst, arith}
 use Rattle.lfs_model.specs.Device.{Cell, Carries, Grows}
 use Rattle.lfs_model.specs.declared.Order.{Order}
 use Rattle.lfs_model.proofs.Moments.{grows_none, grows_one}

@@ -7,6 +7,7 @@ mod file;
 mod history;
 mod memory;
 mod rows;
+mod tended;
 mod told;
 mod world;
 
@@ -15,4 +16,5 @@ pub use device::{DeviceFault, ReadFault, SectorDevice};
 pub use file::{FileDevice, FileDeviceIn};
 pub use memory::{MemDevice, NoMemory};
 pub use rows::Left;
+pub use tended::TendedDevice;
 pub use world::{ThisWorld, World};

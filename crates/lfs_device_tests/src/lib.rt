@@ -1,5 +1,5 @@
-//! Tests of devices, sectors, checkpoint slots, the walk, segments, inodes and what a log holds in
-//! memory.
+//! Tests of devices, orders that wait, sectors, checkpoint slots, the walk, segments, inodes and
+//! what a log holds in memory.
 #![tactic(auto)]
 
 #[cfg(test)]
@@ -14,6 +14,8 @@ mod inodes;
 mod layout;
 #[cfg(test)]
 mod memory;
+#[cfg(test)]
+mod queue;
 #[cfg(test)]
 mod root;
 #[cfg(test)]

@@ -9,6 +9,7 @@ looks_none d = record {
   untouched = record { content = refl; crash = λ c left. left };
   carries = carries_none d;
   time = λ t c le left. inl left;
+  told = refl;
 }
 
 pub looks_then : (a b c : DeviceState) → IsLawful a → Looks a b → Looks b c → Looks a c
@@ -22,4 +23,5 @@ looks_then a b c lawful one two = record {
       (one.time t x le before))
       (λ (now : c.may_leave x). inr now)
       (two.time t x (let later = one.carries.later in omega (arith, le, later)) left);
+  told = two.told ∙ one.told;
 }

@@ -1,8 +1,8 @@
 //! The call that cleans.
-ghost use Rattle.std.specs.Prelude.{OnOk};
+ghost use Rattle.std.specs.Prelude.{◌≤◌, ◌+◌, length, OnOk};
 ghost use Rattle.lfs_model.specs.Call.{Clean, Done};
-ghost use Rattle.lfs_store.specs.cleaner.Room.{HasQuarter};
-ghost use Rattle.lfs_fs.specs.Volume.{Serves};
+ghost use Rattle.lfs_store.specs.cleaner.Room.{HasQuarter, room_orders};
+ghost use Rattle.lfs_fs.specs.Volume.{Serves, segments_of};
 ghost use Rattle.lfs_fs.specs.Seen.{seen, answer_by};
 
 use crate::error::FsError;
@@ -21,6 +21,9 @@ impl<D: SectorDevice> Fs<D> {
         ensures serves { Serves D.SectorDevice.state (seen self.old) (seen self.new) Clean
             (answer_by (λ _. Done) result) }
         ensures enough { OnOk result (HasQuarter (seen self.new).log) }
+        ensures told { length (D.state (seen self.new).log.device).told
+            ≤ length (D.state (seen self.old).log.device).told
+            + room_orders (segments_of (seen self.old)) }
     {
         match self.begin() {
             Ok(()) => {}

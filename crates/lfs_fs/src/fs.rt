@@ -2,7 +2,7 @@
 ghost use Rattle.std.specs.Prelude.{◌≡◌, ◌≤◌, ◌<◌, ◌^◌, ◌+◌, ◌*◌, length, true, false, Some, IfOk, IfErr, OnOk, OnErr};
 ghost use Rattle.std.specs.FinMap.{find};
 ghost use Rattle.std.specs.Ordering.{nat_cmp};
-ghost use Rattle.lfs_store.specs.cleaner.Room.{IsAtRest};
+ghost use Rattle.lfs_store.specs.cleaner.Room.{IsAtRest, room_orders};
 ghost use Rattle.lfs_store.specs.memory.Batch.{room_for};
 ghost use Rattle.lfs_fs.specs.Handles.{handles_of};
 ghost use Rattle.lfs_fs.specs.Accepting.{StagesDraft, TurnsDown};
@@ -127,6 +127,9 @@ impl<D: SectorDevice> Fs<D> {
         ensures fits { IfErr result (λ fault. fault ≡ FsError.NoMemory
             → (self.old.store.saved ≡ true → IsAtRest self.old.store.log) → ⊥) }
         ensures rest { self.new.handles ≡ self.old.handles }
+        ensures told { length (D.state self.new.store.log.device).told
+            ≤ length (D.state self.old.store.log.device).told
+            + room_orders (length self.old.store.log.memory.usage.segments) }
     {
         let space = self.space_of(self.store.drafted);
         if space.need > space.limit {

@@ -32,6 +32,7 @@ pub(crate) fn pointer_at<D: SectorDevice>(
     ensures untouched { IsUntouched (D.state device.old) (D.state device.new) }
     ensures carries { Carries (D.state device.old) (D.state device.new) }
     ensures time { Elapses (D.state device.old) (D.state device.new) }
+    ensures told { (D.state device.new).told ≡ (D.state device.old).told }
 {
     if address == 0 {
         return Ok(0);
@@ -67,6 +68,7 @@ fn locate_leaf<D: SectorDevice>(
     ensures untouched { IsUntouched (D.state device.old) (D.state device.new) }
     ensures carries { Carries (D.state device.old) (D.state device.new) }
     ensures time { Elapses (D.state device.old) (D.state device.new) }
+    ensures told { (D.state device.new).told ≡ (D.state device.old).told }
 {
     if index == 0 {
         return Ok(word(inode, SINGLE));
@@ -100,6 +102,7 @@ pub fn locate<D: SectorDevice>(
     ensures untouched { IsUntouched (D.state device.old) (D.state device.new) }
     ensures carries { Carries (D.state device.old) (D.state device.new) }
     ensures time { Elapses (D.state device.old) (D.state device.new) }
+    ensures told { (D.state device.new).told ≡ (D.state device.old).told }
 {
     if index < DIRECT {
         return Ok(word(inode, (FIRST + index) as usize));
@@ -129,6 +132,7 @@ fn locate_block<D: SectorDevice>(
     ensures untouched { IsUntouched (D.state device.old) (D.state device.new) }
     ensures carries { Carries (D.state device.old) (D.state device.new) }
     ensures time { Elapses (D.state device.old) (D.state device.new) }
+    ensures told { (D.state device.new).told ≡ (D.state device.old).told }
 {
     match key.kind() {
         BlockKind::Data => locate(device, inode, key.index()),
@@ -164,6 +168,7 @@ pub fn owner_points<D: SectorDevice>(
     ensures untouched { IsUntouched (D.state device.old) (D.state device.new) }
     ensures carries { Carries (D.state device.old) (D.state device.new) }
     ensures time { Elapses (D.state device.old) (D.state device.new) }
+    ensures told { (D.state device.new).told ≡ (D.state device.old).told }
 {
     let found = locate_block(device, inode, key)?;
     Ok(address != 0 && found == address)

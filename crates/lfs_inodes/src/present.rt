@@ -37,6 +37,7 @@ fn present_pointer<D: SectorDevice>(
     ensures untouched { IsUntouched (D.state device.old) (D.state device.new) }
     ensures carries { Carries (D.state device.old) (D.state device.new) }
     ensures time { Elapses (D.state device.old) (D.state device.new) }
+    ensures told { (D.state device.new).told ≡ (D.state device.old).told }
 {
     if address != IN_MEMORY {
         return pointer_at(device, address, place);
@@ -73,6 +74,7 @@ fn present_leaf<D: SectorDevice>(
     ensures untouched { IsUntouched (D.state device.old) (D.state device.new) }
     ensures carries { Carries (D.state device.old) (D.state device.new) }
     ensures time { Elapses (D.state device.old) (D.state device.new) }
+    ensures told { (D.state device.new).told ≡ (D.state device.old).told }
 {
     if index == 0 {
         return Ok(word(inode, SINGLE));
@@ -113,6 +115,7 @@ pub fn locate_present<D: SectorDevice>(
     ensures untouched { IsUntouched (D.state device.old) (D.state device.new) }
     ensures carries { Carries (D.state device.old) (D.state device.new) }
     ensures time { Elapses (D.state device.old) (D.state device.new) }
+    ensures told { (D.state device.new).told ≡ (D.state device.old).told }
 {
     if index < DIRECT {
         return Ok(word(inode, (FIRST + index) as usize));

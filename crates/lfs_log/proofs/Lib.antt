@@ -18,5 +18,6 @@ pub mod StoodBlocks
 pub mod TableEntries
 pub mod CameIn
 pub mod Fitting
+pub mod Tells
 pub use Rattle.lfs_memory.proofs as of_memory
 pub use Rattle.lfs_verify.proofs as of_verify

@@ -16,7 +16,7 @@ use Rattle.lfs_memory.proofs.of_segments.Spare.{emptied_stay, spare_there, empti
 use Rattle.lfs_memory.specs.declared.memory.LogMemory.{LogMemory}
 use Rattle.lfs_memory.specs.Memory.{IsMemory, Goes, Stops, room_of}
 use Rattle.lfs_log.specs.Publishing.{IsAcknowledged, Publishes, PublishFails, LeavesEither}
-use Rattle.lfs_log.specs.Saving.{CommitsAll, CommitFails, segments_for}
+use Rattle.lfs_log.specs.Saving.{CommitsAll, CommitFails, orders_for, segments_for}
 use Rattle.lfs_memory.proofs.Begun.{zero_or_more}
 use Rattle.lfs_memory.proofs.Rooms.{room_none, room_some}
 use Rattle.lfs_log.proofs.Cleaned.{emptied_clean}
@@ -53,27 +53,31 @@ either_then a b c v v' n number goes back moment k m0 m keeps is =
     let Q : Content → Type 0 = StandsForOn (layout_of k) m0 (dropped m) in
     joined a b c P Q Q (goes.quiet k m0 m (back keeps) is.log) (moment k m0 m keeps (acknowledged_on a b v v' n number goes (back keeps) k m0 m is)) (λ x h. inl h) (λ x h. h)
 
-pub out_stops : (d d' : DeviceState) (v : LogMemory) (number : ℕ) → Stops d d' v → CommitFails d d' v number
-out_stops d d' v number stops = record {
+pub out_stops : (d d' : DeviceState) (v : LogMemory) (number : ℕ) → length d'.told + 3 ≤ length d.told + orders_for (length v.dirty.blocks) → Stops d d' v → CommitFails d d' v number
+out_stops d d' v number told stops = record {
   carries = stops.carries;
   cause = stops.cause;
   left = λ k m0 m keeps is c left. inl (settled_stands d' k m0 (stops.settled k m0 m keeps is.log) c left);
   moment = λ k m0 m keeps is. weaker d d' (λ x. StandsOn (layout_of k) x m0) (StandsForOn (layout_of k) m0 (dropped m)) (λ x h. inl h) (stops.quiet k m0 m keeps is.log);
+  told = omega (arith, told);
 }
 
-pub publish_fails : (a b c : DeviceState) (v v' : LogMemory) (n number : ℕ) → Goes a b v v' n → PublishFails b c v' number → CommitFails a c v number
-publish_fails a b c v v' n number goes fails = record {
+pub publish_fails : (a b c : DeviceState) (v v' : LogMemory) (n number : ℕ) → Goes a b v v' n
+    → length b.told + 3 ≤ length a.told + orders_for (length v.dirty.blocks) → length c.told ≤ length b.told + 3 → PublishFails b c v' number → CommitFails a c v number
+publish_fails a b c v v' n number goes told more fails = record {
   carries = carries_then a b c goes.carries fails.carries;
   cause = λ k m0 m keeps is. (let worse = fails.failed in let same = goes.no_failure in omega (arith, worse, same));
   left = λ k m0 m keeps is. fails.left k m0 m keeps (acknowledged_on a b v v' n number goes (fails.carries.kept_before keeps) k m0 m is);
   moment = either_then a b c v v' n number goes fails.carries.kept_before fails.moment;
+  told = omega (arith, told, more);
 }
 
 pub commits : (a b c : DeviceState) (v v' v'' : LogMemory) (n number : ℕ) → Goes a b v v' n → Publishes b c v' v'' number
     → clean_in v.usage.segments ≤ clean_in v'.usage.segments + segments_for (length v.dirty.blocks)
     → length v.usage.segments + 8 * segments_for (length v.dirty.blocks) ≤ 8 * (clean_in v.usage.segments + emptied_in v.usage.segments)
-    → v''.chunk.names ≡ [] → v''.dirty.blocks ≡ [] → v''.dirty.capacity ≡ v.dirty.capacity → CommitsAll a c v v'' number
-commits a b c v v' v'' n number goes done taken spare chunk dirty capacity = record {
+    → v''.chunk.names ≡ [] → v''.dirty.blocks ≡ [] → v''.dirty.capacity ≡ v.dirty.capacity
+    → length b.told + 3 ≤ length a.told + orders_for (length v.dirty.blocks) → length c.told ≤ length b.told + 3 → CommitsAll a c v v'' number
+commits a b c v v' v'' n number goes done taken spare chunk dirty capacity told more = record {
   carries = carries_then a b c goes.carries done.carries;
   memory = done.memory;
   chunk = chunk;
@@ -87,6 +91,7 @@ commits a b c v v' v'' n number goes done taken spare chunk dirty capacity = rec
   no_failure = done.no_failure ∙ goes.no_failure;
   log = λ k m0 m keeps is. done.log k m0 m keeps (acknowledged_on a b v v' n number goes (done.carries.kept_before keeps) k m0 m is);
   moment = either_then a b c v v' n number goes done.carries.kept_before done.moment;
+  told = omega (arith, told, more);
 }
   where
     gains : clean_in v.usage.segments + emptied_in v.usage.segments ≤ clean_in v''.usage.segments + segments_for (length v.dirty.blocks)

@@ -5,6 +5,7 @@ pub mod Opening
 pub mod Held
 pub mod Relocating
 pub mod Cleaning
+pub mod Telling
 pub use Rattle.lfs_memory.specs as memory
 pub use Rattle.lfs_memory.specs.files
 pub use Rattle.lfs_memory.specs.inodes

@@ -2,7 +2,7 @@
 use Rattle.std.specs.Prelude.{◌≡◌, ◌<◌, ◌≤◌, ◌+◌, ◌*◌, ℕ, false, [], length, get_or}
 use Rattle.lfs_model.specs.Checkpoint.{CheckpointValue, FitsCheckpoint, layout_of}
 use Rattle.lfs_model.specs.Crash.{StandsForOn}
-use Rattle.lfs_model.specs.Device.{DeviceState, Carries, LeavesOnly, AllLeft}
+use Rattle.lfs_model.specs.Device.{DeviceState, Carries, Elapses, IsUntouched, LeavesOnly, AllLeft}
 use Rattle.lfs_model.specs.Encodes.{IsLogMap}
 use Rattle.lfs_model.specs.Stands.{LogMap}
 use Rattle.lfs_model.specs.TreeOf.{dropped}
@@ -13,6 +13,13 @@ use Rattle.lfs_memory.specs.inodes.MapValue.{block_in}
 use Rattle.lfs_memory.specs.declared.memory.LogMemory.{LogMemory}
 use Rattle.lfs_memory.specs.Memory.{IsMemory, IsLog}
 use Rattle.lfs_log.specs.Settling.{blocks_in}
+
+-- a sync, done or failed
+pub record Syncs (d d' : DeviceState) : Type 0 where
+  pub untouched : IsUntouched d d'
+  pub carries : Carries d d'
+  pub time : Elapses d d'
+  pub told : length d'.told ≤ length d.told + 1
 
 -- no sector was taken since the acknowledged checkpoint
 abbrev pub AreUntaken : UsageTable → Type 0

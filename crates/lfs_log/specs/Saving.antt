@@ -16,6 +16,18 @@ use Rattle.lfs_log.specs.Publishing.{AreUntaken, IsAcknowledged, LeavesEither}
 abbrev pub segments_for : ℕ → ℕ
 segments_for blocks = (blocks + 48 + 62) / 63
 
+-- how many orders it gives the device: these blocks, a summary for each segment and for a chunk behind the last, two syncs and a checkpoint
+abbrev pub orders_for : ℕ → ℕ
+orders_for blocks = blocks + 48 + segments_for blocks + 4
+
+-- how many a commit gives it at most, outside a pass of the cleaner: with all blocks of files that memory takes
+abbrev pub commit_orders : ℕ
+commit_orders = orders_for 456
+
+-- and a pass, where there are so many segments
+abbrev pub pass_orders : ℕ → ℕ
+pass_orders segments = 8 * segments + 4
+
 -- with these taken, an eighth of the segments is clean or emptied still
 abbrev pub IsSpared : LogMemory → Type 0
 IsSpared v = length v.usage.segments + 8 * segments_for (length v.dirty.blocks) ≤ 8 * (clean_in v.usage.segments + emptied_in v.usage.segments)
@@ -36,6 +48,7 @@ pub record CommitsAll (d d' : DeviceState) (v v' : LogMemory) (number : ℕ) : T
   pub no_failure : d'.failures ≡ d.failures
   pub log : (k : CheckpointValue) (m0 m : LogMap) → d'.keeps_model → IsAcknowledged d v number k m0 m → (next : CheckpointValue) × (next.number ≡ number + 1) × IsLog d' v' next (dropped m) m
   pub moment : LeavesEither d d' v number
+  pub told : length d'.told ≤ length d.told + orders_for (length v.dirty.blocks)
 
 -- A failure of the device ended it: a stop from now on leaves what was acknowledged, or what was to be saved.
 pub record CommitFails (d d' : DeviceState) (v : LogMemory) (number : ℕ) : Type 0 where
@@ -43,3 +56,4 @@ pub record CommitFails (d d' : DeviceState) (v : LogMemory) (number : ℕ) : Typ
   pub cause : (k : CheckpointValue) (m0 m : LogMap) → d'.keeps_model → IsLog d v k m0 m → d.failures < d'.failures
   pub left : (k : CheckpointValue) (m0 m : LogMap) → d'.keeps_model → IsAcknowledged d v number k m0 m → AllLeft d' (StandsForOn (layout_of k) m0 (dropped m))
   pub moment : LeavesEither d d' v number
+  pub told : length d'.told ≤ length d.told + orders_for (length v.dirty.blocks)

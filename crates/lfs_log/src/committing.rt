@@ -5,7 +5,8 @@ ghost use Rattle.lfs_memory.specs.segments.Table.{clean_in};
 ghost use Rattle.lfs_log.specs.Settling.{AreAnew};
 ghost use Rattle.lfs_memory.specs.Memory.{IsMemory, AreMapsOut, HasRoom, Goes, Stops, room_of};
 ghost use Rattle.lfs_log.specs.Publishing.{IsAllOut};
-ghost use Rattle.lfs_log.specs.Saving.{CommitsAll, CommitFails, IsSpared, segments_for};
+ghost use Rattle.lfs_log.specs.Saving.{CommitsAll, CommitFails, IsSpared, orders_for, segments_for};
+ghost use Rattle.lfs_log.specs.Telling.{orders_due};
 
 use crate::mapping::save_map;
 use crate::placing::{save_files, seal};
@@ -30,6 +31,12 @@ fn place_all<D: SectorDevice>(
     ensures capacity { OnOk result (memory.new.dirty.capacity ≡ memory.old.dirty.capacity) }
     ensures maps { OnOk result (AreMapsOut memory.new.map) }
     ensures anew { OnOk result (AreAnew memory.new.usage) }
+    ensures room { room_of memory.old ≤ room_of memory.new
+        + (length memory.old.dirty.blocks + 48) }
+    ensures tells { OnOk result (orders_due (D.state device.new) memory.new
+        ≤ orders_due (D.state device.old) memory.old + length memory.old.dirty.blocks + 32) }
+    ensures most { orders_due (D.state device.new) memory.new
+        ≤ orders_due (D.state device.old) memory.old + length memory.old.dirty.blocks + 33 }
 {
     save_files(device, memory, age)?;
     save_map(device, memory, age)?;
@@ -48,6 +55,8 @@ fn seal_rest<D: SectorDevice>(device: &mut D, memory: &mut LogMemory) -> Result<
     ensures dirty { memory.new.dirty ≡ memory.old.dirty }
     ensures usage { memory.new.usage ≡ memory.old.usage }
     ensures ended { OnOk result (memory.new.chunk.names ≡ []) }
+    ensures told { length (D.state device.new).told + clean_in memory.new.usage.segments
+        ≤ orders_due (D.state device.old) memory.old }
 {
     if !memory.chunk.is_empty() {
         seal(device, memory)?;
@@ -72,8 +81,10 @@ fn write_out<D: SectorDevice>(
     ensures stopped { OnErr result (Stops (D.state device.old) (D.state device.new) memory.old) }
     ensures capacity { OnOk result (memory.new.dirty.capacity ≡ memory.old.dirty.capacity) }
     ensures out { OnOk result (IsAllOut memory.new) }
-    ensures taken { OnOk result (clean_in memory.old.usage.segments
-        ≤ clean_in memory.new.usage.segments + segments_for (length memory.old.dirty.blocks)) }
+    ensures taken { clean_in memory.old.usage.segments
+        ≤ clean_in memory.new.usage.segments + segments_for (length memory.old.dirty.blocks) }
+    ensures told { length (D.state device.new).told + 3
+        ≤ length (D.state device.old).told + orders_for (length memory.old.dirty.blocks) }
 {
     place_all(device, memory, age)?;
     seal_rest(device, memory)?;

@@ -65,6 +65,7 @@ impl<D: SectorDevice> Model for Log<D> {
 
 impl<D: SectorDevice> Log<D> {
     ghost use Rattle.lfs_log.specs.Cleaning.{Cleans, MayClean, Overfills, most_brought};
+    ghost use Rattle.lfs_log.specs.Saving.{commit_orders, pass_orders};
     ghost use Rattle.lfs_log.specs.Held.{Mounts, Saves, Halts, Reads, ReadsHeader, ReadsBlock, TellsBlock, TellsLeaf, IsReadFault, IsFull, IsVacant, HasAll, IsStaged, IsRefused, IsStageFault, IsRemoved, IsKept, HoldsOne, AreAllSaved, unsaved_in};
 
     /// The volume that the newest checkpoint of the device leads to, with the totals of its files;
@@ -449,6 +450,8 @@ impl<D: SectorDevice> Log<D> {
         ensures still { self.old.halted ≡ true
             → (self.new ≡ self.old) × IsErrOf result LogFault.Halted }
         ensures other { IsErrOf result LogFault.Device → ⊥ }
+        ensures told { length (D.state self.new.device).told
+            ≤ length (D.state self.old.device).told + commit_orders }
     {
         if self.halted {
             return Err(LogFault::Halted);
@@ -498,6 +501,9 @@ impl<D: SectorDevice> Log<D> {
             → Halts D.SectorDevice.state self.old self.new }
         ensures still { self.old.halted ≡ true
             → (self.new ≡ self.old) × IsErrOf result LogFault.Halted }
+        ensures told { length (D.state self.new.device).told
+            ≤ length (D.state self.old.device).told
+            + pass_orders (length self.old.memory.usage.segments) }
     {
         if self.halted {
             return Err(LogFault::Halted);

@@ -6,6 +6,7 @@ ghost use Rattle.lfs_model.specs.Running.{Tables};
 ghost use Rattle.lfs_model.specs.Stands.{LogMap};
 ghost use Rattle.lfs_memory.specs.inodes.Blocks.{blocks_of};
 ghost use Rattle.lfs_memory.specs.inodes.MapValue.{IsMap, IsMapOf, AreSettled, block_in};
+ghost use Rattle.lfs_log.specs.Telling.{orders_due};
 ghost use Rattle.lfs_memory.specs.Memory.{IsMemory, AreMapsOut, HasRoom, Goes, GoesUpTo, IsBlockAt, Stops, room_of};
 
 use crate::placing::seal_full;
@@ -39,6 +40,9 @@ fn write_map_block<D: SectorDevice>(
     ensures known { OnOk result (2 ≤ block_in memory.new.map index) }
     ensures long { OnOk result (IsMap memory.new.map) }
     ensures dirty { memory.new.dirty ≡ memory.old.dirty }
+    ensures room { room_of memory.old ≤ room_of memory.new + 1 }
+    ensures tells { orders_due (D.state device.new) memory.new
+        ≤ orders_due (D.state device.old) memory.old + 1 }
 {
     let name = BlockName {
         file: 0,
@@ -72,6 +76,11 @@ fn save_map_block<D: SectorDevice>(
     ensures known { OnOk result (block_in memory.new.map index ≢ 1) }
     ensures long { OnOk result (IsMap memory.new.map) }
     ensures dirty { memory.new.dirty ≡ memory.old.dirty }
+    ensures room { room_of memory.old ≤ room_of memory.new + 1 }
+    ensures tells { OnOk result (orders_due (D.state device.new) memory.new
+        ≤ orders_due (D.state device.old) memory.old + 1) }
+    ensures most { orders_due (D.state device.new) memory.new
+        ≤ orders_due (D.state device.old) memory.old + 2 }
 {
     if memory.map.block_address(index as usize) != 1 {
         return Ok(());
@@ -100,6 +109,11 @@ pub fn save_map<D: SectorDevice>(
     ensures stopped { OnErr result (Stops (D.state device.old) (D.state device.new) memory.old) }
     ensures known { OnOk result (AreMapsOut memory.new.map) }
     ensures dirty { memory.new.dirty ≡ memory.old.dirty }
+    ensures room { room_of memory.old ≤ room_of memory.new + 32 }
+    ensures tells { OnOk result (orders_due (D.state device.new) memory.new
+        ≤ orders_due (D.state device.old) memory.old + 32) }
+    ensures most { orders_due (D.state device.new) memory.new
+        ≤ orders_due (D.state device.old) memory.old + 32 + 1 }
 {
     for index in 0..32u32 {
         save_map_block(device, memory, index, age)?;

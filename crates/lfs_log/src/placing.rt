@@ -6,6 +6,7 @@ ghost use Rattle.lfs_memory.specs.inodes.Blocks.{blocks_of};
 ghost use Rattle.lfs_memory.specs.inodes.Key.{entry_of};
 ghost use Rattle.lfs_memory.specs.Memory.{IsMemory, IsMemoryUpTo, HasRoom, Goes, GoesUpTo, Stops, room_of};
 ghost use Rattle.lfs_memory.specs.segments.Chunk.{room_in};
+ghost use Rattle.lfs_log.specs.Telling.{orders_due};
 
 use lfs_device::{DeviceFault, SectorDevice};
 use lfs_memory::LogMemory;
@@ -24,6 +25,9 @@ pub fn seal<D: SectorDevice>(device: &mut D, memory: &mut LogMemory) -> Result<(
     ensures dirty { memory.new.dirty ≡ memory.old.dirty }
     ensures usage { memory.new.usage ≡ memory.old.usage }
     ensures ended { OnOk result (memory.new.chunk.names ≡ []) }
+    ensures segment { memory.new.chunk.segment ≡ memory.old.chunk.segment }
+    ensures kept { OnErr result (memory.new.chunk ≡ memory.old.chunk) }
+    ensures told { length (D.state device.new).told ≤ length (D.state device.old).told + 1 }
 {
     memory.chunk.seal(device, &memory.usage)?;
     Ok(())
@@ -39,6 +43,11 @@ pub fn seal_full<D: SectorDevice>(device: &mut D, memory: &mut LogMemory) -> Res
     ensures map { memory.new.map ≡ memory.old.map }
     ensures dirty { memory.new.dirty ≡ memory.old.dirty }
     ensures usage { memory.new.usage ≡ memory.old.usage }
+    ensures room { room_of memory.old ≤ room_of memory.new }
+    ensures tells { OnOk result (orders_due (D.state device.new) memory.new
+        ≤ orders_due (D.state device.old) memory.old) }
+    ensures most { orders_due (D.state device.new) memory.new
+        ≤ orders_due (D.state device.old) memory.old + 1 }
 {
     if memory.chunk.is_full() {
         seal(device, memory)?;
@@ -64,6 +73,9 @@ fn write_block<D: SectorDevice>(
     ensures fewer { OnOk result (length memory.new.dirty.blocks + 1
         ≡ length memory.old.dirty.blocks) }
     ensures capacity { OnOk result (memory.new.dirty.capacity ≡ memory.old.dirty.capacity) }
+    ensures room { room_of memory.old ≤ room_of memory.new + 1 }
+    ensures tells { orders_due (D.state device.new) memory.new
+        ≤ orders_due (D.state device.old) memory.old + 1 }
 {
     let bytes = *memory.dirty.block(key).unwrap();
     let lives = !memory.map.is_hidden(key.file());
@@ -91,6 +103,11 @@ fn save_block<D: SectorDevice>(
     ensures fewer { OnOk result (length memory.new.dirty.blocks + 1
         ≡ length memory.old.dirty.blocks) }
     ensures capacity { OnOk result (memory.new.dirty.capacity ≡ memory.old.dirty.capacity) }
+    ensures room { room_of memory.old ≤ room_of memory.new + 1 }
+    ensures tells { OnOk result (orders_due (D.state device.new) memory.new
+        ≤ orders_due (D.state device.old) memory.old + 1) }
+    ensures most { orders_due (D.state device.new) memory.new
+        ≤ orders_due (D.state device.old) memory.old + 2 }
 {
     write_block(device, memory, key, age)?;
     seal_full(device, memory)?;
@@ -112,6 +129,11 @@ pub fn save_files<D: SectorDevice>(
     ensures empty { OnOk result ((x : Entry) → blocks_of memory.new.dirty x ≡ None) }
     ensures blocks { OnOk result (memory.new.dirty.blocks ≡ []) }
     ensures capacity { OnOk result (memory.new.dirty.capacity ≡ memory.old.dirty.capacity) }
+    ensures room { room_of memory.old ≤ room_of memory.new + length memory.old.dirty.blocks }
+    ensures tells { OnOk result (orders_due (D.state device.new) memory.new
+        ≤ orders_due (D.state device.old) memory.old + length memory.old.dirty.blocks) }
+    ensures most { orders_due (D.state device.new) memory.new
+        ≤ orders_due (D.state device.old) memory.old + length memory.old.dirty.blocks + 1 }
 {
     while let Some(key) = memory.dirty.next() {
         save_block(device, memory, key, age)?;

@@ -1,11 +1,10 @@
 //! The end of a commit: the checkpoint that leads to all that was written.
-ghost use Rattle.std.specs.Prelude.{◌≡◌, ◌<◌, ◌≤◌, ◌+◌, ◌^◌, ◌-◌, ℕ, get_or, OnOk, OnErr};
+ghost use Rattle.std.specs.Prelude.{◌≡◌, ◌<◌, ◌≤◌, ◌+◌, ◌^◌, ◌-◌, ℕ, get_or, length, OnOk, OnErr};
 ghost use Rattle.lfs_model.specs.Device.{Only};
 ghost use Rattle.lfs_memory.specs.segments.Table.{address_of};
 ghost use Rattle.lfs_memory.specs.inodes.MapValue.{block_in};
 ghost use Rattle.lfs_memory.specs.Memory.{IsMemory, HasRoom};
-ghost use Rattle.lfs_memory.specs.Present.{Looks};
-ghost use Rattle.lfs_log.specs.Publishing.{IsAllOut, IsNext, Publishes, PublishFails};
+ghost use Rattle.lfs_log.specs.Publishing.{IsAllOut, IsNext, Publishes, PublishFails, Syncs};
 
 use lfs_device::{DeviceFault, SectorDevice};
 use lfs_layout::Checkpoint;
@@ -52,7 +51,7 @@ fn next_checkpoint(memory: &LogMemory, number: u64) -> Checkpoint
 
 /// Makes all that was written durable.
 fn make_durable<D: SectorDevice>(device: &mut D) -> Result<(), DeviceFault>
-    ensures looks { Looks (D.state device.old) (D.state device.new) }
+    ensures looks { Syncs (D.state device.old) (D.state device.new) }
     ensures durable { OnOk result ((D.state device.new).keeps_model
         → Only (D.state device.new).content (D.state device.new)) }
     ensures no_failure { OnOk result ((D.state device.new).failures
@@ -86,6 +85,7 @@ pub fn publish<D: SectorDevice>(
     ensures map { memory.new.map ≡ memory.old.map }
     ensures dirty { memory.new.dirty ≡ memory.old.dirty }
     ensures chunk { memory.new.chunk ≡ memory.old.chunk }
+    ensures told { length (D.state device.new).told ≤ length (D.state device.old).told + 3 }
 {
     make_durable(device)?;
     let next = next_checkpoint(memory, number);

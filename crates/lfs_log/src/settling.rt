@@ -1,8 +1,10 @@
 //! How the usage blocks that changed get new places, and are written there once all counts are
 //! final.
 ghost use Rattle.std.specs.Prelude.{◌≡◌, ◌≢◌, ◌<◌, ◌≤◌, ◌+◌, ◌/◌, ℕ, true, false, length, IfSome, IfNone, OnOk, OnErr};
-ghost use Rattle.lfs_memory.specs.segments.Table.{address_of, stale_of};
+ghost use Rattle.lfs_memory.specs.segments.Chunk.{due_in};
+ghost use Rattle.lfs_memory.specs.segments.Table.{address_of, stale_of, used_of, clean_in};
 ghost use Rattle.lfs_memory.specs.Memory.{IsMemory, IsMemoryUpTo, HasRoom, Goes, Stops, room_of};
+ghost use Rattle.lfs_log.specs.Telling.{orders_due};
 ghost use Rattle.lfs_log.specs.Settling.{IsNowhere, Leaves, Resettles, IsResettled, IsAnew, AreAnew, IsFilled, blocks_in};
 
 use crate::placing::seal_full;
@@ -19,6 +21,9 @@ fn leave(usage: &mut Usage, index: u32) -> Result<(), DeviceFault>
     requires { index < 16 }
     ensures left { OnOk result (Leaves usage.old usage.new index) }
     ensures nowhere { OnErr result (IsNowhere usage.old index) }
+    ensures same { OnErr result (usage.new ≡ usage.old) }
+    ensures used { (s : ℕ) → used_of usage.new s ≡ used_of usage.old s }
+    ensures clean { clean_in usage.new.segments ≡ clean_in usage.old.segments }
 {
     let address = usage.block(index).address;
     if address == IN_MEMORY {
@@ -47,6 +52,11 @@ fn resettle(memory: &mut LogMemory, index: u32, age: u32) -> Result<(), DeviceFa
     ensures nowhere { OnErr result (IsNowhere memory.old.usage index) }
     ensures map { memory.new.map ≡ memory.old.map }
     ensures dirty { memory.new.dirty ≡ memory.old.dirty }
+    ensures due { OnOk result (due_in memory.new.chunk memory.new.usage
+        + clean_in memory.new.usage.segments
+        ≤ due_in memory.old.chunk memory.old.usage + clean_in memory.old.usage.segments) }
+    ensures kept { OnErr result (memory.new.usage ≡ memory.old.usage) }
+    ensures chunk { OnErr result (memory.new.chunk ≡ memory.old.chunk) }
 {
     leave(&mut memory.usage, index)?;
     let name = BlockName {
@@ -81,6 +91,11 @@ pub fn settle_block<D: SectorDevice>(
     ensures moved { OnOk result (IsResettled memory.old.usage memory.new.usage index) }
     ensures map { memory.new.map ≡ memory.old.map }
     ensures dirty { memory.new.dirty ≡ memory.old.dirty }
+    ensures room { room_of memory.old ≤ room_of memory.new + 1 }
+    ensures tells { OnOk result (orders_due (D.state device.new) memory.new
+        ≤ orders_due (D.state device.old) memory.old) }
+    ensures most { orders_due (D.state device.new) memory.new
+        ≤ orders_due (D.state device.old) memory.old + 1 }
 {
     resettle(memory, index, age)?;
     seal_full(device, memory)
@@ -137,6 +152,11 @@ pub fn settle_usage<D: SectorDevice>(
     ensures anew { OnOk result (AreAnew memory.new.usage) }
     ensures map { memory.new.map ≡ memory.old.map }
     ensures dirty { memory.new.dirty ≡ memory.old.dirty }
+    ensures room { room_of memory.old ≤ room_of memory.new + 16 }
+    ensures tells { OnOk result (orders_due (D.state device.new) memory.new
+        ≤ orders_due (D.state device.old) memory.old) }
+    ensures most { orders_due (D.state device.new) memory.new
+        ≤ orders_due (D.state device.old) memory.old + 1 }
 {
     for round in 0..16u32 {
         let Some(index) = next_out(&memory.usage) else {
@@ -164,6 +184,8 @@ fn fill_block<D: SectorDevice>(
     ensures map { memory.new.map ≡ memory.old.map }
     ensures dirty { memory.new.dirty ≡ memory.old.dirty }
     ensures chunk { memory.new.chunk ≡ memory.old.chunk }
+    ensures segments { memory.new.usage.segments ≡ memory.old.usage.segments }
+    ensures told { length (D.state device.new).told ≤ length (D.state device.old).told + 1 }
 {
     let place = memory.usage.block(index);
     if !place.stale {
@@ -192,12 +214,13 @@ pub fn fill_usage<D: SectorDevice>(
     ensures stopped { OnErr result (Stops (D.state device.old) (D.state device.new) memory.old) }
     ensures fresh { OnOk result ((j : ℕ) → j < blocks_in memory.new.usage
         → stale_of memory.new.usage j ≡ false) }
-    ensures segments { OnOk result (memory.new.usage.segments ≡ memory.old.usage.segments) }
+    ensures segments { memory.new.usage.segments ≡ memory.old.usage.segments }
     ensures address { OnOk result ((j : ℕ)
         → address_of memory.new.usage j ≡ address_of memory.old.usage j) }
     ensures map { memory.new.map ≡ memory.old.map }
     ensures dirty { memory.new.dirty ≡ memory.old.dirty }
     ensures chunk { memory.new.chunk ≡ memory.old.chunk }
+    ensures told { length (D.state device.new).told ≤ length (D.state device.old).told + 16 }
 {
     for index in 0..(memory.usage.segments() + 63) / 64 {
         fill_block(device, memory, index)?;

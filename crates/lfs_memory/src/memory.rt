@@ -3,6 +3,8 @@ ghost use Rattle.std.specs.Prelude.{◌≡◌, ◌<◌, ◌≤◌, ◌+◌, leng
 ghost use Rattle.lfs_model.specs.Summary.{IsPlaced};
 ghost use Rattle.lfs_inodes.specs.Key.{entry_of};
 ghost use Rattle.lfs_memory.specs.Memory.{IsMemory, IsPointedAt, Places, room_of};
+ghost use Rattle.lfs_segments.specs.Table.{clean_in};
+ghost use Rattle.lfs_segments.specs.Chunk.{due_in};
 
 use lfs_inodes::{BlockKey, DirtyTable, InodeMap};
 use lfs_layout::BlockName;
@@ -26,7 +28,9 @@ impl LogMemory {
         requires memory { IsMemory self.old }
         requires room { 0 < room_of self.old }
         requires placed { IsPlaced name.kind name.file name.index }
-        ensures { Places self.old self.new name lives age result }
+        ensures placed { Places self.old self.new name lives age result }
+        ensures taken { 1 + clean_in self.new.usage.segments
+            ≤ due_in self.old.chunk self.old.usage + clean_in self.old.usage.segments }
     {
         if self.chunk.is_empty() {
             self.chunk.begin(&mut self.usage, age).unwrap();

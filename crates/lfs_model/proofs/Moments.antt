@@ -1,6 +1,6 @@
 -- How a run of device calls goes on.
 use Rattle.std.proofs.Common.{◌≢◌, inl, inr, ⊎_elim, ℕ, ◌+◌, ◌<◌, ◌≤◌, Some, None, List, refl, sym, ◌∙◌, subst, arith, length-set, get_or-set_other}
-use Rattle.std.specs.Prelude.{◌≡◌, ◌⊎◌, [], ◌∷◌, ◌++◌, slice_set}
+use Rattle.std.specs.Prelude.{◌≡◌, [], ◌∷◌, ◌++◌, slice_set}
 use Rattle.std.proofs.Common.{ap}
 use Rattle.lfs_model.specs.Device.{Cell, DeviceState, put, lose, MayWrite, left_old, left_new, left_bad, Only, AllLeft, Carries, Elapses, IsUntouched, CrashWrites, IsLawful, LeavesOnly, ComesFrom, SameOutside, SameWhere, IsBeginning, Grows, MayTell}
 use Rattle.lfs_model.specs.declared.Order.{Order}

@@ -3,7 +3,6 @@
 use Rattle.std.specs.Prelude.{◌≡◌, ◌⊎◌, ℕ, ◌+◌, ◌^◌, ◌<◌, ◌≤◌, Option, Some, None, List, [], ◌∷◌, length, slice_set, slice_index, slice_index_or}
 use Rattle.std.specs.List.{AllByRecursion}
 use Rattle.lfs_model.specs.declared.Order.{Order}
-use Rattle.lfs_model.specs.declared.Order.TheVariants.{Write, Sync}
 
 -- what a sector holds: its 512 bytes, or None where it can't be read
 abbrev pub Cell : Type 0

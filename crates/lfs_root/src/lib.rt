@@ -1,7 +1,7 @@
 //! The two checkpoint slots: the newest checkpoint of a device, and its replacement by a newer one.
 #![tactic(auto)]
 
-ghost use Rattle.std.specs.Prelude.{◌≡◌, ◌+◌, ◌%◌, ◌<◌, ◌≤◌, ℕ, List, IsErr, IfOk, IfSome, OnOk, OnErr, IsErrOf};
+ghost use Rattle.std.specs.Prelude.{◌≡◌, ◌+◌, ◌%◌, ◌<◌, ◌≤◌, ℕ, List, length, IsErr, IfOk, IfSome, OnOk, OnErr, IsErrOf};
 ghost use Rattle.lfs_model.specs.Checkpoint.{CheckpointValue, FitsCheckpoint, checkpoint_sector};
 ghost use Rattle.lfs_model.specs.Device.{Cell, put, MayWrite, Only, AllLeft, Carries, Elapses, IsUntouched, LeavesOnly, ComesFrom};
 ghost use Rattle.lfs_model.specs.Slots.{SlotHolds, IsNewest, HasNoCheckpoint, NewestIs, NewestIsOneOf};
@@ -130,6 +130,7 @@ fn write_durably<D: SectorDevice>(
     ensures no_failure { OnOk result
         ((D.state device.new).failures ≡ (D.state device.old).failures) }
     ensures carries { Carries (D.state device.old) (D.state device.new) }
+    ensures told { length (D.state device.new).told ≤ length (D.state device.old).told + 2 }
 {
     device.write(sector, bytes)?;
     device.sync()?;
@@ -172,6 +173,7 @@ pub fn replace<D: SectorDevice>(device: &mut D, checkpoint: &Checkpoint) -> Resu
     ensures no_failure { OnOk result
         ((D.state device.new).failures ≡ (D.state device.old).failures) }
     ensures carries { Carries (D.state device.old) (D.state device.new) }
+    ensures told { length (D.state device.new).told ≤ length (D.state device.old).told + 2 }
 {
     let slot = (checkpoint.number % 2) as u32;
     write_durably(device, slot, &checkpoint.encode())

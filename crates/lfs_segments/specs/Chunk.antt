@@ -1,5 +1,5 @@
 -- The chunk that is being filled. Chunks of blocks behind a summary are those of the Sprite LFS paper (1992, section 3.3), called partial segments there.
-use Rattle.std.specs.Prelude.{◌≡◌, ◌<◌, ◌≤◌, ◌+◌, ◌-◌, ◌/◌, ◌%◌, ◌==◌, cond, ℕ, suc, Bool, List, map, length, get_or}
+use Rattle.std.specs.Prelude.{◌≡◌, ◌<◌, ◌≤◌, ◌+◌, ◌-◌, ◌/◌, ◌%◌, ◌==◌, cond, nat_lt, ℕ, suc, Bool, List, map, length, get_or}
 use Rattle.lfs_model.specs.Entry.{Entry, entry_of}
 use Rattle.lfs_model.specs.Summary.{BlockNameValue, IsPlaced, no_block}
 use Rattle.lfs_segments.specs.Table.{UsageTable, used_of, live_of, held_of, kept_of}
@@ -42,3 +42,7 @@ IsUnkeptBy t address = kept_of t ((address - 2) / 64) ≤ (address - 2) % 64
 -- how many blocks more it takes, once it has begun
 abbrev pub room_in : Chunk → ℕ
 room_in c = cond (length c.names == 0) 0 (63 - (c.start + length c.names))
+
+-- how many summaries are to come without a clean segment: one where the chunk has blocks, or another may begin behind the last
+abbrev pub due_in : Chunk → UsageTable → ℕ
+due_in c t = cond (length c.names == 0) (cond (nat_lt (used_of t c.segment) 63) 1 0) 1

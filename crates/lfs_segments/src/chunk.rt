@@ -3,9 +3,9 @@ ghost use Rattle.std.specs.Prelude.{◌≡◌, ◌≢◌, ◌<◌, ◌≤◌, �
 ghost use Rattle.lfs_model.specs.Device.{put, MayWrite, CrashWrites, Carries, Elapses};
 ghost use Rattle.lfs_model.specs.Entry.{entries_in};
 ghost use Rattle.lfs_model.specs.Summary.{IsPlaced, summary_sector};
-ghost use Rattle.lfs_segments.specs.Table.{used_of};
+ghost use Rattle.lfs_segments.specs.Table.{used_of, clean_in};
 ghost use Rattle.lfs_segments.specs.Steps.{Begins, GoesOn, Notes, TakesSegment};
-ghost use Rattle.lfs_segments.specs.Chunk.{IsOpenChunk, IsUnkeptBy, TakesChunk, entries_of};
+ghost use Rattle.lfs_segments.specs.Chunk.{IsOpenChunk, IsUnkeptBy, TakesChunk, entries_of, due_in};
 
 use crate::usage::Usage;
 use arrayvec::ArrayVec;
@@ -113,6 +113,8 @@ impl ChunkWriter {
         ensures none { IfNone result ((s : ℕ) → s < length usage.old.segments
             → used_of usage.old s ≢ 0) }
         ensures same { IfNone result (usage.new ≡ usage.old) }
+        ensures taken { IfSome result (λ s. 1 + clean_in usage.new.segments
+            ≤ due_in self.old usage.old + clean_in usage.old.segments) }
     {
         if self.may_go_on(usage) {
             self.start = u32::from(usage.state(self.segment).used);
@@ -178,6 +180,10 @@ impl ChunkWriter {
             ((D.state device.new).failures ≡ (D.state device.old).failures) }
         ensures carries { Carries (D.state device.old) (D.state device.new) }
         ensures time { Elapses (D.state device.old) (D.state device.new) }
+        ensures told { OnOk result (length (D.state device.new).told
+            ≡ length (D.state device.old).told + 1) }
+        ensures may_tell { OnErr result (length (D.state device.new).told
+            ≤ length (D.state device.old).told + 1) }
     {
         let summary = encode_summary(self.names.as_slice());
         write(device, usage, 2 + 64 * self.segment + self.start, &summary)?;
@@ -212,6 +218,10 @@ pub fn write<D: SectorDevice>(
         ((D.state device.new).failures ≡ (D.state device.old).failures) }
     ensures carries { Carries (D.state device.old) (D.state device.new) }
     ensures time { Elapses (D.state device.old) (D.state device.new) }
+    ensures told { OnOk result (length (D.state device.new).told
+        ≡ length (D.state device.old).told + 1) }
+    ensures may_tell { OnErr result (length (D.state device.new).told
+        ≤ length (D.state device.old).told + 1) }
 {
     device.write(address, bytes)
 }

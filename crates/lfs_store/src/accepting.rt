@@ -25,7 +25,9 @@ const MOST_BLOCKS: usize = 140;
 
 impl<D: SectorDevice> Store<D> {
     ghost use Rattle.lfs_cleaner.specs.log.Held.{Halts, IsFull};
-    ghost use Rattle.lfs_cleaner.specs.Room.{HaltsLater, HasQuarter, IsAtRest, IsRoomFault};
+    ghost use Rattle.lfs_cleaner.specs.log.Held.{AreAllSaved};
+    ghost use Rattle.lfs_cleaner.specs.log.Saving.{commit_orders};
+    ghost use Rattle.lfs_cleaner.specs.Room.{HaltsLater, HasQuarter, IsAtRest, IsRoomFault, passes_orders, room_orders};
     ghost use Rattle.lfs_store.specs.Recounting.{MountsTotals};
     ghost use Rattle.lfs_store.specs.Accepting.{MountsStore, Commits, MakesRoom, Readies, CannotMakeRoom, Accepts, Declines, IsAcceptFault, HasClean, HasRoomFor, most_written};
 
@@ -148,6 +150,9 @@ impl<D: SectorDevice> Store<D> {
         ensures still { self.old.log.halted ≡ true
             → (self.new.log ≡ self.old.log) × IsErrOf result LogFault.Halted }
         ensures other { IsErrOf result LogFault.Device → ⊥ }
+        ensures quiet { self.old.saved ≡ true → self.new.log ≡ self.old.log }
+        ensures told { length (D.state self.new.log.device).told
+            ≤ length (D.state self.old.log.device).told + commit_orders }
     {
         if self.log.is_halted() {
             return Err(LogFault::Halted);
@@ -200,6 +205,13 @@ impl<D: SectorDevice> Store<D> {
             (most_written self.old.log self.old.saved) }
         ensures still { self.old.log.halted ≡ true → (self.new.log ≡ self.old.log)
             × (self.new.saved ≡ self.old.saved) × IsErrOf result LogFault.Halted }
+        ensures told { length (D.state self.new.log.device).told
+            ≤ length (D.state self.old.log.device).told
+            + room_orders (length self.old.log.memory.usage.segments) }
+        ensures passes { self.old.saved ≡ true → AreAllSaved self.old.log
+            → length (D.state self.new.log.device).told
+            ≤ length (D.state self.old.log.device).told
+            + passes_orders (length self.old.log.memory.usage.segments) }
     {
         if self.log.is_halted() {
             return Err(LogFault::Halted);
@@ -248,6 +260,10 @@ impl<D: SectorDevice> Store<D> {
             Halts D.SectorDevice.state self.old.log self.new.log }
         ensures totals { self.new.log.totals ≡ self.old.log.totals }
         ensures other { IsErrOf result LogFault.Device → ⊥ }
+        ensures once { OnOk result ((self.new.log ≡ self.old.log)
+            ⊎ ((self.new.saved ≡ true) × AreAllSaved self.new.log)) }
+        ensures told { length (D.state self.new.log.device).told
+            ≤ length (D.state self.old.log.device).told + commit_orders }
     {
         if self.log.has_room(&self.draft.changes) {
             return Ok(());
@@ -294,6 +310,13 @@ impl<D: SectorDevice> Store<D> {
         ensures halted { IsErrOf result LogFault.Halted
             → HaltsLater D.SectorDevice.state self.old.log self.new.log
             (most_written self.old.log self.old.saved) }
+        ensures told { length (D.state self.new.log.device).told
+            ≤ length (D.state self.old.log.device).told
+            + room_orders (length self.old.log.memory.usage.segments) }
+        ensures passes { self.old.saved ≡ true → AreAllSaved self.old.log
+            → length (D.state self.new.log.device).told
+            ≤ length (D.state self.old.log.device).told
+            + passes_orders (length self.old.log.memory.usage.segments) }
     {
         match self.clean() {
             Ok(()) => self.check_segments(),
@@ -331,6 +354,9 @@ impl<D: SectorDevice> Store<D> {
         ensures halted { IsErrOf result LogFault.Halted
             → HaltsLater D.SectorDevice.state self.old.log self.new.log
             (most_written self.old.log self.old.saved) }
+        ensures told { length (D.state self.new.log.device).told
+            ≤ length (D.state self.old.log.device).told
+            + room_orders (length self.old.log.memory.usage.segments) }
     {
         match self.find_room() {
             Ok(()) => {}
@@ -379,6 +405,9 @@ impl<D: SectorDevice> Store<D> {
         ensures still { self.old.log.halted ≡ true
             → (self.new.log ≡ self.old.log) × (self.new.saved ≡ self.old.saved)
             × IsErrOf result (StoreFault.Log LogFault.Halted) }
+        ensures told { length (D.state self.new.log.device).told
+            ≤ length (D.state self.old.log.device).told
+            + room_orders (length self.old.log.memory.usage.segments) }
     {
         if self.log.is_halted() {
             return Err(StoreFault::Log(LogFault::Halted));
@@ -442,6 +471,9 @@ impl<D: SectorDevice> Store<D> {
         ensures still { self.old.log.halted ≡ true
             → (self.new.log ≡ self.old.log) × (self.new.saved ≡ self.old.saved)
             × IsErrOf result (StoreFault.Log LogFault.Halted) }
+        ensures told { length (D.state self.new.log.device).told
+            ≤ length (D.state self.old.log.device).told
+            + room_orders (length self.old.log.memory.usage.segments) }
     {
         let outcome = self.stage_draft();
         self.give_up();

@@ -1,8 +1,8 @@
-use Rattle.std.proofs.Common.{rules, ◌≡◌, false, sym, ◌∙◌, subst, arith}
+use Rattle.std.proofs.Common.{rules, ◌≡◌, length, false, sym, ◌∙◌, subst, arith}
 use Rattle.lfs_log.specs.Held.{Held}
 use Rattle.lfs_cleaner.specs.Room.{KeepsMap, most_checkpoints}
 use Rattle.lfs_cleaner.proofs.Rooms.{keeps_none, keeps_weaker, repeats_none, repeats_weaker}
-use Rattle.lfs_cleaner.proofs.RoomBounds.{commit_fits, fault_after, halts_after, halts_first, keeps_after, lacks_after, on_success, quarter_after}
+use Rattle.lfs_cleaner.proofs.RoomBounds.{commit_fits, fault_after, halts_after, halts_first, keeps_after, lacks_after, on_success, passes_told, quarter_after, room_told}
 use Rattle.lfs_cleaner.proofs.room.make_room.Goals as goal
 
 pub returns-then-has_quarter-clause-done : goal.returns-then-has_quarter-clause-done
@@ -59,3 +59,13 @@ returns-clause-halted g c is ne =
 
 pub returns-clause-totals : goal.returns-clause-totals
 returns-clause-totals g c = c.pass_until_quarter.ensures.totals ∙ c.commit_unsaved.ensures.totals
+
+pub returns-clause-told : goal.returns-clause-told
+returns-clause-told g c =
+    room_told (length (g.D.SectorDevice.state c.args.log.now.device).told) (length (g.D.SectorDevice.state c.commit_unsaved.new.log.device).told) (length (g.D.SectorDevice.state c.pass_until_quarter.new.log.device).told)
+    (length c.args.log.now.memory.usage.segments) (length c.commit_unsaved.new.log.memory.usage.segments) c.in-Ok.ensures.done.repeats.keeps.segments c.commit_unsaved.ensures.told c.pass_until_quarter.ensures.told
+
+pub returns-clause-saved : goal.returns-clause-saved
+returns-clause-saved g c nothing =
+    passes_told (g.D.SectorDevice.state c.args.log.now.device).told (g.D.SectorDevice.state c.commit_unsaved.new.log.device).told (length (g.D.SectorDevice.state c.pass_until_quarter.new.log.device).told)
+    (length c.args.log.now.memory.usage.segments) (length c.commit_unsaved.new.log.memory.usage.segments) c.in-Ok.ensures.done.repeats.keeps.segments (c.commit_unsaved.ensures.quiet nothing) c.pass_until_quarter.ensures.told

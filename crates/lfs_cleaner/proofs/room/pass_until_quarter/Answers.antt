@@ -1,6 +1,7 @@
 use Rattle.std.proofs.Common.{rules, ◌≡◌, ◌≤◌, ◌+◌, ◌/◌, true, false, length, ◌∙◌, arith}
 use Rattle.lfs_cleaner.proofs.Rooms.{fault_then, halts_at_once, halts_then, halts_weaker, keeps_reads, keeps_then, keeps_weaker, read_fault}
-use Rattle.lfs_cleaner.proofs.RoomBounds.{may_pass, passes_more, passes_none, passes_suffice}
+use Rattle.lfs_cleaner.proofs.RoomBounds.{may_pass, pass_more, passes_more, passes_most, passes_none, passes_suffice}
+use Rattle.lfs_log.specs.Saving.{pass_orders}
 use Rattle.lfs_cleaner.proofs.room.pass_until_quarter.Goals as goal
 
 pub loop-init : goal.loop-init
@@ -53,7 +54,7 @@ returns-in-Err-clause-halted g c is =
 pub loop-preserved : goal.loop-preserved
 loop-preserved g c =
     let done = c.in-Ok.ensures.done in
-    passes_more g.D.SectorDevice.state c.args.log.now c.loop.log c.pass.new.log c.loop.counter done.0 c.loop.invariant done.1 c.in-Ok.ensures.totals
+    passes_more g.D.SectorDevice.state c.args.log.now c.loop.log c.pass.new.log c.loop.counter done.0 c.loop.invariant done.1 c.in-Ok.ensures.totals c.pass.ensures.told
 
 pub returns-clause-lacks : goal.returns-clause-lacks
 returns-clause-lacks g c is k m0 m keeps may =
@@ -71,3 +72,28 @@ returns-then-has_quarter-clause-totals g c = c.loop.invariant.repeats.keeps.tota
 
 pub returns-clause-totals : goal.returns-clause-totals
 returns-clause-totals g c = c.loop.invariant.repeats.keeps.totals
+
+pub returns-in-Err-clause-told : goal.returns-in-Err-clause-told
+returns-in-Err-clause-told g c =
+    let lt = c.loop-test.true in
+    let most = c.segments-most.ensures in
+    passes_most (length (g.D.SectorDevice.state c.args.log.now.device).told) (length (g.D.SectorDevice.state c.pass.new.log.device).told) (c.loop.counter + 1) _ (pass_orders (length c.args.log.now.memory.usage.segments)) (omega (arith, lt, most))
+    (pass_more (length (g.D.SectorDevice.state c.args.log.now.device).told) (length (g.D.SectorDevice.state c.loop.log.device).told) (length (g.D.SectorDevice.state c.pass.new.log.device).told) c.loop.counter (length c.args.log.now.memory.usage.segments) (length c.loop.log.memory.usage.segments) c.loop.invariant.repeats.keeps.segments c.loop.invariant.told c.pass.ensures.told)
+
+pub returns-then-has_quarter-clause-told : goal.returns-then-has_quarter-clause-told
+returns-then-has_quarter-clause-told g c =
+    let lt = c.loop-test.true in
+    let most = c.segments-most.ensures in
+    passes_most (length (g.D.SectorDevice.state c.args.log.now.device).told) (length (g.D.SectorDevice.state c.loop.log.device).told) c.loop.counter _ (pass_orders (length c.args.log.now.memory.usage.segments)) (omega (arith, lt, most)) c.loop.invariant.told
+
+pub returns-then-has_quarter-2-clause-told : goal.returns-then-has_quarter-2-clause-told
+returns-then-has_quarter-2-clause-told g c =
+    let high = c.loop.auto.counter-end in
+    let most = c.segments-most.ensures in
+    passes_most (length (g.D.SectorDevice.state c.args.log.now.device).told) (length (g.D.SectorDevice.state c.loop.log.device).told) c.loop.counter _ (pass_orders (length c.args.log.now.memory.usage.segments)) (omega (arith, high, most)) c.loop.invariant.told
+
+pub returns-clause-told : goal.returns-clause-told
+returns-clause-told g c =
+    let high = c.loop.auto.counter-end in
+    let most = c.segments-most.ensures in
+    passes_most (length (g.D.SectorDevice.state c.args.log.now.device).told) (length (g.D.SectorDevice.state c.loop.log.device).told) c.loop.counter _ (pass_orders (length c.args.log.now.memory.usage.segments)) (omega (arith, high, most)) c.loop.invariant.told

@@ -13,6 +13,7 @@ loop-index-init g c = record {
   known = λ j lt. absurd (omega (arith, lt));
   long = λ some. absurd (omega (arith, some));
   dirty = refl;
+  tells = omega arith;
 }
 
 -- src/mapping.rt:96:9
@@ -34,9 +35,22 @@ loop-index-preserved g c = record {
       (cases_eq j c.loop-index.index);
   long = λ some. c.in_ok-save_map_block.ensures.long;
   dirty = c.in_ok-save_map_block.ensures.dirty ∙ c.loop-index.invariant.dirty;
+  tells = let told = c.loop-index.invariant.tells in let more = c.in_ok-save_map_block.ensures.tells in omega (arith, told, more);
 }
 
 -- src/mapping.rt:81:1
 pub returns-clause-known : goal.returns-clause-known
 returns-clause-known g c =
     maps_out c.loop-index.memory.map (c.loop-index.invariant.long (omega arith)) (λ j lt. c.loop-index.invariant.known j (omega (arith, lt)))
+
+pub returns-in_err-save_map_block-clause-most : goal.returns-in_err-save_map_block-clause-most
+returns-in_err-save_map_block-clause-most g c =
+    let told = c.loop-index.invariant.tells in
+    let more = c.save_map_block.ensures.most in
+    omega (arith, told, more)
+
+pub returns-clause-tells : goal.returns-clause-tells
+returns-clause-tells g c = let told = c.loop-index.invariant.tells in omega (arith, told)
+
+pub returns-clause-most : goal.returns-clause-most
+returns-clause-most g c = let told = c.loop-index.invariant.tells in omega (arith, told)

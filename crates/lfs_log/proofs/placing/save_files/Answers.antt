@@ -10,6 +10,7 @@ loop-key-init g c = record {
       (goes_none (g.D.SectorDevice.state c.args.device.now) c.args.memory.now (g.met.D.SectorDevice.lawful c.args.device.now) c.requires.memory);
   capacity = refl;
   fewer = omega arith;
+  tells = omega arith;
 }
 
 -- src/placing.rt:104:9
@@ -39,12 +40,15 @@ pub loop-key-preserved : goal.loop-key-preserved
 loop-key-preserved g c =
     let one = c.in_ok-save_block.ensures.fewer in
     let fewer = c.loop-key.invariant.fewer in
+    let told = c.loop-key.invariant.tells in
+    let more = c.in_ok-save_block.ensures.tells in
     record {
       goes = goes_at_most (g.D.SectorDevice.state c.args.device.now) (g.D.SectorDevice.state c.save_block.new.device) c.args.memory.now c.save_block.new.memory _ _ (omega (arith, one, fewer))
           (goes_then 62 62 (g.D.SectorDevice.state c.args.device.now) (g.D.SectorDevice.state c.loop-key.device) (g.D.SectorDevice.state c.save_block.new.device)
           c.args.memory.now c.loop-key.memory c.save_block.new.memory _ 1 c.loop-key.invariant.goes c.in_ok-save_block.ensures.done);
       capacity = c.in_ok-save_block.ensures.capacity ∙ c.loop-key.invariant.capacity;
       fewer = omega (arith, one, fewer);
+      tells = omega (arith, one, told, more);
     }
 
 -- src/placing.rt:104:9
@@ -59,3 +63,16 @@ returns-in_err-save_block-clause-stopped g c =
 pub returns-clause-done : goal.returns-clause-done
 returns-clause-done g c =
     goes_at_most (g.D.SectorDevice.state c.args.device.now) (g.D.SectorDevice.state c.loop-key.device) c.args.memory.now c.loop-key.memory _ _ (omega arith) c.loop-key.invariant.goes
+
+pub returns-in_err-save_block-clause-most : goal.returns-in_err-save_block-clause-most
+returns-in_err-save_block-clause-most g c =
+    let some = c.in-Some.ensures.first.within in
+    let told = c.loop-key.invariant.tells in
+    let more = c.save_block.ensures.most in
+    omega (arith, some, told, more)
+
+pub returns-clause-tells : goal.returns-clause-tells
+returns-clause-tells g c = let told = c.loop-key.invariant.tells in omega (arith, told)
+
+pub returns-clause-most : goal.returns-clause-most
+returns-clause-most g c = let told = c.loop-key.invariant.tells in omega (arith, told)

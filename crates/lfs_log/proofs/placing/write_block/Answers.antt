@@ -14,7 +14,7 @@ pub returns-in_err-write-clause-stopped : goal.returns-in_err-write-clause-stopp
 returns-in_err-write-clause-stopped g c =
     on_err c.from_residual.result
     (Stops (g.D.SectorDevice.state c.args.device.now) (g.D.SectorDevice.state c.write.new.device) c.args.memory.now)
-    (place_stops c.args.memory.now c.next_place-address.new.self c.name.result (not c.is_hidden-lives.result) c.args.age c.next_place-address.result c.requires.memory c.next_place-address.ensures
+    (place_stops c.args.memory.now c.next_place-address.new.self c.name.result (not c.is_hidden-lives.result) c.args.age c.next_place-address.result c.requires.memory c.next_place-address.ensures.placed
     (g.D.SectorDevice.state c.args.device.now) (g.D.SectorDevice.state c.write.new.device) c.unwrap.result.now
     c.in_err-write.ensures.crash c.in_err-write.ensures.carries c.in_err-write.ensures.time (g.met.D.SectorDevice.lawful c.args.device.now)
     c.in_err-write.ensures.failed_write c.in_err-write.ensures.failed)
@@ -28,9 +28,9 @@ returns-clause-done g c =
     let few = c.file.ensures.few in
     goes_to 63 (g.D.SectorDevice.state c.args.device.now) (g.D.SectorDevice.state c.write.new.device) c.args.memory.now c.point.new.self
     c.next_place-address.new.self.usage c.moved.new.self c.next_place-address.new.self.chunk 1 c.point.ensures.usage c.point.ensures.dirty c.point.ensures.chunk
-    (file_goes c.args.memory.now c.next_place-address.new.self c.name.result (not c.is_hidden-lives.result) c.args.age c.next_place-address.result c.requires.memory c.next_place-address.ensures
-    x c.file.result file c.point.new.self.map (subst (λ (a : MapValue). IsPointedAt a c.point.new.self.map x c.next_place-address.result) c.next_place-address.ensures.map c.point.ensures.points) (g.D.SectorDevice.state c.args.device.now) (g.D.SectorDevice.state c.write.new.device) c.unwrap.result.now c.moved.new.self
+    (file_goes c.args.memory.now c.next_place-address.new.self c.name.result (not c.is_hidden-lives.result) c.args.age c.next_place-address.result c.requires.memory c.next_place-address.ensures.placed
+    x c.file.result file c.point.new.self.map (subst (λ (a : MapValue). IsPointedAt a c.point.new.self.map x c.next_place-address.result) c.next_place-address.ensures.placed.map c.point.ensures.points) (g.D.SectorDevice.state c.args.device.now) (g.D.SectorDevice.state c.write.new.device) c.unwrap.result.now c.moved.new.self
     c.in_ok-write.ensures.crash c.in_ok-write.ensures.carries c.in_ok-write.ensures.time (g.met.D.SectorDevice.lawful c.args.device.now)
     c.in_ok-write.ensures.written c.name.ensures.entry c.requires.lowest there
-    (subst (λ (t : TableValue). Moves (blocks_of t) (blocks_of c.moved.new.self) x c.next_place-address.result) c.next_place-address.ensures.dirty c.moved.ensures.moves)
-    (omega (arith, few)) (ap not c.is_hidden-lives.ensures) (c.moved.ensures.capacity ∙ ap (λ (t : TableValue). t.capacity) c.next_place-address.ensures.dirty) c.in_ok-write.ensures.no_failure)
+    (subst (λ (t : TableValue). Moves (blocks_of t) (blocks_of c.moved.new.self) x c.next_place-address.result) c.next_place-address.ensures.placed.dirty c.moved.ensures.moves)
+    (omega (arith, few)) (ap not c.is_hidden-lives.ensures) (c.moved.ensures.capacity ∙ ap (λ (t : TableValue). t.capacity) c.next_place-address.ensures.placed.dirty) c.in_ok-write.ensures.no_failure)

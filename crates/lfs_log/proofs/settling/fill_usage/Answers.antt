@@ -15,6 +15,7 @@ loop-index-init g c =
       map = refl;
       dirty = refl;
       chunk = refl;
+      told = omega arith;
     }
 
 pub returns-in_err-fill_block-clause-stopped : goal.returns-in_err-fill_block-clause-stopped
@@ -37,4 +38,20 @@ loop-index-preserved g c =
       map = c.fill_block.ensures.map ∙ so_far.map;
       dirty = c.fill_block.ensures.dirty ∙ so_far.dirty;
       chunk = c.fill_block.ensures.chunk ∙ so_far.chunk;
+      told = let told = so_far.told in let more = c.fill_block.ensures.told in omega (arith, told, more);
     }
+
+pub returns-in_err-fill_block-clause-told : goal.returns-in_err-fill_block-clause-told
+returns-in_err-fill_block-clause-told g c =
+    let told = c.loop-index.invariant.told in
+    let more = c.fill_block.ensures.told in
+    let few = c.requires.memory.count.most in
+    let end = c.loop-index.invariant.end in
+    omega (arith, told, more, few, end)
+
+pub returns-clause-told : goal.returns-clause-told
+returns-clause-told g c =
+    let told = c.loop-index.invariant.told in
+    let few = c.requires.memory.count.most in
+    let end = c.loop-index.invariant.end in
+    omega (arith, told, few, end)

@@ -1,4 +1,4 @@
-use Rattle.std.proofs.Common.{◌≡◌, ◌<◌, ℕ, false}
+use Rattle.std.proofs.Common.{◌≡◌, ◌<◌, ◌≤◌, ◌+◌, ℕ, length, false}
 use Rattle.lfs_memory.specs.segments.Table.{address_of, stale_of}
 use Rattle.lfs_memory.specs.Memory.{Goes}
 use Rattle.lfs_log.specs.Settling.{AreAnew, blocks_in}
@@ -18,4 +18,5 @@ invariant-loop-index g l =
       map : l.memory.map ≡ l.initial.memory.map;
       dirty : l.memory.dirty ≡ l.initial.memory.dirty;
       chunk : l.memory.chunk ≡ l.initial.memory.chunk;
+      told : length now.told ≤ length old.told + l.index;
     }

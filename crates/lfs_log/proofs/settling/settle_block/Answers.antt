@@ -1,10 +1,10 @@
-use Rattle.std.proofs.Common.{subst, sym}
+use Rattle.std.proofs.Common.{subst, sym, arith}
 use Rattle.lfs_memory.specs.segments.Table.{UsageTable}
 use Rattle.lfs_model.proofs.Moments.{carries_none}
 use Rattle.lfs_log.specs.Settling.{IsResettled}
 use Rattle.lfs_memory.proofs.Going.{on_err}
 use Rattle.lfs_memory.proofs.Going.{ok_then, err_then}
-use Rattle.lfs_log.proofs.UsageMoves.{all_ok, not_there, resettled_memory, resettled_goes, resettled_stops, resettled_usage}
+use Rattle.lfs_log.proofs.UsageMoves.{all_ok, not_there, resettled_memory, resettled_room, resettled_goes, resettled_stops, resettled_usage}
 use Rattle.lfs_log.proofs.settling.settle_block.Goals as goal
 
 pub returns-in_err-resettle-clause-stopped : goal.returns-in_err-resettle-clause-stopped
@@ -29,3 +29,9 @@ pub returns-clause-moved : goal.returns-clause-moved
 returns-clause-moved g c =
     all_ok _ _ (subst (λ (u : UsageTable). IsResettled c.args.memory.now.usage u c.args.index) (sym c.seal_full.ensures.usage)
     (resettled_usage c.args.memory.now c.resettle.new.memory c.args.index c.args.age c.requires.memory c.requires.stale c.in_ok-resettle.ensures.done))
+
+pub returns-clause-room : goal.returns-clause-room
+returns-clause-room g c =
+    let first = resettled_room c.args.memory.now c.resettle.new.memory c.args.index c.args.age c.requires.memory c.requires.stale c.in_ok-resettle.ensures.done in
+    let then' = c.seal_full.ensures.room in
+    omega (arith, first, then')

@@ -11,6 +11,7 @@ loop-round-init g c =
       left = omega arith;
       map = refl;
       dirty = refl;
+      tells = omega arith;
     }
 
 pub returns-in_err-settle_block-clause-stopped : goal.returns-in_err-settle_block-clause-stopped
@@ -31,6 +32,7 @@ loop-round-preserved g c =
       left = omega arith;
       map = c.settle_block.ensures.map ∙ c.loop-round.invariant.map;
       dirty = c.settle_block.ensures.dirty ∙ c.loop-round.invariant.dirty;
+      tells = let told = c.loop-round.invariant.tells in let more = c.in_ok-settle_block.ensures.tells in omega (arith, told, more);
     }
 
 pub returns-clause-anew : goal.returns-clause-anew
@@ -38,3 +40,21 @@ returns-clause-anew g c =
     let few = c.loop-round.invariant.goes.memory.count.most in
     let left = c.loop-round.invariant.left in
     out_none c.loop-round.memory.usage (omega arith) (omega arith)
+
+pub returns-in_default-clause-tells : goal.returns-in_default-clause-tells
+returns-in_default-clause-tells g c = let told = c.loop-round.invariant.tells in omega (arith, told)
+
+pub returns-in_default-clause-most : goal.returns-in_default-clause-most
+returns-in_default-clause-most g c = let told = c.loop-round.invariant.tells in omega (arith, told)
+
+pub returns-clause-tells : goal.returns-clause-tells
+returns-clause-tells g c = let told = c.loop-round.invariant.tells in omega (arith, told)
+
+pub returns-clause-most : goal.returns-clause-most
+returns-clause-most g c = let told = c.loop-round.invariant.tells in omega (arith, told)
+
+pub returns-in_err-settle_block-clause-most : goal.returns-in_err-settle_block-clause-most
+returns-in_err-settle_block-clause-most g c =
+    let told = c.loop-round.invariant.tells in
+    let more = c.settle_block.ensures.most in
+    omega (arith, told, more)

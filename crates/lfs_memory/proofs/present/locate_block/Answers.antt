@@ -19,7 +19,7 @@ pub returns-in-Ok-clause-answer : goal.returns-in-Ok-clause-answer
 returns-in-Ok-clause-answer g c =
     address_found (g.D.SectorDevice.state c.args.device.now) (g.D.SectorDevice.state c.read_inode.new.device) (g.D.SectorDevice.state c.locate_present.new.device)
     c.args.memory.now c.args.number c.args.index c.read_inode.new.out c.in_ok-read_inode.ensures.looks
-    (record { untouched = c.locate_present.ensures.untouched; carries = c.locate_present.ensures.carries; time = c.locate_present.ensures.time })
+    (record { untouched = c.locate_present.ensures.untouched; carries = c.locate_present.ensures.carries; time = c.locate_present.ensures.time; told = c.locate_present.ensures.told })
     (c.in_ok-read_inode.ensures.some c.if-not-branch.false).1 (search rules) (c.in_ok-read_inode.ensures.bytes c.if-not-branch.false) c.in-Ok.address c.in-Ok.ensures.value
 
 -- src/present.rt:92:1
@@ -27,5 +27,5 @@ pub returns-in-Err-clause-failed : goal.returns-in-Err-clause-failed
 returns-in-Err-clause-failed g c =
     address_failed (g.D.SectorDevice.state c.args.device.now) (g.D.SectorDevice.state c.read_inode.new.device) (g.D.SectorDevice.state c.locate_present.new.device)
     c.args.memory.now c.args.number c.args.index c.read_inode.new.out c.in-Err.field-0 c.in_ok-read_inode.ensures.looks
-    (record { untouched = c.locate_present.ensures.untouched; carries = c.locate_present.ensures.carries; time = c.locate_present.ensures.time })
+    (record { untouched = c.locate_present.ensures.untouched; carries = c.locate_present.ensures.carries; time = c.locate_present.ensures.time; told = c.locate_present.ensures.told })
     (c.in_ok-read_inode.ensures.some c.if-not-branch.false).1 (search rules) (c.in_ok-read_inode.ensures.bytes c.if-not-branch.false) (λ is. c.in-Err.ensures.unreadable (ap Err is)) (λ is. c.in-Err.ensures.failed (ap Err is))

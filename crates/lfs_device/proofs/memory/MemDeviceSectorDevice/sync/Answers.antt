@@ -1,4 +1,4 @@
-use Rattle.std.proofs.Common.{List, length, ap, map, arith, ◌∙◌}
+use Rattle.std.proofs.Common.{List, length, ap, arith, ◌∙◌}
 use Rattle.std.proofs.lemmas.List.{length-map}
 use Rattle.lfs_model.proofs.Moments.{grows_one}
 use Rattle.lfs_device.specs.Rows.{settled}

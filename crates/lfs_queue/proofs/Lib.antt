@@ -1,0 +1,3 @@
+pub mod Carried
+pub mod Queues
+pub mod Syncs
