@@ -1,7 +1,7 @@
 -- What contracts see of a mounted volume, the state that it is in, and what its calls do.
 -- The calls are those of POSIX.1-2017; which refusals are excused and what a stop leaves is an own choice.
 use Rattle.std.specs.Prelude.{◌≡◌, ◌⊎◌, ◌≤◌, ◌+◌, ◌/◌, ◌^◌, ℕ, Bool, true, false, IsTrue, List, [], ◌∷◌, length}
-use Rattle.lfs_model.specs.Call.{Call, Open, Create, Close, Answer, Refuse, may_write, takes_no_memory}
+use Rattle.lfs_model.specs.Call.{Call, Open, Create, Close, Pread, Pwrite, Truncate, Mkdir, LinkTo, Symlink, Readlink, Unlink, Rmdir, Rename, StatOf, LstatOf, Readdir, Fsync, Sync, Clean, Space, ListTree, Answer, Refuse, may_write, takes_no_memory}
 use Rattle.lfs_model.specs.Checkpoint.{CheckpointValue, layout_version}
 use Rattle.lfs_model.specs.Device.{DeviceState, Carries, AllLeft, IsUntouched}
 use Rattle.lfs_model.specs.Encodes.{IsLogMap}
@@ -37,7 +37,24 @@ abbrev pub changes_handles : Call → Bool
 changes_handles (Open p) = true
 changes_handles (Create p) = true
 changes_handles (Close h) = true
-changes_handles _ = false
+changes_handles (Pread h off n) = false
+changes_handles (Pwrite h off w) = false
+changes_handles (Truncate h n) = false
+changes_handles (Mkdir p) = false
+changes_handles (LinkTo p q) = false
+changes_handles (Symlink text p) = false
+changes_handles (Readlink p) = false
+changes_handles (Unlink p) = false
+changes_handles (Rmdir p) = false
+changes_handles (Rename p q) = false
+changes_handles (StatOf p) = false
+changes_handles (LstatOf p) = false
+changes_handles (Readdir p) = false
+changes_handles (Fsync h) = false
+changes_handles Sync = false
+changes_handles Clean = false
+changes_handles Space = false
+changes_handles ListTree = false
 
 module _ {D : Type 0} (state : D → DeviceState) where
   -- The volume is in state s: its log has the log map of s, over one that is a tree's, which the acknowledged checkpoint stands for.

@@ -281,13 +281,39 @@ path_of (Rename p q) = Holder p
 path_of (StatOf p) = Whole p true
 path_of (LstatOf p) = Whole p false
 path_of (Readdir p) = Whole p true
-path_of _ = NoPath
+path_of (Close h) = NoPath
+path_of (Pread h off n) = NoPath
+path_of (Pwrite h off w) = NoPath
+path_of (Truncate h n) = NoPath
+path_of (Fsync h) = NoPath
+path_of Sync = NoPath
+path_of Clean = NoPath
+path_of Space = NoPath
+path_of ListTree = NoPath
 
 -- the walk of its second path
 abbrev pub second_path_of : Call → Path
 second_path_of (LinkTo p q) = Holder q
 second_path_of (Rename p q) = Holder q
-second_path_of _ = NoPath
+second_path_of (Open p) = NoPath
+second_path_of (Create p) = NoPath
+second_path_of (Close h) = NoPath
+second_path_of (Pread h off n) = NoPath
+second_path_of (Pwrite h off w) = NoPath
+second_path_of (Truncate h n) = NoPath
+second_path_of (Mkdir p) = NoPath
+second_path_of (Symlink text p) = NoPath
+second_path_of (Readlink p) = NoPath
+second_path_of (Unlink p) = NoPath
+second_path_of (Rmdir p) = NoPath
+second_path_of (StatOf p) = NoPath
+second_path_of (LstatOf p) = NoPath
+second_path_of (Readdir p) = NoPath
+second_path_of (Fsync h) = NoPath
+second_path_of Sync = NoPath
+second_path_of Clean = NoPath
+second_path_of Space = NoPath
+second_path_of ListTree = NoPath
 
 -- the answer and the state after a call whose paths end at e and f
 abbrev pub outcome : ℕ → State → Call → End → End → Answer × State
