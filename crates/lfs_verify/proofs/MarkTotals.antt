@@ -1,20 +1,19 @@
 -- The totals of a log map, by the marks of a walk over it.
-use Rattle.std.proofs.Common.{◌≡◌, ◌<◌, ◌≤◌, ◌↔◌, ◌⊎◌, ⊎_elim, ◌+◌, ◌-◌, ◌*◌, ℕ, zero, suc, Bool, true, false, cond, nat_lt, List, length, Option, Some, None, get_or, refl, sym, ◌∙◌, ap, ap₂, subst, arith}
-use Rattle.std.proofs.lemmas.Bool.{cases_eq, cases_Bool, false_from_ne_true, lt-ltb, ltb-true}
+use Rattle.std.proofs.Common.{◌≡◌, ◌<◌, ◌≤◌, ◌↔◌, ◌+◌, ◌-◌, ◌*◌, ℕ, zero, suc, Bool, true, false, List, length, Option, Some, None, get_or, refl, sym, ◌∙◌, ap, subst, arith}
+use Rattle.std.proofs.lemmas.Bool.{false_from_ne_true, lt-ltb, ltb-true}
 use Rattle.std.proofs.lemmas.List.Sums.{length-filter}
 use Rattle.std.specs.List.{range_with_len}
 use Rattle.lfs_model.specs.Checkpoint.{CheckpointValue}
 use Rattle.lfs_model.specs.Content.{Content}
 use Rattle.lfs_model.specs.Decodes.{IsSized}
-use Rattle.lfs_model.specs.Encodes.{Has, HasData, HasDouble, HasInode, HasLeaf, IsLogMap}
+use Rattle.lfs_model.specs.Encodes.{Has, HasData, HasInode, IsLogMap}
 use Rattle.lfs_model.specs.Entry.{Entry, Data, Leaf, Double, Inode, Header}
 use Rattle.lfs_model.specs.Need.{pointers}
 use Rattle.lfs_model.specs.Objects.{has_double, has_leaf, is_stored, one_if, stored_below, stored_blocks}
 use Rattle.lfs_model.specs.Reach.{address, view}
-use Rattle.lfs_model.specs.Stands.{LogMap, Reached, HoldsAt, count_up}
+use Rattle.lfs_model.specs.Stands.{LogMap, HoldsAt, count_up}
 use Rattle.lfs_model.specs.Totals.{IsCounted, data_in, data_of_file, meta_in, meta_of_file, sum_upto}
 use Rattle.lfs_model.proofs.Decodes.{formed, only, stored}
-use Rattle.lfs_model.proofs.Live.{count_up_none, count_up_more, count_up_same}
 use Rattle.lfs_model.proofs.ObjectPointers.{leaf_tests, pointer_count}
 use Rattle.lfs_verify.specs.Totals.{above_count, CountsByMarks}
 use Rattle.lfs_verify.specs.Walk.{Walked, InBounds, step_of}

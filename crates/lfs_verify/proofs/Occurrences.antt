@@ -1,10 +1,10 @@
 -- How often a number stands in a list, and how many numbers of a list are above one.
-use Rattle.std.proofs.Common.{◌≡◌, ◌<◌, ◌≤◌, ◌⊎◌, ⊎_elim, ◌+◌, ◌==◌, ℕ, zero, suc, Bool, true, false, cond, nat_lt, List, length, get_or, refl, sym, ◌∙◌, ap, arith, inl, inr, eq-eqb, eqb-true}
-use Rattle.std.proofs.lemmas.Bool.{cases_eq, cases_lt, false_from_ne_true, le-ltb, lt-ltb, ltb-true}
+use Rattle.std.proofs.Common.{◌≡◌, ◌<◌, ◌≤◌, ◌⊎◌, ⊎_elim, ◌+◌, ◌==◌, ℕ, zero, suc, Bool, true, false, nat_lt, List, length, get_or, refl, sym, ◌∙◌, ap, arith, inl, inr, eq-eqb, eqb-true}
+use Rattle.std.proofs.lemmas.Bool.{cases_eq, cases_lt, false_from_ne_true, lt-ltb, ltb-true}
 use Rattle.lfs_model.specs.Objects.{one_if}
 use Rattle.lfs_model.specs.Stands.{count_up}
 use Rattle.lfs_model.specs.Totals.{sum_upto}
-use Rattle.lfs_model.proofs.Live.{count_up_none, count_up_more, count_up_same}
+use Rattle.lfs_model.proofs.Live.{count_up_none, count_up_more}
 use Rattle.lfs_verify.specs.Totals.{is_above, above_count}
 
 -- ---- counts of one test

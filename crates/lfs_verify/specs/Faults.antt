@@ -15,6 +15,10 @@ mount_fault_name TooSmall = codes "TooSmall"
 mount_fault_name NoCheckpoint = codes "NoCheckpoint"
 mount_fault_name (Damaged code) = codes "Damaged"
 
+-- the device has fewer sectors than any volume
+abbrev pub IsBelowAll : DeviceState → Type 0
+IsBelowAll d = d.size < 4098
+
 -- A fault that isn't of memory: Device says the one, each other fault the other.
 abbrev pub IsFault : Type 0 → Type 0 → MountFault → Type 0
 IsFault failed lacking NoMemory = ⊥

@@ -1,9 +1,9 @@
 //! The newest checkpoint of a device, the walk from it, and the tables to which it leads.
-ghost use Rattle.std.specs.Prelude.{◌≡◌, ◌≤◌, ◌+◌, ◌*◌, Some, OnOk, IfOk, IfErr};
+ghost use Rattle.std.specs.Prelude.{◌≡◌, ◌≤◌, ◌+◌, ◌*◌, Some, Err, OnOk, IfOk, IfErr};
 ghost use Rattle.lfs_model.specs.Checkpoint.{FitsCheckpoint};
 ghost use Rattle.lfs_model.specs.Content.{newest};
 ghost use Rattle.lfs_model.specs.Device.{Only};
-ghost use Rattle.lfs_verify.specs.Faults.{IsOpenFault};
+ghost use Rattle.lfs_verify.specs.Faults.{IsBelowAll, IsOpenFault};
 ghost use Rattle.lfs_verify.specs.Loading.{HasTables, IsLoaded};
 ghost use Rattle.lfs_verify.specs.Take.{Looks};
 ghost use Rattle.lfs_verify.specs.Verified.{HoldsCounted, IsFound, IsRefusedLog, IsRefusedWalk, LacksLogMap, StandsWhereEnough};
@@ -39,6 +39,8 @@ fn find_checkpoint<D: SectorDevice>(device: &mut D) -> Result<Checkpoint, MountF
     ensures durable { OnOk result ((D.state device.new).keeps_model
         → Only (D.state device.old).content (D.state device.new)) }
     ensures reason { IfErr result (IsRefusedWalk (D.state device.old) (D.state device.new)) }
+    ensures below_all { IsBelowAll (D.state device.old)
+        → (result ≡ Err MountFault.TooSmall) × (device.new ≡ device.old) }
     ensures no_failure { OnOk result
         ((D.state device.new).failures ≡ (D.state device.old).failures) }
     ensures looks { Looks (D.state device.old) (D.state device.new) }
@@ -100,6 +102,8 @@ pub fn verify_log<D: SectorDevice>(alloc: Global, device: &mut D) -> Result<Foun
     ensures durable { OnOk result ((D.state device.new).keeps_model
         → Only (D.state device.old).content (D.state device.new)) }
     ensures reason { IfErr result (IsRefusedWalk (D.state device.old) (D.state device.new)) }
+    ensures below_all { IsBelowAll (D.state device.old)
+        → (result ≡ Err MountFault.TooSmall) × (device.new ≡ device.old) }
     ensures no_failure { OnOk result ((D.state device.new).failures
         ≡ (D.state device.old).failures) }
     ensures looks { Looks (D.state device.old) (D.state device.new) }
@@ -137,6 +141,8 @@ pub fn verify<D: SectorDevice>(alloc: Global, device: &mut D) -> Result<Tables, 
     ensures reason { IfErr result (IsRefusedLog (D.state device.old) (D.state device.new)) }
     ensures cause { IfErr result (λ e. (e ≡ MountFault.NoMemory → ⊥)
         → IsOpenFault (D.state device.old) (D.state device.new) e) }
+    ensures below_all { IsBelowAll (D.state device.old)
+        → (result ≡ Err MountFault.TooSmall) × (device.new ≡ device.old) }
     ensures no_failure { OnOk result
         ((D.state device.new).failures ≡ (D.state device.old).failures) }
     ensures looks { Looks (D.state device.old) (D.state device.new) }

@@ -18,3 +18,15 @@ returns-then-sectors-segments_of-clause-reason g c = λ keeps. too_few
 
 pub returns-clause-found : goal.returns-clause-found
 returns-clause-found g c keeps = newest_is (g.D.SectorDevice.state c.args.device.now) (g.met.D.SectorDevice.lawful c.args.device.now) c.in-Ok.checkpoint (c.in-Ok.ensures.found keeps)
+
+pub returns-in-Err-Missing-clause-below_all : goal.returns-in-Err-Missing-clause-below_all
+returns-in-Err-Missing-clause-below_all g c = λ low. absurd (let least = c.if-sectors-lt4098.false in let size = c.sectors.ensures in omega (arith, low, least, size))
+
+pub returns-in-Err-Device-clause-below_all : goal.returns-in-Err-Device-clause-below_all
+returns-in-Err-Device-clause-below_all g c = λ low. absurd (let least = c.if-sectors-lt4098.false in let size = c.sectors.ensures in omega (arith, low, least, size))
+
+pub returns-then-sectors-segments_of-clause-below_all : goal.returns-then-sectors-segments_of-clause-below_all
+returns-then-sectors-segments_of-clause-below_all g c = λ low. absurd (let least = c.if-sectors-lt4098.false in let size = c.sectors.ensures in omega (arith, low, least, size))
+
+pub returns-clause-below_all : goal.returns-clause-below_all
+returns-clause-below_all g c = λ low. absurd (let least = c.if-sectors-lt4098.false in let size = c.sectors.ensures in omega (arith, low, least, size))
