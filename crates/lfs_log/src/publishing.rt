@@ -4,7 +4,7 @@ ghost use Rattle.lfs_model.specs.Device.{Only};
 ghost use Rattle.lfs_memory.specs.segments.Table.{address_of};
 ghost use Rattle.lfs_memory.specs.inodes.MapValue.{block_in};
 ghost use Rattle.lfs_memory.specs.Memory.{IsMemory, HasRoom};
-ghost use Rattle.lfs_log.specs.Publishing.{IsAllOut, IsNext, Publishes, PublishFails, Syncs};
+ghost use Rattle.lfs_log.specs.Publishing.{IsAllOut, IsNext, LeavesEither, Publishes, PublishFails, Syncs};
 
 use lfs_device::{DeviceFault, SectorDevice};
 use lfs_layout::Checkpoint;
@@ -82,6 +82,7 @@ pub fn publish<D: SectorDevice>(
         memory.new number) }
     ensures stopped { OnErr result (PublishFails (D.state device.old) (D.state device.new)
         memory.old number) }
+    ensures moment { LeavesEither (D.state device.old) (D.state device.new) memory.old number }
     ensures map { memory.new.map ≡ memory.old.map }
     ensures dirty { memory.new.dirty ≡ memory.old.dirty }
     ensures chunk { memory.new.chunk ≡ memory.old.chunk }
