@@ -1,7 +1,8 @@
 //! A whole volume: the walk over its log, then the stages of its tree, and then whether enough of
 //! its segments are clean.
-ghost use Rattle.std.specs.Prelude.{◌≡◌, OnOk, IfOk, IfErr};
+ghost use Rattle.std.specs.Prelude.{◌≡◌, Err, OnOk, IfOk, IfErr};
 ghost use Rattle.lfs_model.specs.Device.{Only};
+ghost use Rattle.lfs_verify.specs.Faults.{IsBelowAll};
 ghost use Rattle.lfs_verify.specs.Loading.{IsLoaded};
 ghost use Rattle.lfs_verify.specs.Take.{Looks};
 ghost use Rattle.lfs_tree.specs.Checking.{HasTree, IsRefusedVolume, IsTreeFault};
@@ -30,6 +31,8 @@ pub fn verify_tree<D: SectorDevice>(alloc: Global, device: &mut D) -> Result<Tab
     ensures reason { IfErr result (IsRefusedVolume (D.state device.old) (D.state device.new)) }
     ensures cause { IfErr result (λ e. (e ≡ MountFault.NoMemory → ⊥)
         → IsTreeFault (D.state device.old) (D.state device.new) e) }
+    ensures below_all { IsBelowAll (D.state device.old)
+        → (result ≡ Err MountFault.TooSmall) × (device.new ≡ device.old) }
     ensures no_failure { OnOk result
         ((D.state device.new).failures ≡ (D.state device.old).failures) }
     ensures looks { Looks (D.state device.old) (D.state device.new) }
