@@ -32,9 +32,8 @@ without kept sector = lru_cache (remove_entry (nat_eq sector) kept.entries) kept
 abbrev pub KeepsAlso : ℕ → List ℕ → Kept → Kept → Type 0
 KeepsAlso sector bytes old new = (new ≡ lru_cache (put_entries nat_eq old sector bytes) old.cap) ⊎ ((new ≡ old) × (kept_at old sector ≡ None))
 
--- A sector is lent, or why not. It says what the trait says of a read.
-pub record Lends (d d' : DeviceState) (sector : ℕ) (result : Result (Bor (List ℕ)) ReadFault) : Type 0 where
-  pub value : IfOk result (λ bytes. d'.keeps_model → cell_at d.content sector ≡ Some bytes.now)
+-- A sector was read, or the device wasn't asked. It says what the trait says of a read, but for the bytes.
+pub record OnlyReads {A : Type 0} (d d' : DeviceState) (sector : ℕ) (result : Result A ReadFault) : Type 0 where
   pub unreadable : IsErrOf result fault.Unreadable → d'.keeps_model → cell_at d.content sector ≡ None
   pub failed : IsErrOf result fault.Failed → d.failures < d'.failures
   pub no_failure : OnOk result (d'.failures ≡ d.failures)
@@ -43,3 +42,8 @@ pub record Lends (d d' : DeviceState) (sector : ℕ) (result : Result (Bor (List
   pub carries : Carries d d'
   pub time : Elapses d d'
   pub told : d'.told ≡ d.told
+
+-- A sector is lent as the device holds it, or why not.
+pub record Lends (d d' : DeviceState) (sector : ℕ) (result : Result (Bor (List ℕ)) ReadFault) : Type 0 where
+  pub value : IfOk result (λ bytes. d'.keeps_model → cell_at d.content sector ≡ Some bytes.now)
+  pub reads : OnlyReads d d' sector result

@@ -1,9 +1,9 @@
 // A device beside those of its sectors that are kept.
-ghost use Rattle.std.specs.Prelude.{◌≡◌, ◌∷◌, ◌<◌, ◌≤◌, None, Some, [], OnOk, OnErr, IsOk, IsErrOf, IsSome, MatchOption, MatchResult, IfOk};
+ghost use Rattle.std.specs.Prelude.{◌≡◌, ◌∷◌, ◌<◌, ◌≤◌, None, Some, [], OnOk, OnErr, IsOk, IsSome, MatchOption, MatchResult, IfOk};
 ghost use Rattle.lru.specs.LruCache.{lru_cache};
 ghost use Rattle.lfs_model.specs.Device.{cell_at, put, MayWrite, Only, Carries, Elapses, IsUntouched, CrashWrites, MayTell};
 ghost use Rattle.lfs_model.specs.declared.Order.TheVariants as order;
-ghost use Rattle.lfs_cache.specs.Kept.{Agrees, KeepsAlso, kept_at, promoted_at, without};
+ghost use Rattle.lfs_cache.specs.Kept.{Agrees, KeepsAlso, OnlyReads, kept_at, promoted_at, without};
 
 use crate::cache::MOST_SECTORS;
 use crate::kept::{Kept, forget, keep};
@@ -73,19 +73,8 @@ impl<D: SectorDevice> Sectors<D> {
         ensures shown { OnOk result (kept_at self.new.kept sector ≡ None
             → (D.state self.new.device).keeps_model
             → cell_at (D.state self.old.device).content sector ≡ Some self.new.shown) }
-        ensures unreadable { IsErrOf result ReadFault.Unreadable
-            → (D.state self.new.device).keeps_model
-            → cell_at (D.state self.old.device).content sector ≡ None }
-        ensures failed { IsErrOf result ReadFault.Failed
-            → (D.state self.old.device).failures < (D.state self.new.device).failures }
-        ensures no_failure { OnOk result ((D.state self.new.device).failures
-            ≡ (D.state self.old.device).failures) }
-        ensures no_failure_unreadable { IsErrOf result ReadFault.Unreadable
-            → (D.state self.new.device).failures ≡ (D.state self.old.device).failures }
-        ensures untouched { IsUntouched (D.state self.old.device) (D.state self.new.device) }
-        ensures carries { Carries (D.state self.old.device) (D.state self.new.device) }
-        ensures time { Elapses (D.state self.old.device) (D.state self.new.device) }
-        ensures told { (D.state self.new.device).told ≡ (D.state self.old.device).told }
+        ensures reads { OnlyReads
+            (D.state self.old.device) (D.state self.new.device) sector result }
     {
         if self.kept.promote(&sector) {
             return Ok(());
@@ -117,19 +106,8 @@ impl<D: SectorDevice> Sectors<D> {
         ensures kept { self.new.kept ≡ self.old.kept }
         ensures value { OnOk result ((D.state self.new.device).keeps_model
             → cell_at (D.state self.old.device).content sector ≡ Some out.new) }
-        ensures unreadable { IsErrOf result ReadFault.Unreadable
-            → (D.state self.new.device).keeps_model
-            → cell_at (D.state self.old.device).content sector ≡ None }
-        ensures failed { IsErrOf result ReadFault.Failed
-            → (D.state self.old.device).failures < (D.state self.new.device).failures }
-        ensures no_failure { OnOk result ((D.state self.new.device).failures
-            ≡ (D.state self.old.device).failures) }
-        ensures no_failure_unreadable { IsErrOf result ReadFault.Unreadable
-            → (D.state self.new.device).failures ≡ (D.state self.old.device).failures }
-        ensures untouched { IsUntouched (D.state self.old.device) (D.state self.new.device) }
-        ensures carries { Carries (D.state self.old.device) (D.state self.new.device) }
-        ensures time { Elapses (D.state self.old.device) (D.state self.new.device) }
-        ensures told { (D.state self.new.device).told ≡ (D.state self.old.device).told }
+        ensures reads { OnlyReads
+            (D.state self.old.device) (D.state self.new.device) sector result }
     {
         if let Some(bytes) = self.kept.peek(&sector) {
             *out = *bytes;
