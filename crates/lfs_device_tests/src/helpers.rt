@@ -99,8 +99,17 @@ pub(crate) fn filled<D: SectorDevice>(device: &mut D, sector: u32) -> Result<u8,
         return Err(ReadFault::Failed);
     }
     device.read(sector, &mut out)?;
-    if out == [out[0]; 512] {
-        Ok(out[0])
+    only_byte(&out)
+}
+
+/// The byte that these bytes all are.
+///
+/// # Errors
+///
+/// `Failed` where they aren't the same.
+pub(crate) fn only_byte(bytes: &[u8; 512]) -> Result<u8, ReadFault> {
+    if *bytes == [bytes[0]; 512] {
+        Ok(bytes[0])
     } else {
         Err(ReadFault::Failed)
     }

@@ -1,7 +1,9 @@
-//! Tests of devices, orders that wait, sectors, checkpoint slots, the walk, segments, inodes and
-//! what a log holds in memory.
+//! Tests of devices, orders that wait, kept sectors, sectors, checkpoint slots, the walk, segments,
+//! inodes and what a log holds in memory.
 #![tactic(auto)]
 
+#[cfg(test)]
+mod cache;
 #[cfg(test)]
 mod device;
 #[cfg(test)]
