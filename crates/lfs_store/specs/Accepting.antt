@@ -26,6 +26,10 @@ IsMountRefusal d d' =
 abbrev pub HasClean : {D : Type 0} → Held D → Type 0
 HasClean h = length h.memory.usage.segments / 8 + 8 ≤ clean_in h.memory.usage.segments
 
+-- enough are clean for two: one leaves what the next asks for
+abbrev pub HasCleanForTwo : {D : Type 0} → Held D → Type 0
+HasCleanForTwo h = length h.memory.usage.segments / 8 + 16 ≤ clean_in h.memory.usage.segments
+
 -- memory has room for a draft: what it brings fits beside what isn't saved, in what one commit may write
 abbrev pub HasRoomFor : {D : Type 0} → Held D → Changes → Type 0
 HasRoomFor h c = (h.halted ≡ false) × (length h.memory.dirty.blocks + room_for c ≤ 456)

@@ -29,7 +29,7 @@ impl<D: SectorDevice> Store<D> {
     ghost use Rattle.lfs_cleaner.specs.log.Saving.{commit_orders};
     ghost use Rattle.lfs_cleaner.specs.Room.{HaltsLater, HasQuarter, IsAtRest, IsRoomFault, passes_orders, room_orders};
     ghost use Rattle.lfs_store.specs.Recounting.{MountsTotals};
-    ghost use Rattle.lfs_store.specs.Accepting.{MountsStore, Commits, MakesRoom, Readies, CannotMakeRoom, Accepts, Declines, IsAcceptFault, HasClean, HasRoomFor, most_written};
+    ghost use Rattle.lfs_store.specs.Accepting.{MountsStore, Commits, MakesRoom, Readies, CannotMakeRoom, Accepts, Declines, IsAcceptFault, HasClean, HasCleanForTwo, HasRoomFor, most_written};
 
     /// The volume that the newest checkpoint of the device leads to, with its totals and an empty
     /// draft; else why there is none, and the device. It writes nothing, and takes the memory that
@@ -262,6 +262,8 @@ impl<D: SectorDevice> Store<D> {
         ensures other { IsErrOf result LogFault.Device → ⊥ }
         ensures once { OnOk result ((self.new.log ≡ self.old.log)
             ⊎ ((self.new.saved ≡ true) × AreAllSaved self.new.log)) }
+        ensures clean { OnOk result (clean_in self.old.log.memory.usage.segments
+            ≤ clean_in self.new.log.memory.usage.segments + 8) }
         ensures told { length (D.state self.new.log.device).told
             ≤ length (D.state self.old.log.device).told + commit_orders }
     {
@@ -357,6 +359,9 @@ impl<D: SectorDevice> Store<D> {
         ensures told { length (D.state self.new.log.device).told
             ≤ length (D.state self.old.log.device).told
             + room_orders (length self.old.log.memory.usage.segments) }
+        ensures one_commit { HasCleanForTwo self.old.log
+            → length (D.state self.new.log.device).told
+            ≤ length (D.state self.old.log.device).told + commit_orders }
     {
         match self.find_room() {
             Ok(()) => {}
@@ -408,6 +413,9 @@ impl<D: SectorDevice> Store<D> {
         ensures told { length (D.state self.new.log.device).told
             ≤ length (D.state self.old.log.device).told
             + room_orders (length self.old.log.memory.usage.segments) }
+        ensures one_commit { HasCleanForTwo self.old.log
+            → length (D.state self.new.log.device).told
+            ≤ length (D.state self.old.log.device).told + commit_orders }
     {
         if self.log.is_halted() {
             return Err(StoreFault::Log(LogFault::Halted));
@@ -474,6 +482,9 @@ impl<D: SectorDevice> Store<D> {
         ensures told { length (D.state self.new.log.device).told
             ≤ length (D.state self.old.log.device).told
             + room_orders (length self.old.log.memory.usage.segments) }
+        ensures one_commit { HasCleanForTwo self.old.log
+            → length (D.state self.new.log.device).told
+            ≤ length (D.state self.old.log.device).told + commit_orders }
     {
         let outcome = self.stage_draft();
         self.give_up();
