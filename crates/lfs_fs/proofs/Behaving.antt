@@ -1,11 +1,16 @@
 -- What holds of a call over any device, by how it ends.
-use Rattle.std.proofs.Common.{◌≡◌, Bool, true, false, ◌||◌, refl, sym, ◌∙◌, ap, subst, inl, inr, arith}
+use Rattle.std.proofs.Common.{◌≡◌, ◌≤◌, ◌+◌, ℕ, Bool, true, false, ◌||◌, List, length, refl, sym, ◌∙◌, ap, subst, inl, inr, arith}
 use Rattle.std.specs.Prelude.{IsTrue}
-use Rattle.lfs_model.specs.Call.{Answer, Call, Refuse, changes, cleans, commits, is_ok, may_write, takes_no_memory}
+use Rattle.lfs_model.specs.declared.Order.{Order}
+use Rattle.lfs_model.specs.Call.{Answer, Call, Open, Create, Close, Pread, Pwrite, Truncate, Mkdir, LinkTo, Symlink, Readlink, Unlink, Rmdir, Rename, StatOf, LstatOf, Readdir, Fsync, Sync, Clean, Space, ListTree, Refuse, changes, cleans, commits, is_ok, may_write, takes_no_memory}
 use Rattle.lfs_model.specs.Device.{DeviceState}
 use Rattle.lfs_model.specs.Refusal.{Refusal, NoMemory, Halted, Stuck}
-use Rattle.lfs_store.specs.log.Held.{Reads}
-use Rattle.lfs_fs.specs.Volume.{Behaves, CommitsFew, IsStill, Mounted, changes_handles}
+use Rattle.lfs_store.specs.log.Held.{Held, Reads}
+use Rattle.lfs_store.specs.log.Saving.{commit_orders}
+use Rattle.lfs_store.specs.cleaner.Room.{room_orders}
+use Rattle.lfs_store.specs.Accepting.{HasCleanForTwo}
+use Rattle.lfs_fs.specs.Accepting.{TellsFew}
+use Rattle.lfs_fs.specs.Volume.{Behaves, CommitsFew, IsStill, Mounted, TellsAtMost, changes_handles, most_orders, segments_of}
 
 -- ---- answers and calls
 
@@ -36,9 +41,59 @@ not_both b on off = absurd (let both : true ≡ false = sym on ∙ off in cc)
 pub change_writes : (call : Call) → changes call ≡ true → IsTrue (may_write call)
 change_writes call change = ap (λ (b : Bool). b || commits call || cleans call) change
 
+-- a call that changes something gives as many orders as where room is made
+pub change_orders : (call : Call) (segments : ℕ) → changes call ≡ true → most_orders call segments ≡ room_orders segments
+change_orders (Open p) segments change = absurd (cc)
+change_orders (Create p) segments change = refl
+change_orders (Close h) segments change = absurd (cc)
+change_orders (Pread h off n) segments change = absurd (cc)
+change_orders (Pwrite h off w) segments change = refl
+change_orders (Truncate h n) segments change = refl
+change_orders (Mkdir p) segments change = refl
+change_orders (LinkTo p q) segments change = refl
+change_orders (Symlink text p) segments change = refl
+change_orders (Readlink p) segments change = absurd (cc)
+change_orders (Unlink p) segments change = refl
+change_orders (Rmdir p) segments change = refl
+change_orders (Rename p q) segments change = refl
+change_orders (StatOf p) segments change = absurd (cc)
+change_orders (LstatOf p) segments change = absurd (cc)
+change_orders (Readdir p) segments change = absurd (cc)
+change_orders (Fsync h) segments change = absurd (cc)
+change_orders Sync segments change = absurd (cc)
+change_orders Clean segments change = absurd (cc)
+change_orders Space segments change = absurd (cc)
+change_orders ListTree segments change = absurd (cc)
+
 -- ---- calls
 
 module _ {D : Type 0} (state : D → DeviceState) where
+  -- where nothing is told, it is no more than this
+  pub tells_none : (h h' : Held D) (most : ℕ) → (state h'.device).told ≡ (state h.device).told → TellsAtMost state h h' most
+  tells_none h h' most same = subst (λ (told : List Order). length told ≤ length (state h.device).told + most) (sym same) (omega arith)
+
+  -- A call writes few checkpoints, and gives the device few orders.
+  pub record IsBounded (old new : Mounted D) (call : Call) : Type 0 where
+    pub few : CommitsFew old new
+    pub told : TellsAtMost state old.log new.log (most_orders call (segments_of old))
+    pub one_commit : cleans call ≡ false → HasCleanForTwo old.log → TellsAtMost state old.log new.log commit_orders
+
+  -- one that changes the tree, or was to
+  pub change_bounded : (old new : Mounted D) (call : Call) → changes call ≡ true → CommitsFew old new → TellsFew state old.log new.log → IsBounded old new call
+  change_bounded old new call change few tells = record {
+    few = few;
+    told = subst (λ (most : ℕ). TellsAtMost state old.log new.log most) (sym (change_orders call (segments_of old) change)) tells.room;
+    one_commit = λ unclean. tells.one_commit;
+  }
+
+  -- one that saves
+  pub sync_bounded : (old new : Mounted D) → CommitsFew old new → TellsAtMost state old.log new.log commit_orders → IsBounded old new Sync
+  sync_bounded old new few told = record { few = few; told = told; one_commit = λ unclean clean. told }
+
+  -- one that cleans
+  pub clean_bounded : (old new : Mounted D) → CommitsFew old new → TellsAtMost state old.log new.log (room_orders (segments_of old)) → IsBounded old new Clean
+  clean_bounded old new few told = record { few = few; told = told; one_commit = λ unclean clean. absurd (cc) }
+
   -- a volume that was halted
   pub halted_behaves : (v : Mounted D) (call : Call) → v.log.halted ≡ true → Behaves state v v call (Refuse Halted)
   halted_behaves v call was = record {
@@ -50,6 +105,8 @@ module _ {D : Type 0} (state : D → DeviceState) where
     few = omega arith;
     memory = λ takes e. absurd (cc);
     stuck = λ e. absurd (cc);
+    told = tells_none v.log v.log (most_orders call (segments_of v)) refl;
+    one_commit = λ unclean clean. tells_none v.log v.log commit_orders refl;
   }
 
   -- nothing but reads, and memory was refused
@@ -63,6 +120,8 @@ module _ {D : Type 0} (state : D → DeviceState) where
     few = (let same = still.reads.number in omega (arith, same));
     memory = λ takes e. absurd (not_both (takes_no_memory call) takes free);
     stuck = λ e. absurd (cc);
+    told = tells_none old.log new.log (most_orders call (segments_of old)) still.reads.looks.told;
+    one_commit = λ unclean clean. tells_none old.log new.log commit_orders still.reads.looks.told;
   }
 
   module _ (old new : Mounted D) (call : Call) (a : Answer) where
@@ -77,19 +136,23 @@ module _ {D : Type 0} (state : D → DeviceState) where
       few = (let same = still.reads.number in omega (arith, same));
       memory = λ takes e. absurd (not_memory a ordinary e);
       stuck = λ e. absurd (not_stuck a ordinary e);
+      told = tells_none old.log new.log (most_orders call (segments_of old)) still.reads.looks.told;
+      one_commit = λ unclean clean. tells_none old.log new.log commit_orders still.reads.looks.told;
     }
 
     -- a call that may write, and leaves the open files
-    pub write_behaves : IsTrue (may_write call) → new.table ≡ old.table → (a ≡ Refuse Stuck → ⊥) → (takes_no_memory call ≡ true → a ≡ Refuse NoMemory → ⊥) → CommitsFew old new → Behaves state old new call a
-    write_behaves may table none memory few = record {
+    pub write_behaves : IsTrue (may_write call) → new.table ≡ old.table → (a ≡ Refuse Stuck → ⊥) → (takes_no_memory call ≡ true → a ≡ Refuse NoMemory → ⊥) → IsBounded old new call → Behaves state old new call a
+    write_behaves may table none memory bounded = record {
       refused = λ r e. table;
       handles = λ e. table;
       first_halted = λ e. inr may;
       quiet = λ e. absurd (not_both (may_write call) may e);
       number = λ e. absurd (not_both (may_write call) may e);
-      few = few;
+      few = bounded.few;
       memory = memory;
       stuck = none;
+      told = bounded.told;
+      one_commit = bounded.one_commit;
     }
 
     -- a call that opens or closes a file
@@ -105,17 +168,21 @@ module _ {D : Type 0} (state : D → DeviceState) where
         few = (let same = reads.number in omega (arith, same));
         memory = λ takes e. absurd (ok_refuses_none a NoMemory ok e);
         stuck = λ e. absurd (ok_refuses_none a Stuck ok e);
+        told = tells_none old.log new.log (most_orders call (segments_of old)) reads.looks.told;
+        one_commit = λ unclean clean. tells_none old.log new.log commit_orders reads.looks.told;
       }
 
       -- it may write
-      pub makes_behaves : IsTrue (may_write call) → CommitsFew old new → Behaves state old new call a
-      makes_behaves may few = record {
+      pub makes_behaves : IsTrue (may_write call) → IsBounded old new call → Behaves state old new call a
+      makes_behaves may bounded = record {
         refused = λ r e. absurd (ok_refuses_none a r ok e);
         handles = λ e. absurd (not_both (changes_handles call) moves e);
         first_halted = λ e. inr may;
         quiet = λ e. absurd (not_both (may_write call) may e);
         number = λ e. absurd (not_both (may_write call) may e);
-        few = few;
+        few = bounded.few;
         memory = λ takes e. absurd (ok_refuses_none a NoMemory ok e);
         stuck = λ e. absurd (ok_refuses_none a Stuck ok e);
+        told = bounded.told;
+        one_commit = bounded.one_commit;
       }

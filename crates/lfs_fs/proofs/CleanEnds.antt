@@ -8,7 +8,7 @@ use Rattle.lfs_model.specs.Run.{Point, StepsOr}
 use Rattle.lfs_model.specs.Stands.{LogMap}
 use Rattle.lfs_files.specs.declared.fault.LogFault.{LogFault}
 use Rattle.lfs_files.specs.declared.fault.LogFault.TheVariants as log
-use Rattle.lfs_store.specs.cleaner.Room.{HaltsLater, IsRoomFault}
+use Rattle.lfs_store.specs.cleaner.Room.{HaltsLater, IsRoomFault, room_orders}
 use Rattle.lfs_store.specs.log.Held.{Held}
 use Rattle.lfs_store.specs.declared.store.Store.{Store}
 use Rattle.lfs_store.specs.log.verify.declared.totals.BlockTotals.{BlockTotals}
@@ -21,8 +21,8 @@ use Rattle.lfs_fs.specs.Faults.{error_of_log}
 use Rattle.lfs_fs.specs.Handles.{handles_of}
 use Rattle.lfs_fs.specs.Refusals.{refusal_of}
 use Rattle.lfs_fs.specs.Seen.{seen}
-use Rattle.lfs_fs.specs.Volume.{IsAt, IsIn, Mounted, Serves, segments_of}
-use Rattle.lfs_fs.proofs.Behaving.{write_behaves}
+use Rattle.lfs_fs.specs.Volume.{IsAt, IsIn, Mounted, Serves, TellsAtMost, segments_of}
+use Rattle.lfs_fs.proofs.Behaving.{clean_bounded, write_behaves}
 use Rattle.lfs_fs.proofs.CallSteps.{not_worn}
 use Rattle.lfs_fs.proofs.Ending.{IsRest, counted_still, runs_on}
 use Rattle.lfs_fs.proofs.Holding.{map_of_volume, runs_over}
@@ -39,7 +39,8 @@ module _ {D : Type 0} (state : D → DeviceState) (lawful : (d : D) → IsLawful
       inr (Worn, refl, ((let q = here.number in omega (arith, q, high)), inl refl), refl))
       (λ e. cc))
 
-  module _ (old new : Mounted D) (was : old.log.halted ≡ false) (rest : IsRest state old new) (low : old.log.number < 2 ^ 62) where
+  module _ (old new : Mounted D) (was : old.log.halted ≡ false) (rest : IsRest state old new) (low : old.log.number < 2 ^ 62)
+      (tells : TellsAtMost state old.log new.log (room_orders (segments_of old))) where
     -- the log map is as it was, and what isn't saved after it wasn't before
     module _ (room : MakesRoom state old.log old.saved new.log new.saved) where
       ready : new.saved ≡ false → (old.saved ≡ false → HasClean old.log × (old.log.number ≤ 2 ^ 62 + segments_of old / 8)) → HasClean new.log × (new.log.number ≤ 2 ^ 62 + segments_of new / 8)
@@ -50,7 +51,8 @@ module _ {D : Type 0} (state : D → DeviceState) (lawful : (d : D) → IsLawful
           → Serves state old new Clean a
       ends_by a fine none steps =
           runs_on state old new Clean (lawful old.log.device) (lawful new.log.device) room.keeps.carries room.keeps.segments was room.keeps.later a fine
-          (write_behaves state old new Clean a refl rest.table none (λ never e. absurd (cc)) (let few = room.keeps.number in let most = written_most D old.log old.saved in omega (arith, few, most))) room.keeps.running (λ p keeps at k m0 m is. (
+          (write_behaves state old new Clean a refl rest.table none (λ never e. absurd (cc))
+          (clean_bounded state old new (let few = room.keeps.number in let most = written_most D old.log old.saved in omega (arith, few, most)) tells)) room.keeps.running (λ p keeps at k m0 m is. (
           let log = map_dropped state old new keeps (lawful old.log.device) (lawful new.log.device) room.keeps.carries k m0 m p.state is in record {
             next = p.state;
             runs = runs_over state old new k m0 m p.state is m p.state (room_stores state old.log old.saved new.log new.saved room k m0 m keeps is.stores log) room.keeps.segments
@@ -76,7 +78,8 @@ module _ {D : Type 0} (state : D → DeviceState) (lawful : (d : D) → IsLawful
           absurd (cannot k m0 m keeps (has_room state old (lawful old.log.device) stored above low k m0 m p.state is)))
 
   -- ---- the call
-  module _ (old : Fs D) (store : Store D) (was : old.store.log.halted ≡ false) (totals : store.log.totals ≡ old.store.log.totals) (low : old.store.log.number < 2 ^ 62) where
+  module _ (old : Fs D) (store : Store D) (was : old.store.log.halted ≡ false) (totals : store.log.totals ≡ old.store.log.totals) (low : old.store.log.number < 2 ^ 62)
+      (tells : TellsAtMost state old.store.log store.log (room_orders (segments_of (seen old)))) where
     abbrev new : Fs D
     new = record { alloc = old.alloc; store = store; handles = old.handles }
 
@@ -84,15 +87,15 @@ module _ {D : Type 0} (state : D → DeviceState) (lawful : (d : D) → IsLawful
     rest = record { blocks = ap (λ (t : BlockTotals). t.data_blocks) totals; others = ap (λ (t : BlockTotals). t.meta_blocks) totals; table = refl }
 
     pub cleaned_serves : MakesRoom state old.store.log old.store.saved store.log store.saved → Serves state (seen old) (seen new) Clean Done
-    cleaned_serves room = clean_done_serves (seen old) (seen new) was rest low room
+    cleaned_serves room = clean_done_serves (seen old) (seen new) was rest low tells room
 
     clean_fault : (fault : LogFault) → (fault ≡ log.Full → MakesRoom state old.store.log old.store.saved store.log store.saved) → (fault ≡ log.Full → CannotMakeRoom state old.store.log old.store.saved store.log)
         → (fault ≡ log.Device → MakesRoom state old.store.log old.store.saved store.log store.saved) → (fault ≡ log.Device → IsRoomFault state old.store.log store.log)
         → (fault ≡ log.Halted → HaltsLater state old.store.log store.log (most_written old.store.log old.store.saved))
         → Serves state (seen old) (seen new) Clean (Refuse (refusal_of (error_of_log fault)))
-    clean_fault log.Full full never kept failed halted = clean_full_serves (seen old) (seen new) was rest low (full refl) refl refl (never refl)
-    clean_fault log.Device full never kept failed halted = clean_failed_serves (seen old) (seen new) was rest low (kept refl) (failed refl)
-    clean_fault log.Halted full never kept failed halted = halts_serves state lawful (seen old) (seen new) Clean was refl refl (most_written old.store.log old.store.saved) (written_most D old.store.log old.store.saved) (halted refl)
+    clean_fault log.Full full never kept failed halted = clean_full_serves (seen old) (seen new) was rest low tells (full refl) refl refl (never refl)
+    clean_fault log.Device full never kept failed halted = clean_failed_serves (seen old) (seen new) was rest low tells (kept refl) (failed refl)
+    clean_fault log.Halted full never kept failed halted = halts_serves state lawful (seen old) (seen new) Clean was refl refl (most_written old.store.log old.store.saved) (written_most D old.store.log old.store.saved) (λ few. clean_bounded state (seen old) (seen new) few tells) (halted refl)
 
     pub clean_fails : (fault : LogFault) (e : FsError) → e ≡ error_of_log fault → (fault ≡ log.Full → MakesRoom state old.store.log old.store.saved store.log store.saved)
         → (fault ≡ log.Full → CannotMakeRoom state old.store.log old.store.saved store.log)

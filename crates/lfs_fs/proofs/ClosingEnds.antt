@@ -28,6 +28,7 @@ use Rattle.lfs_store.specs.segments.Table.{clean_in}
 use Rattle.lfs_store.specs.log.Held.{Alters, Held, Holds, IsKept, IsReadFault, IsRemoved, Reads}
 use Rattle.lfs_store.specs.Accepting.{Forgets, HasClean, Stores}
 use Rattle.lfs_store.specs.Recounting.{CountsGone}
+use Rattle.lfs_store.specs.log.Saving.{commit_orders}
 use Rattle.lfs_store.specs.cleaner.Room.{IsAtRest}
 use Rattle.lfs_store.proofs.of_cleaner.RoomBounds.{none_left}
 use Rattle.lfs_store.proofs.Forgotten.{forgets}
@@ -40,8 +41,8 @@ use Rattle.lfs_fs.specs.Faults.{error_of_log}
 use Rattle.lfs_fs.specs.Handles.{handles_of}
 use Rattle.lfs_fs.specs.Refusals.{refusal_of}
 use Rattle.lfs_fs.specs.Seen.{GivesNone, HasHeader, OnlyReads, seen}
-use Rattle.lfs_fs.specs.Volume.{Behaves, IsAt, IsIn, Mounted, Serves, ServesAt, changes_handles, segments_of}
-use Rattle.lfs_fs.proofs.Behaving.{IsOrdinary, not_halted, not_memory, not_stuck, ok_refuses_none}
+use Rattle.lfs_fs.specs.Volume.{Behaves, IsAt, IsIn, Mounted, Serves, ServesAt, changes_handles, most_orders, segments_of}
+use Rattle.lfs_fs.proofs.Behaving.{IsOrdinary, not_halted, not_memory, not_stuck, ok_refuses_none, tells_none}
 use Rattle.lfs_fs.proofs.CallSteps.{never_worn}
 use Rattle.lfs_fs.proofs.ClosedFiles.{closed_map, gone_map, names_by}
 use Rattle.lfs_fs.proofs.ClosingSteps.{close_bad_handle, close_goes, close_stays, closed, fsync_bad_handle, fsync_done, named_stays, open_stays, rest}
@@ -127,6 +128,8 @@ module _ {D : Type 0} (state : D → DeviceState) (old new : Mounted D) (was : o
       few = sync.behaves.few;
       memory = sync.behaves.memory;
       stuck = sync.behaves.stuck;
+      told = sync.behaves.told;
+      one_commit = sync.behaves.one_commit;
     };
     model = λ p keeps at. fsync_at p at (sync.model p keeps at);
   }
@@ -192,6 +195,8 @@ module _ {D : Type 0} (state : D → DeviceState) (lawful : (d : D) → IsLawful
     few = (let same = alters.number in omega (arith, same));
     memory = λ takes e. absurd (ok_refuses_none a NoMemory ok e);
     stuck = λ e. absurd (ok_refuses_none a Stuck ok e);
+    told = tells_none state old.log new.log (most_orders call (segments_of old)) alters.looks.told;
+    one_commit = λ unclean clean. tells_none state old.log new.log commit_orders alters.looks.told;
   }
 
   -- one that leaves the open files
@@ -205,6 +210,8 @@ module _ {D : Type 0} (state : D → DeviceState) (lawful : (d : D) → IsLawful
     few = (let same = alters.number in omega (arith, same));
     memory = λ takes e. absurd (not_memory a ordinary e);
     stuck = λ e. absurd (not_stuck a ordinary e);
+    told = tells_none state old.log new.log (most_orders call (segments_of old)) alters.looks.told;
+    one_commit = λ unclean clean. tells_none state old.log new.log commit_orders alters.looks.told;
   }
 
 -- what is at rest stays so where nothing is gone

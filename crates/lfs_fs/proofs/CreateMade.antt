@@ -47,7 +47,8 @@ use Rattle.lfs_fs.specs.Handles.{handles_of}
 use Rattle.lfs_fs.specs.Naming.{IsDraftedNew, Reaches, RelinksParent, TakesEntry, kind_of_new, more_links}
 use Rattle.lfs_fs.specs.Refusals.{refusal_of}
 use Rattle.lfs_fs.specs.Seen.{OnlyReads, seen}
-use Rattle.lfs_fs.specs.Volume.{Behaves, CommitsFew, IsIn, IsStill, Mounted, Serves, segments_of}
+use Rattle.lfs_fs.specs.Volume.{Behaves, IsIn, IsStill, Mounted, Serves, segments_of}
+use Rattle.lfs_fs.proofs.Behaving.{IsBounded}
 use Rattle.lfs_fs.proofs.Created.{NamesNew, created_log}
 use Rattle.lfs_fs.proofs.EntrySteps.{NewCall, with_entry}
 use Rattle.lfs_fs.proofs.Files.{IsMapOf, no_header_none}
@@ -320,11 +321,11 @@ module _ {D : Type 0} (state : D → DeviceState) (lawful : (d : D) → IsLawful
           → ((of.makes s version walk).answer ≡ a)
           × ((of.makes s version walk).handles ≡ handles_of table)
 
-      pub made_serves : (a : Answer) → is_ok a ≡ true → (CommitsFew v after → Behaves state v after of.call a) → EndsWith a
+      pub made_serves : (a : Answer) → is_ok a ≡ true → (IsBounded state v after of.call → Behaves state v after of.call a) → EndsWith a
           → Serves state v after of.call a
       unfolding entry_drafts
       made_serves a ok behaves ends = accepted_serves state lawful v ready new of.call Done
-          still_ready was rest of.uncommitted entry_drafts a ok table
+          still_ready was rest of.changing of.uncommitted entry_drafts a ok table
           (λ keeps k m0 m s is. ends s is.version (reached.walk k m0 m s (kept_old keeps) is)
           is.handles (least_is keeps k m0 m s is))
           behaves stages

@@ -23,9 +23,9 @@ use Rattle.lfs_fs.specs.Handles.{handles_of}
 use Rattle.lfs_fs.specs.Naming.{DraftsNone, MakesNew, MakesNone, Reaches, TakesEntry, kind_of_new, new_directory, new_file, new_link}
 use Rattle.lfs_fs.specs.Refusals.{refusal_of}
 use Rattle.lfs_fs.specs.Seen.{OnlyReads, answer_by, seen}
-use Rattle.lfs_fs.specs.Volume.{Behaves, CommitsFew, IsIn, IsStill, Mounted, Serves, segments_of}
+use Rattle.lfs_fs.specs.Volume.{Behaves, IsIn, IsStill, Mounted, Serves, segments_of}
 use Rattle.lfs_fs.proofs.CreateMade.{made_serves, turned_serves}
-use Rattle.lfs_fs.proofs.Behaving.{makes_behaves, write_behaves}
+use Rattle.lfs_fs.proofs.Behaving.{IsBounded, makes_behaves, write_behaves}
 use Rattle.lfs_fs.proofs.CreateRefusals.{handle_allowed, links_allowed}
 use Rattle.lfs_fs.proofs.EntrySteps.{NewCall, create_call, mkdir_call, symlink_call}
 use Rattle.lfs_fs.proofs.WritingEnds.{still_more}
@@ -65,7 +65,7 @@ module _ {D : Type 0} (state : D → DeviceState) (lawful : (d : D) → IsLawful
     abbrev pub after : Mounted D
     after = record { log = new.store.log; saved = new.store.saved; blocks = new.store.log.totals.data_blocks; others = new.store.log.totals.meta_blocks; table = table }
 
-    pub made_ends : (a : Answer) → is_ok a ≡ true → (CommitsFew v after → Behaves state v after of.call a)
+    pub made_ends : (a : Answer) → is_ok a ≡ true → (IsBounded state v after of.call → Behaves state v after of.call a)
         → ((s : State) (version : s.version ≡ 1) (walk : Parent s.tree path (At d)) → s.handles ≡ handles_of v.table → least s.tree ≡ n → ((of.makes s version walk).answer ≡ a) × ((of.makes s version walk).handles ≡ handles_of table))
         → Serves state v after of.call a
     made_ends a ok behaves ends =

@@ -1,5 +1,5 @@
 -- A use of a volume, from its mount to a stop: which states it goes from, and what a stop in it leaves.
-use Rattle.std.proofs.Common.{◌≡◌, ◌≤◌, ◌⊎◌, ℕ, false, List, ◌∷◌, sym, ◌∙◌, ap, subst, inl, inr}
+use Rattle.std.proofs.Common.{◌≡◌, ◌⊎◌, ℕ, false, List, ◌∷◌, sym, ◌∙◌, ap, subst, inl, inr}
 use Rattle.lfs_model.specs.Call.{Answer, Call}
 use Rattle.lfs_model.specs.Checkpoint.{CheckpointValue}
 use Rattle.lfs_model.specs.Content.{Content, newest}

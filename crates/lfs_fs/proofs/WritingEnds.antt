@@ -18,12 +18,14 @@ use Rattle.lfs_files.specs.declared.fault.LogFault.TheVariants as log
 use Rattle.lfs_store.specs.memory.declared.memory.LogMemory.{LogMemory}
 use Rattle.lfs_store.specs.memory.Batch.{FitsBatch, IsNoChange, staged}
 use Rattle.lfs_store.specs.segments.Table.{clean_in}
-use Rattle.lfs_store.specs.cleaner.Room.{HaltsLater}
+use Rattle.lfs_store.specs.cleaner.Room.{HaltsLater, room_orders}
 use Rattle.lfs_store.specs.log.Held.{Held, Holds, IsReadFault, Reads}
 use Rattle.lfs_files.specs.declared.fault.StoreFault.{StoreFault}
 use Rattle.lfs_files.specs.declared.fault.StoreFault.TheVariants as store
 use Rattle.lfs_store.specs.declared.store.Store.{Store}
 use Rattle.lfs_store.specs.log.verify.declared.totals.BlockTotals.{BlockTotals}
+use Rattle.lfs_model.specs.declared.Order.{Order}
+use Rattle.lfs_store.specs.log.Saving.{commit_orders}
 use Rattle.lfs_store.specs.Accepting.{Accepts, CannotMakeRoom, Declines, HasClean, IsAcceptFault, LeavesEither, SavesFew, Stores, most_written}
 use Rattle.lfs_store.proofs.Apart.{draft_empty}
 use Rattle.lfs_store.proofs.LogReads.{fault_more, held_still, reads_more, reads_none, stores_still}
@@ -31,13 +33,13 @@ use Rattle.lfs_fs.specs.declared.error.FsError.{FsError}
 use Rattle.lfs_fs.specs.declared.error.FsError.TheVariants as error
 use Rattle.lfs_fs.specs.declared.fs.Fs.{Fs}
 use Rattle.lfs_fs.specs.declared.handles.Handles.{Handles}
-use Rattle.lfs_fs.specs.Accepting.{IsDeclined, StagesDraft, TurnsDown, limit_of, need_of}
+use Rattle.lfs_fs.specs.Accepting.{IsDeclined, StagesDraft, TellsFew, TurnsDown, limit_of, need_of}
 use Rattle.lfs_fs.specs.Faults.{error_of_store}
 use Rattle.lfs_fs.specs.Handles.{handles_of}
 use Rattle.lfs_fs.specs.Refusals.{refusal_of}
 use Rattle.lfs_fs.specs.Seen.{LacksHeader, answer_by, seen, OnlyReads}
-use Rattle.lfs_fs.specs.Volume.{Behaves, CommitsFew, IsIn, IsStill, Mounted, Serves, segments_of}
-use Rattle.lfs_fs.proofs.Behaving.{IsOrdinary, change_writes, not_both, not_halted, ok_refuses_none, still_behaves, write_behaves}
+use Rattle.lfs_fs.specs.Volume.{Behaves, CommitsFew, IsIn, IsStill, Mounted, Serves, TellsAtMost, segments_of}
+use Rattle.lfs_fs.proofs.Behaving.{IsBounded, IsOrdinary, change_bounded, change_writes, not_both, not_halted, ok_refuses_none, still_behaves, write_behaves}
 use Rattle.lfs_fs.proofs.Declined.{accept_fault_serves, no_room_serves}
 use Rattle.lfs_fs.proofs.Ending.{InEach, IsRest, not_acknowledged, accepts_by}
 use Rattle.lfs_fs.proofs.Files.{IsFileOf, opened_file, IsMapOf}
@@ -53,19 +55,20 @@ use Rattle.lfs_store.specs.Recounting.{AreTotals}
 
 -- why a draft isn't staged, by the fault of the store
 pub turned_down : {D : Type 0} (state : D → DeviceState) (old new : Fs D) (fault : StoreFault) (e : FsError) → e ≡ error_of_store fault → old.store.log.halted ≡ false → old.store.log.number < 2 ^ 62 → new.store.log.totals ≡ old.store.log.totals
+    → TellsFew state old.store.log new.store.log
     → (fault ≡ store.Log log.Full → Declines state old.store.log old.store.saved new.store.log new.store.saved old.store.draft.changes)
     → (fault ≡ store.Log log.Full → CannotMakeRoom state old.store.log old.store.saved new.store.log)
     → (fault ≡ store.NoMemory → Declines state old.store.log old.store.saved new.store.log new.store.saved old.store.draft.changes)
     → (fault ≡ store.Log log.Device → Declines state old.store.log old.store.saved new.store.log new.store.saved old.store.draft.changes)
     → (fault ≡ store.Log log.Device → IsAcceptFault state old.store.log old.store.saved new.store.log old.store.draft.changes)
     → (fault ≡ store.Log log.Halted → (old.store.log.halted ≡ true → ⊥) → HaltsLater state old.store.log new.store.log (most_written old.store.log old.store.saved)) → TurnsDown state old new e
-turned_down state old new store.NoMemory e is was young totals full lacks memory device failed halted =
-    subst (TurnsDown state old new) (sym is) record { declines = memory refl; totals = totals; young = young }
-turned_down state old new (store.Log log.Full) e is was young totals full lacks memory device failed halted =
-    subst (TurnsDown state old new) (sym is) (record { declines = full refl; totals = totals; young = young }, inr (lacks refl))
-turned_down state old new (store.Log log.Device) e is was young totals full lacks memory device failed halted =
-    subst (TurnsDown state old new) (sym is) (record { declines = device refl; totals = totals; young = young }, inl (failed refl))
-turned_down state old new (store.Log log.Halted) e is was young totals full lacks memory device failed halted = subst (TurnsDown state old new) (sym is) (halted refl (λ no. cc))
+turned_down state old new store.NoMemory e is was young totals tells full lacks memory device failed halted =
+    subst (TurnsDown state old new) (sym is) record { declines = memory refl; totals = totals; young = young; tells = tells }
+turned_down state old new (store.Log log.Full) e is was young totals tells full lacks memory device failed halted =
+    subst (TurnsDown state old new) (sym is) (record { declines = full refl; totals = totals; young = young; tells = tells }, inr (lacks refl))
+turned_down state old new (store.Log log.Device) e is was young totals tells full lacks memory device failed halted =
+    subst (TurnsDown state old new) (sym is) (record { declines = device refl; totals = totals; young = young; tells = tells }, inl (failed refl))
+turned_down state old new (store.Log log.Halted) e is was young totals tells full lacks memory device failed halted = subst (TurnsDown state old new) (sym is) (halted refl (λ no. cc), tells)
 
 module _ {D : Type 0} (state : D → DeviceState) (lawful : (d : D) → IsLawful (state d)) where
   -- ---- reads come before the draft is staged
@@ -89,6 +92,16 @@ module _ {D : Type 0} (state : D → DeviceState) (lawful : (d : D) → IsLawful
     stores_read saved k m0 m stores = stores_still state a b saved k m0 m reads stores
 
     module _ (h : Held D) where
+      -- what is told after the reads is told after what was before them
+      pub tells_after : TellsFew state b h → TellsFew state a h
+      tells_after tells = record {
+        room = told_before (room_orders (length a.memory.usage.segments)) (subst (λ (n : ℕ). TellsAtMost state b h (room_orders n)) same_segments tells.room);
+        one_commit = λ clean. told_before commit_orders (tells.one_commit (subst (λ (v : LogMemory). length v.usage.segments / 8 + 16 ≤ clean_in v.usage.segments) (sym reads.memory) clean));
+      }
+        where
+          told_before : (most : ℕ) → TellsAtMost state b h most → TellsAtMost state a h most
+          told_before most = subst (λ (told : List Order). length (state h.device).told ≤ length told + most) reads.looks.told
+
       leaves_after : (saved : Bool) → LeavesEither state b saved h → LeavesEither state a saved h
       leaves_after saved leaves k m0 m keeps stores log =
           joined (state a.device) (state b.device) (state h.device) (StandsForOn (layout_of k) m0 (dropped m)) (StandsForOn (layout_of k) m0 (dropped m)) (StandsForOn (layout_of k) m0 (dropped m))
@@ -175,8 +188,9 @@ module _ {D : Type 0} (state : D → DeviceState) (lawful : (d : D) → IsLawful
     }
 
     -- a commit failed, or a pass
-    pub halts_serves : IsTrue (may_write call) → new.table ≡ old.table → (most : ℕ) → most ≤ segments_of old / 8 + 1 → HaltsLater state old.log new.log most → Serves state old new call (Refuse refusal.Halted)
-    halts_serves may table most low halts = record {
+    pub halts_serves : IsTrue (may_write call) → new.table ≡ old.table → (most : ℕ) → most ≤ segments_of old / 8 + 1 → (CommitsFew old new → IsBounded state old new call) → HaltsLater state old.log new.log most
+        → Serves state old new call (Refuse refusal.Halted)
+    halts_serves may table most low bounded halts = record {
       carries = halts.carries;
       segments = λ e. absurd (let is = halts.halted in cc);
       orderly = λ e. absurd (let is = was in cc);
@@ -191,7 +205,7 @@ module _ {D : Type 0} (state : D → DeviceState) (lawful : (d : D) → IsLawful
     }
       where
         behaves : Behaves state old new call (Refuse refusal.Halted)
-        behaves = write_behaves state old new call (Refuse refusal.Halted) may table (λ e. absurd (cc)) (λ takes e. absurd (cc)) (let few = halts.number in omega (arith, few, low))
+        behaves = write_behaves state old new call (Refuse refusal.Halted) may table (λ e. absurd (cc)) (λ takes e. absurd (cc)) (bounded (let few = halts.number in omega (arith, few, low)))
 
     -- ---- calls of an open file
     module _ (h n : ℕ) (opens : find nat_cmp h (handles_of old.table) ≡ Some n) where
@@ -281,6 +295,9 @@ module _ {D : Type 0} (state : D → DeviceState) (lawful : (d : D) → IsLawful
     declines_old done = declines_after v.log ready.store.log still.reads new.store.log v.saved new.store.saved c
         (subst (λ (b : Bool). Declines state ready.store.log b new.store.log new.store.saved c) still.saved done.declines)
 
+    tells_old : TellsFew state ready.store.log new.store.log → TellsFew state v.log new.store.log
+    tells_old = tells_after v.log ready.store.log still.reads new.store.log
+
     fault_old : IsAcceptFault state ready.store.log ready.store.saved new.store.log c → IsAcceptFault state v.log v.saved new.store.log c
     fault_old fault = fault_after v.log ready.store.log still.reads new.store.log v.saved c
         (subst (λ (b : Bool). IsAcceptFault state ready.store.log b new.store.log c) still.saved fault)
@@ -320,25 +337,29 @@ module _ {D : Type 0} (state : D → DeviceState) (lawful : (d : D) → IsLawful
           subst (λ (n : ℕ). most_written ready.store.log ready.store.saved ≤ n / 8 + 1) (ap (λ (x : LogMemory). length x.usage.segments) still.reads.memory)
           (written_most D ready.store.log ready.store.saved)
 
+      declined_bounded : (done : IsDeclined state ready new) → IsBounded state v (seen new) call
+      declined_bounded done = change_bounded state v (seen new) call change (declines_old done).saves.few (tells_old done.tells)
+
       declined_by : (x : Answer) → (x ≡ Refuse refusal.Halted → ⊥) → (x ≡ Refuse refusal.Stuck → ⊥) → (done : IsDeclined state ready new) → ((state new.store.log.device).keeps_model → InState x) → Serves state v (seen new) call x
       declined_by x other none done each = when_in v (seen new) call was x (declines_old done).carries (declines_old done).segments other
-          (write_behaves state v (seen new) call x (change_writes call change) table_same none (λ never e. absurd (not_both (takes_no_memory call) never takes)) (declines_old done).saves.few) (λ keeps. each keeps (done.declines.carries.kept_before keeps))
+          (write_behaves state v (seen new) call x (change_writes call change) table_same none (λ never e. absurd (not_both (takes_no_memory call) never takes)) (declined_bounded done)) (λ keeps. each keeps (done.declines.carries.kept_before keeps))
 
       pub by_fault : (e : FsError) → TurnsDown state ready new e → Serves state v (seen new) call (Refuse (refusal_of e))
       by_fault error.NoSpace down = same_by (Refuse refusal.NoSpace) tt down.0 (lacks_ends (still_new down.0) down.1)
       by_fault error.Worn down = same_by (Refuse refusal.Worn) tt down.0 (worn_ends (still_new down.0) (let same = still.reads.number in let high = down.1 in omega (arith, same, high)) down.2)
       by_fault error.NoMemory down = declined_by (Refuse refusal.NoMemory) (λ e. cc) (λ e. cc) down (λ after keeps k m0 m s is.
           no_room_serves state v (seen new) call (lawful v.log.device) (lawful new.store.log.device) was (declines_old down).saves.number c (rest_old down) (declines_old down) (low_old down.young)
-          (fits keeps k m0 m s is) change takes)
+          (fits keeps k m0 m s is) (declined_bounded down) change takes)
       by_fault error.Device down = declined_by (Refuse refusal.Device) (λ e. cc) (λ e. cc) down.0 (λ after keeps k m0 m s is. ⊎_elim
           (λ (failed : IsAcceptFault state ready.store.log ready.store.saved new.store.log c).
           accept_fault_serves state v (seen new) call (lawful v.log.device) (lawful new.store.log.device) was (declines_old down.0).saves.number c (rest_old down.0) (declines_old down.0) (low_old down.0.young)
-          (fits keeps k m0 m s is) change free (fault_old failed))
+          (fits keeps k m0 m s is) (declined_bounded down.0) change free (fault_old failed))
           (λ (cannot : CannotMakeRoom state ready.store.log ready.store.saved new.store.log).
           absurd (cannot k m0 m after (has_room state (seen ready) (lawful ready.store.log.device) refl refl down.0.young k m0 m s (still_in state v (seen ready) k m0 m s still is))))
           down.1)
       by_fault error.Halted down =
-          halts_serves v (seen new) call was (change_writes call change) table_same _ few_written (halts_after v.log ready.store.log still.reads new.store.log (most_written ready.store.log ready.store.saved) down)
+          halts_serves v (seen new) call was (change_writes call change) table_same _ few_written (λ few. change_bounded state v (seen new) call change few (tells_old down.1))
+          (halts_after v.log ready.store.log still.reads new.store.log (most_written ready.store.log ready.store.saved) down.0)
       by_fault fault down = absurd down
 
     -- ---- a draft that is one step of the model
@@ -383,18 +404,19 @@ module _ {D : Type 0} (state : D → DeviceState) (lawful : (d : D) → IsLawful
         × ((drafts keeps k m0 m s is).next.handles ≡ handles_of table)
 
     -- it is staged
-    pub accepted_serves : commits call ≡ false → (drafts : AreDrafts) (x : Answer)
+    pub accepted_serves : changes call ≡ true → commits call ≡ false → (drafts : AreDrafts) (x : Answer)
         → is_ok x ≡ true → (table : List ℕ) → EndIn drafts x table
-        → (CommitsFew v (with_table table) → Behaves state v (with_table table) call x) → StagesDraft state ready new
+        → (IsBounded state v (with_table table) call → Behaves state v (with_table table) call x) → StagesDraft state ready new
         → Serves state v (with_table table) call x
-    accepted_serves free drafts x ok table ends behaves stages =
+    accepted_serves change free drafts x ok table ends behaves stages =
         let accepts = accepts_old stages in
         let low = low_old stages.young in
         accepts_by state v (with_table table) call (lawful v.log.device)
         (lawful new.store.log.device) accepts.carries accepts.segments was accepts.saves.number c
         accepts low x (ok_refuses_none x refusal.Halted ok)
         (λ e. let no : acknowledges call x ≡ false = ap (λ (b : Bool). b && is_ok x) free in cc)
-        (behaves accepts.saves.few)
+        (behaves (change_bounded state v (with_table table) call change accepts.saves.few
+        (tells_old stages.tells)))
         (λ p keeps here k m0 m is. (
         let before = stages.accepts.carries.kept_before keeps in
         let draft = drafts before k m0 m p.state is in
@@ -458,7 +480,7 @@ module _ {D : Type 0} (state : D → DeviceState) (lawful : (d : D) → IsLawful
       pub draft_ends : is_ok a ≡ true → EndIn drafts a v.table → {X : Type 0} (r : Result X FsError)
           → OnOk r (StagesDraft state ready new) → IfErr r (TurnsDown state ready new)
           → Serves state v (seen new) call (answer_by (λ _. a) r)
-      draft_ends ok ends (Ok x) stages down = accepted_serves free drafts a ok
+      draft_ends ok ends (Ok x) stages down = accepted_serves change free drafts a ok
           new.handles.numbers.items (subst (EndIn drafts a) (sym table_same) ends)
           (write_behaves state v (seen new) call a (change_writes call change) table_same
           (ok_refuses_none a refusal.Stuck ok)

@@ -1,12 +1,15 @@
 -- What becomes of a call's draft: it is staged where the volume has the space for it, or it isn't.
 use Rattle.std.specs.Prelude.{◌≡◌, ◌⊎◌, ◌<◌, ◌≤◌, ◌+◌, ◌*◌, ◌^◌, ℕ, length}
 use Rattle.lfs_model.specs.Device.{DeviceState}
-use Rattle.lfs_store.specs.cleaner.Room.{HaltsLater}
-use Rattle.lfs_store.specs.Accepting.{Accepts, CannotMakeRoom, Declines, IsAcceptFault, most_written}
+use Rattle.lfs_store.specs.cleaner.Room.{HaltsLater, room_orders}
+use Rattle.lfs_store.specs.log.Held.{Held}
+use Rattle.lfs_store.specs.log.Saving.{commit_orders}
+use Rattle.lfs_store.specs.Accepting.{Accepts, CannotMakeRoom, Declines, HasCleanForTwo, IsAcceptFault, most_written}
 use Rattle.lfs_fs.specs.declared.error.FsError.{FsError}
 use Rattle.lfs_fs.specs.declared.error.FsError.TheVariants as error
 use Rattle.lfs_fs.specs.declared.fs.Fs.{Fs}
 use Rattle.lfs_fs.specs.Seen.{seen}
+use Rattle.lfs_fs.specs.Volume.{TellsAtMost}
 
 -- what the tree needs with the draft, and the most that it may need
 abbrev pub need_of : {D : Type 0} → Fs D → ℕ
@@ -16,18 +19,25 @@ abbrev pub limit_of : {D : Type 0} → Fs D → ℕ
 limit_of f = 47 * length f.store.log.memory.usage.segments
 
 module _ {D : Type 0} (state : D → DeviceState) where
+  -- The device is given no more orders than where room is made, and no more than in a commit where enough segments are clean for two.
+  pub record TellsFew (old new : Held D) : Type 0 where
+    pub room : TellsAtMost state old new (room_orders (length old.memory.usage.segments))
+    pub one_commit : HasCleanForTwo old → TellsAtMost state old new commit_orders
+
   -- The draft is staged, and the totals are those with it.
   pub record StagesDraft (old new : Fs D) : Type 0 where
     pub accepts : Accepts state old.store.log old.store.saved new.store.log new.store.saved old.store.draft.changes
     pub totals : new.store.log.totals ≡ old.store.drafted
     pub young : old.store.log.number < 2 ^ 62
     pub room : need_of old ≤ limit_of old
+    pub tells : TellsFew old.store.log new.store.log
 
   -- It isn't, after room was to be made for it.
   pub record IsDeclined (old new : Fs D) : Type 0 where
     pub declines : Declines state old.store.log old.store.saved new.store.log new.store.saved old.store.draft.changes
     pub totals : new.store.log.totals ≡ old.store.log.totals
     pub young : old.store.log.number < 2 ^ 62
+    pub tells : TellsFew old.store.log new.store.log
 
   -- A call of the device failed, or no room could be made, as it can where the device keeps the model.
   abbrev pub IsFailed : Fs D → Fs D → Type 0
@@ -42,5 +52,5 @@ module _ {D : Type 0} (state : D → DeviceState) where
   TurnsDown old new error.NoMemory = IsDeclined old new
   TurnsDown old new error.Device = IsDeclined old new × IsFailed old new
   TurnsDown old new error.Halted =
-      HaltsLater state old.store.log new.store.log (most_written old.store.log old.store.saved)
+      HaltsLater state old.store.log new.store.log (most_written old.store.log old.store.saved) × TellsFew old.store.log new.store.log
   TurnsDown old new _ = ⊥

@@ -32,7 +32,6 @@ use Rattle.lfs_fs.specs.Naming.{DraftsNone}
 use Rattle.lfs_path.specs.declared.last.Last.{Last}
 use Rattle.lfs_path.specs.dirs.Directory.{names_at}
 use Rattle.lfs_path.specs.Lasts.{HasLast}
-use Rattle.lfs_path.specs.Pieces.{is_dots}
 use Rattle.lfs_path.specs.Trees.{IsChain, here, risen}
 use Rattle.lfs_fs.specs.declared.error.FsError.{FsError}
 use Rattle.lfs_fs.specs.declared.error.FsError.TheVariants as error

@@ -1,7 +1,7 @@
 -- What contracts see of a mounted volume, the state that it is in, and what its calls do.
 -- The calls are those of POSIX.1-2017; which refusals are excused and what a stop leaves is an own choice.
 use Rattle.std.specs.Prelude.{◌≡◌, ◌⊎◌, ◌≤◌, ◌+◌, ◌/◌, ◌^◌, ℕ, Bool, true, false, IsTrue, List, [], ◌∷◌, length}
-use Rattle.lfs_model.specs.Call.{Call, Open, Create, Close, Pread, Pwrite, Truncate, Mkdir, LinkTo, Symlink, Readlink, Unlink, Rmdir, Rename, StatOf, LstatOf, Readdir, Fsync, Sync, Clean, Space, ListTree, Answer, Refuse, may_write, takes_no_memory}
+use Rattle.lfs_model.specs.Call.{Call, Open, Create, Close, Pread, Pwrite, Truncate, Mkdir, LinkTo, Symlink, Readlink, Unlink, Rmdir, Rename, StatOf, LstatOf, Readdir, Fsync, Sync, Clean, Space, ListTree, Answer, Refuse, cleans, may_write, takes_no_memory}
 use Rattle.lfs_model.specs.Checkpoint.{CheckpointValue, layout_version}
 use Rattle.lfs_model.specs.Device.{DeviceState, Carries, AllLeft, IsUntouched}
 use Rattle.lfs_model.specs.Encodes.{IsLogMap}
@@ -12,7 +12,9 @@ use Rattle.lfs_model.specs.Tree.{State, drop_nameless}
 use Rattle.lfs_model.specs.TreeOf.{IsTree, LeavesOne, LeavesStates, Stands}
 use Rattle.lfs_model.specs.Volume.{IsLogOf}
 use Rattle.lfs_store.specs.log.Held.{Held, Reads}
-use Rattle.lfs_store.specs.Accepting.{Stores, HasClean}
+use Rattle.lfs_store.specs.log.Saving.{commit_orders}
+use Rattle.lfs_store.specs.cleaner.Room.{room_orders}
+use Rattle.lfs_store.specs.Accepting.{Stores, HasClean, HasCleanForTwo}
 use Rattle.lfs_model.specs.Totals.{IsCounted}
 use Rattle.lfs_fs.specs.Handles.{handles_of}
 
@@ -31,6 +33,31 @@ segments_of v = length v.log.memory.usage.segments
 -- so many checkpoints are written at most in one call
 abbrev pub CommitsFew : {D : Type 0} → Mounted D → Mounted D → Type 0
 CommitsFew old new = new.log.number ≤ old.log.number + segments_of old / 8 + 1
+
+-- how many writes and syncs a call gives the device at most, where there are so many segments: none where it may not write, as many as a
+-- commit where it saves, and as many as where room is made where it changes the tree or cleans
+abbrev pub most_orders : Call → ℕ → ℕ
+most_orders (Open p) segments = 0
+most_orders (Create p) segments = room_orders segments
+most_orders (Close h) segments = 0
+most_orders (Pread h off n) segments = 0
+most_orders (Pwrite h off w) segments = room_orders segments
+most_orders (Truncate h n) segments = room_orders segments
+most_orders (Mkdir p) segments = room_orders segments
+most_orders (LinkTo p q) segments = room_orders segments
+most_orders (Symlink text p) segments = room_orders segments
+most_orders (Readlink p) segments = 0
+most_orders (Unlink p) segments = room_orders segments
+most_orders (Rmdir p) segments = room_orders segments
+most_orders (Rename p q) segments = room_orders segments
+most_orders (StatOf p) segments = 0
+most_orders (LstatOf p) segments = 0
+most_orders (Readdir p) segments = 0
+most_orders (Fsync h) segments = commit_orders
+most_orders Sync segments = commit_orders
+most_orders Clean segments = room_orders segments
+most_orders Space segments = 0
+most_orders ListTree segments = 0
 
 -- the calls that may change which files are open
 abbrev pub changes_handles : Call → Bool
@@ -57,6 +84,10 @@ changes_handles Space = false
 changes_handles ListTree = false
 
 module _ {D : Type 0} (state : D → DeviceState) where
+  -- the device is given so many orders more at most
+  abbrev pub TellsAtMost : Held D → Held D → ℕ → Type 0
+  TellsAtMost old new most = length (state new.device).told ≤ length (state old.device).told + most
+
   -- The volume is in state s: its log has the log map of s, over one that is a tree's, which the acknowledged checkpoint stands for.
   pub record IsIn (v : Mounted D) (k : CheckpointValue) (m0 m : LogMap) (s : State) : Type 0 where
     pub stores : Stores state v.log v.saved k m0 m
@@ -112,6 +143,10 @@ module _ {D : Type 0} (state : D → DeviceState) where
     pub memory : takes_no_memory call ≡ true → answer ≡ Refuse NoMemory → ⊥
     -- no call is stuck
     pub stuck : answer ≡ Refuse Stuck → ⊥
+    -- so many writes and syncs are given the device at most, and none by a call that may not write
+    pub told : TellsAtMost old.log new.log (most_orders call (segments_of old))
+    -- no more than in a commit, where enough segments are clean for two: no pass of the cleaner comes then
+    pub one_commit : cleans call ≡ false → HasCleanForTwo old.log → TellsAtMost old.log new.log commit_orders
 
   -- A call of a volume at a point: its answer is the model's, or an excused refusal; a stop at any moment leaves what it might have left
   -- before, or the state before or after the call, without files of no name; where the call saves, what is left is the state after it.

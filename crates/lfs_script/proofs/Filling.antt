@@ -122,6 +122,10 @@ module _ (N h off : ℕ) (w : List ℕ) (p q : Point) where
       (λ out. inr (out.0, out.1, excused_write out.0 out.2, out.3))
       steps
 
+-- none is at most so many
+at_most : (now before most : ℕ) → now ≤ before + 0 → now ≤ before + most
+at_most now before most none = omega (arith, none)
+
 no_halt : Refuse NoMemory ≡ Refuse Halted → ⊥
 no_halt e = cc
 
@@ -139,6 +143,8 @@ module _ {D : Type 0} (state : D → DeviceState) (old new : Mounted D) (h off :
     few = behaves.few;
     memory = behaves.memory;
     stuck = behaves.stuck;
+    told = behaves.told;
+    one_commit = behaves.one_commit;
   }
 
   -- and of a write that is refused where room was asked for
@@ -152,6 +158,8 @@ module _ {D : Type 0} (state : D → DeviceState) (old new : Mounted D) (h off :
     few = behaves.few;
     memory = λ takes e. absurd (cc);
     stuck = none;
+    told = at_most _ _ _ behaves.told;
+    one_commit = λ unclean. behaves.one_commit refl;
   }
 
   long_serves : (w v : List ℕ) → 65536 < length w → 65536 < length v → (a : Answer) → Serves state old new (Pwrite h off w) a → Serves state old new (Pwrite h off v) a

@@ -1,4 +1,4 @@
-use Rattle.std.proofs.Common.{◌≡◌, ℕ, refl, subst, sym, ◌∙◌}
+use Rattle.std.proofs.Common.{ℕ, refl, subst, sym, ◌∙◌}
 use Rattle.lfs_fs.specs.Renaming.{RefusesNext, of_second, of_target, of_within}
 use Rattle.lfs_fs.proofs.NamesBoth.{both_found, next_again, source_still}
 use Rattle.lfs_fs.proofs.fs.Fs.check_rename.Goals as goal

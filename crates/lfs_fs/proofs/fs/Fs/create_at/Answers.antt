@@ -1,6 +1,6 @@
 use Rattle.std.proofs.Common.{arith, subst, sym}
 use Rattle.lfs_fs.specs.Volume.{segments_of}
-use Rattle.lfs_fs.proofs.CreateRefusals.{entry_refused, handle_allowed, handle_refused, no_piece_ends, number_refused, zero_ends}
+use Rattle.lfs_fs.proofs.CreateRefusals.{entry_refused, handle_allowed, handle_refused, no_piece_ends, number_refused}
 use Rattle.lfs_fs.proofs.CreateTurned.{create_made, create_unmade}
 use Rattle.lfs_fs.proofs.EntrySteps.{create_call}
 use Rattle.lfs_store.specs.declared.draft.Draft.{Draft}

@@ -1,5 +1,4 @@
-use Rattle.std.proofs.Common.{refl}
-use Rattle.lfs_fs.proofs.ListingEnds.{listing_lacks_node, no_directory, node_lacks, node_tells, past_lacks}
+use Rattle.lfs_fs.proofs.ListingEnds.{listing_lacks_node, no_directory, node_lacks, node_tells}
 use Rattle.lfs_fs.proofs.NameLooks.{fault_then}
 use Rattle.lfs_fs.proofs.PathEnds.{reads_again}
 use Rattle.lfs_fs.proofs.TreeEnds.{answer_then}

@@ -7,7 +7,7 @@ use Rattle.lfs_fs.specs.Volume.{segments_of}
 use Rattle.lfs_fs.proofs.CreateEnds.{bytes_of}
 use Rattle.lfs_fs.proofs.LinkRefusals.{second_ends, second_reaches, sees_object}
 use Rattle.lfs_fs.proofs.LinkSteps.{link_call}
-use Rattle.lfs_fs.proofs.OldRefusals.{entry_refused, no_piece_perm, zero_device}
+use Rattle.lfs_fs.proofs.OldRefusals.{entry_refused, no_piece_perm}
 use Rattle.lfs_fs.proofs.PathEnds.{store_reads}
 use Rattle.lfs_fs.proofs.StoreCalls.{ends_parent, ends_refused, log_reads, same_drafted, same_totals}
 use Rattle.lfs_store.specs.declared.draft.Draft.{Draft}

@@ -1,6 +1,6 @@
 use Rattle.lfs_fs.specs.declared.fs.Fs.{Fs}
 use Rattle.lfs_fs.proofs.LinkEnds.{link_ends, undrafted_ends}
-use Rattle.lfs_fs.proofs.LinkRefusals.{link_entry_refused, link_many_refused, link_no_piece, link_zero}
+use Rattle.lfs_fs.proofs.LinkRefusals.{link_entry_refused, link_many_refused, link_no_piece}
 use Rattle.lfs_fs.proofs.NameLooks.{seen_same}
 use Rattle.std.proofs.Common.{arith}
 use Rattle.lfs_fs.proofs.GrownDrafts.{begun_fits}

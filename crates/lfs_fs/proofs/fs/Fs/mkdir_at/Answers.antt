@@ -1,5 +1,5 @@
 use Rattle.lfs_fs.specs.Volume.{segments_of}
-use Rattle.lfs_fs.proofs.CreateRefusals.{entry_refused, links_allowed, links_refused, no_piece_ends, number_refused, zero_ends}
+use Rattle.lfs_fs.proofs.CreateRefusals.{entry_refused, links_allowed, links_refused, no_piece_ends, number_refused}
 use Rattle.lfs_fs.proofs.CreateTurned.{mkdir_ends}
 use Rattle.lfs_fs.proofs.EntrySteps.{mkdir_call}
 use Rattle.std.proofs.Common.{subst, sym}

@@ -4,7 +4,7 @@ use Rattle.lfs_store.specs.memory.Batch.{IsNoChange}
 use Rattle.lfs_fs.specs.Seen.{seen}
 use Rattle.lfs_fs.proofs.NameLooks.{seen_same}
 use Rattle.lfs_fs.proofs.RmdirEnds.{rmdir_ends, rmdir_undrafted}
-use Rattle.lfs_fs.proofs.RmdirRefusals.{empty_refused, number_zero, root_busy}
+use Rattle.lfs_fs.proofs.RmdirRefusals.{empty_refused, root_busy}
 use Rattle.lfs_fs.proofs.GrownDrafts.{begun_fits}
 use Rattle.lfs_fs.proofs.fs.Fs.rmdir_at.Goals as goal
 

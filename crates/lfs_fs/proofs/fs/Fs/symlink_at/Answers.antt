@@ -1,7 +1,7 @@
 use Rattle.std.proofs.Common.{refl, subst, sym}
 use Rattle.lfs_fs.specs.Volume.{segments_of}
 use Rattle.lfs_fs.proofs.CreateEnds.{bytes_of}
-use Rattle.lfs_fs.proofs.CreateRefusals.{entry_refused, no_piece_ends, number_refused, zero_ends}
+use Rattle.lfs_fs.proofs.CreateRefusals.{entry_refused, no_piece_ends, number_refused}
 use Rattle.lfs_fs.proofs.CreateTurned.{symlink_ends}
 use Rattle.lfs_fs.proofs.EntrySteps.{symlink_call}
 use Rattle.lfs_store.specs.declared.draft.Draft.{Draft}

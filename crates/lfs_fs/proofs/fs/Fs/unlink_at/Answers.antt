@@ -4,7 +4,7 @@ use Rattle.lfs_store.specs.declared.draft.Draft.{Draft}
 use Rattle.lfs_store.specs.memory.Batch.{IsNoChange}
 use Rattle.lfs_fs.specs.Volume.{segments_of}
 use Rattle.lfs_fs.proofs.NameLooks.{seen_same}
-use Rattle.lfs_fs.proofs.OldRefusals.{entry_refused, no_piece_perm, zero_device}
+use Rattle.lfs_fs.proofs.OldRefusals.{entry_refused, no_piece_perm}
 use Rattle.lfs_fs.proofs.UnlinkEnds.{unlink_ends}
 use Rattle.lfs_fs.proofs.UnlinkFails.{undrafted_serves}
 use Rattle.lfs_fs.proofs.UnlinkSteps.{unlink_call}
