@@ -1,6 +1,7 @@
 //! A volume mounted, and its device taken back.
-ghost use Rattle.std.specs.Prelude.{◌≡◌, IfOk, IfErr, MatchResult};
+ghost use Rattle.std.specs.Prelude.{◌≡◌, Err, IfOk, IfErr, MatchResult};
 ghost use Rattle.lfs_model.specs.Device.{Only, IsUntouched, Carries, LeavesOnly};
+ghost use Rattle.lfs_store.specs.log.verify.Faults.{IsBelowAll};
 ghost use Rattle.lfs_fs.specs.Mounting.{MountsFs, FindsState, IsMountFault, IsRefused};
 
 use crate::fs::Fs;
@@ -30,6 +31,8 @@ impl<D: SectorDevice> Fs<D> {
         ensures cause { IfErr result (λ e. (e.0 ≡ MountFault.NoMemory → ⊥)
             → IsMountFault (D.state device) (D.state e.1) e.0) }
         ensures reason { IfErr result (λ e. IsRefused (D.state device) (D.state e.1) e.0) }
+        ensures below_all { IsBelowAll (D.state device)
+            → result ≡ Err (record { 0 = MountFault.TooSmall; 1 = device }) }
         ensures untouched { MatchResult result
             (λ fs. IsUntouched (D.state device) (D.state fs.store.log.device))
             (λ e. IsUntouched (D.state device) (D.state e.1)) }
