@@ -21,7 +21,7 @@ pub(crate) fn forget(kept: &mut Kept, sector: u32)
     ensures others { kept.new ≡ without kept.old sector }
     ensures gone { kept_at kept.new sector ≡ None }
 {
-    // Of its length we need only that comes with it: no sector is kept twice.
+    // That no sector is kept twice is told with the length, which nobody wants here.
     let _once = kept.len();
     let _ = kept.pop(&sector);
 }
