@@ -1,5 +1,5 @@
 -- A file without a name goes: what a commit would save stays.
-use Rattle.std.proofs.Common.{◌≡◌, ◌≤◌, ◌+◌, ◌*◌, ◌==◌, nat_lt, cond, ℕ, Bool, true, false, List, [], length, Option, Some, None, refl, sym, ◌∙◌, ap, ap₂, arith}
+use Rattle.std.proofs.Common.{◌≡◌, ◌==◌, nat_lt, cond, ℕ, Bool, true, false, List, [], length, Option, Some, None, refl, sym, ◌∙◌, ap, ap₂, arith}
 use Rattle.std.proofs.Math.Path.{fun_ext}
 use Rattle.std.proofs.lemmas.Bool.{cond-false, eqb-true, le-ltb}
 use Rattle.lfs_model.specs.Device.{DeviceState}
@@ -9,7 +9,6 @@ use Rattle.lfs_model.specs.Stands.{LogMap}
 use Rattle.lfs_model.specs.TreeOf.{dropped, kept}
 use Rattle.lfs_cleaner.specs.log.memory.Removing.{without_file}
 use Rattle.lfs_cleaner.specs.log.Held.{Held, IsRemoved}
-use Rattle.lfs_cleaner.specs.log.segments.Table.{clean_in}
 use Rattle.lfs_cleaner.proofs.RoomBounds.{none_left}
 use Rattle.lfs_store.specs.Accepting.{Forgets}
 

@@ -1,5 +1,5 @@
 -- A file cut in its last block, in a draft over a log.
-use Rattle.std.specs.Prelude.{◌≡◌, ◌<◌, ◌≤◌, ◌+◌, ◌/◌, ℕ, List, [], length, Some, None}
+use Rattle.std.specs.Prelude.{◌≡◌, ◌<◌, ◌≤◌, ◌+◌, ◌/◌, ℕ, [], length, Some, None}
 use Rattle.lfs_model.specs.Checkpoint.{CheckpointValue}
 use Rattle.lfs_model.specs.Device.{DeviceState}
 use Rattle.lfs_model.specs.Encodes.{IsLogMap}

@@ -1,4 +1,4 @@
-use Rattle.std.proofs.Common.{◌/◌, subst, sym}
+use Rattle.std.proofs.Common.{◌/◌, subst}
 use Rattle.lfs_store.specs.declared.draft.Draft.{Draft}
 use Rattle.lfs_store.specs.Drafting.{PutsBlock}
 use Rattle.lfs_store.proofs.Shrunken.{clears_tail}
