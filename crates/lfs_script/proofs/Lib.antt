@@ -15,3 +15,4 @@ pub mod Commands
 pub mod Filling
 pub mod Used
 pub mod InTurn
+pub mod InTurnTold

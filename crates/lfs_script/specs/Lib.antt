@@ -13,4 +13,5 @@ pub mod Session
 pub mod Seen
 pub mod Told
 pub mod Series
+pub mod SeriesTold
 pub use Rattle.lfs_fs.specs as fs

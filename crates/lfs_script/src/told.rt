@@ -1,11 +1,17 @@
 // A whole use of a volume before a witness.
-ghost use Rattle.std.specs.Prelude.{◌≡◌, IfOk, IfErr, OnErr};
+ghost use Rattle.std.specs.Prelude.{◌≡◌, List, IfOk, IfErr, OnOk, OnErr};
+ghost use Rattle.lfs_model.specs.Call.{Answer, Call};
 ghost use Rattle.lfs_model.specs.Device.{AllLeft, Carries, IsUntouched, LeavesOnly, Only};
+ghost use Rattle.lfs_model.specs.Run.{Point};
+ghost use Rattle.lfs_model.specs.Volume.{LeavesPrefix};
 ghost use Rattle.lfs_device.specs.MemoryDevice.{device_state};
 ghost use Rattle.lfs_fs.specs.Mounting.{IsMountFault, IsRefused};
+ghost use Rattle.lfs_script.specs.Series.{texts_of};
+ghost use Rattle.lfs_script.specs.SeriesTold.{StopsAtMountTold, UsesInTurnTold};
 ghost use Rattle.lfs_script.specs.Session.{SessionTold};
 
 use crate::script::{StrictEnd, run_told};
+use crate::session::StoppedScript;
 use crate::witness::Witness;
 use lfs_device::{Left, MemDevice, SectorDevice};
 use lfs_fs::{Fs, MountFault};
@@ -86,4 +92,54 @@ pub fn use_and_stop_told<R: Read, W: Write, S: Witness<MemDevice, W>>(
             (Err(fault), stopped)
         }
     }
+}
+
+/// As `use_each`, before a witness: in each use a stop at any moment since a reply went out leaves
+/// every call of it that was acknowledged by then, and the next begins with what the last stop left.
+pub fn use_each_told<W: Write, S: Witness<MemDevice, W>>(
+    alloc: Global,
+    strict: bool,
+    scripts: &[StoppedScript],
+    writer: &mut W,
+    witness: &mut S,
+    device: MemDevice,
+) -> (Result<(), MountFault>, MemDevice)
+    ensures ran { OnOk result.0 ((before : List Point) (calls : List Call) (given : List Answer)
+        → LeavesPrefix (device_state device) before calls given
+        → UsesInTurnTold device_state strict (texts_of scripts.now)
+        (record {
+          written = W.contents writer.old;
+          device = device;
+          points = before;
+          calls = calls;
+          given = given;
+        }) (W.contents writer.new) result.1 (S.looks witness.old) (S.looks witness.new)) }
+    ensures stopped { IfErr result.0 (λ fault. (before : List Point) (calls : List Call)
+        (given : List Answer) → LeavesPrefix (device_state device) before calls given
+        → StopsAtMountTold device_state strict (texts_of scripts.now) fault
+        (record {
+          written = W.contents writer.old;
+          device = device;
+          points = before;
+          calls = calls;
+          given = given;
+        }) (W.contents writer.new) result.1 (S.looks witness.old) (S.looks witness.new)) }
+{
+    let mut current = device;
+    for script in scripts {
+        let mut reader = script.script.as_slice();
+        match use_and_stop_told(
+            alloc,
+            strict,
+            &mut reader,
+            writer,
+            witness,
+            current,
+            script.left,
+        ) {
+            (Ok(_), next) => current = next,
+            (Err(fault), last) => return (Err(fault), last),
+        }
+    }
+    (Ok(()), current)
 }
