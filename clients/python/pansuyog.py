@@ -30,7 +30,7 @@ from typing import NamedTuple
 
 __all__ = ["Calls", "Files", "Volume", "Refused", "ChildDied", "BadLine", "Entry", "Space", "Stat", "TreeRow", "make"]
 
-# What people are told of a call that is refused, as in crates/lfs_command/src/reason.rt: the reply to a line has the name alone.
+# What people are told of a call that is refused, as in crates/lfs_image/src/reason.rt: the reply to a line has the name alone.
 _NO_MEMORY = "there isn't enough memory"
 _DEVICE = "a read, a write or a sync of it failed"
 _CALL_TEXTS = {

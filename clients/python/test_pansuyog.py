@@ -169,6 +169,36 @@ class Files(OnAVolume):
             self.assertEqual(self.mounted().export(out), told)
             self.assertEqual(subprocess.run(["diff", "-r", "--no-dereference", folder, out]).returncode, 0)
 
+    def test_the_program_exports_what_the_client_put(self):
+        with tempfile.TemporaryDirectory() as folder:
+            put, out = f"{folder}/put", f"{folder}/out"
+            os.makedirs(f"{put}/d/e")
+            for number, size in enumerate((0, 1, 511, 512, 65_536, 65_537, 131_072)):
+                with open(f"{put}/d/f {number}", "wb") as file:
+                    file.write(random.randbytes(size))
+            os.symlink("d/e", f"{put}/l")
+            with self.mounted() as volume:
+                files, size = volume.write_tree(put)
+            ran = subprocess.run([LFS, "export", self.image, out], capture_output=True, text=True, check=False)
+            self.assertEqual((ran.returncode, ran.stdout), (0, f"ok {files} files {size} bytes\n"))
+            ran = subprocess.run(["diff", "-r", "--no-dereference", put, out], capture_output=True, text=True, check=False)
+            self.assertEqual((ran.returncode, ran.stdout), (0, ""))
+
+    def test_the_largest_new_file_fits_and_no_larger(self):
+        for number, size in enumerate((100, 57_344, 200_000, 65_000, 3)):
+            self.put(f"/fill {number}", size, f"ok {size}\n")
+            ran = subprocess.run([LFS, "df", self.image], capture_output=True, text=True, check=True)
+            free = int(re.search(r"free (\d+) bytes", ran.stdout).group(1))
+            self.put("/new", free + 1, "err NoSpace\n")
+            self.put("/new", free, f"ok {free}\n")
+            self.put("/more", 1, "err NoSpace\n")
+            subprocess.run([LFS, "rm", self.image, "/new"], check=True, capture_output=True)
+
+    def put(self, path, size, reply):
+        data = random.randbytes(size).replace(b"\0", b"\1")
+        ran = subprocess.run([LFS, "put", self.image, path], input=data, capture_output=True, check=False)
+        self.assertEqual(ran.stdout, reply.encode())
+
     def test_nothing_is_written_over(self):
         with tempfile.TemporaryDirectory() as room:
             self.assertRaises(FileExistsError, self.mounted().export, room)
@@ -222,7 +252,7 @@ class Refusals(OnAVolume):
         self.assertIn("NoEntry", pansuyog.__all__)
 
     def test_texts_are_those_of_the_program(self):
-        with open(f"{HERE}/../../crates/lfs_command/src/reason.rt", encoding="utf-8") as file:
+        with open(f"{HERE}/../../crates/lfs_image/src/reason.rt", encoding="utf-8") as file:
             source = file.read()
         constants = dict(re.findall(r'const (\w+): &str =\s*"(.*)";', source))
         texts = re.findall(r'FsError::(\w+) => \{?\s*(?:"(.*)"|(\w+))', source)

@@ -1,9 +1,10 @@
 //! Commands that change a volume by one call, which is saved.
-use crate::fault::{Ending, Fault, Refusal};
-use crate::image;
-use crate::looking::read_path;
-use crate::printing::{print, refuse};
 use lfs_device::{SectorDevice, World};
+use lfs_image::fault::{Ending, Fault};
+use lfs_image::image;
+use lfs_image::looking::read_path;
+use lfs_image::printing::{print, refuse};
+use lfs_image::room::refusal_of;
 use lfs_put::{clean, make_directory, remove, rename};
 use lfs_script::fs::{Fs, FsError};
 use std::alloc::Global;
@@ -65,13 +66,18 @@ fn change_by<D: SectorDevice>(
     }
 }
 
-fn end_change<W: Write>(done: Result<(), FsError>, output: &mut W) -> Result<Ending, Fault> {
+// Ends a change: prints the line of its answer.
+fn end_change<D: SectorDevice, W: Write>(
+    fs: &mut Fs<D>,
+    done: Result<(), FsError>,
+    output: &mut W,
+) -> Result<Ending, Fault> {
     match done {
         Ok(()) => {
             print(output, "ok\n")?;
             Ok(Ending::Done)
         }
-        Err(fault) => refuse(output, Refusal::Call(fault)),
+        Err(fault) => refuse(output, refusal_of(fs, fault)),
     }
 }
 
@@ -85,7 +91,10 @@ fn change_in<Here: World, R: Files<File = File> + Clock, W: Write>(
     output: &mut W,
 ) -> Result<Ending, Fault> {
     match image::mount_to_write::<Here, R>(rt, alloc, image) {
-        Ok(mut fs) => end_change(change_by(&mut fs, change, path, to), output),
+        Ok(mut fs) => {
+            let done = change_by(&mut fs, change, path, to);
+            end_change(&mut fs, done, output)
+        }
         Err(refusal) => refuse(output, refusal),
     }
 }

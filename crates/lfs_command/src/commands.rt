@@ -8,18 +8,19 @@ ghost use Rattle.lfs_command.specs.Playing.{PlaysToRefusal, Plays, PlaysStrictly
 
 use crate::bad_line::{BadLine, reason_of};
 use crate::changing::change_volume;
-use crate::fault::{Ending, Fault, Outcome, Refusal, Told};
-use crate::foreign::explained;
-use crate::image::Making;
-use crate::looking::{end_look, read_path, show};
-use crate::printing::{flush, print, put_count, refuse};
+use crate::putting::put_into;
 use crate::remembering::LineKeeper;
 use crate::request::{Action, Request, read_request};
+use crate::simulation;
 use crate::simulation::{Plan, read_plan};
-use crate::viewing::look;
-use crate::{image, making, simulation};
 use lfs_device::{Left, MemDevice, SectorDevice, ThisWorld, World};
-use lfs_put::{PutFault, put};
+use lfs_image::fault::{Ending, Fault, Outcome, Refusal, Told};
+use lfs_image::foreign::explained;
+use lfs_image::image::Making;
+use lfs_image::looking::{end_look, show};
+use lfs_image::printing::{flush, print, put_count, refuse};
+use lfs_image::viewing::look;
+use lfs_image::{image, making};
 use lfs_script::{
     Looks, ScriptEnd, StrictEnd, Witness, read_u32, use_and_stop_told, use_volume_told,
 };
@@ -49,37 +50,6 @@ fn mkfs<Here: World, R: Files<File = File> + Clock, W: Write>(
         reserve,
     };
     making::mkfs::<Here, R, W>(rt, alloc, image, making, output)
-}
-
-// Ends a put: prints the number of bytes, or the line of a refusal.
-fn end_put<W: Write>(done: Result<u64, PutFault>, output: &mut W) -> Result<Ending, Fault> {
-    match done {
-        Ok(count) => {
-            put_count(output, b"ok ", count)?;
-            print(output, "\n")?;
-            Ok(Ending::Done)
-        }
-        Err(PutFault::Call(fault)) => refuse(output, Refusal::Call(fault)),
-        Err(PutFault::Unfinished) => refuse(output, Refusal::Unfinished),
-        Err(PutFault::Input) => Err(Fault::Input),
-        Err(PutFault::Memory(fault)) => Err(Fault::Memory(fault)),
-    }
-}
-
-// Makes the input a file of the volume of an image.
-fn put_into<Here: World, R: Files<File = File> + Clock, I: Read, W: Write>(
-    rt: &R,
-    alloc: Global,
-    image: &str,
-    path: &str,
-    input: &mut I,
-    output: &mut W,
-) -> Result<Ending, Fault> {
-    let path = read_path(alloc, path)?;
-    match image::mount_to_write::<Here, R>(rt, alloc, image) {
-        Ok(mut fs) => end_put(put(alloc, &mut fs, path.as_slice(), input), output),
-        Err(refusal) => refuse(output, refusal),
-    }
 }
 
 // How a command ends whose script ended so.
@@ -331,7 +301,7 @@ fn act<Here: World, R: Files<File = File> + Clock, I: Read, W: Write>(
         Action::Look(asked) => look::<Here, R, W>(rt, alloc, image, asked, output),
         Action::Change(asked) => change_volume::<Here, R, W>(rt, alloc, image, asked, output),
         Action::Run => run::<Here, R, I, W>(rt, alloc, image, input, output),
-        Action::Put(path) => put_into::<Here, R, I, W>(rt, alloc, image, path, input, output),
+        Action::Put(source) => put_into::<Here, R, I, W>(rt, alloc, image, source, input, output),
     }
 }
 

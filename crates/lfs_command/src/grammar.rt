@@ -14,6 +14,7 @@ pub enum Verb {
     Ls,
     Tree,
     Cat,
+    Get,
     Put,
     Rm,
     Mv,
@@ -21,6 +22,7 @@ pub enum Verb {
     Clean,
     Df,
     Info,
+    Export,
 }
 
 /// How a parameter is given.
@@ -36,6 +38,8 @@ enum Form<'a> {
     Choice(&'a [&'a str]),
     /// An option without a value.
     Switch,
+    /// An option without a value that has a letter too, and isn't given beside another one.
+    Letter(char, &'a str),
 }
 
 /// A parameter of a command.
@@ -64,6 +68,10 @@ pub const IMAGE: &str = "IMAGE";
 
 pub const PATH: &str = "PATH";
 
+pub const FILE: &str = "FILE";
+
+pub const FOLDER: &str = "FOLDER";
+
 pub const FROM: &str = "FROM";
 
 pub const TO: &str = "TO";
@@ -75,6 +83,10 @@ pub const FORCE: &str = "force";
 pub const RESERVE: &str = "reserve";
 
 pub const STRICT: &str = "strict";
+
+pub const LONG: &str = "long";
+
+pub const NULL: &str = "null";
 
 pub const STOP: &str = "stop";
 
@@ -95,7 +107,14 @@ const THE_PATH: Parameter = Parameter {
     name: PATH,
     form: Form::Word,
     value: PATH,
-    help: "A path in the volume; with a backslash, a word of the script language",
+    help: "A path in the volume; with a backslash, a script's word",
+};
+
+const A_PATH: Parameter = Parameter {
+    name: PATH,
+    form: Form::OptionalWord,
+    value: PATH,
+    help: "A path in the volume, or else the root",
 };
 
 const FROM_PATH: Parameter = Parameter {
@@ -112,18 +131,46 @@ const TO_PATH: Parameter = Parameter {
     help: "The path that it gets, not that of a folder to put it in",
 };
 
-const A_PATH: Parameter = Parameter {
-    name: PATH,
+const TO_FILE: Parameter = Parameter {
+    name: FILE,
     form: Form::OptionalWord,
-    value: PATH,
-    help: "A path in the volume; with a backslash, a word of the script language. Without one it is the root",
+    value: FILE,
+    help: "A file to make on the host, or else standard output",
+};
+
+const OF_FILE: Parameter = Parameter {
+    name: FILE,
+    form: Form::OptionalWord,
+    value: FILE,
+    help: "A file of the host, or else standard input",
+};
+
+const TO_FOLDER: Parameter = Parameter {
+    name: FOLDER,
+    form: Form::Word,
+    value: FOLDER,
+    help: "The folder to make on the host",
+};
+
+const LONG_LINES: Parameter = Parameter {
+    name: LONG,
+    form: Form::Letter('l', NULL),
+    value: "",
+    help: "Print the kind, the size and the links too, and a total",
+};
+
+const RAW_NAMES: Parameter = Parameter {
+    name: NULL,
+    form: Form::Letter('0', LONG),
+    value: "",
+    help: "Print names as they are, a zero byte behind each",
 };
 
 const THE_SEGMENTS: Parameter = Parameter {
     name: SEGMENTS,
     form: Form::Value,
     value: "N",
-    help: "How many segments of 32 KiB the volume has: 64 to 1024, a multiple of 8",
+    help: "How many segments of 32 KiB: 64 to 1024, a multiple of 8",
 };
 
 const BY_FORCE: Parameter = Parameter {
@@ -151,14 +198,14 @@ const THE_STOP: Parameter = Parameter {
     name: STOP,
     form: Form::Value,
     value: "K",
-    help: "The write, counted from 0, within which the device stops",
+    help: "The write, from 0, within which the device stops",
 };
 
 const WHAT_IS_LEFT: Parameter = Parameter {
     name: LEFT,
     form: Form::Choice(&["old", "new", "bad"]),
     value: "WHAT",
-    help: "What the stop leaves of sectors that aren't synced",
+    help: "What stays of sectors that aren't synced",
 };
 
 const USAGES: &[Usage] = &[
@@ -166,26 +213,26 @@ const USAGES: &[Usage] = &[
         verb: Verb::Mkfs,
         name: "mkfs",
         about: "Make an empty volume",
-        details: "Make an empty volume. A regular file is made, or emptied without a question. \
-            A block device keeps its length, and is formatted only with --force, and only while \
-            it isn't mounted. An image in a file is sparse without --reserve, so that a full disk \
-            shows only as the image is written.",
+        details: "Make an empty volume. A regular file is made, or emptied without a question. A\n\
+            block device keeps its length, and is formatted only with --force, and only\n\
+            while it isn't mounted. An image in a file is sparse without --reserve, so that\n\
+            a full disk shows only as the image is written.",
         parameters: &[THE_IMAGE, THE_SEGMENTS, BY_FORCE, WITH_ROOM],
     },
     Usage {
         verb: Verb::Check,
         name: "check",
         about: "Check the whole volume, and print its segments and space",
-        details: "Check the whole volume, and print `ok N DATA META NEED LIMIT`: its segments, the \
-            blocks of data of its files, their inodes and blocks of pointers, the blocks that the \
-            tree needs, and the most that it may need.",
+        details: "Check the whole volume, and print `ok N DATA META NEED LIMIT`: its segments, the\n\
+            blocks of data of its files, their inodes and blocks of pointers, the blocks\n\
+            that the tree needs, and the most that it may need.",
         parameters: &[THE_IMAGE],
     },
     Usage {
         verb: Verb::Mount,
         name: "mount",
         about: "Print the tree as a script's reply",
-        details: "Check the whole volume, and print its tree as the reply to the line `tree` of a \
+        details: "Check the whole volume, and print its tree as the reply to the line `tree` of a\n\
             script. Nothing is written.",
         parameters: &[THE_IMAGE],
     },
@@ -193,7 +240,7 @@ const USAGES: &[Usage] = &[
         verb: Verb::Run,
         name: "run",
         about: "Run the script on standard input, and print a reply to each line",
-        details: "Run the script on standard input, and print a reply to each line. The image is \
+        details: "Run the script on standard input, and print a reply to each line. The image is\n\
             locked meanwhile. What the script doesn't sync may be gone at its end.",
         parameters: &[THE_IMAGE, STRICTLY],
     },
@@ -201,50 +248,63 @@ const USAGES: &[Usage] = &[
         verb: Verb::Sim,
         name: "sim",
         about: "Run a script on a volume in memory that stops, and print what is left",
-        details: "Run the script on standard input on a new volume in memory, whose device stops \
-            within write K, and print the number of writes and the tree that a mount finds then.",
+        details: "Run the script on standard input on a new volume in memory, whose device stops\n\
+            within write K, and print the number of writes and the tree that a mount finds\n\
+            then.",
         parameters: &[THE_SEGMENTS, THE_STOP, WHAT_IS_LEFT],
     },
     Usage {
         verb: Verb::Ls,
         name: "ls",
         about: "Print the names in a directory, or in the root",
-        details: "Print the names in a directory, one a line, as words of the script language, a \
-            directory's with a slash behind it. Of anything else the path itself is printed.",
-        parameters: &[THE_IMAGE, A_PATH],
+        details: "Print the names in a directory, one a line, as words of the script language, a\n\
+            directory's with a slash behind it. Of anything else the path itself is printed.\n\
+            With -l the kind, the size in bytes and the number of links stand before the\n\
+            name, and a total behind all. With -0 each name is as it is, with a zero byte\n\
+            behind it, as `xargs -0` takes it.",
+        parameters: &[THE_IMAGE, A_PATH, LONG_LINES, RAW_NAMES],
     },
     Usage {
         verb: Verb::Tree,
         name: "tree",
         about: "Print the tree for people, with sizes in bytes",
-        details: "Print the tree for people: a line for each name, indented below its directory, \
-            with the size in bytes.",
-        parameters: &[THE_IMAGE],
+        details: "Print the tree below PATH for people: a line for each name, indented below its\n\
+            directory, with the size in bytes.",
+        parameters: &[THE_IMAGE, A_PATH],
     },
     Usage {
         verb: Verb::Cat,
         name: "cat",
         about: "Print the bytes of a file",
-        details: "Print the bytes of a file. Where the device fails behind the first bytes, the \
+        details: "Print the bytes of a file. Where the device fails behind the first bytes, the\n\
             command ends with status 1 and prints no line with `err`.",
         parameters: &[THE_IMAGE, THE_PATH],
     },
     Usage {
+        verb: Verb::Get,
+        name: "get",
+        about: "Copy a file out of the volume",
+        details: "Copy the bytes of the file PATH to a new file of the host, and print `ok` and\n\
+            their number. Nothing that is there is written over, and where the copy fails\n\
+            nothing is left of FILE. Without FILE the bytes are printed, as by `cat`.",
+        parameters: &[THE_IMAGE, THE_PATH, TO_FILE],
+    },
+    Usage {
         verb: Verb::Put,
         name: "put",
-        about: "Make standard input the bytes of a file, and print their number",
-        details: "Make standard input the bytes of the file PATH, and print `ok` and their number. \
-            The new file stands as `.lfs-put` in the same directory until it is whole and synced, \
-            and then takes the place of the old one: after any stop the old file or the new one \
-            is there. What stood as `.lfs-put` is removed. Of a symbolic link the link itself is \
-            replaced; a directory is refused.",
-        parameters: &[THE_IMAGE, THE_PATH],
+        about: "Make a file of standard input, or of a file of the host",
+        details: "Make the bytes of FILE, or of standard input, those of the file PATH, and print\n\
+            `ok` and their number. The new file stands as `.lfs-put` in the same directory\n\
+            until it is whole and synced, and then takes the place of the old one: after any\n\
+            stop the old file or the new one is there. What stood as `.lfs-put` is removed.\n\
+            Of a symbolic link the link itself is replaced; a directory is refused.",
+        parameters: &[THE_IMAGE, THE_PATH, OF_FILE],
     },
     Usage {
         verb: Verb::Rm,
         name: "rm",
         about: "Remove a file, a link or an empty directory",
-        details: "Remove the file, the symbolic link or the empty directory at PATH, and print \
+        details: "Remove the file, the symbolic link or the empty directory at PATH, and print\n\
             `ok` once that is synced. A link that ends PATH is removed itself.",
         parameters: &[THE_IMAGE, THE_PATH],
     },
@@ -252,7 +312,7 @@ const USAGES: &[Usage] = &[
         verb: Verb::Mv,
         name: "mv",
         about: "Rename a file, a link or a directory",
-        details: "Give what stands at FROM the path TO, and print `ok` once that is synced. What \
+        details: "Give what stands at FROM the path TO, and print `ok` once that is synced. What\n\
             stood at TO is replaced, but for a directory with entries.",
         parameters: &[THE_IMAGE, FROM_PATH, TO_PATH],
     },
@@ -267,7 +327,7 @@ const USAGES: &[Usage] = &[
         verb: Verb::Clean,
         name: "clean",
         about: "Clean segments until a quarter of them is clean",
-        details: "Clean segments until a quarter of them is clean, and print `ok`. The tree stays \
+        details: "Clean segments until a quarter of them is clean, and print `ok`. The tree stays\n\
             as it is, and so does the space that is free.",
         parameters: &[THE_IMAGE],
     },
@@ -275,7 +335,7 @@ const USAGES: &[Usage] = &[
         verb: Verb::Df,
         name: "df",
         about: "Print how much of the volume is used and free",
-        details: "Print the size of the volume, the bytes of its files, and the bytes of the \
+        details: "Print the size of the volume, the bytes of its files, and the bytes of the\n\
             largest new file that the root has room for.",
         parameters: &[THE_IMAGE],
     },
@@ -283,30 +343,49 @@ const USAGES: &[Usage] = &[
         verb: Verb::Info,
         name: "info",
         about: "Print what the volume is, and how full each segment is",
-        details: "Print the number of the newest checkpoint, the segments and the space, and a \
-            picture with a sign for each segment: a dot for one with no live block, else 1 to 9 \
-            for up to 7 to 63 of them.",
+        details: "Print the number of the newest checkpoint, the segments and the space, and a\n\
+            picture with a sign for each segment: a dot for one with no live block, else 1\n\
+            to 9 for up to 7 to 63 of them.",
         parameters: &[THE_IMAGE],
+    },
+    Usage {
+        verb: Verb::Export,
+        name: "export",
+        about: "Copy the whole tree out of the volume",
+        details: "Copy the whole tree into a new folder of the host, symbolic links as links, and\n\
+            print `ok`, the number of files and that of their bytes. A name that the host\n\
+            can't have, or that isn't UTF-8, is left out with all that is below it: a line\n\
+            `omitted` names it, and the status is 1.",
+        parameters: &[THE_IMAGE, TO_FOLDER],
     },
 ];
 
-fn argument<'a>(alloc: Global, parameter: Parameter<'a>) -> Arg<'a> {
+fn argument<'a>(alloc: Global, parameter: Parameter<'a>) -> Result<Arg<'a>, AllocError> {
     let argument = Arg::new(alloc, parameter.name).help(parameter.help);
     match parameter.form {
-        Form::Word => argument.required(true).action(ArgAction::Set),
-        Form::OptionalWord => argument.action(ArgAction::Set),
-        Form::Value => argument
+        Form::Word => Ok(argument.required(true).action(ArgAction::Set)),
+        Form::OptionalWord => Ok(argument.action(ArgAction::Set)),
+        Form::Value => Ok(
+            argument
+                .long(parameter.name)
+                .value_name(parameter.value)
+                .required(true)
+                .action(ArgAction::Set),
+        ),
+        Form::Choice(values) => Ok(
+            argument
+                .long(parameter.name)
+                .value_name(parameter.value)
+                .value_parser(ValueParser::Names(values))
+                .required(true)
+                .action(ArgAction::Set),
+        ),
+        Form::Switch => Ok(argument.long(parameter.name).action(ArgAction::SetTrue)),
+        Form::Letter(letter, other) => argument
+            .short(letter)
             .long(parameter.name)
-            .value_name(parameter.value)
-            .required(true)
-            .action(ArgAction::Set),
-        Form::Choice(values) => argument
-            .long(parameter.name)
-            .value_name(parameter.value)
-            .value_parser(ValueParser::Names(values))
-            .required(true)
-            .action(ArgAction::Set),
-        Form::Switch => argument.long(parameter.name).action(ArgAction::SetTrue),
+            .action(ArgAction::SetTrue)
+            .conflicts_with(other),
     }
 }
 
@@ -315,7 +394,7 @@ fn subcommand<'a>(alloc: Global, usage: Usage<'a>) -> Result<Command<'a>, AllocE
         .about(usage.about)
         .long_about(usage.details);
     for parameter in usage.parameters {
-        command = command.arg(argument(alloc, *parameter))?;
+        command = command.arg(argument(alloc, *parameter)?)?;
     }
     Ok(command)
 }
@@ -325,8 +404,7 @@ pub fn program<'a>(alloc: Global) -> Result<Command<'a>, AllocError> {
     let mut program = Command::new(alloc, "lfs")
         .version(VERSION)
         .about(ABOUT)
-        .subcommand_required(true)
-        .disable_help_subcommand(true);
+        .subcommand_required(true);
     for usage in USAGES {
         program = program.subcommand(subcommand(alloc, *usage)?)?;
     }

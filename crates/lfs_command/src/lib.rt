@@ -4,21 +4,11 @@
 mod bad_line;
 mod changing;
 mod commands;
-mod describing;
-mod fault;
-mod foreign;
 mod grammar;
-mod image;
-mod looking;
-mod making;
-mod mounts;
-mod printing;
-mod reason;
+mod putting;
 mod remembering;
 mod request;
-mod room;
 mod simulation;
-mod viewing;
 
 pub use commands::command;
 pub use lfs_device as device;

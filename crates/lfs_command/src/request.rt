@@ -4,14 +4,17 @@ ghost use Rattle.std.specs.Bool.{OnTrue};
 ghost use Rattle.lfs_command.specs.Asking.{HasWord, IsStrict};
 
 use crate::changing::Change;
-use crate::fault::Fault;
 use crate::grammar::{
-    FORCE, FROM, IMAGE, LEFT, PATH, RESERVE, SEGMENTS, STOP, STRICT, TO, Verb, program, verb_of,
+    FILE, FOLDER, FORCE, FROM, IMAGE, LEFT, LONG, NULL, PATH, RESERVE, SEGMENTS, STOP, STRICT, TO,
+    Verb, program, verb_of,
 };
-use crate::looking::Look;
+use crate::putting::Source;
 use clap::error::ErrorKind;
 use clap::{ArgMatches, Error};
 use lfs_device::Left;
+use lfs_image::fault::Fault;
+use lfs_image::listing::Style;
+use lfs_image::looking::Look;
 use std::alloc::{AllocError, Global};
 
 /// The path that is listed where none is given.
@@ -28,17 +31,17 @@ pub enum Action<'a> {
     Look(Look<'a>),
     Change(Change<'a>),
     Run,
-    /// Standard input becomes the file of this path.
-    Put(&'a str),
+    Put(Source<'a>),
 }
 
 impl<'a> Action<'a> {
     /// The path that it has, as a word of scripts.
     pub fn path(self) -> Option<&'a str> {
         match self {
-            Action::Look(Look::List(path) | Look::Cat(path)) | Action::Put(path) => Some(path),
+            Action::Look(look) => look.path(),
+            Action::Put(source) => Some(source.path),
             Action::Change(change) => change.path(),
-            Action::Mkfs { .. } | Action::Look(_) | Action::Run => None,
+            Action::Mkfs { .. } | Action::Run => None,
         }
     }
 }
@@ -107,15 +110,47 @@ fn read_rename<'a>(found: &ArgMatches<'a>) -> Option<Change<'a>> {
     Some(Change::Rename(found.get_str(FROM)?, found.get_str(TO)?))
 }
 
+fn style_of(found: &ArgMatches<'_>) -> Style {
+    if found.get_flag(LONG) {
+        Style::Long
+    } else if found.get_flag(NULL) {
+        Style::Raw
+    } else {
+        Style::Words
+    }
+}
+
+// The path that is looked at, or the root.
+fn path_or_root<'a>(found: &ArgMatches<'a>) -> &'a str {
+    found.get_str(PATH).unwrap_or(ROOT)
+}
+
+fn read_get<'a>(found: &ArgMatches<'a>) -> Option<Look<'a>> {
+    let path = found.get_str(PATH)?;
+    match found.get_str(FILE) {
+        Some(file) => Some(Look::Get(path, file)),
+        None => Some(Look::Cat(path)),
+    }
+}
+
+fn read_put<'a>(found: &ArgMatches<'a>) -> Option<Action<'a>> {
+    Some(Action::Put(Source {
+        path: found.get_str(PATH)?,
+        file: found.get_str(FILE),
+    }))
+}
+
 fn asked<'a>(verb: Verb, found: &ArgMatches<'a>) -> Option<Request<'a>> {
     match verb {
         Verb::Mkfs => on_image(read_mkfs(found), found),
         Verb::Mount => looks(Look::Mount, found),
         Verb::Check => looks(Look::Check, found),
-        Verb::Tree => looks(Look::Tree, found),
-        Verb::Ls => looks(Look::List(found.get_str(PATH).unwrap_or(ROOT)), found),
+        Verb::Tree => looks(Look::Tree(path_or_root(found)), found),
+        Verb::Ls => looks(Look::List(path_or_root(found), style_of(found)), found),
         Verb::Cat => looks(Look::Cat(found.get_str(PATH)?), found),
-        Verb::Put => on_image(Some(Action::Put(found.get_str(PATH)?)), found),
+        Verb::Get => looks(read_get(found)?, found),
+        Verb::Export => looks(Look::Export(found.get_str(FOLDER)?), found),
+        Verb::Put => on_image(read_put(found), found),
         Verb::Info => looks(Look::Info, found),
         Verb::Df => looks(Look::Free, found),
         Verb::Rm => changes(Some(Change::Remove(found.get_str(PATH)?)), found),

@@ -4,8 +4,8 @@ ghost use Rattle.lfs_model.specs.Device.{Only};
 ghost use Rattle.lfs_model.specs.Image.{IsNew};
 ghost use Rattle.lfs_device.specs.MemoryDevice.{device_state};
 
-use crate::fault::{Fault, Refusal};
 use lfs_device::{Left, MemDevice};
+use lfs_image::fault::{Fault, Refusal};
 use lfs_layout::is_segment_count;
 use lfs_script::fs::{Fs, FsError, format};
 use lfs_script::{read_u32, read_u64};

@@ -3,5 +3,6 @@ mod Costs
 mod GetCalls
 mod InOrder
 mod PutCalls
+mod PutLooks
 mod PutNames
 mod Told

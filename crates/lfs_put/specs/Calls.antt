@@ -1,6 +1,7 @@
 -- Calls of a volume with their answers, one after the other.
 use Rattle.std.specs.Prelude.{◌≡◌, List, [], ◌∷◌}
-use Rattle.lfs_model.specs.Call.{Answer, Call}
+use Rattle.std.specs.List.{AllByRecursion}
+use Rattle.lfs_model.specs.Call.{Answer, Call, LstatOf, StatOf}
 use Rattle.lfs_model.specs.Device.{DeviceState}
 use Rattle.lfs_fs.specs.Volume.{Mounted, Serves}
 
@@ -12,6 +13,12 @@ pub record Made : Type 0 where
 abbrev pub made : Call → Answer → Made
 made call answer = record { call = call; answer = answer }
 
+-- a call that tells what stands at a path
+abbrev pub IsLook : Call → Type 0
+IsLook (LstatOf path) = Unit {0}
+IsLook (StatOf path) = Unit {0}
+IsLook _ = ⊥
+
 module _ {D : Type 0} (state : D → DeviceState) where
   -- a volume serves these calls, one after the other, with these answers
   abbrev pub ServesAll : Mounted D → Mounted D → List Made → Type 0
@@ -21,3 +28,9 @@ module _ {D : Type 0} (state : D → DeviceState) where
   -- this call, whatever its answer
   abbrev pub Asks : Mounted D → Mounted D → Call → Type 0
   Asks old new call = (answer : Answer) × Serves state old new call answer
+
+  -- A volume serves some calls, each of which only tells what stands at a path.
+  pub record OnlyLooks (old new : Mounted D) : Type 0 where
+    pub calls : List Made
+    pub served : ServesAll old new calls
+    pub looks : AllByRecursion (λ (m : Made). IsLook m.call) calls

@@ -9,5 +9,5 @@ mod telling;
 
 pub use changing::{clean, make_directory, remove, rename};
 pub use getting::{GetFault, get};
-pub use putting::{PutFault, UNFINISHED, put};
+pub use putting::{PutFault, UNFINISHED, check_place, put};
 pub use telling::largest_new_file;

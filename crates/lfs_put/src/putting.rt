@@ -1,9 +1,9 @@
 //! The command that puts a file into a volume. Its bytes stand under another name until they are
 //! whole and synced: so the old file or the new one is there after any stop.
 ghost use Rattle.std.specs.Prelude.{◌≡◌, ◌≢◌, ◌≤◌, ◌<◌, ◌⊎◌, ◌-◌, IfOk, OnOk, ℕ, false, codes, length, slice_index};
-ghost use Rattle.lfs_model.specs.Call.{LstatOf, Unlink};
+ghost use Rattle.lfs_model.specs.Call.{LstatOf, StatOf, Unlink};
 ghost use Rattle.lfs_fs.specs.Seen.{seen};
-ghost use Rattle.lfs_put.specs.Calls.{Asks};
+ghost use Rattle.lfs_put.specs.Calls.{Asks, OnlyLooks};
 ghost use Rattle.lfs_put.specs.Putting.{Copies, GivesUp, IsBeside, MakesFile, PutsFile, RenamesFile, Replaces};
 
 use lfs_device::SectorDevice;
@@ -118,6 +118,61 @@ fn refuse_directory<D: SectorDevice>(fs: &mut Fs<D>, path: &[u8]) -> Result<(), 
         },
         Err(FsError::NoEntry) => Ok(()),
         Err(fault) => Err(PutFault::Call(fault)),
+    }
+}
+
+// The part of a path before its last piece, the last slash with it.
+fn directory_of(path: &[u8]) -> &[u8] {
+    let trimmed = &path[..trimmed_len(path)];
+    &trimmed[..above_len(trimmed)]
+}
+
+// Refuses a path that leads to no directory.
+fn want_directory<D: SectorDevice>(fs: &mut Fs<D>, path: &[u8]) -> Result<(), PutFault>
+    ensures { Asks D.SectorDevice.state (seen fs.old) (seen fs.new) (StatOf path.now) }
+{
+    match fs.stat(path) {
+        Ok(stat) => match stat.kind {
+            Kind::Directory => Ok(()),
+            Kind::File | Kind::Link => Err(PutFault::Call(FsError::NotDir)),
+        },
+        Err(fault) => Err(PutFault::Call(fault)),
+    }
+}
+
+// Looks whether a file may stand at a path whose text is well, and changes nothing.
+fn look_for_place<D: SectorDevice>(fs: &mut Fs<D>, path: &[u8]) -> Result<(), PutFault>
+    ensures { OnlyLooks D.SectorDevice.state (seen fs.old) (seen fs.new) }
+{
+    match refuse_directory(fs, path) {
+        Ok(()) => {}
+        Err(fault) => return Err(fault),
+    }
+    let above = directory_of(path);
+    if above.is_empty() {
+        return Ok(());
+    }
+    want_directory(fs, above)
+}
+
+/// Looks whether a file may be put at a path, as far as the path's text tells, the directory that is
+/// to have it, and what stands there. Nothing is changed. What `put` finds only as it changes the
+/// volume, as a lack of space, isn't looked for.
+///
+/// # Errors
+///
+/// `Memory` where memory for a path is refused. Of the path's text and of a directory at the path
+/// those of `put`. Of the directory that is to have it those of `stat`, and `NotDir`.
+pub fn check_place<D: SectorDevice>(
+    alloc: Global,
+    fs: &mut Fs<D>,
+    path: &[u8],
+) -> Result<(), PutFault>
+    ensures { OnlyLooks D.SectorDevice.state (seen fs.old) (seen fs.new) }
+{
+    match unfinished_path(alloc, path) {
+        Ok(_) => look_for_place(fs, path),
+        Err(fault) => Err(fault),
     }
 }
 

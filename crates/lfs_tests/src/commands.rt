@@ -1,5 +1,7 @@
 // Rows of commands over image files and over volumes in memory, carried out one after another.
 use lfs_command::command;
+use rand_core::Rng;
+use rand_pcg::Pcg32;
 use std::alloc::{AllocError, Global};
 use std::fs::{File, Permissions};
 use std::io::{Read, Write};
@@ -105,6 +107,9 @@ enum Step<'a> {
     Same(&'a str, &'a str),
     Lacks(&'a str),
     Remove(&'a str),
+    RemoveFolder(&'a str),
+    /// A symbolic link has this text.
+    LeadsTo(&'a str, &'a str),
     /// Takes the lock of a file while such command lines are read, each of which ends and speaks
     /// so.
     Locked(&'a str, &'a [&'a str], u8, Said<'a>),
@@ -263,21 +268,13 @@ fn change<R: Files<File = File>>(
     Ok(())
 }
 
-// The next sector of a linear congruential generator.
-fn noise(state: &mut u32) -> [u8; 512] {
-    let mut sector = [0; 512];
-    for byte in &mut sector {
-        *state = state.wrapping_mul(1_664_525).wrapping_add(1_013_904_223);
-        *byte = (*state >> 24) as u8;
-    }
-    sector
-}
-
 fn write_noise<R: Files<File = File>>(rt: &R, path: &str, sectors: u32) -> io::Result<()> {
     let mut file = File::create(rt, path)?;
-    let mut state = 1;
+    let mut generator = Pcg32::new(1, 1);
+    let mut sector = [0; 512];
     for _ in 0..sectors {
-        file.write_all(&noise(&mut state))?;
+        generator.fill_bytes(&mut sector);
+        file.write_all(&sector)?;
     }
     Ok(())
 }
@@ -305,6 +302,13 @@ fn same<R: Files<File = File> + Clock + AllocGlobal>(rt: &R, one: &str, other: &
     match (fs::read(rt, one), fs::read(rt, other)) {
         (Ok(one), Ok(other)) => are_same(one.as_slice(), other.as_slice()),
         _ => false,
+    }
+}
+
+fn leads_to<R: Files<File = File> + Clock + AllocGlobal>(rt: &R, path: &str, text: &str) -> bool {
+    match fs::read_link(rt, path) {
+        Ok(found) => found.as_str() == text,
+        Err(_) => false,
     }
 }
 
@@ -340,6 +344,8 @@ fn is_well<R: Files<File = File> + Clock + AllocGlobal>(rt: &R, step: Step<'_>) 
         Step::Same(one, other) => same(rt, one, other),
         Step::Lacks(path) => matches!(fs::exists(rt, path), Ok(false)),
         Step::Remove(path) => fs::remove_file(rt, path).is_ok(),
+        Step::RemoveFolder(path) => fs::remove_dir_all(rt, path).is_ok(),
+        Step::LeadsTo(path, text) => leads_to(rt, path, text),
         Step::Locked(path, lines, status, said) => locked(rt, path, lines, status, said),
         Step::Protect(path) => {
             fs::set_permissions(rt, path, Permissions::from_mode(0o444)).is_ok()
@@ -743,7 +749,7 @@ const LINES: &[Step] = &[
         &[
             "lfs",
             "lfs frob",
-            "lfs help",
+            "lfs help frob",
             "lfs mkfs kept.img",
             "lfs mkfs --segments 64",
             "lfs mkfs kept.img --segments 064",
@@ -781,7 +787,24 @@ const LINES: &[Step] = &[
             "lfs put",
             "lfs put kept.img",
             "lfs put kept.img \\2F",
-            "lfs put kept.img /f /g",
+            "lfs put kept.img /f /g /h",
+            "lfs ls kept.img -l -0",
+            "lfs ls kept.img --null --long",
+            "lfs tree kept.img / /",
+            "lfs tree kept.img \\2f",
+            "lfs get kept.img",
+            "lfs get kept.img /f new.img /g",
+            "lfs get kept.img \\2f new.img",
+            "lfs export kept.img",
+            "lfs export kept.img new.img /f",
+            "lfs rm kept.img",
+            "lfs rm kept.img \\2f",
+            "lfs mv kept.img /f",
+            "lfs mv kept.img /f \\2f",
+            "lfs mkdir kept.img",
+            "lfs mkdir kept.img \\2f",
+            "lfs clean kept.img /f",
+            "lfs df",
         ],
         ONE_FILE,
         2,
@@ -793,6 +816,10 @@ const LINES: &[Step] = &[
         &[
             "lfs --help",
             "lfs -h",
+            "lfs help",
+            "lfs help ls",
+            "lfs get --help",
+            "lfs export --help",
             "lfs --version",
             "lfs mkfs --help",
             "lfs run -h",
@@ -833,6 +860,8 @@ const MEDIA: &[Step] = &[
         &[
             "lfs run e.img",
             "lfs put e.img /f",
+            "lfs put e.img /f none",
+            "lfs mkdir e.img /d",
             "lfs mkfs e.img --segments 72",
         ],
         1,
@@ -930,10 +959,11 @@ fn images_that_others_use(rt: HostRuntime) {
 const NOT_THERE: Said = Said::OfPath(b"err NoEntry\n", b"the volume has nothing of this name");
 
 // Four blocks of data, three inodes, a leaf, and a block each of the inode map and of usage live in
-// segment 1: ten. Segment 0 is clean again.
+// segment 1: ten. Segment 0 is clean again. A new file may have 2,130 blocks: they need 2,256, with
+// its inode and 17 blocks of pointers.
 const FULLNESS: Said = Said::Reply(
     b"checkpoint 2\nsegments 64\nclean 63\ndata blocks 4\nmeta blocks 4\nneed 752\nlimit 3008\n\
-    live blocks of each segment:\n\
+    free 1090560 bytes, in one new file\nlive blocks of each segment:\n\
     .2..............................................................\n",
 );
 
@@ -1002,7 +1032,16 @@ const LOOKS: &[Step] = &[
             "lfs tree none.img",
             "lfs info none.img",
             "lfs ls none.img",
+            "lfs ls none.img / -l",
             "lfs cat none.img /",
+            "lfs get none.img / none.txt",
+            "lfs export none.img none.tree",
+            "lfs put none.img / none.txt",
+            "lfs rm none.img /",
+            "lfs mv none.img / /",
+            "lfs mkdir none.img /",
+            "lfs clean none.img",
+            "lfs df none.img",
         ],
         b"",
         1,
@@ -1018,7 +1057,12 @@ fn looks_at_a_volume(rt: HostRuntime) {
     want(&rt, LOOKS);
 }
 
-// A new volume of 64 segments takes one file of 2,154 blocks.
+const EXISTS: Said = Said::OfPath(b"err Exist\n", b"this is there already");
+
+const THE_ROOT: Said = Said::OfPath(b"err Busy\n", b"the root can't be removed or renamed");
+
+// A new volume of 64 segments takes one file of 2,154 blocks. With a file and a link it takes one of
+// 2,138: that and 18 inodes and blocks of pointers need what is left, 2,264.
 const CHANGES: &[Step] = &[
     Step::Says(&["lfs mkfs c.img --segments 64"], b"", 0, OK),
     Step::Says(
@@ -1047,14 +1091,65 @@ const CHANGES: &[Step] = &[
         Said::OfPath(b"err NotEmpty\n", b"the directory has entries"),
     ),
     Step::Says(
-        &["lfs rm c.img /e"],
+        &["lfs mkdir c.img /d", "lfs mkdir c.img /d/b"],
         b"",
         1,
-        Said::OfPath(b"err NoEntry\n", b"the volume has nothing of this name"),
+        EXISTS,
+    ),
+    Step::Says(
+        &[
+            "lfs mkdir c.img /e/f",
+            "lfs mv c.img /e /f",
+            "lfs rm c.img /e",
+        ],
+        b"",
+        1,
+        NOT_THERE,
+    ),
+    Step::Says(
+        &["lfs mkdir c.img /d/b/e", "lfs rm c.img /d/b/"],
+        b"",
+        1,
+        A_FILE_ABOVE,
+    ),
+    Step::Says(&["lfs mv c.img /d /d/e"], b"", 1, WRONG_PIECE),
+    Step::Says(&["lfs rm c.img /", "lfs mv c.img / /e"], b"", 1, THE_ROOT),
+    Step::Says(
+        &["lfs tree c.img"],
+        b"",
+        0,
+        Said::Reply(b"/\n  d/  64\n    b  3\n"),
     ),
     Step::Says(&["lfs rm c.img /d/b"], b"", 0, OK),
     Step::Says(&["lfs rm c.img /d"], b"", 0, OK),
     Step::Says(&["lfs mount c.img"], b"", 0, EMPTY),
+    // A file counts once, however many names it has. A link is removed itself, and a file that has
+    // the new name is replaced.
+    Step::Says(
+        &["lfs run c.img"],
+        b"create /f\npwrite 0 0 616263\nlink /f /g\nsymlink f /l\nsync\n",
+        0,
+        Said::Reply(b"ok 0\nok 3\nok\nok\nok\n"),
+    ),
+    Step::Says(
+        &["lfs df c.img"],
+        b"",
+        0,
+        Said::Reply(
+            b"size 2098176 bytes, segments 64\nused 3 bytes, files 1\n\
+            free 1094656 bytes, in one new file\n",
+        ),
+    ),
+    Step::Says(&["lfs rm c.img /l"], b"", 0, OK),
+    Step::Says(&["lfs put c.img /h"], b"h", 0, Said::Reply(b"ok 1\n")),
+    Step::Says(&["lfs mv c.img /h /g"], b"", 0, OK),
+    Step::Says(&["lfs clean c.img"], b"", 0, OK),
+    Step::Says(
+        &["lfs tree c.img"],
+        b"",
+        0,
+        Said::Reply(b"/\n  f  3\n  g  1\n"),
+    ),
     Step::Remove("c.img"),
 ];
 
@@ -1492,7 +1587,7 @@ const PATHS: &[Step] = &[
         &["lfs put p.img /", "lfs put p.img //"],
         b"new",
         1,
-        Said::OfPath(b"err Busy\n", b"the root can't be removed or renamed"),
+        THE_ROOT,
     ),
     Step::Says(
         &[
@@ -1543,7 +1638,21 @@ fn paths_of_files_that_are_put(rt: HostRuntime) {
     want(&rt, PATHS);
 }
 
-const FULL: Said = Said::OfPath(b"err NoSpace\n", b"the volume has no space for this");
+// A new volume takes this much, one with a file of three bytes eight blocks less, and a full one none.
+const FULL_NEW: Said = Said::OfPath(
+    b"err NoSpace\n",
+    b"no space: 1,102,848 bytes are free for one new file",
+);
+
+const FULL_BY_OLD: Said = Said::OfPath(
+    b"err NoSpace\n",
+    b"no space: 1,098,752 bytes are free for one new file",
+);
+
+const FULL: Said = Said::OfPath(
+    b"err NoSpace\n",
+    b"no space: 0 bytes are free for one new file",
+);
 
 // The old file alone, and its space: a block of its own and the root's.
 const OLD_FILE: Said = Said::Reply(b"ok 1\n1 f file 2 1 3 6f6c64\n");
@@ -1554,11 +1663,11 @@ const OLD_SPACE: Said = Said::Reply(b"ok 64 2 2 736 3008\n");
 // inodes and blocks of pointers need 3,008.
 const FULL_VOLUME: &[Step] = &[
     Step::Says(&["lfs mkfs p.img --segments 64"], b"", 0, OK),
-    Step::Reads("lfs put p.img /f", 1_102_849, 1, FULL),
+    Step::Reads("lfs put p.img /f", 1_102_849, 1, FULL_NEW),
     Step::Says(&["lfs mount p.img"], b"", 0, EMPTY),
     Step::Says(&["lfs check p.img"], b"", 0, NEW_SPACE),
     Step::Says(&["lfs put p.img /f"], b"old", 0, Said::Reply(b"ok 3\n")),
-    Step::Reads("lfs put p.img /f", 1_102_848, 1, FULL),
+    Step::Reads("lfs put p.img /f", 1_102_848, 1, FULL_BY_OLD),
     Step::Says(&["lfs mount p.img"], b"", 0, OLD_FILE),
     Step::Says(&["lfs check p.img"], b"", 0, OLD_SPACE),
     // What a stop left is gone too.
@@ -1568,7 +1677,7 @@ const FULL_VOLUME: &[Step] = &[
         0,
         Said::Reply(b"ok 0\nok 1\nok\n"),
     ),
-    Step::Reads("lfs put p.img /f", 1_102_848, 1, FULL),
+    Step::Reads("lfs put p.img /f", 1_102_848, 1, FULL_BY_OLD),
     Step::Says(&["lfs mount p.img"], b"", 0, OLD_FILE),
     Step::Says(&["lfs check p.img"], b"", 0, OLD_SPACE),
     Step::Says(
@@ -1589,7 +1698,7 @@ const FULL_VOLUME: &[Step] = &[
         0,
         Said::Reply(b"ok 64 2155 19 3008 3008\n"),
     ),
-    Step::Says(&["lfs put p.img /f"], b"new", 1, FULL),
+    Step::Says(&["lfs put p.img /f", "lfs mkdir p.img /d"], b"new", 1, FULL),
     Step::Says(
         &["lfs tree p.img"],
         b"",
@@ -1670,4 +1779,278 @@ const LEFT: &[Step] = &[
 #[test]
 fn what_a_stop_left_is_removed(rt: HostRuntime) {
     want(&rt, LEFT);
+}
+
+// A directory with an empty one in it, a file with two names, a link, and names that are words with
+// escapes.
+const LISTINGS: &[Step] = &[
+    Step::Says(&["lfs mkfs l.img --segments 64"], b"", 0, OK),
+    Step::Says(
+        &["lfs ls l.img -l"],
+        b"",
+        0,
+        Said::Reply(b"total 0 bytes, entries 0\n"),
+    ),
+    Step::Says(&["lfs ls l.img -0"], b"", 0, Said::Reply(b"")),
+    Step::Says(
+        &["lfs run l.img"],
+        b"mkdir /d\nmkdir /d/e\ncreate /d/f\npwrite 0 0 616263\nlink /d/f /x\\20\\ff\nsymlink d/f /l\nsync\n",
+        0,
+        Said::Reply(b"ok\nok\nok 0\nok 3\nok\nok\nok\n"),
+    ),
+    Step::Says(
+        &["lfs ls l.img -l", "lfs ls --long l.img //"],
+        b"",
+        0,
+        Said::Reply(
+            b"dir      128    3  d/\nlink       3    1  l -> d/f\n\
+            file       3    2  x\\20\\ff\ntotal 3 bytes, entries 3\n",
+        ),
+    ),
+    Step::Says(
+        &["lfs ls l.img /d -l"],
+        b"",
+        0,
+        Said::Reply(b"dir        0    2  e/\nfile       3    2  f\ntotal 3 bytes, entries 2\n"),
+    ),
+    Step::Says(
+        &["lfs ls -l l.img /l"],
+        b"",
+        0,
+        Said::Reply(b"file       3    2  /l\n"),
+    ),
+    Step::Says(
+        &["lfs ls l.img -0", "lfs ls l.img --null /"],
+        b"",
+        0,
+        Said::Reply(b"d\0l\0x \xff\0"),
+    ),
+    Step::Says(
+        &["lfs ls l.img /x\\20\\ff -0"],
+        b"",
+        0,
+        Said::Reply(b"/x \xff\0"),
+    ),
+    Step::Says(
+        &["lfs tree l.img /d", "lfs tree l.img /d//"],
+        b"",
+        0,
+        Said::Reply(b"/d/\n  e/  0\n  f  3\n"),
+    ),
+    Step::Says(&["lfs tree l.img d/e"], b"", 0, Said::Reply(b"d/e/\n")),
+    Step::Says(&["lfs tree l.img /l"], b"", 0, Said::Reply(b"/l  3\n")),
+    Step::Says(
+        &["lfs tree l.img /n", "lfs ls l.img /n -l"],
+        b"",
+        1,
+        NOT_THERE,
+    ),
+    Step::Remove("l.img"),
+];
+
+#[test]
+fn listings_of_a_volume(rt: HostRuntime) {
+    want(&rt, LISTINGS);
+}
+
+const IS_THERE: Said = Said::Tells(
+    b"",
+    b"lfs: g.out: it is there already; nothing was written over\n",
+);
+
+const NO_FILE: Said = Said::Tells(b"", b"lfs: none: there is no such file or folder\n");
+
+// What stands in the volume of the files below.
+const HELLO: Said = Said::Reply(b"ok 1\n1 h file 2 1 6 68656c6c6f0a\n");
+
+// Faults of the host come behind those of the volume and of the path, and leave both as they are.
+const FILES: &[Step] = &[
+    Step::Says(&["lfs mkfs g.img --segments 64"], b"", 0, OK),
+    Step::Change("g.txt", 6, &[(0, 0, b"hello\n")]),
+    Step::Says(
+        &["lfs put g.img /h g.txt"],
+        b"no",
+        0,
+        Said::Reply(b"ok 6\n"),
+    ),
+    Step::Says(&["lfs mount g.img"], b"", 0, HELLO),
+    Step::Says(
+        &["lfs get g.img /h", "lfs cat g.img /h"],
+        b"",
+        0,
+        Said::Reply(b"hello\n"),
+    ),
+    Step::Says(&["lfs get g.img /h g.out"], b"", 0, Said::Reply(b"ok 6\n")),
+    Step::Same("g.out", "g.txt"),
+    Step::Says(&["lfs get g.img /h g.out"], b"", 1, IS_THERE),
+    Step::Says(&["lfs export g.img g.out"], b"", 1, IS_THERE),
+    Step::Same("g.out", "g.txt"),
+    Step::Says(&["lfs get g.img /n none"], b"", 1, NOT_THERE),
+    Step::Says(&["lfs get g.img / none"], b"", 1, A_DIRECTORY),
+    Step::Lacks("none"),
+    Step::Says(
+        &["lfs put g.img /n/h none", "lfs put g.img \\ none"],
+        b"",
+        1,
+        NOT_THERE,
+    ),
+    Step::Says(
+        &["lfs put g.img /h/ none", "lfs put g.img /h/h none"],
+        b"",
+        1,
+        A_FILE_ABOVE,
+    ),
+    Step::Says(&["lfs put g.img /.lfs-put none"], b"", 1, UNFINISHED),
+    Step::Says(&["lfs put g.img /h none"], b"", 1, NO_FILE),
+    Step::Says(
+        &["lfs put g.img /h ."],
+        b"",
+        1,
+        Said::Tells(b"", b"lfs: .: it is a folder\n"),
+    ),
+    Step::Says(
+        &["lfs get g.img /h none/h"],
+        b"",
+        1,
+        Said::Tells(b"", b"lfs: none/h: there is no such file or folder\n"),
+    ),
+    Step::Says(&["lfs mount g.img"], b"", 0, HELLO),
+    Step::Remove("g.img"),
+    Step::Remove("g.txt"),
+    Step::Remove("g.out"),
+];
+
+#[test]
+fn files_in_and_out(rt: HostRuntime) {
+    want(&rt, FILES);
+}
+
+// What the host can't have is left out with what is below it, and the rest is there.
+const EXPORTS: &[Step] = &[
+    Step::Says(&["lfs mkfs x.img --segments 64"], b"", 0, OK),
+    Step::Says(
+        &["lfs export x.img x.new"],
+        b"",
+        0,
+        Said::Reply(b"ok 0 files 0 bytes\n"),
+    ),
+    Step::Says(
+        &["lfs run x.img"],
+        b"mkdir /d\nmkdir /d/e\ncreate /d/e/f\npwrite 0 0 616263\nsymlink e/f /d/l\ncreate /a\\20b\nlink /a\\20b /d/b\nsync\n",
+        0,
+        Said::Reply(b"ok\nok\nok 0\nok 3\nok\nok 1\nok\nok\n"),
+    ),
+    Step::Says(
+        &["lfs export x.img x.out"],
+        b"",
+        0,
+        Said::Reply(b"ok 3 files 3 bytes\n"),
+    ),
+    Step::Change("x.txt", 3, &[(0, 0, b"abc")]),
+    Step::Same("x.out/d/e/f", "x.txt"),
+    Step::Same("x.out/d/l", "x.txt"),
+    Step::LeadsTo("x.out/d/l", "e/f"),
+    Step::Change("x.txt", 0, &[]),
+    Step::Same("x.out/a b", "x.txt"),
+    Step::Same("x.out/d/b", "x.txt"),
+    Step::Says(
+        &["lfs run x.img"],
+        b"mkdir /d/\\ff\ncreate /d/\\ff/g\nsymlink \\ff /k\nsync\n",
+        0,
+        Said::Reply(b"ok\nok 0\nok\nok\n"),
+    ),
+    Step::Says(
+        &["lfs export x.img x.part"],
+        b"",
+        1,
+        Said::Tells(
+            b"omitted /d/\\ff\nomitted /k\nok 3 files 3 bytes\n",
+            b"lfs: x.img: what the host can't have was left out, and is named on standard output\n",
+        ),
+    ),
+    Step::Same("x.part/d/b", "x.txt"),
+    Step::LeadsTo("x.part/d/l", "e/f"),
+    Step::Lacks("x.part/k"),
+    Step::Says(
+        &["lfs export x.img none/x"],
+        b"",
+        1,
+        Said::Tells(b"", b"lfs: none/x: there is no such file or folder\n"),
+    ),
+    Step::Remove("x.img"),
+    Step::Remove("x.txt"),
+    Step::RemoveFolder("x.new"),
+    Step::RemoveFolder("x.out"),
+    Step::RemoveFolder("x.part"),
+];
+
+#[test]
+fn trees_that_are_exported(rt: HostRuntime) {
+    want(&rt, EXPORTS);
+}
+
+// With a file of 196 blocks, a block of pointers and its inode, a new one may have 1,951 blocks: they
+// and 17 more inodes and blocks of pointers need what is left, 2,070. With seven empty files more,
+// which fill the root's block, 1,904 and 16 need 2,016 of 2,021. One of these is for the ninth entry.
+const LARGEST: &[Step] = &[
+    Step::Says(&["lfs mkfs n.img --segments 64"], b"", 0, OK),
+    Step::Reads("lfs put n.img /a", 100_000, 0, Said::Reply(b"ok 100000\n")),
+    Step::Says(
+        &["lfs df n.img"],
+        b"",
+        0,
+        Said::Reply(
+            b"size 2098176 bytes, segments 64\nused 100000 bytes, files 1\n\
+            free 998912 bytes, in one new file\n",
+        ),
+    ),
+    Step::Reads(
+        "lfs put n.img /b",
+        998_913,
+        1,
+        Said::OfPath(
+            b"err NoSpace\n",
+            b"no space: 998,912 bytes are free for one new file",
+        ),
+    ),
+    Step::Reads("lfs put n.img /b", 998_912, 0, Said::Reply(b"ok 998912\n")),
+    Step::Says(&["lfs rm n.img /b"], b"", 0, OK),
+    Step::Says(
+        &["lfs run n.img"],
+        b"create /1\ncreate /2\ncreate /3\ncreate /4\ncreate /5\ncreate /6\ncreate /7\nsync\n",
+        0,
+        Said::Reply(b"ok 0\nok 1\nok 2\nok 3\nok 4\nok 5\nok 6\nok\n"),
+    ),
+    Step::Says(
+        &["lfs df n.img"],
+        b"",
+        0,
+        Said::Reply(
+            b"size 2098176 bytes, segments 64\nused 100000 bytes, files 8\n\
+            free 974848 bytes, in one new file\n",
+        ),
+    ),
+    Step::Reads(
+        "lfs put n.img /b",
+        974_849,
+        1,
+        Said::OfPath(
+            b"err NoSpace\n",
+            b"no space: 974,848 bytes are free for one new file",
+        ),
+    ),
+    Step::Reads("lfs put n.img /b", 974_848, 0, Said::Reply(b"ok 974848\n")),
+    Step::Says(&["lfs mv n.img /b /a"], b"", 0, OK),
+    Step::Says(
+        &["lfs ls n.img"],
+        b"",
+        0,
+        Said::Reply(b"1\n2\n3\n4\n5\n6\n7\na\n"),
+    ),
+    Step::Remove("n.img"),
+];
+
+#[test]
+fn the_largest_new_file(rt: HostRuntime) {
+    want(&rt, LARGEST);
 }

@@ -26,7 +26,7 @@ fn look_once<Here: World, R: Files<File = File>, W: Write>(
         Err(fault) => return Ok((Looked::Refused(Refusal::Image(fault)), Beside::Nobody)),
     };
     match image::mount(alloc, device) {
-        Ok(fs) => match look_at(alloc, fs, look, path, output) {
+        Ok(fs) => match look_at(rt, alloc, fs, look, path, output) {
             Ok(looked) => Ok((looked, beside)),
             Err(fault) => Err(fault),
         },
@@ -40,6 +40,7 @@ fn beside_a_writer(looked: Looked) -> Looked {
     match looked {
         Looked::Refused(refusal) if refusal.is_doubtful() => Looked::Refused(unsteady),
         Looked::Broken(refusal) if refusal.is_doubtful() => Looked::Broken(unsteady),
+        Looked::Stopped(refusal) if refusal.is_doubtful() => Looked::Stopped(unsteady),
         looked => looked,
     }
 }

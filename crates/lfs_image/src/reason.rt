@@ -16,6 +16,9 @@ pub const FOREIGN: &str =
 /// Of a look that is done, beside another program that writes.
 pub const BESIDE: &str = "another program writes it, so what was printed may be of two moments";
 
+/// Of an export that leaves out what the host can't have.
+pub const PARTIAL: &str = "what the host can't have was left out, and is named on standard output";
+
 /// Of an image that isn't used.
 pub fn of_image(fault: ImageFault) -> &'static str {
     match fault {

@@ -3,7 +3,8 @@ use crate::fault::{Fault, Refusal};
 use crate::looking::Looked;
 use crate::printing::{print, put, put_count};
 use lfs_device::SectorDevice;
-use lfs_script::fs::{Fs, Space};
+use lfs_put::largest_new_file;
+use lfs_script::fs::{Fs, FsError, Space};
 use lfs_verify::Tables;
 use lfs_verify::verify::verify;
 use std::alloc::Global;
@@ -37,8 +38,17 @@ fn put_picture<W: Write>(tables: &Tables, output: &mut W) -> Result<(), Fault> {
     print(output, "\n")
 }
 
+/// What a mounted volume tells of its room.
+#[derive(Clone, Copy)]
+struct Room {
+    space: Space,
+    /// The bytes of the largest new file.
+    free: u64,
+}
+
 // Writes what there is to say in numbers.
-fn put_numbers<W: Write>(tables: &Tables, space: &Space, output: &mut W) -> Result<(), Fault> {
+fn put_numbers<W: Write>(tables: &Tables, room: &Room, output: &mut W) -> Result<(), Fault> {
+    let space = &room.space;
     let counts = [
         (b"checkpoint ".as_slice(), tables.number),
         (b"\nsegments ", u64::from(tables.segments)),
@@ -47,26 +57,41 @@ fn put_numbers<W: Write>(tables: &Tables, space: &Space, output: &mut W) -> Resu
         (b"\nmeta blocks ", space.meta_blocks),
         (b"\nneed ", space.need),
         (b"\nlimit ", space.limit),
+        (b"\nfree ", room.free),
     ];
     for (text, count) in counts {
         put_count(output, text, count)?;
     }
-    put(output, b"\nlive blocks of each segment:")
+    put(
+        output,
+        b" bytes, in one new file\nlive blocks of each segment:",
+    )
 }
 
 fn put_description<D: SectorDevice, W: Write>(
     alloc: Global,
     device: &mut D,
-    space: &Space,
+    room: &Room,
     output: &mut W,
 ) -> Result<Looked, Fault> {
     match verify(alloc, device) {
         Ok(tables) => {
-            put_numbers(&tables, space, output)?;
+            put_numbers(&tables, room, output)?;
             put_picture(&tables, output)?;
             Ok(Looked::Done)
         }
         Err(fault) => Ok(Looked::Refused(Refusal::from(fault))),
+    }
+}
+
+fn room_of<D: SectorDevice>(fs: &mut Fs<D>) -> Result<Room, FsError> {
+    let space = match fs.space() {
+        Ok(space) => space,
+        Err(fault) => return Err(fault),
+    };
+    match largest_new_file(fs) {
+        Ok(free) => Ok(Room { space, free }),
+        Err(fault) => Err(fault),
     }
 }
 
@@ -77,10 +102,10 @@ pub fn describe<D: SectorDevice + Drop, W: Write>(
     output: &mut W,
 ) -> Result<Looked, Fault> {
     let mut fs = fs;
-    match fs.space() {
-        Ok(space) => {
+    match room_of(&mut fs) {
+        Ok(room) => {
             let mut device = fs.into_device();
-            put_description(alloc, &mut device, &space, output)
+            put_description(alloc, &mut device, &room, output)
         }
         Err(refusal) => Ok(Looked::Refused(Refusal::Call(refusal))),
     }

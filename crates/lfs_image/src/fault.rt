@@ -1,9 +1,10 @@
 //! Why a command ends.
 ghost use Rattle.std.specs.Prelude.{◌≡◌, ◌≤◌, ◌⊎◌};
 
+use crate::host::HostFault;
 use crate::reason;
 use lfs_script::fs::{FormatFault, FsError, MountFault};
-use std::alloc::AllocError;
+use std::alloc::{AllocError, Global};
 use std::fmt::{Display, Formatter};
 use std::io::ErrorKind;
 use std::{fmt, io};
@@ -64,6 +65,8 @@ pub enum Refusal {
     /// It is shorter than its volume, of so many segments.
     Cut(u32),
     Call(FsError),
+    /// There is no space for a change. A new file may have so many bytes.
+    Full(u64),
     /// A file is to have the name under which files stand until they are whole.
     Unfinished,
 }
@@ -79,6 +82,7 @@ impl Refusal {
             Refusal::Mount(fault) | Refusal::Foreign(fault) => fault.name(),
             Refusal::Cut(_) => MountFault::TooSmall.name(),
             Refusal::Call(fault) => fault.name(),
+            Refusal::Full(_) => FsError::NoSpace.name(),
         }
     }
 
@@ -96,7 +100,7 @@ impl Refusal {
     /// Whether it is about the path that a command has.
     pub fn is_of_path(self) -> bool {
         match self {
-            Refusal::Unfinished => true,
+            Refusal::Unfinished | Refusal::Full(_) => true,
             Refusal::Call(fault) => !matches!(
                 fault,
                 FsError::NoMemory
@@ -109,7 +113,7 @@ impl Refusal {
         }
     }
 
-    // What people are told of it, but of an image that is cut.
+    // What people are told of it, but for its numbers.
     fn reason(self) -> &'static str {
         match self {
             Refusal::Inval => reason::of_format(FormatFault::Inval),
@@ -120,6 +124,7 @@ impl Refusal {
             Refusal::Foreign(_) => reason::FOREIGN,
             Refusal::Cut(_) => reason::of_mount(MountFault::TooSmall),
             Refusal::Call(fault) => reason::of_call(fault),
+            Refusal::Full(_) => reason::of_call(FsError::NoSpace),
             Refusal::Unfinished => reason::UNFINISHED,
         }
     }
@@ -156,6 +161,8 @@ pub enum Ending {
     Done,
     /// A look is done, beside another program that writes.
     DoneBeside,
+    /// The work is done but for what the host can't have, which was told.
+    Partial,
     Refused(Refusal),
     /// The script's line of this number, counted from 1, is bad.
     BadLine(u64),
@@ -168,7 +175,7 @@ impl Ending {
     {
         match self {
             Ending::Done | Ending::DoneBeside => 0,
-            Ending::Refused(_) => 1,
+            Ending::Partial | Ending::Refused(_) => 1,
             Ending::BadLine(_) => 2,
         }
     }
@@ -229,13 +236,40 @@ impl Told<'_> {
     }
 }
 
+/// A number whose digits people read in groups of three, at most three groups of them.
+#[derive(Clone, Copy)]
+struct Grouped(u64);
+
+impl Display for Grouped {
+    fn fmt<W: fmt::Write>(&self, f: &mut Formatter<W>) -> fmt::Result {
+        let (millions, thousands) = (self.0 / 1_000_000, self.0 / 1_000);
+        if millions > 0 {
+            write!(
+                f,
+                "{millions},{:03},{:03}",
+                thousands % 1_000,
+                self.0 % 1_000
+            )
+        } else if thousands > 0 {
+            write!(f, "{thousands},{:03}", self.0 % 1_000)
+        } else {
+            write!(f, "{}", self.0)
+        }
+    }
+}
+
 impl Display for Ending {
     fn fmt<W: fmt::Write>(&self, f: &mut Formatter<W>) -> fmt::Result {
         match self {
             Ending::Done => f.write_str("done"),
             Ending::DoneBeside => f.write_str(reason::BESIDE),
+            Ending::Partial => f.write_str(reason::PARTIAL),
             Ending::Refused(Refusal::Cut(segments)) => {
                 write!(f, "it is cut: its checkpoint names {segments} segments")
+            }
+            Ending::Refused(Refusal::Full(free)) => {
+                let free = Grouped(*free);
+                write!(f, "no space: {free} bytes are free for one new file")
             }
             Ending::Refused(refusal) => f.write_str(refusal.reason()),
             Ending::BadLine(line) => write!(f, "line {line} of the script is bad"),
@@ -276,6 +310,9 @@ pub enum Fault {
     /// A block device is mounted on a folder.
     #[error("lfs: {image}: it is mounted on {folder}; unmount it first")]
     Mounted { image: String, folder: String },
+    /// A file or a folder of the host isn't read or made.
+    #[error("lfs: {name}: {fault}")]
+    Host { name: String, fault: HostFault },
     #[error("lfs: standard input can't be read")]
     Input,
     #[error("lfs: standard output can't be written")]
@@ -291,7 +328,16 @@ impl Fault {
     {
         match self {
             Fault::Line(_) | Fault::Segments | Fault::Stop | Fault::Path => 2,
-            Fault::Mounted { .. } | Fault::Input | Fault::Output | Fault::Memory(_) => 1,
+            Fault::Mounted { .. } | Fault::Host { .. } => 1,
+            Fault::Input | Fault::Output | Fault::Memory(_) => 1,
+        }
+    }
+
+    /// Of a file or a folder of the host with this name.
+    pub fn of_host(alloc: Global, name: &str, fault: HostFault) -> Fault {
+        match name.to_string(alloc) {
+            Ok(name) => Fault::Host { name, fault },
+            Err(error) => Fault::Memory(error),
         }
     }
 }

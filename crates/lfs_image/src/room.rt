@@ -80,6 +80,17 @@ fn put_room<W: Write>(room: Room, output: &mut W) -> Result<(), Fault> {
     print(output, " bytes, in one new file\n")
 }
 
+/// The refusal of a change, with the bytes that are free where it is for a lack of space.
+pub fn refusal_of<D: SectorDevice>(fs: &mut Fs<D>, fault: FsError) -> Refusal {
+    if fault != FsError::NoSpace {
+        return Refusal::Call(fault);
+    }
+    match largest_new_file(fs) {
+        Ok(free) => Refusal::Full(free),
+        Err(_) => Refusal::Call(fault),
+    }
+}
+
 /// Prints how much of a volume is used and free.
 pub fn put_free<D: SectorDevice, W: Write>(
     fs: &mut Fs<D>,

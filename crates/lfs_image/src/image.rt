@@ -7,7 +7,6 @@ use lfs_device::{FileDeviceIn, World};
 use lfs_layout::is_segment_count;
 use lfs_script::fs::{Fs, format};
 use std::alloc::Global;
-use std::fs;
 use std::fs::{File, Metadata, OpenOptions, TryLockError};
 use std::io::ErrorKind;
 use std::os::fd::{AsRawFd, RawFd};
@@ -15,6 +14,7 @@ use std::os::unix::fs::{FileExt, FileTypeExt};
 use std::rt::Files;
 use std::thread::sleep;
 use std::time::{Clock, Duration};
+use std::{fs, io};
 
 const SECTOR_LEN: usize = 512;
 
@@ -82,25 +82,28 @@ fn look_up<R: Files<File = File>>(rt: &R, image: &str) -> Result<Medium, ImageFa
     }
 }
 
-// Opens a file, at no descriptor of a standard stream. Where such a stream is closed, the system
-// gives its descriptor to the next file: that file is held until another one is open, and closed then.
-fn open_apart<R: Files<File = File>>(
+/// Whether a file has no descriptor of a standard stream.
+pub fn is_apart(file: &File) -> bool {
+    file.as_raw_fd() > LAST_STREAM
+}
+
+/// Opens a file, at no descriptor of a standard stream. Where such a stream is closed, the system
+/// gives its descriptor to the next file: that file is held until another one is open, and closed
+/// then.
+pub fn open_apart<R: Files<File = File>>(
     rt: &R,
     how: &OpenOptions,
-    image: &str,
-) -> Result<File, ImageFault> {
+    path: &str,
+) -> io::Result<File> {
     let mut held = [const { None }; STANDARD_STREAMS];
     for place in &mut held {
-        match how.open(rt, image) {
-            Ok(file) if file.as_raw_fd() > LAST_STREAM => return Ok(file),
+        match how.open(rt, path) {
+            Ok(file) if is_apart(&file) => return Ok(file),
             Ok(file) => *place = Some(file),
-            Err(error) => return Err(ImageFault::from(error)),
+            Err(error) => return Err(error),
         }
     }
-    match how.open(rt, image) {
-        Ok(file) => Ok(file),
-        Err(error) => Err(ImageFault::from(error)),
-    }
+    how.open(rt, path)
 }
 
 /// Who has an image beside a program that looks at it.
@@ -147,7 +150,10 @@ pub fn open_to_look<Here: World, R: Files<File = File>>(
     look_up(rt, image)?;
     let mut how = File::options();
     how.read(true);
-    let file = open_apart(rt, &how, image)?;
+    let file = match open_apart(rt, &how, image) {
+        Ok(file) => file,
+        Err(error) => return Err(ImageFault::from(error)),
+    };
     let beside = lock_to_look(&file);
     Ok((device_of(file)?, beside))
 }
@@ -161,7 +167,10 @@ fn to_write() -> OpenOptions {
 
 // Opens a file for writing, and locks it.
 fn open_locked<R: Files<File = File> + Clock>(rt: &R, image: &str) -> Result<File, ImageFault> {
-    let file = open_apart(rt, &to_write(), image)?;
+    let file = match open_apart(rt, &to_write(), image) {
+        Ok(file) => file,
+        Err(error) => return Err(ImageFault::from(error)),
+    };
     match lock(rt, &file) {
         Ok(()) => Ok(file),
         Err(fault) => Err(fault),
@@ -263,7 +272,10 @@ fn open_to_make<R: Files<File = File> + Clock>(
     image: &str,
     making: Making,
 ) -> Result<File, ImageFault> {
-    let file = open_apart(rt, to_write().create(true), image)?;
+    let file = match open_apart(rt, to_write().create(true), image) {
+        Ok(file) => file,
+        Err(error) => return Err(ImageFault::from(error)),
+    };
     lock(rt, &file)?;
     empty(&file, making)?;
     if making.reserve {

@@ -1,0 +1,119 @@
+//! The command that puts a file into a volume, from standard input or from a file of the host.
+use lfs_device::{SectorDevice, World};
+use lfs_image::fault::{Ending, Fault, Refusal};
+use lfs_image::host::HostFault;
+use lfs_image::looking::read_path;
+use lfs_image::printing::{print, put_count, refuse};
+use lfs_image::room::refusal_of;
+use lfs_image::{host, image};
+use lfs_put::{PutFault, check_place, put};
+use lfs_script::fs::Fs;
+use std::alloc::Global;
+use std::fs::File;
+use std::io::{Read, Write};
+use std::rt::Files;
+use std::time::Clock;
+
+/// Where a put takes the bytes from, and the path that gets them, as a word still.
+#[derive(Clone, Copy)]
+pub struct Source<'a> {
+    pub path: &'a str,
+    /// A file of the host. Without one it is standard input.
+    pub file: Option<&'a str>,
+}
+
+// Ends a put: prints the number of bytes, or the line of a refusal.
+fn end_put<D: SectorDevice, W: Write>(
+    fs: &mut Fs<D>,
+    done: Result<u64, PutFault>,
+    output: &mut W,
+) -> Result<Ending, Fault> {
+    match done {
+        Ok(count) => {
+            put_count(output, b"ok ", count)?;
+            print(output, "\n")?;
+            Ok(Ending::Done)
+        }
+        Err(PutFault::Call(fault)) => refuse(output, refusal_of(fs, fault)),
+        Err(PutFault::Unfinished) => refuse(output, Refusal::Unfinished),
+        Err(PutFault::Input) => Err(Fault::Input),
+        Err(PutFault::Memory(fault)) => Err(Fault::Memory(fault)),
+    }
+}
+
+// Puts all bytes of an open file of the host.
+fn put_open<D: SectorDevice, W: Write>(
+    alloc: Global,
+    fs: &mut Fs<D>,
+    path: &[u8],
+    name: &str,
+    mut file: File,
+    output: &mut W,
+) -> Result<Ending, Fault> {
+    match put(alloc, fs, path, &mut file) {
+        Err(PutFault::Input) => Err(Fault::of_host(alloc, name, HostFault::Unread)),
+        done => end_put(fs, done, output),
+    }
+}
+
+// Puts a file of the host, which is looked for behind the path and before the volume is changed.
+fn put_file<D: SectorDevice, R: Files<File = File>, W: Write>(
+    rt: &R,
+    alloc: Global,
+    fs: &mut Fs<D>,
+    path: &[u8],
+    name: &str,
+    output: &mut W,
+) -> Result<Ending, Fault> {
+    match check_place(alloc, fs, path) {
+        Ok(()) => {}
+        Err(fault) => return end_put(fs, Err(fault), output),
+    }
+    match host::open_file(rt, name) {
+        Ok(file) => put_open(alloc, fs, path, name, file, output),
+        Err(fault) => Err(Fault::of_host(alloc, name, fault)),
+    }
+}
+
+// Puts a file of the host, or standard input.
+fn put_from<D: SectorDevice, R: Files<File = File>, I: Read, W: Write>(
+    rt: &R,
+    alloc: Global,
+    fs: &mut Fs<D>,
+    path: &[u8],
+    file: Option<&str>,
+    input: &mut I,
+    output: &mut W,
+) -> Result<Ending, Fault> {
+    match file {
+        Some(name) => put_file(rt, alloc, fs, path, name, output),
+        None => {
+            let done = put(alloc, fs, path, input);
+            end_put(fs, done, output)
+        }
+    }
+}
+
+/// Makes a file of the volume of an image. The spelling of the path comes before the image.
+pub fn put_into<Here: World, R: Files<File = File> + Clock, I: Read, W: Write>(
+    rt: &R,
+    alloc: Global,
+    image: &str,
+    source: Source<'_>,
+    input: &mut I,
+    output: &mut W,
+) -> Result<Ending, Fault> {
+    let path = read_path(alloc, source.path)?;
+    match image::mount_to_write::<Here, R>(rt, alloc, image) {
+        Ok(mut fs) => put_from(
+            rt,
+            alloc,
+            &mut fs,
+            path.as_slice(),
+            source.file,
+            input,
+            output,
+        ),
+        Err(refusal) => refuse(output, refusal),
+    }
+}

@@ -1,0 +1,104 @@
+//! Files of a volume, copied to the host.
+use crate::fault::{Fault, Refusal};
+use crate::host;
+use crate::host::HostFault;
+use crate::looking::Looked;
+use crate::printing::{print, put_count};
+use lfs_device::SectorDevice;
+use lfs_put::{GetFault, get};
+use lfs_script::fs::{Fs, FsError};
+use std::alloc::Global;
+use std::fs;
+use std::fs::File;
+use std::io::Write;
+use std::rt::Files;
+
+/// Why something of a volume isn't copied to the host.
+#[derive(Clone, Copy)]
+pub enum CopyFault {
+    /// The volume refuses a call.
+    Call(FsError),
+    Host(HostFault),
+}
+
+impl From<GetFault> for CopyFault {
+    fn from(fault: GetFault) -> CopyFault {
+        match fault {
+            GetFault::Call(refusal) => CopyFault::Call(refusal),
+            GetFault::CutShort(refusal) => CopyFault::Call(refusal),
+            GetFault::Output => CopyFault::Host(HostFault::Unwritten),
+        }
+    }
+}
+
+// Copies the file of a path into an open file of the host.
+fn fill<D: SectorDevice>(fs: &mut Fs<D>, path: &[u8], mut file: File) -> Result<u64, CopyFault> {
+    match get(fs, path, &mut file) {
+        Ok(count) => Ok(count),
+        Err(fault) => Err(CopyFault::from(fault)),
+    }
+}
+
+/// Makes a new file of the host of all bytes of the file of a path: their number. Where that fails
+/// nothing is left of it.
+pub fn copy_file<D: SectorDevice, R: Files<File = File>>(
+    rt: &R,
+    fs: &mut Fs<D>,
+    path: &[u8],
+    name: &str,
+) -> Result<u64, CopyFault> {
+    let file = match host::make_file(rt, name) {
+        Ok(file) => file,
+        Err(fault) => return Err(CopyFault::Host(fault)),
+    };
+    match fill(fs, path, file) {
+        Ok(count) => Ok(count),
+        Err(fault) => {
+            let _ = fs::remove_file(rt, name);
+            Err(fault)
+        }
+    }
+}
+
+// Looks whether a file can be opened, before one of the host is made for it.
+fn try_open<D: SectorDevice>(fs: &mut Fs<D>, path: &[u8]) -> Result<(), FsError> {
+    match fs.open(path) {
+        Ok(handle) => fs.close(handle),
+        Err(fault) => Err(fault),
+    }
+}
+
+// Ends a copy: prints the number of bytes, or tells what it failed for.
+fn end_copy<W: Write>(
+    alloc: Global,
+    copied: Result<u64, CopyFault>,
+    name: &str,
+    output: &mut W,
+) -> Result<Looked, Fault> {
+    match copied {
+        Ok(count) => {
+            put_count(output, b"ok ", count)?;
+            print(output, "\n")?;
+            Ok(Looked::Done)
+        }
+        Err(CopyFault::Call(refusal)) => Ok(Looked::Refused(Refusal::Call(refusal))),
+        Err(CopyFault::Host(fault)) => Err(Fault::of_host(alloc, name, fault)),
+    }
+}
+
+/// Makes a new file of the host of all bytes of the file of a path, and prints their number. What
+/// the volume refuses comes first.
+pub fn get_file<D: SectorDevice, R: Files<File = File>, W: Write>(
+    rt: &R,
+    alloc: Global,
+    fs: &mut Fs<D>,
+    path: &[u8],
+    name: &str,
+    output: &mut W,
+) -> Result<Looked, Fault> {
+    let copied = match try_open(fs, path) {
+        Ok(()) => copy_file(rt, fs, path, name),
+        Err(refusal) => Err(CopyFault::Call(refusal)),
+    };
+    end_copy(alloc, copied, name, output)
+}

@@ -1,0 +1,19 @@
+//! Images of volumes in files and block devices, looks at them, and why a command ends.
+#![tactic(auto)]
+
+mod copying;
+mod describing;
+mod exporting;
+pub mod fault;
+pub mod foreign;
+pub mod host;
+pub mod image;
+pub mod listing;
+pub mod looking;
+pub mod making;
+mod mounts;
+pub mod printing;
+mod reason;
+pub mod room;
+pub mod viewing;
+mod walking;

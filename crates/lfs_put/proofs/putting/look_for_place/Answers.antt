@@ -1,0 +1,11 @@
+use Rattle.lfs_put.proofs.PutLooks.{looks_once, looks_twice}
+use Rattle.lfs_put.proofs.putting.look_for_place.Goals as goal
+
+pub returns-in-Err : goal.returns-in-Err
+returns-in-Err g c = looks_once g.D.SectorDevice.state _ _ c.args.path.now c.refuse_directory.ensures
+
+pub returns-then-is_empty : goal.returns-then-is_empty
+returns-then-is_empty g c = looks_once g.D.SectorDevice.state _ _ c.args.path.now c.refuse_directory.ensures
+
+pub returns : goal.returns
+returns g c = looks_twice g.D.SectorDevice.state _ _ _ c.args.path.now _ c.refuse_directory.ensures c.want_directory.ensures
