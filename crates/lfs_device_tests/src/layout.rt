@@ -119,16 +119,16 @@ fn spells_usage(sector: &[u8; 512], first: SegmentUsage) -> bool {
 }
 
 fn spells_slot(sector: &[u8; 512], number: u32, name: &[u8]) -> bool {
-    let Some(slot) = SlotView::decode(nth_slot(sector, 0)) else {
+    let Some(slot) = SlotView::decode(0, nth_slot(sector, 0, 0)) else {
         return false;
     };
-    if slot.number() != number || slot.name() != name || !is_name(name) {
+    if slot.number() != number || slot.name() != name || !is_name(0, name) {
         return false;
     }
-    if SlotView::decode(nth_slot(sector, 1)).is_some() {
+    if SlotView::decode(0, nth_slot(sector, 0, 1)).is_some() {
         return false;
     }
-    encode_slot(number, name) == *nth_slot(sector, 0)
+    encode_slot(0, number, name).written() == nth_slot(sector, 0, 0)
 }
 
 /// The checkpoint of a new volume of 64 segments.

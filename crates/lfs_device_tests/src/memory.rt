@@ -128,11 +128,13 @@ fn blocks_that_are_read(rt: HostRuntime) {
 fn headers_that_are_read(rt: HostRuntime) {
     let file = Header {
         kind: Kind::File,
+        form: 0,
         links: 1,
         size: 123_000,
     };
     let directory = Header {
         kind: Kind::Directory,
+        form: 0,
         links: 3,
         size: 64,
     };

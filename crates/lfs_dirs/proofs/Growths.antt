@@ -2,13 +2,15 @@
 use Rattle.std.proofs.Common.{◌≡◌, ℕ, List, length, arith}
 use Rattle.lfs_files.specs.declared.header.Header.{Header}
 use Rattle.lfs_files.specs.Files.{FilesState, Reads, Writes}
+use Rattle.lfs_model.specs.Tree.{slot_len}
 use Rattle.lfs_dirs.specs.Growing.{GrowsDirectory}
+use Rattle.lfs_dirs.proofs.Widths.{slot_some}
 
 module _ {S D : Type 0} where
-  pub slot_grows : (s s' : FilesState S D) (d : ℕ) (head : Header) (at : ℕ) (slot : List ℕ) → length slot ≡ 64 → Writes s s' d head at slot → GrowsDirectory s s' 1 2
+  pub slot_grows : (s s' : FilesState S D) (d : ℕ) (head : Header) (at : ℕ) (slot : List ℕ) → length slot ≡ slot_len head.form → Writes s s' d head at slot → GrowsDirectory s s' 1 2
   slot_grows s s' d head at slot long writes = record {
     headers = writes.headers;
-    blocks = let more = writes.blocks in omega (arith, more, long);
+    blocks = let more = writes.blocks in let most = (slot_some head.form).1 in omega (arith, more, long, most);
   }
 
   -- a draft that is only read before

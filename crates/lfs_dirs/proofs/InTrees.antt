@@ -20,8 +20,9 @@ directory_node m d head is = node_of_header m d is.number.0 is.number.1 ∙ ap (
 module _ (m m' : LogMap) (d : ℕ) (head head' : Header) (is : ChangesDirectory m m' d head head') (change : Names → Names) where
   changed_tree : names_at m' d head' ≡ change (names_at m d head) → tree_in m' ≡ with_node (tree_in m) d (Dir (form_of (node (tree_in m) d)) (change (names_of (unwrap_or (node (tree_in m) d) (File [])))))
   changed_tree names =
-      tree_with m m' d (Dir 0 (names_at m' d head')) is.only (directory_node m' d head' is.after)
-      ∙ ap (λ (ns : Names). with_node (tree_in m) d (Dir 0 ns)) names
+      tree_with m m' d (Dir head'.form (names_at m' d head')) is.only (directory_node m' d head' is.after)
+      ∙ ap (λ (f : ℕ). with_node (tree_in m) d (Dir f (names_at m' d head'))) is.form
+      ∙ ap (λ (ns : Names). with_node (tree_in m) d (Dir head.form ns)) names
       ∙ sym (ap (λ (o : Option Node). with_node (tree_in m) d (Dir (form_of o) (change (names_of (unwrap_or o (File [])))))) (directory_node m d head is.before))
 
 pub name_in_tree : NameInTree
@@ -32,4 +33,4 @@ name_off_tree m m' d head head' name is names = changed_tree m m' d head head' i
 
 pub directory_made : DirectoryMade
 directory_made m m' d head only is empty =
-    tree_with m m' d (Dir 0 (names_at m' d head)) only (directory_node m' d head is) ∙ ap (λ (ns : Names). with_node (tree_in m) d (Dir 0 ns)) (empty_directory m' d head empty).1
+    tree_with m m' d (Dir head.form (names_at m' d head)) only (directory_node m' d head is) ∙ ap (λ (ns : Names). with_node (tree_in m) d (Dir head.form ns)) (empty_directory m' d head empty).1

@@ -13,3 +13,4 @@ pub mod Takings
 pub mod PlacesOfNames
 pub mod Lists
 pub mod InTrees
+pub mod Widths

@@ -1,17 +1,18 @@
 -- The names of a directory, listed from its last block on.
 use Rattle.std.specs.Prelude.{min, Err, IsErrOf}
-use Rattle.std.proofs.Common.{◌≡◌, ◌≢◌, ◌<◌, ◌≤◌, ◌+◌, ◌*◌, ◌-◌, ◌/◌, ℕ, None, List, [], ◌∷◌, ◌++◌, take, drop, sym, ◌∙◌, ap, subst, arith}
+use Rattle.std.proofs.Common.{◌≡◌, ◌≢◌, ◌<◌, ◌≤◌, ◌+◌, ◌*◌, ◌-◌, ◌/◌, ℕ, None, List, [], ◌∷◌, ◌++◌, take, drop, refl, sym, ◌∙◌, ap, subst, arith}
 use Rattle.std.proofs.lemmas.List.{drop_all}
 use Rattle.lfs_model.specs.Device.{IsLawful}
 use Rattle.lfs_model.specs.Fields.{part}
 use Rattle.lfs_model.specs.Slot.{slot_in}
 use Rattle.lfs_model.specs.Stands.{LogMap}
+use Rattle.lfs_model.specs.Tree.{slot_len}
 use Rattle.lfs_model.specs.TreeOf.{with_slot}
 use Rattle.lfs_files.specs.declared.header.Header.{Header}
 use Rattle.lfs_files.specs.Files.{FilesState, Reads, TellsBlock}
 use Rattle.lfs_files.proofs.FilesCompose.{reads_more, reads_none}
 use Rattle.lfs_dirs.specs.declared.entry.Entry.{Entry}
-use Rattle.lfs_dirs.specs.Directory.{first_slots, slots_at, slots_in}
+use Rattle.lfs_dirs.specs.Directory.{first_slots, per_block, slot_count, slots_at, slots_in}
 use Rattle.lfs_dirs.specs.Finding.{HasNoSlot, IsDirectoryFault, IsBlockFault}
 use Rattle.lfs_dirs.specs.Listing.{Inspects, IsListOf, LacksBlockSlot, LacksSlot, Lists, ListsBlock, PutsSlots, pairs}
 use Rattle.lfs_dirs.proofs.Scans.{next_slot, no_slots}
@@ -24,30 +25,38 @@ pub other_result : {T U E : Type 0} (e x : E) → IsErrOf {T = T} (Err e) x → 
 other_result e x is = let same : e ≡ x = cc in ap Err same
 
 -- ---- slots of a block
-pub puts_none : (block : List ℕ) (count : ℕ) (es : List Entry) → PutsSlots (slots_in block count (count - count)) es es
-puts_none block count es behind is = subst (λ (a : List (List ℕ)). IsListOf (a ++ behind) es) (sym (no_slots block count count (omega arith))) is
+pub puts_none : (form : ℕ) (block : List ℕ) (count : ℕ) (es : List Entry) → PutsSlots form (slots_in form block count (count - count)) es es
+puts_none form block count es behind is = subst (λ (a : List (List ℕ)). IsListOf form (a ++ behind) es) (sym (no_slots form block count count (omega arith))) is
 
 -- a slot before those that are there
-pub puts_more : (block : List ℕ) (count place next : ℕ) (slot : List ℕ) (old mid new : List Entry) → 0 < place → place ≤ count → next ≡ place - 1 → slot ≡ part (64 * next) 64 block
-    → PutsSlots (slots_in block place (count - place)) old mid → pairs new ≡ with_slot (slot_in 0 slot) (pairs mid) → slot_in 0 slot ≢ None → PutsSlots (slots_in block next (count - next)) old new
-puts_more block count place next slot old mid new some le before own was more formed behind is =
+pub puts_more : (form : ℕ) (block : List ℕ) (count place next : ℕ) (slot : List ℕ) (old mid new : List Entry) → 0 < place → place ≤ count → next ≡ place - 1 → slot ≡ part (slot_len form * next) (slot_len form) block
+    → PutsSlots form (slots_in form block place (count - place)) old mid → pairs new ≡ with_slot (slot_in form slot) (pairs mid) → slot_in form slot ≢ None → PutsSlots form (slots_in form block next (count - next)) old new
+puts_more form block count place next slot old mid new some le before own was more formed behind is =
     let here : next + 1 ≡ place = omega (arith, some, before) in
-    let split : slots_in block next (count - next) ≡ slot ∷ slots_in block place (count - place) =
-    next_slot block next count (omega (arith, le, some, before))
-    ∙ ap (λ (k : ℕ). part (64 * next) 64 block ∷ slots_in block k (count - k)) here
-    ∙ ap (λ (s : List ℕ). s ∷ slots_in block place (count - place)) (sym own)
+    let split : slots_in form block next (count - next) ≡ slot ∷ slots_in form block place (count - place) =
+    next_slot form block next count (omega (arith, le, some, before))
+    ∙ ap (λ (k : ℕ). part (slot_len form * next) (slot_len form) block ∷ slots_in form block k (count - k)) here
+    ∙ ap (λ (s : List ℕ). s ∷ slots_in form block place (count - place)) (sym own)
     in
     let tail = was behind is in
-    let all : IsListOf (slot ∷ (slots_in block place (count - place) ++ behind)) new = record { names = more ∙ ap (with_slot (slot_in 0 slot)) tail.names; formed = (formed, tail.formed) } in
-    subst (λ (a : List (List ℕ)). IsListOf (a ++ behind) new) (sym split) all
+    let all : IsListOf form (slot ∷ (slots_in form block place (count - place) ++ behind)) new = record { names = more ∙ ap (with_slot (slot_in form slot)) tail.names; formed = (formed, tail.formed) } in
+    subst (λ (a : List (List ℕ)). IsListOf form (a ++ behind) new) (sym split) all
 
-module _ {S D : Type 0} (s s' : FilesState S D) (d index count : ℕ) (few : count ≤ 8) (block : List ℕ) (told : TellsBlock s s' d index block) where
-  pub block_listed : (old new : List Entry) → PutsSlots (first_slots block count) old new → ListsBlock s s' d index count old new
-  block_listed old new puts m m' keeps has head room =
-      subst (λ (a : List (List ℕ)). PutsSlots a old new) (sym (slots_of_block m' d head index count block (told m m' keeps has) few room)) puts
+module _ {S D : Type 0} (s s' : FilesState S D) (form d index count : ℕ) (few : count ≤ per_block form) (block : List ℕ) (told : TellsBlock s s' d index block) where
+  pub block_listed : (old new : List Entry) → PutsSlots form (first_slots form block count) old new → ListsBlock s s' form d index count old new
+  block_listed old new puts m m' keeps has head same room =
+      by (subst (λ (f : ℕ). count ≤ per_block f) (sym same) few)
+      (subst (λ (f : ℕ). per_block f * index + count ≤ slot_count head) (sym same) room) (subst (λ (f : ℕ). PutsSlots f (first_slots f block count) old new) (sym same) puts)
+    where
+      by : count ≤ per_block head.form → per_block head.form * index + count ≤ slot_count head → PutsSlots head.form (first_slots head.form block count) old new
+          → PutsSlots form (take count (drop (per_block form * index) (slots_at m' d head))) old new
+      by few room puts = subst (λ (f : ℕ). PutsSlots f (take count (drop (per_block f * index) (slots_at m' d head))) old new) same
+          (subst (λ (a : List (List ℕ)). PutsSlots head.form a old new) (sym (slots_of_block m' d head index count block (told m m' keeps has) few room)) puts)
 
-  pub block_malformed : HasNoSlot block count → LacksBlockSlot s s' d index count
-  block_malformed bad m m' keeps has head room formed = each_is_slot m' d head index count block (told m m' keeps has) few room formed bad
+  pub block_malformed : HasNoSlot form block count → LacksBlockSlot s s' form d index count
+  block_malformed bad m m' keeps has head same room formed = each_is_slot m' d head index count block (told m m' keeps has)
+      (subst (λ (f : ℕ). count ≤ per_block f) (sym same) few) (subst (λ (f : ℕ). per_block f * index + count ≤ slot_count head) (sym same) room) formed
+      (subst (λ (f : ℕ). HasNoSlot f block count) (sym same) bad)
 
 -- the names alone
 pub only_names : {S D : Type 0} (s s' : FilesState S D) (d : ℕ) (head : Header) (es : List Entry) → Inspects s s' d head es → Lists s s' d head es
@@ -57,36 +66,36 @@ only_names s s' d head es all m m' keeps has = (all m m' keeps has).names
 module _ {S D : Type 0} (d : ℕ) (head : Header) where
   pub record ListedFrom (s s' : FilesState S D) (index : ℕ) (es : List Entry) : Type 0 where
     pub reads : Reads s s'
-    pub names : (m m' : LogMap) → s'.device.keeps_model → s.has m m' → IsListOf (drop (8 * index) (slots_at m' d head)) es
+    pub names : (m m' : LogMap) → s'.device.keeps_model → s.has m m' → IsListOf head.form (drop (per_block head.form * index) (slots_at m' d head)) es
 
-  pub list_begins : (s : FilesState S D) (index : ℕ) (es : List Entry) → es ≡ [] → head.size / 64 ≤ 8 * index → ListedFrom s s index es
+  pub list_begins : (s : FilesState S D) (index : ℕ) (es : List Entry) → es ≡ [] → slot_count head ≤ per_block head.form * index → ListedFrom s s index es
   list_begins s index es none past = record {
     reads = reads_none s;
     names = λ m m' keeps has. let many = slots_many m' d head in
-        subst (λ (a : List (List ℕ)). IsListOf a es) (sym (drop_all (8 * index) (slots_at m' d head) (omega (arith, many, past)))) (record { names = ap pairs none; formed = tt });
+        subst (λ (a : List (List ℕ)). IsListOf head.form a es) (sym (drop_all (per_block head.form * index) (slots_at m' d head) (omega (arith, many, past)))) (record { names = ap pairs none; formed = tt });
   }
 
   pub list_ends : (s a : FilesState S D) (index : ℕ) (es : List Entry) → index ≡ 0 → ListedFrom s a index es → Inspects s a d head es
-  list_ends s a index es all was m m' keeps has = subst (λ (i : ℕ). IsListOf (drop (8 * i) (slots_at m' d head)) es) all (was.names m m' keeps has)
+  list_ends s a index es all was m m' keeps has = let first : per_block head.form * index ≡ 0 = ap (λ (i : ℕ). per_block head.form * i) all ∙ omega arith in subst (λ (n : ℕ). IsListOf head.form (drop n (slots_at m' d head)) es) first (was.names m m' keeps has)
 
-  module _ (s a b : FilesState S D) (index next count : ℕ) (old : List Entry) (is : count ≡ min (head.size / 64 - 8 * next) 8) (low : 8 * next < head.size / 64) (was : ListedFrom s a index old) where
-    pub list_goes_on : (new : List Entry) → IsLawful s.device → 0 < index → next ≡ index - 1 → Reads a b → ListsBlock a b d next count old new → ListedFrom s b next new
+  module _ (s a b : FilesState S D) (index next count : ℕ) (old : List Entry) (is : count ≡ min (slot_count head - per_block head.form * next) (per_block head.form)) (low : per_block head.form * next < slot_count head) (was : ListedFrom s a index old) where
+    pub list_goes_on : (new : List Entry) → IsLawful s.device → 0 < index → next ≡ index - 1 → Reads a b → ListsBlock a b head.form d next count old new → ListedFrom s b next new
     list_goes_on new lawful some before reads lists = record {
       reads = reads_more s a b lawful was.reads reads;
       names = λ m m' keeps has.
           let slots = slots_at m' d head in
           let here : index ≡ next + 1 = omega (arith, some, before) in
-          let more = lists m m' keeps (was.reads.has m m' has) head (omega (arith, is, low)) (drop (8 * index) slots) (was.names m m' (reads.looks.carries.kept_before keeps) has) in
-          subst (λ (a : List (List ℕ)). IsListOf a new)
-          (ap (λ (j : ℕ). take count (drop (8 * next) slots) ++ drop (8 * j) slots) here
-          ∙ sym (block_and_rest slots next count (head.size / 64) (slots_many m' d head) is)) more;
+          let more = lists m m' keeps (was.reads.has m m' has) head refl (omega (arith, is, low)) (drop (per_block head.form * index) slots) (was.names m m' (reads.looks.carries.kept_before keeps) has) in
+          subst (λ (a : List (List ℕ)). IsListOf head.form a new)
+          (ap (λ (j : ℕ). take count (drop (per_block head.form * next) slots) ++ drop (per_block head.form * j) slots) here
+          ∙ sym (block_and_rest head.form slots next count (slot_count head) (slots_many m' d head) is)) more;
     }
 
-    pub list_fails : IsBlockFault a b d next count → IsDirectoryFault s b d head
+    pub list_fails : IsBlockFault a b head.form d next count → IsDirectoryFault s b d head
     list_fails failed m m' keeps has dir =
-        let rose = failed m m' keeps (was.reads.has m m' has) head (omega (arith, is, low)) dir in
+        let rose = failed m m' keeps (was.reads.has m m' has) head refl (omega (arith, is, low)) dir in
         let before = was.reads.looks.carries.failures in
         omega (arith, rose, before)
 
-    pub slot_lacks : LacksBlockSlot a b d next count → LacksSlot s b d head
-    slot_lacks lacks m m' keeps has = lacks m m' keeps (was.reads.has m m' has) head (omega (arith, is, low))
+    pub slot_lacks : LacksBlockSlot a b head.form d next count → LacksSlot s b d head
+    slot_lacks lacks m m' keeps has = lacks m m' keeps (was.reads.has m m' has) head refl (omega (arith, is, low))

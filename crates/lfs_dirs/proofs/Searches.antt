@@ -1,6 +1,6 @@
 -- A name looked up in a directory, block by block.
 use Rattle.std.specs.Prelude.{min}
-use Rattle.std.proofs.Common.{◌≡◌, ◌≢◌, ◌<◌, ◌≤◌, ⊎_elim, ◌+◌, ◌*◌, ◌-◌, ◌/◌, ℕ, zero, suc, List, [], ◌∷◌, ◌++◌, length, take, drop, get_or, Option, Some, None, sym, ◌∙◌, ap, subst, arith}
+use Rattle.std.proofs.Common.{◌≡◌, ◌≢◌, ◌<◌, ◌≤◌, ⊎_elim, ◌+◌, ◌*◌, ◌-◌, ◌/◌, ℕ, zero, suc, List, [], ◌∷◌, ◌++◌, length, take, drop, get_or, Option, Some, None, refl, sym, ◌∙◌, ap, subst, arith}
 use Rattle.std.proofs.lemmas.Bool.{cases_lt}
 use Rattle.std.proofs.lemmas.List.{take-append-drop, drop-drop, drop_all, get_or-take, get_or-drop, length-take, length-drop}
 use Rattle.std.specs.FinMap.{find}
@@ -13,12 +13,13 @@ use Rattle.lfs_model.specs.TreeOf.{map_of}
 use Rattle.lfs_files.specs.declared.header.Header.{Header}
 use Rattle.lfs_files.specs.Files.{FilesState, HoldsBlock, IsFault, Reads, TellsBlock}
 use Rattle.lfs_files.proofs.FilesCompose.{reads_more}
-use Rattle.lfs_dirs.specs.Directory.{first_slots, names_at, slots_at}
+use Rattle.lfs_dirs.specs.Directory.{first_slots, names_at, per_block, slot_count, slots_at}
 use Rattle.lfs_dirs.specs.declared.searching.Found.{Found}
 use Rattle.lfs_dirs.specs.Finding.{HasNoSlot, IsDirectoryFault, IsBlockFault}
 use Rattle.lfs_dirs.specs.Listing.{AreSlots}
 use Rattle.lfs_dirs.specs.Searching.{FindsIn, FindsInBlock, FindsSlot}
 use Rattle.lfs_dirs.proofs.SlotNames.{gives_some, gives_none}
+use Rattle.lfs_dirs.proofs.Widths.{next_block}
 use Rattle.lfs_dirs.proofs.SlotPlaces.{slot_of_block, slots_many, slots_of_block}
 
 -- ---- lists
@@ -27,83 +28,95 @@ all_at P [] j d all low = absurd (omega (arith, low))
 all_at P (x ∷ xs) zero d all low = all.0
 all_at P (x ∷ xs) (suc j) d all low = all_at P xs j d all.1 (omega (arith, low))
 
--- the slots from a block on are those of the block, of which the last may have fewer than eight, and those behind
-pub block_and_rest : (a : List (List ℕ)) (index count many : ℕ) → length a ≡ many → count ≡ min (many - 8 * index) 8 → drop (8 * index) a ≡ take count (drop (8 * index) a) ++ drop (8 * (index + 1)) a
-block_and_rest a index count many long is =
-    sym (take-append-drop count (drop (8 * index) a)) ∙ ap (λ (b : List (List ℕ)). take count (drop (8 * index) a) ++ b) (drop-drop count (8 * index) a ∙ rest)
+-- the slots from a block on are those of the block, of which the last may have fewer than the others, and those behind
+pub block_and_rest : (form : ℕ) (a : List (List ℕ)) (index count all : ℕ) → length a ≡ all → count ≡ min (all - per_block form * index) (per_block form)
+    → drop (per_block form * index) a ≡ take count (drop (per_block form * index) a) ++ drop (per_block form * (index + 1)) a
+block_and_rest form a index count all long is =
+    sym (take-append-drop count (drop (per_block form * index) a)) ∙ ap (λ (b : List (List ℕ)). take count (drop (per_block form * index) a) ++ b) (drop-drop count (per_block form * index) a ∙ rest)
   where
-    rest : drop (8 * index + count) a ≡ drop (8 * (index + 1)) a
+    next : per_block form * (index + 1) ≡ per_block form * index + per_block form
+    next = next_block form index
+
+    rest : drop (per_block form * index + count) a ≡ drop (per_block form * (index + 1)) a
     rest = ⊎_elim
-        (λ (less : many < 8 * index + 8). drop_all (8 * index + count) a (omega (arith, less, is, long)) ∙ sym (drop_all (8 * (index + 1)) a (omega (arith, less, long))))
-        (λ (full : 8 * index + 8 ≤ many). let e : 8 * index + count ≡ 8 * (index + 1) = omega (arith, full, is) in ap (λ (n : ℕ). drop n a) e)
-        (cases_lt many (8 * index + 8))
+        (λ (less : all < per_block form * index + per_block form). drop_all (per_block form * index + count) a (omega (arith, less, is, long)) ∙ sym (drop_all (per_block form * (index + 1)) a (omega (arith, less, long, next))))
+        (λ (full : per_block form * index + per_block form ≤ all). let e : per_block form * index + count ≡ per_block form * (index + 1) = omega (arith, full, is, next) in ap (λ (n : ℕ). drop n a) e)
+        (cases_lt all (per_block form * index + per_block form))
 
 -- ---- one block
 -- where an object's slots are, each slot of its block is one
-pub each_is_slot : (m : LogMap) (d : ℕ) (head : Header) (i count : ℕ) (block : List ℕ) → HoldsBlock m d i block → count ≤ 8 → 8 * i + count ≤ head.size / 64 → AreSlots (slots_at m d head) → HasNoSlot block count → ⊥
+pub each_is_slot : (m : LogMap) (d : ℕ) (head : Header) (i count : ℕ) (block : List ℕ) → HoldsBlock m d i block → count ≤ per_block head.form → per_block head.form * i + count ≤ slot_count head → AreSlots head.form (slots_at m d head) → HasNoSlot head.form block count → ⊥
 each_is_slot m d head i count block is few room formed bad =
     let inside = bad.inside in
     let many = slots_many m d head in
-    let low : 8 * i + bad.place < head.size / 64 = omega (arith, inside, room) in
-    all_at (λ b. slot_in 0 b ≢ None) (slots_at m d head) (8 * i + bad.place) [] formed (omega (arith, low, many))
-    (ap (slot_in 0) (slot_of_block m d head i bad.place block is (omega (arith, inside, few)) low) ∙ bad.none)
+    let low : per_block head.form * i + bad.place < slot_count head = omega (arith, inside, room) in
+    all_at (λ b. slot_in head.form b ≢ None) (slots_at m d head) (per_block head.form * i + bad.place) [] formed (omega (arith, low, many))
+    (ap (slot_in head.form) (slot_of_block m d head i bad.place block is (omega (arith, inside, few)) low) ∙ bad.none)
 
-module _ {S D : Type 0} (s s' : FilesState S D) (d index count : ℕ) (few : count ≤ 8) (block : List ℕ) (told : TellsBlock s s' d index block) where
-  pub block_found : (name : List ℕ) (found : Option Found) → FindsIn (first_slots block count) name found → FindsInBlock s s' d index count name found
-  block_found name found is m m' keeps has head room =
-      subst (λ (a : List (List ℕ)). FindsIn a name found) (sym (slots_of_block m' d head index count block (told m m' keeps has) few room)) is
+module _ {S D : Type 0} (s s' : FilesState S D) (form d index count : ℕ) (few : count ≤ per_block form) (block : List ℕ) (told : TellsBlock s s' d index block) where
+  pub block_found : (name : List ℕ) (found : Option Found) → FindsIn form (first_slots form block count) name found → FindsInBlock s s' form d index count name found
+  block_found name found is m m' keeps has head same room =
+      by (subst (λ (f : ℕ). count ≤ per_block f) (sym same) few)
+      (subst (λ (f : ℕ). per_block f * index + count ≤ slot_count head) (sym same) room) (subst (λ (f : ℕ). FindsIn f (first_slots f block count) name found) (sym same) is)
+    where
+      by : count ≤ per_block head.form → per_block head.form * index + count ≤ slot_count head → FindsIn head.form (first_slots head.form block count) name found
+          → FindsIn form (take count (drop (per_block form * index) (slots_at m' d head))) name found
+      by few room is = subst (λ (f : ℕ). FindsIn f (take count (drop (per_block f * index) (slots_at m' d head))) name found) same
+          (subst (λ (a : List (List ℕ)). FindsIn head.form a name found) (sym (slots_of_block m' d head index count block (told m m' keeps has) few room)) is)
 
-  pub block_broken : HasNoSlot block count → IsBlockFault s s' d index count
-  block_broken bad m m' keeps has head room dir = absurd (each_is_slot m' d head index count block (told m m' keeps has) few room dir.formed bad)
+  pub block_broken : HasNoSlot form block count → IsBlockFault s s' form d index count
+  block_broken bad m m' keeps has head same room dir = absurd (each_is_slot m' d head index count block (told m m' keeps has)
+      (subst (λ (f : ℕ). count ≤ per_block f) (sym same) few) (subst (λ (f : ℕ). per_block f * index + count ≤ slot_count head) (sym same) room) dir.formed
+      (subst (λ (f : ℕ). HasNoSlot f block count) (sym same) bad))
 
-pub block_failed : {S D : Type 0} (s s' : FilesState S D) (d index count : ℕ) → IsFault s s' → IsBlockFault s s' d index count
-block_failed s s' d index count failed m m' keeps has head room dir = failed m m' keeps has
+pub block_failed : {S D : Type 0} (s s' : FilesState S D) (form d index count : ℕ) → IsFault s s' → IsBlockFault s s' form d index count
+block_failed s s' form d index count failed m m' keeps has head same room dir = failed m m' keeps has
 
 -- ---- the blocks before one of this index don't have the name
 module _ {S D : Type 0} (d : ℕ) (head : Header) (name : List ℕ) where
   pub record SearchedTo (s s' : FilesState S D) (index : ℕ) : Type 0 where
     pub reads : Reads s s'
     pub behind : (m m' : LogMap) → s'.device.keeps_model → s.has m m'
-        → find byte_cmp name (map_of 0 (drop (8 * index) (slots_at m' d head))) ≡ find byte_cmp name (names_at m' d head)
+        → find byte_cmp name (map_of head.form (drop (per_block head.form * index) (slots_at m' d head))) ≡ find byte_cmp name (names_at m' d head)
 
-  pub search_ends : (s a : FilesState S D) (index : ℕ) → head.size / 64 ≤ 8 * index → SearchedTo s a index → FindsSlot s a d head name None
+  pub search_ends : (s a : FilesState S D) (index : ℕ) → slot_count head ≤ per_block head.form * index → SearchedTo s a index → FindsSlot s a d head name None
   search_ends s a index past was m m' keeps has =
       let slots = slots_at m' d head in
       let many = slots_many m' d head in
-      sym (was.behind m m' keeps has) ∙ ap (λ (s : List (List ℕ)). find byte_cmp name (map_of 0 s)) (drop_all (8 * index) slots (omega (arith, many, past)))
+      sym (was.behind m m' keeps has) ∙ ap (λ (s : List (List ℕ)). find byte_cmp name (map_of head.form s)) (drop_all (per_block head.form * index) slots (omega (arith, many, past)))
 
   -- ---- a block more
-  module _ (s a b : FilesState S D) (index count : ℕ) (is : count ≡ min (head.size / 64 - 8 * index) 8) (low : 8 * index < head.size / 64) (was : SearchedTo s a index) where
-    pub search_goes_on : IsLawful s.device → Reads a b → FindsInBlock a b d index count name None → SearchedTo s b (index + 1)
+  module _ (s a b : FilesState S D) (index count : ℕ) (is : count ≡ min (slot_count head - per_block head.form * index) (per_block head.form)) (low : per_block head.form * index < slot_count head) (was : SearchedTo s a index) where
+    pub search_goes_on : IsLawful s.device → Reads a b → FindsInBlock a b head.form d index count name None → SearchedTo s b (index + 1)
     search_goes_on lawful reads none = record {
       reads = reads_more s a b lawful was.reads reads;
       behind = λ m m' keeps has.
           let slots = slots_at m' d head in
-          let found = none m m' keeps (was.reads.has m m' has) head (omega (arith, is, low)) in
-          sym (ap (λ (s : List (List ℕ)). find byte_cmp name (map_of 0 s)) (block_and_rest slots index count (head.size / 64) (slots_many m' d head) is)
-          ∙ gives_none (take count (drop (8 * index) slots)) (drop (8 * (index + 1)) slots) name found)
+          let found = none m m' keeps (was.reads.has m m' has) head refl (omega (arith, is, low)) in
+          sym (ap (λ (s : List (List ℕ)). find byte_cmp name (map_of head.form s)) (block_and_rest head.form slots index count (slot_count head) (slots_many m' d head) is)
+          ∙ gives_none head.form (take count (drop (per_block head.form * index) slots)) (drop (per_block head.form * (index + 1)) slots) name found)
           ∙ was.behind m m' (reads.looks.carries.kept_before keeps) has;
     }
 
-    pub search_hits : (found : Found) → Reads a b → FindsInBlock a b d index count name (Some found) → FindsSlot s b d head name (Some record { place = 8 * index + found.place; number = found.number })
+    pub search_hits : (found : Found) → Reads a b → FindsInBlock a b head.form d index count name (Some found) → FindsSlot s b d head name (Some record { place = per_block head.form * index + found.place; number = found.number })
     search_hits found reads hit m m' keeps has =
         let slots = slots_at m' d head in
-        let slot = hit m m' keeps (was.reads.has m m' has) head (omega (arith, is, low)) in
-        let taken = length-take count (drop (8 * index) slots) in
-        let left = length-drop (8 * index) slots in
+        let slot = hit m m' keeps (was.reads.has m m' has) head refl (omega (arith, is, low)) in
+        let taken = length-take count (drop (per_block head.form * index) slots) in
+        let left = length-drop (per_block head.form * index) slots in
         let inside = slot.inside in
         let within : found.place < count = omega (arith, taken, inside) in
         record {
           gives =
               sym (was.behind m m' (reads.looks.carries.kept_before keeps) has)
-              ∙ ap (λ (s : List (List ℕ)). find byte_cmp name (map_of 0 s)) (block_and_rest slots index count (head.size / 64) (slots_many m' d head) is)
-              ∙ gives_some (take count (drop (8 * index) slots)) (drop (8 * (index + 1)) slots) name found.number.value slot.gives;
+              ∙ ap (λ (s : List (List ℕ)). find byte_cmp name (map_of head.form s)) (block_and_rest head.form slots index count (slot_count head) (slots_many m' d head) is)
+              ∙ gives_some head.form (take count (drop (per_block head.form * index) slots)) (drop (per_block head.form * (index + 1)) slots) name found.number.value slot.gives;
           inside = omega (arith, taken, left, inside);
-          slot = ap (slot_in 0) (sym (get_or-take count (drop (8 * index) slots) found.place [] within ∙ get_or-drop (8 * index) slots found.place [])) ∙ slot.slot;
+          slot = ap (slot_in head.form) (sym (get_or-take count (drop (per_block head.form * index) slots) found.place [] within ∙ get_or-drop (per_block head.form * index) slots found.place [])) ∙ slot.slot;
         }
 
-    pub search_fails : IsBlockFault a b d index count → IsDirectoryFault s b d head
+    pub search_fails : IsBlockFault a b head.form d index count → IsDirectoryFault s b d head
     search_fails failed m m' keeps has dir =
-        let rose = failed m m' keeps (was.reads.has m m' has) head (omega (arith, is, low)) dir in
+        let rose = failed m m' keeps (was.reads.has m m' has) head refl (omega (arith, is, low)) dir in
         let before = was.reads.looks.carries.failures in
         omega (arith, rose, before)

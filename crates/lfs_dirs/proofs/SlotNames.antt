@@ -43,6 +43,11 @@ pub found_behind : (name : List ℕ) (s : SlotValue) (o : Option SlotValue) (m :
 found_behind name s o m is other =
     ap (λ (x : Option SlotValue). find byte_cmp name (with_slot x m)) is ∙ found_with name s m ∙ ap (λ b. cond b (Some s.number) (find byte_cmp name m)) (apart name s.name other)
 
+-- bytes that spell no slot give no name
+pub found_past : (name : List ℕ) (o : Option SlotValue) (m : Names) → ((s : SlotValue) → o ≡ Some s → name ≢ s.name) → find byte_cmp name (with_slot o m) ≡ find byte_cmp name m
+found_past name None m other = refl
+found_past name (Some s) m other = found_behind name s (Some s) m refl (other s refl)
+
 -- ---- slots behind others
 first_some : (o : Option SlotValue) (m m' : Names) (name : List ℕ) (n : ℕ) → (find byte_cmp name m ≡ Some n → find byte_cmp name m' ≡ Some n) → find byte_cmp name (with_slot o m) ≡ Some n → find byte_cmp name (with_slot o m') ≡ Some n
 first_some None m m' name n go is = go is
@@ -60,63 +65,64 @@ first_none (Some s) m m' w name go is =
       | false ↦ λ e. go e
     ] (sym (found_with name s m) ∙ is))
 
-pub gives_some : (a b : List (List ℕ)) (name : List ℕ) (n : ℕ) → find byte_cmp name (map_of 0 a) ≡ Some n → find byte_cmp name (map_of 0 (a ++ b)) ≡ Some n
-gives_some [] b name n is = absurd (cc)
-gives_some (x ∷ a) b name n is = first_some (slot_in 0 x) (map_of 0 a) (map_of 0 (a ++ b)) name n (gives_some a b name n) is
+module _ (form : ℕ) where
+  pub gives_some : (a b : List (List ℕ)) (name : List ℕ) (n : ℕ) → find byte_cmp name (map_of form a) ≡ Some n → find byte_cmp name (map_of form (a ++ b)) ≡ Some n
+  gives_some [] b name n is = absurd (cc)
+  gives_some (x ∷ a) b name n is = first_some (slot_in form x) (map_of form a) (map_of form (a ++ b)) name n (gives_some a b name n) is
 
-pub gives_none : (a b : List (List ℕ)) (name : List ℕ) → find byte_cmp name (map_of 0 a) ≡ None → find byte_cmp name (map_of 0 (a ++ b)) ≡ find byte_cmp name (map_of 0 b)
-gives_none [] b name is = refl
-gives_none (x ∷ a) b name is = first_none (slot_in 0 x) (map_of 0 a) (map_of 0 (a ++ b)) (map_of 0 b) name (gives_none a b name) is
+  pub gives_none : (a b : List (List ℕ)) (name : List ℕ) → find byte_cmp name (map_of form a) ≡ None → find byte_cmp name (map_of form (a ++ b)) ≡ find byte_cmp name (map_of form b)
+  gives_none [] b name is = refl
+  gives_none (x ∷ a) b name is = first_none (slot_in form x) (map_of form a) (map_of form (a ++ b)) (map_of form b) name (gives_none a b name) is
 
-pub first_gives : FirstGives
-first_gives a b name = (gives_some a b name, gives_none a b name)
+  -- ---- the names are in order
+  sorted_slot : (o : Option SlotValue) (m : Names) → T (is_sorted byte_cmp m) → T (is_sorted byte_cmp (with_slot o m))
+  sorted_slot None m h = h
+  sorted_slot (Some s) m h = is_sorted-put byte_cmp nat_list_cmp_total s.name s.number m h
 
--- ---- the names are in order
-sorted_slot : (o : Option SlotValue) (m : Names) → T (is_sorted byte_cmp m) → T (is_sorted byte_cmp (with_slot o m))
-sorted_slot None m h = h
-sorted_slot (Some s) m h = is_sorted-put byte_cmp nat_list_cmp_total s.name s.number m h
+  pub sorted_names : (a : List (List ℕ)) → T (is_sorted byte_cmp (map_of form a))
+  sorted_names [] = tt
+  sorted_names (x ∷ a) = sorted_slot (slot_in form x) (map_of form a) (sorted_names a)
 
-pub sorted_names : (a : List (List ℕ)) → T (is_sorted byte_cmp (map_of 0 a))
-sorted_names [] = tt
-sorted_names (x ∷ a) = sorted_slot (slot_in 0 x) (map_of 0 a) (sorted_names a)
+  -- names that answer alike are the same
+  pub same_names : (m m' : Names) → T (is_sorted byte_cmp m) → T (is_sorted byte_cmp m') → ((name : List ℕ) → find byte_cmp name m ≡ find byte_cmp name m') → m ≡ m'
+  same_names m m' order order' same = same_entries byte_cmp nat_list_cmp_total (slice_cmp-IsAntisymmetric nat_cmp-IsAntisymmetric) m m' order order' same
 
--- names that answer alike are the same
-pub same_names : (m m' : Names) → T (is_sorted byte_cmp m) → T (is_sorted byte_cmp m') → ((name : List ℕ) → find byte_cmp name m ≡ find byte_cmp name m') → m ≡ m'
-same_names m m' order order' same = same_entries byte_cmp nat_list_cmp_total (slice_cmp-IsAntisymmetric nat_cmp-IsAntisymmetric) m m' order order' same
+  -- ---- a slot behind the others
+  module _ (s : SlotValue) (fits : FitsSlot form s) where
+    spelt : slot_in form (slot_bytes form s) ≡ Some s
+    spelt = slot_some form (slot_bytes form s) s fits refl
 
--- ---- a slot behind the others
-module _ (s : SlotValue) (fits : FitsSlot 0 s) where
-  spelt : slot_in 0 (slot_bytes 0 s) ≡ Some s
-  spelt = slot_some 0 (slot_bytes 0 s) s fits refl
+    alone : (name : List ℕ) → find byte_cmp name (map_of form (slot_bytes form s ∷ [])) ≡ cond (eq_by_cmp byte_cmp name s.name) (Some s.number) None
+    alone name = ap (λ (x : Option SlotValue). find byte_cmp name (with_slot x [])) spelt ∙ found_with name s []
 
-  alone : (name : List ℕ) → find byte_cmp name (map_of 0 (slot_bytes 0 s ∷ [])) ≡ cond (eq_by_cmp byte_cmp name s.name) (Some s.number) None
-  alone name = ap (λ (x : Option SlotValue). find byte_cmp name (with_slot x [])) spelt ∙ found_with name s []
+    behind : (a : List (List ℕ)) → find byte_cmp s.name (map_of form a) ≡ None → (name : List ℕ) → find byte_cmp name (map_of form (a ++ slot_bytes form s ∷ [])) ≡ find byte_cmp name (put byte_cmp s.name s.number (map_of form a))
+    behind a new name =
+        elim (find byte_cmp name (map_of form a)) as (λ (o : Option ℕ). find byte_cmp name (map_of form a) ≡ o → find byte_cmp name (map_of form (a ++ slot_bytes form s ∷ [])) ≡ cond (eq_by_cmp byte_cmp name s.name) (Some s.number) (find byte_cmp name (map_of form a))) [
+          | None ↦ λ none. gives_none a (slot_bytes form s ∷ []) name none ∙ alone name ∙ ap (cond (eq_by_cmp byte_cmp name s.name) (Some s.number)) (sym none)
+          | Some n ↦ λ some.
+              gives_some a (slot_bytes form s ∷ []) name n some ∙ sym some
+              ∙ sym (ap (λ b. cond b (Some s.number) (find byte_cmp name (map_of form a)))
+              (apart name s.name (λ e. let bad : Some n ≡ None = sym some ∙ ap (λ (x : List ℕ). find byte_cmp x (map_of form a)) e ∙ new in absurd (cc))))
+        ] refl ∙ sym (found_with name s (map_of form a))
 
-  behind : (a : List (List ℕ)) → find byte_cmp s.name (map_of 0 a) ≡ None → (name : List ℕ) → find byte_cmp name (map_of 0 (a ++ slot_bytes 0 s ∷ [])) ≡ find byte_cmp name (put byte_cmp s.name s.number (map_of 0 a))
-  behind a new name =
-      elim (find byte_cmp name (map_of 0 a)) as (λ (o : Option ℕ). find byte_cmp name (map_of 0 a) ≡ o → find byte_cmp name (map_of 0 (a ++ slot_bytes 0 s ∷ [])) ≡ cond (eq_by_cmp byte_cmp name s.name) (Some s.number) (find byte_cmp name (map_of 0 a))) [
-        | None ↦ λ none. gives_none a (slot_bytes 0 s ∷ []) name none ∙ alone name ∙ ap (cond (eq_by_cmp byte_cmp name s.name) (Some s.number)) (sym none)
-        | Some n ↦ λ some.
-            gives_some a (slot_bytes 0 s ∷ []) name n some ∙ sym some
-            ∙ sym (ap (λ b. cond b (Some s.number) (find byte_cmp name (map_of 0 a)))
-            (apart name s.name (λ e. let bad : Some n ≡ None = sym some ∙ ap (λ (x : List ℕ). find byte_cmp x (map_of 0 a)) e ∙ new in absurd (cc))))
-      ] refl ∙ sym (found_with name s (map_of 0 a))
+    pub appended : (a : List (List ℕ)) → find byte_cmp s.name (map_of form a) ≡ None → map_of form (a ++ slot_bytes form s ∷ []) ≡ put byte_cmp s.name s.number (map_of form a)
+    appended a new =
+        same_names (map_of form (a ++ slot_bytes form s ∷ [])) (put byte_cmp s.name s.number (map_of form a)) (sorted_names (a ++ slot_bytes form s ∷ []))
+        (is_sorted-put byte_cmp nat_list_cmp_total s.name s.number (map_of form a) (sorted_names a)) (behind a new)
 
-  pub appended : (a : List (List ℕ)) → find byte_cmp s.name (map_of 0 a) ≡ None → map_of 0 (a ++ slot_bytes 0 s ∷ []) ≡ put byte_cmp s.name s.number (map_of 0 a)
-  appended a new =
-      same_names (map_of 0 (a ++ slot_bytes 0 s ∷ [])) (put byte_cmp s.name s.number (map_of 0 a)) (sorted_names (a ++ slot_bytes 0 s ∷ []))
-      (is_sorted-put byte_cmp nat_list_cmp_total s.name s.number (map_of 0 a) (sorted_names a)) (behind a new)
+    -- no two slots have one name then either
+    pub appended_apart : (a : List (List ℕ)) → find byte_cmp s.name (map_of form a) ≡ None → length (map_of form a) ≡ length a → length (map_of form (a ++ slot_bytes form s ∷ [])) ≡ length (a ++ slot_bytes form s ∷ [])
+    appended_apart a new same =
+        let one = ap length (appended a new) ∙ length-put byte_cmp nat_list_cmp_total s.name s.number (map_of form a) (sorted_names a) ∙ ap (λ (o : Option ℕ). cond (is_some o) (length (map_of form a)) (length (map_of form a) + 1)) new in
+        let long = length-append a (slot_bytes form s ∷ []) in
+        omega (arith, one, long, same)
 
-  -- no two slots have one name then either
-  pub appended_apart : (a : List (List ℕ)) → find byte_cmp s.name (map_of 0 a) ≡ None → length (map_of 0 a) ≡ length a → length (map_of 0 (a ++ slot_bytes 0 s ∷ [])) ≡ length (a ++ slot_bytes 0 s ∷ [])
-  appended_apart a new same =
-      let one = ap length (appended a new) ∙ length-put byte_cmp nat_list_cmp_total s.name s.number (map_of 0 a) (sorted_names a) ∙ ap (λ (o : Option ℕ). cond (is_some o) (length (map_of 0 a)) (length (map_of 0 a) + 1)) new in
-      let long = length-append a (slot_bytes 0 s ∷ []) in
-      omega (arith, one, long, same)
-
-  pub appended_formed : (a : List (List ℕ)) → AllByRecursion (λ b. slot_in 0 b ≢ None) a → AllByRecursion (λ b. slot_in 0 b ≢ None) (a ++ slot_bytes 0 s ∷ [])
-  appended_formed [] formed = (λ none. let bad : Some s ≡ None = sym spelt ∙ none in absurd (cc), tt)
-  appended_formed (x ∷ a) formed = (formed.0, appended_formed a formed.1)
+    pub appended_formed : (a : List (List ℕ)) → AllByRecursion (λ b. slot_in form b ≢ None) a → AllByRecursion (λ b. slot_in form b ≢ None) (a ++ slot_bytes form s ∷ [])
+    appended_formed [] formed = (λ none. let bad : Some s ≡ None = sym spelt ∙ none in absurd (cc), tt)
+    appended_formed (x ∷ a) formed = (formed.0, appended_formed a formed.1)
 
 pub slot_appended : SlotAppended
-slot_appended a s fits new = appended s fits a new
+slot_appended form a s fits new = appended form s fits a new
+
+pub first_gives : FirstGives
+first_gives form a b name = (gives_some form a b name, gives_none form a b name)

@@ -13,230 +13,231 @@ use Rattle.lfs_model.proofs.Sums.{find_without}
 use Rattle.lfs_dirs.specs.Directory.{LastSlotTaken, SlotReplaced, SlotTaken}
 use Rattle.lfs_dirs.proofs.SlotNames.{found_behind, found_first, gives_none, gives_some, same_names, sorted_names, tied, ties}
 
-abbrev gives : List ℕ → List (List ℕ) → Option ℕ
-gives name a = find byte_cmp name (map_of 0 a)
+module _ (form : ℕ) where
+  abbrev gives : List ℕ → List (List ℕ) → Option ℕ
+  gives name a = find byte_cmp name (map_of form a)
 
-abbrev pub AreApart : List (List ℕ) → Type 0
-AreApart a = length (map_of 0 a) ≡ length a
+  abbrev pub AreApart : List (List ℕ) → Type 0
+  AreApart a = length (map_of form a) ≡ length a
 
-abbrev pub AreFormed : List (List ℕ) → Type 0
-AreFormed a = AllByRecursion (λ b. slot_in 0 b ≢ None) a
+  abbrev pub AreFormed : List (List ℕ) → Type 0
+  AreFormed a = AllByRecursion (λ b. slot_in form b ≢ None) a
 
--- ---- no two have one name
-few_with : (o : Option SlotValue) (m : Names) (n : ℕ) (order : T (is_sorted byte_cmp m)) → length m ≤ n → length (with_slot o m) ≤ suc n
-few_with None m n order le = omega (arith, le)
-few_with (Some s) m n order le =
-    let long = length-put byte_cmp nat_list_cmp_total s.name s.number m order in
-    elim (is_some (find byte_cmp s.name m)) as (λ b. length (put byte_cmp s.name s.number m) ≡ cond b (length m) (length m + 1) → length (put byte_cmp s.name s.number m) ≤ suc n) [
-      | true ↦ λ e. omega (arith, e, le)
-      | false ↦ λ e. omega (arith, e, le)
-    ] long
+  -- ---- no two have one name
+  few_with : (o : Option SlotValue) (m : Names) (n : ℕ) (order : T (is_sorted byte_cmp m)) → length m ≤ n → length (with_slot o m) ≤ suc n
+  few_with None m n order le = omega (arith, le)
+  few_with (Some s) m n order le =
+      let long = length-put byte_cmp nat_list_cmp_total s.name s.number m order in
+      elim (is_some (find byte_cmp s.name m)) as (λ b. length (put byte_cmp s.name s.number m) ≡ cond b (length m) (length m + 1) → length (put byte_cmp s.name s.number m) ≤ suc n) [
+        | true ↦ λ e. omega (arith, e, le)
+        | false ↦ λ e. omega (arith, e, le)
+      ] long
 
-few_names : (a : List (List ℕ)) → length (map_of 0 a) ≤ length a
-few_names [] = omega arith
-few_names (x ∷ a) = few_with (slot_in 0 x) (map_of 0 a) (length a) (sorted_names a) (few_names a)
+  few_names : (a : List (List ℕ)) → length (map_of form a) ≤ length a
+  few_names [] = omega arith
+  few_names (x ∷ a) = few_with (slot_in form x) (map_of form a) (length a) (sorted_names form a) (few_names a)
 
--- a slot whose name none behind it has
-record IsFirst (x : List ℕ) (a : List (List ℕ)) : Type 0 where
-  value : SlotValue
-  slot : slot_in 0 x ≡ Some value
-  new : gives value.name a ≡ None
-  rest : AreApart a
+  -- a slot whose name none behind it has
+  record IsFirst (x : List ℕ) (a : List (List ℕ)) : Type 0 where
+    value : SlotValue
+    slot : slot_in form x ≡ Some value
+    new : gives value.name a ≡ None
+    rest : AreApart a
 
-not_some : (o : Option ℕ) → is_some o ≡ false → o ≡ None
-not_some None e = refl
-not_some (Some n) e = absurd (cc)
+  not_some : (o : Option ℕ) → is_some o ≡ false → o ≡ None
+  not_some None e = refl
+  not_some (Some n) e = absurd (cc)
 
-first_with : (x : List ℕ) (a : List (List ℕ)) (o : Option SlotValue) → slot_in 0 x ≡ o → length (map_of 0 a) ≤ length a → length (with_slot o (map_of 0 a)) ≡ suc (length a) → IsFirst x a
-first_with x a None is few long = absurd (omega (arith, few, long))
-first_with x a (Some s) is few long =
-    elim (is_some (gives s.name a)) as (λ b. is_some (gives s.name a) ≡ b → length (put byte_cmp s.name s.number (map_of 0 a)) ≡ cond b (length (map_of 0 a)) (length (map_of 0 a) + 1) → IsFirst x a) [
-      | true ↦ λ t e. absurd (omega (arith, e, few, long))
-      | false ↦ λ t e. record { value = s; slot = is; new = not_some (gives s.name a) t; rest = omega (arith, e, long) }
-    ] refl (length-put byte_cmp nat_list_cmp_total s.name s.number (map_of 0 a) (sorted_names a))
+  first_with : (x : List ℕ) (a : List (List ℕ)) (o : Option SlotValue) → slot_in form x ≡ o → length (map_of form a) ≤ length a → length (with_slot o (map_of form a)) ≡ suc (length a) → IsFirst x a
+  first_with x a None is few long = absurd (omega (arith, few, long))
+  first_with x a (Some s) is few long =
+      elim (is_some (gives s.name a)) as (λ b. is_some (gives s.name a) ≡ b → length (put byte_cmp s.name s.number (map_of form a)) ≡ cond b (length (map_of form a)) (length (map_of form a) + 1) → IsFirst x a) [
+        | true ↦ λ t e. absurd (omega (arith, e, few, long))
+        | false ↦ λ t e. record { value = s; slot = is; new = not_some (gives s.name a) t; rest = omega (arith, e, long) }
+      ] refl (length-put byte_cmp nat_list_cmp_total s.name s.number (map_of form a) (sorted_names form a))
 
-is_first : (x : List ℕ) (a : List (List ℕ)) → AreApart (x ∷ a) → IsFirst x a
-is_first x a distinct = first_with x a (slot_in 0 x) refl (few_names a) distinct
+  is_first : (x : List ℕ) (a : List (List ℕ)) → AreApart (x ∷ a) → IsFirst x a
+  is_first x a distinct = first_with x a (slot_in form x) refl (few_names a) distinct
 
-apart_right : (a b : List (List ℕ)) → AreApart (a ++ b) → AreApart b
-apart_right [] b distinct = distinct
-apart_right (x ∷ a) b distinct = apart_right a b (is_first x (a ++ b) distinct).rest
+  apart_right : (a b : List (List ℕ)) → AreApart (a ++ b) → AreApart b
+  apart_right [] b distinct = distinct
+  apart_right (x ∷ a) b distinct = apart_right a b (is_first x (a ++ b) distinct).rest
 
--- ---- what parts give
-none_left : (a b : List (List ℕ)) (name : List ℕ) → gives name (a ++ b) ≡ None → gives name a ≡ None
-none_left a b name none = elim (gives name a) as (λ (o : Option ℕ). gives name a ≡ o → o ≡ None) [
-  | None ↦ λ e. refl
-  | Some n ↦ λ e. let bad : Some n ≡ None = sym (gives_some a b name n e) ∙ none in absurd (cc)
-] refl
-
-none_right : (a b : List (List ℕ)) (name : List ℕ) → gives name (a ++ b) ≡ None → gives name b ≡ None
-none_right a b name none = sym (gives_none a b name (none_left a b name none)) ∙ none
-
-none_both : (a b : List (List ℕ)) (name : List ℕ) → gives name a ≡ None → gives name b ≡ None → gives name (a ++ b) ≡ None
-none_both a b name left right = gives_none a b name left ∙ right
-
--- a name that slots give isn't given by those behind them
-given_once : (a b : List (List ℕ)) (name : List ℕ) (n : ℕ) → AreApart (a ++ b) → gives name a ≡ Some n → gives name b ≡ None
-given_once [] b name n distinct some = absurd (cc)
-given_once (x ∷ a) b name n distinct some =
-    let f = is_first x (a ++ b) distinct in
-    elim (eq_by_cmp byte_cmp name f.value.name) as (λ t. eq_by_cmp byte_cmp name f.value.name ≡ t → gives name b ≡ None) [
-      | true ↦ λ e. none_right a b name (ap (λ (q : List ℕ). gives q (a ++ b)) (tied name f.value.name e) ∙ f.new)
-      | false ↦ λ e.
-          let other : name ≢ f.value.name = λ same. (let yes = ties name f.value.name same in let no : true ≡ false = sym yes ∙ e in absurd (cc)) in
-          given_once a b name n f.rest (sym (found_behind name f.value (slot_in 0 x) (map_of 0 a) f.slot other) ∙ some)
-    ] refl
-
--- ---- one slot among others
-module _ (a b : List (List ℕ)) (x : List ℕ) (s : SlotValue) (is : slot_in 0 x ≡ Some s) (distinct : AreApart (a ++ x ∷ b)) where
-  found_here : (y : List ℕ) (t : SlotValue) (c : List (List ℕ)) → slot_in 0 y ≡ Some t → gives t.name (y ∷ c) ≡ Some t.number
-  found_here y t c own = found_first t.name t (slot_in 0 y) (map_of 0 c) own refl
-
-  none_before : gives s.name a ≡ None
-  none_before = elim (gives s.name a) as (λ (o : Option ℕ). gives s.name a ≡ o → o ≡ None) [
+  -- ---- what parts give
+  none_left : (a b : List (List ℕ)) (name : List ℕ) → gives name (a ++ b) ≡ None → gives name a ≡ None
+  none_left a b name none = elim (gives name a) as (λ (o : Option ℕ). gives name a ≡ o → o ≡ None) [
     | None ↦ λ e. refl
-    | Some n ↦ λ e. let bad : Some s.number ≡ None = sym (found_here x s b is) ∙ given_once a (x ∷ b) s.name n distinct e in absurd (cc)
+    | Some n ↦ λ e. let bad : Some n ≡ None = sym (gives_some form a b name n e) ∙ none in absurd (cc)
   ] refl
 
-  none_behind : gives s.name b ≡ None
-  none_behind =
-      let f = is_first x b (apart_right a (x ∷ b) distinct) in
-      let same : Some s ≡ Some f.value = sym is ∙ f.slot in
-      let name : s.name ≡ f.value.name = cc in
-      ap (λ (q : List ℕ). gives q b) name ∙ f.new
+  none_right : (a b : List (List ℕ)) (name : List ℕ) → gives name (a ++ b) ≡ None → gives name b ≡ None
+  none_right a b name none = sym (gives_none form a b name (none_left a b name none)) ∙ none
 
-  pub there : gives s.name (a ++ x ∷ b) ≡ Some s.number
-  there = gives_none a (x ∷ b) s.name none_before ∙ found_here x s b is
+  none_both : (a b : List (List ℕ)) (name : List ℕ) → gives name a ≡ None → gives name b ≡ None → gives name (a ++ b) ≡ None
+  none_both a b name left right = gives_none form a b name left ∙ right
 
-  other_behind : (name : List ℕ) → name ≢ s.name → gives name (x ∷ b) ≡ gives name b
-  other_behind name ne = found_behind name s (slot_in 0 x) (map_of 0 b) is ne
+  -- a name that slots give isn't given by those behind them
+  given_once : (a b : List (List ℕ)) (name : List ℕ) (n : ℕ) → AreApart (a ++ b) → gives name a ≡ Some n → gives name b ≡ None
+  given_once [] b name n distinct some = absurd (cc)
+  given_once (x ∷ a) b name n distinct some =
+      let f = is_first x (a ++ b) distinct in
+      elim (eq_by_cmp byte_cmp name f.value.name) as (λ t. eq_by_cmp byte_cmp name f.value.name ≡ t → gives name b ≡ None) [
+        | true ↦ λ e. none_right a b name (ap (λ (q : List ℕ). gives q (a ++ b)) (tied name f.value.name e) ∙ f.new)
+        | false ↦ λ e.
+            let other : name ≢ f.value.name = λ same. (let yes = ties name f.value.name same in let no : true ≡ false = sym yes ∙ e in absurd (cc)) in
+            given_once a b name n f.rest (sym (found_behind name f.value (slot_in form x) (map_of form a) f.slot other) ∙ some)
+      ] refl
 
-  -- ---- another number
-  module _ (y : List ℕ) (t : SlotValue) (own : slot_in 0 y ≡ Some t) (same : t.name ≡ s.name) where
-    replaced_gives : (name : List ℕ) → gives name (a ++ y ∷ b) ≡ cond (eq_by_cmp byte_cmp name s.name) (Some t.number) (gives name (a ++ x ∷ b))
-    replaced_gives name = elim (eq_by_cmp byte_cmp name s.name) as (λ e. eq_by_cmp byte_cmp name s.name ≡ e → gives name (a ++ y ∷ b) ≡ cond e (Some t.number) (gives name (a ++ x ∷ b))) [
-      | true ↦ λ e.
-          let here : name ≡ s.name = tied name s.name e in
-          gives_none a (y ∷ b) name (ap (λ (q : List ℕ). gives q a) here ∙ none_before) ∙ found_first name t (slot_in 0 y) (map_of 0 b) own (here ∙ sym same)
+  -- ---- one slot among others
+  module _ (a b : List (List ℕ)) (x : List ℕ) (s : SlotValue) (is : slot_in form x ≡ Some s) (distinct : AreApart (a ++ x ∷ b)) where
+    found_here : (y : List ℕ) (t : SlotValue) (c : List (List ℕ)) → slot_in form y ≡ Some t → gives t.name (y ∷ c) ≡ Some t.number
+    found_here y t c own = found_first t.name t (slot_in form y) (map_of form c) own refl
+
+    none_before : gives s.name a ≡ None
+    none_before = elim (gives s.name a) as (λ (o : Option ℕ). gives s.name a ≡ o → o ≡ None) [
+      | None ↦ λ e. refl
+      | Some n ↦ λ e. let bad : Some s.number ≡ None = sym (found_here x s b is) ∙ given_once a (x ∷ b) s.name n distinct e in absurd (cc)
+    ] refl
+
+    none_behind : gives s.name b ≡ None
+    none_behind =
+        let f = is_first x b (apart_right a (x ∷ b) distinct) in
+        let same : Some s ≡ Some f.value = sym is ∙ f.slot in
+        let name : s.name ≡ f.value.name = cc in
+        ap (λ (q : List ℕ). gives q b) name ∙ f.new
+
+    pub there : gives s.name (a ++ x ∷ b) ≡ Some s.number
+    there = gives_none form a (x ∷ b) s.name none_before ∙ found_here x s b is
+
+    other_behind : (name : List ℕ) → name ≢ s.name → gives name (x ∷ b) ≡ gives name b
+    other_behind name ne = found_behind name s (slot_in form x) (map_of form b) is ne
+
+    -- ---- another number
+    module _ (y : List ℕ) (t : SlotValue) (own : slot_in form y ≡ Some t) (same : t.name ≡ s.name) where
+      replaced_gives : (name : List ℕ) → gives name (a ++ y ∷ b) ≡ cond (eq_by_cmp byte_cmp name s.name) (Some t.number) (gives name (a ++ x ∷ b))
+      replaced_gives name = elim (eq_by_cmp byte_cmp name s.name) as (λ e. eq_by_cmp byte_cmp name s.name ≡ e → gives name (a ++ y ∷ b) ≡ cond e (Some t.number) (gives name (a ++ x ∷ b))) [
+        | true ↦ λ e.
+            let here : name ≡ s.name = tied name s.name e in
+            gives_none form a (y ∷ b) name (ap (λ (q : List ℕ). gives q a) here ∙ none_before) ∙ found_first name t (slot_in form y) (map_of form b) own (here ∙ sym same)
+        | false ↦ λ e.
+            let other : name ≢ s.name = λ here. (let yes = ties name s.name here in let no : true ≡ false = sym yes ∙ e in absurd (cc)) in
+            let skipped : gives name (y ∷ b) ≡ gives name (x ∷ b) = found_behind name t (slot_in form y) (map_of form b) own (λ h. other (h ∙ same)) ∙ sym (other_behind name other) in
+            elim (gives name a) as (λ (o : Option ℕ). gives name a ≡ o → gives name (a ++ y ∷ b) ≡ gives name (a ++ x ∷ b)) [
+              | None ↦ λ none. gives_none form a (y ∷ b) name none ∙ skipped ∙ sym (gives_none form a (x ∷ b) name none)
+              | Some n ↦ λ some. gives_some form a (y ∷ b) name n some ∙ sym (gives_some form a (x ∷ b) name n some)
+            ] refl
+      ] refl
+
+      pub replaced : map_of form (a ++ y ∷ b) ≡ put byte_cmp s.name t.number (map_of form (a ++ x ∷ b))
+      replaced =
+          same_names form (map_of form (a ++ y ∷ b)) (put byte_cmp s.name t.number (map_of form (a ++ x ∷ b))) (sorted_names form (a ++ y ∷ b))
+          (is_sorted-put byte_cmp nat_list_cmp_total s.name t.number (map_of form (a ++ x ∷ b)) (sorted_names form (a ++ x ∷ b)))
+          (λ name. replaced_gives name ∙ sym (find-put byte_cmp nat_list_cmp_total name s.name t.number (map_of form (a ++ x ∷ b))))
+
+      pub replaced_apart : AreApart (a ++ y ∷ b)
+      replaced_apart =
+          let one = ap length replaced ∙ length-put byte_cmp nat_list_cmp_total s.name t.number (map_of form (a ++ x ∷ b)) (sorted_names form (a ++ x ∷ b))
+          ∙ ap (λ (o : Option ℕ). cond (is_some o) (length (map_of form (a ++ x ∷ b))) (length (map_of form (a ++ x ∷ b)) + 1)) there in
+          let long = length-append a (x ∷ b) in
+          let long' = length-append a (y ∷ b) in
+          omega (arith, one, long, long', distinct)
+
+    -- ---- one less
+    taken_from : (c : List (List ℕ)) → ((name : List ℕ) → gives name c ≡ cond (eq_by_cmp byte_cmp name s.name) None (gives name (a ++ x ∷ b))) → map_of form c ≡ without byte_cmp s.name (map_of form (a ++ x ∷ b))
+    taken_from c each =
+        same_names form (map_of form c) (without byte_cmp s.name (map_of form (a ++ x ∷ b))) (sorted_names form c)
+        (is_sorted-where_key byte_cmp (λ q. not (eq_by_cmp byte_cmp s.name q)) (map_of form (a ++ x ∷ b)) (sorted_names form (a ++ x ∷ b)))
+        (λ name. each name ∙ sym (find_without nat_list_cmp_total s.name name (map_of form (a ++ x ∷ b))))
+
+    taken_few : (c : List (List ℕ)) → map_of form c ≡ without byte_cmp s.name (map_of form (a ++ x ∷ b)) → length c + 1 ≡ length (a ++ x ∷ b) → AreApart c
+    taken_few c is less =
+        let one = length_without byte_cmp nat_list_cmp_total s.name (map_of form (a ++ x ∷ b)) (sorted_names form (a ++ x ∷ b)) in
+        let some : ◌≡◌ {A = ℕ} (cond (is_some (gives s.name (a ++ x ∷ b))) 1 0) 1 = ap (λ (o : Option ℕ). cond {A = ℕ} (is_some o) 1 0) there in
+        let same = ap length is in
+        omega (arith, one, some, same, less, distinct)
+
+    -- what is there after it goes, where the slots without it give what the others gave
+    taken_gives : (c : List (List ℕ)) → gives s.name c ≡ None → ((name : List ℕ) → gives name a ≡ None → name ≢ s.name → gives name c ≡ gives name b)
+        → ((name : List ℕ) (n : ℕ) → gives name a ≡ Some n → gives name c ≡ Some n) → (name : List ℕ) → gives name c ≡ cond (eq_by_cmp byte_cmp name s.name) None (gives name (a ++ x ∷ b))
+    taken_gives c gone none some name = elim (eq_by_cmp byte_cmp name s.name) as (λ e. eq_by_cmp byte_cmp name s.name ≡ e → gives name c ≡ cond e None (gives name (a ++ x ∷ b))) [
+      | true ↦ λ e. ap (λ (q : List ℕ). gives q c) (tied name s.name e) ∙ gone
       | false ↦ λ e.
           let other : name ≢ s.name = λ here. (let yes = ties name s.name here in let no : true ≡ false = sym yes ∙ e in absurd (cc)) in
-          let skipped : gives name (y ∷ b) ≡ gives name (x ∷ b) = found_behind name t (slot_in 0 y) (map_of 0 b) own (λ h. other (h ∙ same)) ∙ sym (other_behind name other) in
-          elim (gives name a) as (λ (o : Option ℕ). gives name a ≡ o → gives name (a ++ y ∷ b) ≡ gives name (a ++ x ∷ b)) [
-            | None ↦ λ none. gives_none a (y ∷ b) name none ∙ skipped ∙ sym (gives_none a (x ∷ b) name none)
-            | Some n ↦ λ some. gives_some a (y ∷ b) name n some ∙ sym (gives_some a (x ∷ b) name n some)
+          elim (gives name a) as (λ (o : Option ℕ). gives name a ≡ o → gives name c ≡ gives name (a ++ x ∷ b)) [
+            | None ↦ λ before. none name before other ∙ sym (gives_none form a (x ∷ b) name before ∙ other_behind name other)
+            | Some n ↦ λ before. some name n before ∙ sym (gives_some form a (x ∷ b) name n before)
           ] refl
     ] refl
 
-    pub replaced : map_of 0 (a ++ y ∷ b) ≡ put byte_cmp s.name t.number (map_of 0 (a ++ x ∷ b))
-    replaced =
-        same_names (map_of 0 (a ++ y ∷ b)) (put byte_cmp s.name t.number (map_of 0 (a ++ x ∷ b))) (sorted_names (a ++ y ∷ b))
-        (is_sorted-put byte_cmp nat_list_cmp_total s.name t.number (map_of 0 (a ++ x ∷ b)) (sorted_names (a ++ x ∷ b)))
-        (λ name. replaced_gives name ∙ sym (find-put byte_cmp nat_list_cmp_total name s.name t.number (map_of 0 (a ++ x ∷ b))))
+  -- the last slot goes
+  pub last_taken : (a : List (List ℕ)) (x : List ℕ) (s : SlotValue) → slot_in form x ≡ Some s → AreApart (a ++ x ∷ []) → (map_of form a ≡ without byte_cmp s.name (map_of form (a ++ x ∷ []))) × AreApart a
+  last_taken a x s is distinct =
+      let less : length a + 1 ≡ length (a ++ x ∷ []) = let l = length-append a (x ∷ []) in omega (arith, l) in
+      let names = taken_from a [] x s is distinct a (taken_gives a [] x s is distinct a (none_before a [] x s is distinct) (λ name none ne. none) (λ name n some. some)) in
+      (names, taken_few a [] x s is distinct a names less)
 
-    pub replaced_apart : AreApart (a ++ y ∷ b)
-    replaced_apart =
-        let one = ap length replaced ∙ length-put byte_cmp nat_list_cmp_total s.name t.number (map_of 0 (a ++ x ∷ b)) (sorted_names (a ++ x ∷ b))
-        ∙ ap (λ (o : Option ℕ). cond (is_some o) (length (map_of 0 (a ++ x ∷ b))) (length (map_of 0 (a ++ x ∷ b)) + 1)) there in
-        let long = length-append a (x ∷ b) in
-        let long' = length-append a (y ∷ b) in
-        omega (arith, one, long, long', distinct)
+  -- a slot goes, and the last one comes into its place
+  module _ (a b : List (List ℕ)) (x y : List ℕ) (s : SlotValue) (is : slot_in form x ≡ Some s) (distinct : AreApart (a ++ x ∷ (b ++ y ∷ []))) where
+    behind_apart : AreApart (b ++ y ∷ [])
+    behind_apart = (is_first x (b ++ y ∷ []) (apart_right a (x ∷ (b ++ y ∷ [])) distinct)).rest
 
-  -- ---- one less
-  taken_from : (c : List (List ℕ)) → ((name : List ℕ) → gives name c ≡ cond (eq_by_cmp byte_cmp name s.name) None (gives name (a ++ x ∷ b))) → map_of 0 c ≡ without byte_cmp s.name (map_of 0 (a ++ x ∷ b))
-  taken_from c each =
-      same_names (map_of 0 c) (without byte_cmp s.name (map_of 0 (a ++ x ∷ b))) (sorted_names c)
-      (is_sorted-where_key byte_cmp (λ q. not (eq_by_cmp byte_cmp s.name q)) (map_of 0 (a ++ x ∷ b)) (sorted_names (a ++ x ∷ b)))
-      (λ name. each name ∙ sym (find_without nat_list_cmp_total s.name name (map_of 0 (a ++ x ∷ b))))
-
-  taken_few : (c : List (List ℕ)) → map_of 0 c ≡ without byte_cmp s.name (map_of 0 (a ++ x ∷ b)) → length c + 1 ≡ length (a ++ x ∷ b) → AreApart c
-  taken_few c is less =
-      let one = length_without byte_cmp nat_list_cmp_total s.name (map_of 0 (a ++ x ∷ b)) (sorted_names (a ++ x ∷ b)) in
-      let some : ◌≡◌ {A = ℕ} (cond (is_some (gives s.name (a ++ x ∷ b))) 1 0) 1 = ap (λ (o : Option ℕ). cond {A = ℕ} (is_some o) 1 0) there in
-      let same = ap length is in
-      omega (arith, one, some, same, less, distinct)
-
-  -- what is there after it goes, where the slots without it give what the others gave
-  taken_gives : (c : List (List ℕ)) → gives s.name c ≡ None → ((name : List ℕ) → gives name a ≡ None → name ≢ s.name → gives name c ≡ gives name b)
-      → ((name : List ℕ) (n : ℕ) → gives name a ≡ Some n → gives name c ≡ Some n) → (name : List ℕ) → gives name c ≡ cond (eq_by_cmp byte_cmp name s.name) None (gives name (a ++ x ∷ b))
-  taken_gives c gone none some name = elim (eq_by_cmp byte_cmp name s.name) as (λ e. eq_by_cmp byte_cmp name s.name ≡ e → gives name c ≡ cond e None (gives name (a ++ x ∷ b))) [
-    | true ↦ λ e. ap (λ (q : List ℕ). gives q c) (tied name s.name e) ∙ gone
-    | false ↦ λ e.
-        let other : name ≢ s.name = λ here. (let yes = ties name s.name here in let no : true ≡ false = sym yes ∙ e in absurd (cc)) in
-        elim (gives name a) as (λ (o : Option ℕ). gives name a ≡ o → gives name c ≡ gives name (a ++ x ∷ b)) [
-          | None ↦ λ before. none name before other ∙ sym (gives_none a (x ∷ b) name before ∙ other_behind name other)
-          | Some n ↦ λ before. some name n before ∙ sym (gives_some a (x ∷ b) name n before)
-        ] refl
-  ] refl
-
--- the last slot goes
-pub last_taken : (a : List (List ℕ)) (x : List ℕ) (s : SlotValue) → slot_in 0 x ≡ Some s → AreApart (a ++ x ∷ []) → (map_of 0 a ≡ without byte_cmp s.name (map_of 0 (a ++ x ∷ []))) × AreApart a
-last_taken a x s is distinct =
-    let less : length a + 1 ≡ length (a ++ x ∷ []) = let l = length-append a (x ∷ []) in omega (arith, l) in
-    let names = taken_from a [] x s is distinct a (taken_gives a [] x s is distinct a (none_before a [] x s is distinct) (λ name none ne. none) (λ name n some. some)) in
-    (names, taken_few a [] x s is distinct a names less)
-
--- a slot goes, and the last one comes into its place
-module _ (a b : List (List ℕ)) (x y : List ℕ) (s : SlotValue) (is : slot_in 0 x ≡ Some s) (distinct : AreApart (a ++ x ∷ (b ++ y ∷ []))) where
-  behind_apart : AreApart (b ++ y ∷ [])
-  behind_apart = (is_first x (b ++ y ∷ []) (apart_right a (x ∷ (b ++ y ∷ [])) distinct)).rest
-
-  -- two parts may change places
-  swapped : (name : List ℕ) → gives name (y ∷ b) ≡ gives name (b ++ y ∷ [])
-  swapped name = elim (gives name (y ∷ [])) as (λ (o : Option ℕ). gives name (y ∷ []) ≡ o → gives name (y ∷ b) ≡ gives name (b ++ y ∷ [])) [
-    | Some n ↦ λ some.
-        let none : gives name b ≡ None = elim (gives name b) as (λ (o : Option ℕ). gives name b ≡ o → o ≡ None) [
-          | None ↦ λ e. refl
-          | Some k ↦ λ e. let bad : Some n ≡ None = sym some ∙ given_once b (y ∷ []) name k behind_apart e in absurd (cc)
-        ] refl in
-        gives_some (y ∷ []) b name n some ∙ sym (gives_none b (y ∷ []) name none ∙ some)
-    | None ↦ λ none. gives_none (y ∷ []) b name none ∙ elim (gives name b) as (λ (o : Option ℕ). gives name b ≡ o → gives name b ≡ gives name (b ++ y ∷ [])) [
-      | None ↦ λ e. e ∙ sym (gives_none b (y ∷ []) name e ∙ none)
-      | Some k ↦ λ e. e ∙ sym (gives_some b (y ∷ []) name k e)
+    -- two parts may change places
+    swapped : (name : List ℕ) → gives name (y ∷ b) ≡ gives name (b ++ y ∷ [])
+    swapped name = elim (gives name (y ∷ [])) as (λ (o : Option ℕ). gives name (y ∷ []) ≡ o → gives name (y ∷ b) ≡ gives name (b ++ y ∷ [])) [
+      | Some n ↦ λ some.
+          let none : gives name b ≡ None = elim (gives name b) as (λ (o : Option ℕ). gives name b ≡ o → o ≡ None) [
+            | None ↦ λ e. refl
+            | Some k ↦ λ e. let bad : Some n ≡ None = sym some ∙ given_once b (y ∷ []) name k behind_apart e in absurd (cc)
+          ] refl in
+          gives_some form (y ∷ []) b name n some ∙ sym (gives_none form b (y ∷ []) name none ∙ some)
+      | None ↦ λ none. gives_none form (y ∷ []) b name none ∙ elim (gives name b) as (λ (o : Option ℕ). gives name b ≡ o → gives name b ≡ gives name (b ++ y ∷ [])) [
+        | None ↦ λ e. e ∙ sym (gives_none form b (y ∷ []) name e ∙ none)
+        | Some k ↦ λ e. e ∙ sym (gives_some form b (y ∷ []) name k e)
+      ] refl
     ] refl
-  ] refl
 
-  pub moved : (map_of 0 (a ++ y ∷ b) ≡ without byte_cmp s.name (map_of 0 (a ++ x ∷ (b ++ y ∷ [])))) × AreApart (a ++ y ∷ b)
-  moved =
-      let c = b ++ y ∷ [] in
-      let less : length (a ++ y ∷ b) + 1 ≡ length (a ++ x ∷ c) =
-      let l = length-append a (x ∷ c) in let k = length-append a (y ∷ b) in let j = length-append b (y ∷ []) in omega (arith, l, k, j) in
-      let names = taken_from a c x s is distinct (a ++ y ∷ b)
-      (taken_gives a c x s is distinct (a ++ y ∷ b)
-      (none_both a (y ∷ b) s.name (none_before a c x s is distinct) (swapped s.name ∙ none_behind a c x s is distinct))
-      (λ name none ne. gives_none a (y ∷ b) name none ∙ swapped name)
-      (λ name n some. gives_some a (y ∷ b) name n some)) in
-      (names, taken_few a c x s is distinct (a ++ y ∷ b) names less)
+    pub moved : (map_of form (a ++ y ∷ b) ≡ without byte_cmp s.name (map_of form (a ++ x ∷ (b ++ y ∷ [])))) × AreApart (a ++ y ∷ b)
+    moved =
+        let c = b ++ y ∷ [] in
+        let less : length (a ++ y ∷ b) + 1 ≡ length (a ++ x ∷ c) =
+        let l = length-append a (x ∷ c) in let k = length-append a (y ∷ b) in let j = length-append b (y ∷ []) in omega (arith, l, k, j) in
+        let names = taken_from a c x s is distinct (a ++ y ∷ b)
+        (taken_gives a c x s is distinct (a ++ y ∷ b)
+        (none_both a (y ∷ b) s.name (none_before a c x s is distinct) (swapped s.name ∙ none_behind a c x s is distinct))
+        (λ name none ne. gives_none form a (y ∷ b) name none ∙ swapped name)
+        (λ name n some. gives_some form a (y ∷ b) name n some)) in
+        (names, taken_few a c x s is distinct (a ++ y ∷ b) names less)
 
--- ---- each is a slot
-all_left : (a b : List (List ℕ)) → AreFormed (a ++ b) → AreFormed a
-all_left [] b all = tt
-all_left (x ∷ a) b all = (all.0, all_left a b all.1)
+  -- ---- each is a slot
+  all_left : (a b : List (List ℕ)) → AreFormed (a ++ b) → AreFormed a
+  all_left [] b all = tt
+  all_left (x ∷ a) b all = (all.0, all_left a b all.1)
 
-all_right : (a b : List (List ℕ)) → AreFormed (a ++ b) → AreFormed b
-all_right [] b all = all
-all_right (x ∷ a) b all = all_right a b all.1
+  all_right : (a b : List (List ℕ)) → AreFormed (a ++ b) → AreFormed b
+  all_right [] b all = all
+  all_right (x ∷ a) b all = all_right a b all.1
 
-all_both : (a b : List (List ℕ)) → AreFormed a → AreFormed b → AreFormed (a ++ b)
-all_both [] b left right = right
-all_both (x ∷ a) b left right = (left.0, all_both a b left.1 right)
+  all_both : (a b : List (List ℕ)) → AreFormed a → AreFormed b → AreFormed (a ++ b)
+  all_both [] b left right = right
+  all_both (x ∷ a) b left right = (left.0, all_both a b left.1 right)
 
-pub replaced_formed : (a b : List (List ℕ)) (x y : List ℕ) → slot_in 0 y ≢ None → AreFormed (a ++ x ∷ b) → AreFormed (a ++ y ∷ b)
-replaced_formed a b x y own all = all_both a (y ∷ b) (all_left a (x ∷ b) all) (own, (all_right a (x ∷ b) all).1)
+  pub replaced_formed : (a b : List (List ℕ)) (x y : List ℕ) → slot_in form y ≢ None → AreFormed (a ++ x ∷ b) → AreFormed (a ++ y ∷ b)
+  replaced_formed a b x y own all = all_both a (y ∷ b) (all_left a (x ∷ b) all) (own, (all_right a (x ∷ b) all).1)
 
-pub last_formed : (a : List (List ℕ)) (x : List ℕ) → AreFormed (a ++ x ∷ []) → AreFormed a
-last_formed a x all = all_left a (x ∷ []) all
+  pub last_formed : (a : List (List ℕ)) (x : List ℕ) → AreFormed (a ++ x ∷ []) → AreFormed a
+  last_formed a x all = all_left a (x ∷ []) all
 
-pub moved_formed : (a b : List (List ℕ)) (x y : List ℕ) → AreFormed (a ++ x ∷ (b ++ y ∷ [])) → AreFormed (a ++ y ∷ b)
-moved_formed a b x y all =
-    let behind = (all_right a (x ∷ (b ++ y ∷ [])) all).1 in
-    all_both a (y ∷ b) (all_left a (x ∷ (b ++ y ∷ [])) all) ((all_right b (y ∷ []) behind).0, all_left b (y ∷ []) behind)
+  pub moved_formed : (a b : List (List ℕ)) (x y : List ℕ) → AreFormed (a ++ x ∷ (b ++ y ∷ [])) → AreFormed (a ++ y ∷ b)
+  moved_formed a b x y all =
+      let behind = (all_right a (x ∷ (b ++ y ∷ [])) all).1 in
+      all_both a (y ∷ b) (all_left a (x ∷ (b ++ y ∷ [])) all) ((all_right b (y ∷ []) behind).0, all_left b (y ∷ []) behind)
 
 -- ---- laws
 pub slot_replaced : SlotReplaced
-slot_replaced a b x y s t is own same distinct = replaced a b x s is distinct y t own same
+slot_replaced form a b x y s t is own same distinct = replaced form a b x s is distinct y t own same
 
 pub last_slot_taken : LastSlotTaken
-last_slot_taken a x s is distinct = (last_taken a x s is distinct).0
+last_slot_taken form a x s is distinct = (last_taken form a x s is distinct).0
 
 pub slot_taken : SlotTaken
-slot_taken a b x y s is distinct = (moved a b x y s is distinct).0
+slot_taken form a b x y s is distinct = (moved form a b x y s is distinct).0

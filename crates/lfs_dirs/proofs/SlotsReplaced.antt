@@ -7,7 +7,7 @@ use Rattle.std.specs.FinMap.{put}
 use Rattle.lfs_model.specs.Objects.{IsDirectory, WritesBytes, byte_in}
 use Rattle.lfs_model.specs.Slot.{FitsSlot, SlotValue, slot_in}
 use Rattle.lfs_model.specs.Stands.{LogMap}
-use Rattle.lfs_model.specs.Tree.{byte_cmp}
+use Rattle.lfs_model.specs.Tree.{byte_cmp, slot_len}
 use Rattle.lfs_model.specs.TreeOf.{map_of}
 use Rattle.lfs_model.proofs.Decoding.{slot_some}
 use Rattle.lfs_files.specs.declared.header.Header.{Header}
@@ -16,10 +16,11 @@ use Rattle.lfs_files.specs.Files.{AreCounted, Counted, Counts, FilesState, IsFau
 use Rattle.lfs_files.proofs.FilesCompose.{writes_behind}
 use Rattle.lfs_dirs.specs.declared.searching.Found.{Found}
 use Rattle.lfs_dirs.specs.Adding.{slot_for}
-use Rattle.lfs_dirs.specs.Directory.{slots_at}
+use Rattle.lfs_dirs.specs.Directory.{slot_count, slots_at}
 use Rattle.lfs_dirs.specs.Finding.{IsDirectoryFault}
 use Rattle.lfs_dirs.specs.Repointing.{Repoints, RepointsName}
 use Rattle.lfs_dirs.specs.Searching.{FindsSlot, IsSlotOf}
+use Rattle.lfs_dirs.proofs.Widths.{before_slot, behind_slot, slot_within}
 use Rattle.lfs_dirs.proofs.SlotPlaces.{slot_byte, slot_is, slot_long, slots_many}
 use Rattle.lfs_dirs.proofs.SlotsApart.{AreApart, AreFormed, replaced, replaced_apart, replaced_formed}
 
@@ -32,11 +33,11 @@ pub parts_set : (a : List (List ℕ)) (j : ℕ) (y : List ℕ) → j < length a 
 parts_set a j y inside = let next : suc j ≡ j + 1 = omega arith in set_split a j y inside ∙ ap (λ (k : ℕ). take j a ++ y ∷ drop k a) next
 
 -- ---- the slots
-module _ (m m' : LogMap) (d : ℕ) (head : Header) (place : ℕ) (slot : List ℕ) (inside : place < head.size / 64) (long : length slot ≡ 64) (writes : WritesBytes m m' d (as_header head) (as_header head) (64 * place) slot) where
-  apart_bytes : (j b : ℕ) → j ≢ place → b < 64 → byte_in m' d (64 * j + b) ≡ byte_in m d (64 * j + b)
+module _ (m m' : LogMap) (d : ℕ) (head : Header) (place : ℕ) (slot : List ℕ) (inside : place < slot_count head) (long : length slot ≡ slot_len head.form) (writes : WritesBytes m m' d (as_header head) (as_header head) (slot_len head.form * place) slot) where
+  apart_bytes : (j b : ℕ) → j ≢ place → b < slot_len head.form → byte_in m' d (slot_len head.form * j + b) ≡ byte_in m d (slot_len head.form * j + b)
   apart_bytes j b other low = ⊎_elim
-      (λ (before : j < place). writes.bytes.before (64 * j + b) (omega (arith, before, low)))
-      (λ (le : place ≤ j). writes.bytes.behind (64 * j + b) (omega (arith, le, other, low, long)))
+      (λ (before : j < place). writes.bytes.before (slot_len head.form * j + b) (before_slot head.form j place b before low))
+      (λ (le : place ≤ j). writes.bytes.behind (slot_len head.form * j + b) (let apart = behind_slot head.form j place (omega (arith, le, other)) in omega (arith, apart, long)))
       (cases_lt j place)
 
   pub slots_set : slots_at m' d head ≡ set (slots_at m d head) place slot
@@ -46,11 +47,11 @@ module _ (m m' : LogMap) (d : ℕ) (head : Header) (place : ℕ) (slot : List �
       let kept = length-set (slots_at m d head) place slot in
       ext_get_or [] (slots_at m' d head) (set (slots_at m d head) place slot) (omega (arith, many, many', kept))
       (λ j low.
-      let within : j < head.size / 64 = omega (arith, low, many') in
+      let within : j < slot_count head = omega (arith, low, many') in
       ⊎_elim
       (λ (here : j ≡ place).
       slot_is m' d head j slot within long
-      (λ b small. sym (writes.bytes.inside b (omega (arith, small, long))) ∙ ap (λ (k : ℕ). byte_in m' d (64 * k + b)) (sym here))
+      (λ b small. sym (writes.bytes.inside b (omega (arith, small, long))) ∙ ap (λ (k : ℕ). byte_in m' d (slot_len head.form * k + b)) (sym here))
       ∙ sym (ap (λ (k : ℕ). get_or (set (slots_at m d head) place slot) k []) here ∙ get_or-set_same (slots_at m d head) place slot [] (omega (arith, inside, many))))
       (λ (other : j ≢ place).
       slot_is m' d head j (get_or (slots_at m d head) j []) within (slot_long m d head j within)
@@ -62,8 +63,8 @@ module _ (m m' : LogMap) (d : ℕ) (head : Header) (place : ℕ) (slot : List �
 abbrev slot_value : ℕ → List ℕ → SlotValue
 slot_value n name = record { number = n; name = name }
 
-module _ (m m' : LogMap) (d : ℕ) (head : Header) (n : ℕ) (name : List ℕ) (fits : FitsSlot 0 record { number = n; name = name }) (long : length (slot_for n name) ≡ 64) (found : Found)
-    (is : IsSlotOf (slots_at m d head) name found) (dir : IsDirectory m d (as_header head)) (writes : WritesBytes m m' d (as_header head) (as_header head) (64 * found.place) (slot_for n name)) where
+module _ (m m' : LogMap) (d : ℕ) (head : Header) (n : ℕ) (name : List ℕ) (fits : FitsSlot head.form record { number = n; name = name }) (long : length (slot_for head.form n name) ≡ slot_len head.form) (found : Found)
+    (is : IsSlotOf head.form (slots_at m d head) name found) (dir : IsDirectory m d (as_header head)) (writes : WritesBytes m m' d (as_header head) (as_header head) (slot_len head.form * found.place) (slot_for head.form n name)) where
   abbrev old : List (List ℕ)
   old = slots_at m d head
 
@@ -76,43 +77,43 @@ module _ (m m' : LogMap) (d : ℕ) (head : Header) (n : ℕ) (name : List ℕ) (
   was : old ≡ before ++ get_or old found.place [] ∷ behind
   was = parts_at old found.place is.inside
 
-  now : slots_at m' d head ≡ before ++ slot_for n name ∷ behind
+  now : slots_at m' d head ≡ before ++ slot_for head.form n name ∷ behind
   now = let inside = is.inside in let many = slots_many m d head in
-      slots_set m m' d head found.place (slot_for n name) (omega (arith, inside, many)) long writes ∙ parts_set old found.place (slot_for n name) is.inside
+      slots_set m m' d head found.place (slot_for head.form n name) (omega (arith, inside, many)) long writes ∙ parts_set old found.place (slot_for head.form n name) is.inside
 
-  spelt : slot_in 0 (slot_for n name) ≡ Some record { number = n; name = name }
-  spelt = slot_some 0 (slot_for n name) record { number = n; name = name } fits refl
+  spelt : slot_in head.form (slot_for head.form n name) ≡ Some record { number = n; name = name }
+  spelt = slot_some head.form (slot_for head.form n name) record { number = n; name = name } fits refl
 
-  is_slot : slot_in 0 (slot_for n name) ≢ None
+  is_slot : slot_in head.form (slot_for head.form n name) ≢ None
   is_slot none = let bad : Some (slot_value n name) ≡ None = sym spelt ∙ none in absurd (cc)
 
-  were_apart : AreApart (before ++ get_or old found.place [] ∷ behind)
-  were_apart = subst AreApart was dir.apart
+  were_apart : AreApart head.form (before ++ get_or old found.place [] ∷ behind)
+  were_apart = subst (AreApart head.form) was dir.apart
 
   pub repoints_name : RepointsName m m' d head n name
   repoints_name = record {
     there = λ none. let bad : Some found.number.value ≡ None = sym is.gives ∙ none in absurd (cc);
     directory = record {
       whole = dir.whole;
-      formed = subst AreFormed (sym now) (replaced_formed before behind (get_or old found.place []) (slot_for n name) is_slot (subst AreFormed was dir.formed));
-      apart = subst AreApart (sym now) (replaced_apart before behind (get_or old found.place []) record { number = found.number.value; name = name } is.slot were_apart (slot_for n name) record { number = n; name = name } spelt refl);
+      formed = subst (AreFormed head.form) (sym now) (replaced_formed head.form before behind (get_or old found.place []) (slot_for head.form n name) is_slot (subst (AreFormed head.form) was dir.formed));
+      apart = subst (AreApart head.form) (sym now) (replaced_apart head.form before behind (get_or old found.place []) record { number = found.number.value; name = name } is.slot were_apart (slot_for head.form n name) record { number = n; name = name } spelt refl);
     };
     names =
-        ap (map_of 0) now
-        ∙ replaced before behind (get_or old found.place []) record { number = found.number.value; name = name } is.slot were_apart (slot_for n name) record { number = n; name = name } spelt refl
-        ∙ ap (λ (a : List (List ℕ)). put byte_cmp name n (map_of 0 a)) (sym was);
+        ap (map_of head.form) now
+        ∙ replaced head.form before behind (get_or old found.place []) record { number = found.number.value; name = name } is.slot were_apart (slot_for head.form n name) record { number = n; name = name } spelt refl
+        ∙ ap (λ (a : List (List ℕ)). put byte_cmp name n (map_of head.form a)) (sym was);
   }
 
 -- ---- the draft
 module _ {S D : Type 0} (s a s' : FilesState S D) (d : ℕ) (head : Header) (n : ℕ) (name : List ℕ) (found : Found) where
-  pub repoints : FitsSlot 0 record { number = n; name = name } → length (slot_for n name) ≡ 64 → found.place < head.size / 64 → Reads s a → Redrafts a s'
-      → FindsSlot s a d head name (Some found) → Writes a s' d head (64 * found.place) (slot_for n name) → Repoints s s' d head n name
+  pub repoints : FitsSlot head.form record { number = n; name = name } → length (slot_for head.form n name) ≡ slot_len head.form → found.place < slot_count head → Reads s a → Redrafts a s'
+      → FindsSlot s a d head name (Some found) → Writes a s' d head (slot_len head.form * found.place) (slot_for head.form n name) → Repoints s s' d head n name
   repoints fits long inside reads more finds writes = record {
     place = found.place;
-    writes = writes_behind s a s' d head (64 * found.place) (slot_for n name) reads writes;
+    writes = writes_behind s a s' d head (slot_len head.form * found.place) (slot_for head.form n name) reads writes;
     has = λ m m' keeps has.
         let f = writes.file m m' keeps (reads.has m m' has) in
-        let file = subst (λ (z : ℕ). WritesFile m' f.map d head (resized head z) (64 * found.place) (slot_for n name)) size f.file in
+        let file = subst (λ (z : ℕ). WritesFile m' f.map d head (resized head z) (slot_len head.form * found.place) (slot_for head.form n name)) size f.file in
         record {
           map = f.map;
           has = f.has;
@@ -121,8 +122,8 @@ module _ {S D : Type 0} (s a s' : FilesState S D) (d : ℕ) (head : Header) (n :
         };
   }
     where
-      size : max head.size (64 * found.place + length (slot_for n name)) ≡ head.size
-      size = omega (arith, long, inside)
+      size : max head.size (slot_len head.form * found.place + length (slot_for head.form n name)) ≡ head.size
+      size = let within = slot_within head.form found.place head.size inside in omega (arith, long, within)
 
 -- what fails after the search
 pub fails_behind : {S D : Type 0} (s a s' : FilesState S D) (d : ℕ) (head : Header) → Reads s a → IsFault a s' → IsDirectoryFault s s' d head

@@ -3,6 +3,7 @@ use Rattle.std.specs.Prelude.{max}
 use Rattle.std.proofs.Common.{◌≡◌, ◌<◌, ◌≤◌, ◌+◌, ◌*◌, ◌-◌, ◌/◌, ◌%◌, ℕ, List, [], length, get_or, Some, sym, ◌∙◌, ap, subst, arith}
 use Rattle.lfs_model.specs.Encodes.{IsLogMap}
 use Rattle.lfs_model.specs.Fields.{part}
+use Rattle.lfs_model.specs.Tree.{slot_len}
 use Rattle.lfs_model.specs.Objects.{AreLong}
 use Rattle.lfs_model.specs.Stands.{LogMap}
 use Rattle.lfs_model.proofs.ObjectMaps.{object_fits, object_kept}
@@ -11,31 +12,33 @@ use Rattle.lfs_files.specs.Files.{AreCounted, Counted, Counts, FilesState, HasFi
 use Rattle.lfs_files.specs.Headers.{FitsHeader, as_header, resized}
 use Rattle.lfs_files.proofs.FilesCompose.{still_apart}
 use Rattle.lfs_dirs.specs.declared.searching.Found.{Found}
-use Rattle.lfs_dirs.specs.Directory.{slots_at}
+use Rattle.lfs_dirs.specs.Directory.{per_block, slot_count, slots_at}
 use Rattle.lfs_dirs.specs.Searching.{FindsSlot}
 use Rattle.lfs_dirs.specs.Taking.{CountsDropped, CutsSlot, DropsSlot, HasDropped, ReadsSlot, Takes, TakesDrop, shrunk}
+use Rattle.std.specs.Prelude.{min}
+use Rattle.lfs_dirs.proofs.Widths.{one_block, one_slot, slot_next, slot_some, slot_within}
 use Rattle.lfs_dirs.proofs.SlotPlaces.{slot_in_block, slots_many}
 use Rattle.lfs_dirs.proofs.SlotsTaken.{file_cut, file_moved, slots_dropped, slots_moved, takes_name}
 
 -- A directory that is cut in a log map is one in a log map that a volume may keep.
-pub cut_kept : (m l : LogMap) (d : ℕ) (head : Header) → head.size ≤ 65536 → HasFile m d head → AreLong m d → CutsSlot m l d head → IsLogMap l
+pub cut_kept : (m l : LogMap) (d : ℕ) (head : Header) → head.size ≤ 1024 * slot_len head.form → HasFile m d head → AreLong m d → CutsSlot m l d head → IsLogMap l
 cut_kept m l d head few there long cut =
-    let was = object_fits m d (as_header head) there.map long there.there (omega (arith, few)) in
+    let was = object_fits m d (as_header head) there.map long there.there (let most = (slot_some head.form).1 in omega (arith, few, most)) in
     object_kept m l d (as_header (shrunk head)) there.map cut.only cut.header record {
       number = was.number;
       root = was.root;
-      size = omega (arith, few);
+      size = let most = (slot_some head.form).1 in omega (arith, few, most);
       whole = cut.whole was.whole;
       ends = cut.ends;
     }
 
 module _ {S D : Type 0} where
   -- ---- one slot
-  pub slot_read : (s s' : FilesState S D) (d place : ℕ) (block slot : List ℕ) → slot ≡ part (64 * (place % 8)) 64 block → TellsBlock s s' d (place / 8) block → ReadsSlot s s' d place slot
-  slot_read s s' d place block slot is told m m' keeps has head inside = slot_in_block m' d head place block (told m m' keeps has) inside ∙ sym is
+  pub slot_read : (s s' : FilesState S D) (d : ℕ) (head : Header) (place : ℕ) (block slot : List ℕ) → slot ≡ part (slot_len head.form * (place % per_block head.form)) (slot_len head.form) block → TellsBlock s s' d (place / per_block head.form) block → ReadsSlot s s' d head place slot
+  slot_read s s' d head place block slot is told m m' keeps has inside = slot_in_block m' d head place block (told m m' keeps has) inside ∙ sym is
 
   -- ---- the last slot goes
-  pub drops_last : (s s' : FilesState S D) (d : ℕ) (head : Header) (place : ℕ) → place + 1 ≡ head.size / 64 → Shrinks s s' d head (head.size - 64) → DropsSlot s s' d head place
+  pub drops_last : (s s' : FilesState S D) (d : ℕ) (head : Header) (place : ℕ) → place + 1 ≡ slot_count head → Shrinks s s' d head (head.size - slot_len head.form) → DropsSlot s s' d head place
   drops_last s s' d head place last shrinks = record {
     lost = shrinks.lost;
     headers = let few = shrinks.headers in omega (arith, few);
@@ -46,8 +49,8 @@ module _ {S D : Type 0} where
         record {
           map = f.map;
           has = f.has;
-          file = λ there. file_cut m' f.map d head (omega (arith, last)) (f.file there);
-          slots = λ there. slots_dropped m' f.map d head place last ((f.file there).shorter (omega (arith, last)));
+          file = λ there. file_cut m' f.map d head (one_slot head.form place head.size (omega (arith, last))) (f.file there);
+          slots = λ there. slots_dropped m' f.map d head place last ((f.file there).shorter (let one = one_slot head.form place head.size (omega (arith, last)) in let least = (slot_some head.form).0 in omega (arith, one, least)));
         };
   }
 
@@ -55,30 +58,30 @@ module _ {S D : Type 0} where
   counts_last s s' d head counts m a b keeps has has' there long map are = counts m a b keeps has has' there.map map are
 
   -- ---- or comes into another's place
-  module _ (s a b s' : FilesState S D) (d : ℕ) (head : Header) (place : ℕ) (slot : List ℕ) (inside : place + 1 < head.size / 64) (long : length slot ≡ 64)
-      (reads : Reads s a) (more : Redrafts a b) (last : Redrafts b s') (found : ReadsSlot s a d (head.size / 64 - 1) slot) (shrinks : Shrinks a b d head (head.size - 64))
-      (writes : Writes b s' d (shrunk head) (64 * place) slot) where
-    sized : (m m' : LogMap) → s'.device.keeps_model → s.has m m' → HasShrunk b m m' d head (head.size - 64)
+  module _ (s a b s' : FilesState S D) (d : ℕ) (head : Header) (place : ℕ) (slot : List ℕ) (inside : place + 1 < slot_count head) (long : length slot ≡ slot_len head.form)
+      (reads : Reads s a) (more : Redrafts a b) (last : Redrafts b s') (found : ReadsSlot s a d head (slot_count head - 1) slot) (shrinks : Shrinks a b d head (head.size - slot_len head.form))
+      (writes : Writes b s' d (shrunk head) (slot_len head.form * place) slot) where
+    sized : (m m' : LogMap) → s'.device.keeps_model → s.has m m' → HasShrunk b m m' d head (head.size - slot_len head.form)
     sized m m' keeps has = shrinks.has m m' (last.looks.carries.kept_before keeps) (reads.has m m' has)
 
-    size : max (head.size - 64) (64 * place + length slot) ≡ head.size - 64
-    size = omega (arith, long, inside)
+    size : max (head.size - slot_len head.form) (slot_len head.form * place + length slot) ≡ head.size - slot_len head.form
+    size = let within = slot_within head.form (place + 1) head.size inside in let next = slot_next head.form place in omega (arith, long, within, next)
 
     read : (m m' : LogMap) → s'.device.keeps_model → s.has m m' → get_or (slots_at m' d head) (length (slots_at m' d head) - 1) [] ≡ slot
     read m m' keeps has =
         ap (λ (n : ℕ). get_or (slots_at m' d head) (n - 1) []) (slots_many m' d head)
-        ∙ found m m' (more.looks.carries.kept_before (last.looks.carries.kept_before keeps)) has head (omega (arith, inside))
+        ∙ found m m' (more.looks.carries.kept_before (last.looks.carries.kept_before keeps)) has (omega (arith, inside))
 
     dropped : (m m' : LogMap) → s'.device.keeps_model → s.has m m' → HasDropped s' m m' d head place
     dropped m m' keeps has =
         let cut = sized m m' keeps has in
         let f = writes.file m cut.map keeps cut.has in
-        let file = subst (λ (z : ℕ). WritesFile cut.map f.map d (shrunk head) (resized (shrunk head) z) (64 * place) slot) size f.file in
+        let file = subst (λ (z : ℕ). WritesFile cut.map f.map d (shrunk head) (resized (shrunk head) z) (slot_len head.form * place) slot) size f.file in
         record {
           map = f.map;
           has = f.has;
           file = λ there. file_moved m' cut.map f.map d head place slot inside long (cut.file there) file;
-          slots = λ there. slots_moved m' cut.map f.map d head place slot inside long (read m m' keeps has) ((cut.file there).shorter (omega (arith, inside))) file.bytes;
+          slots = λ there. slots_moved m' cut.map f.map d head place slot inside long (read m m' keeps has) ((cut.file there).shorter (let one = one_slot head.form place head.size (omega (arith, inside)) in let least = (slot_some head.form).0 in omega (arith, one, least))) file.bytes;
         }
 
     apart_then : IsApart s.lost d → IsApart b.lost d
@@ -95,23 +98,23 @@ module _ {S D : Type 0} where
           there = cut.header;
           apart = apart_then takes.apart;
           within = λ none. absurd (takes.staged none);
-          header = subst (λ (z : ℕ). FitsHeader head.kind head.links z) (sym size) takes.header;
+          header = subst (λ (z : ℕ). FitsHeader head.kind head.form head.links z) (sym size) takes.header;
         }
 
     pub drops_other : DropsSlot s s' d head place
     drops_other = record {
       lost = λ x. writes.lost x ∙ shrinks.lost x ∙ reads.lost x;
       headers = let few = shrinks.headers in let one = writes.headers in let same = reads.headers in omega (arith, few, one, same);
-      blocks = let few = shrinks.blocks in let one = writes.blocks in let same = reads.blocks in omega (arith, few, one, same, long);
+      blocks = let few = shrinks.blocks in let one = writes.blocks in let same = reads.blocks in let whole = subst (λ (n : ℕ). (slot_len head.form * place + n) / 512 + min 1 ((slot_len head.form * place + n) % 512) ≤ slot_len head.form * place / 512 + 1) (sym long) (one_block head.form place) in omega (arith, few, one, same, whole);
       fits = fitting;
       has = dropped;
     }
 
-    pub counts_other : head.size ≤ 65536 → Counts a b → Counts b s' → CountsDropped s s' d head
+    pub counts_other : head.size ≤ 1024 * slot_len head.form → Counts a b → Counts b s' → CountsDropped s s' d head
     counts_other few first next m x y keeps has has' there whole map are =
         let before = last.looks.carries.kept_before keeps in
         let cut = sized m x keeps has in
-        let kept = cut_kept x cut.map d head few there whole (file_cut x cut.map d head (omega (arith, inside)) (cut.file there)) in
+        let kept = cut_kept x cut.map d head few there whole (file_cut x cut.map d head (one_slot head.form place head.size (omega (arith, inside))) (cut.file there)) in
         next m cut.map y keeps cut.has has' kept map
         (first m x cut.map before (reads.has m x has) cut.has there.map kept (subst (λ (t : Counted). AreCounted x t) (sym reads.drafted) are))
 

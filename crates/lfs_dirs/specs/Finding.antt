@@ -6,17 +6,17 @@ use Rattle.lfs_model.specs.Fields.{part}
 use Rattle.lfs_model.specs.Objects.{IsDirectory}
 use Rattle.lfs_model.specs.Slot.{slot_in}
 use Rattle.lfs_model.specs.Stands.{LogMap}
-use Rattle.lfs_model.specs.Tree.{byte_cmp}
+use Rattle.lfs_model.specs.Tree.{byte_cmp, slot_len}
 use Rattle.lfs_files.specs.declared.header.Header.{Header}
 use Rattle.lfs_files.specs.Files.{FilesState}
 use Rattle.lfs_files.specs.Headers.{as_header}
-use Rattle.lfs_dirs.specs.Directory.{names_at}
+use Rattle.lfs_dirs.specs.Directory.{names_at, per_block, slot_count}
 
 -- One of the first slots of a block isn't a slot.
-pub record HasNoSlot (block : List ℕ) (count : ℕ) : Type 0 where
+pub record HasNoSlot (form : ℕ) (block : List ℕ) (count : ℕ) : Type 0 where
   pub place : ℕ
   pub inside : place < count
-  pub none : slot_in 0 (part (64 * place) 64 block) ≡ None
+  pub none : slot_in form (part (slot_len form * place) (slot_len form) block) ≡ None
 
 -- the file's number as a plain one
 abbrev pub value_of : Option FileNumber → Option ℕ
@@ -34,6 +34,6 @@ module _ {S D : Type 0} (s s' : FilesState S D) where
       → s.device.failures < s'.device.failures
 
   -- the same where d has so many slots in this block
-  abbrev pub IsBlockFault : ℕ → ℕ → ℕ → Type 0
-  IsBlockFault d index count = (m m' : LogMap) → s'.device.keeps_model → s.has m m' → (head : Header)
-      → 8 * index + count ≤ head.size / 64 → IsDirectory m' d (as_header head) → s.device.failures < s'.device.failures
+  abbrev pub IsBlockFault : ℕ → ℕ → ℕ → ℕ → Type 0
+  IsBlockFault form d index count = (m m' : LogMap) → s'.device.keeps_model → s.has m m' → (head : Header) → head.form ≡ form
+      → per_block form * index + count ≤ slot_count head → IsDirectory m' d (as_header head) → s.device.failures < s'.device.failures

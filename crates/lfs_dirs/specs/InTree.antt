@@ -18,13 +18,14 @@ pub record HasDirectory (m : LogMap) (d : ℕ) (head : Header) : Type 0 where
 
 -- Its node has the names that its slots give.
 abbrev pub DirectoryNode : Type 0
-DirectoryNode = (m : LogMap) (d : ℕ) (head : Header) → HasDirectory m d head → node (tree_in m) d ≡ Some (Dir 0 (names_at m d head))
+DirectoryNode = (m : LogMap) (d : ℕ) (head : Header) → HasDirectory m d head → node (tree_in m) d ≡ Some (Dir head.form (names_at m d head))
 
 -- Only directory d changes.
 pub record ChangesDirectory (m m' : LogMap) (d : ℕ) (head head' : Header) : Type 0 where
   pub only : IsChangedAt m d m'
   pub before : HasDirectory m d head
   pub after : HasDirectory m' d head'
+  pub form : head'.form ≡ head.form
 
 -- With a name that it has, or comes to have, giving another number, so has the tree;
 abbrev pub NameInTree : Type 0
@@ -38,4 +39,4 @@ NameOffTree = (m m' : LogMap) (d : ℕ) (head head' : Header) (name : List ℕ) 
 
 -- A number that had no object and has an empty directory now: so has the tree.
 abbrev pub DirectoryMade : Type 0
-DirectoryMade = (m m' : LogMap) (d : ℕ) (head : Header) → IsChangedAt m d m' → HasDirectory m' d head → head.size ≡ 0 → tree_in m' ≡ with_node (tree_in m) d (Dir 0 [])
+DirectoryMade = (m m' : LogMap) (d : ℕ) (head : Header) → IsChangedAt m d m' → HasDirectory m' d head → head.size ≡ 0 → tree_in m' ≡ with_node (tree_in m) d (Dir head.form [])

@@ -9,7 +9,7 @@ use Rattle.lfs_model.specs.TreeOf.{map_of}
 use Rattle.lfs_files.specs.declared.header.Header.{Header}
 use Rattle.lfs_files.specs.Files.{FilesState}
 use Rattle.lfs_dirs.specs.declared.entry.Entry.{Entry}
-use Rattle.lfs_dirs.specs.Directory.{names_at, slots_at}
+use Rattle.lfs_dirs.specs.Directory.{names_at, per_block, slot_count, slots_at}
 
 -- ---- entries
 
@@ -26,37 +26,37 @@ IsPlace es name (Ok i) = (i < length es) × ((n : ℕ) (e : Entry) → e ≡ get
 IsPlace es name (Err i) = (i ≤ length es) × ((n : ℕ) → put byte_cmp name n (pairs es) ≡ take i (pairs es) ++ (name, n) ∷ drop i (pairs es))
 
 -- bytes that are slots, each of them
-abbrev pub AreSlots : List (List ℕ) → Type 0
-AreSlots = AllByRecursion (λ b. slot_in 0 b ≢ None)
+abbrev pub AreSlots : ℕ → List (List ℕ) → Type 0
+AreSlots form = AllByRecursion (λ b. slot_in form b ≢ None)
 
 -- Entries are the names that these slots give.
-pub record IsListOf (slots : List (List ℕ)) (es : List Entry) : Type 0 where
-  pub names : pairs es ≡ map_of 0 slots
-  pub formed : AreSlots slots
+pub record IsListOf (form : ℕ) (slots : List (List ℕ)) (es : List Entry) : Type 0 where
+  pub names : pairs es ≡ map_of form slots
+  pub formed : AreSlots form slots
 
 -- The names of slots become those of more slots, which stand before them.
-abbrev pub PutsSlots : List (List ℕ) → List Entry → List Entry → Type 0
-PutsSlots more es es' = (behind : List (List ℕ)) → IsListOf behind es → IsListOf (more ++ behind) es'
+abbrev pub PutsSlots : ℕ → List (List ℕ) → List Entry → List Entry → Type 0
+PutsSlots form more es es' = (behind : List (List ℕ)) → IsListOf form behind es → IsListOf form (more ++ behind) es'
 
 -- ---- a directory
 module _ {S D : Type 0} (s s' : FilesState S D) where
   -- its names, with those of one block more
-  abbrev pub ListsBlock : ℕ → ℕ → ℕ → List Entry → List Entry → Type 0
-  ListsBlock d index count es es' = (m m' : LogMap) → s'.device.keeps_model → s.has m m' → (head : Header)
-      → 8 * index + count ≤ head.size / 64 → PutsSlots (take count (drop (8 * index) (slots_at m' d head))) es es'
+  abbrev pub ListsBlock : ℕ → ℕ → ℕ → ℕ → List Entry → List Entry → Type 0
+  ListsBlock form d index count es es' = (m m' : LogMap) → s'.device.keeps_model → s.has m m' → (head : Header) → head.form ≡ form
+      → per_block form * index + count ≤ slot_count head → PutsSlots form (take count (drop (per_block form * index) (slots_at m' d head))) es es'
 
   -- all of them; each of its slots is well-formed
   abbrev pub Inspects : ℕ → Header → List Entry → Type 0
-  Inspects d head es = (m m' : LogMap) → s'.device.keeps_model → s.has m m' → IsListOf (slots_at m' d head) es
+  Inspects d head es = (m m' : LogMap) → s'.device.keeps_model → s.has m m' → IsListOf head.form (slots_at m' d head) es
 
   -- one of its slots isn't
   abbrev pub LacksSlot : ℕ → Header → Type 0
-  LacksSlot d head = (m m' : LogMap) → s'.device.keeps_model → s.has m m' → AreSlots (slots_at m' d head) → ⊥
+  LacksSlot d head = (m m' : LogMap) → s'.device.keeps_model → s.has m m' → AreSlots head.form (slots_at m' d head) → ⊥
 
   -- the same of every object that has so many slots in this block
-  abbrev pub LacksBlockSlot : ℕ → ℕ → ℕ → Type 0
-  LacksBlockSlot d index count = (m m' : LogMap) → s'.device.keeps_model → s.has m m' → (head : Header)
-      → 8 * index + count ≤ head.size / 64 → AreSlots (slots_at m' d head) → ⊥
+  abbrev pub LacksBlockSlot : ℕ → ℕ → ℕ → ℕ → Type 0
+  LacksBlockSlot form d index count = (m m' : LogMap) → s'.device.keeps_model → s.has m m' → (head : Header) → head.form ≡ form
+      → per_block form * index + count ≤ slot_count head → AreSlots head.form (slots_at m' d head) → ⊥
 
   -- all of them
   abbrev pub Lists : ℕ → Header → List Entry → Type 0

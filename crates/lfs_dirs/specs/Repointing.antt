@@ -3,7 +3,7 @@ use Rattle.std.specs.Prelude.{◌≡◌, ◌≢◌, ◌*◌, ℕ, List, None}
 use Rattle.std.specs.FinMap.{find, put}
 use Rattle.lfs_model.specs.Objects.{IsDirectory}
 use Rattle.lfs_model.specs.Stands.{LogMap}
-use Rattle.lfs_model.specs.Tree.{byte_cmp}
+use Rattle.lfs_model.specs.Tree.{byte_cmp, slot_len}
 use Rattle.lfs_files.specs.declared.header.Header.{Header}
 use Rattle.lfs_files.specs.Files.{FilesState, Writes, WritesFile}
 use Rattle.lfs_files.specs.Headers.{as_header}
@@ -21,13 +21,13 @@ module _ {S D : Type 0} where
   pub record HasRepointed (s' : FilesState S D) (m m' : LogMap) (d : ℕ) (head : Header) (place n : ℕ) (name : List ℕ) : Type 0 where
     pub map : LogMap
     pub has : s'.has m map
-    pub file : WritesFile m' map d head head (64 * place) (slot_for n name)
+    pub file : WritesFile m' map d head head (slot_len head.form * place) (slot_for head.form n name)
     pub names : IsDirectory m' d (as_header head) → RepointsName m' map d head n name
 
   -- A draft that writes a slot of directory d anew.
   pub record Repoints (s s' : FilesState S D) (d : ℕ) (head : Header) (n : ℕ) (name : List ℕ) : Type 0 where
     pub place : ℕ
-    pub writes : Writes s s' d head (64 * place) (slot_for n name)
+    pub writes : Writes s s' d head (slot_len head.form * place) (slot_for head.form n name)
     pub has : (m m' : LogMap) → s'.device.keeps_model → s.has m m' → HasRepointed s' m m' d head place n name
 
   -- Directory d doesn't have the name.

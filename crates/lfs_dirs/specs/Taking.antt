@@ -6,22 +6,22 @@ use Rattle.lfs_model.specs.Encodes.{IsLogMap}
 use Rattle.lfs_model.specs.Entry.{Entry}
 use Rattle.lfs_model.specs.Objects.{AreLong, AreStoredWhole, IsChangedAt, IsDirectory, byte_in}
 use Rattle.lfs_model.specs.Stands.{LogMap}
-use Rattle.lfs_model.specs.Tree.{byte_cmp, without}
+use Rattle.lfs_model.specs.Tree.{byte_cmp, slot_len, without}
 use Rattle.lfs_files.specs.declared.header.Header.{Header}
 use Rattle.lfs_files.specs.Files.{AreCounted, FilesState, HasFile, IsApart}
 use Rattle.lfs_files.specs.Headers.{FitsHeader, as_header, resized}
-use Rattle.lfs_dirs.specs.Directory.{names_at, slots_at}
+use Rattle.lfs_dirs.specs.Directory.{names_at, slot_count, slots_at}
 
 -- the header of a directory that has one slot less
 abbrev pub shrunk : Header → Header
-shrunk head = resized head (head.size - 64)
+shrunk head = resized head (head.size - slot_len head.form)
 
 -- Directory d is a slot shorter, and nothing is behind its end; all other files are as they were.
 pub record CutsSlot (m m' : LogMap) (d : ℕ) (head : Header) : Type 0 where
   pub header : m'.header d ≡ Some (as_header (shrunk head))
   pub only : IsChangedAt m d m'
   pub whole : AreStoredWhole m d → AreStoredWhole m' d
-  pub ends : (p : ℕ) → head.size - 64 ≤ p → byte_in m' d p ≡ 0
+  pub ends : (p : ℕ) → head.size - slot_len head.form ≤ p → byte_in m' d p ≡ 0
 
 -- A name that directory d has is gone.
 pub record TakesName (m m' : LogMap) (d : ℕ) (head : Header) (name : List ℕ) : Type 0 where
@@ -31,15 +31,15 @@ pub record TakesName (m m' : LogMap) (d : ℕ) (head : Header) (name : List ℕ)
 
 module _ {S D : Type 0} where
   -- the bytes of a slot of directory d
-  abbrev pub ReadsSlot : FilesState S D → FilesState S D → ℕ → ℕ → List ℕ → Type 0
-  ReadsSlot s s' d place slot = (m m' : LogMap) → s'.device.keeps_model → s.has m m' → (head : Header) → place < head.size / 64
+  abbrev pub ReadsSlot : FilesState S D → FilesState S D → ℕ → Header → ℕ → List ℕ → Type 0
+  ReadsSlot s s' d head place slot = (m m' : LogMap) → s'.device.keeps_model → s.has m m' → place < slot_count head
       → get_or (slots_at m' d head) place [] ≡ slot
 
   -- A log map that the draft may change: d is there, apart from what is lost, and may be a slot shorter.
   pub record TakesDrop (s : FilesState S D) (m m' : LogMap) (d : ℕ) (head : Header) : Type 0 where
     pub staged : m.header d ≢ None
     pub there : m'.header d ≡ Some (as_header head)
-    pub header : FitsHeader head.kind head.links (head.size - 64)
+    pub header : FitsHeader head.kind head.form head.links (head.size - slot_len head.form)
     pub apart : IsApart s.lost d
 
   -- Directory d is a slot shorter, the last slot being in this place.

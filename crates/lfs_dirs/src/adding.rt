@@ -1,6 +1,7 @@
 //! A name added to a directory.
-ghost use Rattle.std.specs.Prelude.{◌≡◌, ◌≤◌, true, IfErr, OnOk, IsErrOf};
+ghost use Rattle.std.specs.Prelude.{◌≡◌, ◌≤◌, ◌+◌, ◌*◌, true, IfErr, OnOk, IsErrOf};
 ghost use Rattle.lfs_model.specs.Slot.{IsName};
+ghost use Rattle.lfs_model.specs.Tree.{name_len, slot_len};
 ghost use Rattle.lfs_files.specs.Files.{Counts, IsFault, Redrafts};
 ghost use Rattle.lfs_dirs.specs.Adding.{Adds};
 ghost use Rattle.lfs_dirs.specs.Growing.{GrowsDirectory};
@@ -22,8 +23,8 @@ pub fn add<F: Files>(
     number: FileNumber,
     name: &[u8],
 ) -> Result<(), StoreFault>
-    requires room { header.size ≤ 65472 }
-    requires name { IsName 59 name.now }
+    requires room { header.size + slot_len header.form ≤ 1024 * slot_len header.form }
+    requires name { IsName (name_len header.form) name.now }
     ensures redrafts { Redrafts (F.state files.old) (F.state files.new) }
     ensures done { OnOk result (Adds (F.state files.old) (F.state files.new)
         directory.value header number.value name.now) }
@@ -35,6 +36,6 @@ pub fn add<F: Files>(
         → (F.state files.old).halted ≡ true }
     ensures other { IsErrOf result (StoreFault.Log LogFault.Full) → ⊥ }
 {
-    let slot = encode_slot(u32::from(number.value), name);
-    files.write_at(directory, header, header.size, &slot)
+    let slot = encode_slot(header.form, u32::from(number.value), name);
+    files.write_at(directory, header, header.size, slot.written())
 }

@@ -12,7 +12,7 @@ use std::cmp::Ordering;
 /// A name in a directory and the number of the file that it gives.
 #[derive(Drop)]
 pub struct Entry {
-    /// 1 to 59 bytes.
+    /// 1 to 59 bytes in a directory of form 0, else 1 to 123.
     pub name: Vec<u8>,
     pub number: FileNumber,
 }

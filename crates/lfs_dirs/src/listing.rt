@@ -1,14 +1,15 @@
 //! The names of a directory, listed in order.
-ghost use Rattle.std.specs.Prelude.{◌≡◌, ◌≢◌, ◌<◌, ◌≤◌, true, IfOk, IfErr, OnOk, IsErrOf, None};
+ghost use Rattle.std.specs.Prelude.{◌≡◌, ◌≢◌, ◌<◌, ◌≤◌, length, true, IfOk, IfErr, OnOk, IsErrOf, None};
 ghost use Rattle.lfs_model.specs.Slot.{slot_in};
 ghost use Rattle.lfs_model.specs.TreeOf.{with_slot};
 ghost use Rattle.lfs_files.specs.Files.{IsFault, Reads};
-ghost use Rattle.lfs_dirs.specs.Directory.{first_slots};
+ghost use Rattle.lfs_model.specs.Tree.{slot_len};
+ghost use Rattle.lfs_dirs.specs.Directory.{first_slots, per_block};
 ghost use Rattle.lfs_dirs.specs.Finding.{HasNoSlot, IsDirectoryFault, IsBlockFault};
 ghost use Rattle.lfs_dirs.specs.Listing.{PutsSlots, ListsBlock, Lists, Inspects, LacksSlot, LacksBlockSlot, pairs};
 
 use crate::entry::{Entry, put_entry};
-use crate::slots::{SLOT, SLOTS_IN_BLOCK};
+use crate::slots::{slots_in_block, slots_of};
 use lfs_files::{Files, Header, LogFault, StoreFault};
 use lfs_layout::{SlotView, nth_slot};
 use lfs_model::FileNumber;
@@ -78,13 +79,22 @@ pub fn inspect<F: Files>(
         → (F.state files.old).halted ≡ true }
     ensures other { IsErrOf result (ListFault.Log LogFault.Full) → ⊥ }
 {
-    let slots = header.size / SLOT;
+    let slots = slots_of(header);
+    let whole = slots_in_block(header.form);
     let mut entries = Vec::new(alloc);
-    let mut index = slots.div_ceil(SLOTS_IN_BLOCK);
+    let mut index = slots.div_ceil(whole);
     while index > 0 {
         index -= 1;
-        let count = (slots - SLOTS_IN_BLOCK * index).min(SLOTS_IN_BLOCK);
-        match list_block(alloc, files, directory, index, count as usize, &mut entries) {
+        let count = (slots - whole * index).min(whole) as usize;
+        match list_block(
+            alloc,
+            files,
+            directory,
+            header.form,
+            index,
+            count,
+            &mut entries,
+        ) {
             Ok(()) => {}
             Err(fault) => return Err(fault),
         }
@@ -98,18 +108,19 @@ fn list_block<F: Files>(
     alloc: Global,
     files: &mut F,
     directory: FileNumber,
+    form: u8,
     index: u32,
     count: usize,
     entries: &mut Vec<Entry>,
 ) -> Result<(), ListFault>
-    requires few { count ≤ 8 }
+    requires few { count ≤ per_block form }
     ensures reads { Reads (F.state files.old) (F.state files.new) }
-    ensures done { OnOk result (ListsBlock (F.state files.old) (F.state files.new) directory.value
+    ensures done { OnOk result (ListsBlock (F.state files.old) (F.state files.new) form directory.value
         index count entries.old.items entries.new.items) }
     ensures failed { IfErr result (λ fault. (fault ≡ ListFault.NoMemory → ⊥)
-        → IsBlockFault (F.state files.old) (F.state files.new) directory.value index count) }
+        → IsBlockFault (F.state files.old) (F.state files.new) form directory.value index count) }
     ensures malformed { IsErrOf result ListFault.NoSlot
-        → LacksBlockSlot (F.state files.old) (F.state files.new) directory.value index count }
+        → LacksBlockSlot (F.state files.old) (F.state files.new) form directory.value index count }
     ensures device { IsErrOf result (ListFault.Log LogFault.Device)
         → IsFault (F.state files.old) (F.state files.new) }
     ensures halted { IsErrOf result (ListFault.Log LogFault.Halted)
@@ -121,7 +132,7 @@ fn list_block<F: Files>(
         Ok(_) => {}
         Err(fault) => return Err(ListFault::Log(fault)),
     }
-    match put_slots(alloc, &block, count, entries) {
+    match put_slots(alloc, &block, form, count, entries) {
         Ok(()) => Ok(()),
         Err(SlotFault::NoMemory) => Err(ListFault::NoMemory),
         Err(SlotFault::NoSlot) => Err(ListFault::NoSlot),
@@ -140,18 +151,19 @@ enum SlotFault {
 fn put_slots(
     alloc: Global,
     block: &[u8; 512],
+    form: u8,
     count: usize,
     entries: &mut Vec<Entry>,
 ) -> Result<(), SlotFault>
-    requires { count ≤ 8 }
-    ensures done { OnOk result (PutsSlots (first_slots block.now count)
+    requires { count ≤ per_block form }
+    ensures done { OnOk result (PutsSlots form (first_slots form block.now count)
         entries.old.items entries.new.items) }
-    ensures broken { IfErr result (λ fault. fault ≡ SlotFault.NoSlot → HasNoSlot block.now count) }
+    ensures broken { IfErr result (λ fault. fault ≡ SlotFault.NoSlot → HasNoSlot form block.now count) }
 {
     let mut place = count;
     while place > 0 {
         place -= 1;
-        match put_slot(alloc, nth_slot(block, place), entries) {
+        match put_slot(alloc, form, nth_slot(block, form, place), entries) {
             Ok(()) => {}
             Err(fault) => return Err(fault),
         }
@@ -160,13 +172,15 @@ fn put_slots(
 }
 
 /// The name of a slot comes in.
-fn put_slot(alloc: Global, slot: &[u8; 64], entries: &mut Vec<Entry>) -> Result<(), SlotFault>
-    ensures done { OnOk result (pairs entries.new.items ≡ with_slot (slot_in 0 slot.now)
+fn put_slot(alloc: Global, form: u8, slot: &[u8], entries: &mut Vec<Entry>) -> Result<(), SlotFault>
+    requires { length slot.now ≡ slot_len form }
+    ensures done { OnOk result (pairs entries.new.items ≡ with_slot (slot_in form slot.now)
         (pairs entries.old.items)) }
-    ensures formed { OnOk result (slot_in 0 slot.now ≢ None) }
-    ensures broken { IfErr result (λ fault. fault ≡ SlotFault.NoSlot → slot_in 0 slot.now ≡ None) }
+    ensures formed { OnOk result (slot_in form slot.now ≢ None) }
+    ensures broken { IfErr result (λ fault. fault ≡ SlotFault.NoSlot
+        → slot_in form slot.now ≡ None) }
 {
-    let Some(view) = SlotView::decode(slot) else {
+    let Some(view) = SlotView::decode(form, slot) else {
         return Err(SlotFault::NoSlot);
     };
     let number = FileNumber {

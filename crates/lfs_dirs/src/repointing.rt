@@ -1,15 +1,15 @@
 //! A name that comes to give another number.
-ghost use Rattle.std.specs.Prelude.{◌≡◌, ◌≤◌, true, IfOk, IfErr, IsErrOf, IsTrue, IsFalse};
+ghost use Rattle.std.specs.Prelude.{◌≡◌, ◌≤◌, ◌*◌, true, IfOk, IfErr, IsErrOf, IsTrue, IsFalse};
 ghost use Rattle.lfs_model.specs.Slot.{IsName};
+ghost use Rattle.lfs_model.specs.Tree.{name_len, slot_len};
 ghost use Rattle.lfs_files.specs.Files.{Counts, Reads, Redrafts};
 ghost use Rattle.lfs_dirs.specs.Finding.{IsDirectoryFault};
 ghost use Rattle.lfs_dirs.specs.Growing.{GrowsDirectory};
 ghost use Rattle.lfs_dirs.specs.Repointing.{Repoints, Lacks};
 
 use crate::searching::search;
-use crate::slots::SLOT;
 use lfs_files::{Files, Header, LogFault, StoreFault};
-use lfs_layout::encode_slot;
+use lfs_layout::{encode_slot, slot_len};
 use lfs_model::FileNumber;
 
 /// Drafts another number for a name of a directory of this header, if it has the name.
@@ -24,8 +24,8 @@ pub fn repoint<F: Files>(
     name: &[u8],
     number: FileNumber,
 ) -> Result<bool, StoreFault>
-    requires size { header.size ≤ 65536 }
-    requires name { IsName 59 name.now }
+    requires size { header.size ≤ 1024 * slot_len header.form }
+    requires name { IsName (name_len header.form) name.now }
     ensures redrafts { Redrafts (F.state files.old) (F.state files.new) }
     ensures done { IfOk result (λ found. IsTrue found → Repoints (F.state files.old) (F.state
         files.new) directory.value header number.value name.now) }
@@ -48,8 +48,9 @@ pub fn repoint<F: Files>(
         Ok(None) => return Ok(false),
         Err(fault) => return Err(StoreFault::Log(fault)),
     };
-    let slot = encode_slot(u32::from(number.value), name);
-    match files.write_at(directory, header, SLOT * found.place, &slot) {
+    let slot = encode_slot(header.form, u32::from(number.value), name);
+    let at = slot_len(header.form) * found.place;
+    match files.write_at(directory, header, at, slot.written()) {
         Ok(()) => {}
         Err(fault) => return Err(fault),
     }

@@ -1,13 +1,13 @@
 //! The slot of a name, searched in a directory.
 ghost use Rattle.std.specs.Prelude.{◌≡◌, ◌<◌, ◌≤◌, ◌/◌, true, IfOk, IfSome, OnErr, IsErrOf};
 ghost use Rattle.lfs_files.specs.Files.{Reads};
-ghost use Rattle.lfs_dirs.specs.Directory.{first_slots};
+ghost use Rattle.lfs_dirs.specs.Directory.{first_slots, per_block, slot_count};
 ghost use Rattle.lfs_dirs.specs.Finding.{HasNoSlot, IsDirectoryFault, IsBlockFault};
 ghost use Rattle.lfs_dirs.specs.Searching.{FindsIn, FindsInBlock, FindsSlot};
 
-use crate::slots::{SLOT, SLOTS_IN_BLOCK};
+use crate::slots::{slots_in_block, slots_of};
 use lfs_files::{Files, Header, LogFault};
-use lfs_layout::{SlotView, nth_slot};
+use lfs_layout::{SlotView, has_name, nth_slot};
 use lfs_model::FileNumber;
 
 /// A slot that has the name looked for.
@@ -33,17 +33,18 @@ pub fn search<F: Files>(
     ensures reads { Reads (F.state files.old) (F.state files.new) }
     ensures answer { IfOk result (FindsSlot (F.state files.old) (F.state files.new)
         directory.value header name.now) }
-    ensures inside { IfOk result (λ found. IfSome found (λ slot. slot.place < header.size / 64)) }
+    ensures inside { IfOk result (λ found. IfSome found (λ slot. slot.place < slot_count header)) }
     ensures failed { OnErr result (IsDirectoryFault (F.state files.old)
         (F.state files.new) directory.value header) }
     ensures halted { IsErrOf result LogFault.Halted → (F.state files.old).halted ≡ true }
     ensures other { IsErrOf result LogFault.Full → ⊥ }
 {
-    let slots = header.size / SLOT;
-    for index in 0..slots.div_ceil(SLOTS_IN_BLOCK) {
-        let first = SLOTS_IN_BLOCK * index;
-        let count = (slots - first).min(SLOTS_IN_BLOCK);
-        match search_block(files, directory, index, count, name) {
+    let slots = slots_of(header);
+    let whole = slots_in_block(header.form);
+    for index in 0..slots.div_ceil(whole) {
+        let first = whole * index;
+        let count = (slots - first).min(whole);
+        match search_block(files, directory, header.form, index, count, name) {
             Ok(Some(found)) => {
                 return Ok(Some(Found {
                     place: first + found.place,
@@ -61,17 +62,18 @@ pub fn search<F: Files>(
 fn search_block<F: Files>(
     files: &mut F,
     directory: FileNumber,
+    form: u8,
     index: u32,
     count: u32,
     name: &[u8],
 ) -> Result<Option<Found>, LogFault>
-    requires few { count ≤ 8 }
+    requires few { count ≤ per_block form }
     ensures reads { Reads (F.state files.old) (F.state files.new) }
-    ensures answer { IfOk result (FindsInBlock (F.state files.old) (F.state files.new)
+    ensures answer { IfOk result (FindsInBlock (F.state files.old) (F.state files.new) form
         directory.value index count name.now) }
     ensures inside { IfOk result (λ found. IfSome found (λ slot. slot.place < count)) }
     ensures failed { OnErr result (IsBlockFault (F.state files.old)
-        (F.state files.new) directory.value index count) }
+        (F.state files.new) form directory.value index count) }
     ensures halted { IsErrOf result LogFault.Halted → (F.state files.old).halted ≡ true }
     ensures other { IsErrOf result LogFault.Full → ⊥ }
 {
@@ -80,7 +82,7 @@ fn search_block<F: Files>(
         Ok(_) => {}
         Err(fault) => return Err(fault),
     }
-    match search_slots(&block, count, name) {
+    match search_slots(&block, form, count, name) {
         Ok(found) => Ok(found),
         Err(NoSlot) => Err(LogFault::Device),
     }
@@ -90,17 +92,23 @@ fn search_block<F: Files>(
 struct NoSlot;
 
 /// The same in the first slots of a block.
-fn search_slots(block: &[u8; 512], count: u32, name: &[u8]) -> Result<Option<Found>, NoSlot>
-    requires { count ≤ 8 }
-    ensures found { IfOk result (FindsIn (first_slots block.now count) name.now) }
+fn search_slots(
+    block: &[u8; 512],
+    form: u8,
+    count: u32,
+    name: &[u8],
+) -> Result<Option<Found>, NoSlot>
+    requires { count ≤ per_block form }
+    ensures found { IfOk result (FindsIn form (first_slots form block.now count) name.now) }
     ensures inside { IfOk result (λ found. IfSome found (λ slot. slot.place < count)) }
-    ensures broken { OnErr result (HasNoSlot block.now count) }
+    ensures broken { OnErr result (HasNoSlot form block.now count) }
 {
     for place in 0..count {
-        let Some(view) = SlotView::decode(nth_slot(block, place as usize)) else {
-            return Err(NoSlot);
-        };
-        if view.name() == name {
+        let slot = nth_slot(block, form, place as usize);
+        if has_name(slot, name) {
+            let Some(view) = SlotView::decode(form, slot) else {
+                return Err(NoSlot);
+            };
             return Ok(Some(Found {
                 place,
                 number: FileNumber {

@@ -1,14 +1,16 @@
 //! A name taken out of a directory.
-ghost use Rattle.std.specs.Prelude.{◌≡◌, ◌<◌, ◌≤◌, ◌/◌, ◌%◌, true, IfOk, IfErr, OnOk, OnErr, IsErrOf, IsTrue, IsFalse};
+ghost use Rattle.std.specs.Prelude.{◌≡◌, ◌<◌, ◌≤◌, ◌*◌, ◌%◌, true, IfOk, IfErr, OnOk, IsErrOf, IsTrue, IsFalse};
 ghost use Rattle.lfs_files.specs.Files.{IsFault, Reads, Redrafts};
 ghost use Rattle.lfs_dirs.specs.Finding.{IsDirectoryFault};
 ghost use Rattle.lfs_dirs.specs.Repointing.{Lacks};
-ghost use Rattle.lfs_dirs.specs.Taking.{CountsDropped, ReadsSlot, DropsSlot, Takes};
+ghost use Rattle.lfs_model.specs.Tree.{slot_len};
+ghost use Rattle.lfs_dirs.specs.Directory.{slot_count};
+ghost use Rattle.lfs_dirs.specs.Taking.{CountsDropped, DropsSlot, Takes};
 
 use crate::searching::search;
-use crate::slots::{SLOT, SLOTS_IN_BLOCK};
+use crate::slots::slots_in_block;
 use lfs_files::{Files, Header, LogFault, StoreFault};
-use lfs_layout::nth_slot;
+use lfs_layout::{nth_slot, slot_len};
 use lfs_model::FileNumber;
 
 /// Drafts a directory of this header without a name, if it has the name. Its last slot comes into
@@ -24,7 +26,7 @@ pub fn take<F: Files>(
     header: Header,
     name: &[u8],
 ) -> Result<bool, StoreFault>
-    requires size { header.size ≤ 65536 }
+    requires size { header.size ≤ 1024 * slot_len header.form }
     ensures redrafts { Redrafts (F.state files.old) (F.state files.new) }
     ensures done { IfOk result (λ found. IsTrue found
         → Takes (F.state files.old) (F.state files.new) directory.value header name.now) }
@@ -45,7 +47,7 @@ pub fn take<F: Files>(
         Ok(None) => return Ok(false),
         Err(fault) => return Err(StoreFault::Log(fault)),
     };
-    if header.size % SLOT != 0 {
+    if header.size % slot_len(header.form) != 0 {
         return Err(StoreFault::Log(LogFault::Device));
     }
     match drop_slot(files, directory, header, found.place) {
@@ -62,9 +64,9 @@ fn drop_slot<F: Files>(
     header: Header,
     place: u32,
 ) -> Result<(), StoreFault>
-    requires size { header.size ≤ 65536 }
-    requires even { header.size % 64 ≡ 0 }
-    requires inside { place < header.size / 64 }
+    requires size { header.size ≤ 1024 * slot_len header.form }
+    requires even { header.size % slot_len header.form ≡ 0 }
+    requires inside { place < slot_count header }
     ensures redrafts { Redrafts (F.state files.old) (F.state files.new) }
     ensures done { OnOk result (DropsSlot (F.state files.old)
         (F.state files.new) directory.value header place) }
@@ -76,44 +78,35 @@ fn drop_slot<F: Files>(
         → (F.state files.old).halted ≡ true }
     ensures other { IsErrOf result (StoreFault.Log LogFault.Full) → ⊥ }
 {
-    let size = header.size - SLOT;
-    let last = size / SLOT;
+    let slot = slot_len(header.form);
+    let size = header.size - slot;
+    let last = size / slot;
     if place == last {
         return files.shrink(directory, header, size);
     }
-    let slot = match slot_at(files, directory, last) {
-        Ok(slot) => slot,
+    let mut block = [0; 512];
+    match files.block(directory, last / slots_in_block(header.form), &mut block) {
+        Ok(_) => {}
         Err(fault) => return Err(StoreFault::Log(fault)),
-    };
+    }
+    let bytes = nth_slot(
+        &block,
+        header.form,
+        (last % slots_in_block(header.form)) as usize,
+    );
     match files.shrink(directory, header, size) {
         Ok(()) => {}
         Err(fault) => return Err(fault),
     }
     let shorter = Header {
         kind: header.kind,
+        form: header.form,
         links: header.links,
         size,
     };
-    match files.write_at(directory, shorter, SLOT * place, &slot) {
+    match files.write_at(directory, shorter, slot * place, bytes) {
         Ok(()) => {}
         Err(fault) => return Err(fault),
     }
     Ok(())
-}
-
-/// The bytes of a slot of a directory.
-fn slot_at<F: Files>(files: &mut F, directory: FileNumber, place: u32) -> Result<[u8; 64], LogFault>
-    ensures reads { Reads (F.state files.old) (F.state files.new) }
-    ensures answer { IfOk result (ReadsSlot (F.state files.old)
-        (F.state files.new) directory.value place) }
-    ensures failed { OnErr result (IsFault (F.state files.old) (F.state files.new)) }
-    ensures halted { IsErrOf result LogFault.Halted → (F.state files.old).halted ≡ true }
-    ensures other { IsErrOf result LogFault.Full → ⊥ }
-{
-    let mut block = [0; 512];
-    match files.block(directory, place / SLOTS_IN_BLOCK, &mut block) {
-        Ok(_) => {}
-        Err(fault) => return Err(fault),
-    }
-    Ok(*nth_slot(&block, (place % SLOTS_IN_BLOCK) as usize))
 }

@@ -132,7 +132,7 @@ module _ {S D : Type 0} where
     pub there : m'.header n ≡ Some (as_header h)
     pub apart : IsApart s.lost n
     pub within : m.header n ≡ None → at + length w ≤ 57344
-    pub header : FitsHeader h.kind h.links (max h.size (at + length w))
+    pub header : FitsHeader h.kind h.form h.links (max h.size (at + length w))
 
   -- With the draft there is another log map, where bytes are laid over a file; its blocks around them are as they were.
   pub record HasWritten (s' : FilesState S D) (m m' : LogMap) (n : ℕ) (h h' : Header) (at : ℕ) (w : List ℕ) : Type 0 where
@@ -164,7 +164,7 @@ module _ {S D : Type 0} where
     pub kept : head.size ≤ len → (x : Entry) → s'.lost x ≡ false
     pub headers : s'.headers ≤ 1
     pub blocks : s'.blocks ≤ 1
-    pub fits : (m m' : LogMap) → s.has m m' → m'.header n ≡ Some (as_header head) → FitsHeader head.kind head.links len → s'.fits m
+    pub fits : (m m' : LogMap) → s.has m m' → m'.header n ≡ Some (as_header head) → FitsHeader head.kind head.form head.links len → s'.fits m
     pub file : (m m' : LogMap) → s'.device.keeps_model → s.has m m' → HasSized s' m m' n head (resized head len) len
 
   -- ---- cutting in the last block
@@ -174,7 +174,7 @@ module _ {S D : Type 0} where
     pub there : m'.header n ≡ Some (as_header h)
     pub apart : IsApart s.lost n
     pub within : m.header n ≡ None → len < 57344
-    pub header : FitsHeader h.kind h.links len
+    pub header : FitsHeader h.kind h.form h.links len
 
   -- With the draft there is another log map, where the file is cut, if it was there with this header.
   pub record HasShrunk (s' : FilesState S D) (m m' : LogMap) (n : ℕ) (h : Header) (len : ℕ) : Type 0 where

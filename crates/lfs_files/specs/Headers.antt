@@ -2,24 +2,25 @@
 use Rattle.std.specs.Prelude.{◌≡◌, ◌≤◌, ℕ, Option, Some, None}
 use Rattle.lfs_model.specs.declared.Kind.{Kind}
 use Rattle.lfs_model.specs.Entry as entry
-use Rattle.lfs_model.specs.Inode.{IsSize}
+use Rattle.lfs_model.specs.Inode.{IsForm, IsSize}
 use Rattle.lfs_model.specs.Stands.{LogMap}
 use Rattle.lfs_files.specs.declared.header.Header.{Header}
 
 -- a header as the model has it
 abbrev pub as_header : Header → entry.Header
-as_header h = record { kind = h.kind; form = 0; links = h.links; size = h.size }
+as_header h = record { kind = h.kind; form = h.form; links = h.links; size = h.size }
 
 -- the header of a file that has another size
 abbrev pub resized : Header → ℕ → Header
-resized h size = record { kind = h.kind; links = h.links; size = size }
+resized h size = record { kind = h.kind; form = h.form; links = h.links; size = size }
 
 -- whether file n is there, and what its inode says of it
 abbrev pub HeaderAnswer : LogMap → ℕ → Option Header → Type 0
 HeaderAnswer m n None = m.header n ≡ None
 HeaderAnswer m n (Some h) = m.header n ≡ Some (as_header h)
 
--- what an inode's header may be, where the file may have lost its last link
-pub record FitsHeader (kind : Kind) (links size : ℕ) : Type 0 where
+-- what an inode's header may be in the first version of the layout, where the file may have lost its last link
+pub record FitsHeader (kind : Kind) (form links size : ℕ) : Type 0 where
+  pub known : IsForm 1 kind form
   pub links_few : links ≤ 1000
-  pub size_fits : IsSize 0 kind size
+  pub size_fits : IsSize form kind size

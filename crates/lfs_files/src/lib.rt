@@ -8,4 +8,4 @@ mod header;
 
 pub use fault::{LogFault, StoreFault};
 pub use files::Files;
-pub use header::Header;
+pub use header::{FIRST_FORM, Header};

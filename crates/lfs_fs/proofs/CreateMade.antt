@@ -1,5 +1,5 @@
 -- An object drafted under the last piece of a path, from what was read and drafted to the call as a step of the model.
-use Rattle.std.proofs.Common.{◌≡◌, ◌≢◌, ◌<◌, ◌≤◌, ◌+◌, ◌||◌, ◌&&◌, not, ℕ, Bool, true, false, List, length, Some, None, refl, sym, ◌∙◌, ap, subst, arith}
+use Rattle.std.proofs.Common.{◌≡◌, ◌≢◌, ◌<◌, ◌≤◌, ◌+◌, ◌*◌, ◌||◌, ◌&&◌, not, ℕ, Bool, true, false, List, length, Some, None, refl, sym, ◌∙◌, ap, subst, arith}
 use Rattle.std.specs.Prelude.{count_by, max}
 use Rattle.std.specs.FinMap.{find, put}
 use Rattle.lfs_model.specs.declared.Kind.{Kind}
@@ -13,7 +13,7 @@ use Rattle.lfs_model.specs.Entry.{Inode}
 use Rattle.lfs_model.specs.Objects.{IsHeaderOf}
 use Rattle.lfs_model.specs.Stands.{LogMap}
 use Rattle.lfs_model.specs.Step.{is_full, is_long, is_there, last_dots, name, no_last}
-use Rattle.lfs_model.specs.Tree.{State, Tree, byte_cmp, is_dir, least, links, links_at, node}
+use Rattle.lfs_model.specs.Tree.{State, Tree, byte_cmp, is_dir, least, links, links_at, name_len, node, slot_len}
 use Rattle.lfs_model.specs.Walk.{At, Parent}
 use Rattle.lfs_model.proofs.Keeps.{parent_dir}
 use Rattle.lfs_store.specs.memory.declared.batch.Loss.{Loss}
@@ -53,7 +53,8 @@ use Rattle.lfs_fs.proofs.Created.{NamesNew, created_log}
 use Rattle.lfs_fs.proofs.EntrySteps.{NewCall, with_entry}
 use Rattle.lfs_fs.proofs.Files.{IsMapOf, no_header_none}
 use Rattle.lfs_fs.proofs.NewObjects.{IsMade, object_counted, object_fits, object_log, object_loss, object_made}
-use Rattle.lfs_fs.proofs.Headers.{directory_grows}
+use Rattle.lfs_fs.proofs.Headers.{directory_grows, known_form}
+use Rattle.lfs_fs.proofs.Slots.{slot_some}
 use Rattle.lfs_fs.proofs.Holding.{headers_of_volume, map_of_volume, shape_of_volume}
 use Rattle.lfs_fs.proofs.InDirectories.{directory_kind, directory_node, free_directory, least_number, linked_directory, linked_names, made_header, names_new, names_there, new_in_directory, short_in_directory}
 use Rattle.lfs_fs.proofs.WritingEnds.{still_more, AreDrafts, accepted_serves, with_table, draft_turned, totals_read}
@@ -74,7 +75,7 @@ module _ (c c' : Changes) (d : ℕ) (head : Header) (t : BlockTotals) where
   linked_map kind.Link same m there = subst (λ (x : Changes). IsWithHeader (staged c m) d (Some (as_header head)) (staged x m)) (sym same) (same_header m there)
 
   linked_fits : (k : Kind) → RelinksParent c c' d head t k → (m : LogMap) → FitsBatch m c → (staged c m).header d ≡ Some (as_header head) → 0 < head.links → is_lost c.loss (Inode d) ≡ false
-      → FitsHeader head.kind (more_links k head.links) head.size → FitsBatch m c'
+      → FitsHeader head.kind head.form (more_links k head.links) head.size → FitsBatch m c'
   linked_fits kind.File same m fits there some apart header = subst (FitsBatch m) (sym same) fits
   linked_fits kind.Directory sets m fits there some apart header = sets.0.fits m fits there some apart header
   linked_fits kind.Link same m fits there some apart header = subst (FitsBatch m) (sym same) fits
@@ -113,7 +114,7 @@ module _ {D : Type 0} (state : D → DeviceState) (lawful : (d : D) → IsLawful
   head' = relinked head (more_links (kind_of_new of.kind) head.links)
 
   abbrev slot : List ℕ
-  slot = slot_for n last.name.now
+  slot = slot_for head.form n last.name.now
 
   still_mid : IsStill state v (seen mid)
   still_mid = still_more state lawful v (seen old) (seen mid) reached.still only.still
@@ -167,8 +168,8 @@ module _ {D : Type 0} (state : D → DeviceState) (lawful : (d : D) → IsLawful
       dir_fits : IsHeaderOf d (as_header head)
       dir_fits = headers_of_volume state v k m0 m s is d (as_header head) looks.0
 
-      low : head.size < 65536
-      low = let room = takes.room in omega (arith, room)
+      low : head.size ≤ 1023 * slot_len head.form
+      low = takes.room
 
       free : m.header n ≡ None
       free = vacant.free k m0 m in_mid
@@ -183,7 +184,7 @@ module _ {D : Type 0} (state : D → DeviceState) (lawful : (d : D) → IsLawful
       absent = new_in_directory (segments_of v) m s map d dir head looks.0 path (ap (λ (x : List ℕ). find byte_cmp x (names_at m d head)) says.1 ∙ sym looks.1)
 
       short : is_long s.tree d path ≡ false
-      short = short_in_directory (segments_of v) m s map d dir head looks.0 path (subst (λ (x : List ℕ). length x ≤ 59) (sym says.1) takes.is_name.short)
+      short = short_in_directory (segments_of v) m s map d dir head looks.0 path (subst (λ (x : List ℕ). length x ≤ name_len head.form) (sym says.1) takes.is_name.short)
 
       space : is_full s.tree d ≡ false
       space = free_directory (segments_of v) m s map d dir head looks.0 dir_fits low
@@ -214,9 +215,9 @@ module _ {D : Type 0} (state : D → DeviceState) (lawful : (d : D) → IsLawful
           (linked_directory (segments_of v) m s map d dir head looks.0 (between m) n of.kind other made (more_links (kind_of_new of.kind) head.links) (linked m) links_made dir_fits)
           (ap (find byte_cmp last.name.now) (linked_names (segments_of v) m s map d dir head looks.0 (between m) n of.kind other made (more_links (kind_of_new of.kind) head.links) (linked m) links_made) ∙ sym looks.1)
 
-      does : NamesNew m (between m) (staged c m) d n of.kind head (head.size + 64) head.size slot (name path)
-      does = names_new (segments_of v) m s map d dir head looks.0 (between m) n of.kind other made (more_links (kind_of_new of.kind) head.links) (linked m) links_made (staged c m) (head.size + 64) head.size slot writes (name path)
-          refl (let few_bytes = low in omega (arith, few_bytes)) adds.directory (adds.names ∙ ap (λ (x : List ℕ). put byte_cmp x n (names_at (linked m) d head')) (sym says.1))
+      does : NamesNew m (between m) (staged c m) d n of.kind head (head.size + slot_len head.form) head.size slot (name path)
+      does = names_new (segments_of v) m s map d dir head looks.0 (between m) n of.kind other made (more_links (kind_of_new of.kind) head.links) (linked m) links_made (staged c m) (head.size + slot_len head.form) head.size slot writes (name path)
+          refl (let few_bytes = low in let most = (slot_some head.form).1 in omega (arith, few_bytes, most)) adds.directory (adds.names ∙ ap (λ (x : List ℕ). put byte_cmp x n (names_at (linked m) d head')) (sym says.1))
 
       -- the directory is linked, and stays within 1,000 links
       some_links : 0 < head.links
@@ -226,8 +227,8 @@ module _ {D : Type 0} (state : D → DeviceState) (lawful : (d : D) → IsLawful
           let same : head.links ≡ links s.tree d = is.log.links d (as_header head) looks.0 ∙ ap (λ (t : Tree). links t d) (sym is.log.is) in
           omega (arith, counted, same)
 
-      links_fit : FitsHeader head.kind (more_links (kind_of_new of.kind) head.links) head.size
-      links_fit = record { links_few = few_links (kind_of_new of.kind) few; size_fits = dir_fits.size }
+      links_fit : FitsHeader head.kind head.form (more_links (kind_of_new of.kind) head.links) head.size
+      links_fit = record { known = known_form d head dir_fits; links_few = few_links (kind_of_new of.kind) few; size_fits = dir_fits.size }
         where
           few_links : (k : Kind) → (k ≡ kind.Directory → head.links < 1000) → more_links k head.links ≤ 1000
           few_links kind.File below = dir_fits.links
@@ -254,10 +255,10 @@ module _ {D : Type 0} (state : D → DeviceState) (lawful : (d : D) → IsLawful
           loss_same : is_ready.drafts.linked.loss ≡ is_ready.drafts.between.loss
           loss_same = linked_loss is_ready.drafts.between is_ready.drafts.linked d head is_ready.drafts.half (kind_of_new of.kind) is_ready.drafts.relinks
 
-          grows : FitsHeader head.kind (more_links (kind_of_new of.kind) head.links) (max head.size (head.size + length slot))
+          grows : FitsHeader head.kind head.form (more_links (kind_of_new of.kind) head.links) (max head.size (head.size + length slot))
           grows =
               let larger = directory_grows d head dir_fits (directory_kind (segments_of v) m s map d dir head looks.0) low in
-              subst (λ (z : ℕ). FitsHeader head.kind (more_links (kind_of_new of.kind) head.links) z) writes.bytes.size record { links_few = links_fit.links_few; size_fits = larger.size_fits }
+              subst (λ (z : ℕ). FitsHeader head.kind head.form (more_links (kind_of_new of.kind) head.links) z) writes.bytes.size record { known = links_fit.known; links_few = links_fit.links_few; size_fits = larger.size_fits }
 
       -- and its totals are those of its log map
       counted_here : IsLogMap (staged c m)
@@ -283,11 +284,11 @@ module _ {D : Type 0} (state : D → DeviceState) (lawful : (d : D) → IsLawful
         let does_here = does keeps k m0 m s is in
         let counted = counted_here keeps k m0 m s is
         (created_log (segments_of v) m (between m) (staged c m) s map_here is.version path d walk n
-        first top absent_here of.kind head (head.size + 64) head.size slot does_here) in
+        first top absent_here of.kind head (head.size + slot_len head.form) head.size slot does_here) in
         let ends = entry_ends (segments_of v) m s map_here totals_of_tree
         (shape_of_volume state v k m0 m s is) (staged c m) ready.store.drafted.data_blocks
         ready.store.drafted.meta_blocks counted is.version path d walk (between m) n first top
-        absent_here of.kind head (head.size + 64) head.size slot does_here of.call of.is_mkdir makes
+        absent_here of.kind head (head.size + slot_len head.form) head.size slot does_here of.call of.is_mkdir makes
         named (short keeps k m0 m s is)
         (ap (λ (b : Bool). b && not of.is_mkdir) reached.last.1 ∙ takes.plain)
         (space keeps k m0 m s is) (allowed k m0 m s (kept_mid keeps) is walk) in

@@ -105,7 +105,7 @@ pub record NamesNew (m m1 m' : LogMap) (d n : ℕ) (k : NewKind) (head : Header)
   pub writes : WritesFile m1 m' d head (resized (relinked head (more_links (kind_of_new k) head.links)) size) at w
   pub small : size ≤ 8511488
   pub directory : IsDirectory m' d (as_header (resized (relinked head (more_links (kind_of_new k) head.links)) size))
-  pub names : map_of 0 (slots m' d (as_header (resized (relinked head (more_links (kind_of_new k) head.links)) size))) ≡ put byte_cmp nm n (map_of 0 (slots m d (as_header head)))
+  pub names : map_of head.form (slots m' d (as_header (resized (relinked head (more_links (kind_of_new k) head.links)) size))) ≡ put byte_cmp nm n (map_of head.form (slots m d (as_header head)))
 
 module _ (N : ℕ) (m m1 m' : LogMap) (s : State) (is : IsMapOf N m s) (version : s.version ≡ 1) (p : List ℕ) (d : ℕ) (walk : Parent s.tree p (At d)) (n : ℕ) (first : least s.tree ≡ n) (top : n ≤ 4095)
     (new : is_there s.tree d p ≡ false) (k : NewKind) (head : Header) (size at : ℕ) (w : List ℕ) (does : NamesNew m m1 m' d n k head size at w (name p)) where
@@ -143,12 +143,12 @@ module _ (N : ℕ) (m m1 m' : LogMap) (s : State) (is : IsMapOf N m s) (version 
   is_directory = kind_by_node m d (as_header head) head.kind (ap is_dir (sym (node_by_header N m s is.log d (as_header head) in_range_d does.there)) ∙ dir)
 
   abbrev old_names : Names
-  old_names = map_of 0 (slots m d (as_header head))
+  old_names = map_of head.form (slots m d (as_header head))
 
-  dir_was : node s.tree d ≡ Some (Dir 0 old_names)
+  dir_was : node s.tree d ≡ Some (Dir head.form old_names)
   dir_was = node_by_header N m s is.log d (as_header head) in_range_d does.there ∙ ap (λ (k : Kind). Some (node_by m k d (as_header head))) is_directory
 
-  form_is : form_of (node s.tree d) ≡ 0
+  form_is : form_of (node s.tree d) ≡ head.form
   form_is = ap form_of dir_was
 
   names_are : names_in s.tree d ≡ old_names
@@ -177,16 +177,16 @@ module _ (N : ℕ) (m m1 m' : LogMap) (s : State) (is : IsMapOf N m s) (version 
   now_new : node (tree_in m') n ≡ Some (new_node k)
   now_new = node_elsewhere m1 m' d n does.writes.only other ∙ made_node N m m1 s is n in_range free k does.made
 
-  now_dir : node (tree_in m') d ≡ Some (Dir 0 (put byte_cmp (name p) n old_names))
+  now_dir : node (tree_in m') d ≡ Some (Dir head.form (put byte_cmp (name p) n old_names))
   now_dir =
       node_in m' d in_range_d.0 in_range_d.1 ∙ ap (node_of m' d) does.writes.header
       ∙ ap (λ (k : Kind). Some (node_by m' k d (as_header head'))) is_directory
-      ∙ ap (λ (ms : Names). Some (Dir 0 ms)) does.names
+      ∙ ap (λ (ms : Names). Some (Dir head.form ms)) does.names
 
   now_others : (q : ℕ) → q ≢ n → q ≢ d → node (tree_in m') q ≡ node s.tree q
   now_others q a b = node_elsewhere m1 m' d q does.writes.only b ∙ made_elsewhere N m m1 s is n in_range free k does.made q a
 
-  dir_same : Some (Dir 0 (put byte_cmp (name p) n old_names)) ≡ Some (Dir (form_of (node s.tree d)) (put byte_cmp (name p) (least s.tree) (names_in s.tree d)))
+  dir_same : Some (Dir head.form (put byte_cmp (name p) n old_names)) ≡ Some (Dir (form_of (node s.tree d)) (put byte_cmp (name p) (least s.tree) (names_in s.tree d)))
   dir_same = λ i. Some (Dir (sym form_is i) (put byte_cmp (name p) (sym first i) (sym names_are i)))
 
   same_nodes : (q : ℕ) → node (tree_in m') q ≡ node t' q

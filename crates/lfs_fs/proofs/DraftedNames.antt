@@ -23,7 +23,7 @@ relinked_names : (m m3 : LogMap) (d : ℕ) (head : Header) (l : ℕ)
     → IsDirectory m3 d (as_header (relinked head l))
     × (names_at m3 d (relinked head l) ≡ names_at m d head)
 relinked_names m m3 d head l blocks dir =
-    directory_stays m m3 d head (relinked head l) blocks refl dir
+    directory_stays m m3 d head (relinked head l) blocks refl refl dir
 
 -- ---- names of one directory
 
@@ -43,7 +43,7 @@ still_found names na nb n old found_a found_b other =
 
 -- two headers of files that one header of the model stands for are one
 abbrev of_model : entry.Header → Header
-of_model h = record { kind = h.kind; links = h.links; size = h.size }
+of_model h = record { kind = h.kind; form = h.form; links = h.links; size = h.size }
 
 one_header : (a b : Header) → as_header a ≡ as_header b → a ≡ b
 one_header a b same = ap of_model same

@@ -88,7 +88,7 @@ pub record NewCall (N : ℕ) (p : List ℕ) (d : ℕ) : Type 0 where
   pub is_mkdir : Bool
   pub makes : (s : State) → s.version ≡ 1 → Parent s.tree p (At d) → MakesEntry N s p d call kind is_mkdir
   pub arguments : AreArguments call
-  pub sized : FitsHeader (kind_of_new kind) (first_links (kind_of_new kind)) (length (text_of_new kind))
+  pub sized : FitsHeader (kind_of_new kind) 0 (first_links (kind_of_new kind)) (length (text_of_new kind))
   pub short : length (text_of_new kind) ≤ 1023
   pub changing : changes call ≡ true
   pub uncommitted : commits call ≡ false
@@ -100,17 +100,17 @@ pub none_short : 0 ≤ 1023
 none_short = omega arith
 
 -- the headers of an empty file, of an empty directory and of a link
-pub file_sized : FitsHeader kinds.File 1 0
+pub file_sized : FitsHeader kinds.File 0 1 0
 unfolding IsSize
-file_sized = record { links_few = omega arith; size_fits = omega arith }
+file_sized = record { known = tt; links_few = omega arith; size_fits = omega arith }
 
-pub directory_sized : FitsHeader kinds.Directory 2 0
+pub directory_sized : FitsHeader kinds.Directory 0 2 0
 unfolding IsSize
-directory_sized = record { links_few = omega arith; size_fits = (refl, omega arith) }
+directory_sized = record { known = tt; links_few = omega arith; size_fits = (refl, omega arith) }
 
-pub link_sized : (size : ℕ) → 1 ≤ size → size ≤ 1023 → FitsHeader kinds.Link 1 size
+pub link_sized : (size : ℕ) → 1 ≤ size → size ≤ 1023 → FitsHeader kinds.Link 0 1 size
 unfolding IsSize
-link_sized size some few = record { links_few = omega arith; size_fits = (some, few) }
+link_sized size some few = record { known = tt; links_few = omega arith; size_fits = (some, few) }
 
 abbrev pub create_call : (N : ℕ) (p : List ℕ) (d : ℕ) → AreBytes p → NewCall N p d
 create_call N p d bytes = record {

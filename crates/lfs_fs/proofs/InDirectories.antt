@@ -27,6 +27,7 @@ use Rattle.lfs_fs.proofs.Checks.{below, not_below, at_most, not_at_most}
 use Rattle.lfs_fs.specs.Naming.{NewKind, kind_of_new, more_links}
 use Rattle.lfs_fs.proofs.Created.{NamesNew, kind_by_node}
 use Rattle.lfs_fs.proofs.NewObjects.{IsMade}
+use Rattle.lfs_fs.proofs.Slots.{all_slots, free_slots, slots_whole, some_slot}
 use Rattle.lfs_fs.proofs.Files.{IsMapOf, dir_there, no_header_none, node_by_header}
 
 -- a map that has a name isn't empty
@@ -44,9 +45,9 @@ module _ (N : ℕ) (m : LogMap) (s : State) (is : IsMapOf N m s) (d : ℕ) (dir 
 
   -- the names in it
   abbrev pub names_there : Names
-  names_there = map_of 0 (slots m d (as_header head))
+  names_there = map_of head.form (slots m d (as_header head))
 
-  pub directory_node : node s.tree d ≡ Some (Dir 0 names_there)
+  pub directory_node : node s.tree d ≡ Some (Dir head.form names_there)
   directory_node = node_by_header N m s is.log d (as_header head) in_range there ∙ ap (λ (k : Kind). Some (node_by m k d (as_header head))) directory_kind
 
   pub names_in_directory : names_in s.tree d ≡ names_there
@@ -55,29 +56,28 @@ module _ (N : ℕ) (m : LogMap) (s : State) (is : IsMapOf N m s) (d : ℕ) (dir 
   pub entry_in_directory : (piece : List ℕ) → entry_in s.tree d piece ≡ find byte_cmp piece names_there
   entry_in_directory piece = ap (find byte_cmp piece) names_in_directory
 
-  pub limit_in_directory : name_limit s.tree d ≡ 59
+  pub limit_in_directory : name_limit s.tree d ≡ name_len head.form
   limit_in_directory = ap (λ (o : Option Node). name_len (form_of o)) directory_node
 
   -- so many bytes
-  pub size_of_directory : IsHeaderOf d (as_header head) → 64 * length (names_in s.tree d) ≡ head.size
+  pub size_of_directory : IsHeaderOf d (as_header head) → slot_len head.form * length (names_in s.tree d) ≡ head.size
   size_of_directory fits =
-      let many : length (names_in s.tree d) ≡ head.size / 64 = ap length names_in_directory ∙ (is.log.formed d (as_header head) there directory_kind).1 ∙ slots_length m d (as_header head) in
-      let whole : head.size % 64 ≡ 0 = fits.slots directory_kind in
-      omega (arith, many, whole)
+      slots_whole head.form (length (names_in s.tree d)) head.size
+      (ap length names_in_directory ∙ (is.log.formed d (as_header head) there directory_kind).1 ∙ slots_length m d (as_header head)) (fits.slots directory_kind)
 
   -- one that has a name has a slot
   pub slot_in_directory : IsHeaderOf d (as_header head) → (nm : List ℕ) (n : ℕ)
-      → find byte_cmp nm names_there ≡ Some n → 64 ≤ head.size
+      → find byte_cmp nm names_there ≡ Some n → slot_len head.form ≤ head.size
   slot_in_directory fits nm n found =
       let size = size_of_directory fits in
       let some = some_names names_there nm n found in
       let same = ap length names_in_directory in
-      omega (arith, size, some, same)
+      some_slot head.form (length (names_in s.tree d)) head.size size (omega (arith, some, same))
 
   -- ---- what create asks of it
   module _ (p : List ℕ) where
-    pub short_in_directory : length (name p) ≤ 59 → is_long s.tree d p ≡ false
-    short_in_directory short = ap (λ (k : ℕ). nat_lt k (length (name p))) limit_in_directory ∙ not_below 59 (length (name p)) short
+    pub short_in_directory : length (name p) ≤ name_len head.form → is_long s.tree d p ≡ false
+    short_in_directory short = ap (λ (k : ℕ). nat_lt k (length (name p))) limit_in_directory ∙ not_below (name_len head.form) (length (name p)) short
 
     pub there_in_directory : (n : ℕ) → find byte_cmp (name p) names_there ≡ Some n → is_there s.tree d p ≡ true
     there_in_directory n found = ap is_some (entry_in_directory (name p) ∙ found)
@@ -85,11 +85,11 @@ module _ (N : ℕ) (m : LogMap) (s : State) (is : IsMapOf N m s) (d : ℕ) (dir 
     pub new_in_directory : find byte_cmp (name p) names_there ≡ None → is_there s.tree d p ≡ false
     new_in_directory none = ap is_some (entry_in_directory (name p) ∙ none)
 
-  pub full_directory : IsHeaderOf d (as_header head) → 65536 ≤ head.size → is_full s.tree d ≡ true
-  full_directory fits full = let many = size_of_directory fits in at_most 1024 (length (names_in s.tree d)) (omega arith)
+  pub full_directory : IsHeaderOf d (as_header head) → 1023 * slot_len head.form < head.size → is_full s.tree d ≡ true
+  full_directory fits full = at_most 1024 (length (names_in s.tree d)) (all_slots head.form (length (names_in s.tree d)) head.size (size_of_directory fits) full)
 
-  pub free_directory : IsHeaderOf d (as_header head) → head.size < 65536 → is_full s.tree d ≡ false
-  free_directory fits free = let many = size_of_directory fits in not_at_most 1024 (length (names_in s.tree d)) (omega arith)
+  pub free_directory : IsHeaderOf d (as_header head) → head.size ≤ 1023 * slot_len head.form → is_full s.tree d ≡ false
+  free_directory fits free = not_at_most 1024 (length (names_in s.tree d)) (free_slots head.form (length (names_in s.tree d)) head.size (size_of_directory fits) free)
 
   pub directory_formed : IsHeaderOf d (as_header head) → IsDirectory m d (as_header head)
   directory_formed fits = let formed = is.log.formed d (as_header head) there directory_kind in record { whole = fits.slots directory_kind; formed = formed.0; apart = formed.1 }
@@ -115,19 +115,19 @@ module _ (N : ℕ) (m : LogMap) (s : State) (is : IsMapOf N m s) (d : ℕ) (dir 
 
       slots_by : slots m2 d (as_header head2) ≡ slots m1 d (as_header head)
       unfolding slots
-      slots_by = ap (λ (bytes : List ℕ). map (λ j. take (slot_len 0) (drop (slot_len 0 * j) bytes)) (range_with_len 0 (head.size / slot_len 0))) object_2
+      slots_by = ap (λ (bytes : List ℕ). map (λ j. take (slot_len head.form) (drop (slot_len head.form * j) bytes)) (range_with_len 0 (head.size / slot_len head.form))) object_2
 
       slots_2 : slots m2 d (as_header head2) ≡ slots m d (as_header head)
       slots_2 = slots_by ∙ slots_1
 
-      pub linked_names : map_of 0 (slots m2 d (as_header head2)) ≡ names_there
-      linked_names = ap (map_of 0) slots_2
+      pub linked_names : map_of head.form (slots m2 d (as_header head2)) ≡ names_there
+      linked_names = ap (map_of head.form) slots_2
 
       pub linked_directory : IsHeaderOf d (as_header head) → IsDirectory m2 d (as_header head2)
       linked_directory fits =
           let was = directory_formed fits in record {
             whole = was.whole;
-            formed = subst (AllByRecursion (λ b. slot_in 0 b ≢ None)) (sym slots_2) was.formed;
+            formed = subst (AllByRecursion (λ b. slot_in head.form b ≢ None)) (sym slots_2) was.formed;
             apart = ap length linked_names ∙ was.apart ∙ ap length (sym slots_2);
           }
 
@@ -160,14 +160,14 @@ module _ (N : ℕ) (m : LogMap) (s : State) (is : IsMapOf N m s) (d : ℕ) (dir 
 
         -- a slot added to it there names the object
         pub names_new : (nm : List ℕ) → links ≡ more_links (kind_of_new k) head.links → size ≤ 8511488 → IsDirectory m' d (as_header (resized head2 size))
-            → map_of 0 (slots m' d (as_header (resized head2 size))) ≡ put byte_cmp nm n (map_of 0 (slots m2 d (as_header head2))) → NamesNew m m1 m' d n k head size at w nm
+            → map_of head.form (slots m' d (as_header (resized head2 size))) ≡ put byte_cmp nm n (map_of head.form (slots m2 d (as_header head2))) → NamesNew m m1 m' d n k head size at w nm
         names_new nm right small directory names = record {
           there = there;
           made = made;
           writes = subst (λ (l : ℕ). WritesFile m1 m' d head (resized (relinked head l) size) at w) right writes_1;
           small = small;
           directory = subst (λ (l : ℕ). IsDirectory m' d (as_header (resized (relinked head l) size))) right directory;
-          names = subst (λ (l : ℕ). map_of 0 (slots m' d (as_header (resized (relinked head l) size))) ≡ put byte_cmp nm n names_there) right (names ∙ ap (put byte_cmp nm n) linked_names);
+          names = subst (λ (l : ℕ). map_of head.form (slots m' d (as_header (resized (relinked head l) size))) ≡ put byte_cmp nm n names_there) right (names ∙ ap (put byte_cmp nm n) linked_names);
         }
 
 -- ---- the least number

@@ -29,6 +29,7 @@ use Rattle.lfs_fs.proofs.Changed.{shape_kept}
 use Rattle.lfs_fs.proofs.Files.{IsShaped, IsMapOf}
 use Rattle.lfs_fs.proofs.MovedNames.{never, only_at}
 use Rattle.lfs_model.specs.Sound.{Sound}
+use Rattle.lfs_fs.proofs.Slots.{slot_some}
 
 -- Each object that is there was there, and its links are others by what goes and what comes.
 abbrev pub Shifts : LogMap → LogMap → (ℕ → ℕ) → (ℕ → ℕ) → Type 0
@@ -195,7 +196,7 @@ pub record HasHolder (m : LogMap) (d : ℕ) (head : Header) : Type 0 where
   pub number : (1 ≤ d) × (d ≤ 4095)
   pub there : m.header d ≡ Some (as_header head)
   pub kind : head.kind ≡ kind.Directory
-  pub few : head.size ≤ 65536
+  pub few : head.size ≤ 1024 * slot_len head.form
 
 pub holder_directory : (m : LogMap) (d : ℕ) (head : Header) → IsShaped m → HasHolder m d head
     → IsDirectory m d (as_header head)
@@ -215,7 +216,7 @@ module _ (m m' : LogMap) (d : ℕ) (head : Header) (nm : List ℕ) (kept : IsSha
   where
     was_object : IsObject m d (as_header head)
     was_object = object_fits m d (as_header head) kept.map (kept.long d)
-        has.there (let few = has.few in omega (arith, few))
+        has.there (let few = has.few in let most = (slot_some head.form).1 in omega (arith, few, most))
 
     pub taken_kept : IsShaped m'
     taken_kept = shape_kept m m' d cut.only kept
@@ -230,6 +231,7 @@ module _ (m m' : LogMap) (d : ℕ) (head : Header) (nm : List ℕ) (kept : IsSha
           only = cut.only;
           before = record { number = has.number; header = has.there; kind = has.kind };
           after = record { number = has.number; header = cut.header; kind = has.kind };
+          form = refl;
         }
         takes.names
 
@@ -241,12 +243,12 @@ module _ (m m' : LogMap) (d : ℕ) (head : Header) (nm : List ℕ) (kept : IsSha
 
 module _ (m m' : LogMap) (d n : ℕ) (head head' : Header) (at : ℕ) (w nm : List ℕ)
     (kept : IsShaped m) (has : HasHolder m d head) (is_dir : head'.kind ≡ kind.Directory)
-    (links : head'.links ≡ head.links) (small : head'.size ≤ 8511488)
+    (form : head'.form ≡ head.form) (links : head'.links ≡ head.links) (small : head'.size ≤ 8511488)
     (writes : WritesFile m m' d head head' at w) (directory : IsDirectory m' d (as_header head'))
     (names : names_at m' d head' ≡ put byte_cmp nm n (names_at m d head)) where
   holder_object : IsObject m d (as_header head)
   holder_object = object_fits m d (as_header head) kept.map (kept.long d)
-      has.there (let few = has.few in omega (arith, few))
+      has.there (let few = has.few in let most = (slot_some head.form).1 in omega (arith, few, most))
 
   written_object : IsObject m' d (as_header head')
   written_object = record {
@@ -270,6 +272,7 @@ module _ (m m' : LogMap) (d n : ℕ) (head head' : Header) (at : ℕ) (w nm : Li
         only = writes.only;
         before = record { number = has.number; header = has.there; kind = has.kind };
         after = record { number = has.number; header = writes.header; kind = is_dir };
+        form = form;
       }
       names
 

@@ -26,16 +26,16 @@ name_of_good limit w good = record {
   dotdot = good.not_dot_dot;
 }
 
--- it is one of at most 59 bytes, where the directory's names are
-pub last_is_name : (N : ℕ) (s : State) → Sound N s → (p : List ℕ) (d : ℕ) → name_limit s.tree d ≡ 59
+-- it is one of at most so many bytes, where the directory's names are
+pub last_is_name : (N : ℕ) (s : State) → Sound N s → (p : List ℕ) (d limit : ℕ) → name_limit s.tree d ≡ limit
     → AreBytes p → Parent s.tree p (At d) → (no_last p || last_dots p) ≡ false
-    → length (name p) ≤ 59 → IsName 59 (name p)
-last_is_name N s sound p d limit_is bytes walk named short =
+    → length (name p) ≤ limit → IsName limit (name p)
+last_is_name N s sound p d limit limit_is bytes walk named short =
     let text = good_text p (parent_dir N s sound p d walk).1 in
-    name_of_good 59 (name p)
+    name_of_good limit (name p)
     (subst (λ (k : ℕ). IsGoodName k (name p)) limit_is
     (good_name s.tree d p bytes text.0 named is_short))
   where
     is_short : is_long s.tree d p ≡ false
     is_short = ap (λ (k : ℕ). nat_lt k (length (name p))) limit_is
-        ∙ not_below 59 (length (name p)) short
+        ∙ not_below limit (length (name p)) short

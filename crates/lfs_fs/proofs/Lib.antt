@@ -28,6 +28,7 @@ mod NewObjects
 mod Created
 mod Listed
 mod InDirectories
+mod Slots
 mod Headers
 mod RowFacts
 mod Holding

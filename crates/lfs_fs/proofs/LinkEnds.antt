@@ -45,7 +45,7 @@ use Rattle.lfs_fs.specs.Refusals.{refusal_of}
 use Rattle.lfs_fs.specs.Seen.{OnlyReads, answer_by, seen}
 use Rattle.lfs_fs.specs.Volume.{IsIn, IsStill, Mounted, Serves, segments_of}
 use Rattle.lfs_fs.proofs.Files.{IsMapOf, IsShaped, need_shaped}
-use Rattle.lfs_fs.proofs.Headers.{directory_grows}
+use Rattle.lfs_fs.proofs.Headers.{directory_grows, known_form}
 use Rattle.lfs_fs.proofs.Holding.{headers_of_volume, map_of_volume, shape_of_volume}
 use Rattle.lfs_fs.proofs.InDirectories.{directory_formed, directory_kind}
 use Rattle.lfs_fs.proofs.LinkRefusals.{asks}
@@ -99,7 +99,7 @@ module _ {D : Type 0} (state : D → DeviceState) (lawful : (d : D) → IsLawful
     between m = staged drafts.linked m
 
     abbrev slot : List ℕ
-    slot = slot_for n l.name.now
+    slot = slot_for head.form n l.name.now
 
     still_ready : IsStill state v (seen ready)
     still_ready = still_more state lawful v (seen mid) (seen ready) still_mid drafted
@@ -179,7 +179,7 @@ module _ {D : Type 0} (state : D → DeviceState) (lawful : (d : D) → IsLawful
       -- and the directory the name
       same_directory : IsDirectory (between m) d (as_header head)
           × (names_at (between m) d head ≡ names_at m d head)
-      same_directory = directory_stays m (between m) d head head (λ i. with_it.block d i) refl
+      same_directory = directory_stays m (between m) d head head (λ i. with_it.block d i) refl refl
           (directory_formed (segments_of v) m s map d is_directory head found_d.0 fits_d)
 
       writes : WritesFile (between m) (staged c m) d head (grown head) head.size slot
@@ -191,9 +191,9 @@ module _ {D : Type 0} (state : D → DeviceState) (lawful : (d : D) → IsLawful
           ∙ ap (λ (x : List ℕ). find byte_cmp x (names_at m d head)) (sym piece_is) ∙ found_d.1)
 
       writes_b : WritesFile (between m) (staged c m) d head (grown head) head.size
-          (slot_for n (name b))
+          (slot_for head.form n (name b))
       writes_b = subst (λ (x : List ℕ). WritesFile (between m) (staged c m) d head (grown head)
-          head.size (slot_for n x)) (sym piece_is) writes
+          head.size (slot_for head.form n x)) (sym piece_is) writes
 
       adds_b : AddsName (between m) (staged c m) d head n (name b)
       adds_b = subst (AddsName (between m) (staged c m) d head n) (sym piece_is) adds
@@ -207,18 +207,17 @@ module _ {D : Type 0} (state : D → DeviceState) (lawful : (d : D) → IsLawful
           drafts.sets.fits m (draft_empty mid.store.draft.changes m none_drafted).1 staged_n
           (some_links place)
           (ap (λ (x : Loss). is_lost x (Inode n)) none_drafted.loss)
-          record { links_few = omega (arith, few); size_fits = fits_n.size }
+          record { known = known_form n object fits_n; links_few = omega (arith, few); size_fits = fits_n.size }
 
       no_loss : drafts.linked.loss ≡ Nothing
       no_loss = drafts.sets.loss (omega arith) ∙ none_drafted.loss
 
-      grows : FitsHeader head.kind head.links (max head.size (head.size + length slot))
+      grows : FitsHeader head.kind head.form head.links (max head.size (head.size + length slot))
       grows =
-          let room = takes.room in
           let larger = directory_grows d head fits_d
           (directory_kind (segments_of v) m s map d is_directory head found_d.0)
-          (omega (arith, room)) in
-          subst (λ (z : ℕ). FitsHeader head.kind head.links z) writes.bytes.size larger
+          takes.room in
+          subst (λ (z : ℕ). FitsHeader head.kind head.form head.links z) writes.bytes.size larger
 
       fits_here : FitsBatch m c
       fits_here = drafts.adds.fits k m0 m in_mid linked_fits record {

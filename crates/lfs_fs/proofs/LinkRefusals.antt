@@ -30,7 +30,7 @@ use Rattle.lfs_fs.proofs.LaterPaths.{later_reaches, later_refused}
 use Rattle.lfs_fs.proofs.LinkSteps.{link_asks, link_many, second_refused}
 use Rattle.lfs_fs.proofs.NewRefusals as rule
 use Rattle.lfs_fs.proofs.NewRefusals.{NewEntryCall}
-use Rattle.lfs_fs.proofs.OldEntries.{dots_are, entry_is, has_last, is_plain, object_there, short_is, still}
+use Rattle.lfs_fs.proofs.OldEntries.{dots_are, entry_is, has_last, is_plain, object_there, short_is, still, there_d}
 
 -- ---- the first path names an object, and the second is walked
 
@@ -49,8 +49,8 @@ module _ {D : Type 0} (state : D → DeviceState) (lawful : (d : D) → IsLawful
         let walk = reached.walk k m0 m s before is in record {
           walk = walk;
           named = dots_are state lawful v old a da piece reached l is_last mid only false has.named;
-          short = short_is state lawful v old a da piece reached l is_last mid only k m0 m s is walk
-              has.short;
+          short = short_is state lawful v old a da piece reached l is_last mid only k m0 m s is walk head
+              (there_d state lawful v old a da piece reached l is_last mid only k m0 m s is walk kept head n has.sees.looks) has.short;
           found = entry_is state lawful v old a da piece reached l is_last mid only k m0 m s is walk
               kept head n has.sees.looks;
           ends = (has_last state lawful v old a da piece reached l is_last mid only).1 ∙ has.plain;

@@ -1,8 +1,8 @@
 -- A further name of a file or a link, from the log map before the call to the state after it.
-use Rattle.std.proofs.Common.{◌≡◌, ◌≢◌, ◌<◌, ◌≤◌, ◌+◌, ◌∙◌, ℕ, Bool, true, false, List, Some, refl, sym, ap, subst, arith}
+use Rattle.std.proofs.Common.{◌≡◌, ◌≢◌, ◌<◌, ◌≤◌, ◌+◌, ◌∙◌, ℕ, Bool, true, false, List, Some, refl, sym, ap, subst, arith, ◌*◌}
 use Rattle.lfs_model.specs.Entry as entry
 use Rattle.lfs_model.specs.Stands.{LogMap}
-use Rattle.lfs_model.specs.Tree.{State, Dir, Tree, entry as entry_in, form_of, is_dir, links, names_in, node, with_name}
+use Rattle.lfs_model.specs.Tree.{Dir, State, Tree, entry as entry_in, form_of, is_dir, links, names_in, node, slot_len, with_name}
 use Rattle.lfs_fs.proofs.Files.{IsMapOf, IsShaped, dir_there}
 use Rattle.lfs_fs.specs.HardLinks.{NamesObject}
 use Rattle.lfs_model.specs.Walk.{Parent, At}
@@ -23,6 +23,7 @@ use Rattle.lfs_path.specs.dirs.Adding.{AddsName, grown, slot_for}
 use Rattle.lfs_fs.proofs.LinkSteps.{linked}
 use Rattle.lfs_fs.proofs.MovedNames.{links_more, link_of, nothing_at, only_at}
 use Rattle.lfs_model.specs.Sound.{Sound}
+use Rattle.lfs_fs.proofs.Slots.{slot_some}
 
 -- A name gives the object n, which is no directory, and directory d lacks the other name.
 pub record IsLink (N : ℕ) (m : LogMap) (s : State) (a b : List ℕ) (da d n : ℕ)
@@ -34,7 +35,7 @@ pub record IsLink (N : ℕ) (m : LogMap) (s : State) (a b : List ℕ) (da d n : 
   pub walk : Parent s.tree b (At d)
   pub absent : is_there s.tree d b ≡ false
   pub holder : m.header d ≡ Some (as_header head)
-  pub small : head.size ≤ 65472
+  pub small : head.size ≤ 1023 * slot_len head.form
 
 module _ {N : ℕ} {m : LogMap} {s : State} {a b : List ℕ} {da d n : ℕ} {head object : Header}
     (g : IsLink N m s a b da d n head object) where
@@ -93,18 +94,18 @@ module _ {N : ℕ} {m : LogMap} {s : State} {a b : List ℕ} {da d n : ℕ} {hea
     }
 
     -- ---- and the directory the name, whether there is room or not
-    module _ {m' : LogMap} (writes : WritesFile m1 m' d head (grown head) head.size (slot_for n nm))
+    module _ {m' : LogMap} (writes : WritesFile m1 m' d head (grown head) head.size (slot_for head.form n nm))
         (adds : AddsName m1 m' d head n nm) where
       few_grown : (grown head).size ≤ 8511488
-      few_grown = omega (arith, small)
+      few_grown = let most = (slot_some head.form).1 in omega (arith, small, most)
 
       pub linked_shape : IsShaped m'
-      linked_shape = written_kept m1 m' d n head (grown head) head.size (slot_for n nm) nm shape_1
-          holder_1 holder_1.kind refl few_grown writes adds.directory adds.names
+      linked_shape = written_kept m1 m' d n head (grown head) head.size (slot_for head.form n nm) nm shape_1
+          holder_1 holder_1.kind refl refl few_grown writes adds.directory adds.names
 
       pub linked_tree : tree_in m' ≡ linked N s a b n d
-      linked_tree = written_tree m1 m' d n head (grown head) head.size (slot_for n nm) nm shape_1
-          holder_1 holder_1.kind refl few_grown writes adds.directory adds.names
+      linked_tree = written_tree m1 m' d n head (grown head) head.size (slot_for head.form n nm) nm shape_1
+          holder_1 holder_1.kind refl refl few_grown writes adds.directory adds.names
           ∙ ap (λ (t : Tree). with_name t d nm n)
           (relinked_tree m m1 n (as_header object) (object.links + 1) shaped g.names.there g.few
           made ∙ sym is.log.is)
@@ -112,8 +113,8 @@ module _ {N : ℕ} {m : LogMap} {s : State} {a b : List ℕ} {da d n : ℕ} {hea
       linked_links : (q : ℕ) (h : entry.Header) → m'.header q ≡ Some h
           → h.links ≡ links (linked N s a b n d) q
       linked_links q h at =
-          let second = written_shifts m1 m' d n head (grown head) head.size (slot_for n nm) nm
-          shape_1 holder_1 holder_1.kind refl few_grown writes adds.directory adds.names q h at in
+          let second = written_shifts m1 m' d n head (grown head) head.size (slot_for head.form n nm) nm
+          shape_1 holder_1 holder_1.kind refl refl few_grown writes adds.directory adds.names q h at in
           let first = relinked_shifts m m1 n (as_header object) (object.links + 1) shaped
           g.names.there g.few made 0 1 (omega arith) q second.0 second.1 in
           let one = first.2 in

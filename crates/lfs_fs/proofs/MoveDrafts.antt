@@ -1,10 +1,12 @@
 -- What the steps of a rename draft, from the contracts of the layers below.
-use Rattle.std.proofs.Common.{◌≡◌, ◌-◌, ◌+◌, ◌*◌, ℕ, Bool, true, false, List, None, Result, Ok, Err, refl, sym, ◌∙◌, ap, subst, inl, inr, ⊎_elim}
-use Rattle.std.specs.Prelude.{if◌then◌else◌, OnOk}
+use Rattle.std.proofs.Common.{◌≡◌, ◌≤◌, ◌-◌, ◌+◌, ◌*◌, ℕ, Bool, true, false, List, Option, None, Result, Ok, Err, refl, sym, ◌∙◌, ap, subst, inl, inr, ⊎_elim, arith}
+use Rattle.std.specs.Prelude.{◌==◌, if◌then◌else◌, OnOk}
+use Rattle.std.proofs.lemmas.Bool.{eq-eqb, eqb-true}
 use Rattle.lfs_model.specs.Device.{DeviceState}
 use Rattle.lfs_model.specs.Entry.{Data, Entry, Inode}
 use Rattle.lfs_model.specs.Memory.{parent}
 use Rattle.lfs_model.specs.Objects.{IsDirectory}
+use Rattle.lfs_model.specs.Slot.{IsName}
 use Rattle.lfs_model.specs.Stands.{LogMap}
 use Rattle.lfs_files.specs.declared.fault.LogFault.TheVariants as log
 use Rattle.lfs_files.specs.declared.fault.StoreFault.{StoreFault}
@@ -27,10 +29,14 @@ use Rattle.lfs_fs.specs.declared.error.FsError.TheVariants as error
 use Rattle.lfs_fs.specs.declared.fs.Fs.{Fs}
 use Rattle.lfs_fs.specs.declared.moving.Source.{Source}
 use Rattle.lfs_fs.specs.declared.moving.Target.{Target}
+use Rattle.lfs_model.specs.Tree.{name_len, slot_len}
+use Rattle.lfs_path.specs.dirs.Taking.{shrunk}
+use Rattle.lfs_store.specs.Making.{relinked}
+use Rattle.lfs_fs.specs.declared.moving.Object.{Object}
 use Rattle.lfs_fs.specs.Drafted.{files_of}
 use Rattle.lfs_fs.specs.Faults.{error_of_store}
 use Rattle.lfs_fs.specs.Naming.{DraftsNone}
-use Rattle.lfs_fs.specs.Renaming.{FailsName, FailsOver, RelinksBoth, RelinksWhere, RepointsTo, gains_directory, loses_directory}
+use Rattle.lfs_fs.specs.Renaming.{FailsName, FailsOver, FitsFound, MayMove, RelinksBoth, RelinksWhere, RepointsTo, first_holder, gains_directory, loses_directory, more_links}
 
 pub ok_then2 : {T E : Type 0} (r : Result T E) (P Q R : Type 0) → (P → Q → R) → OnOk r P → OnOk r Q → OnOk r R
 ok_then2 (Ok x) P Q R go p q = go p q
@@ -55,6 +61,32 @@ relinks_both c mid c' source target t t' loses gains fewer more loses_is fewer_i
       (subst (λ (b : Bool). RelinksWhere b mid c' target.directory.value target.holder more t') gains_is second);
 }
 
+-- The header with which a name is drafted fits it.
+pub record FitsLater (target : Target) (h : Header) : Type 0 where
+  pub size : h.size ≤ 1024 * slot_len h.form
+  pub room : target.replaced ≡ None → h.size ≤ 1023 * slot_len h.form
+  pub name : IsName (name_len h.form) target.name.now
+
+later_by : (source : Source) (target : Target) → MayMove source target → (e : Bool) → (source.directory.value == target.directory.value) ≡ e
+    → FitsLater target (if e then shrunk (first_holder source target) else relinked target.holder (more_links source target))
+later_by source target may true same = record {
+  size = let few = may.from_size in omega (arith, few);
+  room = λ none. (let few = may.from_size in omega (arith, few));
+  name = subst (λ (f : ℕ). IsName (name_len f) target.name.now) (sym (may.form (eqb-true source.directory.value target.directory.value same))) may.name;
+}
+later_by source target may false apart = record {
+  size = may.to_size;
+  room = λ none. (subst (λ (f : Option Object). FitsFound f source target) none may.fits
+      (λ same. (let on = eq-eqb source.directory.value target.directory.value same in let off = apart in cc))).size;
+  name = may.name;
+}
+
+pub later_fits : (source : Source) (target : Target) → MayMove source target → (from to holder : Header) → from ≡ first_holder source target → to ≡ relinked target.holder (more_links source target)
+    → holder ≡ (if source.directory.value == target.directory.value then shrunk from else to) → FitsLater target holder
+later_fits source target may from to holder first second is =
+    subst (FitsLater target) (sym (is ∙ (λ i. if source.directory.value == target.directory.value then shrunk (first i) else second i)))
+    (later_by source target may (source.directory.value == target.directory.value) refl)
+
 -- ---- a name that gives another number
 
 module _ {D : Type 0} (state : D → DeviceState) (a b : Store D) where
@@ -70,7 +102,7 @@ module _ {D : Type 0} (state : D → DeviceState) (a b : Store D) where
     };
     file = λ k m0 m keeps holds.
         let f = points.has m (staged a.draft.changes m) keeps record { checkpoint = k; acknowledged = m0; holds = holds; draft = refl } in
-        subst (λ (x : LogMap). WritesFile (staged a.draft.changes m) x d head head (64 * points.place) (slot_for n name)) f.has.draft f.file;
+        subst (λ (x : LogMap). WritesFile (staged a.draft.changes m) x d head head (slot_len head.form * points.place) (slot_for head.form n name)) f.has.draft f.file;
     names = λ k m0 m keeps holds.
         let f = points.has m (staged a.draft.changes m) keeps record { checkpoint = k; acknowledged = m0; holds = holds; draft = refl } in
         subst (λ (x : LogMap). IsDirectory (staged a.draft.changes m) d (as_header head) → RepointsName (staged a.draft.changes m) x d head n name) f.has.draft f.names;

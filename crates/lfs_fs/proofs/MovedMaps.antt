@@ -23,6 +23,7 @@ use Rattle.lfs_store.specs.Making.{relinked}
 use Rattle.lfs_fs.proofs.Files.{IsShaped}
 use Rattle.lfs_fs.proofs.KeptMaps.{HasHolder, Shifts, holder_directory, relinked_kept, relinked_shifts, relinked_tree, shifts_joined, taken_kept, taken_shifts, taken_tree, written_kept, written_shifts, written_tree}
 use Rattle.lfs_fs.proofs.MovedNames.{nothing_at, only_at}
+use Rattle.lfs_fs.proofs.Slots.{slot_some}
 
 -- ---- what the steps draft
 
@@ -67,6 +68,7 @@ pub record IsNamed (m4 m5 : LogMap) (db n : ℕ) (b : Header) (nb : List ℕ) : 
   pub at : ℕ
   pub slot : List ℕ
   pub kind : after.kind ≡ kind.Directory
+  pub form : after.form ≡ b.form
   pub links : after.links ≡ b.links
   pub small : after.size ≤ 8511488
   pub writes : WritesFile m4 m5 db b after at slot
@@ -100,7 +102,7 @@ module _ (m m' : LogMap) (d : ℕ) (head : Header) (l : ℕ) (kept : IsShaped m)
       relinks
 
   small : head.size ≤ 8511488
-  small = let few = has.few in omega (arith, few)
+  small = let few = has.few in let most = (slot_some head.form).1 in omega (arith, few, most)
 
   pub linked_kept : IsShaped m'
   linked_kept = relinked_kept m m' d (as_header head) l kept has.there small made
@@ -263,8 +265,9 @@ module _ {m1 m2 m3 m4 : LogMap} {da db : ℕ} {a b : Header} {la lb : ℕ} {na :
         at = new.at;
         slot = new.slot;
         kind = second_holder.kind;
+        form = refl;
         links = refl;
-        small = (let few = second_holder.few in omega (arith, few));
+        small = (let few = second_holder.few in let most = (slot_some b4.form).1 in omega (arith, few, most));
         writes = new.writes;
         directory = adds.directory;
         names = adds.names;
@@ -279,8 +282,9 @@ module _ {m1 m2 m3 m4 : LogMap} {da db : ℕ} {a b : Header} {la lb : ℕ} {na :
         at = over.at;
         slot = over.slot;
         kind = second_holder.kind;
+        form = refl;
         links = refl;
-        small = (let few = second_holder.few in omega (arith, few));
+        small = (let few = second_holder.few in let most = (slot_some b4.form).1 in omega (arith, few, most));
         writes = over.writes;
         directory = repoints.directory;
         names = repoints.names;
@@ -289,19 +293,19 @@ module _ {m1 m2 m3 m4 : LogMap} {da db : ℕ} {a b : Header} {la lb : ℕ} {na :
   module _ {m5 : LogMap} {n : ℕ} {nb : List ℕ} (named : IsNamed m4 m5 db n b4 nb) where
     pub named_kept : IsShaped m5
     named_kept = written_kept m4 m5 db n b4 named.after named.at named.slot nb moved_kept
-        second_holder named.kind named.links named.small named.writes named.directory named.names
+        second_holder named.kind named.form named.links named.small named.writes named.directory named.names
 
     pub named_tree : tree_in m5 ≡ with_name (without_name (tree_in m1) da na) db nb n
     named_tree =
         written_tree m4 m5 db n b4 named.after named.at named.slot nb moved_kept second_holder
-        named.kind named.links named.small named.writes named.directory named.names
+        named.kind named.form named.links named.small named.writes named.directory named.names
         ∙ ap (λ (t : Tree). with_name t db nb n) moved_tree
 
     pub named_shifts : (x y : ℕ) → la + x ≡ a.links → (da ≢ db → lb ≡ b.links + y)
         → (da ≡ db → y ≡ 0) → Shifts m1 m5 (only_at da x) (only_at db y)
     named_shifts x y less more none =
         let next = written_shifts m4 m5 db n b4 named.after named.at named.slot nb moved_kept
-        second_holder named.kind named.links named.small named.writes named.directory
+        second_holder named.kind named.form named.links named.small named.writes named.directory
         named.names in
         shifts_as m1 m5 (λ k. only_at da x k + only_at db 0 k)
         (λ k. only_at db y k + only_at db 0 k) (only_at da x) (only_at db y)

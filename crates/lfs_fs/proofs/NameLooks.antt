@@ -11,11 +11,12 @@ use Rattle.lfs_files.specs.declared.fault.StoreFault.{StoreFault}
 use Rattle.lfs_files.specs.declared.fault.StoreFault.TheVariants as store
 use Rattle.lfs_store.specs.declared.store.Store.{Store}
 use Rattle.lfs_store.proofs.LogReads.{held_still, reads_none}
+use Rattle.lfs_path.specs.Pieces.{is_dots}
 use Rattle.lfs_fs.specs.Drafted.{Finds, IsDirectoryFault}
 use Rattle.lfs_fs.specs.declared.error.FsError.{FsError}
 use Rattle.lfs_fs.specs.declared.fs.Fs.{Fs}
 use Rattle.lfs_fs.specs.Faults.{error_of_log, error_of_store}
-use Rattle.lfs_fs.specs.Naming.{DraftsNone, LooksNone, LooksUp, MakesNone, NewKind}
+use Rattle.lfs_fs.specs.Naming.{DraftsNone, LooksNone, LooksUp, MakesNone, NewKind, RefusesEntry}
 use Rattle.lfs_fs.specs.Seen.{HasHeader, LacksHeader, OnlyReads, seen}
 use Rattle.lfs_fs.specs.Volume.{IsStill, Mounted}
 
@@ -29,10 +30,10 @@ module _ {D : Type 0} (state : D → DeviceState) where
   only_none f = record { still = record { reads = reads_none state f.store.log; saved = refl; blocks = refl; others = refl; table = refl }; draft = refl; drafted = refl }
 
   -- without a header there is no answer
-  pub none_without : (old new : Fs D) (d : ℕ) (fault : FsError) → LacksHeader state old new d fault → LooksNone state old new d fault
-  none_without old new d fault lacks = ⊎_elim
-      (λ halted. inl halted)
-      (λ failed. inr (failed.0, λ k m0 m keeps holds there dir. ⊎_elim (λ rose. rose) (λ none. absurd (there none)) (failed.1 k m0 m keeps holds)))
+  pub none_without : (old new : Fs D) (d : ℕ) (name : List ℕ) (fault : FsError) → LacksHeader state old new d fault → LooksNone state old new d name fault
+  none_without old new d name fault lacks = ⊎_elim
+      (λ halted. inr (inl halted))
+      (λ failed. inr (inr (failed.0, λ k m0 m keeps holds there dir. ⊎_elim (λ rose. rose) (λ none. absurd (there none)) (failed.1 k m0 m keeps holds))))
       lacks
 
   module _ (old mid : Fs D) (first : OnlyReads state old mid) (d : ℕ) (head : Header) (header : HasHeader state old mid d head) (new : Fs D) (reads : Reads state mid.store.log new.store.log) where
@@ -42,18 +43,28 @@ module _ {D : Type 0} (state : D → DeviceState) where
       subst (λ (x : Draft). Finds state mid.store.log new.store.log x.changes d head name found) first.draft finds k m0 m keeps (held_still state old.store.log mid.store.log k m0 m first.still.reads holds),
     )
 
-    pub none_found : (fault : LogFault) → (fault ≡ log.Halted → mid.store.log.halted ≡ true) → (fault ≡ log.Full → ⊥) → IsDirectoryFault state mid.store.log new.store.log mid.store.draft.changes d head
-        → (e : FsError) → e ≡ error_of_log fault → LooksNone state old new d e
-    none_found log.Halted halted other failed e is = inl (is, sym first.still.reads.halted ∙ halted refl)
-    none_found log.Full halted other failed e is = absurd (other refl)
-    none_found log.Device halted other failed e is = inr (
+    pub none_found : (name : List ℕ) (fault : LogFault) → (fault ≡ log.Halted → mid.store.log.halted ≡ true) → (fault ≡ log.Full → ⊥) → IsDirectoryFault state mid.store.log new.store.log mid.store.draft.changes d head
+        → (e : FsError) → e ≡ error_of_log fault → LooksNone state old new d name e
+    none_found name log.Halted halted other failed e is = inr (inl (is, sym first.still.reads.halted ∙ halted refl))
+    none_found name log.Full halted other failed e is = absurd (other refl)
+    none_found name log.Device halted other failed e is = inr (inr (
       is,
       λ k m0 m keeps holds there dir. (
           let known = header k m0 m (reads.looks.carries.kept_before keeps) holds in
           let rose = subst (λ (x : Draft). IsDirectoryFault state mid.store.log new.store.log x.changes d head) first.draft failed k m0 m keeps (held_still state old.store.log mid.store.log k m0 m first.still.reads holds) (dir head known) in
           let before = first.still.reads.looks.carries.failures in
           omega (arith, rose, before)),
-    )
+    ))
+
+  -- the rule of a new entry, where the name isn't looked up
+  pub new_unseen : (old new : Fs D) (d : ℕ) (name : List ℕ) (ends is_mkdir : Bool) → is_dots name ≡ false → (fault : FsError) → LooksNone state old new d name fault → RefusesEntry state old new d name ends is_mkdir fault
+  new_unseen old new d name ends is_mkdir named fault none = ⊎_elim
+      (λ long. subst (RefusesEntry state old new d name ends is_mkdir) (sym long.0) (named, long.1))
+      (λ rest. ⊎_elim
+      (λ halted. subst (RefusesEntry state old new d name ends is_mkdir) (sym halted.0) halted.1)
+      (λ failed. subst (RefusesEntry state old new d name ends is_mkdir) (sym failed.0) failed.1)
+      rest)
+      none
 
   -- ---- whether a name was found
   pub some_is : (old new : Fs D) (d : ℕ) (name : List ℕ) (head : Header) (o : Option ℕ) → is_some o ≡ true → LooksUp state old new d name head o → (n : ℕ) × LooksUp state old new d name head (Some n)

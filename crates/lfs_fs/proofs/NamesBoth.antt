@@ -1,9 +1,12 @@
 -- Both names of a rename as they were found, from before the first was looked up.
-use Rattle.std.proofs.Common.{◌≡◌, ◌<◌, ℕ, Bool, List, Option, subst, sym, ◌∙◌, inl, inr, ⊎_elim, arith}
+use Rattle.std.proofs.Common.{◌≡◌, ◌≢◌, ◌<◌, ℕ, Bool, List, Option, Some, refl, ap, subst, sym, ◌∙◌, inl, inr, ⊎_elim, arith}
 use Rattle.lfs_model.specs.declared.Kind.{Kind}
 use Rattle.lfs_model.specs.Device.{DeviceState}
 use Rattle.lfs_model.specs.Stands.{LogMap}
+use Rattle.lfs_model.specs.Entry as entry
 use Rattle.lfs_files.specs.declared.header.Header.{Header}
+use Rattle.lfs_store.specs.memory.Batch.{staged}
+use Rattle.lfs_store.specs.memory.Present.{as_header}
 use Rattle.lfs_fs.specs.declared.error.FsError.{FsError}
 use Rattle.lfs_fs.specs.declared.error.FsError.TheVariants as error
 use Rattle.lfs_fs.specs.declared.fs.Fs.{Fs}
@@ -13,6 +16,7 @@ use Rattle.lfs_fs.specs.declared.moving.Target.{Target}
 use Rattle.lfs_fs.specs.Renaming.{FailsWhere, FindsBoth, FindsName, FindsSource, FindsTarget, LooksAt, MayName, RefusesNext}
 use Rattle.lfs_fs.specs.Seen.{OnlyReads}
 use Rattle.lfs_fs.proofs.NamesFound.{log_again, log_still}
+use Rattle.lfs_fs.proofs.PathEnds.{has_again}
 
 module _ {D : Type 0} (state : D → DeviceState) (old mid new : Fs D) (first : OnlyReads state old mid) where
   name_again : (d : ℕ) (name : List ℕ) (head : Header) (found : Option Object) → FindsName state mid new d name head found → FindsName state old new d name head found
@@ -40,8 +44,8 @@ module _ {D : Type 0} (state : D → DeviceState) (old mid new : Fs D) (first : 
       fails
 
   pub next_again : (d : ℕ) (name : List ℕ) (ends : Bool) (kind : Kind) (fault : FsError) → RefusesNext state mid new d name ends kind fault → RefusesNext state old new d name ends kind fault
-  next_again d name ends kind error.NameTooLong why = why
-  next_again d name ends kind error.NotDir why = why
+  next_again d name ends kind error.NameTooLong why = (why.0, has_again state old mid new first d why.0 why.1, why.2)
+  next_again d name ends kind error.NotDir why = ((why.0.0, has_again state old mid new first d why.0.0 why.0.1, why.0.2), why.1)
   next_again d name ends kind fault why = fails_again (λ m. MayName m d name) fault why
 
   pub source_still : OnlyReads state mid new → (d : ℕ) (name : List ℕ) (ends : Bool) (source : Source) → FindsSource state old mid d name ends source → FindsSource state old new d name ends source
@@ -67,3 +71,20 @@ module _ {D : Type 0} (state : D → DeviceState) (old mid new : Fs D) (first : 
       plain = also.plain;
     };
   }
+
+-- a directory of a log map has one form
+pub never_two : {D : Type 0} (state : D → DeviceState) (old new : Fs D) (da : ℕ) (na : List ℕ) (ea : Bool) (db : ℕ) (nb : List ℕ) (eb : Bool) (source : Source) (target : Target)
+    → FindsBoth state old new da na ea db nb eb source target → source.directory.value ≡ target.directory.value → source.holder.form ≢ target.holder.form
+    → RefusesNext state old new db nb eb source.object.header.kind error.Device
+never_two state old new da na ea db nb eb source target both same apart = inr (
+  refl,
+  λ k m0 m keeps holds may. absurd (apart (one_form m (both.first.finds.looks k m0 m keeps holds).header (both.second.finds.looks k m0 m keeps holds).header)),
+)
+  where
+    one_form : (m : LogMap) → (staged old.store.draft.changes m).header da ≡ Some (as_header source.holder) → (staged old.store.draft.changes m).header db ≡ Some (as_header target.holder)
+        → source.holder.form ≡ target.holder.form
+    one_form m a b =
+        let here : da ≡ db = sym both.first.directory ∙ same ∙ both.second.directory in
+        let one : Some (as_header source.holder) ≡ Some (as_header target.holder) = sym a ∙ ap (staged old.store.draft.changes m).header here ∙ b in
+        let heads : as_header source.holder ≡ as_header target.holder = cc in
+        ap (λ (h : entry.Header). h.form) heads

@@ -1,8 +1,9 @@
 -- An object of a number, and what a name gives in a directory, as the steps of rename find them.
-use Rattle.std.proofs.Common.{◌≡◌, ◌<◌, ◌≤◌, ℕ, Bool, List, Option, Some, None, refl, sym, ◌∙◌, ap, subst, inl, inr, ⊎_elim, arith}
+use Rattle.std.proofs.Common.{◌≡◌, ◌<◌, ◌≤◌, ◌*◌, ℕ, Bool, List, Option, Some, None, refl, sym, ◌∙◌, ap, subst, inl, inr, ⊎_elim, arith}
 use Rattle.lfs_model.specs.declared.Kind.{Kind}
 use Rattle.lfs_model.specs.Device.{DeviceState}
 use Rattle.lfs_model.specs.Stands.{LogMap}
+use Rattle.lfs_model.specs.Tree.{slot_len}
 use Rattle.lfs_files.specs.declared.header.Header.{Header}
 use Rattle.lfs_store.specs.memory.Batch.{staged}
 use Rattle.lfs_store.specs.memory.Present.{as_header}
@@ -13,7 +14,7 @@ use Rattle.lfs_fs.specs.declared.error.FsError.TheVariants as error
 use Rattle.lfs_fs.specs.declared.fs.Fs.{Fs}
 use Rattle.lfs_fs.specs.declared.moving.Object.{Object}
 use Rattle.lfs_fs.specs.Naming.{LooksNone, LooksUp}
-use Rattle.lfs_fs.specs.Renaming.{FailsWhere, FindsName, FindsObject, InLog, IsObject, MayLook, RefusesNext}
+use Rattle.lfs_fs.specs.Renaming.{FailsLookAt, FailsWhere, FindsName, FindsObject, InLog, IsObject, MayLook, RefusesNext, RefusesSource}
 use Rattle.lfs_fs.specs.Seen.{LacksHeader, OnlyReads}
 
 module _ {D : Type 0} (state : D → DeviceState) where
@@ -37,14 +38,17 @@ module _ {D : Type 0} (state : D → DeviceState) where
 
   -- ---- a name
   module _ (old new : Fs D) (d : ℕ) (name : List ℕ) where
-    pub look_missing : (fault : FsError) → LooksNone state old new d fault → FailsWhere state old new (λ m. MayLook m d name) fault
+    pub look_missing : (fault : FsError) → LooksNone state old new d name fault → FailsLookAt state old new d name fault
     look_missing fault none = ⊎_elim
+        (λ long. inl long)
+        (λ rest. inr (⊎_elim
         (λ halted. inl halted)
         (λ failed. inr (failed.0, λ k m0 m keeps holds is. failed.1 k m0 m keeps holds is.there is.formed))
+        rest))
         none
 
     module _ (head : Header) (o : Option ℕ) (looks : LooksUp state old new d name head o) where
-      pub look_large : 65536 < head.size → FailsWhere state old new (λ m. MayLook m d name) error.Device
+      pub look_large : 1024 * slot_len head.form < head.size → FailsWhere state old new (λ m. MayLook m d name) error.Device
       look_large large = inr (
         refl,
         λ k m0 m keeps holds is. absurd (
@@ -52,7 +56,7 @@ module _ {D : Type 0} (state : D → DeviceState) where
             omega (arith, large, small)),
       )
 
-      pub none_there : head.size ≤ 65536 → o ≡ None → FindsName state old new d name head None
+      pub none_there : head.size ≤ 1024 * slot_len head.form → o ≡ None → FindsName state old new d name head None
       none_there size none = record {
         size = size;
         looks = λ k m0 m keeps holds. (
@@ -65,7 +69,7 @@ module _ {D : Type 0} (state : D → DeviceState) where
     before : (state new.store.log.device).keeps_model → (state mid.store.log.device).keeps_model
     before keeps = next.still.reads.looks.carries.kept_before keeps
 
-    pub some_there : head.size ≤ 65536 → (x : Object) → FindsObject state mid new n x → FindsName state old new d name head (Some x)
+    pub some_there : head.size ≤ 1024 * slot_len head.form → (x : Object) → FindsObject state mid new n x → FindsName state old new d name head (Some x)
     some_there size x finds = record {
       size = size;
       looks = λ k m0 m keeps holds. (
@@ -103,8 +107,20 @@ module _ {D : Type 0} (state : D → DeviceState) where
           omega (arith, few, many)),
     )
 
-    pub next_refused : (ends : Bool) (kind : Kind) (fault : FsError) → FailsWhere state old new (λ m. MayLook m d name) fault → RefusesNext state old new d name ends kind fault
-    next_refused ends kind fault fails = ⊎_elim
+    pub first_refused : (ends : Bool) (fault : FsError) → FailsLookAt state old new d name fault → RefusesSource state old new d name ends fault
+    first_refused ends fault why = ⊎_elim
+        (λ long. subst (λ (e : FsError). RefusesSource state old new d name ends e) (sym long.0) long.1)
+        (λ fails. ⊎_elim
+        (λ halted. subst (λ (e : FsError). RefusesSource state old new d name ends e) (sym halted.0) (inl (refl, halted.1)))
+        (λ failed. subst (λ (e : FsError). RefusesSource state old new d name ends e) (sym failed.0) (inr (refl, failed.1)))
+        fails)
+        why
+
+    pub next_refused : (ends : Bool) (kind : Kind) (fault : FsError) → FailsLookAt state old new d name fault → RefusesNext state old new d name ends kind fault
+    next_refused ends kind fault why = ⊎_elim
+        (λ long. subst (λ (e : FsError). RefusesNext state old new d name ends kind e) (sym long.0) long.1)
+        (λ fails. ⊎_elim
         (λ halted. subst (λ (e : FsError). RefusesNext state old new d name ends kind e) (sym halted.0) (inl (refl, halted.1)))
         (λ failed. subst (λ (e : FsError). RefusesNext state old new d name ends kind e) (sym failed.0) (inr (refl, λ k m0 m keeps holds is. failed.1 k m0 m keeps holds is.looks)))
-        fails
+        fails)
+        why

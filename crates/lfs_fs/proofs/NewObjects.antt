@@ -207,17 +207,17 @@ module _ {D : Type 0} (state : D → DeviceState) where
 
     -- the draft fits
     module _ (fits : FitsBatch m c) where
-      made_fits : (x : Changes) (kd : Kind) (size : ℕ) → FitsHeader kd (first_links kd) size → ((m : LogMap) → FitsBatch m c → (staged c m).header n ≡ None → is_lost c.loss (Inode n) ≡ false → FitsHeader kd (first_links kd) size → FitsBatch m x) → FitsBatch m x
+      made_fits : (x : Changes) (kd : Kind) (size : ℕ) → FitsHeader kd 0 (first_links kd) size → ((m : LogMap) → FitsBatch m c → (staged c m).header n ≡ None → is_lost c.loss (Inode n) ≡ false → FitsHeader kd 0 (first_links kd) size → FitsBatch m x) → FitsBatch m x
       made_fits x kd size sized makes = makes m fits none_c (ap (λ (l : Loss). is_lost l (Inode n)) empty.loss) sized
 
-      pub object_fits : (kd : NewKind) → length (text_of_new kd) ≤ 1023 → FitsHeader (kind_of_new kd) (first_links (kind_of_new kd)) (length (text_of_new kd)) → DraftsObject state h h' c c' t t' n kd → FitsBatch m c'
+      pub object_fits : (kd : NewKind) → length (text_of_new kd) ≤ 1023 → FitsHeader (kind_of_new kd) 0 (first_links (kind_of_new kd)) (length (text_of_new kd)) → DraftsObject state h h' c c' t t' n kd → FitsBatch m c'
       object_fits new_file short sized drafts = made_fits c' kind.File 0 sized drafts.makes.fits
       object_fits new_directory short sized drafts = made_fits c' kind.Directory 0 sized drafts.makes.fits
       object_fits (new_link text) short sized drafts = drafts.writes.fits m (made_fits drafts.blank kind.Link (length text) sized drafts.makes.fits) record {
         there = (with_it drafts.blank (first_header kind.Link (length text)) (drafts.makes.map m)).own;
         apart = subst (λ (x : Loss). IsApart x n) (sym (drafts.makes.loss ∙ empty.loss)) (nothing_apart n);
         within = λ none. omega (arith, short);
-        header = subst (λ (z : ℕ). FitsHeader kind.Link 1 z) (sym same_size) sized;
+        header = subst (λ (z : ℕ). FitsHeader kind.Link 0 1 z) (sym same_size) sized;
       }
         where
           same_size : max (length text) (0 + length text) ≡ length text

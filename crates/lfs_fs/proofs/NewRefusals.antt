@@ -1,5 +1,5 @@
 -- The refusals of the rule of a new entry, for any call that asks for one.
-use Rattle.std.proofs.Common.{not, ◌&&◌, ◌≡◌, ◌<◌, ◌≤◌, ◌%◌, ◌||◌, ℕ, Bool, true, false, List, length, Option, Some, None, sym, ◌∙◌, ap, subst, ⊎_elim, arith}
+use Rattle.std.proofs.Common.{not, ◌&&◌, ◌≡◌, ◌<◌, ◌≤◌, ◌*◌, ◌||◌, ℕ, Bool, true, false, List, length, Option, Some, None, sym, ◌∙◌, ap, subst, ⊎_elim, arith}
 use Rattle.lfs_model.specs.Call.{Call, Refuse, cleans, commits}
 use Rattle.lfs_model.specs.Checkpoint.{CheckpointValue}
 use Rattle.lfs_model.specs.Device.{DeviceState, IsLawful}
@@ -8,8 +8,8 @@ use Rattle.lfs_model.specs.Refusal as refusals
 use Rattle.lfs_model.specs.Refusal.{Refusal}
 use Rattle.lfs_model.specs.Slot.{IsName}
 use Rattle.lfs_model.specs.Stands.{LogMap}
-use Rattle.lfs_model.specs.Step.{Step, is_there, last_dots, no_last}
-use Rattle.lfs_model.specs.Tree.{State, Tree, is_dir, links, node}
+use Rattle.lfs_model.specs.Step.{Step, is_long, is_there, last_dots, no_last}
+use Rattle.lfs_model.specs.Tree.{State, Tree, is_dir, links, name_len, node, slot_len}
 use Rattle.lfs_model.specs.Walk.{At, Parent}
 use Rattle.lfs_files.specs.declared.header.Header.{Header}
 use Rattle.lfs_store.specs.memory.Present.{as_header}
@@ -20,17 +20,17 @@ use Rattle.lfs_path.proofs.LastPieces.{last_says}
 use Rattle.lfs_fs.specs.declared.error.FsError.{FsError}
 use Rattle.lfs_fs.specs.declared.error.FsError.TheVariants as error
 use Rattle.lfs_fs.specs.declared.fs.Fs.{Fs}
-use Rattle.lfs_fs.specs.Naming.{LooksUp, Reaches, RefusesEntry, TakesEntry}
+use Rattle.lfs_fs.specs.Naming.{IsTooLong, LooksUp, Reaches, RefusesEntry, TakesEntry}
 use Rattle.lfs_fs.specs.Refusals.{refusal_of}
-use Rattle.lfs_fs.specs.Seen.{OnlyReads, seen}
+use Rattle.lfs_fs.specs.Seen.{HasHeader, OnlyReads, seen}
 use Rattle.lfs_fs.specs.Volume.{IsIn, Mounted, Serves, segments_of}
 use Rattle.lfs_fs.proofs.Behaving.{IsOrdinary}
 use Rattle.lfs_fs.proofs.Files.{IsMapOf}
-use Rattle.lfs_fs.proofs.InDirectories.{directory_kind, free_directory, full_directory}
+use Rattle.lfs_fs.proofs.InDirectories.{free_directory, full_directory}
 use Rattle.lfs_fs.proofs.LastNames.{last_is_name}
 use Rattle.lfs_fs.proofs.NameLooks.{only_none}
 use Rattle.lfs_fs.proofs.NewEntrySteps.{ChecksNew, IsTaken, new_dots, new_full, new_long, new_slash, new_there}
-use Rattle.lfs_fs.proofs.OldEntries.{dir, dots_are, fits, found_there, has_last, is_missing, limit_is, long_is, looked, rises, says, short_is, still, volume, IsRefused, walk_refuses, walk_zero}
+use Rattle.lfs_fs.proofs.OldEntries.{dir, dots_are, fits, found_there, has_last, head_is as head_read, is_missing, limit_is, long_is, looked, rises, says, short_is, still, volume, IsRefused, walk_refuses, walk_zero}
 use Rattle.lfs_fs.proofs.ReadingEnds.{failed_serves}
 
 -- A call that asks for an entry in directory d, in each state that the volume may be in.
@@ -84,64 +84,62 @@ module _ {D : Type 0} (state : D → DeviceState) (lawful : (d : D) → IsLawful
       dots_step are = new_dots (segments_of v) s path d call is_mkdir rule (dots true are)
 
       module _ (named : is_dots l.name.now ≡ false) where
-        long_step : 59 < length l.name.now
+        long_step : IsTooLong state old new d l.name.now
             → Step (segments_of v) s call (Refuse refusals.NameTooLong) s
         long_step long = new_long (segments_of v) s path d call is_mkdir rule (dots false named)
             (long_is state lawful v old path d piece reached l is_last new only k m0 m s is walk
-            long)
+            long.0 (head_read state lawful v old path d piece reached l is_last new only k m0 m s is walk keeps long.0 long.1) long.2)
 
-        module _ (short : length l.name.now ≤ 59) where
-          is_named : IsName 59 l.name.now
-          is_named =
+        module _ (head : Header) (short : length l.name.now ≤ name_len head.form) where
+          is_named : HasHeader state old new d head → IsName (name_len head.form) l.name.now
+          is_named has =
               let piece_is = (says state lawful v old path d piece reached l is_last new only).1 in
-              subst (IsName 59) piece_is
-              (last_is_name (segments_of v) s is.log.sound path d
-              (limit_is state lawful v old path d piece reached l is_last new only k m0 m s is walk)
+              subst (IsName (name_len head.form)) piece_is
+              (last_is_name (segments_of v) s is.log.sound path d (name_len head.form)
+              (limit_is state lawful v old path d piece reached l is_last new only k m0 m s is walk head
+              (head_read state lawful v old path d piece reached l is_last new only k m0 m s is walk keeps head has))
               reached.bytes walk (dots false named)
               (let same_length = ap length piece_is in omega (arith, same_length, short)))
 
-          module _ (head : Header) where
-            there_step : (n : ℕ) → LooksUp state old new d l.name.now head (Some n)
-                → Step (segments_of v) s call (Refuse refusals.Exist) s
-            there_step n looks =
-                new_there (segments_of v) s path d call is_mkdir rule (dots false named)
-                (short_is state lawful v old path d piece reached l is_last new only k m0 m s is
-                walk short)
-                (found_there state lawful v old path d piece reached l is_last new only k m0 m s is
-                walk keeps head n looks)
+          not_long : (o : Option ℕ) → LooksUp state old new d l.name.now head o → is_long s.tree d path ≡ false
+          not_long o found = short_is state lawful v old path d piece reached l is_last new only k m0 m s is walk head
+              (looked state lawful v old path d piece reached l is_last new only k m0 m s is walk keeps head o found).0 short
 
-            module _ (looks : LooksUp state old new d l.name.now head None) where
-              absent : is_there s.tree d path ≡ false
-              absent = is_missing state lawful v old path d piece reached l is_last new only k m0 m
-                  s is walk keeps head looks
+          there_step : (n : ℕ) → LooksUp state old new d l.name.now head (Some n)
+              → Step (segments_of v) s call (Refuse refusals.Exist) s
+          there_step n looks =
+              new_there (segments_of v) s path d call is_mkdir rule (dots false named)
+              (not_long (Some n) looks)
+              (found_there state lawful v old path d piece reached l is_last new only k m0 m s is
+              walk keeps head n looks)
 
-              slash_step : (l.slash && not is_mkdir) ≡ true
-                  → Step (segments_of v) s call (Refuse refusals.NoEntry) s
-              slash_step ends =
-                  new_slash (segments_of v) s path d call is_mkdir rule (dots false named)
-                  (short_is state lawful v old path d piece reached l is_last new only k m0 m s is
-                  walk short)
-                  absent (slash_is true ends)
+          module _ (looks : LooksUp state old new d l.name.now head None) where
+            absent : is_there s.tree d path ≡ false
+            absent = is_missing state lawful v old path d piece reached l is_last new only k m0 m
+                s is walk keeps head looks
 
-              full_step : (l.slash && not is_mkdir) ≡ false → 65472 < head.size
-                  → Step (segments_of v) s call (Refuse refusals.DirFull) s
-              full_step plain large =
-                  let map : IsMapOf (segments_of v) m s = volume state lawful v old path d piece
-                  reached l is_last new only k m0 m s is walk in
-                  let is_dir : is_dir (node s.tree d) ≡ true = dir state lawful v old path d piece
-                  reached l is_last new only k m0 m s is walk in
-                  let there = (looked state lawful v old path d piece reached l is_last new only k
-                  m0 m s is walk keeps head None looks).0 in
-                  let right = fits state lawful v old path d piece reached l is_last new only k m0 m
-                  s is walk head there in
-                  let whole : head.size % 64 ≡ 0 = right.slots
-                  (directory_kind (segments_of v) m s map d is_dir head there) in
-                  new_full (segments_of v) s path d call is_mkdir rule (dots false named)
-                  (short_is state lawful v old path d piece reached l is_last new only k m0 m s is
-                  walk short)
-                  absent (slash_is false plain)
-                  (full_directory (segments_of v) m s map d is_dir head there right
-                  (omega (arith, whole, large)))
+            slash_step : (l.slash && not is_mkdir) ≡ true
+                → Step (segments_of v) s call (Refuse refusals.NoEntry) s
+            slash_step ends =
+                new_slash (segments_of v) s path d call is_mkdir rule (dots false named)
+                (not_long None looks)
+                absent (slash_is true ends)
+
+            full_step : (l.slash && not is_mkdir) ≡ false → 1023 * slot_len head.form < head.size
+                → Step (segments_of v) s call (Refuse refusals.DirFull) s
+            full_step plain large =
+                let map : IsMapOf (segments_of v) m s = volume state lawful v old path d piece
+                reached l is_last new only k m0 m s is walk in
+                let is_dir : is_dir (node s.tree d) ≡ true = dir state lawful v old path d piece
+                reached l is_last new only k m0 m s is walk in
+                let there = (looked state lawful v old path d piece reached l is_last new only k
+                m0 m s is walk keeps head None looks).0 in
+                let right = fits state lawful v old path d piece reached l is_last new only k m0 m
+                s is walk head there in
+                new_full (segments_of v) s path d call is_mkdir rule (dots false named)
+                (not_long None looks)
+                absent (slash_is false plain)
+                (full_directory (segments_of v) m s map d is_dir head there right large)
 
       -- ---- what comes after it
       module _ (head : Header)
@@ -153,9 +151,8 @@ module _ {D : Type 0} (state : D → DeviceState) (lawful : (d : D) → IsLawful
         pub is_taken : IsTaken s path d is_mkdir
         is_taken = record {
           named = dots false takes.named;
-          short = short_is state lawful v old path d piece reached l is_last new only k m0 m s is
-              walk takes.is_name.short;
-          new = absent takes.named takes.is_name.short head takes.looks;
+          short = not_long takes.named head takes.is_name.short None takes.looks;
+          new = absent takes.named head takes.is_name.short takes.looks;
           plain = slash_is false takes.plain;
           free =
               free_directory (segments_of v) m s
@@ -164,7 +161,7 @@ module _ {D : Type 0} (state : D → DeviceState) (lawful : (d : D) → IsLawful
               head_is
               (fits state lawful v old path d piece reached l is_last new only k m0 m s is walk head
               head_is)
-              (let room = takes.room in omega (arith, room));
+              takes.room;
         }
 
         -- the links that the directory has
@@ -187,18 +184,18 @@ module _ {D : Type 0} (state : D → DeviceState) (lawful : (d : D) → IsLawful
         (λ are. refused refusals.Exist tt (λ k m0 m s keeps is walk.
         dots_step k m0 m s keeps is walk are))
         (λ there. refused refusals.Exist tt (λ k m0 m s keeps is walk.
-        there_step k m0 m s keeps is walk there.0 there.1 there.2.0 there.2.1.0 there.2.1.1))
+        there_step k m0 m s keeps is walk there.0 there.1.0 there.1.1 there.1.2.0 there.1.2.1))
         why
     entry_refused error.NameTooLong why = refused refusals.NameTooLong tt
         (λ k m0 m s keeps is walk. long_step k m0 m s keeps is walk why.0 why.1)
     entry_refused error.Inval why = refused refusals.Inval tt
-        (λ k m0 m s keeps is walk. absurd (why.2 (is_named k m0 m s keeps is walk why.0 why.1)))
+        (λ k m0 m s keeps is walk. absurd (why.1.3 (is_named k m0 m s keeps is walk why.0 why.1.0 why.1.2 why.1.1)))
     entry_refused error.NoEntry why = refused refusals.NoEntry tt
         (λ k m0 m s keeps is walk.
-        slash_step k m0 m s keeps is walk why.0 why.1 why.3.0 why.3.1 why.2)
+        slash_step k m0 m s keeps is walk why.0 why.2.0 why.2.1 why.2.2 why.1)
     entry_refused error.DirFull why = refused refusals.DirFull tt
         (λ k m0 m s keeps is walk.
-        full_step k m0 m s keeps is walk why.0 why.1 why.3.0 why.3.2 why.2 why.3.1)
+        full_step k m0 m s keeps is walk why.0 why.2.0 why.2.1 why.2.3 why.1 why.2.2)
     entry_refused error.Halted why = absurd (let on = why in let off = running in cc)
     entry_refused error.Device why =
         failed_serves state v (seen new) call (lawful v.log.device)

@@ -1,6 +1,6 @@
 -- An entry that was looked up in the directory of a path's last piece, in each state that the
 -- volume may be in.
-use Rattle.std.proofs.Common.{◌≡◌, ◌≢◌, ◌⊎◌, ◌<◌, ◌≤◌, ◌||◌, ℕ, Bool, true, false, List, length, Option, Some, None, sym, ◌∙◌, ap, subst, ⊎_elim, nat_lt, arith, inl}
+use Rattle.std.proofs.Common.{◌≡◌, ◌≢◌, ◌⊎◌, ◌<◌, ◌≤◌, ◌*◌, ◌||◌, ℕ, Bool, true, false, List, length, Option, Some, None, sym, ◌∙◌, ap, subst, ⊎_elim, nat_lt, arith, inl}
 use Rattle.std.specs.Prelude.{unwrap_or}
 use Rattle.std.specs.FinMap.{find}
 use Rattle.lfs_model.specs.declared.Kind.{Kind}
@@ -10,7 +10,7 @@ use Rattle.lfs_model.specs.Device.{DeviceState, IsLawful}
 use Rattle.lfs_model.specs.Objects.{IsDirectory, IsHeaderOf}
 use Rattle.lfs_model.specs.Stands.{LogMap}
 use Rattle.lfs_model.specs.Step.{gives_dir, is_long, is_there, last_dots, name, no_last, target, Step}
-use Rattle.lfs_model.specs.Tree.{Dir, Names, State, Tree, byte_cmp, entry, is_dir, name_limit, names_in, node}
+use Rattle.lfs_model.specs.Tree.{Dir, Names, State, Tree, byte_cmp, entry, is_dir, name_len, name_limit, names_in, node, slot_len}
 use Rattle.lfs_model.specs.TreeOf.{node_by}
 use Rattle.lfs_model.specs.Walk.{At, Parent}
 use Rattle.lfs_model.proofs.Keeps.{parent_dir}
@@ -36,6 +36,7 @@ use Rattle.lfs_fs.proofs.CreateEnds.{still_more}
 use Rattle.lfs_fs.proofs.Files.{IsMapOf, dir_there, no_header_none, node_by_header}
 use Rattle.lfs_fs.proofs.Holding.{headers_of_volume, map_of_volume}
 use Rattle.lfs_fs.proofs.InDirectories.{directory_formed, directory_node, entry_in_directory, names_in_directory, new_in_directory, size_of_directory, there_in_directory}
+use Rattle.lfs_fs.proofs.Slots.{few_slots}
 use Rattle.lfs_fs.proofs.OpenEnds.{no_dir_by}
 use Rattle.lfs_fs.proofs.Serving.{still_in, served_still}
 use Rattle.lfs_fs.proofs.WalkEnds.{tree_of_volume}
@@ -83,23 +84,29 @@ module _ {D : Type 0} (state : D → DeviceState) (lawful : (d : D) → IsLawful
     pub fits : (head : Header) → m.header d ≡ Some (as_header head) → IsHeaderOf d (as_header head)
     fits head there = headers_of_volume state v k m0 m s is d (as_header head) there
 
-    -- names in the directory have at most 59 bytes
-    pub limit_is : name_limit s.tree d ≡ 59
-    limit_is = ap (λ (t : Tree). name_limit t d) is.log.is
-        ∙ limit m d record {
-          tree = tree_of_volume state v k m0 m s is;
-          directory = subst (λ (t : Tree). is_dir (node t d) ≡ true) is.log.is dir;
-        }
+    -- its header, where one was read
+    pub head_is : (state new.store.log.device).keeps_model → (head : Header) → HasHeader state old new d head
+        → m.header d ≡ Some (as_header head)
+    head_is keeps head has = header_is ∙ has k m0 m keeps holds
 
-    pub short_is : length l.name.now ≤ 59 → is_long s.tree d path ≡ false
-    short_is short = ap (λ (q : ℕ). nat_lt q (length (name path))) limit_is
-        ∙ not_below 59 (length (name path))
-        (let same_length = ap length says.1 in omega (arith, same_length, short))
+    -- names in the directory are as long as its form allows
+    module _ (head : Header) (there : m.header d ≡ Some (as_header head)) where
+      pub limit_is : name_limit s.tree d ≡ name_len head.form
+      limit_is = ap (λ (t : Tree). name_limit t d) is.log.is
+          ∙ limit m d record {
+            tree = tree_of_volume state v k m0 m s is;
+            directory = subst (λ (t : Tree). is_dir (node t d) ≡ true) is.log.is dir;
+          } head there
 
-    pub long_is : 59 < length l.name.now → is_long s.tree d path ≡ true
-    long_is long = ap (λ (q : ℕ). nat_lt q (length (name path))) limit_is
-        ∙ below 59 (length (name path))
-        (let same_length = ap length says.1 in omega (arith, same_length, long))
+      pub short_is : length l.name.now ≤ name_len head.form → is_long s.tree d path ≡ false
+      short_is short = ap (λ (q : ℕ). nat_lt q (length (name path))) limit_is
+          ∙ not_below (name_len head.form) (length (name path))
+          (let same_length = ap length says.1 in omega (arith, same_length, short))
+
+      pub long_is : name_len head.form < length l.name.now → is_long s.tree d path ≡ true
+      long_is long = ap (λ (q : ℕ). nat_lt q (length (name path))) limit_is
+          ∙ below (name_len head.form) (length (name path))
+          (let same_length = ap length says.1 in omega (arith, same_length, long))
 
     -- a name looked up in the directory
     pub looked : (state new.store.log.device).keeps_model → (head : Header) (o : Option ℕ)
@@ -151,14 +158,14 @@ module _ {D : Type 0} (state : D → DeviceState) (lawful : (d : D) → IsLawful
       pub in_range : (1 ≤ n) × (n ≤ 4095)
       in_range = is.log.sound.numbers n (is.log.sound.named d (name path) n entry_is)
 
-      pub small : head.size ≤ 65536
+      pub small : head.size ≤ 1024 * slot_len head.form
       small =
           let many = size_of_directory (segments_of v) m s volume d dir head there_d (fits head there_d) in
-          let few = (is.log.sound.limits d (Dir 0 (names_in s.tree d)) dir_node).1 in
-          omega (arith, many, few)
+          let few = (is.log.sound.limits d (Dir head.form (names_in s.tree d)) dir_node).1 in
+          few_slots head.form (length (names_in s.tree d)) head.size many few
         where
-          dir_node : node s.tree d ≡ Some (Dir 0 (names_in s.tree d))
-          dir_node = directory_node (segments_of v) m s volume d dir head there_d ∙ ap (λ (ms : Names). Some (Dir 0 ms)) (sym (names_in_directory (segments_of v) m s volume d dir head there_d))
+          dir_node : node s.tree d ≡ Some (Dir head.form (names_in s.tree d))
+          dir_node = directory_node (segments_of v) m s volume d dir head there_d ∙ ap (λ (ms : Names). Some (Dir head.form ms)) (sym (names_in_directory (segments_of v) m s volume d dir head there_d))
 
       -- ---- what it gives
       pub object_there : (object : Header) → HasHeader state old new n object
@@ -192,7 +199,7 @@ module _ {D : Type 0} (state : D → DeviceState) (lawful : (d : D) → IsLawful
           ap (λ (q : ℕ). is_dir (node s.tree q)) target_is ∙ is_directory object has is_kind
 
       -- what no volume has: then a call of the device failed
-      pub never : (65536 < head.size) ⊎ ((n ≡ 0) ⊎ LacksHeader state old new n error.Device)
+      pub never : (1024 * slot_len head.form < head.size) ⊎ ((n ≡ 0) ⊎ LacksHeader state old new n error.Device)
           → (state v.log.device).failures < (state new.store.log.device).failures
       never why = ⊎_elim
           (λ large. absurd (let low = small in omega (arith, large, low)))

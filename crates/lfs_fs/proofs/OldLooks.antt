@@ -1,19 +1,30 @@
 -- An entry of a directory that is looked up, and then its object: what is told of both.
-use Rattle.std.proofs.Common.{◌≡◌, ℕ, Bool, List, Option, Some, sym, ◌∙◌, ap, subst, inl, inr, ⊎_elim, arith}
+use Rattle.std.proofs.Common.{◌≡◌, ℕ, Bool, false, List, Option, Some, sym, ◌∙◌, ap, subst, inl, inr, ⊎_elim, arith}
 use Rattle.lfs_model.specs.Device.{DeviceState}
 use Rattle.lfs_files.specs.declared.header.Header.{Header}
 use Rattle.lfs_store.specs.declared.draft.Draft.{Draft}
 use Rattle.lfs_store.specs.memory.Batch.{staged}
 use Rattle.lfs_store.proofs.LogReads.{held_still}
+use Rattle.lfs_path.specs.Pieces.{is_dots}
 use Rattle.lfs_fs.specs.declared.error.FsError.{FsError}
 use Rattle.lfs_fs.specs.declared.error.FsError.TheVariants as error
 use Rattle.lfs_fs.specs.declared.fs.Fs.{Fs}
-use Rattle.lfs_fs.specs.Naming.{LooksUp}
+use Rattle.lfs_fs.specs.Naming.{LooksNone, LooksUp}
 use Rattle.lfs_fs.specs.Seen.{HasHeader, LacksHeader, OnlyReads}
 use Rattle.lfs_fs.specs.Unlinking.{RefusesOld, SeesEntry}
 use Rattle.lfs_fs.proofs.PathEnds.{has_again}
 
 module _ {D : Type 0} (state : D → DeviceState) (old mid : Fs D) (d : ℕ) (name : List ℕ) where
+  -- the rule of an old entry, where the name isn't looked up
+  pub old_unseen : (ends : Bool) → is_dots name ≡ false → (fault : FsError) → LooksNone state old mid d name fault → RefusesOld state old mid d name ends fault
+  old_unseen ends named fault none = ⊎_elim
+      (λ long. subst (RefusesOld state old mid d name ends) (sym long.0) (named, long.1))
+      (λ rest. ⊎_elim
+      (λ halted. subst (RefusesOld state old mid d name ends) (sym halted.0) halted.1)
+      (λ failed. subst (RefusesOld state old mid d name ends) (sym failed.0) (inl failed.1))
+      rest)
+      none
+
   -- what was found is this
   pub looks_as : (head : Header) (found o : Option ℕ) → found ≡ o
       → LooksUp state old mid d name head found → LooksUp state old mid d name head o

@@ -7,8 +7,8 @@ use Rattle.lfs_model.specs.Device.{DeviceState, IsLawful}
 use Rattle.lfs_model.specs.Refusal as refusals
 use Rattle.lfs_model.specs.Refusal.{Refusal}
 use Rattle.lfs_model.specs.Stands.{LogMap}
-use Rattle.lfs_model.specs.Step.{Step, last_dots, no_last}
-use Rattle.lfs_model.specs.Tree.{State}
+use Rattle.lfs_model.specs.Step.{Step, is_long, last_dots, no_last}
+use Rattle.lfs_model.specs.Tree.{State, name_len}
 use Rattle.lfs_model.specs.Walk.{At, Parent}
 use Rattle.lfs_files.specs.declared.header.Header.{Header}
 use Rattle.lfs_path.specs.declared.last.Last.{Last}
@@ -18,14 +18,14 @@ use Rattle.lfs_path.proofs.LastPieces.{last_says}
 use Rattle.lfs_fs.specs.declared.error.FsError.{FsError}
 use Rattle.lfs_fs.specs.declared.error.FsError.TheVariants as error
 use Rattle.lfs_fs.specs.declared.fs.Fs.{Fs}
-use Rattle.lfs_fs.specs.Naming.{LooksUp, Reaches}
+use Rattle.lfs_fs.specs.Naming.{IsTooLong, LooksUp, Reaches}
 use Rattle.lfs_fs.specs.Refusals.{refusal_of}
 use Rattle.lfs_fs.specs.Seen.{OnlyReads, seen}
 use Rattle.lfs_fs.specs.Unlinking.{RefusesOld, SeesEntry}
 use Rattle.lfs_fs.specs.Volume.{IsIn, Mounted, Serves, segments_of}
 use Rattle.lfs_fs.proofs.Behaving.{IsOrdinary}
 use Rattle.lfs_fs.proofs.NameLooks.{only_none}
-use Rattle.lfs_fs.proofs.OldEntries.{dots_are, found_there, gives_directory, gives_plain, has_last, is_missing, long_is, never, rises, short_is, still, IsRefused, walk_refuses, walk_zero}
+use Rattle.lfs_fs.proofs.OldEntries.{dots_are, found_there, gives_directory, gives_plain, has_last, head_is, is_missing, long_is, looked, never, rises, short_is, still, IsRefused, walk_refuses, walk_zero}
 use Rattle.lfs_fs.proofs.OldEntrySteps.{ChecksOld, OldCall, old_directory, old_dots, old_long, old_missing, old_slash}
 use Rattle.lfs_fs.proofs.ReadingEnds.{failed_serves}
 
@@ -71,17 +71,22 @@ module _ {D : Type 0} (state : D → DeviceState) (lawful : (d : D) → IsLawful
       dots_step are = old_dots (segments_of v) s path d call checks (dots true are)
 
       module _ (named : is_dots l.name.now ≡ false) where
-        long_step : 59 < length l.name.now
+        long_step : IsTooLong state old new d l.name.now
             → Step (segments_of v) s call (Refuse refusals.NameTooLong) s
         long_step long = old_long (segments_of v) s path d call checks (dots false named)
-            (long_is state lawful v old path d piece reached l is_last new only k m0 m s is walk long)
+            (long_is state lawful v old path d piece reached l is_last new only k m0 m s is walk long.0
+            (head_is state lawful v old path d piece reached l is_last new only k m0 m s is walk keeps long.0 long.1) long.2)
 
-        module _ (short : length l.name.now ≤ 59) (head : Header) where
+        module _ (head : Header) (short : length l.name.now ≤ name_len head.form) where
+          not_long : (o : Option ℕ) → LooksUp state old new d l.name.now head o → is_long s.tree d path ≡ false
+          not_long o found = short_is state lawful v old path d piece reached l is_last new only k m0 m s is walk head
+              (looked state lawful v old path d piece reached l is_last new only k m0 m s is walk keeps head o found).0 short
+
           missing_step : LooksUp state old new d l.name.now head None
               → Step (segments_of v) s call (Refuse refusals.NoEntry) s
           missing_step looks =
               old_missing (segments_of v) s path d call checks (dots false named)
-              (short_is state lawful v old path d piece reached l is_last new only k m0 m s is walk short)
+              (not_long None looks)
               (is_missing state lawful v old path d piece reached l is_last new only k m0 m s is walk keeps head looks)
 
           module _ (n : ℕ) (object : Header)
@@ -90,7 +95,7 @@ module _ {D : Type 0} (state : D → DeviceState) (lawful : (d : D) → IsLawful
                 → Step (segments_of v) s call (Refuse refusals.NotDir) s
             slash_step ends other =
                 old_slash (segments_of v) s path d call checks (dots false named)
-                (short_is state lawful v old path d piece reached l is_last new only k m0 m s is walk short)
+                (not_long (Some n) sees.looks)
                 (found_there state lawful v old path d piece reached l is_last new only k m0 m s is walk keeps head n sees.looks)
                 ((has_last state lawful v old path d piece reached l is_last new only).1 ∙ ends)
                 (gives_plain state lawful v old path d piece reached l is_last new only k m0 m s is walk keeps head n sees.looks object sees.there other)
@@ -99,7 +104,7 @@ module _ {D : Type 0} (state : D → DeviceState) (lawful : (d : D) → IsLawful
                 → Step (segments_of v) s call (Refuse refusals.Perm) s
             directory_step is_kind =
                 old_directory (segments_of v) s path d call checks (dots false named)
-                (short_is state lawful v old path d piece reached l is_last new only k m0 m s is walk short)
+                (not_long (Some n) sees.looks)
                 (found_there state lawful v old path d piece reached l is_last new only k m0 m s is walk keeps head n sees.looks)
                 (gives_directory state lawful v old path d piece reached l is_last new only k m0 m s is walk keeps head n sees.looks object sees.there is_kind)
 
@@ -111,16 +116,16 @@ module _ {D : Type 0} (state : D → DeviceState) (lawful : (d : D) → IsLawful
         (λ are. refused refusals.Perm tt (λ k m0 m s keeps is walk.
         dots_step k m0 m s keeps is walk are))
         (λ sees. refused refusals.Perm tt (λ k m0 m s keeps is walk.
-        directory_step k m0 m s keeps is walk sees.0 sees.1 sees.2.0 sees.2.1 sees.2.2 sees.2.3 sees.2.4))
+        directory_step k m0 m s keeps is walk sees.0 sees.1.0 sees.1.1 sees.1.2.0 sees.1.2.1 sees.1.2.2 sees.1.2.3))
         why
     entry_refused error.NameTooLong why = refused refusals.NameTooLong tt
         (λ k m0 m s keeps is walk. long_step k m0 m s keeps is walk why.0 why.1)
     entry_refused error.NoEntry why = refused refusals.NoEntry tt
         (λ k m0 m s keeps is walk.
-        missing_step k m0 m s keeps is walk why.0 why.1 why.2.0 why.2.1)
+        missing_step k m0 m s keeps is walk why.0 why.1.0 why.1.1 why.1.2)
     entry_refused error.NotDir why = refused refusals.NotDir tt
         (λ k m0 m s keeps is walk.
-        slash_step k m0 m s keeps is walk why.0 why.1 why.3.0 why.3.1 why.3.2 why.3.3 why.2 why.3.4)
+        slash_step k m0 m s keeps is walk why.0 why.2.0 why.2.1 why.2.2.0 why.2.2.1 why.2.2.2 why.1 why.2.2.3)
     entry_refused error.Halted why = absurd (let on = why in let off = running in cc)
     entry_refused error.Device why =
         failed_serves state v (seen new) call (lawful v.log.device)

@@ -8,7 +8,7 @@ use Rattle.lfs_model.specs.Device.{DeviceState}
 use Rattle.lfs_model.specs.Objects.{IsHeaderOf}
 use Rattle.lfs_model.specs.Stands.{LogMap}
 use Rattle.lfs_model.specs.Step.{name}
-use Rattle.lfs_model.specs.Tree.{State}
+use Rattle.lfs_model.specs.Tree.{State, slot_len}
 use Rattle.lfs_model.proofs.Shrinking.{named_counts}
 use Rattle.lfs_files.specs.declared.header.Header.{Header}
 use Rattle.lfs_store.specs.memory.declared.batch.Loss.{Loss}
@@ -26,7 +26,7 @@ use Rattle.lfs_fs.specs.declared.moving.Source.{Source}
 use Rattle.lfs_fs.specs.declared.moving.Target.{Target}
 use Rattle.lfs_fs.specs.Renaming.{DraftsMove, DropsFound, DropsObject, FitsFound, NamesFound, fewer_links, first_holder, gains_directory, is_directory, loses_directory, more_links, second_holder, DraftsTake, RelinksWhere}
 use Rattle.lfs_fs.specs.Unlinking.{LosesLink}
-use Rattle.lfs_fs.proofs.Headers.{directory_grows, directory_shrinks, links_fit}
+use Rattle.lfs_fs.proofs.Headers.{directory_grows, directory_shrinks, known_form, links_fit}
 use Rattle.lfs_fs.proofs.InDirectories.{directory_kind, slot_in_directory}
 use Rattle.lfs_fs.proofs.RenamedFiles.{apart_first, apart_second, names_plain, dir_a, dir_b, kind_o, linked_twice, linked_twice_b, looks_o, there as there_o}
 use Rattle.lfs_store.specs.log.verify.declared.totals.BlockTotals.{BlockTotals}
@@ -86,7 +86,7 @@ pub record IsLossFit (c : Changes) (m : LogMap) (da db : ℕ) : Type 0 where
 relinks_fit : (v : Bool) (c c' : Changes) (m : LogMap) (da db d : ℕ) (head : Header) (l : ℕ)
     (t : BlockTotals) → RelinksWhere v c c' d head l t
     → (staged c m).header d ≡ Some (as_header head)
-    → 2 ≤ head.links → IsApart c.loss d → FitsHeader head.kind l head.size → IsLossFit c m da db
+    → 2 ≤ head.links → IsApart c.loss d → FitsHeader head.kind head.form l head.size → IsLossFit c m da db
     → IsLossFit c' m da db
 relinks_fit false c c' m da db d head l t is there two apart header fit =
     subst (λ (x : Changes). IsLossFit x m da db) (sym is) fit
@@ -155,23 +155,25 @@ module _ {D : Type 0} {state : D → DeviceState} {v : Mounted D} {old : Fs D} {
   fits_b : IsHeaderOf db (as_header dest.holder)
   fits_b = g.headers db (as_header dest.holder) g.looks_b.header
 
-  some_size : 64 ≤ source.holder.size
+  some_size : slot_len source.holder.form ≤ source.holder.size
   some_size = slot_in_directory N m s g.map da (dir_a g) source.holder g.looks_a.header fits_a
       (name a) source.object.number.value g.looks_a.gives
 
-  less : FitsHeader source.holder.kind (fewer_links source dest) source.holder.size
+  less : FitsHeader source.holder.kind source.holder.form (fewer_links source dest) source.holder.size
   less = links_fit da source.holder fits_a (fewer_links source dest)
       (at_most (loses_directory source dest) source.holder.links)
 
-  more : FitsHeader dest.holder.kind (more_links source dest) dest.holder.size
+  more : FitsHeader dest.holder.kind dest.holder.form (more_links source dest) dest.holder.size
   more = record {
+    known = known_form db dest.holder fits_b;
     links_few = within (gains_directory source dest) dest.holder.links fits_b.links
         (few_links source dest dest.replaced g.fits);
     size_fits = fits_b.size;
   }
 
-  cut_fits : FitsHeader source.holder.kind (fewer_links source dest) (source.holder.size - 64)
+  cut_fits : FitsHeader source.holder.kind source.holder.form (fewer_links source dest) (source.holder.size - slot_len source.holder.form)
   cut_fits = record {
+    known = less.known;
     links_few = less.links_few;
     size_fits = (directory_shrinks da source.holder fits_a
         (directory_kind N m s g.map da (dir_a g) source.holder g.looks_a.header)
@@ -183,22 +185,22 @@ module _ {D : Type 0} {state : D → DeviceState} {v : Mounted D} {old : Fs D} {
   holder_by e = if e then shrunk (first_holder source dest)
       else relinked dest.holder (more_links source dest)
 
-  over_fits : (e : Bool) → FitsHeader (holder_by e).kind (holder_by e).links (holder_by e).size
+  over_fits : (e : Bool) → FitsHeader (holder_by e).kind (holder_by e).form (holder_by e).links (holder_by e).size
   over_fits true = cut_fits
   over_fits false = more
 
   new_fits : (e : Bool) → (da == db) ≡ e → dest.replaced ≡ None
-      → FitsHeader (holder_by e).kind (holder_by e).links ((holder_by e).size + 64)
+      → FitsHeader (holder_by e).kind (holder_by e).form (holder_by e).links ((holder_by e).size + slot_len (holder_by e).form)
   new_fits true same none = subst
-      (λ (z : ℕ). FitsHeader source.holder.kind (fewer_links source dest) z)
+      (λ (z : ℕ). FitsHeader source.holder.kind source.holder.form (fewer_links source dest) z)
       (let some = some_size in omega (arith, some)) less
   new_fits false ne none = record {
+    known = more.known;
     links_few = more.links_few;
     size_fits = (directory_grows db dest.holder fits_b
         (directory_kind N m s g.map db (dir_b g) dest.holder g.looks_b.header)
-        (let room = (subst (λ (f : Option Object). FitsFound f source dest) none g.fits
-        (λ e. (let on = eq-eqb da db e in let off = ne in cc))).size in
-        omega (arith, room))).size_fits;
+        (subst (λ (f : Option Object). FitsFound f source dest) none g.fits
+        (λ e. (let on = eq-eqb da db e in let off = ne in cc))).size).size_fits;
   }
 
   -- ---- the whole draft
@@ -246,7 +248,7 @@ module _ {D : Type 0} {state : D → DeviceState} {v : Mounted D} {old : Fs D} {
         loss_3.fits (λ none. let at = g.looks_a.header in cc) (a_3 moves).there cut_fits loss_3.first
 
     -- the second directory is written to
-    write : (at : ℕ) (slot : List ℕ) → FitsHeader to.kind to.links (max to.size (at + length slot))
+    write : (at : ℕ) (slot : List ℕ) → FitsHeader to.kind to.form to.links (max to.size (at + length slot))
         → TakesWrite c4 m db to at slot
     write at slot header = record {
       there = (holder_4 moves).there;
@@ -260,13 +262,13 @@ module _ {D : Type 0} {state : D → DeviceState} {v : Mounted D} {old : Fs D} {
         db to source.object.number.value dest.name.now
         → FitsBatch m new.store.draft.changes
     name_fits None none adds = adds.fits k m0 m (holds_taken starts drafts keeps) fits_4
-        (write to.size (slot_for source.object.number.value dest.name.now)
-        (subst (λ (z : ℕ). FitsHeader to.kind to.links z)
+        (write to.size (slot_for to.form source.object.number.value dest.name.now)
+        (subst (λ (z : ℕ). FitsHeader to.kind to.form to.links z)
         (adds.file k m0 m keeps (holds_taken starts drafts keeps)).bytes.size
         (new_fits (da == db) refl none)))
     name_fits (Some o) some points = points.fits k m0 m (holds_taken starts drafts keeps) fits_4
-        (write (64 * points.place) (slot_for source.object.number.value dest.name.now)
-        (subst (λ (z : ℕ). FitsHeader to.kind to.links z)
+        (write (slot_len to.form * points.place) (slot_for to.form source.object.number.value dest.name.now)
+        (subst (λ (z : ℕ). FitsHeader to.kind to.form to.links z)
         (points.file k m0 m keeps (holds_taken starts drafts keeps)).bytes.size
         (over_fits (da == db))))
 

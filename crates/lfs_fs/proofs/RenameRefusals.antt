@@ -1,5 +1,5 @@
 -- The refusals of rename, from what its steps tell of both names to the call as a step of the model.
-use Rattle.std.proofs.Common.{◌≡◌, ◌≢◌, ◌<◌, ◌≤◌, ◌^◌, ◌||◌, ◌&&◌, not, ℕ, Bool, true, false, List, length, Option, Some, None, eqb, refl, sym, ◌∙◌, ap, subst, inl, inr, ⊎_elim, nat_le, nat_lt, arith}
+use Rattle.std.proofs.Common.{◌≡◌, ◌≢◌, ◌<◌, ◌≤◌, ◌^◌, ◌||◌, ◌&&◌, not, ℕ, Bool, true, false, List, length, Option, Some, None, eqb, refl, sym, ◌∙◌, ap, subst, inl, inr, ⊎_elim, nat_le, nat_lt, arith, ◌*◌}
 use Rattle.std.specs.Prelude.{◌==◌, is_some}
 use Rattle.std.proofs.lemmas.Bool.{eq-eqb, eqb-true}
 use Rattle.std.proofs.lemmas.Bool.Decides.{nat_tests}
@@ -11,7 +11,7 @@ use Rattle.lfs_model.specs.PathText.{slash}
 use Rattle.lfs_model.specs.Refusal as refusals
 use Rattle.lfs_model.specs.Stands.{LogMap}
 use Rattle.lfs_model.specs.Step.{Step, gives_dir, is_full, is_long, is_there, is_within, last_dots, name, no_last, target}
-use Rattle.lfs_model.specs.Tree.{State, Tree, is_dir, links, name_limit, names, names_in, node}
+use Rattle.lfs_model.specs.Tree.{State, Tree, is_dir, links, name_len, name_limit, names, names_in, node, slot_len}
 use Rattle.lfs_model.specs.Walk.{At, Parent}
 use Rattle.lfs_model.proofs.Growing.{same_or_not}
 use Rattle.lfs_model.proofs.Shrinking.{named_counts}
@@ -32,7 +32,7 @@ use Rattle.lfs_fs.specs.declared.moving.Source.{Source}
 use Rattle.lfs_fs.specs.declared.moving.Target.{Target}
 use Rattle.lfs_fs.specs.Refusals.{refusal_of}
 use Rattle.lfs_fs.specs.Renaming.{ChecksRename, ComesTo, FailsWhere, FindsBoth, FindsSource, FindsTarget, FitsFound, GivesName, InLog, IsAbove, IsNotAbove, LooksAt, MayLook, MayName, ReachesBoth, RefusesFound, RefusesNext, RefusesRename, RefusesReplaced, RefusesRoom, RefusesSource, Rises, is_directory, of_first, of_second, of_target, of_within}
-use Rattle.lfs_fs.specs.Seen.{OnlyReads, seen}
+use Rattle.lfs_fs.specs.Seen.{HasHeader, OnlyReads, seen}
 use Rattle.lfs_fs.specs.Volume.{IsIn, IsStill, Mounted, Serves, segments_of}
 use Rattle.lfs_fs.proofs.Behaving.{IsOrdinary}
 use Rattle.lfs_fs.proofs.CallSteps.{not_worn, refused_not_worn, worn}
@@ -156,15 +156,20 @@ module _ {D : Type 0} (state : D → DeviceState) (lawful : (d : D) → IsLawful
         see : (P : LogMap → Type 0) → InLog state old new P → P m
         see P all = subst P (no_change old.store.draft.changes m reached.empty) (all k m0 m keeps (still_in state v (seen old) k m0 m s reached.still is).stores.holds)
 
-        limit_at : (d : ℕ) → is_dir (node s.tree d) ≡ true → name_limit s.tree d ≡ 59
-        limit_at d there = ap (λ (t : Tree). name_limit t d) is.log.is
-            ∙ limit m d record { tree = tree_of_volume state v k m0 m s is; directory = subst (λ (t : Tree). is_dir (node t d) ≡ true) is.log.is there }
+        -- names in a directory are as long as its form allows
+        limit_at : (d : ℕ) → is_dir (node s.tree d) ≡ true → (head : Header) → m.header d ≡ Some (as_header head) → name_limit s.tree d ≡ name_len head.form
+        limit_at d dir head there = ap (λ (t : Tree). name_limit t d) is.log.is
+            ∙ limit m d record { tree = tree_of_volume state v k m0 m s is; directory = subst (λ (t : Tree). is_dir (node t d) ≡ true) is.log.is dir } head there
 
-        long_at : (p : List ℕ) (d : ℕ) → is_dir (node s.tree d) ≡ true → 59 < length (name p) → is_long s.tree d p ≡ true
-        long_at p d there long = ap (λ (q : ℕ). nat_lt q (length (name p))) (limit_at d there) ∙ below 59 (length (name p)) long
+        long_at : (p : List ℕ) (d : ℕ) → is_dir (node s.tree d) ≡ true → (head : Header) → HasHeader state old new d head → name_len head.form < length (name p) → is_long s.tree d p ≡ true
+        long_at p d dir head has long =
+            ap (λ (q : ℕ). nat_lt q (length (name p))) (limit_at d dir head (see (λ x. x.header d ≡ Some (as_header head)) has))
+            ∙ below (name_len head.form) (length (name p)) long
 
-        short_at : (p : List ℕ) (d : ℕ) → is_dir (node s.tree d) ≡ true → length (name p) ≤ 59 → is_long s.tree d p ≡ false
-        short_at p d there short = ap (λ (q : ℕ). nat_lt q (length (name p))) (limit_at d there) ∙ not_below 59 (length (name p)) short
+        short_at : (p : List ℕ) (d : ℕ) → is_dir (node s.tree d) ≡ true → (head : Header) → HasHeader state old new d head → length (name p) ≤ name_len head.form → is_long s.tree d p ≡ false
+        short_at p d dir head has short =
+            ap (λ (q : ℕ). nat_lt q (length (name p))) (limit_at d dir head (see (λ x. x.header d ≡ Some (as_header head)) has))
+            ∙ not_below (name_len head.form) (length (name p)) short
 
         dir_a : is_dir (node s.tree da) ≡ true
         dir_a = dir N m s volume (headers_of_volume state v k m0 m s is) a da walk
@@ -172,11 +177,11 @@ module _ {D : Type 0} (state : D → DeviceState) (lawful : (d : D) → IsLawful
         dir_b : is_dir (node s.tree db) ≡ true
         dir_b = dir N m s volume (headers_of_volume state v k m0 m s is) b db comes.ends
 
-        short_a : length l.name.now ≤ 59 → is_long s.tree da a ≡ false
-        short_a short = short_at a da dir_a (let same = ap length says.1 in omega (arith, same, short))
+        short_a : (head : Header) → HasHeader state old new da head → length l.name.now ≤ name_len head.form → is_long s.tree da a ≡ false
+        short_a head has short = short_at a da dir_a head has (let same = ap length says.1 in omega (arith, same, short))
 
-        short_b : length o.name.now ≤ 59 → is_long s.tree db b ≡ false
-        short_b short = short_at b db dir_b (let same = ap length says_other.1 in omega (arith, same, short))
+        short_b : (head : Header) → HasHeader state old new db head → length o.name.now ≤ name_len head.form → is_long s.tree db b ≡ false
+        short_b head has short = short_at b db dir_b head has (let same = ap length says_other.1 in omega (arith, same, short))
 
         looks_a : (head : Header) (found : Option Object) → InLog state old new (λ x. LooksAt x da l.name.now head found) → LooksAt m da (name a) head found
         looks_a head found looks = subst (λ (w : List ℕ). LooksAt m da w head found) (sym says.1) (see (λ x. LooksAt x da l.name.now head found) looks)
@@ -207,7 +212,7 @@ module _ {D : Type 0} (state : D → DeviceState) (lawful : (d : D) → IsLawful
 
           pub names_source : NamesSource N s a b da db source.object.number.value (is_directory source.object.header.kind)
           names_source = record {
-            short = short_a finds.short;
+            short = short_a source.holder (λ k m0 m keeps holds. (finds.finds.looks k m0 m keeps holds).header) finds.short;
             there = there_is N m s volume (headers_of_volume state v k m0 m s is) a da walk source.holder (Some source.object) looks_first;
             is = target_is N m s volume (headers_of_volume state v k m0 m s is) a da walk source.holder source.object looks_first;
             kind = gives_is N m s volume (headers_of_volume state v k m0 m s is) a da walk source.holder source.object looks_first;
@@ -233,7 +238,7 @@ module _ {D : Type 0} (state : D → DeviceState) (lawful : (d : D) → IsLawful
             ends_b = ap (λ (x : Bool). x && not (is_directory source.object.header.kind)) has_other.1 ∙ also.plain
 
             short_name : is_long s.tree db b ≡ false
-            short_name = short_b also.is_name.short
+            short_name = short_b dest.holder (λ k m0 m keeps holds. (also.finds.looks k m0 m keeps holds).header) also.is_name.short
 
             pub from_both : (x : _) → StopsAt (from_same N s a b da db) x → StopsAt (conditions N s a b da db) x
             from_both x at = stops_source N s a b da db (named s) x
@@ -295,10 +300,10 @@ module _ {D : Type 0} (state : D → DeviceState) (lawful : (d : D) → IsLawful
               links_b : dest.holder.links ≡ links s.tree db
               links_b = links_are N m s volume (headers_of_volume state v k m0 m s is) b db comes.ends dest.holder None (looks_second None none)
 
-              full_b : 65472 < dest.holder.size → is_full s.tree db ≡ true
+              full_b : 1023 * slot_len dest.holder.form < dest.holder.size → is_full s.tree db ≡ true
               full_b = full_is N m s volume (headers_of_volume state v k m0 m s is) b db comes.ends dest.holder None (looks_second None none)
 
-              free_b : dest.holder.size ≤ 65472 → is_full s.tree db ≡ false
+              free_b : dest.holder.size ≤ 1023 * slot_len dest.holder.form → is_full s.tree db ≡ false
               free_b = free_is N m s volume (headers_of_volume state v k m0 m s is) b db comes.ends dest.holder None (looks_second None none)
 
               module _ (apart : IsNotAbove chain source.object.number.value) (elsewhere : source.directory.value ≢ dest.directory.value) where
@@ -336,21 +341,21 @@ module _ {D : Type 0} (state : D → DeviceState) (lawful : (d : D) → IsLawful
 
       first_refused : (fault : FsError) → RefusesSource state old new da l.name.now l.slash fault → Serves state v (seen new) (Rename a b) (Refuse (refusal_of fault))
       first_refused error.NameTooLong long = refused refusals.NameTooLong tt (λ k m0 m s keeps is.
-          stops_source N s a b da db (named s) (Refuse refusals.NameTooLong) (inl (long_at k m0 m s keeps is a da (dir_a k m0 m s keeps is) (let same = ap length says.1 in omega (arith, same, long)), refl)))
+          stops_source N s a b da db (named s) (Refuse refusals.NameTooLong) (inl (long_at k m0 m s keeps is a da (dir_a k m0 m s keeps is) long.0 long.1 (let same = ap length says.1 in let more = long.2 in omega (arith, same, more)), refl)))
       first_refused error.NoEntry why = refused refusals.NoEntry tt (λ k m0 m s keeps is.
           stops_source N s a b da db (named s) (Refuse refusals.NoEntry) (inr (
-            short_a k m0 m s keeps is why.0,
-            inl (ap not (there_is N m s (volume k m0 m s keeps is) (headers_of_volume state v k m0 m s is) a da (walk k m0 m s keeps is) why.1.0 None (looks_a k m0 m s keeps is why.1.0 None why.1.1.looks)), refl),
+            short_a k m0 m s keeps is why.0 (λ k m0 m keeps holds. (why.2.looks k m0 m keeps holds).header) why.1,
+            inl (ap not (there_is N m s (volume k m0 m s keeps is) (headers_of_volume state v k m0 m s is) a da (walk k m0 m s keeps is) why.0 None (looks_a k m0 m s keeps is why.0 None why.2.looks)), refl),
           )))
       first_refused error.NotDir why = refused refusals.NotDir tt (λ k m0 m s keeps is. (
-          let head = why.1.0 in
-          let x = why.1.1 in
-          let looks = looks_a k m0 m s keeps is head (Some x) why.1.2.looks in
+          let head = why.0 in
+          let x = why.2.0 in
+          let looks = looks_a k m0 m s keeps is head (Some x) why.2.1.looks in
           stops_source N s a b da db (named s) (Refuse refusals.NotDir) (inr (
-            short_a k m0 m s keeps is why.0,
+            short_a k m0 m s keeps is head (λ k m0 m keeps holds. (why.2.1.looks k m0 m keeps holds).header) why.1,
             inr (
               ap not (there_is N m s (volume k m0 m s keeps is) (headers_of_volume state v k m0 m s is) a da (walk k m0 m s keeps is) head (Some x) looks),
-              inl ((λ i. has_last.1 i && not (gives_is N m s (volume k m0 m s keeps is) (headers_of_volume state v k m0 m s is) a da (walk k m0 m s keeps is) head x looks i)) ∙ why.1.3, refl),
+              inl ((λ i. has_last.1 i && not (gives_is N m s (volume k m0 m s keeps is) (headers_of_volume state v k m0 m s is) a da (walk k m0 m s keeps is) head x looks i)) ∙ why.2.2, refl),
             ),
           ))))
       first_refused fault why = fails_first fault why
@@ -360,11 +365,11 @@ module _ {D : Type 0} (state : D → DeviceState) (lawful : (d : D) → IsLawful
       second_refused source finds error.NameTooLong long = refused refusals.NameTooLong tt (λ k m0 m s keeps is.
           stops_source N s a b da db (named s) (Refuse refusals.NameTooLong)
           (stops_next N s a b da db source.object.number.value (is_directory source.object.header.kind) (names_source k m0 m s keeps is source finds) (Refuse refusals.NameTooLong)
-          (inl (long_at k m0 m s keeps is b db (dir_b k m0 m s keeps is) (let same = ap length says_other.1 in omega (arith, same, long)), refl))))
+          (inl (long_at k m0 m s keeps is b db (dir_b k m0 m s keeps is) long.0 long.1 (let same = ap length says_other.1 in let more = long.2 in omega (arith, same, more)), refl))))
       second_refused source finds error.NotDir why = refused refusals.NotDir tt (λ k m0 m s keeps is.
           stops_source N s a b da db (named s) (Refuse refusals.NotDir)
           (stops_next N s a b da db source.object.number.value (is_directory source.object.header.kind) (names_source k m0 m s keeps is source finds) (Refuse refusals.NotDir)
-          (stops_slash N s a b da db source.object.number.value (is_directory source.object.header.kind) (names_source k m0 m s keeps is source finds) (short_b k m0 m s keeps is why.0)
+          (stops_slash N s a b da db source.object.number.value (is_directory source.object.header.kind) (names_source k m0 m s keeps is source finds) (short_b k m0 m s keeps is why.0.0 why.0.1 why.0.2)
           (ap (λ (x : Bool). x && not (is_directory source.object.header.kind)) has_other.1 ∙ why.1))))
       second_refused source finds fault why = fails_second fault why
 

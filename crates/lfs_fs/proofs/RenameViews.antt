@@ -8,7 +8,7 @@ use Rattle.lfs_model.specs.Entry as entries
 use Rattle.lfs_model.specs.Objects.{IsHeaderOf}
 use Rattle.lfs_model.specs.Stands.{LogMap}
 use Rattle.lfs_model.specs.Step.{gives_dir, is_full, is_there, last_dots, name, no_last, target}
-use Rattle.lfs_model.specs.Tree.{Dir, File, Link, Names, Node, State, Tree, entry, is_dir, links, links_at, name_limit, names_in, names_of, node}
+use Rattle.lfs_model.specs.Tree.{Dir, File, Link, Names, Node, State, Tree, entry, is_dir, links, links_at, name_len, name_limit, names_in, names_of, node, slot_len}
 use Rattle.lfs_model.specs.TreeOf.{node_by}
 use Rattle.lfs_model.specs.Walk.{At, Parent}
 use Rattle.lfs_model.proofs.Keeps.{parent_dir}
@@ -20,6 +20,7 @@ use Rattle.lfs_fs.proofs.Checks.{below, not_below}
 use Rattle.lfs_fs.proofs.Files.{IsMapOf, dir_there, no_header_none, node_by_header}
 use Rattle.lfs_fs.proofs.InDirectories.{directory_formed, directory_node, entry_in_directory, free_directory, full_directory, names_in_directory, size_of_directory}
 use Rattle.lfs_fs.proofs.LastNames.{last_is_name}
+use Rattle.lfs_fs.proofs.Slots.{few_slots, no_slots, some_names}
 
 dir_by : (m : LogMap) (k : Kind) (n : ℕ) (h : entries.Header) → is_dir (Some (node_by m k n h)) ≡ is_directory k
 dir_by m kinds.File n h = refl
@@ -48,14 +49,14 @@ module _ (N : ℕ) (m : LogMap) (s : State) (is : IsMapOf N m s) (headers : (n :
     pub kind_is : is_dir (node s.tree o.number.value) ≡ is_directory o.header.kind
     kind_is = ap is_dir (node_by_header N m s is.log o.number.value (as_header o.header) range there) ∙ dir_by m o.header.kind o.number.value (as_header o.header)
 
-    dir_names : is_directory o.header.kind ≡ true → 64 * length (names_in s.tree o.number.value) ≡ o.header.size
+    dir_names : is_directory o.header.kind ≡ true → slot_len o.header.form * length (names_in s.tree o.number.value) ≡ o.header.size
     dir_names dir = size_of_directory N m s is o.number.value (kind_is ∙ dir) o.header there (headers o.number.value (as_header o.header) there)
 
     pub has_entries : is_directory o.header.kind ≡ true → 0 < o.header.size → nat_lt 0 (length (names_in s.tree o.number.value)) ≡ true
-    has_entries dir some = let many = dir_names dir in below 0 (length (names_in s.tree o.number.value)) (omega (arith, many, some))
+    has_entries dir some = below 0 (length (names_in s.tree o.number.value)) (some_names o.header.form (length (names_in s.tree o.number.value)) o.header.size (dir_names dir) some)
 
     pub is_empty : is_directory o.header.kind ≡ true → o.header.size ≡ 0 → nat_lt 0 (length (names_in s.tree o.number.value)) ≡ false
-    is_empty dir none = let many = dir_names dir in not_below 0 (length (names_in s.tree o.number.value)) (omega (arith, many, none))
+    is_empty dir none = not_below 0 (length (names_in s.tree o.number.value)) (let few = no_slots o.header.form (length (names_in s.tree o.number.value)) o.header.size (dir_names dir) none in omega (arith, few))
 
     pub plain_empty : is_directory o.header.kind ≡ false → nat_lt 0 (length (names_in s.tree o.number.value)) ≡ false
     plain_empty plain = ap (λ (ms : Names). nat_lt 0 (length ms)) (none_in (node s.tree o.number.value) (kind_is ∙ plain))
@@ -79,8 +80,8 @@ module _ (N : ℕ) (m : LogMap) (s : State) (is : IsMapOf N m s) (headers : (n :
       formed = λ head there. directory_formed N m s is d dir head there (header_there head there);
       small = λ head there. (
           let many = size_of_directory N m s is d dir head there (header_there head there) in
-          let few = (is.log.sound.limits d (Dir 0 (names_in s.tree d)) (directory_node N m s is d dir head there ∙ ap (λ (ms : Names). Some (Dir 0 ms)) (sym (names_in_directory N m s is d dir head there)))).1 in
-          omega (arith, many, few));
+          let few = (is.log.sound.limits d (Dir head.form (names_in s.tree d)) (directory_node N m s is d dir head there ∙ ap (λ (ms : Names). Some (Dir head.form ms)) (sym (names_in_directory N m s is d dir head there)))).1 in
+          few_slots head.form (length (names_in s.tree d)) head.size many few);
       linked = λ head there. (
           let are : head.links ≡ links s.tree d = is.log.links d (as_header head) there ∙ ap (λ (t : Tree). links t d) (sym is.log.is) in
           let two = two_links (node s.tree d) s.tree d dir in
@@ -92,8 +93,8 @@ module _ (N : ℕ) (m : LogMap) (s : State) (is : IsMapOf N m s) (headers : (n :
           record { first = range.0; last = range.1; there = λ none. node_there (no_header_none N m s is.log n none) });
     }
 
-    pub may_name : AreBytes p → (no_last p || last_dots p) ≡ false → name_limit s.tree d ≡ 59 → MayName m d (name p)
-    may_name bytes named limit = record { looks = may_look; is_name = λ short. last_is_name N s is.log.sound p d limit bytes walk named short }
+    pub may_name : AreBytes p → (no_last p || last_dots p) ≡ false → ((head : Header) → m.header d ≡ Some (as_header head) → name_limit s.tree d ≡ name_len head.form) → MayName m d (name p)
+    may_name bytes named limit = record { looks = may_look; is_name = λ head there short. last_is_name N s is.log.sound p d (name_len head.form) (limit head there) bytes walk named short }
 
     -- what is found in it
     module _ (head : Header) (found : Option Object) (looks : LooksAt m d (name p) head found) where
@@ -106,13 +107,12 @@ module _ (N : ℕ) (m : LogMap) (s : State) (is : IsMapOf N m s) (headers : (n :
       pub there_is : is_there s.tree d p ≡ is_some found
       there_is = ap is_some entry_is ∙ found_is found
 
-      pub full_is : 65472 < head.size → is_full s.tree d ≡ true
+      pub full_is : 1023 * slot_len head.form < head.size → is_full s.tree d ≡ true
       full_is large =
-          let many = size_of_directory N m s is d dir head looks.header fits in
-          full_directory N m s is d dir head looks.header fits (omega (arith, many, large))
+          full_directory N m s is d dir head looks.header fits large
 
-      pub free_is : head.size ≤ 65472 → is_full s.tree d ≡ false
-      free_is small = free_directory N m s is d dir head looks.header fits (omega (arith, small))
+      pub free_is : head.size ≤ 1023 * slot_len head.form → is_full s.tree d ≡ false
+      free_is small = free_directory N m s is d dir head looks.header fits small
 
       pub links_are : head.links ≡ links s.tree d
       links_are = is.log.links d (as_header head) looks.header ∙ ap (λ (t : Tree). links t d) (sym is.log.is)

@@ -6,7 +6,7 @@
 -- first name goes (`MovedMaps.DraftsMove`). The second then gives the object (`DraftsName`, or
 -- `DraftsOver` where it gave another). `free_moved` and `over_moved` say that m5 is the log map of
 -- the state after the call, whether there is room for it or not.
-use Rattle.std.proofs.Common.{length, ◌≡◌, ◌≢◌, ◌≤◌, ◌+◌, ◌-◌, ◌&&◌, not, ℕ, Bool, true, false, List, [], Option, Some, None, refl, sym, ◌∙◌, ap, arith, ◌∷◌, ◌<◌, subst, ◌||◌}
+use Rattle.std.proofs.Common.{length, ◌≡◌, ◌≢◌, ◌≤◌, ◌+◌, ◌-◌, ◌&&◌, not, ℕ, Bool, true, false, List, [], Option, Some, None, refl, sym, ◌∙◌, ap, arith, ◌∷◌, ◌<◌, subst, ◌||◌, ◌*◌}
 use Rattle.std.specs.Prelude.{nat_lt, T, ◌==◌, if◌then◌else◌, is_some, unwrap_or, is_none}
 use Rattle.std.proofs.lemmas.Bool.{eq-eqb}
 use Rattle.std.proofs.lemmas.Bool.Decides.{nat_tests}
@@ -16,7 +16,7 @@ use Rattle.lfs_model.specs.Entry as entry
 use Rattle.lfs_model.specs.Objects.{one_if, IsHeaderOf}
 use Rattle.lfs_model.specs.Stands.{LogMap}
 use Rattle.lfs_model.specs.Step.{Step, is_there, let_go, name, target, with_tree}
-use Rattle.lfs_model.specs.Tree.{Dir, Names, State, Tree, byte_cmp, entry as entry_in, form_of, is_dir, links, names, names_in, node, with_name, without_name}
+use Rattle.lfs_model.specs.Tree.{Dir, Names, State, Tree, byte_cmp, entry as entry_in, form_of, is_dir, links, names, names_in, node, slot_len, with_name, without_name}
 use Rattle.lfs_model.specs.TreeOf.{tree_in}
 use Rattle.lfs_model.specs.Walk.{At, Parent}
 use Rattle.lfs_model.proofs.KeepsNames.{rename_keeps}
@@ -61,8 +61,8 @@ pub record IsRename (N : ℕ) (m : LogMap) (s : State) (a b : List ℕ) (source 
   pub walk_b : Parent s.tree b (At dest.directory.value)
   pub looks_a : LooksAt m source.directory.value (name a) source.holder (Some source.object)
   pub looks_b : LooksAt m dest.directory.value (name b) dest.holder dest.replaced
-  pub few_a : source.holder.size ≤ 65536
-  pub few_b : dest.holder.size ≤ 65536
+  pub few_a : source.holder.size ≤ 1024 * slot_len source.holder.form
+  pub few_b : dest.holder.size ≤ 1024 * slot_len dest.holder.form
   pub other : GivesName dest.replaced source.object.number.value ≡ false
   pub fits : FitsTarget source dest
 

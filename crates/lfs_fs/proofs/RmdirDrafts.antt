@@ -72,7 +72,7 @@ module _ {D : Type 0} (state : D → DeviceState) (old new : Fs D) (mid : Store 
       × (names_at (staged mid.draft.changes m) d (less_linked head) ≡ names_at m d head)
   kept_directory m other dir =
       directory_stays m (staged mid.draft.changes m) d head (less_linked head)
-      (same_blocks m other) refl dir
+      (same_blocks m other) refl refl dir
 
   has_mid : (k : CheckpointValue) (m0 m : LogMap) → Holds state old.store.log k m0 m
       → HasMap state mid.log mid.draft.changes m (staged mid.draft.changes m)

@@ -11,7 +11,7 @@ use Rattle.lfs_model.specs.Objects.{IsDirectory, IsHeaderOf, one_if}
 use Rattle.lfs_model.specs.Stands.{LogMap}
 use Rattle.lfs_model.specs.Step.{Step, name}
 use Rattle.lfs_model.specs.Totals.{IsCounted}
-use Rattle.lfs_model.specs.Tree.{State, byte_cmp, is_dir, node}
+use Rattle.lfs_model.specs.Tree.{State, byte_cmp, is_dir, node, slot_len}
 use Rattle.lfs_model.specs.Walk.{At, Parent}
 use Rattle.lfs_files.specs.declared.header.Header.{Header}
 use Rattle.lfs_files.specs.Files.{HasFile}
@@ -104,7 +104,7 @@ module _ {D : Type 0} (state : D → DeviceState) (lawful : (d : D) → IsLawful
     formed_d : IsDirectory m d (as_header head)
     formed_d = holder_directory m d head placed.shaped (holder_is placed)
 
-    some_size : 64 ≤ head.size
+    some_size : slot_len head.form ≤ head.size
     some_size = slot_in_directory (segments_of v) m s placed.map d (dir placed) head placed.holder
         fits_d (name path) n found
 
@@ -216,10 +216,10 @@ module _ {D : Type 0} (state : D → DeviceState) (lawful : (d : D) → IsLawful
           (done (kept keeps) k m0 m s is))
 
       -- ---- the draft fits
-      links_less : FitsHeader head.kind (head.links - 1) head.size
+      links_less : FitsHeader head.kind head.form (head.links - 1) head.size
       links_less = links_fit d head (fits_d (kept keeps) k m0 m s is) (head.links - 1) (omega arith)
 
-      size_less : FitsHeader head.kind head.links (head.size - 64)
+      size_less : FitsHeader head.kind head.form head.links (head.size - slot_len head.form)
       size_less = directory_shrinks d head (fits_d (kept keeps) k m0 m s is)
           (kind_d (kept keeps) k m0 m s is) (some_size (kept keeps) k m0 m s is)
 
@@ -234,7 +234,7 @@ module _ {D : Type 0} (state : D → DeviceState) (lawful : (d : D) → IsLawful
       fits_here =
           drafts.takes.fits k m0 m keeps (in_mid (kept keeps) k m0 m s is) fits_linked
           (λ none. (let at = placed_here.holder in absurd (cc))) holder_then.there
-          record { links_few = links_less.links_few; size_fits = size_less.size_fits }
+          record { known = links_less.known; links_few = links_less.links_few; size_fits = size_less.size_fits }
           (drafts.sets.apart d apart_1)
 
       -- ---- the totals

@@ -1,9 +1,10 @@
 -- What the steps of the rule of a directory that is to go tell.
-use Rattle.std.proofs.Common.{◌≡◌, ℕ, List, Option, Some, sym, ◌∙◌, ap, subst, inl, inr, ⊎_elim, arith}
+use Rattle.std.proofs.Common.{◌≡◌, ℕ, false, List, Option, Some, sym, ◌∙◌, ap, subst, inl, inr, ⊎_elim, arith}
 use Rattle.lfs_model.specs.Device.{DeviceState}
 use Rattle.lfs_files.specs.declared.header.Header.{Header}
 use Rattle.lfs_store.specs.memory.Batch.{staged}
 use Rattle.lfs_store.proofs.LogReads.{held_still}
+use Rattle.lfs_path.specs.Pieces.{is_dots}
 use Rattle.lfs_fs.specs.declared.error.FsError.{FsError}
 use Rattle.lfs_fs.specs.declared.error.FsError.TheVariants as error
 use Rattle.lfs_fs.specs.declared.fs.Fs.{Fs}
@@ -15,13 +16,17 @@ use Rattle.lfs_fs.proofs.PathEnds.{has_again}
 
 module _ {D : Type 0} (state : D → DeviceState) (old mid : Fs D) (d : ℕ) (name : List ℕ) where
   -- no look at the directory
-  pub look_refuses : (fault : FsError) → LooksNone state old mid d fault
+  pub look_refuses : is_dots name ≡ false → (fault : FsError) → LooksNone state old mid d name fault
       → RefusesEmpty state old mid d name fault
-  look_refuses fault none = ⊎_elim
+  look_refuses named fault none = ⊎_elim
+      (λ long. subst (λ (e : FsError). RefusesEmpty state old mid d name e) (sym long.0)
+      (named, long.1))
+      (λ rest. ⊎_elim
       (λ halted. subst (λ (e : FsError). RefusesEmpty state old mid d name e) (sym halted.0)
       halted.1)
       (λ failed. subst (λ (e : FsError). RefusesEmpty state old mid d name e) (sym failed.0)
       (inl (inl failed.1)))
+      rest)
       none
 
   -- what a name gives, by its variant

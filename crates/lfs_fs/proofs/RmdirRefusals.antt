@@ -9,7 +9,7 @@ use Rattle.lfs_model.specs.Refusal as refusals
 use Rattle.lfs_model.specs.Refusal.{Refusal}
 use Rattle.lfs_model.specs.Stands.{LogMap}
 use Rattle.lfs_model.specs.Step.{Step, gives_dir, is_long, is_there, last_dots, no_last, target}
-use Rattle.lfs_model.specs.Tree.{Dir, Names, State, names_in, node, Node, names_of, File, is_dir}
+use Rattle.lfs_model.specs.Tree.{Dir, Names, State, name_len, names_in, node, Node, names_of, File, is_dir, slot_len}
 use Rattle.lfs_model.specs.TreeOf.{node_by}
 use Rattle.lfs_model.specs.Walk.{At, Parent}
 use Rattle.lfs_files.specs.declared.header.Header.{Header}
@@ -22,7 +22,7 @@ use Rattle.lfs_path.proofs.of_dirs.SlotsKept.{empty_directory}
 use Rattle.lfs_fs.specs.declared.error.FsError.{FsError}
 use Rattle.lfs_fs.specs.declared.error.FsError.TheVariants as error
 use Rattle.lfs_fs.specs.declared.fs.Fs.{Fs}
-use Rattle.lfs_fs.specs.Naming.{LooksUp, Reaches}
+use Rattle.lfs_fs.specs.Naming.{IsTooLong, LooksUp, Reaches}
 use Rattle.lfs_fs.specs.Refusals.{refusal_of}
 use Rattle.lfs_fs.specs.Removing.{HasEmpty, RefusesEmpty}
 use Rattle.lfs_fs.specs.Seen.{OnlyReads, seen}
@@ -33,8 +33,9 @@ use Rattle.lfs_fs.proofs.Checks.{below, not_below}
 use Rattle.lfs_fs.proofs.Holding.{headers_of_volume, shape_of_volume, map_of_volume}
 use Rattle.lfs_fs.proofs.InDirectories.{size_of_directory}
 use Rattle.lfs_fs.proofs.NameLooks.{only_none}
-use Rattle.lfs_fs.proofs.OldEntries.{entry_is, found_there, gives_directory, gives_plain, is_directory, is_missing, long_is, never, object_node, object_there, rises, says, short_is, still, target_is, there_d, volume, IsRefused, walk_refuses, walk_zero, small}
+use Rattle.lfs_fs.proofs.OldEntries.{entry_is, found_there, gives_directory, gives_plain, head_is, is_directory, is_missing, long_is, looked, never, object_node, object_there, rises, says, short_is, still, target_is, there_d, volume, IsRefused, walk_refuses, walk_zero, small}
 use Rattle.lfs_fs.proofs.ReadingEnds.{failed_serves}
+use Rattle.lfs_fs.proofs.Slots.{no_slots, some_names}
 use Rattle.lfs_fs.proofs.RmdirSteps.{removed, rmdir_done, rmdir_dots, rmdir_full, rmdir_long, rmdir_missing, rmdir_plain, rmdir_root}
 use Rattle.lfs_fs.proofs.RemovedEntries.{IsEntry, links_many}
 use Rattle.std.specs.Prelude.{unwrap_or}
@@ -69,26 +70,29 @@ module _ {D : Type 0} (state : D → DeviceState) (lawful : (d : D) → IsLawful
       dots_are : (b : Bool) → is_dots l.name.now ≡ b → last_dots path ≡ b
       dots_are b are = (says state lawful v old path d piece reached l is_last new only).2 ∙ are
 
-      short_there : length l.name.now ≤ 59 → is_long s.tree d path ≡ false
-      short_there =
-          short_is state lawful v old path d piece reached l is_last new only k m0 m s is walk
+      short_there : (head : Header) (o : Option ℕ) → LooksUp state old new d l.name.now head o → length l.name.now ≤ name_len head.form
+          → is_long s.tree d path ≡ false
+      short_there head o looks =
+          short_is state lawful v old path d piece reached l is_last new only k m0 m s is walk head
+          (looked state lawful v old path d piece reached l is_last new only k m0 m s is walk keeps head o looks).0
 
       dots_step : is_dots l.name.now ≡ true
           → Step (segments_of v) s (Rmdir path) (Refuse refusals.Inval) s
       dots_step are = rmdir_dots (segments_of v) s path d walk piece_there (dots_are true are)
 
-      long_step : is_dots l.name.now ≡ false → 59 < length l.name.now
+      long_step : is_dots l.name.now ≡ false → IsTooLong state old new d l.name.now
           → Step (segments_of v) s (Rmdir path) (Refuse refusals.NameTooLong) s
       long_step named long =
           rmdir_long (segments_of v) s path d walk piece_there (dots_are false named)
-          (long_is state lawful v old path d piece reached l is_last new only k m0 m s is walk long)
+          (long_is state lawful v old path d piece reached l is_last new only k m0 m s is walk long.0
+          (head_is state lawful v old path d piece reached l is_last new only k m0 m s is walk keeps long.0 long.1) long.2)
 
-      missing_step : is_dots l.name.now ≡ false → length l.name.now ≤ 59 → (head : Header)
+      missing_step : is_dots l.name.now ≡ false → (head : Header) → length l.name.now ≤ name_len head.form
           → LooksUp state old new d l.name.now head None
           → Step (segments_of v) s (Rmdir path) (Refuse refusals.NoEntry) s
-      missing_step named short head looks =
+      missing_step named head short looks =
           rmdir_missing (segments_of v) s path d walk piece_there (dots_are false named)
-          (short_there short)
+          (short_there head None looks short)
           (is_missing state lawful v old path d piece reached l is_last new only k m0 m s is walk
           keeps head looks)
 
@@ -100,12 +104,12 @@ module _ {D : Type 0} (state : D → DeviceState) (lawful : (d : D) → IsLawful
             found_there state lawful v old path d piece reached l is_last new only k m0 m s is walk
             keeps head n sees.looks
 
-        plain_step : is_dots l.name.now ≡ false → length l.name.now ≤ 59
+        plain_step : is_dots l.name.now ≡ false → length l.name.now ≤ name_len head.form
             → object.kind ≢ kind.Directory
             → Step (segments_of v) s (Rmdir path) (Refuse refusals.NotDir) s
         plain_step named short other =
             rmdir_plain (segments_of v) s path d walk piece_there (dots_are false named)
-            (short_there short) there
+            (short_there head (Some n) sees.looks short) there
             (gives_plain state lawful v old path d piece reached l is_last new only k m0 m s is walk
             keeps head n sees.looks object sees.there other)
 
@@ -115,8 +119,8 @@ module _ {D : Type 0} (state : D → DeviceState) (lawful : (d : D) → IsLawful
               gives_directory state lawful v old path d piece reached l is_last new only k m0 m s is
               walk keeps head n sees.looks object sees.there is_kind
 
-          -- it has a name for each 64 bytes
-          size_there : 64 * length (names_in s.tree n) ≡ object.size
+          -- it has a name for each slot
+          size_there : slot_len object.form * length (names_in s.tree n) ≡ object.size
           size_there =
               let at : m.header n ≡ Some (as_header object) =
               object_there state lawful v old path d piece reached l is_last new only k m0 m s is
@@ -135,33 +139,32 @@ module _ {D : Type 0} (state : D → DeviceState) (lawful : (d : D) → IsLawful
               keeps head n sees.looks)
               ∙ are
 
-          full_step : is_dots l.name.now ≡ false → length l.name.now ≤ 59 → 0 < object.size
+          full_step : is_dots l.name.now ≡ false → length l.name.now ≤ name_len head.form → 0 < object.size
               → Step (segments_of v) s (Rmdir path) (Refuse refusals.NotEmpty) s
           full_step named short some =
               rmdir_full (segments_of v) s path d walk piece_there (dots_are false named)
-              (short_there short) there gives
+              (short_there head (Some n) sees.looks short) there gives
               (target_has true (below 0 (length (names_in s.tree n))
-              (let size = size_there in omega (arith, size, some))))
+              (some_names object.form (length (names_in s.tree n)) object.size size_there some)))
 
       -- ---- a directory that may go
       module _ (head : Header) (n : ℕ) (object : Header)
           (has : HasEmpty state old new d l.name.now head n object) where
-        pub empty_there : node s.tree n ≡ Some (Dir 0 [])
+        pub empty_there : node s.tree n ≡ Some (Dir object.form [])
         empty_there =
             object_node state lawful v old path d piece reached l is_last new only k m0 m s is walk
             keeps head n has.sees.looks object has.sees.there
             ∙ ap (λ (x : Kind). Some (node_by m x n (as_header object))) has.dir
-            ∙ ap (λ (ms : Names). Some (Dir 0 ms)) (empty_directory m n object has.empty).1
+            ∙ ap (λ (ms : Names). Some (Dir object.form ms)) (empty_directory m n object has.empty).1
 
         pub empty_step : Step (segments_of v) s (Rmdir path) Done (removed s path d)
         empty_step =
             let size = size_there head n object has.sees has.dir in
-            let none = has.empty in
             rmdir_done (segments_of v) s path d walk piece_there (dots_are false has.named)
-            (short_there has.short) (there head n object has.sees)
+            (short_there head (Some n) has.sees.looks has.short) (there head n object has.sees)
             (gives head n object has.sees has.dir)
             (target_has head n object has.sees has.dir false
-            (not_below 0 (length (names_in s.tree n)) (omega (arith, size, none))))
+            (not_below 0 (length (names_in s.tree n)) (let none = no_slots object.form (length (names_in s.tree n)) object.size size has.empty in omega (arith, none))))
 
         pub placed : IsEntry (segments_of v) m s path d n head (as_header object)
         placed = record {
@@ -197,14 +200,14 @@ module _ {D : Type 0} (state : D → DeviceState) (lawful : (d : D) → IsLawful
         (λ k m0 m s keeps is walk. long_step k m0 m s keeps is walk why.0 why.1)
     empty_refused error.NoEntry why = refused refusals.NoEntry tt
         (λ k m0 m s keeps is walk.
-        missing_step k m0 m s keeps is walk why.0 why.1 why.2.0 why.2.1)
+        missing_step k m0 m s keeps is walk why.0 why.1.0 why.1.1 why.1.2)
     empty_refused error.NotDir why = refused refusals.NotDir tt
         (λ k m0 m s keeps is walk.
-        plain_step k m0 m s keeps is walk why.2.0 why.2.1 why.2.2 why.2.3 why.0 why.1 why.2.4)
+        plain_step k m0 m s keeps is walk why.1.0 why.1.2.0 why.1.2.1 why.1.2.2 why.0 why.1.1 why.1.2.3)
     empty_refused error.NotEmpty why = refused refusals.NotEmpty tt
         (λ k m0 m s keeps is walk.
-        full_step k m0 m s keeps is walk why.2.0 why.2.1 why.2.2 why.2.3 why.2.4.0 why.0 why.1
-        why.2.4.1)
+        full_step k m0 m s keeps is walk why.1.0 why.1.2.0 why.1.2.1 why.1.2.2 why.1.2.3.0 why.0 why.1.1
+        why.1.2.3.1)
     empty_refused error.Halted why = absurd (let on = why in let off = running in cc)
     empty_refused error.Device why =
         failed_serves state v (seen new) (Rmdir path) (lawful v.log.device)

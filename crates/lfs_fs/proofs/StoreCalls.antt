@@ -112,7 +112,7 @@ module _ {D : Type 0} (state : D → DeviceState) (a b : Store D) where
     };
     file = λ k m0 m keeps holds.
         let f = adds.has m (staged a.draft.changes m) keeps record { checkpoint = k; acknowledged = m0; holds = holds; draft = refl } in
-        subst (λ (x : LogMap). WritesFile (staged a.draft.changes m) x d head (grown head) head.size (slot_for n name)) f.has.draft f.file;
+        subst (λ (x : LogMap). WritesFile (staged a.draft.changes m) x d head (grown head) head.size (slot_for head.form n name)) f.has.draft f.file;
     more = λ k m0 m keeps holds.
         let f = adds.has m (staged a.draft.changes m) keeps record { checkpoint = k; acknowledged = m0; holds = holds; draft = refl } in
         subst (λ (x : LogMap). IsDirectory (staged a.draft.changes m) d (as_header head) → find byte_cmp name (names_at (staged a.draft.changes m) d head) ≡ None → AddsName (staged a.draft.changes m) x d head n name) f.has.draft f.more;

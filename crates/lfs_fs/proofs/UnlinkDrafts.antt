@@ -73,7 +73,7 @@ module _ {D : Type 0} (state : D → DeviceState) (old mid new : Fs D) (n : ℕ)
 
   kept_directory : (m : LogMap) (d : ℕ) (head : Header) → n ≢ d → IsDirectory m d (as_header head)
       → IsDirectory (staged mid.store.draft.changes m) d (as_header head) × (names_at (staged mid.store.draft.changes m) d head ≡ names_at m d head)
-  kept_directory m d head other dir = directory_stays m (staged mid.store.draft.changes m) d head head (same_blocks m d other) refl dir
+  kept_directory m d head other dir = directory_stays m (staged mid.store.draft.changes m) d head head (same_blocks m d other) refl refl dir
 
   has_mid : (k : CheckpointValue) (m0 m : LogMap) → Holds state old.store.log k m0 m → HasMap state mid.store.log mid.store.draft.changes m (staged mid.store.draft.changes m)
   has_mid k m0 m holds = record { checkpoint = k; acknowledged = m0; holds = held_still state old.store.log mid.store.log k m0 m reads holds; draft = refl }

@@ -10,7 +10,7 @@ use Rattle.lfs_model.specs.Objects.{IsHeaderOf, one_if}
 use Rattle.lfs_model.specs.Stands.{LogMap}
 use Rattle.lfs_model.specs.Step.{Step, name}
 use Rattle.lfs_model.specs.Totals.{IsCounted}
-use Rattle.lfs_model.specs.Tree.{State, byte_cmp, entry as entry_in, is_dir, node}
+use Rattle.lfs_model.specs.Tree.{State, byte_cmp, entry as entry_in, is_dir, node, slot_len}
 use Rattle.lfs_model.specs.Walk.{At, Parent}
 use Rattle.lfs_files.specs.declared.header.Header.{Header}
 use Rattle.lfs_files.specs.Files.{HasFile}
@@ -105,7 +105,7 @@ module _ {D : Type 0} (state : D → DeviceState) (lawful : (d : D) → IsLawful
     entry_there : entry_in s.tree d (name path) ≡ Some n
     entry_there = entry_is state lawful v old path d piece reached last is_last mid only k m0 m s is walk kept_mid head n has.sees.looks
 
-    few : head.size ≤ 65536
+    few : head.size ≤ 1024 * slot_len head.form
     few = small state lawful v old path d piece reached last is_last mid only k m0 m s is walk kept_mid head n has.sees.looks
 
     there_n : m.header n ≡ Some (as_header object)
@@ -120,7 +120,7 @@ module _ {D : Type 0} (state : D → DeviceState) (lawful : (d : D) → IsLawful
     fits_n : IsHeaderOf n (as_header object)
     fits_n = headers_of_volume state v k m0 m s is n (as_header object) there_n
 
-    some_size : 64 ≤ head.size
+    some_size : slot_len head.form ≤ head.size
     some_size = slot_in_directory (segments_of v) m s map d is_directory head there_d fits_d
         (name path) n found_d
 
@@ -131,7 +131,7 @@ module _ {D : Type 0} (state : D → DeviceState) (lawful : (d : D) → IsLawful
     done : Step (segments_of v) s (Unlink path) Done (unlinked s path d)
     done = unlink_done (segments_of v) s path d walk
         (dots_are state lawful v old path d piece reached last is_last mid only false has.named)
-        (short_is state lawful v old path d piece reached last is_last mid only k m0 m s is walk has.short)
+        (short_is state lawful v old path d piece reached last is_last mid only k m0 m s is walk head there_d has.short)
         (found_there state lawful v old path d piece reached last is_last mid only k m0 m s is walk kept_mid head n has.sees.looks)
         ((has_last state lawful v old path d piece reached last is_last mid only).1 ∙ has.plain)
         (gives_plain state lawful v old path d piece reached last is_last mid only k m0 m s is walk kept_mid head n has.sees.looks object has.sees.there has.other)

@@ -49,10 +49,10 @@ module _ {D : Type 0} (state : D → DeviceState) where
 
   -- the same, where each of its slots is well-formed; or one isn't
   abbrev pub Inspects : Held D → Held D → Changes → ℕ → Header → List Entry → Type 0
-  Inspects h h' c d head es = EachDrafted h h' c (λ m. IsListOf (slots_at m d head) es)
+  Inspects h h' c d head es = EachDrafted h h' c (λ m. IsListOf head.form (slots_at m d head) es)
 
   abbrev pub LacksSlot : Held D → Held D → Changes → ℕ → Header → Type 0
-  LacksSlot h h' c d head = EachDrafted h h' c (λ m. AreSlots (slots_at m d head) → ⊥)
+  LacksSlot h h' c d head = EachDrafted h h' c (λ m. AreSlots head.form (slots_at m d head) → ⊥)
 
   -- a walk ends there
   abbrev pub WalksTo : Held D → Held D → Changes → (Tree → End → Type 0) → End → Type 0
@@ -67,8 +67,8 @@ module _ {D : Type 0} (state : D → DeviceState) where
 
   -- A name is drafted into directory d.
   pub record Adds (h h' : Held D) (c c' : Changes) (d : ℕ) (head : Header) (n : ℕ) (name : List ℕ) : Type 0 where
-    pub fits : (k : CheckpointValue) (m0 m : LogMap) → Holds state h k m0 m → FitsBatch m c → TakesWrite c m d head head.size (slot_for n name) → FitsBatch m c'
+    pub fits : (k : CheckpointValue) (m0 m : LogMap) → Holds state h k m0 m → FitsBatch m c → TakesWrite c m d head head.size (slot_for head.form n name) → FitsBatch m c'
     pub file : (k : CheckpointValue) (m0 m : LogMap) → (state h'.device).keeps_model → Holds state h k m0 m
-        → WritesFile (staged c m) (staged c' m) d head (grown head) head.size (slot_for n name)
+        → WritesFile (staged c m) (staged c' m) d head (grown head) head.size (slot_for head.form n name)
     pub more : (k : CheckpointValue) (m0 m : LogMap) → (state h'.device).keeps_model → Holds state h k m0 m → IsDirectory (staged c m) d (as_header head)
         → find byte_cmp name (names_at (staged c m) d head) ≡ None → AddsName (staged c m) (staged c' m) d head n name

@@ -1,5 +1,5 @@
 -- What the steps of the calls of paths do, each for itself.
-use Rattle.std.specs.Prelude.{◌≡◌, ◌≢◌, ◌⊎◌, ◌≤◌, ◌<◌, ◌+◌, ◌&&◌, not, ℕ, Bool, true, false, List, [], length, Option, Some, None}
+use Rattle.std.specs.Prelude.{◌≡◌, ◌≢◌, ◌⊎◌, ◌≤◌, ◌<◌, ◌+◌, ◌*◌, ◌&&◌, not, ℕ, Bool, true, false, List, [], length, Option, Some, None}
 use Rattle.std.specs.Ordering.{nat_cmp}
 use Rattle.std.specs.FinMap.{find, put}
 use Rattle.lfs_model.specs.declared.Kind.{Kind}
@@ -10,7 +10,7 @@ use Rattle.lfs_model.specs.Device.{DeviceState}
 use Rattle.lfs_model.specs.Objects.{IsDirectory}
 use Rattle.lfs_model.specs.Slot.{IsName}
 use Rattle.lfs_model.specs.Stands.{LogMap}
-use Rattle.lfs_model.specs.Tree.{State, byte_cmp, least_handle}
+use Rattle.lfs_model.specs.Tree.{State, byte_cmp, least_handle, name_len, slot_len}
 use Rattle.lfs_model.specs.Walk.{At, Parent}
 use Rattle.lfs_store.specs.memory.declared.changes.Changes.{Changes}
 use Rattle.lfs_files.specs.declared.header.Header.{Header}
@@ -32,7 +32,7 @@ use Rattle.lfs_fs.specs.declared.fs.Fs.{Fs}
 use Rattle.lfs_fs.specs.Accepting.{StagesDraft, TurnsDown}
 use Rattle.lfs_fs.specs.Handles.{handles_of}
 use Rattle.lfs_fs.specs.Reading.{LacksObject, TellsStat}
-use Rattle.lfs_fs.specs.Seen.{OnlyReads, seen}
+use Rattle.lfs_fs.specs.Seen.{HasHeader, OnlyReads, seen}
 use Rattle.lfs_fs.specs.declared.rows.Stat.{Stat}
 use Rattle.lfs_fs.specs.Volume.{IsIn, IsStill, Mounted}
 
@@ -120,9 +120,13 @@ module _ {D : Type 0} (state : D → DeviceState) where
       → ((head : Header) → (staged old.store.draft.changes m).header d ≡ Some (as_header head) → IsDirectory (staged old.store.draft.changes m) d (as_header head))
       → (state old.store.log.device).failures < (state new.store.log.device).failures
 
-  -- why there is no answer: a commit failed, or a call of the device did
-  abbrev pub LooksNone : Fs D → Fs D → ℕ → FsError → Type 0
-  LooksNone old new d fault = ((fault ≡ error.Halted) × (old.store.log.halted ≡ true)) ⊎ ((fault ≡ error.Device) × FailsLook old new d)
+  -- the name is longer than the directory's form allows
+  abbrev pub IsTooLong : Fs D → Fs D → ℕ → List ℕ → Type 0
+  IsTooLong old new d name = (head : Header) × HasHeader state old new d head × (name_len head.form < length name)
+
+  -- why there is no answer: the name is too long, or a commit failed, or a call of the device did
+  abbrev pub LooksNone : Fs D → Fs D → ℕ → List ℕ → FsError → Type 0
+  LooksNone old new d name fault = ((fault ≡ error.NameTooLong) × IsTooLong old new d name) ⊎ (((fault ≡ error.Halted) × (old.store.log.halted ≡ true)) ⊎ ((fault ≡ error.Device) × FailsLook old new d))
 
   -- ---- a new entry of directory d
 
@@ -131,25 +135,27 @@ module _ {D : Type 0} (state : D → DeviceState) where
       (head : Header) : Type 0 where
     pub looks : LooksUp old new d name head None
     pub named : is_dots name ≡ false
-    pub is_name : IsName 59 name
+    pub is_name : IsName (name_len head.form) name
     pub plain : (ends && not is_mkdir) ≡ false
-    pub room : head.size ≤ 65472
+    pub room : head.size ≤ 1023 * slot_len head.form
 
   -- why it doesn't
   abbrev pub RefusesEntry : Fs D → Fs D → ℕ → List ℕ → Bool → Bool → FsError → Type 0
   RefusesEntry old new d name ends is_mkdir error.Exist = (is_dots name ≡ true)
-      ⊎ ((is_dots name ≡ false) × (length name ≤ 59)
-      × ((head : Header) × ((n : ℕ) × LooksUp old new d name head (Some n))))
+      ⊎ ((is_dots name ≡ false) × ((head : Header) × (length name ≤ name_len head.form)
+      × ((n : ℕ) × LooksUp old new d name head (Some n))))
   RefusesEntry old new d name ends is_mkdir error.NameTooLong = (is_dots name ≡ false)
-      × (59 < length name)
+      × IsTooLong old new d name
   RefusesEntry old new d name ends is_mkdir error.Inval = (is_dots name ≡ false)
-      × (length name ≤ 59) × (IsName 59 name → ⊥)
+      × ((head : Header) × HasHeader state old new d head × (length name ≤ name_len head.form)
+      × (IsName (name_len head.form) name → ⊥))
   RefusesEntry old new d name ends is_mkdir error.NoEntry = (is_dots name ≡ false)
-      × (length name ≤ 59) × ((ends && not is_mkdir) ≡ true)
-      × ((head : Header) × LooksUp old new d name head None)
+      × ((ends && not is_mkdir) ≡ true)
+      × ((head : Header) × (length name ≤ name_len head.form) × LooksUp old new d name head None)
   RefusesEntry old new d name ends is_mkdir error.DirFull = (is_dots name ≡ false)
-      × (length name ≤ 59) × ((ends && not is_mkdir) ≡ false)
-      × ((head : Header) × (65472 < head.size) × LooksUp old new d name head None)
+      × ((ends && not is_mkdir) ≡ false)
+      × ((head : Header) × (length name ≤ name_len head.form)
+      × (1023 * slot_len head.form < head.size) × LooksUp old new d name head None)
   RefusesEntry old new d name ends is_mkdir error.Halted = old.store.log.halted ≡ true
   RefusesEntry old new d name ends is_mkdir error.Device = FailsLook old new d
   RefusesEntry old new d name ends is_mkdir _ = ⊥

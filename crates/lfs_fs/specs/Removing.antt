@@ -2,6 +2,7 @@
 use Rattle.std.specs.Prelude.{◌≡◌, ◌≢◌, ◌⊎◌, ◌≤◌, ◌<◌, ◌-◌, ℕ, true, false, List, length, None}
 use Rattle.lfs_model.specs.declared.Kind.TheVariants as kind
 use Rattle.lfs_model.specs.Device.{DeviceState}
+use Rattle.lfs_model.specs.Tree.{name_len}
 use Rattle.lfs_files.specs.declared.header.Header.{Header}
 use Rattle.lfs_store.specs.memory.declared.changes.Changes.{Changes}
 use Rattle.lfs_store.specs.log.verify.declared.totals.BlockTotals.{BlockTotals}
@@ -11,7 +12,7 @@ use Rattle.lfs_path.specs.Pieces.{is_dots}
 use Rattle.lfs_fs.specs.declared.error.FsError.{FsError}
 use Rattle.lfs_fs.specs.declared.error.FsError.TheVariants as error
 use Rattle.lfs_fs.specs.declared.fs.Fs.{Fs}
-use Rattle.lfs_fs.specs.Naming.{LooksUp}
+use Rattle.lfs_fs.specs.Naming.{IsTooLong, LooksUp}
 use Rattle.lfs_fs.specs.Unlinking.{FailsEntry, SeesEntry, SeesSome, TakesOut}
 
 -- the header of a directory that has a directory less
@@ -26,7 +27,7 @@ module _ {D : Type 0} (state : D → DeviceState) where
       (object : Header) : Type 0 where
     pub sees : SeesEntry state old new d name head n object
     pub named : is_dots name ≡ false
-    pub short : length name ≤ 59
+    pub short : length name ≤ name_len head.form
     pub dir : object.kind ≡ kind.Directory
     pub empty : object.size ≡ 0
 
@@ -38,12 +39,14 @@ module _ {D : Type 0} (state : D → DeviceState) where
   -- why it gives none
   abbrev pub RefusesEmpty : Fs D → Fs D → ℕ → List ℕ → FsError → Type 0
   RefusesEmpty old new d name error.Inval = is_dots name ≡ true
-  RefusesEmpty old new d name error.NameTooLong = (is_dots name ≡ false) × (59 < length name)
-  RefusesEmpty old new d name error.NoEntry = (is_dots name ≡ false) × (length name ≤ 59)
-      × ((head : Header) × LooksUp state old new d name head None)
-  RefusesEmpty old new d name error.NotDir = (is_dots name ≡ false) × (length name ≤ 59)
+  RefusesEmpty old new d name error.NameTooLong = (is_dots name ≡ false)
+      × IsTooLong state old new d name
+  RefusesEmpty old new d name error.NoEntry = (is_dots name ≡ false)
+      × ((head : Header) × (length name ≤ name_len head.form)
+      × LooksUp state old new d name head None)
+  RefusesEmpty old new d name error.NotDir = (is_dots name ≡ false)
       × SeesSome state old new d name (λ object. object.kind ≢ kind.Directory)
-  RefusesEmpty old new d name error.NotEmpty = (is_dots name ≡ false) × (length name ≤ 59)
+  RefusesEmpty old new d name error.NotEmpty = (is_dots name ≡ false)
       × SeesSome state old new d name
       (λ object. (object.kind ≡ kind.Directory) × (0 < object.size))
   RefusesEmpty old new d name error.Halted = old.store.log.halted ≡ true

@@ -9,7 +9,7 @@ use Rattle.lfs_model.specs.Device.{DeviceState}
 use Rattle.lfs_model.specs.Objects.{IsDirectory}
 use Rattle.lfs_model.specs.Slot.{IsName}
 use Rattle.lfs_model.specs.Stands.{LogMap}
-use Rattle.lfs_model.specs.Tree.{State, byte_cmp}
+use Rattle.lfs_model.specs.Tree.{State, byte_cmp, name_len, slot_len}
 use Rattle.lfs_model.specs.Walk.{At, Parent}
 use Rattle.lfs_files.specs.declared.header.Header.{Header}
 use Rattle.lfs_store.specs.memory.declared.changes.Changes.{Changes}
@@ -28,7 +28,7 @@ use Rattle.lfs_path.specs.dirs.Taking.{shrunk}
 use Rattle.lfs_fs.specs.Drafted.{Adds}
 use Rattle.lfs_fs.specs.Unlinking.{LosesLink, TakesOut}
 use Rattle.lfs_fs.specs.Accepting.{StagesDraft, TurnsDown}
-use Rattle.lfs_fs.specs.Naming.{DraftsNone}
+use Rattle.lfs_fs.specs.Naming.{DraftsNone, IsTooLong}
 use Rattle.lfs_path.specs.declared.last.Last.{Last}
 use Rattle.lfs_path.specs.dirs.Directory.{names_at}
 use Rattle.lfs_path.specs.Lasts.{HasLast}
@@ -39,7 +39,7 @@ use Rattle.lfs_fs.specs.declared.fs.Fs.{Fs}
 use Rattle.lfs_fs.specs.declared.moving.Object.{Object}
 use Rattle.lfs_fs.specs.declared.moving.Source.{Source}
 use Rattle.lfs_fs.specs.declared.moving.Target.{Target}
-use Rattle.lfs_fs.specs.Seen.{seen}
+use Rattle.lfs_fs.specs.Seen.{HasHeader, seen}
 use Rattle.lfs_fs.specs.Volume.{IsIn, IsStill, Mounted}
 
 -- ---- kinds
@@ -78,15 +78,15 @@ pub record MayLook (m : LogMap) (d : ℕ) (name : List ℕ) : Type 0 where
   pub some : d ≢ 0
   pub there : m.header d ≢ None
   pub formed : (head : Header) → m.header d ≡ Some (as_header head) → IsDirectory m d (as_header head)
-  pub small : (head : Header) → m.header d ≡ Some (as_header head) → head.size ≤ 65536
+  pub small : (head : Header) → m.header d ≡ Some (as_header head) → head.size ≤ 1024 * slot_len head.form
   pub linked : (head : Header) → m.header d ≡ Some (as_header head) → 2 ≤ head.links
   pub gives : (head : Header) (n : ℕ) → m.header d ≡ Some (as_header head)
       → find byte_cmp name (names_at m d head) ≡ Some n → IsObject m n
 
--- and a short piece of a path is a name
+-- and a piece of a path that isn't too long is a name
 pub record MayName (m : LogMap) (d : ℕ) (name : List ℕ) : Type 0 where
   pub looks : MayLook m d name
-  pub is_name : length name ≤ 59 → IsName 59 name
+  pub is_name : (head : Header) → m.header d ≡ Some (as_header head) → length name ≤ name_len head.form → IsName (name_len head.form) name
 
 -- ---- a directory and those above it
 
@@ -124,12 +124,12 @@ RefusesReplaced k replaced error.NotEmpty = (is_directory replaced.kind ≡ true
 RefusesReplaced k replaced _ = ⊥
 
 pub record FitsRoom (k : Kind) (holder : Header) : Type 0 where
-  pub size : holder.size ≤ 65472
+  pub size : holder.size ≤ 1023 * slot_len holder.form
   pub links : is_directory k ≡ true → holder.links < 1000
 
 abbrev pub RefusesRoom : Kind → Header → FsError → Type 0
-RefusesRoom k holder error.DirFull = 65472 < holder.size
-RefusesRoom k holder error.TooManyLinks = (holder.size ≤ 65472) × (is_directory k ≡ true) × (1000 ≤ holder.links)
+RefusesRoom k holder error.DirFull = 1023 * slot_len holder.form < holder.size
+RefusesRoom k holder error.TooManyLinks = (holder.size ≤ 1023 * slot_len holder.form) × (is_directory k ≡ true) × (1000 ≤ holder.links)
 RefusesRoom k holder _ = ⊥
 
 -- the same by what is replaced, if anything is
@@ -146,6 +146,10 @@ FitsTarget source target = FitsFound target.replaced source target
 
 abbrev pub RefusesTarget : Source → Target → FsError → Type 0
 RefusesTarget source target = RefusesFound target.replaced source target
+
+-- where both names stand in one directory, it was read with one form
+abbrev pub HaveOneForm : Source → Target → Type 0
+HaveOneForm source target = source.directory.value ≡ target.directory.value → source.holder.form ≡ target.holder.form
 
 -- ---- what may be drafted
 
@@ -178,10 +182,11 @@ second_holder source target = if source.directory.value == target.directory.valu
 
 -- Sizes and links are those of a volume.
 pub record MayMove (source : Source) (target : Target) : Type 0 where
-  pub from_size : source.holder.size ≤ 65536
+  pub from_size : source.holder.size ≤ 1024 * slot_len source.holder.form
   pub from_links : 2 ≤ source.holder.links
-  pub to_size : target.holder.size ≤ 65536
-  pub name : IsName 59 target.name.now
+  pub to_size : target.holder.size ≤ 1024 * slot_len target.holder.form
+  pub name : IsName (name_len target.holder.form) target.name.now
+  pub form : HaveOneForm source target
   pub fits : FitsTarget source target
 
 -- Other links of directory d, where they change; the totals stay.
@@ -209,6 +214,11 @@ module _ {D : Type 0} (state : D → DeviceState) where
   FailsWhere old new P fault = ((fault ≡ error.Halted) × (old.store.log.halted ≡ true))
       ⊎ ((fault ≡ error.Device) × InLog old new (λ m. P m → Rises old new))
 
+  -- why a name isn't looked up: it is too long, or there is no answer
+  abbrev pub FailsLookAt : Fs D → Fs D → ℕ → List ℕ → FsError → Type 0
+  FailsLookAt old new d name fault = ((fault ≡ error.NameTooLong) × IsTooLong state old new d name)
+      ⊎ FailsWhere old new (λ m. MayLook m d name) fault
+
   -- ---- an object, and what a name gives
 
   pub record FindsObject (old new : Fs D) (n : ℕ) (o : Object) : Type 0 where
@@ -216,7 +226,7 @@ module _ {D : Type 0} (state : D → DeviceState) where
     pub there : InLog old new (λ m. m.header n ≡ Some (as_header o.header))
 
   pub record FindsName (old new : Fs D) (d : ℕ) (name : List ℕ) (head : Header) (found : Option Object) : Type 0 where
-    pub size : head.size ≤ 65536
+    pub size : head.size ≤ 1024 * slot_len head.form
     pub looks : InLog old new (λ m. LooksAt m d name head found)
 
   -- ---- the first name
@@ -226,13 +236,13 @@ module _ {D : Type 0} (state : D → DeviceState) where
     pub named : source.name.now ≡ name
     pub finds : FindsName old new d name source.holder (Some source.object)
     pub links : 2 ≤ source.holder.links
-    pub short : length name ≤ 59
+    pub short : length name ≤ name_len source.holder.form
     pub plain : (ends && not (is_directory source.object.header.kind)) ≡ false
 
   abbrev pub RefusesSource : Fs D → Fs D → ℕ → List ℕ → Bool → FsError → Type 0
-  RefusesSource old new d name ends error.NameTooLong = 59 < length name
-  RefusesSource old new d name ends error.NoEntry = (length name ≤ 59) × ((head : Header) × FindsName old new d name head None)
-  RefusesSource old new d name ends error.NotDir = (length name ≤ 59) × ((head : Header) × (o : Object) × FindsName old new d name head (Some o)
+  RefusesSource old new d name ends error.NameTooLong = IsTooLong state old new d name
+  RefusesSource old new d name ends error.NoEntry = (head : Header) × (length name ≤ name_len head.form) × FindsName old new d name head None
+  RefusesSource old new d name ends error.NotDir = (head : Header) × (length name ≤ name_len head.form) × ((o : Object) × FindsName old new d name head (Some o)
       × ((ends && not (is_directory o.header.kind)) ≡ true))
   RefusesSource old new d name ends fault = FailsWhere old new (λ m. MayLook m d name) fault
 
@@ -242,12 +252,12 @@ module _ {D : Type 0} (state : D → DeviceState) where
     pub directory : target.directory.value ≡ d
     pub named : target.name.now ≡ name
     pub finds : FindsName old new d name target.holder target.replaced
-    pub is_name : IsName 59 name
+    pub is_name : IsName (name_len target.holder.form) name
     pub plain : (ends && not (is_directory k)) ≡ false
 
   abbrev pub RefusesNext : Fs D → Fs D → ℕ → List ℕ → Bool → Kind → FsError → Type 0
-  RefusesNext old new d name ends k error.NameTooLong = 59 < length name
-  RefusesNext old new d name ends k error.NotDir = (length name ≤ 59) × ((ends && not (is_directory k)) ≡ true)
+  RefusesNext old new d name ends k error.NameTooLong = IsTooLong state old new d name
+  RefusesNext old new d name ends k error.NotDir = ((head : Header) × HasHeader state old new d head × (length name ≤ name_len head.form)) × ((ends && not (is_directory k)) ≡ true)
   RefusesNext old new d name ends k fault = FailsWhere old new (λ m. MayName m d name) fault
 
   -- ---- both
@@ -259,6 +269,7 @@ module _ {D : Type 0} (state : D → DeviceState) where
   -- The object isn't what it replaces, nor within itself, and what it replaces may be replaced.
   pub record ChecksRename (old new : Fs D) (da : ℕ) (na : List ℕ) (ea : Bool) (chain nb : List ℕ) (eb : Bool) (source : Source) (target : Target) : Type 0 where
     pub both : FindsBoth old new da na ea (here chain) nb eb source target
+    pub form : HaveOneForm source target
     pub other : GivesName target.replaced source.object.number.value ≡ false
     pub apart : IsNotAbove chain source.object.number.value
     pub fits : FitsTarget source target
@@ -309,9 +320,9 @@ module _ {D : Type 0} (state : D → DeviceState) where
   -- A name of directory d that it has is drafted to give another number.
   pub record RepointsTo (h h' : Held D) (c c' : Changes) (d : ℕ) (head : Header) (n : ℕ) (name : List ℕ) : Type 0 where
     pub place : ℕ
-    pub fits : (k : CheckpointValue) (m0 m : LogMap) → Holds state h k m0 m → FitsBatch m c → TakesWrite c m d head (64 * place) (slot_for n name) → FitsBatch m c'
+    pub fits : (k : CheckpointValue) (m0 m : LogMap) → Holds state h k m0 m → FitsBatch m c → TakesWrite c m d head (slot_len head.form * place) (slot_for head.form n name) → FitsBatch m c'
     pub file : (k : CheckpointValue) (m0 m : LogMap) → (state h'.device).keeps_model → Holds state h k m0 m
-        → WritesFile (staged c m) (staged c' m) d head head (64 * place) (slot_for n name)
+        → WritesFile (staged c m) (staged c' m) d head head (slot_len head.form * place) (slot_for head.form n name)
     pub names : (k : CheckpointValue) (m0 m : LogMap) → (state h'.device).keeps_model → Holds state h k m0 m
         → IsDirectory (staged c m) d (as_header head) → RepointsName (staged c m) (staged c' m) d head n name
 

@@ -1,5 +1,5 @@
 -- What the steps of unlink do, each for itself.
-use Rattle.std.specs.Prelude.{◌≡◌, ◌≢◌, ◌⊎◌, ◌≤◌, ◌<◌, ◌-◌, ℕ, Bool, true, false, List, length, Some, None}
+use Rattle.std.specs.Prelude.{◌≡◌, ◌≢◌, ◌⊎◌, ◌≤◌, ◌<◌, ◌-◌, ◌*◌, ℕ, Bool, true, false, List, length, Some, None}
 use Rattle.std.specs.FinMap.{find}
 use Rattle.lfs_model.specs.declared.Kind.TheVariants as kind
 use Rattle.lfs_model.specs.Checkpoint.{CheckpointValue}
@@ -7,7 +7,7 @@ use Rattle.lfs_model.specs.Device.{DeviceState}
 use Rattle.lfs_model.specs.Encodes.{IsLogMap}
 use Rattle.lfs_model.specs.Objects.{AreLong, IsDirectory}
 use Rattle.lfs_model.specs.Stands.{LogMap}
-use Rattle.lfs_model.specs.Tree.{byte_cmp, opened}
+use Rattle.lfs_model.specs.Tree.{byte_cmp, name_len, opened, slot_len}
 use Rattle.lfs_files.specs.declared.header.Header.{Header}
 use Rattle.lfs_files.specs.Files.{HasFile}
 use Rattle.lfs_store.specs.memory.declared.changes.Changes.{Changes}
@@ -26,7 +26,7 @@ use Rattle.lfs_fs.specs.declared.error.FsError.{FsError}
 use Rattle.lfs_fs.specs.declared.error.FsError.TheVariants as error
 use Rattle.lfs_fs.specs.declared.fs.Fs.{Fs}
 use Rattle.lfs_fs.specs.Handles.{handles_of}
-use Rattle.lfs_fs.specs.Naming.{FailsLook, LooksUp}
+use Rattle.lfs_fs.specs.Naming.{FailsLook, IsTooLong, LooksUp}
 use Rattle.lfs_fs.specs.Seen.{HasHeader, LacksHeader}
 
 module _ {D : Type 0} (state : D → DeviceState) where
@@ -43,30 +43,32 @@ module _ {D : Type 0} (state : D → DeviceState) where
       (n : ℕ) (object : Header) : Type 0 where
     pub sees : SeesEntry old new d name head n object
     pub named : is_dots name ≡ false
-    pub short : length name ≤ 59
+    pub short : length name ≤ name_len head.form
     pub plain : ends ≡ false
     pub other : object.kind ≢ kind.Directory
 
-  -- the same of some directory of this name's, with a fact of the object
+  -- the same of a name that isn't too long, with a fact of the object
   abbrev pub SeesSome : Fs D → Fs D → ℕ → List ℕ → (Header → Type 0) → Type 0
-  SeesSome old new d name P = (head : Header) × (n : ℕ) × (object : Header)
-      × SeesEntry old new d name head n object × P object
+  SeesSome old new d name P = (head : Header) × (length name ≤ name_len head.form)
+      × ((n : ℕ) × (object : Header) × SeesEntry old new d name head n object × P object)
 
   -- why there is no answer: a call of the device failed, or the name gives what no volume has
   abbrev pub FailsEntry : Fs D → Fs D → ℕ → List ℕ → Type 0
   FailsEntry old new d name = FailsLook state old new d
       ⊎ ((head : Header) × (n : ℕ) × LooksUp state old new d name head (Some n)
-      × ((65536 < head.size) ⊎ ((n ≡ 0) ⊎ LacksHeader state old new n error.Device)))
+      × ((1024 * slot_len head.form < head.size) ⊎ ((n ≡ 0) ⊎ LacksHeader state old new n error.Device)))
 
   -- why it gives none
   abbrev pub RefusesOld : Fs D → Fs D → ℕ → List ℕ → Bool → FsError → Type 0
   RefusesOld old new d name ends error.Perm = (is_dots name ≡ true)
-      ⊎ ((is_dots name ≡ false) × (length name ≤ 59)
+      ⊎ ((is_dots name ≡ false)
       × SeesSome old new d name (λ object. object.kind ≡ kind.Directory))
-  RefusesOld old new d name ends error.NameTooLong = (is_dots name ≡ false) × (59 < length name)
-  RefusesOld old new d name ends error.NoEntry = (is_dots name ≡ false) × (length name ≤ 59)
-      × ((head : Header) × LooksUp state old new d name head None)
-  RefusesOld old new d name ends error.NotDir = (is_dots name ≡ false) × (length name ≤ 59)
+  RefusesOld old new d name ends error.NameTooLong = (is_dots name ≡ false)
+      × IsTooLong state old new d name
+  RefusesOld old new d name ends error.NoEntry = (is_dots name ≡ false)
+      × ((head : Header) × (length name ≤ name_len head.form)
+      × LooksUp state old new d name head None)
+  RefusesOld old new d name ends error.NotDir = (is_dots name ≡ false)
       × (ends ≡ true) × SeesSome old new d name (λ object. object.kind ≢ kind.Directory)
   RefusesOld old new d name ends error.Halted = old.store.log.halted ≡ true
   RefusesOld old new d name ends error.Device = FailsEntry old new d name
@@ -105,7 +107,7 @@ module _ {D : Type 0} (state : D → DeviceState) where
     pub fits : (k : CheckpointValue) (m0 m : LogMap) → (state h'.device).keeps_model
         → Holds state h k m0 m → FitsBatch m c → m.header d ≢ None
         → (staged c m).header d ≡ Some (as_header head)
-        → FitsHeader head.kind head.links (head.size - 64) → IsApart c.loss d → FitsBatch m c'
+        → FitsHeader head.kind head.form head.links (head.size - slot_len head.form) → IsApart c.loss d → FitsBatch m c'
     pub cut : (k : CheckpointValue) (m0 m : LogMap) → (state h'.device).keeps_model
         → Holds state h k m0 m → HasFile (staged c m) d head
         → CutsSlot (staged c m) (staged c' m) d head

@@ -1,7 +1,8 @@
 //! A further name of an object.
-ghost use Rattle.std.specs.Prelude.{◌≡◌, ◌≢◌, ◌≤◌, ◌<◌, ◌+◌, ℕ, List, false, IfErr, OnOk};
+ghost use Rattle.std.specs.Prelude.{◌≡◌, ◌≢◌, ◌≤◌, ◌<◌, ◌+◌, ◌*◌, ℕ, List, false, IfErr, OnOk};
 ghost use Rattle.lfs_model.specs.Call.{Done, LinkTo};
 ghost use Rattle.lfs_model.specs.Slot.{IsName};
+ghost use Rattle.lfs_model.specs.Tree.{name_len, slot_len};
 ghost use Rattle.lfs_store.specs.memory.Batch.{IsNoChange};
 ghost use Rattle.lfs_store.specs.Growing.{GrowsBy};
 ghost use Rattle.lfs_store.specs.Making.{SetsLinks};
@@ -123,9 +124,9 @@ impl<D: SectorDevice> Fs<D> {
         header: Header,
         name: &[u8],
     ) -> Result<(), FsError>
-        requires room { holder.size ≤ 65472 }
+        requires room { holder.size ≤ 1023 * slot_len holder.form }
         requires linked { header.links < 1000 }
-        requires name { IsName 59 name.now }
+        requires name { IsName (name_len holder.form) name.now }
         requires running { self.old.store.log.halted ≡ false }
         ensures still { IsStill D.SectorDevice.state (seen self.old) (seen self.new) }
         ensures drafted { OnOk result (DraftsName D.SectorDevice.state self.old self.new

@@ -18,6 +18,7 @@ mod removing;
 mod renaming;
 mod rows;
 mod saving;
+mod sizes;
 mod unlinking;
 mod writing;
 

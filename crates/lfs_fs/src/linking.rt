@@ -12,6 +12,7 @@ ghost use Rattle.lfs_fs.specs.Volume.{IsStill, Mounted, Serves};
 use crate::error::FsError;
 use crate::fs::Fs;
 use lfs_device::SectorDevice;
+use lfs_files::FIRST_FORM;
 use lfs_model::{FileNumber, Kind};
 use lfs_path::text::check_text;
 use lfs_path::tree::parent;
@@ -91,6 +92,7 @@ impl<D: SectorDevice> Fs<D> {
         }
         let header = Header {
             kind: Kind::Link,
+            form: FIRST_FORM,
             links: 1,
             size,
         };

@@ -1,6 +1,7 @@
 //! A name drafted in another's place.
-ghost use Rattle.std.specs.Prelude.{◌≡◌, ◌≢◌, ℕ, ◌≤◌, ◌<◌, ◌+◌, ◌-◌, ◌==◌, true, false, IfOk, IfErr, OnOk, None, if◌then◌else◌, is_some};
+ghost use Rattle.std.specs.Prelude.{◌≡◌, ◌≢◌, ℕ, ◌≤◌, ◌<◌, ◌+◌, ◌-◌, ◌*◌, ◌==◌, true, false, IfOk, IfErr, OnOk, None, if◌then◌else◌, is_some};
 ghost use Rattle.lfs_model.specs.Slot.{IsName};
+ghost use Rattle.lfs_model.specs.Tree.{name_len, slot_len};
 ghost use Rattle.lfs_store.specs.memory.Batch.{IsNoChange};
 ghost use Rattle.lfs_store.specs.Drafting.{IsApart};
 ghost use Rattle.lfs_store.specs.Growing.{GrowsBy};
@@ -17,6 +18,7 @@ ghost use Rattle.lfs_fs.specs.Volume.{IsStill};
 use crate::error::FsError;
 use crate::fs::Fs;
 use lfs_device::SectorDevice;
+use lfs_layout::slot_len;
 use lfs_model::{FileNumber, Kind};
 use lfs_path::dirs::{add, repoint, take};
 use lfs_store::Header;
@@ -136,7 +138,7 @@ impl<D: SectorDevice> Fs<D> {
         holder: Header,
         name: &[u8],
     ) -> Result<(), FsError>
-        requires size { holder.size ≤ 65536 }
+        requires size { holder.size ≤ 1024 * slot_len holder.form }
         requires running { self.old.store.log.halted ≡ false }
         ensures still { IsStill D.SectorDevice.state (seen self.old) (seen self.new) }
         ensures taken { OnOk result (TakesOut D.SectorDevice.state self.old.store.log
@@ -240,9 +242,9 @@ impl<D: SectorDevice> Fs<D> {
         holder: Header,
         number: FileNumber,
     ) -> Result<(), FsError>
-        requires size { holder.size ≤ 65536 }
-        requires room { target.replaced ≡ None → holder.size ≤ 65472 }
-        requires name { IsName 59 target.name.now }
+        requires size { holder.size ≤ 1024 * slot_len holder.form }
+        requires room { target.replaced ≡ None → holder.size ≤ 1023 * slot_len holder.form }
+        requires name { IsName (name_len holder.form) target.name.now }
         requires running { self.old.store.log.halted ≡ false }
         ensures still { IsStill D.SectorDevice.state (seen self.old) (seen self.new) }
         ensures named { OnOk result (NamesFound D.SectorDevice.state target.entry.replaced
@@ -271,8 +273,8 @@ impl<D: SectorDevice> Fs<D> {
         number: FileNumber,
         name: &[u8],
     ) -> Result<(), FsError>
-        requires room { holder.size ≤ 65472 }
-        requires name { IsName 59 name.now }
+        requires room { holder.size ≤ 1023 * slot_len holder.form }
+        requires name { IsName (name_len holder.form) name.now }
         requires running { self.old.store.log.halted ≡ false }
         ensures still { IsStill D.SectorDevice.state (seen self.old) (seen self.new) }
         ensures named { OnOk result (Adds D.SectorDevice.state self.old.store.log self.new.store.log
@@ -299,8 +301,8 @@ impl<D: SectorDevice> Fs<D> {
         number: FileNumber,
         name: &[u8],
     ) -> Result<(), FsError>
-        requires size { holder.size ≤ 65536 }
-        requires name { IsName 59 name.now }
+        requires size { holder.size ≤ 1024 * slot_len holder.form }
+        requires name { IsName (name_len holder.form) name.now }
         requires running { self.old.store.log.halted ≡ false }
         ensures still { IsStill D.SectorDevice.state (seen self.old) (seen self.new) }
         ensures named { OnOk result (RepointsTo D.SectorDevice.state self.old.store.log
@@ -349,6 +351,7 @@ impl<D: SectorDevice> Fs<D> {
         match self.store.set_links(directory, header, links) {
             Ok(()) => Ok(Header {
                 kind: header.kind,
+                form: header.form,
                 links,
                 size: header.size,
             }),
@@ -421,7 +424,8 @@ fn shorter(header: Header) -> Header
 {
     Header {
         kind: header.kind,
+        form: header.form,
         links: header.links,
-        size: header.size.saturating_sub(64),
+        size: header.size.saturating_sub(slot_len(header.form)),
     }
 }

@@ -1,8 +1,9 @@
 //! Calls that find a file by its path, or make one.
-ghost use Rattle.std.specs.Prelude.{◌≡◌, ◌≤◌, ◌<◌, ◌+◌, ◌&&◌, not, ℕ, List, None, false, IfSome, IfOk, IfErr, OnOk, OnErr};
+ghost use Rattle.std.specs.Prelude.{◌≡◌, ◌≤◌, ◌<◌, ◌+◌, ◌*◌, ◌&&◌, not, length, ℕ, List, None, false, IfSome, IfOk, IfErr, OnOk, OnErr};
 ghost use Rattle.lfs_model.specs.Call.{Open, Create, Done, Handle, Mkdir};
 ghost use Rattle.lfs_model.specs.PathText.{text_refusal};
 ghost use Rattle.lfs_model.specs.Slot.{IsName};
+ghost use Rattle.lfs_model.specs.Tree.{name_len, slot_len};
 ghost use Rattle.lfs_store.specs.memory.Batch.{IsNoChange};
 ghost use Rattle.lfs_store.specs.Growing.{GrowsBy};
 ghost use Rattle.lfs_store.specs.Making.{relinked};
@@ -13,20 +14,15 @@ ghost use Rattle.lfs_fs.specs.Naming.{DraftsEmpty, DraftsNew, DraftsNone, Drafts
 
 use crate::error::FsError;
 use crate::fs::Fs;
+use crate::sizes::is_full;
 use lfs_device::SectorDevice;
 use lfs_layout::is_name;
 use lfs_model::{FileNumber, Kind};
 use lfs_path::Last;
-use lfs_path::dirs::{add, find};
+use lfs_path::dirs::{add, find, longest_name};
 use lfs_path::text::is_dots;
 use lfs_path::tree::{parent, resolve};
 use lfs_store::Header;
-
-/// The most bytes of a name.
-pub(crate) const LONGEST_NAME: usize = 59;
-
-/// The most bytes of a directory that takes a further entry: 1,023 slots.
-const MOST_SLOTS: u32 = 65_472;
 
 /// The most links of an object; a directory has 2, and one for each directory in it.
 pub(crate) const MOST_LINKS: u32 = 1_000;
@@ -171,7 +167,12 @@ impl<D: SectorDevice> Fs<D> {
         self.make_entry(directory, header, number, Kind::Directory, &[], last.name)
     }
 
-    /// The header of a directory, and the number that a name gives in it.
+    /// The header of a directory, and the number that a name gives in it. How long the name may
+    /// be, the directory's form says.
+    ///
+    /// # Errors
+    ///
+    /// `NameTooLong`. `Halted` once a commit failed, `Device` where a call of the device failed.
     pub(crate) fn look_in(
         &mut self,
         directory: FileNumber,
@@ -180,13 +181,18 @@ impl<D: SectorDevice> Fs<D> {
         ensures reads { OnlyReads D.SectorDevice.state self.old self.new }
         ensures answer { IfOk result (λ found. LooksUp D.SectorDevice.state self.old self.new
             directory.value name.now found.0 (value_of found.1)) }
+        ensures short { IfOk result (λ found. length name.now ≤ name_len found.0.form) }
         ensures missing { IfErr result (LooksNone D.SectorDevice.state self.old self.new
-            directory.value) }
+            directory.value name.now) }
     {
         let header = match self.header(directory) {
             Ok(header) => header,
             Err(fault) => return Err(fault),
         };
+        let longest = longest_name(header.form);
+        if name.len() > longest {
+            return Err(FsError::NameTooLong);
+        }
         match find(&mut self.store, directory, header, name) {
             Ok(found) => Ok((header, found)),
             Err(fault) => Err(FsError::from(fault)),
@@ -210,24 +216,21 @@ impl<D: SectorDevice> Fs<D> {
         if is_dots(last.name) {
             return Err(FsError::Exist);
         }
-        if last.name.len() > LONGEST_NAME {
-            return Err(FsError::NameTooLong);
-        }
-        // The pieces of a path without a zero byte are names.
-        if !is_name(last.name) {
-            return Err(FsError::Inval);
-        }
         let (header, found) = match self.look_in(directory, last.name) {
             Ok(found) => found,
             Err(fault) => return Err(fault),
         };
+        // The pieces of a path without a zero byte are names.
+        if !is_name(header.form, last.name) {
+            return Err(FsError::Inval);
+        }
         if found.is_some() {
             return Err(FsError::Exist);
         }
         if refuses_slash(last.slash, is_mkdir) {
             return Err(FsError::NoEntry);
         }
-        if header.size > MOST_SLOTS {
+        if is_full(header) {
             return Err(FsError::DirFull);
         }
         Ok(header)
@@ -243,10 +246,10 @@ impl<D: SectorDevice> Fs<D> {
         text: &[u8],
         name: &[u8],
     ) -> Result<(), FsError>
-        requires room { header.size ≤ 65472 }
+        requires room { header.size ≤ 1023 * slot_len header.form }
         requires linked { kind ≡ Kind.Directory → header.links < 1000 }
         requires text { kind ≡ Kind.Link → text_refusal text.now ≡ None }
-        requires name { IsName 59 name.now }
+        requires name { IsName (name_len header.form) name.now }
         requires running { self.old.store.log.halted ≡ false }
         requires empty { IsNoChange self.old.store.draft.changes }
         ensures made { OnOk result (MakesNew D.SectorDevice.state self.old self.new directory.value
@@ -273,10 +276,10 @@ impl<D: SectorDevice> Fs<D> {
         text: &[u8],
         name: &[u8],
     ) -> Result<(), FsError>
-        requires room { header.size ≤ 65472 }
+        requires room { header.size ≤ 1023 * slot_len header.form }
         requires linked { kind ≡ Kind.Directory → header.links < 1000 }
         requires text { kind ≡ Kind.Link → text_refusal text.now ≡ None }
-        requires name { IsName 59 name.now }
+        requires name { IsName (name_len header.form) name.now }
         requires running { self.old.store.log.halted ≡ false }
         ensures still { IsStill D.SectorDevice.state (seen self.old) (seen self.new) }
         ensures drafted { OnOk result (DraftsNew D.SectorDevice.state self.old self.new
@@ -379,6 +382,7 @@ impl<D: SectorDevice> Fs<D> {
         match self.store.set_links(directory, header, links) {
             Ok(()) => Ok(Header {
                 kind: header.kind,
+                form: header.form,
                 links,
                 size: header.size,
             }),

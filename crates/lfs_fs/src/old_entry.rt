@@ -1,19 +1,17 @@
 //! The rule of an entry that a directory is to have, as unlink takes one, and link its first.
-ghost use Rattle.std.specs.Prelude.{◌≡◌, ◌≢◌, ◌≤◌, IfErr, IfOk, IsFalse, IsTrue};
+ghost use Rattle.std.specs.Prelude.{◌≡◌, ◌≢◌, ◌≤◌, ◌*◌, IfErr, IfOk, IsFalse, IsTrue};
+ghost use Rattle.lfs_model.specs.Tree.{slot_len};
 ghost use Rattle.lfs_fs.specs.Seen.{OnlyReads};
 ghost use Rattle.lfs_fs.specs.Unlinking.{HasEntry, RefusesOld};
 
 use crate::error::FsError;
 use crate::fs::Fs;
-use crate::naming::LONGEST_NAME;
+use crate::sizes::is_too_large;
 use lfs_device::SectorDevice;
 use lfs_model::{FileNumber, Kind};
 use lfs_path::Last;
 use lfs_path::text::is_dots;
 use lfs_store::Header;
-
-/// The most bytes of a directory: 1,024 slots.
-pub(crate) const MOST_BYTES: u32 = 65_536;
 
 /// A name's directory, and what the name gives there.
 #[derive(Clone, Copy)]
@@ -40,15 +38,12 @@ impl<D: SectorDevice> Fs<D> {
         ensures reads { OnlyReads D.SectorDevice.state self.old self.new }
         ensures has { IfOk result (λ e. HasEntry D.SectorDevice.state self.old self.new
             directory.value last.entry.name.now last.entry.slash e.holder e.number.value e.header) }
-        ensures size { IfOk result (λ e. e.holder.size ≤ 65536) }
+        ensures size { IfOk result (λ e. e.holder.size ≤ 1024 * slot_len e.holder.form) }
         ensures refused { IfErr result (RefusesOld D.SectorDevice.state self.old self.new
             directory.value last.entry.name.now last.entry.slash) }
     {
         if is_dots(last.name) {
             return Err(FsError::Perm);
-        }
-        if last.name.len() > LONGEST_NAME {
-            return Err(FsError::NameTooLong);
         }
         let (holder, found) = match self.look_in(directory, last.name) {
             Ok(found) => found,
@@ -58,7 +53,7 @@ impl<D: SectorDevice> Fs<D> {
             return Err(FsError::NoEntry);
         };
         // No volume has such a directory.
-        if holder.size > MOST_BYTES {
+        if is_too_large(holder) {
             return Err(FsError::Device);
         }
         let header = match self.header(number) {

@@ -1,6 +1,7 @@
 //! The call that takes an empty directory away.
-ghost use Rattle.std.specs.Prelude.{◌≡◌, ◌≤◌, ◌<◌, ◌-◌, ℕ, List, false, IfOk, IfErr, OnOk};
+ghost use Rattle.std.specs.Prelude.{◌≡◌, ◌≤◌, ◌<◌, ◌-◌, ◌*◌, ℕ, List, false, IfOk, IfErr, OnOk};
 ghost use Rattle.lfs_model.specs.Call.{Done, Rmdir};
+ghost use Rattle.lfs_model.specs.Tree.{slot_len};
 ghost use Rattle.lfs_store.specs.memory.Batch.{IsNoChange};
 ghost use Rattle.lfs_store.specs.Growing.{GrowsBy};
 ghost use Rattle.lfs_store.specs.Making.{SetsLinks, relinked};
@@ -13,8 +14,8 @@ ghost use Rattle.lfs_fs.specs.Removing.{DraftsRmdir, HasEmpty, LosesObject, Refu
 
 use crate::error::FsError;
 use crate::fs::Fs;
-use crate::naming::LONGEST_NAME;
-use crate::old_entry::{MOST_BYTES, OldEntry, is_directory};
+use crate::old_entry::{OldEntry, is_directory};
+use crate::sizes::is_too_large;
 use lfs_device::SectorDevice;
 use lfs_model::FileNumber;
 use lfs_path::Last;
@@ -79,16 +80,13 @@ impl<D: SectorDevice> Fs<D> {
         ensures reads { OnlyReads D.SectorDevice.state self.old self.new }
         ensures has { IfOk result (λ e. HasEmpty D.SectorDevice.state self.old self.new
             directory.value name.now e.holder e.number.value e.header) }
-        ensures size { IfOk result (λ e. e.holder.size ≤ 65536) }
+        ensures size { IfOk result (λ e. e.holder.size ≤ 1024 * slot_len e.holder.form) }
         ensures links { IfOk result (λ e. 3 ≤ e.holder.links) }
         ensures refused { IfErr result (RefusesEmpty D.SectorDevice.state self.old self.new
             directory.value name.now) }
     {
         if is_dots(name) {
             return Err(FsError::Inval);
-        }
-        if name.len() > LONGEST_NAME {
-            return Err(FsError::NameTooLong);
         }
         let (holder, found) = match self.look_in(directory, name) {
             Ok(found) => found,
@@ -98,7 +96,7 @@ impl<D: SectorDevice> Fs<D> {
             return Err(FsError::NoEntry);
         };
         // No volume has such a directory.
-        if holder.size > MOST_BYTES {
+        if is_too_large(holder) {
             return Err(FsError::Device);
         }
         let header = match self.header(number) {
@@ -129,7 +127,7 @@ impl<D: SectorDevice> Fs<D> {
         entry: OldEntry,
         name: &[u8],
     ) -> Result<(), FsError>
-        requires size { entry.holder.size ≤ 65536 }
+        requires size { entry.holder.size ≤ 1024 * slot_len entry.holder.form }
         requires links { 3 ≤ entry.holder.links }
         requires running { self.old.store.log.halted ≡ false }
         requires empty { IsNoChange self.old.store.draft.changes }
@@ -198,6 +196,7 @@ impl<D: SectorDevice> Fs<D> {
         match self.store.set_links(directory, header, links) {
             Ok(()) => Ok(Header {
                 kind: header.kind,
+                form: header.form,
                 links,
                 size: header.size,
             }),

@@ -1,16 +1,17 @@
 //! The call that gives an object another name, and what refuses it.
-ghost use Rattle.std.specs.Prelude.{◌≡◌, ◌≤◌, ◌&&◌, not, ℕ, List, false, IfOk, IfErr, OnOk, OnErr, IsTrue, IsFalse};
+ghost use Rattle.std.specs.Prelude.{◌≡◌, ◌≢◌, ◌≤◌, ◌&&◌, not, ℕ, List, length, false, IfOk, IfErr, OnOk, OnErr, IsTrue, IsFalse};
 ghost use Rattle.lfs_model.specs.Call.{Done, Rename};
+ghost use Rattle.lfs_model.specs.Tree.{name_len};
 ghost use Rattle.lfs_store.specs.memory.Batch.{IsNoChange};
 ghost use Rattle.lfs_fs.specs.Naming.{Reaches};
 ghost use Rattle.lfs_fs.specs.Seen.{OnlyReads, answer_by, seen};
 ghost use Rattle.lfs_fs.specs.Volume.{Mounted, Serves};
-ghost use Rattle.lfs_fs.specs.Renaming.{FailsWhere, FindsName, FindsObject, FindsSource, FindsTarget, FitsReplaced, FitsRoom, FitsTarget, GivesName, IsAbove, IsNotAbove, IsObject, MayLook, ReachesBoth, RefusesNext, RefusesRename, RefusesReplaced, RefusesRoom, RefusesSource, RefusesTarget, TakesRename, is_directory as holds_names};
+ghost use Rattle.lfs_fs.specs.Renaming.{FailsLookAt, FailsWhere, FindsName, FindsObject, FindsSource, FindsTarget, FitsReplaced, FitsRoom, FitsTarget, GivesName, HaveOneForm, IsAbove, IsNotAbove, IsObject, MayLook, ReachesBoth, RefusesNext, RefusesRename, RefusesReplaced, RefusesRoom, RefusesSource, RefusesTarget, TakesRename, is_directory as holds_names};
 
 use crate::error::FsError;
 use crate::fs::Fs;
 use crate::moving::{Object, Source, Target, is_directory};
-use crate::naming::LONGEST_NAME;
+use crate::sizes::{is_full, is_too_large};
 use lfs_device::SectorDevice;
 use lfs_layout::is_name;
 use lfs_model::{FileNumber, Kind};
@@ -18,12 +19,6 @@ use lfs_path::text::is_dots;
 use lfs_path::tree::parent;
 use lfs_path::{Chain, Last};
 use lfs_store::Header;
-
-/// The most bytes of a directory: 1,024 slots.
-const MOST_BYTES: u32 = 65_536;
-
-/// The most bytes of a directory that takes a further entry: 1,023 slots.
-const MOST_SLOTS: u32 = 65_472;
 
 /// The most links of a directory: 2, and one for each directory in it.
 const MOST_LINKS: u32 = 1_000;
@@ -135,6 +130,10 @@ impl<D: SectorDevice> Fs<D> {
             Ok(target) => target,
             Err(fault) => return Err(fault),
         };
+        // A directory has one form.
+        if has_two_forms(source, target) {
+            return Err(FsError::Device);
+        }
         if is_object(target.replaced, source.object.number) {
             return Ok(None);
         }
@@ -160,9 +159,6 @@ impl<D: SectorDevice> Fs<D> {
             (RefusesSource D.SectorDevice.state self.old self.new directory.value
             last.entry.name.now last.entry.slash) }
     {
-        if last.name.len() > LONGEST_NAME {
-            return Err(FsError::NameTooLong);
-        }
         let (holder, found) = match self.look_at(directory, last.name) {
             Ok(found) => found,
             Err(fault) => return Err(fault),
@@ -198,25 +194,23 @@ impl<D: SectorDevice> Fs<D> {
         ensures refused { IfErr result (RefusesNext D.SectorDevice.state self.old self.new
             directory.value last.entry.name.now last.entry.slash kind) }
     {
-        if last.name.len() > LONGEST_NAME {
-            return Err(FsError::NameTooLong);
-        }
+        let (holder, replaced) = match self.look_at(directory, last.name) {
+            Ok(found) => found,
+            Err(fault) => return Err(fault),
+        };
         // The pieces of a path without a zero byte are names.
-        if !is_name(last.name) {
+        if !is_name(holder.form, last.name) {
             return Err(FsError::Device);
         }
         if lacks_directory(last.slash, kind) {
             return Err(FsError::NotDir);
         }
-        match self.look_at(directory, last.name) {
-            Ok((holder, replaced)) => Ok(Target {
-                directory,
-                holder,
-                name: last.name,
-                replaced,
-            }),
-            Err(fault) => Err(fault),
-        }
+        Ok(Target {
+            directory,
+            holder,
+            name: last.name,
+            replaced,
+        })
     }
 
     /// The header of a directory, and what a name gives in it.
@@ -228,15 +222,16 @@ impl<D: SectorDevice> Fs<D> {
         ensures reads { OnlyReads D.SectorDevice.state self.old self.new }
         ensures found { IfOk result (λ r. FindsName D.SectorDevice.state self.old self.new
             directory.value name.now r.0 r.1) }
-        ensures missing { IfErr result (FailsWhere D.SectorDevice.state self.old self.new
-            (λ m. MayLook m directory.value name.now)) }
+        ensures short { IfOk result (λ r. length name.now ≤ name_len r.0.form) }
+        ensures missing { IfErr result (FailsLookAt D.SectorDevice.state self.old self.new
+            directory.value name.now) }
     {
         let (holder, found) = match self.look_in(directory, name) {
             Ok(found) => found,
             Err(fault) => return Err(fault),
         };
         // No volume has such a directory.
-        if holder.size > MOST_BYTES {
+        if is_too_large(holder) {
             return Err(FsError::Device);
         }
         let Some(number) = found else {
@@ -268,6 +263,18 @@ fn lacks_directory(slash: bool, kind: Kind) -> bool
     ensures { result ≡ (slash && not (holds_names kind)) }
 {
     slash && !is_directory(kind)
+}
+
+/// Whether one directory was read with two forms.
+fn has_two_forms(source: Source<'_>, target: Target<'_>) -> bool
+    ensures two { IsTrue result → (source.entry.directory.value ≡ target.entry.directory.value)
+        × (source.entry.holder.form ≢ target.entry.holder.form) }
+    ensures one { IsFalse result → HaveOneForm source.entry target.entry }
+{
+    if source.directory.value != target.directory.value {
+        return false;
+    }
+    source.holder.form != target.holder.form
 }
 
 /// Whether an object of this number was found.
@@ -339,7 +346,7 @@ fn check_room(kind: Kind, holder: Header) -> Result<(), FsError>
     ensures taken { OnOk result (FitsRoom kind holder) }
     ensures refused { IfErr result (RefusesRoom kind holder) }
 {
-    if holder.size > MOST_SLOTS {
+    if is_full(holder) {
         return Err(FsError::DirFull);
     }
     if is_directory(kind) {

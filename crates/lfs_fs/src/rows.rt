@@ -27,7 +27,7 @@ pub struct Stat {
 /// An entry of a directory (POSIX.1-2017, readdir: d_name, d_ino).
 #[derive(Debug, Drop)]
 pub struct Entry {
-    /// 1 to 59 bytes.
+    /// 1 to 59 bytes in a directory of form 0, else 1 to 123.
     pub name: Vec<u8>,
     pub number: u32,
     pub kind: Kind,

@@ -1,6 +1,7 @@
 //! The call that takes a name away.
-ghost use Rattle.std.specs.Prelude.{◌≡◌, ◌≤◌, ℕ, List, false, IfErr, OnOk};
+ghost use Rattle.std.specs.Prelude.{◌≡◌, ◌≤◌, ◌*◌, ℕ, List, false, IfErr, OnOk};
 ghost use Rattle.lfs_model.specs.Call.{Done, Unlink};
+ghost use Rattle.lfs_model.specs.Tree.{slot_len};
 ghost use Rattle.lfs_store.specs.memory.Batch.{IsNoChange};
 ghost use Rattle.lfs_store.specs.Growing.{GrowsBy};
 ghost use Rattle.lfs_store.specs.Making.{SetsLinks};
@@ -76,7 +77,7 @@ impl<D: SectorDevice> Fs<D> {
         entry: OldEntry,
         name: &[u8],
     ) -> Result<(), FsError>
-        requires size { entry.holder.size ≤ 65536 }
+        requires size { entry.holder.size ≤ 1024 * slot_len entry.holder.form }
         requires running { self.old.store.log.halted ≡ false }
         requires empty { IsNoChange self.old.store.draft.changes }
         ensures still { IsStill D.SectorDevice.state (seen self.old) (seen self.new) }

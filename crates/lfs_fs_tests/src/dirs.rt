@@ -1,9 +1,11 @@
-//! Names of a root over two blocks.
+//! Names of a root of either form.
+ghost use Rattle.std.specs.Prelude.{◌≤◌, ◌<◌, ◌+◌, ◌*◌};
+ghost use Rattle.lfs_model.specs.Tree.{slot_len};
 
-use crate::volume::{root, store_with};
+use crate::volume::{add_name, root, store_with};
 use lfs_device::MemDevice;
 use lfs_fs::path::dirs::{Entry, find, list, repoint, take};
-use lfs_fs::store::Store;
+use lfs_fs::store::{Header, Store};
 use lfs_layout::is_name;
 use lfs_model::FileNumber;
 use std::alloc::Global;
@@ -23,8 +25,13 @@ enum Step<'a> {
 }
 
 /// Whether a name gives this number, or isn't there.
-fn is_found(store: &mut Store<MemDevice>, slots: u8, name: &[u8], number: Option<u16>) -> bool {
-    match find(store, FileNumber::ROOT, root(slots), name) {
+fn is_found(
+    store: &mut Store<MemDevice>,
+    header: Header,
+    name: &[u8],
+    number: Option<u16>,
+) -> bool {
+    match find(store, FileNumber::ROOT, header, name) {
         Ok(Some(found)) => number == Some(found.value),
         Ok(None) => number == None,
         Err(_) => false,
@@ -32,23 +39,27 @@ fn is_found(store: &mut Store<MemDevice>, slots: u8, name: &[u8], number: Option
 }
 
 /// Whether a name is there, and comes to give another number.
-fn is_repointed(store: &mut Store<MemDevice>, slots: u8, name: &[u8], number: u16) -> bool {
+fn is_repointed(store: &mut Store<MemDevice>, header: Header, name: &[u8], number: u16) -> bool
+    requires { header.size + slot_len header.form ≤ 1024 * slot_len header.form }
+{
     let Some(number) = FileNumber::new(number) else {
         return false;
     };
-    if !is_name(name) {
+    if !is_name(header.form, name) {
         return false;
     }
-    repoint(store, FileNumber::ROOT, root(slots), name, number) == Ok(true)
+    repoint(store, FileNumber::ROOT, header, name, number) == Ok(true)
 }
 
 /// Whether the draft is staged, and a name is there and is then taken out.
-fn is_taken(store: &mut Store<MemDevice>, slots: u8, name: &[u8]) -> bool {
+fn is_taken(store: &mut Store<MemDevice>, header: Header, name: &[u8]) -> bool
+    requires { header.size + slot_len header.form ≤ 1024 * slot_len header.form }
+{
     if store.log.stage(&store.draft.changes, store.drafted) != Ok(()) {
         return false;
     }
     store.draft.clear();
-    take(store, FileNumber::ROOT, root(slots), name) == Ok(true)
+    take(store, FileNumber::ROOT, header, name) == Ok(true)
 }
 
 /// Whether the entries of a directory are these.
@@ -62,24 +73,33 @@ fn are_entries(entries: &[Entry], rows: &[(&[u8], u16)]) -> bool {
 }
 
 /// Whether a call answers what the step says.
-fn is_well(alloc: Global, store: &mut Store<MemDevice>, step: Step) -> Result<bool, Fail> {
+fn is_well(
+    alloc: Global,
+    store: &mut Store<MemDevice>,
+    form: u8,
+    step: Step,
+) -> Result<bool, Fail> {
     match step {
-        Step::Find(slots, name, number) => Ok(is_found(store, slots, name, number)),
-        Step::Repoint(slots, name, number) => Ok(is_repointed(store, slots, name, number)),
-        Step::Take(slots, name) => Ok(is_taken(store, slots, name)),
+        Step::Find(slots, name, number) => {
+            Ok(is_found(store, root(form, u16::from(slots)), name, number))
+        }
+        Step::Repoint(slots, name, number) => {
+            Ok(is_repointed(store, root(form, u16::from(slots)), name, number))
+        }
+        Step::Take(slots, name) => Ok(is_taken(store, root(form, u16::from(slots)), name)),
         Step::List(slots, rows) => {
-            let entries = list(alloc, store, FileNumber::ROOT, root(slots))?;
+            let entries = list(alloc, store, FileNumber::ROOT, root(form, u16::from(slots)))?;
             Ok(are_entries(&entries, rows))
         }
     }
 }
 
-/// The place of the first step that goes otherwise, over a root whose names `i` down to `a` give 2
-/// to 10, eight of them in its first block.
-fn first_wrong(alloc: Global, steps: &[Step]) -> Result<Option<usize>, Fail> {
-    let mut store = store_with(alloc, b"ihgfedcba")?;
+/// The place of the first step that goes otherwise, over a root of this form whose names `i` down
+/// to `a` give 2 to 10: eight of them in the first block in form 0, else four in each of two blocks.
+fn first_wrong(alloc: Global, form: u8, steps: &[Step]) -> Result<Option<usize>, Fail> {
+    let mut store = store_with(alloc, form, b"ihgfedcba")?;
     for (place, step) in steps.iter().enumerate() {
-        if !is_well(alloc, &mut store, *step)? {
+        if !is_well(alloc, &mut store, form, *step)? {
             return Ok(Some(place));
         }
     }
@@ -106,7 +126,8 @@ fn names_are_found_and_listed_in_order(rt: HostRuntime) -> Result<(), Fail> {
         Step::Find(9, b"j", None),
         Step::List(9, &rows),
     ];
-    assert_eq!(rt; first_wrong(rt.alloc(), &steps)?, None);
+    assert_eq!(rt; first_wrong(rt.alloc(), 0, &steps)?, None);
+    assert_eq!(rt; first_wrong(rt.alloc(), 1, &steps)?, None);
     Ok(())
 }
 
@@ -117,7 +138,8 @@ fn a_name_gives_another_number(rt: HostRuntime) -> Result<(), Fail> {
         Step::Find(9, b"b", Some(77)),
         Step::Find(9, b"a", Some(10)),
     ];
-    assert_eq!(rt; first_wrong(rt.alloc(), &steps)?, None);
+    assert_eq!(rt; first_wrong(rt.alloc(), 0, &steps)?, None);
+    assert_eq!(rt; first_wrong(rt.alloc(), 1, &steps)?, None);
     Ok(())
 }
 
@@ -128,7 +150,70 @@ fn the_last_slot_comes_into_the_gap(rt: HostRuntime) -> Result<(), Fail> {
         Step::Find(8, b"h", None),
         Step::Find(8, b"a", Some(10)),
         Step::Find(8, b"b", Some(9)),
+        Step::Find(8, b"f", Some(5)),
+        Step::Find(8, b"e", Some(6)),
     ];
-    assert_eq!(rt; first_wrong(rt.alloc(), &steps)?, None);
+    assert_eq!(rt; first_wrong(rt.alloc(), 0, &steps)?, None);
+    assert_eq!(rt; first_wrong(rt.alloc(), 1, &steps)?, None);
     Ok(())
+}
+
+/// A name of so many bytes that tells a place below 1,024.
+fn name_of<const L: usize>(place: u16) -> [u8; L]
+    requires { 2 ≤ L }
+{
+    let mut name = [b'n'; L];
+    name[0] = b'0' + (place / 32 % 32) as u8;
+    name[1] = b'0' + (place % 32) as u8;
+    name
+}
+
+/// Adds so many names of 123 bytes to a root of form 1.
+fn add_long_names(store: &mut Store<MemDevice>, slots: u16) -> Result<(), Fail>
+    requires { slots ≤ 1024 }
+{
+    for place in 0..slots {
+        add_name(store, 1, place, &name_of::<123>(place))?;
+    }
+    Ok(())
+}
+
+/// Whether so many names of 123 bytes fill a root of form 1, and each gives its own number. The next
+/// one, and one of 124 bytes, give none.
+fn are_long_names_found(alloc: Global, slots: u16) -> Result<bool, Fail>
+    requires { slots < 1024 }
+{
+    let mut store = store_with(alloc, 1, b"")?;
+    add_long_names(&mut store, slots)?;
+    for place in 0..slots {
+        if !is_found(
+            &mut store,
+            root(1, slots),
+            &name_of::<123>(place),
+            Some(2 + place),
+        ) {
+            return Ok(false);
+        }
+    }
+    Ok(
+        is_found(&mut store, root(1, slots), &name_of::<123>(slots), None)
+            && is_found(&mut store, root(1, slots), &name_of::<124>(0), None),
+    )
+}
+
+#[test]
+fn names_of_form_1_fill_blocks_of_each_kind(rt: HostRuntime) -> Result<(), Fail> {
+    // Over two blocks; past the blocks that an inode leads to; past those of its single leaf.
+    assert!(rt; are_long_names_found(rt.alloc(), 5)?);
+    assert!(rt; are_long_names_found(rt.alloc(), 553)?);
+    assert!(rt; are_long_names_found(rt.alloc(), 1_023)?);
+    Ok(())
+}
+
+#[test]
+fn names_are_as_long_as_the_form_allows(rt: HostRuntime) {
+    assert!(rt; is_name(0, &[b'n'; 59]));
+    assert!(rt; !is_name(0, &[b'n'; 60]));
+    assert!(rt; is_name(1, &[b'n'; 123]));
+    assert!(rt; !is_name(1, &[b'n'; 124]));
 }

@@ -23,7 +23,7 @@ fn first_wrong(
     alloc: Global,
     rows: &[(&[u8], Result<u16, WalkFault>)],
 ) -> Result<Option<usize>, Fail> {
-    let mut store = store_with(alloc, b"ab")?;
+    let mut store = store_with(alloc, 0, b"ab")?;
     make_files(&mut store)?;
     for (place, (path, want)) in rows.iter().enumerate() {
         if plain(resolve(alloc, &mut *store, path, true)) != *want {
@@ -70,7 +70,7 @@ fn is_last(last: Option<Last>, name: Option<&[u8]>) -> bool {
 
 #[test]
 fn the_last_piece_is_not_walked(rt: HostRuntime) -> Result<(), Fail> {
-    let mut store = store_with(rt.alloc(), b"ab")?;
+    let mut store = store_with(rt.alloc(), 0, b"ab")?;
     make_files(&mut store)?;
     for (path, name) in [
         (b".//../c/".as_slice(), Some(b"c".as_slice())),

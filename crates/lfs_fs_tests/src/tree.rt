@@ -37,6 +37,7 @@ fn make_link(store: &mut Store<MemDevice>, number: FileNumber, text: &[u8]) -> R
     let size = text.len() as u32;
     let header = Header {
         kind: Kind::Link,
+        form: 0,
         links: 1,
         size,
     };
@@ -52,7 +53,7 @@ fn name(
     name: &[u8],
     number: FileNumber,
 ) -> Result<(), Fail> {
-    if !is_name(name) {
+    if !is_name(0, name) {
         return Err(Fail::from("no name"));
     }
     match store.header(directory)? {
@@ -66,7 +67,7 @@ fn name(
 
 /// The files of a new volume with these objects from number 2 on, each named in a directory.
 fn tree_of(alloc: Global, objects: &[(u16, &[u8], Object)]) -> Result<Box<Store<MemDevice>>, Fail> {
-    let mut store = store_with(alloc, b"")?;
+    let mut store = store_with(alloc, 0, b"")?;
     for (number, (directory, text, object)) in (2..99u16).zip(objects) {
         make(&mut store, file(number)?, *object)?;
         name(&mut store, file(*directory)?, text, file(number)?)?;

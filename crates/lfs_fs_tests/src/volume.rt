@@ -1,5 +1,6 @@
 //! New volumes over devices in memory.
-ghost use Rattle.std.specs.Prelude.{◌≤◌};
+ghost use Rattle.std.specs.Prelude.{◌≡◌, ◌<◌, ◌≤◌, ◌+◌, ◌*◌};
+ghost use Rattle.lfs_model.specs.Tree.{slot_len};
 
 use lfs_device::MemDevice;
 use lfs_fs::path::WalkFault;
@@ -36,14 +37,28 @@ pub fn device_of(fs: Box<Fs<MemDevice>>) -> MemDevice {
     Box::into_inner(fs).into_device()
 }
 
-/// The header of a root of so many slots.
-pub fn root(slots: u8) -> Header
-    ensures { result.size ≤ 16320 }
+/// The header of a root of this form and of so many slots, to which one can be added.
+pub fn root(form: u8, slots: u16) -> Header
+    requires { slots < 1024 }
+    ensures { result.size + slot_len result.form ≤ 1024 * slot_len result.form }
+{
+    let slots = u32::from(slots);
+    match form {
+        0 => directory(0, 64 * slots),
+        _ => directory(1, 128 * slots),
+    }
+}
+
+/// The header of a directory of this form and of so many bytes.
+fn directory(form: u8, size: u32) -> Header
+    ensures form { result.form ≡ form }
+    ensures size { result.size ≡ size }
 {
     Header {
         kind: Kind::Directory,
+        form,
         links: 2,
-        size: 64 * u32::from(slots),
+        size,
     }
 }
 
@@ -63,25 +78,33 @@ pub fn plain(found: Result<FileNumber, WalkFault>) -> Result<u16, WalkFault> {
     }
 }
 
+/// Adds a name behind those of a root of this form and of so many slots.
+pub fn add_name(store: &mut Store<MemDevice>, form: u8, slots: u16, name: &[u8]) -> Result<(), Fail>
+    requires { slots < 1024 }
+{
+    let header = root(form, slots);
+    if !is_name(header.form, name) {
+        return Err(Fail::from("no name"));
+    }
+    add(store, FileNumber::ROOT, header, file(2 + slots)?, name)?;
+    Ok(())
+}
+
 /// Adds names of one letter, at most nine, for the files from 2 on.
-fn add_names(store: &mut Store<MemDevice>, letters: &[u8]) -> Result<(), Fail> {
-    for (slots, letter) in (0..9u8).zip(letters) {
-        let name = [*letter];
-        if !is_name(&name) {
-            return Err(Fail::from("no name"));
-        }
-        let number = file(2 + u16::from(slots))?;
-        add(store, FileNumber::ROOT, root(slots), number, &name)?;
+fn add_names(store: &mut Store<MemDevice>, form: u8, letters: &[u8]) -> Result<(), Fail> {
+    for (slots, letter) in (0..9u16).zip(letters) {
+        add_name(store, form, slots, &[*letter])?;
     }
     Ok(())
 }
 
-/// The files of a new volume of 64 segments, where names of one letter are drafted in the root.
-pub fn store_with(alloc: Global, letters: &[u8]) -> Result<Box<Store<MemDevice>>, Fail> {
+/// The files of a new volume of 64 segments, where names of one letter are drafted in a root of this
+/// form.
+pub fn store_with(alloc: Global, form: u8, letters: &[u8]) -> Result<Box<Store<MemDevice>>, Fail> {
     match Store::open(alloc, formatted(alloc, 64)?) {
         Ok(store) => {
             let mut store = Box::new(alloc, store)?;
-            add_names(&mut store, letters)?;
+            add_names(&mut store, form, letters)?;
             Ok(store)
         }
         Err((fault, _)) => Err(Fail::from(fault)),

@@ -1,40 +1,52 @@
-//! The slots of a directory of form 0, read in place.
-ghost use Rattle.std.specs.Prelude.{◌≡◌, ◌<◌, ◌≤◌, ◌+◌, ◌*◌, ◌↔◌, ℕ, length, slice_index, IfSome, IfNone, IsTrue};
+//! The slots of a directory, read in place. How wide they are, the directory's form says.
+ghost use Rattle.std.specs.Prelude.{◌≡◌, ◌<◌, ◌≤◌, ◌+◌, ◌*◌, ◌-◌, ◌↔◌, ℕ, length, slice_index, Some, IfSome, IfNone, IsTrue};
 ghost use Rattle.lfs_model.specs.Fields.{part, read32};
 ghost use Rattle.lfs_model.specs.Slot.{SlotValue, IsName, FitsSlot, slot_bytes, slot_in};
-ghost use Rattle.lfs_model.specs.Tree.{name_len};
+ghost use Rattle.lfs_model.specs.Tree.{name_len, slot_len};
 
 use crate::inode::is_within;
 use crate::writer::Writer;
 use byteorder::{ByteOrder, LittleEndian};
 use std::marker::Model;
 
+/// The bytes of a slot of a directory of this form: 64 in form 0, else 128.
+pub fn slot_len(form: u8) -> u32
+    ensures value { result ≡ slot_len form }
+    ensures least { 64 ≤ result }
+    ensures most { result ≤ 128 }
+{
+    match form {
+        0 => 64,
+        _ => 128,
+    }
+}
+
 /// A slot that stands in a directory's block: an object's number and the name that it has there.
 #[derive(Drop)]
 pub struct SlotView<'a> {
-    slot: &'a [u8; 64],
+    slot: &'a [u8],
 }
 
 impl<'a> Model for SlotView<'a> {
-    ghost use Rattle.std.specs.Prelude.{◌≤◌, get_or};
+    ghost use Rattle.std.specs.Prelude.{◌≤◌, ◌+◌, length, get_or};
     ghost use Rattle.lfs_model.specs.Slot.{SlotValue, slot_of};
 
     ghost Value = { SlotValue };
 
     ghost view = { λ v. slot_of v.slot.now };
 
-    ghost invariant = { λ v. get_or v.slot.now 4 0 ≤ 59 };
+    ghost invariant = { λ v. 5 + get_or v.slot.now 4 0 ≤ length v.slot.now };
 }
 
-/// Whether the bytes may be a name: 1 to 59 of them, none 0 or a slash, and neither dot nor
-/// dot-dot.
-pub fn is_name(name: &[u8]) -> bool
-    ensures { IsTrue result ↔ IsName (name_len 0) name.now }
+/// Whether the bytes may be a name in a directory of this form: 1 to 59 of them in form 0, else 1
+/// to 123, none 0 or a slash, and neither dot nor dot-dot.
+pub fn is_name(form: u8, name: &[u8]) -> bool
+    ensures { IsTrue result ↔ IsName (name_len form) name.now }
 {
     if name.is_empty() {
         return false;
     }
-    if name.len() > 59 {
+    if name.len() > slot_len(form) as usize - 5 {
         return false;
     }
     if name == b".".as_slice() {
@@ -54,35 +66,36 @@ pub fn is_name(name: &[u8]) -> bool
     true
 }
 
-/// The 64 bytes of one of the eight slots of a directory's block.
-pub fn nth_slot(block: &[u8; 512], place: usize) -> &[u8; 64]
-    requires { place < 8 }
-    ensures { result.now ≡ part (64 * place) 64 block.now }
+/// The bytes of one of the slots of a block of a directory of this form.
+pub fn nth_slot(block: &[u8; 512], form: u8, place: usize) -> &[u8]
+    requires { slot_len form * place + slot_len form ≤ 512 }
+    ensures bytes { result.now ≡ part (slot_len form * place) (slot_len form) block.now }
+    ensures long { length result.now ≡ slot_len form }
 {
-    let Some(slot) = block[64 * place..].first_chunk::<64>() else {
-        unreachable!()
-    };
-    slot
+    let len = slot_len(form) as usize;
+    let at = len * place;
+    &block[at..at + len]
 }
 
-fn number_of(slot: &[u8; 64]) -> u32
+fn number_of(slot: &[u8]) -> u32
+    requires { 4 ≤ length slot.now }
     ensures { result ≡ read32 0 slot.now }
 {
     LittleEndian::read_u32(&slot[0..4])
 }
 
-fn name_of(slot: &[u8; 64], len: usize) -> &[u8]
-    requires { len ≤ 59 }
+fn name_of(slot: &[u8], len: usize) -> &[u8]
+    requires { 5 + len ≤ length slot.now }
     ensures { result.now ≡ part 5 len slot.now }
 {
     &slot[5..5 + len]
 }
 
-fn is_zero_after(slot: &[u8; 64], at: usize) -> bool
-    requires { at ≤ 64 }
-    ensures { IsTrue result ↔ ((i : ℕ) → at ≤ i → i < 64 → slice_index slot.now i ≡ 0) }
+fn is_zero_after(slot: &[u8], at: usize) -> bool
+    ensures { IsTrue result ↔ ((i : ℕ) → at ≤ i → i < length slot.now
+        → slice_index slot.now i ≡ 0) }
 {
-    for i in at..64 {
+    for i in at..slot.len() {
         if slot[i] != 0 {
             return false;
         }
@@ -90,23 +103,40 @@ fn is_zero_after(slot: &[u8; 64], at: usize) -> bool
     true
 }
 
+/// Whether a slot's name is this one. It compares lengths before bytes, and asks nothing else of
+/// the slot.
+pub fn has_name(slot: &[u8], name: &[u8]) -> bool
+    requires { 5 ≤ length slot.now }
+    ensures { (form : ℕ) (s : SlotValue) → slot_in form slot.now ≡ Some s
+        → (IsTrue result ↔ s.name ≡ name.now) }
+{
+    if slot[4] as usize != name.len() {
+        return false;
+    }
+    if name.len() > slot.len() - 5 {
+        return false;
+    }
+    name_of(slot, name.len()) == name
+}
+
 impl<'a> SlotView<'a> {
-    /// The slot that these bytes are, if they are one.
-    pub fn decode(slot: &'a [u8; 64]) -> Option<SlotView<'a>>
-        ensures found { IfSome result (λ s. FitsSlot 0 s × (slot.now ≡ slot_bytes 0 s)) }
-        ensures none { IfNone result ((s : SlotValue) → FitsSlot 0 s
-            → ¬ (slot.now ≡ slot_bytes 0 s)) }
-        ensures exact { result ≡ slot_in 0 slot.now }
+    /// The slot that these bytes are, if they are one of a directory of this form.
+    pub fn decode(form: u8, slot: &'a [u8]) -> Option<SlotView<'a>>
+        requires { length slot.now ≡ slot_len form }
+        ensures found { IfSome result (λ s. FitsSlot form s × (slot.now ≡ slot_bytes form s)) }
+        ensures none { IfNone result ((s : SlotValue) → FitsSlot form s
+            → ¬ (slot.now ≡ slot_bytes form s)) }
+        ensures exact { result ≡ slot_in form slot.now }
     {
         let number = number_of(slot);
         if !is_within(number, 4_095) {
             return None;
         }
         let len = slot[4] as usize;
-        if len > 59 {
+        if len > slot.len() - 5 {
             return None;
         }
-        if !is_name(name_of(slot, len)) {
+        if !is_name(form, name_of(slot, len)) {
             return None;
         }
         if !is_zero_after(slot, 5 + len) {
@@ -122,7 +152,7 @@ impl<'a> SlotView<'a> {
         number_of(self.slot)
     }
 
-    /// The name, 1 to 59 bytes.
+    /// The name.
     pub fn name(&self) -> &'a [u8]
         ensures { result.now ≡ self.now.name }
     {
@@ -130,22 +160,26 @@ impl<'a> SlotView<'a> {
     }
 }
 
-/// The 64 bytes by which a directory names an object, whose number is 1 to 4,095; `is_name` tells
-/// what a name may be.
-pub fn encode_slot(number: u32, name: &[u8]) -> [u8; 64]
-    requires { FitsSlot 0 record { number = number; name = name.now } }
-    ensures { result ≡ slot_bytes 0 record { number = number; name = name.now } }
+/// The bytes of a slot that is to be written.
+pub type SlotBytes = Writer<128>;
+
+/// The bytes by which a directory of this form names an object, whose number is 1 to 4,095;
+/// `is_name` tells what a name may be.
+pub fn encode_slot(form: u8, number: u32, name: &[u8]) -> SlotBytes
+    requires { FitsSlot form record { number = number; name = name.now } }
+    ensures bytes { result ≡ slot_bytes form record { number = number; name = name.now } }
+    ensures long { length result ≡ slot_len form }
 {
     let mut slot = Writer::new();
     slot.number32(number);
     slot.bytes(&[name.len() as u8]);
     slot.bytes(name);
-    slot.zeros(59 - name.len());
-    slot.finish()
+    slot.zeros(slot_len(form) as usize - 5 - name.len());
+    slot
 }
 
-/// Two slots that are spelled alike are one.
+/// Two slots of a form that are spelled alike are one.
 pub fn one_slot_spelling()
-    ensures { (a b : SlotValue) → FitsSlot 0 a → FitsSlot 0 b
-        → slot_bytes 0 a ≡ slot_bytes 0 b → a ≡ b }
+    ensures { (form : ℕ) (a b : SlotValue) → FitsSlot form a → FitsSlot form b
+        → slot_bytes form a ≡ slot_bytes form b → a ≡ b }
 {}

@@ -102,6 +102,13 @@ impl<const L: usize> Writer<L> {
         self.at = end;
     }
 
+    /// The bytes that are written.
+    pub fn written(&self) -> &[u8]
+        ensures { result.now ≡ self.now }
+    {
+        &self.bytes[..self.at]
+    }
+
     /// The bytes, once they are whole.
     pub fn finish(self) -> [u8; L]
         requires { length self ≡ L }

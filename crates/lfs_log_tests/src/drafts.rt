@@ -99,6 +99,7 @@ impl Batch {
         self.changes.loss = Loss::Link(LastLink {
             number: number_of(file),
             kind: Kind::File,
+            form: 0,
             size: header.size,
         });
         self.after.files[file].header = Some(Header { links: 0, ..header });
@@ -164,6 +165,7 @@ impl Batch {
         let least = plain.least_size();
         let header = Header {
             kind: Kind::File,
+            form: 0,
             links,
             size: least + dice.roll(8_511_489 - least),
         };

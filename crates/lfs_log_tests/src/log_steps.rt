@@ -82,6 +82,7 @@ fn byte_of(index: u32) -> u8 {
 
 const ROOT: Header = Header {
     kind: Kind::Directory,
+    form: 0,
     links: 2,
     size: 0,
 };
@@ -89,6 +90,7 @@ const ROOT: Header = Header {
 fn file_of(links: u32, size: u32) -> Header {
     Header {
         kind: Kind::File,
+        form: 0,
         links,
         size,
     }
@@ -116,6 +118,7 @@ fn stage(log: &mut Log<MemDevice>, alloc: Global, act: Act) -> Result<(), LogFau
             changes.loss = Loss::Link(LastLink {
                 number: file.clamp(1, 4_095),
                 kind: Kind::File,
+                form: 0,
                 size,
             });
         }

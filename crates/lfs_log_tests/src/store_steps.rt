@@ -117,6 +117,7 @@ fn number_of(file: u16) -> FileNumber {
 fn file_of(links: u32, size: u32) -> Header {
     Header {
         kind: Kind::File,
+        form: 0,
         links,
         size,
     }
@@ -155,6 +156,7 @@ fn draft(draft: &mut Draft, edit: Edit) -> bool {
         Edit::LoseLink(size) => draft.lose(Loss::Link(LastLink {
             number: 2,
             kind: Kind::File,
+            form: 0,
             size,
         })),
         Edit::LoseFile => draft.lose(Loss::File(Removal { number: 2 })),
@@ -260,7 +262,13 @@ fn has_bytes(store: &mut Store<MemDevice>, alloc: Global, from: u32, want: [u8; 
 fn is_seen(store: &mut Store<MemDevice>, alloc: Global, look: Look) -> bool {
     match look {
         Look::Is(file, kind, links, size) => {
-            store.header(number_of(file)) == Ok(Some(Header { kind, links, size }))
+            store.header(number_of(file))
+                == Ok(Some(Header {
+                    kind,
+                    form: 0,
+                    links,
+                    size,
+                }))
         }
         Look::Lacks(file) => store.header(number_of(file)) == Ok(None),
         Look::Holds(file) => holds(store, file, file.saturating_add(1)),

@@ -115,8 +115,8 @@ module _ (d : DeviceState) (v v' : LogMemory) (k : CheckpointValue) (m0 m : LogM
 
   header_applied : IsHeaderReady v e.number e.header.links → FitsFile m e → AppliesHeader v v' e → IsLoose d v' k m0 (after_header e m)
   header_applied ready fits go = zero_or (address_in v.map e.number) (IsLoose d v' k m0 (after_header e m))
-      (λ none. file_created d v v' k m0 m is e.number e.some in_range none e.header.kind e.header.links e.header.size fits.header (λ named. ready.mapped (some_link e.header.links named)) (go.creates none))
-      (λ some. header_changed d v v' k m0 m is e.number in_range e.header.kind e.header.links e.header.size fits.header (fits.name (has_inode d v k m0 m is e.number some) ∙ is.hidden e.number in_range)
+      (λ none. file_created d v v' k m0 m is e.number e.some in_range none e.header.kind e.header.form e.header.links e.header.size fits.header (λ named. ready.mapped (some_link e.header.links named)) (go.creates none))
+      (λ some. header_changed d v v' k m0 m is e.number in_range e.header.kind e.header.form e.header.links e.header.size fits.header (fits.name (has_inode d v k m0 m is e.number some) ∙ is.hidden e.number in_range)
       (λ named. ready.mapped (some_link e.header.links named)) (go.changes some))
 
 not_away : (v : LogMemory) (n links : ℕ) → IsHeaderReady v n links → IsInodeAway v n → ⊥

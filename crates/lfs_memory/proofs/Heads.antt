@@ -1,11 +1,12 @@
 -- Inodes with another header.
-use Rattle.std.proofs.Common.{◌≡◌, ◌<◌, ◌≤◌, ◌+◌, ◌*◌, ◌-◌, ℕ, zero, suc, List, [], ◌∷◌, ◌++◌, length, take, drop, get_or, refl, sym, ◌∙◌, ap, arith}
+use Rattle.std.proofs.Common.{◌≡◌, ◌<◌, ◌≤◌, ◌+◌, ◌*◌, ◌-◌, ℕ, zero, suc, List, [], ◌∷◌, ◌++◌, length, take, drop, get_or, refl, sym, ◌∙◌, ap, subst, arith}
 use Rattle.std.specs.Prelude.{replicate}
 use Rattle.std.proofs.lemmas.List.{append-nil}
 use Rattle.lfs_model.specs.declared.Kind.{Kind}
+use Rattle.lfs_model.specs.declared.Kind.TheVariants.{File, Directory, Link}
 use Rattle.lfs_model.specs.Entry.{header, word}
 use Rattle.lfs_model.specs.Fields.{zeros, le32, words, Are32, number_of, read32, part}
-use Rattle.lfs_model.specs.Inode.{InodeValue, inode_sector, inode_sector_of, kind_byte}
+use Rattle.lfs_model.specs.Inode.{InodeValue, IsForm, IsSize, inode_sector, inode_sector_of, kind_byte}
 use Rattle.lfs_model.specs.Laid.{HoldsInode}
 use Rattle.lfs_model.proofs.Numbers.{length-le32, length-zeros}
 use Rattle.lfs_model.proofs.Patching.{header_holds}
@@ -48,15 +49,28 @@ headed_sector i kind n links size bytes own is =
     ∙ ap (λ (l : ℕ). (kind_byte kind ∷ []) ++ zeros 3 ++ le32 l ++ le32 links ++ le32 size ++ tail i) (sym own)
     ∙ sym (sector_is (relabeled i kind links size))
 
+-- the first version has the first form alone
+form_first : (kind : Kind) (form : ℕ) → IsForm 1 kind form → form ≡ 0
+form_first kind zero is = refl
+form_first File (suc form) is = absurd is
+form_first Directory (suc form) is = absurd (omega (arith, is))
+form_first Link (suc form) is = absurd is
+
+size_first : (kind : Kind) (form links size : ℕ) → FitsHeader kind form links size → IsSize 0 kind size
+size_first kind form links size fits = subst (λ (f : ℕ). IsSize f kind size) (form_first kind form fits.known) fits.size_fits
+
+header_first : (kind : Kind) (form links size : ℕ) → FitsHeader kind form links size → header_with kind 0 links size ≡ header_with kind form links size
+header_first kind form links size fits = ap (λ (f : ℕ). header_with kind f links size) (sym (form_first kind form fits.known))
+
 -- an inode with another header is one
-pub holds_headed : (n : ℕ) (old : List ℕ) → HoldsInode n old → (kind : Kind) (links size : ℕ) → FitsHeader kind links size → HoldsInode n (headed kind n links size old)
-holds_headed n old holds kind links size fits = record {
+pub holds_headed : (n : ℕ) (old : List ℕ) → HoldsInode n old → (kind : Kind) (form links size : ℕ) → FitsHeader kind form links size → HoldsInode n (headed kind n links size old)
+holds_headed n old holds kind form links size fits = record {
   value = relabeled holds.value kind links size;
   spelt = headed_sector holds.value kind n links size old holds.own (ap (drop 16) holds.spelt ∙ tail_is holds.value);
   fits = record {
     number = holds.fits.number;
     links = holds.fits.links;
-    size = fits.size_fits;
+    size = size_first kind form links size fits;
     direct_length = holds.fits.direct_length;
     direct_fits = holds.fits.direct_fits;
     single_fits = holds.fits.single_fits;
@@ -82,9 +96,9 @@ unfolding word read32 part
 headed_words kind n links size old w high =
     ap (λ (b : List ℕ). number_of (take 4 b)) (past (kind_byte kind) n links size (drop 16 old) (4 * w) (omega (arith, high)) ∙ dropped 16 (4 * w) old (omega (arith, high)))
 
-pub header_headed : (n : ℕ) (old : List ℕ) → HoldsInode n old → (kind : Kind) (links size : ℕ) → FitsHeader kind links size → header (headed kind n links size old) ≡ header_with kind links size
+pub header_headed : (n : ℕ) (old : List ℕ) → HoldsInode n old → (kind : Kind) (form links size : ℕ) → FitsHeader kind form links size → header (headed kind n links size old) ≡ header_with kind form links size
 unfolding holds_headed
-header_headed n old holds kind links size fits = header_holds n (headed kind n links size old) (holds_headed n old holds kind links size fits)
+header_headed n old holds kind form links size fits = header_holds n (headed kind n links size old) (holds_headed n old holds kind form links size fits) ∙ header_first kind form links size fits
 
 -- ---- a new inode, whose pointers are 0
 zeros_then : (a b : ℕ) → zeros (a + b) ≡ zeros a ++ zeros b
@@ -122,15 +136,15 @@ length_same : (n : ℕ) → length {A = ℕ} (replicate n 0) ≡ n
 length_same zero = refl
 length_same (suc n) = ap (λ (k : ℕ). suc k) (length_same n)
 
-pub holds_new : (n : ℕ) → 1 ≤ n → n ≤ 4095 → (kind : Kind) (links size : ℕ) → FitsHeader kind links size → HoldsInode n (headed kind n links size (zeros 512))
+pub holds_new : (n : ℕ) → 1 ≤ n → n ≤ 4095 → (kind : Kind) (form links size : ℕ) → FitsHeader kind form links size → HoldsInode n (headed kind n links size (zeros 512))
 unfolding Are32
-holds_new n low high kind links size fits = record {
+holds_new n low high kind form links size fits = record {
   value = new_inode kind n links size;
   spelt = headed_sector (new_inode kind n links size) kind n links size (zeros 512) refl (new_tail kind n links size);
   fits = record {
     number = (low, high);
     links = (omega arith, omega arith);
-    size = fits.size_fits;
+    size = size_first kind form links size fits;
     direct_length = length_same 112;
     direct_fits = are_32 112;
     single_fits = omega arith;
@@ -140,9 +154,9 @@ holds_new n low high kind links size fits = record {
   own = refl;
 }
 
-pub header_new : (n : ℕ) → 1 ≤ n → n ≤ 4095 → (kind : Kind) (links size : ℕ) → FitsHeader kind links size → header (headed kind n links size (zeros 512)) ≡ header_with kind links size
+pub header_new : (n : ℕ) → 1 ≤ n → n ≤ 4095 → (kind : Kind) (form links size : ℕ) → FitsHeader kind form links size → header (headed kind n links size (zeros 512)) ≡ header_with kind form links size
 unfolding holds_new
-header_new n low high kind links size fits = header_holds n (headed kind n links size (zeros 512)) (holds_new n low high kind links size fits)
+header_new n low high kind form links size fits = header_holds n (headed kind n links size (zeros 512)) (holds_new n low high kind form links size fits) ∙ header_first kind form links size fits
 
 pub new_words : (kind : Kind) (n links size w : ℕ) → 4 ≤ w → word (headed kind n links size (zeros 512)) w ≡ 0
 new_words kind n links size w high = headed_words kind n links size (zeros 512) w high ∙ word_zeros 512 w

@@ -80,7 +80,7 @@ link_lost d d' v v' l go = record {
   stay = λ x kept has. go.stay x has;
   mapped = go.mapped;
   absent = go.absent;
-  log = λ k m0 m keeps is fits. go.log k m0 m keeps is fits.0 (sym (is.hidden l.number (in_range l.number l.few)) ∙ fits.2);
+  log = λ k m0 m keeps is fits. go.log k m0 m keeps is l.form fits.0 (sym (is.hidden l.number (in_range l.number l.few)) ∙ fits.2);
 }
 
 pub file_lost : (d d' : DeviceState) (v v' : LogMemory) (r : Removal) → RemovesFile d d' v v' r.number → Loses d d' v v' (loss.File r)

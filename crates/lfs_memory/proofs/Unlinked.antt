@@ -31,7 +31,7 @@ use Rattle.lfs_memory.proofs.Presents.{looks_then, still_log}
 use Rattle.lfs_memory.proofs.Taken.{counts_covered}
 
 -- ---- the log map in which the file has no link
-module _ (d : DeviceState) (v v' : LogMemory) (k : CheckpointValue) (m0 m : LogMap) (is : IsLoose d v k m0 m) (n : ℕ) (low : n < 4096) (kind : Kind) (size : ℕ) (fits : FitsHeader kind 0 size) (counts : List ℕ)
+module _ (d : DeviceState) (v v' : LogMemory) (k : CheckpointValue) (m0 m : LogMap) (is : IsLoose d v k m0 m) (n : ℕ) (low : n < 4096) (kind : Kind) (form size : ℕ) (fits : FitsHeader kind form 0 size) (counts : List ℕ)
     (shown : is_hidden_in v.map n ≡ false) (counted : (s : ℕ) → get_or counts s 0 ≡ count_of (is_of n) is.running.memory s) (go : LosesLinks v v' n kind size counts) where
   same_tops : (x : Entry) → parent x ≡ x → (tables_of v').at x ≡ (tables_of v).at x
   same_tops (Data l i) top = refl
@@ -53,16 +53,16 @@ module _ (d : DeviceState) (v v' : LogMemory) (k : CheckpointValue) (m0 m : LogM
     stale = go.usage.stale;
   }
 
-  pub links_lost : IsLoose d v' k m0 (with_header m n (Some (header_with kind 0 size)))
+  pub links_lost : IsLoose d v' k m0 (with_header m n (Some (header_with kind form 0 size)))
   links_lost =
-      let h = header_with kind 0 size in
+      let h = header_with kind form 0 size in
       let m' = with_header m n (Some h) in
       let holds = inode_held d v k m0 m is n go.old go.there in
-      let says : header (headed kind n 0 size go.old) ≡ h = header_headed n go.old holds kind 0 size fits in
+      let says : header (headed kind n 0 size go.old) ≡ h = header_headed n go.old holds kind form 0 size fits in
       record {
         running = as_memory d (blocks_of v'.dirty) k m0 m' v v' (tables_of v') go.chunk refl
             (link_losing d (blocks_of v.dirty) (blocks_of v'.dirty) (tables_of v) (tables_of v') k m0 m m' (segment_in v.chunk) (chunk_in v.chunk) n go.old (headed kind n 0 size go.old) (counts_in counts)
-            is.running go.there (holds_headed n go.old holds kind 0 size fits) (λ w high low. headed_words kind n 0 size go.old w (omega (arith, high)))
+            is.running go.there (holds_headed n go.old holds kind form 0 size fits) (λ w high low. headed_words kind n 0 size go.old w (omega (arith, high)))
             (subst (λ (g : Header). IsWithHeader m n (Some g) m') (sym says) (is_with_header m n (Some h)))
             (is.hidden n low ∙ shown) (nameless_with m n h) counted go.changes held_from);
         hidden = hidden_with v.map v'.map m n h is.hidden (sym go.hidden.own) go.hidden.others;
@@ -93,10 +93,10 @@ module _ (a b c : DeviceState) (v mid : LogMemory) (n : ℕ) (counts : List ℕ)
     hidden = record { own = go.hidden.own; others = λ l ne. go.hidden.others l ne ∙ ap (λ (a : List Bool). get_or a l false) first.hidden };
     mapped = λ j one. ap (λ (a : List ℕ). get_or a j 0) go.blocks ∙ first.mapped j one;
     absent = λ l none. ap (λ (a : List ℕ). get_or a l 0) go.addresses ∙ first.absent l none;
-    log = λ k m0 m keeps is fits _.
+    log = λ k m0 m keeps is form fits _.
         let log = first.log k m0 m (looks.carries.kept_before keeps) is in
-        still_log b c v' k m0 (with_header m n (Some (header_with kind 0 size))) looks
-        (links_lost b mid v' k m0 m log n low kind size fits counts shown_then (counted k m0 m keeps log) go);
+        still_log b c v' k m0 (with_header m n (Some (header_with kind form 0 size))) looks
+        (links_lost b mid v' k m0 m log n low kind form size fits counts shown_then (counted k m0 m keeps log) go);
   }
     where
       stays : (x : Entry) → IsInMemory mid x → IsInMemory v' x

@@ -16,7 +16,7 @@ use Rattle.lfs_memory.specs.Changing.{ChangesBlock, ChangesHeader, Creates, Fits
 
 -- the log map after headers, and after blocks, one after the other
 abbrev pub after_header : HeaderEdit → LogMap → LogMap
-after_header e m = with_header m e.number (Some (header_with e.header.kind e.header.links e.header.size))
+after_header e m = with_header m e.number (Some (header_with e.header.kind e.header.form e.header.links e.header.size))
 
 abbrev pub after_headers : List HeaderEdit → LogMap → LogMap
 after_headers [] m = m
@@ -34,7 +34,7 @@ after_batch headers blocks m = after_blocks blocks (after_headers headers m)
 
 -- an inode may say this, and a file that is there has a name after it exactly where it had one
 pub record FitsFile (m : LogMap) (e : HeaderEdit) : Type 0 where
-  pub header : FitsHeader e.header.kind e.header.links e.header.size
+  pub header : FitsHeader e.header.kind e.header.form e.header.links e.header.size
   pub name : HasInode m e.number → (e.header.links == 0) ≡ is_nameless m e.number
 
 -- so each, after those before it

@@ -25,7 +25,7 @@ use Rattle.lfs_memory.specs.Applying.{after_headers, after_batch, AreHeadersFit,
 abbrev pub lost : Loss → LogMap → LogMap
 lost Nothing m = m
 lost (Blocks c) m = cut_from c.number c.first m
-lost (Link l) m = with_header m l.number (Some (header_with l.kind 0 l.size))
+lost (Link l) m = with_header m l.number (Some (header_with l.kind l.form 0 l.size))
 lost (File r) m = without_file r.number m
 
 -- the blocks of files that may leave memory
@@ -39,7 +39,7 @@ is_lost (File r) x = is_of r.number x
 abbrev pub FitsLoss : LogMap → Loss → Type 0
 FitsLoss m Nothing = Unit {0}
 FitsLoss m (Blocks c) = Unit {0}
-FitsLoss m (Link l) = FitsHeader l.kind 0 l.size × HasInode m l.number × (is_nameless m l.number ≡ false)
+FitsLoss m (Link l) = FitsHeader l.kind l.form 0 l.size × HasInode m l.number × (is_nameless m l.number ≡ false)
 FitsLoss m (File r) = Unit {0}
 
 -- ---- a whole batch

@@ -125,13 +125,13 @@ pub record Tightens (v v' : LogMemory) : Type 0 where
 
 -- ---- inodes
 
--- the inode of file n with another header
+-- the inode of file n with another header, whose form is the first
 abbrev pub headed : Kind → ℕ → ℕ → ℕ → List ℕ → List ℕ
 headed kind n links size bytes = (kind_byte kind ∷ []) ++ zeros 3 ++ le32 n ++ le32 links ++ le32 size ++ drop 16 bytes
 
 -- what it says
-abbrev pub header_with : Kind → ℕ → ℕ → Header
-header_with kind links size = record { kind = kind; form = 0; links = links; size = size }
+abbrev pub header_with : Kind → ℕ → ℕ → ℕ → Header
+header_with kind form links size = record { kind = kind; form = form; links = links; size = size }
 
 -- The inode of file n, in memory, has another header, and the same pointers.
 pub record ChangesHeader (v v' : LogMemory) (n : ℕ) (kind : Kind) (links size : ℕ) : Type 0 where

@@ -39,6 +39,8 @@ pub struct Cut {
 pub struct LastLink {
     pub number: u16,
     pub kind: Kind,
+    /// As that of its header.
+    pub form: u8,
     /// In bytes.
     pub size: u32,
     ghost some: { 1 ≤ number },

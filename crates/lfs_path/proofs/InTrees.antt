@@ -11,7 +11,7 @@ use Rattle.lfs_model.specs.Objects.{IsDirectory}
 use Rattle.lfs_model.specs.Refusal as refusals
 use Rattle.lfs_model.specs.Stands.{LogMap}
 use Rattle.lfs_model.specs.Tree.{File, Dir, Link, Node, byte_cmp, entry, form_of, is_dir, name_len, name_limit, names_in, names_of, node}
-use Rattle.lfs_model.specs.TreeOf.{map_of, node_by, node_of, object, slots, tree_in}
+use Rattle.lfs_model.specs.TreeOf.{node_by, node_of, object, tree_in}
 use Rattle.lfs_model.specs.Walk.{Gives, IsLookedUp, Refused, dot, dot_dot, too_long, not_there}
 use Rattle.lfs_model.proofs.Volume.{node_in, no_node_0, no_node_past}
 use Rattle.lfs_model.proofs.Walks.{Some-injective}
@@ -66,18 +66,6 @@ module _ (m : LogMap) where
     pub is_object : HasObject d m
     is_object none = let a = directory_header d within.directory in let is = a.is in absurd (cc)
 
-    pub limit : name_limit (tree_in m) d ≡ 59
-    limit =
-        let a = directory_header d within.directory in
-        let h = within.tree.headers d a.head a.is in
-        let number = h.number in
-        let there : node (tree_in m) d ≡ Some (Dir a.head.form (map_of a.head.form (slots m d a.head))) =
-        node_in m d number.0 number.1 ∙ ap (node_of m d) a.is ∙ ap (λ (k : Kind). Some (node_by m k d a.head)) a.kind in
-        ap (λ (o : Option Node). name_len (form_of o)) there ∙ ap name_len h.form
-
-    pub long_name : (name : List ℕ) → 59 < length name → EndsAtPiece d name (tree_in m) (Refused refusals.NameTooLong)
-    long_name name long follow ps s k = let most = limit in too_long (omega (arith, most, long))
-
     module _ (head : Header) (is : HasHeader d head m) where
       directory_kind : head.kind ≡ kind.Directory
       directory_kind =
@@ -85,10 +73,17 @@ module _ (m : LogMap) where
           let same : a.head ≡ as_header head = Some-injective a.head (as_header head) (sym a.is ∙ is) in
           sym (ap (λ (h : entries.Header). h.kind) same) ∙ a.kind
 
-      there : node (tree_in m) d ≡ Some (Dir 0 (names_at m d head))
+      there : node (tree_in m) d ≡ Some (Dir head.form (names_at m d head))
       there =
           let number = (within.tree.headers d (as_header head) is).number in
           node_in m d number.0 number.1 ∙ ap (node_of m d) is ∙ ap (λ (k : Kind). Some (node_by m k d (as_header head))) directory_kind
+
+      -- its names are as long as its form allows
+      pub limit : name_limit (tree_in m) d ≡ name_len head.form
+      limit = ap (λ (o : Option Node). name_len (form_of o)) there
+
+      pub long_name : (name : List ℕ) → name_len head.form < length name → EndsAtPiece d name (tree_in m) (Refused refusals.NameTooLong)
+      long_name name long follow ps s k = let most = limit in too_long (omega (arith, most, long))
 
       pub entry_is : (name : List ℕ) (found : Option ℕ) → found ≡ find byte_cmp name (names_at m d head) → entry (tree_in m) d name ≡ found
       entry_is name found answer = ap (λ (o : Option Node). find byte_cmp name (names_of (unwrap_or o (File [])))) there ∙ sym answer
@@ -103,13 +98,13 @@ module _ (m : LogMap) where
 
       -- ---- a name in it
       module _ (name : List ℕ) (dots : (name ≢ dot) × (name ≢ dot_dot)) where
-        looked_up : length name ≤ 59 → IsLookedUp (tree_in m) d name
+        looked_up : length name ≤ name_len head.form → IsLookedUp (tree_in m) d name
         looked_up short = let most = limit in record { not_dot = dots.0; not_dot_dot = dots.1; short = omega (arith, most, short) }
 
-        pub no_name : length name ≤ 59 → None ≡ find byte_cmp name (names_at m d head) → EndsAtPiece d name (tree_in m) (Refused refusals.NoEntry)
+        pub no_name : length name ≤ name_len head.form → None ≡ find byte_cmp name (names_at m d head) → EndsAtPiece d name (tree_in m) (Refused refusals.NoEntry)
         no_name short answer follow ps s k = not_there (looked_up short) (entry_is name None answer)
 
-        pub is_name : length name ≤ 59 → (n : ℕ) → Some n ≡ find byte_cmp name (names_at m d head) → NamesObject d name n m
+        pub is_name : length name ≤ name_len head.form → (n : ℕ) → Some n ≡ find byte_cmp name (names_at m d head) → NamesObject d name n m
         is_name short n answer = record { is_name = looked_up short; is_there = entry_is name (Some n) answer }
 
   -- ---- what a name gives
@@ -139,7 +134,7 @@ module _ (m : LogMap) where
     gives_file same = (object m n.value (as_header head), gives kind.File same)
 
     pub gives_directory : head.kind ≡ kind.Directory → IsSeen d name (seen.Directory n) m
-    gives_directory same = (0, names_at m n.value head, gives kind.Directory same)
+    gives_directory same = (head.form, names_at m n.value head, gives kind.Directory same)
 
     pub gives_link : head.kind ≡ kind.Link → Gives (tree_in m) d name n.value (Link (object m n.value (as_header head)))
     gives_link same = gives kind.Link same

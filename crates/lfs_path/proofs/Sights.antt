@@ -4,6 +4,7 @@ use Rattle.lfs_model.specs.declared.number.FileNumber.{FileNumber}
 use Rattle.lfs_model.specs.declared.Kind.TheVariants as kind
 use Rattle.lfs_model.specs.Walk.{dot, dot_dot}
 use Rattle.lfs_model.specs.Stands.{LogMap}
+use Rattle.lfs_model.specs.Tree.{name_len}
 use Rattle.lfs_files.specs.declared.header.Header.{Header}
 use Rattle.lfs_files.specs.Files.{FilesState, Reads}
 use Rattle.lfs_dirs.specs.Finding.{Finds, IsDirectoryFault}
@@ -22,8 +23,8 @@ module _ {S D : Type 0} where
       let before = one.looks.carries.failures in
       omega (arith, rose, before)
 
-  pub long_refused : (s : FilesState S D) (d : ℕ) (name : List ℕ) → 59 < length name → TellsRefusal s s (InDirectory d) (EndsAtPiece d name) NameTooLong
-  long_refused s d name long m m' keeps has within = long_name m' d within name long
+  pub long_refused : (s a : FilesState S D) (d : ℕ) (head : Header) → Tells s a (λ m. Unit {0}) (HasHeader d head) → (name : List ℕ) → name_len head.form < length name → TellsRefusal s a (InDirectory d) (EndsAtPiece d name) NameTooLong
+  long_refused s a d head read name long m m' keeps has within = long_name m' d within head (read m m' keeps has tt) name long
 
   pub header_failed : (s a : FilesState S D) (d : ℕ) → TellsFault s a (HasObject d) → TellsFault s a (InDirectory d)
   header_failed s a d failed m m' keeps has within = failed m m' keeps has (is_object m' d within)
@@ -33,10 +34,10 @@ module _ {S D : Type 0} where
     header_is : (m m' : LogMap) → b.device.keeps_model → s.has m m' → HasHeader d head m'
     header_is m m' keeps has = read m m' (two.looks.carries.kept_before keeps) has tt
 
-    pub found : (name : List ℕ) (n : FileNumber) → (name ≢ dot) × (name ≢ dot_dot) → length name ≤ 59 → Finds a b d head name (Some n) → Tells s b (InDirectory d) (NamesObject d name n.value)
+    pub found : (name : List ℕ) (n : FileNumber) → (name ≢ dot) × (name ≢ dot_dot) → length name ≤ name_len head.form → Finds a b d head name (Some n) → Tells s b (InDirectory d) (NamesObject d name n.value)
     found name n dots short finds m m' keeps has within = is_name m' d within head (header_is m m' keeps has) name dots short n.value (finds m m' keeps (one.has m m' has))
 
-    pub found_none : (name : List ℕ) → (name ≢ dot) × (name ≢ dot_dot) → length name ≤ 59 → Finds a b d head name None → TellsRefusal s b (InDirectory d) (EndsAtPiece d name) NoEntry
+    pub found_none : (name : List ℕ) → (name ≢ dot) × (name ≢ dot_dot) → length name ≤ name_len head.form → Finds a b d head name None → TellsRefusal s b (InDirectory d) (EndsAtPiece d name) NoEntry
     found_none name dots short finds m m' keeps has within = no_name m' d within head (header_is m m' keeps has) name dots short (finds m m' keeps (one.has m m' has))
 
     pub find_failed : IsDirectoryFault a b d head → TellsFault s b (InDirectory d)

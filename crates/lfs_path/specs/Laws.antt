@@ -5,7 +5,7 @@ use Rattle.lfs_model.specs.Entry.{Header}
 use Rattle.lfs_model.specs.Objects.{IsDirectory, IsHeaderOf}
 use Rattle.lfs_model.specs.Sound.{NamesGive, Sound}
 use Rattle.lfs_model.specs.Stands.{LogMap}
-use Rattle.lfs_model.specs.Tree.{File, Dir, State, Tree, names, is_dir, name_limit, names_in, node, with_name, with_node, without, without_name}
+use Rattle.lfs_model.specs.Tree.{File, Dir, State, Tree, names, is_dir, name_len, name_limit, names_in, node, with_name, with_node, without, without_name}
 use Rattle.lfs_model.specs.TreeOf.{AreFormed, IsTree, tree_in}
 use Rattle.lfs_model.specs.Step.{last_dots, name, no_last}
 use Rattle.lfs_files.specs.declared.header.Header.{Header as HeaderValue}
@@ -35,9 +35,9 @@ pub record TreeMaps : Type 0 where
 -- What a directory that is walked is.
 pub record DirectorySays (m : LogMap) (d : ℕ) (head : HeaderValue) : Type 0 where
   pub formed : IsDirectory m d (as_header head)
-  -- its names are those that its slots give, and have at most 59 bytes
+  -- its names are those that its slots give, and as long as its form allows
   pub names : names_in (tree_in m) d ≡ names_at m d head
-  pub longest : name_limit (tree_in m) d ≡ 59
+  pub longest : name_limit (tree_in m) d ≡ name_len head.form
 
 abbrev pub DirectoriesSay : Type 0
 DirectoriesSay = (m : LogMap) (d : ℕ) (head : HeaderValue) → InDirectory d m → HasHeader d head m → DirectorySays m d head

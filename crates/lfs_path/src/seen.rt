@@ -7,12 +7,9 @@ ghost use Rattle.lfs_path.specs.Telling.{TellsFault, TellsRefusal, Tells};
 ghost use Rattle.lfs_path.specs.Trees.{InDirectory};
 
 use crate::walk_fault::WalkFault;
-use lfs_dirs::find;
+use lfs_dirs::{find, longest_name};
 use lfs_files::{Files, Header, LogFault};
 use lfs_model::{FileNumber, Kind};
-
-/// The most bytes of a name.
-const LONGEST_NAME: usize = 59;
 
 /// A symbolic link.
 #[derive(Clone, Copy)]
@@ -106,13 +103,14 @@ fn entry_in<F: Files>(
         → (F.state files.old).halted ≡ true }
     ensures other { IsErrOf result (WalkFault.Log LogFault.Full) → ⊥ }
 {
-    if name.len() > LONGEST_NAME {
-        return Err(WalkFault::NameTooLong);
-    }
     let header = match header_of(files, directory) {
         Ok(header) => header,
         Err(fault) => return Err(WalkFault::Log(fault)),
     };
+    let longest = longest_name(header.form);
+    if name.len() > longest {
+        return Err(WalkFault::NameTooLong);
+    }
     match find(files, directory, header, name) {
         Ok(Some(number)) => Ok(number),
         Ok(None) => Err(WalkFault::NoEntry),

@@ -58,10 +58,10 @@ fit_join (e ∷ xs) ys m first second = (first.0, fit_join xs ys (after_header e
 abbrev Renames : LogMap → HeaderEdit → Type 0
 Renames m e = HasInode m e.number → (e.header.links == 0) ≡ is_nameless m e.number
 
-fit_more : (es : List HeaderEdit) (e : HeaderEdit) (m : LogMap) → AreHeadersFit m es → FitsHeader e.header.kind e.header.links e.header.size → Renames (after_headers es m) e → AreHeadersFit m (es ++ e ∷ [])
+fit_more : (es : List HeaderEdit) (e : HeaderEdit) (m : LogMap) → AreHeadersFit m es → FitsHeader e.header.kind e.header.form e.header.links e.header.size → Renames (after_headers es m) e → AreHeadersFit m (es ++ e ∷ [])
 fit_more es e m fit header name = fit_join es (e ∷ []) m fit (record { header = header; name = name }, tt)
 
-fit_set : (es : List HeaderEdit) (p : ℕ) (e : HeaderEdit) (m : LogMap) → LastHeader es e.number p → AreHeadersFit m es → FitsHeader e.header.kind e.header.links e.header.size → Renames (after_headers es m) e
+fit_set : (es : List HeaderEdit) (p : ℕ) (e : HeaderEdit) (m : LogMap) → LastHeader es e.number p → AreHeadersFit m es → FitsHeader e.header.kind e.header.form e.header.links e.header.size → Renames (after_headers es m) e
     → AreHeadersFit m (set es p e)
 fit_set es p e m is fit header name =
     subst (AreHeadersFit m) (sym placed) (fit_join (take p es) (e ∷ drop (p + 1) es) m parts.0 (record { header = header; name = own_name }, behind))

@@ -131,12 +131,12 @@ relinks c c' n h links some puts = record {
     both_linked : (a b : ℕ) → 1 ≤ a → 0 < b → (a == 0) ≡ (b == 0)
     both_linked a b some linked = ne_eqb a 0 (λ e. omega (arith, e, some)) ∙ sym (ne_eqb b 0 (λ e. omega (arith, e, linked)))
 
-pub loses_link : (c c' : Changes) (n : ℕ) (h : Header) (l : LastLink) → l.number ≡ n → l.kind ≡ h.kind → l.size ≡ h.size → IsNoChange c → c'.headers ≡ c.headers → c'.blocks ≡ c.blocks → c'.loss ≡ Link l
+pub loses_link : (c c' : Changes) (n : ℕ) (h : Header) (l : LastLink) → l.number ≡ n → l.kind ≡ h.kind → l.form ≡ h.form → l.size ≡ h.size → IsNoChange c → c'.headers ≡ c.headers → c'.blocks ≡ c.blocks → c'.loss ≡ Link l
     → LosesOnly c' (Link l) → SetsLinks c c' n h 0
-loses_link c c' n h l number kind size none headers blocks lost only = record {
+loses_link c c' n h l number kind form size none headers blocks lost only = record {
   map = map;
   fits = λ m fit there linked apart fits. only.fits m (
-    subst (λ (k : Kind). FitsHeader k 0 l.size) (sym kind) (subst (λ (s : ℕ). FitsHeader h.kind 0 s) (sym size) fits),
+    subst (λ (k : Kind). FitsHeader k l.form 0 l.size) (sym kind) (subst (λ (f : ℕ). FitsHeader h.kind f 0 l.size) (sym form) (subst (λ (s : ℕ). FitsHeader h.kind h.form 0 s) (sym size) fits)),
     (as_header h, at m there),
     ap is_unlinked (at m there) ∙ ne_eqb h.links 0 (λ e. omega (arith, e, linked)),
   );
@@ -150,9 +150,10 @@ loses_link c c' n h l number kind size none headers blocks lost only = record {
     map : (m : LogMap) → staged c' m ≡ with_header (staged c m) n (Some (as_header (relinked h 0)))
     map m =
         only.map m
-        ∙ ap (λ (k : ℕ). with_header m k (Some (header_with l.kind 0 l.size))) number
-        ∙ ap (λ (k : Kind). with_header m n (Some (header_with k 0 l.size))) kind
-        ∙ ap (λ (s : ℕ). with_header m n (Some (header_with h.kind 0 s))) size
+        ∙ ap (λ (k : ℕ). with_header m k (Some (header_with l.kind l.form 0 l.size))) number
+        ∙ ap (λ (k : Kind). with_header m n (Some (header_with k l.form 0 l.size))) kind
+        ∙ ap (λ (f : ℕ). with_header m n (Some (header_with h.kind f 0 l.size))) form
+        ∙ ap (λ (s : ℕ). with_header m n (Some (header_with h.kind h.form 0 s))) size
         ∙ ap (λ (a : LogMap). with_header a n (Some (as_header (relinked h 0)))) (sym (no_change c m none))
 
     at : (m : LogMap) → (staged c m).header n ≡ Some (as_header h) → m.header l.number ≡ Some (as_header h)

@@ -57,7 +57,7 @@ takes_block c c' m n i loss same there apart within = record {
 
 -- and a header that has a name exactly where the file had one
 pub takes_header : (c : Changes) (m : LogMap) (n : ℕ) (head head' : Header) → (staged c m).header n ≡ Some (as_header head) → (head'.links == 0) ≡ (head.links == 0) → is_lost c.loss (Inode n) ≡ false
-    → FitsHeader head'.kind head'.links head'.size → TakesHeader c m n head'
+    → FitsHeader head'.kind head'.form head'.links head'.size → TakesHeader c m n head'
 takes_header c m n head head' there name apart fits = record { header = fits; name = λ has. name ∙ sym (ap is_unlinked there); apart = apart }
 
 module _ {D : Type 0} (state : D → DeviceState) where

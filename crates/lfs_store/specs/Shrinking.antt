@@ -20,7 +20,7 @@ pub record TakesShrink (c : Changes) (m : LogMap) (n : ℕ) (h : Header) (len : 
   pub there : (staged c m).header n ≡ Some (as_header h)
   pub apart : IsApart c.loss n
   pub within : m.header n ≡ None → len < 57344
-  pub header : FitsHeader h.kind h.links len
+  pub header : FitsHeader h.kind h.form h.links len
 
 -- file n has no block behind the one of this place
 abbrev pub HasNoneBehind : LogMap → ℕ → ℕ → Type 0

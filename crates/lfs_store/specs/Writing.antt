@@ -26,7 +26,7 @@ pub record TakesWrite (c : Changes) (m : LogMap) (n : ℕ) (h : Header) (at : �
   pub there : (staged c m).header n ≡ Some (as_header h)
   pub apart : IsApart c.loss n
   pub within : m.header n ≡ None → at + length w ≤ 57344
-  pub header : FitsHeader h.kind h.links (max h.size (at + length w))
+  pub header : FitsHeader h.kind h.form h.links (max h.size (at + length w))
 
 module _ {D : Type 0} (state : D → DeviceState) where
   -- what the bytes of one block are laid over
@@ -85,5 +85,5 @@ module _ {D : Type 0} (state : D → DeviceState) where
     pub kept : head.size ≤ len → c.loss ≡ Nothing
     pub headers : length c.headers.items ≤ 1
     pub blocks : length c.blocks.items ≤ 1
-    pub fits : (m : LogMap) → m.header n ≡ Some (as_header head) → FitsHeader head.kind head.links len → FitsBatch m c
+    pub fits : (m : LogMap) → m.header n ≡ Some (as_header head) → FitsHeader head.kind head.form head.links len → FitsBatch m c
     pub file : (k : CheckpointValue) (m0 m : LogMap) → (state h'.device).keeps_model → Holds state h k m0 m → SizesFile m (staged c m) n head (resized head len) len

@@ -18,6 +18,7 @@ pub fn header_after(loss: &Loss, number: u16) -> Option<Option<Header>>
             }
             Some(Some(Header {
                 kind: link.kind,
+                form: link.form,
                 links: 0,
                 size: link.size,
             }))

@@ -10,7 +10,7 @@ use crate::store::Store;
 use crate::totals::{Measure, NO_BLOCK};
 use lfs_cleaner::volume_log::{Header, LastLink, LogFault, Loss, Removal};
 use lfs_device::SectorDevice;
-use lfs_files::StoreFault;
+use lfs_files::{FIRST_FORM, StoreFault};
 use lfs_model::{FileNumber, Kind};
 
 /// The links of a file that is made.
@@ -89,6 +89,7 @@ impl<D: SectorDevice> Store<D> {
     {
         let header = Header {
             kind,
+            form: FIRST_FORM,
             links: first_links(kind),
             size,
         };
@@ -143,6 +144,7 @@ impl<D: SectorDevice> Store<D> {
         self.draft.lose(Loss::Link(LastLink {
             number: number.value,
             kind: header.kind,
+            form: header.form,
             size: header.size,
         }));
     }
@@ -159,6 +161,7 @@ impl<D: SectorDevice> Store<D> {
     {
         let header = Header {
             kind: header.kind,
+            form: header.form,
             links,
             size: header.size,
         };

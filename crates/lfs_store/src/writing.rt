@@ -323,6 +323,7 @@ impl<D: SectorDevice> Store<D> {
     {
         let header = Header {
             kind: header.kind,
+            form: header.form,
             links: header.links,
             size,
         };

@@ -8,7 +8,7 @@ use Rattle.std.specs.FinMap.{find, put, is_sorted}
 use Rattle.std.specs.FinMap.Entries.{length-put}
 use Rattle.lfs_model.specs.Fields.{part}
 use Rattle.lfs_model.specs.Slot.{SlotValue, slot_in}
-use Rattle.lfs_model.specs.Tree.{Names, byte_cmp}
+use Rattle.lfs_model.specs.Tree.{Names, byte_cmp, slot_len}
 use Rattle.lfs_model.specs.TreeOf.{map_of, with_slot}
 use Rattle.lfs_files.specs.declared.header.Header.{Header}
 use Rattle.lfs_dirs.specs.Directory.{first_slots, slots_in}
@@ -28,92 +28,92 @@ few_with (Some s) m order =
       | false ↦ λ e. omega (arith, e)
     ] long
 
-few_names : (a : List (List ℕ)) → length (map_of 0 a) ≤ length a
-few_names [] = omega arith
-few_names (x ∷ a) = let few = few_with (slot_in 0 x) (map_of 0 a) (sorted_names a) in let rest = few_names a in omega (arith, few, rest)
+few_names : (form : ℕ) (a : List (List ℕ)) → length (map_of form a) ≤ length a
+few_names form [] = omega arith
+few_names form (x ∷ a) = let few = few_with (slot_in form x) (map_of form a) (sorted_names form a) in let rest = few_names form a in omega (arith, few, rest)
 
-module _ (headers : List (Option Header)) where
-  pub good_behind : (a b : List (List ℕ)) → AreGoodSlots headers (a ++ b) → AreGoodSlots headers b
+module _ (form : ℕ) (headers : List (Option Header)) where
+  pub good_behind : (a b : List (List ℕ)) → AreGoodSlots form headers (a ++ b) → AreGoodSlots form headers b
   good_behind [] b good = good
   good_behind (x ∷ a) b good = good_behind a b record {
     each = good.each.1;
     apart =
-        let few = few_with (slot_in 0 x) (map_of 0 (a ++ b)) (sorted_names (a ++ b)) in
-        let rest = few_names (a ++ b) in
+        let few = few_with (slot_in form x) (map_of form (a ++ b)) (sorted_names form (a ++ b)) in
+        let rest = few_names form (a ++ b) in
         let all = good.apart in
         omega (arith, few, rest, all);
   }
 
-  pub good_none : AreGoodSlots headers []
+  pub good_none : AreGoodSlots form headers []
   good_none = record { each = tt; apart = refl }
 
 -- ---- one slot more
-module _ (headers : List (Option Header)) (d : ℕ) (slot : List ℕ) where
-  module _ (s : SlotValue) (is : slot_in 0 slot ≡ Some s) where
-    map_more : (behind : List (List ℕ)) → map_of 0 (slot ∷ behind) ≡ put byte_cmp s.name s.number (map_of 0 behind)
-    map_more behind = ap (λ (o : Option SlotValue). with_slot o (map_of 0 behind)) is
+module _ (form : ℕ) (headers : List (Option Header)) (d : ℕ) (slot : List ℕ) where
+  module _ (s : SlotValue) (is : slot_in form slot ≡ Some s) where
+    map_more : (behind : List (List ℕ)) → map_of form (slot ∷ behind) ≡ put byte_cmp s.name s.number (map_of form behind)
+    map_more behind = ap (λ (o : Option SlotValue). with_slot o (map_of form behind)) is
 
-    long_more : (behind : List (List ℕ)) → length (map_of 0 (slot ∷ behind)) ≡ cond (is_some (find byte_cmp s.name (map_of 0 behind))) (length (map_of 0 behind)) (length (map_of 0 behind) + 1)
-    long_more behind = ap length (map_more behind) ∙ length-put byte_cmp nat_list_cmp_total s.name s.number (map_of 0 behind) (sorted_names behind)
+    long_more : (behind : List (List ℕ)) → length (map_of form (slot ∷ behind)) ≡ cond (is_some (find byte_cmp s.name (map_of form behind))) (length (map_of form behind)) (length (map_of form behind) + 1)
+    long_more behind = ap length (map_more behind) ∙ length-put byte_cmp nat_list_cmp_total s.name s.number (map_of form behind) (sorted_names form behind)
 
-    pub slot_twice : (behind : List (List ℕ)) → AreGoodSlots headers behind → (find byte_cmp s.name (map_of 0 behind) ≡ None → ⊥) → AreGoodSlots headers (slot ∷ behind) → ⊥
+    pub slot_twice : (behind : List (List ℕ)) → AreGoodSlots form headers behind → (find byte_cmp s.name (map_of form behind) ≡ None → ⊥) → AreGoodSlots form headers (slot ∷ behind) → ⊥
     slot_twice behind rest found good =
-        elim (find byte_cmp s.name (map_of 0 behind)) as (λ o. find byte_cmp s.name (map_of 0 behind) ≡ o → length (map_of 0 (slot ∷ behind)) ≡ cond (is_some o) (length (map_of 0 behind)) (length (map_of 0 behind) + 1) → ⊥) [
+        elim (find byte_cmp s.name (map_of form behind)) as (λ o. find byte_cmp s.name (map_of form behind) ≡ o → length (map_of form (slot ∷ behind)) ≡ cond (is_some o) (length (map_of form behind)) (length (map_of form behind) + 1) → ⊥) [
           | None ↦ λ e long. found e
           | Some n ↦ λ e long. let all = good.apart in let some = rest.apart in omega (arith, long, all, some)
         ] refl (long_more behind)
 
     pub slot_taken : (set set' : BTreeSet (Vec ℕ Global)) (t t' : NamesValue) (base : Base) (behind : List (List ℕ)) → d < 4096 → s.number < 4096 → (get_or headers s.number None ≡ None → ⊥) → AreTables t
-        → IsTaken headers d base behind set t → find byte_cmp s.name (map_of 0 behind) ≡ None
-        → HasNames set' (put byte_cmp s.name s.number (map_of 0 behind)) → Notes t t' d s.number (leads headers s.number) → IsTaken headers d base (slot ∷ behind) set' t'
+        → IsTaken form headers d base behind set t → find byte_cmp s.name (map_of form behind) ≡ None
+        → HasNames set' (put byte_cmp s.name s.number (map_of form behind)) → Notes t t' d s.number (leads headers s.number) → IsTaken form headers d base (slot ∷ behind) set' t'
     slot_taken set set' t t' base behind low inside there sizes was new names notes = record {
       good = record {
         each = (record { value = s; spelt = is; there = there }, was.good.each);
         apart =
-            let long = long_more behind ∙ ap (λ (o : Option ℕ). cond (is_some o) (length (map_of 0 behind)) (length (map_of 0 behind) + 1)) new in
+            let long = long_more behind ∙ ap (λ (o : Option ℕ). cond (is_some o) (length (map_of form behind)) (length (map_of form behind) + 1)) new in
             let rest = was.good.apart in
             omega (arith, long, rest);
       };
       names = subst (HasNames set') (sym (map_more behind)) names;
-      noted = subst (λ (m : Names). IsNoted headers d base m t') (sym (map_more behind)) (noted_more headers d base (map_of 0 behind) t t' s.number s.name low inside sizes (sorted_names behind) new was.noted notes);
+      noted = subst (λ (m : Names). IsNoted headers d base m t') (sym (map_more behind)) (noted_more headers d base (map_of form behind) t t' s.number s.name low inside sizes (sorted_names form behind) new was.noted notes);
     }
 
 -- ---- the slots of a block, from its last on
-module _ (headers : List (Option Header)) (d : ℕ) (block : List ℕ) (count : ℕ) (set : BTreeSet (Vec ℕ Global)) (t : NamesValue) where
-  pub slots_begin : TakesSlots headers d (slots_in block count (count - count)) set set t t true
-  slots_begin base behind was = subst (λ (a : List (List ℕ)). IsTaken headers d base (a ++ behind) set t) (sym (no_slots block count count (omega arith))) was
+module _ (form : ℕ) (headers : List (Option Header)) (d : ℕ) (block : List ℕ) (count : ℕ) (set : BTreeSet (Vec ℕ Global)) (t : NamesValue) where
+  pub slots_begin : TakesSlots form headers d (slots_in form block count (count - count)) set set t t true
+  slots_begin base behind was = subst (λ (a : List (List ℕ)). IsTaken form headers d base (a ++ behind) set t) (sym (no_slots form block count count (omega arith))) was
 
-  module _ (place next : ℕ) (some : 0 < place) (le : place ≤ count) (before : next ≡ place - 1) (slot : List ℕ) (own : slot ≡ part (64 * next) 64 block) where
-    split : slots_in block next (count - next) ≡ slot ∷ slots_in block place (count - place)
+  module _ (place next : ℕ) (some : 0 < place) (le : place ≤ count) (before : next ≡ place - 1) (slot : List ℕ) (own : slot ≡ part (slot_len form * next) (slot_len form) block) where
+    split : slots_in form block next (count - next) ≡ slot ∷ slots_in form block place (count - place)
     split =
         let here : next + 1 ≡ place = omega (arith, some, before) in
-        next_slot block next count (omega (arith, le, some, before))
-        ∙ ap (λ (k : ℕ). part (64 * next) 64 block ∷ slots_in block k (count - k)) here
-        ∙ ap (λ (s : List ℕ). s ∷ slots_in block place (count - place)) (sym own)
+        next_slot form block next count (omega (arith, le, some, before))
+        ∙ ap (λ (k : ℕ). part (slot_len form * next) (slot_len form) block ∷ slots_in form block k (count - k)) here
+        ∙ ap (λ (s : List ℕ). s ∷ slots_in form block place (count - place)) (sym own)
 
-    pub slots_go_on : (set1 set2 : BTreeSet (Vec ℕ Global)) (t1 t2 : NamesValue) → TakesSlots headers d (slots_in block place (count - place)) set set1 t t1 true
-        → TakesSlots headers d (slot ∷ []) set1 set2 t1 t2 true → TakesSlots headers d (slots_in block next (count - next)) set set2 t t2 true
+    pub slots_go_on : (set1 set2 : BTreeSet (Vec ℕ Global)) (t1 t2 : NamesValue) → TakesSlots form headers d (slots_in form block place (count - place)) set set1 t t1 true
+        → TakesSlots form headers d (slot ∷ []) set1 set2 t1 t2 true → TakesSlots form headers d (slots_in form block next (count - next)) set set2 t t2 true
     slots_go_on set1 set2 t1 t2 was one base behind taken =
-        subst (λ (a : List (List ℕ)). IsTaken headers d base (a ++ behind) set2 t2) (sym split) (one base (slots_in block place (count - place) ++ behind) (was base behind taken))
+        subst (λ (a : List (List ℕ)). IsTaken form headers d base (a ++ behind) set2 t2) (sym split) (one base (slots_in form block place (count - place) ++ behind) (was base behind taken))
 
-    dropped : drop next (first_slots block count) ≡ slots_in block next (count - next)
+    dropped : drop next (first_slots form block count) ≡ slots_in form block next (count - next)
     dropped =
-        let many = block_slots_many block 0 count in
-        let left = length-drop next (first_slots block count) in
-        let rest = block_slots_many block next (count - next) in
-        let long : length (drop next (first_slots block count)) ≡ length (slots_in block next (count - next)) = omega (arith, many, left, rest) in
-        ext_get_or [] (drop next (first_slots block count)) (slots_in block next (count - next)) long
+        let many = block_slots_many form block 0 count in
+        let left = length-drop next (first_slots form block count) in
+        let rest = block_slots_many form block next (count - next) in
+        let long : length (drop next (first_slots form block count)) ≡ length (slots_in form block next (count - next)) = omega (arith, many, left, rest) in
+        ext_get_or [] (drop next (first_slots form block count)) (slots_in form block next (count - next)) long
         (λ k low.
         let inside : k < count - next = omega (arith, low, many, left) in
-        get_or-drop next (first_slots block count) k []
-        ∙ block_slot block 0 count (next + k) (omega (arith, inside))
-        ∙ ap (λ (j : ℕ). part (64 * j) 64 block) (omega arith)
-        ∙ sym (block_slot block next (count - next) k inside))
+        get_or-drop next (first_slots form block count) k []
+        ∙ block_slot form block 0 count (next + k) (omega (arith, inside))
+        ∙ ap (λ (j : ℕ). part (slot_len form * j) (slot_len form) block) (omega arith)
+        ∙ sym (block_slot form block next (count - next) k inside))
 
-    pub slots_fail : (set1 set2 : BTreeSet (Vec ℕ Global)) (t1 t2 : NamesValue) → TakesSlots headers d (slots_in block place (count - place)) set set1 t t1 true
-        → TakesSlots headers d (slot ∷ []) set1 set2 t1 t2 false → TakesSlots headers d (first_slots block count) set set2 t t2 false
+    pub slots_fail : (set1 set2 : BTreeSet (Vec ℕ Global)) (t1 t2 : NamesValue) → TakesSlots form headers d (slots_in form block place (count - place)) set set1 t t1 true
+        → TakesSlots form headers d (slot ∷ []) set1 set2 t1 t2 false → TakesSlots form headers d (first_slots form block count) set set2 t t2 false
     slots_fail set1 set2 t1 t2 was one base behind taken good =
-        one base (slots_in block place (count - place) ++ behind) (was base behind taken)
-        (subst (λ (a : List (List ℕ)). AreGoodSlots headers (a ++ behind)) (dropped ∙ split)
-        (good_behind headers (take next (first_slots block count)) (drop next (first_slots block count) ++ behind)
-        (subst (AreGoodSlots headers) (ap (λ (a : List (List ℕ)). a ++ behind) (sym (take-append-drop next (first_slots block count))) ∙ append_assoc (take next (first_slots block count)) (drop next (first_slots block count)) behind) good)))
+        one base (slots_in form block place (count - place) ++ behind) (was base behind taken)
+        (subst (λ (a : List (List ℕ)). AreGoodSlots form headers (a ++ behind)) (dropped ∙ split)
+        (good_behind form headers (take next (first_slots form block count)) (drop next (first_slots form block count) ++ behind)
+        (subst (AreGoodSlots form headers) (ap (λ (a : List (List ℕ)). a ++ behind) (sym (take-append-drop next (first_slots form block count))) ∙ append_assoc (take next (first_slots form block count)) (drop next (first_slots form block count)) behind) good)))

@@ -71,9 +71,6 @@ module _ (m : LogMap) (are : AreHeaders m) where
   pub names_in_is : (d : ℕ) → names_in (tree_in m) d ≡ names_at m d
   names_in_is d = ap (λ (o : Option Node). names_of (unwrap_or o (File []))) (node_at d)
 
-  pub form_is : (n : ℕ) (h : entry.Header) → m.header n ≡ Some h → h.form ≡ 0
-  form_is n h at = (are n h at).form
-
   node_header : (n : ℕ) → node (tree_in m) n ≢ None → m.header n ≢ None
   node_header n there none = there (node_at n ∙ ap (node_of m n) none)
 
@@ -101,12 +98,6 @@ module _ (m : LogMap) (are : AreHeaders m) where
   pub names_directory : (n : ℕ) (h : entry.Header) → m.header n ≡ Some h → h.kind ≡ kind.Directory → names_at m n ≡ map_of h.form (slots m n h)
   names_directory n h at dir = names_of_header n h at ∙ ap (λ (k : Kind). names_of (node_by m k n h)) dir
 
-  map_form : (n : ℕ) (h : entry.Header) → m.header n ≡ Some h → map_of h.form (slots m n h) ≡ map_of 0 (slots m n h)
-  map_form n h at = ap (λ (f : ℕ). map_of f (slots m n h)) (form_is n h at)
-
-  pub names_slots : (n : ℕ) (h : entry.Header) → m.header n ≡ Some h → h.kind ≡ kind.Directory → names_at m n ≡ map_of 0 (slots m n h)
-  names_slots n h at dir = names_directory n h at dir ∙ map_form n h at
-
   -- ---- the stage, and each object by itself
   module _ (headers : List (Option Header)) (told : TellsHeaders m headers 4096) where
     there_told : (n : ℕ) → n < 4096 → m.header n ≢ None → get_or headers n None ≢ None
@@ -118,21 +109,21 @@ module _ (m : LogMap) (are : AreHeaders m) where
       | Some h ↦ λ e. let both : Some (as_header h) ≡ None = sym (told n low ∙ ap (option_map as_header) e) ∙ none in absurd (cc)
     ] refl
 
-    slot_good : AreSlots m → (n : ℕ) (h : entry.Header) → m.header n ≡ Some h → h.kind ≡ kind.Directory → length (map_of 0 (slots m n h)) ≡ length (slots m n h)
-        → (j : ℕ) → j < length (slots m n h) → (o : Option SlotValue) → slot_in 0 (get_or (slots m n h) j []) ≡ o → o ≢ None → IsGoodSlot headers (get_or (slots m n h) j [])
+    slot_good : AreSlots m → (n : ℕ) (h : entry.Header) → m.header n ≡ Some h → h.kind ≡ kind.Directory → length (map_of h.form (slots m n h)) ≡ length (slots m n h)
+        → (j : ℕ) → j < length (slots m n h) → (o : Option SlotValue) → slot_in h.form (get_or (slots m n h) j []) ≡ o → o ≢ None → IsGoodSlot h.form headers (get_or (slots m n h) j [])
     slot_good is n h at dir distinct j low None own some = absurd (some refl)
     slot_good is n h at dir distinct j low (Some s) own some =
-        let found = (slot_gives (slots m n h) s.name s.number).1 distinct j record { inside = low; slot = own } in
-        let range = (slot_found 0 (get_or (slots m n h) j []) s own).0.number in
+        let found = (slot_gives h.form (slots m n h) s.name s.number).1 distinct j record { inside = low; slot = own } in
+        let range = (slot_found h.form (get_or (slots m n h) j []) s own).0.number in
         let high = range.1 in
-        let given : entry_in (tree_in m) n s.name ≡ Some s.number = ap (find byte_cmp s.name) (names_in_is n ∙ names_slots n h at dir) ∙ found in
+        let given : entry_in (tree_in m) n s.name ≡ Some s.number = ap (find byte_cmp s.name) (names_in_is n ∙ names_directory n h at dir) ∙ found in
         record { value = s; spelt = own; there = there_told s.number (omega (arith, high)) (node_header s.number (is.there n s.name s.number given)) }
 
     pub good_if_stage : AreSlots m → (n : ℕ) → IsGoodObject m headers n
     good_if_stage is n h at dir =
-        let formed = subst (λ (f : ℕ). AllByRecursion (λ b. slot_in f b ≢ None) (slots m n h) × (length (map_of f (slots m n h)) ≡ length (slots m n h))) (form_is n h at) (is.formed n h at dir) in
+        let formed = is.formed n h at dir in
         record {
-          each = all_from (IsGoodSlot headers) (slots m n h) [] (λ j low. slot_good is n h at dir formed.1 j low (slot_in 0 (get_or (slots m n h) j [])) refl (all_at (λ b. slot_in 0 b ≢ None) (slots m n h) j [] formed.0 low));
+          each = all_from (IsGoodSlot h.form headers) (slots m n h) [] (λ j low. slot_good is n h at dir formed.1 j low (slot_in h.form (get_or (slots m n h) j [])) refl (all_at (λ b. slot_in h.form b ≢ None) (slots m n h) j [] formed.0 low));
           apart = formed.1;
         }
 
@@ -141,8 +132,7 @@ module _ (m : LogMap) (are : AreHeaders m) where
         let range = (are n h at).number in
         let high = range.1 in
         let own = good n (omega (arith, high)) h at dir in
-        subst (λ (f : ℕ). AllByRecursion (λ b. slot_in f b ≢ None) (slots m n h) × (length (map_of f (slots m n h)) ≡ length (slots m n h))) (sym (form_is n h at))
-        (all_map (IsGoodSlot headers) (λ b. slot_in 0 b ≢ None) (λ b g none. let both : Some g.value ≡ None = sym g.spelt ∙ none in absurd (cc)) (slots m n h) own.each, own.apart)
+        (all_map (IsGoodSlot h.form headers) (λ b. slot_in h.form b ≢ None) (λ b g none. let both : Some g.value ≡ None = sym g.spelt ∙ none in absurd (cc)) (slots m n h) own.each, own.apart)
 
     found_there : ((n : ℕ) → n < 4096 → IsGoodObject m headers n) → (d : ℕ) (name : List ℕ) (n : ℕ) (o : Option entry.Header) → m.header d ≡ o → find byte_cmp name (names_at m d) ≡ Some n → m.header n ≢ None
     found_there good d name n None is found = absurd (let none : None ≡ Some n = sym (ap (find byte_cmp name) (no_names d is)) ∙ found in cc)
@@ -158,11 +148,11 @@ module _ (m : LogMap) (are : AreHeaders m) where
             let range = (are d h is).number in
             let high = range.1 in
             let own = good d (omega (arith, high)) h is dir in
-            let at = (slot_gives (slots m d h) name n).0 (sym (ap (find byte_cmp name) (names_slots d h is dir)) ∙ found) in
-            let slot = all_at (IsGoodSlot headers) (slots m d h) at.0 [] own.each at.1.inside in
+            let at = (slot_gives h.form (slots m d h) name n).0 (sym (ap (find byte_cmp name) (names_directory d h is dir)) ∙ found) in
+            let slot = all_at (IsGoodSlot h.form headers) (slots m d h) at.0 [] own.each at.1.inside in
             let both : Some slot.value ≡ Some record { number = n; name = name } = sym slot.spelt ∙ at.1.slot in
             let same : slot.value.number ≡ n = cc in
-            let number = (slot_found 0 (get_or (slots m d h) at.0 []) slot.value slot.spelt).0.number in
+            let number = (slot_found h.form (get_or (slots m d h) at.0 []) slot.value slot.spelt).0.number in
             let most = number.1 in
             subst (λ (q : ℕ). m.header q ≢ None) same (told_there slot.value.number (omega (arith, most)) slot.there)
 
@@ -183,16 +173,16 @@ module _ (m : LogMap) (are : AreHeaders m) where
         kind_dir kind.Directory e = refl
         kind_dir kind.Link e = absurd (cc)
 
-        good_slots : AreGoodSlots headers (slots_at m n head) → IsGoodObject m headers n
+        good_slots : AreGoodSlots head.form headers (slots_at m n head) → IsGoodObject m headers n
         good_slots good h at dir =
             let both : Some (as_header head) ≡ Some h = sym at_head ∙ at in
             let same : as_header head ≡ h = cc in
-            subst (λ (x : entry.Header). AreGoodSlots headers (slots m n x)) same good
+            subst (λ (x : entry.Header). AreGoodSlots x.form headers (slots m n x)) same good
 
-        pub object_directory : (r : Bool) → is_directory_kind head.kind ≡ true → TakesNames headers n base (slots_at m n head) t r → TakesObject m headers n base t r
+        pub object_directory : (r : Bool) → is_directory_kind head.kind ≡ true → TakesNames head.form headers n base (slots_at m n head) t r → TakesObject m headers n base t r
         object_directory true dir taken = (
           good_slots taken.0,
-          subst (λ (ms : Names). IsNoted headers n base ms t) (sym (names_slots n (as_header head) at_head (kind_dir head.kind dir))) taken.1,
+          subst (λ (ms : Names). IsNoted headers n base ms t) (sym (names_directory n (as_header head) at_head (kind_dir head.kind dir))) taken.1,
         )
         object_directory false dir taken = λ good. taken (good (as_header head) at_head (kind_dir head.kind dir))
 

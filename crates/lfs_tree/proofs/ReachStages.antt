@@ -22,7 +22,7 @@ use Rattle.lfs_tree.specs.Objects.{AreNamed, names_at}
 use Rattle.lfs_tree.specs.Reaching.{AllClimb, AreNamesFit, Climbs, FitsNames}
 use Rattle.lfs_tree.specs.Reaching as way
 use Rattle.lfs_tree.specs.Reading.{TellsHeaders}
-use Rattle.lfs_tree.proofs.ObjectNames.{AreHeaders, head_told, names_directory, names_in_is, names_other, names_slots, no_names, node_at}
+use Rattle.lfs_tree.proofs.ObjectNames.{AreHeaders, head_told, names_directory, names_in_is, names_other, no_names, node_at}
 use Rattle.lfs_tree.proofs.TreeNames.{found_given, given_found, names_given, sum_both}
 
 -- ---- tests that agree on the numbers that names give
@@ -95,7 +95,7 @@ module _ (m : LogMap) (are : AreHeaders m) (headers : List (Option Header)) (tol
       sorted_by : (h : entry.Header) → m.header d ≡ Some h → (k : Kind) → h.kind ≡ k → T (is_sorted byte_cmp (names_at m d))
       sorted_by h is kind.File e = subst (λ (ms : Names). T (is_sorted byte_cmp ms)) (sym (names_other m are d h is (λ dir. let both = sym e ∙ dir in absurd (cc)))) tt
       sorted_by h is kind.Link e = subst (λ (ms : Names). T (is_sorted byte_cmp ms)) (sym (names_other m are d h is (λ dir. let both = sym e ∙ dir in absurd (cc)))) tt
-      sorted_by h is kind.Directory e = subst (λ (ms : Names). T (is_sorted byte_cmp ms)) (sym (names_slots m are d h is e)) (sorted_names (slots m d h))
+      sorted_by h is kind.Directory e = subst (λ (ms : Names). T (is_sorted byte_cmp ms)) (sym (names_directory m are d h is e)) (sorted_names h.form (slots m d h))
 
       by : (o : Option entry.Header) → m.header d ≡ o → T (is_sorted byte_cmp (names_at m d))
       by None is = subst (λ (ms : Names). T (is_sorted byte_cmp ms)) (sym (no_names m are d is)) tt

@@ -87,28 +87,28 @@ pub record IsNoted (headers : List (Option Header)) (d : ℕ) (base : Base) (nam
 
 -- ---- slots
 
--- it is well-formed, and its number is there
-pub record IsGoodSlot (headers : List (Option Header)) (slot : List ℕ) : Type 0 where
+-- it is well-formed in a directory of this form, and its number is there
+pub record IsGoodSlot (form : ℕ) (headers : List (Option Header)) (slot : List ℕ) : Type 0 where
   pub value : SlotValue
-  pub spelt : slot_in 0 slot ≡ Some value
+  pub spelt : slot_in form slot ≡ Some value
   pub there : get_or headers value.number None ≢ None
 
 -- each is so, and no two have one name
-pub record AreGoodSlots (headers : List (Option Header)) (slots : List (List ℕ)) : Type 0 where
-  pub each : AllByRecursion (IsGoodSlot headers) slots
-  pub apart : length (map_of 0 slots) ≡ length slots
+pub record AreGoodSlots (form : ℕ) (headers : List (Option Header)) (slots : List (List ℕ)) : Type 0 where
+  pub each : AllByRecursion (IsGoodSlot form headers) slots
+  pub apart : length (map_of form slots) ≡ length slots
 
 -- slots of directory d were gone through
-pub record IsTaken (headers : List (Option Header)) (d : ℕ) (base : Base) (slots : List (List ℕ)) (set : BTreeSet (Vec ℕ Global)) (t : NamesValue) : Type 0 where
-  pub good : AreGoodSlots headers slots
-  pub names : HasNames set (map_of 0 slots)
-  pub noted : IsNoted headers d base (map_of 0 slots) t
+pub record IsTaken (form : ℕ) (headers : List (Option Header)) (d : ℕ) (base : Base) (slots : List (List ℕ)) (set : BTreeSet (Vec ℕ Global)) (t : NamesValue) : Type 0 where
+  pub good : AreGoodSlots form headers slots
+  pub names : HasNames set (map_of form slots)
+  pub noted : IsNoted headers d base (map_of form slots) t
 
 -- More slots are gone through, which stand before those; or they aren't good.
-abbrev pub TakesSlots : List (Option Header) → ℕ → List (List ℕ) → BTreeSet (Vec ℕ Global) → BTreeSet (Vec ℕ Global) → NamesValue → NamesValue → Bool → Type 0
-TakesSlots headers d more set set' t t' taken = (base : Base) (behind : List (List ℕ)) → IsTaken headers d base behind set t
-    → MatchBool taken (IsTaken headers d base (more ++ behind) set' t') (AreGoodSlots headers (more ++ behind) → ⊥)
+abbrev pub TakesSlots : ℕ → List (Option Header) → ℕ → List (List ℕ) → BTreeSet (Vec ℕ Global) → BTreeSet (Vec ℕ Global) → NamesValue → NamesValue → Bool → Type 0
+TakesSlots form headers d more set set' t t' taken = (base : Base) (behind : List (List ℕ)) → IsTaken form headers d base behind set t
+    → MatchBool taken (IsTaken form headers d base (more ++ behind) set' t') (AreGoodSlots form headers (more ++ behind) → ⊥)
 
 -- Whether slots are good and the tables tell their names too, or they aren't good.
-abbrev pub TakesNames : List (Option Header) → ℕ → Base → List (List ℕ) → NamesValue → Bool → Type 0
-TakesNames headers d base slots t taken = MatchBool taken (AreGoodSlots headers slots × IsNoted headers d base (map_of 0 slots) t) (AreGoodSlots headers slots → ⊥)
+abbrev pub TakesNames : ℕ → List (Option Header) → ℕ → Base → List (List ℕ) → NamesValue → Bool → Type 0
+TakesNames form headers d base slots t taken = MatchBool taken (AreGoodSlots form headers slots × IsNoted headers d base (map_of form slots) t) (AreGoodSlots form headers slots → ⊥)

@@ -15,7 +15,7 @@ names_at m n = names_of (unwrap_or (node_of m n (m.header n)) (File []))
 
 -- where it is a directory, its slots are good
 abbrev pub IsGoodObject : LogMap → List (Option Header) → ℕ → Type 0
-IsGoodObject m headers n = (h : entry.Header) → m.header n ≡ Some h → h.kind ≡ kind.Directory → AreGoodSlots headers (slots m n h)
+IsGoodObject m headers n = (h : entry.Header) → m.header n ≡ Some h → h.kind ≡ kind.Directory → AreGoodSlots h.form headers (slots m n h)
 
 -- what the numbers below one add up to
 unfoldable pub sum_below : (ℕ → ℕ) → ℕ → ℕ

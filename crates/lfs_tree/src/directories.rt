@@ -13,16 +13,12 @@ use crate::reading::{read_block, read_inode};
 use crate::slots::{is_directory, take_slots};
 use crate::tables::NameTables;
 use lfs_device::SectorDevice;
+use lfs_dirs::{slots_in_block, slots_of};
 use lfs_files::Header;
 use lfs_inodes::InodeMap;
 use lfs_model::FileNumber;
 use std::alloc::Global;
 use std::collections::BTreeSet;
-
-/// The bytes of a slot, and how many slots a block has.
-const SLOT: u32 = 64;
-
-const SLOTS_IN_BLOCK: u32 = 8;
 
 /// Goes through the blocks of a directory of this inode, from the last on.
 ///
@@ -41,8 +37,8 @@ fn take_blocks<D: SectorDevice>(
 ) -> Result<bool, CheckFault>
     ensures takes { IfOk result (λ taken. OfInodeAt (D.state device.old) (D.state device.new)
         inode.now directory.value
-        (λ m. (base : Base) → IsTaken headers.now directory.value base [] names.old tables.old
-        → TakesNames headers.now directory.value base (slots_at m directory.value header)
+        (λ m. (base : Base) → IsTaken header.form headers.now directory.value base [] names.old tables.old
+        → TakesNames header.form headers.now directory.value base (slots_at m directory.value header)
         tables.new taken)) }
     ensures failed { IsErrOf result CheckFault.Device
         → OfInodeAt (D.state device.old) (D.state device.new) inode.now directory.value
@@ -51,17 +47,27 @@ fn take_blocks<D: SectorDevice>(
         ((D.state device.new).failures ≡ (D.state device.old).failures) }
     ensures looks { Looks (D.state device.old) (D.state device.new) }
 {
-    let slots = header.size / SLOT;
+    let slots = slots_of(header);
+    let whole = slots_in_block(header.form);
     let mut block = [0; 512];
-    let mut index = slots.div_ceil(SLOTS_IN_BLOCK);
+    let mut index = slots.div_ceil(whole);
     while index > 0 {
         index -= 1;
-        let count = (slots - SLOTS_IN_BLOCK * index).min(SLOTS_IN_BLOCK) as usize;
+        let count = (slots - whole * index).min(whole) as usize;
         match read_block(device, inode, index, &mut block) {
             Ok(()) => {}
             Err(_) => return Err(CheckFault::Device),
         }
-        match take_slots(alloc, &block, count, headers, directory, names, tables) {
+        match take_slots(
+            alloc,
+            &block,
+            header.form,
+            count,
+            headers,
+            directory,
+            names,
+            tables,
+        ) {
             Ok(true) => {}
             Ok(false) => return Ok(false),
             Err(_) => return Err(CheckFault::NoMemory),
@@ -87,7 +93,7 @@ pub(crate) fn take_directory<D: SectorDevice>(
 ) -> Result<bool, CheckFault>
     ensures takes { IfOk result (λ taken. OfLog (D.state device.old) (D.state device.new) map.now
         (λ k m. (base : Base) → IsNoted headers.now directory.value base [] tables.old
-        → TakesNames headers.now directory.value base (slots_at m directory.value header)
+        → TakesNames header.form headers.now directory.value base (slots_at m directory.value header)
         tables.new taken)) }
     ensures failed { IsErrOf result CheckFault.Device
         → OfLog (D.state device.old) (D.state device.new) map.now

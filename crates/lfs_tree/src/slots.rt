@@ -1,9 +1,9 @@
 //! The slots of directories, gone through one by one.
 ghost use Rattle.std.specs.Prelude.{ℕ};
-ghost use Rattle.std.specs.Prelude.{◌≡◌, ◌≤◌, ◌↔◌, [], ◌∷◌, IfOk, IsTrue, None};
+ghost use Rattle.std.specs.Prelude.{◌≡◌, ◌≤◌, ◌↔◌, [], ◌∷◌, length, IfOk, IsTrue, None};
 ghost use Rattle.std.specs.FinMap.{find, put};
-ghost use Rattle.lfs_model.specs.Tree.{Names, byte_cmp};
-ghost use Rattle.lfs_dirs.specs.Directory.{first_slots};
+ghost use Rattle.lfs_model.specs.Tree.{Names, byte_cmp, slot_len};
+ghost use Rattle.lfs_dirs.specs.Directory.{first_slots, per_block};
 ghost use Rattle.lfs_tree.specs.Naming.{HasNames, TakesSlots, is_directory_kind};
 
 use crate::headers::Headers;
@@ -47,7 +47,7 @@ fn insert_name(
     Ok(new)
 }
 
-/// Goes through a slot of a directory: false where it is malformed, its number isn't there, or the
+/// Goes through a slot of a directory of this form: false where it is malformed, its number isn't there, or the
 /// directory had its name.
 ///
 /// # Errors
@@ -55,16 +55,18 @@ fn insert_name(
 /// Where memory runs out.
 fn take_slot(
     alloc: Global,
-    slot: &[u8; 64],
+    form: u8,
+    slot: &[u8],
     headers: &Headers,
     directory: FileNumber,
     names: &mut BTreeSet<Vec<u8>>,
     tables: &mut NameTables,
 ) -> Result<bool, AllocError>
-    ensures { IfOk result (λ taken. TakesSlots headers.now directory.value (slot.now ∷ [])
+    requires { length slot.now ≡ slot_len form }
+    ensures { IfOk result (λ taken. TakesSlots form headers.now directory.value (slot.now ∷ [])
         names.old names.new tables.old tables.new taken) }
 {
-    let Some(view) = SlotView::decode(slot) else {
+    let Some(view) = SlotView::decode(form, slot) else {
         return Ok(false);
     };
     let number = FileNumber {
@@ -80,7 +82,7 @@ fn take_slot(
     Ok(true)
 }
 
-/// Goes through the first slots of a block of a directory, from the last on.
+/// Goes through the first slots of a block of a directory of this form, from the last on.
 ///
 /// # Errors
 ///
@@ -88,22 +90,24 @@ fn take_slot(
 pub(crate) fn take_slots(
     alloc: Global,
     block: &[u8; 512],
+    form: u8,
     count: usize,
     headers: &Headers,
     directory: FileNumber,
     names: &mut BTreeSet<Vec<u8>>,
     tables: &mut NameTables,
 ) -> Result<bool, AllocError>
-    requires { count ≤ 8 }
-    ensures { IfOk result (λ taken. TakesSlots headers.now directory.value
-        (first_slots block.now count) names.old names.new tables.old tables.new taken) }
+    requires { count ≤ per_block form }
+    ensures { IfOk result (λ taken. TakesSlots form headers.now directory.value
+        (first_slots form block.now count) names.old names.new tables.old tables.new taken) }
 {
     let mut place = count;
     while place > 0 {
         place -= 1;
         if !take_slot(
             alloc,
-            nth_slot(block, place),
+            form,
+            nth_slot(block, form, place),
             headers,
             directory,
             names,

@@ -1,16 +1,22 @@
-use Rattle.std.proofs.Common.{◌≡◌, ◌<◌, ◌*◌, ◌-◌, ◌/◌, refl, arith}
+use Rattle.std.proofs.Common.{◌≡◌, ◌<◌, ◌*◌, ◌-◌, ◌/◌, refl, arith, ap, ℕ}
 use Rattle.std.specs.Prelude.{min}
+use Rattle.lfs_dirs.specs.Directory.{per_block, slot_count}
 use Rattle.lfs_files.specs.declared.fault.LogFault.TheVariants as LogFault
 use Rattle.lfs_files.proofs.FilesCompose.{fault_more}
 use Rattle.lfs_dirs.specs.declared.listing.ListFault.TheVariants as ListFault
 use Rattle.lfs_dirs.proofs.Lists.{list_begins, list_goes_on, list_ends, list_fails, other_result, slot_lacks}
+use Rattle.lfs_dirs.proofs.Widths.{block_before, blocks_past, blocks_up}
 use Rattle.lfs_dirs.proofs.listing.inspect.Goals as goal
 
 pub loop-index-init : goal.loop-index-init
 loop-index-init g c =
-    let e = c.div_ceil-index.ensures in (
-      omega (arith, e),
-      list_begins c.args.directory.value c.args.header (g.F.Files.state c.args.files.now) c.div_ceil-index.result c.new-entries.result.items c.new-entries.ensures.items (omega (arith, e)),
+    let e = c.div_ceil-index.ensures in
+    let slots = c.slots_of-slots.ensures in
+    let whole = c.slots_in_block-whole.ensures.value in
+    let up = blocks_up c.args.header.form c.slots_of-slots.result c.slots_in_block-whole.result whole in
+    let times = ap (λ (i : ℕ). per_block c.args.header.form * i) e in (
+      omega (arith, times, up, slots),
+      list_begins c.args.directory.value c.args.header (g.F.Files.state c.args.files.now) c.div_ceil-index.result c.new-entries.result.items c.new-entries.ensures.items (let past = blocks_past c.args.header.form c.div_ceil-index.result c.slots_of-slots.result c.slots_in_block-whole.result whole (omega (arith, e)) in omega (arith, past, slots)),
     )
 
 pub loop-index-preserved : goal.loop-index-preserved
@@ -18,8 +24,11 @@ loop-index-preserved g c =
     let t = c.loop-index-test.true in
     let u = c.loop-index.invariant.0 in
     let m = c.min-count.ensures in
-    let low : 8 * (c.loop-index.index - 1) < c.args.header.size / 64 = omega (arith, t, u) in
-    let is : c.min-count.result ≡ min (c.args.header.size / 64 - 8 * (c.loop-index.index - 1)) 8 = omega (arith, m) in (
+    let slots = c.slots_of-slots.ensures in
+    let whole = c.slots_in_block-whole.ensures.value in
+    let first = ap (λ (w : ℕ). w * (c.loop-index.index - 1)) whole in
+    let low : per_block c.args.header.form * (c.loop-index.index - 1) < slot_count c.args.header = let one = block_before c.args.header.form c.loop-index.index t in omega (arith, u, one) in
+    let is : c.min-count.result ≡ min (slot_count c.args.header - per_block c.args.header.form * (c.loop-index.index - 1)) (per_block c.args.header.form) = omega (arith, m, first, whole, slots) in (
       omega (arith, low),
       list_goes_on c.args.directory.value c.args.header (g.F.Files.state c.args.files.now) (g.F.Files.state c.loop-index.files) (g.F.Files.state c.list_block.new.files)
           c.loop-index.index (c.loop-index.index - 1) c.min-count.result c.loop-index.entries.items is low c.loop-index.invariant.1
@@ -31,8 +40,11 @@ returns-in-Err-clause-failed g c other =
     let t = c.loop-index-test.true in
     let u = c.loop-index.invariant.0 in
     let m = c.min-count.ensures in
-    let low : 8 * (c.loop-index.index - 1) < c.args.header.size / 64 = omega (arith, t, u) in
-    let is : c.min-count.result ≡ min (c.args.header.size / 64 - 8 * (c.loop-index.index - 1)) 8 = omega (arith, m) in
+    let slots = c.slots_of-slots.ensures in
+    let whole = c.slots_in_block-whole.ensures.value in
+    let first = ap (λ (w : ℕ). w * (c.loop-index.index - 1)) whole in
+    let low : per_block c.args.header.form * (c.loop-index.index - 1) < slot_count c.args.header = let one = block_before c.args.header.form c.loop-index.index t in omega (arith, u, one) in
+    let is : c.min-count.result ≡ min (slot_count c.args.header - per_block c.args.header.form * (c.loop-index.index - 1)) (per_block c.args.header.form) = omega (arith, m, first, whole, slots) in
     list_fails c.args.directory.value c.args.header (g.F.Files.state c.args.files.now) (g.F.Files.state c.loop-index.files) (g.F.Files.state c.list_block.new.files)
     c.loop-index.index (c.loop-index.index - 1) c.min-count.result c.loop-index.entries.items is low c.loop-index.invariant.1 (c.in-Err.ensures.failed other)
 
@@ -41,8 +53,11 @@ returns-in-Err-clause-malformed g c same =
     let t = c.loop-index-test.true in
     let u = c.loop-index.invariant.0 in
     let m = c.min-count.ensures in
-    let low : 8 * (c.loop-index.index - 1) < c.args.header.size / 64 = omega (arith, t, u) in
-    let is : c.min-count.result ≡ min (c.args.header.size / 64 - 8 * (c.loop-index.index - 1)) 8 = omega (arith, m) in
+    let slots = c.slots_of-slots.ensures in
+    let whole = c.slots_in_block-whole.ensures.value in
+    let first = ap (λ (w : ℕ). w * (c.loop-index.index - 1)) whole in
+    let low : per_block c.args.header.form * (c.loop-index.index - 1) < slot_count c.args.header = let one = block_before c.args.header.form c.loop-index.index t in omega (arith, u, one) in
+    let is : c.min-count.result ≡ min (slot_count c.args.header - per_block c.args.header.form * (c.loop-index.index - 1)) (per_block c.args.header.form) = omega (arith, m, first, whole, slots) in
     slot_lacks c.args.directory.value c.args.header (g.F.Files.state c.args.files.now) (g.F.Files.state c.loop-index.files) (g.F.Files.state c.list_block.new.files)
     c.loop-index.index (c.loop-index.index - 1) c.min-count.result c.loop-index.entries.items is low c.loop-index.invariant.1
     (c.in-Err.ensures.malformed (other_result c.in-Err.fault ListFault.NoSlot same))

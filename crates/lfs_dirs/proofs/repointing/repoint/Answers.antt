@@ -2,7 +2,9 @@ use Rattle.std.proofs.Common.{rules, ◌≡◌, ◌<◌, ◌*◌, ◌/◌, ℕ, 
 use Rattle.lfs_files.specs.Files.{Writes}
 use Rattle.lfs_files.proofs.FilesCompose.{redrafts_more, redrafts_read}
 use Rattle.lfs_dirs.specs.declared.searching.Found.{Found}
+use Rattle.lfs_model.specs.Tree.{slot_len}
 use Rattle.lfs_dirs.specs.Adding.{slot_for}
+use Rattle.lfs_dirs.specs.Directory.{slot_count}
 use Rattle.lfs_dirs.specs.Searching.{FindsSlot}
 use Rattle.lfs_dirs.proofs.Growths.{grows_behind, slot_grows}
 use Rattle.lfs_dirs.proofs.SlotsAdded.{fits_slot}
@@ -37,14 +39,14 @@ returns-in-Err-write_at-clause-failed g c other =
 
 pub returns-clause-done : goal.returns-clause-done
 returns-clause-done g c is =
-    let slot : c.encode_slot-slot.result ≡ slot_for c.args.number.value c.args.name.now = c.encode_slot-slot.ensures ∙ ap (λ (n : ℕ). slot_for n c.args.name.now) c.from.ensures in
-    let long : length c.encode_slot-slot.result ≡ 64 = search rules in
+    let slot : c.written.result.now ≡ slot_for c.args.header.form c.args.number.value c.args.name.now = c.written.ensures ∙ c.encode_slot-slot.ensures.bytes ∙ ap (λ (n : ℕ). slot_for c.args.header.form n c.args.name.now) c.from.ensures in
+    let long : length c.written.result.now ≡ slot_len c.args.header.form = ap (λ (w : List ℕ). length w) c.written.ensures ∙ c.encode_slot-slot.ensures.long in
     let found = subst (λ (o : Option Found). FindsSlot (g.F.Files.state c.args.files.now) (g.F.Files.state c.search.new.files) c.args.directory.value c.args.header c.args.name.now o)
     c.in-Ok-Some.field-0-is c.in-Ok-Some.ensures.answer in
-    let inside : c.in-Ok-Some.found.place < c.args.header.size / 64 = search rules in
+    let inside : c.in-Ok-Some.found.place < slot_count c.args.header = search rules in
     repoints (g.F.Files.state c.args.files.now) (g.F.Files.state c.search.new.files) (g.F.Files.state c.write_at.new.self) c.args.directory.value c.args.header c.args.number.value c.args.name.now c.in-Ok-Some.found
-    (fits_slot c.args.number.value c.args.name.now c.args.number.some c.args.number.few c.requires.name) (sym (ap length slot) ∙ long) inside c.search.ensures.reads c.write_at.ensures.redrafts found
-    (subst (λ (w : List ℕ). Writes (g.F.Files.state c.search.new.files) (g.F.Files.state c.write_at.new.self) c.args.directory.value c.args.header (64 * c.in-Ok-Some.found.place) w) slot c.in-Ok.ensures.done)
+    (fits_slot c.args.header.form c.args.number.value c.args.name.now c.args.number.some c.args.number.few c.requires.name) (sym (ap length slot) ∙ long) inside c.search.ensures.reads c.write_at.ensures.redrafts found
+    (subst (λ (w : List ℕ). Writes (g.F.Files.state c.search.new.files) (g.F.Files.state c.write_at.new.self) c.args.directory.value c.args.header (slot_len c.args.header.form * c.in-Ok-Some.found.place) w) slot (subst (λ (l : ℕ). Writes (g.F.Files.state c.search.new.files) (g.F.Files.state c.write_at.new.self) c.args.directory.value c.args.header (l * c.in-Ok-Some.found.place) c.written.result.now) c.slot_len.ensures.value c.in-Ok.ensures.done))
 
 pub returns-clause-counted : goal.returns-clause-counted
 returns-clause-counted g c is =
@@ -52,6 +54,6 @@ returns-clause-counted g c is =
 
 pub returns-clause-small : goal.returns-clause-small
 returns-clause-small g c is =
-    let long : length c.encode_slot-slot.result ≡ 64 = search rules in
+    let long : length c.written.result.now ≡ slot_len c.args.header.form = ap (λ (w : List ℕ). length w) c.written.ensures ∙ c.encode_slot-slot.ensures.long in
     grows_behind (g.F.Files.state c.args.files.now) (g.F.Files.state c.search.new.files) (g.F.Files.state c.write_at.new.self) 1 2 c.search.ensures.reads
-    (slot_grows (g.F.Files.state c.search.new.files) (g.F.Files.state c.write_at.new.self) c.args.directory.value c.args.header (64 * c.in-Ok-Some.found.place) c.encode_slot-slot.result long c.in-Ok.ensures.done)
+    (slot_grows (g.F.Files.state c.search.new.files) (g.F.Files.state c.write_at.new.self) c.args.directory.value c.args.header (c.slot_len.result * c.in-Ok-Some.found.place) c.written.result.now long c.in-Ok.ensures.done)

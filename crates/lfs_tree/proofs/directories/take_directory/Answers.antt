@@ -23,7 +23,7 @@ returns-in-Ok-clause-takes g c k m sees leads base was =
     let looks = c.read_inode.ensures.looks in
     let own = subst (λ (b : Bool). InodeAnswer old.content k m c.args.directory.value c.read_inode.new.out b) c.in-Ok-true.field-0-test (c.in-Ok-true.ensures.answer k m (sees_first old mid new k m sees c.take_blocks.ensures.looks) leads) in
     c.in-Ok.ensures.takes k m (sees_then old mid new k m sees looks) (inode_then old mid k c.args.directory.value c.read_inode.new.out own.block looks) base
-    (nothing_taken c.args.headers.now c.args.directory.value base c.new-names.result c.args.tables.now (names_none c.new-names.result c.new-names.ensures.empty) was)
+    (nothing_taken c.args.header.form c.args.headers.now c.args.directory.value base c.new-names.result c.args.tables.now (names_none c.new-names.result c.new-names.ensures.empty) was)
 
 pub returns-clause-failed : goal.returns-clause-failed
 returns-clause-failed g c same k m sees leads there =

@@ -1,4 +1,4 @@
-use Rattle.std.proofs.Common.{ap, ◌≤◌, length, sym, ◌∙◌, inl, inr, arith}
+use Rattle.std.proofs.Common.{ap, sym, ◌∙◌, inl, inr, arith}
 use Rattle.lfs_fs.proofs.RmdirLooks.{header_refuses, look_is, look_refuses, sees_entry}
 use Rattle.lfs_path.specs.dirs.Finding.{value_of}
 use Rattle.lfs_fs.proofs.fs.Fs.check_empty.Goals as goal
@@ -7,30 +7,29 @@ use Rattle.lfs_fs.proofs.fs.Fs.check_empty.Goals as goal
 pub returns-in-Err-clause-refused : goal.returns-in-Err-clause-refused
 returns-in-Err-clause-refused g c =
     look_refuses g.D.SectorDevice.state c.args.self.now c.look_in.new.self c.args.directory.value
-    c.args.name.now c.in-Err.fault c.in-Err.ensures.missing
+    c.args.name.now (sym c.is_dots.ensures ∙ c.if-is_dots.false) c.in-Err.fault c.in-Err.ensures.missing
 
 pub returns-in_default-clause-refused : goal.returns-in_default-clause-refused
-returns-in_default-clause-refused g c =
-    let short : length c.args.name.now ≤ 59 = search in (
-      sym c.is_dots.ensures ∙ c.if-is_dots.false,
-      short,
-      (
-        c.in-Ok.found.0,
-        look_is g.D.SectorDevice.state c.args.self.now c.look_in.new.self c.args.directory.value
-            c.args.name.now c.in-Ok.found.0 (value_of c.in-Ok.found.1) _ (ap value_of c.in_default.is)
-            c.in-Ok.ensures.answer,
-      ),
-    )
+returns-in_default-clause-refused g c = (
+  sym c.is_dots.ensures ∙ c.if-is_dots.false,
+  (
+    c.in-Ok.found.0,
+    c.in-Ok.ensures.short,
+    look_is g.D.SectorDevice.state c.args.self.now c.look_in.new.self c.args.directory.value
+        c.args.name.now c.in-Ok.found.0 (value_of c.in-Ok.found.1) _ (ap value_of c.in_default.is)
+        c.in-Ok.ensures.answer,
+  ),
+)
 
-pub returns-then-holder-gt-MOST_BYTES-clause-refused :
-    goal.returns-then-holder-gt-MOST_BYTES-clause-refused
-returns-then-holder-gt-MOST_BYTES-clause-refused g c =
+pub returns-then-is_too_large-clause-refused :
+    goal.returns-then-is_too_large-clause-refused
+returns-then-is_too_large-clause-refused g c =
     inl (inr (
       c.in-Ok.found.0,
       c.in-Some.number.value,
       look_is g.D.SectorDevice.state c.args.self.now c.look_in.new.self c.args.directory.value
           c.args.name.now c.in-Ok.found.0 (value_of c.in-Ok.found.1) _ (ap value_of c.in-Some.is) c.in-Ok.ensures.answer,
-      inl c.if-holder-gt-MOST_BYTES.true,
+      inl (c.is_too_large.ensures.large c.if-is_too_large.true),
     ))
 
 -- ---- what it gives is looked at
@@ -44,47 +43,48 @@ returns-in-Err-header-clause-refused g c =
     c.in-Err-header.fault c.in-Err-header.ensures.missing
 
 pub returns-then-not-is_directory-clause-refused : goal.returns-then-not-is_directory-clause-refused
-returns-then-not-is_directory-clause-refused g c =
-    let short : length c.args.name.now ≤ 59 = search in (
-      sym c.is_dots.ensures ∙ c.if-is_dots.false,
-      short,
-      (
-        c.in-Ok.found.0,
-        c.in-Some.number.value,
-        c.in-Ok-header.header,
-        sees_entry g.D.SectorDevice.state c.args.self.now c.look_in.new.self c.args.directory.value
-            c.args.name.now c.in-Ok.ensures.reads c.header.new.self c.in-Ok-header.ensures.reads
-            c.in-Ok.found.0 c.in-Some.number.value
-            (look_is g.D.SectorDevice.state c.args.self.now c.look_in.new.self c.args.directory.value
-            c.args.name.now c.in-Ok.found.0 (value_of c.in-Ok.found.1) _ (ap value_of c.in-Some.is) c.in-Ok.ensures.answer)
-            c.in-Ok-header.header c.in-Ok-header.ensures.answer,
-        c.is_directory.ensures.no c.if-not-is_directory.true,
-      ),
-    )
+returns-then-not-is_directory-clause-refused g c = (
+  sym c.is_dots.ensures ∙ c.if-is_dots.false,
+  (
+    c.in-Ok.found.0,
+    c.in-Ok.ensures.short,
+    (
+      c.in-Some.number.value,
+      c.in-Ok-header.header,
+      sees_entry g.D.SectorDevice.state c.args.self.now c.look_in.new.self c.args.directory.value
+          c.args.name.now c.in-Ok.ensures.reads c.header.new.self c.in-Ok-header.ensures.reads
+          c.in-Ok.found.0 c.in-Some.number.value
+          (look_is g.D.SectorDevice.state c.args.self.now c.look_in.new.self c.args.directory.value
+          c.args.name.now c.in-Ok.found.0 (value_of c.in-Ok.found.1) _ (ap value_of c.in-Some.is) c.in-Ok.ensures.answer)
+          c.in-Ok-header.header c.in-Ok-header.ensures.answer,
+      c.is_directory.ensures.no c.if-not-is_directory.true,
+    ),
+  ),
+)
 
 pub returns-then-header-gt0-clause-refused : goal.returns-then-header-gt0-clause-refused
-returns-then-header-gt0-clause-refused g c =
-    let short : length c.args.name.now ≤ 59 = search in (
-      sym c.is_dots.ensures ∙ c.if-is_dots.false,
-      short,
-      (
-        c.in-Ok.found.0,
-        c.in-Some.number.value,
-        c.in-Ok-header.header,
-        sees_entry g.D.SectorDevice.state c.args.self.now c.look_in.new.self c.args.directory.value
-            c.args.name.now c.in-Ok.ensures.reads c.header.new.self c.in-Ok-header.ensures.reads
-            c.in-Ok.found.0 c.in-Some.number.value
-            (look_is g.D.SectorDevice.state c.args.self.now c.look_in.new.self c.args.directory.value
-            c.args.name.now c.in-Ok.found.0 (value_of c.in-Ok.found.1) _ (ap value_of c.in-Some.is) c.in-Ok.ensures.answer)
-            c.in-Ok-header.header c.in-Ok-header.ensures.answer,
-        (c.is_directory.ensures.yes c.if-not-is_directory.false, c.if-header-gt0.true),
-      ),
-    )
+returns-then-header-gt0-clause-refused g c = (
+  sym c.is_dots.ensures ∙ c.if-is_dots.false,
+  (
+    c.in-Ok.found.0,
+    c.in-Ok.ensures.short,
+    (
+      c.in-Some.number.value,
+      c.in-Ok-header.header,
+      sees_entry g.D.SectorDevice.state c.args.self.now c.look_in.new.self c.args.directory.value
+          c.args.name.now c.in-Ok.ensures.reads c.header.new.self c.in-Ok-header.ensures.reads
+          c.in-Ok.found.0 c.in-Some.number.value
+          (look_is g.D.SectorDevice.state c.args.self.now c.look_in.new.self c.args.directory.value
+          c.args.name.now c.in-Ok.found.0 (value_of c.in-Ok.found.1) _ (ap value_of c.in-Some.is) c.in-Ok.ensures.answer)
+          c.in-Ok-header.header c.in-Ok-header.ensures.answer,
+      (c.is_directory.ensures.yes c.if-not-is_directory.false, c.if-header-gt0.true),
+    ),
+  ),
+)
 
 pub returns-then-holder-lt-LEAST_LINKS-clause-refused :
     goal.returns-then-holder-lt-LEAST_LINKS-clause-refused
 returns-then-holder-lt-LEAST_LINKS-clause-refused g c =
-    let short : length c.args.name.now ≤ 59 = search in
     let none = c.if-header-gt0.false in
     inr (
       c.in-Ok.found.0,
@@ -98,7 +98,7 @@ returns-then-holder-lt-LEAST_LINKS-clause-refused g c =
             c.args.name.now c.in-Ok.found.0 (value_of c.in-Ok.found.1) _ (ap value_of c.in-Some.is) c.in-Ok.ensures.answer)
             c.in-Ok-header.header c.in-Ok-header.ensures.answer;
         named = sym c.is_dots.ensures ∙ c.if-is_dots.false;
-        short = short;
+        short = c.in-Ok.ensures.short;
         dir = c.is_directory.ensures.yes c.if-not-is_directory.false;
         empty = omega (arith, none);
       },
@@ -107,7 +107,6 @@ returns-then-holder-lt-LEAST_LINKS-clause-refused g c =
 
 pub returns-clause-has : goal.returns-clause-has
 returns-clause-has g c =
-    let short : length c.args.name.now ≤ 59 = search in
     let none = c.if-header-gt0.false in
     record {
       sees = sees_entry g.D.SectorDevice.state c.args.self.now c.look_in.new.self c.args.directory.value
@@ -117,7 +116,7 @@ returns-clause-has g c =
           c.args.name.now c.in-Ok.found.0 (value_of c.in-Ok.found.1) _ (ap value_of c.in-Some.is) c.in-Ok.ensures.answer)
           c.in-Ok-header.header c.in-Ok-header.ensures.answer;
       named = sym c.is_dots.ensures ∙ c.if-is_dots.false;
-      short = short;
+      short = c.in-Ok.ensures.short;
       dir = c.is_directory.ensures.yes c.if-not-is_directory.false;
       empty = omega (arith, none);
     }

@@ -1,32 +1,37 @@
-use Rattle.std.proofs.Common.{ap, ◌≤◌, length, None, Some, sym, ◌∙◌, inl, inr}
-use Rattle.lfs_fs.proofs.OldLooks.{looks_as, refuses_header, sees_entry}
+use Rattle.std.proofs.Common.{ap, None, Some, sym, ◌∙◌, inl, inr}
+use Rattle.lfs_fs.proofs.OldLooks.{looks_as, old_unseen, refuses_header, sees_entry}
 use Rattle.lfs_path.specs.dirs.Finding.{value_of}
 use Rattle.lfs_fs.proofs.fs.Fs.check_old_entry.Goals as goal
 
+-- the name isn't looked up
+pub returns-in-Err-clause-refused : goal.returns-in-Err-clause-refused
+returns-in-Err-clause-refused g c =
+    old_unseen g.D.SectorDevice.state c.args.self.now c.look_in.new.self c.args.directory.value c.args.last.name.now c.args.last.slash (sym c.is_dots.ensures ∙ c.if-is_dots.false) c.in-Err.fault
+    c.in-Err.ensures.missing
+
 -- the directory has no such name
 pub returns-in_default-clause-refused : goal.returns-in_default-clause-refused
-returns-in_default-clause-refused g c =
-    let short : length c.args.last.name.now ≤ 59 = search in (
-      sym c.is_dots.ensures ∙ c.if-is_dots.false,
-      short,
-      (
-        c.in-Ok.found.0,
-        looks_as g.D.SectorDevice.state c.args.self.now c.look_in.new.self c.args.directory.value
-            c.args.last.name.now c.in-Ok.found.0 (value_of c.in-Ok.found.1) None (ap value_of c.in_default.is)
-            c.in-Ok.ensures.answer,
-      ),
-    )
+returns-in_default-clause-refused g c = (
+  sym c.is_dots.ensures ∙ c.if-is_dots.false,
+  (
+    c.in-Ok.found.0,
+    c.in-Ok.ensures.short,
+    looks_as g.D.SectorDevice.state c.args.self.now c.look_in.new.self c.args.directory.value
+        c.args.last.name.now c.in-Ok.found.0 (value_of c.in-Ok.found.1) None (ap value_of c.in_default.is)
+        c.in-Ok.ensures.answer,
+  ),
+)
 
 -- no volume has such a directory
-pub returns-then-holder-gt-MOST_BYTES-clause-refused :
-    goal.returns-then-holder-gt-MOST_BYTES-clause-refused
-returns-then-holder-gt-MOST_BYTES-clause-refused g c = inr (
+pub returns-then-is_too_large-clause-refused :
+    goal.returns-then-is_too_large-clause-refused
+returns-then-is_too_large-clause-refused g c = inr (
   c.in-Ok.found.0,
   c.in-Some.number.value,
   looks_as g.D.SectorDevice.state c.args.self.now c.look_in.new.self c.args.directory.value
       c.args.last.name.now c.in-Ok.found.0 (value_of c.in-Ok.found.1) (Some c.in-Some.number.value) (ap value_of c.in-Some.is)
       c.in-Ok.ensures.answer,
-  inl c.if-holder-gt-MOST_BYTES.true,
+  inl (c.is_too_large.ensures.large c.if-is_too_large.true),
 )
 
 pub returns-in-Err-header-clause-refused : goal.returns-in-Err-header-clause-refused
@@ -42,50 +47,52 @@ returns-in-Err-header-clause-refused g c =
 -- it names a directory
 pub returns-then-is_directory-clause-refused : goal.returns-then-is_directory-clause-refused
 returns-then-is_directory-clause-refused g c =
-    let short : length c.args.last.name.now ≤ 59 = search in
     inr (
       sym c.is_dots.ensures ∙ c.if-is_dots.false,
-      short,
       (
         c.in-Ok.found.0,
-        c.in-Some.number.value,
-        c.in-Ok-header.header,
-        sees_entry g.D.SectorDevice.state c.args.self.now c.look_in.new.self c.args.directory.value
-            c.args.last.name.now c.in-Ok.ensures.reads c.in-Ok.found.0 c.in-Some.number.value
-            (looks_as g.D.SectorDevice.state c.args.self.now c.look_in.new.self c.args.directory.value
-            c.args.last.name.now c.in-Ok.found.0 (value_of c.in-Ok.found.1) (Some c.in-Some.number.value)
-            (ap value_of c.in-Some.is) c.in-Ok.ensures.answer)
-            c.header.new.self c.in-Ok-header.ensures.reads c.in-Ok-header.header
-            c.in-Ok-header.ensures.answer,
-        c.is_directory.ensures.yes c.if-is_directory.true,
+        c.in-Ok.ensures.short,
+        (
+          c.in-Some.number.value,
+          c.in-Ok-header.header,
+          sees_entry g.D.SectorDevice.state c.args.self.now c.look_in.new.self c.args.directory.value
+              c.args.last.name.now c.in-Ok.ensures.reads c.in-Ok.found.0 c.in-Some.number.value
+              (looks_as g.D.SectorDevice.state c.args.self.now c.look_in.new.self c.args.directory.value
+              c.args.last.name.now c.in-Ok.found.0 (value_of c.in-Ok.found.1) (Some c.in-Some.number.value)
+              (ap value_of c.in-Some.is) c.in-Ok.ensures.answer)
+              c.header.new.self c.in-Ok-header.ensures.reads c.in-Ok-header.header
+              c.in-Ok-header.ensures.answer,
+          c.is_directory.ensures.yes c.if-is_directory.true,
+        ),
       ),
     )
 
 -- a slash follows the name of what is none
 pub returns-then-last-clause-refused : goal.returns-then-last-clause-refused
-returns-then-last-clause-refused g c =
-    let short : length c.args.last.name.now ≤ 59 = search in (
-      sym c.is_dots.ensures ∙ c.if-is_dots.false,
-      short,
-      c.if-last.true,
-      (
-        c.in-Ok.found.0,
-        c.in-Some.number.value,
-        c.in-Ok-header.header,
-        sees_entry g.D.SectorDevice.state c.args.self.now c.look_in.new.self c.args.directory.value
-            c.args.last.name.now c.in-Ok.ensures.reads c.in-Ok.found.0 c.in-Some.number.value
-            (looks_as g.D.SectorDevice.state c.args.self.now c.look_in.new.self c.args.directory.value
-            c.args.last.name.now c.in-Ok.found.0 (value_of c.in-Ok.found.1) (Some c.in-Some.number.value)
-            (ap value_of c.in-Some.is) c.in-Ok.ensures.answer)
-            c.header.new.self c.in-Ok-header.ensures.reads c.in-Ok-header.header
-            c.in-Ok-header.ensures.answer,
-        c.is_directory.ensures.no c.if-is_directory.false,
-      ),
-    )
+returns-then-last-clause-refused g c = (
+  sym c.is_dots.ensures ∙ c.if-is_dots.false,
+  c.if-last.true,
+  (
+    c.in-Ok.found.0,
+    c.in-Ok.ensures.short,
+    (
+      c.in-Some.number.value,
+      c.in-Ok-header.header,
+      sees_entry g.D.SectorDevice.state c.args.self.now c.look_in.new.self c.args.directory.value
+          c.args.last.name.now c.in-Ok.ensures.reads c.in-Ok.found.0 c.in-Some.number.value
+          (looks_as g.D.SectorDevice.state c.args.self.now c.look_in.new.self c.args.directory.value
+          c.args.last.name.now c.in-Ok.found.0 (value_of c.in-Ok.found.1) (Some c.in-Some.number.value)
+          (ap value_of c.in-Some.is) c.in-Ok.ensures.answer)
+          c.header.new.self c.in-Ok-header.ensures.reads c.in-Ok-header.header
+          c.in-Ok-header.ensures.answer,
+      c.is_directory.ensures.no c.if-is_directory.false,
+    ),
+  ),
+)
 
 pub returns-clause-has : goal.returns-clause-has
 returns-clause-has g c =
-    let short : length c.args.last.name.now ≤ 59 = search in record {
+    record {
       sees = sees_entry g.D.SectorDevice.state c.args.self.now c.look_in.new.self c.args.directory.value
           c.args.last.name.now c.in-Ok.ensures.reads c.in-Ok.found.0 c.in-Some.number.value
           (looks_as g.D.SectorDevice.state c.args.self.now c.look_in.new.self c.args.directory.value
@@ -94,7 +101,7 @@ returns-clause-has g c =
           c.header.new.self c.in-Ok-header.ensures.reads c.in-Ok-header.header
           c.in-Ok-header.ensures.answer;
       named = sym c.is_dots.ensures ∙ c.if-is_dots.false;
-      short = short;
+      short = c.in-Ok.ensures.short;
       plain = c.if-last.false;
       other = c.is_directory.ensures.no c.if-is_directory.false;
     }

@@ -1,5 +1,7 @@
-use Rattle.std.proofs.Common.{Err, inl, ap, arith, subst, sym, ◌∙◌}
+use Rattle.std.proofs.Common.{◌≤◌, ◌+◌, ◌*◌, Err, inl, ap, arith, subst, sym, ◌∙◌}
 use Rattle.lfs_model.specs.declared.Kind.{Kind}
+use Rattle.lfs_model.specs.Slot.{IsName}
+use Rattle.lfs_model.specs.Tree.{name_len, slot_len}
 use Rattle.lfs_files.specs.declared.header.Header.{Header}
 use Rattle.lfs_store.proofs.LogReads.{fault_more}
 use Rattle.lfs_store.specs.log.Held.{Held, IsReadFault, Reads}
@@ -19,9 +21,10 @@ use Rattle.lfs_fs.proofs.fs.Fs.draft_entry.Goals as goal
 
 pub add-requires-clause-room : goal.add-requires-clause-room
 add-requires-clause-room g c =
-    let size = ap (λ (h : Header). h.size) c.in-Ok-relink_parent.ensures.header in
-    let room = c.requires.room in
-    omega (arith, size, room)
+    subst (λ (h : Header). h.size + slot_len h.form ≤ 1024 * slot_len h.form) (sym c.in-Ok-relink_parent.ensures.header) (let room = c.requires.room in omega (arith, room))
+
+pub add-requires-clause-name : goal.add-requires-clause-name
+add-requires-clause-name g c = subst (λ (h : Header). IsName (name_len h.form) c.args.name.now) (sym c.in-Ok-relink_parent.ensures.header) c.requires.name
 
 pub returns-in-Ok-add-clause-drafted : goal.returns-in-Ok-add-clause-drafted
 returns-in-Ok-add-clause-drafted g c =

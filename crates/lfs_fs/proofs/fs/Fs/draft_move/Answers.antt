@@ -4,7 +4,7 @@ use Rattle.lfs_files.specs.declared.header.Header.{Header}
 use Rattle.lfs_path.specs.dirs.Taking.{shrunk}
 use Rattle.lfs_fs.specs.Renaming.{DraftsTake, FailsName, FailsOver, NamesFound, of_name, of_take, second_holder}
 use Rattle.lfs_fs.specs.Unlinking.{TakesOut}
-use Rattle.lfs_fs.proofs.MoveDrafts.{ok_then2}
+use Rattle.lfs_fs.proofs.MoveDrafts.{later_fits, ok_then2}
 use Rattle.lfs_fs.proofs.NameLooks.{fault_then}
 use Rattle.lfs_store.proofs.of_memory.Going.{ok_then}
 use Rattle.lfs_store.proofs.Growths.{grows_then}
@@ -15,6 +15,19 @@ returns-in-Err-take_name-clause-refused g c =
     of_take c.draft_links.new.self c.in-Ok.ensures.drafted
     (subst (λ (h : Header). FailsOver g.D.SectorDevice.state c.draft_links.new.self c.take_name.new.self c.args.source.directory.value h c.args.source.name.now c.in-Err-take_name.fault) c.in-Ok.ensures.first
     c.in-Err-take_name.ensures.refused)
+
+-- the header that is written to fits
+pub draft_target-requires-clause-size : goal.draft_target-requires-clause-size
+draft_target-requires-clause-size g c =
+    (later_fits c.args.source c.args.target c.requires.may _ _ c.later_holder-holder.result c.in-Ok.ensures.first c.in-Ok.ensures.second c.later_holder-holder.ensures).size
+
+pub draft_target-requires-clause-room : goal.draft_target-requires-clause-room
+draft_target-requires-clause-room g c =
+    (later_fits c.args.source c.args.target c.requires.may _ _ c.later_holder-holder.result c.in-Ok.ensures.first c.in-Ok.ensures.second c.later_holder-holder.ensures).room
+
+pub draft_target-requires-clause-name : goal.draft_target-requires-clause-name
+draft_target-requires-clause-name g c =
+    (later_fits c.args.source c.args.target c.requires.may _ _ c.later_holder-holder.result c.in-Ok.ensures.first c.in-Ok.ensures.second c.later_holder-holder.ensures).name
 
 pub returns-clause-drafted : goal.returns-clause-drafted
 returns-clause-drafted g c =

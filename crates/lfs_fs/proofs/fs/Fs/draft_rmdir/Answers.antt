@@ -1,4 +1,5 @@
-use Rattle.std.proofs.Common.{◌∙◌, Err, ap, arith, inl, inr, refl, subst, sym}
+use Rattle.std.proofs.Common.{◌≤◌, ◌*◌, ◌∙◌, Err, ap, arith, inl, inr, refl, subst, sym}
+use Rattle.lfs_model.specs.Tree.{slot_len}
 use Rattle.lfs_files.specs.declared.header.Header.{Header}
 use Rattle.lfs_store.specs.log.Held.{Held, Reads}
 use Rattle.lfs_store.specs.log.verify.declared.totals.BlockTotals.{BlockTotals}
@@ -18,10 +19,7 @@ use Rattle.lfs_fs.proofs.GrownDrafts.{takes_grow}
 use Rattle.lfs_fs.proofs.fs.Fs.draft_rmdir.Goals as goal
 
 pub take-requires : goal.take-requires
-take-requires g c =
-    let size = ap (λ (h : Header). h.size) c.in-Ok-drop_subdirectory.ensures.header in
-    let small = c.requires.size in
-    omega (arith, size, small)
+take-requires g c = subst (λ (h : Header). h.size ≤ 1024 * slot_len h.form) (sym c.in-Ok-drop_subdirectory.ensures.header) c.requires.size
 
 -- ---- the object stays
 pub returns-in-Err-clause-refused : goal.returns-in-Err-clause-refused

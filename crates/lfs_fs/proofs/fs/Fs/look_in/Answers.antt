@@ -1,4 +1,4 @@
-use Rattle.std.proofs.Common.{ap, refl, Err}
+use Rattle.std.proofs.Common.{ap, arith, inl, refl, Err}
 use Rattle.lfs_fs.specs.declared.fs.Fs.{Fs}
 use Rattle.lfs_fs.proofs.NameLooks.{looks_up, none_found, none_without}
 use Rattle.lfs_fs.proofs.PathEnds.{reads_again, store_reads}
@@ -7,7 +7,20 @@ use Rattle.lfs_path.specs.dirs.Finding.{value_of}
 use Rattle.lfs_fs.proofs.fs.Fs.look_in.Goals as goal
 
 pub returns-in-Err-clause-missing : goal.returns-in-Err-clause-missing
-returns-in-Err-clause-missing g c = none_without g.D.SectorDevice.state c.args.self.now c.header.new.self c.args.directory.value c.in-Err.fault c.in-Err.ensures.missing
+returns-in-Err-clause-missing g c = none_without g.D.SectorDevice.state c.args.self.now c.header.new.self c.args.directory.value c.args.name.now c.in-Err.fault c.in-Err.ensures.missing
+
+pub returns-then-name-longest-clause-missing : goal.returns-then-name-longest-clause-missing
+returns-then-name-longest-clause-missing g c = inl (
+  refl,
+  (
+    c.in-Ok.header,
+    c.in-Ok.ensures.answer,
+    (let most = c.longest_name-longest.ensures in let long = c.if-name-longest.true in omega (arith, most, long)),
+  ),
+)
+
+pub returns-in-Ok-find-clause-short : goal.returns-in-Ok-find-clause-short
+returns-in-Ok-find-clause-short g c = let most = c.longest_name-longest.ensures in let short = c.if-name-longest.false in omega (arith, most, short)
 
 pub returns-in-Ok-find-clause-answer : goal.returns-in-Ok-find-clause-answer
 returns-in-Ok-find-clause-answer g c =
@@ -17,7 +30,7 @@ returns-in-Ok-find-clause-answer g c =
 pub returns-in-Err-find-clause-missing : goal.returns-in-Err-find-clause-missing
 returns-in-Err-find-clause-missing g c =
     none_found g.D.SectorDevice.state c.args.self.now c.header.new.self c.in-Ok.ensures.reads c.args.directory.value c.in-Ok.header c.in-Ok.ensures.answer
-    record { alloc = c.header.new.self.alloc; store = c.find.new.files; handles = c.header.new.self.handles } (log_reads g.D.SectorDevice.state c.header.new.self.store c.find.new.files c.in-Err-find.ensures.reads) c.in-Err-find.fault
+    record { alloc = c.header.new.self.alloc; store = c.find.new.files; handles = c.header.new.self.handles } (log_reads g.D.SectorDevice.state c.header.new.self.store c.find.new.files c.in-Err-find.ensures.reads) c.args.name.now c.in-Err-find.fault
     (λ e. c.in-Err-find.ensures.halted (ap Err e)) (λ e. c.in-Err-find.ensures.other (ap Err e)) (each_drafted g.D.SectorDevice.state c.header.new.self.store c.find.new.files _ c.in-Err-find.ensures.failed) c.from.result c.from.ensures
 
 pub returns-in-Ok-find-clause-reads : goal.returns-in-Ok-find-clause-reads
