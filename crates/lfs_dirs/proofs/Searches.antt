@@ -1,5 +1,5 @@
 -- A name looked up in a directory, block by block.
-use Rattle.std.specs.Prelude.{min}
+use Rattle.std.specs.Prelude.{min, Result, Ok, Err, IfOk, IfSome}
 use Rattle.std.proofs.Common.{◌≡◌, ◌≢◌, ◌<◌, ◌≤◌, ⊎_elim, ◌+◌, ◌*◌, ◌-◌, ◌/◌, ℕ, zero, suc, List, [], ◌∷◌, ◌++◌, length, take, drop, get_or, Option, Some, None, refl, sym, ◌∙◌, ap, subst, arith}
 use Rattle.std.proofs.lemmas.Bool.{cases_lt}
 use Rattle.std.proofs.lemmas.List.{take-append-drop, drop-drop, drop_all, get_or-take, get_or-drop, length-take, length-drop}
@@ -10,6 +10,7 @@ use Rattle.lfs_model.specs.Slot.{slot_in}
 use Rattle.lfs_model.specs.Stands.{LogMap}
 use Rattle.lfs_model.specs.Tree.{byte_cmp}
 use Rattle.lfs_model.specs.TreeOf.{map_of}
+use Rattle.lfs_files.specs.declared.fault.LogFault.{LogFault}
 use Rattle.lfs_files.specs.declared.header.Header.{Header}
 use Rattle.lfs_files.specs.Files.{FilesState, HoldsBlock, IsFault, Reads, TellsBlock}
 use Rattle.lfs_files.proofs.FilesCompose.{reads_more}
@@ -17,8 +18,10 @@ use Rattle.lfs_dirs.specs.Directory.{first_slots, names_at, per_block, slot_coun
 use Rattle.lfs_dirs.specs.declared.searching.Found.{Found}
 use Rattle.lfs_dirs.specs.Finding.{HasNoSlot, IsDirectoryFault, IsBlockFault}
 use Rattle.lfs_dirs.specs.Listing.{AreSlots}
-use Rattle.lfs_dirs.specs.Searching.{FindsIn, FindsInBlock, FindsSlot}
+use Rattle.lfs_dirs.specs.Repointing.{Lacks}
+use Rattle.lfs_dirs.specs.Searching.{FindsIn, FindsInBlock, FindsInNth, FindsName, FindsSlot, count_in_nth, slots_in_nth}
 use Rattle.lfs_dirs.proofs.SlotNames.{gives_some, gives_none}
+use Rattle.lfs_dirs.proofs.SlotsGive.{slot_gives}
 use Rattle.lfs_dirs.proofs.Widths.{next_block}
 use Rattle.lfs_dirs.proofs.SlotPlaces.{slot_of_block, slots_many, slots_of_block}
 
@@ -72,6 +75,61 @@ module _ {S D : Type 0} (s s' : FilesState S D) (form d index count : ℕ) (few 
 pub block_failed : {S D : Type 0} (s s' : FilesState S D) (form d index count : ℕ) → IsFault s s' → IsBlockFault s s' form d index count
 block_failed s s' form d index count failed m m' keeps has head same room dir = failed m m' keeps has
 
+-- ---- the block of an index
+module _ {S D : Type 0} (s s' : FilesState S D) (d : ℕ) (head : Header) (index count : ℕ) (is : count ≡ count_in_nth head index) (low : per_block head.form * index < slot_count head) where
+  room : per_block head.form * index + count ≤ slot_count head
+  room = omega (arith, is, low)
+
+  pub nth_misses : (name : List ℕ) → FindsInBlock s s' head.form d index count name None → FindsInNth s s' d head index name None
+  nth_misses name none m m' keeps has =
+      subst (λ (n : ℕ). find byte_cmp name (map_of head.form (take n (drop (per_block head.form * index) (slots_at m' d head)))) ≡ None) is (none m m' keeps has head refl room)
+
+  pub nth_hits : (name : List ℕ) (found : Found) → FindsInBlock s s' head.form d index count name (Some found) → FindsInNth s s' d head index name (Some record { place = per_block head.form * index + found.place; number = found.number })
+  nth_hits name found hit m m' keeps has =
+      let slots = slots_at m' d head in
+      let slot = hit m m' keeps has head refl room in
+      let taken = length-take count (drop (per_block head.form * index) slots) in
+      let left = length-drop (per_block head.form * index) slots in
+      let inside = slot.inside in
+      let within : found.place < count = omega (arith, taken, inside) in
+      record {
+        gives = subst (λ (n : ℕ). find byte_cmp name (map_of head.form (take n (drop (per_block head.form * index) slots))) ≡ Some found.number.value) is slot.gives;
+        inside = omega (arith, taken, left, inside);
+        slot = ap (slot_in head.form) (sym (get_or-take count (drop (per_block head.form * index) slots) found.place [] within ∙ get_or-drop (per_block head.form * index) slots found.place [])) ∙ slot.slot;
+      }
+
+  pub nth_fails : IsBlockFault s s' head.form d index count → IsDirectoryFault s s' d head
+  nth_fails failed m m' keeps has dir = failed m m' keeps has head refl room dir
+
+-- ---- a search behind another
+module _ {S D : Type 0} (s a b : FilesState S D) (d : ℕ) (head : Header) (reads : Reads s a) where
+  pub faults_behind : IsDirectoryFault a b d head → IsDirectoryFault s b d head
+  faults_behind failed m m' keeps has dir =
+      let rose = failed m m' keeps (reads.has m m' has) dir in
+      let before = reads.looks.carries.failures in
+      omega (arith, rose, before)
+
+  pub names_behind : (name : List ℕ) (found : Found) → FindsSlot a b d head name (Some found) → FindsName s b d head name found
+  names_behind name found finds m m' keeps has dir = finds m m' keeps (reads.has m m' has)
+
+  pub lacks_behind : (name : List ℕ) → FindsSlot a b d head name None → Lacks s b d head name
+  lacks_behind name none m m' keeps has = none m m' keeps (reads.has m m' has)
+
+-- where no two slots have one name, the slot of a block is that of the directory
+pub names_near : {S D : Type 0} (s s' : FilesState S D) (d : ℕ) (head : Header) (index : ℕ) (name : List ℕ) (found : Found) → FindsInNth s s' d head index name (Some found) → FindsName s s' d head name found
+names_near s s' d head index name found hit m m' keeps has dir =
+    let slot = hit m m' keeps has in
+    record {
+      gives = (slot_gives head.form (slots_at m' d head) name found.number.value).1 dir.apart found.place record { inside = slot.inside; slot = slot.slot };
+      inside = slot.inside;
+      slot = slot.slot;
+    }
+
+pub near_found : {S D : Type 0} (s s' : FilesState S D) (d : ℕ) (head : Header) (index : ℕ) (name : List ℕ) (r : Result (Option Found) LogFault) → IfOk r (FindsInNth s s' d head index name) → IfOk r (λ found. IfSome found (FindsName s s' d head name))
+near_found s s' d head index name (Ok None) is = tt
+near_found s s' d head index name (Ok (Some found)) is = names_near s s' d head index name found is
+near_found s s' d head index name (Err fault) is = tt
+
 -- ---- the blocks before one of this index don't have the name
 module _ {S D : Type 0} (d : ℕ) (head : Header) (name : List ℕ) where
   pub record SearchedTo (s s' : FilesState S D) (index : ℕ) : Type 0 where
@@ -86,37 +144,29 @@ module _ {S D : Type 0} (d : ℕ) (head : Header) (name : List ℕ) where
       sym (was.behind m m' keeps has) ∙ ap (λ (s : List (List ℕ)). find byte_cmp name (map_of head.form s)) (drop_all (per_block head.form * index) slots (omega (arith, many, past)))
 
   -- ---- a block more
-  module _ (s a b : FilesState S D) (index count : ℕ) (is : count ≡ min (slot_count head - per_block head.form * index) (per_block head.form)) (low : per_block head.form * index < slot_count head) (was : SearchedTo s a index) where
-    pub search_goes_on : IsLawful s.device → Reads a b → FindsInBlock a b head.form d index count name None → SearchedTo s b (index + 1)
+  module _ (s a b : FilesState S D) (index : ℕ) (was : SearchedTo s a index) where
+    pub search_goes_on : IsLawful s.device → Reads a b → FindsInNth a b d head index name None → SearchedTo s b (index + 1)
     search_goes_on lawful reads none = record {
       reads = reads_more s a b lawful was.reads reads;
       behind = λ m m' keeps has.
           let slots = slots_at m' d head in
-          let found = none m m' keeps (was.reads.has m m' has) head refl (omega (arith, is, low)) in
-          sym (ap (λ (s : List (List ℕ)). find byte_cmp name (map_of head.form s)) (block_and_rest head.form slots index count (slot_count head) (slots_many m' d head) is)
-          ∙ gives_none head.form (take count (drop (per_block head.form * index) slots)) (drop (per_block head.form * (index + 1)) slots) name found)
+          sym (ap (λ (s : List (List ℕ)). find byte_cmp name (map_of head.form s)) (block_and_rest head.form slots index (count_in_nth head index) (slot_count head) (slots_many m' d head) refl)
+          ∙ gives_none head.form (slots_in_nth m' d head index) (drop (per_block head.form * (index + 1)) slots) name (none m m' keeps (was.reads.has m m' has)))
           ∙ was.behind m m' (reads.looks.carries.kept_before keeps) has;
     }
 
-    pub search_hits : (found : Found) → Reads a b → FindsInBlock a b head.form d index count name (Some found) → FindsSlot s b d head name (Some record { place = per_block head.form * index + found.place; number = found.number })
+    pub search_hits : (found : Found) → Reads a b → FindsInNth a b d head index name (Some found) → FindsSlot s b d head name (Some found)
     search_hits found reads hit m m' keeps has =
         let slots = slots_at m' d head in
-        let slot = hit m m' keeps (was.reads.has m m' has) head refl (omega (arith, is, low)) in
-        let taken = length-take count (drop (per_block head.form * index) slots) in
-        let left = length-drop (per_block head.form * index) slots in
-        let inside = slot.inside in
-        let within : found.place < count = omega (arith, taken, inside) in
+        let slot = hit m m' keeps (was.reads.has m m' has) in
         record {
           gives =
               sym (was.behind m m' (reads.looks.carries.kept_before keeps) has)
-              ∙ ap (λ (s : List (List ℕ)). find byte_cmp name (map_of head.form s)) (block_and_rest head.form slots index count (slot_count head) (slots_many m' d head) is)
-              ∙ gives_some head.form (take count (drop (per_block head.form * index) slots)) (drop (per_block head.form * (index + 1)) slots) name found.number.value slot.gives;
-          inside = omega (arith, taken, left, inside);
-          slot = ap (slot_in head.form) (sym (get_or-take count (drop (per_block head.form * index) slots) found.place [] within ∙ get_or-drop (per_block head.form * index) slots found.place [])) ∙ slot.slot;
+              ∙ ap (λ (s : List (List ℕ)). find byte_cmp name (map_of head.form s)) (block_and_rest head.form slots index (count_in_nth head index) (slot_count head) (slots_many m' d head) refl)
+              ∙ gives_some head.form (slots_in_nth m' d head index) (drop (per_block head.form * (index + 1)) slots) name found.number.value slot.gives;
+          inside = slot.inside;
+          slot = slot.slot;
         }
 
-    pub search_fails : IsBlockFault a b head.form d index count → IsDirectoryFault s b d head
-    search_fails failed m m' keeps has dir =
-        let rose = failed m m' keeps (was.reads.has m m' has) head refl (omega (arith, is, low)) dir in
-        let before = was.reads.looks.carries.failures in
-        omega (arith, rose, before)
+    pub search_fails : IsDirectoryFault a b d head → IsDirectoryFault s b d head
+    search_fails = faults_behind s a b d head was.reads

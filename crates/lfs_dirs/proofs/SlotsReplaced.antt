@@ -19,7 +19,7 @@ use Rattle.lfs_dirs.specs.Adding.{slot_for}
 use Rattle.lfs_dirs.specs.Directory.{slot_count, slots_at}
 use Rattle.lfs_dirs.specs.Finding.{IsDirectoryFault}
 use Rattle.lfs_dirs.specs.Repointing.{Repoints, RepointsName}
-use Rattle.lfs_dirs.specs.Searching.{FindsSlot, IsSlotOf}
+use Rattle.lfs_dirs.specs.Searching.{FindsName, IsSlotOf}
 use Rattle.lfs_dirs.proofs.Widths.{before_slot, behind_slot, slot_within}
 use Rattle.lfs_dirs.proofs.SlotPlaces.{slot_byte, slot_is, slot_long, slots_many}
 use Rattle.lfs_dirs.proofs.SlotsApart.{AreApart, AreFormed, replaced, replaced_apart, replaced_formed}
@@ -107,7 +107,7 @@ module _ (m m' : LogMap) (d : ℕ) (head : Header) (n : ℕ) (name : List ℕ) (
 -- ---- the draft
 module _ {S D : Type 0} (s a s' : FilesState S D) (d : ℕ) (head : Header) (n : ℕ) (name : List ℕ) (found : Found) where
   pub repoints : FitsSlot head.form record { number = n; name = name } → length (slot_for head.form n name) ≡ slot_len head.form → found.place < slot_count head → Reads s a → Redrafts a s'
-      → FindsSlot s a d head name (Some found) → Writes a s' d head (slot_len head.form * found.place) (slot_for head.form n name) → Repoints s s' d head n name
+      → FindsName s a d head name found → Writes a s' d head (slot_len head.form * found.place) (slot_for head.form n name) → Repoints s s' d head n name
   repoints fits long inside reads more finds writes = record {
     place = found.place;
     writes = writes_behind s a s' d head (slot_len head.form * found.place) (slot_for head.form n name) reads writes;
@@ -118,7 +118,7 @@ module _ {S D : Type 0} (s a s' : FilesState S D) (d : ℕ) (head : Header) (n :
           map = f.map;
           has = f.has;
           file = file;
-          names = λ dir. repoints_name m' f.map d head n name fits long found (finds m m' (more.looks.carries.kept_before keeps) has) dir file.bytes;
+          names = λ dir. repoints_name m' f.map d head n name fits long found (finds m m' (more.looks.carries.kept_before keeps) has dir) dir file.bytes;
         };
   }
     where

@@ -13,7 +13,7 @@ use Rattle.lfs_files.specs.Headers.{FitsHeader, as_header, resized}
 use Rattle.lfs_files.proofs.FilesCompose.{still_apart}
 use Rattle.lfs_dirs.specs.declared.searching.Found.{Found}
 use Rattle.lfs_dirs.specs.Directory.{per_block, slot_count, slots_at}
-use Rattle.lfs_dirs.specs.Searching.{FindsSlot}
+use Rattle.lfs_dirs.specs.Searching.{FindsName}
 use Rattle.lfs_dirs.specs.Taking.{CountsDropped, CutsSlot, DropsSlot, HasDropped, ReadsSlot, Takes, TakesDrop, shrunk}
 use Rattle.std.specs.Prelude.{min}
 use Rattle.lfs_dirs.proofs.Widths.{one_block, one_slot, slot_next, slot_some, slot_within}
@@ -142,7 +142,7 @@ module _ {S D : Type 0} where
   counts_behind s a s' d head reads counts m x y keeps has has' there long map are =
       counts m x y keeps (reads.has m x has) has' there long map (subst (λ (t : Counted). AreCounted x t) (sym reads.drafted) are)
 
-  pub takes : (s a s' : FilesState S D) (d : ℕ) (head : Header) (name : List ℕ) (found : Found) → Reads s a → Redrafts a s' → FindsSlot s a d head name (Some found)
+  pub takes : (s a s' : FilesState S D) (d : ℕ) (head : Header) (name : List ℕ) (found : Found) → Reads s a → Redrafts a s' → FindsName s a d head name found
       → DropsSlot a s' d head found.place → Takes s s' d head name
   takes s a s' d head name found reads more finds drops = record {
     place = found.place;
@@ -153,6 +153,6 @@ module _ {S D : Type 0} where
           map = f.map;
           has = f.has;
           file = f.file;
-          names = λ there dir. takes_name m' f.map d head name found (finds m m' (more.looks.carries.kept_before keeps) has) dir (f.slots there);
+          names = λ there dir. takes_name m' f.map d head name found (finds m m' (more.looks.carries.kept_before keeps) has dir) dir (f.slots there);
         };
   }

@@ -1,7 +1,6 @@
 -- What a search for a name in a directory answers.
 use Rattle.std.specs.Prelude.{◌≡◌, ◌<◌, ◌≤◌, ◌+◌, ◌*◌, ◌/◌, ℕ, List, Option, Some, None}
 use Rattle.std.specs.FinMap.{find}
-use Rattle.lfs_model.specs.declared.number.FileNumber.{FileNumber}
 use Rattle.lfs_model.specs.Fields.{part}
 use Rattle.lfs_model.specs.Objects.{IsDirectory}
 use Rattle.lfs_model.specs.Slot.{slot_in}
@@ -10,6 +9,7 @@ use Rattle.lfs_model.specs.Tree.{byte_cmp, slot_len}
 use Rattle.lfs_files.specs.declared.header.Header.{Header}
 use Rattle.lfs_files.specs.Files.{FilesState}
 use Rattle.lfs_files.specs.Headers.{as_header}
+use Rattle.lfs_dirs.specs.declared.searching.Found.{Found}
 use Rattle.lfs_dirs.specs.Directory.{names_at, per_block, slot_count}
 
 -- One of the first slots of a block isn't a slot.
@@ -18,14 +18,14 @@ pub record HasNoSlot (form : ℕ) (block : List ℕ) (count : ℕ) : Type 0 wher
   pub inside : place < count
   pub none : slot_in form (part (slot_len form * place) (slot_len form) block) ≡ None
 
--- the file's number as a plain one
-abbrev pub value_of : Option FileNumber → Option ℕ
+-- the number that a name gives
+abbrev pub value_of : Option Found → Option ℕ
 value_of None = None
-value_of (Some n) = Some n.value
+value_of (Some found) = Some found.number.value
 
 module _ {S D : Type 0} (s s' : FilesState S D) where
   -- what the name gives in directory d, if it is there
-  abbrev pub Finds : ℕ → Header → List ℕ → Option FileNumber → Type 0
+  abbrev pub Finds : ℕ → Header → List ℕ → Option Found → Type 0
   Finds d head name found = (m m' : LogMap) → s'.device.keeps_model → s.has m m' → value_of found ≡ find byte_cmp name (names_at m' d head)
 
   -- a call of the device failed, where d is a directory

@@ -17,5 +17,6 @@ pub use entry::Entry;
 pub use finding::find;
 pub use listing::{ListFault, inspect, list};
 pub use repointing::repoint;
+pub use searching::Found;
 pub use slots::{longest_name, slots_in_block, slots_of};
 pub use taking::take;

@@ -7,12 +7,13 @@ ghost use Rattle.lfs_dirs.specs.Finding.{IsDirectoryFault};
 ghost use Rattle.lfs_dirs.specs.Growing.{GrowsDirectory};
 ghost use Rattle.lfs_dirs.specs.Repointing.{Repoints, Lacks};
 
-use crate::searching::search;
+use crate::searching::search_from;
 use lfs_files::{Files, Header, LogFault, StoreFault};
 use lfs_layout::{encode_slot, slot_len};
 use lfs_model::FileNumber;
 
-/// Drafts another number for a name of a directory of this header, if it has the name.
+/// Drafts another number for a name of a directory of this header, if it has the name, which is
+/// looked for near this place first.
 ///
 /// # Errors
 ///
@@ -22,6 +23,7 @@ pub fn repoint<F: Files>(
     directory: FileNumber,
     header: Header,
     name: &[u8],
+    place: u32,
     number: FileNumber,
 ) -> Result<bool, StoreFault>
     requires size { header.size ≤ 1024 * slot_len header.form }
@@ -43,7 +45,7 @@ pub fn repoint<F: Files>(
         → (F.state files.old).halted ≡ true }
     ensures other { IsErrOf result (StoreFault.Log LogFault.Full) → ⊥ }
 {
-    let found = match search(files, directory, header, name) {
+    let found = match search_from(files, directory, header, name, place) {
         Ok(Some(found)) => found,
         Ok(None) => return Ok(false),
         Err(fault) => return Err(StoreFault::Log(fault)),

@@ -1,20 +1,22 @@
 //! The slot of a name, searched in a directory.
-ghost use Rattle.std.specs.Prelude.{◌≡◌, ◌<◌, ◌≤◌, ◌/◌, true, IfOk, IfSome, OnErr, IsErrOf};
+ghost use Rattle.std.specs.Prelude.{◌≡◌, ◌<◌, ◌≤◌, ◌*◌, ◌/◌, true, IfOk, IfSome, IfNone, OnErr, IsErrOf};
 ghost use Rattle.lfs_files.specs.Files.{Reads};
 ghost use Rattle.lfs_dirs.specs.Directory.{first_slots, per_block, slot_count};
 ghost use Rattle.lfs_dirs.specs.Finding.{HasNoSlot, IsDirectoryFault, IsBlockFault};
-ghost use Rattle.lfs_dirs.specs.Searching.{FindsIn, FindsInBlock, FindsSlot};
+ghost use Rattle.lfs_dirs.specs.Repointing.{Lacks};
+ghost use Rattle.lfs_dirs.specs.Searching.{FindsIn, FindsInBlock, FindsInNth, FindsName, FindsSlot};
 
 use crate::slots::{slots_in_block, slots_of};
 use lfs_files::{Files, Header, LogFault};
 use lfs_layout::{SlotView, has_name, nth_slot};
 use lfs_model::FileNumber;
 
-/// A slot that has the name looked for.
+/// A name of a directory.
 #[derive(Clone, Copy)]
 pub struct Found {
-    /// The slots before it.
+    /// How many slots stand before its own.
     pub place: u32,
+    /// The number that it gives.
     pub number: FileNumber,
 }
 
@@ -22,8 +24,8 @@ pub struct Found {
 ///
 /// # Errors
 ///
-/// As those of `Files::block`; `Device` also where a slot can't be read as one, as none of a
-/// directory is.
+/// As those of `Files::block`; `Device` also where bytes of this name are no slot, as none of a
+/// directory are.
 pub fn search<F: Files>(
     files: &mut F,
     directory: FileNumber,
@@ -42,15 +44,8 @@ pub fn search<F: Files>(
     let slots = slots_of(header);
     let whole = slots_in_block(header.form);
     for index in 0..slots.div_ceil(whole) {
-        let first = whole * index;
-        let count = (slots - first).min(whole);
-        match search_block(files, directory, header.form, index, count, name) {
-            Ok(Some(found)) => {
-                return Ok(Some(Found {
-                    place: first + found.place,
-                    number: found.number,
-                }));
-            }
+        match search_nth(files, directory, header, index, name) {
+            Ok(Some(found)) => return Ok(Some(found)),
             Ok(None) => {}
             Err(fault) => return Err(fault),
         }
@@ -58,7 +53,94 @@ pub fn search<F: Files>(
     Ok(None)
 }
 
-/// The same in one block of a directory, whose first slots are the directory's.
+/// The slot of this name in a directory of this header, looked for first in the block in which the
+/// slot of this place stands.
+///
+/// # Errors
+///
+/// As those of `search`.
+pub fn search_from<F: Files>(
+    files: &mut F,
+    directory: FileNumber,
+    header: Header,
+    name: &[u8],
+    place: u32,
+) -> Result<Option<Found>, LogFault>
+    ensures reads { Reads (F.state files.old) (F.state files.new) }
+    ensures found { IfOk result (λ found. IfSome found (FindsName (F.state files.old)
+        (F.state files.new) directory.value header name.now)) }
+    ensures none { IfOk result (λ found. IfNone found (Lacks (F.state files.old)
+        (F.state files.new) directory.value header name.now)) }
+    ensures inside { IfOk result (λ found. IfSome found (λ slot. slot.place < slot_count header)) }
+    ensures failed { OnErr result (IsDirectoryFault (F.state files.old)
+        (F.state files.new) directory.value header) }
+    ensures halted { IsErrOf result LogFault.Halted → (F.state files.old).halted ≡ true }
+    ensures other { IsErrOf result LogFault.Full → ⊥ }
+{
+    match search_near(files, directory, header, name, place) {
+        Ok(Some(found)) => Ok(Some(found)),
+        Ok(None) => search(files, directory, header, name),
+        Err(fault) => Err(fault),
+    }
+}
+
+/// The same in that block alone.
+fn search_near<F: Files>(
+    files: &mut F,
+    directory: FileNumber,
+    header: Header,
+    name: &[u8],
+    place: u32,
+) -> Result<Option<Found>, LogFault>
+    ensures reads { Reads (F.state files.old) (F.state files.new) }
+    ensures found { IfOk result (λ found. IfSome found (FindsName (F.state files.old)
+        (F.state files.new) directory.value header name.now)) }
+    ensures inside { IfOk result (λ found. IfSome found (λ slot. slot.place < slot_count header)) }
+    ensures failed { OnErr result (IsDirectoryFault (F.state files.old)
+        (F.state files.new) directory.value header) }
+    ensures halted { IsErrOf result LogFault.Halted → (F.state files.old).halted ≡ true }
+    ensures other { IsErrOf result LogFault.Full → ⊥ }
+{
+    if place >= slots_of(header) {
+        return Ok(None);
+    }
+    let index = place / slots_in_block(header.form);
+    search_nth(files, directory, header, index, name)
+}
+
+/// The first slot of this name in one block of a directory.
+fn search_nth<F: Files>(
+    files: &mut F,
+    directory: FileNumber,
+    header: Header,
+    index: u32,
+    name: &[u8],
+) -> Result<Option<Found>, LogFault>
+    requires low { per_block header.form * index < slot_count header }
+    ensures reads { Reads (F.state files.old) (F.state files.new) }
+    ensures answer { IfOk result (FindsInNth (F.state files.old) (F.state files.new)
+        directory.value header index name.now) }
+    ensures inside { IfOk result (λ found. IfSome found (λ slot. slot.place < slot_count header)) }
+    ensures failed { OnErr result (IsDirectoryFault (F.state files.old)
+        (F.state files.new) directory.value header) }
+    ensures halted { IsErrOf result LogFault.Halted → (F.state files.old).halted ≡ true }
+    ensures other { IsErrOf result LogFault.Full → ⊥ }
+{
+    let whole = slots_in_block(header.form);
+    let first = whole * index;
+    let count = (slots_of(header) - first).min(whole);
+    match search_block(files, directory, header.form, index, count, name) {
+        Ok(Some(found)) => Ok(Some(Found {
+            place: first + found.place,
+            number: found.number,
+        })),
+        Ok(None) => Ok(None),
+        Err(fault) => Err(fault),
+    }
+}
+
+/// The same in one block of a directory, whose first slots are the directory's; the place is
+/// counted from the block's first.
 fn search_block<F: Files>(
     files: &mut F,
     directory: FileNumber,

@@ -7,14 +7,15 @@ ghost use Rattle.lfs_model.specs.Tree.{slot_len};
 ghost use Rattle.lfs_dirs.specs.Directory.{slot_count};
 ghost use Rattle.lfs_dirs.specs.Taking.{CountsDropped, DropsSlot, Takes};
 
-use crate::searching::search;
+use crate::searching::search_from;
 use crate::slots::slots_in_block;
 use lfs_files::{Files, Header, LogFault, StoreFault};
 use lfs_layout::{nth_slot, slot_len};
 use lfs_model::FileNumber;
 
-/// Drafts a directory of this header without a name, if it has the name. Its last slot comes into
-/// the gap. No block is lost, so the draft may lose others.
+/// Drafts a directory of this header without a name, if it has the name, which is looked for near
+/// this place first. Its last slot comes into the gap. No block is lost, so the draft may lose
+/// others.
 ///
 /// # Errors
 ///
@@ -25,6 +26,7 @@ pub fn take<F: Files>(
     directory: FileNumber,
     header: Header,
     name: &[u8],
+    place: u32,
 ) -> Result<bool, StoreFault>
     requires size { header.size ≤ 1024 * slot_len header.form }
     ensures redrafts { Redrafts (F.state files.old) (F.state files.new) }
@@ -42,7 +44,7 @@ pub fn take<F: Files>(
         → (F.state files.old).halted ≡ true }
     ensures other { IsErrOf result (StoreFault.Log LogFault.Full) → ⊥ }
 {
-    let found = match search(files, directory, header, name) {
+    let found = match search_from(files, directory, header, name, place) {
         Ok(Some(found)) => found,
         Ok(None) => return Ok(false),
         Err(fault) => return Err(StoreFault::Log(fault)),

@@ -1,54 +1,27 @@
-use Rattle.std.proofs.Common.{◌≡◌, ◌<◌, ◌*◌, ◌-◌, ◌/◌, Option, subst, arith, ap, ℕ, ◌≤◌, ◌+◌, sym, Some}
-use Rattle.std.specs.Prelude.{min}
-use Rattle.lfs_dirs.specs.Directory.{per_block, slot_count}
+use Rattle.std.proofs.Common.{◌≡◌, Option, subst, arith}
 use Rattle.lfs_dirs.specs.declared.searching.Found.{Found}
-use Rattle.lfs_dirs.specs.Searching.{FindsInBlock, FindsSlot}
+use Rattle.lfs_dirs.specs.Searching.{FindsInNth}
 use Rattle.lfs_dirs.proofs.Searches.{search_goes_on, search_hits, search_ends, search_fails}
 use Rattle.lfs_dirs.proofs.Widths.{blocks_low, blocks_past}
 use Rattle.lfs_dirs.proofs.searching.search.Goals as goal
 
 pub returns-in-Ok-Some-clause-answer : goal.returns-in-Ok-Some-clause-answer
 returns-in-Ok-Some-clause-answer g c =
-    let t = c.loop-index-test.true in
-    let e = c.div_ceil-index-end.ensures in
-    let m = c.min-count.ensures in
-    let slots = c.slots_of-slots.ensures in
-    let whole = c.slots_in_block-whole.ensures.value in
-    let first = ap (λ (w : ℕ). w * c.loop-index.index) whole in
-    let low : per_block c.args.header.form * c.loop-index.index < slot_count c.args.header = let less = blocks_low c.args.header.form c.loop-index.index c.slots_of-slots.result c.slots_in_block-whole.result whole (omega (arith, t, e)) in omega (arith, less, slots) in
-    let is : c.min-count.result ≡ min (slot_count c.args.header - per_block c.args.header.form * c.loop-index.index) (per_block c.args.header.form) = omega (arith, m, first, whole, slots) in
-    subst (λ (w : ℕ). FindsSlot (g.F.Files.state c.args.files.now) (g.F.Files.state c.search_block.new.files) c.args.directory.value c.args.header c.args.name.now (Some record { place = w * c.loop-index.index + c.in-Ok-Some.found.place; number = c.in-Ok-Some.found.number })) (sym whole)
-    (search_hits c.args.directory.value c.args.header c.args.name.now (g.F.Files.state c.args.files.now) (g.F.Files.state c.loop-index.files) (g.F.Files.state c.search_block.new.files)
-    c.loop-index.index c.min-count.result is low c.loop-index.invariant c.in-Ok-Some.found c.search_block.ensures.reads
-    (subst (λ (found : Option Found). FindsInBlock (g.F.Files.state c.loop-index.files) (g.F.Files.state c.search_block.new.files) c.args.header.form c.args.directory.value c.loop-index.index c.min-count.result c.args.name.now found)
-    c.in-Ok-Some.field-0-is c.in-Ok-Some.ensures.answer))
+    search_hits c.args.directory.value c.args.header c.args.name.now (g.F.Files.state c.args.files.now) (g.F.Files.state c.loop-index.files) (g.F.Files.state c.search_nth.new.files)
+    c.loop-index.index c.loop-index.invariant c.in-Ok-Some.found c.search_nth.ensures.reads
+    (subst (λ (found : Option Found). FindsInNth (g.F.Files.state c.loop-index.files) (g.F.Files.state c.search_nth.new.files) c.args.directory.value c.args.header c.loop-index.index c.args.name.now found)
+    c.in-Ok-Some.field-0-is c.in-Ok-Some.ensures.answer)
 
 pub returns-in-Err-clause-failed : goal.returns-in-Err-clause-failed
 returns-in-Err-clause-failed g c =
-    let t = c.loop-index-test.true in
-    let e = c.div_ceil-index-end.ensures in
-    let m = c.min-count.ensures in
-    let slots = c.slots_of-slots.ensures in
-    let whole = c.slots_in_block-whole.ensures.value in
-    let first = ap (λ (w : ℕ). w * c.loop-index.index) whole in
-    let low : per_block c.args.header.form * c.loop-index.index < slot_count c.args.header = let less = blocks_low c.args.header.form c.loop-index.index c.slots_of-slots.result c.slots_in_block-whole.result whole (omega (arith, t, e)) in omega (arith, less, slots) in
-    let is : c.min-count.result ≡ min (slot_count c.args.header - per_block c.args.header.form * c.loop-index.index) (per_block c.args.header.form) = omega (arith, m, first, whole, slots) in
-    search_fails c.args.directory.value c.args.header c.args.name.now (g.F.Files.state c.args.files.now) (g.F.Files.state c.loop-index.files) (g.F.Files.state c.search_block.new.files)
-    c.loop-index.index c.min-count.result is low c.loop-index.invariant c.in-Err.ensures.failed
+    search_fails c.args.directory.value c.args.header c.args.name.now (g.F.Files.state c.args.files.now) (g.F.Files.state c.loop-index.files) (g.F.Files.state c.search_nth.new.files)
+    c.loop-index.index c.loop-index.invariant c.in-Err.ensures.failed
 
 pub loop-index-preserved : goal.loop-index-preserved
 loop-index-preserved g c =
-    let t = c.loop-index-test.true in
-    let e = c.div_ceil-index-end.ensures in
-    let m = c.min-count.ensures in
-    let slots = c.slots_of-slots.ensures in
-    let whole = c.slots_in_block-whole.ensures.value in
-    let first = ap (λ (w : ℕ). w * c.loop-index.index) whole in
-    let low : per_block c.args.header.form * c.loop-index.index < slot_count c.args.header = let less = blocks_low c.args.header.form c.loop-index.index c.slots_of-slots.result c.slots_in_block-whole.result whole (omega (arith, t, e)) in omega (arith, less, slots) in
-    let is : c.min-count.result ≡ min (slot_count c.args.header - per_block c.args.header.form * c.loop-index.index) (per_block c.args.header.form) = omega (arith, m, first, whole, slots) in
-    search_goes_on c.args.directory.value c.args.header c.args.name.now (g.F.Files.state c.args.files.now) (g.F.Files.state c.loop-index.files) (g.F.Files.state c.search_block.new.files)
-    c.loop-index.index c.min-count.result is low c.loop-index.invariant (g.met.F.Files.lawful c.args.files.now) c.search_block.ensures.reads
-    (subst (λ (found : Option Found). FindsInBlock (g.F.Files.state c.loop-index.files) (g.F.Files.state c.search_block.new.files) c.args.header.form c.args.directory.value c.loop-index.index c.min-count.result c.args.name.now found)
+    search_goes_on c.args.directory.value c.args.header c.args.name.now (g.F.Files.state c.args.files.now) (g.F.Files.state c.loop-index.files) (g.F.Files.state c.search_nth.new.files)
+    c.loop-index.index c.loop-index.invariant (g.met.F.Files.lawful c.args.files.now) c.search_nth.ensures.reads
+    (subst (λ (found : Option Found). FindsInNth (g.F.Files.state c.loop-index.files) (g.F.Files.state c.search_nth.new.files) c.args.directory.value c.args.header c.loop-index.index c.args.name.now found)
     c.in-Ok-None.field-0-is c.in-Ok-None.ensures.answer)
 
 pub returns-clause-answer : goal.returns-clause-answer
