@@ -7,6 +7,7 @@ use Rattle.lfs_model.specs.Stands.{LogMap}
 use Rattle.lfs_model.specs.Tree.{name_len}
 use Rattle.lfs_files.specs.declared.header.Header.{Header}
 use Rattle.lfs_files.specs.Files.{FilesState, Reads}
+use Rattle.lfs_dirs.specs.declared.searching.Found.{Found}
 use Rattle.lfs_dirs.specs.Finding.{Finds, IsDirectoryFault}
 use Rattle.lfs_path.specs.Seeing.{EndsAtPiece, HasHeader, HasObject, IsSeen, NamesObject}
 use Rattle.lfs_path.specs.Telling.{TellsFault, TellsRefusal, Tells}
@@ -34,8 +35,8 @@ module _ {S D : Type 0} where
     header_is : (m m' : LogMap) → b.device.keeps_model → s.has m m' → HasHeader d head m'
     header_is m m' keeps has = read m m' (two.looks.carries.kept_before keeps) has tt
 
-    pub found : (name : List ℕ) (n : FileNumber) → (name ≢ dot) × (name ≢ dot_dot) → length name ≤ name_len head.form → Finds a b d head name (Some n) → Tells s b (InDirectory d) (NamesObject d name n.value)
-    found name n dots short finds m m' keeps has within = is_name m' d within head (header_is m m' keeps has) name dots short n.value (finds m m' keeps (one.has m m' has))
+    pub found : (name : List ℕ) (f : Found) → (name ≢ dot) × (name ≢ dot_dot) → length name ≤ name_len head.form → Finds a b d head name (Some f) → Tells s b (InDirectory d) (NamesObject d name f.number.value)
+    found name f dots short finds m m' keeps has within = is_name m' d within head (header_is m m' keeps has) name dots short f.number.value (finds m m' keeps (one.has m m' has))
 
     pub found_none : (name : List ℕ) → (name ≢ dot) × (name ≢ dot_dot) → length name ≤ name_len head.form → Finds a b d head name None → TellsRefusal s b (InDirectory d) (EndsAtPiece d name) NoEntry
     found_none name dots short finds m m' keeps has within = no_name m' d within head (header_is m m' keeps has) name dots short (finds m m' keeps (one.has m m' has))

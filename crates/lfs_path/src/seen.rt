@@ -112,7 +112,7 @@ fn entry_in<F: Files>(
         return Err(WalkFault::NameTooLong);
     }
     match find(files, directory, header, name) {
-        Ok(Some(number)) => Ok(number),
+        Ok(Some(found)) => Ok(found.number),
         Ok(None) => Err(WalkFault::NoEntry),
         Err(fault) => Err(WalkFault::Log(fault)),
     }

@@ -13,7 +13,7 @@ returns-in-Err-clause-refused g c = header_failed (g.F.Files.state c.args.files.
 pub returns-in-Ok-Some-clause-answer : goal.returns-in-Ok-Some-clause-answer
 returns-in-Ok-Some-clause-answer g c =
     found (g.F.Files.state c.args.files.now) (g.F.Files.state c.header_of.new.files) (g.F.Files.state c.find.new.files) c.args.directory.value c.in-Ok.header
-    c.header_of.ensures.reads c.find.ensures.reads c.in-Ok.ensures.answer c.args.name.now c.in-Ok-Some.number c.requires.dots (let most = c.longest_name-longest.ensures in let short = c.if-name-longest.false in omega (arith, most, short))
+    c.header_of.ensures.reads c.find.ensures.reads c.in-Ok.ensures.answer c.args.name.now c.in-Ok-Some.found c.requires.dots (let most = c.longest_name-longest.ensures in let short = c.if-name-longest.false in omega (arith, most, short))
     (rw c.in-Ok-Some.field-0-is at c.in-Ok-Some.ensures.answer)
 
 pub returns-in-Ok-None-clause-refused : goal.returns-in-Ok-None-clause-refused
