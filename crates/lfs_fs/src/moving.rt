@@ -23,9 +23,11 @@ use lfs_model::{FileNumber, Kind};
 use lfs_path::dirs::{add, repoint, take};
 use lfs_store::Header;
 
-/// An object, and its header.
+/// An object that a name gives, and its header.
 #[derive(Clone, Copy)]
 pub(crate) struct Object {
+    /// How many slots stand before that of the name.
+    pub place: u32,
     pub number: FileNumber,
     pub header: Header,
 }
@@ -92,7 +94,7 @@ impl<D: SectorDevice> Fs<D> {
             Ok(holders) => holders,
             Err(fault) => return Err(fault),
         };
-        match self.take_name(source.directory, from, source.name) {
+        match self.take_name(source.directory, from, source.name, source.object.place) {
             Ok(()) => {}
             Err(fault) => return Err(fault),
         }
@@ -131,12 +133,13 @@ impl<D: SectorDevice> Fs<D> {
         }
     }
 
-    /// Drafts a name away that is there.
+    /// Drafts a name away that is there, near this place.
     fn take_name(
         &mut self,
         directory: FileNumber,
         holder: Header,
         name: &[u8],
+        place: u32,
     ) -> Result<(), FsError>
         requires size { holder.size ≤ 1024 * slot_len holder.form }
         requires running { self.old.store.log.halted ≡ false }
@@ -151,7 +154,7 @@ impl<D: SectorDevice> Fs<D> {
         ensures refused { IfErr result (FailsOver D.SectorDevice.state self.old self.new
             directory.value holder name.now) }
     {
-        match take(&mut self.store, directory, holder, name) {
+        match take(&mut self.store, directory, holder, name, place) {
             Ok(true) => Ok(()),
             // The directory has the name.
             Ok(false) => Err(FsError::Device),
@@ -261,7 +264,9 @@ impl<D: SectorDevice> Fs<D> {
     {
         match target.replaced {
             None => self.add_name(target.directory, holder, number, target.name),
-            Some(_) => self.repoint_name(target.directory, holder, number, target.name),
+            Some(object) => {
+                self.repoint_name(target.directory, holder, number, target.name, object.place)
+            }
         }
     }
 
@@ -293,13 +298,14 @@ impl<D: SectorDevice> Fs<D> {
         }
     }
 
-    /// Drafts another number for a name that is there.
+    /// Drafts another number for a name that is there, near this place.
     fn repoint_name(
         &mut self,
         directory: FileNumber,
         holder: Header,
         number: FileNumber,
         name: &[u8],
+        place: u32,
     ) -> Result<(), FsError>
         requires size { holder.size ≤ 1024 * slot_len holder.form }
         requires name { IsName (name_len holder.form) name.now }
@@ -316,7 +322,7 @@ impl<D: SectorDevice> Fs<D> {
         ensures refused { IfErr result (FailsOver D.SectorDevice.state self.old self.new
             directory.value holder name.now) }
     {
-        match repoint(&mut self.store, directory, holder, name, number) {
+        match repoint(&mut self.store, directory, holder, name, place, number) {
             Ok(true) => Ok(()),
             // The directory has the name.
             Ok(false) => Err(FsError::Device),

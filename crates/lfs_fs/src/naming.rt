@@ -19,7 +19,7 @@ use lfs_device::SectorDevice;
 use lfs_layout::is_name;
 use lfs_model::{FileNumber, Kind};
 use lfs_path::Last;
-use lfs_path::dirs::{add, find, longest_name};
+use lfs_path::dirs::{Found, add, find, longest_name};
 use lfs_path::text::is_dots;
 use lfs_path::tree::{parent, resolve};
 use lfs_store::Header;
@@ -167,8 +167,8 @@ impl<D: SectorDevice> Fs<D> {
         self.make_entry(directory, header, number, Kind::Directory, &[], last.name)
     }
 
-    /// The header of a directory, and the number that a name gives in it. How long the name may
-    /// be, the directory's form says.
+    /// The header of a directory, and what a name gives in it. How long the name may be, the
+    /// directory's form says.
     ///
     /// # Errors
     ///
@@ -177,7 +177,7 @@ impl<D: SectorDevice> Fs<D> {
         &mut self,
         directory: FileNumber,
         name: &[u8],
-    ) -> Result<(Header, Option<FileNumber>), FsError>
+    ) -> Result<(Header, Option<Found>), FsError>
         ensures reads { OnlyReads D.SectorDevice.state self.old self.new }
         ensures answer { IfOk result (λ found. LooksUp D.SectorDevice.state self.old self.new
             directory.value name.now found.0 (value_of found.1)) }

@@ -18,6 +18,8 @@ use lfs_store::Header;
 pub(crate) struct OldEntry {
     /// The directory's header.
     pub holder: Header,
+    /// How many slots stand before that of the name.
+    pub place: u32,
     pub number: FileNumber,
     /// The object's header.
     pub header: Header,
@@ -49,14 +51,14 @@ impl<D: SectorDevice> Fs<D> {
             Ok(found) => found,
             Err(fault) => return Err(fault),
         };
-        let Some(number) = found else {
+        let Some(found) = found else {
             return Err(FsError::NoEntry);
         };
         // No volume has such a directory.
         if is_too_large(holder) {
             return Err(FsError::Device);
         }
-        let header = match self.header(number) {
+        let header = match self.header(found.number) {
             Ok(header) => header,
             Err(fault) => return Err(fault),
         };
@@ -68,7 +70,8 @@ impl<D: SectorDevice> Fs<D> {
         }
         Ok(OldEntry {
             holder,
-            number,
+            place: found.place,
+            number: found.number,
             header,
         })
     }

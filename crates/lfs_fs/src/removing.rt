@@ -92,14 +92,14 @@ impl<D: SectorDevice> Fs<D> {
             Ok(found) => found,
             Err(fault) => return Err(fault),
         };
-        let Some(number) = found else {
+        let Some(found) = found else {
             return Err(FsError::NoEntry);
         };
         // No volume has such a directory.
         if is_too_large(holder) {
             return Err(FsError::Device);
         }
-        let header = match self.header(number) {
+        let header = match self.header(found.number) {
             Ok(header) => header,
             Err(fault) => return Err(fault),
         };
@@ -115,7 +115,8 @@ impl<D: SectorDevice> Fs<D> {
         }
         Ok(OldEntry {
             holder,
-            number,
+            place: found.place,
+            number: found.number,
             header,
         })
     }
@@ -147,7 +148,7 @@ impl<D: SectorDevice> Fs<D> {
             Ok(holder) => holder,
             Err(fault) => return Err(fault),
         };
-        match take(&mut self.store, directory, holder, name) {
+        match take(&mut self.store, directory, holder, name, entry.place) {
             Ok(true) => Ok(()),
             // The directory has the name.
             Ok(false) => Err(FsError::Device),

@@ -15,6 +15,7 @@ use crate::sizes::{is_full, is_too_large};
 use lfs_device::SectorDevice;
 use lfs_layout::is_name;
 use lfs_model::{FileNumber, Kind};
+use lfs_path::dirs::Found;
 use lfs_path::text::is_dots;
 use lfs_path::tree::parent;
 use lfs_path::{Chain, Last};
@@ -234,25 +235,29 @@ impl<D: SectorDevice> Fs<D> {
         if is_too_large(holder) {
             return Err(FsError::Device);
         }
-        let Some(number) = found else {
+        let Some(found) = found else {
             return Ok((holder, None));
         };
-        match self.object(number) {
+        match self.object(found) {
             Ok(object) => Ok((holder, Some(object))),
             Err(fault) => Err(fault),
         }
     }
 
-    /// The object of a number.
-    fn object(&mut self, number: FileNumber) -> Result<Object, FsError>
+    /// The object that a name gives.
+    fn object(&mut self, found: Found) -> Result<Object, FsError>
         ensures reads { OnlyReads D.SectorDevice.state self.old self.new }
         ensures found { IfOk result (FindsObject D.SectorDevice.state self.old self.new
-            number.value) }
+            found.number.value) }
         ensures missing { IfErr result (FailsWhere D.SectorDevice.state self.old self.new
-            (λ m. IsObject m number.value)) }
+            (λ m. IsObject m found.number.value)) }
     {
-        match self.header(number) {
-            Ok(header) => Ok(Object { number, header }),
+        match self.header(found.number) {
+            Ok(header) => Ok(Object {
+                place: found.place,
+                number: found.number,
+                header,
+            }),
             Err(fault) => Err(fault),
         }
     }

@@ -26,7 +26,7 @@ pub returns-then-is_too_large-clause-refused :
 returns-then-is_too_large-clause-refused g c =
     inl (inr (
       c.in-Ok.found.0,
-      c.in-Some.number.value,
+      c.in-Some.found.number.value,
       look_is g.D.SectorDevice.state c.args.self.now c.look_in.new.self c.args.directory.value
           c.args.name.now c.in-Ok.found.0 (value_of c.in-Ok.found.1) _ (ap value_of c.in-Some.is) c.in-Ok.ensures.answer,
       inl (c.is_too_large.ensures.large c.if-is_too_large.true),
@@ -37,7 +37,7 @@ pub returns-in-Err-header-clause-refused : goal.returns-in-Err-header-clause-ref
 returns-in-Err-header-clause-refused g c =
     header_refuses g.D.SectorDevice.state c.args.self.now c.look_in.new.self c.args.directory.value
     c.args.name.now c.in-Ok.ensures.reads c.header.new.self c.in-Err-header.ensures.reads
-    c.in-Ok.found.0 c.in-Some.number.value
+    c.in-Ok.found.0 c.in-Some.found.number.value
     (look_is g.D.SectorDevice.state c.args.self.now c.look_in.new.self c.args.directory.value
     c.args.name.now c.in-Ok.found.0 (value_of c.in-Ok.found.1) _ (ap value_of c.in-Some.is) c.in-Ok.ensures.answer)
     c.in-Err-header.fault c.in-Err-header.ensures.missing
@@ -49,11 +49,11 @@ returns-then-not-is_directory-clause-refused g c = (
     c.in-Ok.found.0,
     c.in-Ok.ensures.short,
     (
-      c.in-Some.number.value,
+      c.in-Some.found.number.value,
       c.in-Ok-header.header,
       sees_entry g.D.SectorDevice.state c.args.self.now c.look_in.new.self c.args.directory.value
           c.args.name.now c.in-Ok.ensures.reads c.header.new.self c.in-Ok-header.ensures.reads
-          c.in-Ok.found.0 c.in-Some.number.value
+          c.in-Ok.found.0 c.in-Some.found.number.value
           (look_is g.D.SectorDevice.state c.args.self.now c.look_in.new.self c.args.directory.value
           c.args.name.now c.in-Ok.found.0 (value_of c.in-Ok.found.1) _ (ap value_of c.in-Some.is) c.in-Ok.ensures.answer)
           c.in-Ok-header.header c.in-Ok-header.ensures.answer,
@@ -69,11 +69,11 @@ returns-then-header-gt0-clause-refused g c = (
     c.in-Ok.found.0,
     c.in-Ok.ensures.short,
     (
-      c.in-Some.number.value,
+      c.in-Some.found.number.value,
       c.in-Ok-header.header,
       sees_entry g.D.SectorDevice.state c.args.self.now c.look_in.new.self c.args.directory.value
           c.args.name.now c.in-Ok.ensures.reads c.header.new.self c.in-Ok-header.ensures.reads
-          c.in-Ok.found.0 c.in-Some.number.value
+          c.in-Ok.found.0 c.in-Some.found.number.value
           (look_is g.D.SectorDevice.state c.args.self.now c.look_in.new.self c.args.directory.value
           c.args.name.now c.in-Ok.found.0 (value_of c.in-Ok.found.1) _ (ap value_of c.in-Some.is) c.in-Ok.ensures.answer)
           c.in-Ok-header.header c.in-Ok-header.ensures.answer,
@@ -88,12 +88,12 @@ returns-then-holder-lt-LEAST_LINKS-clause-refused g c =
     let none = c.if-header-gt0.false in
     inr (
       c.in-Ok.found.0,
-      c.in-Some.number.value,
+      c.in-Some.found.number.value,
       c.in-Ok-header.header,
       record {
         sees = sees_entry g.D.SectorDevice.state c.args.self.now c.look_in.new.self c.args.directory.value
             c.args.name.now c.in-Ok.ensures.reads c.header.new.self c.in-Ok-header.ensures.reads
-            c.in-Ok.found.0 c.in-Some.number.value
+            c.in-Ok.found.0 c.in-Some.found.number.value
             (look_is g.D.SectorDevice.state c.args.self.now c.look_in.new.self c.args.directory.value
             c.args.name.now c.in-Ok.found.0 (value_of c.in-Ok.found.1) _ (ap value_of c.in-Some.is) c.in-Ok.ensures.answer)
             c.in-Ok-header.header c.in-Ok-header.ensures.answer;
@@ -111,7 +111,7 @@ returns-clause-has g c =
     record {
       sees = sees_entry g.D.SectorDevice.state c.args.self.now c.look_in.new.self c.args.directory.value
           c.args.name.now c.in-Ok.ensures.reads c.header.new.self c.in-Ok-header.ensures.reads
-          c.in-Ok.found.0 c.in-Some.number.value
+          c.in-Ok.found.0 c.in-Some.found.number.value
           (look_is g.D.SectorDevice.state c.args.self.now c.look_in.new.self c.args.directory.value
           c.args.name.now c.in-Ok.found.0 (value_of c.in-Ok.found.1) _ (ap value_of c.in-Some.is) c.in-Ok.ensures.answer)
           c.in-Ok-header.header c.in-Ok-header.ensures.answer;

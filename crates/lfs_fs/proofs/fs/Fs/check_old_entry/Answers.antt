@@ -27,9 +27,9 @@ pub returns-then-is_too_large-clause-refused :
     goal.returns-then-is_too_large-clause-refused
 returns-then-is_too_large-clause-refused g c = inr (
   c.in-Ok.found.0,
-  c.in-Some.number.value,
+  c.in-Some.found.number.value,
   looks_as g.D.SectorDevice.state c.args.self.now c.look_in.new.self c.args.directory.value
-      c.args.last.name.now c.in-Ok.found.0 (value_of c.in-Ok.found.1) (Some c.in-Some.number.value) (ap value_of c.in-Some.is)
+      c.args.last.name.now c.in-Ok.found.0 (value_of c.in-Ok.found.1) (Some c.in-Some.found.number.value) (ap value_of c.in-Some.is)
       c.in-Ok.ensures.answer,
   inl (c.is_too_large.ensures.large c.if-is_too_large.true),
 )
@@ -37,9 +37,9 @@ returns-then-is_too_large-clause-refused g c = inr (
 pub returns-in-Err-header-clause-refused : goal.returns-in-Err-header-clause-refused
 returns-in-Err-header-clause-refused g c =
     refuses_header g.D.SectorDevice.state c.args.self.now c.look_in.new.self c.args.directory.value
-    c.args.last.name.now c.in-Ok.ensures.reads c.in-Ok.found.0 c.in-Some.number.value
+    c.args.last.name.now c.in-Ok.ensures.reads c.in-Ok.found.0 c.in-Some.found.number.value
     (looks_as g.D.SectorDevice.state c.args.self.now c.look_in.new.self c.args.directory.value
-    c.args.last.name.now c.in-Ok.found.0 (value_of c.in-Ok.found.1) (Some c.in-Some.number.value) (ap value_of c.in-Some.is)
+    c.args.last.name.now c.in-Ok.found.0 (value_of c.in-Ok.found.1) (Some c.in-Some.found.number.value) (ap value_of c.in-Some.is)
     c.in-Ok.ensures.answer)
     c.header.new.self c.in-Err-header.ensures.reads c.args.last.slash c.in-Err-header.fault
     c.in-Err-header.ensures.missing
@@ -53,12 +53,12 @@ returns-then-is_directory-clause-refused g c =
         c.in-Ok.found.0,
         c.in-Ok.ensures.short,
         (
-          c.in-Some.number.value,
+          c.in-Some.found.number.value,
           c.in-Ok-header.header,
           sees_entry g.D.SectorDevice.state c.args.self.now c.look_in.new.self c.args.directory.value
-              c.args.last.name.now c.in-Ok.ensures.reads c.in-Ok.found.0 c.in-Some.number.value
+              c.args.last.name.now c.in-Ok.ensures.reads c.in-Ok.found.0 c.in-Some.found.number.value
               (looks_as g.D.SectorDevice.state c.args.self.now c.look_in.new.self c.args.directory.value
-              c.args.last.name.now c.in-Ok.found.0 (value_of c.in-Ok.found.1) (Some c.in-Some.number.value)
+              c.args.last.name.now c.in-Ok.found.0 (value_of c.in-Ok.found.1) (Some c.in-Some.found.number.value)
               (ap value_of c.in-Some.is) c.in-Ok.ensures.answer)
               c.header.new.self c.in-Ok-header.ensures.reads c.in-Ok-header.header
               c.in-Ok-header.ensures.answer,
@@ -76,12 +76,12 @@ returns-then-last-clause-refused g c = (
     c.in-Ok.found.0,
     c.in-Ok.ensures.short,
     (
-      c.in-Some.number.value,
+      c.in-Some.found.number.value,
       c.in-Ok-header.header,
       sees_entry g.D.SectorDevice.state c.args.self.now c.look_in.new.self c.args.directory.value
-          c.args.last.name.now c.in-Ok.ensures.reads c.in-Ok.found.0 c.in-Some.number.value
+          c.args.last.name.now c.in-Ok.ensures.reads c.in-Ok.found.0 c.in-Some.found.number.value
           (looks_as g.D.SectorDevice.state c.args.self.now c.look_in.new.self c.args.directory.value
-          c.args.last.name.now c.in-Ok.found.0 (value_of c.in-Ok.found.1) (Some c.in-Some.number.value)
+          c.args.last.name.now c.in-Ok.found.0 (value_of c.in-Ok.found.1) (Some c.in-Some.found.number.value)
           (ap value_of c.in-Some.is) c.in-Ok.ensures.answer)
           c.header.new.self c.in-Ok-header.ensures.reads c.in-Ok-header.header
           c.in-Ok-header.ensures.answer,
@@ -94,9 +94,9 @@ pub returns-clause-has : goal.returns-clause-has
 returns-clause-has g c =
     record {
       sees = sees_entry g.D.SectorDevice.state c.args.self.now c.look_in.new.self c.args.directory.value
-          c.args.last.name.now c.in-Ok.ensures.reads c.in-Ok.found.0 c.in-Some.number.value
+          c.args.last.name.now c.in-Ok.ensures.reads c.in-Ok.found.0 c.in-Some.found.number.value
           (looks_as g.D.SectorDevice.state c.args.self.now c.look_in.new.self c.args.directory.value
-          c.args.last.name.now c.in-Ok.found.0 (value_of c.in-Ok.found.1) (Some c.in-Some.number.value) (ap value_of c.in-Some.is)
+          c.args.last.name.now c.in-Ok.found.0 (value_of c.in-Ok.found.1) (Some c.in-Some.found.number.value) (ap value_of c.in-Some.is)
           c.in-Ok.ensures.answer)
           c.header.new.self c.in-Ok-header.ensures.reads c.in-Ok-header.header
           c.in-Ok-header.ensures.answer;

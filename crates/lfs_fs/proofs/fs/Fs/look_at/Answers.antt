@@ -20,9 +20,9 @@ returns-in_default-clause-found g c =
 pub returns-in-Ok-object-clause-found : goal.returns-in-Ok-object-clause-found
 returns-in-Ok-object-clause-found g c =
     some_there g.D.SectorDevice.state c.args.self.now c.look_in.new.self c.object.new.self c.in-Ok.ensures.reads c.in-Ok-object.ensures.reads c.args.directory.value c.args.name.now c.in-Ok.found.0
-    (value_of c.in-Ok.found.1) c.in-Some.number.value (ap value_of c.in-Some.is) c.in-Ok.ensures.answer (c.is_too_large.ensures.fits c.if-is_too_large.false) c.in-Ok-object.object c.in-Ok-object.ensures.found
+    (value_of c.in-Ok.found.1) c.in-Some.found.number.value (ap value_of c.in-Some.is) c.in-Ok.ensures.answer (c.is_too_large.ensures.fits c.if-is_too_large.false) c.in-Ok-object.object c.in-Ok-object.ensures.found
 
 pub returns-in-Err-object-clause-missing : goal.returns-in-Err-object-clause-missing
 returns-in-Err-object-clause-missing g c =
     inr (object_lost g.D.SectorDevice.state c.args.self.now c.look_in.new.self c.object.new.self c.in-Ok.ensures.reads c.in-Err-object.ensures.reads c.args.directory.value c.args.name.now c.in-Ok.found.0
-    (value_of c.in-Ok.found.1) c.in-Some.number.value (ap value_of c.in-Some.is) c.in-Ok.ensures.answer c.in-Err-object.fault c.in-Err-object.ensures.missing)
+    (value_of c.in-Ok.found.1) c.in-Some.found.number.value (ap value_of c.in-Some.is) c.in-Ok.ensures.answer c.in-Err-object.fault c.in-Err-object.ensures.missing)
