@@ -220,6 +220,6 @@ module _ {D : Type 0} (state : D → DeviceState) (lawful : (d : D) → IsLawful
         → OnOk r (MovesEntry state mid new source target)
         → IfErr r (MovesNone state mid new source target)
         → Serves state v (seen new) (Rename a b) (answer_by (λ _. Done) r)
-    move_ends new (Ok u) moved refused = move_made new moved
+    move_ends new (Ok u) made refused = move_made new made
     move_ends new (Err fault) moved refused =
         ⊎_elim (move_unmade new fault) (move_undrafted new fault) refused

@@ -16,6 +16,7 @@ use Rattle.lfs_model.specs.Walk.{At, Parent}
 use Rattle.lfs_model.proofs.Growing.{same_or_not}
 use Rattle.lfs_model.proofs.Shrinking.{named_counts}
 use Rattle.lfs_files.specs.declared.header.Header.{Header}
+use Rattle.lfs_files.specs.Headers.{as_header}
 use Rattle.lfs_store.proofs.Apart.{no_change}
 use Rattle.lfs_path.specs.declared.last.Last.{Last}
 use Rattle.lfs_path.specs.Lasts.{HasLast}

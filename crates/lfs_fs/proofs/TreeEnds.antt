@@ -130,7 +130,7 @@ module _ {D : Type 0} (state : D → DeviceState) where
         in_directory = names_in_directory (segments_of (seen old)) m s (map_of_volume state (seen old) k m0 m s is) d (dir k m0 m s is has) head has.0 ∙ sym names_are
 
         pub names : AreNames s.tree d es
-        names = are_names s.tree d es (λ name n found. ap (find byte_cmp name) in_directory ∙ found) (subst (λ ms. T (is_sorted byte_cmp ms)) (sym names_are) (sorted_names (slots_at m d head)))
+        names = are_names s.tree d es (λ name n found. ap (find byte_cmp name) in_directory ∙ found) (subst (λ ms. T (is_sorted byte_cmp ms)) (sym names_are) (sorted_names head.form (slots_at m d head)))
 
       pub directory_tells : (rows : List TreeRow) → TellsRows state listed new d es rows → TellsDirectory state old new d head rows
       directory_tells rows told empty k m0 m s keeps is has =

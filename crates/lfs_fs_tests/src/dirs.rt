@@ -14,32 +14,38 @@ use std::test::Fail;
 /// A call over the root with so many slots, and what it answers.
 #[derive(Clone, Copy)]
 enum Step<'a> {
-    /// Looks a name up.
-    Find(u8, &'a [u8], Option<u16>),
-    /// Has a name of the root give another number.
-    Repoint(u8, &'a [u8], u16),
-    /// Stages what was drafted, and takes a name of the root out.
-    Take(u8, &'a [u8]),
+    /// Looks a name up: the place of its slot, and its number.
+    Find(u8, &'a [u8], Option<(u32, u16)>),
+    /// Has a name of the root, looked for near a place, give another number.
+    Repoint(u8, u32, &'a [u8], u16),
+    /// Stages what was drafted, and takes a name of the root out, looked for near a place.
+    Take(u8, u32, &'a [u8]),
     /// Lists the names with their numbers.
     List(u8, &'a [(&'a [u8], u16)]),
 }
 
-/// Whether a name gives this number, or isn't there.
+/// Whether a name's slot has this place and number, or isn't there.
 fn is_found(
     store: &mut Store<MemDevice>,
     header: Header,
     name: &[u8],
-    number: Option<u16>,
+    slot: Option<(u32, u16)>,
 ) -> bool {
     match find(store, FileNumber::ROOT, header, name) {
-        Ok(Some(found)) => number == Some(found.value),
-        Ok(None) => number == None,
+        Ok(Some(found)) => slot == Some((found.place, found.number.value)),
+        Ok(None) => slot == None,
         Err(_) => false,
     }
 }
 
 /// Whether a name is there, and comes to give another number.
-fn is_repointed(store: &mut Store<MemDevice>, header: Header, name: &[u8], number: u16) -> bool
+fn is_repointed(
+    store: &mut Store<MemDevice>,
+    header: Header,
+    place: u32,
+    name: &[u8],
+    number: u16,
+) -> bool
     requires { header.size + slot_len header.form ≤ 1024 * slot_len header.form }
 {
     let Some(number) = FileNumber::new(number) else {
@@ -48,18 +54,18 @@ fn is_repointed(store: &mut Store<MemDevice>, header: Header, name: &[u8], numbe
     if !is_name(header.form, name) {
         return false;
     }
-    repoint(store, FileNumber::ROOT, header, name, number) == Ok(true)
+    repoint(store, FileNumber::ROOT, header, name, place, number) == Ok(true)
 }
 
 /// Whether the draft is staged, and a name is there and is then taken out.
-fn is_taken(store: &mut Store<MemDevice>, header: Header, name: &[u8]) -> bool
+fn is_taken(store: &mut Store<MemDevice>, header: Header, place: u32, name: &[u8]) -> bool
     requires { header.size + slot_len header.form ≤ 1024 * slot_len header.form }
 {
     if store.log.stage(&store.draft.changes, store.drafted) != Ok(()) {
         return false;
     }
     store.draft.clear();
-    take(store, FileNumber::ROOT, header, name) == Ok(true)
+    take(store, FileNumber::ROOT, header, name, place) == Ok(true)
 }
 
 /// Whether the entries of a directory are these.
@@ -80,13 +86,16 @@ fn is_well(
     step: Step,
 ) -> Result<bool, Fail> {
     match step {
-        Step::Find(slots, name, number) => {
-            Ok(is_found(store, root(form, u16::from(slots)), name, number))
+        Step::Find(slots, name, slot) => {
+            Ok(is_found(store, root(form, u16::from(slots)), name, slot))
         }
-        Step::Repoint(slots, name, number) => {
-            Ok(is_repointed(store, root(form, u16::from(slots)), name, number))
+        Step::Repoint(slots, place, name, number) => {
+            let header = root(form, u16::from(slots));
+            Ok(is_repointed(store, header, place, name, number))
         }
-        Step::Take(slots, name) => Ok(is_taken(store, root(form, u16::from(slots)), name)),
+        Step::Take(slots, place, name) => {
+            Ok(is_taken(store, root(form, u16::from(slots)), place, name))
+        }
         Step::List(slots, rows) => {
             let entries = list(alloc, store, FileNumber::ROOT, root(form, u16::from(slots)))?;
             Ok(are_entries(&entries, rows))
@@ -120,10 +129,11 @@ fn names_are_found_and_listed_in_order(rt: HostRuntime) -> Result<(), Fail> {
         (b"i".as_slice(), 2),
     ];
     let steps = [
-        Step::Find(9, b"i", Some(2)),
-        Step::Find(9, b"b", Some(9)),
-        Step::Find(9, b"a", Some(10)),
+        Step::Find(9, b"i", Some((0, 2))),
+        Step::Find(9, b"b", Some((7, 9))),
+        Step::Find(9, b"a", Some((8, 10))),
         Step::Find(9, b"j", None),
+        Step::Find(9, b"ab", None),
         Step::List(9, &rows),
     ];
     assert_eq!(rt; first_wrong(rt.alloc(), 0, &steps)?, None);
@@ -134,9 +144,14 @@ fn names_are_found_and_listed_in_order(rt: HostRuntime) -> Result<(), Fail> {
 #[test]
 fn a_name_gives_another_number(rt: HostRuntime) -> Result<(), Fail> {
     let steps = [
-        Step::Repoint(9, b"b", 77),
-        Step::Find(9, b"b", Some(77)),
-        Step::Find(9, b"a", Some(10)),
+        Step::Repoint(9, 7, b"b", 77),
+        Step::Find(9, b"b", Some((7, 77))),
+        Step::Find(9, b"a", Some((8, 10))),
+        // From another block, and from behind the last slot.
+        Step::Repoint(9, 0, b"a", 78),
+        Step::Repoint(9, 9, b"i", 79),
+        Step::Find(9, b"a", Some((8, 78))),
+        Step::Find(9, b"i", Some((0, 79))),
     ];
     assert_eq!(rt; first_wrong(rt.alloc(), 0, &steps)?, None);
     assert_eq!(rt; first_wrong(rt.alloc(), 1, &steps)?, None);
@@ -146,12 +161,18 @@ fn a_name_gives_another_number(rt: HostRuntime) -> Result<(), Fail> {
 #[test]
 fn the_last_slot_comes_into_the_gap(rt: HostRuntime) -> Result<(), Fail> {
     let steps = [
-        Step::Take(9, b"h"),
+        Step::Take(9, 1, b"h"),
         Step::Find(8, b"h", None),
-        Step::Find(8, b"a", Some(10)),
-        Step::Find(8, b"b", Some(9)),
-        Step::Find(8, b"f", Some(5)),
-        Step::Find(8, b"e", Some(6)),
+        Step::Find(8, b"a", Some((1, 10))),
+        Step::Find(8, b"b", Some((7, 9))),
+        Step::Find(8, b"f", Some((3, 5))),
+        Step::Find(8, b"e", Some((4, 6))),
+        // From another block, and from behind the last slot.
+        Step::Take(8, 8, b"g"),
+        Step::Find(7, b"b", Some((2, 9))),
+        Step::Take(7, 6, b"i"),
+        Step::Find(6, b"c", Some((0, 8))),
+        Step::Find(6, b"i", None),
     ];
     assert_eq!(rt; first_wrong(rt.alloc(), 0, &steps)?, None);
     assert_eq!(rt; first_wrong(rt.alloc(), 1, &steps)?, None);
@@ -190,7 +211,7 @@ fn are_long_names_found(alloc: Global, slots: u16) -> Result<bool, Fail>
             &mut store,
             root(1, slots),
             &name_of::<123>(place),
-            Some(2 + place),
+            Some((u32::from(place), 2 + place)),
         ) {
             return Ok(false);
         }

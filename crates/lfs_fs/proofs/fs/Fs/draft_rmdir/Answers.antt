@@ -19,7 +19,7 @@ use Rattle.lfs_fs.proofs.GrownDrafts.{takes_grow}
 use Rattle.lfs_fs.proofs.fs.Fs.draft_rmdir.Goals as goal
 
 pub take-requires : goal.take-requires
-take-requires g c = subst (λ (h : Header). h.size ≤ 1024 * slot_len h.form) (sym c.in-Ok-drop_subdirectory.ensures.header) c.requires.size
+take-requires g c = record { size = subst (λ (h : Header). h.size ≤ 1024 * slot_len h.form) (sym c.in-Ok-drop_subdirectory.ensures.header) c.requires.size }
 
 -- ---- the object stays
 pub returns-in-Err-clause-refused : goal.returns-in-Err-clause-refused
