@@ -221,5 +221,5 @@ module _ {D : Type 0} (state : D → DeviceState) (lawful : (d : D) → IsLawful
         → IfErr r (MovesNone state mid new source target)
         → Serves state v (seen new) (Rename a b) (answer_by (λ _. Done) r)
     move_ends new (Ok u) made refused = move_made new made
-    move_ends new (Err fault) moved refused =
+    move_ends new (Err fault) none refused =
         ⊎_elim (move_unmade new fault) (move_undrafted new fault) refused
