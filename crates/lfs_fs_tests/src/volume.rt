@@ -92,8 +92,8 @@ pub fn add_name(store: &mut Store<MemDevice>, form: u8, slots: u16, name: &[u8])
 
 /// Adds names of one letter, at most nine, for the files from 2 on.
 fn add_names(store: &mut Store<MemDevice>, form: u8, letters: &[u8]) -> Result<(), Fail> {
-    for (slots, letter) in (0..9u16).zip(letters) {
-        add_name(store, form, slots, &[*letter])?;
+    for (slots, letter) in (0..9u8).zip(letters) {
+        add_name(store, form, u16::from(slots), &[*letter])?;
     }
     Ok(())
 }
