@@ -1,8 +1,11 @@
 //! Why a line of a script is bad, for people.
-use lfs_script::{LONGEST_LINE, WordFault, read_escaped, read_hex, read_u8, read_u32, read_u64};
+use lfs_image::fault::Fault;
+use lfs_image::printing::{put, put_count, put_word};
+use lfs_script::{
+    Command, LONGEST_LINE, WordFault, read_escaped, read_hex, read_u8, read_u32, read_u64,
+};
 use std::alloc::Global;
-use std::fmt;
-use std::fmt::{Display, Formatter};
+use std::io::Write;
 
 /// How an argument is spelt.
 #[derive(Clone, Copy)]
@@ -76,34 +79,22 @@ const TEXT: Argument = Argument {
     spelling: Spelling::Escaped,
 };
 
-/// A command's word and its arguments.
-type Form = (&'static str, &'static [Argument]);
-
-/// The commands of the script language.
-const FORMS: &[Form] = &[
-    ("create", &[P]),
-    ("open", &[P]),
-    ("close", &[H]),
-    ("pread", &[H, OFF, LEN]),
-    ("pwrite", &[H, OFF, HEX]),
-    ("fill", &[H, OFF, LEN, BYTE]),
-    ("truncate", &[H, LONG_LEN]),
-    ("mkdir", &[P]),
-    ("link", &[A, B]),
-    ("symlink", &[TEXT, P]),
-    ("readlink", &[P]),
-    ("unlink", &[P]),
-    ("rmdir", &[P]),
-    ("rename", &[A, B]),
-    ("stat", &[P]),
-    ("lstat", &[P]),
-    ("readdir", &[P]),
-    ("fsync", &[H]),
-    ("sync", &[]),
-    ("clean", &[]),
-    ("space", &[]),
-    ("tree", &[]),
-];
+// The arguments of a command, in their order.
+fn arguments_of(command: Command) -> &'static [Argument] {
+    match command {
+        Command::Create | Command::Open | Command::Mkdir | Command::Rmdir => &[P],
+        Command::Readlink | Command::Unlink | Command::Readdir => &[P],
+        Command::Stat | Command::Lstat => &[P],
+        Command::Close | Command::Fsync => &[H],
+        Command::Pread => &[H, OFF, LEN],
+        Command::Pwrite => &[H, OFF, HEX],
+        Command::Fill => &[H, OFF, LEN, BYTE],
+        Command::Truncate => &[H, LONG_LEN],
+        Command::Link | Command::Rename => &[A, B],
+        Command::Symlink => &[TEXT, P],
+        Command::Sync | Command::Clean | Command::Space | Command::Tree => &[],
+    }
+}
 
 /// Why a line is bad.
 #[derive(Clone, Copy)]
@@ -116,23 +107,17 @@ pub enum Reason<'a> {
     Spaces,
     /// No command has this word.
     Unknown(&'a [u8]),
+    /// The command of this word takes another number of arguments.
     Count {
-        word: &'static str,
+        word: &'a [u8],
         takes: usize,
         given: usize,
     },
+    /// An argument of the command of this word is spelt wrong.
     Spelling {
-        word: &'static str,
+        word: &'a [u8],
         argument: Argument,
     },
-}
-
-/// What people are told of a bad line.
-#[derive(Clone, Copy)]
-pub struct BadLine<'a> {
-    /// Counted from 1.
-    pub number: u64,
-    pub reason: Reason<'a>,
 }
 
 // Whether a word of bytes is spelt well, for which memory may have been refused.
@@ -152,24 +137,16 @@ impl Argument {
     }
 }
 
-fn form_of(word: &[u8]) -> Option<Form> {
-    for form in FORMS {
-        if form.0.as_bytes() == word {
-            return Some(*form);
-        }
-    }
-    None
-}
-
 // Why a line is bad that is a row of words.
 fn reason_of_words<'a>(alloc: Global, line: &'a [u8]) -> Reason<'a> {
     let mut words = line.split(|byte| *byte == b' ');
-    let Some(first) = words.next() else {
+    let Some(word) = words.next() else {
         return Reason::Empty;
     };
-    let Some((word, arguments)) = form_of(first) else {
-        return Reason::Unknown(first);
+    let Some(command) = Command::of(word) else {
+        return Reason::Unknown(word);
     };
+    let arguments = arguments_of(command);
     let takes = arguments.len();
     let given = line.iter().filter(|byte| **byte == b' ').count();
     for argument in arguments {
@@ -207,76 +184,96 @@ pub fn reason_of<'a>(alloc: Global, line: Option<&'a [u8]>) -> Reason<'a> {
     reason_of_words(alloc, line)
 }
 
-impl Display for Spelling {
-    fn fmt<W: fmt::Write>(&self, f: &mut Formatter<W>) -> fmt::Result {
-        let most = match self {
-            Spelling::Byte => u64::from(u8::MAX),
-            Spelling::Short => u64::from(u32::MAX),
-            Spelling::Long => u64::MAX,
-            Spelling::Hex => {
-                return f.write_str("two lower case digits for each byte, or - for none");
-            }
-            Spelling::Escaped => {
-                return f.write_str(
-                    "an escaped word: a backslash and two lower case digits for a backslash and for a byte outside 0x21 to 0x7e",
-                );
-            }
-        };
-        write!(f, "decimal digits without leading zeros, at most {most}")
-    }
-}
-
-// Writes the beginning of a word, with its escapes.
-fn put_word<W: fmt::Write>(f: &mut Formatter<W>, word: &[u8]) -> fmt::Result {
-    for byte in word.iter().take(LONGEST_SHOWN) {
-        match byte {
-            b'\\' => f.write_str("\\5c")?,
-            0x21..=0x7e => f.write_char(char::from(*byte))?,
-            _ => write!(f, "\\{byte:02x}")?,
-        }
-    }
-    if word.len() > LONGEST_SHOWN {
-        return f.write_str("..");
-    }
-    Ok(())
-}
-
 /// The most bytes that are shown of a word.
 const LONGEST_SHOWN: usize = 40;
 
-fn put_count<W: fmt::Write>(
-    f: &mut Formatter<W>,
-    word: &str,
-    takes: usize,
-    given: usize,
-) -> fmt::Result {
-    let plural = if takes == 1 { "" } else { "s" };
-    write!(f, "'{word}' takes {takes} argument{plural}, {given} given")
+// Writes the beginning of a word as a word of scripts, in quotes.
+fn put_shown<W: Write>(output: &mut W, word: &[u8]) -> Result<(), Fault> {
+    put(output, b"'")?;
+    put_word(output, &word[..word.len().min(LONGEST_SHOWN)])?;
+    if word.len() > LONGEST_SHOWN {
+        put(output, b"..")?;
+    }
+    put(output, b"'")
 }
 
-impl Display for Reason<'_> {
-    fn fmt<W: fmt::Write>(&self, f: &mut Formatter<W>) -> fmt::Result {
-        match self {
-            Reason::Lost => f.write_str("it is bad"),
-            Reason::TooLong => write!(f, "it has more than {LONGEST_LINE} bytes"),
-            Reason::Empty => f.write_str("it is empty"),
-            Reason::Spaces => f.write_str("one space stands between two words, and nowhere else"),
-            Reason::Unknown(word) => {
-                f.write_str("no command has the word '")?;
-                put_word(f, word)?;
-                f.write_str("'")
-            }
-            Reason::Count { word, takes, given } => put_count(f, word, *takes, *given),
-            Reason::Spelling { word, argument } => {
-                let Argument { name, spelling } = argument;
-                write!(f, "{name} of '{word}' has to be {spelling}")
-            }
+// Writes how many arguments a command takes, and how many there are.
+fn put_arguments<W: Write>(output: &mut W, takes: usize, given: usize) -> Result<(), Fault> {
+    let noun = if takes == 1 {
+        b" argument, ".as_slice()
+    } else {
+        b" arguments, "
+    };
+    put_count(output, b" takes ", takes as u64)?;
+    put_count(output, noun, given as u64)?;
+    put(output, b" given")
+}
+
+// Writes how an argument is to be spelt.
+fn put_spelling<W: Write>(output: &mut W, spelling: Spelling) -> Result<(), Fault> {
+    let most = match spelling {
+        Spelling::Byte => u64::from(u8::MAX),
+        Spelling::Short => u64::from(u32::MAX),
+        Spelling::Long => u64::MAX,
+        Spelling::Hex => {
+            return put(
+                output,
+                b"two lower case digits for each byte, or - for none",
+            );
+        }
+        Spelling::Escaped => {
+            return put(
+                output,
+                b"an escaped word: a backslash and two lower case digits for a backslash and for a byte outside 0x21 to 0x7e",
+            );
+        }
+    };
+    put_count(
+        output,
+        b"decimal digits without leading zeros, at most ",
+        most,
+    )
+}
+
+// Writes why a line is bad.
+fn put_reason<W: Write>(output: &mut W, reason: Reason<'_>) -> Result<(), Fault> {
+    match reason {
+        Reason::Lost => put(output, b"it is bad"),
+        Reason::TooLong => {
+            put_count(output, b"it has more than ", LONGEST_LINE as u64)?;
+            put(output, b" bytes")
+        }
+        Reason::Empty => put(output, b"it is empty"),
+        Reason::Spaces => put(
+            output,
+            b"one space stands between two words, and nowhere else",
+        ),
+        Reason::Unknown(word) => {
+            put(output, b"no command has the word ")?;
+            put_shown(output, word)
+        }
+        Reason::Count { word, takes, given } => {
+            put_shown(output, word)?;
+            put_arguments(output, takes, given)
+        }
+        Reason::Spelling { word, argument } => {
+            put(output, argument.name.as_bytes())?;
+            put(output, b" of ")?;
+            put_shown(output, word)?;
+            put(output, b" has to be ")?;
+            put_spelling(output, argument.spelling)
         }
     }
 }
 
-impl Display for BadLine<'_> {
-    fn fmt<W: fmt::Write>(&self, f: &mut Formatter<W>) -> fmt::Result {
-        write!(f, "lfs: line {}: {}", self.number, self.reason)
-    }
+/// Writes the line that tells people why a line of this number, counted from 1, is bad.
+pub fn put_bad_line<W: Write>(
+    output: &mut W,
+    number: u64,
+    reason: Reason<'_>,
+) -> Result<(), Fault> {
+    put_count(output, b"lfs: line ", number)?;
+    put(output, b": ")?;
+    put_reason(output, reason)?;
+    put(output, b"\n")
 }

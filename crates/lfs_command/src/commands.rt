@@ -6,7 +6,7 @@ ghost use Rattle.lfs_device.specs.MemoryDevice.{device_state};
 ghost use Rattle.lfs_command.specs.Asking.{HasWord};
 ghost use Rattle.lfs_command.specs.Playing.{PlaysToRefusal, Plays, PlaysStrictly};
 
-use crate::bad_line::{BadLine, reason_of};
+use crate::bad_line::{put_bad_line, reason_of};
 use crate::changing::change_volume;
 use crate::putting::put_into;
 use crate::remembering::LineKeeper;
@@ -408,7 +408,7 @@ fn tell<I, E: Write>(alloc: Global, told: Told<'_>, input: &LineKeeper<I>, error
         return;
     };
     let reason = reason_of(alloc, input.line(number));
-    let _ = errors.writeln(BadLine { number, reason });
+    let _ = put_bad_line(errors, number, reason);
 }
 
 /// Runs a command line, whose first word is the program's name, and answers the exit status: 0

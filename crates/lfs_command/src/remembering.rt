@@ -2,6 +2,7 @@
 ghost use Rattle.std.specs.Prelude.{◌≡◌, ◌<◌, vec_len};
 
 use lfs_script::LONGEST_LINE;
+use memchr::{memchr_iter, memrchr};
 use std::alloc::Global;
 use std::io;
 use std::io::Read;
@@ -40,7 +41,7 @@ impl<R> LineKeeper<R> {
         ensures { self.new.reader ≡ self.old.reader }
     {
         let whole = &self.kept[..newline];
-        let lines = whole.iter().filter(|byte| **byte == b'\n').count() as u64 + 1;
+        let lines = memchr_iter(b'\n', whole).count() as u64 + 1;
         self.first = self.first.saturating_add(lines);
         let left = self.kept.len() - newline - 1;
         self.kept.copy_within(newline + 1.., 0);
@@ -52,8 +53,7 @@ impl<R> LineKeeper<R> {
         ensures { self.new.reader ≡ self.old.reader }
     {
         let before = self.looked_at.min(self.kept.len());
-        let found = self.kept[before..].iter().rposition(|byte| *byte == b'\n');
-        if let Some(newline) = found {
+        if let Some(newline) = memrchr(b'\n', &self.kept[before..]) {
             self.let_go(before + newline);
         }
         self.looked_at = self.kept.len();

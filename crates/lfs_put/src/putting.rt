@@ -10,6 +10,7 @@ use lfs_device::SectorDevice;
 use lfs_fs::path::text::{check_text, is_dots};
 use lfs_fs::{Fs, FsError};
 use lfs_model::Kind;
+use memchr::memrchr;
 use std::alloc::{AllocError, Global};
 use std::io::Read;
 use thiserror::Error;
@@ -41,13 +42,10 @@ pub enum PutFault {
 fn trimmed_len(path: &[u8]) -> usize
     ensures { result ≤ length path.now }
 {
-    let mut len = 0;
-    for (index, byte) in path.iter().enumerate() {
-        if *byte != b'/' {
-            len = index + 1;
-        }
+    match path.iter().rposition(|byte| *byte != b'/') {
+        Some(last) => last + 1,
+        None => 0,
     }
-    len
 }
 
 // How many bytes of a path stand before its last piece, the last slash with them. No slash ends the
@@ -58,13 +56,10 @@ fn above_len(path: &[u8]) -> usize
         → slice_index path.now i ≢ 47 }
     ensures place { (result ≡ 0) ⊎ (slice_index path.now (result - 1) ≡ 47) }
 {
-    let mut len = 0;
-    for (index, byte) in path.iter().enumerate() {
-        if *byte == b'/' {
-            len = index + 1;
-        }
+    match memrchr(b'/', path) {
+        Some(slash) => slash + 1,
+        None => 0,
     }
-    len
 }
 
 // Refuses what no file is renamed to, by its text alone and in the order of `rename`.

@@ -1,47 +1,66 @@
 -- The table of commands is whole.
-use Rattle.std.proofs.Common.{◌≡◌, ◌≢◌, ℕ, ◌+◌, ◌<◌, ◌≤◌, List, [], ◌∷◌, ◌++◌, length, take, get_or, subst, sym, arith}
-use Rattle.std.proofs.lemmas.List.{take_more}
-use Rattle.lfs_script.specs.Command.{command_word}
+use Rattle.std.proofs.Common.{◌≡◌, ◌≢◌, ℕ, None, IfSome, List, [], ◌∷◌, true, false, ◌∙◌, refl, ⊎_elim, codes}
+use Rattle.std.proofs.lemmas.Bool.{cases_Bool}
+use Rattle.std.proofs.lemmas.Slice.Eq.{bytes_eq-Decides}
+use Rattle.std.specs.Str.{bytes_eq}
+use Rattle.lfs_script.specs.Command.{command_in, command_word}
 use Rattle.lfs_script.specs.declared.command.Command.{Command}
 use Rattle.lfs_script.specs.declared.command.Command.TheVariants.{Create, Open, Close, Pread, Pwrite, Fill, Truncate, Mkdir, Link, Symlink, Readlink, Unlink, Rmdir, Rename, Stat, Lstat, Readdir, Fsync, Sync, Clean, Space, Tree}
 
-abbrev pub NoneOf : List ℕ → List Command → Type 0
-NoneOf word [] = Unit {0}
-NoneOf word (command ∷ commands) = (command_word command ≢ word) × NoneOf word commands
+-- each of these rows has its command's word
+abbrev pub AreNamed : List (Command × List ℕ) → Type 0
+AreNamed [] = Unit {0}
+AreNamed (row ∷ rows) = (command_word row.0 ≡ row.1) × AreNamed rows
 
-pub none-push : (word : List ℕ) (commands : List Command) (command : Command) → NoneOf word commands → command_word command ≢ word → NoneOf word (commands ++ command ∷ [])
-none-push word [] command h new = (new, tt)
-none-push word (first ∷ commands) command h new = (h.0, none-push word commands command h.1 new)
+-- none of these rows has this word
+abbrev pub Lack : List ℕ → List (Command × List ℕ) → Type 0
+Lack word [] = Unit {0}
+Lack word (row ∷ rows) = (row.1 ≢ word) × Lack word rows
 
-pub none-all : (word : List ℕ) → NoneOf word (Create ∷ Open ∷ Close ∷ Pread ∷ Pwrite ∷ Fill ∷ Truncate ∷ Mkdir ∷ Link ∷ Symlink ∷ Readlink ∷ Unlink ∷ Rmdir ∷ Rename ∷ Stat ∷ Lstat ∷ Readdir ∷ Fsync ∷ Sync ∷ Clean ∷ Space ∷ Tree ∷ []) → (command : Command) → command_word command ≢ word
-none-all word h Create = h.0
-none-all word h Open = h.1.0
-none-all word h Close = h.1.1.0
-none-all word h Pread = h.1.1.1.0
-none-all word h Pwrite = h.1.1.1.1.0
-none-all word h Fill = h.1.1.1.1.1.0
-none-all word h Truncate = h.1.1.1.1.1.1.0
-none-all word h Mkdir = h.1.1.1.1.1.1.1.0
-none-all word h Link = h.1.1.1.1.1.1.1.1.0
-none-all word h Symlink = h.1.1.1.1.1.1.1.1.1.0
-none-all word h Readlink = h.1.1.1.1.1.1.1.1.1.1.0
-none-all word h Unlink = h.1.1.1.1.1.1.1.1.1.1.1.0
-none-all word h Rmdir = h.1.1.1.1.1.1.1.1.1.1.1.1.0
-none-all word h Rename = h.1.1.1.1.1.1.1.1.1.1.1.1.1.0
-none-all word h Stat = h.1.1.1.1.1.1.1.1.1.1.1.1.1.1.0
-none-all word h Lstat = h.1.1.1.1.1.1.1.1.1.1.1.1.1.1.1.0
-none-all word h Readdir = h.1.1.1.1.1.1.1.1.1.1.1.1.1.1.1.1.0
-none-all word h Fsync = h.1.1.1.1.1.1.1.1.1.1.1.1.1.1.1.1.1.0
-none-all word h Sync = h.1.1.1.1.1.1.1.1.1.1.1.1.1.1.1.1.1.1.0
-none-all word h Clean = h.1.1.1.1.1.1.1.1.1.1.1.1.1.1.1.1.1.1.1.0
-none-all word h Space = h.1.1.1.1.1.1.1.1.1.1.1.1.1.1.1.1.1.1.1.1.0
-none-all word h Tree = h.1.1.1.1.1.1.1.1.1.1.1.1.1.1.1.1.1.1.1.1.1.0
+pub found_in : (rows : List (Command × List ℕ)) (word : List ℕ) → AreNamed rows → IfSome (command_in rows word) (λ c. command_word c ≡ word)
+found_in [] word named = tt
+found_in (row ∷ rows) word named = ⊎_elim
+    (λ (same : bytes_eq row.1 word ≡ true). rw same (named.0 ∙ (bytes_eq-Decides row.1 word).0 same))
+    (λ (differ : bytes_eq row.1 word ≡ false). rw differ (found_in rows word named.1))
+    (cases_Bool (bytes_eq row.1 word))
 
-abbrev pub all_commands : List Command
-all_commands = Create ∷ Open ∷ Close ∷ Pread ∷ Pwrite ∷ Fill ∷ Truncate ∷ Mkdir ∷ Link ∷ Symlink ∷ Readlink ∷ Unlink ∷ Rmdir ∷ Rename ∷ Stat ∷ Lstat ∷ Readdir ∷ Fsync ∷ Sync ∷ Clean ∷ Space ∷ Tree ∷ []
+pub lacks_in : (rows : List (Command × List ℕ)) (word : List ℕ) → command_in rows word ≡ None → Lack word rows
+lacks_in [] word none = tt
+lacks_in (row ∷ rows) word none = ⊎_elim
+    (λ (same : bytes_eq row.1 word ≡ true). absurd (let found = rw same at none in cc))
+    (λ (differ : bytes_eq row.1 word ≡ false). (
+      λ same. absurd (let is = (bytes_eq-Decides row.1 word).1 same in cc),
+      lacks_in rows word (rw differ at none),
+    ))
+    (cases_Bool (bytes_eq row.1 word))
 
-pub none-more : (word : List ℕ) (i : ℕ) (commands : List Command) → i < length commands → NoneOf word (take i commands) → command_word (get_or commands i Create) ≢ word → NoneOf word (take (i + 1) commands)
-none-more word i commands lt h new = subst (NoneOf word) (sym (take_more commands i Create lt)) (none-push word (take i commands) (get_or commands i Create) h new)
+-- the rows of the table
+abbrev pub all_rows : List (Command × List ℕ)
+all_rows = (Create, codes "create") ∷ (Open, codes "open") ∷ (Close, codes "close") ∷ (Pread, codes "pread") ∷ (Pwrite, codes "pwrite") ∷ (Fill, codes "fill") ∷ (Truncate, codes "truncate") ∷ (Mkdir, codes "mkdir") ∷ (Link, codes "link") ∷ (Symlink, codes "symlink") ∷ (Readlink, codes "readlink") ∷ (Unlink, codes "unlink") ∷ (Rmdir, codes "rmdir") ∷ (Rename, codes "rename") ∷ (Stat, codes "stat") ∷ (Lstat, codes "lstat") ∷ (Readdir, codes "readdir") ∷ (Fsync, codes "fsync") ∷ (Sync, codes "sync") ∷ (Clean, codes "clean") ∷ (Space, codes "space") ∷ (Tree, codes "tree") ∷ []
 
-pub none-end : (word : List ℕ) (i : ℕ) → 22 ≤ i → i ≤ 22 → NoneOf word (take i all_commands) → (command : Command) → command_word command ≢ word
-none-end word i low high h = let e : i ≡ 22 = omega arith in none-all word (subst (λ k. NoneOf word (take k all_commands)) e h)
+pub all_named : AreNamed all_rows
+all_named = (refl, (refl, (refl, (refl, (refl, (refl, (refl, (refl, (refl, (refl, (refl, (refl, (refl, (refl, (refl, (refl, (refl, (refl, (refl, (refl, (refl, (refl, tt))))))))))))))))))))))
+
+pub lacks_all : (word : List ℕ) → Lack word all_rows → (command : Command) → command_word command ≢ word
+lacks_all word h Create = h.0
+lacks_all word h Open = h.1.0
+lacks_all word h Close = h.1.1.0
+lacks_all word h Pread = h.1.1.1.0
+lacks_all word h Pwrite = h.1.1.1.1.0
+lacks_all word h Fill = h.1.1.1.1.1.0
+lacks_all word h Truncate = h.1.1.1.1.1.1.0
+lacks_all word h Mkdir = h.1.1.1.1.1.1.1.0
+lacks_all word h Link = h.1.1.1.1.1.1.1.1.0
+lacks_all word h Symlink = h.1.1.1.1.1.1.1.1.1.0
+lacks_all word h Readlink = h.1.1.1.1.1.1.1.1.1.1.0
+lacks_all word h Unlink = h.1.1.1.1.1.1.1.1.1.1.1.0
+lacks_all word h Rmdir = h.1.1.1.1.1.1.1.1.1.1.1.1.0
+lacks_all word h Rename = h.1.1.1.1.1.1.1.1.1.1.1.1.1.0
+lacks_all word h Stat = h.1.1.1.1.1.1.1.1.1.1.1.1.1.1.0
+lacks_all word h Lstat = h.1.1.1.1.1.1.1.1.1.1.1.1.1.1.1.0
+lacks_all word h Readdir = h.1.1.1.1.1.1.1.1.1.1.1.1.1.1.1.1.0
+lacks_all word h Fsync = h.1.1.1.1.1.1.1.1.1.1.1.1.1.1.1.1.1.0
+lacks_all word h Sync = h.1.1.1.1.1.1.1.1.1.1.1.1.1.1.1.1.1.1.0
+lacks_all word h Clean = h.1.1.1.1.1.1.1.1.1.1.1.1.1.1.1.1.1.1.1.0
+lacks_all word h Space = h.1.1.1.1.1.1.1.1.1.1.1.1.1.1.1.1.1.1.1.1.0
+lacks_all word h Tree = h.1.1.1.1.1.1.1.1.1.1.1.1.1.1.1.1.1.1.1.1.1.0

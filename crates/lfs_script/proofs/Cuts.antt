@@ -10,7 +10,6 @@ use Rattle.lfs_script.specs.Lines.{IsUnknown, words_of, spaced, onto, cut, words
 use Rattle.lfs_script.specs.Calls.{line_for}
 use Rattle.lfs_script.specs.Command.{command_word}
 use Rattle.lfs_script.specs.declared.call.Call.{Call}
-use Rattle.lfs_script.specs.declared.call.Call.TheVariants as made
 use Rattle.lfs_script.specs.declared.command.Command.{Command}
 use Rattle.lfs_script.specs.declared.command.Command.TheVariants as commands
 use Rattle.lfs_model.proofs.WordTexts.{is_solid, all_solid, solid-decimal, solid-hex, solid-word}

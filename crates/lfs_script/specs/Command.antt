@@ -1,5 +1,6 @@
 -- The first word of a line.
-use Rattle.std.specs.Prelude.{ℕ, List, codes}
+use Rattle.std.specs.Prelude.{ℕ, List, [], ◌∷◌, Option, Some, None, codes, if◌then◌else◌}
+use Rattle.std.specs.Str.{bytes_eq}
 use Rattle.lfs_script.specs.declared.command.Command.{Command}
 use Rattle.lfs_script.specs.declared.command.Command.TheVariants.{Create, Open, Close, Pread, Pwrite, Fill, Truncate, Mkdir, Link, Symlink, Readlink, Unlink, Rmdir, Rename, Stat, Lstat, Readdir, Fsync, Sync, Clean, Space, Tree}
 
@@ -26,3 +27,8 @@ command_word Sync = codes "sync"
 command_word Clean = codes "clean"
 command_word Space = codes "space"
 command_word Tree = codes "tree"
+
+-- the command of the first of these rows that has this word
+abbrev pub command_in : List (Command × List ℕ) → List ℕ → Option Command
+command_in [] word = None
+command_in (row ∷ rows) word = if bytes_eq row.1 word then Some row.0 else command_in rows word

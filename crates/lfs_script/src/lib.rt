@@ -22,6 +22,7 @@ mod word;
 
 pub use answer::Answer;
 pub use call::{Call, parse};
+pub use command::Command;
 pub use escape::{put_escaped, read_escaped};
 pub use hexadecimal::{put_hex, read_hex};
 pub use lfs_fs as fs;

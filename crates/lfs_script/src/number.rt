@@ -1,10 +1,11 @@
 // Numbers as words: decimal, without leading zeros.
-ghost use Rattle.std.specs.Prelude.{◌≡◌, ◌≢◌, ◌↔◌, ◌<◌, ◌≤◌, ◌^◌, ℕ, None, IsTrue, IfSome, OnOk, OnErr, decimal, drop};
+ghost use Rattle.std.specs.Prelude.{◌≡◌, ◌≢◌, ◌↔◌, ◌<◌, ◌^◌, ℕ, None, IsTrue, IfSome, OnOk, OnErr, decimal};
 ghost use Rattle.std.specs.Io.KnownBytes.{Appends};
 ghost use Rattle.lfs_script.specs.Bytes.{AppendsSome};
 ghost use Rattle.lfs_script.specs.Words.{IsBare};
 
 use crate::sink::{Stopped, put};
+use itoa::Buffer;
 use std::io::Write;
 
 // Whether the word has no sign and no leading zero, both of which `parse` takes.
@@ -55,22 +56,6 @@ pub fn read_u8(word: &[u8]) -> Option<u8>
     u8::try_from(number).ok()
 }
 
-// Puts the number's digits at the end of the buffer and answers where they start.
-fn fill_digits(digits: &mut [u8; 20], number: u64) -> usize
-    ensures start { result ≤ 19 }
-    ensures digits { drop result digits.new ≡ decimal number }
-{
-    let mut start = 19;
-    let mut front = number;
-    while front >= 10 {
-        digits[start] = b'0' + (front % 10) as u8;
-        front /= 10;
-        start -= 1;
-    }
-    digits[start] = b'0' + front as u8;
-    start
-}
-
 /// Writes the number's word. It takes no memory.
 pub fn put_number<W: Write>(writer: &mut W, number: u64) -> Result<(), Stopped>
     ensures ok { OnOk result (Appends (W.contents writer.old) (W.contents writer.new)
@@ -78,7 +63,6 @@ pub fn put_number<W: Write>(writer: &mut W, number: u64) -> Result<(), Stopped>
     ensures err { OnErr result (AppendsSome (W.contents writer.old) (W.contents writer.new)
         (decimal number)) }
 {
-    let mut digits = [0; 20];
-    let start = fill_digits(&mut digits, number);
-    put(writer, &digits[start..])
+    let mut digits = Buffer::new();
+    put(writer, digits.format(number).as_bytes())
 }
