@@ -92,13 +92,7 @@ impl<D: SectorDevice> Fs<D> {
             Ok(()) => {}
             Err(fault) => return Err(fault),
         }
-        match take(
-            &mut self.store,
-            directory,
-            entry.holder,
-            name,
-            entry.place,
-        ) {
+        match take(&mut self.store, directory, entry.holder, name, entry.place) {
             Ok(true) => Ok(()),
             // The directory has the name.
             Ok(false) => Err(FsError::Device),

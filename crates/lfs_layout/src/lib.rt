@@ -16,7 +16,9 @@ pub use checkpoint::{Checkpoint, is_segment_count, one_checkpoint_spelling};
 pub use inode::{Inode, InodeView, is_size, one_inode_spelling};
 pub use patch::{set_header, set_word, word};
 pub use pointers::{PointerView, encode_pointers, one_pointer_spelling};
-pub use slot::{SlotBytes, SlotView, encode_slot, has_name, is_name, nth_slot, one_slot_spelling, slot_len};
+pub use slot::{
+    SlotBytes, SlotView, encode_slot, has_name, is_name, nth_slot, one_slot_spelling, slot_len,
+};
 pub use summary::{
     BlockName, SummaryView, encode_summary, is_placed, is_summary, one_summary_spelling,
 };

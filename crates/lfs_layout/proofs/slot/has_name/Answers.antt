@@ -40,8 +40,7 @@ returns c form s is =
     let len = at.len in
     let equal = c.if-slot-name.false in
     let long : length s.name ≡ length c.args.name.now = omega (arith, len, equal) in
-    let there : c.name_of.result.now ≡ s.name = c.name_of.ensures ∙ ap (λ (n : ℕ). part 5 n c.args.slot.now) (sym long) ∙ at.name in
-    (
+    let there : c.name_of.result.now ≡ s.name = c.name_of.ensures ∙ ap (λ (n : ℕ). part 5 n c.args.slot.now) (sym long) ∙ at.name in (
       λ yes. sym there ∙ (bytes_eq-Decides c.name_of.result.now c.args.name.now).0 (sym c.eq.ensures ∙ yes),
       λ same. c.eq.ensures ∙ (bytes_eq-Decides c.name_of.result.now c.args.name.now).1 (there ∙ same),
     )
