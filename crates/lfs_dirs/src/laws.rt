@@ -5,7 +5,7 @@ ghost use Rattle.lfs_dirs.specs.Adding.{SlotWritten};
 ghost use Rattle.lfs_dirs.specs.Keeping.{SlotsStay, DirectoryStays, EmptyDirectory};
 ghost use Rattle.lfs_dirs.specs.InTree.{DirectoryMade, DirectoryNode, NameInTree, NameOffTree};
 
-/// A directory's slots are those of its blocks, eight a block.
+/// A directory's slots are those of its blocks, eight a block in form 0, else four.
 pub fn slots_of_block()
     ensures all { SlotsOfBlock }
     ensures one { SlotInBlock }
