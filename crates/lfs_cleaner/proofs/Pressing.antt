@@ -1,5 +1,5 @@
 -- Where a pass may be made it has victims, and what they bring into memory fits.
-use Rattle.std.proofs.Common.{◌≡◌, ◌<◌, ◌≤◌, ◌+◌, ◌-◌, ◌*◌, ◌/◌, ◌^◌, ℕ, zero, suc, List, [], ◌∷◌, length, get_or, refl, Some, None, sym, ◌∙◌, ap, arith}
+use Rattle.std.proofs.Common.{◌≡◌, ◌<◌, ◌≤◌, ◌+◌, ◌-◌, ◌*◌, ◌/◌, ◌^◌, ℕ, zero, suc, List, [], ◌∷◌, length, get_or, refl, Some, None, sym, ◌∙◌, ap, subst, arith}
 use Rattle.std.specs.List.{AllByRecursion}
 use Rattle.std.proofs.lemmas.List.{get_or_past}
 use Rattle.lfs_model.specs.Checkpoint.{CheckpointValue}
@@ -16,7 +16,7 @@ use Rattle.lfs_log.specs.inodes.MapValue.{IsMap, block_in}
 use Rattle.lfs_log.specs.memory.declared.memory.LogMemory.{LogMemory}
 use Rattle.lfs_log.specs.memory.Memory.{IsMemory, IsLog}
 use Rattle.lfs_log.specs.segments.Table.{UsageTable, clean_in}
-use Rattle.lfs_log.specs.segments.Victims.{AreVictims, IsInUse, IsPressed, load_of}
+use Rattle.lfs_log.specs.segments.Victims.{AreVictims, MayBeVictim, IsPressed, load_of}
 use Rattle.lfs_log.specs.Cleaning.{MayClean, Overfills, most_brought}
 use Rattle.lfs_log.specs.Held.{Held}
 use Rattle.lfs_log.specs.Publishing.{AreUntaken}
@@ -52,10 +52,10 @@ module _ (d : DeviceState) (v : LogMemory) (k : CheckpointValue) (m0 m : LogMap)
   }
 
 -- ---- victims may be cleaned
-in_use_at : (t : UsageTable) (vs : List ℕ) → AllByRecursion (IsInUse t) vs → (i : ℕ) → i < length vs → IsInUse t (get_or vs i 0)
-in_use_at t [] all i lt = absurd (omega (arith, lt))
-in_use_at t (v ∷ vs) all zero lt = all.0
-in_use_at t (v ∷ vs) all (suc i) lt = in_use_at t vs all.1 i (omega (arith, lt))
+victim_at : (t : UsageTable) (vs : List ℕ) → AllByRecursion (MayBeVictim t) vs → (i : ℕ) → i < length vs → MayBeVictim t (get_or vs i 0)
+victim_at t [] all i lt = absurd (omega (arith, lt))
+victim_at t (v ∷ vs) all zero lt = all.0
+victim_at t (v ∷ vs) all (suc i) lt = victim_at t vs all.1 i (omega (arith, lt))
 
 pub may_clean : (v : LogMemory) (meta most : ℕ) (vs : List ℕ) → v.dirty.blocks ≡ [] → length v.usage.segments ≤ 8 * clean_in v.usage.segments → AreUntaken v.usage → most ≡ length v.usage.segments / 8 + 1
     → AreVictims v.usage meta most vs → MayClean v vs
@@ -64,8 +64,17 @@ may_clean v meta most vs nothing many untaken is are = record {
   many = many;
   least = let gain = are.gain in omega (arith, gain);
   most = let few = are.few in omega (arith, few, is);
-  each = λ i lt. (let used = in_use_at v.usage vs are.each i lt in record { inside = used.0; used = used.1; before = untaken (get_or vs i 0) });
+  each = λ i lt. (let used = victim_at v.usage vs are.each i lt in record { inside = used.0; used = used.1; before = untaken (get_or vs i 0); apart = used.2 });
 }
+
+-- what holds of victims by numbers holds of them by the same numbers
+pub carried : (P : UsageTable → ℕ → ℕ → ℕ → List ℕ → Type 0) (t u : UsageTable) (a b m n x y : ℕ) (vs ws : List ℕ) → t ≡ u → a ≡ b → m ≡ n → x ≡ y → vs ≡ ws → P t a m x vs → P u b n y ws
+carried P t u a b m n x y vs ws table meta most now same is =
+    subst (λ (z : List ℕ). P u b n y z) same
+    (subst (λ (z : ℕ). P u b n z vs) now
+    (subst (λ (z : ℕ). P u b z x vs) most
+    (subst (λ (z : ℕ). P u z m x vs) meta
+    (subst (λ (z : UsageTable). P z a m x vs) table is))))
 
 -- ---- so a pass isn't refused
 module _ {D : Type 0} (state : D → DeviceState) (h h' : Held D) (k : CheckpointValue) (m0 m : LogMap) (can : CanPass state h k m0 m) where

@@ -11,13 +11,12 @@ use Rattle.lfs_model.proofs.Newest.{newest_fits}
 use Rattle.lfs_log.specs.memory.segments.Table.{clean_in}
 use Rattle.lfs_log.specs.verify.declared.totals.BlockTotals.{BlockTotals}
 use Rattle.lfs_log.specs.Publishing.{AreUntaken}
-use Rattle.lfs_log.specs.Cleaning.{Cleans}
-use Rattle.lfs_log.specs.Held.{Held, Halts, Holds, IsFull, Saves}
+use Rattle.lfs_log.specs.Held.{AreAllSaved, Held, Halts, Holds, IsFull, Saves}
 use Rattle.lfs_cleaner.specs.Passing.{CanPass}
 use Rattle.lfs_log.specs.Saving.{commit_orders, pass_orders}
 use Rattle.std.proofs.Math.Nat.{add-mul, mul-le-mul_right, one-mul}
-use Rattle.lfs_cleaner.specs.Room.{CleansQuarter, HaltsLater, HasQuarter, IsReadied, IsRoomFault, IsWithin, KeepsMap, MayMakeRoom, MayNotMakeRoom, PassesDone, Repeats, most_checkpoints, passes_orders, room_orders}
-use Rattle.lfs_cleaner.proofs.Rooms.{fault_then, halts_at_once, halts_then, halts_weaker, keeps_then, keeps_weaker, repeats_cleans, repeats_none, repeats_saves, repeats_then, repeats_weaker}
+use Rattle.lfs_cleaner.specs.Room.{CleansQuarter, HaltsLater, HasQuarter, IsReadied, IsRoomFault, IsWithin, KeepsMap, MayMakeRoom, MayNotMakeRoom, PassesDone, PassesInNeed, Repeats, most_checkpoints, passes_orders, room_orders}
+use Rattle.lfs_cleaner.proofs.Rooms.{fault_then, halts_at_once, halts_then, halts_weaker, keeps_then, keeps_weaker, repeats_none, repeats_passes, repeats_saves, repeats_then, repeats_weaker}
 
 -- a list without length is empty
 pub none_left : {T : Type 0} (xs : List T) → length xs ≤ 0 → xs ≡ []
@@ -79,11 +78,11 @@ module _ {D : Type 0} (state : D → DeviceState) where
   }
 
   -- a pass more
-  pub passes_more : (h now next : Held D) (count : ℕ) (vs : List ℕ) → PassesDone state h now count → Cleans state now next vs → next.totals ≡ now.totals
+  pub passes_more : (h now next : Held D) (count : ℕ) → PassesDone state h now count → PassesInNeed state now next → next.totals ≡ now.totals
       → length (state next.device).told ≤ length (state now.device).told + pass_orders (length now.memory.usage.segments) → PassesDone state h next (count + 1)
-  passes_more h now next count vs done one totals more = record {
-    repeats = repeats_then state h now next count 1 done.repeats (repeats_cleans state now next vs one totals);
-    gains = (let g = done.gains in let g' = one.gains in omega (arith, g, g'));
+  passes_more h now next count done need totals more = record {
+    repeats = repeats_then state h now next count 1 done.repeats (repeats_passes state now next need totals);
+    gains = (let g = done.gains in let g' = need.passes.cleans.gains in omega (arith, g, g'));
     told = pass_more (length (state h.device).told) (length (state now.device).told) (length (state next.device).told) count (length h.memory.usage.segments) (length now.memory.usage.segments)
         done.repeats.keeps.segments done.told more;
   }
@@ -93,6 +92,10 @@ module _ {D : Type 0} (state : D → DeviceState) where
       let stored = ap (λ (t : BlockTotals). t.data_blocks) totals in
       let above = ap (λ (t : BlockTotals). t.meta_blocks) totals in
       omega (arith, stored, above, size, need)
+
+  -- nothing is unsaved between two passes
+  pub nothing_between : (h now : Held D) (count : ℕ) → AreAllSaved h → PassesDone state h now count → AreAllSaved now
+  nothing_between h now count nothing done = ⊎_elim (λ (same : now ≡ h). subst (λ (x : Held D). AreAllSaved x) (sym same) nothing) (λ all. all.empty) done.repeats.saved
 
   module _ (h now : Held D) (count : ℕ) (nothing : h.memory.dirty.blocks ≡ []) (done : PassesDone state h now count) (few : 4 * clean_in now.memory.usage.segments < length now.memory.usage.segments)
       (k : CheckpointValue) (m0 m : LogMap) (keeps : (state now.device).keeps_model) (may : MayMakeRoom state h k m0 m) where
@@ -177,7 +180,7 @@ module _ {D : Type 0} (state : D → DeviceState) where
 
   pub readied_saves : (h now : Held D) → Saves state h now → now.totals ≡ h.totals → 0 < length h.memory.dirty.blocks → IsReadied state h now
   readied_saves h now s totals some = record {
-    repeats = repeats_weaker state h now 1 (min 1 (length h.memory.dirty.blocks)) (repeats_saves state h now s totals) (omega (arith, some));
+    repeats = repeats_weaker state h now 1 (min 1 (length h.memory.dirty.blocks)) (repeats_saves state h now some s totals) (omega (arith, some));
     nothing = s.empty;
     room = λ k m0 m keeps may. let next = room_saved h now k m0 m s totals some keeps may in (next.0, dropped m, next.1);
   }

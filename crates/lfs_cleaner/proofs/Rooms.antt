@@ -1,5 +1,5 @@
 -- Commits and passes, one after the other: the log map stays, and what a stop leaves is the one or the other.
-use Rattle.std.proofs.Common.{◌≡◌, ◌≤◌, ◌+◌, ◌*◌, inl, inr, ⊎_elim, ℕ, false, List, [], length, refl, sym, ◌∙◌, subst, arith}
+use Rattle.std.proofs.Common.{◌≡◌, ◌<◌, ◌≤◌, ◌+◌, ◌*◌, inl, inr, ⊎_elim, ℕ, zero, suc, false, List, [], length, refl, sym, ◌∙◌, subst, arith}
 use Rattle.std.specs.Prelude.{◌⊎◌}
 use Rattle.lfs_model.specs.Checkpoint.{CheckpointValue, Layout, layout_of}
 use Rattle.lfs_model.specs.Content.{Content}
@@ -17,9 +17,9 @@ use Rattle.lfs_log.proofs.of_memory.Looses.{loose, tight_again}
 use Rattle.lfs_log.proofs.of_memory.Presents.{looks_quiet, still_log}
 use Rattle.lfs_log.proofs.Volumes.{same_layout}
 use Rattle.lfs_log.specs.Cleaning.{Cleans}
-use Rattle.lfs_log.specs.Held.{Held, Halts, Holds, IsReadFault, IsSaved, LeavesSaved, Reads, Saves}
+use Rattle.lfs_log.specs.Held.{Held, Halts, Holds, IsReadFault, IsSaved, LeavesSaved, Reads, Saves, unsaved_in}
 use Rattle.lfs_log.specs.Publishing.{AreUntaken}
-use Rattle.lfs_cleaner.specs.Room.{HaltsLater, HoldsOver, IsAtRest, IsRoomFault, KeepsMap, Repeats, SavesAll}
+use Rattle.lfs_cleaner.specs.Room.{HaltsLater, HoldsOver, IsAtRest, IsRoomFault, KeepsMap, PassesInNeed, Repeats, SavesAll, WorksOn}
 
 module _ {D : Type 0} (state : D → DeviceState) where
   -- ---- one step
@@ -243,19 +243,38 @@ module _ {D : Type 0} (state : D → DeviceState) where
 
   -- ---- commits and passes that are done
   pub repeats_none : (h : Held D) → IsLawful (state h.device) → h.halted ≡ false → Repeats state h h 0
-  repeats_none h lawful running = record { keeps = keeps_none h lawful running; no_failure = refl; saved = inl refl }
+  repeats_none h lawful running = record { works = (0, omega arith, refl); keeps = keeps_none h lawful running; no_failure = refl; saved = inl refl }
 
-  pub repeats_saves : (h h' : Held D) → Saves state h h' → h'.totals ≡ h.totals → Repeats state h h' 1
-  repeats_saves h h' s totals = record { keeps = keeps_saves h h' s totals; no_failure = s.no_failure; saved = inr (saves_all h h' s) }
+  pub repeats_saves : (h h' : Held D) → 0 < unsaved_in h → Saves state h h' → h'.totals ≡ h.totals → Repeats state h h' 1
+  repeats_saves h h' some s totals = record { works = (1, omega arith, (h, refl, inl (some, s))); keeps = keeps_saves h h' s totals; no_failure = s.no_failure; saved = inr (saves_all h h' s) }
 
-  pub repeats_cleans : (h h' : Held D) (vs : List ℕ) → Cleans state h h' vs → h'.totals ≡ h.totals → Repeats state h h' 1
-  repeats_cleans h h' vs s totals = record { keeps = keeps_cleans h h' vs s totals; no_failure = s.no_failure; saved = inr (cleans_all h h' vs s) }
+  pub repeats_passes : (h h' : Held D) → PassesInNeed state h h' → h'.totals ≡ h.totals → Repeats state h h' 1
+  repeats_passes h h' need totals =
+      let vs = need.passes.victims in
+      let s = need.passes.cleans in
+      record { works = (1, omega arith, (h, refl, inr need)); keeps = keeps_cleans h h' vs s totals; no_failure = s.no_failure; saved = inr (cleans_all h h' vs s) }
 
   pub repeats_weaker : (a b : Held D) (x y : ℕ) → Repeats state a b x → x ≤ y → Repeats state a b y
-  repeats_weaker a b x y one le = record { keeps = keeps_weaker a b x y one.keeps le; no_failure = one.no_failure; saved = one.saved }
+  repeats_weaker a b x y one le = record { works = (let w = one.works in let few = w.1 in (w.0, omega (arith, few, le), w.2)); keeps = keeps_weaker a b x y one.keeps le; no_failure = one.no_failure; saved = one.saved }
+
+  -- what was done first, and then the rest
+  works_then : (a b c : Held D) (x y : ℕ) → WorksOn state x a b → WorksOn state y b c → (count : ℕ) × (count ≤ x + y) × WorksOn state count a c
+  works_then a b c x zero one two = (x, omega arith, subst (λ (h : Held D). WorksOn state x a h) (sym two) one)
+  works_then a b c x (suc y) one two =
+      let rest = works_then a b two.0 x y one two.1 in
+      let few = rest.1 in
+      (suc rest.0, omega (arith, few), (two.0, rest.2, two.2))
 
   pub repeats_then : (a b c : Held D) (x y : ℕ) → Repeats state a b x → Repeats state b c y → Repeats state a c (x + y)
   repeats_then a b c x y one two = record {
+    works =
+        let w = one.works in
+        let w' = two.works in
+        let few = w.1 in
+        let few' = w'.1 in
+        let both = works_then a b c w.0 w'.0 w.2 w'.2 in
+        let all = both.1 in
+        (both.0, omega (arith, few, few', all), both.2);
     keeps = keeps_then a b c x one.keeps y two.keeps;
     no_failure = two.no_failure ∙ one.no_failure;
     saved = ⊎_elim

@@ -6,14 +6,20 @@ use Rattle.lfs_model.specs.Encodes.{IsLogMap}
 use Rattle.lfs_model.specs.Stands.{LogMap}
 use Rattle.lfs_model.specs.Totals.{data_in, meta_in}
 use Rattle.lfs_log.specs.segments.Table.{clean_in}
+use Rattle.lfs_log.specs.segments.Victims.{AreVictims, IsChosen, pass_limit}
 use Rattle.lfs_log.specs.Cleaning.{Cleans}
 use Rattle.lfs_log.specs.Held.{Held, Holds, AreAllSaved}
 use Rattle.lfs_log.specs.Publishing.{AreUntaken}
 
 module _ {D : Type 0} (state : D → DeviceState) where
-  -- some segments are clean then
-  abbrev pub Passes : Held D → Held D → Type 0
-  Passes h h' = (vs : List ℕ) × Cleans state h h' vs
+  -- A pass over victims that were chosen: an eighth of the segments and one at most, by which a
+  -- segment is gained at least. They are clean then.
+  pub record Passes (h h' : Held D) : Type 0 where
+    pub victims : List ℕ
+    pub gain : AreVictims h.memory.usage h.totals.meta_blocks (pass_limit h.memory.usage) victims
+    pub choice : IsChosen h.memory.usage h.totals.meta_blocks (pass_limit h.memory.usage)
+        h.number victims
+    pub cleans : Cleans state h h' victims
 
   -- The log holds a log map for which a pass may be made. All is saved. An eighth of the segments
   -- is clean at least, but fewer than a quarter. The blocks of the files are within the volume. No

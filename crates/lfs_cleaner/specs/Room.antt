@@ -1,5 +1,5 @@
 -- What is left where the cleaner makes room: it commits what is unsaved, and passes until a quarter of the segments is clean.
-use Rattle.std.specs.Prelude.{◌≡◌, ◌⊎◌, ◌<◌, ◌≤◌, ◌+◌, ◌-◌, ◌*◌, ◌/◌, ◌^◌, ℕ, true, false, length, min}
+use Rattle.std.specs.Prelude.{◌≡◌, ◌⊎◌, ◌<◌, ◌≤◌, ◌+◌, ◌-◌, ◌*◌, ◌/◌, ◌^◌, ℕ, zero, suc, true, false, length, min}
 use Rattle.lfs_model.specs.Checkpoint.{CheckpointValue, Layout, layout_of}
 use Rattle.lfs_model.specs.Device.{DeviceState, Carries, AllLeft}
 use Rattle.lfs_model.specs.Encodes.{IsLogMap}
@@ -7,9 +7,10 @@ use Rattle.lfs_model.specs.Stands.{LogMap}
 use Rattle.lfs_model.specs.Totals.{IsCounted}
 use Rattle.lfs_model.specs.TreeOf.{dropped}
 use Rattle.lfs_log.specs.memory.segments.Table.{clean_in}
-use Rattle.lfs_log.specs.Held.{Held, Holds, IsSaved, LeavesSaved, AreAllSaved, unsaved_in}
+use Rattle.lfs_log.specs.Held.{Held, Holds, IsSaved, LeavesSaved, AreAllSaved, Saves, unsaved_in}
 use Rattle.lfs_log.specs.Publishing.{AreUntaken}
 use Rattle.lfs_log.specs.Saving.{commit_orders, pass_orders}
+use Rattle.lfs_cleaner.specs.Passing.{Passes}
 
 -- the need of the files, by the totals of the log, is within the volume
 abbrev pub IsWithin : {D : Type 0} → Held D → Type 0
@@ -71,8 +72,24 @@ module _ {D : Type 0} (state : D → DeviceState) where
         → Holds state h k m0 m → IsLogMap (dropped m)
         → (next : CheckpointValue) × Holds state h' next (dropped m) m
 
+  -- A pass that began where all was saved, and fewer than a quarter of the segments was clean.
+  pub record PassesInNeed (h h' : Held D) : Type 0 where
+    pub nothing : AreAllSaved h
+    pub few : 4 * clean_in h.memory.usage.segments < length h.memory.usage.segments
+    pub passes : Passes state h h'
+
+  -- a commit, where anything was unsaved, or such a pass
+  abbrev pub Works : Held D → Held D → Type 0
+  Works h h' = ((0 < unsaved_in h) × Saves state h h') ⊎ PassesInNeed h h'
+
+  -- so many of them, one after the other
+  abbrev pub WorksOn : ℕ → Held D → Held D → Type 0
+  WorksOn zero h h' = h' ≡ h
+  WorksOn (suc count) h h' = (between : Held D) × WorksOn count h between × Works between h'
+
   -- Commits and passes that are done, if any.
   pub record Repeats (h h' : Held D) (most : ℕ) : Type 0 where
+    pub works : (count : ℕ) × (count ≤ most) × WorksOn count h h'
     pub keeps : KeepsMap h h' most
     pub no_failure : (state h'.device).failures ≡ (state h.device).failures
     pub saved : (h' ≡ h) ⊎ SavesAll h h'

@@ -8,7 +8,8 @@ use lfs_device::SectorDevice;
 use lfs_log::memory::segments::victims::victims;
 use lfs_log::{Log, LogFault};
 
-/// Empties the segments with the least blocks, the fewest by which one is gained.
+/// Empties the segments that are chosen by benefit and cost, or by their blocks (`victims`): an
+/// eighth of all and one at most, by which one is gained at least.
 ///
 /// # Errors
 ///
@@ -36,7 +37,7 @@ pub fn pass<D: SectorDevice>(log: &mut Log<D>) -> Result<(), LogFault>
     }
     log.are_tables_whole();
     let most = log.usage().segments() / 8 + 1;
-    let Some(chosen) = victims(log.usage(), log.meta(), most) else {
+    let Some(chosen) = victims(log.usage(), log.meta(), most, log.number()) else {
         return Err(LogFault::Full);
     };
     log.clean(chosen.as_slice())

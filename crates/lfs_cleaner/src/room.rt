@@ -119,6 +119,7 @@ pub fn make_room<D: SectorDevice>(log: &mut Log<D>) -> Result<(), LogFault>
     ensures saved { AreAllSaved log.old → length (D.state log.new.device).told
         ≤ length (D.state log.old.device).told
         + passes_orders (length log.old.memory.usage.segments) }
+    ensures quiet { HasQuarter log.old → log.new ≡ log.old }
 {
     if log.is_halted() {
         return Err(LogFault::Halted);

@@ -76,7 +76,7 @@ struct Chunk(u32, u32);
 
 impl Row<(MemDevice, Usage)> for Chunk {
     /// Whether a chunk comes to the first segment, one to the last where that alone is clean, and
-    /// then none.
+    /// then none, where there is no room behind that.
     fn is_well(self, (device, usage): &mut (MemDevice, Usage)) -> bool {
         let Chunk(count, last) = self;
         let blocks = count as usize;
@@ -91,7 +91,7 @@ impl Row<(MemDevice, Usage)> for Chunk {
         let end = usage.segments().saturating_sub(1);
         write_chunk(device, usage, count) == Some((end, count, blocks, last))
             && usage.clean() == 0
-            && write_chunk(device, usage, count).is_none()
+            && (count < 62 || write_chunk(device, usage, count).is_none())
     }
 }
 

@@ -1,5 +1,5 @@
 //! The call that cleans.
-ghost use Rattle.std.specs.Prelude.{◌≤◌, ◌+◌, length, OnOk};
+ghost use Rattle.std.specs.Prelude.{◌≡◌, ◌≤◌, ◌+◌, length, OnOk};
 ghost use Rattle.lfs_model.specs.Call.{Clean, Done};
 ghost use Rattle.lfs_store.specs.cleaner.Room.{HasQuarter, room_orders};
 ghost use Rattle.lfs_fs.specs.Volume.{Serves, segments_of};
@@ -11,7 +11,8 @@ use lfs_device::SectorDevice;
 
 impl<D: SectorDevice> Fs<D> {
     /// Cleans segments until a quarter of them is clean (the Sprite LFS paper, 1992, section 3.3).
-    /// Where fewer are, what isn't saved is saved first. The tree stays. It takes no memory.
+    /// Where fewer are, what isn't saved is saved first; where a quarter is clean, nothing is written.
+    /// The tree stays. It takes no memory.
     ///
     /// # Errors
     ///
@@ -24,6 +25,7 @@ impl<D: SectorDevice> Fs<D> {
         ensures told { length (D.state (seen self.new).log.device).told
             ≤ length (D.state (seen self.old).log.device).told
             + room_orders (segments_of (seen self.old)) }
+        ensures quiet { HasQuarter (seen self.old).log → (seen self.new).log ≡ (seen self.old).log }
     {
         match self.begin() {
             Ok(()) => {}

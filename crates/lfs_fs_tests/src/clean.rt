@@ -1,12 +1,12 @@
 //! Volumes with too few clean segments, by hand: a file's blocks are moved, each to a clean segment
-//! of its own.
+//! of its own. And how many segments are clean after many saved calls.
 ghost use Rattle.std.specs.Prelude.{◌<◌, ◌≤◌};
 
 use crate::damage::{Damage, damage_each, fault};
 use crate::volume::{SECTORS, device_of, formatted, mounted};
 use lfs_device::{MemDevice, SectorDevice};
 use lfs_fs::MountFault;
-use lfs_layout::set_word;
+use lfs_layout::{Checkpoint, UsageView, set_word};
 use std::alloc::Global;
 use std::test::Fail;
 
@@ -131,5 +131,46 @@ fn too_few_clean_segments_are_told_last(rt: HostRuntime) -> Result<(), Fail> {
         let found = fault_of(rt.alloc(), moved, Damage { start, place, byte })?;
         assert!(rt; found == want);
     }
+    Ok(())
+}
+
+/// The newest of the two checkpoints.
+fn newest_of(device: &mut MemDevice) -> Result<Checkpoint, Fail> {
+    let one = Checkpoint::decode(&sector_of(device, 0)?);
+    let other = Checkpoint::decode(&sector_of(device, 1)?);
+    match (one, other) {
+        (Some(one), Some(other)) if one.number < other.number => Ok(other),
+        (Some(one), _) => Ok(one),
+        (None, Some(other)) => Ok(other),
+        (None, None) => Err(Fail::from("no checkpoint")),
+    }
+}
+
+/// In how many of 64 segments the newest checkpoint uses no sector.
+fn unused_segments(device: &mut MemDevice) -> Result<usize, Fail> {
+    let checkpoint = newest_of(device)?;
+    let block = sector_of(device, checkpoint.usage[0])?;
+    let Some(usage) = UsageView::decode(&block, 64) else {
+        return Err(Fail::from("no usage block"));
+    };
+    let mut unused = 0usize;
+    for segment in 0..64usize {
+        if usage.get(segment).used == 0 {
+            unused = unused.saturating_add(1);
+        }
+    }
+    Ok(unused)
+}
+
+#[test]
+fn fifty_saved_creates_fill_few_segments(rt: HostRuntime) -> Result<(), Fail> {
+    let mut fs = mounted(rt.alloc(), formatted(rt.alloc(), 64)?)?;
+    for number in 0..50u32 {
+        let path = format!(in rt.alloc(); "/y{number}")?;
+        fs.create(path.as_bytes())?;
+        fs.sync()?;
+    }
+    let mut device = device_of(fs);
+    assert!(rt; unused_segments(&mut device)? >= 56);
     Ok(())
 }

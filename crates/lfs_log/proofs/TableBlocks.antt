@@ -96,6 +96,7 @@ module _ (v v' : LogMemory) (j : ℕ) (go : UsageLeavesIn v v' j) where
           inside = let i = o.inside in let l = size in omega (arith, i, s, l);
           used = ap (used_of v'.usage) s ∙ numbers (λ x. x.used) v.chunk.segment ∙ go.usage.lifts.used v.chunk.segment ∙ o.used ∙ sym (ap (λ (c : Chunk). c.start + suc (length c.names)) go.chunk);
           free = let a = ap (kept_of v'.usage) s in let b = numbers (λ x. x.kept) v.chunk.segment in let k = go.usage.lifts.kept v.chunk.segment in let f = o.free in let c = ap (λ (c : Chunk). c.start) go.chunk in omega (arith, a, b, k, f, c);
+          last = go.usage.puts.last ∙ go.usage.lifts.last ∙ o.last ∙ ap (λ (n : ℕ). Some n) (sym s);
         };
     short = subst (λ (c : Chunk). 0 < length c.names → c.start + length c.names ≤ 62) (sym go.chunk) memory.short;
     usages = λ i one. ⊎_elim

@@ -1,25 +1,33 @@
 -- How many orders are given: summaries that are to come, and those that came.
-use Rattle.std.proofs.Common.{◌≡◌, ◌<◌, ◌≤◌, ◌+◌, ◌==◌, ℕ, Bool, true, false, cond, nat_lt, [], length, refl, ◌∙◌, ap, subst, sym, arith}
+use Rattle.std.proofs.Common.{◌≡◌, ◌<◌, ◌≤◌, ◌+◌, ◌==◌, ℕ, Bool, true, false, cond, nat_lt, Option, Some, None, [], length, refl, ◌∙◌, ap, subst, sym, arith}
 use Rattle.lfs_memory.specs.segments.Table.{UsageTable, used_of, clean_in}
-use Rattle.lfs_memory.specs.segments.Chunk.{Chunk, due_in, room_in}
+use Rattle.lfs_memory.specs.segments.Chunk.{Chunk, due_in, room_behind, room_in}
 use Rattle.lfs_memory.specs.declared.memory.LogMemory.{LogMemory}
 use Rattle.lfs_memory.specs.Memory.{IsMemoryUpTo, room_of}
 use Rattle.lfs_memory.proofs.Rooms.{not_zero}
 
-pub due_most : (c : Chunk) (t : UsageTable) → due_in c t ≤ 1
-due_most c t = most (length c.names == 0) (nat_lt (used_of t c.segment) 63)
+behind_most : (t : UsageTable) (o : Option ℕ) → room_behind t o ≤ 1
+behind_most t None = omega arith
+behind_most t (Some s) = most (nat_lt (used_of t s) 63)
   where
-    most : (a b : Bool) → cond {A = ℕ} a (cond {A = ℕ} b 1 0) 1 ≤ 1
-    most true true = omega arith
-    most true false = omega arith
-    most false b = omega arith
+    most : (b : Bool) → cond {A = ℕ} b 1 0 ≤ 1
+    most true = omega arith
+    most false = omega arith
+
+pub due_most : (c : Chunk) (t : UsageTable) → due_in c t ≤ 1
+due_most c t = most (length c.names == 0) (room_behind t t.last) (behind_most t t.last)
+  where
+    most : (a : Bool) (n : ℕ) → n ≤ 1 → cond {A = ℕ} a n 1 ≤ 1
+    most true n few = few
+    most false n few = omega arith
 
 pub due_begun : (c : Chunk) (t : UsageTable) → 0 < length c.names → due_in c t ≡ 1
-due_begun c t some = ap (λ (a : Bool). cond {A = ℕ} a (cond {A = ℕ} (nat_lt (used_of t c.segment) 63) 1 0) 1) (not_zero (length c.names) some)
+due_begun c t some = ap (λ (a : Bool). cond {A = ℕ} a (room_behind t t.last) 1) (not_zero (length c.names) some)
 
-due_ended : (c : Chunk) (t : UsageTable) → length c.names ≡ 0 → used_of t c.segment ≡ 64 → due_in c t ≡ 0
-due_ended c t none full =
-    ap (λ (n : ℕ). cond {A = ℕ} (n == 0) (cond {A = ℕ} (nat_lt (used_of t c.segment) 63) 1 0) 1) none
+due_ended : (c : Chunk) (t : UsageTable) (s : ℕ) → length c.names ≡ 0 → t.last ≡ Some s → used_of t s ≡ 64 → due_in c t ≡ 0
+due_ended c t s none last full =
+    ap (λ (n : ℕ). cond {A = ℕ} (n == 0) (room_behind t t.last) 1) none
+    ∙ ap (room_behind t) last
     ∙ ap (λ (n : ℕ). cond {A = ℕ} (nat_lt n 63) 1 0) full
 
 -- a block went out, which took the room of a summary
@@ -50,8 +58,9 @@ pub full_tells : (v v' : LogMemory) (t t' : ℕ) → IsMemoryUpTo 63 v → 0 < l
     → t' + due_in v'.chunk v'.usage + clean_in v'.usage.segments ≤ t + due_in v.chunk v.usage + clean_in v.usage.segments
 full_tells v v' t t' memory some full same ended here one =
     let opened = (memory.opened some).used in
-    let used : used_of v'.usage v'.chunk.segment ≡ 64 = ap (λ (u : UsageTable). used_of u v'.chunk.segment) same ∙ ap (used_of v.usage) here ∙ opened ∙ omega (arith, full) in
-    let gone = due_ended v'.chunk v'.usage (ap length ended) used in
+    let last = ap (λ (u : UsageTable). u.last) same ∙ (memory.opened some).last in
+    let used : used_of v'.usage v.chunk.segment ≡ 64 = ap (λ (u : UsageTable). used_of u v.chunk.segment) same ∙ opened ∙ omega (arith, full) in
+    let gone = due_ended v'.chunk v'.usage v.chunk.segment (ap length ended) last used in
     let told = seal_told v v' t t' some same one in
     omega (arith, told, gone)
 

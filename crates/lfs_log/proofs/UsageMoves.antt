@@ -228,6 +228,7 @@ module _ (v v' : LogMemory) (j number : ℕ) (good : IsMemory v) (old : stale_of
         inside = subst (λ (x : List SegmentNumbers). r.placed.chunk.segment < length x) (sym r.puts.segments) o.inside;
         used = ap (λ (x : List SegmentNumbers). (get_or x r.placed.chunk.segment no_segment).used) r.puts.segments ∙ o.used;
         free = subst (λ (x : List SegmentNumbers). (get_or x r.placed.chunk.segment no_segment).kept ≤ r.placed.chunk.start) (sym r.puts.segments) o.free;
+        last = r.puts.last ∙ o.last;
       })
 
   new_dirty : v'.dirty ≡ v.dirty

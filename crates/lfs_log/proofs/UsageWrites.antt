@@ -67,6 +67,7 @@ module _ (v : LogMemory) (j : ℕ) (u : UsageTable) (good : IsMemory v) (is : Is
           inside = subst (λ (x : List SegmentNumbers). v.chunk.segment < length x) (sym puts.segments) o.inside;
           used = same_numbers (λ n. n.used) v.chunk.segment ∙ o.used;
           free = let k = same_numbers (λ n. n.kept) v.chunk.segment in let f = o.free in omega arith;
+          last = puts.last ∙ o.last;
         };
     short = good.short;
     usages = λ i one. ⊎_elim

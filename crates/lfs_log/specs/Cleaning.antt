@@ -1,5 +1,5 @@
 -- What a pass of the cleaner does: all that lives in some segments goes elsewhere, and they are clean.
-use Rattle.std.specs.Prelude.{◌≡◌, ◌<◌, ◌≤◌, ◌+◌, ◌*◌, ◌-◌, ◌/◌, ◌^◌, ℕ, false, List, [], length, get_or}
+use Rattle.std.specs.Prelude.{◌≡◌, ◌<◌, ◌≤◌, ◌+◌, ◌*◌, ◌-◌, ◌/◌, ◌^◌, ℕ, false, List, [], length, get_or, Some}
 use Rattle.lfs_model.specs.Checkpoint.{CheckpointValue, layout_of}
 use Rattle.lfs_model.specs.Crash.{StandsOn}
 use Rattle.lfs_model.specs.Device.{DeviceState, Carries, AllLeft}
@@ -16,11 +16,12 @@ use Rattle.lfs_log.specs.Held.{Held, Holds, LeavesSaved, AreAllSaved}
 use Rattle.lfs_log.specs.Publishing.{AreUntaken}
 use Rattle.lfs_log.specs.Relocating.{CameFrom, IsAmong, IsInOrder, Misses, Relocates}
 
--- a segment in use, of which no sector was taken since the acknowledged checkpoint
+-- a segment in use, of which no sector was taken since the acknowledged checkpoint, and in which the last chunk doesn't stand
 pub record IsCleanable (t : UsageTable) (s : ℕ) : Type 0 where
   pub inside : s < length t.segments
   pub used : 0 < used_of t s
   pub before : kept_of t s ≡ used_of t s
+  pub apart : t.last ≡ Some s → ⊥
 
 abbrev pub AreCleanable : UsageTable → List ℕ → Type 0
 AreCleanable t vs = (i : ℕ) → i < length vs → IsCleanable t (get_or vs i 0)

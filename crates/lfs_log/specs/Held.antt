@@ -1,7 +1,7 @@
 -- What contracts see of a log: its device, what memory holds, the number of the acknowledged checkpoint, whether a commit failed, and
 -- the blocks of all files.
 use Rattle.std.specs.Prelude.{◌≡◌, ◌⊎◌, ◌<◌, ◌≤◌, ◌+◌, ◌-◌, ◌*◌, ◌/◌, ◌^◌, ℕ, zero, suc, Bool, true, false, List, [], length, refl, Option, None}
-use Rattle.std.specs.Coded.{Coded, code_by, coded×, coded_ℕ, coded_bool, coded_list}
+use Rattle.std.specs.Coded.{Coded, code_by, coded×, coded_ℕ, coded_bool, coded_list, coded_option}
 use Rattle.lfs_model.specs.declared.BlockKind.{BlockKind}
 use Rattle.lfs_model.specs.declared.BlockKind.TheVariants as kind
 use Rattle.lfs_model.specs.Checkpoint.{CheckpointValue, Layout, layout_of}
@@ -48,8 +48,8 @@ place_code = code_by (ℕ × Bool) (coded× coded_ℕ coded_bool) (λ p. (p.addr
 
 abbrev pub usage_code : Coded UsageTable
 usage_code =
-    code_by (List SegmentNumbers × List PlaceInSegment) (coded× (coded_list segment_code) (coded_list place_code))
-    (λ t. (t.segments, t.blocks)) (λ p. record { segments = p.0; blocks = p.1 }) (λ _. refl)
+    code_by (List SegmentNumbers × (List PlaceInSegment × Option ℕ)) (coded× (coded_list segment_code) (coded× (coded_list place_code) (coded_option coded_ℕ)))
+    (λ t. (t.segments, (t.blocks, t.last))) (λ p. record { segments = p.0; blocks = p.1.0; last = p.1.1 }) (λ _. refl)
 
 abbrev pub map_code : Coded MapValue
 map_code =
@@ -98,8 +98,8 @@ name_code =
 
 abbrev pub chunk_code : Coded Chunk
 chunk_code =
-    code_by (ℕ × (ℕ × (Bool × List BlockNameValue))) (coded× coded_ℕ (coded× coded_ℕ (coded× coded_bool (coded_list name_code))))
-    (λ c. (c.segment, (c.start, (c.sealed, c.names)))) (λ p. record { segment = p.0; start = p.1.0; sealed = p.1.1.0; names = p.1.1.1 }) (λ _. refl)
+    code_by (ℕ × (ℕ × List BlockNameValue)) (coded× coded_ℕ (coded× coded_ℕ (coded_list name_code)))
+    (λ c. (c.segment, (c.start, c.names))) (λ p. record { segment = p.0; start = p.1.0; names = p.1.1 }) (λ _. refl)
 
 abbrev pub memory_code : Coded LogMemory
 memory_code =

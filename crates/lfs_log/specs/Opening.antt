@@ -1,5 +1,5 @@
 -- What a mount makes of the tables: the memory of a log that runs.
-use Rattle.std.specs.Prelude.{◌≡◌, ◌≤◌, ◌+◌, ◌*◌, ◌/◌, ℕ, [], length}
+use Rattle.std.specs.Prelude.{◌≡◌, ◌≤◌, ◌+◌, ◌*◌, ◌/◌, ℕ, [], length, None}
 use Rattle.lfs_model.specs.Device.{DeviceState}
 use Rattle.lfs_model.specs.Stands.{LogMap, StandsLog}
 use Rattle.lfs_model.specs.Totals.{IsCounted}
@@ -12,6 +12,8 @@ pub record IsOpened (v : LogMemory) (size : ℕ) : Type 0 where
   pub memory : IsMemory v
   pub room : 2 + 64 * length v.usage.segments ≤ size
   pub chunk : v.chunk.names ≡ []
+  -- so the first chunk begins in a clean segment
+  pub last : v.usage.last ≡ None
   pub dirty : v.dirty.blocks ≡ []
   pub wide : v.dirty.capacity.limit ≡ 456
   pub reserved : v.dirty.capacity.room + 48 ≡ 63 * (length v.usage.segments / 8)

@@ -209,12 +209,16 @@ pub fn relocate<D: SectorDevice>(
     }
 }
 
-/// Whether a segment is in use, and was before the acknowledged checkpoint.
+/// Whether a segment is in use, and was before the acknowledged checkpoint, and the last chunk
+/// doesn't stand there.
 fn is_cleanable(usage: &Usage, segment: u32) -> bool
     ensures yes { IsTrue result → IsCleanable usage.now segment }
     ensures no { IsFalse result → IsCleanable usage.now segment → ⊥ }
 {
     if segment >= usage.segments() {
+        return false;
+    }
+    if usage.last() == Some(segment) {
         return false;
     }
     let state = usage.state(segment);

@@ -479,9 +479,9 @@ impl<D: SectorDevice> Log<D> {
     /// # Errors
     ///
     /// `Full` where something is unsaved, fewer than an eighth of the segments are clean, one of
-    /// these is clean or wasn't there before the acknowledged checkpoint, no number is left, or
-    /// their blocks, with the inodes and blocks of pointers above them and the 48 of the tables,
-    /// fill as many segments: nothing changed. `Device` where a call of the device failed before
+    /// these is clean, wasn't there before the acknowledged checkpoint or is that of the last chunk,
+    /// no number is left, or their blocks, with the inodes and blocks of pointers above them and the
+    /// 48 of the tables, fill as many segments: nothing changed. `Device` where a call of the device failed before
     /// anything was written: nothing changed. `Halted` where one failed later, or in a commit
     /// before.
     pub fn clean(&mut self, victims: &[u16]) -> Result<(), LogFault>

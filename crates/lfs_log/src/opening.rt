@@ -1,5 +1,5 @@
 //! What a mount takes into memory: the tables that a walk over the volume leads to.
-ghost use Rattle.std.specs.Prelude.{◌≡◌, ◌≤◌, ◌+◌, ◌*◌, ◌/◌, ℕ, false, length, IfOk};
+ghost use Rattle.std.specs.Prelude.{◌≡◌, ◌≤◌, ◌+◌, ◌*◌, ◌/◌, ℕ, length, IfOk};
 ghost use Rattle.lfs_model.specs.Checkpoint.{IsSegmentCount};
 ghost use Rattle.lfs_verify.specs.Loading.{IsLoaded};
 ghost use Rattle.lfs_log.specs.Opening.{IsOpened};
@@ -51,7 +51,6 @@ pub fn open_memory(alloc: Global, tables: Tables) -> Result<OpenedLog, AllocErro
         → IsOpened r.memory size) }
     ensures saved { IfOk result (λ r. length r.before.usage.segments
         ≡ length r.memory.usage.segments) }
-    ensures first { IfOk result (λ r. r.memory.chunk.sealed ≡ false) }
     ensures map { IfOk result (λ r. r.memory.map ≡ tables.map) }
     ensures usage { IfOk result (λ r. r.memory.usage ≡ tables.usage) }
     ensures number { IfOk result (λ r. r.number ≡ tables.number) }

@@ -38,7 +38,8 @@ fn a_pass_empties_segments(rt: HostRuntime) -> Result<(), Wrong> {
         Refused(Empty(1, 2), LogFault::Full),
         Done(Commit),
         Sees(Clean(58)),
-        // A pass writes behind the commit.
+        // The last chunk stands in segment 5, and a pass writes behind it.
+        Refused(Empty(1, 5), LogFault::Full),
         Done(Empty(1, 2)),
         Sees(Number(7)),
         Sees(Clean(60)),

@@ -1,7 +1,7 @@
 -- A block that gets the next place: the chunk that it goes to, as the log runs.
-use Rattle.std.proofs.Common.{◌≡◌, ◌<◌, ⊎_elim, ◌⊎◌, inl, inr, ◌+◌, ◌*◌, ◌/◌, ℕ, zero, suc, Bool, true, not, List, [], ◌∷◌, ◌++◌, length, Some, refl, sym, ◌∙◌, ap, subst, arith}
+use Rattle.std.proofs.Common.{◌≡◌, ◌<◌, ⊎_elim, ◌⊎◌, inl, inr, ◌/◌, ℕ, zero, suc, Bool, true, not, List, [], ◌∷◌, ◌++◌, length, Some, refl, sym, ◌∙◌, ap, subst, arith}
 use Rattle.std.specs.Prelude.{map}
-use Rattle.std.proofs.lemmas.List.{length-append, length-map, map-append}
+use Rattle.std.proofs.lemmas.List.{length-append, map-append}
 use Rattle.lfs_model.specs.Checkpoint.{CheckpointValue, IsSegmentCount}
 use Rattle.lfs_model.specs.Crash.{IsFreeSector}
 use Rattle.lfs_model.specs.Device.{DeviceState}
@@ -12,7 +12,7 @@ use Rattle.lfs_model.specs.Memory.{is_shown}
 use Rattle.lfs_model.specs.Running.{Tables, Running, IsAddressed, IsNoted, IsTakenFrom, GoesOnIn, CountsUp}
 use Rattle.lfs_model.specs.Committing.{place_of}
 use Rattle.lfs_model.proofs.Leaving.{beginning, going_on}
-use Rattle.lfs_segments.specs.Table.{UsageTable, used_of, live_of, held_of, address_of, stale_of}
+use Rattle.lfs_segments.specs.Table.{UsageTable, used_of, live_of, held_of, stale_of}
 use Rattle.lfs_segments.specs.Chunk.{entries_of}
 use Rattle.lfs_segments.specs.Steps.{TakesSegment, GoesOn}
 use Rattle.lfs_segments.specs.Emptied.{IsEmptied}

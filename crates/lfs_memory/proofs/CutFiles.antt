@@ -137,7 +137,7 @@ module _ (a b c : DeviceState) (v mid v' : LogMemory) (n first : ℕ) (counts : 
   pub file_cut : Cuts a c v v' n first
   file_cut = record {
     looks = looks_then a b c lawful one.looks two;
-    memory = kept_memory mid v' one.memory go.usage.size go.chunk go.usage.used go.usage.kept go.usage.address (never_fresh mid.usage v'.usage go.usage.stale) go.capacity;
+    memory = kept_memory mid v' one.memory go.usage.size go.chunk go.usage.used go.usage.kept go.usage.last go.usage.address (never_fresh mid.usage v'.usage go.usage.stale) go.capacity;
     segments = go.usage.size ∙ one.segments;
     clean = go.usage.clean ∙ one.clean;
     chunk = go.chunk ∙ one.chunk;

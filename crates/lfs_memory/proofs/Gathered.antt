@@ -1,10 +1,9 @@
 -- Blocks that come into memory: no block has an address afterwards that it hadn't before.
-use Rattle.std.proofs.Common.{◌≡◌, ◌<◌, ◌≤◌, ◌⊎◌, ⊎_elim, ◌+◌, ◌*◌, ◌/◌, not, ℕ, zero, suc, Bool, false, true, List, length, Option, Some, refl, sym, ◌∙◌, ap, subst, arith, inl, inr}
-use Rattle.std.proofs.lemmas.Bool.{cases_eq}
+use Rattle.std.proofs.Common.{◌≡◌, ◌<◌, ◌≤◌, ◌⊎◌, ⊎_elim, ◌+◌, ◌*◌, ◌/◌, not, ℕ, zero, suc, Bool, false, List, length, Option, Some, refl, sym, ◌∙◌, ap, subst, arith, inl, inr}
 use Rattle.lfs_model.specs.Checkpoint.{CheckpointValue}
 use Rattle.lfs_model.specs.Content.{Content, block}
 use Rattle.lfs_model.specs.Counting.{segment_of}
-use Rattle.lfs_model.specs.Device.{DeviceState, IsUntouched}
+use Rattle.lfs_model.specs.Device.{DeviceState}
 use Rattle.lfs_model.specs.Entry.{Entry, Inode, Map, Usage}
 use Rattle.lfs_model.specs.Laid.{IsLaid}
 use Rattle.lfs_model.specs.Lifting.{IsTaken}

@@ -64,9 +64,9 @@ top_is_inode (Usage j) file top = absurd (usage_table j file)
 
 -- ---- memory
 pub kept_memory : (v v' : LogMemory) → IsMemory v → length v'.usage.segments ≡ length v.usage.segments → v'.chunk ≡ v.chunk → ((s : ℕ) → used_of v'.usage s ≡ used_of v.usage s)
-    → ((s : ℕ) → kept_of v'.usage s ≡ kept_of v.usage s) → ((j : ℕ) → address_of v'.usage j ≡ address_of v.usage j) → ((j : ℕ) → stale_of v.usage j ≡ true → stale_of v'.usage j ≡ true)
+    → ((s : ℕ) → kept_of v'.usage s ≡ kept_of v.usage s) → v'.usage.last ≡ v.usage.last → ((j : ℕ) → address_of v'.usage j ≡ address_of v.usage j) → ((j : ℕ) → stale_of v.usage j ≡ true → stale_of v'.usage j ≡ true)
     → v'.dirty.capacity ≡ v.dirty.capacity → IsMemory v'
-kept_memory v v' memory size chunk used kept address stale capacity = record {
+kept_memory v v' memory size chunk used kept last address stale capacity = record {
   count = let c = memory.count in record {
     least = let l = c.least in omega (arith, l, size);
     most = let l = c.most in omega (arith, l, size);
@@ -79,6 +79,7 @@ kept_memory v v' memory size chunk used kept address stale capacity = record {
         inside = let i = o.inside in omega (arith, i, s, size);
         used = ap (used_of v'.usage) s ∙ used v.chunk.segment ∙ o.used ∙ sym (ap (λ (c : Chunk). c.start + suc (length c.names)) chunk);
         free = let a = ap (kept_of v'.usage) s in let k = kept v.chunk.segment in let f = o.free in let c = ap (λ (c : Chunk). c.start) chunk in omega (arith, a, k, f, c);
+        last = last ∙ o.last ∙ ap (λ (n : ℕ). Some n) (sym s);
       };
   short = subst (λ (c : Chunk). 0 < length c.names → c.start + length c.names ≤ 62) (sym chunk) memory.short;
   usages = λ j one. stale j (memory.usages j (sym (address j) ∙ one));
@@ -352,7 +353,7 @@ on_device content dirty x a ne = cond-false _ _ _ (not_one a ne)
     not_one a ne = grind (arith, nat_tests)
 
 pub brings_memory : (v v' : LogMemory) (x : Entry) (address : ℕ) (lives : Bool) (bytes : List ℕ) → IsMemory v → Brings v v' x address lives bytes → IsMemory v'
-brings_memory v v' x address lives bytes memory go = kept_memory v v' memory go.usage.size go.chunk go.usage.used go.usage.kept go.usage.blocks.address
+brings_memory v v' x address lives bytes memory go = kept_memory v v' memory go.usage.size go.chunk go.usage.used go.usage.kept go.usage.last go.usage.blocks.address
     (λ j. stays_stale v.usage v'.usage (segment_of address / 64) j go.usage.blocks) go.capacity
 
 pub bring_prepares : (d d' : DeviceState) (v v' : LogMemory) (x : Entry) (f address : ℕ) (lives : Bool) (bytes : List ℕ) → IsLawful d → IsMemory v → Looks d d'
@@ -402,12 +403,12 @@ pub map_prepares : (d : DeviceState) (v v' : LogMemory) (j : ℕ) → IsLawful d
 map_prepares d v v' j lawful memory go = ⊎_elim
     (λ (above : 2 ≤ block_in v.map j).
     let l = go.lifted above in
-    made (kept_memory v v' memory l.size go.chunk l.used l.kept l.blocks.address (λ i. stays_stale v.usage v'.usage (segment_of (block_in v.map j) / 64) i l.blocks) capacity) l.size l.clean l.used l.kept)
+    made (kept_memory v v' memory l.size go.chunk l.used l.kept l.last l.blocks.address (λ i. stays_stale v.usage v'.usage (segment_of (block_in v.map j) / 64) i l.blocks) capacity) l.size l.clean l.used l.kept)
     (λ (small : block_in v.map j < 2). ⊎_elim
     (λ (none : block_in v.map j ≡ 0).
     let e = go.added none in
     let size = ap (λ (u : UsageTable). length u.segments) e in
-    made (kept_memory v v' memory size go.chunk (λ s. ap (λ (u : UsageTable). used_of u s) e) (λ s. ap (λ (u : UsageTable). kept_of u s) e) (λ i. ap (λ (u : UsageTable). address_of u i) e)
+    made (kept_memory v v' memory size go.chunk (λ s. ap (λ (u : UsageTable). used_of u s) e) (λ s. ap (λ (u : UsageTable). kept_of u s) e) (ap (λ (u : UsageTable). u.last) e) (λ i. ap (λ (u : UsageTable). address_of u i) e)
     (λ i on. ap (λ (u : UsageTable). stale_of u i) e ∙ on) capacity)
     size (ap (λ (u : UsageTable). clean_in u.segments) e) (λ s. ap (λ (u : UsageTable). used_of u s) e) (λ s. ap (λ (u : UsageTable). kept_of u s) e))
     (λ (some : block_in v.map j ≡ 0 → ⊥). subst (λ (w : LogMemory). Prepares d d v w 0) (sym (go.same (omega (arith, small, some)))) (prepares_looks d d v lawful memory (looks_none d)))

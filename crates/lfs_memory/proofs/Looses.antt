@@ -50,6 +50,7 @@ lifted_open c old new s lives go is = record {
   inside = subst (λ (n : ℕ). c.segment < n) (sym go.size) is.inside;
   used = go.used c.segment ∙ is.used;
   free = let k = go.kept c.segment in let f = is.free in omega (arith, k, f);
+  last = go.last ∙ is.last;
 }
 
 pub below_or : (a : ℕ) (P : Type 0) → (a < 2 → P) → (2 ≤ a → P) → P

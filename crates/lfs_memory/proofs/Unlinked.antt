@@ -83,7 +83,7 @@ module _ (a b c : DeviceState) (v mid : LogMemory) (n : ℕ) (counts : List ℕ)
   pub file_hidden : (v' : LogMemory) (kind : Kind) (size : ℕ) → LosesLinks mid v' n kind size counts → Hides a c v v' n kind size
   file_hidden v' kind size go = record {
     looks = looks_then a b c lawful first.looks looks;
-    memory = kept_memory mid v' first.memory go.usage.size go.chunk go.usage.used go.usage.kept go.usage.address (never_fresh mid.usage v'.usage go.usage.stale) go.capacity;
+    memory = kept_memory mid v' first.memory go.usage.size go.chunk go.usage.used go.usage.kept go.usage.last go.usage.address (never_fresh mid.usage v'.usage go.usage.stale) go.capacity;
     segments = go.usage.size ∙ first.segments;
     clean = go.usage.clean ∙ first.clean;
     chunk = go.chunk ∙ first.chunk;

@@ -1,8 +1,8 @@
 -- What a chunk that begins leaves of the table, in a clean segment or behind another chunk.
-use Rattle.std.proofs.Common.{◌≡◌, ◌<◌, ◌≤◌, ⊎_elim, ◌/◌, ℕ, suc, true, length, ◌∙◌, ap, arith}
+use Rattle.std.proofs.Common.{◌≡◌, ◌<◌, ⊎_elim, ◌/◌, ℕ, true, length, ◌∙◌, ap, arith}
 use Rattle.std.proofs.lemmas.Bool.{cases_eq}
 use Rattle.lfs_segments.specs.Steps.{TakesSegment, GoesOn, Begins}
-use Rattle.lfs_segments.specs.Table.{UsageTable, used_of, kept_of, address_of, stale_of, clean_in}
+use Rattle.lfs_segments.specs.Table.{UsageTable, used_of, kept_of, address_of, stale_of}
 
 module _ (old new : UsageTable) (s number : ℕ) (go : Begins old new s number) where
   either : (P : Type 0) → (TakesSegment old new s number → P) → (GoesOn old new s number → P) → P

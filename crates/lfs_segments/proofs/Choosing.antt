@@ -1,224 +1,174 @@
--- The segments with the least keys, chosen one after the other: the first of their lists that gains is a list of victims, and where none does, none is.
-use Rattle.std.proofs.Common.{◌≡◌, ◌<◌, ◌≤◌, ⊎_elim, ◌+◌, ◌-◌, ◌*◌, ◌/◌, ℕ, zero, suc, List, [], ◌∷◌, ◌++◌, length, get_or, Some, None, refl, sym, ap, subst, arith, inl, inr}
-use Rattle.std.specs.Prelude.{sum_by, Option, AllPairs}
+-- Segments chosen one after the other: they are the first ones of their order.
+use Rattle.std.proofs.Common.{◌≡◌, ◌<◌, ◌≤◌, ◌⊎◌, ⊎_elim, ◌+◌, ℕ, suc, List, [], ◌∷◌, ◌++◌, length, get_or, Option, Some, None, refl, sym, subst, arith, inl, inr}
+use Rattle.std.specs.Prelude.{⊤}
 use Rattle.std.specs.List.{AllByRecursion}
-use Rattle.std.proofs.lemmas.Bool.{cases_lt}
-use Rattle.std.proofs.lemmas.List.Sums.{sum_by_push}
+use Rattle.std.proofs.lemmas.Bool.{cases_lt, cases_eq}
 use Rattle.std.proofs.lemmas.List.Quantifiers.{all_pairs_push}
 use Rattle.lfs_model.specs.Members.{IsIn, AreApart}
 use Rattle.lfs_segments.specs.declared.candidate.Candidate.{Candidate}
-use Rattle.lfs_segments.specs.Choosing.{key_of, key, ahead, IsCandidate, Leads}
-use Rattle.lfs_segments.specs.Table.{UsageTable, used_of, FitsTable}
-use Rattle.lfs_segments.specs.Victims.{load_of, IsInUse, AreVictims, ComesBefore, AreFirst}
-use Rattle.lfs_segments.proofs.LeastSums.{all_in, in_pushed, was_in, last_in, apart_pushed, all_pushed, fewer, least_sum}
+use Rattle.lfs_segments.specs.declared.candidate.Preference.{Preference}
+use Rattle.lfs_segments.specs.Choosing.{IsAhead, IsBehind, IsCandidate, IsKnown, Leads, Precedes, Reaches}
+use Rattle.lfs_segments.specs.Table.{UsageTable}
+use Rattle.lfs_segments.specs.Victims.{MayBeVictim, AreFirst}
+use Rattle.lfs_segments.proofs.LeastSums.{in_pushed, was_in, last_in, apart_pushed, all_pushed}
+use Rattle.lfs_segments.proofs.Firsts.{at_in, in_or_out}
+use Rattle.lfs_segments.proofs.Orders.{is_order}
 
 -- ---- the first candidate so far, of the segments below s
--- of no segments there is none
-pub leads_none : (t : UsageTable) (from : ℕ) → Leads t from 0 None
-leads_none t from = record { least = λ i lt used le. absurd (omega (arith, lt)); found = tt }
+module _ (t : UsageTable) (p : Preference) (last : Option Candidate) where
+  -- of no segments there is none
+  pub leads_none : Leads t p last 0 None
+  leads_none = record { least = λ i lt used behind. absurd (omega (arith, lt)); known = tt; behind = λ c is. absurd (cc is) }
 
--- the next segment takes its place, where it comes before
-pub leads_on : (t : UsageTable) (from s : ℕ) (next : Option Candidate) (c : Candidate) → Leads t from s next → c.segment ≡ s → IsCandidate t c → from ≤ key c → key c < ahead next → Leads t from (suc s) (Some c)
-leads_on t from s next c is own there le lt = record {
-  least = λ i low used above. ⊎_elim
-      (λ (before : i < s). let l = is.least i before used above in omega (arith, l, lt))
-      (λ (here : s ≤ i).
-      let e : c.segment ≡ i = omega (arith, own, here, low) in
-      let k = ap (key_of t) e in
-      let l = there.load in
-      omega (arith, k, l))
-      (cases_lt i s);
-  found = (there, le);
-}
+  -- what comes before the next one comes before what that one reaches
+  on_reaches : (next : Option Candidate) (c : Candidate) (i : ℕ) → IsAhead t p next c.segment → Reaches t p next i → Reaches t p (Some c) i
+  on_reaches None c i ahead reaches = absurd reaches
+  on_reaches (Some n) c i ahead reaches = inr (⊎_elim
+      (λ (here : n.segment ≡ i). subst (λ (z : ℕ). Precedes t p c.segment z) here ahead)
+      (λ (later : Precedes t p n.segment i). (is_order t p).through c.segment n.segment i ahead later)
+      reaches)
 
--- else the candidate stays
-pub leads_still : (t : UsageTable) (from s : ℕ) (next : Option Candidate) (c : Candidate) → Leads t from s next → c.segment ≡ s → IsCandidate t c → (from ≤ key c → ahead next ≤ key c) → Leads t from (suc s) next
-leads_still t from s next c is own there other = record {
-  least = λ i low used above. ⊎_elim
-      (λ (before : i < s). is.least i before used above)
-      (λ (here : s ≤ i).
-      let e : c.segment ≡ i = omega (arith, own, here, low) in
-      let k = ap (key_of t) e in
-      let l = there.load in
-      let o = other (omega (arith, k, l, above)) in
-      omega (arith, k, l, o))
-      (cases_lt i s);
-  found = is.found;
-}
+  -- the one that an option holds comes behind the last one
+  abbrev IsBehindOf : Option Candidate → Type 0
+  IsBehindOf None = ⊤
+  IsBehindOf (Some c) = IsBehind t p last c.segment
 
--- a clean segment is no candidate
-pub leads_past : (t : UsageTable) (from s : ℕ) (next : Option Candidate) → Leads t from s next → used_of t s ≡ 0 → Leads t from (suc s) next
-leads_past t from s next is clean = record {
-  least = λ i low used above. ⊎_elim
-      (λ (before : i < s). is.least i before used above)
-      (λ (here : s ≤ i).
-      let e : i ≡ s = omega (arith, here, low) in
-      let u = ap (used_of t) e in
-      let some = used.1 in
-      absurd (omega (arith, u, some, clean)))
-      (cases_lt i s);
-  found = is.found;
-}
+  -- a segment takes its place, where it comes before
+  pub leads_on : (next : Option Candidate) (c : Candidate) → Leads t p last c.segment next → IsCandidate t c → IsBehind t p last c.segment → IsAhead t p next c.segment → Leads t p last (suc c.segment) (Some c)
+  leads_on next c is there behind ahead = record {
+    least = λ i low used after. ⊎_elim
+        (λ (before : i < c.segment). on_reaches next c i ahead (is.least i before used after))
+        (λ (here : c.segment ≤ i). inl (omega (arith, here, low)))
+        (cases_lt i c.segment);
+    known = there;
+    behind = λ d same. subst (λ (o : Option Candidate). IsBehindOf o) same behind;
+  }
 
--- ---- what is chosen so far
-pub record Picked (t : UsageTable) (xs : List ℕ) (blocks from : ℕ) : Type 0 where
-  pub sum : blocks ≡ sum_by (load_of t) xs
+  -- else the next one stays, if it comes before or is none
+  still_reaches : (next : Option Candidate) (s : ℕ) → (IsAhead t p next s → ⊥) → Reaches t p next s
+  still_reaches None s past = absurd (past tt)
+  still_reaches (Some n) s past = ⊎_elim
+      (λ (here : n.segment ≡ s). inl here)
+      (λ (away : n.segment ≡ s → ⊥). inr (⊎_elim
+      (λ (before : Precedes t p n.segment s). before)
+      (λ (after : Precedes t p s n.segment). absurd (past after))
+      ((is_order t p).either n.segment s away)))
+      (cases_eq n.segment s)
+
+  leads_past : (next : Option Candidate) (s : ℕ) → Leads t p last s next → (MayBeVictim t s → IsBehind t p last s → Reaches t p next s) → Leads t p last (suc s) next
+  leads_past next s is own = record {
+    least = λ i low used after. ⊎_elim
+        (λ (before : i < s). is.least i before used after)
+        (λ (here : s ≤ i).
+        let e : s ≡ i = omega (arith, here, low) in
+        subst (λ (z : ℕ). Reaches t p next z) e (own (subst (MayBeVictim t) (sym e) used) (subst (λ (z : ℕ). IsBehind t p last z) (sym e) after)))
+        (cases_lt i s);
+    known = is.known;
+    behind = is.behind;
+  }
+
+  pub leads_behind : (next : Option Candidate) (s : ℕ) → Leads t p last s next → (IsBehind t p last s → ⊥) → Leads t p last (suc s) next
+  leads_behind next s is out = leads_past next s is (λ used after. absurd (out after))
+
+  pub leads_after : (next : Option Candidate) (s : ℕ) → Leads t p last s next → (IsAhead t p next s → ⊥) → Leads t p last (suc s) next
+  leads_after next s is out = leads_past next s is (λ used after. still_reaches next s out)
+
+  -- a segment that may not be cleaned is no candidate
+  pub leads_over : (next : Option Candidate) (s : ℕ) → Leads t p last s next → (MayBeVictim t s → ⊥) → Leads t p last (suc s) next
+  leads_over next s is out = leads_past next s is (λ used after. absurd (out used))
+
+-- ---- what is chosen so far, and the last one of it
+abbrev pub IsEnd : UsageTable → Preference → Option Candidate → List ℕ → Type 0
+IsEnd t p None xs = xs ≡ []
+IsEnd t p (Some c) xs = IsIn xs c.segment × ((x : ℕ) → IsIn xs x → (x ≡ c.segment) ⊎ Precedes t p x c.segment)
+
+pub record Picked (t : UsageTable) (p : Preference) (last : Option Candidate) (xs : List ℕ) : Type 0 where
+  pub first : AreFirst t (Precedes t p) xs
+  pub each : AllByRecursion (MayBeVictim t) xs
   pub apart : AreApart xs
-  pub each : AllByRecursion (IsInUse t) xs
-  pub ordered : AllPairs (ComesBefore t) xs
-  pub below : (x : ℕ) → IsIn xs x → key_of t x < from
-  pub all : (s : ℕ) → IsInUse t s → key_of t s < from → IsIn xs s
-  pub small : from ≤ 65536
-
-pub record Chosen (t : UsageTable) (meta : ℕ) (xs : List ℕ) (blocks from : ℕ) : Type 0 where
-  pub picked : Picked t xs blocks from
-  pub fails : (vs : List ℕ) → AreVictims t meta (length xs) vs → ⊥
+  pub end : IsEnd t p last xs
+  pub known : IsKnown t last
 
 -- none is chosen yet
-pub chosen_none : (t : UsageTable) (meta : ℕ) → Chosen t meta [] 0 0
-chosen_none t meta = record {
-  picked = record { sum = refl; apart = tt; each = tt; ordered = λ i j d less low. absurd (omega (arith, low)); below = λ x is. absurd is; all = λ s used lt. absurd (omega (arith, lt)); small = omega arith };
-  fails = λ vs are. let f = are.few in let g = are.gain in omega (arith, f, g);
+pub picked_none : (t : UsageTable) (p : Preference) → Picked t p None []
+picked_none t p = record {
+  first = record { ordered = λ i j d less low. absurd (omega (arith, low)); others = λ v s is. absurd is };
+  each = tt;
+  apart = tt;
+  end = refl;
+  known = tt;
 }
 
--- of two segments that with the lesser key comes first
-pub in_order : (t : UsageTable) (a b : ℕ) → a < 1024 → b < 1024 → key_of t a < key_of t b → ComesBefore t a b
-in_order t a b low_a low_b less = ⊎_elim
-    (λ (fewer : load_of t a < load_of t b). inl fewer)
-    (λ (other : load_of t b ≤ load_of t a). inr (omega (arith, low_a, low_b, less, other), omega (arith, low_a, low_b, less, other)))
-    (cases_lt (load_of t a) (load_of t b))
+module _ (t : UsageTable) (p : Preference) where
+  abbrev R : ℕ → ℕ → Type 0
+  R = Precedes t p
 
--- what stands at a place is a member
-pub at_in : (xs : List ℕ) (k d : ℕ) → k < length xs → IsIn xs (get_or xs k d)
-at_in [] k d low = absurd (omega (arith, low))
-at_in (x ∷ xs) zero d low = inl refl
-at_in (x ∷ xs) (suc k) d low = inr (at_in xs k d (omega (arith, low)))
+  never : (a : ℕ) → R a a → ⊥
+  never a is = (is_order t p).one_way a a is is
 
-module _ (t : UsageTable) (fits : FitsTable t) (xs : List ℕ) (blocks from : ℕ) (c : Candidate) (was : Picked t xs blocks from) (leads : Leads t from (length t.segments) (Some c)) where
-  abbrev x : ℕ
-  x = c.segment
+  -- what comes behind the last one isn't chosen
+  out_behind : (last : Option Candidate) (xs : List ℕ) (s : ℕ) → IsEnd t p last xs → IsBehind t p last s → IsIn xs s → ⊥
+  out_behind None xs s end behind is = subst (λ (ys : List ℕ). IsIn ys s) end is
+  out_behind (Some c) xs s end behind is = ⊎_elim
+      (λ (here : s ≡ c.segment). never s (subst (λ (z : ℕ). R z s) (sym here) behind))
+      (λ (before : R s c.segment). (is_order t p).one_way s c.segment before behind)
+      (end.1 s is)
 
-  abbrev next : List ℕ
-  next = xs ++ x ∷ []
+  -- and what isn't chosen comes behind it
+  behind_out : (last : Option Candidate) (xs : List ℕ) (s : ℕ) → IsEnd t p last xs → AreFirst t R xs → MayBeVictim t s → (IsIn xs s → ⊥) → IsBehind t p last s
+  behind_out None xs s end first used out = tt
+  behind_out (Some c) xs s end first used out = first.others c.segment s end.0 used out
 
-  used : IsInUse t x
-  used = leads.found.0.used
+  module _ (last : Option Candidate) (xs : List ℕ) (c : Candidate) (was : Picked t p last xs) (leads : Leads t p last (length t.segments) (Some c)) where
+    x : ℕ
+    x = c.segment
 
-  key_is : key c ≡ key_of t x
-  key_is = let l = leads.found.0.load in omega (arith, l)
+    behind : IsBehind t p last c.segment
+    behind = leads.behind c refl
 
-  new : IsIn xs x → ⊥
-  new is = let b = was.below x is in let k = key_is in let f = leads.found.1 in omega (arith, b, k, f)
+    new : IsIn xs c.segment → ⊥
+    new is = out_behind last xs c.segment was.end behind is
 
-  low_all : (y : ℕ) → IsIn xs y → y < 1024
-  low_all y is = let u = all_in (IsInUse t) xs was.each y is in let low = u.0 in let few = fits.few in omega (arith, low, few)
+    used : MayBeVictim t c.segment
+    used = leads.known.used
 
-  -- The next one is chosen too.
-  pub picked_next : Picked t next (blocks + c.load) (suc (key c))
-  picked_next = record {
-    sum = let s = was.sum in let p = sum_by_push (load_of t) xs x in let l = leads.found.0.load in omega (arith, s, p, l);
-    apart = apart_pushed xs x was.apart new;
-    each = all_pushed (IsInUse t) xs x was.each used;
-    ordered = all_pairs_push (ComesBefore t) xs x was.ordered (λ k d low.
-        let is = at_in xs k d low in
-        let b = was.below (get_or xs k d) is in
-        let f = leads.found.1 in
-        let e = key_is in
-        in_order t (get_or xs k d) x (low_all (get_or xs k d) is) c.inside (omega (arith, b, f, e)));
-    below = λ y is. ⊎_elim
-        (λ (before : IsIn xs y). let b = was.below y before in let f = leads.found.1 in omega (arith, b, f))
-        (λ (here : y ≡ x). let e = key_is in let a = ap (key_of t) here in omega (arith, e, a))
-        (in_pushed xs x y is);
-    all = λ s is_used lt. ⊎_elim
-        (λ (before : key_of t s < from). was_in xs x s (was.all s is_used before))
-        (λ (later : from ≤ key_of t s).
-        let l = leads.least s is_used.0 is_used later in
-        let i = key_is in
-        let low = is_used.0 in
-        let few = fits.few in
-        let low_x = c.inside in
-        let e : s ≡ x = omega (arith, l, lt, i, low, few, low_x) in
-        subst (λ (z : ℕ). IsIn next z) (sym e) (last_in xs x))
-        (cases_lt (key_of t s) from);
-    small = let low = c.inside in let few = c.few in omega (arith, low, few);
-  }
+    -- others come behind it
+    before_others : (s : ℕ) → MayBeVictim t s → (IsIn (xs ++ c.segment ∷ []) s → ⊥) → R c.segment s
+    before_others s there out = ⊎_elim
+        (λ (here : c.segment ≡ s). absurd (out (subst (λ (z : ℕ). IsIn (xs ++ c.segment ∷ []) z) here (last_in xs c.segment))))
+        (λ (later : R c.segment s). later)
+        (leads.least s there.0 there (behind_out last xs s was.end was.first there (λ is. out (was_in xs c.segment s is))))
+
+    -- The next one is chosen too.
+    pub picked_next : Picked t p (Some c) (xs ++ c.segment ∷ [])
+    picked_next = record {
+      first = record {
+        ordered = all_pairs_push R xs c.segment was.first.ordered (λ k d low. was.first.others (get_or xs k d) c.segment (at_in xs k d low) used new);
+        others = λ v s is there out. ⊎_elim
+            (λ (before : IsIn xs v). was.first.others v s before there (λ in_xs. out (was_in xs c.segment s in_xs)))
+            (λ (here : v ≡ c.segment). subst (λ (z : ℕ). R z s) (sym here) (before_others s there out))
+            (in_pushed xs c.segment v is);
+      };
+      each = all_pushed (MayBeVictim t) xs c.segment was.each used;
+      apart = apart_pushed xs c.segment was.apart new;
+      end = (
+        last_in xs c.segment,
+        λ y is. ⊎_elim
+            (λ (before : IsIn xs y). inr (was.first.others y c.segment before used new))
+            (λ (here : y ≡ c.segment). inl here)
+            (in_pushed xs c.segment y is),
+      );
+      known = leads.known;
+    }
+
+  -- where no candidate is left, each segment that may be cleaned is chosen
+  pub none_left : (last : Option Candidate) (xs : List ℕ) → Picked t p last xs → Leads t p last (length t.segments) None → (s : ℕ) → MayBeVictim t s → IsIn xs s
+  none_left last xs was leads s there = ⊎_elim
+      (λ (is : IsIn xs s). is)
+      (λ (out : IsIn xs s → ⊥). absurd (leads.least s there.0 there (behind_out last xs s was.end was.first there out)))
+      (in_or_out xs s)
 
 -- a list with one more is longer by one
 pub length_pushed : (xs : List ℕ) (x : ℕ) → length (xs ++ x ∷ []) ≡ length xs + 1
 length_pushed [] x = refl
 length_pushed (y ∷ ys) x = let rest = length_pushed ys x in omega (arith, rest)
-
--- no list of as many segments in use has fewer blocks
-pub least_blocks : (t : UsageTable) (xs : List ℕ) (blocks from : ℕ) → FitsTable t → Picked t xs blocks from → 0 < from → (vs : List ℕ) → AreApart vs → AllByRecursion (IsInUse t) vs → length vs ≡ length xs → blocks ≤ sum_by (load_of t) vs
-least_blocks t xs blocks from fits picked begun vs apart each same =
-    let few = fits.few in
-    let s = picked.sum in
-    let l = least_sum ((from - 1) / 1024) (load_of t) xs vs apart same
-    (λ x is. let b = picked.below x is in omega (arith, b, begun))
-    (λ y is lt. let u = all_in (IsInUse t) vs each y is in let low = u.0 in picked.all y u (omega (arith, lt, low, few, begun))) in
-    omega (arith, s, l)
-
--- What was chosen gains.
-pub gains_one : (t : UsageTable) (meta most : ℕ) (xs : List ℕ) (blocks from : ℕ) → Picked t xs blocks from → length xs ≤ most → blocks + meta + 48 ≤ 63 * (length xs - 1) → AreVictims t meta most xs
-gains_one t meta most xs blocks from picked few gain = record { few = few; apart = picked.apart; each = picked.each; gain = let s = picked.sum in omega (arith, s, gain) }
-
--- What was chosen comes before all others in use.
-pub are_first : (t : UsageTable) (xs : List ℕ) (blocks from : ℕ) → FitsTable t → Picked t xs blocks from → AreFirst t xs
-are_first t xs blocks from fits picked = record {
-  ordered = picked.ordered;
-  others = λ v s is used out. ⊎_elim
-      (λ (before : key_of t s < from). absurd (out (picked.all s used before)))
-      (λ (later : from ≤ key_of t s).
-      let b = picked.below v is in
-      let low_v = (all_in (IsInUse t) xs picked.each v is).0 in
-      let low_s = used.0 in
-      let few = fits.few in
-      in_order t v s (omega (arith, low_v, few)) (omega (arith, low_s, few)) (omega (arith, b, later)))
-      (cases_lt (key_of t s) from);
-}
-
--- No list gains that is shorter than what was chosen with one more.
-pub none_shorter : (t : UsageTable) (meta most : ℕ) (xs : List ℕ) (x blocks from : ℕ) → Chosen t meta xs blocks from → (vs : List ℕ) → length vs < length (xs ++ x ∷ []) → AreVictims t meta most vs → ⊥
-none_shorter t meta most xs x blocks from chosen vs short are =
-    let l = length_pushed xs x in
-    chosen.fails vs (record { few = omega (arith, short, l); apart = are.apart; each = are.each; gain = are.gain })
-
--- Or it doesn't gain, and neither does another list of so few.
-pub chosen_more : (t : UsageTable) (meta : ℕ) (xs : List ℕ) (x blocks from : ℕ) → FitsTable t → ((vs : List ℕ) → AreVictims t meta (length xs) vs → ⊥) → Picked t (xs ++ x ∷ []) blocks from → 0 < from
-    → 63 * (length (xs ++ x ∷ []) - 1) < blocks + meta + 48 → Chosen t meta (xs ++ x ∷ []) blocks from
-chosen_more t meta xs x blocks from fits before picked begun lacks = record {
-  picked = picked;
-  fails = λ vs are. ⊎_elim
-      (λ (short : length vs < length (xs ++ x ∷ [])).
-      let l = length_pushed xs x in
-      before vs (record { few = omega (arith, short, l); apart = are.apart; each = are.each; gain = are.gain }))
-      (λ (full : length (xs ++ x ∷ []) ≤ length vs).
-      let f = are.few in
-      let same : length vs ≡ length (xs ++ x ∷ []) = omega (arith, full, f) in
-      let least = least_blocks t (xs ++ x ∷ []) blocks from fits picked begun vs are.apart are.each same in
-      let g = are.gain in
-      let m = ap (λ (n : ℕ). 63 * (n - 1)) same in
-      omega (arith, least, g, m, lacks))
-      (cases_lt (length vs) (length (xs ++ x ∷ [])));
-}
-
--- where no candidate is left, each segment in use is chosen
-pub in_use_chosen : (t : UsageTable) (xs : List ℕ) (blocks from : ℕ) → FitsTable t → Picked t xs blocks from → Leads t from (length t.segments) None → (y : ℕ) → IsInUse t y → IsIn xs y
-in_use_chosen t xs blocks from fits picked leads y used = ⊎_elim
-    (λ (before : key_of t y < from). picked.all y used before)
-    (λ (later : from ≤ key_of t y).
-    let l = leads.least y used.0 used later in
-    let some = used.1 in
-    let e = fits.each y in
-    let u = e.used in
-    let f = e.fewer in
-    let low = used.0 in
-    let few = fits.few in
-    absurd (omega (arith, l, some, u, f, low, few)))
-    (cases_lt (key_of t y) from)
-
--- So no list is longer.
-pub none_left : (t : UsageTable) (meta most : ℕ) (xs : List ℕ) (blocks from : ℕ) → FitsTable t → Chosen t meta xs blocks from → Leads t from (length t.segments) None → (vs : List ℕ) → AreVictims t meta most vs → ⊥
-none_left t meta most xs blocks from fits chosen leads vs are =
-    let f = fewer xs vs are.apart (λ y is. in_use_chosen t xs blocks from fits chosen.picked leads y (all_in (IsInUse t) vs are.each y is)) in
-    chosen.fails vs (record { few = f; apart = are.apart; each = are.each; gain = are.gain })

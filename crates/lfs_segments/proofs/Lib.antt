@@ -4,7 +4,11 @@ pub mod Saving
 pub mod Entries
 pub mod LeastSums
 pub mod LoadsBelow
+pub mod Orders
+pub mod Firsts
 pub mod Choosing
+pub mod Gaining
+pub mod LeastLoads
 pub mod PressedGains
 pub mod StaysEmptied
 pub mod EmptiedGained

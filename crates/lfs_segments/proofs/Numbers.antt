@@ -1,5 +1,5 @@
 -- Numbers of segments, as one changes.
-use Rattle.std.proofs.Common.{◌≡◌, ◌≢◌, ◌<◌, ◌≤◌, ⊎_elim, ◌+◌, ◌==◌, cond, ℕ, zero, suc, Bool, true, false, List, length, get_or, replicate, refl, sym, ◌∙◌, ap, subst, arith, eq-eqb, eqb-true, length-set, get_or-set_other, get_or-set_same}
+use Rattle.std.proofs.Common.{Option, ◌≡◌, ◌≢◌, ◌<◌, ◌≤◌, ⊎_elim, ◌+◌, ◌==◌, cond, ℕ, zero, suc, Bool, true, false, List, length, get_or, replicate, refl, sym, ◌∙◌, ap, subst, arith, eq-eqb, eqb-true, length-set, get_or-set_other, get_or-set_same}
 use Rattle.std.specs.Prelude.{slice_set}
 use Rattle.std.proofs.lemmas.Bool.{cases_eq, false_from_ne_true}
 use Rattle.lfs_model.specs.Stands.{count_up}
@@ -109,17 +109,17 @@ all_clean n = ap (count_up (is_clean_in (replicate n no_segment))) (long n) ∙ 
 pub all_fit : (n : ℕ) (i : ℕ) → FitsSegment (get_or (replicate n no_segment) i no_segment)
 all_fit n i = subst FitsSegment (sym (no_segment_there n i)) (record { used = omega arith; fewer = omega arith; kept = omega arith })
 
-pub new_fits : (segments : List SegmentNumbers) (blocks : List PlaceInSegment) (n : ℕ) → n ≤ 1024 → segments ≡ replicate n no_segment → length blocks ≡ 16 → FitsTable (record { segments = segments; blocks = blocks })
-new_fits segments blocks n few is whole = record {
+pub new_fits : (o : Option ℕ) (segments : List SegmentNumbers) (blocks : List PlaceInSegment) (n : ℕ) → n ≤ 1024 → segments ≡ replicate n no_segment → length blocks ≡ 16 → FitsTable (record { segments = segments; blocks = blocks; last = o })
+new_fits o segments blocks n few is whole = record {
   few = let l = ap length is ∙ long n in omega arith;
   blocks = whole;
   each = λ s. subst (λ (l : List SegmentNumbers). FitsSegment (get_or l s no_segment)) (sym is) (all_fit n s);
 }
 
 -- the table with a segment's numbers changed
-pub set_fits : (segments : List SegmentNumbers) (blocks : List PlaceInSegment) (s : ℕ) (x : SegmentNumbers) → FitsTable (record { segments = segments; blocks = blocks }) → s < length segments → FitsSegment x
-    → FitsTable (record { segments = slice_set segments s x; blocks = blocks })
-set_fits segments blocks s x fits lt own = record {
+pub set_fits : (o : Option ℕ) (segments : List SegmentNumbers) (blocks : List PlaceInSegment) (s : ℕ) (x : SegmentNumbers) → FitsTable (record { segments = segments; blocks = blocks; last = o }) → s < length segments → FitsSegment x
+    → FitsTable (record { segments = slice_set segments s x; blocks = blocks; last = o })
+set_fits o segments blocks s x fits lt own = record {
   few = let l = length-set segments s x in let f = fits.few in omega arith;
   blocks = fits.blocks;
   each = set_each FitsSegment segments s x lt own fits.each;

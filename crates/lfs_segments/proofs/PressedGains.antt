@@ -1,65 +1,109 @@
 -- Where fewer than a quarter of the segments is clean, and the blocks of all are as many as a tree may need at most, an eighth of the segments and one more gain.
-use Rattle.std.proofs.Common.{◌≡◌, ◌<◌, ◌≤◌, ⊎_elim, ◌+◌, ◌-◌, ◌*◌, ◌/◌, ◌==◌, cond, ℕ, zero, suc, Bool, true, false, List, [], ◌∷◌, length, refl, ◌∙◌, ap, arith, inl, None, eq-eqb}
+use Rattle.std.proofs.Common.{◌≡◌, ◌<◌, ◌≤◌, ⊎_elim, ◌+◌, ◌-◌, ◌*◌, ◌/◌, ◌==◌, cond, not, ℕ, zero, suc, Bool, true, false, List, length, Option, Some, refl, sym, ◌∙◌, ap, arith, None, eq-eqb, take_all}
 use Rattle.std.proofs.Math.Nat.{add-mul, mul-le-mul_right, one-mul, zero-mul}
-use Rattle.std.proofs.lemmas.Bool.{cases_eq, cond-true, cond-false, ne_eqb}
+use Rattle.std.specs.Prelude.{sum_by}
+use Rattle.std.proofs.lemmas.Bool.{cases_eq, cases_lt, cond-true, cond-false, ne_eqb}
 use Rattle.lfs_model.proofs.BelowSums.{sum_below}
-use Rattle.lfs_model.proofs.Live.{count_up_none, count_up_more}
+use Rattle.lfs_model.proofs.Live.{count_up_more}
 use Rattle.lfs_model.specs.Members.{IsIn}
 use Rattle.lfs_model.specs.Stands.{count_up}
-use Rattle.lfs_segments.specs.Choosing.{Leads}
+use Rattle.lfs_segments.specs.declared.candidate.Preference.TheVariants as preference
+use Rattle.lfs_segments.specs.Choosing.{Exhausts}
 use Rattle.lfs_segments.specs.Table.{UsageTable, used_of, is_clean_in, clean_in, FitsTable}
-use Rattle.lfs_segments.specs.Victims.{load_of, loads, IsPressed}
+use Rattle.lfs_segments.specs.Victims.{load_of, loads, gain_of, MayBeVictim, AreFirst, ComesBefore, IsPressed}
 use Rattle.lfs_segments.proofs.LeastSums.{filled_up, below_among, below_times, sum_less, sum_ones}
 use Rattle.lfs_segments.proofs.LoadsBelow.{loads_below}
-use Rattle.lfs_segments.proofs.Choosing.{Picked, in_use_chosen}
+use Rattle.lfs_segments.proofs.LeastLoads.{greatest_in, least_in}
 
 -- ---- how many segments are in use
--- 1 for a segment in use
+-- the last chunk stands in this segment
+abbrev is_open : Option ℕ → ℕ → Bool
+is_open None s = false
+is_open (Some o) s = o == s
+
+-- a segment may be cleaned: it is in use, and not that one
+abbrev is_counted : UsageTable → ℕ → Bool
+is_counted t s = cond (used_of t s == 0) false (not (is_open t.last s))
+
 abbrev one : UsageTable → ℕ → ℕ
-one t s = cond (used_of t s == 0) 0 1
+one t s = cond (is_counted t s) 1 0
 
-one_used : (t : UsageTable) (s : ℕ) → 0 < used_of t s → one t s ≡ 1
-one_used t s some = cond-false _ _ _ (ne_eqb (used_of t s) 0 (λ e. omega (arith, e, some)))
+-- what is counted may be cleaned
+counted : (t : UsageTable) (s : ℕ) → is_counted t s ≡ true → (0 < used_of t s) × (t.last ≡ Some s → ⊥)
+counted t s is = ⊎_elim
+    (λ (none : used_of t s ≡ 0). let e = cond-true {A = Bool} (used_of t s == 0) false (not (is_open t.last s)) (eq-eqb (used_of t s) 0 none) in absurd (cc (sym e ∙ is)))
+    (λ (some : used_of t s ≡ 0 → ⊥).
+    let e = cond-false {A = Bool} (used_of t s == 0) false (not (is_open t.last s)) (ne_eqb (used_of t s) 0 some) in (
+      omega (arith, some),
+      λ own.
+          let o = ap (λ (x : Option ℕ). not (is_open x s)) own ∙ ap not (eq-eqb s s refl) in
+          let no : false ≡ true = sym o ∙ sym e ∙ is in absurd (cc no),
+    ))
+    (cases_eq (used_of t s) 0)
 
-one_clean : (t : UsageTable) (s : ℕ) → used_of t s ≡ 0 → one t s ≡ 0
-one_clean t s none = cond-true _ _ _ (eq-eqb (used_of t s) 0 none)
-
--- the others are clean
-others_clean : (t : UsageTable) (n : ℕ) → sum_below (one t) n + count_up (is_clean_in t.segments) n ≡ n
-others_clean t zero = omega (arith, count_up_none (is_clean_in t.segments))
+-- the others are clean, or the open one
+others_clean : (t : UsageTable) (n : ℕ) → n ≤ sum_below (one t) n + sum_below (λ (s : ℕ). cond {A = ℕ} (is_open t.last s) 1 0) n + count_up (is_clean_in t.segments) n
+others_clean t zero = omega arith
 others_clean t (suc n) =
     let rest = others_clean t n in
     let m = count_up_more (is_clean_in t.segments) n in
-    let o = either (used_of t n == 0) in
+    let o = either (used_of t n == 0) (is_open t.last n) in
     omega (arith, rest, m, o)
   where
-    either : (b : Bool) → cond {A = ℕ} b 0 1 + cond {A = ℕ} b 1 0 ≡ 1
-    either true = refl
-    either false = refl
+    either : (u o : Bool) → 1 ≤ cond {A = ℕ} (cond {A = Bool} u false (not o)) 1 0 + cond {A = ℕ} o 1 0 + cond {A = ℕ} u 1 0
+    either true true = omega arith
+    either true false = omega arith
+    either false true = omega arith
+    either false false = omega arith
 
--- so all but the clean ones are in use
-in_use : (t : UsageTable) → sum_below (one t) (length t.segments) + clean_in t.segments ≡ length t.segments
+-- there is one open segment at most
+one_open : (o n : ℕ) → (n ≤ o → sum_below (λ (s : ℕ). cond {A = ℕ} (o == s) 1 0) n ≡ 0) × (sum_below (λ (s : ℕ). cond {A = ℕ} (o == s) 1 0) n ≤ 1)
+one_open o zero = (λ le. refl, omega arith)
+one_open o (suc n) =
+    let rest = one_open o n in
+    ⊎_elim
+    (λ (here : o ≡ n).
+    let e = cond-true {A = ℕ} (o == n) 1 0 (eq-eqb o n here) in
+    let z = rest.0 (omega (arith, here)) in
+    (λ le. absurd (omega (arith, le, here)), omega (arith, e, z)))
+    (λ (away : o ≡ n → ⊥).
+    let e = cond-false {A = ℕ} (o == n) 1 0 (ne_eqb o n away) in
+    let most = rest.1 in
+    (λ le. (let z = rest.0 (omega (arith, le)) in omega (arith, e, z)), omega (arith, e, most)))
+    (cases_eq o n)
+
+few_open : (o : Option ℕ) (n : ℕ) → sum_below (λ (s : ℕ). cond {A = ℕ} (is_open o s) 1 0) n ≤ 1
+few_open None n = let z = none n in omega (arith, z)
+  where
+    none : (n : ℕ) → sum_below (λ (s : ℕ). cond {A = ℕ} (is_open None s) 1 0) n ≡ 0
+    none zero = refl
+    none (suc n) = let rest = none n in omega (arith, rest)
+few_open (Some o) n = (one_open o n).1
+
+-- so all but the clean ones and one may be cleaned
+in_use : (t : UsageTable) → length t.segments ≤ sum_below (one t) (length t.segments) + clean_in t.segments + 1
 unfolding clean_in
-in_use t = others_clean t (length t.segments)
+in_use t = let o = others_clean t (length t.segments) in let f = few_open t.last (length t.segments) in omega (arith, o, f)
 
 one_most : (t : UsageTable) (s : ℕ) → one t s ≤ 1
-one_most t s = most (used_of t s == 0)
+one_most t s = most (is_counted t s)
   where
-    most : (b : Bool) → cond {A = ℕ} b 0 1 ≤ 1
+    most : (b : Bool) → cond {A = ℕ} b 1 0 ≤ 1
     most true = omega arith
     most false = omega arith
 
--- what counts is in use
-counted_used : (t : UsageTable) (s : ℕ) → 0 < one t s → 0 < used_of t s
-counted_used t s counts = ⊎_elim
-    (λ (none : used_of t s ≡ 0). let o = one_clean t s none in absurd (omega (arith, o, counts)))
-    (λ (some : used_of t s ≡ 0 → ⊥). omega (arith, some))
-    (cases_eq (used_of t s) 0)
+-- a number that is there only where this holds
+only_where : (b : Bool) (n : ℕ) → 0 < cond {A = ℕ} b n 0 → b ≡ true
+only_where true n some = refl
+only_where false n some = absurd (omega (arith, some))
 
--- All segments in use can't be so few.
-pub not_all : (t : UsageTable) (meta most : ℕ) (xs : List ℕ) (blocks from : ℕ) → FitsTable t → Picked t xs blocks from → Leads t from (length t.segments) None → IsPressed t meta → most ≡ length t.segments / 8 + 1 → length xs < most → ⊥
-not_all t meta most xs blocks from fits picked leads pressed is few =
-    let b = below_among (length t.segments) (one t) xs (λ y low counts. in_use_chosen t xs blocks from fits picked leads y (low, counted_used t y counts)) in
+counted_used : (t : UsageTable) (s : ℕ) → s < length t.segments → 0 < one t s → MayBeVictim t s
+counted_used t s low counts = let c = counted t s (only_where (is_counted t s) 1 counts) in (low, c.0, c.1)
+
+-- All segments that may be cleaned can't be so few.
+pub not_all : (t : UsageTable) (meta most : ℕ) (xs : List ℕ) → ((s : ℕ) → MayBeVictim t s → IsIn xs s) → IsPressed t meta → most ≡ length t.segments / 8 + 1 → length xs < most → ⊥
+not_all t meta most xs all pressed is few =
+    let b = below_among (length t.segments) (one t) xs (λ y low counts. all y (counted_used t y low counts)) in
     let l = sum_less (one t) (λ (s : ℕ). 1) xs (one_most t) in
     let o = sum_ones xs in
     let u = in_use t in
@@ -70,84 +114,89 @@ not_all t meta most xs blocks from fits picked leads pressed is few =
 -- ---- the greatest number of blocks of those that are chosen, and what the others lack to it
 module _ (t : UsageTable) (top : ℕ) where
   abbrev lacks : ℕ → ℕ
-  lacks s = cond (used_of t s == 0) 0 (top - load_of t s)
+  lacks s = cond (is_counted t s) (top - load_of t s) 0
 
-  lacks_used : (s : ℕ) → 0 < used_of t s → lacks s ≡ top - load_of t s
-  lacks_used s some = cond-false _ _ _ (ne_eqb (used_of t s) 0 (λ e. omega (arith, e, some)))
-
-  lacks_clean : (s : ℕ) → used_of t s ≡ 0 → lacks s ≡ 0
-  lacks_clean s none = cond-true _ _ _ (eq-eqb (used_of t s) 0 none)
-
-  -- top for each in use is its blocks with what lacks
+  -- top for each that is counted is its blocks with what lacks
   each_times : (s : ℕ) → one t s * top ≤ load_of t s + lacks s
-  each_times s = ⊎_elim
-      (λ (none : used_of t s ≡ 0). let o = ap (λ (n : ℕ). n * top) (one_clean t s none) ∙ zero-mul top in omega (arith, o))
-      (λ (some : used_of t s ≡ 0 → ⊥).
-      let o = ap (λ (n : ℕ). n * top) (one_used t s (omega (arith, some))) ∙ one-mul top in
-      let l = lacks_used s (omega (arith, some)) in
-      omega (arith, o, l))
-      (cases_eq (used_of t s) 0)
+  each_times s = times (is_counted t s)
+    where
+      times : (b : Bool) → cond {A = ℕ} b 1 0 * top ≤ load_of t s + cond {A = ℕ} b (top - load_of t s) 0
+      times true = let o = one-mul top in omega (arith, o)
+      times false = let o = zero-mul top in omega (arith, o)
 
-  -- a clean segment lacks nothing
+  -- the others lack nothing
   lacks_less : (s : ℕ) → lacks s ≤ top - load_of t s
-  lacks_less s = ⊎_elim
-      (λ (none : used_of t s ≡ 0). let l = lacks_clean s none in omega (arith, l))
-      (λ (some : used_of t s ≡ 0 → ⊥). let l = lacks_used s (omega (arith, some)) in omega (arith, l))
-      (cases_eq (used_of t s) 0)
+  lacks_less s = less (is_counted t s)
+    where
+      less : (b : Bool) → cond {A = ℕ} b (top - load_of t s) 0 ≤ top - load_of t s
+      less true = omega arith
+      less false = omega arith
 
-  -- what lacks something is in use, and has fewer blocks
-  lacking : (s : ℕ) → 0 < lacks s → (0 < used_of t s) × (load_of t s < top)
-  lacking s counts = ⊎_elim
-      (λ (none : used_of t s ≡ 0). let l = lacks_clean s none in absurd (omega (arith, l, counts)))
-      (λ (some : used_of t s ≡ 0 → ⊥). let l = lacks_used s (omega (arith, some)) in (omega (arith, some), omega (arith, l, counts)))
-      (cases_eq (used_of t s) 0)
+  -- what lacks something may be cleaned, and has fewer blocks
+  lacking : (s : ℕ) → s < length t.segments → 0 < lacks s → MayBeVictim t s × (load_of t s < top)
+  lacking s low counts =
+      let is = only_where (is_counted t s) (top - load_of t s) counts in
+      let c = counted t s is in
+      let l = lacks_less s in
+      ((low, c.0, c.1), omega (arith, l, counts))
 
--- six times and once more
-times_six : (a top : ℕ) → (6 * a + 1) * top ≡ 6 * (a * top) + top
+-- six times
+times_six : (a top : ℕ) → 6 * a * top ≡ 6 * (a * top)
 times_six a top =
     let two = add-mul a a top in
     let four = add-mul (a + a) (a + a) top in
     let six = add-mul (a + a + (a + a)) (a + a) top in
-    let more = add-mul (a + a + (a + a) + (a + a)) 1 top in
-    let o = one-mul top in
-    let e : 6 * a + 1 ≡ a + a + (a + a) + (a + a) + 1 = omega arith in
+    let e : 6 * a ≡ a + a + (a + a) + (a + a) = omega arith in
     let m = ap (λ (n : ℕ). n * top) e in
-    omega (arith, two, four, six, more, o, m)
+    omega (arith, two, four, six, m)
 
 -- the numbers, with p for a times top
-no_room : (a top p meta blocks all : ℕ) → top ≤ 63 → blocks ≤ p + top → 6 * p + top + blocks ≤ all + (p + top) → all + 6 * meta + 672 ≤ 376 * a → 63 * a < blocks + meta + 48 → ⊥
+no_room : (a top p meta blocks all : ℕ) → top ≤ 63 → blocks ≤ p + top → 6 * p + blocks ≤ all + (p + top) → all + 6 * meta + 672 ≤ 376 * a → 63 * a < blocks + meta + 48 → ⊥
 no_room a top p meta blocks all low each sum room lacks = omega (arith, low, each, sum, room, lacks)
 
--- a list that is not empty has a member
-first_in : (xs : List ℕ) → 0 < length xs → (x : ℕ) × IsIn xs x
-first_in [] lt = absurd (omega (arith, lt))
-first_in (x ∷ xs) lt = (x, inl refl)
-
 -- An eighth of the segments and one more, those with the least blocks, gain.
-pub gains_then : (t : UsageTable) (meta : ℕ) (xs : List ℕ) (blocks from : ℕ) → FitsTable t → Picked t xs blocks from → IsPressed t meta → length xs ≡ length t.segments / 8 + 1 → 63 * (length xs - 1) < blocks + meta + 48 → ⊥
-gains_then t meta xs blocks from fits picked pressed long lacking_one =
-    let top = (from - 1) / 1024 in
+pub gains_then : (t : UsageTable) (meta : ℕ) (xs : List ℕ) → FitsTable t → AreFirst t (ComesBefore t) xs → IsPressed t meta → length xs ≡ length t.segments / 8 + 1 → 63 * (length xs - 1) < sum_by (load_of t) xs + meta + 48 → ⊥
+gains_then t meta xs fits first pressed long lacking_one =
+    let greatest = greatest_in (load_of t) xs (omega (arith, long)) in
+    let v = greatest.0 in
+    let top = load_of t v in
     let a = length t.segments / 8 in
-    let first = first_in xs (omega (arith, long)) in
-    let begun : 0 < from = (let b = picked.below first.0 first.1 in omega (arith, b)) in
-    let few = fits.few in
-    let small = picked.small in
+    let most = (fits.each v).used in
+    let fewer = (fits.each v).fewer in
     let times = below_times top (one t) (load_of t) (lacks t top) (length t.segments) (λ s low. each_times t top s) in
     let among = below_among (length t.segments) (lacks t top) xs (λ y low counts.
-    let l = lacking t top y counts in
-    let less = l.1 in
-    picked.all y (low, l.0) (omega (arith, less, low, few, begun))) in
+    let l = lacking t top y low counts in
+    least_in t xs first v greatest.1 y l.0 l.1) in
     let less = sum_less (lacks t top) (λ (s : ℕ). top - load_of t s) xs (lacks_less t top) in
-    let filled = filled_up top (load_of t) xs (λ x is. let b = picked.below x is in omega (arith, b, begun)) in
-    let s = picked.sum in
+    let filled = filled_up top (load_of t) xs greatest.2 in
     let u = in_use t in
     let c = pressed.few in
     let e = pressed.count.eighths in
-    let used : 6 * a + 1 ≤ sum_below (one t) (length t.segments) = omega (arith, u, c, e) in
+    let used : 6 * a ≤ sum_below (one t) (length t.segments) = omega (arith, u, c, e) in
     let product = mul-le-mul_right top used in
     let six = times_six a top in
     let own = ap (λ (n : ℕ). n * top) long ∙ add-mul a 1 top in
     let o = one-mul top in
     let room = pressed.blocks in
     let all = loads_below t in
-    no_room a top (a * top) meta blocks (loads t) (omega (arith, small)) (omega (arith, s, filled, own, o)) (omega (arith, times, among, less, filled, product, six, own, o, s, all)) (omega (arith, room, e)) (omega (arith, lacking_one, long))
+    no_room a top (a * top) meta (sum_by (load_of t) xs) (loads t) (omega (arith, most, fewer)) (omega (arith, filled, own, o)) (omega (arith, times, among, less, filled, product, six, own, o, all)) (omega (arith, room, e)) (omega (arith, lacking_one, long))
+
+-- So a volume that is pressed has victims.
+pub pressed_gains : (t : UsageTable) (meta most : ℕ) → Exhausts t meta most preference.Load → IsPressed t meta → most ≡ length t.segments / 8 + 1 → ⊥
+pressed_gains t meta most is pressed limit =
+    let few = is.few in
+    ⊎_elim
+    (λ (short : length is.all < most). ⊎_elim
+    (λ (full : length is.all ≡ most). omega (arith, short, full))
+    (λ (all : (s : ℕ) → MayBeVictim t s → IsIn is.all s). not_all t meta most is.all all pressed limit short)
+    is.ended)
+    (λ (long : most ≤ length is.all).
+    let same : length is.all ≡ length t.segments / 8 + 1 = omega (arith, few, long, limit) in
+    ⊎_elim
+    (λ (lacking_one : 63 * (length is.all - 1) < sum_by (load_of t) is.all + meta + 48). gains_then t meta is.all is.table is.first pressed same lacking_one)
+    (λ (gain : sum_by (load_of t) is.all + meta + 48 ≤ 63 * (length is.all - 1)).
+    let l = is.lacks (length is.all) (omega arith) in
+    let w = ap (gain_of t meta) (take_all (length is.all) is.all (omega arith)) in
+    omega (arith, gain, l, w))
+    (cases_lt (63 * (length is.all - 1)) (sum_by (load_of t) is.all + meta + 48)))
+    (cases_lt (length is.all) most)

@@ -1,5 +1,5 @@
 -- How many segments were emptied, and in how many nothing lives, as others change.
-use Rattle.std.proofs.Common.{◌≡◌, ◌<◌, ◌≤◌, ◌+◌, ◌==◌, ◌&&◌, not, cond, eq-eqb, eqb-true, ℕ, zero, suc, Bool, true, false, List, length, get_or, refl, sym, ◌∙◌, ap, subst, arith}
+use Rattle.std.proofs.Common.{◌≡◌, ◌<◌, ◌≤◌, ◌+◌, ◌==◌, ◌&&◌, not, cond, eq-eqb, eqb-true, ℕ, zero, suc, Bool, true, false, length, get_or, refl, ◌∙◌, ap, arith}
 use Rattle.std.proofs.lemmas.Bool.{cond-true, ne_eqb}
 use Rattle.lfs_model.specs.Stands.{count_up}
 use Rattle.lfs_model.proofs.Live.{count_up_none, count_up_more}

@@ -1,5 +1,5 @@
 -- A segment that was emptied stays so: no step of a commit changes it.
-use Rattle.std.proofs.Common.{◌≡◌, ◌<◌, ◌+◌, ⊎_elim, not, ℕ, Bool, true, false, List, get_or, sym, ◌∙◌, ap, subst, arith}
+use Rattle.std.proofs.Common.{◌≡◌, ◌<◌, ⊎_elim, not, ℕ, Bool, true, false, List, get_or, sym, ◌∙◌, ap, subst, arith}
 use Rattle.std.proofs.lemmas.Bool.{cases_eq}
 use Rattle.lfs_model.specs.Running.{CountsUp, CountsDown}
 use Rattle.lfs_segments.specs.Table.{UsageTable, SegmentNumbers, no_segment, used_of, live_of, held_of, kept_of}

@@ -1,5 +1,5 @@
 -- The calls on a usage table, from what they write.
-use Rattle.std.proofs.Common.{◌≡◌, ◌≢◌, ◌<◌, ◌≤◌, ⊎_elim, ◌+◌, ◌-◌, ◌/◌, ◌==◌, cond, not, ℕ, suc, Bool, true, false, List, length, get_or, refl, sym, ◌∙◌, ap, subst, arith, length-set, get_or-set_other, get_or-set_same, eqb-true, eq-eqb}
+use Rattle.std.proofs.Common.{Option, Some, ◌≡◌, ◌≢◌, ◌<◌, ◌≤◌, ⊎_elim, ◌+◌, ◌-◌, ◌/◌, ◌==◌, cond, not, ℕ, suc, Bool, true, false, List, length, get_or, refl, sym, ◌∙◌, ap, subst, arith, length-set, get_or-set_other, get_or-set_same, eqb-true, eq-eqb}
 use Rattle.std.specs.Prelude.{slice_set}
 use Rattle.std.proofs.lemmas.Bool.{cases_eq, cases_lt, cases_Bool, cond-true, cond-false, false_from_ne_true}
 use Rattle.std.proofs.lemmas.List.{get_or_past}
@@ -53,9 +53,9 @@ module _ (blocks : List PlaceInSegment) (j : ℕ) (x : PlaceInSegment) (lt : j <
       (λ (away : i ≡ j → ⊥). ap f (place_other i away))
       (cases_eq i j)
 
-made_stale : (segments more : List SegmentNumbers) (blocks : List PlaceInSegment) (j : ℕ) → j < length blocks
-    → Stales (record { segments = segments; blocks = blocks }) (record { segments = more; blocks = slice_set blocks j (record { address = (get_or blocks j no_place).address; stale = true }) }) j
-made_stale segments more blocks j lt = record {
+made_stale : (o : Option ℕ) (segments more : List SegmentNumbers) (blocks : List PlaceInSegment) (j : ℕ) → j < length blocks
+    → Stales (record { segments = segments; blocks = blocks; last = o }) (record { segments = more; blocks = slice_set blocks j (record { address = (get_or blocks j no_place).address; stale = true }); last = o }) j
+made_stale o segments more blocks j lt = record {
   stale = place_set blocks j _ lt (λ b. b.stale);
   address = place_same blocks j _ lt (λ b. b.address) refl;
 }
@@ -63,42 +63,44 @@ made_stale segments more blocks j lt = record {
 both_in_use : (a b : ℕ) → a ≢ 0 → b ≢ 0 → (a == 0) ≡ (b == 0)
 both_in_use a b na nb = false_from_ne_true _ (λ h. na (eqb-true a 0 h)) ∙ sym (false_from_ne_true _ (λ h. nb (eqb-true b 0 h)))
 
-pub notes : (segments : List SegmentNumbers) (blocks : List PlaceInSegment) (s : ℕ) (x : SegmentNumbers) (lives : Bool) → s < length segments → s / 64 < length blocks
+pub notes : (o : Option ℕ) (segments : List SegmentNumbers) (blocks : List PlaceInSegment) (s : ℕ) (x : SegmentNumbers) (lives : Bool) → s < length segments → s / 64 < length blocks
     → (get_or segments s no_segment).used ≢ 0 → x.used ≡ suc (get_or segments s no_segment).used
     → x.live ≡ cond lives 1 0 + (get_or segments s no_segment).live → x.held ≡ cond (not lives) 1 0 + (get_or segments s no_segment).held
     → x.age ≡ (get_or segments s no_segment).age → x.kept ≡ (get_or segments s no_segment).kept
-    → Notes (record { segments = segments; blocks = blocks }) (record { segments = slice_set segments s x; blocks = slice_set blocks (s / 64) (record { address = (get_or blocks (s / 64) no_place).address; stale = true }) }) s lives
-notes segments blocks s x lives lt low some used live held age kept = record {
+    → Notes (record { segments = segments; blocks = blocks; last = o }) (record { segments = slice_set segments s x; blocks = slice_set blocks (s / 64) (record { address = (get_or blocks (s / 64) no_place).address; stale = true }); last = o }) s lives
+notes o segments blocks s x lives lt low some used live held age kept = record {
   used = set_to _ _ s x.used _ used (is_set (λ n. n.used) segments s x lt);
   live = counts_up (λ n. n.live) segments s x lt lives live;
   held = counts_up (λ n. n.held) segments s x lt (not lives) held;
   age = is_same (λ n. n.age) segments s x lt age;
   kept = is_same (λ n. n.kept) segments s x lt kept;
-  blocks = made_stale segments (slice_set segments s x) blocks (s / 64) low;
+  blocks = made_stale o segments (slice_set segments s x) blocks (s / 64) low;
+  last = refl;
   size = length-set segments s x;
   clean = still_clean segments s x lt (both_in_use _ x.used some (λ z. omega arith));
 }
 
-pub lifts : (segments : List SegmentNumbers) (blocks : List PlaceInSegment) (s : ℕ) (x : SegmentNumbers) (lives : Bool) → s < length segments → s / 64 < length blocks
+pub lifts : (o : Option ℕ) (segments : List SegmentNumbers) (blocks : List PlaceInSegment) (s : ℕ) (x : SegmentNumbers) (lives : Bool) → s < length segments → s / 64 < length blocks
     → x.used ≡ (get_or segments s no_segment).used
     → cond lives 1 0 + x.live ≡ (get_or segments s no_segment).live → cond (not lives) 1 0 + x.held ≡ (get_or segments s no_segment).held
     → x.age ≡ (get_or segments s no_segment).age → x.kept ≡ (get_or segments s no_segment).kept
-    → Lifts (record { segments = segments; blocks = blocks }) (record { segments = slice_set segments s x; blocks = slice_set blocks (s / 64) (record { address = (get_or blocks (s / 64) no_place).address; stale = true }) }) s lives
-lifts segments blocks s x lives lt low used live held age kept = record {
+    → Lifts (record { segments = segments; blocks = blocks; last = o }) (record { segments = slice_set segments s x; blocks = slice_set blocks (s / 64) (record { address = (get_or blocks (s / 64) no_place).address; stale = true }); last = o }) s lives
+lifts o segments blocks s x lives lt low used live held age kept = record {
   used = is_same (λ n. n.used) segments s x lt used;
   live = counts_down (λ n. n.live) segments s x lt lives live;
   held = counts_down (λ n. n.held) segments s x lt (not lives) held;
   age = is_same (λ n. n.age) segments s x lt age;
   kept = is_same (λ n. n.kept) segments s x lt kept;
-  blocks = made_stale segments (slice_set segments s x) blocks (s / 64) low;
+  blocks = made_stale o segments (slice_set segments s x) blocks (s / 64) low;
+  last = refl;
   size = length-set segments s x;
   clean = still_clean segments s x lt (ap (λ (u : ℕ). u == 0) (sym used));
 }
 
 -- a clean segment is taken: nothing lives in it, and nothing holds it
-pub takes : (segments : List SegmentNumbers) (blocks : List PlaceInSegment) (s age : ℕ) → s < length segments → (get_or segments s no_segment).used ≡ 0 → FitsSegment (get_or segments s no_segment)
-    → TakesSegment (record { segments = segments; blocks = blocks }) (record { segments = slice_set segments s (record { used = 1; live = 0; held = 0; age = age; kept = 0 }); blocks = blocks }) s age
-takes segments blocks s age lt clean fits =
+pub takes : (o : Option ℕ) (segments : List SegmentNumbers) (blocks : List PlaceInSegment) (s age : ℕ) → s < length segments → (get_or segments s no_segment).used ≡ 0 → FitsSegment (get_or segments s no_segment)
+    → TakesSegment (record { segments = segments; blocks = blocks; last = o }) (record { segments = slice_set segments s (record { used = 1; live = 0; held = 0; age = age; kept = 0 }); blocks = blocks; last = Some s }) s age
+takes o segments blocks s age lt clean fits =
     let few = fits.fewer in
     record {
       inside = lt;
@@ -111,16 +113,17 @@ takes segments blocks s age lt clean fits =
       kept = is_same (λ n. n.kept) segments s (record { used = 1; live = 0; held = 0; age = age; kept = 0 }) lt (let p = fits.kept in omega arith);
       blocks = λ i. (refl, refl);
       size = length-set segments s (record { used = 1; live = 0; held = 0; age = age; kept = 0 });
+      last = refl;
       count = one_taken segments s (record { used = 1; live = 0; held = 0; age = age; kept = 0 }) lt clean (λ h. omega arith);
     }
 
 -- a chunk more begins
-pub goes_on : (segments : List SegmentNumbers) (blocks : List PlaceInSegment) (s age : ℕ) (x : SegmentNumbers) → s < length segments → s / 64 < length blocks
+pub goes_on : (o : Option ℕ) (segments : List SegmentNumbers) (blocks : List PlaceInSegment) (s age : ℕ) (x : SegmentNumbers) → s < length segments → s / 64 < length blocks
     → 0 < (get_or segments s no_segment).live + (get_or segments s no_segment).held → (get_or segments s no_segment).used ≤ 62 → FitsSegment (get_or segments s no_segment)
     → x.used ≡ suc (get_or segments s no_segment).used → x.live ≡ (get_or segments s no_segment).live → x.held ≡ (get_or segments s no_segment).held
     → x.age ≡ age → x.kept ≡ (get_or segments s no_segment).kept
-    → GoesOn (record { segments = segments; blocks = blocks }) (record { segments = slice_set segments s x; blocks = slice_set blocks (s / 64) (record { address = (get_or blocks (s / 64) no_place).address; stale = true }) }) s age
-goes_on segments blocks s age x lt low some room fits used live held aged kept = record {
+    → GoesOn (record { segments = segments; blocks = blocks; last = o }) (record { segments = slice_set segments s x; blocks = slice_set blocks (s / 64) (record { address = (get_or blocks (s / 64) no_place).address; stale = true }); last = o }) s age
+goes_on o segments blocks s age x lt low some room fits used live held aged kept = record {
   inside = lt;
   some = some;
   begun = let f = fits.fewer in omega arith;
@@ -130,68 +133,71 @@ goes_on segments blocks s age x lt low some room fits used live held aged kept =
   held = is_same (λ n. n.held) segments s x lt held;
   age = set_to _ _ s x.age _ aged (is_set (λ n. n.age) segments s x lt);
   kept = is_same (λ n. n.kept) segments s x lt kept;
-  blocks = made_stale segments (slice_set segments s x) blocks (s / 64) low;
+  blocks = made_stale o segments (slice_set segments s x) blocks (s / 64) low;
+  last = refl;
   size = length-set segments s x;
   clean = still_clean segments s x lt (both_in_use _ x.used (λ z. let f = fits.fewer in omega arith) (λ z. omega arith));
 }
 
-pub puts : (segments : List SegmentNumbers) (blocks : List PlaceInSegment) (j a : ℕ) (stale : Bool) → j < length blocks
-    → PutsPlace (record { segments = segments; blocks = blocks }) (record { segments = segments; blocks = slice_set blocks j (record { address = a; stale = stale }) }) j a stale
-puts segments blocks j a stale lt = record {
+pub puts : (o : Option ℕ) (segments : List SegmentNumbers) (blocks : List PlaceInSegment) (j a : ℕ) (stale : Bool) → j < length blocks
+    → PutsPlace (record { segments = segments; blocks = blocks; last = o }) (record { segments = segments; blocks = slice_set blocks j (record { address = a; stale = stale }); last = o }) j a stale
+puts o segments blocks j a stale lt = record {
   segments = refl;
   address = place_set blocks j (record { address = a; stale = stale }) lt (λ b. b.address);
   stale = place_set blocks j (record { address = a; stale = stale }) lt (λ b. b.stale);
+  last = refl;
 }
 
 -- ---- the same, of whole tables
-same_table : (t u : UsageTable) → u.segments ≡ t.segments → u.blocks ≡ t.blocks → u ≡ t
-same_table t u segments blocks = λ i. record { segments = segments i; blocks = blocks i }
+same_table : (t u : UsageTable) → u.segments ≡ t.segments → u.blocks ≡ t.blocks → u.last ≡ t.last → u ≡ t
+same_table t u segments blocks opens = λ i. record { segments = segments i; blocks = blocks i; last = opens i }
 
 pub notes_of : (old new : UsageTable) (s : ℕ) (x : SegmentNumbers) (lives : Bool) → FitsTable old → s < length old.segments
     → 0 < used_of old s → x.used ≡ suc (used_of old s) → x.live ≡ cond lives 1 0 + live_of old s → x.held ≡ cond (not lives) 1 0 + held_of old s
     → x.age ≡ age_of old s → x.kept ≡ kept_of old s → new.segments ≡ slice_set old.segments s x
-    → new.blocks ≡ slice_set old.blocks (s / 64) (record { address = (get_or old.blocks (s / 64) no_place).address; stale = true }) → Notes old new s lives
-notes_of old new s x lives fits lt some used live held age kept segments blocks =
+    → new.blocks ≡ slice_set old.blocks (s / 64) (record { address = (get_or old.blocks (s / 64) no_place).address; stale = true }) → new.last ≡ old.last → Notes old new s lives
+notes_of old new s x lives fits lt some used live held age kept segments blocks last =
     let few = fits.few in
     let whole = fits.blocks in
     subst (λ (t : UsageTable). Notes old t s lives)
-    (sym (same_table (record { segments = slice_set old.segments s x; blocks = slice_set old.blocks (s / 64) (record { address = (get_or old.blocks (s / 64) no_place).address; stale = true }) }) new segments blocks))
-    (notes old.segments old.blocks s x lives lt (omega arith) (λ z. omega arith) used live held age kept)
+    (sym (same_table (record { segments = slice_set old.segments s x; blocks = slice_set old.blocks (s / 64) (record { address = (get_or old.blocks (s / 64) no_place).address; stale = true }); last = old.last }) new segments blocks last))
+    (notes old.last old.segments old.blocks s x lives lt (omega arith) (λ z. omega arith) used live held age kept)
 
 pub lifts_of : (old new : UsageTable) (s : ℕ) (x : SegmentNumbers) (lives : Bool) → FitsTable old → s < length old.segments
     → x.used ≡ used_of old s → cond lives 1 0 + x.live ≡ live_of old s → cond (not lives) 1 0 + x.held ≡ held_of old s
     → x.age ≡ age_of old s → x.kept ≡ kept_of old s → new.segments ≡ slice_set old.segments s x
-    → new.blocks ≡ slice_set old.blocks (s / 64) (record { address = (get_or old.blocks (s / 64) no_place).address; stale = true }) → Lifts old new s lives
-lifts_of old new s x lives fits lt used live held age kept segments blocks =
+    → new.blocks ≡ slice_set old.blocks (s / 64) (record { address = (get_or old.blocks (s / 64) no_place).address; stale = true }) → new.last ≡ old.last → Lifts old new s lives
+lifts_of old new s x lives fits lt used live held age kept segments blocks last =
     let few = fits.few in
     let whole = fits.blocks in
     subst (λ (t : UsageTable). Lifts old t s lives)
-    (sym (same_table (record { segments = slice_set old.segments s x; blocks = slice_set old.blocks (s / 64) (record { address = (get_or old.blocks (s / 64) no_place).address; stale = true }) }) new segments blocks))
-    (lifts old.segments old.blocks s x lives lt (omega arith) used live held age kept)
+    (sym (same_table (record { segments = slice_set old.segments s x; blocks = slice_set old.blocks (s / 64) (record { address = (get_or old.blocks (s / 64) no_place).address; stale = true }); last = old.last }) new segments blocks last))
+    (lifts old.last old.segments old.blocks s x lives lt (omega arith) used live held age kept)
 
 pub goes_on_of : (old new : UsageTable) (s age : ℕ) (x : SegmentNumbers) → FitsTable old → s < length old.segments
     → 0 < live_of old s + held_of old s → used_of old s ≤ 62 → x.used ≡ suc (used_of old s) → x.live ≡ live_of old s → x.held ≡ held_of old s
     → x.age ≡ age → x.kept ≡ kept_of old s → new.segments ≡ slice_set old.segments s x
-    → new.blocks ≡ slice_set old.blocks (s / 64) (record { address = (get_or old.blocks (s / 64) no_place).address; stale = true }) → GoesOn old new s age
-goes_on_of old new s age x fits lt some room used live held aged kept segments blocks =
+    → new.blocks ≡ slice_set old.blocks (s / 64) (record { address = (get_or old.blocks (s / 64) no_place).address; stale = true }) → new.last ≡ old.last → GoesOn old new s age
+goes_on_of old new s age x fits lt some room used live held aged kept segments blocks last =
     let few = fits.few in
     let whole = fits.blocks in
     subst (λ (t : UsageTable). GoesOn old t s age)
-    (sym (same_table (record { segments = slice_set old.segments s x; blocks = slice_set old.blocks (s / 64) (record { address = (get_or old.blocks (s / 64) no_place).address; stale = true }) }) new segments blocks))
-    (goes_on old.segments old.blocks s age x lt (omega arith) some room (fits.each s) used live held aged kept)
+    (sym (same_table (record { segments = slice_set old.segments s x; blocks = slice_set old.blocks (s / 64) (record { address = (get_or old.blocks (s / 64) no_place).address; stale = true }); last = old.last }) new segments blocks last))
+    (goes_on old.last old.segments old.blocks s age x lt (omega arith) some room (fits.each s) used live held aged kept)
 
-pub takes_away : (segments : List SegmentNumbers) (blocks : List PlaceInSegment) (s count : ℕ) (x : SegmentNumbers) (lives : Bool) → s < length segments → s / 64 < length blocks
+pub takes_away : (o : Option ℕ) (segments : List SegmentNumbers) (blocks : List PlaceInSegment) (s count : ℕ) (x : SegmentNumbers) (lives : Bool) → s < length segments → s / 64 < length blocks
     → x.used ≡ (get_or segments s no_segment).used
     → x.live ≡ (get_or segments s no_segment).live - cond lives count 0 → x.held ≡ (get_or segments s no_segment).held - cond (not lives) count 0
     → x.age ≡ (get_or segments s no_segment).age → x.kept ≡ (get_or segments s no_segment).kept
-    → TakesAway (record { segments = segments; blocks = blocks }) (record { segments = slice_set segments s x; blocks = slice_set blocks (s / 64) (record { address = (get_or blocks (s / 64) no_place).address; stale = true }) }) s count lives
-takes_away segments blocks s count x lives lt low used live held age kept = record {
+    → TakesAway (record { segments = segments; blocks = blocks; last = o }) (record { segments = slice_set segments s x; blocks = slice_set blocks (s / 64) (record { address = (get_or blocks (s / 64) no_place).address; stale = true }); last = o }) s count lives
+takes_away o segments blocks s count x lives lt low used live held age kept = record {
   used = is_same (λ n. n.used) segments s x lt used;
   live = set_to _ _ s x.live _ live (is_set (λ n. n.live) segments s x lt);
   held = set_to _ _ s x.held _ held (is_set (λ n. n.held) segments s x lt);
   age = is_same (λ n. n.age) segments s x lt age;
   kept = is_same (λ n. n.kept) segments s x lt kept;
-  blocks = made_stale segments (slice_set segments s x) blocks (s / 64) low;
+  blocks = made_stale o segments (slice_set segments s x) blocks (s / 64) low;
+  last = refl;
   size = length-set segments s x;
   clean = still_clean segments s x lt (ap (λ (u : ℕ). u == 0) (sym used));
 }
@@ -199,26 +205,27 @@ takes_away segments blocks s count x lives lt low used live held age kept = reco
 pub takes_away_of : (old new : UsageTable) (s count : ℕ) (x : SegmentNumbers) (lives : Bool) → FitsTable old → s < length old.segments
     → x.used ≡ used_of old s → x.live ≡ live_of old s - cond lives count 0 → x.held ≡ held_of old s - cond (not lives) count 0
     → x.age ≡ age_of old s → x.kept ≡ kept_of old s → new.segments ≡ slice_set old.segments s x
-    → new.blocks ≡ slice_set old.blocks (s / 64) (record { address = (get_or old.blocks (s / 64) no_place).address; stale = true }) → TakesAway old new s count lives
-takes_away_of old new s count x lives fits lt used live held age kept segments blocks =
+    → new.blocks ≡ slice_set old.blocks (s / 64) (record { address = (get_or old.blocks (s / 64) no_place).address; stale = true }) → new.last ≡ old.last → TakesAway old new s count lives
+takes_away_of old new s count x lives fits lt used live held age kept segments blocks last =
     let few = fits.few in
     let whole = fits.blocks in
     subst (λ (t : UsageTable). TakesAway old t s count lives)
-    (sym (same_table (record { segments = slice_set old.segments s x; blocks = slice_set old.blocks (s / 64) (record { address = (get_or old.blocks (s / 64) no_place).address; stale = true }) }) new segments blocks))
-    (takes_away old.segments old.blocks s count x lives lt (omega arith) used live held age kept)
+    (sym (same_table (record { segments = slice_set old.segments s x; blocks = slice_set old.blocks (s / 64) (record { address = (get_or old.blocks (s / 64) no_place).address; stale = true }); last = old.last }) new segments blocks last))
+    (takes_away old.last old.segments old.blocks s count x lives lt (omega arith) used live held age kept)
 
-pub hides : (segments : List SegmentNumbers) (blocks : List PlaceInSegment) (s count : ℕ) (x : SegmentNumbers) → s < length segments → s / 64 < length blocks
+pub hides : (o : Option ℕ) (segments : List SegmentNumbers) (blocks : List PlaceInSegment) (s count : ℕ) (x : SegmentNumbers) → s < length segments → s / 64 < length blocks
     → x.used ≡ (get_or segments s no_segment).used
     → x.live + count ≡ (get_or segments s no_segment).live → x.held ≡ (get_or segments s no_segment).held + count
     → x.age ≡ (get_or segments s no_segment).age → x.kept ≡ (get_or segments s no_segment).kept
-    → HidesBlocks (record { segments = segments; blocks = blocks }) (record { segments = slice_set segments s x; blocks = slice_set blocks (s / 64) (record { address = (get_or blocks (s / 64) no_place).address; stale = true }) }) s count
-hides segments blocks s count x lt low used live held age kept = record {
+    → HidesBlocks (record { segments = segments; blocks = blocks; last = o }) (record { segments = slice_set segments s x; blocks = slice_set blocks (s / 64) (record { address = (get_or blocks (s / 64) no_place).address; stale = true }); last = o }) s count
+hides o segments blocks s count x lt low used live held age kept = record {
   used = is_same (λ n. n.used) segments s x lt used;
   live = set_to _ _ s x.live _ (omega (arith, live)) (is_set (λ n. n.live) segments s x lt);
   held = set_to _ _ s x.held _ held (is_set (λ n. n.held) segments s x lt);
   age = is_same (λ n. n.age) segments s x lt age;
   kept = is_same (λ n. n.kept) segments s x lt kept;
-  blocks = made_stale segments (slice_set segments s x) blocks (s / 64) low;
+  blocks = made_stale o segments (slice_set segments s x) blocks (s / 64) low;
+  last = refl;
   size = length-set segments s x;
   clean = still_clean segments s x lt (ap (λ (u : ℕ). u == 0) (sym used));
 }
@@ -226,24 +233,25 @@ hides segments blocks s count x lt low used live held age kept = record {
 pub hides_of : (old new : UsageTable) (s count : ℕ) (x : SegmentNumbers) → FitsTable old → s < length old.segments
     → x.used ≡ used_of old s → x.live + count ≡ live_of old s → x.held ≡ held_of old s + count
     → x.age ≡ age_of old s → x.kept ≡ kept_of old s → new.segments ≡ slice_set old.segments s x
-    → new.blocks ≡ slice_set old.blocks (s / 64) (record { address = (get_or old.blocks (s / 64) no_place).address; stale = true }) → HidesBlocks old new s count
-hides_of old new s count x fits lt used live held age kept segments blocks =
+    → new.blocks ≡ slice_set old.blocks (s / 64) (record { address = (get_or old.blocks (s / 64) no_place).address; stale = true }) → new.last ≡ old.last → HidesBlocks old new s count
+hides_of old new s count x fits lt used live held age kept segments blocks last =
     let few = fits.few in
     let whole = fits.blocks in
     subst (λ (t : UsageTable). HidesBlocks old t s count)
-    (sym (same_table (record { segments = slice_set old.segments s x; blocks = slice_set old.blocks (s / 64) (record { address = (get_or old.blocks (s / 64) no_place).address; stale = true }) }) new segments blocks))
-    (hides old.segments old.blocks s count x lt (omega arith) used live held age kept)
+    (sym (same_table (record { segments = slice_set old.segments s x; blocks = slice_set old.blocks (s / 64) (record { address = (get_or old.blocks (s / 64) no_place).address; stale = true }); last = old.last }) new segments blocks last))
+    (hides old.last old.segments old.blocks s count x lt (omega arith) used live held age kept)
 
 pub takes_of : (old new : UsageTable) (s age : ℕ) → FitsTable old → s < length old.segments → used_of old s ≡ 0
-    → new.segments ≡ slice_set old.segments s (record { used = 1; live = 0; held = 0; age = age; kept = 0 }) → new.blocks ≡ old.blocks → TakesSegment old new s age
-takes_of old new s age fits lt clean segments blocks =
-    subst (λ (t : UsageTable). TakesSegment old t s age) (sym (same_table (record { segments = slice_set old.segments s (record { used = 1; live = 0; held = 0; age = age; kept = 0 }); blocks = old.blocks }) new segments blocks))
-    (takes old.segments old.blocks s age lt clean (fits.each s))
+    → new.segments ≡ slice_set old.segments s (record { used = 1; live = 0; held = 0; age = age; kept = 0 }) → new.blocks ≡ old.blocks → new.last ≡ Some s → TakesSegment old new s age
+takes_of old new s age fits lt clean segments blocks opens =
+    subst (λ (t : UsageTable). TakesSegment old t s age) (sym (same_table (record { segments = slice_set old.segments s (record { used = 1; live = 0; held = 0; age = age; kept = 0 }); blocks = old.blocks; last = Some s }) new segments blocks opens))
+    (takes old.last old.segments old.blocks s age lt clean (fits.each s))
 
 -- ---- releasing, one segment after the other
 pub record ReleasedTo (old now : UsageTable) (k : ℕ) : Type 0 where
   pub size : length now.segments ≡ length old.segments
   pub blocks : now.blocks ≡ old.blocks
+  pub last : now.last ≡ old.last
   pub before : (s : ℕ) → s < k → get_or now.segments s no_segment ≡ released (get_or old.segments s no_segment)
   pub after : (s : ℕ) → k ≤ s → get_or now.segments s no_segment ≡ get_or old.segments s no_segment
   pub clean : clean_in old.segments ≤ clean_in now.segments
@@ -252,16 +260,18 @@ pub release_begins : (old : UsageTable) → ReleasedTo old old 0
 release_begins old = record {
   size = refl;
   blocks = refl;
+  last = refl;
   before = λ s lt. absurd (omega arith);
   after = λ s le. refl;
   clean = omega arith;
 }
 
 pub release_goes_on : (old now new : UsageTable) (k : ℕ) → ReleasedTo old now k → k < length now.segments → new.segments ≡ slice_set now.segments k (released (get_or now.segments k no_segment)) → new.blocks ≡ now.blocks
-    → ReleasedTo old new (k + 1)
-release_goes_on old now new k so lt segments blocks = record {
+    → new.last ≡ now.last → ReleasedTo old new (k + 1)
+release_goes_on old now new k so lt segments blocks last = record {
   size = ap length segments ∙ length-set now.segments k (released (get_or now.segments k no_segment)) ∙ so.size;
   blocks = blocks ∙ so.blocks;
+  last = last ∙ so.last;
   before = λ s low. ap (λ (l : List SegmentNumbers). get_or l s no_segment) segments ∙ ⊎_elim
       (λ (here : s ≡ k).
       ap (λ (s : ℕ). get_or (slice_set now.segments k (released (get_or now.segments k no_segment))) s no_segment) here
@@ -299,6 +309,7 @@ release_ends old now k so le = record {
       (cases_lt s k);
   size = so.size;
   blocks = so.blocks;
+  last = so.last;
   clean = so.clean;
 }
   where

@@ -1,5 +1,5 @@
 -- The chunk that is being filled. Chunks of blocks behind a summary are those of the Sprite LFS paper (1992, section 3.3), called partial segments there.
-use Rattle.std.specs.Prelude.{◌≡◌, ◌<◌, ◌≤◌, ◌+◌, ◌-◌, ◌/◌, ◌%◌, ◌==◌, cond, nat_lt, ℕ, suc, Bool, List, map, length, get_or}
+use Rattle.std.specs.Prelude.{◌≡◌, ◌<◌, ◌≤◌, ◌+◌, ◌-◌, ◌/◌, ◌%◌, ◌==◌, cond, nat_lt, ℕ, suc, List, Option, Some, None, map, length, get_or}
 use Rattle.lfs_model.specs.Entry.{Entry, entry_of}
 use Rattle.lfs_model.specs.Summary.{BlockNameValue, IsPlaced, no_block}
 use Rattle.lfs_segments.specs.Table.{UsageTable, used_of, live_of, held_of, kept_of}
@@ -9,8 +9,6 @@ pub record Chunk : Type 0 where
   pub segment : ℕ
   -- the place of its summary there
   pub start : ℕ
-  -- whether a chunk was written to the segment, behind which the next may begin
-  pub sealed : Bool
   -- the blocks that have a place in it
   pub names : List BlockNameValue
 
@@ -27,6 +25,7 @@ pub record IsOpenChunk (c : Chunk) (t : UsageTable) : Type 0 where
   pub inside : c.segment < length t.segments
   pub used : used_of t c.segment ≡ c.start + suc (length c.names)
   pub free : kept_of t c.segment ≤ c.start
+  pub last : t.last ≡ Some c.segment
 
 -- A chunk more may begin in segment s: a summary and a block have room behind what is in use, and
 -- something lives there or holds it.
@@ -43,6 +42,11 @@ IsUnkeptBy t address = kept_of t ((address - 2) / 64) ≤ (address - 2) % 64
 abbrev pub room_in : Chunk → ℕ
 room_in c = cond (length c.names == 0) 0 (63 - (c.start + length c.names))
 
+-- whether a chunk may begin behind the last one: how many may without a clean segment
+abbrev pub room_behind : UsageTable → Option ℕ → ℕ
+room_behind t None = 0
+room_behind t (Some s) = cond (nat_lt (used_of t s) 63) 1 0
+
 -- how many summaries are to come without a clean segment: one where the chunk has blocks, or another may begin behind the last
 abbrev pub due_in : Chunk → UsageTable → ℕ
-due_in c t = cond (length c.names == 0) (cond (nat_lt (used_of t c.segment) 63) 1 0) 1
+due_in c t = cond (length c.names == 0) (room_behind t t.last) 1

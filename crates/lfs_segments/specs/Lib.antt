@@ -2,7 +2,6 @@ pub mod Table
 pub mod Steps
 pub mod Chunk
 pub mod Victims
-pub mod Keys
 pub mod Choosing
 pub mod Emptied
 pub mod Spare

@@ -1,5 +1,5 @@
 -- What the calls on a usage table do, number by number.
-use Rattle.std.specs.Prelude.{◌≡◌, ◌<◌, ◌≤◌, ◌⊎◌, ◌+◌, ◌*◌, ◌-◌, ◌/◌, ◌==◌, ◌&&◌, cond, not, ℕ, suc, Bool, true, false, List, length, get_or}
+use Rattle.std.specs.Prelude.{Some, ◌≡◌, ◌<◌, ◌≤◌, ◌⊎◌, ◌+◌, ◌*◌, ◌-◌, ◌/◌, ◌==◌, ◌&&◌, cond, not, ℕ, suc, Bool, true, List, length, get_or}
 use Rattle.lfs_model.specs.Entry.{half, word}
 use Rattle.lfs_model.specs.Running.{IsSet, CountsUp, CountsDown}
 use Rattle.lfs_model.specs.Usage.{SegmentUse}
@@ -18,6 +18,7 @@ pub record Notes (old new : UsageTable) (s : ℕ) (lives : Bool) : Type 0 where
   pub age : (i : ℕ) → age_of new i ≡ age_of old i
   pub kept : (i : ℕ) → kept_of new i ≡ kept_of old i
   pub blocks : Stales old new (s / 64)
+  pub last : new.last ≡ old.last
   pub size : length new.segments ≡ length old.segments
   pub clean : clean_in new.segments ≡ clean_in old.segments
 
@@ -29,6 +30,7 @@ pub record Lifts (old new : UsageTable) (s : ℕ) (lives : Bool) : Type 0 where
   pub age : (i : ℕ) → age_of new i ≡ age_of old i
   pub kept : (i : ℕ) → kept_of new i ≡ kept_of old i
   pub blocks : Stales old new (s / 64)
+  pub last : new.last ≡ old.last
   pub size : length new.segments ≡ length old.segments
   pub clean : clean_in new.segments ≡ clean_in old.segments
 
@@ -40,6 +42,7 @@ pub record TakesAway (old new : UsageTable) (s count : ℕ) (lives : Bool) : Typ
   pub age : (i : ℕ) → age_of new i ≡ age_of old i
   pub kept : (i : ℕ) → kept_of new i ≡ kept_of old i
   pub blocks : Stales old new (s / 64)
+  pub last : new.last ≡ old.last
   pub size : length new.segments ≡ length old.segments
   pub clean : clean_in new.segments ≡ clean_in old.segments
 
@@ -51,6 +54,7 @@ pub record HidesBlocks (old new : UsageTable) (s count : ℕ) : Type 0 where
   pub age : (i : ℕ) → age_of new i ≡ age_of old i
   pub kept : (i : ℕ) → kept_of new i ≡ kept_of old i
   pub blocks : Stales old new (s / 64)
+  pub last : new.last ≡ old.last
   pub size : length new.segments ≡ length old.segments
   pub clean : clean_in new.segments ≡ clean_in old.segments
 
@@ -65,6 +69,7 @@ pub record TakesSegment (old new : UsageTable) (s number : ℕ) : Type 0 where
   pub age : IsSet (age_of old) (age_of new) s number
   pub kept : (i : ℕ) → kept_of new i ≡ kept_of old i
   pub blocks : (i : ℕ) → (stale_of new i ≡ stale_of old i) × (address_of new i ≡ address_of old i)
+  pub last : new.last ≡ Some s
   pub size : length new.segments ≡ length old.segments
   pub count : clean_in old.segments ≡ suc (clean_in new.segments)
 
@@ -81,6 +86,7 @@ pub record GoesOn (old new : UsageTable) (s number : ℕ) : Type 0 where
   pub age : IsSet (age_of old) (age_of new) s number
   pub kept : (i : ℕ) → kept_of new i ≡ kept_of old i
   pub blocks : Stales old new (s / 64)
+  pub last : new.last ≡ old.last
   pub size : length new.segments ≡ length old.segments
   pub clean : clean_in new.segments ≡ clean_in old.segments
 
@@ -93,6 +99,7 @@ pub record PutsPlace (old new : UsageTable) (j at : ℕ) (differs : Bool) : Type
   pub segments : new.segments ≡ old.segments
   pub address : IsSet (address_of old) (address_of new) j at
   pub stale : IsSet (stale_of old) (stale_of new) j differs
+  pub last : new.last ≡ old.last
 
 -- the numbers of a segment after a checkpoint is acknowledged: clean where nothing lives and nothing holds it
 abbrev pub is_empty : SegmentNumbers → Bool
@@ -105,6 +112,7 @@ pub record Releases (old new : UsageTable) : Type 0 where
   pub each : (s : ℕ) → get_or new.segments s no_segment ≡ released (get_or old.segments s no_segment)
   pub size : length new.segments ≡ length old.segments
   pub blocks : new.blocks ≡ old.blocks
+  pub last : new.last ≡ old.last
   pub clean : clean_in old.segments ≤ clean_in new.segments
 
 -- what a usage block says of a segment: nothing where nothing lives

@@ -1,6 +1,6 @@
 -- What is known of each segment of a volume, and where the blocks of its usage table stand.
 -- The segment usage table is that of the Sprite LFS paper (1992, section 3.6).
-use Rattle.std.specs.Prelude.{◌≡◌, ◌≤◌, ◌+◌, ◌-◌, ◌==◌, ℕ, Bool, false, List, length, get_or}
+use Rattle.std.specs.Prelude.{Option, ◌≡◌, ◌≤◌, ◌+◌, ◌-◌, ◌==◌, ℕ, Bool, false, List, length, get_or}
 use Rattle.lfs_model.specs.Stands.{count_up}
 
 pub record SegmentNumbers : Type 0 where
@@ -24,6 +24,8 @@ no_place = record { address = 0; stale = false }
 pub record UsageTable : Type 0 where
   pub segments : List SegmentNumbers
   pub blocks : List PlaceInSegment
+  -- the segment in which the last chunk begun stands; none before the first one
+  pub last : Option ℕ
 
 -- the numbers of a segment, none past the last
 abbrev pub used_of : UsageTable → ℕ → ℕ

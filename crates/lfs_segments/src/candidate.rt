@@ -1,22 +1,22 @@
-//! A segment that may be cleaned.
-ghost use Rattle.std.specs.Prelude.{◌<◌, ◌≤◌, IsTrue, IsFalse};
-ghost use Rattle.lfs_segments.specs.Keys.{rank};
+//! A segment that may be cleaned, and the orders in which such segments are chosen.
+ghost use Rattle.std.specs.Prelude.{◌<◌, ◌≤◌};
 
-/// A segment in use, and how many blocks have to leave it before it is clean.
+/// A segment that may be cleaned, how many blocks have to leave it before it is clean, and the
+/// number of the checkpoint for which it was written last.
 #[derive(Clone, Copy)]
 pub(crate) struct Candidate {
     pub(crate) load: u16,
+    pub(crate) age: u32,
     pub(crate) segment: u16,
     ghost few: { load ≤ 63 },
     ghost inside: { segment < 1024 },
 }
 
-impl Candidate {
-    /// Whether it comes before another: it has fewer blocks, or as many and the lower number.
-    pub(crate) fn is_before(self, other: Candidate) -> bool
-        ensures yes { IsTrue result → rank self.load self.segment < rank other.load other.segment }
-        ensures no { IsFalse result → rank other.load other.segment ≤ rank self.load self.segment }
-    {
-        self.load < other.load || self.load == other.load && self.segment < other.segment
-    }
+/// In which order segments are chosen.
+#[derive(Clone, Copy)]
+pub(crate) enum Preference {
+    /// By benefit and cost, where the acknowledged checkpoint has this number.
+    Benefit(u64),
+    /// Those with the least blocks first.
+    Load,
 }

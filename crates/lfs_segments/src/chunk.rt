@@ -1,5 +1,5 @@
 //! Chunks: a summary and the blocks behind it, in a clean segment or behind other chunks.
-ghost use Rattle.std.specs.Prelude.{◌≡◌, ◌≢◌, ◌<◌, ◌≤◌, ◌+◌, ◌-◌, ◌*◌, ◌/◌, ◌++◌, [], ◌∷◌, ℕ, suc, Some, true, false, length, IfSome, IfNone, OnOk, OnErr};
+ghost use Rattle.std.specs.Prelude.{◌≡◌, ◌≢◌, ◌<◌, ◌≤◌, ◌+◌, ◌-◌, ◌*◌, ◌/◌, ◌++◌, [], ◌∷◌, ℕ, suc, Some, true, None, length, IfSome, IfNone, OnOk, OnErr};
 ghost use Rattle.lfs_model.specs.Device.{put, MayWrite, CrashWrites, Carries, Elapses};
 ghost use Rattle.lfs_model.specs.Entry.{entries_in};
 ghost use Rattle.lfs_model.specs.Summary.{IsPlaced, summary_sector};
@@ -19,8 +19,6 @@ use std::marker::Model;
 pub struct ChunkWriter {
     segment: u32,
     start: u32,
-    /// Whether a chunk was written to the segment, behind which the next may begin.
-    is_sealed: bool,
     names: ArrayVec<BlockName, 63>,
 }
 
@@ -30,7 +28,7 @@ impl Model for ChunkWriter {
 
     ghost Value = { Chunk };
 
-    ghost view = { λ c. record { segment = c.segment; start = c.start; sealed = c.is_sealed; names = c.names.items } };
+    ghost view = { λ c. record { segment = c.segment; start = c.start; names = c.names.items } };
 
     ghost invariant = { λ c. (c.segment < 1024) × (c.start ≤ 62) × IsChunk c.names.items };
 }
@@ -38,13 +36,11 @@ impl Model for ChunkWriter {
 impl ChunkWriter {
     /// No chunk, and none that was written: the first one begins in a clean segment.
     pub fn new() -> ChunkWriter
-        ensures names { result.names ≡ [] }
-        ensures sealed { result.sealed ≡ false }
+        ensures { result.names ≡ [] }
     {
         ChunkWriter {
             segment: 0,
             start: 0,
-            is_sealed: false,
             names: ArrayVec::new(),
         }
     }
@@ -82,30 +78,14 @@ impl ChunkWriter {
         self.start as usize + self.names.len() == 63
     }
 
-    /// Whether a chunk may begin behind the last one, if there was one: its segment has room for a
-    /// summary and a block, and something lives there or holds it.
-    fn may_go_on(&self, usage: &Usage) -> bool
-        ensures yes { result ≡ true → TakesChunk usage.now self.now.segment }
-        ensures no { result ≢ true → self.now.sealed ≡ true
-            → TakesChunk usage.now self.now.segment → ⊥ }
-        ensures sealed { result ≡ true → self.now.sealed ≡ true }
-    {
-        if !self.is_sealed || self.segment >= usage.segments() {
-            return false;
-        }
-        let state = usage.state(self.segment);
-        state.used <= 62 && (state.live != 0 || state.held != 0)
-    }
-
     /// Begins a chunk: behind the last one where there is room, else in a clean segment, which is
     /// taken, if there is one.
     pub fn begin(&mut self, usage: &mut Usage, age: u32) -> Option<u32>
         requires { self.old.names ≡ [] }
         ensures begun { IfSome result (λ s. Begins usage.old usage.new s age) }
-        ensures goes_on { self.old.sealed ≡ true → TakesChunk usage.old self.old.segment
-            → (result ≡ Some self.old.segment)
-            × GoesOn usage.old usage.new self.old.segment age }
-        ensures first { self.old.sealed ≡ false
+        ensures goes_on { (s : ℕ) → usage.old.last ≡ Some s → TakesChunk usage.old s
+            → (result ≡ Some s) × GoesOn usage.old usage.new s age }
+        ensures first { usage.old.last ≡ None
             → IfSome result (λ s. TakesSegment usage.old usage.new s age) }
         ensures segment { IfSome result (λ s. self.new.segment ≡ s) }
         ensures names { self.new.names ≡ [] }
@@ -116,10 +96,11 @@ impl ChunkWriter {
         ensures taken { IfSome result (λ s. 1 + clean_in usage.new.segments
             ≤ due_in self.old usage.old + clean_in usage.old.segments) }
     {
-        if self.may_go_on(usage) {
-            self.start = u32::from(usage.state(self.segment).used);
-            usage.go_on(self.segment, age);
-            return Some(self.segment);
+        if let Some(segment) = last_with_room(usage) {
+            self.segment = segment;
+            self.start = u32::from(usage.state(segment).used);
+            usage.go_on(segment, age);
+            return Some(segment);
         }
         let segment = usage.take_clean(age)?;
         self.segment = segment;
@@ -137,7 +118,6 @@ impl ChunkWriter {
         ensures names { self.new.names ≡ self.old.names ++ name ∷ [] }
         ensures segment { self.new.segment ≡ self.old.segment }
         ensures start { self.new.start ≡ self.old.start }
-        ensures sealed { self.new.sealed ≡ self.old.sealed }
         ensures noted { Notes usage.old usage.new self.old.segment lives }
         ensures opened { IsOpenChunk self.new usage.new }
     {
@@ -170,7 +150,6 @@ impl ChunkWriter {
         ensures crash { CrashWrites (2 + 64 * self.old.segment + self.old.start)
             (summary_sector self.old.names) (D.state device.old) (D.state device.new) }
         ensures ended { OnOk result (self.new.names ≡ []) }
-        ensures sealed { OnOk result (self.new.sealed ≡ true) }
         ensures kept { OnErr result (self.new ≡ self.old) }
         ensures segment { self.new.segment ≡ self.old.segment }
         ensures start { self.new.start ≡ self.old.start }
@@ -188,8 +167,26 @@ impl ChunkWriter {
         let summary = encode_summary(self.names.as_slice());
         write(device, usage, 2 + 64 * self.segment + self.start, &summary)?;
         self.names.clear();
-        self.is_sealed = true;
         Ok(())
+    }
+}
+
+/// The segment of the last chunk, if the next may begin behind it: there is room for a summary and a
+/// block, and something lives there or holds it.
+fn last_with_room(usage: &Usage) -> Option<u32>
+    ensures some { IfSome result (λ s. (usage.now.last ≡ Some s) × TakesChunk usage.now s) }
+    ensures none { IfNone result ((s : ℕ) → usage.now.last ≡ Some s → TakesChunk usage.now s → ⊥) }
+    ensures fits { IfSome result (λ s. s < 1024) }
+{
+    let segment = usage.last()?;
+    if segment >= usage.segments() {
+        return None;
+    }
+    let state = usage.state(segment);
+    if state.used <= 62 && (state.live != 0 || state.held != 0) {
+        Some(segment)
+    } else {
+        None
     }
 }
 

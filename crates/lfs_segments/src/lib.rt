@@ -2,12 +2,15 @@
 //! ones.
 #![tactic(auto)]
 
+mod benefit;
 mod candidate;
 mod chunk;
+mod order;
 mod state;
 mod usage;
 pub mod victims;
 
+pub use benefit::before;
 pub use chunk::{ChunkWriter, write};
 pub use state::{SegmentState, UsageBlock};
 pub use usage::Usage;

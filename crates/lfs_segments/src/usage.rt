@@ -1,6 +1,6 @@
 //! What is known of each segment, after the segment usage table of the Sprite LFS paper (1992,
 //! section 3.6).
-ghost use Rattle.std.specs.Prelude.{◌≡◌, ◌≢◌, ◌<◌, ◌≤◌, ◌+◌, ◌-◌, ◌*◌, ◌/◌, ◌==◌, ℕ, suc, Bool, true, false, cond, not, length, get_or, replicate, slice_set, IfOk, IfSome, IfNone};
+ghost use Rattle.std.specs.Prelude.{◌≡◌, ◌≢◌, ◌<◌, ◌≤◌, ◌+◌, ◌-◌, ◌*◌, ◌/◌, ◌==◌, ℕ, suc, Bool, true, false, cond, not, length, get_or, replicate, slice_set, IfOk, IfSome, IfNone, None, Some};
 ghost use Rattle.lfs_segments.specs.Steps.{Notes, Lifts, TakesAway, HidesBlocks, TakesSegment, GoesOn, PutsPlace, Releases, SpellsBlock, saved};
 ghost use Rattle.lfs_segments.specs.Steps as steps;
 ghost use Rattle.lfs_model.specs.Usage.{IsUse, no_use};
@@ -38,6 +38,8 @@ pub struct Usage {
     states: Vec<SegmentState>,
     blocks: Vec<UsageBlock>,
     clean: u32,
+    /// The segment in which the last chunk begun stands.
+    last: Option<u32>,
 }
 
 impl Model for Usage {
@@ -46,9 +48,9 @@ impl Model for Usage {
 
     ghost Value = { UsageTable };
 
-    ghost view = { λ u. record { segments = u.states.items; blocks = u.blocks.items } };
+    ghost view = { λ u. record { segments = u.states.items; blocks = u.blocks.items; last = u.last } };
 
-    ghost invariant = { λ u. FitsTable (record { segments = u.states.items; blocks = u.blocks.items }) × (u.clean ≡ clean_in u.states.items) };
+    ghost invariant = { λ u. FitsTable (record { segments = u.states.items; blocks = u.blocks.items; last = u.last }) × (u.clean ≡ clean_in u.states.items) };
 }
 
 impl Usage {
@@ -57,6 +59,7 @@ impl Usage {
         requires { segments ≤ 1024 }
         ensures clean { IfOk result (λ u. u.segments ≡ replicate segments no_segment) }
         ensures blocks { IfOk result (λ u. u.blocks ≡ replicate 16 no_place) }
+        ensures last { IfOk result (λ u. u.last ≡ None) }
     {
         let states = Vec::from_elem(alloc, CLEAN, segments as usize)?;
         let blocks = Vec::from_elem(alloc, NO_BLOCK, 16)?;
@@ -64,6 +67,7 @@ impl Usage {
             states,
             blocks,
             clean: segments,
+            last: None,
         })
     }
 
@@ -75,6 +79,7 @@ impl Usage {
         self.states.copy_from_slice(other.states.as_slice());
         self.blocks.copy_from_slice(other.blocks.as_slice());
         self.clean = other.clean;
+        self.last = other.last;
     }
 
     /// How many segments there are.
@@ -117,6 +122,7 @@ impl Usage {
         Some(segment)
     }
 
+    /// The last chunk begins in a clean segment, whose first sector is in use from then on.
     fn take(&mut self, segment: u32, age: u32)
         requires inside { segment < length self.old.segments }
         requires clean { used_of self.old segment ≡ 0 }
@@ -130,6 +136,23 @@ impl Usage {
             kept: 0,
         };
         self.put(segment, state);
+        self.set_last(segment);
+    }
+
+    /// The last chunk begun stands in this segment from now on.
+    fn set_last(&mut self, segment: u32)
+        ensures segments { self.new.segments ≡ self.old.segments }
+        ensures blocks { self.new.blocks ≡ self.old.blocks }
+        ensures last { self.new.last ≡ Some segment }
+    {
+        self.last = Some(segment);
+    }
+
+    /// The segment in which the last chunk begun stands.
+    pub fn last(&self) -> Option<u32>
+        ensures { result ≡ self.now.last }
+    {
+        self.last
     }
 
     /// One sector more of a segment is in use, for a summary, and the segment has this age.
@@ -148,6 +171,7 @@ impl Usage {
         requires fits { FitsSegment state }
         ensures segments { self.new.segments ≡ slice_set self.old.segments segment state }
         ensures blocks { self.new.blocks ≡ self.old.blocks }
+        ensures last { self.new.last ≡ self.old.last }
         ensures table { FitsTable self.old }
     {
         let was = one_if_clean(self.state(segment));
@@ -218,6 +242,7 @@ impl Usage {
               kept = saved.used;
             }) }
         ensures blocks { self.new.blocks ≡ self.old.blocks }
+        ensures last { self.new.last ≡ self.old.last }
     {
         let SegmentUsage { used, live, age } = saved;
         let state = SegmentState {
@@ -288,6 +313,7 @@ impl Usage {
         ensures segments { self.new.segments ≡ self.old.segments }
         ensures blocks { self.new.blocks ≡ slice_set self.old.blocks index
             (record { address = (get_or self.old.blocks index no_place).address; stale = true }) }
+        ensures last { self.new.last ≡ self.old.last }
     {
         let mut block = self.block(index);
         block.stale = true;

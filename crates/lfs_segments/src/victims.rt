@@ -1,10 +1,12 @@
-//! Which segments a pass of the cleaner empties: those with the least blocks.
-ghost use Rattle.std.specs.Prelude.{◌≡◌, ◌<◌, ◌≤◌, ◌+◌, ◌*◌, ℕ, List, Some, length, IfSome, IfNone, IsTrue, IsFalse, IsSome};
-ghost use Rattle.lfs_segments.specs.Table.{used_of, FitsTable};
-ghost use Rattle.lfs_segments.specs.Victims.{AreFewest, AreFirst, AreVictims, IsPressed, pass_limit};
-ghost use Rattle.lfs_segments.specs.Choosing.{IsCandidate, Leads, ahead, behind, key};
+//! Which segments a pass of the cleaner empties: those that are worth most by benefit and cost, or
+//! those with the least blocks.
+ghost use Rattle.std.specs.Prelude.{◌≡◌, ◌<◌, ◌≤◌, ◌+◌, ◌-◌, ◌*◌, ◌/◌, ℕ, List, Some, None, length, take, max, suc, IfSome, IfNone, IsTrue, IsFalse, IsSome};
+ghost use Rattle.lfs_segments.specs.Table.{FitsTable, UsageTable, clean_in};
+ghost use Rattle.lfs_segments.specs.Victims.{AreVictims, IsChosen, MayBeVictim, IsPressed, pass_limit, wanted_gain};
+ghost use Rattle.lfs_segments.specs.Choosing.{Exhausts, IsAhead, IsBehind, IsCandidate, IsChoiceBy, IsKnown, Leads};
 
-use crate::candidate::Candidate;
+use crate::candidate::{Candidate, Preference};
+use crate::order::precedes;
 use crate::usage::Usage;
 use arrayvec::ArrayVec;
 
@@ -14,90 +16,167 @@ const BLOCKS: u64 = 63;
 /// How many blocks the inode map and the usage table have at most.
 const TABLE_BLOCKS: u64 = 48;
 
-/// Segments that can be emptied into fewer than they are: those with the least blocks, the lower
-/// number first where two have as many. The blocks of a segment are those that live there and those
-/// that hold it. With them go so many inodes and blocks of pointers, and the blocks of the inode
-/// map and of the usage table. The list is the shortest such one, of at most so many segments;
-/// there is none where no list of so few segments in use is such.
-pub fn victims(usage: &Usage, meta: u32, most: u32) -> Option<ArrayVec<u16, 129>>
+/// How many segments a pass is to gain at least, where it can.
+const LEAST_GAIN: u32 = 4;
+
+/// Segments that can be emptied into fewer than they are. The blocks of a segment are those that
+/// live there and those that hold it. With them go so many inodes and blocks of pointers, and the
+/// blocks of the inode map and of the usage table. The segment of the last chunk is never taken.
+///
+/// Those go first whose cleaning is worth most by benefit and cost, where the acknowledged
+/// checkpoint has number `now`: of such lists, of at most so many segments, the shortest that gains
+/// as many segments as are missing to a quarter, and four at least, or else the one that gains
+/// most. Where none of them gains, the same of the lists in which those with the least blocks go
+/// first. There is none where no list of so few segments in use gains.
+pub fn victims(usage: &Usage, meta: u32, most: u32, now: u64) -> Option<ArrayVec<u16, 129>>
     requires most { most ≤ 129 }
     ensures some { IfSome result (λ v. AreVictims usage.now meta most v.items) }
-    ensures least { IfSome result (λ v. AreFirst usage.now v.items) }
-    ensures shortest { IfSome result (λ v. AreFewest usage.now meta most v.items) }
+    ensures choice { IfSome result (λ v. IsChosen usage.now meta most now v.items) }
     ensures none { IfNone result ((vs : List ℕ) → AreVictims usage.now meta most vs → ⊥) }
     ensures found { IsPressed usage.now meta → most ≡ pass_limit usage.now → IsSome result }
 {
+    if let Some(chosen) = choose(usage, meta, most, Preference::Benefit(now)) {
+        return Some(chosen);
+    }
+    choose(usage, meta, most, Preference::Load)
+}
+
+/// Of the first segments of an order, those by which so many segments are gained as are wanted, the
+/// fewest, or else those that gain most.
+fn choose(usage: &Usage, meta: u32, most: u32, preference: Preference) -> Option<ArrayVec<u16, 129>>
+    requires most { most ≤ 129 }
+    ensures some { IfSome result (λ v. IsChoiceBy usage.now meta most preference v.items) }
+    ensures none { IfNone result (Exhausts usage.now meta most preference) }
+{
+    let wanted = wanted(usage);
     let mut chosen = ArrayVec::new();
     let mut blocks = 0;
     let mut last = None;
+    let mut best = 0;
+    let mut count = 0;
     for others in 0..most {
-        let Some(next) = next_candidate(usage, last) else {
-            return None;
+        let Some(next) = next_candidate(usage, preference, last) else {
+            return shortened(chosen, count);
         };
         chosen.push(next.segment);
         blocks += u32::from(next.load);
-        if fit(blocks, meta, others) {
+        let gain = gain(blocks, meta, others + 1);
+        if gain >= wanted {
             return Some(chosen);
+        }
+        if gain > best {
+            best = gain;
+            count = others + 1;
         }
         last = Some(next);
     }
-    None
+    shortened(chosen, count)
 }
 
-/// Whether so many blocks, with those of the tables, fit so many segments.
-fn fit(blocks: u32, meta: u32, segments: u32) -> bool
-    ensures yes { IsTrue result → blocks + meta + 48 ≤ 63 * segments }
-    ensures no { IsFalse result → 63 * segments < blocks + meta + 48 }
+/// The first ones of the list, if any are to be taken.
+fn shortened(mut chosen: ArrayVec<u16, 129>, count: u32) -> Option<ArrayVec<u16, 129>>
+    ensures some { IfSome result (λ v. (0 < count) × (v.items ≡ take count chosen.items)) }
+    ensures none { IfNone result (count ≡ 0) }
 {
-    u64::from(blocks) + u64::from(meta) + TABLE_BLOCKS <= BLOCKS * u64::from(segments)
+    if count == 0 {
+        return None;
+    }
+    chosen.truncate(count as usize);
+    Some(chosen)
+}
+
+/// How many segments a pass is to gain: those that are missing to a quarter, and four at least.
+fn wanted(usage: &Usage) -> u32
+    ensures value { result ≡ wanted_gain usage.now }
+    ensures table { FitsTable usage.now }
+{
+    let missing = (usage.segments() / 4).saturating_sub(usage.clean());
+    missing.max(LEAST_GAIN)
+}
+
+/// By how many segments so many are more than their blocks fill, with those of the tables.
+fn gain(blocks: u32, meta: u32, segments: u32) -> u32
+    ensures { result ≡ segments - (blocks + meta + 48 + 62) / 63 }
+{
+    let filled = (u64::from(blocks) + u64::from(meta) + TABLE_BLOCKS + BLOCKS - 1) / BLOCKS;
+    segments.saturating_sub(filled as u32)
 }
 
 /// The segment that comes next behind the last one, or the first of all.
-fn next_candidate(usage: &Usage, last: Option<Candidate>) -> Option<Candidate>
-    ensures leads { Leads usage.now (behind last) (length usage.now.segments) result }
-    ensures table { FitsTable usage.now }
+fn next_candidate(
+    usage: &Usage,
+    preference: Preference,
+    last: Option<Candidate>,
+) -> Option<Candidate>
+    requires { IsKnown usage.now last }
+    ensures leads { Leads usage.now preference last (length usage.now.segments) result }
 {
     let mut next = None;
     for segment in 0..usage.segments() {
         if let Some(found) = candidate(usage, segment) {
-            next = nearer(last, next, found);
+            next = nearer(preference, last, next, found);
         }
     }
     next
 }
 
-/// The segment, if it is in use.
+/// The segment, if it may be cleaned: it is in use, and the last chunk doesn't stand there.
 fn candidate(usage: &Usage, segment: u32) -> Option<Candidate>
     requires { segment < length usage.now.segments }
     ensures some { IfSome result (λ c. (c.segment ≡ segment) × IsCandidate usage.now c) }
-    ensures none { IfNone result (used_of usage.now segment ≡ 0) }
+    ensures none { IfNone result (MayBeVictim usage.now segment → ⊥) }
 {
     let state = usage.state(segment);
-    if state.used == 0 {
+    if state.used == 0 || usage.last() == Some(segment) {
         return None;
     }
     Some(Candidate {
         load: state.live + state.held,
+        age: state.age,
         segment: segment as u16,
     })
 }
 
 /// What is found, if it comes behind the last one and before the next; the next else.
-fn nearer(last: Option<Candidate>, next: Option<Candidate>, found: Candidate) -> Option<Candidate>
-    ensures taken { behind last ≤ key found → key found < ahead next → result ≡ Some found }
-    ensures kept { (behind last ≤ key found → ahead next ≤ key found) → result ≡ next }
+fn nearer(
+    preference: Preference,
+    last: Option<Candidate>,
+    next: Option<Candidate>,
+    found: Candidate,
+) -> Option<Candidate>
+    ensures { (t : UsageTable) → IsKnown t last → IsCandidate t found
+        → Leads t preference last found.segment next
+        → Leads t preference last (suc found.segment) result }
 {
-    let is_behind = match last {
-        Some(last) => last.is_before(found),
-        None => true,
-    };
-    let is_ahead = match next {
-        Some(next) => found.is_before(next),
-        None => true,
-    };
-    if is_behind && is_ahead {
+    if is_ahead(preference, next, found) && is_behind(preference, last, found) {
         Some(found)
     } else {
         next
+    }
+}
+
+/// Whether a segment comes behind the last one, if there is one.
+fn is_behind(preference: Preference, last: Option<Candidate>, found: Candidate) -> bool
+    ensures yes { IsTrue result → (t : UsageTable) → IsKnown t last → IsCandidate t found
+        → IsBehind t preference last found.segment }
+    ensures no { IsFalse result → (t : UsageTable) → IsKnown t last → IsCandidate t found
+        → IsBehind t preference last found.segment → ⊥ }
+{
+    match last {
+        Some(last) => precedes(preference, last, found),
+        None => true,
+    }
+}
+
+/// Whether a segment comes before the next one, if there is one.
+fn is_ahead(preference: Preference, next: Option<Candidate>, found: Candidate) -> bool
+    ensures yes { IsTrue result → (t : UsageTable) → IsKnown t next → IsCandidate t found
+        → IsAhead t preference next found.segment }
+    ensures no { IsFalse result → (t : UsageTable) → IsKnown t next → IsCandidate t found
+        → IsAhead t preference next found.segment → ⊥ }
+{
+    match next {
+        Some(next) => precedes(preference, found, next),
+        None => true,
     }
 }

@@ -212,6 +212,8 @@ impl<D: SectorDevice> Store<D> {
             → length (D.state self.new.log.device).told
             ≤ length (D.state self.old.log.device).told
             + passes_orders (length self.old.log.memory.usage.segments) }
+        ensures quiet { HasQuarter self.old.log → (self.new.log ≡ self.old.log)
+            × (self.new.saved ≡ self.old.saved) }
     {
         if self.log.is_halted() {
             return Err(LogFault::Halted);

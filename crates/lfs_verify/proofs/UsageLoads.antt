@@ -39,12 +39,13 @@ taken_none t uses j = record {
   after = λ s le. refl;
   size = refl;
   blocks = refl;
+  last = refl;
 }
 
 pub taken_more : (old mid new : UsageTable) (uses : List SegmentUse) (j n : ℕ) → IsTakenIn old mid uses j n
     → (64 * j + n < length mid.segments → new.segments ≡ slice_set mid.segments (64 * j + n) (loaded (get_or uses n no_use)))
-    → (length mid.segments ≤ 64 * j + n → new.segments ≡ mid.segments) → new.blocks ≡ mid.blocks → IsTakenIn old new uses j (n + 1)
-taken_more old mid new uses j n before own past blocks = ⊎_elim inside outside (cases_lt (64 * j + n) (length mid.segments))
+    → (length mid.segments ≤ 64 * j + n → new.segments ≡ mid.segments) → new.blocks ≡ mid.blocks → new.last ≡ mid.last → IsTakenIn old new uses j (n + 1)
+taken_more old mid new uses j n before own past blocks last = ⊎_elim inside outside (cases_lt (64 * j + n) (length mid.segments))
   where
     same_size : length mid.segments ≡ length old.segments
     same_size = before.size
@@ -64,6 +65,7 @@ taken_more old mid new uses j n before own past blocks = ⊎_elim inside outside
           after = λ s high. other s (λ h. omega (arith, h, high)) ∙ before.after s (omega (arith, high));
           size = ap length is ∙ length-set mid.segments (64 * j + n) x ∙ same_size;
           blocks = blocks ∙ before.blocks;
+          last = last ∙ before.last;
         }
 
     outside : length mid.segments ≤ 64 * j + n → IsTakenIn old new uses j (n + 1)
@@ -76,6 +78,7 @@ taken_more old mid new uses j n before own past blocks = ⊎_elim inside outside
           after = λ s high. same s ∙ before.after s (omega (arith, high));
           size = ap length is ∙ same_size;
           blocks = blocks ∙ before.blocks;
+          last = last ∙ before.last;
         }
 
 abbrev on_device : ℕ → ℕ → ℕ → SegmentNumbers
@@ -104,6 +107,7 @@ module _ (old mid new : UsageTable) (uses : List SegmentUse) (j segments at : �
         (cases_eq i j);
     none = λ i le. (let ne : i ≡ j → ⊥ = λ h. omega (arith, h, le) in same_address i ne ∙ is.none i (omega (arith, le)));
     past = λ s le. same_numbers s ∙ taken.after s (omega (arith, le)) ∙ is.past s (omega (arith, le));
+    last = puts.last ∙ taken.last ∙ is.last;
   }
 
   module _ (c : Content) (k : CheckpointValue) (says : SaysUsage c k j old) (bytes : List ℕ) (count : ℕ) (there : block c at ≡ bytes) (points : get_or k.usage j 0 ≡ at)
@@ -199,12 +203,13 @@ all_alike {X} n x i = ⊎_elim
     (λ (high : n ≤ i). get_or_past (replicate n x) i x (let long = length-replicate n x in omega (arith, long, high)))
     (cases_lt i n)
 
-pub usage_start : (segments : ℕ) (t : UsageTable) → t.segments ≡ replicate segments no_segment → t.blocks ≡ replicate 16 no_place → IsUsageUpTo 0 segments t
-usage_start segments t numbers places = record {
+pub usage_start : (segments : ℕ) (t : UsageTable) → t.segments ≡ replicate segments no_segment → t.blocks ≡ replicate 16 no_place → t.last ≡ None → IsUsageUpTo 0 segments t
+usage_start segments t numbers places last = record {
   size = ap length numbers ∙ length-replicate segments no_segment;
   own = λ i lt. absurd (omega (arith, lt));
   none = λ i le. ap (λ (l : List PlaceInSegment). (get_or l i no_place).address) places ∙ ap (λ (p : PlaceInSegment). p.address) (all_alike 16 no_place i);
   past = λ s le. ap (λ (l : List SegmentNumbers). get_or l s no_segment) numbers ∙ all_alike segments no_segment s;
+  last = last;
 }
 
 pub says_nothing : (c : Content) (k : CheckpointValue) (t : UsageTable) → SaysUsage c k 0 t

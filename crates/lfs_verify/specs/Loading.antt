@@ -1,6 +1,6 @@
 -- Tables of a volume in memory, as its usage blocks and the blocks of its inode map are taken in one by one.
 -- All of it is an own choice.
-use Rattle.std.specs.Prelude.{◌≡◌, ◌<◌, ◌≤◌, ◌+◌, ◌*◌, ◌/◌, ℕ, false, List, length, get_or, Some}
+use Rattle.std.specs.Prelude.{◌≡◌, ◌<◌, ◌≤◌, ◌+◌, ◌*◌, ◌/◌, ℕ, false, List, length, get_or, Some, None}
 use Rattle.lfs_model.specs.Checkpoint.{CheckpointValue, FitsCheckpoint, IsSegmentCount}
 use Rattle.lfs_model.specs.Content.{Content, newest}
 use Rattle.lfs_model.specs.Entry.{word}
@@ -23,6 +23,7 @@ pub record IsTakenIn (old new : UsageTable) (uses : List SegmentUse) (j upto : �
   pub after : (s : ℕ) → 64 * j + upto ≤ s → get_or new.segments s no_segment ≡ get_or old.segments s no_segment
   pub size : length new.segments ≡ length old.segments
   pub blocks : new.blocks ≡ old.blocks
+  pub last : new.last ≡ old.last
 
 -- what the content says of a segment
 abbrev pub numbers_in : Content → CheckpointValue → ℕ → SegmentNumbers
@@ -38,6 +39,8 @@ pub record IsUsageUpTo (j : ℕ) (segments : ℕ) (t : UsageTable) : Type 0 wher
   pub own : (i : ℕ) → i < j → 2 ≤ address_of t i
   pub none : (i : ℕ) → j ≤ i → address_of t i ≡ 0
   pub past : (s : ℕ) → 64 * j ≤ s → get_or t.segments s no_segment ≡ no_segment
+  -- no chunk was begun since
+  pub last : t.last ≡ None
 
 pub record SaysUsage (c : Content) (k : CheckpointValue) (j : ℕ) (t : UsageTable) : Type 0 where
   pub numbers : (s : ℕ) → s < 64 * j → s < length t.segments → get_or t.segments s no_segment ≡ numbers_in c k s

@@ -87,6 +87,7 @@ fn take_entry(usage: &mut Usage, index: u32, entry: u32, block: &UsageView<'_>)
     ensures past { length usage.old.segments ≤ 64 * index + entry
         → usage.new.segments ≡ usage.old.segments }
     ensures blocks { usage.new.blocks ≡ usage.old.blocks }
+    ensures last { usage.new.last ≡ usage.old.last }
 {
     let segment = 64 * index + entry;
     if segment < usage.segments() {

@@ -1,9 +1,9 @@
 use Rattle.std.proofs.Common.{◌≡◌, ◌+◌, ◌/◌, false, true, length, sym, ◌∙◌, ap, subst, arith}
 use Rattle.lfs_model.specs.Members.{AreApart}
 use Rattle.lfs_log.specs.segments.Table.{UsageTable}
-use Rattle.lfs_log.specs.segments.Victims.{AreVictims, IsPressed}
+use Rattle.lfs_log.specs.segments.Victims.{AreVictims, IsChosen, IsPressed, pass_limit}
 use Rattle.lfs_log.proofs.of_memory.Going.{ok_then}
-use Rattle.lfs_cleaner.proofs.Pressing.{not_refused, pressed_there}
+use Rattle.lfs_cleaner.proofs.Pressing.{carried, not_refused, pressed_there}
 use Rattle.lfs_cleaner.proofs.passing.pass.Goals as goal
 
 pub clean-requires : goal.clean-requires
@@ -18,7 +18,19 @@ returns-in_default-clause-lacks g c is k m0 m keeps can =
     absurd (cc)
 
 pub returns-clause-done : goal.returns-clause-done
-returns-clause-done g c = ok_then c.clean.result _ _ (λ cleans. (_, cleans)) c.clean.ensures.done
+returns-clause-done g c =
+    let h = c.args.log.now in
+    let same = ap (λ (t : UsageTable). length t.segments) c.usage.ensures in
+    let count = c.segments.ensures.value in
+    let limit : c.segments.result / 8 + 1 ≡ pass_limit h.memory.usage = omega (arith, same, count) in
+    ok_then c.clean.result _ _ (λ cleans. record {
+      victims = c.as_slice.result.now;
+      gain = carried (λ t a m x vs. AreVictims t a m vs) c.usage-2.result.now h.memory.usage c.meta.result h.totals.meta_blocks (c.segments.result / 8 + 1) (pass_limit h.memory.usage) c.number.result h.number _ c.as_slice.result.now
+          c.usage-2.ensures c.meta.ensures limit c.number.ensures (sym c.as_slice.ensures.value) c.in-Some.ensures.some;
+      choice = carried (λ t a m x vs. IsChosen t a m x vs) c.usage-2.result.now h.memory.usage c.meta.result h.totals.meta_blocks (c.segments.result / 8 + 1) (pass_limit h.memory.usage) c.number.result h.number _ c.as_slice.result.now
+          c.usage-2.ensures c.meta.ensures limit c.number.ensures (sym c.as_slice.ensures.value) c.in-Some.ensures.choice;
+      cleans = cleans;
+    }) c.clean.ensures.done
 
 pub returns-clause-lacks : goal.returns-clause-lacks
 returns-clause-lacks g c is k m0 m keeps can =

@@ -1,7 +1,8 @@
 use Rattle.std.proofs.Common.{rules, ◌≡◌, ◌≤◌, ◌+◌, ◌/◌, true, false, length, ◌∙◌, arith}
 use Rattle.lfs_cleaner.proofs.Rooms.{fault_then, halts_at_once, halts_then, halts_weaker, keeps_reads, keeps_then, keeps_weaker, read_fault}
-use Rattle.lfs_cleaner.proofs.RoomBounds.{may_pass, pass_more, passes_more, passes_most, passes_none, passes_suffice}
+use Rattle.lfs_cleaner.proofs.RoomBounds.{may_pass, nothing_between, pass_more, passes_more, passes_most, passes_none, passes_suffice}
 use Rattle.lfs_log.specs.Saving.{pass_orders}
+use Rattle.lfs_cleaner.specs.Room.{PassesInNeed}
 use Rattle.lfs_cleaner.proofs.room.pass_until_quarter.Goals as goal
 
 pub loop-init : goal.loop-init
@@ -53,8 +54,12 @@ returns-in-Err-clause-halted g c is =
 
 pub loop-preserved : goal.loop-preserved
 loop-preserved g c =
-    let done = c.in-Ok.ensures.done in
-    passes_more g.D.SectorDevice.state c.args.log.now c.loop.log c.pass.new.log c.loop.counter done.0 c.loop.invariant done.1 c.in-Ok.ensures.totals c.pass.ensures.told
+    let need : PassesInNeed g.D.SectorDevice.state c.loop.log c.pass.new.log = record {
+      nothing = nothing_between g.D.SectorDevice.state c.args.log.now c.loop.log c.loop.counter c.requires.nothing c.loop.invariant;
+      few = c.if-has_quarter.ensures.no (search rules);
+      passes = c.in-Ok.ensures.done;
+    } in
+    passes_more g.D.SectorDevice.state c.args.log.now c.loop.log c.pass.new.log c.loop.counter c.loop.invariant need c.in-Ok.ensures.totals c.pass.ensures.told
 
 pub returns-clause-lacks : goal.returns-clause-lacks
 returns-clause-lacks g c is k m0 m keeps may =

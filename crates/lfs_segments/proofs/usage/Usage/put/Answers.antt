@@ -27,4 +27,4 @@ invariant_of-self c =
     let is : c.one_if_clean.result ≡ cond (c.args.state.used == 0) 1 0 = search rules in
     let change = clean_change c.self.inside.states.items c.args.segment c.args.state inside in
     let total = c.self.invariant.1 in
-    (set_fits c.self.inside.states.items c.self.inside.blocks.items c.args.segment c.args.state c.self.invariant.0 inside c.requires.fits, omega arith)
+    (set_fits c.self.inside.last c.self.inside.states.items c.self.inside.blocks.items c.args.segment c.args.state c.self.invariant.0 inside c.requires.fits, omega arith)
