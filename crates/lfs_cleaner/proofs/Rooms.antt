@@ -1,7 +1,7 @@
 -- Commits and passes, one after the other: the log map stays, and what a stop leaves is the one or the other.
 use Rattle.std.proofs.Common.{◌≡◌, ◌<◌, ◌≤◌, ◌+◌, ◌*◌, inl, inr, ⊎_elim, ℕ, zero, suc, false, List, [], length, refl, sym, ◌∙◌, subst, arith}
 use Rattle.std.specs.Prelude.{◌⊎◌}
-use Rattle.lfs_model.specs.Checkpoint.{CheckpointValue, Layout, layout_of}
+use Rattle.lfs_model.specs.Checkpoint.{CheckpointValue}
 use Rattle.lfs_model.specs.Content.{Content}
 use Rattle.lfs_model.specs.Crash.{StandsOn}
 use Rattle.lfs_model.specs.Device.{DeviceState, IsLawful, Carries, AllLeft}
@@ -15,7 +15,7 @@ use Rattle.lfs_log.specs.memory.segments.Table.{clean_in}
 use Rattle.lfs_log.specs.memory.Memory.{IsLog}
 use Rattle.lfs_log.proofs.of_memory.Looses.{loose, tight_again}
 use Rattle.lfs_log.proofs.of_memory.Presents.{looks_quiet, still_log}
-use Rattle.lfs_log.proofs.Volumes.{same_layout}
+use Rattle.lfs_log.proofs.Volumes.{same_segments}
 use Rattle.lfs_log.specs.Cleaning.{Cleans}
 use Rattle.lfs_log.specs.Held.{Held, Halts, Holds, IsReadFault, IsSaved, LeavesSaved, Reads, Saves, unsaved_in}
 use Rattle.lfs_log.specs.Publishing.{AreUntaken}
@@ -23,7 +23,7 @@ use Rattle.lfs_cleaner.specs.Room.{HaltsLater, HoldsOver, IsAtRest, IsRoomFault,
 
 module _ {D : Type 0} (state : D → DeviceState) where
   -- ---- one step
-  pub acknowledged : (h : Held D) (k : CheckpointValue) (m0 m : LogMap) → Holds state h k m0 m → AllLeft (state h.device) (λ c. StandsOn (layout_of k) c m0)
+  pub acknowledged : (h : Held D) (k : CheckpointValue) (m0 m : LogMap) → Holds state h k m0 m → AllLeft (state h.device) (λ c. StandsOn k.segments c m0)
   acknowledged h k m0 m is = settled_stands (state h.device) k m0 is.log.running.settled
 
   -- nothing happens
@@ -37,7 +37,7 @@ module _ {D : Type 0} (state : D → DeviceState) where
     totals = refl;
     rest = λ rest. rest;
     holds = λ k m0 m keeps is map. record { checkpoint = k; acknowledged = m0; either = inl refl; same = refl; holds = is };
-    moment = λ k m0 m keeps is map. started (state h.device) (IsSaved state (layout_of k) m0 m) lawful (λ c left. inl (acknowledged h k m0 m is c left));
+    moment = λ k m0 m keeps is map. started (state h.device) (IsSaved state k.segments m0 m) lawful (λ c left. inl (acknowledged h k m0 m is c left));
   }
 
   -- the device was only read
@@ -46,6 +46,7 @@ module _ {D : Type 0} (state : D → DeviceState) where
     log = subst (λ (v : LogMemory). IsLog (state b.device) v k m0 m) (sym reads.memory)
         (let s = still_log (state a.device) (state b.device) a.memory k m0 m reads.looks (loose (state a.device) a.memory k m0 m is.log) in tight_again (state b.device) a.memory k m0 m s is.log.tight);
     number = is.number ∙ sym reads.number;
+    version = is.version ∙ sym reads.version;
     running = reads.halted ∙ is.running;
   }
 
@@ -75,7 +76,7 @@ module _ {D : Type 0} (state : D → DeviceState) where
     rest = λ rest. rest_reads a b reads rest;
     holds = λ k m0 m keeps is map. record { checkpoint = k; acknowledged = m0; either = inl refl; same = refl; holds = held_still a b k m0 m reads is };
     moment = λ k m0 m keeps is map.
-        weaker (state a.device) (state b.device) (λ c. StandsOn (layout_of k) c m0) (IsSaved state (layout_of k) m0 m) (λ c there. inl there)
+        weaker (state a.device) (state b.device) (λ c. StandsOn k.segments c m0) (IsSaved state k.segments m0 m) (λ c there. inl there)
         (looks_quiet (state a.device) (state b.device) a.memory k m0 m lawful reads.looks (loose (state a.device) a.memory k m0 m is.log));
   }
 
@@ -86,14 +87,14 @@ module _ {D : Type 0} (state : D → DeviceState) where
   cleans_all h h' vs s = record { empty = s.empty; untaken = s.untaken; holds = s.holds }
 
   saved_over : (h h' : Held D) → length h'.memory.usage.segments ≡ length h.memory.usage.segments → SavesAll state h h'
-      → (k : CheckpointValue) (m0 m : LogMap) → (state h'.device).keeps_model → Holds state h k m0 m → IsLogMap (dropped m) → HoldsOver state (layout_of k) m0 m h'
+      → (k : CheckpointValue) (m0 m : LogMap) → (state h'.device).keeps_model → Holds state h k m0 m → IsLogMap (dropped m) → HoldsOver state k.segments m0 m h'
   saved_over h h' same all k m0 m keeps is map =
       let next = all.holds k m0 m keeps is map in
       record {
         checkpoint = next.0;
         acknowledged = dropped m;
         either = inr refl;
-        same = same_layout state h h' k next.0 m0 m (dropped m) m same is next.1;
+        same = same_segments state h h' k next.0 m0 m (dropped m) m same is next.1;
         holds = next.1;
       }
 
@@ -138,19 +139,19 @@ module _ {D : Type 0} (state : D → DeviceState) where
 
   -- ---- one step after another
   -- what is one of the two for the log map in the middle is one of the two for that at the start
-  module _ (a b : Held D) (k : CheckpointValue) (m0 m : LogMap) (over : HoldsOver state (layout_of k) m0 m b) where
-    pub saved_still : (c : Content) → IsSaved state (layout_of over.checkpoint) over.acknowledged m c → IsSaved state (layout_of k) m0 m c
+  module _ (a b : Held D) (k : CheckpointValue) (m0 m : LogMap) (over : HoldsOver state k.segments m0 m b) where
+    pub saved_still : (c : Content) → IsSaved state over.checkpoint.segments over.acknowledged m c → IsSaved state k.segments m0 m c
     saved_still c is = ⊎_elim
-        (λ (first : StandsOn (layout_of over.checkpoint) c over.acknowledged).
-        let here : StandsOn (layout_of k) c over.acknowledged = subst (λ (l : Layout). StandsOn l c over.acknowledged) over.same first in
+        (λ (first : StandsOn over.checkpoint.segments c over.acknowledged).
+        let here : StandsOn k.segments c over.acknowledged = subst (λ (l : ℕ). StandsOn l c over.acknowledged) over.same first in
         ⊎_elim
-        (λ (old : over.acknowledged ≡ m0). inl (subst (λ (l : LogMap). StandsOn (layout_of k) c l) old here))
-        (λ (new : over.acknowledged ≡ dropped m). inr (subst (λ (l : LogMap). StandsOn (layout_of k) c l) new here))
+        (λ (old : over.acknowledged ≡ m0). inl (subst (λ (l : LogMap). StandsOn k.segments c l) old here))
+        (λ (new : over.acknowledged ≡ dropped m). inr (subst (λ (l : LogMap). StandsOn k.segments c l) new here))
         over.either)
-        (λ (second : StandsOn (layout_of over.checkpoint) c (dropped m)). inr (subst (λ (l : Layout). StandsOn l c (dropped m)) over.same second))
+        (λ (second : StandsOn over.checkpoint.segments c (dropped m)). inr (subst (λ (l : ℕ). StandsOn l c (dropped m)) over.same second))
         is
 
-    over_then : (c : Held D) → HoldsOver state (layout_of over.checkpoint) over.acknowledged m c → HoldsOver state (layout_of k) m0 m c
+    over_then : (c : Held D) → HoldsOver state over.checkpoint.segments over.acknowledged m c → HoldsOver state k.segments m0 m c
     over_then c next = record {
       checkpoint = next.checkpoint;
       acknowledged = next.acknowledged;
@@ -168,7 +169,7 @@ module _ {D : Type 0} (state : D → DeviceState) where
       moment_then k m0 m keeps is map =
           let back = after.kept_before keeps in
           let over = one.holds k m0 m back is map in
-          joined (state a.device) (state b.device) (state c.device) (IsSaved state (layout_of k) m0 m) (IsSaved state (layout_of over.checkpoint) over.acknowledged m) (IsSaved state (layout_of k) m0 m)
+          joined (state a.device) (state b.device) (state c.device) (IsSaved state k.segments m0 m) (IsSaved state over.checkpoint.segments over.acknowledged m) (IsSaved state k.segments m0 m)
           (one.moment k m0 m back is map) (moment over.checkpoint over.acknowledged m keeps over.holds map) (λ x p. p) (saved_still a b k m0 m over)
 
     pub keeps_then : (y : ℕ) → KeepsMap state b c y → KeepsMap state a c (x + y)

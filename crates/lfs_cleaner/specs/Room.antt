@@ -1,6 +1,6 @@
 -- What is left where the cleaner makes room: it commits what is unsaved, and passes until a quarter of the segments is clean.
 use Rattle.std.specs.Prelude.{◌≡◌, ◌⊎◌, ◌<◌, ◌≤◌, ◌+◌, ◌-◌, ◌*◌, ◌/◌, ◌^◌, ℕ, zero, suc, true, false, length, min}
-use Rattle.lfs_model.specs.Checkpoint.{CheckpointValue, Layout, layout_of}
+use Rattle.lfs_model.specs.Checkpoint.{CheckpointValue}
 use Rattle.lfs_model.specs.Device.{DeviceState, Carries, AllLeft}
 use Rattle.lfs_model.specs.Encodes.{IsLogMap}
 use Rattle.lfs_model.specs.Stands.{LogMap}
@@ -41,12 +41,12 @@ abbrev pub most_checkpoints : {D : Type 0} → Held D → ℕ
 most_checkpoints h = length h.memory.usage.segments / 8 + min 1 (unsaved_in h)
 
 module _ {D : Type 0} (state : D → DeviceState) where
-  -- The log has log map m, over what was acknowledged before, m0, or over m without its files of no links. It has this layout.
-  pub record HoldsOver (layout : Layout) (m0 m : LogMap) (h : Held D) : Type 0 where
+  -- The log has log map m, over what was acknowledged before, m0, or over m without its files of no links. It has so many segments.
+  pub record HoldsOver (segments : ℕ) (m0 m : LogMap) (h : Held D) : Type 0 where
     pub checkpoint : CheckpointValue
     pub acknowledged : LogMap
     pub either : (acknowledged ≡ m0) ⊎ (acknowledged ≡ dropped m)
-    pub same : layout_of checkpoint ≡ layout
+    pub same : checkpoint.segments ≡ segments
     pub holds : Holds state h checkpoint acknowledged m
 
   -- At most so many checkpoints were written, and the log map is the same. A stop meanwhile left what was acknowledged, or the log map
@@ -61,7 +61,7 @@ module _ {D : Type 0} (state : D → DeviceState) where
     pub rest : IsAtRest h → IsAtRest h'
     pub holds : (k : CheckpointValue) (m0 m : LogMap) → (state h'.device).keeps_model
         → Holds state h k m0 m → IsLogMap (dropped m)
-        → HoldsOver (layout_of k) m0 m h'
+        → HoldsOver k.segments m0 m h'
     pub moment : LeavesSaved state h h'
 
   -- The log map, without its files of no links, is acknowledged, and nothing of it is unsaved.
@@ -116,7 +116,7 @@ module _ {D : Type 0} (state : D → DeviceState) where
         → (state h.device).failures < (state h'.device).failures
     pub left : (k : CheckpointValue) (m0 m : LogMap) → (state h'.device).keeps_model
         → Holds state h k m0 m → IsLogMap (dropped m)
-        → AllLeft (state h'.device) (IsSaved state (layout_of k) m0 m)
+        → AllLeft (state h'.device) (IsSaved state k.segments m0 m)
     pub moment : LeavesSaved state h h'
 
   -- a call of the device failed, where the log holds a map

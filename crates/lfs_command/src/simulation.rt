@@ -39,7 +39,7 @@ pub fn read_plan(segments: &str, stop: &str, left: Left) -> Result<Plan, Fault> 
 
 /// The device of a new volume, which is to stop.
 pub fn start(alloc: Global, plan: Plan) -> Result<MemDevice, Refusal>
-    ensures new { IfOk result (λ d. IsNew plan.segments (device_state d).content) }
+    ensures new { IfOk result (λ d. IsNew 1 plan.segments (device_state d).content) }
     ensures alone { IfOk result (λ d. Only (device_state d).content (device_state d)) }
 {
     if !is_segment_count(plan.segments) {

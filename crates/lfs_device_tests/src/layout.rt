@@ -136,6 +136,7 @@ fn first_checkpoint() -> Checkpoint {
     Checkpoint {
         number: 1,
         segments: 64,
+        version: 1,
         map: front(&[4]),
         usage: front(&[5]),
     }
@@ -145,6 +146,7 @@ fn first_checkpoint() -> Checkpoint {
 fn root(size: u32, address: u32) -> Inode {
     Inode {
         kind: Kind::Directory,
+        form: 0,
         number: 1,
         links: 2,
         size,
@@ -195,6 +197,7 @@ fn sectors_with_a_file(rt: HostRuntime) {
     };
     let file = Inode {
         kind: Kind::File,
+        form: 0,
         number: 2,
         links: 1,
         size: 1,

@@ -93,6 +93,7 @@ file_moved m l m' d head place slot inside long sizes writes =
       only = record {
         headers = λ k other. writes.only.headers k other ∙ cut.only.headers k other;
         blocks = λ k i other. writes.only.blocks k i other ∙ cut.only.blocks k i other;
+        version = writes.only.version ∙ cut.only.version;
       };
       whole = λ was. writes.whole (cut.whole was);
       ends = λ p past. writes.bytes.bytes.behind p (let within = slot_within head.form (place + 1) head.size inside in let next = slot_next head.form place in omega (arith, past, within, next, long)) ∙ cut.ends p past;

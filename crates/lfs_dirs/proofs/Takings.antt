@@ -3,6 +3,7 @@ use Rattle.std.specs.Prelude.{max}
 use Rattle.std.proofs.Common.{◌≡◌, ◌<◌, ◌≤◌, ◌+◌, ◌*◌, ◌-◌, ◌/◌, ◌%◌, ℕ, List, [], length, get_or, Some, sym, ◌∙◌, ap, subst, arith}
 use Rattle.lfs_model.specs.Encodes.{IsLogMap}
 use Rattle.lfs_model.specs.Fields.{part}
+use Rattle.lfs_model.specs.Inode.{IsForm}
 use Rattle.lfs_model.specs.Tree.{slot_len}
 use Rattle.lfs_model.specs.Objects.{AreLong}
 use Rattle.lfs_model.specs.Stands.{LogMap}
@@ -27,6 +28,7 @@ cut_kept m l d head few there long cut =
     object_kept m l d (as_header (shrunk head)) there.map cut.only cut.header record {
       number = was.number;
       root = was.root;
+      form = subst (λ (v : ℕ). IsForm v head.kind head.form) (sym cut.only.version) was.form;
       size = let most = (slot_some head.form).1 in omega (arith, few, most);
       whole = cut.whole was.whole;
       ends = cut.ends;

@@ -19,8 +19,8 @@ abbrev pub HeaderAnswer : LogMap → ℕ → Option Header → Type 0
 HeaderAnswer m n None = m.header n ≡ None
 HeaderAnswer m n (Some h) = m.header n ≡ Some (as_header h)
 
--- what an inode's header may be in the first version of the layout, where the file may have lost its last link
+-- what an inode's header may be in some version of the layout, where the file may have lost its last link
 pub record FitsHeader (kind : Kind) (form links size : ℕ) : Type 0 where
-  pub known : IsForm 1 kind form
+  pub known : IsForm 2 kind form
   pub links_few : links ≤ 1000
   pub size_fits : IsSize form kind size

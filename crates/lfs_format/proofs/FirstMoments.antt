@@ -1,19 +1,19 @@
 -- What a stop leaves while an empty volume is made, and what stands then.
 use Rattle.std.proofs.Common.{◌<◌, ◌≡◌, ◌⊎◌, inl, inr, ℕ, ◌+◌, ◌*◌, ◌%◌, ◌≤◌, List, [], length, Option, Some, None, refl, sym, ◌∙◌, ap, subst, arith, length-set, get_or-set_other, get_or-set_same}
-use Rattle.lfs_model.specs.Checkpoint.{CheckpointValue, IsSegmentCount, checkpoint_sector, checkpoint_in}
+use Rattle.lfs_model.specs.Checkpoint.{CheckpointValue, IsSegmentCount, IsVersion, checkpoint_sector, checkpoint_in}
 use Rattle.lfs_model.specs.Content.{Content, newest, newer, slot, with_parity, bytes_of}
 use Rattle.lfs_model.specs.Device.{Cell, cell_at, put, MayWrite, left_old, left_new, left_bad, DeviceState, IsUntouched, Only, AllLeft, Carries, Elapses, LeavesOnly, ComesFrom, SameOutside, IsLawful, CrashWrites}
-use Rattle.lfs_model.specs.Fields.{read64, part}
+use Rattle.lfs_model.specs.Fields.{read32, read64, part}
 use Rattle.lfs_model.specs.Image.{blank, usage_blocks, first_checkpoint, IsNew}
 use Rattle.lfs_model.proofs.Moments.{started, goes_on, joined, weaker, same_outside_none, write_outside}
 use Rattle.lfs_format.specs.Making.{MayClearSlots, AreClear, HasChunk, MayStand}
 
 none_blank : checkpoint_in (blank 512) ≡ None
-unfolding checkpoint_in read64 part
+unfolding checkpoint_in read32 read64 part
 none_blank = refl
 
 none_empty : checkpoint_in [] ≡ None
-unfolding checkpoint_in read64 part
+unfolding checkpoint_in read32 read64 part
 none_empty = refl
 
 -- slots that hold no checkpoint
@@ -28,22 +28,23 @@ pub clear_none : (c : Content) → AreClear c → newest c ≡ None
 clear_none c clear = no_newest c (holds_none c 0 clear.first) (holds_none c 1 clear.second)
 
 -- the chunk leaves the slots clear
-pub chunk_clear : (N n : ℕ) (c0 c : Content) → AreClear c0 → HasChunk N n c0 c → AreClear c
-chunk_clear N n c0 c clear chunk = record { first = chunk.others.before 0 (omega arith) ∙ clear.first; second = chunk.others.before 1 (omega arith) ∙ clear.second }
+pub chunk_clear : (version N n : ℕ) (c0 c : Content) → AreClear c0 → HasChunk version N n c0 c → AreClear c
+chunk_clear version N n c0 c clear chunk = record { first = chunk.others.before 0 (omega arith) ∙ clear.first; second = chunk.others.before 1 (omega arith) ∙ clear.second }
 
-module _ (N : ℕ) (count : IsSegmentCount N) (c0 c1 : Content) (long : 2 + 64 * N ≤ length c0) (clear : AreClear c0) (chunk : HasChunk N (usage_blocks N) c0 c1) where
+module _ (version N : ℕ) (known : IsVersion version) (count : IsSegmentCount N) (c0 c1 : Content) (long : 2 + 64 * N ≤ length c0) (clear : AreClear c0) (chunk : HasChunk version N (usage_blocks N) c0 c1) where
   room : 2 + 64 * N ≤ length c1
   room = let same = chunk.others.size in omega (arith, long, same)
 
   abbrev bytes : List ℕ
-  bytes = checkpoint_sector (first_checkpoint N)
+  bytes = checkpoint_sector (first_checkpoint version N)
 
   -- the chunk, and then the checkpoint
-  pub whole : (c2 : Content) → c2 ≡ put c1 1 bytes → IsNew N c2
+  pub whole : (c2 : Content) → c2 ≡ put c1 1 bytes → IsNew version N c2
   whole c2 is = record {
+    known = known;
     count = count;
     size = let same : length c2 ≡ length c1 = ap length is ∙ length-set c1 1 (Some bytes) in omega (arith, room, same);
-    empty_slot = other 0 (λ e. omega (arith, e)) ∙ (chunk_clear N (usage_blocks N) c0 c1 clear chunk).first;
+    empty_slot = other 0 (λ e. omega (arith, e)) ∙ (chunk_clear version N (usage_blocks N) c0 c1 clear chunk).first;
     checkpoint = ap (λ (x : Content). cell_at x 1) is ∙ get_or-set_same c1 1 (Some bytes) None (omega (arith, room));
     summary = other 2 (λ e. omega (arith, e)) ∙ chunk.summary;
     inode = other 3 (λ e. omega (arith, e)) ∙ chunk.inode;
@@ -55,13 +56,13 @@ module _ (N : ℕ) (count : IsSegmentCount N) (c0 c1 : Content) (long : 2 + 64 *
       other k ne = ap (λ (x : Content). cell_at x k) is ∙ get_or-set_other c1 1 k (Some bytes) None ne
 
   -- the checkpoint's write leaves none or that one
-  pub torn : (c2 : Content) → MayWrite 1 bytes c1 c2 → (newest c2 ≡ None) ⊎ IsNew N c2
-  torn c2 (left_old is) = inl (clear_none c2 (subst AreClear (sym is) (chunk_clear N (usage_blocks N) c0 c1 clear chunk)))
+  pub torn : (c2 : Content) → MayWrite 1 bytes c1 c2 → (newest c2 ≡ None) ⊎ IsNew version N c2
+  torn c2 (left_old is) = inl (clear_none c2 (subst AreClear (sym is) (chunk_clear version N (usage_blocks N) c0 c1 clear chunk)))
   torn c2 (left_new is) = inr (whole c2 is)
   torn c2 (left_bad is) = inl (no_newest c2 (holds_none c2 0 first) (ap (λ (x : Cell). checkpoint_in (bytes_of x)) second ∙ none_empty))
     where
       first : cell_at c2 0 ≡ Some (blank 512)
-      first = ap (λ (x : Content). cell_at x 0) is ∙ get_or-set_other c1 1 0 None None (λ e. omega (arith, e)) ∙ (chunk_clear N (usage_blocks N) c0 c1 clear chunk).first
+      first = ap (λ (x : Content). cell_at x 0) is ∙ get_or-set_other c1 1 0 None None (λ e. omega (arith, e)) ∙ (chunk_clear version N (usage_blocks N) c0 c1 clear chunk).first
 
       second : cell_at c2 1 ≡ None
       second = ap (λ (x : Content). cell_at x 1) is ∙ get_or-set_same c1 1 None None (omega (arith, room))
@@ -69,9 +70,9 @@ module _ (N : ℕ) (count : IsSegmentCount N) (c0 c1 : Content) (long : 2 + 64 *
 -- ---- at any moment
 
 -- the device before, and with clear slots
-module _ (N : ℕ) (a b : DeviceState) (cleared : LeavesOnly a b (ComesFrom a MayClearSlots)) where
+module _ (version N : ℕ) (a b : DeviceState) (cleared : LeavesOnly a b (ComesFrom a MayClearSlots)) where
   abbrev P : Content → Type 0
-  P = MayStand N a
+  P = MayStand version N a
 
   pub moments_cleared : LeavesOnly a b P
   moments_cleared = weaker a b (ComesFrom a MayClearSlots) P (λ x from. inl from) cleared
@@ -90,13 +91,13 @@ module _ (N : ℕ) (a b : DeviceState) (cleared : LeavesOnly a b (ComesFrom a Ma
       moments_synced = goes_on a c s P moments_chunked carries time (λ x left. inr (inl (clear_none x (still all_clear x (same.crash x left)))))
 
       -- with the checkpoint, whose write comes from what has the chunk
-      pub moments_written : (r : DeviceState) (k : CheckpointValue) → k ≡ first_checkpoint N → IsSegmentCount N → 2 + 64 * N ≤ length b.content
-          → HasChunk N (usage_blocks N) b.content c.content → Only s.content s → LeavesOnly s r (ComesFrom s (MayWrite (k.number % 2) (checkpoint_sector k))) → LeavesOnly a r P
-      moments_written r k is count long chunk alone written =
+      pub moments_written : (r : DeviceState) (k : CheckpointValue) → k ≡ first_checkpoint version N → IsVersion version → IsSegmentCount N → 2 + 64 * N ≤ length b.content
+          → HasChunk version N (usage_blocks N) b.content c.content → Only s.content s → LeavesOnly s r (ComesFrom s (MayWrite (k.number % 2) (checkpoint_sector k))) → LeavesOnly a r P
+      moments_written r k is known count long chunk alone written =
           joined a s r P (ComesFrom s (MayWrite (k.number % 2) (checkpoint_sector k))) P moments_synced written (λ x has. has) (λ x from.
           let content : from.0 ≡ c.content = alone from.0 from.1 ∙ same.content in
-          let first : MayWrite 1 (checkpoint_sector (first_checkpoint N)) from.0 x = subst (λ (m : CheckpointValue). MayWrite (m.number % 2) (checkpoint_sector m) from.0 x) is from.2 in
-          inr (torn N count b.content c.content long clear chunk x (subst (λ (d : Content). MayWrite 1 (checkpoint_sector (first_checkpoint N)) d x) content first)))
+          let first : MayWrite 1 (checkpoint_sector (first_checkpoint version N)) from.0 x = subst (λ (m : CheckpointValue). MayWrite (m.number % 2) (checkpoint_sector m) from.0 x) is from.2 in
+          inr (torn version N known count b.content c.content long clear chunk x (subst (λ (d : Content). MayWrite 1 (checkpoint_sector (first_checkpoint version N)) d x) content first)))
 
 -- ---- the sectors that are written
 

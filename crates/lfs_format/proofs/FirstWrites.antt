@@ -68,8 +68,8 @@ later_uses N zero some = absurd (omega (arith, some))
 later_uses N (suc n) some = sym (unused_spelled N n)
 
 -- and one usage block more
-pub chunk_more : (N n : ℕ) (c0 c e : Content) → 1 ≤ n → 5 + n < length c0 → HasChunk N n c0 c → e ≡ put c (5 + n) (blank 512) → HasChunk N (n + 1) c0 e
-chunk_more N n c0 c e some room so_far is = record {
+pub chunk_more : (version N n : ℕ) (c0 c e : Content) → 1 ≤ n → 5 + n < length c0 → HasChunk version N n c0 c → e ≡ put c (5 + n) (blank 512) → HasChunk version N (n + 1) c0 e
+chunk_more version N n c0 c e some room so_far is = record {
   others = write_outside 2 (3 + (n + 1)) (5 + n) (blank 512) (omega arith) (omega arith) c0 c e (wider 2 (3 + n) (3 + (n + 1)) c0 c (omega arith) so_far.others) (left_new is);
   summary = there c e (5 + n) (blank 512) is 2 (λ w. omega (arith, w)) ∙ so_far.summary;
   inode = there c e (5 + n) (blank 512) is 3 (λ w. omega (arith, w)) ∙ so_far.inode;

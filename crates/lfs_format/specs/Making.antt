@@ -25,15 +25,15 @@ pub record AreClear (c : Content) : Type 0 where
   pub first : cell_at c 0 ≡ Some (blank 512)
   pub second : cell_at c 1 ≡ Some (blank 512)
 
--- The first chunk of a volume of N segments was written over a content, as far as its first n usage blocks.
-pub record HasChunk (N n : ℕ) (old new : Content) : Type 0 where
+-- The first chunk of a volume of N segments, in a version of the layout, was written over a content, as far as its first n usage blocks.
+pub record HasChunk (version N n : ℕ) (old new : Content) : Type 0 where
   pub others : SameOutside 2 (3 + n) old new
   pub summary : cell_at new 2 ≡ Some (summary_sector (first_names N))
-  pub inode : cell_at new 3 ≡ Some (inode_sector root_inode)
+  pub inode : cell_at new 3 ≡ Some (inode_sector (root_inode version))
   pub pointers : cell_at new 4 ≡ Some (pointer_sector first_pointers)
   pub uses : (j : ℕ) → j < n → cell_at new (5 + j) ≡ Some (usage_sector (first_uses N j))
 
 -- What a stop leaves while a volume of N segments is made: what a stop might have left before, with the slots as they were, cleared or unreadable;
 -- or no checkpoint; or the new volume.
-abbrev pub MayStand : ℕ → DeviceState → Content → Type 0
-MayStand N old c = ComesFrom old MayClearSlots c ⊎ ((newest c ≡ None) ⊎ IsNew N c)
+abbrev pub MayStand : ℕ → ℕ → DeviceState → Content → Type 0
+MayStand version N old c = ComesFrom old MayClearSlots c ⊎ ((newest c ≡ None) ⊎ IsNew version N c)

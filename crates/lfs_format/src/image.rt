@@ -1,7 +1,7 @@
 //! What the sectors of an empty volume hold.
 ghost use Rattle.std.specs.Prelude.{◌≡◌, ◌<◌, ◌≤◌, map};
 ghost use Rattle.std.specs.List.{range_with_len};
-ghost use Rattle.lfs_model.specs.Checkpoint.{FitsCheckpoint, IsSegmentCount};
+ghost use Rattle.lfs_model.specs.Checkpoint.{FitsCheckpoint, IsSegmentCount, IsVersion};
 ghost use Rattle.lfs_model.specs.Image.{usage_blocks, first_usage_address, first_checkpoint, first_name, first_names, first_pointers, first_uses, root_inode};
 ghost use Rattle.lfs_model.specs.Inode.{inode_sector};
 ghost use Rattle.lfs_model.specs.Pointers.{pointer_sector};
@@ -68,12 +68,14 @@ pub fn summary_block(segments: u32) -> [u8; 512]
     encode_summary(&names[..2 + usage_count(segments) as usize])
 }
 
-/// The inode of a root without entries.
+/// The inode of a root without entries, in a volume of this version.
 #[tactic(auto, unfolding(lfs_model::specs::Inode::IsSize))]
-pub fn root_block() -> [u8; 512]
-    ensures { result ≡ inode_sector root_inode }
+pub fn root_block(version: u32) -> [u8; 512]
+    requires { IsVersion version }
+    ensures { result ≡ inode_sector (root_inode version) }
 {
-    Inode::new(Kind::Directory, 1, 2, 0, [0; 112], 0, 0).encode()
+    let form = if version == 1 { 0 } else { 1 };
+    Inode::new(Kind::Directory, form, 1, 2, 0, [0; 112], 0, 0).encode()
 }
 
 /// Inode map block 0, which leads to the root's inode.
@@ -118,13 +120,14 @@ fn usage_addresses(segments: u32) -> [u32; 16]
     usage
 }
 
-/// The first checkpoint of a volume of so many segments.
-pub fn checkpoint(segments: u32) -> Checkpoint
-    requires { IsSegmentCount segments }
+/// The first checkpoint of a volume of this version and so many segments.
+pub fn checkpoint(version: u32, segments: u32) -> Checkpoint
+    requires known { IsVersion version }
+    requires count { IsSegmentCount segments }
     ensures fits { FitsCheckpoint result }
-    ensures value { result ≡ first_checkpoint segments }
+    ensures value { result ≡ first_checkpoint version segments }
 {
     let mut map = [0; 32];
     map[0] = MAP;
-    Checkpoint::new(1, segments, map, usage_addresses(segments))
+    Checkpoint::new(1, segments, version, map, usage_addresses(segments))
 }

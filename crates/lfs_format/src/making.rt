@@ -1,6 +1,6 @@
 //! Making an empty volume.
-ghost use Rattle.std.specs.Prelude.{◌≡◌, ◌≤◌, ◌<◌, ◌+◌, ◌*◌, ◌↔◌, ◌⊎◌, [], ◌∷◌, Some, OnOk, OnErr, IsErrOf};
-ghost use Rattle.lfs_model.specs.Checkpoint.{IsSegmentCount};
+ghost use Rattle.std.specs.Prelude.{◌≡◌, ◌≤◌, ◌<◌, ◌+◌, ◌*◌, ◌↔◌, ◌⊎◌, ℕ, [], ◌∷◌, Some, OnOk, OnErr, IsErrOf};
+ghost use Rattle.lfs_model.specs.Checkpoint.{IsSegmentCount, IsVersion};
 ghost use Rattle.lfs_model.specs.Content.{Content, newest};
 ghost use Rattle.lfs_model.specs.Device.{Only, AllLeft, Carries, LeavesOnly, ComesFrom, SameOutside};
 ghost use Rattle.lfs_model.specs.Image.{first_checkpoint, usage_blocks, IsNew};
@@ -38,11 +38,11 @@ pub fn format<D: SectorDevice>(device: &mut D, segments: u32) -> Result<(), Form
     ensures no_failure { OnOk result
         ((D.state device.new).failures ≡ (D.state device.old).failures) }
     ensures image { OnOk result ((D.state device.new).keeps_model
-        → IsNew segments (D.state device.new).content) }
+        → IsNew 1 segments (D.state device.new).content) }
     ensures volume { OnOk result ((D.state device.new).keeps_model
         → Stands (D.state device.new).content (mounted 1 ((1, Dir 0 []) ∷ []))) }
     ensures checkpoint { OnOk result ((D.state device.new).keeps_model
-        → newest (D.state device.new).content ≡ Some (first_checkpoint segments)) }
+        → newest (D.state device.new).content ≡ Some (first_checkpoint 1 segments)) }
     ensures durable { OnOk result ((D.state device.new).keeps_model
         → Only (D.state device.new).content (D.state device.new)) }
     ensures others { OnOk result ((D.state device.new).keeps_model
@@ -50,7 +50,7 @@ pub fn format<D: SectorDevice>(device: &mut D, segments: u32) -> Result<(), Form
         (D.state device.new).content) }
     ensures any_moment { (D.state device.new).keeps_model
         → LeavesOnly (D.state device.old) (D.state device.new)
-        (MayStand segments (D.state device.old)) }
+        (MayStand 1 segments (D.state device.old)) }
     ensures touched { LeavesOnly (D.state device.old) (D.state device.new)
         (ComesFrom (D.state device.old) (SameOutside 0 (5 + usage_blocks segments))) }
     ensures carries { Carries (D.state device.old) (D.state device.new) }
@@ -61,21 +61,26 @@ pub fn format<D: SectorDevice>(device: &mut D, segments: u32) -> Result<(), Form
     if device.sectors() < 2 + 64 * segments {
         return Err(FormatFault::TooSmall);
     }
-    match write_volume(device, segments) {
+    match write_volume(device, 1, segments) {
         Ok(()) => Ok(()),
         Err(DeviceFault) => Err(FormatFault::Device),
     }
 }
 
 /// Clears the slots, writes the first chunk and then its checkpoint, each synced before the next.
-fn write_volume<D: SectorDevice>(device: &mut D, segments: u32) -> Result<(), DeviceFault>
+fn write_volume<D: SectorDevice>(
+    device: &mut D,
+    version: u32,
+    segments: u32,
+) -> Result<(), DeviceFault>
+    requires known { IsVersion version }
     requires count { IsSegmentCount segments }
     requires size { 2 + 64 * segments ≤ (D.state device.old).size }
     ensures any_moment { (D.state device.new).keeps_model
         → LeavesOnly (D.state device.old) (D.state device.new)
-        (MayStand segments (D.state device.old)) }
+        (MayStand version segments (D.state device.old)) }
     ensures volume { OnOk result ((D.state device.new).keeps_model
-        → IsNew segments (D.state device.new).content) }
+        → IsNew version segments (D.state device.new).content) }
     ensures others { OnOk result ((D.state device.new).keeps_model
         → SameOutside 0 (5 + usage_blocks segments) (D.state device.old).content
         (D.state device.new).content) }
@@ -89,9 +94,9 @@ fn write_volume<D: SectorDevice>(device: &mut D, segments: u32) -> Result<(), De
     ensures carries { Carries (D.state device.old) (D.state device.new) }
 {
     clear_slots(device)?;
-    write_chunk(device, segments)?;
+    write_chunk(device, version, segments)?;
     device.sync()?;
-    replace(device, &checkpoint(segments))?;
+    replace(device, &checkpoint(version, segments))?;
     Ok(())
 }
 
@@ -118,14 +123,19 @@ fn clear_slots<D: SectorDevice>(device: &mut D) -> Result<(), DeviceFault>
 }
 
 /// Writes the first chunk, which isn't synced then. Where the slots are clear they stay so.
-fn write_chunk<D: SectorDevice>(device: &mut D, segments: u32) -> Result<(), DeviceFault>
+fn write_chunk<D: SectorDevice>(
+    device: &mut D,
+    version: u32,
+    segments: u32,
+) -> Result<(), DeviceFault>
+    requires known { IsVersion version }
     requires count { IsSegmentCount segments }
     requires size { 2 + 64 * segments ≤ (D.state device.old).size }
     ensures any_moment { AllLeft (D.state device.old) AreClear
         → LeavesOnly (D.state device.old) (D.state device.new) AreClear }
     ensures left { AllLeft (D.state device.old) AreClear → AllLeft (D.state device.new) AreClear }
     ensures chunk { OnOk result ((D.state device.new).keeps_model
-        → HasChunk segments (usage_blocks segments) (D.state device.old).content
+        → HasChunk version segments (usage_blocks segments) (D.state device.old).content
         (D.state device.new).content) }
     ensures failed { OnErr result ((D.state device.old).failures < (D.state device.new).failures) }
     ensures no_failure { OnOk result
@@ -134,20 +144,25 @@ fn write_chunk<D: SectorDevice>(device: &mut D, segments: u32) -> Result<(), Dev
         (ComesFrom (D.state device.old) (SameOutside 0 (5 + usage_blocks segments))) }
     ensures carries { Carries (D.state device.old) (D.state device.new) }
 {
-    write_first_blocks(device, segments)?;
+    write_first_blocks(device, version, segments)?;
     write_later_usage(device, segments)?;
     Ok(())
 }
 
 /// Writes the first chunk as far as its first usage block.
-fn write_first_blocks<D: SectorDevice>(device: &mut D, segments: u32) -> Result<(), DeviceFault>
+fn write_first_blocks<D: SectorDevice>(
+    device: &mut D,
+    version: u32,
+    segments: u32,
+) -> Result<(), DeviceFault>
+    requires known { IsVersion version }
     requires count { IsSegmentCount segments }
     requires size { 2 + 64 * segments ≤ (D.state device.old).size }
     ensures any_moment { AllLeft (D.state device.old) AreClear
         → LeavesOnly (D.state device.old) (D.state device.new) AreClear }
     ensures left { AllLeft (D.state device.old) AreClear → AllLeft (D.state device.new) AreClear }
     ensures chunk { OnOk result ((D.state device.new).keeps_model
-        → HasChunk segments 1 (D.state device.old).content (D.state device.new).content) }
+        → HasChunk version segments 1 (D.state device.old).content (D.state device.new).content) }
     ensures failed { OnErr result ((D.state device.old).failures < (D.state device.new).failures) }
     ensures no_failure { OnOk result
         ((D.state device.new).failures ≡ (D.state device.old).failures) }
@@ -156,7 +171,7 @@ fn write_first_blocks<D: SectorDevice>(device: &mut D, segments: u32) -> Result<
     ensures carries { Carries (D.state device.old) (D.state device.new) }
 {
     device.write(2, &summary_block(segments))?;
-    device.write(INODE, &root_block())?;
+    device.write(INODE, &root_block(version))?;
     device.write(MAP, &map_block())?;
     device.write(USAGE, &usage_block(segments))?;
     Ok(())
@@ -169,9 +184,9 @@ fn write_later_usage<D: SectorDevice>(device: &mut D, segments: u32) -> Result<(
     ensures any_moment { AllLeft (D.state device.old) AreClear
         → LeavesOnly (D.state device.old) (D.state device.new) AreClear }
     ensures left { AllLeft (D.state device.old) AreClear → AllLeft (D.state device.new) AreClear }
-    ensures chunk { OnOk result ((D.state device.new).keeps_model → (before : Content)
-        → HasChunk segments 1 before (D.state device.old).content
-        → HasChunk segments (usage_blocks segments) before (D.state device.new).content) }
+    ensures chunk { OnOk result ((D.state device.new).keeps_model → (version : ℕ) (before : Content)
+        → HasChunk version segments 1 before (D.state device.old).content
+        → HasChunk version segments (usage_blocks segments) before (D.state device.new).content) }
     ensures failed { OnErr result ((D.state device.old).failures < (D.state device.new).failures) }
     ensures no_failure { OnOk result
         ((D.state device.new).failures ≡ (D.state device.old).failures) }

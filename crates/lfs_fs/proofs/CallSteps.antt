@@ -7,6 +7,7 @@ use Rattle.std.specs.FinMap.{find}
 use Rattle.lfs_model.specs.Bytes.{AreBytes, part}
 use Rattle.lfs_model.specs.Call.{Answer, AreArguments, Call, Count, Data, Pread, Pwrite, Refuse, Room, Space, Stat, Status, changes, cleans, is_ok}
 use Rattle.lfs_model.specs.Entry as entry
+use Rattle.lfs_model.specs.Inode.{IsForm}
 use Rattle.lfs_model.specs.Need.{need}
 use Rattle.lfs_model.specs.Objects.{IsHeaderOf}
 use Rattle.lfs_model.specs.PathText.{slash}
@@ -23,7 +24,7 @@ use Rattle.lfs_files.specs.declared.header.Header.{Header}
 use Rattle.lfs_store.specs.memory.Present.{as_header}
 use Rattle.lfs_model.specs.Totals.{IsCounted, TotalsOfTree}
 use Rattle.lfs_store.specs.Writing.{WritesFile, resized}
-use Rattle.lfs_fs.specs.Naming.{NewKind}
+use Rattle.lfs_fs.specs.Naming.{NewKind, form_of_new, kind_of_new}
 use Rattle.lfs_fs.specs.Reading.{stat_call}
 use Rattle.lfs_fs.proofs.Created.{NamesNew, created_map, created_need}
 use Rattle.lfs_fs.proofs.EntrySteps.{MakesEntry, new_done, new_no_space, new_node, with_entry}
@@ -126,11 +127,11 @@ module _ (N : ℕ) (m : LogMap) (s : State) (is : IsMapOf N m s) where
         pwrite_ends = (pwrite_full, pwrite_step, λ bytes room. pwrite_map room bytes)
 
       -- a new entry
-      module _ (version : s.version ≡ 1) (p : List ℕ) (d : ℕ) (walk : Parent s.tree p (At d)) (m1 : LogMap) (n : ℕ) (first : least s.tree ≡ n) (top : n ≤ 4095) (new : is_there s.tree d p ≡ false)
-          (k : NewKind) (head : Header) (size at : ℕ) (w : List ℕ) (does : NamesNew m m1 m' d n k head size at w (name p)) (call : Call) (is_mkdir : Bool) (e : MakesEntry N s p d call k is_mkdir)
+      module _ (p : List ℕ) (d : ℕ) (walk : Parent s.tree p (At d)) (m1 : LogMap) (n : ℕ) (first : least s.tree ≡ n) (top : n ≤ 4095) (new : is_there s.tree d p ≡ false)
+          (k : NewKind) (known : IsForm s.version (kind_of_new k) (form_of_new k)) (head : Header) (size at : ℕ) (w : List ℕ) (does : NamesNew m m1 m' d n k head size at w (name p)) (call : Call) (is_mkdir : Bool) (e : MakesEntry N s p d call k is_mkdir)
           (named : (no_last p || last_dots p) ≡ false) (short : is_long s.tree d p ≡ false) (plain : (slash p && not is_mkdir) ≡ false) (space : is_full s.tree d ≡ false) (allowed : e.own ≡ false) where
         needs_entry : need (with_new s.tree d p (new_node k)) ≡ blocks + 7 * others + 720
-        needs_entry = created_need N m m1 m' s is version p d walk n first top new k head size at w does totals shaped blocks others counted
+        needs_entry = created_need N m m1 m' s is p d walk n first top new k known head size at w does totals shaped blocks others counted
 
         number : least s.tree ≤ 4095
         number = omega (arith, first, top)
@@ -146,7 +147,7 @@ module _ (N : ℕ) (m : LogMap) (s : State) (is : IsMapOf N m s) where
           entry_step = new_done N s p d call k is_mkdir e named short new plain space allowed number entry_fits
 
           entry_map : AreArguments call → IsMapOf N m' (with_entry N s p d call k is_mkdir e)
-          entry_map arguments = created_map N m m1 m' s is version p d walk n first top new k head size at w does call is_mkdir e arguments named short plain space allowed entry_fits
+          entry_map arguments = created_map N m m1 m' s is p d walk n first top new k known head size at w does call is_mkdir e arguments named short plain space allowed entry_fits
 
         pub entry_ends : (47 * N < blocks + 7 * others + 720 → Step N s call (Refuse NoSpace) s)
             × (blocks + 7 * others + 720 ≤ 47 * N

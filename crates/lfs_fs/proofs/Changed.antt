@@ -128,6 +128,7 @@ module _ (N : ℕ) (m m' : LogMap) (s : State) (is : IsMapOf N m s) (n : ℕ) (f
     log = record {
       sound = written_sound N s n (object m n file.head) new is.log.sound file.node good room;
       is = sym tree;
+      version = is.log.version ∙ sym changed.version;
       formed = λ k h at dir. ⊎_elim
           (λ (here : k ≡ n). absurd (not_directory m' n h' there is_file h (sym (ap m'.header here) ∙ at) dir))
           (λ (ne : k ≡ n → ⊥). formed_same m m' n changed is.log.formed k h ne at dir)

@@ -32,6 +32,7 @@ module _ (N : ℕ) (m : LogMap) (s : State) (is : IsMapOf N m s) (h n : ℕ) (op
     log = record {
       sound = close_keeps N s (closed N s h s.tree) h Done is.log.sound (close_stays N s h n opens stays);
       is = is.log.is;
+      version = is.log.version;
       formed = is.log.formed;
       links = is.log.links;
     };
@@ -51,7 +52,7 @@ module _ (N : ℕ) (m : LogMap) (s : State) (is : IsMapOf N m s) (h n : ℕ) (op
     pub gone_map : IsShaped m → IsMapOf N m' (closed N s h (without nat_cmp n s.tree))
     gone_map shaped = map_by (gone_kept m m' n shaped it_is not_root)
         (close_keeps N s (closed N s h (without nat_cmp n s.tree)) h Done is.log.sound
-        (close_goes N s h n opens nameless shut))
+        (close_goes N s h n opens nameless shut)) is.log.version
         (gone_tree m m' n shaped it_is not_root ∙ ap (without nat_cmp n) (sym is.log.is))
         (λ k g there. (
         let shift = shifts_gone m m' n 0 it_is k g there in

@@ -143,7 +143,7 @@ module _ {D : Type 0} (state : D → DeviceState) (lawful : (d : D) → IsLawful
     pub present : LogMap
     pub stores : Stores state new.log new.saved k m0 present
     pub map : IsMapOf (segments_of old) present next
-    pub version : next.version ≡ 1
+    pub version : next.version ≡ p.state.version
     pub handles : next.handles ≡ handles_of new.table
     pub counted : IsCounted present new.blocks new.others
     pub steps : StepsOr (segments_of old) call p a (point_of state new next)
@@ -167,7 +167,7 @@ module _ {D : Type 0} (state : D → DeviceState) (lawful : (d : D) → IsLawful
             stores = does.stores;
             map = does.map.map;
             log = (subst (λ (l : ℕ). IsMapOf l does.present does.next) (sym alters.segments) does.map).log;
-            version = does.version;
+            version = does.version ∙ is.version;
             handles = does.handles;
             counted = does.counted;
             acknowledged = subst (λ (l : ℕ). IsTree l m0) (sym alters.segments) is.acknowledged;
@@ -254,7 +254,7 @@ module _ {D : Type 0} (state : D → DeviceState) (lawful : (d : D) → IsLawful
           table_serves state old new (lawful old.log.device) (lawful new.log.device) was (Close h) Done reads saved blocks others refl refl (λ e. cc) (λ p keeps here k m0 m is. record {
             next = closed (segments_of old) p.state h p.state.tree;
             map = closed_map (segments_of old) m p.state (map_of_volume state old k m0 m p.state is) h n (opened_in p.state is.handles) (stays k m0 m p.state keeps is);
-            version = is.version;
+            version = refl;
             handles = closed_handles p.state is.handles;
             steps = inl (close_stays (segments_of old) p.state h n (opened_in p.state is.handles) (stays k m0 m p.state keeps is), never_worn (segments_of old) (Close h) p refl refl);
           })
@@ -280,7 +280,7 @@ module _ {D : Type 0} (state : D → DeviceState) (lawful : (d : D) → IsLawful
               present = without_file n m;
               stores = subst (λ (b : Bool). Stores state new.log b k m0 (without_file n m)) (sym saved) (forgets k m0 m keeps is.stores hidden);
               map = next_map;
-              version = is.version;
+              version = refl;
               handles = closed_handles p.state is.handles;
               counted = counted k m0 m keeps is.stores.holds is.map next_map.map is.counted;
               steps = inl (close_goes (segments_of old) p.state h n open_is no_name no_other, never_worn (segments_of old) (Close h) p refl refl);
@@ -298,7 +298,7 @@ module _ {D : Type 0} (state : D → DeviceState) (lawful : (d : D) → IsLawful
             rest = λ e. still_at_rest state old.log new.log kept (is.stores.rest (sym saved ∙ e));
           };
           map = map_of_volume state old k m0 m p.state is;
-          version = is.version;
+          version = refl;
           handles = is.handles ∙ ap handles_of (sym table);
           counted = record { stored = blocks ∙ is.counted.stored; above = others ∙ is.counted.above };
           steps = (let rose = fault k m0 m keeps is.stores.holds in inr (Device, refl, (refl, (let f = here.failures in omega (arith, f, rose))), refl));

@@ -10,6 +10,7 @@ use Rattle.lfs_model.specs.Checkpoint.{CheckpointValue}
 use Rattle.lfs_model.specs.Device.{DeviceState, IsLawful}
 use Rattle.lfs_model.specs.Encodes.{IsLogMap}
 use Rattle.lfs_model.specs.Entry.{Inode}
+use Rattle.lfs_model.specs.Inode.{IsForm}
 use Rattle.lfs_model.specs.Objects.{IsHeaderOf}
 use Rattle.lfs_model.specs.Stands.{LogMap}
 use Rattle.lfs_model.specs.Step.{is_full, is_long, is_there, last_dots, name, no_last}
@@ -44,7 +45,7 @@ use Rattle.lfs_fs.specs.declared.error.FsError.{FsError}
 use Rattle.lfs_fs.specs.declared.fs.Fs.{Fs}
 use Rattle.lfs_fs.specs.Accepting.{StagesDraft, TurnsDown}
 use Rattle.lfs_fs.specs.Handles.{handles_of}
-use Rattle.lfs_fs.specs.Naming.{IsDraftedNew, Reaches, RelinksParent, TakesEntry, kind_of_new, more_links}
+use Rattle.lfs_fs.specs.Naming.{IsDraftedNew, Reaches, RelinksParent, TakesEntry, form_of_new, kind_of_new, more_links}
 use Rattle.lfs_fs.specs.Refusals.{refusal_of}
 use Rattle.lfs_fs.specs.Seen.{OnlyReads, seen}
 use Rattle.lfs_fs.specs.Volume.{Behaves, IsIn, IsStill, Mounted, Serves, segments_of}
@@ -55,7 +56,7 @@ use Rattle.lfs_fs.proofs.Files.{IsMapOf, no_header_none}
 use Rattle.lfs_fs.proofs.NewObjects.{IsMade, object_counted, object_fits, object_log, object_loss, object_made}
 use Rattle.lfs_fs.proofs.Headers.{directory_grows, known_form}
 use Rattle.lfs_fs.proofs.Slots.{slot_some}
-use Rattle.lfs_fs.proofs.Holding.{headers_of_volume, map_of_volume, shape_of_volume}
+use Rattle.lfs_fs.proofs.Holding.{headers_of_volume, known_version, map_of_volume, shape_of_volume, version_of_volume}
 use Rattle.lfs_fs.proofs.InDirectories.{directory_kind, directory_node, free_directory, least_number, linked_directory, linked_names, made_header, names_new, names_there, new_in_directory, short_in_directory}
 use Rattle.lfs_fs.proofs.WritingEnds.{still_more, AreDrafts, accepted_serves, with_table, draft_turned, totals_read}
 use Rattle.lfs_fs.proofs.CallSteps.{entry_ends}
@@ -67,7 +68,7 @@ module _ (c c' : Changes) (d : ℕ) (head : Header) (t : BlockTotals) where
   links_of k = relinked head (more_links k head.links)
 
   same_header : (m : LogMap) → (staged c m).header d ≡ Some (as_header head) → IsWithHeader (staged c m) d (Some (as_header head)) (staged c m)
-  same_header m there = record { own = there; others = λ q ne. refl; block = λ q i. refl }
+  same_header m there = record { own = there; others = λ q ne. refl; block = λ q i. refl; version = refl }
 
   linked_map : (k : Kind) → RelinksParent c c' d head t k → (m : LogMap) → (staged c m).header d ≡ Some (as_header head) → IsWithHeader (staged c m) d (Some (as_header (links_of k))) (staged c' m)
   linked_map kind.File same m there = subst (λ (x : Changes). IsWithHeader (staged c m) d (Some (as_header head)) (staged x m)) (sym same) (same_header m there)
@@ -95,10 +96,10 @@ module _ (c c' : Changes) (d : ℕ) (head : Header) (t : BlockTotals) where
   linked_loss kind.Directory sets = sets.0.loss (omega arith)
   linked_loss kind.Link same = ap (λ (x : Changes). x.loss) same
 
-module _ {D : Type 0} (state : D → DeviceState) (lawful : (d : D) → IsLawful (state d)) (v : Mounted D) (old mid ready : Fs D) (path : List ℕ) (d : ℕ) (of : NewCall (segments_of v) path d) (last : Last)
+module _ {D : Type 0} (state : D → DeviceState) (lawful : (d : D) → IsLawful (state d)) (v : Mounted D) (old mid ready : Fs D) (path : List ℕ) (d : ℕ) (of : NewCall v.log.version (segments_of v) path d) (last : Last)
     (reached : Reaches state v old path d (Some last)) (running : old.store.log.halted ≡ false) (only : OnlyReads state old mid) (head : Header) (takes : TakesEntry state old mid d last.name.now last.slash of.is_mkdir head)
     (few : kind_of_new of.kind ≡ kind.Directory → head.links < 1000) (n : ℕ) (vacant : IsVacant state mid.store.log n) (is_ready : IsDraftedNew state mid ready d head n of.kind last.name.now)
-    (allowed : (k : CheckpointValue) (m0 m : LogMap) (s : State) → (state mid.store.log.device).keeps_model → (is : IsIn state v k m0 m s) → (walk : Parent s.tree path (At d)) → (of.makes s is.version walk).own ≡ false) where
+    (allowed : (k : CheckpointValue) (m0 m : LogMap) (s : State) → (state mid.store.log.device).keeps_model → (is : IsIn state v k m0 m s) → (walk : Parent s.tree path (At d)) → (of.makes s (version_of_volume state v k m0 m s is) walk).own ≡ false) where
   abbrev c : Changes
   c = ready.store.draft.changes
 
@@ -240,7 +241,7 @@ module _ {D : Type 0} (state : D → DeviceState) (lawful : (d : D) → IsLawful
       fits_here =
           is_ready.drafts.adds.fits k m0 m in_mid
           (linked_fits is_ready.drafts.between is_ready.drafts.linked d head is_ready.drafts.half (kind_of_new of.kind) is_ready.drafts.relinks m
-          (object_fits state mid.store.log ready.store.log mid.store.draft.changes is_ready.drafts.between mid.store.drafted is_ready.drafts.half n k m0 m in_mid none_drafted (same_mid m) is.map vacant.some not_root free (draft_empty mid.store.draft.changes m none_drafted).1 of.kind of.short of.sized is_ready.drafts.object)
+          (object_fits state mid.store.log ready.store.log mid.store.draft.changes is_ready.drafts.between mid.store.drafted is_ready.drafts.half n k m0 m in_mid none_drafted (same_mid m) is.map vacant.some not_root free (draft_empty mid.store.draft.changes m none_drafted).1 of.kind of.short (of.sized (known_version state v k m0 m s is)) is_ready.drafts.object)
           there_1 some_links (ap (λ (x : Loss). is_lost x (Inode d)) none_lost) links_fit)
           record {
             there = links_made.own;
@@ -268,7 +269,7 @@ module _ {D : Type 0} (state : D → DeviceState) (lawful : (d : D) → IsLawful
           = subst (λ (x : LogMap). AreTotals x mid.store.drafted) (sym (same_mid m))
           (totals_read state lawful v old mid reached.still reached.drafted only m is.counted) in
           is_ready.drafts.recounts k m0 m keeps in_mid
-          (linked_keeps is_ready.drafts.between is_ready.drafts.linked d head is_ready.drafts.half (kind_of_new of.kind) is_ready.drafts.relinks m (object_log state mid.store.log ready.store.log mid.store.draft.changes is_ready.drafts.between mid.store.drafted is_ready.drafts.half n k m0 m in_mid none_drafted (same_mid m) is.map vacant.some not_root free keeps of.kind of.short is_ready.drafts.object) there_1) after
+          (linked_keeps is_ready.drafts.between is_ready.drafts.linked d head is_ready.drafts.half (kind_of_new of.kind) is_ready.drafts.relinks m (object_log state mid.store.log ready.store.log mid.store.draft.changes is_ready.drafts.between mid.store.drafted is_ready.drafts.half n k m0 m in_mid none_drafted (same_mid m) is.map vacant.some not_root free keeps of.kind of.short (subst (λ (x : ℕ). IsForm x (kind_of_new of.kind) (form_of_new of.kind)) (sym is.stores.holds.version) (of.known (known_version state v k m0 m s is))) is_ready.drafts.object) there_1) after
           (linked_counts is_ready.drafts.between is_ready.drafts.linked d head is_ready.drafts.half (kind_of_new of.kind) is_ready.drafts.relinks m there_1 (object_counted state mid.store.log ready.store.log mid.store.draft.changes is_ready.drafts.between mid.store.drafted is_ready.drafts.half n k m0 m in_mid none_drafted (same_mid m) is.map vacant.some not_root free keeps of.kind of.short is_ready.drafts.object totals_mid))
 
   -- ---- the calls
@@ -276,19 +277,21 @@ module _ {D : Type 0} (state : D → DeviceState) (lawful : (d : D) → IsLawful
     entry_drafts : AreDrafts state lawful v ready new of.call Done still_ready was rest
     entry_drafts keeps k m0 m s is =
         let walk = reached.walk k m0 m s (kept_old keeps) is in
-        let makes = of.makes s is.version walk in
+        let version = version_of_volume state v k m0 m s is in
+        let known = subst (λ (x : ℕ). IsForm x (kind_of_new of.kind) (form_of_new of.kind)) (sym version) (of.known (known_version state v k m0 m s is)) in
+        let makes = of.makes s version walk in
         let map_here = map keeps k m0 m s is in
         let first = least_is keeps k m0 m s is in
         let top : n ≤ 4095 = (let most = vacant.few in omega (arith, most)) in
         let absent_here = absent keeps k m0 m s is in
         let does_here = does keeps k m0 m s is in
         let counted = counted_here keeps k m0 m s is
-        (created_log (segments_of v) m (between m) (staged c m) s map_here is.version path d walk n
-        first top absent_here of.kind head (head.size + slot_len head.form) head.size slot does_here) in
+        (created_log (segments_of v) m (between m) (staged c m) s map_here path d walk n
+        first top absent_here of.kind known head (head.size + slot_len head.form) head.size slot does_here) in
         let ends = entry_ends (segments_of v) m s map_here totals_of_tree
         (shape_of_volume state v k m0 m s is) (staged c m) ready.store.drafted.data_blocks
-        ready.store.drafted.meta_blocks counted is.version path d walk (between m) n first top
-        absent_here of.kind head (head.size + slot_len head.form) head.size slot does_here of.call of.is_mkdir makes
+        ready.store.drafted.meta_blocks counted path d walk (between m) n first top
+        absent_here of.kind known head (head.size + slot_len head.form) head.size slot does_here of.call of.is_mkdir makes
         named (short keeps k m0 m s is)
         (ap (λ (b : Bool). b && not of.is_mkdir) reached.last.1 ∙ takes.plain)
         (space keeps k m0 m s is) (allowed k m0 m s (kept_mid keeps) is walk) in
@@ -317,7 +320,7 @@ module _ {D : Type 0} (state : D → DeviceState) (lawful : (d : D) → IsLawful
 
       -- what the answer is, and the open files, in each state that the volume may be in
       abbrev pub EndsWith : Answer → Type 0
-      EndsWith a = (s : State) (version : s.version ≡ 1) (walk : Parent s.tree path (At d))
+      EndsWith a = (s : State) (version : s.version ≡ v.log.version) (walk : Parent s.tree path (At d))
           → s.handles ≡ handles_of v.table → least s.tree ≡ n
           → ((of.makes s version walk).answer ≡ a)
           × ((of.makes s version walk).handles ≡ handles_of table)
@@ -327,6 +330,6 @@ module _ {D : Type 0} (state : D → DeviceState) (lawful : (d : D) → IsLawful
       unfolding entry_drafts
       made_serves a ok behaves ends = accepted_serves state lawful v ready new of.call Done
           still_ready was rest of.changing of.uncommitted entry_drafts a ok table
-          (λ keeps k m0 m s is. ends s is.version (reached.walk k m0 m s (kept_old keeps) is)
+          (λ keeps k m0 m s is. ends s (version_of_volume state v k m0 m s is) (reached.walk k m0 m s (kept_old keeps) is)
           is.handles (least_is keeps k m0 m s is))
           behaves stages

@@ -21,7 +21,7 @@ use Rattle.lfs_fs.specs.Volume.{IsIn, Mounted, Serves, segments_of}
 use Rattle.lfs_fs.proofs.Behaving.{IsOrdinary}
 use Rattle.lfs_fs.proofs.Checks.{at_most, not_at_most}
 use Rattle.lfs_fs.proofs.EntrySteps.{MakesEntry, NewCall, checks_new, create_call, mkdir_call, new_no_number, new_own}
-use Rattle.lfs_fs.proofs.Holding.{map_of_volume}
+use Rattle.lfs_fs.proofs.Holding.{map_of_volume, version_of_volume}
 use Rattle.lfs_fs.proofs.InDirectories.{no_least}
 use Rattle.lfs_fs.proofs.NewEntrySteps.{IsTaken}
 use Rattle.lfs_fs.proofs.NewRefusals as rule
@@ -29,11 +29,11 @@ use Rattle.lfs_fs.proofs.NewRefusals.{NewEntryCall}
 use Rattle.lfs_fs.proofs.OldEntries.{still}
 use Rattle.lfs_fs.proofs.Serving.{still_in}
 
-module _ {D : Type 0} (state : D → DeviceState) (lawful : (d : D) → IsLawful (state d)) (v : Mounted D) (old : Fs D) (path : List ℕ) (d : ℕ) (of : NewCall (segments_of v) path d) (piece : Option Last) (reached : Reaches state v old path d piece) (running : old.store.log.halted ≡ false) where
+module _ {D : Type 0} (state : D → DeviceState) (lawful : (d : D) → IsLawful (state d)) (v : Mounted D) (old : Fs D) (path : List ℕ) (d : ℕ) (of : NewCall v.log.version (segments_of v) path d) (piece : Option Last) (reached : Reaches state v old path d piece) (running : old.store.log.halted ≡ false) where
   -- it asks for an entry
   abbrev pub asks : NewEntryCall state v old path d of.call of.is_mkdir
   asks = record {
-    checks = λ k m0 m s keeps is walk. checks_new (segments_of v) s path d of.call of.kind of.is_mkdir (of.makes s is.version walk);
+    checks = λ k m0 m s keeps is walk. checks_new (segments_of v) s path d of.call of.kind of.is_mkdir (of.makes s (version_of_volume state v k m0 m s is) walk);
     uncommitted = of.uncommitted;
     unclean = of.unclean;
   }
@@ -60,7 +60,7 @@ module _ {D : Type 0} (state : D → DeviceState) (lawful : (d : D) → IsLawful
     module _ (k : CheckpointValue) (m0 m : LogMap) (s : State) (keeps : (state new.store.log.device).keeps_model) (is : IsIn state v k m0 m s) (walk : Parent s.tree path (At d))
         (head : Header) (takes : TakesEntry state old new d l.name.now l.slash of.is_mkdir head) where
       abbrev makes : MakesEntry (segments_of v) s path d of.call of.kind of.is_mkdir
-      makes = of.makes s is.version walk
+      makes = of.makes s (version_of_volume state v k m0 m s is) walk
 
       pub handles_are : s.handles ≡ handles_of new.handles.numbers.items
       handles_are = is.handles ∙ ap handles_of (sym (still state lawful v old path d piece reached l is_last new only).table)
@@ -81,7 +81,7 @@ module _ {D : Type 0} (state : D → DeviceState) (lawful : (d : D) → IsLawful
     -- ---- the calls
     -- What holds of each state that the volume may be in, at the end of the walk.
     abbrev pub AtParent : ((s : State) → MakesEntry (segments_of v) s path d of.call of.kind of.is_mkdir → Type 0) → Type 0
-    AtParent P = (k : CheckpointValue) (m0 m : LogMap) (s : State) → (state new.store.log.device).keeps_model → (is : IsIn state v k m0 m s) → (walk : Parent s.tree path (At d)) → P s (of.makes s is.version walk)
+    AtParent P = (k : CheckpointValue) (m0 m : LogMap) (s : State) → (state new.store.log.device).keeps_model → (is : IsIn state v k m0 m s) → (walk : Parent s.tree path (At d)) → P s (of.makes s (version_of_volume state v k m0 m s is) walk)
 
     -- the call is refused for its own reason
     pub own_refused : (head : Header) → TakesEntry state old new d l.name.now l.slash of.is_mkdir head → (r : refusals.Refusal) → IsOrdinary (Refuse r) → AtParent (λ s e. (e.own ≡ true) × (e.why ≡ r))
@@ -99,8 +99,8 @@ module _ {D : Type 0} (state : D → DeviceState) (lawful : (d : D) → IsLawful
 
 module _ {D : Type 0} (state : D → DeviceState) (lawful : (d : D) → IsLawful (state d)) (v : Mounted D) (old : Fs D) (path : List ℕ) (d : ℕ) (piece : Option Last) (reached : Reaches state v old path d piece)
     (running : old.store.log.halted ≡ false) (l : Last) (is_last : piece ≡ Some l) (new : Fs D) (only : OnlyReads state old new) (head : Header) (takes : TakesEntry state old new d l.name.now l.slash false head) where
-  abbrev pub creates : NewCall (segments_of v) path d
-  creates = create_call (segments_of v) path d reached.bytes
+  abbrev pub creates : NewCall v.log.version (segments_of v) path d
+  creates = create_call v.log.version (segments_of v) path d reached.bytes
 
   handles_in : (k : CheckpointValue) (m0 m : LogMap) (s : State) → (state new.store.log.device).keeps_model → IsIn state v k m0 m s → Parent s.tree path (At d) → s.handles ≡ handles_of new.handles.numbers.items
   handles_in k m0 m s keeps is walk = handles_are state lawful v old path d creates piece reached running l is_last new only k m0 m s keeps is walk head takes
@@ -116,8 +116,8 @@ module _ {D : Type 0} (state : D → DeviceState) (lawful : (d : D) → IsLawful
 
 module _ {D : Type 0} (state : D → DeviceState) (lawful : (d : D) → IsLawful (state d)) (v : Mounted D) (old : Fs D) (path : List ℕ) (d : ℕ) (piece : Option Last) (reached : Reaches state v old path d piece)
     (running : old.store.log.halted ≡ false) (l : Last) (is_last : piece ≡ Some l) (new : Fs D) (only : OnlyReads state old new) (head : Header) (takes : TakesEntry state old new d l.name.now l.slash true head) where
-  abbrev pub mkdirs : NewCall (segments_of v) path d
-  mkdirs = mkdir_call (segments_of v) path d reached.bytes
+  abbrev pub mkdirs : NewCall v.log.version (segments_of v) path d
+  mkdirs = mkdir_call v.log.version (segments_of v) path d reached.bytes
 
   links_in : (k : CheckpointValue) (m0 m : LogMap) (s : State) → (state new.store.log.device).keeps_model → IsIn state v k m0 m s → Parent s.tree path (At d) → head.links ≡ links s.tree d
   links_in k m0 m s keeps is walk = links_are state lawful v old path d mkdirs piece reached running l is_last new only k m0 m s keeps is walk head takes

@@ -3,6 +3,7 @@ use Rattle.std.proofs.Common.{◌≢◌, refl, Result, Ok, Err, arith, ap, true,
 use Rattle.std.specs.Prelude.{IfErr, OnOk}
 use Rattle.std.specs.Ordering.{nat_cmp}
 use Rattle.std.specs.FinMap.{put}
+use Rattle.lfs_model.specs.Image.{new_form}
 use Rattle.lfs_model.specs.declared.Kind.TheVariants as kind
 use Rattle.lfs_model.specs.Call.{Answer, Create, Done, Handle, Mkdir, Refuse, Symlink, is_ok}
 use Rattle.lfs_model.specs.Bytes.{AreBytes}
@@ -24,6 +25,7 @@ use Rattle.lfs_fs.specs.Naming.{DraftsNone, MakesNew, MakesNone, Reaches, TakesE
 use Rattle.lfs_fs.specs.Refusals.{refusal_of}
 use Rattle.lfs_fs.specs.Seen.{OnlyReads, answer_by, seen}
 use Rattle.lfs_fs.specs.Volume.{Behaves, IsIn, IsStill, Mounted, Serves, segments_of}
+use Rattle.lfs_fs.proofs.Holding.{version_of_volume}
 use Rattle.lfs_fs.proofs.CreateMade.{made_serves, turned_serves}
 use Rattle.lfs_fs.proofs.Behaving.{IsBounded, makes_behaves, write_behaves}
 use Rattle.lfs_fs.proofs.CreateRefusals.{handle_allowed, links_allowed}
@@ -31,10 +33,10 @@ use Rattle.lfs_fs.proofs.EntrySteps.{NewCall, create_call, mkdir_call, symlink_c
 use Rattle.lfs_fs.proofs.WritingEnds.{still_more}
 use Rattle.lfs_fs.proofs.ReadingEnds.{none_serves}
 
-module _ {D : Type 0} (state : D → DeviceState) (lawful : (d : D) → IsLawful (state d)) (v : Mounted D) (old mid : Fs D) (path : List ℕ) (d : ℕ) (of : NewCall (segments_of v) path d) (piece : Option Last)
+module _ {D : Type 0} (state : D → DeviceState) (lawful : (d : D) → IsLawful (state d)) (v : Mounted D) (old mid : Fs D) (path : List ℕ) (d : ℕ) (of : NewCall v.log.version (segments_of v) path d) (piece : Option Last)
     (reached : Reaches state v old path d piece) (running : old.store.log.halted ≡ false) (last : Last) (some : piece ≡ Some last) (only : OnlyReads state old mid) (head : Header)
     (takes : TakesEntry state old mid d last.name.now last.slash of.is_mkdir head) (few : kind_of_new of.kind ≡ kind.Directory → head.links < 1000) (n : ℕ) (vacant : IsVacant state mid.store.log n)
-    (allowed : (k : CheckpointValue) (m0 m : LogMap) (s : State) → (state mid.store.log.device).keeps_model → (is : IsIn state v k m0 m s) → (walk : Parent s.tree path (At d)) → (of.makes s is.version walk).own ≡ false) where
+    (allowed : (k : CheckpointValue) (m0 m : LogMap) (s : State) → (state mid.store.log.device).keeps_model → (is : IsIn state v k m0 m s) → (walk : Parent s.tree path (At d)) → (of.makes s (version_of_volume state v k m0 m s is) walk).own ≡ false) where
   -- the path has this last piece
   with_last : Reaches state v old path d (Some last)
   with_last = subst (λ (o : Option Last). Reaches state v old path d o) some reached
@@ -66,7 +68,7 @@ module _ {D : Type 0} (state : D → DeviceState) (lawful : (d : D) → IsLawful
     after = record { log = new.store.log; saved = new.store.saved; blocks = new.store.log.totals.data_blocks; others = new.store.log.totals.meta_blocks; table = table }
 
     pub made_ends : (a : Answer) → is_ok a ≡ true → (IsBounded state v after of.call → Behaves state v after of.call a)
-        → ((s : State) (version : s.version ≡ 1) (walk : Parent s.tree path (At d)) → s.handles ≡ handles_of v.table → least s.tree ≡ n → ((of.makes s version walk).answer ≡ a) × ((of.makes s version walk).handles ≡ handles_of table))
+        → ((s : State) (version : s.version ≡ v.log.version) (walk : Parent s.tree path (At d)) → s.handles ≡ handles_of v.table → least s.tree ≡ n → ((of.makes s version walk).answer ≡ a) × ((of.makes s version walk).handles ≡ handles_of table))
         → Serves state v after of.call a
     made_ends a ok behaves ends =
         made_serves state lawful v old mid makes.mid path d of last with_last running only head takes few n vacant makes.ready allowed new makes.table makes.stages table a ok behaves ends
@@ -85,17 +87,17 @@ module _ {D : Type 0} (state : D → DeviceState) (lawful : (d : D) → IsLawful
   some_free = subst (λ (h : ℕ). h < 64) (sym first) free
 
   pub create_unmade : (new : Fs D) (fault : FsError) → MakesNone state mid new d head n new_file last.name.now fault → Serves state v (seen new) (Create path) (Refuse (refusal_of fault))
-  create_unmade = unmade_ends state lawful v old mid path d (create_call (segments_of v) path d reached.bytes) piece reached running last some only head takes (λ e. absurd (cc)) n vacant
+  create_unmade = unmade_ends state lawful v old mid path d (create_call v.log.version (segments_of v) path d reached.bytes) piece reached running last some only head takes (λ e. absurd (cc)) n vacant
       (handle_allowed state lawful v old path d piece reached running last some mid only head takes some_free)
 
   pub create_made : (new : Fs D) → MakesNew state mid new d head n new_file last.name.now → (table : List ℕ) → (n ≢ 0 → handles_of table ≡ put nat_cmp handle n (handles_of new.handles.numbers.items))
       → Serves state v record { log = new.store.log; saved = new.store.saved; blocks = new.store.log.totals.data_blocks; others = new.store.log.totals.meta_blocks; table = table } (Create path) (Handle handle)
   create_made new makes table opened =
-      made_ends state lawful v old mid path d (create_call (segments_of v) path d reached.bytes) piece reached running last some only head takes (λ e. absurd (cc)) n vacant
+      made_ends state lawful v old mid path d (create_call v.log.version (segments_of v) path d reached.bytes) piece reached running last some only head takes (λ e. absurd (cc)) n vacant
       (handle_allowed state lawful v old path d piece reached running last some mid only head takes some_free) new makes table (Handle handle) refl
       (makes_behaves state v _ (Create path) (Handle handle) refl refl refl)
       (λ s version walk handles least_is. (
-      let was : new.handles.numbers.items ≡ v.table = table_was state lawful v old mid path d (create_call (segments_of v) path d reached.bytes) piece reached running last some only head takes (λ e. absurd (cc)) n vacant
+      let was : new.handles.numbers.items ≡ v.table = table_was state lawful v old mid path d (create_call v.log.version (segments_of v) path d reached.bytes) piece reached running last some only head takes (λ e. absurd (cc)) n vacant
       (handle_allowed state lawful v old path d piece reached running last some mid only head takes some_free) new makes table in
       let before : mid.handles.numbers.items ≡ v.table = only.still.table ∙ reached.still.table in
       let is : least_handle s.handles ≡ handle = ap least_handle (handles ∙ ap handles_of (sym before)) ∙ first in
@@ -107,31 +109,35 @@ module _ {D : Type 0} (state : D → DeviceState) (lawful : (d : D) → IsLawful
 module _ {D : Type 0} (state : D → DeviceState) (lawful : (d : D) → IsLawful (state d)) (v : Mounted D) (old mid : Fs D) (path : List ℕ) (d : ℕ) (piece : Option Last)
     (reached : Reaches state v old path d piece) (running : old.store.log.halted ≡ false) (last : Last) (some : piece ≡ Some last) (only : OnlyReads state old mid) (head : Header)
     (takes : TakesEntry state old mid d last.name.now last.slash true head) (few : head.links < 1000) (n : ℕ) (vacant : IsVacant state mid.store.log n) (new : Fs D) where
-  mkdir_unmade : (fault : FsError) → MakesNone state mid new d head n new_directory last.name.now fault → Serves state v (seen new) (Mkdir path) (Refuse (refusal_of fault))
-  mkdir_unmade = unmade_ends state lawful v old mid path d (mkdir_call (segments_of v) path d reached.bytes) piece reached running last some only head takes (λ e. few) n vacant
+  mkdir_unmade : (fault : FsError) → MakesNone state mid new d head n (new_directory (new_form v.log.version)) last.name.now fault → Serves state v (seen new) (Mkdir path) (Refuse (refusal_of fault))
+  mkdir_unmade = unmade_ends state lawful v old mid path d (mkdir_call v.log.version (segments_of v) path d reached.bytes) piece reached running last some only head takes (λ e. few) n vacant
       (links_allowed state lawful v old path d piece reached running last some mid only head takes few) new
 
-  mkdir_made : MakesNew state mid new d head n new_directory last.name.now → Serves state v (seen new) (Mkdir path) Done
+  mkdir_made : MakesNew state mid new d head n (new_directory (new_form v.log.version)) last.name.now → Serves state v (seen new) (Mkdir path) Done
   mkdir_made makes =
-      let was : new.handles.numbers.items ≡ v.table = table_was state lawful v old mid path d (mkdir_call (segments_of v) path d reached.bytes) piece reached running last some only head takes (λ e. few) n vacant
+      let was : new.handles.numbers.items ≡ v.table = table_was state lawful v old mid path d (mkdir_call v.log.version (segments_of v) path d reached.bytes) piece reached running last some only head takes (λ e. few) n vacant
       (links_allowed state lawful v old path d piece reached running last some mid only head takes few) new makes new.handles.numbers.items in
-      made_ends state lawful v old mid path d (mkdir_call (segments_of v) path d reached.bytes) piece reached running last some only head takes (λ e. few) n vacant
+      made_ends state lawful v old mid path d (mkdir_call v.log.version (segments_of v) path d reached.bytes) piece reached running last some only head takes (λ e. few) n vacant
       (links_allowed state lawful v old path d piece reached running last some mid only head takes few) new makes new.handles.numbers.items Done refl
       (write_behaves state v (seen new) (Mkdir path) Done refl was (λ e. cc) (λ never e. absurd (cc)))
       (λ s version walk handles least_is. (refl, handles ∙ ap handles_of (sym was)))
 
-  pub mkdir_ends : (r : Result (Unit {0}) FsError) → OnOk r (MakesNew state mid new d head n new_directory last.name.now) → IfErr r (MakesNone state mid new d head n new_directory last.name.now)
+  same_version : mid.store.log.version ≡ v.log.version
+  same_version = only.still.reads.version ∙ reached.still.reads.version
+
+  pub mkdir_ends : (r : Result (Unit {0}) FsError) → OnOk r (MakesNew state mid new d head n (new_directory (new_form mid.store.log.version)) last.name.now)
+      → IfErr r (MakesNone state mid new d head n (new_directory (new_form mid.store.log.version)) last.name.now)
       → Serves state v (seen new) (Mkdir path) (answer_by (λ _. Done) r)
-  mkdir_ends (Ok u) made none = mkdir_made made
-  mkdir_ends (Err fault) made none = mkdir_unmade fault none
+  mkdir_ends (Ok u) made none = mkdir_made (subst (λ (x : ℕ). MakesNew state mid new d head n (new_directory (new_form x)) last.name.now) same_version made)
+  mkdir_ends (Err fault) made none = mkdir_unmade fault (subst (λ (x : ℕ). MakesNone state mid new d head n (new_directory (new_form x)) last.name.now fault) same_version none)
 
 -- ---- symlink
 
 module _ {D : Type 0} (state : D → DeviceState) (lawful : (d : D) → IsLawful (state d)) (v : Mounted D) (old mid : Fs D) (path : List ℕ) (d : ℕ) (piece : Option Last)
     (reached : Reaches state v old path d piece) (running : old.store.log.halted ≡ false) (last : Last) (some : piece ≡ Some last) (only : OnlyReads state old mid) (head : Header)
     (takes : TakesEntry state old mid d last.name.now last.slash false head) (text : List ℕ) (text_bytes : AreBytes text) (good : text_refusal text ≡ None) (n : ℕ) (vacant : IsVacant state mid.store.log n) (new : Fs D) where
-  abbrev links : NewCall (segments_of v) path d
-  links = symlink_call (segments_of v) path d reached.bytes text text_bytes good
+  abbrev links : NewCall v.log.version (segments_of v) path d
+  links = symlink_call v.log.version (segments_of v) path d reached.bytes text text_bytes good
 
   symlink_unmade : (fault : FsError) → MakesNone state mid new d head n (new_link text) last.name.now fault → Serves state v (seen new) (Symlink text path) (Refuse (refusal_of fault))
   symlink_unmade = unmade_ends state lawful v old mid path d links piece reached running last some only head takes (λ e. absurd (cc)) n vacant (λ k m0 m s keeps is walk. refl) new

@@ -1,5 +1,5 @@
 -- A new object with a name in a directory, from the headers and blocks of the log map to the state after the call.
-use Rattle.std.proofs.Common.{◌≡◌, ◌≢◌, ◌≤◌, ◌+◌, ◌*◌, ◌&&◌, ◌||◌, not, ℕ, Bool, true, false, List, [], length, Option, Some, None, refl, sym, ◌∙◌, ap, subst, ⊎_elim, arith}
+use Rattle.std.proofs.Common.{◌≡◌, ◌≢◌, ◌≤◌, ◌+◌, ◌*◌, ◌%◌, ◌&&◌, ◌||◌, not, ℕ, zero, suc, Bool, true, false, List, [], length, Option, Some, None, refl, sym, ◌∙◌, ap, subst, ⊎_elim, arith}
 use Rattle.std.specs.Prelude.{unwrap_or}
 use Rattle.std.specs.List.{AllByRecursion}
 use Rattle.std.proofs.lemmas.Bool.{cases_eq}
@@ -9,6 +9,7 @@ use Rattle.lfs_model.specs.declared.Kind.TheVariants as kind
 use Rattle.lfs_model.specs.Call.{AreArguments, Call}
 use Rattle.lfs_model.specs.Encodes.{IsLogMap}
 use Rattle.lfs_model.specs.Entry as entry
+use Rattle.lfs_model.specs.Inode.{IsForm}
 use Rattle.lfs_model.specs.Need.{need}
 use Rattle.lfs_model.specs.Objects.{AreLong, IsDirectory, IsObject}
 use Rattle.lfs_model.specs.PathText.{slash}
@@ -16,7 +17,7 @@ use Rattle.lfs_model.specs.Slot.{slot_in}
 use Rattle.lfs_model.specs.Sound.{Sound}
 use Rattle.lfs_model.specs.Stands.{LogMap}
 use Rattle.lfs_model.specs.Step.{is_full, is_long, is_there, last_dots, name, no_last, with_new}
-use Rattle.lfs_model.specs.Tree.{Dir, File, Link, Names, Node, State, Tree, byte_cmp, entry as entry_in, form_of, is_dir, least, links, names_in, names_of, node}
+use Rattle.lfs_model.specs.Tree.{Dir, File, Link, Names, Node, State, Tree, byte_cmp, entry as entry_in, form_of, is_dir, least, links, names_in, names_of, node, slot_len}
 use Rattle.lfs_model.specs.TreeOf.{AreFormed, map_of, node_by, node_of, object, slots, tree_in}
 use Rattle.lfs_model.specs.Walk.{At, Parent}
 use Rattle.lfs_model.proofs.Keeps.{parent_dir}
@@ -33,7 +34,7 @@ use Rattle.lfs_store.specs.memory.Present.{as_header}
 use Rattle.lfs_model.specs.Totals.{IsCounted, TotalsOfTree}
 use Rattle.lfs_store.specs.Making.{relinked}
 use Rattle.lfs_store.specs.Writing.{WritesFile, resized}
-use Rattle.lfs_fs.specs.Naming.{NewKind, kind_of_new, more_links, new_directory, new_file, new_link, text_of_new}
+use Rattle.lfs_fs.specs.Naming.{NewKind, form_of_new, kind_of_new, more_links, new_directory, new_file, new_link, text_of_new}
 use Rattle.lfs_fs.proofs.Changed.{IsFormed, formed_same, long_kept, shape_kept}
 use Rattle.lfs_fs.proofs.EntrySteps.{MakesEntry, new_done, new_node, with_entry}
 use Rattle.lfs_fs.proofs.Files.{IsMapOf, IsShaped, dir_there, need_shaped, node_by_header}
@@ -49,21 +50,25 @@ kind_by_node m n h kind.Link dir = absurd (cc)
 
 new_node_by : (m : LogMap) (n : ℕ) (k : NewKind) → object m n (as_header (new_header k)) ≡ text_of_new k → node_by m (kind_of_new k) n (as_header (new_header k)) ≡ new_node k
 new_node_by m n new_file bytes = ap File bytes
-new_node_by m n new_directory bytes = ap (λ (l : List (List ℕ)). Dir 0 (map_of 0 l)) (no_slots m n)
+new_node_by m n (new_directory form) bytes = ap (λ (l : List (List ℕ)). Dir form (map_of form l)) (no_slots m n form)
 new_node_by m n (new_link text) bytes = ap Link bytes
+
+no_rest : (form : ℕ) → 0 % slot_len form ≡ 0
+no_rest zero = refl
+no_rest (suc form) = refl
 
 blank_directory : (m : LogMap) (n : ℕ) (k : NewKind) → kind_of_new k ≡ kind.Directory → IsDirectory m n (as_header (new_header k))
 blank_directory m n new_file dir = absurd (cc)
-blank_directory m n new_directory dir = record {
-  whole = refl;
-  formed = subst (AllByRecursion (λ b. slot_in 0 b ≢ None)) (sym (no_slots m n)) tt;
-  apart = ap (λ (l : List (List ℕ)). length (map_of 0 l)) (no_slots m n) ∙ sym (ap length (no_slots m n));
+blank_directory m n (new_directory form) dir = record {
+  whole = no_rest form;
+  formed = subst (AllByRecursion (λ b. slot_in form b ≢ None)) (sym (no_slots m n form)) tt;
+  apart = ap (λ (l : List (List ℕ)). length (map_of form l)) (no_slots m n form) ∙ sym (ap length (no_slots m n form));
 }
 blank_directory m n (new_link text) dir = absurd (cc)
 
 -- ---- the object is made, without a name
 
-module _ (N : ℕ) (m m1 : LogMap) (s : State) (is : IsMapOf N m s) (n : ℕ) (in_range : (1 ≤ n) × (n ≤ 4095)) (free : node s.tree n ≡ None) (k : NewKind) (made : IsMade m n k m1) where
+module _ (N : ℕ) (m m1 : LogMap) (s : State) (is : IsMapOf N m s) (n : ℕ) (in_range : (1 ≤ n) × (n ≤ 4095)) (free : node s.tree n ≡ None) (k : NewKind) (known : IsForm s.version (kind_of_new k) (form_of_new k)) (made : IsMade m n k m1) where
   pub not_root : n ≢ 1
   not_root root = let dir = is.log.sound.root in let none : node s.tree 1 ≡ None = ap (node s.tree) (sym root) ∙ free in cc
 
@@ -71,7 +76,7 @@ module _ (N : ℕ) (m m1 : LogMap) (s : State) (is : IsMapOf N m s) (n : ℕ) (i
   header_1 h there = let both : Some (as_header (new_header k)) ≡ Some h = sym made.own ∙ there in cc
 
   new_fits : IsObject m1 n (as_header (new_header k))
-  new_fits = made_object m m1 n k made in_range.0 not_root
+  new_fits = made_object m m1 n k made in_range.0 not_root (subst (λ (v : ℕ). IsForm v (kind_of_new k) (form_of_new k)) is.log.version known)
 
   pub made_map : IsLogMap m1
   made_map = object_kept m m1 n (as_header (new_header k)) is.map made.changed made.own new_fits
@@ -107,8 +112,8 @@ pub record NamesNew (m m1 m' : LogMap) (d n : ℕ) (k : NewKind) (head : Header)
   pub directory : IsDirectory m' d (as_header (resized (relinked head (more_links (kind_of_new k) head.links)) size))
   pub names : map_of head.form (slots m' d (as_header (resized (relinked head (more_links (kind_of_new k) head.links)) size))) ≡ put byte_cmp nm n (map_of head.form (slots m d (as_header head)))
 
-module _ (N : ℕ) (m m1 m' : LogMap) (s : State) (is : IsMapOf N m s) (version : s.version ≡ 1) (p : List ℕ) (d : ℕ) (walk : Parent s.tree p (At d)) (n : ℕ) (first : least s.tree ≡ n) (top : n ≤ 4095)
-    (new : is_there s.tree d p ≡ false) (k : NewKind) (head : Header) (size at : ℕ) (w : List ℕ) (does : NamesNew m m1 m' d n k head size at w (name p)) where
+module _ (N : ℕ) (m m1 m' : LogMap) (s : State) (is : IsMapOf N m s) (p : List ℕ) (d : ℕ) (walk : Parent s.tree p (At d)) (n : ℕ) (first : least s.tree ≡ n) (top : n ≤ 4095)
+    (new : is_there s.tree d p ≡ false) (k : NewKind) (known : IsForm s.version (kind_of_new k) (form_of_new k)) (head : Header) (size at : ℕ) (w : List ℕ) (does : NamesNew m m1 m' d n k head size at w (name p)) where
   -- the directory's header after it
   abbrev head' : Header
   head' = resized (relinked head (more_links (kind_of_new k) head.links)) size
@@ -162,20 +167,20 @@ module _ (N : ℕ) (m m1 m' : LogMap) (s : State) (is : IsMapOf N m s) (version 
   t' = with_new s.tree d p (new_node k)
 
   now_new_tree : node t' (least s.tree) ≡ Some (new_node k)
-  now_new_tree = after_new N s is.log.sound version top_least d dir (name p) absent (new_node k)
+  now_new_tree = after_new N s is.log.sound top_least d dir (name p) absent (new_node k)
 
   now_dir_tree : node t' d ≡ Some (Dir (form_of (node s.tree d)) (put byte_cmp (name p) (least s.tree) (names_in s.tree d)))
-  now_dir_tree = after_dir N s is.log.sound version top_least d dir (name p) absent (new_node k)
+  now_dir_tree = after_dir N s is.log.sound top_least d dir (name p) absent (new_node k)
 
   others_tree : (q : ℕ) → q ≢ least s.tree → q ≢ d → node t' q ≡ node s.tree q
-  others_tree = after_others N s is.log.sound version top_least d dir (name p) absent (new_node k)
+  others_tree = after_others N s is.log.sound top_least d dir (name p) absent (new_node k)
 
-  links_tree : HasLinks N s is.log.sound version top_least d dir (name p) absent k t'
-  links_tree = links_after N s is.log.sound version top_least d dir (name p) absent k
+  links_tree : HasLinks N s is.log.sound top_least d dir (name p) absent k t'
+  links_tree = links_after N s is.log.sound top_least d dir (name p) absent k known
 
   -- and that of the log map
   now_new : node (tree_in m') n ≡ Some (new_node k)
-  now_new = node_elsewhere m1 m' d n does.writes.only other ∙ made_node N m m1 s is n in_range free k does.made
+  now_new = node_elsewhere m1 m' d n does.writes.only other ∙ made_node N m m1 s is n in_range free k known does.made
 
   now_dir : node (tree_in m') d ≡ Some (Dir head.form (put byte_cmp (name p) n old_names))
   now_dir =
@@ -184,7 +189,7 @@ module _ (N : ℕ) (m m1 m' : LogMap) (s : State) (is : IsMapOf N m s) (version 
       ∙ ap (λ (ms : Names). Some (Dir head.form ms)) does.names
 
   now_others : (q : ℕ) → q ≢ n → q ≢ d → node (tree_in m') q ≡ node s.tree q
-  now_others q a b = node_elsewhere m1 m' d q does.writes.only b ∙ made_elsewhere N m m1 s is n in_range free k does.made q a
+  now_others q a b = node_elsewhere m1 m' d q does.writes.only b ∙ made_elsewhere N m m1 s is n in_range free k known does.made q a
 
   dir_same : Some (Dir head.form (put byte_cmp (name p) n old_names)) ≡ Some (Dir (form_of (node s.tree d)) (put byte_cmp (name p) (least s.tree) (names_in s.tree d)))
   dir_same = λ i. Some (Dir (sym form_is i) (put byte_cmp (name p) (sym first i) (sym names_are i)))
@@ -200,14 +205,14 @@ module _ (N : ℕ) (m m1 m' : LogMap) (s : State) (is : IsMapOf N m s) (version 
 
   -- the tree after the call
   pub created_tree : tree_in m' ≡ with_new s.tree d p (new_node k)
-  created_tree = same_trees (tree_in m') t' (in_order m') (after_order N s is.log.sound version top_least d dir (name p) absent (new_node k)) same_nodes
+  created_tree = same_trees (tree_in m') t' (in_order m') (after_order N s is.log.sound top_least d dir (name p) absent (new_node k)) same_nodes
 
   -- ---- the log map after it
   map_1 : IsLogMap m1
-  map_1 = made_map N m m1 s is n in_range free k does.made
+  map_1 = made_map N m m1 s is n in_range free k known does.made
 
   long_1 : (q : ℕ) → AreLong m1 q
-  long_1 = made_long N m m1 s is n in_range free k does.made
+  long_1 = made_long N m m1 s is n in_range free k known does.made
 
   dir_fits_1 : IsObject m1 d (as_header head)
   dir_fits_1 = object_fits m1 d (as_header head) map_1 (long_1 d) there_1 (let grows = does.writes.bytes.size in let most = does.small in omega arith)
@@ -216,6 +221,7 @@ module _ (N : ℕ) (m m1 m' : LogMap) (s : State) (is : IsMapOf N m s) (version 
   dir_fits = record {
     number = in_range_d.0;
     root = λ e. is_directory;
+    form = subst (λ (v : ℕ). IsForm v head.kind head.form) (sym does.writes.only.version) dir_fits_1.form;
     size = does.small;
     whole = does.writes.whole dir_fits_1.whole;
     ends = write_ends m1 m' d (as_header head) (as_header head') map_1 there_1 at w does.writes.bytes;
@@ -229,7 +235,7 @@ module _ (N : ℕ) (m m1 m' : LogMap) (s : State) (is : IsMapOf N m s) (version 
   created_log = object_kept m1 m' d (as_header head') map_1 does.writes.only does.writes.header dir_fits
 
   pub created_shape : IsShaped m → IsShaped m'
-  created_shape shaped = shape_kept m1 m' d does.writes.only (made_shape N m m1 s is n in_range free k does.made shaped) created_log dir_fits.whole.long
+  created_shape shaped = shape_kept m1 m' d does.writes.only (made_shape N m m1 s is n in_range free k known does.made shaped) created_log dir_fits.whole.long
       (λ h there dir. subst (IsDirectory m' d) (header_dir h there) does.directory)
 
   -- and what its tree needs
@@ -240,7 +246,7 @@ module _ (N : ℕ) (m m1 m' : LogMap) (s : State) (is : IsMapOf N m s) (version 
   formed_after q h there dir = ⊎_elim
       (λ (here : q ≡ d).
       subst (λ (x : entry.Header). IsFormed m' q x) (header_dir h (ap m'.header (sym here) ∙ there)) (subst (λ (q : ℕ). IsFormed m' q (as_header head')) (sym here) (does.directory.formed, does.directory.apart)))
-      (λ (ne : q ≡ d → ⊥). formed_same m1 m' d does.writes.only (made_formed N m m1 s is n in_range free k does.made) q h ne there dir)
+      (λ (ne : q ≡ d → ⊥). formed_same m1 m' d does.writes.only (made_formed N m m1 s is n in_range free k known does.made) q h ne there dir)
       (cases_eq q d)
 
   -- links
@@ -274,6 +280,7 @@ module _ (N : ℕ) (m m1 m' : LogMap) (s : State) (is : IsMapOf N m s) (version 
       log = record {
         sound = sound_after;
         is = sym created_tree;
+        version = is.log.version ∙ sym (does.writes.only.version ∙ does.made.changed.version);
         formed = formed_after;
         links = λ q h there. links_at q h there ∙ ap (λ (t : Tree). links t q) (sym created_tree);
       };

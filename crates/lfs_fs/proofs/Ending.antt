@@ -1,7 +1,7 @@
 -- The ends of calls that draft and save, from the records of the store to the call as a step of the model.
 use Rattle.std.proofs.Common.{◌≡◌, ◌≤◌, ◌<◌, ◌^◌, ℕ, Bool, true, false, ◌&&◌, refl, sym, ◌∙◌, ap, subst, inr, arith}
 use Rattle.lfs_model.specs.Call.{Call, Answer, Refuse, commits}
-use Rattle.lfs_model.specs.Checkpoint.{CheckpointValue, layout_of}
+use Rattle.lfs_model.specs.Checkpoint.{CheckpointValue}
 use Rattle.lfs_model.specs.Crash.{StandsForOn}
 use Rattle.lfs_model.specs.Device.{DeviceState, IsLawful, Carries, LeavesOnly}
 use Rattle.lfs_model.specs.Encodes.{IsLogMap}
@@ -11,7 +11,6 @@ use Rattle.lfs_model.specs.Stands.{LogMap}
 use Rattle.lfs_model.specs.Tree.{State, drop_nameless}
 use Rattle.lfs_model.specs.TreeOf.{LeavesOne, dropped}
 use Rattle.lfs_model.specs.Volume.{IsLogOf}
-use Rattle.lfs_model.proofs.Layouts.{one_layout}
 use Rattle.lfs_store.specs.memory.declared.changes.Changes.{Changes}
 use Rattle.lfs_store.specs.memory.Batch.{staged, FitsBatch}
 use Rattle.lfs_store.specs.Accepting.{Accepts, Commits, Declines, Stores, StoresOver}
@@ -55,7 +54,7 @@ module _ {D : Type 0} (state : D → DeviceState) where
       pub next : State
       pub runs : Runs state new next
       pub steps : StepsOr (segments_of old) call p a (point_of state new next)
-      pub moment : LeavesOnly (state old.log.device) (state new.log.device) (StandsForOn (layout_of k) m0 (dropped m))
+      pub moment : LeavesOnly (state old.log.device) (state new.log.device) (StandsForOn k.segments m0 (dropped m))
       pub saves : acknowledges call a ≡ true → LeavesOne (state new.log.device) (drop_nameless next)
 
     pub runs_on : (a : Answer) → (a ≡ Refuse Halted → ⊥) → Behaves state old new call a → new.log.halted ≡ false
@@ -80,7 +79,7 @@ module _ {D : Type 0} (state : D → DeviceState) where
         pub next : State
         pub fits : FitsBatch m c
         pub map : IsMapOf (segments_of old) (staged c m) next
-        pub version : next.version ≡ 1
+        pub version : next.version ≡ p.state.version
         pub handles : next.handles ≡ handles_of new.table
         pub counted : IsCounted (staged c m) new.blocks new.others
         pub steps : StepsOr (segments_of old) call p a (point_of state new next)
@@ -98,7 +97,7 @@ module _ {D : Type 0} (state : D → DeviceState) where
 
     -- ---- a commit is done
     module _ (rest : IsRest old new) (done : Commits state old.log old.saved new.log) (saved : new.saved ≡ true) where
-      over : (k : CheckpointValue) (m0 m : LogMap) → (state new.log.device).keeps_model → (stores : Stores state old.log old.saved k m0 m) → IsLogMap (dropped m) → StoresOver state (layout_of k) m0 m new.log new.saved m
+      over : (k : CheckpointValue) (m0 m : LogMap) → (state new.log.device).keeps_model → (stores : Stores state old.log old.saved k m0 m) → IsLogMap (dropped m) → StoresOver state k.segments m0 m new.log new.saved m
       over k m0 m keeps stores log =
           let next = done.stores k m0 m keeps stores log in
           let before = stores.holds.log.segments in
@@ -107,19 +106,19 @@ module _ {D : Type 0} (state : D → DeviceState) where
             checkpoint = next.0;
             acknowledged = dropped m;
             either = inr refl;
-            same = one_layout k next.0 (sym now ∙ done.segments ∙ before) refl;
+            same = sym now ∙ done.segments ∙ before;
             stores = subst (λ (b : Bool). Stores state new.log b next.0 (dropped m) m) (sym saved) next.1;
           }
 
       -- what a stop leaves then is the state without its nodes of no name
       left_one : (k : CheckpointValue) (m0 m : LogMap) (s : State) → IsIn state old k m0 m s → (state new.log.device).keeps_model → IsLogMap (dropped m) → LeavesOne (state new.log.device) (drop_nameless s)
-      left_one k m0 m s is keeps log c left = stands_dropped (layout_of k) c m s (subst (λ (n : ℕ). IsLogOf n m s) is.stores.holds.log.segments is.log) is.version (done.left k m0 m keeps is.stores log c left)
+      left_one k m0 m s is keeps log c left = stands_dropped k.segments c m s (subst (λ (n : ℕ). IsLogOf n m s) is.stores.holds.log.segments is.log) (done.left k m0 m keeps is.stores log c left)
 
       pub commits_by : (a : Answer) → (a ≡ Refuse Halted → ⊥) → Behaves state old new call a → ((p : Point) → (state new.log.device).keeps_model → IsAt state old p → StepsOr (segments_of old) call p a (point_of state new p.state)) → Serves state old new call a
       commits_by a fine behaves each = runs_on a fine behaves done.running (λ p keeps at k m0 m is. (
           let log = map_dropped state old new keeps lawful after carries k m0 m p.state is in record {
             next = p.state;
-            runs = runs_over state old new k m0 m p.state is m p.state (over k m0 m keeps is.stores log) segments (map_of_volume state old k m0 m p.state is) is.version
+            runs = runs_over state old new k m0 m p.state is m p.state (over k m0 m keeps is.stores log) segments (map_of_volume state old k m0 m p.state is) refl
                 (is.handles ∙ ap handles_of (sym rest.table)) (counted_still old new m rest is.counted) (λ e. absurd (let s = saved in cc));
             steps = each p keeps at;
             moment = done.moment k m0 m keeps is.stores log;
@@ -137,7 +136,7 @@ module _ {D : Type 0} (state : D → DeviceState) where
           let both = each p keeps at k m0 m is in
           let log = map_dropped state old new keeps lawful after carries k m0 m p.state is in record {
             next = p.state;
-            runs = runs_over state old new k m0 m p.state is m p.state (declines.stores k m0 m keeps is.stores both.0 log) segments (map_of_volume state old k m0 m p.state is) is.version
+            runs = runs_over state old new k m0 m p.state is m p.state (declines.stores k m0 m keeps is.stores both.0 log) segments (map_of_volume state old k m0 m p.state is) refl
                 (is.handles ∙ ap handles_of (sym rest.table)) (counted_still old new m rest is.counted)
                 (λ e. (declines.saves.ready (λ f. (is.ready f).0) e, (let o = declines.saves.few in let size = segments in omega (arith, o, low, size))));
             steps = both.1;

@@ -1,12 +1,14 @@
 -- The calls that make a new entry of a directory, exit by exit.
-use Rattle.std.proofs.Common.{◌≡◌, ◌<◌, ◌≤◌, ◌*◌, ◌-◌, ℕ, Bool, true, false, not, ◌&&◌, ◌||◌, List, [], ◌∷◌, ◌++◌, length, Option, None, refl, ◌∙◌, ap, arith, nat_lt, nat_le}
+use Rattle.std.proofs.Common.{◌≡◌, ◌<◌, ◌≤◌, ◌*◌, ◌-◌, ℕ, Bool, true, false, not, ◌&&◌, ◌||◌, List, [], ◌∷◌, ◌++◌, length, Option, None, refl, sym, ◌∙◌, ap, subst, ⊎_elim, arith, nat_lt, nat_le}
 use Rattle.std.specs.Prelude.{option_map, unwrap_or}
 use Rattle.std.specs.Ordering.{nat_cmp}
 use Rattle.std.specs.FinMap.{put}
 use Rattle.lfs_model.specs.declared.Kind.TheVariants as kinds
 use Rattle.lfs_model.specs.Bytes.{AreBytes}
 use Rattle.lfs_model.specs.Call.{Answer, AreArguments, Call, Create, Done, Handle, Mkdir, Refuse, Symlink, changes, cleans, commits, is_ok, takes_no_memory}
-use Rattle.lfs_model.specs.Inode.{IsSize}
+use Rattle.lfs_model.specs.Checkpoint.{IsVersion}
+use Rattle.lfs_model.specs.Image.{new_form}
+use Rattle.lfs_model.specs.Inode.{IsForm, IsSize}
 use Rattle.lfs_model.specs.Need.{need}
 use Rattle.lfs_model.specs.PathText.{slash, text_refusal}
 use Rattle.lfs_model.specs.Refusal.{Refusal, NoEntry, NoNumber, NoSpace, TooManyLinks, TooManyOpen}
@@ -16,14 +18,14 @@ use Rattle.lfs_model.specs.Walk.{At, Parent}
 use Rattle.lfs_store.specs.Making.{first_links}
 use Rattle.lfs_store.specs.memory.Changing.{FitsHeader}
 use Rattle.lfs_model.proofs.Keeps.{good_text}
-use Rattle.lfs_fs.specs.Naming.{NewKind, kind_of_new, new_directory, new_file, new_link, text_of_new}
+use Rattle.lfs_fs.specs.Naming.{NewKind, form_of_new, kind_of_new, new_directory, new_file, new_link, text_of_new}
 use Rattle.lfs_fs.proofs.Checks.{below, not_below, passes, refuses}
 use Rattle.lfs_fs.proofs.NewEntrySteps.{ChecksNew, new_taken, step_new}
 
 -- a new object of a kind
 abbrev pub new_node : NewKind → Node
 new_node new_file = File []
-new_node new_directory = Dir 0 []
+new_node (new_directory form) = Dir form []
 new_node (new_link text) = Link text
 
 -- A call that makes an object of this kind under the last piece of a path, in directory d. What refuses it is the rule of a new entry, then a
@@ -52,8 +54,8 @@ module _ (N : ℕ) (s : State) (p : List ℕ) (d : ℕ) (walk : Parent s.tree p 
     is = refl;
   }
 
-  abbrev pub mkdir_makes : s.version ≡ 1 → MakesEntry N s p d (Mkdir p) new_directory true
-  mkdir_makes version = record {
+  abbrev pub mkdir_makes : (version : ℕ) → s.version ≡ version → MakesEntry N s p d (Mkdir p) (new_directory (new_form version)) true
+  mkdir_makes version same = record {
     own = nat_le 1000 (links s.tree d);
     why = TooManyLinks;
     answer = Done;
@@ -62,7 +64,7 @@ module _ (N : ℕ) (s : State) (p : List ℕ) (d : ℕ) (walk : Parent s.tree p 
     second = refl;
     ok = refl;
     is = ap (λ (v : ℕ). checked s (new_entry s.tree d p true ++ when (nat_le 1000 (links s.tree d)) TooManyLinks ∷ no_number s.tree ∷ no_space N (with_new s.tree d p (Dir (v - 1) [])) ∷ [])
-        (Done, with_tree s (with_new s.tree d p (Dir (v - 1) [])))) version;
+        (Done, with_tree s (with_new s.tree d p (Dir (v - 1) [])))) same;
   }
 
   -- a text that isn't refused passes
@@ -81,14 +83,15 @@ module _ (N : ℕ) (s : State) (p : List ℕ) (d : ℕ) (walk : Parent s.tree p 
     is = ap (λ (l : List (Bool × Answer)). checked s l (makes_link N s text p d)) (text_passes text good);
   }
 
--- The same in each state of a volume.
-pub record NewCall (N : ℕ) (p : List ℕ) (d : ℕ) : Type 0 where
+-- The same in each state of a volume of this version.
+pub record NewCall (version N : ℕ) (p : List ℕ) (d : ℕ) : Type 0 where
   pub call : Call
   pub kind : NewKind
   pub is_mkdir : Bool
-  pub makes : (s : State) → s.version ≡ 1 → Parent s.tree p (At d) → MakesEntry N s p d call kind is_mkdir
+  pub makes : (s : State) → s.version ≡ version → Parent s.tree p (At d) → MakesEntry N s p d call kind is_mkdir
   pub arguments : AreArguments call
-  pub sized : FitsHeader (kind_of_new kind) 0 (first_links (kind_of_new kind)) (length (text_of_new kind))
+  pub known : IsVersion version → IsForm version (kind_of_new kind) (form_of_new kind)
+  pub sized : IsVersion version → FitsHeader (kind_of_new kind) (form_of_new kind) (first_links (kind_of_new kind)) (length (text_of_new kind))
   pub short : length (text_of_new kind) ≤ 1023
   pub changing : changes call ≡ true
   pub uncommitted : commits call ≡ false
@@ -104,22 +107,32 @@ pub file_sized : FitsHeader kinds.File 0 1 0
 unfolding IsSize
 file_sized = record { known = tt; links_few = omega arith; size_fits = omega arith }
 
-pub directory_sized : FitsHeader kinds.Directory 0 2 0
+pub directory_form : (version : ℕ) → IsVersion version → IsForm version kinds.Directory (new_form version)
+directory_form version known = ⊎_elim
+    (λ (e : version ≡ 1). subst (λ (v : ℕ). IsForm v kinds.Directory (new_form v)) (sym e) tt)
+    (λ (e : version ≡ 2). subst (λ (v : ℕ). IsForm v kinds.Directory (new_form v)) (sym e) (omega arith))
+    known
+
+pub directory_sized : (version : ℕ) → IsVersion version → FitsHeader kinds.Directory (new_form version) 2 0
 unfolding IsSize
-directory_sized = record { known = tt; links_few = omega arith; size_fits = (refl, omega arith) }
+directory_sized version known = ⊎_elim
+    (λ (e : version ≡ 1). subst (λ (v : ℕ). FitsHeader kinds.Directory (new_form v) 2 0) (sym e) record { known = tt; links_few = omega arith; size_fits = (refl, omega arith) })
+    (λ (e : version ≡ 2). subst (λ (v : ℕ). FitsHeader kinds.Directory (new_form v) 2 0) (sym e) record { known = omega arith; links_few = omega arith; size_fits = (refl, omega arith) })
+    known
 
 pub link_sized : (size : ℕ) → 1 ≤ size → size ≤ 1023 → FitsHeader kinds.Link 0 1 size
 unfolding IsSize
 link_sized size some few = record { known = tt; links_few = omega arith; size_fits = (some, few) }
 
-abbrev pub create_call : (N : ℕ) (p : List ℕ) (d : ℕ) → AreBytes p → NewCall N p d
-create_call N p d bytes = record {
+abbrev pub create_call : (version N : ℕ) (p : List ℕ) (d : ℕ) → AreBytes p → NewCall version N p d
+create_call version N p d bytes = record {
   call = Create p;
   kind = new_file;
   is_mkdir = false;
-  makes = λ s version walk. create_makes N s p d walk;
+  makes = λ s same walk. create_makes N s p d walk;
   arguments = bytes;
-  sized = file_sized;
+  known = λ v. tt;
+  sized = λ v. file_sized;
   short = none_short;
   changing = refl;
   uncommitted = refl;
@@ -127,14 +140,15 @@ create_call N p d bytes = record {
   remembering = refl;
 }
 
-abbrev pub mkdir_call : (N : ℕ) (p : List ℕ) (d : ℕ) → AreBytes p → NewCall N p d
-mkdir_call N p d bytes = record {
+abbrev pub mkdir_call : (version N : ℕ) (p : List ℕ) (d : ℕ) → AreBytes p → NewCall version N p d
+mkdir_call version N p d bytes = record {
   call = Mkdir p;
-  kind = new_directory;
+  kind = new_directory (new_form version);
   is_mkdir = true;
-  makes = λ s version walk. mkdir_makes N s p d walk version;
+  makes = λ s same walk. mkdir_makes N s p d walk version same;
   arguments = bytes;
-  sized = directory_sized;
+  known = directory_form version;
+  sized = directory_sized version;
   short = none_short;
   changing = refl;
   uncommitted = refl;
@@ -142,14 +156,15 @@ mkdir_call N p d bytes = record {
   remembering = refl;
 }
 
-abbrev pub symlink_call : (N : ℕ) (p : List ℕ) (d : ℕ) → AreBytes p → (text : List ℕ) → AreBytes text → text_refusal text ≡ None → NewCall N p d
-symlink_call N p d bytes text text_bytes good = record {
+abbrev pub symlink_call : (version N : ℕ) (p : List ℕ) (d : ℕ) → AreBytes p → (text : List ℕ) → AreBytes text → text_refusal text ≡ None → NewCall version N p d
+symlink_call version N p d bytes text text_bytes good = record {
   call = Symlink text p;
   kind = new_link text;
   is_mkdir = false;
-  makes = λ s version walk. symlink_makes N s p d walk text good;
+  makes = λ s same walk. symlink_makes N s p d walk text good;
   arguments = (text_bytes, bytes);
-  sized = (let long = good_text text good in link_sized (length text) (omega (arith, long.1)) long.2);
+  known = λ v. tt;
+  sized = λ v. (let long = good_text text good in link_sized (length text) (omega (arith, long.1)) long.2);
   short = (good_text text good).2;
   changing = refl;
   uncommitted = refl;

@@ -11,8 +11,8 @@ use Rattle.lfs_store.specs.memory.Present.{as_header}
 use Rattle.lfs_fs.proofs.Slots.{whole_less, whole_more}
 
 -- the form of what a volume has
-pub known_form : (n : ℕ) (head : Header) → IsHeaderOf n (as_header head) → IsForm 1 head.kind head.form
-known_form n head fits = subst (λ (f : ℕ). IsForm 1 head.kind f) (sym fits.form) tt
+pub known_form : (n : ℕ) (head : Header) → IsHeaderOf n (as_header head) → IsForm 2 head.kind head.form
+known_form n head fits = fits.form
 
 -- a file of another size
 pub file_fits : (n : ℕ) (head : Header) → IsHeaderOf n (as_header head) → head.kind ≡ kind.File → (size : ℕ) → size ≤ 8511488 → FitsHeader head.kind head.form head.links size

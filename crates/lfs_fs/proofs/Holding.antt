@@ -1,7 +1,7 @@
 -- What a mounted volume's log map is, how a volume that runs on is put together again after a call, and what an open leaves.
-use Rattle.std.proofs.Common.{◌≡◌, ◌⊎◌, ◌≤◌, ◌<◌, ◌+◌, ◌/◌, ◌^◌, ℕ, true, false, List, Some, sym, subst, ⊎_elim}
+use Rattle.std.proofs.Common.{◌≡◌, ◌⊎◌, ◌≤◌, ◌<◌, ◌+◌, ◌/◌, ◌^◌, ℕ, true, false, List, Some, sym, ◌∙◌, ap, subst, ⊎_elim}
 use Rattle.lfs_model.specs.Call.{Handle}
-use Rattle.lfs_model.specs.Checkpoint.{CheckpointValue, layout_of}
+use Rattle.lfs_model.specs.Checkpoint.{CheckpointValue, IsVersion}
 use Rattle.lfs_model.specs.Device.{DeviceState}
 use Rattle.lfs_model.specs.Entry.{Header}
 use Rattle.lfs_model.specs.Objects.{IsHeaderOf}
@@ -30,6 +30,13 @@ module _ {D : Type 0} (state : D → DeviceState) (v : Mounted D) (k : Checkpoin
     log = is.log;
   }
 
+  -- the version that the log has
+  pub version_of_volume : s.version ≡ v.log.version
+  version_of_volume = is.log.version ∙ is.stores.holds.version
+
+  pub known_version : IsVersion v.log.version
+  known_version = subst IsVersion version_of_volume is.log.sound.version
+
   -- its headers are those of inodes
   pub headers_of_volume : (n : ℕ) (h : Header) → m.header n ≡ Some h → IsHeaderOf n h
   headers_of_volume = let running = is.stores.holds.log.running in laid_headers (state v.log.device).content m running.memory _ running.laid
@@ -47,8 +54,15 @@ module _ {D : Type 0} (state : D → DeviceState) (old new : Mounted D) (k : Che
       (λ (e : next ≡ dropped m). subst (IsTree (segments_of old)) (sym e) (dropped_tree (segments_of old) m s is.log).tree)
       either
 
-  pub runs_over : (m' : LogMap) (next : State) → StoresOver state (layout_of k) m0 m new.log new.saved m' → segments_of new ≡ segments_of old → IsMapOf (segments_of old) m' next
-      → next.version ≡ 1 → next.handles ≡ handles_of new.table → IsCounted m' new.blocks new.others → (new.saved ≡ false → HasClean new.log × (new.log.number ≤ 2 ^ 62 + segments_of new / 8)) → Runs state new next
+  -- and has the version of the state
+  saved_version : (next : LogMap) → (next ≡ m0) ⊎ (next ≡ dropped m) → next.version ≡ s.version
+  saved_version next either = ⊎_elim
+      (λ (e : next ≡ m0). ap (λ (x : LogMap). x.version) e ∙ is.stores.holds.log.running.settled.stands.holds.version ∙ sym is.version)
+      (λ (e : next ≡ dropped m). ap (λ (x : LogMap). x.version) e ∙ sym is.log.version)
+      either
+
+  pub runs_over : (m' : LogMap) (next : State) → StoresOver state k.segments m0 m new.log new.saved m' → segments_of new ≡ segments_of old → IsMapOf (segments_of old) m' next
+      → next.version ≡ s.version → next.handles ≡ handles_of new.table → IsCounted m' new.blocks new.others → (new.saved ≡ false → HasClean new.log × (new.log.number ≤ 2 ^ 62 + segments_of new / 8)) → Runs state new next
   runs_over m' next over same map version handles counted ready = record {
     checkpoint = over.checkpoint;
     saved = over.acknowledged;
@@ -57,7 +71,7 @@ module _ {D : Type 0} (state : D → DeviceState) (old new : Mounted D) (k : Che
       stores = over.stores;
       map = map.map;
       log = (subst (λ (n : ℕ). IsMapOf n m' next) (sym same) map).log;
-      version = version;
+      version = version ∙ sym (saved_version over.acknowledged over.either) ∙ over.stores.holds.log.running.settled.stands.holds.version;
       handles = handles;
       counted = counted;
       acknowledged = subst (λ (n : ℕ). IsTree n over.acknowledged) (sym same) (saved_tree over.acknowledged over.either);
@@ -76,6 +90,7 @@ opened_map N m s is p n walk file some = record {
   log = record {
     sound = open_keeps N s (with_handle N s p n walk) p (Handle (least_handle s.handles)) is.log.sound (open_file N s p n walk file some);
     is = is.log.is;
+    version = is.log.version;
     formed = is.log.formed;
     links = is.log.links;
   };

@@ -153,7 +153,7 @@ module _ (N : ℕ) (m : LogMap) (s : State) (is : IsMapOf N m s) (d : ℕ) (dir 
               behind = λ p le. writes.bytes.bytes.behind p le ∙ byte_2 p;
             };
           };
-          only = record { headers = λ q ne. writes.only.headers q ne ∙ linked.others q ne; blocks = λ q i ne. writes.only.blocks q i ne ∙ linked.block q i };
+          only = record { headers = λ q ne. writes.only.headers q ne ∙ linked.others q ne; blocks = λ q i ne. writes.only.blocks q i ne ∙ linked.block q i; version = writes.only.version ∙ linked.version };
           whole = λ whole. writes.whole (whole_2 whole);
           header = writes.header;
         }

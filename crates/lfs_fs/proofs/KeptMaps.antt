@@ -6,6 +6,8 @@ use Rattle.std.specs.List.{AllByRecursion, range_with_len}
 use Rattle.std.specs.FinMap.{put}
 use Rattle.std.proofs.lemmas.Bool.{cases_eq, eq-eqb}
 use Rattle.std.specs.Ordering.{nat_cmp}
+use Rattle.lfs_model.specs.declared.Kind.{Kind}
+use Rattle.lfs_model.specs.Inode.{IsForm}
 use Rattle.lfs_model.specs.declared.Kind.TheVariants as kind
 use Rattle.lfs_model.specs.Changing.{IsWithHeader}
 use Rattle.lfs_model.specs.Cutting.{IsWithoutFile}
@@ -49,14 +51,15 @@ shifts_joined m mid m' less more less' more' first next k g' at =
     (two.0, two.1, omega (arith, e, f))
 
 -- a log map with the tree and the links of a state
-pub map_by : {N : ℕ} {m : LogMap} {s : State} → IsShaped m → Sound N s → tree_in m ≡ s.tree
+pub map_by : {N : ℕ} {m : LogMap} {s : State} → IsShaped m → Sound N s → s.version ≡ m.version → tree_in m ≡ s.tree
     → ((k : ℕ) (g : entry.Header) → m.header k ≡ Some g → g.links ≡ links s.tree k) → IsMapOf N m s
-map_by shaped sound tree links_are = record {
+map_by shaped sound version tree links_are = record {
   map = shaped.map;
   long = shaped.long;
   log = record {
     sound = sound;
     is = sym tree;
+    version = version;
     formed = λ k g at dir. (let d = shaped.directories k g at dir in (d.formed, d.apart));
     links = λ k g at. links_are k g at ∙ ap (λ (t : Tree). links t k) (sym tree);
   };
@@ -124,6 +127,7 @@ module _ (m m' : LogMap) (k : ℕ) (h : entry.Header) (l : ℕ) (kept : IsShaped
   fits = record {
     number = was.number;
     root = was.root;
+    form = subst (λ (v : ℕ). IsForm v h.kind h.form) (sym made.version) was.form;
     size = small;
     whole = record {
       long = now_long;
@@ -254,6 +258,9 @@ module _ (m m' : LogMap) (d n : ℕ) (head head' : Header) (at : ℕ) (w nm : Li
   written_object = record {
     number = has.number.0;
     root = λ e. is_dir;
+    form = subst (λ (v : ℕ). IsForm v head'.kind head'.form) (sym writes.only.version)
+        (subst (λ (f : ℕ). IsForm m.version head'.kind f) (sym form)
+        (subst (λ (k : Kind). IsForm m.version k head.form) (has.kind ∙ sym is_dir) holder_object.form));
     size = small;
     whole = writes.whole holder_object.whole;
     ends = write_ends m m' d (as_header head) (as_header head')

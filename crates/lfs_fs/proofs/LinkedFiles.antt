@@ -135,4 +135,5 @@ module _ {N : ℕ} {m : LogMap} {s : State} {a b : List ℕ} {da d n : ℕ} {hea
       -- the volume's log map after the call
       pub linked_map : Sound N (with_tree s (linked N s a b n d))
           → IsMapOf N m' (with_tree s (linked N s a b n d))
-      linked_map sound = map_by linked_shape sound linked_tree linked_links
+      linked_map sound = map_by linked_shape sound
+          (is.log.version ∙ sym (writes.only.version ∙ made.version)) linked_tree linked_links

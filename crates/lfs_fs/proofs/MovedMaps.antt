@@ -97,6 +97,7 @@ module _ (m m' : LogMap) (d : ℕ) (head : Header) (l : ℕ) (kept : IsShaped m)
         own = has.there ∙ ap (λ (l : ℕ). Some (as_header (relinked head l))) (sym same.0);
         others = λ k ne. refl;
         block = λ k i. refl;
+        version = refl;
       })
       (λ (made : IsWithHeader m d (Some (as_header (relinked head l))) m'). made)
       relinks

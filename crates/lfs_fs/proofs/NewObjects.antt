@@ -1,5 +1,5 @@
 -- A new object without a name: a file or a directory without a byte, or a link with its text, from the draft to the log map.
-use Rattle.std.proofs.Common.{◌≡◌, ◌≢◌, ◌<◌, ◌≤◌, ◌+◌, ◌/◌, ◌%◌, ℕ, List, [], length, Some, None, refl, sym, ◌∙◌, ap, subst, ⊎_elim, arith, slice_index, false}
+use Rattle.std.proofs.Common.{◌≡◌, ◌≢◌, ◌<◌, ◌≤◌, ◌+◌, ◌/◌, ◌%◌, ℕ, zero, suc, List, [], length, Some, None, refl, sym, ◌∙◌, ap, subst, ⊎_elim, arith, slice_index, false}
 use Rattle.std.specs.Prelude.{max}
 use Rattle.std.proofs.lemmas.Bool.{cases_lt}
 use Rattle.std.proofs.lemmas.List.{nil_from_length}
@@ -10,6 +10,7 @@ use Rattle.lfs_model.specs.Checkpoint.{CheckpointValue}
 use Rattle.lfs_model.specs.Device.{DeviceState}
 use Rattle.lfs_model.specs.Encodes.{HasData, IsLogMap}
 use Rattle.lfs_model.specs.Entry.{Inode}
+use Rattle.lfs_model.specs.Inode.{IsForm}
 use Rattle.lfs_model.specs.Objects.{AreStoredWhole, IsChangedAt, IsObject, byte_in}
 use Rattle.lfs_model.specs.Stands.{LogMap}
 use Rattle.lfs_model.specs.TreeOf.{object, slots}
@@ -31,17 +32,17 @@ use Rattle.lfs_store.specs.Recounting.{AreTotals}
 use Rattle.lfs_store.specs.Writing.{WritesFile, resized}
 use Rattle.lfs_store.proofs.Apart.{nothing_apart}
 use Rattle.lfs_store.proofs.Writings.{header_put}
-use Rattle.lfs_fs.specs.Naming.{DraftsObject, NewKind, kind_of_new, new_directory, new_file, new_kind, new_link, text_of_new}
+use Rattle.lfs_fs.specs.Naming.{DraftsObject, NewKind, form_of_new, kind_of_new, new_directory, new_file, new_kind, new_link, text_of_new}
 
 -- the kind of an object, told with its text, is its kind
-pub kind_back : (k : Kind) (text : List ℕ) → kind_of_new (new_kind k text) ≡ k
-kind_back kind.File text = refl
-kind_back kind.Directory text = refl
-kind_back kind.Link text = refl
+pub kind_back : (version : ℕ) (k : Kind) (text : List ℕ) → kind_of_new (new_kind version k text) ≡ k
+kind_back version kind.File text = refl
+kind_back version kind.Directory text = refl
+kind_back version kind.Link text = refl
 
 -- its first header
 abbrev pub new_header : NewKind → Header
-new_header k = first_header (kind_of_new k) (length (text_of_new k))
+new_header k = first_header (kind_of_new k) (form_of_new k) (length (text_of_new k))
 
 -- Object n, which wasn't there, is made with its bytes, and without a name.
 pub record IsMade (m : LogMap) (n : ℕ) (k : NewKind) (m1 : LogMap) : Type 0 where
@@ -53,15 +54,17 @@ pub record IsMade (m : LogMap) (n : ℕ) (k : NewKind) (m1 : LogMap) : Type 0 wh
   pub ends : (p : ℕ) → length (text_of_new k) ≤ p → byte_in m1 n p ≡ 0
 
 -- a directory without a byte has no slot
-pub no_slots : (m : LogMap) (n : ℕ) → slots m n (as_header (first_header kind.Directory 0)) ≡ []
+pub no_slots : (m : LogMap) (n form : ℕ) → slots m n (as_header (first_header kind.Directory form 0)) ≡ []
 unfolding slots
-no_slots m n = refl
+no_slots m n zero = refl
+no_slots m n (suc form) = refl
 
-module _ (m m1 : LogMap) (n : ℕ) (k : NewKind) (made : IsMade m n k m1) (some : 1 ≤ n) (not_root : n ≢ 1) where
+module _ (m m1 : LogMap) (n : ℕ) (k : NewKind) (made : IsMade m n k m1) (some : 1 ≤ n) (not_root : n ≢ 1) (formed : IsForm m.version (kind_of_new k) (form_of_new k)) where
   pub made_object : IsObject m1 n (as_header (new_header k))
   made_object = record {
     number = some;
     root = λ e. absurd (not_root e);
+    form = subst (λ (v : ℕ). IsForm v (kind_of_new k) (form_of_new k)) (sym made.changed.version) formed;
     size = made.small;
     whole = made.whole;
     ends = made.ends;
@@ -96,35 +99,35 @@ none_small : 0 ≤ 8511488
 none_small = omega arith
 
 -- a file or a directory without a byte
-no_bytes : (m : LogMap) (n : ℕ) (k : Kind) → object m n (as_header (first_header k 0)) ≡ []
+no_bytes : (m : LogMap) (n : ℕ) (k : Kind) (form : ℕ) → object m n (as_header (first_header k form 0)) ≡ []
 unfolding object
-no_bytes m n k = refl
+no_bytes m n k form = refl
 
 module _ (m m1 : LogMap) (log : IsLogMap m) (n : ℕ) (free : m.header n ≡ None) where
-  file_made : IsWithHeader m n (Some (as_header (first_header kind.File 0))) m1 → IsMade m n new_file m1
+  file_made : IsWithHeader m n (Some (as_header (first_header kind.File 0 0))) m1 → IsMade m n new_file m1
   file_made with_it = record {
     own = with_it.own;
-    changed = header_changed m m1 log n free (first_header kind.File 0) with_it;
-    bytes = no_bytes m1 n kind.File;
+    changed = header_changed m m1 log n free (first_header kind.File 0 0) with_it;
+    bytes = no_bytes m1 n kind.File 0;
     small = none_small;
-    whole = blank_whole m m1 log n free (first_header kind.File 0) with_it;
-    ends = λ p le. blank_byte m m1 log n free (first_header kind.File 0) with_it p;
+    whole = blank_whole m m1 log n free (first_header kind.File 0 0) with_it;
+    ends = λ p le. blank_byte m m1 log n free (first_header kind.File 0 0) with_it p;
   }
 
-  directory_made : IsWithHeader m n (Some (as_header (first_header kind.Directory 0))) m1 → IsMade m n new_directory m1
-  directory_made with_it = record {
+  directory_made : (form : ℕ) → IsWithHeader m n (Some (as_header (first_header kind.Directory form 0))) m1 → IsMade m n (new_directory form) m1
+  directory_made form with_it = record {
     own = with_it.own;
-    changed = header_changed m m1 log n free (first_header kind.Directory 0) with_it;
-    bytes = no_bytes m1 n kind.Directory;
+    changed = header_changed m m1 log n free (first_header kind.Directory form 0) with_it;
+    bytes = no_bytes m1 n kind.Directory form;
     small = none_small;
-    whole = blank_whole m m1 log n free (first_header kind.Directory 0) with_it;
-    ends = λ p le. blank_byte m m1 log n free (first_header kind.Directory 0) with_it p;
+    whole = blank_whole m m1 log n free (first_header kind.Directory form 0) with_it;
+    ends = λ p le. blank_byte m m1 log n free (first_header kind.Directory form 0) with_it p;
   }
 
 -- a link whose text is laid over its zeros
 module _ (m blank m1 : LogMap) (log : IsLogMap m) (n : ℕ) (free : m.header n ≡ None) (text : List ℕ) (short : length text ≤ 1023) where
   abbrev h : Header
-  h = first_header kind.Link (length text)
+  h = first_header kind.Link 0 (length text)
 
   link_made : IsWithHeader m n (Some (as_header h)) blank → WritesFile blank m1 n h (resized h (max (length text) (0 + length text))) 0 text → IsMade m n (new_link text) m1
   link_made with_it writes = record {
@@ -132,6 +135,7 @@ module _ (m blank m1 : LogMap) (log : IsLogMap m) (n : ℕ) (free : m.header n �
     changed = record {
       headers = λ q ne. writes.only.headers q ne ∙ (header_changed m blank log n free h with_it).headers q ne;
       blocks = λ q i ne. writes.only.blocks q i ne ∙ (header_changed m blank log n free h with_it).blocks q i ne;
+      version = writes.only.version ∙ with_it.version;
     };
     bytes = object_is m1 n (as_header h) text refl (λ p lt. ap (byte_in m1 n) (from_start p) ∙ writes.bytes.bytes.inside p lt);
     small = few;
@@ -154,7 +158,7 @@ module _ {D : Type 0} (state : D → DeviceState) where
   -- a log that is read after the draft
   pub object_later : (h h' h'' : Held D) (c c' : Changes) (t t' : BlockTotals) (n : ℕ) (k : NewKind) → Reads state h' h'' → DraftsObject state h h' c c' t t' n k → DraftsObject state h h'' c c' t t' n k
   object_later h h' h'' c c' t t' n new_file reads drafts = drafts
-  object_later h h' h'' c c' t t' n new_directory reads drafts = drafts
+  object_later h h' h'' c c' t t' n (new_directory form) reads drafts = drafts
   object_later h h' h'' c c' t t' n (new_link text) reads drafts = record {
     blank = drafts.blank;
     half = drafts.half;
@@ -184,37 +188,37 @@ module _ {D : Type 0} (state : D → DeviceState) where
 
     pub object_loss : (kd : NewKind) → DraftsObject state h h' c c' t t' n kd → c'.loss ≡ Nothing
     object_loss new_file drafts = drafts.makes.loss ∙ empty.loss
-    object_loss new_directory drafts = drafts.makes.loss ∙ empty.loss
+    object_loss (new_directory form) drafts = drafts.makes.loss ∙ empty.loss
     object_loss (new_link text) drafts = drafts.writes.loss ∙ drafts.makes.loss ∙ empty.loss
 
     -- where the device keeps the model
     module _ (keeps : (state h'.device).keeps_model) where
       pub object_made : (kd : NewKind) → length (text_of_new kd) ≤ 1023 → DraftsObject state h h' c c' t t' n kd → IsMade m n kd (staged c' m)
-      object_made new_file short drafts = file_made m (staged c' m) log n free (with_it c' (first_header kind.File 0) (drafts.makes.map m))
-      object_made new_directory short drafts = directory_made m (staged c' m) log n free (with_it c' (first_header kind.Directory 0) (drafts.makes.map m))
+      object_made new_file short drafts = file_made m (staged c' m) log n free (with_it c' (first_header kind.File 0 0) (drafts.makes.map m))
+      object_made (new_directory form) short drafts = directory_made m (staged c' m) log n free form (with_it c' (first_header kind.Directory form 0) (drafts.makes.map m))
       object_made (new_link text) short drafts =
-          link_made m (staged drafts.blank m) (staged c' m) log n free text short (with_it drafts.blank (first_header kind.Link (length text)) (drafts.makes.map m)) (drafts.writes.file k m0 m keeps holds)
+          link_made m (staged drafts.blank m) (staged c' m) log n free text short (with_it drafts.blank (first_header kind.Link 0 (length text)) (drafts.makes.map m)) (drafts.writes.file k m0 m keeps holds)
 
       -- its totals
       pub object_counted : (kd : NewKind) → length (text_of_new kd) ≤ 1023 → DraftsObject state h h' c c' t t' n kd → AreTotals (staged c m) t → AreTotals (staged c' m) t'
       object_counted new_file short drafts totals = drafts.counts m log_c none_c totals
-      object_counted new_directory short drafts totals = drafts.counts m log_c none_c totals
+      object_counted (new_directory form) short drafts totals = drafts.counts m log_c none_c totals
       object_counted (new_link text) short drafts totals =
-          drafts.recounts k m0 m keeps holds (drafts.makes.keeps m log_c none_c) (made_log m (staged c' m) n (new_link text) (object_made (new_link text) short drafts) some not_root log) (drafts.counts m log_c none_c totals)
+          drafts.recounts k m0 m keeps holds (drafts.makes.keeps m log_c none_c tt) (made_log m (staged c' m) n (new_link text) (object_made (new_link text) short drafts) some not_root tt log) (drafts.counts m log_c none_c totals)
 
-      pub object_log : (kd : NewKind) → length (text_of_new kd) ≤ 1023 → DraftsObject state h h' c c' t t' n kd → IsLogMap (staged c' m)
-      object_log kd short drafts = made_log m (staged c' m) n kd (object_made kd short drafts) some not_root log
+      pub object_log : (kd : NewKind) → length (text_of_new kd) ≤ 1023 → IsForm m.version (kind_of_new kd) (form_of_new kd) → DraftsObject state h h' c c' t t' n kd → IsLogMap (staged c' m)
+      object_log kd short formed drafts = made_log m (staged c' m) n kd (object_made kd short drafts) some not_root formed log
 
     -- the draft fits
     module _ (fits : FitsBatch m c) where
-      made_fits : (x : Changes) (kd : Kind) (size : ℕ) → FitsHeader kd 0 (first_links kd) size → ((m : LogMap) → FitsBatch m c → (staged c m).header n ≡ None → is_lost c.loss (Inode n) ≡ false → FitsHeader kd 0 (first_links kd) size → FitsBatch m x) → FitsBatch m x
-      made_fits x kd size sized makes = makes m fits none_c (ap (λ (l : Loss). is_lost l (Inode n)) empty.loss) sized
+      made_fits : (x : Changes) (kd : Kind) (form size : ℕ) → FitsHeader kd form (first_links kd) size → ((m : LogMap) → FitsBatch m c → (staged c m).header n ≡ None → is_lost c.loss (Inode n) ≡ false → FitsHeader kd form (first_links kd) size → FitsBatch m x) → FitsBatch m x
+      made_fits x kd form size sized makes = makes m fits none_c (ap (λ (l : Loss). is_lost l (Inode n)) empty.loss) sized
 
-      pub object_fits : (kd : NewKind) → length (text_of_new kd) ≤ 1023 → FitsHeader (kind_of_new kd) 0 (first_links (kind_of_new kd)) (length (text_of_new kd)) → DraftsObject state h h' c c' t t' n kd → FitsBatch m c'
-      object_fits new_file short sized drafts = made_fits c' kind.File 0 sized drafts.makes.fits
-      object_fits new_directory short sized drafts = made_fits c' kind.Directory 0 sized drafts.makes.fits
-      object_fits (new_link text) short sized drafts = drafts.writes.fits m (made_fits drafts.blank kind.Link (length text) sized drafts.makes.fits) record {
-        there = (with_it drafts.blank (first_header kind.Link (length text)) (drafts.makes.map m)).own;
+      pub object_fits : (kd : NewKind) → length (text_of_new kd) ≤ 1023 → FitsHeader (kind_of_new kd) (form_of_new kd) (first_links (kind_of_new kd)) (length (text_of_new kd)) → DraftsObject state h h' c c' t t' n kd → FitsBatch m c'
+      object_fits new_file short sized drafts = made_fits c' kind.File 0 0 sized drafts.makes.fits
+      object_fits (new_directory form) short sized drafts = made_fits c' kind.Directory form 0 sized drafts.makes.fits
+      object_fits (new_link text) short sized drafts = drafts.writes.fits m (made_fits drafts.blank kind.Link 0 (length text) sized drafts.makes.fits) record {
+        there = (with_it drafts.blank (first_header kind.Link 0 (length text)) (drafts.makes.map m)).own;
         apart = subst (λ (x : Loss). IsApart x n) (sym (drafts.makes.loss ∙ empty.loss)) (nothing_apart n);
         within = λ none. omega (arith, short);
         header = subst (λ (z : ℕ). FitsHeader kind.Link 0 1 z) (sym same_size) sized;

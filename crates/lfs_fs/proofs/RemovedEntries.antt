@@ -198,11 +198,12 @@ module _ {N : ℕ} {m : LogMap} {s : State} {p : List ℕ} {d n : ℕ} {head : H
               same ∙ loss.links_of k second.0 second.1
 
           -- the log map is that of a state with the tree without both
-          pub removed_map : {s' : State} → s'.tree ≡ let_go left s.handles (target s.tree d p)
-              → Sound N s' → IsMapOf N m' s'
-          removed_map {s'} is' sound =
+          pub removed_map : {s' : State} → m'.version ≡ m.version → s'.version ≡ s.version
+              → s'.tree ≡ let_go left s.handles (target s.tree d p) → Sound N s' → IsMapOf N m' s'
+          removed_map {s'} version same_version is' sound =
               let tree : let_go left s.handles n ≡ s'.tree
               = ap (let_go left s.handles)
               (sym (ap (λ (o : Option ℕ). unwrap_or o 0) gives)) ∙ sym is' in
-              map_by removed_shape sound (removed_tree ∙ tree)
+              map_by removed_shape sound (same_version ∙ is.log.version ∙ sym version)
+              (removed_tree ∙ tree)
               (λ k f at. removed_links k f at ∙ ap (λ (t : Tree). links_in t k) tree)

@@ -205,22 +205,23 @@ module _ {N : ℕ} {m : LogMap} {s : State} {a b : List ℕ} {source : Source} {
       (target_found s.tree da a n found)
 
   -- the log map is that of the state after the call
-  moved_by : {m5 : LogMap} → IsShaped m5 → tree_in m5 ≡ tree_after s a b da db
+  moved_by : {m5 : LogMap} → m5.version ≡ m.version → IsShaped m5 → tree_in m5 ≡ tree_after s a b da db
       → ((k : ℕ) (h : entry.Header) → m5.header k ≡ Some h
       → h.links ≡ links (tree_after s a b da db) k)
       → IsMoved N m5 s a b da db
-  moved_by shape tree links_are = record {
+  moved_by version shape tree links_are = record {
     shape = shape;
     tree = tree;
     map = λ arguments done. map_by shape
-        (rename_keeps N s (renamed s a b da db) a b Done is.log.sound arguments done) tree
-        links_are;
+        (rename_keeps N s (renamed s a b da db) a b Done is.log.sound arguments done)
+        (is.log.version ∙ sym version) tree links_are;
   }
 
   -- ---- the second name is free
   module _ (none : dest.replaced ≡ None) {m2 m3 m4 m5 : LogMap}
       (drafts : DraftsMove m m2 m3 m4 da db head_a head_b la lb (name a))
-      (new : DraftsName m4 m5 db n (second_after da db head_a head_b la lb) (name b)) where
+      (new : DraftsName m4 m5 db n (second_after da db head_a head_b la lb) (name b))
+      (version : m5.version ≡ m.version) where
     pub free_moving : IsMoving m m2 m3 m4 da db head_a head_b la lb (name a)
     free_moving = record { kept = shaped; has_a = holder_a; has_b = holder_b; drafts = drafts }
 
@@ -271,7 +272,7 @@ module _ {N : ℕ} {m : LogMap} {s : State} {a b : List ℕ} {source : Source} {
         same ∙ ap (λ (t : Tree). links t k) (sym free_after)
 
     pub free_moved : IsMoved N m5 s a b da db
-    free_moved = moved_by (named_kept free_moving free_named) tree_is free_links
+    free_moved = moved_by version (named_kept free_moving free_named) tree_is free_links
 
   -- ---- it gives another object of the same sort, no directory with names
   module _ (o : Object) (some : dest.replaced ≡ Some o) where
@@ -385,7 +386,8 @@ module _ {N : ℕ} {m : LogMap} {s : State} {a b : List ℕ} {source : Source} {
 
       module _ {m2 m3 m4 m5 : LogMap}
           (drafts : DraftsMove m1 m2 m3 m4 da db head_a head_b la lb (name a))
-          (over : DraftsOver m4 m5 db n (second_after da db head_a head_b la lb) (name b)) where
+          (over : DraftsOver m4 m5 db n (second_after da db head_a head_b la lb) (name b))
+          (version : m5.version ≡ m.version) where
         pub over_moving : IsMoving m1 m2 m3 m4 da db head_a head_b la lb (name a)
         over_moving = record { kept = lost_shape; has_a = lost_a; has_b = lost_b; drafts = drafts }
 
@@ -420,5 +422,5 @@ module _ {N : ℕ} {m : LogMap} {s : State} {a b : List ℕ} {source : Source} {
             ∙ ap (λ (t : Tree). links t k) after_is
 
         pub over_moved : IsMoved N m5 s a b da db
-        over_moved = moved_by (named_kept over_moving over_named)
+        over_moved = moved_by version (named_kept over_moving over_named)
             (named_tree over_moving over_named ∙ loss.tree ∙ after_is) over_links

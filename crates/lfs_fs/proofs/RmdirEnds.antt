@@ -23,6 +23,7 @@ use Rattle.lfs_store.specs.memory.Present.{as_header}
 use Rattle.lfs_store.specs.log.Held.{Holds}
 use Rattle.lfs_store.specs.Drafting.{IsApart}
 use Rattle.lfs_store.specs.Recounting.{AreTotals}
+use Rattle.lfs_store.proofs.of_memory.Versions.{staged_version}
 use Rattle.lfs_store.proofs.Apart.{draft_empty}
 use Rattle.lfs_store.proofs.LogReads.{held_still}
 use Rattle.lfs_store.proofs.TreeTotals.{totals_of_tree}
@@ -211,7 +212,8 @@ module _ {D : Type 0} (state : D → DeviceState) (lawful : (d : D) → IsLawful
           omega (arith, all, one)
 
       after : IsMapOf (segments_of v) (staged c m) (removed s path d)
-      after = removed_map placed_here (head.links - 1) loses links less cut takes_it refl
+      after = removed_map placed_here (head.links - 1) loses links less cut takes_it
+          (staged_version c m) refl refl
           (rmdir_keeps (segments_of v) s (removed s path d) path Done is.log.sound
           (done (kept keeps) k m0 m s is))
 

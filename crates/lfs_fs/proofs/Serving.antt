@@ -2,7 +2,7 @@
 use Rattle.std.proofs.Common.{◌≡◌, ◌⊎◌, ◌≤◌, ◌<◌, ◌+◌, ◌/◌, ℕ, Bool, true, false, ◌&&◌, List, [], ◌∷◌, length, refl, sym, ◌∙◌, subst, ap, inl, inr, ⊎_elim, arith}
 use Rattle.std.specs.List.{Contains}
 use Rattle.lfs_model.specs.Call.{Call, Answer, Refuse, commits}
-use Rattle.lfs_model.specs.Checkpoint.{CheckpointValue, layout_of}
+use Rattle.lfs_model.specs.Checkpoint.{CheckpointValue}
 use Rattle.lfs_model.specs.Device.{DeviceState, IsLawful, AllLeft, Carries, LeavesOnly}
 use Rattle.lfs_model.specs.Refusal.{Refusal, Halted}
 use Rattle.lfs_model.specs.Run.{Point, StepsOr, acknowledges}
@@ -158,10 +158,10 @@ module _ {D : Type 0} (state : D → DeviceState) where
     pub map_dropped : IsLogMap (dropped m)
     map_dropped = dropped_log N m s is.log is.map
 
-    pub leaves_by : (ss : List State) → LeavesOnly (state old.log.device) (state new.log.device) (StandsForOn (layout_of k) m0 (dropped m)) → LeavesStates (state old.log.device) (state new.log.device) (drop_nameless s ∷ ss)
+    pub leaves_by : (ss : List State) → LeavesOnly (state old.log.device) (state new.log.device) (StandsForOn k.segments m0 (dropped m)) → LeavesStates (state old.log.device) (state new.log.device) (drop_nameless s ∷ ss)
     leaves_by ss leaves =
         leaves_states (state old.log.device) lawful (carries.kept_before keeps) k m0 is.stores.holds.log.running.settled (subst (λ (n : ℕ). IsTree n m0) same_count is.acknowledged)
-        (state new.log.device) m s log_by is.version ss leaves
+        (state new.log.device) m s log_by ss leaves
 
     -- what is left at the end is left meanwhile
     pub some_left : (ss : List State) → LeavesStates (state old.log.device) (state new.log.device) ss → LeavesSome state (state new.log.device)
@@ -170,7 +170,7 @@ module _ {D : Type 0} (state : D → DeviceState) where
     -- the volume runs on, in this state
     module _ (call : Call) (a : Answer) (p : Point) (at : IsAt state old p) (here : p.state ≡ s) (was : old.log.halted ≡ false) (running : new.log.halted ≡ false) (later : old.log.number ≤ new.log.number)
         (behaves : Behaves state old new call a) (fine : a ≡ Refuse Halted → ⊥) (next : State) (runs : Runs state new next)
-        (steps : StepsOr N call p a (point_of new next)) (moment : LeavesOnly (state old.log.device) (state new.log.device) (StandsForOn (layout_of k) m0 (dropped m)))
+        (steps : StepsOr N call p a (point_of new next)) (moment : LeavesOnly (state old.log.device) (state new.log.device) (StandsForOn k.segments m0 (dropped m)))
         (saves : acknowledges call a ≡ true → LeavesOne (state new.log.device) (drop_nameless next)) where
       states : LeavesStates (state old.log.device) (state new.log.device) (drop_nameless p.state ∷ drop_nameless next ∷ [])
       states = subst (λ (x : State). LeavesStates (state old.log.device) (state new.log.device) (drop_nameless x ∷ drop_nameless next ∷ [])) (sym here) (leaves_by (drop_nameless next ∷ []) moment)
@@ -197,7 +197,7 @@ module _ {D : Type 0} (state : D → DeviceState) where
     -- a commit failed
     module _ (call : Call) (p : Point) (at : IsAt state old p) (here : p.state ≡ s) (was : old.log.halted ≡ false) (halted : new.log.halted ≡ true) (later : old.log.number ≤ new.log.number)
         (behaves : Behaves state old new call (Refuse Halted))
-        (rose : (state old.log.device).failures < (state new.log.device).failures) (moment : LeavesOnly (state old.log.device) (state new.log.device) (StandsForOn (layout_of k) m0 (dropped m))) where
+        (rose : (state old.log.device).failures < (state new.log.device).failures) (moment : LeavesOnly (state old.log.device) (state new.log.device) (StandsForOn k.segments m0 (dropped m))) where
       states_halted : LeavesStates (state old.log.device) (state new.log.device) (drop_nameless p.state ∷ drop_nameless p.state ∷ [])
       states_halted = subst (λ (x : State). LeavesStates (state old.log.device) (state new.log.device) (drop_nameless x ∷ drop_nameless x ∷ [])) (sym here) (leaves_by (drop_nameless s ∷ []) moment)
 

@@ -3,6 +3,7 @@ use Rattle.std.proofs.Common.{◌≡◌, ◌≤◌, ◌*◌, ℕ, List, Some, sy
 use Rattle.std.proofs.lemmas.Bool.{cases_lt}
 use Rattle.std.specs.Ordering.{nat_cmp}
 use Rattle.std.specs.FinMap.{find}
+use Rattle.lfs_model.specs.Inode.{IsForm}
 use Rattle.lfs_model.specs.declared.Kind.TheVariants as kind
 use Rattle.lfs_model.specs.Bytes.{cut}
 use Rattle.lfs_model.specs.Encodes.{IsLogMap}
@@ -76,6 +77,7 @@ module _ (N : ℕ) (m m' : LogMap) (s : State) (h n : ℕ) (is : IsMapOf N m s) 
     fits = record {
       number = was.number.0;
       root = λ e. old_fits.root e;
+      form = subst (λ (v : ℕ). IsForm v head.kind head.form) (sym sizes.only.version) old_fits.form;
       size = end;
       whole = sizes.whole old_fits.whole;
       ends = cut_ends m m' n (as_header head) head' len cuts;

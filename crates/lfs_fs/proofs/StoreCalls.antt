@@ -54,6 +54,7 @@ module _ {D : Type 0} (state : D → DeviceState) (a b : Store D) where
       looks = reads.looks;
       memory = ap (λ (s : StagedLog). s.memory) reads.staged;
       number = ap (λ (s : StagedLog). s.number) reads.staged;
+      version = ap (λ (s : StagedLog). s.version) reads.staged;
       halted = reads.halted;
       totals = ap totals_of reads.totals;
     }
@@ -91,6 +92,7 @@ module _ {D : Type 0} (state : D → DeviceState) (a b : Store D) where
       looks = redrafts.looks;
       memory = ap (λ (s : StagedLog). s.memory) redrafts.staged;
       number = ap (λ (s : StagedLog). s.number) redrafts.staged;
+      version = ap (λ (s : StagedLog). s.version) redrafts.staged;
       halted = redrafts.halted;
       totals = ap totals_of redrafts.totals;
     }

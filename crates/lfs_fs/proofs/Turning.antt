@@ -1,7 +1,7 @@
 -- Calls that change the table of open files alone, as steps of the model.
 use Rattle.std.proofs.Common.{◌≡◌, ℕ, true, false, length, refl, sym, ◌∙◌, ap, subst, inl, arith}
 use Rattle.lfs_model.specs.Call.{Answer, Call, is_ok}
-use Rattle.lfs_model.specs.Checkpoint.{CheckpointValue, layout_of}
+use Rattle.lfs_model.specs.Checkpoint.{CheckpointValue}
 use Rattle.lfs_model.specs.Crash.{StandsForOn}
 use Rattle.lfs_model.specs.Device.{AllLeft, DeviceState, IsLawful, LeavesOnly}
 use Rattle.lfs_model.specs.Refusal.{Halted}
@@ -23,12 +23,12 @@ use Rattle.lfs_fs.proofs.Serving.{point_of, still_in}
 
 module _ {D : Type 0} (state : D → DeviceState) (old new : Mounted D) (lawful : IsLawful (state old.log.device)) (after : IsLawful (state new.log.device)) (was : old.log.halted ≡ false) where
   -- what a stop leaves while nothing is written is what is saved
-  pub quiet : Looks (state old.log.device) (state new.log.device) → (k : CheckpointValue) (m0 m : LogMap) (s : State) → IsIn state old k m0 m s → LeavesOnly (state old.log.device) (state new.log.device) (StandsForOn (layout_of k) m0 (dropped m))
+  pub quiet : Looks (state old.log.device) (state new.log.device) → (k : CheckpointValue) (m0 m : LogMap) (s : State) → IsIn state old k m0 m s → LeavesOnly (state old.log.device) (state new.log.device) (StandsForOn k.segments m0 (dropped m))
   quiet looks k m0 m s is =
-      goes_on (state old.log.device) (state old.log.device) (state new.log.device) (StandsForOn (layout_of k) m0 (dropped m)) (started (state old.log.device) (StandsForOn (layout_of k) m0 (dropped m)) lawful here)
+      goes_on (state old.log.device) (state old.log.device) (state new.log.device) (StandsForOn k.segments m0 (dropped m)) (started (state old.log.device) (StandsForOn k.segments m0 (dropped m)) lawful here)
       looks.carries looks.time (λ c left. here c (looks.untouched.crash c left))
     where
-      here : AllLeft (state old.log.device) (StandsForOn (layout_of k) m0 (dropped m))
+      here : AllLeft (state old.log.device) (StandsForOn k.segments m0 (dropped m))
       here c left = inl (settled_stands (state old.log.device) k m0 is.stores.holds.log.running.settled c left)
 
   -- ---- the table alone
@@ -46,7 +46,7 @@ module _ {D : Type 0} (state : D → DeviceState) (old new : Mounted D) (lawful 
     pub record Turns (p : Point) (m : LogMap) : Type 0 where
       pub next : State
       pub map : IsMapOf (segments_of old) m next
-      pub version : next.version ≡ 1
+      pub version : next.version ≡ p.state.version
       pub handles : next.handles ≡ handles_of new.table
       pub steps : StepsOr (segments_of old) call p a (point_of state new next)
 
@@ -65,7 +65,7 @@ module _ {D : Type 0} (state : D → DeviceState) (old new : Mounted D) (lawful 
               stores = now.stores;
               map = now.map;
               log = (subst (λ (l : ℕ). IsMapOf l m turns.next) (sym segments_same) turns.map).log;
-              version = turns.version;
+              version = turns.version ∙ is.version;
               handles = turns.handles;
               counted = now.counted;
               acknowledged = now.acknowledged;

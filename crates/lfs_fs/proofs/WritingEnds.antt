@@ -4,7 +4,7 @@ use Rattle.std.specs.Prelude.{IsTrue, Result, OnOk, IfErr}
 use Rattle.std.specs.Ordering.{nat_cmp}
 use Rattle.std.specs.FinMap.{find}
 use Rattle.lfs_model.specs.Call.{Call, Answer, Refuse, changes, commits, is_ok, may_write, takes_no_memory, cleans}
-use Rattle.lfs_model.specs.Checkpoint.{CheckpointValue, layout_of}
+use Rattle.lfs_model.specs.Checkpoint.{CheckpointValue}
 use Rattle.lfs_model.specs.Crash.{StandsForOn}
 use Rattle.lfs_model.specs.Device.{AllLeft, Carries, DeviceState, IsLawful, LeavesOnly}
 use Rattle.lfs_model.specs.Refusal as refusal
@@ -77,12 +77,12 @@ module _ {D : Type 0} (state : D → DeviceState) (lawful : (d : D) → IsLawful
     same_segments : length b.memory.usage.segments ≡ length a.memory.usage.segments
     same_segments = ap (λ (v : LogMemory). length v.usage.segments) reads.memory
 
-    quiet_reads : (k : CheckpointValue) (m0 m : LogMap) → Holds state a k m0 m → LeavesOnly (state a.device) (state b.device) (StandsForOn (layout_of k) m0 (dropped m))
+    quiet_reads : (k : CheckpointValue) (m0 m : LogMap) → Holds state a k m0 m → LeavesOnly (state a.device) (state b.device) (StandsForOn k.segments m0 (dropped m))
     quiet_reads k m0 m is =
-        goes_on (state a.device) (state a.device) (state b.device) (StandsForOn (layout_of k) m0 (dropped m)) (started (state a.device) (StandsForOn (layout_of k) m0 (dropped m)) (lawful a.device) here)
+        goes_on (state a.device) (state a.device) (state b.device) (StandsForOn k.segments m0 (dropped m)) (started (state a.device) (StandsForOn k.segments m0 (dropped m)) (lawful a.device) here)
         reads.looks.carries reads.looks.time (λ c left. here c (reads.looks.untouched.crash c left))
       where
-        here : AllLeft (state a.device) (StandsForOn (layout_of k) m0 (dropped m))
+        here : AllLeft (state a.device) (StandsForOn k.segments m0 (dropped m))
         here c left = inl (settled_stands (state a.device) k m0 is.log.running.settled c left)
 
     clean_still : HasClean a → HasClean b
@@ -104,7 +104,7 @@ module _ {D : Type 0} (state : D → DeviceState) (lawful : (d : D) → IsLawful
 
       leaves_after : (saved : Bool) → LeavesEither state b saved h → LeavesEither state a saved h
       leaves_after saved leaves k m0 m keeps stores log =
-          joined (state a.device) (state b.device) (state h.device) (StandsForOn (layout_of k) m0 (dropped m)) (StandsForOn (layout_of k) m0 (dropped m)) (StandsForOn (layout_of k) m0 (dropped m))
+          joined (state a.device) (state b.device) (state h.device) (StandsForOn k.segments m0 (dropped m)) (StandsForOn k.segments m0 (dropped m)) (StandsForOn k.segments m0 (dropped m))
           (quiet_reads k m0 m stores.holds) (leaves k m0 m keeps (stores_read saved k m0 m stores) log) (λ c x. x) (λ c x. x)
 
       saves_after : (saved saved' : Bool) → SavesFew b saved h saved' → SavesFew a saved h saved'
@@ -154,7 +154,7 @@ module _ {D : Type 0} (state : D → DeviceState) (lawful : (d : D) → IsLawful
             omega (arith, rose, before));
         left = λ k m0 m keeps is log. halts.left k m0 m keeps (held_still state a b k m0 m reads is) log;
         moment = λ k m0 m keeps is log.
-            joined (state a.device) (state b.device) (state h.device) (StandsForOn (layout_of k) m0 (dropped m)) (StandsForOn (layout_of k) m0 (dropped m)) (StandsForOn (layout_of k) m0 (dropped m))
+            joined (state a.device) (state b.device) (state h.device) (StandsForOn k.segments m0 (dropped m)) (StandsForOn k.segments m0 (dropped m)) (StandsForOn k.segments m0 (dropped m))
             (quiet_reads k m0 m is) (halts.moment k m0 m keeps (held_still state a b k m0 m reads is) log) (λ c x. x) (λ c x. x);
       }
 
@@ -426,7 +426,7 @@ module _ {D : Type 0} (state : D → DeviceState) (lawful : (d : D) → IsLawful
           next = draft.next;
           fits = draft.fits;
           map = draft.map room;
-          version = draft.version ∙ is.version;
+          version = draft.version;
           handles = end.1;
           counted = subst (λ (t : BlockTotals). IsCounted (staged c m) t.data_blocks t.meta_blocks)
               (sym stages.totals) draft.counted;

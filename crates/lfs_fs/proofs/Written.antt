@@ -3,6 +3,7 @@ use Rattle.std.proofs.Common.{◌≡◌, ◌≤◌, ◌+◌, ◌*◌, ℕ, List,
 use Rattle.std.specs.Prelude.{max}
 use Rattle.std.specs.Ordering.{nat_cmp}
 use Rattle.std.specs.FinMap.{find}
+use Rattle.lfs_model.specs.Inode.{IsForm}
 use Rattle.lfs_model.specs.declared.Kind.TheVariants as kind
 use Rattle.lfs_model.specs.Bytes.{AreBytes, put}
 use Rattle.lfs_model.specs.Encodes.{IsLogMap}
@@ -67,6 +68,7 @@ module _ (N : ℕ) (m m' : LogMap) (s : State) (h n : ℕ) (is : IsMapOf N m s) 
       fits = record {
         number = was.number.0;
         root = λ e. old_fits.root e;
+        form = subst (λ (v : ℕ). IsForm v head.kind head.form) (sym writes.only.version) old_fits.form;
         size = (let old = old_fits.size in omega arith);
         whole = writes.whole old_fits.whole;
         ends = write_ends m m' n (as_header head) head' is.map there at w writes.bytes;

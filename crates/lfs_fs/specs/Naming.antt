@@ -2,6 +2,7 @@
 use Rattle.std.specs.Prelude.{◌≡◌, ◌≢◌, ◌⊎◌, ◌≤◌, ◌<◌, ◌+◌, ◌*◌, ◌&&◌, not, ℕ, Bool, true, false, List, [], length, Option, Some, None}
 use Rattle.std.specs.Ordering.{nat_cmp}
 use Rattle.std.specs.FinMap.{find, put}
+use Rattle.lfs_model.specs.Image.{new_form}
 use Rattle.lfs_model.specs.declared.Kind.{Kind}
 use Rattle.lfs_model.specs.declared.Kind.TheVariants as kind
 use Rattle.lfs_model.specs.Bytes.{AreBytes}
@@ -36,27 +37,33 @@ use Rattle.lfs_fs.specs.Seen.{HasHeader, OnlyReads, seen}
 use Rattle.lfs_fs.specs.declared.rows.Stat.{Stat}
 use Rattle.lfs_fs.specs.Volume.{IsIn, IsStill, Mounted}
 
--- what a new object is: an empty file, an empty directory, or a link with this text
+-- what a new object is: an empty file, an empty directory of this form, or a link with this text
 pub data NewKind : Type 0 where
   new_file : NewKind
-  new_directory : NewKind
+  new_directory : ℕ → NewKind
   new_link : List ℕ → NewKind
 
--- an object of this kind, which has this text if it is a link
-abbrev pub new_kind : Kind → List ℕ → NewKind
-new_kind kind.File text = new_file
-new_kind kind.Directory text = new_directory
-new_kind kind.Link text = new_link text
+-- an object of this kind on a volume of this version, which has this text if it is a link
+abbrev pub new_kind : ℕ → Kind → List ℕ → NewKind
+new_kind version kind.File text = new_file
+new_kind version kind.Directory text = new_directory (new_form version)
+new_kind version kind.Link text = new_link text
 
 abbrev pub kind_of_new : NewKind → Kind
 kind_of_new new_file = kind.File
-kind_of_new new_directory = kind.Directory
+kind_of_new (new_directory form) = kind.Directory
 kind_of_new (new_link text) = kind.Link
+
+-- the form of its header
+abbrev pub form_of_new : NewKind → ℕ
+form_of_new new_file = 0
+form_of_new (new_directory form) = form
+form_of_new (new_link text) = 0
 
 -- its bytes
 abbrev pub text_of_new : NewKind → List ℕ
 text_of_new new_file = []
-text_of_new new_directory = []
+text_of_new (new_directory form) = []
 text_of_new (new_link text) = text
 
 -- the links of a directory with a new object of this kind in it
@@ -73,8 +80,8 @@ RelinksParent c c' d head t kind.Directory = SetsLinks c c' d head (head.links +
 RelinksParent c c' d head t kind.Link = c' ≡ c
 
 -- An empty file or directory is drafted.
-pub record DraftsEmpty (c c' : Changes) (t t' : BlockTotals) (n : ℕ) (k : Kind) : Type 0 where
-  pub makes : Makes c c' n (first_header k 0)
+pub record DraftsEmpty (c c' : Changes) (t t' : BlockTotals) (n : ℕ) (k : Kind) (form : ℕ) : Type 0 where
+  pub makes : Makes c c' n (first_header k form 0)
   pub counts : CountsMade c c' n t t'
 
 module _ {D : Type 0} (state : D → DeviceState) where
@@ -167,16 +174,16 @@ module _ {D : Type 0} (state : D → DeviceState) where
       (text : List ℕ) : Type 0 where
     pub blank : Changes
     pub half : BlockTotals
-    pub makes : Makes c blank n (first_header kind.Link (length text))
+    pub makes : Makes c blank n (first_header kind.Link 0 (length text))
     pub counts : CountsMade c blank n t half
-    pub writes : Writes state h h' blank c' n (first_header kind.Link (length text)) 0 text
+    pub writes : Writes state h h' blank c' n (first_header kind.Link 0 (length text)) 0 text
     pub recounts : Counts state h h' blank c' half t'
 
   -- An object is drafted, without a name.
   abbrev pub DraftsObject : Held D → Held D → Changes → Changes → BlockTotals → BlockTotals → ℕ
       → NewKind → Type 0
-  DraftsObject h h' c c' t t' n new_file = DraftsEmpty c c' t t' n kind.File
-  DraftsObject h h' c c' t t' n new_directory = DraftsEmpty c c' t t' n kind.Directory
+  DraftsObject h h' c c' t t' n new_file = DraftsEmpty c c' t t' n kind.File 0
+  DraftsObject h h' c c' t t' n (new_directory form) = DraftsEmpty c c' t t' n kind.Directory form
   DraftsObject h h' c c' t t' n (new_link text) = DraftsLink h h' c c' t t' n text
 
   -- An object n is drafted, and then its name in directory d, which gets the links that it has

@@ -16,6 +16,7 @@ use crate::error::FsError;
 use crate::fs::Fs;
 use crate::sizes::is_full;
 use lfs_device::SectorDevice;
+use lfs_files::FIRST_FORM;
 use lfs_layout::is_name;
 use lfs_model::{FileNumber, Kind};
 use lfs_path::Last;
@@ -253,9 +254,10 @@ impl<D: SectorDevice> Fs<D> {
         requires running { self.old.store.log.halted ≡ false }
         requires empty { IsNoChange self.old.store.draft.changes }
         ensures made { OnOk result (MakesNew D.SectorDevice.state self.old self.new directory.value
-            header number.value (new_kind kind text.now) name.now) }
+            header number.value (new_kind self.old.store.log.version kind text.now) name.now) }
         ensures refused { IfErr result (MakesNone D.SectorDevice.state self.old self.new
-            directory.value header number.value (new_kind kind text.now) name.now) }
+            directory.value header number.value
+            (new_kind self.old.store.log.version kind text.now) name.now) }
     {
         match self.draft_entry(directory, header, number, kind, text, name) {
             Ok(()) => self.accept(),
@@ -283,7 +285,8 @@ impl<D: SectorDevice> Fs<D> {
         requires running { self.old.store.log.halted ≡ false }
         ensures still { IsStill D.SectorDevice.state (seen self.old) (seen self.new) }
         ensures drafted { OnOk result (DraftsNew D.SectorDevice.state self.old self.new
-            directory.value header number.value (new_kind kind text.now) name.now) }
+            directory.value header number.value
+            (new_kind self.old.store.log.version kind text.now) name.now) }
         ensures small { OnOk result (GrowsBy self.old.store.draft.changes
             self.new.store.draft.changes 4 4) }
         ensures refused { IfErr result (DraftsNone D.SectorDevice.state self.old self.new) }
@@ -309,29 +312,38 @@ impl<D: SectorDevice> Fs<D> {
         ensures still { IsStill D.SectorDevice.state (seen self.old) (seen self.new) }
         ensures drafted { OnOk result (DraftsObject D.SectorDevice.state self.old.store.log
             self.new.store.log self.old.store.draft.changes self.new.store.draft.changes
-            self.old.store.drafted self.new.store.drafted number.value (new_kind kind text.now)) }
+            self.old.store.drafted self.new.store.drafted number.value
+            (new_kind self.old.store.log.version kind text.now)) }
         ensures small { OnOk result (GrowsBy self.old.store.draft.changes
             self.new.store.draft.changes 2 2) }
         ensures refused { IfErr result (DraftsNone D.SectorDevice.state self.old self.new) }
     {
         match kind {
-            Kind::File => self.draft_empty(number, kind),
-            Kind::Directory => self.draft_empty(number, kind),
+            Kind::File => self.draft_empty(number, kind, FIRST_FORM),
+            Kind::Directory => {
+                let form = self.store.new_form();
+                self.draft_empty(number, kind, form)
+            }
             Kind::Link => self.draft_link(number, text),
         }
     }
 
-    /// Drafts a file or a directory without a byte.
-    fn draft_empty(&mut self, number: FileNumber, kind: Kind) -> Result<(), FsError>
+    /// Drafts a file or a directory of this form, without a byte.
+    fn draft_empty(
+        &mut self,
+        number: FileNumber,
+        kind: Kind,
+        form: u8,
+    ) -> Result<(), FsError>
         ensures still { IsStill D.SectorDevice.state (seen self.old) (seen self.new) }
         ensures drafted { OnOk result (DraftsEmpty self.old.store.draft.changes
             self.new.store.draft.changes self.old.store.drafted self.new.store.drafted number.value
-            kind) }
+            kind form) }
         ensures small { OnOk result (GrowsBy self.old.store.draft.changes
             self.new.store.draft.changes 1 0) }
         ensures fault { IfErr result (λ fault. fault ≡ FsError.NoMemory) }
     {
-        match self.store.create(number, kind) {
+        match self.store.create(number, kind, form) {
             Ok(()) => Ok(()),
             Err(_) => Err(FsError::NoMemory),
         }

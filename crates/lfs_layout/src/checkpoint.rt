@@ -1,6 +1,6 @@
 //! The checkpoint: one sector that names the blocks from which a volume is reached.
 ghost use Rattle.std.specs.Prelude.{◌≡◌, ◌≤◌, ◌↔◌, IfSome, IfNone, IsTrue};
-ghost use Rattle.lfs_model.specs.Checkpoint.{CheckpointValue, FitsCheckpoint, IsSegmentCount, checkpoint_sector, checkpoint_in};
+ghost use Rattle.lfs_model.specs.Checkpoint.{CheckpointValue, FitsCheckpoint, IsSegmentCount, IsVersion, checkpoint_sector, checkpoint_in};
 
 use crate::fields::{fits_32, is_text_at, is_zero_at, number32_at, number64_at, words_at};
 use crate::writer::SectorWriter;
@@ -13,6 +13,8 @@ pub struct Checkpoint {
     pub number: u64,
     /// How many segments the volume has: a multiple of 8 in 64..=1,024.
     pub segments: u32,
+    /// Of its layout: 1 or 2.
+    pub version: u32,
     /// The sectors of the inode map blocks; 0 where there is none.
     pub map: [u32; 32],
     /// The sectors of the usage blocks; 0 where there is none.
@@ -24,9 +26,9 @@ impl Model for Checkpoint {
 
     ghost Value = { CheckpointValue };
 
-    ghost view = { λ c. record { number = c.number; segments = c.segments; map = c.map; usage = c.usage } };
+    ghost view = { λ c. record { number = c.number; segments = c.segments; version = c.version; map = c.map; usage = c.usage } };
 
-    ghost inverse = { λ c. record { number = c.number; segments = c.segments; map = c.map; usage = c.usage } };
+    ghost inverse = { λ c. record { number = c.number; segments = c.segments; version = c.version; map = c.map; usage = c.usage } };
 }
 
 /// Whether a volume may have so many segments: a multiple of 8 in 64..=1,024.
@@ -34,6 +36,13 @@ pub fn is_segment_count(segments: u32) -> bool
     ensures { IsTrue result ↔ IsSegmentCount segments }
 {
     64 <= segments && segments <= 1024 && segments % 8 == 0
+}
+
+/// Whether it is a version of the layout.
+pub fn is_version(version: u32) -> bool
+    ensures { IsTrue result ↔ IsVersion version }
+{
+    version == 1 || version == 2
 }
 
 impl Checkpoint {
@@ -56,7 +65,7 @@ impl Checkpoint {
             return None;
         }
         let version = number32_at(sector, 20);
-        if version != 1 {
+        if !is_version(version) {
             return None;
         }
         if !is_zero_at(sector, 24, 8) {
@@ -68,6 +77,7 @@ impl Checkpoint {
         Some(Checkpoint {
             number,
             segments,
+            version,
             map: words_at(sector, 32),
             usage: words_at(sector, 160),
         })
@@ -79,7 +89,7 @@ impl Checkpoint {
     {
         fits_32(&self.map);
         fits_32(&self.usage);
-        self.number != 0 && is_segment_count(self.segments)
+        self.number != 0 && is_segment_count(self.segments) && is_version(self.version)
     }
 
     /// The sector of the checkpoint, which `is_fit` has to hold for.
@@ -91,7 +101,7 @@ impl Checkpoint {
         sector.bytes(b"SLFSCKP1");
         sector.number64(self.number);
         sector.number32(self.segments);
-        sector.number32(1);
+        sector.number32(self.version);
         sector.zeros(8);
         sector.words(&self.map);
         sector.words(&self.usage);
@@ -101,20 +111,28 @@ impl Checkpoint {
 }
 
 impl Checkpoint {
-    /// The checkpoint of this number, of a volume of so many segments, with the addresses of its
-    /// map and usage blocks.
-    pub fn new(number: u64, segments: u32, map: [u32; 32], usage: [u32; 16]) -> Checkpoint
+    /// The checkpoint of this number, of a volume of so many segments and a layout of this version,
+    /// with the addresses of its map and usage blocks.
+    pub fn new(
+        number: u64,
+        segments: u32,
+        version: u32,
+        map: [u32; 32],
+        usage: [u32; 16],
+    ) -> Checkpoint
         requires number { 1 ≤ number }
         requires count { IsSegmentCount segments }
+        requires version { IsVersion version }
         ensures fits { FitsCheckpoint result }
-        ensures value { result ≡ record
-            { number = number; segments = segments; map = map; usage = usage } }
+        ensures value { result ≡ record { number = number; segments = segments; version = version;
+          map = map; usage = usage } }
     {
         fits_32(&map);
         fits_32(&usage);
         Checkpoint {
             number,
             segments,
+            version,
             map,
             usage,
         }

@@ -1,9 +1,10 @@
 //! Inodes, read in place.
 ghost use Rattle.std.specs.Prelude.{◌≡◌, ◌<◌, ◌≤◌, ◌↔◌, [], ◌∷◌, List, ℕ, length, slice_index, IfSome, IfNone, MatchOption, IsTrue};
-ghost use Rattle.lfs_model.specs.Inode.{InodeValue, FitsInode, IsSize, inode_sector, kind_byte, inode_in};
+ghost use Rattle.lfs_model.specs.Inode.{InodeValue, FitsInode, IsForm, IsSize, inode_sector, kind_byte, inode_in};
 ghost use Rattle.lfs_model.specs.declared.Kind.{Kind};
 ghost use Rattle.lfs_model.specs.Fields.{part};
 
+use crate::slot::slot_len;
 use crate::fields::{fits_32, is_zero_at, number32_at, words_at};
 use crate::writer::SectorWriter;
 use lfs_model::Kind;
@@ -23,15 +24,27 @@ impl<'a> Model for InodeView<'a> {
     ghost view = { λ v. inode_of v.sector.now };
 }
 
-/// Whether an inode of the kind may have so many bytes: a file up to 8,511,488, a directory of form
-/// 0 a multiple of 64 up to 65,536, a link 1 to 1,023.
-#[tactic(auto, unfolding(lfs_model::specs::Inode::IsSize))]
-pub fn is_size(kind: Kind, size: u32) -> bool
-    ensures { IsTrue result ↔ IsSize 0 kind size }
+/// Whether an inode of the kind may have this form: a directory form 0 or 1, all else 0.
+pub fn is_form(kind: Kind, form: u8) -> bool
+    ensures { IsTrue result ↔ IsForm 2 kind form }
 {
     match kind {
+        Kind::File => form == 0,
+        Kind::Directory => form <= 1,
+        Kind::Link => form == 0,
+    }
+}
+
+/// Whether an inode of the form and the kind may have so many bytes: a file up to 8,511,488, a
+/// directory whole slots, at most 1,024, a link 1 to 1,023.
+#[tactic(auto, unfolding(lfs_model::specs::Inode::IsSize))]
+pub fn is_size(form: u8, kind: Kind, size: u32) -> bool
+    ensures { IsTrue result ↔ IsSize form kind size }
+{
+    let slot = slot_len(form);
+    match kind {
         Kind::File => size <= 8_511_488,
-        Kind::Directory => size % 64 == 0 && size <= 65_536,
+        Kind::Directory => size % slot == 0 && size <= 1_024 * slot,
         Kind::Link => 1 <= size && size <= 1_023,
     }
 }
@@ -66,7 +79,11 @@ impl<'a> InodeView<'a> {
         let Some(kind) = kind_at(sector) else {
             return None;
         };
-        if !is_zero_at(sector, 1, 3) {
+        let form = sector[1];
+        if !is_form(kind, form) {
+            return None;
+        }
+        if !is_zero_at(sector, 2, 2) {
             return None;
         }
         let number = number32_at(sector, 4);
@@ -78,7 +95,7 @@ impl<'a> InodeView<'a> {
             return None;
         }
         let size = number32_at(sector, 12);
-        if !is_size(kind, size) {
+        if !is_size(form, kind, size) {
             return None;
         }
         if !is_zero_at(sector, 16, 16) {
@@ -99,6 +116,13 @@ impl<'a> InodeView<'a> {
             2 => Kind::Directory,
             _ => Kind::Link,
         }
+    }
+
+    /// The form of a directory's slots; 0 for all else.
+    pub fn form(&self) -> u8
+        ensures { result ≡ self.now.form }
+    {
+        self.sector[1]
     }
 
     /// Its number.
@@ -150,6 +174,7 @@ impl<'a> InodeView<'a> {
     {
         Inode {
             kind: self.kind(),
+            form: self.form(),
             number: self.number(),
             links: self.links(),
             size: self.size(),
@@ -165,6 +190,8 @@ impl<'a> InodeView<'a> {
 pub struct Inode {
     /// What it is.
     pub kind: Kind,
+    /// That of a directory's slots, 0 or 1; 0 for all else.
+    pub form: u8,
     /// Its number, 1 to 4,095.
     pub number: u32,
     /// How many names it has, as the tree counts them: 1 to 1,000.
@@ -184,9 +211,9 @@ impl Model for Inode {
 
     ghost Value = { InodeValue };
 
-    ghost view = { λ i. record { kind = i.kind; number = i.number; links = i.links; size = i.size; direct = i.direct; single = i.single; double = i.double } };
+    ghost view = { λ i. record { kind = i.kind; form = i.form; number = i.number; links = i.links; size = i.size; direct = i.direct; single = i.single; double = i.double } };
 
-    ghost inverse = { λ i. record { kind = i.kind; number = i.number; links = i.links; size = i.size; direct = i.direct; single = i.single; double = i.double } };
+    ghost inverse = { λ i. record { kind = i.kind; form = i.form; number = i.number; links = i.links; size = i.size; direct = i.direct; single = i.single; double = i.double } };
 }
 
 #[tactic(auto, unfolding(lfs_model::specs::Inode::kind_byte))]
@@ -209,7 +236,8 @@ impl Inode {
         fits_32(&[self.single, self.double]);
         is_within(self.number, 4_095)
             && is_within(self.links, 1_000)
-            && is_size(self.kind, self.size)
+            && is_form(self.kind, self.form)
+            && is_size(self.form, self.kind, self.size)
     }
 
     /// The sector of the inode, which `is_fit` has to hold for.
@@ -219,7 +247,8 @@ impl Inode {
     {
         let mut sector = SectorWriter::new();
         sector.bytes(&[byte_of(self.kind)]);
-        sector.zeros(3);
+        sector.bytes(&[self.form]);
+        sector.zeros(2);
         sector.number32(self.number);
         sector.number32(self.links);
         sector.number32(self.size);
@@ -237,6 +266,7 @@ impl Inode {
     /// root.
     pub fn new(
         kind: Kind,
+        form: u8,
         number: u32,
         links: u32,
         size: u32,
@@ -246,10 +276,12 @@ impl Inode {
     ) -> Inode
         requires number { (1 ≤ number) × (number ≤ 4095) }
         requires links { (1 ≤ links) × (links ≤ 1000) }
-        requires size { IsSize 0 kind size }
+        requires form { IsForm 2 kind form }
+        requires size { IsSize form kind size }
         ensures fits { FitsInode result }
         ensures value { result ≡ record {
           kind = kind;
+          form = form;
           number = number;
           links = links;
           size = size;
@@ -262,6 +294,7 @@ impl Inode {
         fits_32(&direct);
         Inode {
             kind,
+            form,
             number,
             links,
             size,

@@ -12,8 +12,8 @@ mod usage;
 mod writer;
 mod zero;
 
-pub use checkpoint::{Checkpoint, is_segment_count, one_checkpoint_spelling};
-pub use inode::{Inode, InodeView, is_size, one_inode_spelling};
+pub use checkpoint::{Checkpoint, is_segment_count, is_version, one_checkpoint_spelling};
+pub use inode::{Inode, InodeView, is_form, is_size, one_inode_spelling};
 pub use patch::{set_header, set_word, word};
 pub use pointers::{PointerView, encode_pointers, one_pointer_spelling};
 pub use slot::{

@@ -28,23 +28,31 @@ pub fn set_word(block: &mut [u8; 512], place: usize, number: u32)
     LittleEndian::write_u32(&mut block[at..at + 4], number);
 }
 
-/// Makes a block the inode of this number with this kind, links and size in bytes. The addresses
-/// stay.
-pub fn set_header(block: &mut [u8; 512], number: u32, kind: Kind, links: u32, size: u32)
-    ensures { block.new ≡ (kind_byte kind ∷ []) ++ zeros 3 ++ le32 number ++ le32 links ++ le32
+/// Makes a block the inode of this number with this kind, form, links and size in bytes. The
+/// addresses stay.
+pub fn set_header(
+    block: &mut [u8; 512],
+    number: u32,
+    kind: Kind,
+    form: u8,
+    links: u32,
+    size: u32,
+)
+    ensures { block.new ≡ (kind_byte kind ∷ []) ++ (form ∷ []) ++ zeros 2 ++ le32 number ++ le32 links ++ le32
         size ++ drop 16 block.old }
 {
-    let header = header_bytes(number, kind, links, size);
+    let header = header_bytes(number, kind, form, links, size);
     block[..16].copy_from_slice(&header);
 }
 
 /// The bytes of an inode before its addresses, the padding left out.
-fn header_bytes(number: u32, kind: Kind, links: u32, size: u32) -> [u8; 16]
-    ensures { result ≡ (kind_byte kind ∷ []) ++ zeros 3 ++ le32 number ++ le32 links ++ le32 size }
+fn header_bytes(number: u32, kind: Kind, form: u8, links: u32, size: u32) -> [u8; 16]
+    ensures { result ≡ (kind_byte kind ∷ []) ++ (form ∷ []) ++ zeros 2 ++ le32 number ++ le32 links ++ le32 size }
 {
     let mut header = Writer::new();
     header.bytes(&[byte_of(kind)]);
-    header.zeros(3);
+    header.bytes(&[form]);
+    header.zeros(2);
     header.number32(number);
     header.number32(links);
     header.number32(size);

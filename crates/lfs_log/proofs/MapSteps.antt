@@ -3,7 +3,7 @@ use Rattle.std.proofs.Common.{⊎_elim, ◌≤◌, ◌≡◌, ◌<◌, ◌+◌, 
 use Rattle.std.proofs.lemmas.Bool.{cases_lt}
 use Rattle.std.proofs.lemmas.List.{get_or_past}
 use Rattle.std.specs.Prelude.{get_or}
-use Rattle.lfs_model.specs.Checkpoint.{CheckpointValue, layout_of}
+use Rattle.lfs_model.specs.Checkpoint.{CheckpointValue}
 use Rattle.lfs_model.specs.Crash.{StandsOn}
 use Rattle.lfs_model.specs.Device.{DeviceState, CrashWrites, Carries, Elapses, IsLawful, put, left_new}
 use Rattle.lfs_model.specs.Entry.{Entry, Data, Leaf, Double, Inode, Map, Usage, entry_of}
@@ -90,7 +90,7 @@ module _ (d : DeviceState) (v : LogMemory) (j : ℕ) (map' : MapValue) (sets : I
     no_failure = refl;
     emptied = λ s is. is;
     log = λ k m0 m keeps is. dropped_log k m0 m is;
-    quiet = λ k m0 m keeps is. started d (λ c. StandsOn (layout_of k) c m0) lawful (settled_stands d k m0 is.running.settled);
+    quiet = λ k m0 m keeps is. started d (λ c. StandsOn k.segments c m0) lawful (settled_stands d k m0 is.running.settled);
   }
 
 -- one that is written

@@ -2,7 +2,7 @@
 use Rattle.std.proofs.Common.{◌≡◌, ◌<◌, ◌≤◌, ⊎_elim, ◌⊎◌, inl, inr, ◌+◌, ◌*◌, ◌/◌, ◌%◌, ◌==◌, ℕ, zero, suc, false, [], length, get_or, Some, None, refl, sym, ◌∙◌, ap, subst, arith}
 use Rattle.std.proofs.lemmas.Bool.{cases_lt}
 use Rattle.std.proofs.lemmas.List.{get_or_past}
-use Rattle.lfs_model.specs.Checkpoint.{CheckpointValue, FitsCheckpoint}
+use Rattle.lfs_model.specs.Checkpoint.{CheckpointValue, FitsCheckpoint, layout_version}
 use Rattle.lfs_model.specs.Content.{Content, block, newest}
 use Rattle.lfs_model.specs.Committing.{IsMountedTables}
 use Rattle.lfs_model.specs.Crash.{Keeps}
@@ -170,11 +170,12 @@ module _ (d d' : DeviceState) (lawful : IsLawful d') (lawful_first : IsLawful d)
         empty : (x : Entry) → blocks_of v.dirty x ≡ None
         empty x = ap (λ (bs : Blocks). blocks_in bs x) dirty
 
-  pub opens : Opens d d' v t.number
+  pub opens : Opens d d' v t.version t.number
   opens m keeps is =
       let one = one_checkpoint d m (k keeps m) is (has keeps).held.newest in (
         subst (λ (x : CheckpointValue). IsLog d' v x m m) (sym one) (log_at keeps m (subst (λ (x : CheckpointValue). StandsAt d.content x m) one is.stands)),
         ap (λ (x : CheckpointValue). x.number) one ∙ (has keeps).held.says.number,
+        is.stands.holds.version ∙ ap layout_version one ∙ (has keeps).held.says.version,
       )
 
   -- no sector was taken

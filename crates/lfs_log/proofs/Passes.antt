@@ -1,6 +1,6 @@
 -- A pass of the cleaner: what came into memory fits, and its commit makes the segments clean.
 use Rattle.std.proofs.Common.{◌≡◌, ◌<◌, ◌≤◌, inl, ◌+◌, ◌-◌, ◌*◌, ◌/◌, ℕ, Bool, true, false, List, length, get_or, refl, sym, ◌∙◌, ap, subst, arith}
-use Rattle.lfs_model.specs.Checkpoint.{CheckpointValue, Layout, layout_of}
+use Rattle.lfs_model.specs.Checkpoint.{CheckpointValue}
 use Rattle.lfs_model.specs.Content.{Content}
 use Rattle.lfs_model.specs.Crash.{StandsOn, StandsForOn}
 use Rattle.lfs_model.specs.Device.{DeviceState, IsLawful, AllLeft, LeavesOnly}
@@ -8,7 +8,6 @@ use Rattle.lfs_model.specs.Encodes.{IsLogMap}
 use Rattle.lfs_model.specs.Members.{AreApart}
 use Rattle.lfs_model.specs.Stands.{LogMap}
 use Rattle.lfs_model.specs.TreeOf.{dropped}
-use Rattle.lfs_model.proofs.Layouts.{one_layout}
 use Rattle.lfs_model.proofs.Moments.{carries_then, joined}
 use Rattle.lfs_model.proofs.Settled.{settled_stands}
 use Rattle.lfs_memory.specs.segments.Table.{used_of, clean_in}
@@ -66,22 +65,22 @@ pass_victims v vs memory may = let most = may.most in let count = memory.count.m
 
 -- ---- the whole pass
 module _ {D : Type 0} (state : D → DeviceState) where
-  pub reads_looks : (h h' : Held D) → Looks (state h.device) (state h'.device) → h'.memory ≡ h.memory → h'.number ≡ h.number → h'.halted ≡ h.halted → h'.totals ≡ h.totals → Reads state h h'
-  reads_looks h h' looks memory number halted totals = record { looks = looks; memory = memory; number = number; halted = halted; totals = totals }
+  pub reads_looks : (h h' : Held D) → Looks (state h.device) (state h'.device) → h'.memory ≡ h.memory → h'.number ≡ h.number → h'.version ≡ h.version → h'.halted ≡ h.halted → h'.totals ≡ h.totals → Reads state h h'
+  reads_looks h h' looks memory number version halted totals = record { looks = looks; memory = memory; number = number; version = version; halted = halted; totals = totals }
 
   module _ (h : Held D) (middle : DeviceState) (v : LogMemory) (vs : List ℕ) (lawful : IsLawful (state h.device)) (one : Empties (state h.device) middle h.memory v vs) where
-    acknowledged : (k : CheckpointValue) (m0 m : LogMap) → middle.keeps_model → Holds state h k m0 m → IsLogMap (dropped m) → IsAcknowledged middle v h.number k m0 m
-    acknowledged k m0 m keeps is map = record { log = one.log k m0 m keeps is.log; map = map; same = is.number }
+    acknowledged : (k : CheckpointValue) (m0 m : LogMap) → middle.keeps_model → Holds state h k m0 m → IsLogMap (dropped m) → IsAcknowledged middle v h.version h.number k m0 m
+    acknowledged k m0 m keeps is map = record { log = one.log k m0 m keeps is.log; map = map; same = is.number; same_version = is.version }
 
-    moment_then : (d : DeviceState) (k : CheckpointValue) (m0 m : LogMap) → middle.keeps_model → Holds state h k m0 m → LeavesOnly middle d (StandsForOn (layout_of k) m0 (dropped m))
-        → LeavesOnly (state h.device) d (StandsForOn (layout_of k) m0 (dropped m))
+    moment_then : (d : DeviceState) (k : CheckpointValue) (m0 m : LogMap) → middle.keeps_model → Holds state h k m0 m → LeavesOnly middle d (StandsForOn k.segments m0 (dropped m))
+        → LeavesOnly (state h.device) d (StandsForOn k.segments m0 (dropped m))
     moment_then d k m0 m keeps is moment =
-        let P : Content → Type 0 = λ x. StandsOn (layout_of k) x m0 in
-        let Q : Content → Type 0 = StandsForOn (layout_of k) m0 (dropped m) in
+        let P : Content → Type 0 = λ x. StandsOn k.segments x m0 in
+        let Q : Content → Type 0 = StandsForOn k.segments m0 (dropped m) in
         joined (state h.device) middle d P Q Q (looks_quiet (state h.device) middle h.memory k m0 m lawful one.looks (loose (state h.device) h.memory k m0 m is.log)) moment (λ x s. inl s) (λ x s. s)
 
-    pub pass_halts : (device : D) (after : LogMemory) → middle.failures ≡ (state h.device).failures → CommitFails middle (state device) v h.number
-        → Halts state h (record { device = device; memory = after; number = h.number; halted = true; totals = h.totals })
+    pub pass_halts : (device : D) (after : LogMemory) → middle.failures ≡ (state h.device).failures → CommitFails middle (state device) v h.version h.number
+        → Halts state h (record { device = device; memory = after; number = h.number; version = h.version; halted = true; totals = h.totals })
     pass_halts device after unfailed fails = record {
       carries = carries_then (state h.device) middle (state device) one.looks.carries fails.carries;
       halted = refl;
@@ -94,8 +93,8 @@ module _ {D : Type 0} (state : D → DeviceState) where
     }
 
     pub pass_done : MayClean h.memory vs → AreApart vs → length v.dirty.blocks ≤ most_brought (length vs) → (device : D) (w : LogMemory) (t : TableValue) (halted : Bool) → halted ≡ false → t.blocks ≡ w.dirty.blocks
-        → middle.failures ≡ (state h.device).failures → CommitsAll middle (state device) v w h.number
-        → Cleans state h (record { device = device; memory = record { map = w.map; usage = w.usage; dirty = t; chunk = w.chunk }; number = h.number + 1; halted = halted; totals = h.totals }) vs
+        → middle.failures ≡ (state h.device).failures → CommitsAll middle (state device) v w h.version h.number
+        → Cleans state h (record { device = device; memory = record { map = w.map; usage = w.usage; dirty = t; chunk = w.chunk }; number = h.number + 1; version = h.version; halted = halted; totals = h.totals }) vs
     pass_done may apart few device w t halted on same unfailed done = record {
       carries = carries_then (state h.device) middle (state device) one.looks.carries done.carries;
       running = on;
@@ -119,14 +118,14 @@ module _ {D : Type 0} (state : D → DeviceState) where
           let own = n.1.log.segments in
           let size = done.segments ∙ one.segments in
           let was = is.log.segments in
-          subst (λ (l : Layout). AllLeft (state device) (λ c. StandsOn l c (dropped m))) (one_layout k n.0 (omega (arith, own, size, was)) refl) (settled_stands (state device) n.0 (dropped m) n.1.log.running.settled);
+          subst (λ (l : ℕ). AllLeft (state device) (λ c. StandsOn l c (dropped m))) (omega (arith, own, size, was)) (settled_stands (state device) n.0 (dropped m) n.1.log.running.settled);
       moment = λ k m0 m keeps is map.
           let back = done.carries.kept_before keeps in
           moment_then (state device) k m0 m back is (done.moment k m0 m keeps (acknowledged k m0 m back is map));
     }
       where
         holds : (k : CheckpointValue) (m0 m : LogMap) → (state device).keeps_model → Holds state h k m0 m → IsLogMap (dropped m)
-            → (next : CheckpointValue) × Holds state (record { device = device; memory = record { map = w.map; usage = w.usage; dirty = t; chunk = w.chunk }; number = h.number + 1; halted = halted; totals = h.totals }) next (dropped m) m
+            → (next : CheckpointValue) × Holds state (record { device = device; memory = record { map = w.map; usage = w.usage; dirty = t; chunk = w.chunk }; number = h.number + 1; version = h.version; halted = halted; totals = h.totals }) next (dropped m) m
         holds k m0 m keeps is map =
             let n = done.log k m0 m keeps (acknowledged k m0 m (done.carries.kept_before keeps) is map) in
-            (n.0, record { log = limited_log w t same (state device) n.0 (dropped m) m n.2; number = n.1; running = on })
+            (n.0, record { log = limited_log w t same (state device) n.0 (dropped m) m n.2; number = n.1; version = is.version; running = on })

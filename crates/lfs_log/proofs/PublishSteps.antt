@@ -3,7 +3,7 @@ use Rattle.std.proofs.Common.{◌≡◌, ◌<◌, ◌≤◌, ◌⊎◌, inl, ⊎
 use Rattle.std.proofs.lemmas.Bool.{cases_eq, cases_lt, cond-true, cond-false, false_from_ne_true}
 use Rattle.std.proofs.lemmas.List.{get_or_past}
 use Rattle.lfs_model.specs.Entry.{Inode, Map, Usage}
-use Rattle.lfs_model.specs.Checkpoint.{CheckpointValue, IsSegmentCount, checkpoint_sector, layout_of}
+use Rattle.lfs_model.specs.Checkpoint.{CheckpointValue, IsSegmentCount, checkpoint_sector}
 use Rattle.lfs_model.specs.Content.{Content}
 use Rattle.lfs_model.specs.Crash.{StandsForOn}
 use Rattle.lfs_model.specs.Device.{DeviceState, IsLawful, IsUntouched, MayWrite, Carries, Elapses, Only, AllLeft, LeavesOnly, ComesFrom, put}
@@ -16,7 +16,6 @@ use Rattle.lfs_model.specs.Running.{Running}
 use Rattle.lfs_model.specs.Committing.{IsOut, ManyClean, LeadsTo, IsReleased}
 use Rattle.lfs_model.proofs.Decoding.{checkpoint_some}
 use Rattle.lfs_model.proofs.Leaving.{staying}
-use Rattle.lfs_model.proofs.Layouts.{one_layout}
 use Rattle.lfs_model.proofs.Moments.{carries_then, started, goes_on, joined}
 use Rattle.lfs_model.proofs.Publishing.{planning, resting}
 use Rattle.lfs_model.proofs.Settled.{settled_stands, settled_still, slot_torn, acknowledged}
@@ -115,7 +114,7 @@ array_is xs n f long inside past j = ⊎_elim
     (cases_lt j n)
 
 -- ---- the sync
-module _ (d d1 : DeviceState) (v : LogMemory) (number : ℕ) (lawful : IsLawful d) (same : IsUntouched d d1) (carries : Carries d d1) (time : Elapses d d1) where
+module _ (d d1 : DeviceState) (v : LogMemory) (version number : ℕ) (lawful : IsLawful d) (same : IsUntouched d d1) (carries : Carries d d1) (time : Elapses d d1) where
   synced : (k : CheckpointValue) (m0 m : LogMap) → IsLog d v k m0 m → IsLog d1 v k m0 m
   synced k m0 m log = record {
     running = staying d d1 _ (tables_of v) k m0 m (segment_in v.chunk) (chunk_in v.chunk) log.running same;
@@ -124,14 +123,14 @@ module _ (d d1 : DeviceState) (v : LogMemory) (number : ℕ) (lawful : IsLawful 
     tight = log.tight;
   }
 
-  sync_left : (k : CheckpointValue) (m0 m : LogMap) → IsLog d v k m0 m → AllLeft d1 (StandsForOn (layout_of k) m0 (dropped m))
+  sync_left : (k : CheckpointValue) (m0 m : LogMap) → IsLog d v k m0 m → AllLeft d1 (StandsForOn k.segments m0 (dropped m))
   sync_left k m0 m log c left = inl (settled_stands d1 k m0 (settled_still d d1 k m0 log.running.settled same) c left)
 
-  sync_moment : (k : CheckpointValue) (m0 m : LogMap) → IsLog d v k m0 m → LeavesOnly d d1 (StandsForOn (layout_of k) m0 (dropped m))
+  sync_moment : (k : CheckpointValue) (m0 m : LogMap) → IsLog d v k m0 m → LeavesOnly d d1 (StandsForOn k.segments m0 (dropped m))
   sync_moment k m0 m log =
-      goes_on d d d1 (StandsForOn (layout_of k) m0 (dropped m)) (started d (StandsForOn (layout_of k) m0 (dropped m)) lawful (λ c left. inl (settled_stands d k m0 log.running.settled c left))) carries time (sync_left k m0 m log)
+      goes_on d d d1 (StandsForOn k.segments m0 (dropped m)) (started d (StandsForOn k.segments m0 (dropped m)) lawful (λ c left. inl (settled_stands d k m0 log.running.settled c left))) carries time (sync_left k m0 m log)
 
-  pub sync_fails : d.failures < d1.failures → PublishFails d d1 v number
+  pub sync_fails : d.failures < d1.failures → PublishFails d d1 v version number
   sync_fails failed = record {
     carries = carries;
     failed = failed;
@@ -140,12 +139,12 @@ module _ (d d1 : DeviceState) (v : LogMemory) (number : ℕ) (lawful : IsLawful 
   }
 
   -- ---- the next checkpoint
-  module _ (d2 : DeviceState) (next : CheckpointValue) (good : IsMemory v) (out : IsAllOut v) (is : IsNext v number next) (only : d1.keeps_model → Only d1.content d1) (unfailed : d1.failures ≡ d.failures)
+  module _ (d2 : DeviceState) (next : CheckpointValue) (good : IsMemory v) (out : IsAllOut v) (is : IsNext v version number next) (only : d1.keeps_model → Only d1.content d1) (unfailed : d1.failures ≡ d.failures)
       (moment : LeavesOnly d1 d2 (ComesFrom d1 (MayWrite (next.number % 2) (checkpoint_sector next)))) (left : AllLeft d2 (ComesFrom d1 (MayWrite (next.number % 2) (checkpoint_sector next)))) (more : Carries d1 d2) where
     no_chunk : length v.chunk.names ≡ 0
     no_chunk = ap length out.chunk
 
-    module _ (k : CheckpointValue) (m0 m : LogMap) (held : IsAcknowledged d v number k m0 m) where
+    module _ (k : CheckpointValue) (m0 m : LogMap) (held : IsAcknowledged d v version number k m0 m) where
       running : Running d1 (blocks_of v.dirty) (tables_of v) k m0 m 1024 None
       running = as_chunk d1 (blocks_of v.dirty) (tables_of v) k m0 m (segment_in v.chunk) 1024 (chunk_in v.chunk) None (closed_segment v.chunk no_chunk) (closed_chunk v.chunk no_chunk) (synced k m0 m held.log).running
 
@@ -172,10 +171,11 @@ module _ (d d1 : DeviceState) (v : LogMemory) (number : ℕ) (lawful : IsLawful 
       many : ManyClean (tables_of v) k.segments
       many = many_clean v.usage k.segments held.log.segments out.many
 
-      leads : LeadsTo (tables_of v) k next
+      leads : LeadsTo (tables_of v) m.version k next
       leads = record {
         number = is.number ∙ ap (λ (n : ℕ). n + 1) (sym held.same);
         segments = is.segments ∙ held.log.segments;
+        same = is.same_version ∙ sym held.same_version;
         map = array_is next.map 32 (block_in v.map) is.fits.map_length is.map
             (λ j ge. let at = running.tables.at (Map j) refl in sym at ∙ map_past d1.content m running.memory 1024 j running.laid (λ one. out.maps j (sym at ∙ one)) ge);
         usage = array_is next.usage 16 (address_of v.usage) is.fits.usage_length is.usage
@@ -185,15 +185,15 @@ module _ (d d1 : DeviceState) (v : LogMemory) (number : ℕ) (lawful : IsLawful 
       planned : IsPlanned k d1.content (next.number % 2) (checkpoint_sector next) next (dropped m)
       planned = planning d1 (blocks_of v.dirty) (tables_of v) k next m0 m 1024 (next.number % 2) (checkpoint_sector next) running held.map all_out many leads (checkpoint_some (checkpoint_sector next) next is.fits refl) refl
 
-      torn : d2.keeps_model → (c : Content) → ComesFrom d1 (MayWrite (next.number % 2) (checkpoint_sector next)) c → StandsForOn (layout_of k) m0 (dropped m) c
+      torn : d2.keeps_model → (c : Content) → ComesFrom d1 (MayWrite (next.number % 2) (checkpoint_sector next)) c → StandsForOn k.segments m0 (dropped m) c
       torn keeps c from =
           slot_torn d1 (record d1 { may_leave = ComesFrom d1 (MayWrite (next.number % 2) (checkpoint_sector next)) }) k next m0 (dropped m) (next.number % 2) (checkpoint_sector next) running.settled planned
-          (one_layout k next leads.segments refl) (only (more.kept_before keeps)) (λ c f. f) c from
+          leads.segments (only (more.kept_before keeps)) (λ c f. f) c from
 
-      either : d2.keeps_model → LeavesOnly d d2 (StandsForOn (layout_of k) m0 (dropped m))
-      either keeps = joined d d1 d2 (StandsForOn (layout_of k) m0 (dropped m)) (ComesFrom d1 (MayWrite (next.number % 2) (checkpoint_sector next))) (StandsForOn (layout_of k) m0 (dropped m)) (sync_moment k m0 m held.log) moment (λ c s. s) (torn keeps)
+      either : d2.keeps_model → LeavesOnly d d2 (StandsForOn k.segments m0 (dropped m))
+      either keeps = joined d d1 d2 (StandsForOn k.segments m0 (dropped m)) (ComesFrom d1 (MayWrite (next.number % 2) (checkpoint_sector next))) (StandsForOn k.segments m0 (dropped m)) (sync_moment k m0 m held.log) moment (λ c s. s) (torn keeps)
 
-    pub replace_fails : d1.failures < d2.failures → PublishFails d d2 v number
+    pub replace_fails : d1.failures < d2.failures → PublishFails d d2 v version number
     replace_fails failed = record {
       carries = carries_then d d1 d2 carries more;
       failed = omega arith;
@@ -203,7 +203,7 @@ module _ (d d1 : DeviceState) (v : LogMemory) (number : ℕ) (lawful : IsLawful 
 
     module _ (u : UsageTable) (go : Releases v.usage u) (content : d2.keeps_model → d2.content ≡ put d1.content (next.number % 2) (checkpoint_sector next)) (durable : d2.keeps_model → Only d2.content d2)
         (same_failures : d2.failures ≡ d1.failures) where
-      rested : (k : CheckpointValue) (m0 m : LogMap) → d2.keeps_model → IsAcknowledged d v number k m0 m → IsLog d2 (record v { usage = u }) next (dropped m) m
+      rested : (k : CheckpointValue) (m0 m : LogMap) → d2.keeps_model → IsAcknowledged d v version number k m0 m → IsLog d2 (record v { usage = u }) next (dropped m) m
       rested k m0 m keeps held =
           let settled = acknowledged d1 d2 k next m0 (dropped m) (next.number % 2) (checkpoint_sector next) (running k m0 m held).settled (planned k m0 m held) (content keeps) (durable keeps) in
           let r = resting d1 d2 (blocks_of v.dirty) (tables_of v) (tables_of (record v { usage = u })) k next m0 m 1024 (next.number % 2) (checkpoint_sector next) (running k m0 m held) (all_out k m0 m held) (many k m0 m held) (leads k m0 m held)
@@ -216,7 +216,7 @@ module _ (d d1 : DeviceState) (v : LogMemory) (number : ℕ) (lawful : IsLawful 
             tight = held.log.tight;
           }
 
-      pub published : Publishes d d2 v (record v { usage = u }) number
+      pub published : Publishes d d2 v (record v { usage = u }) version number
       published = record {
         carries = carries_then d d1 d2 carries more;
         memory = released_memory v u go good out.chunk;

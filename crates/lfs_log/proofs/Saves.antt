@@ -1,6 +1,6 @@
 -- A commit, from its two halves.
 use Rattle.std.proofs.Common.{◌≡◌, ◌<◌, ◌≤◌, ⊎_elim, inl, ◌+◌, ◌*◌, ℕ, [], length, sym, ◌∙◌, ap, arith}
-use Rattle.lfs_model.specs.Checkpoint.{CheckpointValue, layout_of}
+use Rattle.lfs_model.specs.Checkpoint.{CheckpointValue}
 use Rattle.lfs_model.specs.Content.{Content}
 use Rattle.lfs_model.specs.Crash.{StandsOn, StandsForOn}
 use Rattle.lfs_model.specs.Device.{DeviceState}
@@ -44,40 +44,40 @@ many_spare v v' blocks size stay spare taken =
     let more = emptied_stay v.usage v'.usage size stay in
     omega (arith, size, spare, taken, there, more)
 
-acknowledged_on : (a b : DeviceState) (v v' : LogMemory) (n number : ℕ) → Goes a b v v' n → b.keeps_model → (k : CheckpointValue) (m0 m : LogMap) → IsAcknowledged a v number k m0 m → IsAcknowledged b v' number k m0 m
-acknowledged_on a b v v' n number goes keeps k m0 m is = record { log = goes.log k m0 m keeps is.log; map = is.map; same = is.same }
+acknowledged_on : (a b : DeviceState) (v v' : LogMemory) (n version number : ℕ) → Goes a b v v' n → b.keeps_model → (k : CheckpointValue) (m0 m : LogMap) → IsAcknowledged a v version number k m0 m → IsAcknowledged b v' version number k m0 m
+acknowledged_on a b v v' n version number goes keeps k m0 m is = record { log = goes.log k m0 m keeps is.log; map = is.map; same = is.same; same_version = is.same_version }
 
-either_then : (a b c : DeviceState) (v v' : LogMemory) (n number : ℕ) → Goes a b v v' n → (c.keeps_model → b.keeps_model) → LeavesEither b c v' number → LeavesEither a c v number
-either_then a b c v v' n number goes back moment k m0 m keeps is =
-    let P : Content → Type 0 = λ x. StandsOn (layout_of k) x m0 in
-    let Q : Content → Type 0 = StandsForOn (layout_of k) m0 (dropped m) in
-    joined a b c P Q Q (goes.quiet k m0 m (back keeps) is.log) (moment k m0 m keeps (acknowledged_on a b v v' n number goes (back keeps) k m0 m is)) (λ x h. inl h) (λ x h. h)
+either_then : (a b c : DeviceState) (v v' : LogMemory) (n version number : ℕ) → Goes a b v v' n → (c.keeps_model → b.keeps_model) → LeavesEither b c v' version number → LeavesEither a c v version number
+either_then a b c v v' n version number goes back moment k m0 m keeps is =
+    let P : Content → Type 0 = λ x. StandsOn k.segments x m0 in
+    let Q : Content → Type 0 = StandsForOn k.segments m0 (dropped m) in
+    joined a b c P Q Q (goes.quiet k m0 m (back keeps) is.log) (moment k m0 m keeps (acknowledged_on a b v v' n version number goes (back keeps) k m0 m is)) (λ x h. inl h) (λ x h. h)
 
-pub out_stops : (d d' : DeviceState) (v : LogMemory) (number : ℕ) → length d'.told + 3 ≤ length d.told + orders_for (length v.dirty.blocks) → Stops d d' v → CommitFails d d' v number
-out_stops d d' v number told stops = record {
+pub out_stops : (d d' : DeviceState) (v : LogMemory) (version number : ℕ) → length d'.told + 3 ≤ length d.told + orders_for (length v.dirty.blocks) → Stops d d' v → CommitFails d d' v version number
+out_stops d d' v version number told stops = record {
   carries = stops.carries;
   cause = stops.cause;
   left = λ k m0 m keeps is c left. inl (settled_stands d' k m0 (stops.settled k m0 m keeps is.log) c left);
-  moment = λ k m0 m keeps is. weaker d d' (λ x. StandsOn (layout_of k) x m0) (StandsForOn (layout_of k) m0 (dropped m)) (λ x h. inl h) (stops.quiet k m0 m keeps is.log);
+  moment = λ k m0 m keeps is. weaker d d' (λ x. StandsOn k.segments x m0) (StandsForOn k.segments m0 (dropped m)) (λ x h. inl h) (stops.quiet k m0 m keeps is.log);
   told = omega (arith, told);
 }
 
-pub publish_fails : (a b c : DeviceState) (v v' : LogMemory) (n number : ℕ) → Goes a b v v' n
-    → length b.told + 3 ≤ length a.told + orders_for (length v.dirty.blocks) → length c.told ≤ length b.told + 3 → PublishFails b c v' number → CommitFails a c v number
-publish_fails a b c v v' n number goes told more fails = record {
+pub publish_fails : (a b c : DeviceState) (v v' : LogMemory) (n version number : ℕ) → Goes a b v v' n
+    → length b.told + 3 ≤ length a.told + orders_for (length v.dirty.blocks) → length c.told ≤ length b.told + 3 → PublishFails b c v' version number → CommitFails a c v version number
+publish_fails a b c v v' n version number goes told more fails = record {
   carries = carries_then a b c goes.carries fails.carries;
   cause = λ k m0 m keeps is. (let worse = fails.failed in let same = goes.no_failure in omega (arith, worse, same));
-  left = λ k m0 m keeps is. fails.left k m0 m keeps (acknowledged_on a b v v' n number goes (fails.carries.kept_before keeps) k m0 m is);
-  moment = either_then a b c v v' n number goes fails.carries.kept_before fails.moment;
+  left = λ k m0 m keeps is. fails.left k m0 m keeps (acknowledged_on a b v v' n version number goes (fails.carries.kept_before keeps) k m0 m is);
+  moment = either_then a b c v v' n version number goes fails.carries.kept_before fails.moment;
   told = omega (arith, told, more);
 }
 
-pub commits : (a b c : DeviceState) (v v' v'' : LogMemory) (n number : ℕ) → Goes a b v v' n → Publishes b c v' v'' number
+pub commits : (a b c : DeviceState) (v v' v'' : LogMemory) (n version number : ℕ) → Goes a b v v' n → Publishes b c v' v'' version number
     → clean_in v.usage.segments ≤ clean_in v'.usage.segments + segments_for (length v.dirty.blocks)
     → length v.usage.segments + 8 * segments_for (length v.dirty.blocks) ≤ 8 * (clean_in v.usage.segments + emptied_in v.usage.segments)
     → v''.chunk.names ≡ [] → v''.dirty.blocks ≡ [] → v''.dirty.capacity ≡ v.dirty.capacity
-    → length b.told + 3 ≤ length a.told + orders_for (length v.dirty.blocks) → length c.told ≤ length b.told + 3 → CommitsAll a c v v'' number
-commits a b c v v' v'' n number goes done taken spare chunk dirty capacity told more = record {
+    → length b.told + 3 ≤ length a.told + orders_for (length v.dirty.blocks) → length c.told ≤ length b.told + 3 → CommitsAll a c v v'' version number
+commits a b c v v' v'' n version number goes done taken spare chunk dirty capacity told more = record {
   carries = carries_then a b c goes.carries done.carries;
   memory = done.memory;
   chunk = chunk;
@@ -89,8 +89,8 @@ commits a b c v v' v'' n number goes done taken spare chunk dirty capacity told 
   many = let size = done.segments ∙ goes.segments in omega (arith, size, spare, gains);
   cleaned = λ s is. emptied_clean v'.usage v''.usage s done.released (goes.emptied s is);
   no_failure = done.no_failure ∙ goes.no_failure;
-  log = λ k m0 m keeps is. done.log k m0 m keeps (acknowledged_on a b v v' n number goes (done.carries.kept_before keeps) k m0 m is);
-  moment = either_then a b c v v' n number goes done.carries.kept_before done.moment;
+  log = λ k m0 m keeps is. done.log k m0 m keeps (acknowledged_on a b v v' n version number goes (done.carries.kept_before keeps) k m0 m is);
+  moment = either_then a b c v v' n version number goes done.carries.kept_before done.moment;
   told = omega (arith, told, more);
 }
   where

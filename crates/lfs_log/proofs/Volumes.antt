@@ -1,13 +1,12 @@
 -- The log over its device: what its calls do, from what is done to device and memory.
 use Rattle.std.proofs.Common.{◌≡◌, ◌<◌, ◌≤◌, ◌+◌, ℕ, Bool, true, false, List, Option, length, refl, sym, ◌∙◌, ap, subst, arith}
-use Rattle.lfs_model.specs.Checkpoint.{CheckpointValue, Layout, layout_of}
+use Rattle.lfs_model.specs.Checkpoint.{CheckpointValue}
 use Rattle.lfs_model.specs.Crash.{StandsOn}
 use Rattle.lfs_model.specs.Device.{DeviceState, AllLeft}
 use Rattle.lfs_model.specs.Encodes.{IsLogMap}
 use Rattle.lfs_model.specs.Stands.{LogMap, StandsLog}
 use Rattle.lfs_model.proofs.Crash.{single_log}
 use Rattle.lfs_model.specs.TreeOf.{dropped}
-use Rattle.lfs_model.proofs.Layouts.{one_layout}
 use Rattle.lfs_model.proofs.Settled.{settled_stands}
 use Rattle.lfs_memory.specs.files.declared.header.Header.{Header}
 use Rattle.lfs_log.specs.Opening.{Opens}
@@ -29,19 +28,20 @@ use Rattle.lfs_memory.specs.Staging.{StandsWithBatch, TakesBatch, RefusesBatch, 
 use Rattle.lfs_memory.proofs.Applied.{has_inode}
 use Rattle.lfs_memory.proofs.BlockSteps.{tightened_log}
 use Rattle.lfs_memory.proofs.Presents.{looks_none, no_inode, same_map}
+use Rattle.lfs_memory.proofs.Versions.{staged_version}
 use Rattle.lfs_log.specs.Held.{Held, Holds, Mounts, Saves, Halts, ReadsHeader, ReadsBlock, IsReadFault, Alters, IsStaged, IsRefused, IsStageFault, IsRemoved, IsKept, IsVacant, HasAll, HoldsOne}
 
 module _ {D : Type 0} (state : D → DeviceState) where
-  acknowledged : (h : Held D) (k : CheckpointValue) (m0 m : LogMap) → Holds state h k m0 m → IsLogMap (dropped m) → IsAcknowledged (state h.device) h.memory h.number k m0 m
-  acknowledged h k m0 m holds map = record { log = holds.log; map = map; same = holds.number }
+  acknowledged : (h : Held D) (k : CheckpointValue) (m0 m : LogMap) → Holds state h k m0 m → IsLogMap (dropped m) → IsAcknowledged (state h.device) h.memory h.version h.number k m0 m
+  acknowledged h k m0 m holds map = record { log = holds.log; map = map; same = holds.number; same_version = holds.version }
 
-  -- checkpoints over as many numbers in memory have one layout
-  pub same_layout : (h h' : Held D) (k next : CheckpointValue) (m0 m m0' m' : LogMap) → length h'.memory.usage.segments ≡ length h.memory.usage.segments
-      → Holds state h k m0 m → Holds state h' next m0' m' → layout_of next ≡ layout_of k
-  same_layout h h' k next m0 m m0' m' same is is' = one_layout k next (sym is'.log.segments ∙ same ∙ is.log.segments) refl
+  -- checkpoints over as many numbers in memory have as many segments
+  pub same_segments : (h h' : Held D) (k next : CheckpointValue) (m0 m m0' m' : LogMap) → length h'.memory.usage.segments ≡ length h.memory.usage.segments
+      → Holds state h k m0 m → Holds state h' next m0' m' → next.segments ≡ k.segments
+  same_segments h h' k next m0 m m0' m' same is is' = sym is'.log.segments ∙ same ∙ is.log.segments
 
-  pub saves : (h h' : Held D) → length h.memory.dirty.blocks ≤ 456 → CommitsAll (state h.device) (state h'.device) h.memory h'.memory h.number → h'.number ≡ h.number + 1 → h'.halted ≡ false → Saves state h h'
-  saves h h' few c number running = record {
+  pub saves : (h h' : Held D) → length h.memory.dirty.blocks ≤ 456 → CommitsAll (state h.device) (state h'.device) h.memory h'.memory h.version h.number → h'.number ≡ h.number + 1 → h'.version ≡ h.version → h'.halted ≡ false → Saves state h h'
+  saves h h' few c number version running = record {
     carries = c.carries;
     running = running;
     number = number;
@@ -55,7 +55,7 @@ module _ {D : Type 0} (state : D → DeviceState) where
     holds = holds;
     left = λ k m0 m keeps is map. (
         let n = holds k m0 m keeps is map in
-        subst (λ (l : Layout). AllLeft (state h'.device) (λ c. StandsOn l c (dropped m))) (same_layout h h' k n.0 m0 m (dropped m) m c.segments is n.1)
+        subst (λ (l : ℕ). AllLeft (state h'.device) (λ c. StandsOn l c (dropped m))) (same_segments h h' k n.0 m0 m (dropped m) m c.segments is n.1)
         (settled_stands (state h'.device) n.0 (dropped m) n.1.log.running.settled));
     moment = λ k m0 m keeps is map. c.moment k m0 m keeps (acknowledged h k m0 m is map);
   }
@@ -63,9 +63,9 @@ module _ {D : Type 0} (state : D → DeviceState) where
       holds : (k : CheckpointValue) (m0 m : LogMap) → (state h'.device).keeps_model → Holds state h k m0 m → IsLogMap (dropped m) → (next : CheckpointValue) × Holds state h' next (dropped m) m
       holds k m0 m keeps is map =
           let n = c.log k m0 m keeps (acknowledged h k m0 m is map) in
-          (n.0, record { log = n.2; number = n.1 ∙ sym number; running = running })
+          (n.0, record { log = n.2; number = n.1 ∙ sym number; version = is.version ∙ sym version; running = running })
 
-  pub halts : (h h' : Held D) → CommitFails (state h.device) (state h'.device) h.memory h.number → h'.halted ≡ true → h'.number ≡ h.number → Halts state h h'
+  pub halts : (h h' : Held D) → CommitFails (state h.device) (state h'.device) h.memory h.version h.number → h'.halted ≡ true → h'.number ≡ h.number → Halts state h h'
   halts h h' c halted number = record {
     carries = c.carries;
     halted = halted;
@@ -75,8 +75,8 @@ module _ {D : Type 0} (state : D → DeviceState) where
     moment = λ k m0 m keeps is map. c.moment k m0 m keeps (acknowledged h k m0 m is map);
   }
 
-  pub mounts : (d : D) (h : Held D) → Opens (state d) (state h.device) h.memory h.number → h.halted ≡ false → Mounts state d h
-  mounts d h opens running m keeps is = let o = opens m keeps is in record { log = o.0; number = o.1; running = running }
+  pub mounts : (d : D) (h : Held D) → Opens (state d) (state h.device) h.memory h.version h.number → h.halted ≡ false → Mounts state d h
+  mounts d h opens running m keeps is = let o = opens m keeps is in record { log = o.0; number = o.1; version = o.2; running = running }
 
   pub reads_header : (h h' : Held D) (n : ℕ) (found : Option Header) → AnswersHeader (state h.device) (state h'.device) h.memory n found → ReadsHeader state h h' n found
   reads_header h h' n found answers k m0 m keeps is = answers k m0 m keeps (loose (state h.device) h.memory k m0 m is.log)
@@ -88,16 +88,17 @@ module _ {D : Type 0} (state : D → DeviceState) where
   read_fault h h' excused k m0 m keeps is = excused k m0 m keeps (loose (state h.device) h.memory k m0 m is.log)
 
   -- ---- memory changes, and then blocks of pointers that lead nowhere leave it
-  held_tight : (h h' : Held D) (v : LogMemory) (k : CheckpointValue) (m0 m w : LogMap) → Holds state h k m0 m → h'.number ≡ h.number → h'.halted ≡ h.halted → Tightens v h'.memory
+  held_tight : (h h' : Held D) (v : LogMemory) (k : CheckpointValue) (m0 m w : LogMap) → Holds state h k m0 m → h'.number ≡ h.number → h'.version ≡ h.version → w.version ≡ m.version → h'.halted ≡ h.halted → Tightens v h'.memory
       → IsLoose (state h'.device) v k m0 w → Holds state h' k m0 w
-  held_tight h h' v k m0 m w is number halted tight loose = record { log = tightened_log (state h'.device) v h'.memory k m0 w tight loose; number = is.number ∙ sym number; running = halted ∙ is.running }
+  held_tight h h' v k m0 m w is number version same halted tight loose = record { log = tightened_log (state h'.device) v h'.memory k m0 w tight loose; number = is.number ∙ sym number; version = same ∙ is.version ∙ sym version; running = halted ∙ is.running }
 
-  module _ (h h' : Held D) (v : LogMemory) (number : h'.number ≡ h.number) (halted : h'.halted ≡ h.halted) (tight : Tightens v h'.memory) where
+  module _ (h h' : Held D) (v : LogMemory) (number : h'.number ≡ h.number) (version : h'.version ≡ h.version) (halted : h'.halted ≡ h.halted) (tight : Tightens v h'.memory) where
     module _ (c : Changes) where
       stood : StandsWithBatch (state h.device) (state h'.device) h.memory v c.headers.items c.blocks.items → Alters state h h' (room_for c)
       stood s = record {
         looks = s.looks;
         number = number;
+        version = version;
         halted = halted;
         segments = tight.stays.segments ∙ s.segments;
         clean = tight.stays.clean ∙ s.clean;
@@ -106,16 +107,17 @@ module _ {D : Type 0} (state : D → DeviceState) where
       }
 
       pub is_staged : TakesBatch (state h.device) (state h'.device) h.memory v c.loss c.headers.items c.blocks.items → IsStaged state h h' c
-      is_staged s = record { alters = stood s.stands; holds = λ k m0 m keeps is fits. held_tight h h' v k m0 m _ is number halted tight (s.log k m0 m keeps (loose (state h.device) h.memory k m0 m is.log) fits) }
+      is_staged s = record { alters = stood s.stands; holds = λ k m0 m keeps is fits. held_tight h h' v k m0 m _ is number version (staged_version c m) halted tight (s.log k m0 m keeps (loose (state h.device) h.memory k m0 m is.log) fits) }
 
       pub is_refused : RefusesBatch (state h.device) (state h'.device) h.memory v c.loss c.headers.items c.blocks.items → IsRefused state h h' c
-      is_refused s = record { alters = stood s.stands; holds = λ k m0 m keeps is fits. held_tight h h' v k m0 m m is number halted tight (s.log k m0 m keeps (loose (state h.device) h.memory k m0 m is.log) fits) }
+      is_refused s = record { alters = stood s.stands; holds = λ k m0 m keeps is fits. held_tight h h' v k m0 m m is number version refl halted tight (s.log k m0 m keeps (loose (state h.device) h.memory k m0 m is.log) fits) }
 
     pub is_removed : (n : ℕ) → RemovesFile (state h.device) (state h'.device) h.memory v n → IsRemoved state h h' n
     is_removed n s = record {
       alters = record {
         looks = s.looks;
         number = number;
+        version = version;
         halted = halted;
         segments = tight.stays.segments ∙ s.segments;
         clean = tight.stays.clean ∙ s.clean;
@@ -123,7 +125,7 @@ module _ {D : Type 0} (state : D → DeviceState) where
         few = let x = s.few in let y = tight.stays.blocks in omega (arith, x, y);
       };
       untaken = λ before segment. subst (λ (u : UsageTable). kept_of u segment ≡ used_of u segment) (sym tight.usage) (s.kept segment ∙ before segment ∙ sym (s.used segment));
-      holds = λ k m0 m keeps is. held_tight h h' v k m0 m _ is number halted tight (s.log k m0 m keeps (loose (state h.device) h.memory k m0 m is.log));
+      holds = λ k m0 m keeps is. held_tight h h' v k m0 m _ is number version refl halted tight (s.log k m0 m keeps (loose (state h.device) h.memory k m0 m is.log));
     }
 
     pub is_kept : Prepares (state h.device) (state h'.device) h.memory v 0 → IsKept state h h'
@@ -131,6 +133,7 @@ module _ {D : Type 0} (state : D → DeviceState) where
       alters = record {
         looks = s.looks;
         number = number;
+        version = version;
         halted = halted;
         segments = tight.stays.segments ∙ s.segments;
         clean = tight.stays.clean ∙ s.clean;
@@ -138,7 +141,7 @@ module _ {D : Type 0} (state : D → DeviceState) where
         few = let x = s.few in let y = tight.stays.blocks in omega (arith, x, y);
       };
       untaken = λ before segment. subst (λ (u : UsageTable). kept_of u segment ≡ used_of u segment) (sym tight.usage) (s.kept segment ∙ before segment ∙ sym (s.used segment));
-      holds = λ k m0 m keeps is. held_tight h h' v k m0 m m is number halted tight (s.log k m0 m keeps (loose (state h.device) h.memory k m0 m is.log));
+      holds = λ k m0 m keeps is. held_tight h h' v k m0 m m is number version refl halted tight (s.log k m0 m keeps (loose (state h.device) h.memory k m0 m is.log));
     }
 
   pub is_stage_fault : (h h' : Held D) (c : Changes) → IsBatchExcused (state h.device) (state h'.device) h.memory c.loss c.headers.items c.blocks.items → IsStageFault state h h' c
@@ -146,7 +149,7 @@ module _ {D : Type 0} (state : D → DeviceState) where
 
   -- nothing happened
   pub alters_none : (h : Held D) (more : ℕ) → Alters state h h more
-  alters_none h more = record { looks = looks_none (state h.device); number = refl; halted = refl; segments = refl; clean = refl; capacity = refl; few = omega arith }
+  alters_none h more = record { looks = looks_none (state h.device); number = refl; version = refl; halted = refl; segments = refl; clean = refl; capacity = refl; few = omega arith }
 
   -- ---- numbers that no file has
   has_there : (h : Held D) (k : CheckpointValue) (m0 m : LogMap) → Holds state h k m0 m → (l : ℕ) → 0 < address_in h.memory.map l → HasInode m l
@@ -167,7 +170,7 @@ module _ {D : Type 0} (state : D → DeviceState) where
   pub holds_one : (h : Held D) → HoldsOne state h
   holds_one h = record {
     present = λ k k' m0 m m0' m' is is'.
-        same_map (state h.device) h.memory k k' m0 m m0' m' (loose (state h.device) h.memory k m0 m is.log) (loose (state h.device) h.memory k' m0' m' is'.log);
+        same_map (state h.device) h.memory k k' m0 m m0' m' (loose (state h.device) h.memory k m0 m is.log) (loose (state h.device) h.memory k' m0' m' is'.log) (is.version ∙ sym is'.version);
     acknowledged = λ k k' m0 m m0' m' is is'. single_log (state h.device).content m0 m0' (stands_for h k m0 m is) (stands_for h k' m0' m' is');
   }
     where

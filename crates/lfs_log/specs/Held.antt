@@ -1,10 +1,10 @@
--- What contracts see of a log: its device, what memory holds, the number of the acknowledged checkpoint, whether a commit failed, and
+-- What contracts see of a log: its device, what memory holds, the number of the acknowledged checkpoint, the version of the layout, whether a commit failed, and
 -- the blocks of all files.
 use Rattle.std.specs.Prelude.{◌≡◌, ◌⊎◌, ◌<◌, ◌≤◌, ◌+◌, ◌-◌, ◌*◌, ◌/◌, ◌^◌, ℕ, zero, suc, Bool, true, false, List, [], length, refl, Option, None}
 use Rattle.std.specs.Coded.{Coded, code_by, coded×, coded_ℕ, coded_bool, coded_list, coded_option}
 use Rattle.lfs_model.specs.declared.BlockKind.{BlockKind}
 use Rattle.lfs_model.specs.declared.BlockKind.TheVariants as kind
-use Rattle.lfs_model.specs.Checkpoint.{CheckpointValue, Layout, layout_of}
+use Rattle.lfs_model.specs.Checkpoint.{CheckpointValue}
 use Rattle.lfs_model.specs.Content.{Content}
 use Rattle.lfs_model.specs.Crash.{StandsOn, StandsForOn}
 use Rattle.lfs_model.specs.Device.{DeviceState, Carries, LeavesOnly, AllLeft}
@@ -32,6 +32,7 @@ pub record Held (D : Type 0) : Type 0 where
   pub device : D
   pub memory : LogMemory
   pub number : ℕ
+  pub version : ℕ
   pub halted : Bool
   pub totals : BlockTotals
 
@@ -111,9 +112,9 @@ totals_code = code_by (ℕ × ℕ) (coded× coded_ℕ coded_ℕ) (λ t. (t.data_
 
 abbrev pub held_code : {D : Type 0} → Coded D → Coded (Held D)
 held_code {D} device =
-    code_by (D × (LogMemory × (ℕ × (Bool × BlockTotals)))) (coded× device (coded× memory_code (coded× coded_ℕ (coded× coded_bool totals_code))))
-    (λ h. (h.device, (h.memory, (h.number, (h.halted, h.totals)))))
-    (λ p. record { device = p.0; memory = p.1.0; number = p.1.1.0; halted = p.1.1.1.0; totals = p.1.1.1.1 })
+    code_by (D × (LogMemory × (ℕ × (ℕ × (Bool × BlockTotals))))) (coded× device (coded× memory_code (coded× coded_ℕ (coded× coded_ℕ (coded× coded_bool totals_code)))))
+    (λ h. (h.device, (h.memory, (h.number, (h.version, (h.halted, h.totals))))))
+    (λ p. record { device = p.0; memory = p.1.0; number = p.1.1.0; version = p.1.1.1.0; halted = p.1.1.1.1.0; totals = p.1.1.1.1.1 })
     (λ _. refl)
 
 -- What a log keeps true over any device, until a commit failed. Its memory takes as many blocks as one commit may write.
@@ -148,19 +149,20 @@ module _ {D : Type 0} (state : D → DeviceState) where
   pub record Holds (h : Held D) (k : CheckpointValue) (m0 m : LogMap) : Type 0 where
     pub log : IsLog (state h.device) h.memory k m0 m
     pub number : k.number ≡ h.number
+    pub version : m.version ≡ h.version
     pub running : h.halted ≡ false
 
   -- a mount gives the log map that the device stands for, all of it durable
   abbrev pub Mounts : D → Held D → Type 0
   Mounts d h = (m : LogMap) → (state h.device).keeps_model → (is : StandsLog (state d).content m) → Holds h is.checkpoint m m
 
-  -- the acknowledged map, or the present one without its files of no links, in this layout
-  abbrev pub IsSaved : Layout → LogMap → LogMap → Content → Type 0
-  IsSaved layout m0 m c = StandsForOn layout m0 (dropped m) c
+  -- the acknowledged map, or the present one without its files of no links, on so many segments
+  abbrev pub IsSaved : ℕ → LogMap → LogMap → Content → Type 0
+  IsSaved segments m0 m c = StandsForOn segments m0 (dropped m) c
 
   -- a stop at any moment leaves one of these
   abbrev pub LeavesSaved : Held D → Held D → Type 0
-  LeavesSaved h h' = (k : CheckpointValue) (m0 m : LogMap) → (state h'.device).keeps_model → Holds h k m0 m → IsLogMap (dropped m) → LeavesOnly (state h.device) (state h'.device) (IsSaved (layout_of k) m0 m)
+  LeavesSaved h h' = (k : CheckpointValue) (m0 m : LogMap) → (state h'.device).keeps_model → Holds h k m0 m → IsLogMap (dropped m) → LeavesOnly (state h.device) (state h'.device) (IsSaved k.segments m0 m)
 
   -- A commit: the present map, without its files of no links, is what is acknowledged.
   pub record Saves (h h' : Held D) : Type 0 where
@@ -176,7 +178,7 @@ module _ {D : Type 0} (state : D → DeviceState) where
     pub untaken : AreUntaken h'.memory.usage
     pub no_failure : (state h'.device).failures ≡ (state h.device).failures
     pub holds : (k : CheckpointValue) (m0 m : LogMap) → (state h'.device).keeps_model → Holds h k m0 m → IsLogMap (dropped m) → (next : CheckpointValue) × Holds h' next (dropped m) m
-    pub left : (k : CheckpointValue) (m0 m : LogMap) → (state h'.device).keeps_model → Holds h k m0 m → IsLogMap (dropped m) → AllLeft (state h'.device) (λ c. StandsOn (layout_of k) c (dropped m))
+    pub left : (k : CheckpointValue) (m0 m : LogMap) → (state h'.device).keeps_model → Holds h k m0 m → IsLogMap (dropped m) → AllLeft (state h'.device) (λ c. StandsOn k.segments c (dropped m))
     pub moment : LeavesSaved h h'
 
   -- One that a failure of the device ended.
@@ -185,7 +187,7 @@ module _ {D : Type 0} (state : D → DeviceState) where
     pub halted : h'.halted ≡ true
     pub number : h'.number ≡ h.number
     pub cause : (k : CheckpointValue) (m0 m : LogMap) → (state h'.device).keeps_model → Holds h k m0 m → (state h.device).failures < (state h'.device).failures
-    pub left : (k : CheckpointValue) (m0 m : LogMap) → (state h'.device).keeps_model → Holds h k m0 m → IsLogMap (dropped m) → AllLeft (state h'.device) (IsSaved (layout_of k) m0 m)
+    pub left : (k : CheckpointValue) (m0 m : LogMap) → (state h'.device).keeps_model → Holds h k m0 m → IsLogMap (dropped m) → AllLeft (state h'.device) (IsSaved k.segments m0 m)
     pub moment : LeavesSaved h h'
 
   -- A call that only reads: memory is as it was.
@@ -193,6 +195,7 @@ module _ {D : Type 0} (state : D → DeviceState) where
     pub looks : Looks (state h.device) (state h'.device)
     pub memory : h'.memory ≡ h.memory
     pub number : h'.number ≡ h.number
+    pub version : h'.version ≡ h.version
     pub halted : h'.halted ≡ h.halted
     pub totals : h'.totals ≡ h.totals
 
@@ -218,6 +221,7 @@ module _ {D : Type 0} (state : D → DeviceState) where
   pub record Alters (h h' : Held D) (more : ℕ) : Type 0 where
     pub looks : Looks (state h.device) (state h'.device)
     pub number : h'.number ≡ h.number
+    pub version : h'.version ≡ h.version
     pub halted : h'.halted ≡ h.halted
     pub segments : length h'.memory.usage.segments ≡ length h.memory.usage.segments
     pub clean : clean_in h'.memory.usage.segments ≡ clean_in h.memory.usage.segments

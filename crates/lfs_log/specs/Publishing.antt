@@ -1,6 +1,6 @@
 -- What the end of a commit does: the checkpoint that leads to all that is out.
 use Rattle.std.specs.Prelude.{◌≡◌, ◌<◌, ◌≤◌, ◌+◌, ◌*◌, ℕ, false, [], length, get_or}
-use Rattle.lfs_model.specs.Checkpoint.{CheckpointValue, FitsCheckpoint, layout_of}
+use Rattle.lfs_model.specs.Checkpoint.{CheckpointValue, FitsCheckpoint, layout_version}
 use Rattle.lfs_model.specs.Crash.{StandsForOn}
 use Rattle.lfs_model.specs.Device.{DeviceState, Carries, Elapses, IsUntouched, LeavesOnly, AllLeft}
 use Rattle.lfs_model.specs.Encodes.{IsLogMap}
@@ -33,37 +33,39 @@ pub record IsAllOut (v : LogMemory) : Type 0 where
   pub fresh : (j : ℕ) → j < blocks_in v.usage → stale_of v.usage j ≡ false
   pub many : length v.usage.segments ≤ 8 * spare_in v.usage.segments
 
--- the checkpoint after this number
-pub record IsNext (v : LogMemory) (old : ℕ) (next : CheckpointValue) : Type 0 where
+-- the checkpoint of this version after this number
+pub record IsNext (v : LogMemory) (version old : ℕ) (next : CheckpointValue) : Type 0 where
   pub fits : FitsCheckpoint next
   pub number : next.number ≡ old + 1
   pub segments : next.segments ≡ length v.usage.segments
+  pub same_version : layout_version next ≡ version
   pub map : (j : ℕ) → j < 32 → get_or next.map j 0 ≡ block_in v.map j
   pub usage : (j : ℕ) → j < 16 → get_or next.usage j 0 ≡ address_of v.usage j
 
--- memory and device hold log map m, and the acknowledged checkpoint, of this number, stands for m0
-pub record IsAcknowledged (d : DeviceState) (v : LogMemory) (number : ℕ) (k : CheckpointValue) (m0 m : LogMap) : Type 0 where
+-- memory and device hold log map m, of this version, and the acknowledged checkpoint, of this number, stands for m0
+pub record IsAcknowledged (d : DeviceState) (v : LogMemory) (version number : ℕ) (k : CheckpointValue) (m0 m : LogMap) : Type 0 where
   pub log : IsLog d v k m0 m
   pub map : IsLogMap (dropped m)
   pub same : k.number ≡ number
+  pub same_version : m.version ≡ version
 
--- a stop at any moment leaves what was acknowledged, or all that is out, in the same layout
-abbrev pub LeavesEither : DeviceState → DeviceState → LogMemory → ℕ → Type 0
-LeavesEither d d' v number = (k : CheckpointValue) (m0 m : LogMap) → d'.keeps_model → IsAcknowledged d v number k m0 m → LeavesOnly d d' (StandsForOn (layout_of k) m0 (dropped m))
+-- a stop at any moment leaves what was acknowledged, or all that is out, on as many segments
+abbrev pub LeavesEither : DeviceState → DeviceState → LogMemory → ℕ → ℕ → Type 0
+LeavesEither d d' v version number = (k : CheckpointValue) (m0 m : LogMap) → d'.keeps_model → IsAcknowledged d v version number k m0 m → LeavesOnly d d' (StandsForOn k.segments m0 (dropped m))
 
 -- The next checkpoint is acknowledged.
-pub record Publishes (d d' : DeviceState) (v v' : LogMemory) (number : ℕ) : Type 0 where
+pub record Publishes (d d' : DeviceState) (v v' : LogMemory) (version number : ℕ) : Type 0 where
   pub carries : Carries d d'
   pub memory : IsMemory v'
   pub segments : length v'.usage.segments ≡ length v.usage.segments
   pub released : Releases v.usage v'.usage
   pub no_failure : d'.failures ≡ d.failures
-  pub log : (k : CheckpointValue) (m0 m : LogMap) → d'.keeps_model → IsAcknowledged d v number k m0 m → (next : CheckpointValue) × (next.number ≡ number + 1) × IsLog d' v' next (dropped m) m
-  pub moment : LeavesEither d d' v number
+  pub log : (k : CheckpointValue) (m0 m : LogMap) → d'.keeps_model → IsAcknowledged d v version number k m0 m → (next : CheckpointValue) × (next.number ≡ number + 1) × IsLog d' v' next (dropped m) m
+  pub moment : LeavesEither d d' v version number
 
 -- A failure of the device ended it: a stop from now on leaves the one or the other.
-pub record PublishFails (d d' : DeviceState) (v : LogMemory) (number : ℕ) : Type 0 where
+pub record PublishFails (d d' : DeviceState) (v : LogMemory) (version number : ℕ) : Type 0 where
   pub carries : Carries d d'
   pub failed : d.failures < d'.failures
-  pub left : (k : CheckpointValue) (m0 m : LogMap) → d'.keeps_model → IsAcknowledged d v number k m0 m → AllLeft d' (StandsForOn (layout_of k) m0 (dropped m))
-  pub moment : LeavesEither d d' v number
+  pub left : (k : CheckpointValue) (m0 m : LogMap) → d'.keeps_model → IsAcknowledged d v version number k m0 m → AllLeft d' (StandsForOn k.segments m0 (dropped m))
+  pub moment : LeavesEither d d' v version number

@@ -1,6 +1,6 @@
 -- What a commit does.
 use Rattle.std.specs.Prelude.{◌≡◌, ◌<◌, ◌≤◌, ◌+◌, ◌*◌, ◌/◌, ℕ, [], length}
-use Rattle.lfs_model.specs.Checkpoint.{CheckpointValue, layout_of}
+use Rattle.lfs_model.specs.Checkpoint.{CheckpointValue}
 use Rattle.lfs_model.specs.Crash.{StandsForOn}
 use Rattle.lfs_model.specs.Device.{DeviceState, Carries, AllLeft}
 use Rattle.lfs_model.specs.Stands.{LogMap}
@@ -34,7 +34,7 @@ IsSpared v = length v.usage.segments + 8 * segments_for (length v.dirty.blocks) 
 
 -- All that memory holds is saved, but for files without a name; no more segments were taken for it than its blocks want, those that
 -- were emptied are clean besides those that were, and an eighth is clean at least.
-pub record CommitsAll (d d' : DeviceState) (v v' : LogMemory) (number : ℕ) : Type 0 where
+pub record CommitsAll (d d' : DeviceState) (v v' : LogMemory) (version number : ℕ) : Type 0 where
   pub carries : Carries d d'
   pub memory : IsMemory v'
   pub chunk : v'.chunk.names ≡ []
@@ -46,14 +46,14 @@ pub record CommitsAll (d d' : DeviceState) (v v' : LogMemory) (number : ℕ) : T
   pub many : length v'.usage.segments ≤ 8 * clean_in v'.usage.segments
   pub cleaned : (s : ℕ) → IsEmptied v.usage s → used_of v'.usage s ≡ 0
   pub no_failure : d'.failures ≡ d.failures
-  pub log : (k : CheckpointValue) (m0 m : LogMap) → d'.keeps_model → IsAcknowledged d v number k m0 m → (next : CheckpointValue) × (next.number ≡ number + 1) × IsLog d' v' next (dropped m) m
-  pub moment : LeavesEither d d' v number
+  pub log : (k : CheckpointValue) (m0 m : LogMap) → d'.keeps_model → IsAcknowledged d v version number k m0 m → (next : CheckpointValue) × (next.number ≡ number + 1) × IsLog d' v' next (dropped m) m
+  pub moment : LeavesEither d d' v version number
   pub told : length d'.told ≤ length d.told + orders_for (length v.dirty.blocks)
 
 -- A failure of the device ended it: a stop from now on leaves what was acknowledged, or what was to be saved.
-pub record CommitFails (d d' : DeviceState) (v : LogMemory) (number : ℕ) : Type 0 where
+pub record CommitFails (d d' : DeviceState) (v : LogMemory) (version number : ℕ) : Type 0 where
   pub carries : Carries d d'
   pub cause : (k : CheckpointValue) (m0 m : LogMap) → d'.keeps_model → IsLog d v k m0 m → d.failures < d'.failures
-  pub left : (k : CheckpointValue) (m0 m : LogMap) → d'.keeps_model → IsAcknowledged d v number k m0 m → AllLeft d' (StandsForOn (layout_of k) m0 (dropped m))
-  pub moment : LeavesEither d d' v number
+  pub left : (k : CheckpointValue) (m0 m : LogMap) → d'.keeps_model → IsAcknowledged d v version number k m0 m → AllLeft d' (StandsForOn k.segments m0 (dropped m))
+  pub moment : LeavesEither d d' v version number
   pub told : length d'.told ≤ length d.told + orders_for (length v.dirty.blocks)

@@ -5,9 +5,11 @@ ghost use Rattle.lfs_memory.specs.segments.Table.{clean_in};
 ghost use Rattle.lfs_log.specs.Settling.{AreAnew};
 ghost use Rattle.lfs_memory.specs.Memory.{IsMemory, AreMapsOut, HasRoom, Goes, Stops, room_of};
 ghost use Rattle.lfs_log.specs.Publishing.{IsAllOut};
+ghost use Rattle.lfs_log.specs.Versions.{number_of};
 ghost use Rattle.lfs_log.specs.Saving.{CommitsAll, CommitFails, IsSpared, orders_for, segments_for};
 ghost use Rattle.lfs_log.specs.Telling.{orders_due};
 
+use crate::layout_version::LayoutVersion;
 use crate::mapping::save_map;
 use crate::placing::{save_files, seal};
 use crate::publishing::publish;
@@ -102,6 +104,7 @@ fn write_out<D: SectorDevice>(
 pub fn save<D: SectorDevice>(
     device: &mut D,
     memory: &mut LogMemory,
+    version: LayoutVersion,
     number: u64,
 ) -> Result<(), DeviceFault>
     requires memory { IsMemory memory.old }
@@ -112,12 +115,12 @@ pub fn save<D: SectorDevice>(
         ≤ clean_in memory.old.usage.segments }
     requires spare { IsSpared memory.old }
     ensures done { OnOk result (CommitsAll (D.state device.old) (D.state device.new) memory.old
-        memory.new number) }
+        memory.new (number_of version) number) }
     ensures stopped { OnErr result (CommitFails (D.state device.old) (D.state device.new) memory.old
-        number) }
+        (number_of version) number) }
 {
     let age = u32::try_from(number + 1).unwrap_or(u32::MAX);
     write_out(device, memory, age)?;
-    publish(device, memory, number)?;
+    publish(device, memory, version, number)?;
     Ok(())
 }

@@ -3,6 +3,7 @@
 
 pub mod cleaning;
 pub mod committing;
+mod layout_version;
 mod log;
 pub mod mapping;
 pub mod opening;
@@ -17,4 +18,5 @@ pub use lfs_memory::{
 };
 pub use lfs_verify as verify;
 pub use lfs_verify::{BlockTotals, MountFault};
+pub use layout_version::LayoutVersion;
 pub use log::Log;

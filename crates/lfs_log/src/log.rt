@@ -1,5 +1,6 @@
 //! The log of a volume, over its device.
 ghost use Rattle.std.specs.Prelude.{[], ◌≡◌, ◌≢◌, ◌<◌, ◌≤◌, ◌+◌, ◌-◌, ◌*◌, ◌^◌, true, false, length, IfSome, IfNone, IfOk, IfErr, OnOk, OnErr, IsErrOf, MatchResult, IsTrue, IsFalse};
+ghost use Rattle.lfs_model.specs.Checkpoint.{IsVersion};
 ghost use Rattle.lfs_model.specs.Device.{Only, IsUntouched, Carries, LeavesOnly};
 ghost use Rattle.lfs_model.specs.Fields.{zeros};
 ghost use Rattle.lfs_model.specs.Members.{AreApart};
@@ -16,6 +17,7 @@ ghost use Rattle.lfs_log.specs.Publishing.{AreUntaken};
 
 use crate::cleaning::{SavedTables, may_clean, most_of, relocate};
 use crate::committing::save;
+use crate::layout_version::LayoutVersion;
 use crate::opening::{MOST_DIRTY, open_memory};
 use lfs_device::SectorDevice;
 use lfs_memory::counting::SegmentCounts;
@@ -36,6 +38,7 @@ pub struct Log<D: SectorDevice> {
     device: D,
     memory: LogMemory,
     number: u64,
+    version: LayoutVersion,
     halted: bool,
     /// The blocks of all files, as they are staged.
     totals: BlockTotals,
@@ -47,6 +50,7 @@ pub struct Log<D: SectorDevice> {
 
 impl<D: SectorDevice> Model for Log<D> {
     ghost use Rattle.lfs_log.specs.Held.{Held, held_code, HoldsUnlessHalted};
+    ghost use Rattle.lfs_log.specs.Versions.{number_of};
 
     ghost Value = { Held D };
 
@@ -56,6 +60,7 @@ impl<D: SectorDevice> Model for Log<D> {
       device = l.device;
       memory = l.memory;
       number = l.number;
+      version = number_of l.version;
       halted = l.halted;
       totals = l.totals;
     } };
@@ -139,11 +144,13 @@ impl<D: SectorDevice> Log<D> {
         let Ok(counts) = SegmentCounts::new(alloc) else {
             return Err((MountFault::NoMemory, device));
         };
+        let version = LayoutVersion::new(tables.version);
         match open_memory(alloc, tables) {
             Ok(opened) => Ok(Log {
                 device,
                 memory: opened.memory,
                 number: opened.number,
+                version,
                 halted: false,
                 totals: opened.totals,
                 counts,
@@ -193,6 +200,14 @@ impl<D: SectorDevice> Log<D> {
         ensures { result ≡ self.now.number }
     {
         self.number
+    }
+
+    /// The version of the volume's layout.
+    pub fn version(&self) -> u32
+        ensures known { IsVersion result }
+        ensures value { result ≡ self.now.version }
+    {
+        self.version.number()
     }
 
     /// How many segments the volume has.
@@ -459,7 +474,7 @@ impl<D: SectorDevice> Log<D> {
         if self.is_full() {
             return Err(LogFault::Full);
         }
-        match save(&mut self.device, &mut self.memory, self.number) {
+        match save(&mut self.device, &mut self.memory, self.version, self.number) {
             Ok(()) => {
                 self.number += 1;
                 Ok(())
@@ -523,7 +538,7 @@ impl<D: SectorDevice> Log<D> {
             Err(LiftFault::Full) => return Err(LogFault::Full),
             Err(LiftFault::Device) => return Err(LogFault::Device),
         }
-        let Ok(()) = save(&mut self.device, &mut self.memory, self.number) else {
+        let Ok(()) = save(&mut self.device, &mut self.memory, self.version, self.number) else {
             self.halted = true;
             return Err(LogFault::Halted);
         };

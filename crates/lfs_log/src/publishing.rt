@@ -4,8 +4,10 @@ ghost use Rattle.lfs_model.specs.Device.{Only};
 ghost use Rattle.lfs_memory.specs.segments.Table.{address_of};
 ghost use Rattle.lfs_memory.specs.inodes.MapValue.{block_in};
 ghost use Rattle.lfs_memory.specs.Memory.{IsMemory, HasRoom};
+ghost use Rattle.lfs_log.specs.Versions.{number_of};
 ghost use Rattle.lfs_log.specs.Publishing.{IsAllOut, IsNext, LeavesEither, Publishes, PublishFails, Syncs};
 
+use crate::layout_version::LayoutVersion;
 use lfs_device::{DeviceFault, SectorDevice};
 use lfs_layout::Checkpoint;
 use lfs_memory::LogMemory;
@@ -35,15 +37,16 @@ fn usage_blocks(usage: &Usage) -> [u32; 16]
     blocks
 }
 
-/// The checkpoint after the one of this number.
-fn next_checkpoint(memory: &LogMemory, number: u64) -> Checkpoint
+/// The checkpoint after the one of this number, in this version.
+fn next_checkpoint(memory: &LogMemory, version: LayoutVersion, number: u64) -> Checkpoint
     requires memory { IsMemory memory.now }
     requires number { number < 2 ^ 64 - 1 }
-    ensures { IsNext memory.now number result }
+    ensures { IsNext memory.now (number_of version) number result }
 {
     Checkpoint::new(
         number + 1,
         memory.usage.segments(),
+        version.number(),
         map_blocks(&memory.map),
         usage_blocks(&memory.usage),
     )
@@ -72,6 +75,7 @@ fn make_durable<D: SectorDevice>(device: &mut D) -> Result<(), DeviceFault>
 pub fn publish<D: SectorDevice>(
     device: &mut D,
     memory: &mut LogMemory,
+    version: LayoutVersion,
     number: u64,
 ) -> Result<(), DeviceFault>
     requires memory { IsMemory memory.old }
@@ -79,17 +83,18 @@ pub fn publish<D: SectorDevice>(
     requires number { number < 2 ^ 64 - 1 }
     requires out { IsAllOut memory.old }
     ensures done { OnOk result (Publishes (D.state device.old) (D.state device.new) memory.old
-        memory.new number) }
+        memory.new (number_of version) number) }
     ensures stopped { OnErr result (PublishFails (D.state device.old) (D.state device.new)
-        memory.old number) }
-    ensures moment { LeavesEither (D.state device.old) (D.state device.new) memory.old number }
+        memory.old (number_of version) number) }
+    ensures moment { LeavesEither (D.state device.old) (D.state device.new) memory.old
+        (number_of version) number }
     ensures map { memory.new.map ≡ memory.old.map }
     ensures dirty { memory.new.dirty ≡ memory.old.dirty }
     ensures chunk { memory.new.chunk ≡ memory.old.chunk }
     ensures told { length (D.state device.new).told ≤ length (D.state device.old).told + 3 }
 {
     make_durable(device)?;
-    let next = next_checkpoint(memory, number);
+    let next = next_checkpoint(memory, version, number);
     replace(device, &next)?;
     memory.usage.release();
     Ok(())

@@ -214,7 +214,7 @@ fn change(store: &mut Store<MemDevice>, call: Call) -> bool {
 /// Calls the store: whether the call was done.
 fn is_done(store: &mut Store<MemDevice>, call: Call) -> bool {
     match call {
-        Call::Create(file, kind) => store.create(number_of(file), kind).is_ok(),
+        Call::Create(file, kind) => store.create(number_of(file), kind, 0).is_ok(),
         Call::CreateLink(file, size) => store.create_link(number_of(file), size.min(1_023)).is_ok(),
         Call::WriteBlock(size, index, byte) => {
             write(store, size, index.min(16_623) * 512, 512, byte)

@@ -87,11 +87,11 @@ pub below_grown : (v v' : LogMemory) (x : Entry) → Grows v v' x → (y : Entry
 below_grown v v' x go y up = (zeros 512, ap (blocks_of v'.dirty) up ∙ go.comes.own)
 
 -- ---- as a header changes, or a file is made
-pub headed_memory : (v v' : LogMemory) (n : ℕ) (kind : Kind) (links size : ℕ) → ChangesHeader v v' n kind links size → (z : Entry) → IsInMemory v z → IsInMemory v' z
-headed_memory v v' n kind links size go z has = holds_changed (blocks_of v.dirty) (blocks_of v'.dirty) (Inode n) _ go.changes z has
+pub headed_memory : (v v' : LogMemory) (n : ℕ) (kind : Kind) (form links size : ℕ) → ChangesHeader v v' n kind form links size → (z : Entry) → IsInMemory v z → IsInMemory v' z
+headed_memory v v' n kind form links size go z has = holds_changed (blocks_of v.dirty) (blocks_of v'.dirty) (Inode n) _ go.changes z has
 
-pub created_memory : (v v' : LogMemory) (n : ℕ) (kind : Kind) (links size : ℕ) → Creates v v' n kind links size → (z : Entry) → IsInMemory v z → IsInMemory v' z
-created_memory v v' n kind links size go z has = holds_changed (blocks_of v.dirty) (blocks_of v'.dirty) (Inode n) _ go.changes z has
+pub created_memory : (v v' : LogMemory) (n : ℕ) (kind : Kind) (form links size : ℕ) → Creates v v' n kind form links size → (z : Entry) → IsInMemory v z → IsInMemory v' z
+created_memory v v' n kind form links size go z has = holds_changed (blocks_of v.dirty) (blocks_of v'.dirty) (Inode n) _ go.changes z has
 
-pub below_created : (v v' : LogMemory) (n : ℕ) (kind : Kind) (links size : ℕ) → Creates v v' n kind links size → (y : Entry) → parent y ≡ Inode n → HasAbove (blocks_of v'.dirty) y
-below_created v v' n kind links size go y up = (_, ap (blocks_of v'.dirty) up ∙ go.changes.own)
+pub below_created : (v v' : LogMemory) (n : ℕ) (kind : Kind) (form links size : ℕ) → Creates v v' n kind form links size → (y : Entry) → parent y ≡ Inode n → HasAbove (blocks_of v'.dirty) y
+below_created v v' n kind form links size go y up = (_, ap (blocks_of v'.dirty) up ∙ go.changes.own)

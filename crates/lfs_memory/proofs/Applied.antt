@@ -60,7 +60,7 @@ keeps_files v v' e go = zero_or (address_in v.map e.number) (KeepsFiles v v' e.n
     (λ none.
     let c = go.creates none in
     record {
-      stay = created_memory v v' e.number e.header.kind e.header.links e.header.size c;
+      stay = created_memory v v' e.number e.header.kind e.header.form e.header.links e.header.size c;
       own = λ at. (_, c.changes.own);
       others = c.address.others;
       same = λ some. absurd (omega (arith, some, none));
@@ -69,7 +69,7 @@ keeps_files v v' e go = zero_or (address_in v.map e.number) (KeepsFiles v v' e.n
     (λ some.
     let c = go.changes some in
     record {
-      stay = headed_memory v v' e.number e.header.kind e.header.links e.header.size c;
+      stay = headed_memory v v' e.number e.header.kind e.header.form e.header.links e.header.size c;
       own = λ at. absurd (omega (arith, some, at));
       others = λ l ne. ap (λ (a : MapValue). address_in a l) c.map;
       same = λ at. ap (λ (a : MapValue). address_in a e.number) c.map;

@@ -37,11 +37,12 @@ is_cut m n first = record {
   headers = λ k ne. refl;
   block = λ i. refl;
   blocks = λ k i ne. cond-false (k == n && nat_le first i) [] (m.block k i) (false_from_ne_true _ (λ on. ne (eqb-true k n (and_parts (k == n) (nat_le first i) on).0)));
+  version = refl;
 }
 
 -- a file without blocks stays as it is
 none_cut : (m : LogMap) (n first : ℕ) → ((i : ℕ) → m.block n i ≡ []) → m ≡ cut_from n first m
-none_cut m n first none = ap (λ (block : ℕ → ℕ → List ℕ). record { header = m.header; block = block }) (fun_ext (λ k. fun_ext (λ i. same k i)))
+none_cut m n first none = ap (λ (block : ℕ → ℕ → List ℕ). record { header = m.header; block = block; version = m.version }) (fun_ext (λ k. fun_ext (λ i. same k i)))
   where
     same : (k i : ℕ) → m.block k i ≡ cond (k == n && nat_le first i) [] (m.block k i)
     same k i = ⊎_elim

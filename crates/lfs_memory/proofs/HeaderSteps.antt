@@ -44,16 +44,16 @@ nameless_with m n h = ap is_unlinked (is_with_header m n (Some h)).own
 -- An inode in memory has another header; the file has a name after it where it had one, and its inode map block is to be written then.
 pub header_changed : (d : DeviceState) (v v' : LogMemory) (k : CheckpointValue) (m0 m : LogMap) → IsLoose d v k m0 m → (n : ℕ) → n < 4096 → (kind : Kind) (form links size : ℕ) → FitsHeader kind form links size
     → (links == 0) ≡ is_hidden_in v.map n → ((links == 0) ≡ false → block_in v.map (n / 128) ≡ 1)
-    → ChangesHeader v v' n kind links size → IsLoose d v' k m0 (with_header m n (Some (header_with kind form links size)))
+    → ChangesHeader v v' n kind form links size → IsLoose d v' k m0 (with_header m n (Some (header_with kind form links size)))
 header_changed d v v' k m0 m is n few kind form links size fits same mapped go =
     let h = header_with kind form links size in
     let m' = with_header m n (Some h) in
     let holds = inode_held d v k m0 m is n go.old go.there in
-    let says : header (headed kind n links size go.old) ≡ h = header_headed n go.old holds kind form links size fits in
+    let says : header (headed kind form n links size go.old) ≡ h = header_headed n go.old holds kind form links size fits in
     record {
       running = as_memory d (blocks_of v'.dirty) k m0 m' v v' (tables_of v) go.stays.chunk (tables_same v v' go.map go.usage)
-          (header_changing d (blocks_of v.dirty) (blocks_of v'.dirty) (tables_of v) k m0 m m' (segment_in v.chunk) (chunk_in v.chunk) n go.old (headed kind n links size go.old) is.running go.there
-          (holds_headed n go.old holds kind form links size fits) (λ w high low. headed_words kind n links size go.old w (omega (arith, high)))
+          (header_changing d (blocks_of v.dirty) (blocks_of v'.dirty) (tables_of v) k m0 m m' (segment_in v.chunk) (chunk_in v.chunk) n go.old (headed kind form n links size go.old) is.running go.there
+          (holds_headed n go.old holds kind form links size fits) (λ w high low. headed_words kind form n links size go.old w (omega (arith, high)))
           (subst (λ (g : Header). IsWithHeader m n (Some g) m') (sym says) (is_with_header m n (Some h)))
           (nameless_with m n h ∙ same ∙ sym (is.hidden n few))
           (λ named. mapped (sym (nameless_with m n h) ∙ named))
@@ -63,7 +63,7 @@ header_changed d v v' k m0 m is n few kind form links size fits same mapped go =
     }
 
 -- ---- a new file
-module _ (v v' : LogMemory) (n : ℕ) (kind : Kind) (links size : ℕ) (go : Creates v v' n kind links size) where
+module _ (v v' : LogMemory) (n : ℕ) (kind : Kind) (form links size : ℕ) (go : Creates v v' n kind form links size) where
   other_tops : (y : Entry) → (y ≡ Inode n → ⊥) → table_at v'.map v'.usage y ≡ table_at v.map v.usage y
   other_tops (Data l i) ne = refl
   other_tops (Leaf l q) ne = refl
@@ -86,20 +86,20 @@ module _ (v v' : LogMemory) (n : ℕ) (kind : Kind) (links size : ℕ) (go : Cre
 -- A file is made under a number that had none; its inode map block is to be written, if it has a name.
 pub file_created : (d : DeviceState) (v v' : LogMemory) (k : CheckpointValue) (m0 m : LogMap) → IsLoose d v k m0 m → (n : ℕ) → 1 ≤ n → n < 4096 → address_in v.map n ≡ 0
     → (kind : Kind) (form links size : ℕ) → FitsHeader kind form links size → ((links == 0) ≡ false → block_in v.map (n / 128) ≡ 1)
-    → Creates v v' n kind links size → IsLoose d v' k m0 (with_header m n (Some (header_with kind form links size)))
+    → Creates v v' n kind form links size → IsLoose d v' k m0 (with_header m n (Some (header_with kind form links size)))
 file_created d v v' k m0 m is n some few none kind form links size fits mapped go =
     let h = header_with kind form links size in
     let m' = with_header m n (Some h) in
-    let bytes = headed kind n links size (zeros 512) in
+    let bytes = headed kind form n links size (zeros 512) in
     let high : n ≤ 4095 = omega (arith, few) in
     let says : header bytes ≡ h = header_new n some high kind form links size fits in
     record {
       running = as_memory d (blocks_of v'.dirty) k m0 m' v v' (tables_of v') go.stays.chunk refl
           (file_creating d (blocks_of v.dirty) (blocks_of v'.dirty) (tables_of v) (tables_of v') k m0 m m' (segment_in v.chunk) (chunk_in v.chunk) n bytes is.running none
-          (holds_new n some high kind form links size fits) (λ w low up. new_words kind n links size w (omega (arith, low)))
+          (holds_new n some high kind form links size fits) (λ w low up. new_words kind form n links size w (omega (arith, low)))
           (subst (λ (g : Header). IsWithHeader m n (Some g) m') (sym says) (is_with_header m n (Some h)))
           (λ named. mapped (sym (nameless_with m n h) ∙ named))
-          go.changes (readdressed v v' n kind links size go));
+          go.changes (readdressed v v' n kind form links size go));
       hidden = hidden_with v.map v'.map m n h is.hidden (sym go.hidden.own) go.hidden.others;
       segments = go.stays.segments ∙ is.segments;
     }

@@ -3,10 +3,9 @@ use Rattle.std.proofs.Common.{◌≡◌, ◌<◌, ◌≤◌, ◌+◌, ◌*◌, �
 use Rattle.std.specs.Prelude.{replicate}
 use Rattle.std.proofs.lemmas.List.{append-nil}
 use Rattle.lfs_model.specs.declared.Kind.{Kind}
-use Rattle.lfs_model.specs.declared.Kind.TheVariants.{File, Directory, Link}
 use Rattle.lfs_model.specs.Entry.{header, word}
 use Rattle.lfs_model.specs.Fields.{zeros, le32, words, Are32, number_of, read32, part}
-use Rattle.lfs_model.specs.Inode.{InodeValue, IsForm, IsSize, inode_sector, inode_sector_of, kind_byte}
+use Rattle.lfs_model.specs.Inode.{InodeValue, inode_sector, kind_byte}
 use Rattle.lfs_model.specs.Laid.{HoldsInode}
 use Rattle.lfs_model.proofs.Numbers.{length-le32, length-zeros}
 use Rattle.lfs_model.proofs.Patching.{header_holds}
@@ -18,13 +17,14 @@ drop_past [] ys k n is = ap (λ (m : ℕ). drop m ys) (let e : 0 + k ≡ k = ome
 drop_past (x ∷ xs) ys k zero is = absurd (omega (arith, is))
 drop_past (x ∷ xs) ys k (suc n) is = drop_past xs ys k n (omega (arith, is))
 
--- past the header, of 1, 3, 4, 4 and 4 bytes
-module _ (a : ℕ) (l s z : ℕ) (r : List ℕ) where
-  past : (n : ℕ) → 16 ≤ n → drop n ((a ∷ []) ++ zeros 3 ++ le32 l ++ le32 s ++ le32 z ++ r) ≡ drop (n - 16) r
+-- past the header, of 1, 1, 2, 4, 4 and 4 bytes
+module _ (a f : ℕ) (l s z : ℕ) (r : List ℕ) where
+  past : (n : ℕ) → 16 ≤ n → drop n ((a ∷ []) ++ (f ∷ []) ++ zeros 2 ++ le32 l ++ le32 s ++ le32 z ++ r) ≡ drop (n - 16) r
   unfolding le32 zeros
   past n room =
-      drop_past (a ∷ []) (zeros 3 ++ le32 l ++ le32 s ++ le32 z ++ r) (n - 1) n (omega (arith, room))
-      ∙ drop_past (zeros 3) (le32 l ++ le32 s ++ le32 z ++ r) (n - 4) (n - 1) (let e = length-zeros 3 in omega (arith, room, e))
+      drop_past (a ∷ []) ((f ∷ []) ++ zeros 2 ++ le32 l ++ le32 s ++ le32 z ++ r) (n - 1) n (omega (arith, room))
+      ∙ drop_past (f ∷ []) (zeros 2 ++ le32 l ++ le32 s ++ le32 z ++ r) (n - 2) (n - 1) (omega (arith, room))
+      ∙ drop_past (zeros 2) (le32 l ++ le32 s ++ le32 z ++ r) (n - 4) (n - 2) (let e = length-zeros 2 in omega (arith, room, e))
       ∙ drop_past (le32 l) (le32 s ++ le32 z ++ r) (n - 8) (n - 4) (let e = length-le32 l in omega (arith, room, e))
       ∙ drop_past (le32 s) (le32 z ++ r) (n - 12) (n - 8) (let e = length-le32 s in omega (arith, room, e))
       ∙ drop_past (le32 z) r (n - 16) (n - 12) (let e = length-le32 z in omega (arith, room, e))
@@ -33,44 +33,32 @@ module _ (a : ℕ) (l s z : ℕ) (r : List ℕ) where
 abbrev tail : InodeValue → List ℕ
 tail i = zeros 16 ++ (words i.direct ++ (le32 i.single ++ (le32 i.double ++ (zeros 24 ++ []))))
 
-sector_is : (i : InodeValue) → inode_sector i ≡ (kind_byte i.kind ∷ []) ++ zeros 3 ++ le32 i.number ++ le32 i.links ++ le32 i.size ++ tail i
-unfolding inode_sector inode_sector_of zeros le32
+sector_is : (i : InodeValue) → inode_sector i ≡ (kind_byte i.kind ∷ []) ++ (i.form ∷ []) ++ zeros 2 ++ le32 i.number ++ le32 i.links ++ le32 i.size ++ tail i
+unfolding inode_sector zeros le32
 sector_is i = refl
 
 tail_is : (i : InodeValue) → drop 16 (inode_sector i) ≡ tail i
-tail_is i = ap (drop 16) (sector_is i) ∙ past (kind_byte i.kind) i.number i.links i.size (tail i) 16 (omega arith)
+tail_is i = ap (drop 16) (sector_is i) ∙ past (kind_byte i.kind) i.form i.number i.links i.size (tail i) 16 (omega arith)
 
-abbrev relabeled : InodeValue → Kind → ℕ → ℕ → InodeValue
-relabeled i kind links size = record i { kind = kind; links = links; size = size }
+abbrev relabeled : InodeValue → Kind → ℕ → ℕ → ℕ → InodeValue
+relabeled i kind form links size = record i { kind = kind; form = form; links = links; size = size }
 
-headed_sector : (i : InodeValue) (kind : Kind) (n links size : ℕ) (bytes : List ℕ) → i.number ≡ n → drop 16 bytes ≡ tail i → headed kind n links size bytes ≡ inode_sector (relabeled i kind links size)
-headed_sector i kind n links size bytes own is =
-    ap (λ (r : List ℕ). (kind_byte kind ∷ []) ++ zeros 3 ++ le32 n ++ le32 links ++ le32 size ++ r) is
-    ∙ ap (λ (l : ℕ). (kind_byte kind ∷ []) ++ zeros 3 ++ le32 l ++ le32 links ++ le32 size ++ tail i) (sym own)
-    ∙ sym (sector_is (relabeled i kind links size))
-
--- the first version has the first form alone
-form_first : (kind : Kind) (form : ℕ) → IsForm 1 kind form → form ≡ 0
-form_first kind zero is = refl
-form_first File (suc form) is = absurd is
-form_first Directory (suc form) is = absurd (omega (arith, is))
-form_first Link (suc form) is = absurd is
-
-size_first : (kind : Kind) (form links size : ℕ) → FitsHeader kind form links size → IsSize 0 kind size
-size_first kind form links size fits = subst (λ (f : ℕ). IsSize f kind size) (form_first kind form fits.known) fits.size_fits
-
-header_first : (kind : Kind) (form links size : ℕ) → FitsHeader kind form links size → header_with kind 0 links size ≡ header_with kind form links size
-header_first kind form links size fits = ap (λ (f : ℕ). header_with kind f links size) (sym (form_first kind form fits.known))
+headed_sector : (i : InodeValue) (kind : Kind) (form n links size : ℕ) (bytes : List ℕ) → i.number ≡ n → drop 16 bytes ≡ tail i → headed kind form n links size bytes ≡ inode_sector (relabeled i kind form links size)
+headed_sector i kind form n links size bytes own is =
+    ap (λ (r : List ℕ). (kind_byte kind ∷ []) ++ (form ∷ []) ++ zeros 2 ++ le32 n ++ le32 links ++ le32 size ++ r) is
+    ∙ ap (λ (l : ℕ). (kind_byte kind ∷ []) ++ (form ∷ []) ++ zeros 2 ++ le32 l ++ le32 links ++ le32 size ++ tail i) (sym own)
+    ∙ sym (sector_is (relabeled i kind form links size))
 
 -- an inode with another header is one
-pub holds_headed : (n : ℕ) (old : List ℕ) → HoldsInode n old → (kind : Kind) (form links size : ℕ) → FitsHeader kind form links size → HoldsInode n (headed kind n links size old)
+pub holds_headed : (n : ℕ) (old : List ℕ) → HoldsInode n old → (kind : Kind) (form links size : ℕ) → FitsHeader kind form links size → HoldsInode n (headed kind form n links size old)
 holds_headed n old holds kind form links size fits = record {
-  value = relabeled holds.value kind links size;
-  spelt = headed_sector holds.value kind n links size old holds.own (ap (drop 16) holds.spelt ∙ tail_is holds.value);
+  value = relabeled holds.value kind form links size;
+  spelt = headed_sector holds.value kind form n links size old holds.own (ap (drop 16) holds.spelt ∙ tail_is holds.value);
   fits = record {
     number = holds.fits.number;
     links = holds.fits.links;
-    size = size_first kind form links size fits;
+    form = fits.known;
+    size = fits.size_fits;
     direct_length = holds.fits.direct_length;
     direct_fits = holds.fits.direct_fits;
     single_fits = holds.fits.single_fits;
@@ -91,14 +79,14 @@ dropped (suc k) (suc m) [] le = drop_none (suc m - suc k)
 dropped (suc k) (suc m) (b ∷ bs) le = ap (λ (j : ℕ). drop j (drop k bs)) (let e : suc m - suc k ≡ m - k = omega arith in e) ∙ dropped k m bs (omega (arith, le))
 
 -- past its header it is as it was
-pub headed_words : (kind : Kind) (n links size : ℕ) (old : List ℕ) (w : ℕ) → 4 ≤ w → word (headed kind n links size old) w ≡ word old w
+pub headed_words : (kind : Kind) (form n links size : ℕ) (old : List ℕ) (w : ℕ) → 4 ≤ w → word (headed kind form n links size old) w ≡ word old w
 unfolding word read32 part
-headed_words kind n links size old w high =
-    ap (λ (b : List ℕ). number_of (take 4 b)) (past (kind_byte kind) n links size (drop 16 old) (4 * w) (omega (arith, high)) ∙ dropped 16 (4 * w) old (omega (arith, high)))
+headed_words kind form n links size old w high =
+    ap (λ (b : List ℕ). number_of (take 4 b)) (past (kind_byte kind) form n links size (drop 16 old) (4 * w) (omega (arith, high)) ∙ dropped 16 (4 * w) old (omega (arith, high)))
 
-pub header_headed : (n : ℕ) (old : List ℕ) → HoldsInode n old → (kind : Kind) (form links size : ℕ) → FitsHeader kind form links size → header (headed kind n links size old) ≡ header_with kind form links size
+pub header_headed : (n : ℕ) (old : List ℕ) → HoldsInode n old → (kind : Kind) (form links size : ℕ) → FitsHeader kind form links size → header (headed kind form n links size old) ≡ header_with kind form links size
 unfolding holds_headed
-header_headed n old holds kind form links size fits = header_holds n (headed kind n links size old) (holds_headed n old holds kind form links size fits) ∙ header_first kind form links size fits
+header_headed n old holds kind form links size fits = header_holds n (headed kind form n links size old) (holds_headed n old holds kind form links size fits)
 
 -- ---- a new inode, whose pointers are 0
 zeros_then : (a b : ℕ) → zeros (a + b) ≡ zeros a ++ zeros b
@@ -116,11 +104,11 @@ no_words zero = refl
 no_words (suc n) = ap (λ (l : List ℕ). le32 0 ++ l) (no_words n) ∙ ap (λ (l : List ℕ). l ++ zeros (4 * n)) four ∙ sym (zeros_then 4 (4 * n)) ∙ ap zeros (let e : 4 + 4 * n ≡ 4 * suc n = omega arith in e)
 
 -- the inode of a new file, but for its header
-abbrev new_inode : Kind → ℕ → ℕ → ℕ → InodeValue
-new_inode kind n links size = record { kind = kind; number = n; links = links; size = size; direct = replicate 112 0; single = 0; double = 0 }
+abbrev new_inode : Kind → ℕ → ℕ → ℕ → ℕ → InodeValue
+new_inode kind form n links size = record { kind = kind; form = form; number = n; links = links; size = size; direct = replicate 112 0; single = 0; double = 0 }
 
-new_tail : (kind : Kind) (n links size : ℕ) → drop 16 (zeros 512) ≡ tail (new_inode kind n links size)
-new_tail kind n links size =
+new_tail : (kind : Kind) (form n links size : ℕ) → drop 16 (zeros 512) ≡ tail (new_inode kind form n links size)
+new_tail kind form n links size =
     ap (drop 16) (zeros_then 16 496) ∙ drop_past (zeros 16) (zeros 496) 0 16 (let e = length-zeros 16 in omega (arith, e))
     ∙ zeros_then 16 480 ∙ ap (λ (l : List ℕ). zeros 16 ++ l)
     (zeros_then 448 32 ∙ ap (λ (l : List ℕ). l ++ zeros 32) (sym (no_words 112)) ∙ ap (λ (l : List ℕ). words (replicate 112 0) ++ l)
@@ -136,15 +124,16 @@ length_same : (n : ℕ) → length {A = ℕ} (replicate n 0) ≡ n
 length_same zero = refl
 length_same (suc n) = ap (λ (k : ℕ). suc k) (length_same n)
 
-pub holds_new : (n : ℕ) → 1 ≤ n → n ≤ 4095 → (kind : Kind) (form links size : ℕ) → FitsHeader kind form links size → HoldsInode n (headed kind n links size (zeros 512))
+pub holds_new : (n : ℕ) → 1 ≤ n → n ≤ 4095 → (kind : Kind) (form links size : ℕ) → FitsHeader kind form links size → HoldsInode n (headed kind form n links size (zeros 512))
 unfolding Are32
 holds_new n low high kind form links size fits = record {
-  value = new_inode kind n links size;
-  spelt = headed_sector (new_inode kind n links size) kind n links size (zeros 512) refl (new_tail kind n links size);
+  value = new_inode kind form n links size;
+  spelt = headed_sector (new_inode kind form n links size) kind form n links size (zeros 512) refl (new_tail kind form n links size);
   fits = record {
     number = (low, high);
     links = (omega arith, omega arith);
-    size = size_first kind form links size fits;
+    form = fits.known;
+    size = fits.size_fits;
     direct_length = length_same 112;
     direct_fits = are_32 112;
     single_fits = omega arith;
@@ -154,9 +143,9 @@ holds_new n low high kind form links size fits = record {
   own = refl;
 }
 
-pub header_new : (n : ℕ) → 1 ≤ n → n ≤ 4095 → (kind : Kind) (form links size : ℕ) → FitsHeader kind form links size → header (headed kind n links size (zeros 512)) ≡ header_with kind form links size
+pub header_new : (n : ℕ) → 1 ≤ n → n ≤ 4095 → (kind : Kind) (form links size : ℕ) → FitsHeader kind form links size → header (headed kind form n links size (zeros 512)) ≡ header_with kind form links size
 unfolding holds_new
-header_new n low high kind form links size fits = header_holds n (headed kind n links size (zeros 512)) (holds_new n low high kind form links size fits) ∙ header_first kind form links size fits
+header_new n low high kind form links size fits = header_holds n (headed kind form n links size (zeros 512)) (holds_new n low high kind form links size fits)
 
-pub new_words : (kind : Kind) (n links size w : ℕ) → 4 ≤ w → word (headed kind n links size (zeros 512)) w ≡ 0
-new_words kind n links size w high = headed_words kind n links size (zeros 512) w high ∙ word_zeros 512 w
+pub new_words : (kind : Kind) (form n links size w : ℕ) → 4 ≤ w → word (headed kind form n links size (zeros 512)) w ≡ 0
+new_words kind form n links size w high = headed_words kind form n links size (zeros 512) w high ∙ word_zeros 512 w

@@ -32,3 +32,4 @@ pub mod SegmentsTaken
 pub mod Pressed
 pub use Rattle.lfs_segments.proofs as of_segments
 pub use Rattle.lfs_inodes.proofs as of_inodes
+pub mod Versions

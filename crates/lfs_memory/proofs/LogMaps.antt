@@ -40,6 +40,7 @@ is_with_block m n i bytes = record {
   header = λ k. refl;
   own = own_block m n i bytes;
   others = λ k l ne. other_block m n i bytes k l ne;
+  version = refl;
 }
 
 -- the block that it had
@@ -61,6 +62,7 @@ is_with_header m n h = record {
   own = ap (λ (b : Bool). cond b h (m.header n)) (equal_yes n n refl);
   others = λ k ne. ap (λ (b : Bool). cond b h (m.header k)) (equal_no k n ne);
   block = λ k l. refl;
+  version = refl;
 }
 
 -- ---- blocks of zeros

@@ -2,7 +2,7 @@
 use Rattle.std.proofs.Common.{◌≡◌, ◌<◌, ◌≤◌, ◌⊎◌, ⊎_elim, ◌-◌, ◌/◌, ℕ, List, [], length, Some, None, refl, Option, sym, ◌∙◌, ap, ap₂, subst, arith, inl, inr, zero, suc, Bool, true, false}
 use Rattle.std.proofs.Math.Path.{fun_ext}
 use Rattle.std.proofs.lemmas.Bool.{cases_eq, cases_lt}
-use Rattle.lfs_model.specs.Checkpoint.{CheckpointValue, layout_of}
+use Rattle.lfs_model.specs.Checkpoint.{CheckpointValue}
 use Rattle.lfs_model.specs.Content.{Content, block, bytes_of}
 use Rattle.lfs_model.specs.Crash.{StandsOn}
 use Rattle.lfs_model.specs.Device.{DeviceState, IsLawful, LeavesOnly}
@@ -39,9 +39,9 @@ still_log d d' v k m0 m looks is = record {
 }
 
 -- a stop meanwhile leaves what is acknowledged
-pub looks_quiet : (d d' : DeviceState) (v : LogMemory) (k : CheckpointValue) (m0 m : LogMap) → IsLawful d → Looks d d' → IsLoose d v k m0 m → LeavesOnly d d' (λ c. StandsOn (layout_of k) c m0)
+pub looks_quiet : (d d' : DeviceState) (v : LogMemory) (k : CheckpointValue) (m0 m : LogMap) → IsLawful d → Looks d d' → IsLoose d v k m0 m → LeavesOnly d d' (λ c. StandsOn k.segments c m0)
 looks_quiet d d' v k m0 m lawful looks is =
-    let P : Content → Type 0 = λ c. StandsOn (layout_of k) c m0 in
+    let P : Content → Type 0 = λ c. StandsOn k.segments c m0 in
     goes_on d d d' P (started d P lawful (settled_stands d k m0 is.running.settled)) looks.carries looks.time
     (settled_stands d' k m0 (settled_still d d' k m0 is.running.settled looks.untouched))
 
@@ -233,7 +233,7 @@ header_none d d' v n out false answer not_found k m0 m keeps log = answer k m0 m
 header_none d d' v n out true answer not_found k m0 m keeps log = absurd (cc)
 
 -- ---- memory and device hold one log map
-module _ (d : DeviceState) (v : LogMemory) (k k' : CheckpointValue) (m0 m m0' m' : LogMap) (is : IsLoose d v k m0 m) (is' : IsLoose d v k' m0' m') where
+module _ (d : DeviceState) (v : LogMemory) (k k' : CheckpointValue) (m0 m m0' m' : LogMap) (is : IsLoose d v k m0 m) (is' : IsLoose d v k' m0' m') (version : m.version ≡ m'.version) where
   same_header : (n : ℕ) → m.header n ≡ m'.header n
   same_header n = ⊎_elim
       (λ (none : address_in v.map n ≡ 0). no_inode d v k m0 m is n none ∙ sym (no_inode d v k' m0' m' is' n none))
@@ -269,4 +269,6 @@ module _ (d : DeviceState) (v : LogMemory) (k k' : CheckpointValue) (m0 m m0' m'
       (cases_eq (is.running.memory.at (Data n i)) 0)
 
   pub same_map : m ≡ m'
-  same_map = ap₂ (λ (h : ℕ → Option entry.Header) (b : ℕ → ℕ → List ℕ). record { header = h; block = b }) (fun_ext same_header) (fun_ext (λ n. fun_ext (same_block n)))
+  same_map =
+      ap₂ (λ (h : ℕ → Option entry.Header) (b : ℕ → ℕ → List ℕ). record m { header = h; block = b }) (fun_ext same_header) (fun_ext (λ n. fun_ext (same_block n)))
+      ∙ ap (λ (n : ℕ). record m' { version = n }) version

@@ -40,6 +40,7 @@ is_without m n = record {
   headers = λ k ne. cond-false (k == n) None (m.header k) (other_number k n ne);
   block = λ i. cond-true (n == n) [] (m.block n i) (same_number n);
   blocks = λ k i ne. cond-false (k == n) [] (m.block k i) (other_number k n ne);
+  version = refl;
 }
 
 module _ (d : DeviceState) (v v' : LogMemory) (k : CheckpointValue) (m0 m : LogMap) (is : IsLoose d v k m0 m) (n : ℕ) (low : n < 4096) (lives : Bool) (counts : List ℕ) (shown : lives ≡ not (is_hidden_in v.map n))

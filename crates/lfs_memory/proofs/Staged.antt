@@ -68,7 +68,7 @@ blocks_lost d d' v v' c go = record {
 in_range : (n : ℕ) → n ≤ 4095 → n < 4096
 in_range n few = omega (arith, few)
 
-pub link_lost : (d d' : DeviceState) (v v' : LogMemory) (l : LastLink) → Hides d d' v v' l.number l.kind l.size → Loses d d' v v' (loss.Link l)
+pub link_lost : (d d' : DeviceState) (v v' : LogMemory) (l : LastLink) → Hides d d' v v' l.number l.kind l.form l.size → Loses d d' v v' (loss.Link l)
 link_lost d d' v v' l go = record {
   looks = go.looks;
   memory = go.memory;
@@ -80,7 +80,7 @@ link_lost d d' v v' l go = record {
   stay = λ x kept has. go.stay x has;
   mapped = go.mapped;
   absent = go.absent;
-  log = λ k m0 m keeps is fits. go.log k m0 m keeps is l.form fits.0 (sym (is.hidden l.number (in_range l.number l.few)) ∙ fits.2);
+  log = λ k m0 m keeps is fits. go.log k m0 m keeps is fits.0 (sym (is.hidden l.number (in_range l.number l.few)) ∙ fits.2);
 }
 
 pub file_lost : (d d' : DeviceState) (v v' : LogMemory) (r : Removal) → RemovesFile d d' v v' r.number → Loses d d' v v' (loss.File r)

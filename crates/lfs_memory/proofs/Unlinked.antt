@@ -32,7 +32,7 @@ use Rattle.lfs_memory.proofs.Taken.{counts_covered}
 
 -- ---- the log map in which the file has no link
 module _ (d : DeviceState) (v v' : LogMemory) (k : CheckpointValue) (m0 m : LogMap) (is : IsLoose d v k m0 m) (n : ℕ) (low : n < 4096) (kind : Kind) (form size : ℕ) (fits : FitsHeader kind form 0 size) (counts : List ℕ)
-    (shown : is_hidden_in v.map n ≡ false) (counted : (s : ℕ) → get_or counts s 0 ≡ count_of (is_of n) is.running.memory s) (go : LosesLinks v v' n kind size counts) where
+    (shown : is_hidden_in v.map n ≡ false) (counted : (s : ℕ) → get_or counts s 0 ≡ count_of (is_of n) is.running.memory s) (go : LosesLinks v v' n kind form size counts) where
   same_tops : (x : Entry) → parent x ≡ x → (tables_of v').at x ≡ (tables_of v).at x
   same_tops (Data l i) top = refl
   same_tops (Leaf l q) top = refl
@@ -58,11 +58,11 @@ module _ (d : DeviceState) (v v' : LogMemory) (k : CheckpointValue) (m0 m : LogM
       let h = header_with kind form 0 size in
       let m' = with_header m n (Some h) in
       let holds = inode_held d v k m0 m is n go.old go.there in
-      let says : header (headed kind n 0 size go.old) ≡ h = header_headed n go.old holds kind form 0 size fits in
+      let says : header (headed kind form n 0 size go.old) ≡ h = header_headed n go.old holds kind form 0 size fits in
       record {
         running = as_memory d (blocks_of v'.dirty) k m0 m' v v' (tables_of v') go.chunk refl
-            (link_losing d (blocks_of v.dirty) (blocks_of v'.dirty) (tables_of v) (tables_of v') k m0 m m' (segment_in v.chunk) (chunk_in v.chunk) n go.old (headed kind n 0 size go.old) (counts_in counts)
-            is.running go.there (holds_headed n go.old holds kind form 0 size fits) (λ w high low. headed_words kind n 0 size go.old w (omega (arith, high)))
+            (link_losing d (blocks_of v.dirty) (blocks_of v'.dirty) (tables_of v) (tables_of v') k m0 m m' (segment_in v.chunk) (chunk_in v.chunk) n go.old (headed kind form n 0 size go.old) (counts_in counts)
+            is.running go.there (holds_headed n go.old holds kind form 0 size fits) (λ w high low. headed_words kind form n 0 size go.old w (omega (arith, high)))
             (subst (λ (g : Header). IsWithHeader m n (Some g) m') (sym says) (is_with_header m n (Some h)))
             (is.hidden n low ∙ shown) (nameless_with m n h) counted go.changes held_from);
         hidden = hidden_with v.map v'.map m n h is.hidden (sym go.hidden.own) go.hidden.others;
@@ -80,8 +80,8 @@ module _ (a b c : DeviceState) (v mid : LogMemory) (n : ℕ) (counts : List ℕ)
       let log = first.log k m0 m (looks.carries.kept_before keeps) is in
       absurd (counts_covered b mid k m0 m log n low true (sym (ap not shown_then)) (is_of n) (is_of_true n) counts (counted k m0 m keeps log) over)
 
-  pub file_hidden : (v' : LogMemory) (kind : Kind) (size : ℕ) → LosesLinks mid v' n kind size counts → Hides a c v v' n kind size
-  file_hidden v' kind size go = record {
+  pub file_hidden : (v' : LogMemory) (kind : Kind) (form size : ℕ) → LosesLinks mid v' n kind form size counts → Hides a c v v' n kind form size
+  file_hidden v' kind form size go = record {
     looks = looks_then a b c lawful first.looks looks;
     memory = kept_memory mid v' first.memory go.usage.size go.chunk go.usage.used go.usage.kept go.usage.last go.usage.address (never_fresh mid.usage v'.usage go.usage.stale) go.capacity;
     segments = go.usage.size ∙ first.segments;
@@ -93,7 +93,7 @@ module _ (a b c : DeviceState) (v mid : LogMemory) (n : ℕ) (counts : List ℕ)
     hidden = record { own = go.hidden.own; others = λ l ne. go.hidden.others l ne ∙ ap (λ (a : List Bool). get_or a l false) first.hidden };
     mapped = λ j one. ap (λ (a : List ℕ). get_or a j 0) go.blocks ∙ first.mapped j one;
     absent = λ l none. ap (λ (a : List ℕ). get_or a l 0) go.addresses ∙ first.absent l none;
-    log = λ k m0 m keeps is form fits _.
+    log = λ k m0 m keeps is fits _.
         let log = first.log k m0 m (looks.carries.kept_before keeps) is in
         still_log b c v' k m0 (with_header m n (Some (header_with kind form 0 size))) looks
         (links_lost b mid v' k m0 m log n low kind form size fits counts shown_then (counted k m0 m keeps log) go);
@@ -101,7 +101,7 @@ module _ (a b c : DeviceState) (v mid : LogMemory) (n : ℕ) (counts : List ℕ)
     where
       stays : (x : Entry) → IsInMemory mid x → IsInMemory v' x
       stays x there = ⊎_elim
-          (λ (here : x ≡ Inode n). (headed kind n 0 size go.old, ap (blocks_of v'.dirty) here ∙ go.changes.own))
+          (λ (here : x ≡ Inode n). (headed kind form n 0 size go.old, ap (blocks_of v'.dirty) here ∙ go.changes.own))
           (λ (ne : x ≡ Inode n → ⊥). (there.0, go.changes.others x ne ∙ there.1))
           (same_entry x (Inode n))
 

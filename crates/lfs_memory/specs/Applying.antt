@@ -50,8 +50,8 @@ AreBlocksFit m edits = AllByRecursion (λ (e : BlockEdit). HasInode m e.number) 
 
 -- A file has this header; it is made where it wasn't there.
 pub record AppliesHeader (v v' : LogMemory) (e : HeaderEdit) : Type 0 where
-  pub creates : address_in v.map e.number ≡ 0 → Creates v v' e.number e.header.kind e.header.links e.header.size
-  pub changes : 0 < address_in v.map e.number → ChangesHeader v v' e.number e.header.kind e.header.links e.header.size
+  pub creates : address_in v.map e.number ≡ 0 → Creates v v' e.number e.header.kind e.header.form e.header.links e.header.size
+  pub changes : 0 < address_in v.map e.number → ChangesHeader v v' e.number e.header.kind e.header.form e.header.links e.header.size
 
 -- the inode stands on the device
 abbrev pub IsInodeAway : LogMemory → ℕ → Type 0

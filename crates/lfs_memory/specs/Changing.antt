@@ -30,10 +30,10 @@ stored bytes = cond (is_blank bytes) [] bytes
 
 -- the log map with another block, and with another header
 abbrev pub with_block : LogMap → ℕ → ℕ → List ℕ → LogMap
-with_block m n i bytes = record { header = m.header; block = λ k l. cond ((k == n) && (l == i)) bytes (m.block k l) }
+with_block m n i bytes = record { header = m.header; block = λ k l. cond ((k == n) && (l == i)) bytes (m.block k l); version = m.version }
 
 abbrev pub with_header : LogMap → ℕ → Option Header → LogMap
-with_header m n h = record { header = λ k. cond (k == n) h (m.header k); block = m.block }
+with_header m n h = record { header = λ k. cond (k == n) h (m.header k); block = m.block; version = m.version }
 
 -- ---- steps
 
@@ -125,28 +125,28 @@ pub record Tightens (v v' : LogMemory) : Type 0 where
 
 -- ---- inodes
 
--- the inode of file n with another header, whose form is the first
-abbrev pub headed : Kind → ℕ → ℕ → ℕ → List ℕ → List ℕ
-headed kind n links size bytes = (kind_byte kind ∷ []) ++ zeros 3 ++ le32 n ++ le32 links ++ le32 size ++ drop 16 bytes
+-- the inode of file n with another header
+abbrev pub headed : Kind → ℕ → ℕ → ℕ → ℕ → List ℕ → List ℕ
+headed kind form n links size bytes = (kind_byte kind ∷ []) ++ (form ∷ []) ++ zeros 2 ++ le32 n ++ le32 links ++ le32 size ++ drop 16 bytes
 
 -- what it says
 abbrev pub header_with : Kind → ℕ → ℕ → ℕ → Header
 header_with kind form links size = record { kind = kind; form = form; links = links; size = size }
 
 -- The inode of file n, in memory, has another header, and the same pointers.
-pub record ChangesHeader (v v' : LogMemory) (n : ℕ) (kind : Kind) (links size : ℕ) : Type 0 where
+pub record ChangesHeader (v v' : LogMemory) (n : ℕ) (kind : Kind) (form links size : ℕ) : Type 0 where
   pub stays : Stays 0 v v'
   pub map : v'.map ≡ v.map
   pub usage : v'.usage ≡ v.usage
   pub old : List ℕ
   pub there : blocks_of v.dirty (Inode n) ≡ Some old
-  pub changes : ChangesTo (blocks_of v.dirty) (blocks_of v'.dirty) (Inode n) (Some (headed kind n links size old))
+  pub changes : ChangesTo (blocks_of v.dirty) (blocks_of v'.dirty) (Inode n) (Some (headed kind form n links size old))
 
 -- File n is made, in memory, without a block.
-pub record Creates (v v' : LogMemory) (n : ℕ) (kind : Kind) (links size : ℕ) : Type 0 where
+pub record Creates (v v' : LogMemory) (n : ℕ) (kind : Kind) (form links size : ℕ) : Type 0 where
   pub stays : Stays 1 v v'
   pub usage : v'.usage ≡ v.usage
   pub address : IsSet (address_in v.map) (address_in v'.map) n 1
   pub hidden : IsSet (is_hidden_in v.map) (is_hidden_in v'.map) n (links == 0)
   pub blocks : v'.map.blocks ≡ v.map.blocks
-  pub changes : ChangesTo (blocks_of v.dirty) (blocks_of v'.dirty) (Inode n) (Some (headed kind n links size (zeros 512)))
+  pub changes : ChangesTo (blocks_of v.dirty) (blocks_of v'.dirty) (Inode n) (Some (headed kind form n links size (zeros 512)))

@@ -25,6 +25,7 @@ abbrev pub cut_from : ℕ → ℕ → LogMap → LogMap
 cut_from n first m = record {
   header = m.header;
   block = λ k i. cond (k == n && nat_le first i) [] (m.block k i);
+  version = m.version;
 }
 
 -- ---- what points to the blocks that go

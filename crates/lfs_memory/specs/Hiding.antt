@@ -33,7 +33,7 @@ pub record HidesCounts (old new : UsageTable) (counts : ℕ → ℕ) : Type 0 wh
   pub clean : clean_in new.segments ≡ clean_in old.segments
 
 -- the inode of file n, in memory, has this kind and size and no link; so many blocks of each segment are the file's own
-pub record LosesLinks (v v' : LogMemory) (n : ℕ) (kind : Kind) (size : ℕ) (counts : List ℕ) : Type 0 where
+pub record LosesLinks (v v' : LogMemory) (n : ℕ) (kind : Kind) (form size : ℕ) (counts : List ℕ) : Type 0 where
   pub usage : HidesCounts v.usage v'.usage (counts_in counts)
   pub addresses : v'.map.addresses ≡ v.map.addresses
   pub hidden : IsSet (is_hidden_in v.map) (is_hidden_in v'.map) n true
@@ -43,10 +43,10 @@ pub record LosesLinks (v v' : LogMemory) (n : ℕ) (kind : Kind) (size : ℕ) (c
   pub few : length v'.dirty.blocks ≤ length v.dirty.blocks
   pub old : List ℕ
   pub there : blocks_of v.dirty (Inode n) ≡ Some old
-  pub changes : ChangesTo (blocks_of v.dirty) (blocks_of v'.dirty) (Inode n) (Some (headed kind n 0 size old))
+  pub changes : ChangesTo (blocks_of v.dirty) (blocks_of v'.dirty) (Inode n) (Some (headed kind form n 0 size old))
 
 -- A call after which file n, which had a name, has no link.
-pub record Hides (d d' : DeviceState) (v v' : LogMemory) (n : ℕ) (kind : Kind) (size : ℕ) : Type 0 where
+pub record Hides (d d' : DeviceState) (v v' : LogMemory) (n : ℕ) (kind : Kind) (form size : ℕ) : Type 0 where
   pub looks : Looks d d'
   pub memory : IsMemory v'
   pub segments : length v'.usage.segments ≡ length v.usage.segments
@@ -58,7 +58,7 @@ pub record Hides (d d' : DeviceState) (v v' : LogMemory) (n : ℕ) (kind : Kind)
   pub hidden : IsSet (is_hidden_in v.map) (is_hidden_in v'.map) n true
   pub mapped : (j : ℕ) → block_in v.map j ≡ 1 → block_in v'.map j ≡ 1
   pub absent : (l : ℕ) → address_in v.map l ≡ 0 → address_in v'.map l ≡ 0
-  pub log : (k : CheckpointValue) (m0 m : LogMap) → d'.keeps_model → IsLoose d v k m0 m → (form : ℕ) → FitsHeader kind form 0 size → is_hidden_in v.map n ≡ false
+  pub log : (k : CheckpointValue) (m0 m : LogMap) → d'.keeps_model → IsLoose d v k m0 m → FitsHeader kind form 0 size → is_hidden_in v.map n ≡ false
       → IsLoose d' v' k m0 (with_header m n (Some (header_with kind form 0 size)))
 
 -- Where memory and device hold a log map with file n, which has a name, a call of the device failed.

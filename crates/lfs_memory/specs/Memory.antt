@@ -1,7 +1,7 @@
 -- What the log holds in memory, and what that and the device stand for.
 use Rattle.std.specs.Prelude.{◌≡◌, ◌<◌, ◌≤◌, ◌+◌, ◌*◌, ◌/◌, ◌==◌, cond, ℕ, Bool, true, List, [], ◌∷◌, ◌++◌, length, Option, Some, None}
 use Rattle.lfs_model.specs.Entry.{Entry, Data, Leaf, Double, Inode, Map, Usage}
-use Rattle.lfs_model.specs.Checkpoint.{CheckpointValue, IsSegmentCount, layout_of}
+use Rattle.lfs_model.specs.Checkpoint.{CheckpointValue, IsSegmentCount}
 use Rattle.lfs_model.specs.Crash.{StandsOn}
 use Rattle.lfs_model.specs.Device.{DeviceState, Carries, LeavesOnly}
 use Rattle.lfs_model.specs.Stands.{LogMap}
@@ -89,9 +89,9 @@ pub record IsLog (d : DeviceState) (v : LogMemory) (k : CheckpointValue) (m0 m :
 
 -- ---- what parts of a commit do
 
--- the contents that a stop meanwhile leaves stand for what is acknowledged, in the same layout
+-- the contents that a stop meanwhile leaves stand for what is acknowledged, on as many segments
 abbrev pub Quiet : DeviceState → DeviceState → LogMemory → Type 0
-Quiet d d' v = (k : CheckpointValue) (m0 m : LogMap) → d'.keeps_model → IsLog d v k m0 m → LeavesOnly d d' (λ c. StandsOn (layout_of k) c m0)
+Quiet d d' v = (k : CheckpointValue) (m0 m : LogMap) → d'.keeps_model → IsLog d v k m0 m → LeavesOnly d d' (λ c. StandsOn k.segments c m0)
 
 -- A part of a commit that is done, and placed at most so many blocks.
 pub record GoesUpTo (most : ℕ) (d d' : DeviceState) (v v' : LogMemory) (placed : ℕ) : Type 0 where

@@ -20,6 +20,7 @@ abbrev pub without_file : ℕ → LogMap → LogMap
 without_file n m = record {
   header = λ k. cond (k == n) None (m.header k);
   block = λ k i. cond (k == n) [] (m.block k i);
+  version = m.version;
 }
 
 -- so many blocks can be taken from each segment, of those that live there or of those that hold it

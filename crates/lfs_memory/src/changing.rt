@@ -144,28 +144,35 @@ pub fn change_block(
     put_block(memory, file, index, address, bytes)
 }
 
-/// The inode of a file, which is in memory, has this kind, number of links and size in bytes.
-pub fn change_header(memory: &mut LogMemory, file: u16, kind: Kind, links: u32, size: u32)
+/// The inode of a file, which is in memory, has this kind, form, number of links and size in bytes.
+pub fn change_header(
+    memory: &mut LogMemory,
+    file: u16,
+    kind: Kind,
+    form: u8,
+    links: u32,
+    size: u32,
+)
     requires some { 1 ≤ file }
     requires file { file ≤ 4095 }
     requires there { (bytes : List ℕ) × (blocks_of memory.old.dirty (Inode file) ≡ Some bytes) }
-    ensures { ChangesHeader memory.old memory.new file kind links size }
+    ensures { ChangesHeader memory.old memory.new file kind form links size }
 {
     let key = BlockKey::inode(file);
     let mut inode = *memory.dirty.block(key).unwrap();
-    set_header(&mut inode, u32::from(file), kind, links, size);
+    set_header(&mut inode, u32::from(file), kind, form, links, size);
     memory.dirty.put(key, &inode);
 }
 
 /// A file of this number is made. The caller knows that there is none.
-pub fn create(memory: &mut LogMemory, file: u16, kind: Kind, links: u32, size: u32)
+pub fn create(memory: &mut LogMemory, file: u16, kind: Kind, form: u8, links: u32, size: u32)
     requires some { 1 ≤ file }
     requires file { file ≤ 4095 }
     requires room { length memory.old.dirty.blocks < memory.old.dirty.capacity.limit }
-    ensures { Creates memory.old memory.new file kind links size }
+    ensures { Creates memory.old memory.new file kind form links size }
 {
     let mut inode = no_bytes();
-    set_header(&mut inode, u32::from(file), kind, links, size);
+    set_header(&mut inode, u32::from(file), kind, form, links, size);
     memory.dirty.put(BlockKey::inode(file), &inode);
     memory.map.set_address(file, IN_MEMORY);
     memory.map.set_hidden(file, links == 0);

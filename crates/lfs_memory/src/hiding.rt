@@ -29,21 +29,28 @@ fn hide_counts(usage: &mut Usage, counts: &SegmentCounts)
 }
 
 /// A file whose inode is in memory has no link. So many blocks of each segment are its own.
-fn drop_links(memory: &mut LogMemory, number: u16, kind: Kind, size: u32, counts: &SegmentCounts)
+fn drop_links(
+    memory: &mut LogMemory,
+    number: u16,
+    kind: Kind,
+    form: u8,
+    size: u32,
+    counts: &SegmentCounts,
+)
     requires some { 1 ≤ number }
     requires number { number < 4096 }
     requires there { IsInMemory memory.old (Inode number) }
     requires covered { AreCovered memory.old.usage true counts.now }
-    ensures { LosesLinks memory.old memory.new number kind size counts.now }
+    ensures { LosesLinks memory.old memory.new number kind form size counts.now }
 {
     hide_counts(&mut memory.usage, counts);
     memory.map.set_hidden(number, true);
-    change_header(memory, number, kind, 0, size);
+    change_header(memory, number, kind, form, 0, size);
 }
 
-/// A file that has a name loses its last link: its inode is of this kind and size without links.
-/// The next checkpoint doesn't lead to it. Its blocks, which are counted in `counts`, live no more
-/// and hold their segments.
+/// A file that has a name loses its last link: its inode is of this kind, form and size without
+/// links. The next checkpoint doesn't lead to it. Its blocks, which are counted in `counts`, live no
+/// more and hold their segments.
 ///
 /// # Errors
 ///
@@ -55,6 +62,7 @@ pub fn hide_file<D: SectorDevice>(
     memory: &mut LogMemory,
     number: u16,
     kind: Kind,
+    form: u8,
     size: u32,
     counts: &mut SegmentCounts,
 ) -> Result<(), LiftFault>
@@ -62,7 +70,7 @@ pub fn hide_file<D: SectorDevice>(
     requires some { 1 ≤ number }
     requires number { number < 4096 }
     ensures hides { OnOk result (Hides (D.state device.old) (D.state device.new) memory.old
-        memory.new number kind size) }
+        memory.new number kind form size) }
     ensures no_failure { OnOk result ((D.state device.new).failures
         ≡ (D.state device.old).failures) }
     ensures prepares { OnErr result (Prepares (D.state device.old) (D.state device.new) memory.old
@@ -87,6 +95,6 @@ pub fn hide_file<D: SectorDevice>(
     if !are_covered(&memory.usage, counts, true) {
         return Err(LiftFault::Device);
     }
-    drop_links(memory, number, kind, size, counts);
+    drop_links(memory, number, kind, form, size, counts);
     Ok(())
 }

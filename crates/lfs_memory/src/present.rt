@@ -13,7 +13,7 @@ ghost use Rattle.lfs_memory.specs.Present.{Looks, FailsFromDevice, IsMissing, An
 use crate::counting::{DOUBLE, SINGLE};
 use crate::memory::LogMemory;
 use lfs_device::{DeviceFault, SectorDevice};
-use lfs_files::{FIRST_FORM, Header};
+use lfs_files::Header;
 use lfs_inodes::{BlockKey, IN_MEMORY, locate_present};
 use lfs_layout::word;
 use lfs_model::Kind;
@@ -136,7 +136,7 @@ pub fn header_of(inode: &[u8; 512]) -> Header
 {
     Header {
         kind: kind_of(inode[0]),
-        form: FIRST_FORM,
+        form: inode[1],
         links: word(inode, 2),
         size: word(inode, 3),
     }

@@ -63,7 +63,15 @@ fn lose<D: SectorDevice>(
     match loss {
         Loss::Nothing => Ok(()),
         Loss::Blocks(cut) => cut_file(device, memory, cut.number, cut.first, counts),
-        Loss::Link(link) => hide_file(device, memory, link.number, link.kind, link.size, counts),
+        Loss::Link(link) => hide_file(
+            device,
+            memory,
+            link.number,
+            link.kind,
+            link.form,
+            link.size,
+            counts,
+        ),
         Loss::File(removal) => match remove_file(device, memory, removal.number, counts) {
             Ok(()) => Ok(()),
             Err(_) => Err(LiftFault::Device),

@@ -1,5 +1,5 @@
 -- Blocks in memory change, as the log runs.
-use Rattle.std.proofs.Common.{◌≡◌, ◌<◌, ◌≤◌, ⊎_elim, cond, not, Bool, true, false, ℕ, List, length, Option, Some, None, refl, sym, ◌∙◌, ap, subst, arith}
+use Rattle.std.proofs.Common.{◌≡◌, ◌≤◌, ⊎_elim, cond, not, Bool, true, false, ℕ, List, length, Option, Some, None, refl, sym, ◌∙◌, ap, subst, arith}
 use Rattle.std.specs.Prelude.{option_map}
 use Rattle.lfs_model.specs.Changing.{IsWithBlock, IsPointed, IsRewriting}
 use Rattle.lfs_model.specs.Checkpoint.{CheckpointValue}
@@ -9,7 +9,7 @@ use Rattle.lfs_model.specs.Laid.{IsLaid}
 use Rattle.lfs_model.specs.Lifting.{IsTaken}
 use Rattle.lfs_model.specs.Memory.{Memory, parent, pointer, patched, file_of, IsOfFile, is_unlinked, is_nameless, is_shown, is_held, settled_at, live_of, held_of}
 use Rattle.lfs_model.specs.Reach.{Row}
-use Rattle.lfs_model.specs.Running.{Dirty, Tables, IsCached, IsOpenAt, SpellsUsage, Running}
+use Rattle.lfs_model.specs.Running.{Dirty, Tables, IsCached, SpellsUsage, Running}
 use Rattle.lfs_model.specs.Staging.{IsAtAddress, ChangesTo, BlockRewriting, BlockAdding, BlockRemoving, PointersGrowing, PointersShrinking}
 use Rattle.lfs_model.specs.Stands.{LogMap}
 use Rattle.lfs_model.proofs.BlockChanges.{rewriting, adding, removing}

@@ -1,7 +1,7 @@
 -- The checkpoint, place by place.
-use Rattle.std.proofs.Common.{◌≡◌, ◌≤◌, ◌*◌, ℕ, List, [], ◌∷◌, length, refl, sym, ap, ◌∙◌, arith}
+use Rattle.std.proofs.Common.{◌≡◌, ◌≤◌, ◌<◌, ◌*◌, ◌^◌, ℕ, inl, inr, List, [], ◌∷◌, length, refl, sym, ap, ◌∙◌, arith}
 use Rattle.lfs_model.specs.Fields.{le32, le64, words, zeros, part, read32, read64, numbers}
-use Rattle.lfs_model.specs.Checkpoint.{CheckpointValue, FitsCheckpoint, checkpoint_of, checkpoint_sector, checkpoint_sector_of, checkpoint_text, layout_version}
+use Rattle.lfs_model.specs.Checkpoint.{CheckpointValue, FitsCheckpoint, IsVersion, checkpoint_of, checkpoint_sector, checkpoint_sector_of, checkpoint_text, layout_version}
 use Rattle.lfs_model.proofs.Numbers.{length-le32, length-le64, length-words, length-zeros}
 use Rattle.lfs_model.proofs.Parts.{read32_is, read64_is}
 use Rattle.lfs_model.proofs.Runs.{numbers_is}
@@ -54,8 +54,11 @@ pub reads_to : (s : List ℕ) (c : CheckpointValue) → length s ≡ 512 → Rea
 unfolding fields checkpoint_sector checkpoint_sector_of
 reads_to s c long r = laid_to s 0 (fields c) (sym long) (r.text, (r.number, (r.segments, (r.version, (r.gap, (r.map, (r.usage, (r.rest, tt))))))))
 
-abbrev built : ℕ → ℕ → List ℕ → List ℕ → CheckpointValue
-built n s m u = record { number = n; segments = s; map = m; usage = u }
+abbrev built : ℕ → ℕ → ℕ → List ℕ → List ℕ → CheckpointValue
+built n s v m u = record { number = n; segments = s; version = v; map = m; usage = u }
+
+pub version_small : (v : ℕ) → IsVersion v → v < 2 ^ 32
+version_small v is = elim is as (λ _. v < 2 ^ 32) [ inl one ↦ omega arith | inr two ↦ omega arith ]
 
 -- the places of a checkpoint's sector hold the checkpoint
 pub checkpoint_back : (c : CheckpointValue) → FitsCheckpoint c → checkpoint_of (checkpoint_sector c) ≡ c
@@ -66,12 +69,14 @@ checkpoint_back c p =
     let most : c.segments ≤ 1024 = p.segments.most in
     let number : read64 8 s ≡ c.number = read64_is 8 s c.number p.number_fits r.number in
     let segments : read32 16 s ≡ c.segments = read32_is 16 s c.segments (omega arith) r.segments in
+    let version : read32 20 s ≡ c.version = read32_is 20 s c.version (version_small c.version p.version) r.version in
     let map : numbers 32 32 s ≡ c.map = numbers_is 32 32 s c.map p.map_length p.map_fits (omega arith) r.map in
     let usage : numbers 16 160 s ≡ c.usage = numbers_is 16 160 s c.usage p.usage_length p.usage_fits (omega arith) r.usage in
-    ap (λ (n : ℕ). built n (read32 16 s) (numbers 32 32 s) (numbers 16 160 s)) number
-    ∙ ap (λ (n : ℕ). built c.number n (numbers 32 32 s) (numbers 16 160 s)) segments
-    ∙ ap (λ (m : List ℕ). built c.number c.segments m (numbers 16 160 s)) map
-    ∙ ap (λ (m : List ℕ). built c.number c.segments c.map m) usage
+    ap (λ (n : ℕ). built n (read32 16 s) (read32 20 s) (numbers 32 32 s) (numbers 16 160 s)) number
+    ∙ ap (λ (n : ℕ). built c.number n (read32 20 s) (numbers 32 32 s) (numbers 16 160 s)) segments
+    ∙ ap (λ (n : ℕ). built c.number c.segments n (numbers 32 32 s) (numbers 16 160 s)) version
+    ∙ ap (λ (m : List ℕ). built c.number c.segments c.version m (numbers 16 160 s)) map
+    ∙ ap (λ (m : List ℕ). built c.number c.segments c.version c.map m) usage
 
 -- two checkpoints of one sector are one
 pub one_checkpoint : (c d : CheckpointValue) → FitsCheckpoint c → FitsCheckpoint d → checkpoint_sector c ≡ checkpoint_sector d → c ≡ d

@@ -90,6 +90,7 @@ module _ (m : LogMap) where
   dropped_is_log h at some was = record {
     none = λ g is. was.none g (header_was 0 g is).0;
     root = (let root = was.root in let same : root.0 ≡ h = (let e : Some root.0 ≡ Some h = sym root.1 ∙ at in cc) in (h, header_kept 1 h at some, subst (λ (x : Header). x.kind ≡ kind.Directory) same root.2));
+    forms = λ n g is. was.forms n g (header_was n g is).0;
     within = λ n i has. (
         let old = data_was n i has in
         let there = was.within n i (subst (λ (b : List ℕ). 0 < length b) (block_kept n i old.0 old.1 old.2) has) in
@@ -251,23 +252,23 @@ dropped_log N m s log was =
     dir_links u n (Some (Dir form ms)) dir = grind (arith, nat_tests)
 
 pub dropped_stands : DroppedStands
-dropped_stands c k m s found stands log first = record {
+dropped_stands c k m s found stands log = record {
   checkpoint = k;
   log = dropped m;
   found = found;
   stands = stands;
   tree = dropped_tree k.segments m s log;
-  version = first;
+  version = log.version ∙ stands.holds.version;
   closed = refl;
 }
 
 pub dropped_again : DroppedAgain
 dropped_again N m s log =
     let of = dropped_tree N m s log in
-    record { sound = forgets.dropped_sound N s log.sound; is = of.is; formed = of.tree.slots.formed; links = of.tree.links }
+    record { sound = forgets.dropped_sound N s log.sound; is = of.is; version = log.version; formed = of.tree.slots.formed; links = of.tree.links }
 
 pub mounted_log : MountedLog
-mounted_log c all s is = record { sound = standing_is_sound c all s is; is = is.tree.is; formed = is.tree.tree.slots.formed; links = is.tree.tree.links }
+mounted_log c all s is = record { sound = standing_is_sound c all s is; is = is.tree.is; version = is.version ∙ sym is.stands.holds.version; formed = is.tree.tree.slots.formed; links = is.tree.tree.links }
 
 neither : (b : Bool) → ◌≡◌ {A = Option Node} (cond b None None) None
 neither true = refl

@@ -4,7 +4,7 @@ use Rattle.std.proofs.Math.Path.{fun_ext}
 use Rattle.std.proofs.lemmas.List.{get_or_past}
 use Rattle.std.proofs.lemmas.Bool.{eq-eqb, cond-true}
 use Rattle.lfs_model.specs.Entry.{Entry, Data, Leaf, Double, Inode, Map, Usage, entries_in}
-use Rattle.lfs_model.specs.Checkpoint.{CheckpointValue, checkpoint_in, layout_of}
+use Rattle.lfs_model.specs.Checkpoint.{CheckpointValue, checkpoint_in, layout_version}
 use Rattle.lfs_model.specs.Content.{Content, bytes_of, slot, with_parity}
 use Rattle.lfs_model.specs.Device.{MayWrite, left_old, left_new, left_bad, cell_at}
 use Rattle.lfs_model.specs.Reach.{address, used, Row, chunks, row, row_by, place_in, View, view}
@@ -24,6 +24,7 @@ module _ (c d : Content) (k : CheckpointValue) (m : LogMap) where
         stages = subst Stages e s.stages;
         header = λ n. s.header n ∙ ap (λ (v : View). header_in v n) e;
         block = λ n i. s.block n i ∙ ap (λ (v : View). v.block (Data n i)) e;
+        version = s.version;
       }
 
   pub stands_at_same : StandsAt c k m → length d ≡ length c → ((at : ℕ) → Protected (view c k) at → cell_at d at ≡ cell_at c at) → StandsAt d k m
@@ -34,8 +35,8 @@ module _ (c d : Content) (k : CheckpointValue) (m : LogMap) where
 pub locality : Locality
 locality c d m s keeps = record { checkpoint = s.checkpoint; newest = keeps.newest; stands = stands_at_same c d s.checkpoint m s.stands keeps.size keeps.same }
 
--- and it has the layout of the same checkpoint
-pub locality_on : (c d : Content) (m : LogMap) (s : StandsLog c m) → Keeps c s.checkpoint d → StandsOn (layout_of s.checkpoint) d m
+-- and it has the segments of the same checkpoint
+pub locality_on : (c d : Content) (m : LogMap) (s : StandsLog c m) → Keeps c s.checkpoint d → StandsOn s.checkpoint.segments d m
 unfolding locality
 locality_on c d m s keeps = record { is = locality c d m s keeps; same = refl }
 
@@ -49,7 +50,8 @@ single_log c m m' s t =
     let e = same_checkpoint c m m' s t in
     let headers : (n : ℕ) → m.header n ≡ m'.header n = λ n. s.stands.holds.header n ∙ ap (λ (k : CheckpointValue). header_in (view c k) n) e ∙ sym (t.stands.holds.header n) in
     let blocks : (n i : ℕ) → m.block n i ≡ m'.block n i = λ n i. s.stands.holds.block n i ∙ ap (λ (k : CheckpointValue). (view c k).block (Data n i)) e ∙ sym (t.stands.holds.block n i) in
-    λ j. record { header = fun_ext headers j; block = fun_ext (λ n. fun_ext (λ i. blocks n i)) j }
+    let version : m.version ≡ m'.version = s.stands.holds.version ∙ ap (λ (k : CheckpointValue). layout_version k) e ∙ sym t.stands.holds.version in
+    λ j. record { header = fun_ext headers j; block = fun_ext (λ n. fun_ext (λ i. blocks n i)) j; version = version j }
 
 pub chunks_length : (waiting : List Entry) (ss : List (Option (List ℕ))) (r : Row) → chunks waiting ss ≡ Some r → length r ≡ length ss
 chunks_length [] [] r h = let e : [] ≡ r = cc in ap length (sym e)
@@ -148,7 +150,7 @@ module _ (c : Content) (m : LogMap) (s : StandsLog c m) (e : Content) (keeps : K
     same = λ at protected. sector_other e (next.number % 2) None at (λ h. let above = protected_above (view c s.checkpoint) s.stands.holds.stages at protected in omega (arith, low)) ∙ keeps.same at protected;
   }
 
-  at_lost : StandsOn (layout_of s.checkpoint) (set e (next.number % 2) None) m
+  at_lost : StandsOn s.checkpoint.segments (set e (next.number % 2) None) m
   at_lost = locality_on c (set e (next.number % 2) None) m s keeps_lost
 
   -- written: the next one is
@@ -161,7 +163,7 @@ module _ (c : Content) (m : LogMap) (s : StandsLog c m) (e : Content) (keeps : K
   }
 
   abbrev Either : Content → Type 0
-  Either d = StandsOn (layout_of s.checkpoint) d m ⊎ StandsOn (layout_of next) d m'
+  Either d = StandsOn s.checkpoint.segments d m ⊎ StandsOn next.segments d m'
 
   at_each : (d : Content) → MayWrite (next.number % 2) bytes e d → Either d
   unfolding at_written

@@ -154,6 +154,7 @@ module _ (n : ℕ) where
     headers = is.headers;
     block = λ i. is.block i ∙ sym (cond-true (is_of n (Data n i)) [] (m.block n i) (is_of_yes n (Data n i) refl));
     blocks = is.blocks;
+    version = is.version;
   }
 
   pub whole_detaches : (dirty dirty' : Dirty) → LeavesOut dirty dirty' n → Detaches dirty dirty' n (is_of n)

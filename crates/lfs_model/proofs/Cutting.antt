@@ -8,7 +8,7 @@ use Rattle.lfs_model.specs.Encodes.{HasInode}
 use Rattle.lfs_model.specs.Entry.{Entry, Inode, Map, Usage}
 use Rattle.lfs_model.specs.Laid.{IsLaid}
 use Rattle.lfs_model.specs.Memory.{Memory, parent, file_of, is_nameless, live_of, held_of, count_of}
-use Rattle.lfs_model.specs.Running.{Dirty, Tables, IsTables, IsCached, IsOpenAt, SpellsUsage, Running}
+use Rattle.lfs_model.specs.Running.{Dirty, Tables, IsTables, IsCached, SpellsUsage, Running}
 use Rattle.lfs_model.specs.Stands.{LogMap}
 use Rattle.lfs_model.proofs.Detaching.{of_file_or_not, detaching}
 use Rattle.lfs_model.proofs.DetachedCounts.{detached_live}

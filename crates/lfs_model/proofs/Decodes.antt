@@ -1,10 +1,10 @@
 -- What a reader finds is laid out as a writer would.
-use Rattle.std.proofs.Common.{◌≡◌, ◌<◌, ◌≤◌, ⊎_elim, ◌+◌, ◌*◌, ◌-◌, ◌/◌, ◌%◌, ◌==◌, nat_lt, nat_le, Bool, true, false, ℕ, zero, suc, List, [], ◌∷◌, length, Option, Some, None, refl, sym, ◌∙◌, ap, ap₂, subst, arith, slice_index}
+use Rattle.std.proofs.Common.{◌≡◌, ◌<◌, ◌≤◌, ⊎_elim, ◌+◌, ◌*◌, ◌-◌, ◌/◌, ◌%◌, ◌==◌, ◌&&◌, nat_lt, nat_le, Bool, true, false, ℕ, zero, suc, List, [], ◌∷◌, length, Option, Some, None, refl, sym, ◌∙◌, ap, ap₂, subst, arith, slice_index}
 use Rattle.std.proofs.lemmas.Bool.{cases_eq, cases_lt, lt-ltb, le-ltb, ltb-true, cond-true, cond-false}
 use Rattle.std.proofs.lemmas.Bool.{and_parts, leb-true}
 use Rattle.lfs_model.specs.declared.Kind.{Kind}
 use Rattle.lfs_model.specs.declared.Kind.TheVariants.{File, Directory, Link}
-use Rattle.lfs_model.specs.Inode.{inode_in, inode_of, inode_sector, is_size, may_be_inode}
+use Rattle.lfs_model.specs.Inode.{InodeValue, IsForm, inode_in, inode_of, inode_sector, is_form, is_size, may_be_inode}
 use Rattle.lfs_model.specs.Entry.{Entry, Data, Leaf, Double, Inode, Map, Usage, Header, IsInode, header, word}
 use Rattle.lfs_model.specs.Checkpoint.{CheckpointValue, layout_version}
 use Rattle.lfs_model.specs.Content.{Content, bytes_of, block}
@@ -65,7 +65,17 @@ small_size : (version n : ℕ) (b : List ℕ) → IsInode version n b → (heade
 unfolding inode_in header
 small_size version n b i =
     let found = value_found inode_of may_be_inode inode_sector b i.value i.spelt in
-    kind_size _ _ _ (and_parts _ _ (and_parts _ _ found.1).1).1
+    let i = inode_of b in
+    let numbers = and_parts (nat_le 1 i.number && nat_le i.number 4095) _ found.1 in
+    let links = and_parts (nat_le 1 i.links && nat_le i.links 1000) (is_form i.kind i.form && is_size i.form i.kind i.size) numbers.1 in
+    kind_size i.form i.kind i.size (and_parts (is_form i.kind i.form) (is_size i.form i.kind i.size) links.1).1
+
+-- its form is one of the version
+of_version : (version n : ℕ) (b : List ℕ) → IsInode version n b → IsForm version (header b).kind (header b).form
+unfolding inode_in header
+of_version version n b i =
+    let found = value_found inode_of may_be_inode inode_sector b i.value i.spelt in
+    subst (λ (v : InodeValue). IsForm version v.kind v.form) (sym found.0) i.form
 
 -- no inode is spelled by no bytes
 no_inode : inode_in [] ≡ None
@@ -191,6 +201,7 @@ module _ (c : Content) (k : CheckpointValue) (m : LogMap) (sized : IsSized c) (s
   unfolding address
   encodes clean = record {
     size = st.size;
+    version = st.version;
     map = λ j. refl;
     usage = λ j. refl;
     stored = stored;
@@ -245,6 +256,12 @@ module _ (c : Content) (k : CheckpointValue) (m : LogMap) (sized : IsSized c) (s
     root =
         let lt = st.stages.maps.root in
         (header (block c (address c k (Inode 1))), header_at 1 lt, st.stages.inodes.root);
+    forms = λ n h is.
+        let lt = inode_reached n (h, is) in
+        let both : Some h ≡ Some (header (block c (address c k (Inode n)))) = sym is ∙ header_at n lt in
+        let same : h ≡ header (block c (address c k (Inode n))) = cc in
+        subst (λ (v : ℕ). IsForm v h.kind h.form) (sym st.version)
+        (subst (λ (x : Header). IsForm (layout_version k) x.kind x.form) (sym same) (of_version (layout_version k) n (block c (address c k (Inode n))) (st.stages.inodes.formed n lt)));
     within = λ n i has.
         let lt = data_of n i has in
         let linode = inode_at n i lt in

@@ -1,6 +1,6 @@
 -- What a sector spells, as a function: the laws that every decoder meets.
-use Rattle.std.proofs.Common.{◌≡◌, ◌≤◌, ◌<◌, ◌+◌, ◌-◌, ◌*◌, ◌^◌, ◌↔◌, ◌&&◌, ◌==◌, Bool, true, false, cond, nat_le, nat_lt, not, ℕ, zero, suc, List, [], ◌∷◌, length, get_or, drop, Option, Some, None, IfSome, IfNone, refl, sym, ap, subst, ◌∙◌, arith}
-use Rattle.std.proofs.lemmas.Bool.{and_from, and_parts, leb-true, le-leb, ltb-true, lt-ltb, eqb-true, eq-eqb, ne_eqb}
+use Rattle.std.proofs.Common.{◌≡◌, ◌≤◌, ◌<◌, ◌+◌, ◌-◌, ◌*◌, ◌^◌, ◌↔◌, ◌&&◌, ◌==◌, Bool, true, false, cond, nat_le, nat_lt, not, ℕ, zero, suc, List, [], ◌∷◌, length, get_or, drop, Option, Some, None, IfSome, IfNone, inl, inr, ⊎_elim, ◌||◌, refl, sym, ap, subst, ◌∙◌, arith}
+use Rattle.std.proofs.lemmas.Bool.{and_from, and_parts, leb-true, le-leb, ltb-true, lt-ltb, eqb-true, eq-eqb, ne_eqb, cases_Bool}
 use Rattle.std.proofs.lemmas.List.{get_or-drop, length-drop}
 use Rattle.std.proofs.lemmas.Slice.Eq.{bytes_eq-Decides}
 use Rattle.std.specs.List.{list_all}
@@ -10,8 +10,8 @@ use Rattle.lfs_model.specs.declared.Kind.TheVariants.{File, Directory, Link}
 use Rattle.lfs_model.specs.declared.BlockKind.{BlockKind}
 use Rattle.lfs_model.specs.declared.BlockKind.TheVariants.{Data, Leaf, Double, Inode, Map, Usage}
 use Rattle.lfs_model.specs.Fields.{value_in, read32}
-use Rattle.lfs_model.specs.Checkpoint.{CheckpointValue, FitsCheckpoint, IsSegmentCount, checkpoint_in, checkpoint_of, checkpoint_sector, is_segment_count, may_be_checkpoint}
-use Rattle.lfs_model.specs.Inode.{InodeValue, FitsInode, IsSize, inode_form, inode_in, inode_of, inode_sector, is_size, may_be_inode}
+use Rattle.lfs_model.specs.Checkpoint.{CheckpointValue, FitsCheckpoint, IsSegmentCount, IsVersion, checkpoint_in, checkpoint_of, checkpoint_sector, is_segment_count, is_version, may_be_checkpoint}
+use Rattle.lfs_model.specs.Inode.{InodeValue, FitsInode, IsForm, IsSize, inode_in, inode_of, inode_sector, is_form, is_size, may_be_inode}
 use Rattle.lfs_model.specs.Summary.{BlockNameValue, FitsSummary, IsPlaced, blocks_of, is_placed, may_be_summary, no_block, summary_in, summary_sector}
 use Rattle.lfs_model.specs.Slot.{SlotValue, FitsSlot, IsName, is_name, may_be_slot, slot_bytes, slot_in, slot_of}
 use Rattle.lfs_model.specs.Tree.{name_len, slot_len}
@@ -67,16 +67,26 @@ count_from n e =
     let b = and_parts _ _ a.1 in
     record { least = leb-true 64 n a.0; most = leb-true n 1024 b.0; eighths = eqb-true _ 0 b.1 }
 
+version_test : (v : ℕ) → IsVersion v → is_version v ≡ true
+version_test v is = elim is as (λ _. is_version v ≡ true) [ inl one ↦ subst (λ (n : ℕ). is_version n ≡ true) (sym one) refl | inr two ↦ subst (λ (n : ℕ). is_version n ≡ true) (sym two) refl ]
+
+pub version_from : (v : ℕ) → is_version v ≡ true → IsVersion v
+version_from v e = ⊎_elim
+    (λ (t : (v == 1) ≡ true). inl (eqb-true v 1 t))
+    (λ (f : (v == 1) ≡ false). inr (eqb-true v 2 (subst (λ (b : Bool). (b || (v == 2)) ≡ true) f e)))
+    (cases_Bool (v == 1))
+
 checkpoint_test : (c : CheckpointValue) → FitsCheckpoint c → may_be_checkpoint c ≡ true
-checkpoint_test c p = and_from _ _ (le-leb 1 c.number p.number) (count_test c.segments p.segments)
+checkpoint_test c p = and_from _ _ (version_test c.version p.version) (and_from _ _ (le-leb 1 c.number p.number) (count_test c.segments p.segments))
 
 checkpoint_from : (s : List ℕ) → IsBytes s → length s ≡ 512 → may_be_checkpoint (checkpoint_of s) ≡ true → FitsCheckpoint (checkpoint_of s)
 checkpoint_from s bytes long e =
-    let a = and_parts _ _ e in record {
+    let v = and_parts _ _ e in
+    let a = and_parts _ _ v.1 in record {
       number = leb-true 1 _ a.0;
       number_fits = read64-lt 8 s bytes (omega arith);
       segments = count_from _ a.1;
-      version = refl;
+      version = version_from _ v.0;
       map_length = length-run read32 4 32 32 s;
       map_fits = numbers_fit 32 32 s bytes (omega arith);
       usage_length = length-run read32 4 16 160 s;
@@ -115,6 +125,29 @@ size_from form File n e = leb-true n 8511488 e
 size_from form Directory n e = let a = and_parts _ _ e in (eqb-true _ 0 a.0, leb-true n (1024 * slot_len form) a.1)
 size_from form Link n e = let a = and_parts _ _ e in (leb-true 1 n a.0, leb-true n 1023 a.1)
 
+form_test : (k : Kind) (f : ℕ) → IsForm 2 k f → is_form k f ≡ true
+unfolding is_form
+form_test File zero p = refl
+form_test File (suc f) p = absurd (p)
+form_test Directory zero p = refl
+form_test Directory (suc f) p = le-leb (suc f) 1 (omega (arith, p))
+form_test Link zero p = refl
+form_test Link (suc f) p = absurd (p)
+
+pub form_from : (k : Kind) (f : ℕ) → is_form k f ≡ true → IsForm 2 k f
+unfolding is_form
+form_from File f e = subst (IsForm 2 File) (sym (eqb-true f 0 e)) tt
+form_from Directory zero e = tt
+form_from Directory (suc f) e = let le = leb-true (suc f) 1 e in omega (arith, le)
+form_from Link f e = subst (IsForm 2 Link) (sym (eqb-true f 0 e)) tt
+
+-- each is a byte
+pub form_small : (k : Kind) (f : ℕ) → IsForm 2 k f → f ≤ 1
+form_small k zero p = omega arith
+form_small File (suc f) p = absurd (p)
+form_small Directory (suc f) p = omega (arith, p)
+form_small Link (suc f) p = absurd (p)
+
 within_test : (n most : ℕ) → (1 ≤ n) × (n ≤ most) → (nat_le 1 n && nat_le n most) ≡ true
 within_test n most p = and_from _ _ (le-leb 1 n p.0) (le-leb n most p.1)
 
@@ -122,15 +155,17 @@ within_from : (n most : ℕ) → (nat_le 1 n && nat_le n most) ≡ true → (1 �
 within_from n most e = let a = and_parts _ _ e in (leb-true 1 n a.0, leb-true n most a.1)
 
 inode_test : (i : InodeValue) → FitsInode i → may_be_inode i ≡ true
-inode_test i p = and_from _ _ (within_test i.number 4095 p.number) (and_from _ _ (within_test i.links 1000 p.links) (size_test (inode_form i) i.kind i.size p.size))
+inode_test i p = and_from _ _ (within_test i.number 4095 p.number) (and_from _ _ (within_test i.links 1000 p.links) (and_from _ _ (form_test i.kind i.form p.form) (size_test i.form i.kind i.size p.size)))
 
 inode_from : (s : List ℕ) → IsBytes s → length s ≡ 512 → may_be_inode (inode_of s) ≡ true → FitsInode (inode_of s)
 inode_from s bytes long e =
     let a = and_parts _ _ e in
-    let b = and_parts _ _ a.1 in record {
+    let b = and_parts _ _ a.1 in
+    let f = and_parts _ _ b.1 in record {
       number = within_from _ 4095 a.0;
       links = within_from _ 1000 b.0;
-      size = size_from _ _ _ b.1;
+      form = form_from _ _ f.0;
+      size = size_from _ _ _ f.1;
       direct_length = length-run read32 4 112 32 s;
       direct_fits = numbers_fit 112 32 s bytes (omega arith);
       single_fits = read32-lt 480 s bytes (omega arith);

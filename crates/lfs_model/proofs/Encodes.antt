@@ -183,6 +183,7 @@ module _ (c : Content) (k : CheckpointValue) (A : Entry → ℕ) (m : LogMap) (f
       stages = subst Stages assigned stages;
       header = λ n. headers n ∙ ap (λ (v : View). header_in v n) assigned;
       block = λ n i. data_is n i ∙ ap (λ (v : View). v.block (Data n i)) assigned;
+      version = en.version;
     };
     clean = subst EnoughClean assigned en.clean;
   }

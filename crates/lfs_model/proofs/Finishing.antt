@@ -5,9 +5,10 @@ use Rattle.std.proofs.lemmas.Bool.{cases_eq, cases_Bool, lt-ltb, ltb-true, cond-
 use Rattle.lfs_model.specs.Entry.{Entry, Data, Leaf, Double, Inode, Map, Usage, Header, header, half}
 use Rattle.lfs_model.specs.Checkpoint.{CheckpointValue, layout_version}
 use Rattle.lfs_model.specs.Content.{Content, block}
+use Rattle.lfs_model.specs.Inode.{IsForm}
 use Rattle.lfs_model.specs.Reach.{address, Row, View, row, row_by, used, place_in}
 use Rattle.lfs_model.specs.Stands.{LogMap, used_in, live_in, AreNamed, AreCounted, IsHeld}
-use Rattle.lfs_model.specs.Encodes.{Has, HasData, HasLeaf, HasInode, Spells, Encodes}
+use Rattle.lfs_model.specs.Encodes.{Has, HasData, HasLeaf, HasInode, IsLogMap, Spells, Encodes}
 use Rattle.lfs_model.specs.Live.{live_count}
 use Rattle.lfs_model.specs.Memory.{Memory, file_of, is_unlinked, is_nameless, is_shown, shown, settled_at, memory_view, live_of}
 use Rattle.lfs_model.specs.Laid.{IsLaid}
@@ -199,36 +200,40 @@ module _ (e : Content) (m : LogMap) (M : Memory) (o : ℕ) (next : CheckpointVal
   of_shown : (n : ℕ) (x : Entry) → file_of x ≡ Some n → is_nameless m n ≡ false → M.at x ≡ shown m M.at x
   of_shown n x is named = sym (A_is x (file_shown n x is named))
 
-  spells_bytes : (x : Entry) → 0 < shown m M.at x → Spells (dropped m) (layout_version next) (shown m M.at) (M.bytes x) x
-  spells_bytes (Data n i) lt =
+  -- a file that is shown has a form of the version
+  of_version : IsLogMap (dropped m) → (n : ℕ) (h : Header) → (dropped m).header n ≡ Some h → IsForm (layout_version next) h.kind h.form
+  of_version map n h at = subst (λ (v : ℕ). IsForm v h.kind h.form) (sym done.version) (map.forms n h at)
+
+  spells_bytes : IsLogMap (dropped m) → (x : Entry) → 0 < shown m M.at x → Spells (dropped m) (layout_version next) (shown m M.at) (M.bytes x) x
+  spells_bytes map (Data n i) lt =
       let a = A_some (Data n i) lt in
       let named = shown_file n (Data n i) refl a.0 in
       let some : 0 < M.at (Data n i) = omega (arith, a.2) in
       laid.spells (Data n i) some ∙ sym (data_same n i (file_there M laid.down (Data n i) n refl some) named)
-  spells_bytes (Leaf n q) lt = λ i low.
+  spells_bytes map (Leaf n q) lt = λ i low.
       let a = A_some (Leaf n q) lt in
       laid.spells (Leaf n q) (omega (arith, a.2)) i low ∙ of_shown n (Data n (112 + 128 * q + i)) refl (shown_file n (Leaf n q) refl a.0)
-  spells_bytes (Double n) lt = λ q low.
+  spells_bytes map (Double n) lt = λ q low.
       let a = A_some (Double n) lt in
       laid.spells (Double n) (omega (arith, a.2)) q low ∙ of_shown n (Leaf n (suc q)) refl (shown_file n (Double n) refl a.0)
-  spells_bytes (Inode n) lt =
+  spells_bytes map (Inode n) lt =
       let a = A_some (Inode n) lt in
       let named = shown_file n (Inode n) refl a.0 in
       let some : 0 < M.at (Inode n) = omega (arith, a.2) in
       let s = laid.spells (Inode n) some in
       let linked : 1 ≤ (header (M.bytes (Inode n))).links = some_links m n (header (M.bytes (Inode n))) (sym (ap is_unlinked s.header) ∙ named) in
       record {
-        formed = is_inode n (M.bytes (Inode n)) s.formed (layout_version next) linked;
+        formed = is_inode n (M.bytes (Inode n)) s.formed (layout_version next) (of_version map n (header (M.bytes (Inode n))) (same_header m n named ∙ s.header)) linked;
         header = same_header m n named ∙ s.header;
         direct = λ i low. s.direct i low ∙ of_shown n (Data n i) refl named;
         single = s.single ∙ of_shown n (Leaf n 0) refl named;
         double = s.double ∙ of_shown n (Double n) refl named;
       }
-  spells_bytes (Map j) lt = let a = A_some (Map j) lt in (laid.mapped j (done.none (Map j))).spells a.2
-  spells_bytes (Usage j) lt = tt
+  spells_bytes map (Map j) lt = let a = A_some (Map j) lt in (laid.mapped j (done.none (Map j))).spells a.2
+  spells_bytes map (Usage j) lt = tt
 
-  spells : (x : Entry) → 0 < shown m M.at x → Spells (dropped m) (layout_version next) (shown m M.at) (block e (shown m M.at x)) x
-  spells x lt = subst (λ (b : List ℕ). Spells (dropped m) (layout_version next) (shown m M.at) b x) (sym (block_is x lt)) (spells_bytes x lt)
+  spells : IsLogMap (dropped m) → (x : Entry) → 0 < shown m M.at x → Spells (dropped m) (layout_version next) (shown m M.at) (block e (shown m M.at x)) x
+  spells map x lt = subst (λ (b : List ℕ). Spells (dropped m) (layout_version next) (shown m M.at) b x) (sym (block_is x lt)) (spells_bytes map x lt)
 
   -- ---- segments
   V : View
@@ -296,16 +301,17 @@ module _ (e : Content) (m : LogMap) (M : Memory) (o : ℕ) (next : CheckpointVal
   all_counted : AreCounted (shown_view e m M next)
   all_counted s low = (named_counts (shown_view e m M next) all_named s (live_in (shown_view e m M next) s)).1 (done.live s ∙ live_is s)
 
-  is_encoded : Encodes e next (shown m M.at) (dropped m)
-  is_encoded = record {
+  is_encoded : IsLogMap (dropped m) → Encodes e next (shown m M.at) (dropped m)
+  is_encoded map = record {
     size = let a = laid.size in let n = done.segments in omega arith;
+    version = sym done.version;
     map = λ j. A_is (Map j) refl ∙ done.map j;
     usage = λ j. A_is (Usage j) refl ∙ done.usage j;
     stored = stored;
     only = only;
     within = within;
     long = long;
-    spells = spells;
+    spells = spells map;
     rows = λ s lt. (M.rows s, by_live _ s (λ z. let u = used_none s z in absurd (omega arith)) (used_row s));
     named = all_named;
     fit = λ s. by_live _ s (λ z. let u = used_none s z in omega arith) (λ nz. let u = used_some s nz in let l = laid.short s in omega arith);
@@ -317,7 +323,7 @@ module _ (e : Content) (m : LogMap) (M : Memory) (o : ℕ) (next : CheckpointVal
   }
 
 pub finishing : Finishing
-finishing e m M o next formed laid done = encoding e next (shown m M.at) (dropped m) formed (is_encoded e m M o next laid done)
+finishing e m M o next formed laid done = encoding e next (shown m M.at) (dropped m) formed (is_encoded e m M o next laid done formed)
 
 -- nothing lives there, so nothing of it is in use
 pub released_free : ReleasedFree

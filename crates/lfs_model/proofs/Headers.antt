@@ -8,7 +8,7 @@ use Rattle.lfs_model.specs.Entry.{Entry, Inode, Map, Usage, Header, header, word
 use Rattle.lfs_model.specs.Laid.{IsLaid, HoldsInode}
 use Rattle.lfs_model.specs.Lifting.{IsTaken}
 use Rattle.lfs_model.specs.Memory.{Memory, file_of, IsOfFile, is_unlinked, is_nameless, is_shown, is_held, those, settled_at, live_of, held_of}
-use Rattle.lfs_model.specs.Running.{Dirty, Tables, IsCached, IsOpenAt, SpellsUsage, Running, IsReaddressed}
+use Rattle.lfs_model.specs.Running.{Dirty, Tables, IsCached, SpellsUsage, Running, IsReaddressed}
 use Rattle.lfs_model.specs.Staging.{ChangesTo, HeaderChanging, FileCreating}
 use Rattle.lfs_model.specs.Stands.{LogMap}
 use Rattle.lfs_model.proofs.Changed.{settled_cond, some_is}

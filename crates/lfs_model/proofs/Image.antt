@@ -5,20 +5,21 @@ use Rattle.std.proofs.lemmas.List.FromFn.{get_or-map-range_with_len, length-map-
 use Rattle.std.proofs.lemmas.Bool.{cases_eq, cases_lt, cond-true, cond-false, lt-ltb, le-ltb}
 use Rattle.std.specs.List.{range_with_len}
 use Rattle.std.specs.Option.{option_map}
-use Rattle.lfs_model.specs.Fields.{Are32, le16, le32, le64, words, zeros, part, read64}
-use Rattle.lfs_model.specs.Checkpoint.{CheckpointValue, FitsCheckpoint, IsSegmentCount, checkpoint_in, checkpoint_sector, checkpoint_sector_of, checkpoint_text, layout_version}
+use Rattle.lfs_model.specs.Fields.{Are32, le16, le32, le64, words, zeros, part, read32, read64}
+use Rattle.lfs_model.specs.Checkpoint.{CheckpointValue, FitsCheckpoint, IsSegmentCount, IsVersion, checkpoint_in, checkpoint_sector, checkpoint_sector_of, checkpoint_text, layout_version}
+use Rattle.lfs_model.specs.declared.Kind.TheVariants.{Directory}
 use Rattle.lfs_model.specs.Device.{Cell, cell_at}
-use Rattle.lfs_model.specs.Inode.{FitsInode, IsSize, inode_in, inode_sector, inode_sector_of, kind_byte}
+use Rattle.lfs_model.specs.Inode.{FitsInode, IsForm, IsSize, inode_in, inode_sector, kind_byte}
 use Rattle.lfs_model.specs.Pointers.{FitsPointers, pointer_sector}
 use Rattle.lfs_model.specs.Summary.{BlockNameValue, FitsSummary, IsPlaced, block_kind_byte, no_block, summary_entry, summary_sector}
 use Rattle.lfs_model.specs.Usage.{FitsUsage, IsUse, no_use, usage_entry, usage_sector}
-use Rattle.lfs_model.specs.Entry.{Entry, Data, Leaf, Double, Inode, Map, Usage, word, half, entries_in, entry_of}
+use Rattle.lfs_model.specs.Entry.{Entry, Data, Leaf, Double, Inode, Map, Usage, Header, word, half, entries_in, entry_of}
 use Rattle.lfs_model.specs.Content.{Content, newest, newer, block, bytes_of, slot, with_parity}
 use Rattle.lfs_model.specs.Reach.{Row, View, row_by, chunks, place_in, view_by}
 use Rattle.lfs_model.specs.Stands.{used_in, live_in, age_in, is_live, is_clean, label_at, AreCounted, AreNamed, EnoughClean, count_up}
 use Rattle.lfs_model.specs.Encodes.{Has, HasInode, Spells, SpellsInode, IsLogMap, Encodes}
 use Rattle.lfs_model.specs.Live.{live_count}
-use Rattle.lfs_model.specs.Image.{blank, usage_blocks, first_usage_address, first_checkpoint, first_name, first_names, root_inode, first_pointers, first_uses, IsNew, empty_directory, empty_root, Formatted, new_image, image, NewImages}
+use Rattle.lfs_model.specs.Image.{blank, usage_blocks, first_usage_address, first_checkpoint, first_name, first_names, new_form, root_inode, first_pointers, first_uses, IsNew, empty_directory, empty_root, Formatted, new_image, image, NewImages}
 use Rattle.lfs_model.proofs.Decoding.{checkpoint_some, inode_some, summary_some}
 use Rattle.lfs_model.proofs.Encodes.{encoding, word_nil}
 use Rattle.lfs_model.proofs.InodePlaces.{length-inode}
@@ -44,12 +45,18 @@ block_at c (suc at) bytes some is = ap bytes_of is
 
 -- ---- the parts
 
-fits_inode : FitsInode root_inode
+small_form : (version : ℕ) → IsVersion version → IsForm version Directory (new_form version)
+small_form version known = ⊎_elim (λ (e : version ≡ 1). subst (λ (v : ℕ). IsForm v Directory (new_form v)) (sym e) tt)
+    (λ (e : version ≡ 2). subst (λ (v : ℕ). IsForm v Directory (new_form v)) (sym e) (lit≤ tt))
+    known
+
+fits_inode : (version : ℕ) → IsVersion version → FitsInode (root_inode version)
 unfolding IsSize Are32
-fits_inode = record {
+fits_inode version known = record {
   number = (lit≤ tt, lit≤ tt);
   links = (lit≤ tt, lit≤ tt);
-  size = (refl, lit≤ tt);
+  form = ⊎_elim (λ (e : version ≡ 1). subst (λ (v : ℕ). IsForm 2 Directory (new_form v)) (sym e) tt) (λ (e : version ≡ 2). subst (λ (v : ℕ). IsForm 2 Directory (new_form v)) (sym e) (lit≤ tt)) known;
+  size = ⊎_elim (λ (e : version ≡ 1). subst (λ (v : ℕ). IsSize (new_form v) Directory 0) (sym e) (refl, lit≤ tt)) (λ (e : version ≡ 2). subst (λ (v : ℕ). IsSize (new_form v) Directory 0) (sym e) (refl, lit≤ tt)) known;
   direct_length = refl;
   direct_fits = λ i. let z = get_or_blank 112 i in omega arith;
   single_fits = omega arith;
@@ -70,7 +77,7 @@ is_unused = record { used = omega arith; both = (λ e. refl, λ e. refl); live =
 
 -- the other slot holds nothing
 none_blank : checkpoint_in (blank 512) ≡ None
-unfolding checkpoint_in read64 part
+unfolding checkpoint_in read32 read64 part
 none_blank = refl
 
 -- ---- counts
@@ -101,12 +108,12 @@ counted_most p all (suc (suc n)) =
 
 -- ---- the volume
 
-module _ (N : ℕ) (c : Content) (new : IsNew N c) where
+module _ (version N : ℕ) (c : Content) (new : IsNew version N c) where
   abbrev u : ℕ
   u = usage_blocks N
 
   abbrev k : CheckpointValue
-  k = first_checkpoint N
+  k = first_checkpoint version N
 
   blocks_low : 1 ≤ u
   blocks_low = let low = new.count.least in omega arith
@@ -136,7 +143,7 @@ module _ (N : ℕ) (c : Content) (new : IsNew N c) where
     number = omega arith;
     number_fits = omega arith;
     segments = new.count;
-    version = refl;
+    version = new.known;
     map_length = refl;
     map_fits = map_fits;
     usage_length = usage_length;
@@ -215,15 +222,15 @@ module _ (N : ℕ) (c : Content) (new : IsNew N c) where
   at_each P i m us (Map (suc j)) lt = let z = get_or_blank 31 j in absurd (omega arith)
   at_each P i m us (Usage j) lt = us j (usage_there j lt)
 
-  has_inode : (n : ℕ) → HasInode empty_root n → n ≡ 1
+  has_inode : (n : ℕ) → HasInode (empty_root version) n → n ≡ 1
   has_inode n has =
       ⊎_elim (λ (e : n ≡ 1). e)
       (λ (ne : n ≡ 1 → ⊥).
-      let none = cond-false (n == 1) (Some (empty_directory)) None (ne_eqb n 1 ne) in
+      let none = cond-false (n == 1) (Some ((empty_directory version))) None (ne_eqb n 1 ne) in
       let e : None ≡ Some has.0 = sym none ∙ has.1 in absurd (cc))
       (cases_eq n 1)
 
-  stored : (e : Entry) → Has empty_root N e → 0 < A e
+  stored : (e : Entry) → Has (empty_root version) N e → 0 < A e
   stored (Data n i) has = absurd (omega arith)
   stored (Leaf n q) has = let h = has.2 in absurd (omega arith)
   stored (Double n) has = let h = has.2.2 in absurd (omega arith)
@@ -232,16 +239,16 @@ module _ (N : ℕ) (c : Content) (new : IsNew N c) where
   stored (Map (suc j)) has = let e = has_inode (128 * suc j + has.0) has.2 in absurd (omega arith)
   stored (Usage j) has = let e = usage_some j has in omega arith
 
-  only : (e : Entry) → 0 < A e → Has empty_root N e
-  only = at_each (Has empty_root N) (empty_directory, refl) (1, omega arith, (empty_directory, refl)) (λ j lt. lt)
+  only : (e : Entry) → 0 < A e → Has (empty_root version) N e
+  only = at_each (Has (empty_root version) N) ((empty_directory version), refl) (1, omega arith, ((empty_directory version), refl)) (λ j lt. lt)
 
   within : (e : Entry) → 0 < A e → (2 ≤ A e) × (A e < 2 + 64 * N)
   within = at_each (λ e. (2 ≤ A e) × (A e < 2 + 64 * N)) (let low = new.count.least in (omega arith, omega arith)) (let low = new.count.least in (omega arith, omega arith))
       (λ j lt. let e = usage_some j lt in let most = blocks_high in let low = new.count.least in (omega arith, omega arith))
 
   -- ---- its blocks
-  inode_block : block c 3 ≡ inode_sector root_inode
-  inode_block = block_at c 3 (inode_sector root_inode) (omega arith) new.inode
+  inode_block : block c 3 ≡ inode_sector (root_inode version)
+  inode_block = block_at c 3 (inode_sector (root_inode version)) (omega arith) new.inode
 
   map_block : block c 4 ≡ pointer_sector first_pointers
   map_block = block_at c 4 (pointer_sector first_pointers) (omega arith) new.pointers
@@ -267,7 +274,7 @@ module _ (N : ℕ) (c : Content) (new : IsNew N c) where
   fits_uses (suc j) = record { entries = refl; each = λ i lt. subst IsUse (sym (unused_at 64 i)) is_unused; past = λ i le lt. absurd (omega arith) }
 
   long : (e : Entry) → 0 < A e → length (block c (A e)) ≡ 512
-  long = at_each (λ e. length (block c (A e)) ≡ 512) (ap length inode_block ∙ length-inode root_inode fits_inode) (ap length map_block ∙ length-pointers first_pointers fits_pointers)
+  long = at_each (λ e. length (block c (A e)) ≡ 512) (ap length inode_block ∙ length-inode (root_inode version) (fits_inode version new.known)) (ap length map_block ∙ length-pointers first_pointers fits_pointers)
       (λ j lt. ap length (usage_block j lt) ∙ length-usage 64 (first_uses N j) (fits_uses j))
 
   pointer_at : (i : ℕ) → get_or first_pointers i 0 ≡ cond (i == 1) 3 0
@@ -280,13 +287,13 @@ module _ (N : ℕ) (c : Content) (new : IsNew N c) where
       let here : 128 * 0 + i ≡ i = omega arith in
       pointers_are (block c 4) first_pointers fits_pointers map_block i lt ∙ pointer_at i ∙ ap (λ (n : ℕ). A (Inode n)) (sym here)
 
-  root_in : inode_in (block c 3) ≡ Some root_inode
-  root_in = inode_some (block c 3) root_inode fits_inode inode_block
+  root_in : inode_in (block c 3) ≡ Some (root_inode version)
+  root_in = inode_some (block c 3) (root_inode version) (fits_inode version new.known) inode_block
 
-  spells_inode : SpellsInode empty_root (layout_version k) A 1 (block c 3)
+  spells_inode : SpellsInode (empty_root version) (layout_version k) A 1 (block c 3)
   spells_inode =
-      let w = inode_words (block c 3) root_inode root_in in record {
-        formed = record { value = root_inode; spelt = root_in; form = tt; own = refl };
+      let w = inode_words (block c 3) (root_inode version) root_in in record {
+        formed = record { value = (root_inode version); spelt = root_in; form = small_form version new.known; own = refl };
         header = ap Some (sym w.header);
         direct = λ i lt. w.direct i lt ∙ get_or_blank 112 i;
         single = w.single;
@@ -408,16 +415,17 @@ module _ (N : ℕ) (c : Content) (new : IsNew N c) where
   at_segment P first others zero = first
   at_segment P first others (suc s) = others (suc s) (omega arith)
 
-  encodes : Encodes c k A empty_root
+  encodes : Encodes c k A (empty_root version)
   encodes = record {
     size = new.size;
+    version = refl;
     map = λ j. refl;
     usage = λ j. refl;
     stored = stored;
     only = only;
     within = within;
     long = long;
-    spells = at_each (λ e. Spells empty_root (layout_version k) A (block c (A e)) e) spells_inode map_words (λ j lt. tt);
+    spells = at_each (λ e. Spells (empty_root version) (layout_version k) A (block c (A e)) e) spells_inode map_words (λ j lt. tt);
     rows = at_segment (λ s. 0 < used_in v s → (r : List (Option Entry)) × (v.row s ≡ Some r)) (λ lt. (chunk, first_row)) (λ s lt some. let z = used_past s lt in absurd (omega arith));
     named = named;
     fit = at_segment (λ s. used_in v s ≤ 64) (let f = used_first in let most = blocks_high in omega arith) (λ s lt. let z = used_past s lt in omega arith);
@@ -428,10 +436,14 @@ module _ (N : ℕ) (c : Content) (new : IsNew N c) where
     clean = clean;
   }
 
-formed : IsLogMap empty_root
-formed = record {
+header_root : (version n : ℕ) (h : Header) → (empty_root version).header n ≡ Some h → h ≡ empty_directory version
+header_root version n h is = elim (n == 1) as (λ (b : Bool). cond b (Some (empty_directory version)) None ≡ Some h → h ≡ empty_directory version) [ true ↦ λ e. cc | false ↦ λ e. absurd (cc) ] is
+
+formed : (version : ℕ) → IsVersion version → IsLogMap (empty_root version)
+formed version known = record {
   none = λ h is. absurd (cc);
-  root = (empty_directory, refl, refl);
+  root = (empty_directory version, refl, refl);
+  forms = λ n h is. let at = header_root version n h is in subst (λ (x : Header). IsForm version x.kind x.form) (sym at) (small_form version known);
   within = λ n i has. absurd (omega arith);
   small = λ n i has. absurd (omega arith);
   nonzero = λ n i has. absurd (omega arith);
@@ -439,7 +451,7 @@ formed = record {
 }
 
 pub formatted : Formatted
-formatted N c new = (is_newest N c new, encoding c (first_checkpoint N) (A N c new) empty_root formed (encodes N c new))
+formatted version N c new = (is_newest version N c new, encoding c (first_checkpoint version N) (A version N c new) (empty_root version) (formed version new.known) (encodes version N c new))
 
 -- ---- such contents
 
@@ -455,7 +467,7 @@ sixth_on a b d e f cells j = ap (cell_at (a ∷ b ∷ d ∷ e ∷ f ∷ cells)) 
     five : 5 + j ≡ suc (suc (suc (suc (suc j))))
     five = omega arith
 
-module _ (N : ℕ) (count : IsSegmentCount N) where
+module _ (version N : ℕ) (known : IsVersion version) (count : IsSegmentCount N) where
   abbrev used_cells : Content
   used_cells = map (λ j. Some (usage_sector (first_uses N j))) (range_with_len 0 (usage_blocks N))
 
@@ -465,13 +477,13 @@ module _ (N : ℕ) (count : IsSegmentCount N) where
   used_length : length used_cells ≡ usage_blocks N
   used_length = length-map-range_with_len (λ j. Some (usage_sector (first_uses N j))) 0 (usage_blocks N)
 
-  image_length : length (new_image N) ≡ 2 + 64 * N
+  image_length : length (new_image version N) ≡ 2 + 64 * N
   image_length =
       let l = length-append used_cells rest in
       let m = used_length in
       let r = length-replicate (64 * N - 3 - usage_blocks N) (Some (blank 512)) in
       let low = count.least in
-      let fifth : length (new_image N) ≡ length (used_cells ++ rest) + 5 = omega arith in
+      let fifth : length (new_image version N) ≡ length (used_cells ++ rest) + 5 = omega arith in
       omega (arith, l, m, r, fifth)
 
   usage_cell : (j : ℕ) → j < usage_blocks N → cell_at (used_cells ++ rest) j ≡ Some (usage_sector (first_uses N j))
@@ -479,8 +491,9 @@ module _ (N : ℕ) (count : IsSegmentCount N) where
       get_or_append_left used_cells rest None j (let m = used_length in omega arith)
       ∙ get_or-map-range_with_len (λ j. Some (usage_sector (first_uses N j))) 0 (usage_blocks N) j j None lt (omega arith)
 
-  new_is_new : IsNew N (new_image N)
+  new_is_new : IsNew version N (new_image version N)
   new_is_new = record {
+    known = known;
     count = count;
     size = let l = image_length in omega arith;
     empty_slot = refl;
@@ -488,25 +501,34 @@ module _ (N : ℕ) (count : IsSegmentCount N) where
     summary = refl;
     inode = refl;
     pointers = refl;
-    uses = λ j lt. sixth_on (Some (blank 512)) (Some (checkpoint_sector (first_checkpoint N))) (Some (summary_sector (first_names N))) (Some (inode_sector root_inode)) (Some (pointer_sector first_pointers)) (used_cells ++ rest) j ∙ usage_cell j lt;
+    uses = λ j lt. sixth_on (Some (blank 512)) (Some (checkpoint_sector (first_checkpoint version N))) (Some (summary_sector (first_names N))) (Some (inode_sector (root_inode version))) (Some (pointer_sector first_pointers)) (used_cells ++ rest) j ∙ usage_cell j lt;
   }
 
-image_is_new : IsNew 64 image
-unfolding checkpoint_sector checkpoint_sector_of checkpoint_text le64 le32 le16 words zeros summary_sector summary_entry block_kind_byte inode_sector inode_sector_of kind_byte pointer_sector usage_sector usage_entry
-image_is_new = record {
-  count = record { least = lit≤ tt; most = lit≤ tt; eighths = refl };
-  size = let l = length-replicate 4092 (Some (blank 512)) in omega arith;
-  empty_slot = refl;
-  checkpoint = refl;
-  summary = refl;
-  inode = refl;
-  pointers = refl;
-  uses = λ j lt. subst (λ (i : ℕ). cell_at image (5 + i) ≡ Some (usage_sector (first_uses 64 i))) (first j lt) refl;
-}
-  where
-    first : (j : ℕ) → j < usage_blocks 64 → 0 ≡ j
-    first zero lt = refl
-    first (suc j) lt = absurd (omega arith)
+module _ (version : ℕ) (known : IsVersion version) where
+  first_cells : (cell_at (image version) 1 ≡ Some (checkpoint_sector (first_checkpoint version 64))) × (cell_at (image version) 3 ≡ Some (inode_sector (root_inode version)))
+  unfolding checkpoint_sector checkpoint_sector_of checkpoint_text le64 le32 le16 words zeros inode_sector kind_byte
+  first_cells = ⊎_elim
+      (λ (e : version ≡ 1). subst (λ (v : ℕ). (cell_at (image v) 1 ≡ Some (checkpoint_sector (first_checkpoint v 64))) × (cell_at (image v) 3 ≡ Some (inode_sector (root_inode v)))) (sym e) (refl, refl))
+      (λ (e : version ≡ 2). subst (λ (v : ℕ). (cell_at (image v) 1 ≡ Some (checkpoint_sector (first_checkpoint v 64))) × (cell_at (image v) 3 ≡ Some (inode_sector (root_inode v)))) (sym e) (refl, refl))
+      known
+
+  image_is_new : IsNew version 64 (image version)
+  unfolding le32 le16 words zeros summary_sector summary_entry block_kind_byte pointer_sector usage_sector usage_entry
+  image_is_new = record {
+    known = known;
+    count = record { least = lit≤ tt; most = lit≤ tt; eighths = refl };
+    size = let l = length-replicate 4092 (Some (blank 512)) in omega arith;
+    empty_slot = refl;
+    checkpoint = first_cells.0;
+    summary = refl;
+    inode = first_cells.1;
+    pointers = refl;
+    uses = λ j lt. subst (λ (i : ℕ). cell_at (image version) (5 + i) ≡ Some (usage_sector (first_uses 64 i))) (first j lt) refl;
+  }
+    where
+      first : (j : ℕ) → j < usage_blocks 64 → 0 ≡ j
+      first zero lt = refl
+      first (suc j) lt = absurd (omega arith)
 
 pub new_images : NewImages
-new_images = (new_is_new, image_is_new)
+new_images version known = (λ N count. new_is_new version N known count, image_is_new version known)

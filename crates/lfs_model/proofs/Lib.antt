@@ -6,7 +6,6 @@ pub mod Parts
 pub mod Laid
 pub mod Runs
 pub mod CheckpointPlaces
-pub mod Layouts
 pub mod PointerPlaces
 pub mod InodePlaces
 pub mod UsagePlaces

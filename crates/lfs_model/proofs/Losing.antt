@@ -1,5 +1,5 @@
 -- A file loses its last name, as the log runs: its blocks are live no more and hold their segments.
-use Rattle.std.proofs.Common.{◌≡◌, ◌<◌, ◌≤◌, ⊎_elim, ◌+◌, ◌==◌, cond, not, ℕ, Bool, true, false, List, Option, Some, None, refl, sym, ◌∙◌, ap, subst, arith}
+use Rattle.std.proofs.Common.{◌≡◌, ◌<◌, ◌≤◌, ⊎_elim, ◌+◌, ◌==◌, cond, not, ℕ, Bool, true, false, List, Option, Some, refl, sym, ◌∙◌, ap, subst, arith}
 use Rattle.lfs_model.specs.Changing.{IsWithHeader, IsRelabeling}
 use Rattle.lfs_model.specs.Checkpoint.{CheckpointValue}
 use Rattle.lfs_model.specs.Detaching.{is_of, IsHeldFrom, LinkLosing}
@@ -7,7 +7,7 @@ use Rattle.lfs_model.specs.Device.{DeviceState}
 use Rattle.lfs_model.specs.Entry.{Entry, Inode, Usage, header, word}
 use Rattle.lfs_model.specs.Laid.{IsLaid, HoldsInode}
 use Rattle.lfs_model.specs.Memory.{Memory, file_of, IsOfFile, is_nameless, is_shown, is_held, settled_at, live_of, held_of, count_of}
-use Rattle.lfs_model.specs.Running.{Dirty, Tables, IsCached, IsOpenAt, SpellsUsage, Running}
+use Rattle.lfs_model.specs.Running.{Dirty, Tables, IsCached, SpellsUsage, Running}
 use Rattle.lfs_model.specs.Staging.{ChangesTo}
 use Rattle.lfs_model.specs.Stands.{LogMap}
 use Rattle.lfs_model.proofs.Changed.{some_is}

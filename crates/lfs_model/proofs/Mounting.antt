@@ -254,6 +254,7 @@ module _ (c : Content) (k : CheckpointValue) (m : LogMap) (few : k.segments ≤ 
     none = never_one;
     closed = omega arith;
     segments = refl;
+    version = sym st.holds.version;
     map = λ j. refl;
     usage = λ j. refl;
     long = λ j lt. en.long (Usage j) lt;

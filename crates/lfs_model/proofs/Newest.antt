@@ -1,19 +1,19 @@
 -- The newest checkpoint of a content: what the two slots hold, and what a write to one of them makes of it.
-use Rattle.std.proofs.Common.{◌≡◌, ◌<◌, ◌≤◌, ◌⊎◌, inl, inr, ⊎_elim, ◌+◌, ◌%◌, ◌==◌, nat_le, nat_lt, Bool, true, false, cond, ℕ, zero, suc, List, [], set, Option, Some, None, refl, sym, ◌∙◌, ap, ap₂, arith, get_or-set_other}
+use Rattle.std.proofs.Common.{◌≡◌, ◌<◌, ◌≤◌, ◌⊎◌, inl, inr, ⊎_elim, ◌+◌, ◌%◌, ◌==◌, ◌&&◌, nat_le, nat_lt, Bool, true, false, cond, ℕ, zero, suc, List, [], set, Option, Some, None, refl, sym, ◌∙◌, ap, ap₂, arith, get_or-set_other}
 use Rattle.std.proofs.lemmas.Bool.{and_parts, leb-true, cases_eq, cases_lt, cases_Bool, eqb-true, eq-eqb, cond-true, cond-false, lt-ltb, le-ltb}
 use Rattle.std.specs.List.{AllByRecursion}
-use Rattle.lfs_model.specs.Checkpoint.{CheckpointValue, checkpoint_in, checkpoint_of, checkpoint_sector, is_segment_count, may_be_checkpoint}
-use Rattle.lfs_model.specs.Fields.{part, read64}
+use Rattle.lfs_model.specs.Checkpoint.{CheckpointValue, IsVersion, checkpoint_in, checkpoint_of, checkpoint_sector, is_segment_count, is_version, layout_version, may_be_checkpoint}
+use Rattle.lfs_model.specs.Fields.{part, read32, read64}
 use Rattle.lfs_model.specs.Content.{Content, NewestFits, bytes_of, slot, newer, newest, with_parity}
 use Rattle.lfs_model.specs.Device.{Cell, cell_at, IsSector, AreSectorBytes}
 use Rattle.lfs_model.specs.Slots.{HoldsCheckpoint, IsNewest, HasNoCheckpoint}
 use Rattle.lfs_model.proofs.Cells.{sector_at}
 use Rattle.lfs_model.proofs.Numbers.{IsBytes}
-use Rattle.lfs_model.proofs.Decoding.{checkpoint_some, checkpoint_found, value_found}
+use Rattle.lfs_model.proofs.Decoding.{checkpoint_some, checkpoint_found, value_found, version_from}
 
 -- an unreadable slot holds no checkpoint
 pub none_spelt : checkpoint_in [] ≡ None
-unfolding checkpoint_in read64 part
+unfolding checkpoint_in read32 read64 part
 none_spelt = refl
 
 -- What the two slots hold, and the newest of it.
@@ -198,4 +198,14 @@ least_segments c k h =
     let s = newest_spelt c k h in
     let found = value_found checkpoint_of may_be_checkpoint checkpoint_sector s.0 k s.1 in
     let fits : may_be_checkpoint k ≡ true = ap may_be_checkpoint (sym found.0) ∙ found.1 in
-    leb-true 64 k.segments (and_parts (nat_le 64 k.segments) _ (and_parts (nat_le 1 k.number) (is_segment_count k.segments) fits).1).0
+    let rest = and_parts (is_version (layout_version k)) (nat_le 1 k.number && is_segment_count k.segments) fits in
+    leb-true 64 k.segments (and_parts (nat_le 64 k.segments) _ (and_parts (nat_le 1 k.number) (is_segment_count k.segments) rest.1).1).0
+
+-- and one of the versions
+pub newest_version : (c : Content) (k : CheckpointValue) → newest c ≡ Some k → IsVersion (layout_version k)
+unfolding checkpoint_in
+newest_version c k h =
+    let s = newest_spelt c k h in
+    let found = value_found checkpoint_of may_be_checkpoint checkpoint_sector s.0 k s.1 in
+    let fits : may_be_checkpoint k ≡ true = ap may_be_checkpoint (sym found.0) ∙ found.1 in
+    version_from (layout_version k) (and_parts (is_version (layout_version k)) (nat_le 1 k.number && is_segment_count k.segments) fits).0

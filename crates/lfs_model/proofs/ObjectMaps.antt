@@ -6,7 +6,9 @@ use Rattle.lfs_model.specs.declared.Kind.{Kind}
 use Rattle.lfs_model.specs.declared.Kind.TheVariants as kind
 use Rattle.lfs_model.specs.Encodes.{HasData, IsLogMap}
 use Rattle.lfs_model.specs.Entry.{Header, Inode, header}
-use Rattle.lfs_model.specs.Inode.{IsSize}
+use Rattle.lfs_model.specs.Inode.{IsForm, IsSize}
+use Rattle.lfs_model.specs.Tree.{slot_len}
+use Rattle.lfs_model.proofs.InodePlaces.{widest}
 use Rattle.lfs_model.specs.Laid.{HoldsInode}
 use Rattle.lfs_model.specs.Stands.{LogMap}
 use Rattle.lfs_model.specs.Objects.{BlockWhole, IsChangedAt, IsHeaderOf, IsObject, LaidHeaders, ObjectFits, ObjectKept, ObjectLost}
@@ -24,6 +26,7 @@ object_fits m n h is long at size = record {
       let root = is.root in
       let same : root.0 ≡ h = (let both : Some root.0 ≡ Some h = sym root.1 ∙ sym (ap m.header e) ∙ at in cc) in
       sym (ap (λ (g : Header). g.kind) same) ∙ root.2;
+  form = is.forms n h at;
   size = size;
   whole = record { long = long; nonzero = is.nonzero n };
   ends = map_ends m n h is at;
@@ -75,6 +78,9 @@ module _ (m m' : LogMap) (n : ℕ) (is : IsLogMap m) (changed : IsChangedAt m n 
   by_number : (P : ℕ → Type 0) → P n → ((k : ℕ) → (k ≡ n → ⊥) → P k) → (k : ℕ) → P k
   by_number P own others k = ⊎_elim (λ (here : k ≡ n). subst P (sym here) own) (others k) (cases_eq k n)
 
+  kept_form : (k : ℕ) (g : Header) → (k ≡ n → ⊥) → m'.header k ≡ Some g → IsForm m'.version g.kind g.form
+  kept_form k g ne at = subst (λ (v : ℕ). IsForm v g.kind g.form) (sym changed.version) (is.forms k g (sym (changed.headers k ne) ∙ at))
+
   pub with_object_kept : (h : Header) → m'.header n ≡ Some h → IsObject m' n h → IsLogMap m'
   with_object_kept h at fits = record {
     none = by_number (λ k. k ≡ 0 → (g : Header) → m'.header k ≡ Some g → ⊥)
@@ -83,6 +89,9 @@ module _ (m m' : LogMap) (n : ℕ) (is : IsLogMap m) (changed : IsChangedAt m n 
     root = by_number (λ k. k ≡ 1 → (g : Header) × (m'.header k ≡ Some g) × (g.kind ≡ kind.Directory))
         (λ e. (h, at, fits.root e))
         (λ k ne e. let root = is.root in (root.0, changed.headers k ne ∙ ap m.header e ∙ root.1, root.2)) 1 refl;
+    forms = by_number (λ k. (g : Header) → m'.header k ≡ Some g → IsForm m'.version g.kind g.form)
+        (λ g there. (let same : h ≡ g = (let both : Some h ≡ Some g = sym at ∙ there in cc) in subst (λ (x : Header). IsForm m'.version x.kind x.form) same fits.form))
+        (λ k ne g there. kept_form k g ne there);
     within = by_number (λ k. (i : ℕ) → HasData m' k i → (g : Header) × (m'.header k ≡ Some g) × (512 * i < g.size))
         (λ i has. (h, at, own_within m' n h fits i has))
         (λ k ne i. kept_within k i ne);
@@ -105,6 +114,9 @@ module _ (m m' : LogMap) (n : ℕ) (is : IsLogMap m) (changed : IsChangedAt m n 
     root = by_number (λ k. k ≡ 1 → (g : Header) × (m'.header k ≡ Some g) × (g.kind ≡ kind.Directory))
         (λ e. absurd (other e))
         (λ k ne e. let root = is.root in (root.0, changed.headers k ne ∙ ap m.header e ∙ root.1, root.2)) 1 refl;
+    forms = by_number (λ k. (g : Header) → m'.header k ≡ Some g → IsForm m'.version g.kind g.form)
+        (λ g there. let bad : None ≡ Some g = sym at ∙ there in absurd (cc))
+        (λ k ne g there. kept_form k g ne there);
     within = by_number (λ k. (i : ℕ) → HasData m' k i → (g : Header) × (m'.header k ≡ Some g) × (512 * i < g.size))
         (λ i has. absurd (no_data i has))
         (λ k ne i. kept_within k i ne);
@@ -147,26 +159,26 @@ block_whole m m' n i bytes with_it was fresh = record {
 
 -- ---- headers
 
-size_most : (k : Kind) (size : ℕ) → IsSize 0 k size → size ≤ 8511488
+size_most : (form : ℕ) (k : Kind) (size : ℕ) → IsSize form k size → size ≤ 8511488
 unfolding IsSize
-size_most kind.File size fits = fits
-size_most kind.Directory size fits = let most = fits.1 in omega arith
-size_most kind.Link size fits = let most = fits.1 in omega arith
+size_most form kind.File size fits = fits
+size_most form kind.Directory size fits = let most = fits.1 in let wide = widest form in omega arith
+size_most form kind.Link size fits = let most = fits.1 in omega arith
 
-size_slots : (k : Kind) (size : ℕ) → IsSize 0 k size → k ≡ kind.Directory → size % 64 ≡ 0
+size_slots : (form : ℕ) (k : Kind) (size : ℕ) → IsSize form k size → k ≡ kind.Directory → size % slot_len form ≡ 0
 unfolding IsSize
-size_slots kind.File size fits dir = absurd (cc)
-size_slots kind.Directory size fits dir = fits.0
-size_slots kind.Link size fits dir = absurd (cc)
+size_slots form kind.File size fits dir = absurd (cc)
+size_slots form kind.Directory size fits dir = fits.0
+size_slots form kind.Link size fits dir = absurd (cc)
 
 pub header_of_inode : (n : ℕ) (b : List ℕ) → HoldsInode n b → IsHeaderOf n (header b)
 header_of_inode n b holds = subst (IsHeaderOf n) (sym (header_holds n b holds)) (record {
   number = number_low n b holds;
-  form = refl;
+  form = holds.fits.form;
   links = holds.links;
   size = holds.fits.size;
-  most = size_most holds.value.kind holds.value.size holds.fits.size;
-  slots = size_slots holds.value.kind holds.value.size holds.fits.size;
+  most = size_most holds.value.form holds.value.kind holds.value.size holds.fits.size;
+  slots = size_slots holds.value.form holds.value.kind holds.value.size holds.fits.size;
 })
 
 pub laid_headers : LaidHeaders

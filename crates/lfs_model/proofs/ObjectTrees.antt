@@ -33,21 +33,23 @@ pub with_block_at : (m m' : LogMap) (n i : ℕ) (bytes : List ℕ) → IsWithBlo
 with_block_at m m' n i bytes is = record {
   headers = λ k ne. is.header k;
   blocks = λ k l ne. is.others k l (λ e. let same : k ≡ n = cc in ne same);
+  version = is.version;
 }
 
 pub with_header_at : (m m' : LogMap) (n : ℕ) (h : Option Header) → IsWithHeader m n h m' → IsChangedAt m n m'
-with_header_at m m' n h is = record { headers = is.others; blocks = λ k i ne. is.block k i }
+with_header_at m m' n h is = record { headers = is.others; blocks = λ k i ne. is.block k i; version = is.version }
 
 pub without_file_at : (m m' : LogMap) (n : ℕ) → IsWithoutFile m n m' → IsChangedAt m n m'
-without_file_at m m' n is = record { headers = is.headers; blocks = is.blocks }
+without_file_at m m' n is = record { headers = is.headers; blocks = is.blocks; version = is.version }
 
 pub changed_not : (m : LogMap) (n : ℕ) → IsChangedAt m n m
-changed_not m n = record { headers = λ k ne. refl; blocks = λ k i ne. refl }
+changed_not m n = record { headers = λ k ne. refl; blocks = λ k i ne. refl; version = refl }
 
 pub changed_again : (m mid m' : LogMap) (n : ℕ) → IsChangedAt m n mid → IsChangedAt mid n m' → IsChangedAt m n m'
 changed_again m mid m' n first next = record {
   headers = λ k ne. next.headers k ne ∙ first.headers k ne;
   blocks = λ k i ne. next.blocks k i ne ∙ first.blocks k i ne;
+  version = next.version ∙ first.version;
 }
 
 -- ---- nodes

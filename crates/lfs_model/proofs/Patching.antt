@@ -1,19 +1,19 @@
 -- A block with a number at one of its words, and an inode that is patched so.
 use Rattle.std.proofs.Common.{◌≡◌, ◌<◌, ◌≤◌, ⊎_elim, ◌+◌, ◌*◌, ◌-◌, ◌^◌, ℕ, zero, suc, List, [], ◌∷◌, ◌++◌, length, get_or, set, take, drop, refl, sym, ◌∙◌, ap, subst, arith, length-append, length-take, length-drop, length-set, get_or-take, get_or-drop, get_or-set_other, get_or-set_same}
 use Rattle.std.proofs.lemmas.List.{append_assoc, same_lists, get_or_append_left, get_or-append_right, get_or_past, get_or_default}
-use Rattle.std.proofs.lemmas.Bool.{cases_eq, cases_lt}
+use Rattle.std.proofs.lemmas.Bool.{and_parts, cases_eq, cases_lt}
 use Rattle.lfs_model.specs.declared.Kind.{Kind}
 use Rattle.lfs_model.specs.declared.Kind.TheVariants.{File, Directory, Link}
 use Rattle.lfs_model.specs.Fields.{le32, words, zeros, join, part, read32, number_of, Are32}
-use Rattle.lfs_model.specs.Inode.{InodeValue, FitsInode, inode_form, inode_in, inode_of, inode_sector, inode_sector_of, may_be_inode, kind_byte, kind_of}
+use Rattle.lfs_model.specs.Inode.{InodeValue, FitsInode, IsForm, inode_in, inode_of, inode_sector, may_be_inode, kind_byte, kind_of}
 use Rattle.lfs_model.specs.Entry.{Header, IsInode, header, header_of, word}
 use Rattle.lfs_model.specs.Memory.{patched}
 use Rattle.lfs_model.specs.Laid.{HoldsInode}
 use Rattle.lfs_model.proofs.Numbers.{IsBytes, length-le32, length-words, length-zeros}
 use Rattle.lfs_model.proofs.Parts.{length-part, get_or-part, part_add, read32_is}
-use Rattle.lfs_model.proofs.InodePlaces.{ReadsAs, fields, kind_at, reads_to, size_fits, first_form}
+use Rattle.lfs_model.proofs.InodePlaces.{ReadsAs, fields, form_at, kind_at, reads_to, size_fits}
 use Rattle.lfs_model.proofs.Runs.{length-run, piece_at}
-use Rattle.lfs_model.proofs.Decoding.{value_found, inode_found, inode_some}
+use Rattle.lfs_model.proofs.Decoding.{value_found, form_from, form_small, inode_found, inode_some}
 use Rattle.lfs_model.proofs.Laid.{Laid, Sized, laid_from, length-fields}
 
 -- ---- the bytes of a patched block
@@ -98,13 +98,13 @@ module _ (w v : ℕ) (b : List ℕ) (long : length b ≡ 512) (low : w < 128) wh
       (cases_lt i w))
 
 -- ---- what an inode says besides its pointers
-pub header_same : (b c : List ℕ) → get_or c 0 0 ≡ get_or b 0 0 → word c 2 ≡ word b 2 → word c 3 ≡ word b 3 → header c ≡ header b
+pub header_same : (b c : List ℕ) → get_or c 0 0 ≡ get_or b 0 0 → get_or c 1 0 ≡ get_or b 1 0 → word c 2 ≡ word b 2 → word c 3 ≡ word b 3 → header c ≡ header b
 unfolding header word
-header_same b c first links size = λ i. record { kind = kind_of (first i); form = 0; links = links i; size = size i }
+header_same b c first form links size = λ i. record { kind = kind_of (first i); form = form i; links = links i; size = size i }
 
 pub header_patched : (w v : ℕ) (b : List ℕ) → length b ≡ 512 → 8 ≤ w → w < 122 → header (patched w v b) ≡ header b
 header_patched w v b long above below =
-    header_same b (patched w v b) (byte_before w v b (omega arith) 0 (omega arith))
+    header_same b (patched w v b) (byte_before w v b (omega arith) 0 (omega arith)) (byte_before w v b (omega arith) 1 (omega arith))
     (word_other w v b long (omega arith) 2 (omega arith) (λ e. omega arith)) (word_other w v b long (omega arith) 3 (omega arith) (λ e. omega arith))
 
 -- ---- an inode that may have no link is read as its value
@@ -112,26 +112,27 @@ sized : (i : InodeValue) → length i.direct ≡ 112 → Sized (fields i)
 unfolding fields
 sized i count =
     let direct : length (words i.direct) ≡ 448 = length-words i.direct ∙ ap (λ (n : ℕ). 4 * n) count in
-    (refl, (ap suc (length-zeros 2), (length-le32 i.number, (length-le32 i.links, (length-le32 i.size, (length-zeros 16, (direct, (length-le32 i.single, (length-le32 i.double, (length-zeros 24, tt))))))))))
+    (refl, (refl, (length-zeros 2, (length-le32 i.number, (length-le32 i.links, (length-le32 i.size, (length-zeros 16, (direct, (length-le32 i.single, (length-le32 i.double, (length-zeros 24, tt)))))))))))
 
 long_value : (i : InodeValue) → length i.direct ≡ 112 → length (inode_sector i) ≡ 512
-unfolding fields inode_sector inode_sector_of
+unfolding fields inode_sector
 long_value i count = length-fields (fields i) (sized i count)
 
 reads_value : (s : List ℕ) (i : InodeValue) → length i.direct ≡ 112 → s ≡ inode_sector i → ReadsAs s i
-unfolding fields inode_sector inode_sector_of
+unfolding fields inode_sector
 reads_value s i count e =
     let laid : Laid s 0 (fields i) = laid_from s 0 (fields i) (sized i count) e in record {
       kind = laid.0;
       form = laid.1.0;
-      number = laid.1.1.0;
-      links = laid.1.1.1.0;
-      size = laid.1.1.1.1.0;
-      gap2 = laid.1.1.1.1.1.0;
-      direct = laid.1.1.1.1.1.1.0;
-      single = laid.1.1.1.1.1.1.1.0;
-      double = laid.1.1.1.1.1.1.1.1.0;
-      rest = laid.1.1.1.1.1.1.1.1.1.0;
+      gap = laid.1.1.0;
+      number = laid.1.1.1.0;
+      links = laid.1.1.1.1.0;
+      size = laid.1.1.1.1.1.0;
+      gap2 = laid.1.1.1.1.1.1.0;
+      direct = laid.1.1.1.1.1.1.1.0;
+      single = laid.1.1.1.1.1.1.1.1.0;
+      double = laid.1.1.1.1.1.1.1.1.1.0;
+      rest = laid.1.1.1.1.1.1.1.1.1.1.0;
     }
 
 module _ (n : ℕ) (b : List ℕ) (holds : HoldsInode n b) where
@@ -160,23 +161,25 @@ module _ (n : ℕ) (b : List ℕ) (holds : HoldsInode n b) where
       let kind : kind_of (get_or b 0 0) ≡ holds.value.kind = kind_at b holds.value.kind (omega arith) r.kind in
       let links : read32 8 b ≡ holds.value.links = read32_is 8 b holds.value.links f.1 r.links in
       let size : read32 12 b ≡ holds.value.size = read32_is 12 b holds.value.size f.2 r.size in
-      λ i. record { kind = kind i; form = 0; links = links i; size = size i }
+      let form : get_or b 1 0 ≡ holds.value.form = form_at b holds.value.form (omega arith) r.form in
+      λ i. record { kind = kind i; form = form i; links = links i; size = size i }
 
-  -- and with a link it is an inode of a log map that is written
-  pub is_inode : (version : ℕ) → 1 ≤ (header b).links → IsInode version n b
-  is_inode version linked =
+  -- and with a link it is an inode of a log map that is written, in each version that has its form
+  pub is_inode : (version : ℕ) → IsForm version (header b).kind (header b).form → 1 ≤ (header b).links → IsInode version n b
+  is_inode version formed linked =
       let few = holds.links in
       let l = ap (λ (h : Header). h.links) header_holds in
       let fits : FitsInode holds.value = record {
         number = holds.fits.number;
         links = (omega arith, omega arith);
+        form = holds.fits.form;
         size = holds.fits.size;
         direct_length = holds.fits.direct_length;
         direct_fits = holds.fits.direct_fits;
         single_fits = holds.fits.single_fits;
         double_fits = holds.fits.double_fits;
       } in
-      record { value = holds.value; spelt = inode_some b holds.value fits holds.spelt; form = tt; own = holds.own }
+      record { value = holds.value; spelt = inode_some b holds.value fits holds.spelt; form = subst (λ (h : Header). IsForm version h.kind h.form) header_holds formed; own = holds.own }
 
 -- ---- an inode in a sector is one that memory may hold
 le32_bytes : (n : ℕ) → IsBytes (le32 n)
@@ -214,13 +217,18 @@ kind_bytes Link (suc i) = omega arith
 
 -- what follows the kind and the form
 abbrev after_form : InodeValue → List ℕ
-after_form i = join (le32 i.number ∷ le32 i.links ∷ le32 i.size ∷ zeros 16 ∷ words i.direct ∷ le32 i.single ∷ le32 i.double ∷ zeros 24 ∷ [])
+after_form i = join (zeros 2 ∷ le32 i.number ∷ le32 i.links ∷ le32 i.size ∷ zeros 16 ∷ words i.direct ∷ le32 i.single ∷ le32 i.double ∷ zeros 24 ∷ [])
 
-inode_bytes : (i : InodeValue) → IsBytes (inode_sector i)
-unfolding inode_sector inode_sector_of
-inode_bytes i =
-    append_bytes (kind_byte i.kind ∷ []) ((inode_form i ∷ zeros 2) ++ after_form i) (kind_bytes i.kind)
-    (append_bytes (inode_form i ∷ zeros 2) (after_form i) (subst IsBytes (first_form i) (zeros_bytes 3))
+form_bytes : (form : ℕ) → form ≤ 1 → IsBytes (form ∷ [])
+form_bytes form few zero = omega arith
+form_bytes form few (suc i) = omega arith
+
+inode_bytes : (i : InodeValue) → i.form ≤ 1 → IsBytes (inode_sector i)
+unfolding inode_sector
+inode_bytes i few =
+    append_bytes (kind_byte i.kind ∷ []) ((i.form ∷ []) ++ after_form i) (kind_bytes i.kind)
+    (append_bytes (i.form ∷ []) (after_form i) (form_bytes i.form few)
+    (append_bytes (zeros 2) _ (zeros_bytes 2)
     (append_bytes (le32 i.number) _ (le32_bytes i.number)
     (append_bytes (le32 i.links) _ (le32_bytes i.links)
     (append_bytes (le32 i.size) _ (le32_bytes i.size)
@@ -228,7 +236,7 @@ inode_bytes i =
     (append_bytes (words i.direct) _ (words_bytes i.direct)
     (append_bytes (le32 i.single) _ (le32_bytes i.single)
     (append_bytes (le32 i.double) _ (le32_bytes i.double)
-    (append_bytes (zeros 24) [] (zeros_bytes 24) (λ k. omega arith))))))))))
+    (append_bytes (zeros 24) [] (zeros_bytes 24) (λ k. omega arith)))))))))))
 
 pub holds_inode : (version n : ℕ) (b : List ℕ) → IsInode version n b → HoldsInode n b
 unfolding inode_in
@@ -236,13 +244,16 @@ holds_inode version n b is =
     let found = value_found inode_of may_be_inode inode_sector b is.value is.spelt in
     let count : length is.value.direct ≡ 112 = ap (λ (v : InodeValue). length v.direct) (sym found.0) ∙ length-run read32 4 112 32 b in
     let long : length b ≡ 512 = ap length found.2 ∙ long_value is.value count in
-    let fits = (inode_found b is.value (subst IsBytes (sym found.2) (inode_bytes is.value)) long is.spelt).0 in
+    let tests = and_parts _ _ (and_parts _ _ (and_parts _ _ found.1).1).1 in
+    let few : is.value.form ≤ 1 = subst (λ (v : InodeValue). v.form ≤ 1) found.0 (form_small _ _ (form_from _ _ tests.0)) in
+    let fits = (inode_found b is.value (subst IsBytes (sym found.2) (inode_bytes is.value few)) long is.spelt).0 in
     record {
       value = is.value;
       spelt = found.2;
       fits = record {
         number = fits.number;
         links = (omega arith, omega arith);
+        form = fits.form;
         size = fits.size;
         direct_length = fits.direct_length;
         direct_fits = fits.direct_fits;
@@ -284,7 +295,8 @@ module _ (n w v : ℕ) (b : List ℕ) (holds : HoldsInode n b) (above : 8 ≤ w)
       let r = reads_inode n b holds in
       let reads : ReadsAs (patched w v b) (other_value ns s d) = record {
         kind = before 0 1 (omega arith) ∙ r.kind;
-        form = before 1 3 (omega arith) ∙ r.form;
+        form = before 1 1 (omega arith) ∙ r.form;
+        gap = before 2 2 (omega arith) ∙ r.gap;
         number = before 4 4 (omega arith) ∙ r.number;
         links = before 8 4 (omega arith) ∙ r.links;
         size = before 12 4 (omega arith) ∙ r.size;
@@ -300,6 +312,7 @@ module _ (n w v : ℕ) (b : List ℕ) (holds : HoldsInode n b) (above : 8 ≤ w)
         fits = record {
           number = holds.fits.number;
           links = (omega arith, omega arith);
+          form = holds.fits.form;
           size = holds.fits.size;
           direct_length = count;
           direct_fits = fits;

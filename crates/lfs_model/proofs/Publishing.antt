@@ -56,7 +56,7 @@ laid_beside e m M o slot bytes low laid = record {
 
 module _ (e : Content) (m : LogMap) (M : Memory) (o : ℕ) (dirty : Dirty) (t : Tables) (k next : CheckpointValue) (laid : IsLaid e m M o) (closed : M.segments ≤ o) (same : M.segments ≡ k.segments)
     (cached : IsCached dirty M) (tables : IsTables t m M) (fresh : (j : ℕ) → t.stale j ≡ false → j < (k.segments + 63) / 64 → SpellsUsage t j (M.bytes (Usage j)))
-    (out : IsOut dirty t k.segments) (many : ManyClean t k.segments) (leads : LeadsTo t k next) where
+    (out : IsOut dirty t k.segments) (many : ManyClean t k.segments) (leads : LeadsTo t m.version k next) where
   none_left : (x : Entry) → M.at x ≡ 1 → ⊥
   none_left (Data n i) one = of_file (Data n i) (n, refl) one
     where
@@ -129,6 +129,7 @@ module _ (e : Content) (m : LogMap) (M : Memory) (o : ℕ) (dirty : Dirty) (t : 
     none = none_left;
     closed = closed;
     segments = leads.segments ∙ sym same;
+    version = leads.same;
     map = λ j. tables.at (Map j) refl ∙ sym (leads.map j);
     usage = λ j. tables.at (Usage j) refl ∙ sym (leads.usage j);
     long = λ j lt.
@@ -154,7 +155,7 @@ planning d dirty t k next m0 m none slot bytes w formed out many leads spelt pla
 }
 
 module _ (d d' : DeviceState) (dirty : Dirty) (t t' : Tables) (k next : CheckpointValue) (m0 m : LogMap) (none slot : ℕ) (bytes : List ℕ)
-    (w : Running d dirty t k m0 m none None) (out : IsOut dirty t k.segments) (many : ManyClean t k.segments) (leads : LeadsTo t k next) (low : slot < 2) (is : d'.content ≡ put d.content slot bytes)
+    (w : Running d dirty t k m0 m none None) (out : IsOut dirty t k.segments) (many : ManyClean t k.segments) (leads : LeadsTo t m.version k next) (low : slot < 2) (is : d'.content ≡ put d.content slot bytes)
     (settled : IsSettled d' next (dropped m)) (go : IsReleased t t') where
   laid_now : IsLaid d'.content m w.memory none
   laid_now = subst (λ (c : Content). IsLaid c m w.memory none) (sym is) (laid_beside d.content m w.memory none slot bytes low w.laid)

@@ -1,6 +1,6 @@
 -- The device calls of a commit: what each leaves of what the acknowledged checkpoint needs.
 use Rattle.std.proofs.Common.{◌≡◌, ◌⊎◌, ◌%◌, ℕ, List, Some, refl, sym, ◌∙◌, ap, subst}
-use Rattle.lfs_model.specs.Checkpoint.{CheckpointValue, Layout, layout_of}
+use Rattle.lfs_model.specs.Checkpoint.{CheckpointValue}
 use Rattle.lfs_model.specs.Content.{Content, newest}
 use Rattle.lfs_model.specs.Reach.{View, view}
 use Rattle.lfs_model.specs.Stands.{LogMap, StandsAt, StandsLog, Protected, used_in}
@@ -68,7 +68,7 @@ slot_torn d d' k next m m' slot bytes settled planned same only crash c left =
     let may : MayWrite slot bytes d.content c = subst (λ (f : Content). MayWrite slot bytes f c) (only from.0 from.1) from.2 in
     let either = (slot_write d.content m (log_at k m d settled) d.content (keeps_itself d.content k settled.newest) next bytes m' planned.ready).0 c
     (subst (λ (n : ℕ). MayWrite n bytes d.content c) planned.place may) in
-    subst (λ (l : Layout). StandsOn (layout_of k) c m ⊎ StandsOn l c m') same either
+    subst (λ (n : ℕ). StandsOn k.segments c m ⊎ StandsOn n c m') same either
 
 pub acknowledged : Acknowledged
 acknowledged d d' k next m m' slot bytes settled planned is only =

@@ -8,7 +8,7 @@ use Rattle.lfs_model.proofs.Parts.{length-part, get_or-part, one_byte, le32_of_r
 use Rattle.lfs_model.proofs.Laid.{Field, Sized, Laid, laid_from, laid_to, length-fields}
 
 -- a slot has room for the number and the length
-room : (form : ℕ) → 5 ≤ slot_len form
+pub room : (form : ℕ) → 5 ≤ slot_len form
 room zero = omega arith
 room (suc form) = omega arith
 

@@ -1,5 +1,5 @@
 -- Blocks come into memory before they change.
-use Rattle.std.proofs.Common.{◌≡◌, ◌≤◌, ⊎_elim, ◌+◌, ◌*◌, ◌/◌, true, ℕ, List, map, Option, Some, None, refl, sym, ◌∙◌, ap, subst, arith}
+use Rattle.std.proofs.Common.{◌≡◌, ◌≤◌, ⊎_elim, ◌+◌, ◌*◌, ◌/◌, true, ℕ, List, map, Option, Some, refl, sym, ◌∙◌, ap, subst, arith}
 use Rattle.std.specs.Prelude.{option_map}
 use Rattle.lfs_model.specs.Entry.{Entry, Inode, Map, Usage, word}
 use Rattle.lfs_model.specs.Checkpoint.{CheckpointValue}
@@ -8,7 +8,7 @@ use Rattle.lfs_model.specs.Counting.{segment_of}
 use Rattle.lfs_model.specs.Device.{DeviceState}
 use Rattle.lfs_model.specs.Lifting.{IsTaken, IsLifting}
 use Rattle.lfs_model.specs.Memory.{Memory, parent, pointer, patched, IsOfFile, is_shown, is_held}
-use Rattle.lfs_model.specs.Running.{Dirty, Tables, IsCached, IsOpenAt, SpellsUsage, Running, IsLifted}
+use Rattle.lfs_model.specs.Running.{Dirty, Tables, IsCached, SpellsUsage, Running, IsLifted}
 use Rattle.lfs_model.specs.Staging.{IsAtAddress, Fetches, Fetching, MapFetching, MapAdding}
 use Rattle.lfs_model.specs.Stands.{LogMap}
 use Rattle.lfs_model.proofs.Counting.{unplaced_counts}

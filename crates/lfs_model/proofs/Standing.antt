@@ -1,5 +1,5 @@
 -- The state that a content stands for is sound.
-use Rattle.std.proofs.Common.{◌≡◌, ◌≢◌, ◌<◌, ◌≤◌, inl, ⊎_elim, ◌+◌, ◌*◌, ◌/◌, ◌%◌, ◌&&◌, ◌==◌, nat_le, nat_lt, Bool, true, false, ℕ, zero, suc, List, [], ◌∷◌, length, map, take, drop, get_or, Option, Some, None, refl, sym, ◌∙◌, ap, subst, arith, slice_index}
+use Rattle.std.proofs.Common.{◌≡◌, ◌≢◌, ◌<◌, ◌≤◌, inl, inr, ⊎_elim, ◌+◌, ◌*◌, ◌/◌, ◌%◌, ◌&&◌, ◌==◌, nat_le, nat_lt, Bool, true, false, ℕ, zero, suc, List, [], ◌∷◌, length, map, take, drop, get_or, Option, Some, None, refl, sym, ◌∙◌, ap, subst, arith, slice_index}
 use Rattle.std.specs.Prelude.{T}
 use Rattle.std.specs.List.{AllByRecursion, range_with_len}
 use Rattle.std.specs.FinMap.{is_sorted}
@@ -12,11 +12,11 @@ use Rattle.std.proofs.lemmas.List.FromFn.{length-map-range_with_len}
 use Rattle.lfs_model.specs.declared.Kind.{Kind}
 use Rattle.lfs_model.specs.declared.Kind.TheVariants as kind
 use Rattle.lfs_model.specs.Bytes.{AreBytes}
-use Rattle.lfs_model.specs.Checkpoint.{CheckpointValue, layout_version}
+use Rattle.lfs_model.specs.Checkpoint.{CheckpointValue, IsVersion, layout_version}
 use Rattle.lfs_model.specs.Content.{Content, block, bytes_of}
 use Rattle.lfs_model.specs.Device.{Cell, IsSector, cell_at}
 use Rattle.lfs_model.specs.Entry.{Header, Data, Inode, IsInode, header}
-use Rattle.lfs_model.specs.Inode.{InodeValue, inode_in, inode_of, inode_sector, is_size, may_be_inode}
+use Rattle.lfs_model.specs.Inode.{InodeValue, IsForm, inode_in, inode_of, inode_sector, is_size, may_be_inode}
 use Rattle.lfs_model.specs.Reach.{view}
 use Rattle.lfs_model.specs.Slot.{SlotValue, FitsSlot, may_be_slot, slot_bytes, slot_in, slot_of}
 use Rattle.lfs_model.specs.Sound.{Sound, IsGoodName, IsWithinLimits, IsOfVersion}
@@ -24,6 +24,7 @@ use Rattle.lfs_model.specs.Stands.{HoldsAt, LogMap}
 use Rattle.lfs_model.specs.Tree.{Names, Node, Tree, byte_cmp, is_dir, links, name_len, node, slot_len}
 use Rattle.lfs_model.specs.TreeOf.{IsTree, map_of, node_by, node_of, nodes_from, object, slots, tree_in, with_object, with_slot}
 use Rattle.lfs_model.specs.Volume.{StandingIsSound, mounted}
+use Rattle.lfs_model.proofs.Newest.{newest_version}
 use Rattle.lfs_model.proofs.Volume.{no_node_0, no_node_past, node_in, same_state}
 use Rattle.lfs_model.proofs.Cells.{sector_at}
 use Rattle.lfs_model.proofs.Decoding.{slot_found, value_found}
@@ -106,38 +107,39 @@ unfolding slots
 slots_length m n h = length-map-range_with_len (λ j. take (slot_len h.form) (drop (slot_len h.form * j) (object m n h))) 0 (h.size / slot_len h.form)
 
 -- ---- headers
-pub record IsHeader (n : ℕ) (h : Header) : Type 0 where
+pub record IsHeader (version n : ℕ) (h : Header) : Type 0 where
   pub number : (1 ≤ n) × (n ≤ 4095)
   pub links : (1 ≤ h.links) × (h.links ≤ 1000)
-  pub form : h.form ≡ 0
+  pub form : IsForm version h.kind h.form
   pub size : is_size h.form h.kind h.size ≡ true
 
 within : (n most : ℕ) → (nat_le 1 n && nat_le n most) ≡ true → (1 ≤ n) × (n ≤ most)
 within n most e = let a = and_parts (nat_le 1 n) (nat_le n most) e in (leb-true 1 n a.0, leb-true n most a.1)
 
-pub inode_header : (version n : ℕ) (b : List ℕ) → IsInode version n b → IsHeader n (header b)
+pub inode_header : (version n : ℕ) (b : List ℕ) → IsInode version n b → IsHeader version n (header b)
 unfolding inode_in header
 inode_header version n b i =
     let found = value_found inode_of may_be_inode inode_sector b i.value i.spelt in
     let a = and_parts _ _ found.1 in
     let d = and_parts _ _ a.1 in
+    let f = and_parts _ _ d.1 in
     let w = within (inode_of b).number 4095 a.0 in
     let own : (inode_of b).number ≡ n = ap (λ (v : InodeValue). v.number) found.0 ∙ i.own in
     record {
       number = subst (λ (x : ℕ). (1 ≤ x) × (x ≤ 4095)) own w;
       links = within (inode_of b).links 1000 d.0;
-      form = refl;
-      size = d.1;
+      form = subst (λ (v : InodeValue). IsForm version v.kind v.form) (sym found.0) i.form;
+      size = f.1;
     }
 
 -- what a content that holds a log map has for headers
-pub headers_are : (c : Content) (k : CheckpointValue) (m : LogMap) → HoldsAt c k m → (n : ℕ) (h : Header) → m.header n ≡ Some h → IsHeader n h
+pub headers_are : (c : Content) (k : CheckpointValue) (m : LogMap) → HoldsAt c k m → (n : ℕ) (h : Header) → m.header n ≡ Some h → IsHeader (layout_version k) n h
 headers_are c k m st n h is =
     ⊎_elim
     (λ (some : nat_lt 0 ((view c k).address (Inode n)) ≡ true).
     let there : Some h ≡ Some (header ((view c k).block (Inode n))) = sym is ∙ st.header n ∙ cond-true (nat_lt 0 ((view c k).address (Inode n))) (Some (header ((view c k).block (Inode n)))) None some in
     let same : h ≡ header ((view c k).block (Inode n)) = cc in
-    subst (IsHeader n) (sym same) (inode_header (layout_version k) n ((view c k).block (Inode n)) (st.stages.inodes.formed n (ltb-true 0 ((view c k).address (Inode n)) some))))
+    subst (IsHeader (layout_version k) n) (sym same) (inode_header (layout_version k) n ((view c k).block (Inode n)) (st.stages.inodes.formed n (ltb-true 0 ((view c k).address (Inode n)) some))))
     (λ (none : nat_lt 0 ((view c k).address (Inode n)) ≡ false).
     let e : Some h ≡ None = sym is ∙ st.header n ∙ cond-false (nat_lt 0 ((view c k).address (Inode n))) (Some (header ((view c k).block (Inode n)))) None none in absurd (cc))
     (cases_Bool (nat_lt 0 ((view c k).address (Inode n))))
@@ -222,15 +224,22 @@ limit_of m small kind.Link n h size dir link =
     let high = leb-true h.size 1023 parts.1 in
     (omega (arith, object_length m n h, low), omega (arith, object_length m n h, high), link refl, are_bytes (object m n h) (object_bytes m small n h))
 
-version_of : (m : LogMap) (kd : Kind) (n : ℕ) (h : Header) → h.form ≡ 0 → IsOfVersion 1 (node_by m kd n h)
-version_of m kind.File n h form = tt
-version_of m kind.Directory n h form = omega arith
-version_of m kind.Link n h form = tt
+below_version : (version : ℕ) → 1 ≤ version → (form : ℕ) → IsForm version kind.Directory form → form < version
+below_version version some zero is = some
+below_version version some (suc form) is = is
+
+version_of : (m : LogMap) (version : ℕ) → 1 ≤ version → (kd : Kind) (n : ℕ) (h : Header) → IsForm version kd h.form → IsOfVersion version (node_by m kd n h)
+version_of m version some kind.File n h form = tt
+version_of m version some kind.Directory n h form = below_version version some h.form form
+version_of m version some kind.Link n h form = tt
 
 root_kind : (m : LogMap) (h : Header) → h.kind ≡ kind.Directory → is_dir (Some (node_by m h.kind 1 h)) ≡ true
 root_kind m h is = ap (λ (kd : Kind). is_dir (Some (node_by m kd 1 h))) is
 
-module _ (c : Content) (all : AllByRecursion IsSector c) (k : CheckpointValue) (m : LogMap) (st : HoldsAt c k m) (tree : IsTree k.segments m) where
+module _ (c : Content) (all : AllByRecursion IsSector c) (k : CheckpointValue) (known : IsVersion (layout_version k)) (m : LogMap) (st : HoldsAt c k m) (tree : IsTree k.segments m) where
+  some_version : 1 ≤ layout_version k
+  some_version = elim known as (λ _. 1 ≤ layout_version k) [ inl one ↦ omega arith | inr two ↦ omega arith ]
+
   small_blocks : (n i o : ℕ) → slice_index (m.block n i) o < 256
   small_blocks n i o = subst (λ (b : List ℕ). slice_index b o < 256) (sym (st.block n i)) (block_byte c all ((view c k).address (Data n i)) o)
 
@@ -250,7 +259,7 @@ module _ (c : Content) (all : AllByRecursion IsSector c) (k : CheckpointValue) (
       (λ link. tree.texts n (object m n i.0) (at ∙ ap Some i.2 ∙ ap (λ (kd : Kind). Some (node_by m kd n i.0)) link)))
 
   forms_hold : (n : ℕ) (x : Node) → node (tree_in m) n ≡ Some x → IsOfVersion (layout_version k) x
-  forms_hold n x at = let i = node_is m n x at in subst (IsOfVersion (layout_version k)) (sym i.2) (version_of m i.0.kind n i.0 (headers_are c k m st n i.0 i.1).form)
+  forms_hold n x at = let i = node_is m n x at in subst (IsOfVersion (layout_version k)) (sym i.2) (version_of m (layout_version k) some_version i.0.kind n i.0 (headers_are c k m st n i.0 i.1).form)
 
   header_there : (n : ℕ) → node (tree_in m) n ≢ None → (h : Header) × (m.header n ≡ Some h)
   header_there n there = go (node (tree_in m) n) refl
@@ -270,7 +279,7 @@ module _ (c : Content) (all : AllByRecursion IsSector c) (k : CheckpointValue) (
   tree_sound = record {
     in_order = in_order m;
     handles_in_order = tt;
-    version = inl refl;
+    version = known;
     forms = forms_hold;
     root = is_root;
     numbers = λ n there. let i = header_there n there in (headers_are c k m st n i.0 i.1).number;
@@ -288,4 +297,4 @@ module _ (c : Content) (all : AllByRecursion IsSector c) (k : CheckpointValue) (
 pub standing_is_sound : StandingIsSound
 standing_is_sound c all s is =
     subst (Sound is.checkpoint.segments) (sym (same_state s (mounted (layout_version is.checkpoint) (tree_in is.log)) is.tree.is is.closed is.version))
-    (tree_sound c all is.checkpoint is.log is.stands.holds is.tree.tree)
+    (tree_sound c all is.checkpoint (newest_version c is.checkpoint is.found) is.log is.stands.holds is.tree.tree)

@@ -1,5 +1,5 @@
 -- A mount's log runs.
-use Rattle.std.proofs.Common.{◌≡◌, ◌<◌, ◌≤◌, ⊎_elim, ◌+◌, ◌*◌, ◌/◌, ◌%◌, ◌==◌, not, cond, eq-eqb, ℕ, Bool, true, false, length, Option, Some, None, refl, sym, ◌∙◌, ap, ap₂, arith}
+use Rattle.std.proofs.Common.{◌≡◌, ◌<◌, ◌≤◌, ⊎_elim, ◌+◌, ◌*◌, ◌/◌, ◌%◌, ◌==◌, not, cond, eq-eqb, ℕ, Bool, false, length, Option, Some, None, refl, sym, ◌∙◌, ap, ap₂, arith}
 use Rattle.std.proofs.lemmas.Bool.{cases_eq, cond-true, cond-false, false_from_ne_true}
 use Rattle.std.proofs.Common.{eqb-true}
 use Rattle.lfs_model.specs.Entry.{Entry, Usage, half, word}

@@ -145,21 +145,21 @@ module _ (N : ℕ) where
 
 -- ---- the laws
 
-pub begins_new : (N : ℕ) (d d' : DeviceState) → BeginsNew N d d'
-begins_new N d d' new lines answers u =
-    let same : u.stands.checkpoint ≡ first_checkpoint N = Some-injective u.stands.checkpoint (first_checkpoint N) (sym u.stands.found ∙ (formatted N d.content new).0) in (
+pub begins_new : (version N : ℕ) (d d' : DeviceState) → BeginsNew version N d d'
+begins_new version N d d' new lines answers u =
+    let same : u.stands.checkpoint ≡ first_checkpoint version N = Some-injective u.stands.checkpoint (first_checkpoint version N) (sym u.stands.found ∙ (formatted version N d.content new).0) in (
       u.same_segments ∙ ap (λ (k : CheckpointValue). k.segments) same,
       u.same_number ∙ ap (λ (k : CheckpointValue). k.number) same,
-      single_state d.content u.first.state (new_point d.failures).state u.stands (new_volume N d.content new),
+      single_state d.content u.first.state (new_point version d.failures).state u.stands (new_volume version N d.content new),
     )
 
-pub new_is_pending : (N : ℕ) (d : DeviceState) → NewIsPending N d
-new_is_pending N d new alone c left =
-    let stands : Stands d.content (new_point d.failures).state = new_volume N d.content new in
-    let same : drop_nameless (new_point d.failures).state ≡ (new_point d.failures).state = nothing_dropped d.content (new_point d.failures).state stands in (
-      (new_point d.failures).state,
-      record { n = 0; point = new_point d.failures; at = refl; none_later = tt; is = refl },
-      subst (Stands c) (sym same) (subst (λ (x : Content). Stands x (new_point d.failures).state) (sym (alone c left)) stands),
+pub new_is_pending : (version N : ℕ) (d : DeviceState) → NewIsPending version N d
+new_is_pending version N d new alone c left =
+    let stands : Stands d.content (new_point version d.failures).state = new_volume version N d.content new in
+    let same : drop_nameless (new_point version d.failures).state ≡ (new_point version d.failures).state = nothing_dropped d.content (new_point version d.failures).state stands in (
+      (new_point version d.failures).state,
+      record { n = 0; point = new_point version d.failures; at = refl; none_later = tt; is = refl },
+      subst (Stands c) (sym same) (subst (λ (x : Content). Stands x (new_point version d.failures).state) (sym (alone c left)) stands),
     )
 
 pub uses_are_plain : (d d' : DeviceState) → IsLawful d' → UsesArePlain d d'

@@ -5,13 +5,13 @@ use Rattle.std.specs.Ordering.{nat_cmp}
 use Rattle.std.specs.FinMap.{find}
 use Rattle.std.specs.List.{AllByRecursion}
 use Rattle.std.proofs.lemmas.Bool.{cases_eq, cond-false}
-use Rattle.lfs_model.specs.Checkpoint.{CheckpointValue, layout_version}
+use Rattle.lfs_model.specs.Checkpoint.{CheckpointValue, IsVersion, layout_version}
 use Rattle.lfs_model.specs.Content.{Content, newest}
 use Rattle.lfs_model.specs.Crash.{IsReadyFor, Keeps}
 use Rattle.lfs_model.specs.Damage.{IsDamaged}
 use Rattle.lfs_model.specs.Device.{MayWrite, left_old, left_new, left_bad, lose, put}
 use Rattle.lfs_model.specs.Entry.{Header}
-use Rattle.lfs_model.specs.Image.{empty_directory, empty_root, first_checkpoint}
+use Rattle.lfs_model.specs.Image.{empty_directory, empty_root, first_checkpoint, new_form}
 use Rattle.lfs_model.specs.Reach.{view}
 use Rattle.lfs_model.specs.Need.{need, data_of, meta_of}
 use Rattle.lfs_model.specs.Slot.{slot_in}
@@ -82,7 +82,7 @@ same_state s t e f g = λ i. record { tree = e i; handles = f i; version = g i }
 pub single_state : SingleState
 single_state c s t a b =
     let same = single_log c a.log b.log (log_of c s a) (log_of c t b) in
-    same_state s t (a.tree.is ∙ ap (λ (m : LogMap). tree_in m) same ∙ sym b.tree.is) (a.closed ∙ sym b.closed) (a.version ∙ sym b.version)
+    same_state s t (a.tree.is ∙ ap (λ (m : LogMap). tree_in m) same ∙ sym b.tree.is) (a.closed ∙ sym b.closed) (a.version ∙ sym a.stands.holds.version ∙ ap (λ (m : LogMap). m.version) same ∙ b.stands.holds.version ∙ sym b.version)
 
 pub state_locality : StateLocality
 state_locality c d s is keeps = record {
@@ -126,7 +126,7 @@ found_stands c k found size each =
       checkpoint = k;
       log = log_in (view c k);
       found = found;
-      stands = record { holds = record { size = size; stages = all.0; header = λ n. refl; block = λ n i. refl }; clean = all.2 };
+      stands = record { holds = record { size = size; stages = all.0; header = λ n. refl; block = λ n i. refl; version = refl }; clean = all.2 };
       tree = record { is = refl; tree = all.1 };
       version = refl;
       closed = refl;
@@ -136,7 +136,7 @@ same_newest : (c : Content) (j k : CheckpointValue) → newest c ≡ Some j → 
 same_newest c j k a b = let e : Some j ≡ Some k = sym a ∙ b in cc
 
 log_same : (c : Content) (k : CheckpointValue) (m : LogMap) → HoldsAt c k m → m ≡ log_in (view c k)
-log_same c k m st = λ j. record { header = fun_ext (λ n. st.header n) j; block = fun_ext (λ n. fun_ext (λ i. st.block n i)) j }
+log_same c k m st = λ j. record { header = fun_ext (λ n. st.header n) j; block = fun_ext (λ n. fun_ext (λ i. st.block n i)) j; version = st.version j }
 
 pub not_refused : NotRefused
 not_refused c s is = (not_small, without, sound)
@@ -159,91 +159,100 @@ not_refused c s is = (not_small, without, sound)
     sound code bad = by_number code (subst (λ (k : CheckpointValue). IsDamaged (view c k) code) (same_newest c bad.0 is.checkpoint bad.1 is.found) bad.3)
 
 -- ---- a new volume
-no_nodes : (count a : ℕ) → 2 ≤ a → nodes_from empty_root count a ≡ []
-unfolding nodes_from
-no_nodes zero a le = refl
-no_nodes (suc count) a le =
-    ap (λ (h : Option Header). with_object a (node_of empty_root a h) (nodes_from empty_root count (a + 1))) (cond-false (a == 1) (Some empty_directory) None (ne_eqb a 1 (λ e. omega arith)))
-    ∙ no_nodes count (a + 1) (omega arith)
+module _ (version : ℕ) (known : IsVersion version) where
+  no_nodes : (count a : ℕ) → 2 ≤ a → nodes_from (empty_root version) count a ≡ []
+  unfolding nodes_from
+  no_nodes zero a le = refl
+  no_nodes (suc count) a le =
+      ap (λ (h : Option Header). with_object a (node_of (empty_root version) a h) (nodes_from (empty_root version) count (a + 1))) (cond-false (a == 1) (Some (empty_directory version)) None (ne_eqb a 1 (λ e. omega arith)))
+      ∙ no_nodes count (a + 1) (omega arith)
 
-no_slots : slots empty_root 1 empty_directory ≡ []
-unfolding slots object
-no_slots = refl
+  no_slots : slots (empty_root version) 1 (empty_directory version) ≡ []
+  unfolding slots object
+  no_slots = ⊎_elim (λ (e : version ≡ 1). subst (λ (v : ℕ). slots (empty_root v) 1 (empty_directory v) ≡ []) (sym e) refl)
+      (λ (e : version ≡ 2). subst (λ (v : ℕ). slots (empty_root v) 1 (empty_directory v) ≡ []) (sym e) refl)
+      known
 
-abbrev alone : Tree
-alone = (1, Dir 0 []) ∷ []
+  abbrev alone : Tree
+  alone = (1, Dir (new_form version) []) ∷ []
 
-root_alone : tree_in empty_root ≡ alone
-unfolding tree_in nodes_from
-root_alone =
-    ap (λ (t : Tree). (1, Dir 0 (map_of 0 (slots empty_root 1 empty_directory))) ∷ t) (no_nodes 4094 2 (omega arith))
-    ∙ ap (λ (l : List (List ℕ)). (1, Dir 0 (map_of 0 l)) ∷ []) no_slots
+  root_alone : tree_in (empty_root version) ≡ alone
+  unfolding tree_in nodes_from
+  root_alone =
+      ap (λ (t : Tree). (1, Dir (new_form version) (map_of (new_form version) (slots (empty_root version) 1 (empty_directory version)))) ∷ t) (no_nodes 4094 2 (omega arith))
+      ∙ ap (λ (l : List (List ℕ)). (1, Dir (new_form version) (map_of (new_form version) l)) ∷ []) no_slots
 
-header_root : (n : ℕ) (h : Header) → empty_root.header n ≡ Some h → (n ≡ 1) × (h ≡ empty_directory)
-header_root n h is =
-    ⊎_elim
-    (λ (here : n ≡ 1).
-    let e : Some empty_directory ≡ Some h = sym (ap empty_root.header here) ∙ is in
-    (here, cc))
-    (λ (ne : n ≡ 1 → ⊥).
-    let e : None ≡ Some h = sym (cond-false (n == 1) (Some empty_directory) None (ne_eqb n 1 ne)) ∙ is in absurd (cc))
-    (cases_eq n 1)
+  header_root : (n : ℕ) (h : Header) → (empty_root version).header n ≡ Some h → (n ≡ 1) × (h ≡ (empty_directory version))
+  header_root n h is =
+      ⊎_elim
+      (λ (here : n ≡ 1).
+      let e : Some (empty_directory version) ≡ Some h = sym (ap (empty_root version).header here) ∙ is in
+      (here, cc))
+      (λ (ne : n ≡ 1 → ⊥).
+      let e : None ≡ Some h = sym (cond-false (n == 1) (Some (empty_directory version)) None (ne_eqb n 1 ne)) ∙ is in absurd (cc))
+      (cases_eq n 1)
 
--- a number has the root or nothing
-at_number : (P : ℕ → Option Node → Type 0) → P 1 (Some (Dir 0 [])) → ((n : ℕ) → n ≢ 1 → P n None) → (n : ℕ) → P n (node alone n)
-at_number P one none n =
-    ⊎_elim
-    (λ (here : n ≡ 1). subst (λ (x : ℕ). P x (node alone x)) (sym here) one)
-    (λ (ne : n ≡ 1 → ⊥). subst (P n) (sym (find_past 1 n (Some (Dir 0 [])) [] ne)) (none n ne))
-    (cases_eq n 1)
+  -- a number has the root or nothing
+  at_number : (P : ℕ → Option Node → Type 0) → P 1 (Some (Dir (new_form version) [])) → ((n : ℕ) → n ≢ 1 → P n None) → (n : ℕ) → P n (node alone n)
+  at_number P one none n =
+      ⊎_elim
+      (λ (here : n ≡ 1). subst (λ (x : ℕ). P x (node alone x)) (sym here) one)
+      (λ (ne : n ≡ 1 → ⊥). subst (P n) (sym (find_past 1 n (Some (Dir (new_form version) [])) [] ne)) (none n ne))
+      (cases_eq n 1)
 
-no_entry : (d : ℕ) (name : List ℕ) → entry alone d name ≡ None
-no_entry d name = at_number (λ n o. find byte_cmp name (names_of (unwrap_or o (File []))) ≡ None) refl (λ n ne. refl) d
+  no_entry : (d : ℕ) (name : List ℕ) → entry alone d name ≡ None
+  no_entry d name = at_number (λ n o. find byte_cmp name (names_of (unwrap_or o (File []))) ≡ None) refl (λ n ne. refl) d
 
-no_link : (n : ℕ) (text : List ℕ) → node alone n ≡ Some (Link text) → ⊥
-no_link n text is = at_number (λ n o. o ≡ Some (Link text) → ⊥) (λ e. cc) (λ n ne e. cc) n is
+  no_link : (n : ℕ) (text : List ℕ) → node alone n ≡ Some (Link text) → ⊥
+  no_link n text is = at_number (λ n o. o ≡ Some (Link text) → ⊥) (λ e. cc) (λ n ne e. cc) n is
 
-reached_alone : (n : ℕ) → is_dir (node alone n) ≡ true → IsReachable alone n
-reached_alone = at_number (λ n o. is_dir o ≡ true → IsReachable alone n) (λ e. root) (λ n ne e. absurd (cc))
+  reached_alone : (n : ℕ) → is_dir (node alone n) ≡ true → IsReachable alone n
+  reached_alone = at_number (λ n o. is_dir o ≡ true → IsReachable alone n) (λ e. root) (λ n ne e. absurd (cc))
 
-empty_reached : AreReached empty_root
-empty_reached = record {
-  some = λ n ne there. absurd (there (ap (λ (t : Tree). node t n) root_alone ∙ find_past 1 n (Some (Dir 0 [])) [] ne));
-  root = ap (λ (t : Tree). names t 1) root_alone;
-  one = λ n ne dir. let e : true ≡ false = sym dir ∙ ap (λ (t : Tree). is_dir (node t n)) root_alone ∙ ap is_dir (find_past 1 n (Some (Dir 0 [])) [] ne) in absurd (cc);
-  down = subst (λ (t : Tree). (n : ℕ) → is_dir (node t n) ≡ true → IsReachable t n) (sym root_alone) reached_alone;
-}
+  empty_reached : AreReached (empty_root version)
+  empty_reached = record {
+    some = λ n ne there. absurd (there (ap (λ (t : Tree). node t n) root_alone ∙ find_past 1 n (Some (Dir (new_form version) [])) [] ne));
+    root = ap (λ (t : Tree). names t 1) root_alone;
+    one = λ n ne dir. let e : true ≡ false = sym dir ∙ ap (λ (t : Tree). is_dir (node t n)) root_alone ∙ ap is_dir (find_past 1 n (Some (Dir (new_form version) [])) [] ne) in absurd (cc);
+    down = subst (λ (t : Tree). (n : ℕ) → is_dir (node t n) ≡ true → IsReachable t n) (sym root_alone) reached_alone;
+  }
 
-empty_slots : AreSlots empty_root
-empty_slots = record {
-  formed = λ n h is kind.
-      let at = header_root n h is in
-      subst (λ (l : List (List ℕ)). AllByRecursion (λ b. slot_in h.form b ≢ None) l × (length (map_of h.form l) ≡ length l))
-      (sym (ap₂ (λ (x : ℕ) (y : Header). slots empty_root x y) at.0 at.1 ∙ no_slots)) (tt, refl);
-  there = subst NamesGive (sym root_alone) (λ d name n is. let e : None ≡ Some n = sym (no_entry d name) ∙ is in absurd (cc));
-}
+  empty_slots : AreSlots (empty_root version)
+  empty_slots = record {
+    formed = λ n h is kind.
+        let at = header_root n h is in
+        subst (λ (l : List (List ℕ)). AllByRecursion (λ b. slot_in h.form b ≢ None) l × (length (map_of h.form l) ≡ length l))
+        (sym (ap₂ (λ (x : ℕ) (y : Header). slots (empty_root version) x y) at.0 at.1 ∙ no_slots)) (tt, refl);
+    there = subst NamesGive (sym root_alone) (λ d name n is. let e : None ≡ Some n = sym (no_entry d name) ∙ is in absurd (cc));
+  }
 
-small_need : (N : ℕ) → 64 ≤ N → need alone ≤ 47 * N
-unfolding data_of meta_of
-small_need N some = let e : need alone ≡ 727 = refl in omega arith
+  needed : need alone ≡ 727
+  unfolding data_of meta_of
+  needed = ⊎_elim (λ (e : version ≡ 1). subst (λ (v : ℕ). need ((1, Dir (new_form v) []) ∷ []) ≡ 727) (sym e) refl)
+      (λ (e : version ≡ 2). subst (λ (v : ℕ). need ((1, Dir (new_form v) []) ∷ []) ≡ 727) (sym e) refl)
+      known
 
-empty_tree : (N : ℕ) → 64 ≤ N → IsTree N empty_root
-empty_tree N some = record {
-  slots = empty_slots;
-  texts = λ n text is. absurd (no_link n text (sym (ap (λ (t : Tree). node t n) root_alone) ∙ is));
-  reached = empty_reached;
-  links = λ n h is. let at = header_root n h is in ap (λ (x : Header). x.links) at.1 ∙ sym (ap₂ links root_alone at.0);
-  room = subst (λ (t : Tree). need t ≤ 47 * N) (sym root_alone) (small_need N some);
-}
+  small_need : (N : ℕ) → 64 ≤ N → need alone ≤ 47 * N
+  small_need N some = let e : need alone ≡ 727 = needed in omega arith
+
+  empty_tree : (N : ℕ) → 64 ≤ N → IsTree N (empty_root version)
+  empty_tree N some = record {
+    slots = empty_slots;
+    texts = λ n text is. absurd (no_link n text (sym (ap (λ (t : Tree). node t n) root_alone) ∙ is));
+    reached = empty_reached;
+    links = λ n h is. let at = header_root n h is in ap (λ (x : Header). x.links) at.1 ∙ sym (ap₂ links root_alone at.0);
+    room = subst (λ (t : Tree). need t ≤ 47 * N) (sym root_alone) (small_need N some);
+  }
 
 pub new_volume : NewVolume
-new_volume N c new =
-    let both = formatted N c new in record {
-      checkpoint = first_checkpoint N;
-      log = empty_root;
+new_volume version N c new =
+    let both = formatted version N c new in
+    let known = new.known in record {
+      checkpoint = first_checkpoint version N;
+      log = empty_root version;
       found = both.0;
       stands = both.1;
-      tree = record { is = sym root_alone; tree = empty_tree N new.count.least };
+      tree = record { is = sym (root_alone version known); tree = empty_tree version known N new.count.least };
       version = refl;
       closed = refl;
     }

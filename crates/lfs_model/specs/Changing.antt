@@ -14,10 +14,12 @@ use Rattle.lfs_model.specs.Lifting.{IsTaken}
 pub record IsWithBlock (m : LogMap) (n i : ℕ) (bytes : List ℕ) (m' : LogMap) : Type 0 where
   pub header : (k : ℕ) → m'.header k ≡ m.header k
   pub own : m'.block n i ≡ bytes
+  pub version : m'.version ≡ m.version
   pub others : (k l : ℕ) → (Data k l ≡ Data n i → ⊥) → m'.block k l ≡ m.block k l
 
 pub record IsWithHeader (m : LogMap) (n : ℕ) (h : Option Header) (m' : LogMap) : Type 0 where
   pub own : m'.header n ≡ h
+  pub version : m'.version ≡ m.version
   pub others : (k : ℕ) → (k ≡ n → ⊥) → m'.header k ≡ m.header k
   pub block : (k l : ℕ) → m'.block k l ≡ m.block k l
 
@@ -127,6 +129,7 @@ pub record IsForgetting (m : LogMap) (M : Memory) (n : ℕ) (m' : LogMap) (M' : 
   pub headers : (k : ℕ) → (k ≡ n → ⊥) → m'.header k ≡ m.header k
   pub block : (i : ℕ) → m'.block n i ≡ []
   pub blocks : (k i : ℕ) → (k ≡ n → ⊥) → m'.block k i ≡ m.block k i
+  pub version : m'.version ≡ m.version
   pub mapped : HasInode m n → WillBeMapped m M n
   pub segments : M'.segments ≡ M.segments
   pub gone : (x : Entry) → file_of x ≡ Some n → M'.at x ≡ 0

@@ -1,11 +1,13 @@
 -- The checkpoint, which is one sector.
 -- Checkpoint regions are those of the Sprite LFS paper (1992, section 4.1); the bytes are an own choice.
-use Rattle.std.specs.Prelude.{◌≡◌, ◌<◌, ◌≤◌, ◌^◌, ◌%◌, ◌&&◌, ◌==◌, Bool, nat_le, ℕ, Option, List, [], ◌∷◌, length, codes}
+use Rattle.std.specs.Prelude.{◌≡◌, ◌<◌, ◌≤◌, ◌^◌, ◌%◌, ◌⊎◌, ◌&&◌, ◌||◌, ◌==◌, Bool, nat_le, ℕ, Option, List, [], ◌∷◌, length, codes}
 use Rattle.lfs_model.specs.Fields.{le32, le64, words, zeros, join, Are32, read32, read64, numbers, value_in}
 
 pub record CheckpointValue : Type 0 where
   pub number : ℕ
   pub segments : ℕ
+  -- of the layout
+  pub version : ℕ
   pub map : List ℕ
   pub usage : List ℕ
 
@@ -13,22 +15,13 @@ pub record CheckpointValue : Type 0 where
 unfoldable pub checkpoint_text : List ℕ
 checkpoint_text = codes "SLFSCKP1"
 
--- the versions of the layout that are built: the first alone
+-- the versions of the layout
 abbrev pub IsVersion : ℕ → Type 0
-IsVersion version = version ≡ 1
+IsVersion version = (version ≡ 1) ⊎ (version ≡ 2)
 
--- the version of a checkpoint's layout: every volume has the first one
+-- the version of a checkpoint's layout
 abbrev pub layout_version : CheckpointValue → ℕ
-layout_version c = 1
-
--- a volume's layout: how many segments it has, and the version that its sectors are spelled by
-pub record Layout : Type 0 where
-  pub segments : ℕ
-  pub version : ℕ
-
--- the layout that a checkpoint is of
-abbrev pub layout_of : CheckpointValue → Layout
-layout_of c = record { segments = c.segments; version = layout_version c }
+layout_version c = c.version
 
 -- the sector of a checkpoint in a version of the layout, field by field
 unfoldable pub checkpoint_sector_of : ℕ → CheckpointValue → List ℕ
@@ -49,7 +42,7 @@ checkpoint_sector c = checkpoint_sector_of (layout_version c) c
 
 -- what stands at the places of a checkpoint
 abbrev pub checkpoint_of : List ℕ → CheckpointValue
-checkpoint_of s = record { number = read64 8 s; segments = read32 16 s; map = numbers 32 32 s; usage = numbers 16 160 s }
+checkpoint_of s = record { number = read64 8 s; segments = read32 16 s; version = read32 20 s; map = numbers 32 32 s; usage = numbers 16 160 s }
 
 -- how many segments a volume may have: a multiple of 8 in 64..=1,024
 pub record IsSegmentCount (n : ℕ) : Type 0 where
@@ -73,7 +66,7 @@ abbrev pub is_segment_count : ℕ → Bool
 is_segment_count n = nat_le 64 n && (nat_le n 1024 && (n % 8 == 0))
 
 abbrev pub is_version : ℕ → Bool
-is_version version = version == 1
+is_version version = version == 1 || version == 2
 
 abbrev pub may_be_checkpoint : CheckpointValue → Bool
 may_be_checkpoint c = is_version (layout_version c) && (nat_le 1 c.number && is_segment_count c.segments)

@@ -3,7 +3,7 @@
 -- That what changed goes to the log first, and the checkpoint last, is the Sprite LFS paper's (1992, section 4.1); the steps are an own choice.
 use Rattle.std.specs.Prelude.{◌≡◌, ◌<◌, ◌≤◌, ◌⊎◌, ◌+◌, ◌*◌, ◌-◌, ◌/◌, ◌%◌, ◌==◌, ℕ, suc, true, false, List, [], ◌∷◌, ◌++◌, length, get_or, Option, Some, None}
 use Rattle.lfs_model.specs.Entry.{Entry, Inode, Map, Usage, entries_in, word}
-use Rattle.lfs_model.specs.Checkpoint.{CheckpointValue, checkpoint_in}
+use Rattle.lfs_model.specs.Checkpoint.{CheckpointValue, checkpoint_in, layout_version}
 use Rattle.lfs_model.specs.Device.{DeviceState, CrashWrites, IsUntouched, put}
 use Rattle.lfs_model.specs.Content.{Content}
 use Rattle.lfs_model.specs.Decodes.{IsSized}
@@ -107,16 +107,17 @@ abbrev pub ManyClean : Tables → ℕ → Type 0
 ManyClean t segments = segments ≤ 8 * count_up (λ s. used_saved t s == 0) segments
 
 -- the checkpoint that leads to all of it
-pub record LeadsTo (t : Tables) (k next : CheckpointValue) : Type 0 where
+pub record LeadsTo (t : Tables) (version : ℕ) (k next : CheckpointValue) : Type 0 where
   pub number : next.number ≡ k.number + 1
   pub segments : next.segments ≡ k.segments
+  pub same : layout_version next ≡ version
   pub map : (j : ℕ) → get_or next.map j 0 ≡ t.at (Map j)
   pub usage : (j : ℕ) → get_or next.usage j 0 ≡ t.at (Usage j)
 
 -- So its slot may be written.
 abbrev pub Planning : Type 1
 Planning = (d : DeviceState) (dirty : Dirty) (t : Tables) (k next : CheckpointValue) (m0 m : LogMap) (none slot : ℕ) (bytes : List ℕ)
-    → Running d dirty t k m0 m none None → IsLogMap (dropped m) → IsOut dirty t k.segments → ManyClean t k.segments → LeadsTo t k next
+    → Running d dirty t k m0 m none None → IsLogMap (dropped m) → IsOut dirty t k.segments → ManyClean t k.segments → LeadsTo t m.version k next
     → checkpoint_in bytes ≡ Some next → slot ≡ next.number % 2 → IsPlanned k d.content slot bytes next (dropped m)
 
 -- the segments where nothing lives and that nothing holds are clean, and what is in use is kept
@@ -133,7 +134,7 @@ pub record IsReleased (t t' : Tables) : Type 0 where
 -- And once it is acknowledged, the log runs on from there.
 abbrev pub Resting : Type 1
 Resting = (d d' : DeviceState) (dirty : Dirty) (t t' : Tables) (k next : CheckpointValue) (m0 m : LogMap) (none slot : ℕ) (bytes : List ℕ)
-    → Running d dirty t k m0 m none None → IsOut dirty t k.segments → ManyClean t k.segments → LeadsTo t k next → slot < 2 → d'.content ≡ put d.content slot bytes
+    → Running d dirty t k m0 m none None → IsOut dirty t k.segments → ManyClean t k.segments → LeadsTo t m.version k next → slot < 2 → d'.content ≡ put d.content slot bytes
     → IsSettled d' next (dropped m) → IsReleased t t' → Running d' dirty t' next (dropped m) m none None
 
 -- A call that leaves the content, and leaves no more to a stop, changes nothing of it.

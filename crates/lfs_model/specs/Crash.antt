@@ -1,7 +1,7 @@
 -- What a crash may do to a content, and what of it can't hurt.
 -- That a checkpoint alone leads to a consistent state, and blocks that it needs aren't overwritten: the Sprite LFS paper (1992, section 4.1).
 use Rattle.std.specs.Prelude.{◌≡◌, ◌<◌, ◌≤◌, ◌⊎◌, ◌+◌, ◌*◌, ◌%◌, ℕ, List, length, Some}
-use Rattle.lfs_model.specs.Checkpoint.{CheckpointValue, Layout, checkpoint_in, layout_of}
+use Rattle.lfs_model.specs.Checkpoint.{CheckpointValue, checkpoint_in}
 use Rattle.lfs_model.specs.Content.{Content, newest}
 use Rattle.lfs_model.specs.Device.{MayWrite, cell_at, put}
 use Rattle.lfs_model.specs.Reach.{view}
@@ -28,14 +28,14 @@ pub record IsReadyFor (c : Content) (k next : CheckpointValue) (bytes : List ℕ
   pub spelt : checkpoint_in bytes ≡ Some next
   pub stands : StandsAt c next m
 
--- the content stands for the log map, by a checkpoint of this layout
-pub record StandsOn (layout : Layout) (c : Content) (m : LogMap) : Type 0 where
+-- the content stands for the log map, by a checkpoint of so many segments
+pub record StandsOn (segments : ℕ) (c : Content) (m : LogMap) : Type 0 where
   pub is : StandsLog c m
-  pub same : layout_of is.checkpoint ≡ layout
+  pub same : is.checkpoint.segments ≡ segments
 
--- each crash content stands for the one or the other, in this layout
-abbrev pub StandsForOn : Layout → LogMap → LogMap → Content → Type 0
-StandsForOn layout m m' c = StandsOn layout c m ⊎ StandsOn layout c m'
+-- each crash content stands for the one or the other, on a volume of so many segments
+abbrev pub StandsForOn : ℕ → LogMap → LogMap → Content → Type 0
+StandsForOn segments m m' c = StandsOn segments c m ⊎ StandsOn segments c m'
 
 -- The promises, for a function's contract.
 
@@ -49,7 +49,7 @@ SingleLog = (c : Content) (m m' : LogMap) → StandsLog c m → StandsLog c m' �
 abbrev pub FreeWrites : Type 0
 FreeWrites = (c : Content) (m : LogMap) (s : StandsLog c m) (at : ℕ) (bytes : List ℕ) → IsFreeSector c s.checkpoint at → (d d' : Content) → Keeps c s.checkpoint d → MayWrite at bytes d d' → Keeps c s.checkpoint d'
 
--- The write of the next checkpoint to its slot. Each content is left with the layout of the checkpoint that it stands by.
+-- The write of the next checkpoint to its slot. Each content is left with as many segments as the checkpoint that it stands by.
 abbrev pub SlotWrite : Type 0
 SlotWrite = (c : Content) (m : LogMap) (s : StandsLog c m) (e : Content) → Keeps c s.checkpoint e → (next : CheckpointValue) (bytes : List ℕ) (m' : LogMap) → IsReadyFor e s.checkpoint next bytes m'
-    → ((d : Content) → MayWrite (next.number % 2) bytes e d → StandsOn (layout_of s.checkpoint) d m ⊎ StandsOn (layout_of next) d m') × (newest (put e (next.number % 2) bytes) ≡ Some next) × StandsAt (put e (next.number % 2) bytes) next m'
+    → ((d : Content) → MayWrite (next.number % 2) bytes e d → StandsOn s.checkpoint.segments d m ⊎ StandsOn next.segments d m') × (newest (put e (next.number % 2) bytes) ≡ Some next) × StandsAt (put e (next.number % 2) bytes) next m'

@@ -33,6 +33,7 @@ pub record IsWithoutFile (m : LogMap) (n : ℕ) (m' : LogMap) : Type 0 where
   pub headers : (k : ℕ) → (k ≡ n → ⊥) → m'.header k ≡ m.header k
   pub block : (i : ℕ) → m'.block n i ≡ []
   pub blocks : (k i : ℕ) → (k ≡ n → ⊥) → m'.block k i ≡ m.block k i
+  pub version : m'.version ≡ m.version
 
 -- the blocks in memory without a file's
 pub record LeavesOut (old new : Dirty) (n : ℕ) : Type 0 where

@@ -27,6 +27,7 @@ pub record IsWithout (m : LogMap) (n : ℕ) (gone : Entry → Bool) (m' : LogMap
   pub headers : (k : ℕ) → (k ≡ n → ⊥) → m'.header k ≡ m.header k
   pub block : (i : ℕ) → m'.block n i ≡ cond (gone (Data n i)) [] (m.block n i)
   pub blocks : (k i : ℕ) → (k ≡ n → ⊥) → m'.block k i ≡ m.block k i
+  pub version : m'.version ≡ m.version
 
 -- the block of y, with no pointer to any of them
 pub record IsCleared (gone : Entry → Bool) (y : Entry) (old new : List ℕ) : Type 0 where

@@ -5,6 +5,7 @@ use Rattle.lfs_model.specs.declared.Kind.TheVariants.{Directory}
 use Rattle.lfs_model.specs.Entry.{Entry, Data, Leaf, Double, Inode, Map, Usage, Header, IsInode, header, word}
 use Rattle.lfs_model.specs.Checkpoint.{CheckpointValue, layout_version}
 use Rattle.lfs_model.specs.Content.{Content, block}
+use Rattle.lfs_model.specs.Inode.{IsForm}
 use Rattle.lfs_model.specs.Reach.{view_by}
 use Rattle.lfs_model.specs.Stands.{LogMap, StandsAt, IsRows, AreNamed, AreCounted, EnoughClean, used_in, live_in, age_in}
 
@@ -37,6 +38,8 @@ module _ (m : LogMap) where
   pub record IsLogMap : Type 0 where
     pub none : (h : Header) → m.header 0 ≡ Some h → ⊥
     pub root : (h : Header) × (m.header 1 ≡ Some h) × (h.kind ≡ Directory)
+    -- each object has a form of the version
+    pub forms : (n : ℕ) (h : Header) → m.header n ≡ Some h → IsForm m.version h.kind h.form
     pub within : (n i : ℕ) → HasData n i → (h : Header) × (m.header n ≡ Some h) × (512 * i < h.size)
     pub small : (n i : ℕ) → HasData n i → i < 16624
     pub nonzero : (n i : ℕ) → HasData n i → (o : ℕ) × (0 < slice_index (m.block n i) o)
@@ -62,6 +65,7 @@ module _ (m : LogMap) where
 -- each stored block has an address, and what stands there spells it; nothing else has one
 pub record Encodes (c : Content) (k : CheckpointValue) (A : Entry → ℕ) (m : LogMap) : Type 0 where
   pub size : 2 + 64 * k.segments ≤ length c
+  pub version : m.version ≡ layout_version k
   pub map : (j : ℕ) → A (Map j) ≡ get_or k.map j 0
   pub usage : (j : ℕ) → A (Usage j) ≡ get_or k.usage j 0
   pub stored : (e : Entry) → Has m k.segments e → 0 < A e

@@ -6,7 +6,7 @@ use Rattle.lfs_model.specs.declared.Kind.{Kind}
 use Rattle.lfs_model.specs.declared.BlockKind.{BlockKind}
 use Rattle.lfs_model.specs.declared.BlockKind.TheVariants as kind
 use Rattle.lfs_model.specs.Fields.{read16, read32}
-use Rattle.lfs_model.specs.Inode.{InodeValue, IsForm, inode_form, inode_in, inode_of}
+use Rattle.lfs_model.specs.Inode.{InodeValue, IsForm, inode_in, inode_of}
 use Rattle.lfs_model.specs.Summary.{BlockNameValue, summary_in}
 
 -- the number of 4 bytes at word k, and of 2 bytes at half word k
@@ -49,7 +49,7 @@ pub record Header : Type 0 where
   pub size : ℕ
 
 abbrev pub header_of : InodeValue → Header
-header_of i = record { kind = i.kind; form = inode_form i; links = i.links; size = i.size }
+header_of i = record { kind = i.kind; form = i.form; links = i.links; size = i.size }
 
 unfoldable pub header : List ℕ → Header
 header bytes = header_of (inode_of bytes)
@@ -58,5 +58,5 @@ header bytes = header_of (inode_of bytes)
 pub record IsInode (version n : ℕ) (bytes : List ℕ) : Type 0 where
   pub value : InodeValue
   pub spelt : inode_in bytes ≡ Some value
-  pub form : IsForm version value.kind (inode_form value)
+  pub form : IsForm version value.kind value.form
   pub own : value.number ≡ n

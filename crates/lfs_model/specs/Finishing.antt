@@ -2,7 +2,7 @@
 -- The end of a commit, a checkpoint that leads to all that is live: the Sprite LFS paper (1992, section 4.1); clean segments: section 3.2.
 use Rattle.std.specs.Prelude.{◌≡◌, ◌<◌, ◌≤◌, ◌⊎◌, ◌+◌, ◌*◌, ℕ, false, [], length, get_or, Option, Some, None}
 use Rattle.lfs_model.specs.Entry.{Entry, Map, Usage}
-use Rattle.lfs_model.specs.Checkpoint.{CheckpointValue}
+use Rattle.lfs_model.specs.Checkpoint.{CheckpointValue, layout_version}
 use Rattle.lfs_model.specs.Content.{Content, block}
 use Rattle.lfs_model.specs.Crash.{IsFreeSector}
 use Rattle.lfs_model.specs.Decodes.{IsSized}
@@ -22,6 +22,7 @@ pub record IsDone (e : Content) (m : LogMap) (M : Memory) (opened_at : ℕ) (nex
   pub none : (x : Entry) → M.at x ≡ 1 → ⊥
   pub closed : M.segments ≤ opened_at
   pub segments : next.segments ≡ M.segments
+  pub version : layout_version next ≡ m.version
   pub map : (j : ℕ) → M.at (Map j) ≡ get_or next.map j 0
   pub usage : (j : ℕ) → M.at (Usage j) ≡ get_or next.usage j 0
   pub long : (j : ℕ) → 0 < M.at (Usage j) → length (M.bytes (Usage j)) ≡ 512

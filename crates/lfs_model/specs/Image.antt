@@ -1,9 +1,9 @@
--- A new volume: an empty root. The layout is this project's own.
+-- A new volume of a version of the layout: an empty root, in the version's last form. The layout is this project's own.
 use Rattle.std.specs.Prelude.{◌≡◌, ◌<◌, ◌≤◌, ◌+◌, ◌-◌, ◌*◌, ◌/◌, ◌==◌, nat_lt, ℕ, zero, suc, cond, List, [], ◌∷◌, ◌++◌, map, length, replicate, Some, None}
 use Rattle.std.specs.List.{range_with_len}
 use Rattle.lfs_model.specs.declared.Kind.TheVariants.{Directory}
 use Rattle.lfs_model.specs.declared.BlockKind.TheVariants as kind
-use Rattle.lfs_model.specs.Checkpoint.{CheckpointValue, IsSegmentCount, checkpoint_sector}
+use Rattle.lfs_model.specs.Checkpoint.{CheckpointValue, IsSegmentCount, IsVersion, checkpoint_sector}
 use Rattle.lfs_model.specs.Content.{Content, newest}
 use Rattle.lfs_model.specs.Device.{cell_at}
 use Rattle.lfs_model.specs.Entry.{Header}
@@ -27,8 +27,8 @@ usage_blocks N = (N + 63) / 64
 abbrev pub first_usage_address : ℕ → ℕ → ℕ
 first_usage_address N j = cond (nat_lt j (usage_blocks N)) (5 + j) 0
 
-abbrev pub first_checkpoint : ℕ → CheckpointValue
-first_checkpoint N = record { number = 1; segments = N; map = 4 ∷ blank 31; usage = map (first_usage_address N) (range_with_len 0 16) }
+abbrev pub first_checkpoint : ℕ → ℕ → CheckpointValue
+first_checkpoint version N = record { number = 1; segments = N; version = version; map = 4 ∷ blank 31; usage = map (first_usage_address N) (range_with_len 0 16) }
 
 -- what the blocks of the first chunk are, one after the other: the root's inode, the inode map block, the usage blocks
 abbrev pub first_name : ℕ → BlockNameValue
@@ -39,9 +39,13 @@ first_name (suc (suc j)) = record { file = 0; kind = kind.Usage; index = j }
 abbrev pub first_names : ℕ → List BlockNameValue
 first_names N = map first_name (range_with_len 0 (2 + usage_blocks N))
 
+-- the form of the directories that a volume of a version is given
+abbrev pub new_form : ℕ → ℕ
+new_form version = version - 1
+
 -- the root, without entries
-abbrev pub root_inode : InodeValue
-root_inode = record { kind = Directory; number = 1; links = 2; size = 0; direct = blank 112; single = 0; double = 0 }
+abbrev pub root_inode : ℕ → InodeValue
+root_inode version = record { kind = Directory; form = new_form version; number = 1; links = 2; size = 0; direct = blank 112; single = 0; double = 0 }
 
 -- number 1 has its inode at sector 3
 abbrev pub first_pointers : List ℕ
@@ -52,43 +56,45 @@ abbrev pub first_uses : ℕ → ℕ → List SegmentUse
 first_uses N zero = record { used = 3 + usage_blocks N; live = 2 + usage_blocks N; age = 1 } ∷ replicate 63 no_use
 first_uses N (suc j) = replicate 64 no_use
 
--- A content on which a new volume of N segments stands. Of the other sectors it says nothing.
-pub record IsNew (N : ℕ) (c : Content) : Type 0 where
+-- A content on which a new volume of N segments stands, in a version of the layout. Of the other sectors it says nothing.
+pub record IsNew (version N : ℕ) (c : Content) : Type 0 where
+  pub known : IsVersion version
   pub count : IsSegmentCount N
   pub size : 2 + 64 * N ≤ length c
   pub empty_slot : cell_at c 0 ≡ Some (blank 512)
-  pub checkpoint : cell_at c 1 ≡ Some (checkpoint_sector (first_checkpoint N))
+  pub checkpoint : cell_at c 1 ≡ Some (checkpoint_sector (first_checkpoint version N))
   pub summary : cell_at c 2 ≡ Some (summary_sector (first_names N))
-  pub inode : cell_at c 3 ≡ Some (inode_sector root_inode)
+  pub inode : cell_at c 3 ≡ Some (inode_sector (root_inode version))
   pub pointers : cell_at c 4 ≡ Some (pointer_sector first_pointers)
   pub uses : (j : ℕ) → j < usage_blocks N → cell_at c (5 + j) ≡ Some (usage_sector (first_uses N j))
 
-abbrev pub empty_directory : Header
-empty_directory = record { kind = Directory; form = 0; links = 2; size = 0 }
+abbrev pub empty_directory : ℕ → Header
+empty_directory version = record { kind = Directory; form = new_form version; links = 2; size = 0 }
 
-abbrev pub empty_root : LogMap
-empty_root = record { header = λ n. cond (n == 1) (Some empty_directory) None; block = λ n i. [] }
+abbrev pub empty_root : ℕ → LogMap
+empty_root version = record { header = λ n. cond (n == 1) (Some (empty_directory version)) None; block = λ n i. []; version = version }
 
 -- It stands for a directory without names.
 abbrev pub Formatted : Type 0
-Formatted = (N : ℕ) (c : Content) → IsNew N c → (newest c ≡ Some (first_checkpoint N)) × StandsAt c (first_checkpoint N) empty_root
+Formatted = (version N : ℕ) (c : Content) → IsNew version N c
+    → (newest c ≡ Some (first_checkpoint version N)) × StandsAt c (first_checkpoint version N) (empty_root version)
 
 -- ---- such contents, of zeros but for these sectors
 
-abbrev pub new_image : ℕ → Content
-new_image N =
-    Some (blank 512) ∷ Some (checkpoint_sector (first_checkpoint N)) ∷ Some (summary_sector (first_names N)) ∷ Some (inode_sector root_inode) ∷ Some (pointer_sector first_pointers)
+abbrev pub new_image : ℕ → ℕ → Content
+new_image version N =
+    Some (blank 512) ∷ Some (checkpoint_sector (first_checkpoint version N)) ∷ Some (summary_sector (first_names N)) ∷ Some (inode_sector (root_inode version)) ∷ Some (pointer_sector first_pointers)
     ∷ map (λ j. Some (usage_sector (first_uses N j))) (range_with_len 0 (usage_blocks N)) ++ replicate (64 * N - 3 - usage_blocks N) (Some (blank 512))
 
 -- of 64 segments, byte by byte
-abbrev pub checkpoint_bytes : List ℕ
-checkpoint_bytes = 83 ∷ 76 ∷ 70 ∷ 83 ∷ 67 ∷ 75 ∷ 80 ∷ 49 ∷ 1 ∷ 0 ∷ 0 ∷ 0 ∷ 0 ∷ 0 ∷ 0 ∷ 0 ∷ 64 ∷ 0 ∷ 0 ∷ 0 ∷ 1 ∷ blank 11 ++ 4 ∷ blank 127 ++ 5 ∷ blank 351
+abbrev pub checkpoint_bytes : ℕ → List ℕ
+checkpoint_bytes version = 83 ∷ 76 ∷ 70 ∷ 83 ∷ 67 ∷ 75 ∷ 80 ∷ 49 ∷ 1 ∷ 0 ∷ 0 ∷ 0 ∷ 0 ∷ 0 ∷ 0 ∷ 0 ∷ 64 ∷ 0 ∷ 0 ∷ 0 ∷ version ∷ blank 11 ++ 4 ∷ blank 127 ++ 5 ∷ blank 351
 
 abbrev pub summary_bytes : List ℕ
 summary_bytes = 3 ∷ blank 7 ++ 1 ∷ 0 ∷ 4 ∷ 0 ∷ 0 ∷ 0 ∷ 0 ∷ 0 ∷ 0 ∷ 0 ∷ 5 ∷ 0 ∷ 0 ∷ 0 ∷ 0 ∷ 0 ∷ 0 ∷ 0 ∷ 6 ∷ blank 485
 
-abbrev pub inode_bytes : List ℕ
-inode_bytes = 2 ∷ 0 ∷ 0 ∷ 0 ∷ 1 ∷ 0 ∷ 0 ∷ 0 ∷ 2 ∷ blank 503
+abbrev pub inode_bytes : ℕ → List ℕ
+inode_bytes version = 2 ∷ new_form version ∷ 0 ∷ 0 ∷ 1 ∷ 0 ∷ 0 ∷ 0 ∷ 2 ∷ blank 503
 
 abbrev pub map_bytes : List ℕ
 map_bytes = 0 ∷ 0 ∷ 0 ∷ 0 ∷ 3 ∷ blank 507
@@ -97,9 +103,9 @@ abbrev pub usage_bytes : List ℕ
 usage_bytes = 4 ∷ 0 ∷ 3 ∷ 0 ∷ 1 ∷ 0 ∷ 0 ∷ 0 ∷ blank 504
 
 -- 4,098 sectors
-abbrev pub image : Content
-image = Some (blank 512) ∷ Some checkpoint_bytes ∷ Some summary_bytes ∷ Some inode_bytes ∷ Some map_bytes ∷ Some usage_bytes ∷ replicate 4092 (Some (blank 512))
+abbrev pub image : ℕ → Content
+image version = Some (blank 512) ∷ Some (checkpoint_bytes version) ∷ Some summary_bytes ∷ Some (inode_bytes version) ∷ Some map_bytes ∷ Some usage_bytes ∷ replicate 4092 (Some (blank 512))
 
--- There is such a content for each count of segments, and for 64 it is this one.
+-- There is such a content for each version and each count of segments, and for 64 it is this one.
 abbrev pub NewImages : Type 0
-NewImages = ((N : ℕ) → IsSegmentCount N → IsNew N (new_image N)) × IsNew 64 image
+NewImages = (version : ℕ) → IsVersion version → ((N : ℕ) → IsSegmentCount N → IsNew version N (new_image version N)) × IsNew version 64 (image version)

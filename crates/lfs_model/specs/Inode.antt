@@ -19,16 +19,14 @@ IsSize form Link size = (1 ≤ size) × (size ≤ 1023)
 
 pub record InodeValue : Type 0 where
   pub kind : Kind
+  -- that of a directory's slots
+  pub form : ℕ
   pub number : ℕ
   pub links : ℕ
   pub size : ℕ
   pub direct : List ℕ
   pub single : ℕ
   pub double : ℕ
-
--- the form of an inode, which is that of a directory's slots: every inode has the first one
-abbrev pub inode_form : InodeValue → ℕ
-inode_form i = 0
 
 -- the forms of an object in a version: the first, and for a directory each that is below the version
 abbrev pub IsForm : ℕ → Kind → ℕ → Type 0
@@ -37,11 +35,12 @@ IsForm version File (suc form) = ⊥
 IsForm version Directory (suc form) = suc form < version
 IsForm version Link (suc form) = ⊥
 
--- the sector of an inode of a form, field by field
-unfoldable pub inode_sector_of : ℕ → InodeValue → List ℕ
-inode_sector_of form i = join (
+-- the sector of an inode, field by field
+unfoldable pub inode_sector : InodeValue → List ℕ
+inode_sector i = join (
     (kind_byte i.kind ∷ []) ∷
-    (form ∷ zeros 2) ∷
+    (i.form ∷ []) ∷
+    zeros 2 ∷
     le32 i.number ∷
     le32 i.links ∷
     le32 i.size ∷
@@ -52,10 +51,6 @@ inode_sector_of form i = join (
     zeros 24 ∷ []
     )
 
--- the sector of an inode, of its own form
-unfoldable pub inode_sector : InodeValue → List ℕ
-inode_sector i = inode_sector_of (inode_form i) i
-
 abbrev pub kind_of : ℕ → Kind
 kind_of byte = if nat_eq byte 1 then File else (if nat_eq byte 2 then Directory else Link)
 
@@ -63,6 +58,7 @@ kind_of byte = if nat_eq byte 1 then File else (if nat_eq byte 2 then Directory 
 abbrev pub inode_of : List ℕ → InodeValue
 inode_of s = record {
   kind = kind_of (get_or s 0 0);
+  form = get_or s 1 0;
   number = read32 4 s;
   links = read32 8 s;
   size = read32 12 s;
@@ -75,7 +71,9 @@ inode_of s = record {
 pub record FitsInode (i : InodeValue) : Type 0 where
   pub number : (1 ≤ i.number) × (i.number ≤ 4095)
   pub links : (1 ≤ i.links) × (i.links ≤ 1000)
-  pub size : IsSize (inode_form i) i.kind i.size
+  -- of some version
+  pub form : IsForm 2 i.kind i.form
+  pub size : IsSize i.form i.kind i.size
   pub direct_length : length i.direct ≡ 112
   pub direct_fits : Are32 i.direct
   pub single_fits : i.single < 2 ^ 32
@@ -87,8 +85,13 @@ is_size form File size = nat_le size 8511488
 is_size form Directory size = (size % slot_len form == 0) && nat_le size (1024 * slot_len form)
 is_size form Link size = nat_le 1 size && nat_le size 1023
 
+unfoldable pub is_form : Kind → ℕ → Bool
+is_form File form = form == 0
+is_form Directory form = nat_le form 1
+is_form Link form = form == 0
+
 abbrev pub may_be_inode : InodeValue → Bool
-may_be_inode i = (nat_le 1 i.number && nat_le i.number 4095) && ((nat_le 1 i.links && nat_le i.links 1000) && is_size (inode_form i) i.kind i.size)
+may_be_inode i = (nat_le 1 i.number && nat_le i.number 4095) && ((nat_le 1 i.links && nat_le i.links 1000) && (is_form i.kind i.form && is_size i.form i.kind i.size))
 
 -- the inode that a sector spells, if it spells one
 unfoldable pub inode_in : List ℕ → Option InodeValue

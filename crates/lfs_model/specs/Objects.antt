@@ -9,7 +9,7 @@ use Rattle.lfs_model.specs.Changing.{IsWithBlock, IsWithHeader}
 use Rattle.lfs_model.specs.Content.{Content}
 use Rattle.lfs_model.specs.Encodes.{HasData, HasDouble, HasLeaf, IsLogMap}
 use Rattle.lfs_model.specs.Entry.{Header}
-use Rattle.lfs_model.specs.Inode.{IsSize}
+use Rattle.lfs_model.specs.Inode.{IsForm, IsSize}
 use Rattle.lfs_model.specs.Laid.{IsLaid}
 use Rattle.lfs_model.specs.Memory.{Memory}
 use Rattle.lfs_model.specs.Need.{cost_at, data_blocks, data_of, meta_blocks, meta_of, need, pieces, pointers}
@@ -97,6 +97,7 @@ CutEnds = (m m' : LogMap) (n : ℕ) (h h' : Header) (len : ℕ) → CutsBytes m 
 pub record IsChangedAt (m : LogMap) (n : ℕ) (m' : LogMap) : Type 0 where
   pub headers : (k : ℕ) → (k ≡ n → ⊥) → m'.header k ≡ m.header k
   pub blocks : (k i : ℕ) → (k ≡ n → ⊥) → m'.block k i ≡ m.block k i
+  pub version : m'.version ≡ m.version
 
 -- The node at a number is that of its header.
 abbrev pub NodeOfHeader : Type 0
@@ -209,6 +210,7 @@ pub record AreStoredWhole (m : LogMap) (n : ℕ) : Type 0 where
 pub record IsObject (m : LogMap) (n : ℕ) (h : Header) : Type 0 where
   pub number : 1 ≤ n
   pub root : n ≡ 1 → h.kind ≡ kind.Directory
+  pub form : IsForm m.version h.kind h.form
   pub size : h.size ≤ 8511488
   pub whole : AreStoredWhole m n
   pub ends : (p : ℕ) → h.size ≤ p → byte_in m n p ≡ 0
@@ -236,7 +238,7 @@ WriteEnds = (m m' : LogMap) (n : ℕ) (h h' : Header) → IsLogMap m → m.heade
 -- what an inode may say of object n
 pub record IsHeaderOf (n : ℕ) (h : Header) : Type 0 where
   pub number : (1 ≤ n) × (n ≤ 4095)
-  pub form : h.form ≡ 0
+  pub form : IsForm 2 h.kind h.form
   pub links : h.links ≤ 1000
   pub size : IsSize h.form h.kind h.size
   -- what follows from its size

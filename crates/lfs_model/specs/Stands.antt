@@ -8,10 +8,12 @@ use Rattle.lfs_model.specs.Checkpoint.{CheckpointValue, layout_version}
 use Rattle.lfs_model.specs.Content.{Content, newest}
 use Rattle.lfs_model.specs.Reach.{View, view, Row, place_in}
 
--- each file number's header, and each file's nonzero blocks; a block that isn't stored is empty
+-- each file number's header, each file's nonzero blocks, and the version of the layout; a block that isn't stored is empty
 pub record LogMap : Type 0 where
   pub header : ℕ → Option Header
   pub block : ℕ → ℕ → List ℕ
+  -- of the layout
+  pub version : ℕ
 
 -- the stage that reaches an entry
 abbrev pub stage_of : Entry → ℕ
@@ -135,7 +137,7 @@ module _ (v : View) where
   header_in n = cond (nat_lt 0 (v.address (Inode n))) (Some (header (v.block (Inode n)))) None
 
   abbrev pub log_in : LogMap
-  log_in = record { header = header_in; block = λ n i. v.block (Data n i) }
+  log_in = record { header = header_in; block = λ n i. v.block (Data n i); version = layout_version v.checkpoint }
 
 -- the content holds the log map, at this checkpoint
 pub record HoldsAt (content : Content) (k : CheckpointValue) (m : LogMap) : Type 0 where
@@ -143,6 +145,7 @@ pub record HoldsAt (content : Content) (k : CheckpointValue) (m : LogMap) : Type
   pub stages : Stages (view content k)
   pub header : (n : ℕ) → m.header n ≡ header_in (view content k) n
   pub block : (n i : ℕ) → m.block n i ≡ (view content k).block (Data n i)
+  pub version : m.version ≡ layout_version k
 
 -- The content stands for the log map, at this checkpoint: it holds it, and enough segments are clean.
 pub record StandsAt (content : Content) (k : CheckpointValue) (m : LogMap) : Type 0 where

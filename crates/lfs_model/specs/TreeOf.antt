@@ -132,4 +132,4 @@ kept None some none = none
 kept (Some h) some none = cond (nat_lt 0 h.links) some none
 
 abbrev pub dropped : LogMap → LogMap
-dropped m = record { header = λ n. kept (m.header n) (m.header n) None; block = λ n i. kept (m.header n) (m.block n i) [] }
+dropped m = record { header = λ n. kept (m.header n) (m.header n) None; block = λ n i. kept (m.header n) (m.block n i) []; version = m.version }

@@ -5,7 +5,7 @@ use Rattle.lfs_model.specs.Call.{Answer, Call, Refuse, takes_no_memory}
 use Rattle.lfs_model.specs.Checkpoint.{CheckpointValue}
 use Rattle.lfs_model.specs.Content.{newest}
 use Rattle.lfs_model.specs.Device.{DeviceState, Only}
-use Rattle.lfs_model.specs.Image.{IsNew}
+use Rattle.lfs_model.specs.Image.{IsNew, new_form}
 use Rattle.lfs_model.specs.Refusal.{NoMemory}
 use Rattle.lfs_model.specs.Run.{Point, RunOf}
 use Rattle.lfs_model.specs.Script.{Line, call_of}
@@ -16,18 +16,18 @@ use Rattle.lfs_model.specs.Volume.{LeavesPrefix, mounted}
 
 -- ---- the first use
 
--- what a new volume is: an empty root, and checkpoint 1
-abbrev pub new_point : ℕ → Point
-new_point failures = record { state = mounted 1 ((1, Dir 0 []) ∷ []); halted = false; number = 1; failures = failures }
+-- what a new volume of a version is: an empty root, and checkpoint 1
+abbrev pub new_point : ℕ → ℕ → Point
+new_point version failures = record { state = mounted version ((1, Dir (new_form version) []) ∷ []); halted = false; number = 1; failures = failures }
 
 -- A use of a new volume of N segments begins there.
-abbrev pub BeginsNew : ℕ → DeviceState → DeviceState → Type 0
-BeginsNew N d d' = IsNew N d.content → (lines : List Line) (answers : List Answer) (u : UsesVolume d d' lines answers)
-    → (u.segments ≡ N) × (u.first.number ≡ 1) × (u.first.state ≡ (new_point d.failures).state)
+abbrev pub BeginsNew : ℕ → ℕ → DeviceState → DeviceState → Type 0
+BeginsNew version N d d' = IsNew version N d.content → (lines : List Line) (answers : List Answer) (u : UsesVolume d d' lines answers)
+    → (u.segments ≡ N) × (u.first.number ≡ 1) × (u.first.state ≡ (new_point version d.failures).state)
 
 -- Where a stop leaves the new volume alone, that is the one state that is pending after no call.
-abbrev pub NewIsPending : ℕ → DeviceState → Type 0
-NewIsPending N d = IsNew N d.content → Only d.content d → LeavesPrefix d (new_point d.failures ∷ []) [] []
+abbrev pub NewIsPending : ℕ → ℕ → DeviceState → Type 0
+NewIsPending version N d = IsNew version N d.content → Only d.content d → LeavesPrefix d (new_point version d.failures ∷ []) [] []
 
 -- ---- answers
 

@@ -7,7 +7,7 @@ use Rattle.lfs_model.specs.Content.{Content, newest}
 use Rattle.lfs_model.specs.Crash.{IsReadyFor, Keeps}
 use Rattle.lfs_model.specs.Damage.{IsDamaged, stage}
 use Rattle.lfs_model.specs.Device.{AllLeft, DeviceState, IsSector, MayWrite}
-use Rattle.lfs_model.specs.Image.{IsNew}
+use Rattle.lfs_model.specs.Image.{IsNew, new_form}
 use Rattle.lfs_model.specs.Call.{Call, Answer}
 use Rattle.lfs_model.specs.Reach.{view}
 use Rattle.lfs_model.specs.Run.{Point, StandsForPending}
@@ -58,12 +58,13 @@ NotRefused = (c : Content) (s : State) → Stands c s → ¬ (IsTooSmall c) × �
 
 -- A new volume has an empty root.
 abbrev pub NewVolume : Type 0
-NewVolume = (N : ℕ) (c : Content) → IsNew N c → Stands c (mounted 1 ((1, Dir 0 []) ∷ []))
+NewVolume = (version N : ℕ) (c : Content) → IsNew version N c → Stands c (mounted version ((1, Dir (new_form version) []) ∷ []))
 
 -- The log map of a running volume of N segments in this state. A file without a name is in it, and its header has links 0.
 pub record IsLogOf (N : ℕ) (m : LogMap) (s : State) : Type 0 where
   pub sound : Sound N s
   pub is : s.tree ≡ tree_in m
+  pub version : s.version ≡ m.version
   pub formed : AreFormed m
   pub links : AreLinks m
 
@@ -81,7 +82,7 @@ DroppedLog = (N : ℕ) (m : LogMap) (s : State) → IsLogOf N m s → IsLogMap m
 
 -- So what a commit leaves, a content that stands for that log map, stands for the state without its nodes of no name.
 abbrev pub DroppedStands : Type 0
-DroppedStands = (c : Content) (k : CheckpointValue) (m : LogMap) (s : State) → newest c ≡ Some k → StandsAt c k (dropped m) → IsLogOf k.segments m s → s.version ≡ layout_version k → Stands c (drop_nameless s)
+DroppedStands = (c : Content) (k : CheckpointValue) (m : LogMap) (s : State) → newest c ≡ Some k → StandsAt c k (dropped m) → IsLogOf k.segments m s → Stands c (drop_nameless s)
 
 -- With that state it is the log map of a running volume again.
 abbrev pub DroppedAgain : Type 0

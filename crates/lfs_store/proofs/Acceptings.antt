@@ -1,7 +1,7 @@
 -- What a store holds as it commits, makes room and stages its draft.
 use Rattle.std.specs.Prelude.{Result, Ok, Err, OnErr, OnOk, min}
 use Rattle.std.proofs.Common.{◌≡◌, ◌<◌, ◌≤◌, ◌+◌, ◌-◌, ◌*◌, ◌/◌, ◌^◌, inl, inr, ⊎_elim, Bool, true, false, ℕ, length, refl, sym, ◌∙◌, ap, subst, arith}
-use Rattle.lfs_model.specs.Checkpoint.{CheckpointValue, Layout, layout_of}
+use Rattle.lfs_model.specs.Checkpoint.{CheckpointValue}
 use Rattle.lfs_model.specs.Crash.{StandsOn}
 use Rattle.lfs_model.specs.Device.{DeviceState, IsLawful, Carries, AllLeft, LeavesOnly}
 use Rattle.lfs_model.specs.Encodes.{IsLogMap}
@@ -16,7 +16,7 @@ use Rattle.lfs_cleaner.specs.log.memory.Batch.{room_for}
 use Rattle.lfs_cleaner.specs.log.memory.Preparing.{LacksRoom}
 use Rattle.lfs_cleaner.proofs.of_log.of_memory.Looses.{loose}
 use Rattle.lfs_cleaner.proofs.of_log.of_memory.Presents.{looks_quiet}
-use Rattle.lfs_cleaner.proofs.of_log.Volumes.{same_layout}
+use Rattle.lfs_cleaner.proofs.of_log.Volumes.{same_segments}
 use Rattle.lfs_cleaner.specs.log.verify.declared.totals.BlockTotals.{BlockTotals}
 use Rattle.lfs_cleaner.specs.log.Held.{Held, Halts, Holds, IsFull, IsSaved, Saves, Alters, IsStaged, IsRefused, IsStageFault}
 use Rattle.lfs_cleaner.specs.Room.{HaltsLater, HasQuarter, IsAtRest, IsRoomFault, KeepsMap, MayNotMakeRoom, most_checkpoints}
@@ -35,12 +35,12 @@ written_least D h false = let le : length h.memory.usage.segments / 8 ≤ length
 
 module _ {D : Type 0} (state : D → DeviceState) where
   -- what is left now stands for what is acknowledged
-  acknowledged : (h : Held D) (k : CheckpointValue) (m0 m : LogMap) → Holds state h k m0 m → AllLeft (state h.device) (λ c. StandsOn (layout_of k) c m0)
+  acknowledged : (h : Held D) (k : CheckpointValue) (m0 m : LogMap) → Holds state h k m0 m → AllLeft (state h.device) (λ c. StandsOn k.segments c m0)
   acknowledged h k m0 m is = settled_stands (state h.device) k m0 is.log.running.settled
 
   -- nothing happens
   quiet : (h : Held D) (saved : Bool) → IsLawful (state h.device) → LeavesEither state h saved h
-  quiet h saved lawful k m0 m keeps is map = started (state h.device) (IsSaved state (layout_of k) m0 m) lawful (λ c left. inl (acknowledged h k m0 m is.holds c left))
+  quiet h saved lawful k m0 m keeps is map = started (state h.device) (IsSaved state k.segments m0 m) lawful (λ c left. inl (acknowledged h k m0 m is.holds c left))
 
   -- ---- a commit
   pub commits_none : (h : Held D) → IsLawful (state h.device) → h.halted ≡ false → Commits state h true h
@@ -55,7 +55,7 @@ module _ {D : Type 0} (state : D → DeviceState) where
     stores = λ k m0 m keeps is map. (let same = is.nothing_new refl in (k, subst (λ (x : LogMap). Stores state h true k x m) same is));
     left = λ k m0 m keeps is map. (
         let same = is.nothing_new refl in
-        subst (λ (x : LogMap). AllLeft (state h.device) (λ c. StandsOn (layout_of k) c x)) same (acknowledged h k m0 m is.holds));
+        subst (λ (x : LogMap). AllLeft (state h.device) (λ c. StandsOn k.segments c x)) same (acknowledged h k m0 m is.holds));
     moment = quiet h true lawful;
   }
 
@@ -258,13 +258,13 @@ module _ {D : Type 0} (state : D → DeviceState) where
       ready = λ ready e. (let none = room.unsaved e in subst (λ (x : Held D). HasClean x) (sym none.1) (ready none.0));
     }
 
-    pub room_stores : (k : CheckpointValue) (m0 m : LogMap) → (state h'.device).keeps_model → Stores state h saved k m0 m → IsLogMap (dropped m) → StoresOver state (layout_of k) m0 m h' saved' m
+    pub room_stores : (k : CheckpointValue) (m0 m : LogMap) → (state h'.device).keeps_model → Stores state h saved k m0 m → IsLogMap (dropped m) → StoresOver state k.segments m0 m h' saved' m
     room_stores k m0 m keeps is map = by_flag saved' refl
       where
         rest : saved' ≡ true → IsAtRest h'
         rest all = room.rest all (λ was. is.rest was)
 
-        by_flag : (flag : Bool) → saved' ≡ flag → StoresOver state (layout_of k) m0 m h' saved' m
+        by_flag : (flag : Bool) → saved' ≡ flag → StoresOver state k.segments m0 m h' saved' m
         by_flag true e =
             ⊎_elim
             (λ (was : saved ≡ true).
@@ -277,7 +277,7 @@ module _ {D : Type 0} (state : D → DeviceState) where
               checkpoint = next.0;
               acknowledged = dropped m;
               either = inr refl;
-              same = same_layout state h h' k next.0 m0 m (dropped m) m room.keeps.segments is.holds next.1;
+              same = same_segments state h h' k next.0 m0 m (dropped m) m room.keeps.segments is.holds next.1;
               stores = record { holds = next.1; nothing_new = λ t. refl; rest = rest };
             })
             (room.all e)
@@ -294,21 +294,21 @@ module _ {D : Type 0} (state : D → DeviceState) where
     before = alters.looks.carries.kept_before
 
     -- a stop as it is staged leaves what is acknowledged
-    still_either : (layout : Layout) (m0 m : LogMap) → StoresOver state layout m0 m mid kept m → LeavesOnly (state mid.device) (state h'.device) (IsSaved state layout m0 m)
-    still_either layout m0 m over =
+    still_either : (segments : ℕ) (m0 m : LogMap) → StoresOver state segments m0 m mid kept m → LeavesOnly (state mid.device) (state h'.device) (IsSaved state segments m0 m)
+    still_either segments m0 m over =
         let is = over.stores.holds in
-        weaker (state mid.device) (state h'.device) (λ x. StandsOn (layout_of over.checkpoint) x over.acknowledged) (IsSaved state layout m0 m)
-        (λ x there. let stands : StandsOn layout x over.acknowledged = subst (λ (l : Layout). StandsOn l x over.acknowledged) over.same there in ⊎_elim
-        (λ (old : over.acknowledged ≡ m0). inl (subst (λ (l : LogMap). StandsOn layout x l) old stands))
-        (λ (new : over.acknowledged ≡ dropped m). inr (subst (λ (l : LogMap). StandsOn layout x l) new stands))
+        weaker (state mid.device) (state h'.device) (λ x. StandsOn over.checkpoint.segments x over.acknowledged) (IsSaved state segments m0 m)
+        (λ x there. let stands : StandsOn segments x over.acknowledged = subst (λ (l : ℕ). StandsOn l x over.acknowledged) over.same there in ⊎_elim
+        (λ (old : over.acknowledged ≡ m0). inl (subst (λ (l : LogMap). StandsOn segments x l) old stands))
+        (λ (new : over.acknowledged ≡ dropped m). inr (subst (λ (l : LogMap). StandsOn segments x l) new stands))
         over.either)
         (looks_quiet (state mid.device) (state h'.device) mid.memory over.checkpoint over.acknowledged m lawful alters.looks
         (loose (state mid.device) mid.memory over.checkpoint over.acknowledged m is.log))
 
     moments : LeavesEither state h saved h'
     moments k m0 m keeps is map =
-        joined (state h.device) (state mid.device) (state h'.device) (IsSaved state (layout_of k) m0 m) (IsSaved state (layout_of k) m0 m) (IsSaved state (layout_of k) m0 m)
-        (room_moment h saved mid kept room k m0 m (before keeps) is map) (still_either (layout_of k) m0 m (room_stores h saved mid kept room k m0 m (before keeps) is map)) (λ x p. p) (λ x p. p)
+        joined (state h.device) (state mid.device) (state h'.device) (IsSaved state k.segments m0 m) (IsSaved state k.segments m0 m) (IsSaved state k.segments m0 m)
+        (room_moment h saved mid kept room k m0 m (before keeps) is map) (still_either k.segments m0 m (room_stores h saved mid kept room k m0 m (before keeps) is map)) (λ x p. p) (λ x p. p)
 
     carried : Carries (state h.device) (state h'.device)
     carried = carries_then (state h.device) (state mid.device) (state h'.device) room.keeps.carries alters.looks.carries

@@ -154,7 +154,7 @@ module _ {D : Type 0} (state : D → DeviceState) where
         shorter = λ lt. absurd (omega (arith, more, lt));
         longer = λ le map there. lengthened m (staged c' m) n (as_header head) (as_header (resized head len)) map there len le refl ((with_it m).block n);
         below = λ i lt. (with_it m).block n i;
-        only = record { headers = (with_it m).others; blocks = λ k i ne. (with_it m).block k i };
+        only = record { headers = (with_it m).others; blocks = λ k i ne. (with_it m).block k i; version = (with_it m).version };
         whole = λ was. same_whole m (staged c' m) n ((with_it m).block n) was;
         header = (with_it m).own;
       }

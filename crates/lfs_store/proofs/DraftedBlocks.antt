@@ -15,7 +15,7 @@ use Rattle.lfs_store.specs.Drafting.{IsBlock, NoBlock, LastBlock, DraftsBlock, L
 
 -- ---- blocks of log maps
 abbrev under : LogMap → (ℕ → ℕ → List ℕ) → LogMap
-under m f = record { header = m.header; block = f }
+under m f = record { header = m.header; block = f; version = m.version }
 
 same_blocks : (m : LogMap) (f g : ℕ → ℕ → List ℕ) → ((k l : ℕ) → f k l ≡ g k l) → under m f ≡ under m g
 same_blocks m f g same = ap (under m) (fun_ext (λ k. fun_ext (same k)))

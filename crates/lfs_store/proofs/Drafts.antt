@@ -17,7 +17,7 @@ use Rattle.lfs_store.specs.Drafting.{NoHeader, LastHeader, DraftsHeader}
 
 -- ---- headers of log maps
 abbrev under : LogMap → (ℕ → Option entry.Header) → LogMap
-under m f = record { header = f; block = m.block }
+under m f = record { header = f; block = m.block; version = m.version }
 
 same_headers : (m : LogMap) (f g : ℕ → Option entry.Header) → ((k : ℕ) → f k ≡ g k) → under m f ≡ under m g
 same_headers m f g same = ap (under m) (fun_ext same)

@@ -25,7 +25,7 @@ kept_same false o x none off = refl
 
 same_dropped : (m : LogMap) (n : ℕ) → is_nameless m n ≡ true → dropped (without_file n m) ≡ dropped m
 same_dropped m n off =
-    ap₂ (λ (hs : ℕ → Option Header) (bs : ℕ → ℕ → List ℕ). record { header = hs; block = bs })
+    ap₂ (λ (hs : ℕ → Option Header) (bs : ℕ → ℕ → List ℕ). record { header = hs; block = bs; version = m.version })
     (fun_ext (λ k. kept_same (k == n) (m.header k) (m.header k) None (gone k)))
     (fun_ext (λ k. fun_ext (λ i. kept_same (k == n) (m.header k) (m.block k i) [] (gone k))))
   where

@@ -17,6 +17,7 @@ module _ {D : Type 0} (state : D → DeviceState) where
     log = subst (λ (v : LogMemory). IsLog (state b.device) v k m0 m) (sym reads.memory)
         (let s = still_log (state a.device) (state b.device) a.memory k m0 m reads.looks (loose (state a.device) a.memory k m0 m is.log) in tight_again (state b.device) a.memory k m0 m s is.log.tight);
     number = is.number ∙ sym reads.number;
+    version = is.version ∙ sym reads.version;
     running = reads.halted ∙ is.running;
   }
 
@@ -29,13 +30,14 @@ module _ {D : Type 0} (state : D → DeviceState) where
   }
 
   pub reads_none : (a : Held D) → Reads state a a
-  reads_none a = record { looks = looks_none (state a.device); memory = refl; number = refl; halted = refl; totals = refl }
+  reads_none a = record { looks = looks_none (state a.device); memory = refl; number = refl; version = refl; halted = refl; totals = refl }
 
   pub reads_more : (a b c : Held D) → IsLawful (state a.device) → Reads state a b → Reads state b c → Reads state a c
   reads_more a b c lawful one two = record {
     looks = looks_then (state a.device) (state b.device) (state c.device) lawful one.looks two.looks;
     memory = two.memory ∙ one.memory;
     number = two.number ∙ one.number;
+    version = two.version ∙ one.version;
     halted = two.halted ∙ one.halted;
     totals = two.totals ∙ one.totals;
   }

@@ -6,6 +6,7 @@ use Rattle.lfs_model.specs.declared.Kind.{Kind}
 use Rattle.lfs_model.specs.Encodes.{IsLogMap, HasData}
 use Rattle.lfs_model.specs.Entry as entry
 use Rattle.lfs_model.specs.Entry.{Inode}
+use Rattle.lfs_model.specs.Inode.{IsForm}
 use Rattle.lfs_model.specs.Memory.{is_unlinked}
 use Rattle.lfs_model.specs.Objects.{IsChangedAt, IsObject}
 use Rattle.lfs_model.specs.Stands.{LogMap}
@@ -21,6 +22,7 @@ use Rattle.lfs_cleaner.specs.log.memory.Changing.{FitsHeader, header_with, with_
 use Rattle.lfs_cleaner.specs.log.memory.Present.{as_header}
 use Rattle.lfs_cleaner.specs.log.memory.Removing.{without_file}
 use Rattle.lfs_cleaner.proofs.of_log.of_memory.LogMaps.{is_with_header}
+use Rattle.lfs_cleaner.proofs.of_log.of_memory.Versions.{staged_version}
 use Rattle.lfs_store.specs.Drafting.{IsApart, PutsHeader, LosesOnly}
 use Rattle.lfs_store.specs.Making.{Makes, SetsLinks, DraftsRemoval, relinked}
 use Rattle.lfs_store.proofs.Apart.{file_apart, link_apart, no_change}
@@ -41,12 +43,13 @@ none_stored m n i is none = by (m.block n i) refl
 -- ---- a file is made
 
 pub changed_header : (m : LogMap) (n : ℕ) (h : Option entry.Header) → IsChangedAt m n (with_header m n h)
-changed_header m n h = record { headers = λ k ne. (is_with_header m n h).others k ne; blocks = λ k i ne. refl }
+changed_header m n h = record { headers = λ k ne. (is_with_header m n h).others k ne; blocks = λ k i ne. refl; version = refl }
 
-made_object : (m : LogMap) (n : ℕ) (h : entry.Header) → IsLogMap m → m.header n ≡ None → 1 ≤ n → h.size ≤ 8511488 → IsObject (with_header m n (Some h)) n h
-made_object m n h is none some few = record {
+made_object : (m : LogMap) (n : ℕ) (h : entry.Header) → IsLogMap m → m.header n ≡ None → 1 ≤ n → h.size ≤ 8511488 → IsForm m.version h.kind h.form → IsObject (with_header m n (Some h)) n h
+made_object m n h is none some few form = record {
   number = some;
   root = λ e. (let root = is.root in let never : Some root.0 ≡ None = sym root.1 ∙ ap m.header (sym e) ∙ none in absurd (cc));
+  form = form;
   size = few;
   whole = record {
     long = λ i has. absurd (nothing i has);
@@ -58,8 +61,8 @@ made_object m n h is none some few = record {
     nothing : (i : ℕ) → HasData m n i → ⊥
     nothing i has = let e = ap length (none_stored m n i is none) in omega (arith, has, e)
 
-made_map : (m : LogMap) (n : ℕ) (h : entry.Header) → IsLogMap m → m.header n ≡ None → 1 ≤ n → h.size ≤ 8511488 → IsLogMap (with_header m n (Some h))
-made_map m n h is none some few = object_kept m (with_header m n (Some h)) n h is (changed_header m n (Some h)) (is_with_header m n (Some h)).own (made_object m n h is none some few)
+made_map : (m : LogMap) (n : ℕ) (h : entry.Header) → IsLogMap m → m.header n ≡ None → 1 ≤ n → h.size ≤ 8511488 → IsForm m.version h.kind h.form → IsLogMap (with_header m n (Some h))
+made_map m n h is none some few form = object_kept m (with_header m n (Some h)) n h is (changed_header m n (Some h)) (is_with_header m n (Some h)).own (made_object m n h is none some few form)
 
 pub makes : (c c' : Changes) (n : ℕ) (h : Header) → 1 ≤ n → h.size ≤ 8511488 → PutsHeader c c' n h → Makes c c' n h
 makes c c' n h some few puts = record {
@@ -69,7 +72,7 @@ makes c c' n h some few puts = record {
     name = λ has. (let never : None ≡ Some has.0 = sym none ∙ has.1 in absurd (cc));
     apart = apart;
   });
-  keeps = λ m is none. subst IsLogMap (sym (puts.map m)) (made_map (staged c m) n (as_header h) is none some few);
+  keeps = λ m is none form. subst IsLogMap (sym (puts.map m)) (made_map (staged c m) n (as_header h) is none some few (subst (λ (v : ℕ). IsForm v h.kind h.form) (sym (staged_version c m)) form));
   few = puts.few;
   blocks = puts.blocks;
   loss = puts.loss;
@@ -77,8 +80,8 @@ makes c c' n h some few puts = record {
 
 -- ---- its links
 
--- a header of the same kind and size
-module _ (m : LogMap) (n : ℕ) (h h' : entry.Header) (is : IsLogMap m) (there : m.header n ≡ Some h) (kind : h'.kind ≡ h.kind) (size : h'.size ≡ h.size) where
+-- a header of the same kind, form and size
+module _ (m : LogMap) (n : ℕ) (h h' : entry.Header) (is : IsLogMap m) (there : m.header n ≡ Some h) (kind : h'.kind ≡ h.kind) (form : h'.form ≡ h.form) (size : h'.size ≡ h.size) where
   abbrev over : LogMap
   over = with_header m n (Some h')
 
@@ -112,6 +115,15 @@ module _ (m : LogMap) (n : ℕ) (h h' : entry.Header) (is : IsLogMap m) (there :
         let same = now.3 in
         let low = was.2 in
         (now.0, now.1, omega (arith, same, low)));
+    forms = λ k g at. ⊎_elim
+        (λ (here : k ≡ n).
+        let own : (with_header m n (Some h')).header k ≡ Some h' = ap (with_header m n (Some h')).header here ∙ (is_with_header m n (Some h')).own in
+        let both : Some h' ≡ Some g = sym own ∙ at in
+        let same : h' ≡ g = cc in
+        subst (λ (x : entry.Header). IsForm m.version x.kind x.form) same
+        (subst (λ (f : ℕ). IsForm m.version h'.kind f) (sym form) (subst (λ (t : Kind). IsForm m.version t h.form) (sym kind) (is.forms n h there))))
+        (λ (ne : k ≡ n → ⊥). is.forms k g (sym ((is_with_header m n (Some h')).others k ne) ∙ at))
+        (cases_eq k n);
     small = is.small;
     nonzero = is.nonzero;
     past = λ k i o g at le. (let was = was_there k g at in let same = was.3 in is.past k i o was.0 was.1 (omega (arith, same, le)));
@@ -121,7 +133,7 @@ pub relinks : (c c' : Changes) (n : ℕ) (h : Header) (links : ℕ) → 1 ≤ li
 relinks c c' n h links some puts = record {
   map = puts.map;
   fits = λ m fit there linked apart fits. puts.fits m fit (takes_header c m n h (relinked h links) there (both_linked links h.links some linked) apart fits);
-  keeps = λ m is there. subst IsLogMap (sym (puts.map m)) (headed_map (staged c m) n (as_header h) (as_header (relinked h links)) is there refl refl);
+  keeps = λ m is there. subst IsLogMap (sym (puts.map m)) (headed_map (staged c m) n (as_header h) (as_header (relinked h links)) is there refl refl refl);
   few = puts.few;
   blocks = ap (λ v. v.items) puts.blocks;
   loss = λ _. puts.loss;
@@ -140,7 +152,7 @@ loses_link c c' n h l number kind form size none headers blocks lost only = reco
     (as_header h, at m there),
     ap is_unlinked (at m there) ∙ ne_eqb h.links 0 (λ e. omega (arith, e, linked)),
   );
-  keeps = λ m is there. subst IsLogMap (sym (map m)) (headed_map (staged c m) n (as_header h) (as_header (relinked h 0)) is there refl refl);
+  keeps = λ m is there. subst IsLogMap (sym (map m)) (headed_map (staged c m) n (as_header h) (as_header (relinked h 0)) is there refl refl refl);
   few = let same = ap length (ap (λ v. v.items) headers) in omega (arith, same);
   blocks = ap (λ v. v.items) blocks;
   loss = λ never. absurd (omega (arith, never));
@@ -171,6 +183,7 @@ pub without_changed : (m : LogMap) (n : ℕ) → IsChangedAt m n (without_file n
 without_changed m n = record {
   headers = λ k ne. cond-false (k == n) None (m.header k) (ne_eqb k n ne);
   blocks = λ k i ne. cond-false (k == n) [] (m.block k i) (ne_eqb k n ne);
+  version = refl;
 }
 
 pub removes : (c c' : Changes) (n : ℕ) (r : Removal) → r.number ≡ n → IsNoChange c → c'.headers ≡ c.headers → c'.blocks ≡ c.blocks → c'.loss ≡ File r → LosesOnly c' (File r) → DraftsRemoval c' n

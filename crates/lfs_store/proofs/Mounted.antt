@@ -77,7 +77,7 @@ module _ (c : Content) (k : CheckpointValue) (m : LogMap) (sized : IsSized c) (s
 
   pub all_linked : m ≡ dropped m
   all_linked =
-      ap₂ (λ (hs : ℕ → Option Header) (bs : ℕ → ℕ → List ℕ). record { header = hs; block = bs }) (fun_ext header_same) (fun_ext (λ n. fun_ext (λ i. block_same n i)))
+      ap₂ (λ (hs : ℕ → Option Header) (bs : ℕ → ℕ → List ℕ). record { header = hs; block = bs; version = m.version }) (fun_ext header_same) (fun_ext (λ n. fun_ext (λ i. block_same n i)))
 
 module _ {D : Type 0} (state : D → DeviceState) (d : D) (h : Held D) (lawful : IsLawful (state d)) (mounts : Mounts state d h) (nothing : h.memory.dirty.blocks ≡ [])
     (untaken : (state h.device).keeps_model → AreUntaken h.memory.usage) (many : (state h.device).keeps_model → length h.memory.usage.segments ≤ 8 * clean_in h.memory.usage.segments) where

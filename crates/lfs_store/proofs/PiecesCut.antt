@@ -31,6 +31,7 @@ cut_begins m n first = record {
   only = record {
     headers = λ k ne. refl;
     blocks = λ k i ne. cond-false (k == n && nat_le first i) [] (m.block k i) (false_from_ne_true _ (λ on. ne (eqb-true k n (and_parts (k == n) (nat_le first i) on).0)));
+    version = refl;
   };
   whole = fewer_whole m (cut_from n first m) n first below gone;
 }
@@ -45,7 +46,7 @@ pub cut_heads : CutHeads
 cut_heads m m' m'' n first h far with_it = record {
   below = λ i lt. with_it.block n i ∙ far.below i lt;
   gone = λ i le. with_it.block n i ∙ far.gone i le;
-  only = changed_twice m m' m'' n far.only record { headers = with_it.others; blocks = λ k i ne. with_it.block k i };
+  only = changed_twice m m' m'' n far.only record { headers = with_it.others; blocks = λ k i ne. with_it.block k i; version = with_it.version };
   whole = λ was. same_whole m' m'' n (with_it.block n) (far.whole was);
 }
 
@@ -55,7 +56,7 @@ cut_blocks_heads m m' m'' n len h is with_it = record {
   last = λ k lt. ap (λ (b : List ℕ). slice_index b k) (with_it.block n (len / 512)) ∙ is.last k lt;
   zeros = λ k le. ap (λ (b : List ℕ). slice_index b k) (with_it.block n (len / 512)) ∙ is.zeros k le;
   gone = λ i le. with_it.block n i ∙ is.gone i le;
-  only = changed_twice m m' m'' n is.only record { headers = with_it.others; blocks = λ k i ne. with_it.block k i };
+  only = changed_twice m m' m'' n is.only record { headers = with_it.others; blocks = λ k i ne. with_it.block k i; version = with_it.version };
   whole = λ was. same_whole m' m'' n (with_it.block n) (is.whole was);
 }
 

@@ -47,16 +47,16 @@ module _ (m m' : LogMap) (n i : ℕ) (bytes : List ℕ) (with_it : IsWithBlock m
       place h = cc
 
   pub block_apart : IsChangedAt m n m'
-  block_apart = record { headers = λ k ne. with_it.header k; blocks = λ k l ne. with_it.others k l (λ h. ne (file k l h)) }
+  block_apart = record { headers = λ k ne. with_it.header k; blocks = λ k l ne. with_it.others k l (λ h. ne (file k l h)); version = with_it.version }
     where
       file : (k l : ℕ) → Data k l ≡ Data n i → k ≡ n
       file k l h = cc
 
 pub changed_twice : (m m' m'' : LogMap) (n : ℕ) → IsChangedAt m n m' → IsChangedAt m' n m'' → IsChangedAt m n m''
-changed_twice m m' m'' n first next = record { headers = λ k ne. next.headers k ne ∙ first.headers k ne; blocks = λ k i ne. next.blocks k i ne ∙ first.blocks k i ne }
+changed_twice m m' m'' n first next = record { headers = λ k ne. next.headers k ne ∙ first.headers k ne; blocks = λ k i ne. next.blocks k i ne ∙ first.blocks k i ne; version = next.version ∙ first.version }
 
 pub changed_none : (m : LogMap) (n : ℕ) → IsChangedAt m n m
-changed_none m n = record { headers = λ k ne. refl; blocks = λ k i ne. refl }
+changed_none m n = record { headers = λ k ne. refl; blocks = λ k i ne. refl; version = refl }
 
 -- A file whose blocks are the same is whole.
 pub same_whole : (m m' : LogMap) (n : ℕ) → ((i : ℕ) → m'.block n i ≡ m.block n i) → AreStoredWhole m n → AreStoredWhole m' n

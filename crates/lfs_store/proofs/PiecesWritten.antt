@@ -112,7 +112,7 @@ write_heads m m' m'' n at index w h far with_it = record {
   inside = λ j lt below. same (at + j) ∙ far.inside j lt below;
   behind = λ p le. same p ∙ far.behind p le;
   rest = λ i le. with_it.block n i ∙ far.rest i le;
-  only = changed_twice m m' m'' n far.only record { headers = with_it.others; blocks = λ k i ne. with_it.block k i };
+  only = changed_twice m m' m'' n far.only record { headers = with_it.others; blocks = λ k i ne. with_it.block k i; version = with_it.version };
   whole = λ was. same_whole m' m'' n (with_it.block n) (far.whole was);
 }
   where

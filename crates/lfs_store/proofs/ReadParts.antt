@@ -44,6 +44,7 @@ module _ {D : Type 0} (state : D → DeviceState) where
     log = subst (λ (v : LogMemory). IsLog (state b.device) v k m0 m) (sym reads.memory)
         (let s = still_log (state a.device) (state b.device) a.memory k m0 m reads.looks (loose (state a.device) a.memory k m0 m is.log) in tight_again (state b.device) a.memory k m0 m s is.log.tight);
     number = is.number ∙ sym reads.number;
+    version = is.version ∙ sym reads.version;
     running = reads.halted ∙ is.running;
   }
 
@@ -52,6 +53,7 @@ module _ {D : Type 0} (state : D → DeviceState) where
     looks = looks_then (state a.device) (state b.device) (state c.device) lawful one.looks two.looks;
     memory = two.memory ∙ one.memory;
     number = two.number ∙ one.number;
+    version = two.version ∙ one.version;
     halted = two.halted ∙ one.halted;
     totals = two.totals ∙ one.totals;
   }

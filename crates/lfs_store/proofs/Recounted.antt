@@ -158,6 +158,7 @@ module _ {D : Type 0} (state : D → DeviceState) where
   alters_read h a reads = record {
     looks = reads.looks;
     number = reads.number;
+    version = reads.version;
     halted = reads.halted;
     segments = ap (λ v. length v.usage.segments) reads.memory;
     clean = ap (λ v. clean_in v.usage.segments) reads.memory;
@@ -169,6 +170,7 @@ module _ {D : Type 0} (state : D → DeviceState) where
   alters_more h a h' lawful reads alters = record {
     looks = looks_then (state h.device) (state a.device) (state h'.device) lawful reads.looks alters.looks;
     number = alters.number ∙ reads.number;
+    version = alters.version ∙ reads.version;
     halted = alters.halted ∙ reads.halted;
     segments = alters.segments ∙ ap (λ v. length v.usage.segments) reads.memory;
     clean = alters.clean ∙ ap (λ v. clean_in v.usage.segments) reads.memory;

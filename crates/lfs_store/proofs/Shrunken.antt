@@ -124,7 +124,7 @@ module _ {D : Type 0} (state : D → DeviceState) where
       loss = puts.loss ∙ clears.loss;
       headers = let more = puts.few in let same = ap length (ap (λ v. v.items) clears.headers) in omega (arith, more, same);
       blocks = let more = clears.blocks in let same = ap length (ap (λ v. v.items) puts.blocks) in omega (arith, more, same);
-      only = λ m. changed_twice (staged c m) (staged c' m) (staged c'' m) n (clears.only m) record { headers = (with_header_it m).others; blocks = λ k i ne. (with_header_it m).block k i };
+      only = λ m. changed_twice (staged c m) (staged c' m) (staged c'' m) n (clears.only m) record { headers = (with_header_it m).others; blocks = λ k i ne. (with_header_it m).block k i; version = (with_header_it m).version };
       others = λ m i ne. (with_header_it m).block n i ∙ clears.others m i ne;
       header = λ m. (with_header_it m).own;
       fits = λ m fit takes. puts.fits m (clears.fits m fit (takes_tail m takes))

@@ -34,7 +34,9 @@ module _ {D : Type 0} (state : D → DeviceState) (h h' : Held D) (d d' : Draft)
   S' = state_of state h' d' v' u'
 
   same_staged : held.Reads state h h' → S'.staged ≡ S.staged
-  same_staged reads = ap₂ (λ (x : LogMemory) (n : ℕ). record { memory = x; number = n }) reads.memory reads.number
+  same_staged reads =
+      ap₂ (λ (x : LogMemory) (n : ℕ). record { memory = x; number = n; version = h'.version }) reads.memory reads.number
+      ∙ ap (λ (n : ℕ). record { memory = h.memory; number = h.number; version = n }) reads.version
 
   -- ---- reading
   pub seen_read : held.Reads state h h' → d' ≡ d → v' ≡ v → u' ≡ u → files.Reads S S'

@@ -1,6 +1,6 @@
 -- A store over its log: what it holds from a mount on, as drafts are staged and commits save them.
 use Rattle.std.specs.Prelude.{◌≡◌, ◌⊎◌, ◌<◌, ◌≤◌, ◌+◌, ◌-◌, ◌/◌, ◌^◌, ℕ, Bool, true, false, cond, min, length}
-use Rattle.lfs_model.specs.Checkpoint.{CheckpointValue, Layout, layout_of}
+use Rattle.lfs_model.specs.Checkpoint.{CheckpointValue}
 use Rattle.lfs_model.specs.Crash.{StandsOn}
 use Rattle.lfs_model.specs.Device.{DeviceState, Carries, LeavesOnly, AllLeft}
 use Rattle.lfs_model.specs.Encodes.{IsLogMap}
@@ -57,10 +57,10 @@ module _ {D : Type 0} (state : D → DeviceState) where
   abbrev pub MountsStore : D → Held D → Bool → Type 0
   MountsStore d h saved = (m : LogMap) → (state h.device).keeps_model → (is : StandsLog (state d).content m) → Stores h saved is.checkpoint m m
 
-  -- a stop at any moment leaves what was acknowledged, or the map of the store without its files of no links, in the same layout
+  -- a stop at any moment leaves what was acknowledged, or the map of the store without its files of no links, on as many segments
   abbrev pub LeavesEither : Held D → Bool → Held D → Type 0
   LeavesEither h saved h' = (k : CheckpointValue) (m0 m : LogMap) → (state h'.device).keeps_model → Stores h saved k m0 m → IsLogMap (dropped m)
-      → LeavesOnly (state h.device) (state h'.device) (IsSaved state (layout_of k) m0 m)
+      → LeavesOnly (state h.device) (state h'.device) (IsSaved state k.segments m0 m)
 
   -- A commit: what the store has, without its files of no links, is acknowledged. Where it was saved nothing happens.
   pub record Commits (h : Held D) (saved : Bool) (h' : Held D) : Type 0 where
@@ -72,15 +72,15 @@ module _ {D : Type 0} (state : D → DeviceState) where
     pub clean : clean_in h.memory.usage.segments ≤ clean_in h'.memory.usage.segments + 8
     pub no_failure : (state h'.device).failures ≡ (state h.device).failures
     pub stores : (k : CheckpointValue) (m0 m : LogMap) → (state h'.device).keeps_model → Stores h saved k m0 m → IsLogMap (dropped m) → (next : CheckpointValue) × Stores h' true next (dropped m) m
-    pub left : (k : CheckpointValue) (m0 m : LogMap) → (state h'.device).keeps_model → Stores h saved k m0 m → IsLogMap (dropped m) → AllLeft (state h'.device) (λ c. StandsOn (layout_of k) c (dropped m))
+    pub left : (k : CheckpointValue) (m0 m : LogMap) → (state h'.device).keeps_model → Stores h saved k m0 m → IsLogMap (dropped m) → AllLeft (state h'.device) (λ c. StandsOn k.segments c (dropped m))
     pub moment : LeavesEither h saved h'
 
-  -- The store has log map m' now: over what was acknowledged before, m0, or over m without its files of no links, if a commit came. It has its layout still.
-  pub record StoresOver (layout : Layout) (m0 m : LogMap) (h : Held D) (saved : Bool) (m' : LogMap) : Type 0 where
+  -- The store has log map m' now: over what was acknowledged before, m0, or over m without its files of no links, if a commit came. It has its segments still.
+  pub record StoresOver (segments : ℕ) (m0 m : LogMap) (h : Held D) (saved : Bool) (m' : LogMap) : Type 0 where
     pub checkpoint : CheckpointValue
     pub acknowledged : LogMap
     pub either : (acknowledged ≡ m0) ⊎ (acknowledged ≡ dropped m)
-    pub same : layout_of checkpoint ≡ layout
+    pub same : checkpoint.segments ≡ segments
     pub stores : Stores h saved checkpoint acknowledged m'
 
   -- the log map, without its files of no links, is acknowledged then
@@ -128,7 +128,7 @@ module _ {D : Type 0} (state : D → DeviceState) where
     pub enough : HasClean h'
     pub unsaved : saved' ≡ false
     pub saves : SavesFew h saved h' saved'
-    pub stores : (k : CheckpointValue) (m0 m : LogMap) → (state h'.device).keeps_model → Stores h saved k m0 m → FitsBatch m c → IsLogMap (dropped m) → StoresOver (layout_of k) m0 m h' saved' (staged c m)
+    pub stores : (k : CheckpointValue) (m0 m : LogMap) → (state h'.device).keeps_model → Stores h saved k m0 m → FitsBatch m c → IsLogMap (dropped m) → StoresOver k.segments m0 m h' saved' (staged c m)
     pub moment : LeavesEither h saved h'
 
   -- Or it isn't: the store has the log map that it had.
@@ -137,7 +137,7 @@ module _ {D : Type 0} (state : D → DeviceState) where
     pub halted : h'.halted ≡ h.halted
     pub segments : length h'.memory.usage.segments ≡ length h.memory.usage.segments
     pub saves : SavesFew h saved h' saved'
-    pub stores : (k : CheckpointValue) (m0 m : LogMap) → (state h'.device).keeps_model → Stores h saved k m0 m → FitsBatch m c → IsLogMap (dropped m) → StoresOver (layout_of k) m0 m h' saved' m
+    pub stores : (k : CheckpointValue) (m0 m : LogMap) → (state h'.device).keeps_model → Stores h saved k m0 m → FitsBatch m c → IsLogMap (dropped m) → StoresOver k.segments m0 m h' saved' m
     pub moment : LeavesEither h saved h'
 
   -- a call of the device failed, where the store has a log map that the draft fits

@@ -4,6 +4,7 @@ use Rattle.lfs_model.specs.declared.Kind.{Kind}
 use Rattle.lfs_model.specs.declared.Kind.TheVariants as kind
 use Rattle.lfs_model.specs.Encodes.{IsLogMap}
 use Rattle.lfs_model.specs.Entry.{Inode}
+use Rattle.lfs_model.specs.Inode.{IsForm}
 use Rattle.lfs_model.specs.Stands.{LogMap}
 use Rattle.lfs_cleaner.specs.log.memory.declared.changes.Changes.{Changes}
 use Rattle.lfs_cleaner.specs.log.memory.files.declared.header.Header.{Header}
@@ -19,9 +20,9 @@ first_links kind.File = 1
 first_links kind.Directory = 2
 first_links kind.Link = 1
 
--- its header: of the first form
-abbrev pub first_header : Kind → ℕ → Header
-first_header k size = record { kind = k; form = 0; links = first_links k; size = size }
+-- its header, of this form
+abbrev pub first_header : Kind → ℕ → ℕ → Header
+first_header k form size = record { kind = k; form = form; links = first_links k; size = size }
 
 -- a header with other links
 abbrev pub relinked : Header → ℕ → Header
@@ -31,7 +32,7 @@ relinked h links = record { kind = h.kind; form = h.form; links = links; size = 
 pub record Makes (c c' : Changes) (n : ℕ) (h : Header) : Type 0 where
   pub map : (m : LogMap) → staged c' m ≡ with_header (staged c m) n (Some (as_header h))
   pub fits : (m : LogMap) → FitsBatch m c → (staged c m).header n ≡ None → is_lost c.loss (Inode n) ≡ false → FitsHeader h.kind h.form h.links h.size → FitsBatch m c'
-  pub keeps : (m : LogMap) → IsLogMap (staged c m) → (staged c m).header n ≡ None → IsLogMap (staged c' m)
+  pub keeps : (m : LogMap) → IsLogMap (staged c m) → (staged c m).header n ≡ None → IsForm m.version h.kind h.form → IsLogMap (staged c' m)
   pub few : length c'.headers.items ≤ length c.headers.items + 1
   pub blocks : c'.blocks ≡ c.blocks
   pub loss : c'.loss ≡ c.loss

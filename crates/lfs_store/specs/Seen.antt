@@ -15,10 +15,11 @@ use Rattle.lfs_cleaner.specs.log.verify.declared.totals.BlockTotals.{BlockTotals
 abbrev pub counted_of : BlockTotals → Counted
 counted_of t = record { data_blocks = t.data_blocks; meta_blocks = t.meta_blocks }
 
--- what is staged: what the log has in memory, and the number of the checkpoint that it acknowledged
+-- what is staged: what the log has in memory, the number of the checkpoint that it acknowledged, and the version of the layout
 pub record StagedLog : Type 0 where
   pub memory : LogMemory
   pub number : ℕ
+  pub version : ℕ
 
 module _ {D : Type 0} (state : D → DeviceState) where
   -- The log holds log map m, and m' is it with the draft.
@@ -34,7 +35,7 @@ module _ {D : Type 0} (state : D → DeviceState) where
     device = state h.device;
     halted = h.halted;
     saved = saved;
-    staged = record { memory = h.memory; number = h.number };
+    staged = record { memory = h.memory; number = h.number; version = h.version };
     draft = d;
     totals = counted_of h.totals;
     drafted = counted_of drafted;

@@ -1,5 +1,6 @@
 //! Files made in the draft, their links, and files that go.
 ghost use Rattle.std.specs.Prelude.{◌≡◌, ◌≤◌, true, IfSome, IfNone, IfErr, OnOk, OnErr, IsErrOf};
+ghost use Rattle.lfs_model.specs.Image.{new_form};
 ghost use Rattle.lfs_cleaner.specs.log.memory.Batch.{IsNoChange};
 ghost use Rattle.lfs_store.specs.Recounting.{CountsMade, CountsRelinked};
 ghost use Rattle.lfs_store.specs.Making.{Makes, SetsLinks, DraftsRemoval, first_links, first_header};
@@ -40,21 +41,37 @@ impl<D: SectorDevice> Store<D> {
         }
     }
 
-    /// Makes a file that isn't there, without a byte: a regular file or a directory.
+    /// The form of the directories that are made in the volume.
+    pub fn new_form(&self) -> u8
+        ensures { result ≡ new_form self.now.log.version }
+    {
+        if self.log.version() == 1 {
+            FIRST_FORM
+        } else {
+            FIRST_FORM + 1
+        }
+    }
+
+    /// Makes a file of this form that isn't there, without a byte: a regular file or a directory.
     ///
     /// # Errors
     ///
     /// `NoMemory` where memory runs out. What the draft holds then is of no use.
-    pub fn create(&mut self, number: FileNumber, kind: Kind) -> Result<(), StoreFault>
+    pub fn create(
+        &mut self,
+        number: FileNumber,
+        kind: Kind,
+        form: u8,
+    ) -> Result<(), StoreFault>
         ensures log { self.new.log ≡ self.old.log }
         ensures saved { self.new.saved ≡ self.old.saved }
         ensures done { OnOk result (Makes self.old.draft.changes self.new.draft.changes number.value
-            (first_header kind 0)) }
+            (first_header kind form 0)) }
         ensures counted { OnOk result (CountsMade self.old.draft.changes self.new.draft.changes
             number.value self.old.drafted self.new.drafted) }
         ensures failed { IfErr result (λ fault. fault ≡ StoreFault.NoMemory) }
     {
-        self.make(number, kind, 0)
+        self.make(number, kind, form, 0)
     }
 
     /// Makes a symbolic link that isn't there, of so many bytes. They are zeros until the text is
@@ -68,28 +85,34 @@ impl<D: SectorDevice> Store<D> {
         ensures log { self.new.log ≡ self.old.log }
         ensures saved { self.new.saved ≡ self.old.saved }
         ensures done { OnOk result (Makes self.old.draft.changes self.new.draft.changes number.value
-            (first_header Kind.Link size)) }
+            (first_header Kind.Link 0 size)) }
         ensures counted { OnOk result (CountsMade self.old.draft.changes self.new.draft.changes
             number.value self.old.drafted self.new.drafted) }
         ensures failed { IfErr result (λ fault. fault ≡ StoreFault.NoMemory) }
     {
-        self.make(number, Kind::Link, size)
+        self.make(number, Kind::Link, FIRST_FORM, size)
     }
 
     /// Makes a file, and counts its inode.
-    fn make(&mut self, number: FileNumber, kind: Kind, size: u32) -> Result<(), StoreFault>
+    fn make(
+        &mut self,
+        number: FileNumber,
+        kind: Kind,
+        form: u8,
+        size: u32,
+    ) -> Result<(), StoreFault>
         requires most { size ≤ 8511488 }
         ensures log { self.new.log ≡ self.old.log }
         ensures saved { self.new.saved ≡ self.old.saved }
         ensures done { OnOk result (Makes self.old.draft.changes self.new.draft.changes number.value
-            (first_header kind size)) }
+            (first_header kind form size)) }
         ensures counted { OnOk result (CountsMade self.old.draft.changes self.new.draft.changes
             number.value self.old.drafted self.new.drafted) }
         ensures failed { IfErr result (λ fault. fault ≡ StoreFault.NoMemory) }
     {
         let header = Header {
             kind,
-            form: FIRST_FORM,
+            form,
             links: first_links(kind),
             size,
         };

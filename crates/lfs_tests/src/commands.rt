@@ -654,6 +654,9 @@ const TWO_NAMES: &[Piece] = &[
 // What `check` says of a new volume of 64 segments.
 const NEW_SPACE: Said = Said::Reply(b"ok 64 0 1 727 3008\n");
 
+// And of one with a file or a link of one byte.
+const FILE_SPACE: Said = Said::Reply(b"ok 64 2 2 736 3008\n");
+
 const DAMAGED: &[Step] = &[
     Step::Change("whole.img", 0, &[]),
     Step::Change("whole.img", LEN, NEW),
@@ -689,6 +692,15 @@ const DAMAGED: &[Step] = &[
     Step::Damage(6, 5, 0x2f, b"err Damaged 10\n"),
     Step::Damage(6, 0, 1, b"err Damaged 12\n"),
     Step::Damage(7, 8, 2, b"err Damaged 13\n"),
+    // The version, and the form of the root.
+    Step::Damage(3, 1, 1, b"err Damaged 4\n"),
+    Step::Damage(1, 20, 3, b"err NoCheckpoint\n"),
+    Step::Change("whole.img", LEN, &[(1, 20, &[2])]),
+    Step::Says(&["lfs check whole.img"], b"", 0, FILE_SPACE),
+    Step::Damage(3, 1, 1, b"err Damaged 4\n"),
+    Step::Change("whole.img", LEN, &[(3, 1, &[1]), (3, 12, &[0x80])]),
+    Step::Says(&["lfs check whole.img"], b"", 0, FILE_SPACE),
+    Step::Change("whole.img", LEN, &[(1, 20, &[1]), (3, 1, &[0]), (3, 12, &[0x40])]),
     // The file as a link, and then as a directory that two names give.
     Step::Change("whole.img", LEN, &[(7, 0, &[3])]),
     Step::Says(
@@ -697,12 +709,7 @@ const DAMAGED: &[Step] = &[
         0,
         Said::Reply(b"ok 1\n1 f link 2 1 1 a\n"),
     ),
-    Step::Says(
-        &["lfs check whole.img"],
-        b"",
-        0,
-        Said::Reply(b"ok 64 2 2 736 3008\n"),
-    ),
+    Step::Says(&["lfs check whole.img"], b"", 0, FILE_SPACE),
     Step::Damage(7, 12, 2, b"err Damaged 11\n"),
     Step::Change("whole.img", LEN, TWO_NAMES),
     Step::Damage(5, 2, 5, b"err Damaged 12\n"),

@@ -10,7 +10,6 @@ use Rattle.lfs_model.specs.Stands.{LogMap, HoldsAt, log_in}
 use Rattle.lfs_model.specs.Totals.{IsCounted}
 use Rattle.lfs_model.specs.TreeOf.{AreLinks, AreReached, AreSlots, AreTexts, HasRoom, IsTree, TreeOf, tree_in}
 use Rattle.lfs_model.proofs.Decodes.{are_sized, formed}
-use Rattle.lfs_model.proofs.Standing.{headers_are}
 use Rattle.lfs_files.specs.declared.header.Header as files
 use Rattle.lfs_inodes.specs.MapValue.{address_in}
 use Rattle.lfs_verify.specs.declared.fault.MountFault.{MountFault}
@@ -24,6 +23,7 @@ use Rattle.lfs_tree.specs.Naming.{NamesValue}
 use Rattle.lfs_tree.specs.Objects.{AreNamed}
 use Rattle.lfs_tree.specs.Reading.{Leads, Sees, TellsHeaders}
 use Rattle.lfs_tree.specs.Reaching.{AllClimb, AreNamesFit}
+use Rattle.lfs_tree.proofs.ObjectNames.{held_headers}
 use Rattle.lfs_tree.proofs.ReachStages.{fit_if_links, fit_if_reached, links_if_fit, reached_if_fit}
 use Rattle.lfs_tree.proofs.TreeStages.{damage_of_tree, need_is, same_log}
 
@@ -33,10 +33,10 @@ module _ (c : Content) (k : CheckpointValue) (m : LogMap) (headers : List (Optio
   root_at = let root = (formed c k m is.sized is.holds).root in (root.0, root.1)
 
   pub tree_reached : AreNamesFit headers names × AllClimb headers names.up → AreReached m
-  tree_reached fit = reached_if_fit m (headers_are c k m is.holds) headers is.told names is.named root_at.0 root_at.1 fit.0 fit.1
+  tree_reached fit = reached_if_fit m (held_headers c k m is.holds) headers is.told names is.named root_at.0 root_at.1 fit.0 fit.1
 
   pub tree_links : AreLinksFit headers names → AreLinks m
-  tree_links fit = links_if_fit m (headers_are c k m is.holds) headers is.told names is.named is.slots fit
+  tree_links fit = links_if_fit m (held_headers c k m is.holds) headers is.told names is.named is.slots fit
 
   need_here : HasRoom m k.segments ↔ FitsRoom t.data_blocks t.meta_blocks t.segments
   need_here =
@@ -45,11 +45,11 @@ module _ (c : Content) (k : CheckpointValue) (m : LogMap) (headers : List (Optio
       (λ room. omega (arith, room, need, same), λ fit. omega (arith, fit, need, same))
 
   pub fails_reached : (AreNamesFit headers names × AllClimb headers names.up → ⊥) → IsTreeDamage k.segments m 12
-  fails_reached other = reached_fail refl is.slots is.texts (λ reached. other (fit_if_reached m (headers_are c k m is.holds) headers is.told names is.named reached))
+  fails_reached other = reached_fail refl is.slots is.texts (λ reached. other (fit_if_reached m (held_headers c k m is.holds) headers is.told names is.named reached))
 
   module _ (fit : AreNamesFit headers names × AllClimb headers names.up) where
     pub fails_links : (AreLinksFit headers names → ⊥) → IsTreeDamage k.segments m 13
-    fails_links other = links_fail refl is.slots is.texts (tree_reached fit) (λ links. other (fit_if_links m (headers_are c k m is.holds) headers is.told names is.named is.slots links))
+    fails_links other = links_fail refl is.slots is.texts (tree_reached fit) (λ links. other (fit_if_links m (held_headers c k m is.holds) headers is.told names is.named is.slots links))
 
     module _ (links : AreLinksFit headers names) where
       pub fails_room : (FitsRoom t.data_blocks t.meta_blocks t.segments → ⊥) → IsTreeDamage k.segments m 14

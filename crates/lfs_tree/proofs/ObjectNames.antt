@@ -7,13 +7,15 @@ use Rattle.std.specs.FinMap.{find}
 use Rattle.std.specs.Option.{option_map}
 use Rattle.lfs_model.specs.declared.Kind.{Kind}
 use Rattle.lfs_model.specs.declared.Kind.TheVariants as kind
+use Rattle.lfs_model.specs.Checkpoint.{CheckpointValue}
+use Rattle.lfs_model.specs.Content.{Content}
 use Rattle.lfs_model.specs.Entry as entry
 use Rattle.lfs_model.specs.Slot.{SlotValue, slot_in}
-use Rattle.lfs_model.specs.Stands.{LogMap}
+use Rattle.lfs_model.specs.Stands.{LogMap, HoldsAt}
 use Rattle.lfs_model.specs.Tree.{File, Names, Node, byte_cmp, entry as entry_in, names_in, names_of, node}
 use Rattle.lfs_model.specs.TreeOf.{AreFormed, AreSlots, map_of, node_by, node_of, slots, tree_in}
 use Rattle.lfs_model.proofs.Decoding.{slot_found}
-use Rattle.lfs_model.proofs.Standing.{IsHeader}
+use Rattle.lfs_model.proofs.Standing.{IsHeader, headers_are}
 use Rattle.lfs_model.proofs.Volume.{no_node_0, no_node_past, node_in}
 use Rattle.lfs_files.specs.declared.header.Header.{Header}
 use Rattle.lfs_files.specs.Headers.{as_header}
@@ -39,7 +41,10 @@ all_map P Q f (x ∷ xs) all = (f x all.0, all_map P Q f xs all.1)
 
 -- ---- headers
 abbrev pub AreHeaders : LogMap → Type 0
-AreHeaders m = (n : ℕ) (h : entry.Header) → m.header n ≡ Some h → IsHeader n h
+AreHeaders m = (n : ℕ) (h : entry.Header) → m.header n ≡ Some h → IsHeader m.version n h
+
+pub held_headers : (c : Content) (k : CheckpointValue) (m : LogMap) → HoldsAt c k m → AreHeaders m
+held_headers c k m st n h is = subst (λ (v : ℕ). IsHeader v n h) (sym st.version) (headers_are c k m st n h is)
 
 -- what the table says of a number
 pub head_told : (m : LogMap) (headers : List (Option Header)) → TellsHeaders m headers 4096 → (n : ℕ) → n < 4096 → (head : Header) → get_or headers n None ≡ Some head → m.header n ≡ Some (as_header head)

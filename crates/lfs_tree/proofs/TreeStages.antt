@@ -56,7 +56,7 @@ too_few_clean v s t few =
 
 -- ---- the log map of a content
 pub same_log : (c : Content) (k : CheckpointValue) (m : LogMap) → HoldsAt c k m → m ≡ log_in (view c k)
-same_log c k m st i = record { header = λ n. st.header n i; block = λ n j. st.block n j i }
+same_log c k m st i = record { header = λ n. st.header n i; block = λ n j. st.block n j i; version = st.version i }
 
 -- ---- sums
 sum_upto_none : (f : ℕ → ℕ) → sum_upto f 0 ≡ 0

@@ -9,7 +9,7 @@ ghost use Rattle.lfs_tree.specs.Reading.{FailsToRead, OfLog, TellsHeaders};
 
 use crate::reading::read_inode;
 use lfs_device::{DeviceFault, SectorDevice};
-use lfs_files::{FIRST_FORM, Header};
+use lfs_files::Header;
 use lfs_inodes::InodeMap;
 use lfs_layout::word;
 use lfs_model::Kind;
@@ -85,7 +85,7 @@ pub fn header_of(inode: &[u8; 512]) -> Header
 {
     Header {
         kind: kind_of(inode[0]),
-        form: FIRST_FORM,
+        form: inode[1],
         links: word(inode, 2),
         size: word(inode, 3),
     }

@@ -10,7 +10,10 @@ use Rattle.lfs_verify.specs.Take.{TakesAddress}
 use Rattle.lfs_verify.proofs.Takes.{took, refused, no_inode}
 
 module _ (c : Content) (k : CheckpointValue) (n : ℕ) (low : n < 4096) (m m1 : List ℕ) (p : ℕ) (at : p ≡ address c k (Inode n)) (x : Bool)
-    (t : TakesAddress (IsInode (layout_version k) n) c m m1 p (48 + n) x) (w : Walked (view c k) m (48 + n)) where
+    (version : ℕ) (same : layout_version k ≡ version) (takes : TakesAddress (IsInode version n) c m m1 p (48 + n) x) (w : Walked (view c k) m (48 + n)) where
+  t : TakesAddress (IsInode (layout_version k) n) c m m1 p (48 + n) x
+  t = subst (λ (v : ℕ). TakesAddress (IsInode v n) c m m1 p (48 + n) x) (sym same) takes
+
   pub inode_refused : x ≡ false → Inodes (view c k) → ⊥
   inode_refused fails inodes =
       refused (view c k) m m1 (48 + n) w (Inode n) refl low p at c (IsInode (layout_version k) n)

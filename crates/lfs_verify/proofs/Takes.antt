@@ -1,7 +1,7 @@
 -- One address of the walk.
 use Rattle.std.proofs.Common.{◌≡◌, ◌<◌, ◌↔◌, ⊎_elim, ℕ, zero, suc, Bool, true, false, cond, List, [], length, set, refl, sym, ◌∙◌, ap, subst, arith}
 use Rattle.lfs_model.specs.Entry.{Entry, IsInode, word}
-use Rattle.lfs_model.specs.Inode.{inode_in, inode_of, inode_sector, inode_sector_of, may_be_inode}
+use Rattle.lfs_model.specs.Inode.{inode_in, inode_of, inode_sector, may_be_inode}
 use Rattle.lfs_model.specs.Content.{Content, block, bytes_of}
 use Rattle.lfs_model.specs.Device.{Cell, DeviceState, IsLawful, cell_at}
 use Rattle.lfs_model.specs.Reach.{View}
@@ -27,7 +27,7 @@ pub no_word : (bytes : List ℕ) → bytes ≡ [] → SomeWord bytes → ⊥
 no_word bytes none w = let z = ap (λ (b : List ℕ). word b w.0) none ∙ word_none w.0 in let lt = w.2 in omega arith
 
 pub no_inode : (version n : ℕ) (bytes : List ℕ) → bytes ≡ [] → IsInode version n bytes → ⊥
-unfolding inode_in inode_sector inode_sector_of
+unfolding inode_in inode_sector
 no_inode version n bytes none is =
     let spelt = (value_found inode_of may_be_inode inode_sector bytes is.value is.spelt).2 in
     let z = ap length (sym none ∙ spelt) in absurd (cc)

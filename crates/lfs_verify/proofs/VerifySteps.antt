@@ -49,7 +49,7 @@ looks_by old new carries untouched any_moment = record { carries = carries; unto
 -- ---- the walk
 -- where all of its stages hold, the content holds the log map that is read from it
 holds_by : (c : Content) (k : CheckpointValue) → 2 + 64 * k.segments ≤ length c → Stages (view c k) → HoldsAt c k (log_in (view c k))
-holds_by c k size stages = record { size = size; stages = stages; header = λ n. refl; block = λ n i. refl }
+holds_by c k size stages = record { size = size; stages = stages; header = λ n. refl; block = λ n i. refl; version = refl }
 
 -- what is missing to a log map
 pub stands_where_enough : StandsWhereEnough

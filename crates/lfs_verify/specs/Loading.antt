@@ -1,7 +1,7 @@
 -- Tables of a volume in memory, as its usage blocks and the blocks of its inode map are taken in one by one.
 -- All of it is an own choice.
 use Rattle.std.specs.Prelude.{◌≡◌, ◌<◌, ◌≤◌, ◌+◌, ◌*◌, ◌/◌, ℕ, false, List, length, get_or, Some, None}
-use Rattle.lfs_model.specs.Checkpoint.{CheckpointValue, FitsCheckpoint, IsSegmentCount}
+use Rattle.lfs_model.specs.Checkpoint.{CheckpointValue, FitsCheckpoint, IsSegmentCount, IsVersion, layout_version}
 use Rattle.lfs_model.specs.Content.{Content, newest}
 use Rattle.lfs_model.specs.Entry.{word}
 use Rattle.lfs_model.specs.Reach.{view, map_block}
@@ -60,6 +60,7 @@ pub record SaysMap (c : Content) (k : CheckpointValue) (j : ℕ) (map : MapValue
 -- The tables of a volume are taken in, and a device of this size has all of its segments.
 pub record IsLoaded (t : Tables) (size : ℕ) : Type 0 where
   pub count : IsSegmentCount t.segments
+  pub known : IsVersion t.version
   pub room : 2 + 64 * t.segments ≤ size
   pub usage : IsUsageUpTo ((t.segments + 63) / 64) t.segments t.usage
   pub map : IsMapUpTo 32 t.map
@@ -68,6 +69,7 @@ pub record IsLoaded (t : Tables) (size : ℕ) : Type 0 where
 pub record SaysTables (c : Content) (k : CheckpointValue) (t : Tables) : Type 0 where
   pub number : k.number ≡ t.number
   pub segments : k.segments ≡ t.segments
+  pub version : layout_version k ≡ t.version
   pub usage : SaysUsage c k ((k.segments + 63) / 64) t.usage
   pub map : SaysMap c k 32 t.map
 

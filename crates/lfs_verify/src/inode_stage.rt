@@ -1,6 +1,6 @@
 //! The inodes of all files, and the kind of the root.
 ghost use Rattle.std.specs.Prelude.{◌≡◌, ◌<◌, ◌≤◌, ◌↔◌, ◌⊎◌, ℕ, length, get_or, IsTrue, IfOk, OnOk, OnErr};
-ghost use Rattle.lfs_model.specs.Checkpoint.{CheckpointValue};
+ghost use Rattle.lfs_model.specs.Checkpoint.{CheckpointValue, IsVersion, layout_version};
 ghost use Rattle.lfs_model.specs.Content.{Content};
 ghost use Rattle.lfs_model.specs.Reach.{view};
 ghost use Rattle.lfs_model.specs.Stands.{Inodes};
@@ -28,20 +28,23 @@ pub fn is_directory(block: &[u8; 512]) -> bool
     }
 }
 
-/// Takes the inodes of all files.
+/// Takes the inodes of all files of a volume of this version.
 ///
 /// # Errors
 ///
 /// The fault where a call of the device failed.
 pub fn all_inodes<D: SectorDevice>(
     device: &mut D,
+    version: u32,
     map: &[u32],
     marks: &mut [u32],
     sector: &mut [u8; 512],
 ) -> Result<bool, DeviceFault>
+    requires known { IsVersion version }
     requires files { length map.now ≡ 4096 }
     requires inside { length marks.old ≤ (D.state device.old).size }
     ensures goes { IfOk result (λ r. (c : Content) (k : CheckpointValue)
+        → layout_version k ≡ version
         → ReadsContent (D.state device.old) (D.state device.new) c → Lists (view c k) map.now
         → Advances (view c k) marks.old marks.new 48 4144 (Inodes (view c k)) r) }
     ensures at { IfOk result (λ r. IsTrue r → (i : ℕ) → i < 4096 → (get_or map.now i 0 ≡ 0)
@@ -53,31 +56,35 @@ pub fn all_inodes<D: SectorDevice>(
     ensures looks { Looks (D.state device.old) (D.state device.new) }
 {
     for file in 0..4096u32 {
-        if !take_inode(device, marks, map[file as usize], file, sector)? {
+        if !take_inode(device, marks, version, map[file as usize], file, sector)? {
             return Ok(false);
         }
     }
     Ok(true)
 }
 
-/// Stage 4: takes the inodes of all files, where the root is a directory. False where the stage
-/// fails.
+/// Stage 4: takes the inodes of all files of a volume of this version, where the root is a
+/// directory. False where the stage fails.
 ///
 /// # Errors
 ///
 /// The fault where a call of the device failed.
 pub fn stage_inodes<D: SectorDevice>(
     device: &mut D,
+    version: u32,
     map: &[u32],
     marks: &mut [u32],
     sector: &mut [u8; 512],
 ) -> Result<bool, DeviceFault>
+    requires known { IsVersion version }
     requires files { length map.now ≡ 4096 }
     requires inside { length marks.old ≤ (D.state device.old).size }
     ensures goes { IfOk result (λ r. (c : Content) (k : CheckpointValue)
+        → layout_version k ≡ version
         → ReadsContent (D.state device.old) (D.state device.new) c → Lists (view c k) map.now
         → Advances (view c k) marks.old marks.new 48 4144 (Inodes (view c k)) r) }
     ensures holds { IfOk result (λ r. IsTrue r → (c : Content) (k : CheckpointValue)
+        → layout_version k ≡ version
         → ReadsContent (D.state device.old) (D.state device.new) c → Lists (view c k) map.now
         → IsBounded (view c k) → Walked (view c k) marks.old 48 → Inodes (view c k)) }
     ensures at { IfOk result (λ r. IsTrue r → (i : ℕ) → i < 4096
@@ -88,7 +95,7 @@ pub fn stage_inodes<D: SectorDevice>(
         ((D.state device.new).failures ≡ (D.state device.old).failures) }
     ensures looks { Looks (D.state device.old) (D.state device.new) }
 {
-    if !all_inodes(device, map, marks, sector)? {
+    if !all_inodes(device, version, map, marks, sector)? {
         return Ok(false);
     }
     let root = map[1];

@@ -1,6 +1,6 @@
 //! The usage table and the inode map to which a checkpoint leads, taken into memory.
 ghost use Rattle.std.specs.Prelude.{◌≡◌, ◌<◌, ◌≤◌, ◌+◌, ◌*◌, ◌/◌, ℕ, length, get_or, slice_set, OnOk, IfOk, IfErr, IsFalse};
-ghost use Rattle.lfs_model.specs.Checkpoint.{FitsCheckpoint};
+ghost use Rattle.lfs_model.specs.Checkpoint.{FitsCheckpoint, layout_version};
 ghost use Rattle.lfs_model.specs.Content.{block};
 ghost use Rattle.lfs_model.specs.Usage.{IsUse, no_use};
 ghost use Rattle.lfs_verify.specs.Faults.{IsBlockFault, IsTableFault};
@@ -25,6 +25,8 @@ pub struct Tables {
     pub number: u64,
     /// How many segments the volume has.
     pub segments: u32,
+    /// Of its layout: 1 or 2.
+    pub version: u32,
     pub map: InodeMap,
     pub usage: Usage,
     /// Blocks of data of all files.
@@ -227,6 +229,13 @@ fn number_of(checkpoint: &Checkpoint) -> u64
     checkpoint.number
 }
 
+/// The version of a checkpoint's layout.
+pub fn version_of(checkpoint: &Checkpoint) -> u32
+    ensures { result ≡ layout_version checkpoint.now }
+{
+    checkpoint.version
+}
+
 /// The tables to which a checkpoint leads, with these totals. It only reads.
 ///
 /// # Errors
@@ -264,6 +273,7 @@ pub fn load_tables<D: SectorDevice>(
     Ok(Tables {
         number: number_of(checkpoint),
         segments,
+        version: version_of(checkpoint),
         map,
         usage,
         data_blocks: totals.data_blocks,

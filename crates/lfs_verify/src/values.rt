@@ -1,5 +1,6 @@
 //! What the walk asks of a block by itself.
 ghost use Rattle.std.specs.Prelude.{◌≡◌, ◌<◌, ◌≤◌, ◌*◌, ◌^◌, ◌↔◌, ℕ, slice_index, IsTrue};
+ghost use Rattle.lfs_model.specs.Checkpoint.{IsVersion};
 ghost use Rattle.lfs_model.specs.Entry.{IsInode, word};
 ghost use Rattle.lfs_verify.specs.Take.{SomeWord};
 ghost use Rattle.lfs_verify.specs.Walk.{IsDataBytes};
@@ -27,14 +28,15 @@ pub fn has_word(block: &[u8; 512]) -> bool
     false
 }
 
-/// Whether a block is the inode of this number.
-pub fn is_inode(block: &[u8; 512], file: u32) -> bool
-    ensures { IsTrue result ↔ IsInode 1 file block.now }
+/// Whether a block is the inode of this number, of a form that this version of the layout has.
+pub fn is_inode(block: &[u8; 512], version: u32, file: u32) -> bool
+    requires { IsVersion version }
+    ensures { IsTrue result ↔ IsInode version file block.now }
 {
     let Some(inode) = InodeView::decode(block) else {
         return false;
     };
-    inode.number() == file
+    u32::from(inode.form()) < version && inode.number() == file
 }
 
 /// Whether a byte isn't 0.

@@ -23,6 +23,7 @@ use crate::roots::stage_roots;
 use crate::rows::stage_rows;
 use crate::totals::{BlockTotals, count_totals};
 use crate::usage_stage::{segments_of, stage_usages};
+use crate::tables::version_of;
 use lfs_device::{DeviceFault, SectorDevice};
 use lfs_layout::Checkpoint;
 use std::alloc::{AllocError, Global};
@@ -90,6 +91,7 @@ fn walk_inodes<D: SectorDevice>(
     map: &mut [u32],
     marks: &mut [u32],
 ) -> Result<(), WalkFault>
+    requires fits { FitsCheckpoint checkpoint.now }
     requires files { length map.old ≡ 4096 }
     requires empty { (n : ℕ) → get_or map.old n 0 ≡ 0 }
     requires inside { length marks.old ≤ (D.state device.old).size }
@@ -119,7 +121,7 @@ fn walk_inodes<D: SectorDevice>(
         Ok(false) => return Err(WalkFault::Damaged(3)),
         Err(DeviceFault) => return Err(WalkFault::Device),
     }
-    match stage_inodes(device, map, marks, &mut sector) {
+    match stage_inodes(device, version_of(checkpoint), map, marks, &mut sector) {
         Ok(true) => Ok(()),
         Ok(false) => Err(WalkFault::Damaged(4)),
         Err(DeviceFault) => Err(WalkFault::Device),

@@ -1,4 +1,4 @@
-use Rattle.std.proofs.Common.{◌≡◌, ◌+◌}
+use Rattle.std.proofs.Common.{◌≡◌, ◌+◌, ℕ}
 use Rattle.lfs_model.specs.Content.{Content}
 use Rattle.lfs_model.specs.Device.{Carries}
 use Rattle.lfs_model.specs.Image.{usage_blocks}
@@ -13,7 +13,7 @@ invariant-loop-index g l =
     let now = g.D.SectorDevice.state l.device in
     record {
       run : Chunk old now;
-      chunk : now.keeps_model → (before : Content) → HasChunk l.segments 1 before old.content → HasChunk l.segments l.index before now.content;
+      chunk : now.keeps_model → (version : ℕ) (before : Content) → HasChunk version l.segments 1 before old.content → HasChunk version l.segments l.index before now.content;
       touched : Touches (5 + usage_blocks l.segments) old now;
       failures : now.failures ≡ old.failures;
       carries : Carries old now;

@@ -1,9 +1,8 @@
 use Rattle.std.proofs.Common.{◌≡◌, ◌∙◌, Some, None, subst, sym, arith, refl}
-use Rattle.lfs_model.proofs.Standing.{headers_are}
 use Rattle.lfs_verify.proofs.Takes.{looks_none, looks_then}
 use Rattle.lfs_tree.specs.Objects.{AreNamed, TakesObject}
 use Rattle.lfs_tree.proofs.Named.{base_at, named_first, named_more, noted_begin}
-use Rattle.lfs_tree.proofs.ObjectNames.{good_if_stage, no_names, nobody, stage_if_good}
+use Rattle.lfs_tree.proofs.ObjectNames.{good_if_stage, held_headers, no_names, nobody, stage_if_good}
 use Rattle.lfs_tree.proofs.Seeing.{leads_then, sees_first, sees_then}
 use Rattle.lfs_tree.proofs.slot_stage.stage_slots.Goals as goal
 
@@ -12,7 +11,7 @@ loop-number-init g c = record {
   looks = looks_none (g.D.SectorDevice.state c.args.device.now) (g.met.D.SectorDevice.lawful c.args.device.now);
   no_failure = refl;
   named = λ k m sees leads told empty.
-      let are = headers_are (g.D.SectorDevice.state c.args.device.now).content k m sees.holds in
+      let are = held_headers (g.D.SectorDevice.state c.args.device.now).content k m sees.holds in
       let none = nobody m are in
       named_first m c.args.headers.now c.args.tables.now empty (λ h at dir. (let both : None ≡ Some h = sym none ∙ at in absurd (cc))) (no_names m are 0 none);
 }
@@ -48,7 +47,7 @@ returns-in-Ok-false-clause-holds g c k m sees leads told empty =
     let base = base_at m headers c.loop-number.tables number in
     let taken = c.in-Ok-false.ensures.takes k m (sees_then old mid new k m sees here.looks) (leads_then old mid k c.args.map.now leads here.looks) told base (noted_begin m headers c.loop-number.tables number was) in
     let bad = subst (TakesObject m headers number base c.take_object.new.tables) c.in-Ok-false.field-0-test taken in
-    λ stage. bad (good_if_stage m (headers_are old.content k m sees.holds) headers told stage number)
+    λ stage. bad (good_if_stage m (held_headers old.content k m sees.holds) headers told stage number)
 
 pub returns-in-Err-clause-failed : goal.returns-in-Err-clause-failed
 returns-in-Err-clause-failed g c same k m sees leads told =
@@ -67,4 +66,4 @@ returns-clause-holds g c k m sees leads told empty =
     let high = c.loop-number.auto.number-end in
     let last : c.loop-number.number ≡ 4096 = omega (arith, ended, high) in
     let named = subst (AreNamed m c.args.headers.now c.loop-number.tables) last (c.loop-number.invariant.named k m sees leads told empty) in
-    (stage_if_good m (headers_are old.content k m sees.holds) c.args.headers.now told named.good, named)
+    (stage_if_good m (held_headers old.content k m sees.holds) c.args.headers.now told named.good, named)

@@ -11,18 +11,18 @@ loop-file-init g c = record {
   no_failure = refl;
   len = refl;
   at = λ i lt. absurd (omega (arith, lt));
-  walked = λ d k reads lists w. w;
+  walked = λ d k same reads lists w. w;
 }
 
 pub returns-then-not-branch-clause-goes : goal.returns-then-not-branch-clause-goes
-returns-then-not-branch-clause-goes g c = λ d k reads lists w inodes.
+returns-then-not-branch-clause-goes g c = λ d k same reads lists w inodes.
     let old = g.D.SectorDevice.state c.args.device.now in
     let mid = g.D.SectorDevice.state c.loop-file.device in
     let new = g.D.SectorDevice.state c.take_inode.new.device in
     let here = c.loop-file.invariant in
     let step = c.in_ok-take_inode.ensures in
-    inode_refused d k c.loop-file.file (omega arith) _ _ _ (lists c.loop-file.file (omega arith)) _
-    (step.takes d (reads_then old mid new d reads here.looks)) (here.walked d k (reads_first old mid new d reads step.looks) lists w) c.if-not-branch.true inodes
+    inode_refused d k c.loop-file.file (omega arith) _ _ _ (lists c.loop-file.file (omega arith)) _ _ same
+    (step.takes d (reads_then old mid new d reads here.looks)) (here.walked d k same (reads_first old mid new d reads step.looks) lists w) c.if-not-branch.true inodes
 
 pub loop-file-preserved : goal.loop-file-preserved
 loop-file-preserved g c =
@@ -36,12 +36,12 @@ loop-file-preserved g c =
       no_failure = step.no_failure ∙ here.no_failure;
       len = step.len ∙ here.len;
       at = below_more _ _ here.at (in_marks _ _ _ here.len (step.at c.if-not-branch.false));
-      walked = λ d k reads lists w.
-          inode_took d k c.loop-file.file (omega arith) _ _ _ (lists c.loop-file.file (omega arith)) _
-          (step.takes d (reads_then old mid new d reads here.looks)) (here.walked d k (reads_first old mid new d reads step.looks) lists w) c.if-not-branch.false;
+      walked = λ d k same reads lists w.
+          inode_took d k c.loop-file.file (omega arith) _ _ _ (lists c.loop-file.file (omega arith)) _ _ same
+          (step.takes d (reads_then old mid new d reads here.looks)) (here.walked d k same (reads_first old mid new d reads step.looks) lists w) c.if-not-branch.false;
     }
 
 pub returns-clause-goes : goal.returns-clause-goes
-returns-clause-goes g c = λ d k reads lists w.
+returns-clause-goes g c = λ d k same reads lists w.
     let e : 48 + c.loop-file.file ≡ 4144 = omega arith in
-    subst (Walked (view d k) c.loop-file.marks) e (c.loop-file.invariant.walked d k reads lists w)
+    subst (Walked (view d k) c.loop-file.marks) e (c.loop-file.invariant.walked d k same reads lists w)

@@ -1,5 +1,5 @@
 use Rattle.std.proofs.Common.{◌≡◌, ◌<◌, ◌⊎◌, ◌+◌, ℕ, length, get_or}
-use Rattle.lfs_model.specs.Checkpoint.{CheckpointValue}
+use Rattle.lfs_model.specs.Checkpoint.{CheckpointValue, layout_version}
 use Rattle.lfs_model.specs.Content.{Content}
 use Rattle.lfs_model.specs.Reach.{view}
 use Rattle.lfs_verify.specs.Walk.{Walked}
@@ -15,6 +15,6 @@ invariant-loop-file g l =
       no_failure : now.failures ≡ old.failures;
       len : length l.marks ≡ length l.initial.marks;
       at : (i : ℕ) → i < l.file → (get_or l.map i 0 ≡ 0) ⊎ (get_or l.map i 0 < length l.initial.marks);
-      walked : (c : Content) (k : CheckpointValue) → ReadsContent old now c → Lists (view c k) l.map
+      walked : (c : Content) (k : CheckpointValue) → layout_version k ≡ l.version → ReadsContent old now c → Lists (view c k) l.map
           → Walked (view c k) l.initial.marks 48 → Walked (view c k) l.marks (48 + l.file);
     }

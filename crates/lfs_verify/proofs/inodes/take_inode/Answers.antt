@@ -4,4 +4,4 @@ use Rattle.lfs_verify.proofs.Takes.{unread, no_inode}
 use Rattle.lfs_verify.proofs.inodes.take_inode.Goals as goal
 
 pub returns-then-not-branch-clause-takes : goal.returns-then-not-branch-clause-takes
-returns-then-not-branch-clause-takes g c = λ k reads. (omega arith, λ o is. no_inode 1 c.args.file (block k c.args.address) (unread k c.args.address _ _ (c.in_ok-fetch.ensures.block k reads) c.if-not-branch.true) is)
+returns-then-not-branch-clause-takes g c = λ k reads. (omega arith, λ o is. no_inode c.args.version c.args.file (block k c.args.address) (unread k c.args.address _ _ (c.in_ok-fetch.ensures.block k reads) c.if-not-branch.true) is)

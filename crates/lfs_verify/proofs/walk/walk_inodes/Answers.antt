@@ -1,3 +1,4 @@
+use Rattle.std.proofs.Common.{sym}
 use Rattle.lfs_model.specs.Reach.{view}
 use Rattle.lfs_model.specs.Stands.{Maps, Inodes}
 use Rattle.lfs_verify.proofs.Takes.{reads_first, reads_then}
@@ -21,7 +22,7 @@ returns-in-Ok-false-stage_inodes-clause-damaged g c = λ code is d reads passed.
     let one = walk_pass v 3 (Maps v) (stage_3 v) _ _ passed _ _ _ c.in-Ok-true.field-0-test (c.in-Ok-true.ensures.goes d reads1)
     (λ w bounded. c.in-Ok-true.ensures.holds c.in-Ok-true.field-0-test d reads1 bounded passed.walked) in
     walk_fails v 4 (Inodes v) (stage_4 v) _ _ one _ _ _ c.in-Ok-false-stage_inodes.field-0-test
-    (c.in-Ok-false-stage_inodes.ensures.goes d c.args.checkpoint.now reads2 lists) code is
+    (c.in-Ok-false-stage_inodes.ensures.goes d c.args.checkpoint.now (sym c.version_of.ensures) reads2 lists) code is
 
 pub returns-in-Ok-true-stage_inodes-clause-holds : goal.returns-in-Ok-true-stage_inodes-clause-holds
 returns-in-Ok-true-stage_inodes-clause-holds g c = λ d reads passed.
@@ -35,8 +36,8 @@ returns-in-Ok-true-stage_inodes-clause-holds g c = λ d reads passed.
     let one = walk_pass v 3 (Maps v) (stage_3 v) _ _ passed _ _ _ c.in-Ok-true.field-0-test (c.in-Ok-true.ensures.goes d reads1)
     (λ w bounded. c.in-Ok-true.ensures.holds c.in-Ok-true.field-0-test d reads1 bounded passed.walked) in
     walk_pass v 4 (Inodes v) (stage_4 v) _ _ one _ _ _ c.in-Ok-true-stage_inodes.field-0-test
-    (c.in-Ok-true-stage_inodes.ensures.goes d c.args.checkpoint.now reads2 lists)
-    (λ w bounded. c.in-Ok-true-stage_inodes.ensures.holds c.in-Ok-true-stage_inodes.field-0-test d c.args.checkpoint.now reads2 lists bounded one.walked)
+    (c.in-Ok-true-stage_inodes.ensures.goes d c.args.checkpoint.now (sym c.version_of.ensures) reads2 lists)
+    (λ w bounded. c.in-Ok-true-stage_inodes.ensures.holds c.in-Ok-true-stage_inodes.field-0-test d c.args.checkpoint.now (sym c.version_of.ensures) reads2 lists bounded one.walked)
 
 pub returns-in-Ok-true-stage_inodes-clause-lists : goal.returns-in-Ok-true-stage_inodes-clause-lists
 returns-in-Ok-true-stage_inodes-clause-lists g c = λ d reads.

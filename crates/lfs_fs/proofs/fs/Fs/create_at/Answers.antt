@@ -10,11 +10,11 @@ use Rattle.lfs_fs.proofs.fs.Fs.create_at.Goals as goal
 -- the path has no piece
 pub returns-in_default : goal.returns-in_default
 returns-in_default g c v path reached =
-    no_piece_ends g.D.SectorDevice.state g.met.D.SectorDevice.lawful v c.args.self.now path c.args.directory.value (create_call (segments_of v) path c.args.directory.value reached.bytes) c.args.last reached c.requires.running c.in_default.is
+    no_piece_ends g.D.SectorDevice.state g.met.D.SectorDevice.lawful v c.args.self.now path c.args.directory.value (create_call v.log.version (segments_of v) path c.args.directory.value reached.bytes) c.args.last reached c.requires.running c.in_default.is
 
 pub returns-in-Err : goal.returns-in-Err
 returns-in-Err g c v path reached =
-    entry_refused g.D.SectorDevice.state g.met.D.SectorDevice.lawful v c.args.self.now path c.args.directory.value (create_call (segments_of v) path c.args.directory.value reached.bytes) c.args.last reached c.requires.running c.in-Some.last c.in-Some.is c.check_new_entry.new.self
+    entry_refused g.D.SectorDevice.state g.met.D.SectorDevice.lawful v c.args.self.now path c.args.directory.value (create_call v.log.version (segments_of v) path c.args.directory.value reached.bytes) c.args.last reached c.requires.running c.in-Some.last c.in-Some.is c.check_new_entry.new.self
     c.in-Err.ensures.reads c.in-Err.fault c.in-Err.ensures.refused
 
 -- no handle is free
@@ -28,7 +28,7 @@ pub returns-in_default-least_free-2 : goal.returns-in_default-least_free-2
 returns-in_default-least_free-2 g c v path reached =
     let first = c.in-Some-least_free.ensures.first in
     let found = c.in-Some-least_free.ensures.found in
-    number_refused g.D.SectorDevice.state g.met.D.SectorDevice.lawful v c.args.self.now path c.args.directory.value (create_call (segments_of v) path c.args.directory.value reached.bytes) c.args.last reached c.requires.running c.in-Some.last c.in-Some.is c.check_new_entry.new.self
+    number_refused g.D.SectorDevice.state g.met.D.SectorDevice.lawful v c.args.self.now path c.args.directory.value (create_call v.log.version (segments_of v) path c.args.directory.value reached.bytes) c.args.last reached c.requires.running c.in-Some.last c.in-Some.is c.check_new_entry.new.self
     c.in-Ok.ensures.reads c.in-Ok.header c.in-Ok.ensures.taken
     (handle_allowed g.D.SectorDevice.state g.met.D.SectorDevice.lawful v c.args.self.now path c.args.directory.value c.args.last reached c.requires.running c.in-Some.last c.in-Some.is c.check_new_entry.new.self
     c.in-Ok.ensures.reads c.in-Ok.header c.in-Ok.ensures.taken (omega (arith, first, found)))

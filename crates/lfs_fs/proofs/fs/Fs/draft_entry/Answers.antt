@@ -35,14 +35,14 @@ returns-in-Ok-add-clause-drafted g c =
     let store = c.relink_parent.new.self.store in
     let files = c.add.new.files in
     let added = c.in-Ok-add.ensures in
-    let back = sym (kind_back c.args.kind c.args.text.now) in
+    let back = sym (kind_back c.args.self.now.store.log.version c.args.kind c.args.text.now) in
     let later : Reads state object.log files.log = subst (λ (h : Held g.row.D.Denot). Reads state h files.log) links.log (log_redrafts state store files c.add.ensures.redrafts) in
     record {
       between = object.draft.changes;
       linked = store.draft.changes;
       half = object.drafted;
       object = object_later state c.args.self.now.store.log object.log files.log c.args.self.now.store.draft.changes object.draft.changes c.args.self.now.store.drafted object.drafted c.args.number.value
-          (new_kind c.args.kind c.args.text.now) later made.drafted;
+          (new_kind c.args.self.now.store.log.version c.args.kind c.args.text.now) later made.drafted;
       relinks = subst (λ (k : Kind). RelinksParent object.draft.changes store.draft.changes c.args.directory.value c.args.header object.drafted k) back
           (subst (λ (t : BlockTotals). RelinksParent object.draft.changes store.draft.changes c.args.directory.value c.args.header t c.args.kind) links.drafted links.done);
       adds = subst (λ (k : Kind). Adds state c.args.self.now.store.log files.log store.draft.changes files.draft.changes c.args.directory.value (relinked c.args.header (more_links k c.args.header.links)) c.args.number.value c.args.name.now) back

@@ -20,7 +20,7 @@ returns-in-Ok-write_at-clause-drafted g c =
       half = blank.drafted;
       makes = made.done;
       counts = made.counted;
-      writes = subst (λ (h : Held g.row.D.Denot). Writes state h done.log blank.draft.changes done.draft.changes c.args.number.value (first_header kind.Link (length c.args.text.now)) 0 c.args.text.now) made.log wrote.done;
+      writes = subst (λ (h : Held g.row.D.Denot). Writes state h done.log blank.draft.changes done.draft.changes c.args.number.value (first_header kind.Link 0 (length c.args.text.now)) 0 c.args.text.now) made.log wrote.done;
       recounts = subst (λ (h : Held g.row.D.Denot). Counts state h done.log blank.draft.changes done.draft.changes blank.drafted done.drafted) made.log wrote.counted;
     }
 

@@ -3,7 +3,7 @@ use Rattle.lfs_model.specs.Fields.{le32}
 use Rattle.lfs_model.specs.Checkpoint.{checkpoint_text}
 use Rattle.lfs_model.specs.Fields.{part}
 use Rattle.lfs_model.proofs.Numbers.{le32_inj, le64_inj}
-use Rattle.lfs_model.proofs.CheckpointPlaces.{reads_from, reads_to}
+use Rattle.lfs_model.proofs.CheckpointPlaces.{reads_from, reads_to, version_small}
 use Rattle.lfs_model.proofs.Decoding.{checkpoint_is, checkpoint_some}
 use Rattle.lfs_layout.proofs.checkpoint.Checkpoint.decode.Goals as goal
 
@@ -33,11 +33,13 @@ returns-then-not-is_segment_count-clause-none c v fits is =
     let yes = c.is_segment_count.ensures.1 (rw e fits.segments) in
     cc
 
-pub returns-then-version-ne1-clause-none : goal.returns-then-version-ne1-clause-none
-returns-then-version-ne1-clause-none c v fits is =
+pub returns-then-not-is_version-clause-none : goal.returns-then-not-is_version-clause-none
+returns-then-not-is_version-clause-none c v fits is =
     let r = reads_from c.args.sector.now v fits is in
     let n = c.number32_at-version.result in
-    c.if-version-ne1.true (le32_inj n 1 c.number32_at-version.type_inv (omega arith) (c.number32_at-version.ensures.spelled ∙ r.version))
+    let e : n ≡ v.version = le32_inj n v.version c.number32_at-version.type_inv (version_small v.version fits.version) (c.number32_at-version.ensures.spelled ∙ r.version) in
+    let yes = c.is_version.ensures.1 (rw e fits.version) in
+    cc
 
 pub returns-then-not-is_zero_at-clause-none : goal.returns-then-not-is_zero_at-clause-none
 returns-then-not-is_zero_at-clause-none c v fits is =
@@ -53,13 +55,12 @@ pub returns-clause-found : goal.returns-clause-found
 returns-clause-found c =
     let n = c.number64_at-number.result in
     let not_zero : n ≡ 0 → ⊥ = c.if-number-eq0.false in
-    let version : c.number32_at-version.result ≡ 1 = search rules in
     let text : part 0 8 c.args.sector.now ≡ checkpoint_text = text_is _ (c.is_text_at.ensures.0 c.if-not-is_text_at.false) in (
       record {
         number = omega arith;
         number_fits = c.number64_at-number.type_inv;
         segments = c.is_segment_count.ensures.0 c.if-not-is_segment_count.false;
-        version = refl;
+        version = c.is_version.ensures.0 c.if-not-is_version.false;
         map_length = c.words_at.ensures.length;
         map_fits = c.words_at.ensures.fits;
         usage_length = c.words_at-2.ensures.length;
@@ -69,7 +70,7 @@ returns-clause-found c =
         text = text;
         number = sym c.number64_at-number.ensures.spelled;
         segments = sym c.number32_at-segments.ensures.spelled;
-        version = sym c.number32_at-version.ensures.spelled ∙ ap le32 version;
+        version = sym c.number32_at-version.ensures.spelled;
         gap = c.is_zero_at.ensures.0 c.if-not-is_zero_at.false;
         map = sym c.words_at.ensures.spelled;
         usage = sym c.words_at-2.ensures.spelled;
@@ -86,8 +87,8 @@ returns-then-number-eq0-clause-exact c = checkpoint_is c.args.sector.now c.fits-
 pub returns-then-not-is_segment_count-clause-exact : goal.returns-then-not-is_segment_count-clause-exact
 returns-then-not-is_segment_count-clause-exact c = checkpoint_is c.args.sector.now c.fits-sector c.told-sector None tt (λ v fits is. returns-then-not-is_segment_count-clause-none c v fits is)
 
-pub returns-then-version-ne1-clause-exact : goal.returns-then-version-ne1-clause-exact
-returns-then-version-ne1-clause-exact c = checkpoint_is c.args.sector.now c.fits-sector c.told-sector None tt (λ v fits is. returns-then-version-ne1-clause-none c v fits is)
+pub returns-then-not-is_version-clause-exact : goal.returns-then-not-is_version-clause-exact
+returns-then-not-is_version-clause-exact c = checkpoint_is c.args.sector.now c.fits-sector c.told-sector None tt (λ v fits is. returns-then-not-is_version-clause-none c v fits is)
 
 pub returns-then-not-is_zero_at-clause-exact : goal.returns-then-not-is_zero_at-clause-exact
 returns-then-not-is_zero_at-clause-exact c = checkpoint_is c.args.sector.now c.fits-sector c.told-sector None tt (λ v fits is. returns-then-not-is_zero_at-clause-none c v fits is)

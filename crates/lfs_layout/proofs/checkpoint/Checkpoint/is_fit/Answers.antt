@@ -4,21 +4,21 @@ use Rattle.lfs_model.specs.Checkpoint.{FitsCheckpoint}
 use Rattle.lfs_layout.specs.contracts.checkpoint.Checkpoint.{the_view}
 use Rattle.lfs_layout.proofs.checkpoint.Checkpoint.is_fit.Goals as goal
 
-pub returns-then-self-ne0 : goal.returns-then-self-ne0
+pub returns-then-is_segment_count : goal.returns-then-is_segment_count
 unfolding Are32
-returns-then-self-ne0 c =
+returns-then-is_segment_count c =
     let k = c.self.inside in
     let fits : FitsCheckpoint (the_view k) → FitsCheckpoint c.args.self.now = λ f. subst FitsCheckpoint c.self.view_is f in
     let back : FitsCheckpoint c.args.self.now → FitsCheckpoint (the_view k) = λ f. rw c.self.view_is f in (
       (λ yes. fits record {
         number = omega arith;
         number_fits = search rules;
-        segments = c.is_segment_count.ensures.0 yes;
-        version = refl;
+        segments = search rules;
+        version = c.is_version.ensures.0 yes;
         map_length = search rules;
         map_fits = search rules;
         usage_length = search rules;
         usage_fits = search rules;
       }),
-      (λ f. c.is_segment_count.ensures.1 (back f).segments),
+      (λ f. c.is_version.ensures.1 (back f).version),
     )
