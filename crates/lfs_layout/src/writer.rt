@@ -66,7 +66,9 @@ impl<const L: usize> Writer<L> {
         ensures written { self.new ≡ self.old ++ le16 n }
         ensures length { length self.new ≡ length self.old + 2 }
     {
-        self.bytes(&n.to_le_bytes());
+        let mut bytes = [0; 2];
+        LittleEndian::write_u16(&mut bytes, n);
+        self.bytes(&bytes);
     }
 
     /// Writes a number of 4 bytes.
@@ -76,7 +78,9 @@ impl<const L: usize> Writer<L> {
         ensures written { self.new ≡ self.old ++ le32 n }
         ensures length { length self.new ≡ length self.old + 4 }
     {
-        self.bytes(&n.to_le_bytes());
+        let mut bytes = [0; 4];
+        LittleEndian::write_u32(&mut bytes, n);
+        self.bytes(&bytes);
     }
 
     /// Writes a number of 8 bytes.
@@ -86,7 +90,9 @@ impl<const L: usize> Writer<L> {
         ensures written { self.new ≡ self.old ++ le64 n }
         ensures length { length self.new ≡ length self.old + 8 }
     {
-        self.bytes(&n.to_le_bytes());
+        let mut bytes = [0; 8];
+        LittleEndian::write_u64(&mut bytes, n);
+        self.bytes(&bytes);
     }
 
     /// Writes numbers of 4 bytes each.
