@@ -124,8 +124,13 @@ impl Checkpoint {
         requires count { IsSegmentCount segments }
         requires version { IsVersion version }
         ensures fits { FitsCheckpoint result }
-        ensures value { result ≡ record { number = number; segments = segments; version = version;
-          map = map; usage = usage } }
+        ensures value { result ≡ record {
+          number = number;
+          segments = segments;
+          version = version;
+          map = map;
+          usage = usage;
+        } }
     {
         fits_32(&map);
         fits_32(&usage);

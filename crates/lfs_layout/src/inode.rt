@@ -4,8 +4,8 @@ ghost use Rattle.lfs_model.specs.Inode.{InodeValue, FitsInode, IsForm, IsSize, i
 ghost use Rattle.lfs_model.specs.declared.Kind.{Kind};
 ghost use Rattle.lfs_model.specs.Fields.{part};
 
-use crate::slot::slot_len;
 use crate::fields::{fits_32, is_zero_at, number32_at, words_at};
+use crate::slot::slot_len;
 use crate::writer::SectorWriter;
 use lfs_model::Kind;
 use std::marker::Model;

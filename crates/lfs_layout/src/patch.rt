@@ -30,14 +30,7 @@ pub fn set_word(block: &mut [u8; 512], place: usize, number: u32)
 
 /// Makes a block the inode of this number with this kind, form, links and size in bytes. The
 /// addresses stay.
-pub fn set_header(
-    block: &mut [u8; 512],
-    number: u32,
-    kind: Kind,
-    form: u8,
-    links: u32,
-    size: u32,
-)
+pub fn set_header(block: &mut [u8; 512], number: u32, kind: Kind, form: u8, links: u32, size: u32)
     ensures { block.new ≡ (kind_byte kind ∷ []) ++ (form ∷ []) ++ zeros 2 ++ le32 number ++ le32 links ++ le32
         size ++ drop 16 block.old }
 {
