@@ -5,6 +5,8 @@ use lfs_memory::inodes::{
     BlockKey, DirtyTable, IN_MEMORY, InodeMap, locate, locate_present, owner_points,
 };
 use lfs_model::BlockKind;
+use rand_core::Rng;
+use rand_pcg::Pcg32;
 use std::alloc::{AllocError, Global};
 
 /// One of eleven keys, the lowest first, of file 1 or of the last file.
@@ -168,9 +170,9 @@ impl Row<(DirtyTable, Plain)> for Seed {
     /// Whether the table and a plain list are alike after each of 400 changes, and as both are
     /// cleared.
     fn is_well(self, (table, plain): &mut (DirtyTable, Plain)) -> bool {
-        let mut draw = self.0;
+        let mut generator = Pcg32::new(u64::from(self.0), 1);
         for _ in 0..400 {
-            draw = draw.wrapping_mul(1_664_525).wrapping_add(1_013_904_223);
+            let draw = generator.next_u32();
             if change(table, plain, draw).is_err() || !is_alike(table, plain) {
                 return false;
             }

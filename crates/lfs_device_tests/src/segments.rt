@@ -6,6 +6,8 @@ use lfs_device::{MemDevice, NoMemory, SectorDevice};
 use lfs_layout::{SegmentUsage, SummaryView, UsageView, is_placed};
 use lfs_memory::segments::{ChunkWriter, Usage};
 use lfs_model::BlockKind;
+use rand_core::Rng;
+use rand_pcg::Pcg32;
 use std::alloc::Global;
 
 /// Places so many data blocks, and tells how many got the address that they should.
@@ -328,10 +330,9 @@ impl Row<Usage> for Seed {
     /// Whether the table and a plain list agree after each of 4,000 steps.
     fn is_well(self, usage: &mut Usage) -> bool {
         let mut kept = [(0, 0, 0, 0); 64];
-        let mut seed = self.0;
+        let mut generator = Pcg32::new(u64::from(self.0), 1);
         for _ in 0..4_000 {
-            seed = seed.wrapping_mul(1_664_525).wrapping_add(1_013_904_223);
-            if !step_both(usage, &mut kept, seed >> 8) || !agree(usage, &kept) {
+            if !step_both(usage, &mut kept, generator.next_u32()) || !agree(usage, &kept) {
                 return false;
             }
         }

@@ -4,28 +4,33 @@ ghost use Rattle.std.specs.Prelude.{◌<◌, ◌≤◌};
 use crate::plain::{NO_FILE, PlainMap, edge, number_of};
 use lfs_model::Kind;
 use lfs_store::volume_log::{Changes, Cut, Header, LastLink, Loss, Removal};
+use rand_core::Rng;
+use rand_pcg::Pcg32;
 use std::alloc::{AllocError, Global};
 
 /// Numbers that a seed chooses.
-#[derive(Clone, Copy)]
+#[derive(Drop)]
 pub struct Dice {
-    pub last: u32,
+    generator: Pcg32,
     /// How many were chosen.
     pub rolls: u32,
 }
 
 impl Dice {
+    pub fn new(seed: u32) -> Dice {
+        Dice {
+            generator: Pcg32::new(u64::from(seed), 1),
+            rolls: 0,
+        }
+    }
+
     /// A number below this one.
     pub fn roll(&mut self, end: u32) -> u32
         requires { 0 < end }
         ensures { result < end }
     {
-        self.last = self
-            .last
-            .wrapping_mul(1_664_525)
-            .wrapping_add(1_013_904_223);
         self.rolls = self.rolls.saturating_add(1);
-        (self.last >> 8) % end
+        self.generator.next_u32() % end
     }
 }
 

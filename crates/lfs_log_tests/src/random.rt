@@ -308,10 +308,7 @@ fn run(alloc: Global, segments: u32, seed: u32, steps: u32) -> Result<(), Wrong>
         files: [NO_FILE; 6],
     };
     let mut trial = Trial {
-        dice: Dice {
-            last: seed,
-            rolls: 0,
-        },
+        dice: Dice::new(seed),
         wire: &wire,
         number: 1,
         saved: none,

@@ -3,13 +3,15 @@ ghost use Rattle.std.specs.Prelude.{◌<◌};
 
 use crate::trial::{plain_run, trial};
 use lfs_device::Left;
+use rand_core::Rng;
+use rand_pcg::Pcg32;
 use std::alloc::{AllocError, Global};
 use std::test::Fail;
 
 /// What chooses the calls and the stops.
 #[derive(Drop)]
 struct Dice {
-    state: u64,
+    generator: Pcg32,
 }
 
 impl Dice {
@@ -18,11 +20,7 @@ impl Dice {
         requires { 0 < sides }
         ensures { result < sides }
     {
-        self.state = self
-            .state
-            .wrapping_mul(6_364_136_223_846_793_005)
-            .wrapping_add(1_442_695_040_888_963_407);
-        ((self.state >> 33) as u32) % sides
+        self.generator.next_u32() % sides
     }
 }
 
@@ -119,7 +117,9 @@ fn rolled_lines(alloc: Global, dice: &mut Dice, count: u32) -> Result<Vec<String
 
 // A random script without a stop, and with stops within four of its writes.
 fn trials(alloc: Global, seed: u64) -> Result<(), Fail> {
-    let mut dice = Dice { state: seed };
+    let mut dice = Dice {
+        generator: Pcg32::new(seed, 1),
+    };
     let rolled = rolled_lines(alloc, &mut dice, 100)?;
     let mut lines = Vec::new(alloc);
     for line in &rolled {
