@@ -1,7 +1,7 @@
 -- Every call keeps a state sound, and so does every run of calls.
 use Rattle.std.proofs.Common.{◌≡◌, ◌<◌, replicate, refl, sym, subst, ℕ, zero, suc, Some, slice_get, true, List, [], ◌∷◌, inl, inr}
 use Rattle.std.specs.List.{AllByRecursion}
-use Rattle.lfs_model.specs.Call.{Call, Open, Create, Close, Pread, Pwrite, Truncate, Mkdir, LinkTo, Symlink, Readlink, Unlink, Rmdir, Rename, StatOf, LstatOf, Readdir, Fsync, Sync, Clean, Space, ListTree, Answer, AreArguments, leaves_state}
+use Rattle.lfs_model.specs.Call.{Call, Open, Create, Close, Pread, Pwrite, Truncate, Mkdir, LinkTo, Symlink, Readlink, Unlink, Rmdir, Rename, StatOf, LstatOf, Readdir, Fsync, Sync, Clean, Space, Version, ListTree, Answer, AreArguments, leaves_state}
 use Rattle.lfs_model.specs.Tree.{State, drop_nameless}
 use Rattle.lfs_model.specs.Sound.{Sound}
 use Rattle.lfs_model.specs.Laws.{KeepsSound}
@@ -38,6 +38,7 @@ call_keeps (Fsync h) N s s' a sound args st = read_keeps (Fsync h) refl N s s' a
 call_keeps Sync N s s' a sound args st = read_keeps Sync refl N s s' a sound args st
 call_keeps Clean N s s' a sound args st = read_keeps Clean refl N s s' a sound args st
 call_keeps Space N s s' a sound args st = read_keeps Space refl N s s' a sound args st
+call_keeps Version N s s' a sound args st = read_keeps Version refl N s s' a sound args st
 call_keeps ListTree N s s' a sound args st = read_keeps ListTree refl N s s' a sound args st
 
 -- an excused refusal leaves the state

@@ -7,7 +7,7 @@ use Rattle.lfs_model.specs.Tree.{File, Dir, Link, Tree, State, node, with_node, 
 use Rattle.lfs_model.specs.PathText.{comps, slash, but_last, text_refusal}
 use Rattle.lfs_model.specs.Refusal.{Refusal, NoEntry, NotDir, IsDir, NotEmpty, Inval, NameTooLong, Busy, TooManyLinks, FileTooBig, Halted}
 use Rattle.lfs_model.specs.Walk.{Walk, no_piece, stays, goes_up, too_long, not_there, directory, file, not_dir, link, loops, followed, End, At, Refused, Ends}
-use Rattle.lfs_model.specs.Call.{Call, Open, Create, Close, Pread, Pwrite, Truncate, Mkdir, LinkTo, Symlink, Readlink, Unlink, Rmdir, Rename, StatOf, LstatOf, Readdir, Fsync, Sync, Clean, Space, ListTree, Answer, Refuse, Done, Handle, Count, Data, Text, Status, Entries}
+use Rattle.lfs_model.specs.Call.{Call, Open, Create, Close, Pread, Pwrite, Truncate, Mkdir, LinkTo, Symlink, Readlink, Unlink, Rmdir, Rename, StatOf, LstatOf, Readdir, Fsync, Sync, Clean, Space, Version, ListTree, Answer, Refuse, Done, Handle, Count, Data, Text, Status, Entries}
 use Rattle.lfs_model.specs.Step.{Path, Whole, Holder, NoPath, PathEnds, Step, bad_handle, checked, closes, creates, file_at, file_bytes, gives_dir, is_link, is_long, is_there, last_dots, let_go, links_to, lists, makes_dir, makes_link, name, new_entry, no_handle, no_last, no_number, no_space, old_entry, opens, outcome, path_of, reached, reads, reads_link, removes_dir, rename_list, renames, second_path_of, stat_of, target, text_check, the_node, truncates, unlinks, when, with_new, with_tree, writes}
 use Rattle.lfs_model.proofs.Walks.{Some-injective}
 
@@ -168,6 +168,7 @@ outcome_own N s (Fsync h) e f first second = checked_own s (bad_handle s h ∷ [
 outcome_own N s Sync e f first second = refl
 outcome_own N s Clean e f first second = refl
 outcome_own N s Space e f first second = refl
+outcome_own N s Version e f first second = refl
 outcome_own N s ListTree e f first second = refl
 
 pub steps_never_halt : (N : ℕ) (s s' : State) (call : Call) (a : Answer) → Step N s call a s' → a ≡ Refuse Halted → ⊥

@@ -6,7 +6,7 @@ use Rattle.lfs_model.specs.Tree.{State, node, is_dir, names_in}
 use Rattle.lfs_model.specs.Bytes as bytes
 use Rattle.lfs_model.specs.Refusal.{Inval, NotDir}
 use Rattle.lfs_model.specs.Walk.{End, At, Refused}
-use Rattle.lfs_model.specs.Call.{Call, Open, Create, Close, Pread, Pwrite, Truncate, Mkdir, LinkTo, Symlink, Readlink, Unlink, Rmdir, Rename, StatOf, LstatOf, Readdir, Fsync, Sync, Clean, Space, ListTree, Answer, Done, Data, Text, Status, Entries, leaves_state}
+use Rattle.lfs_model.specs.Call.{Call, Open, Create, Close, Pread, Pwrite, Truncate, Mkdir, LinkTo, Symlink, Readlink, Unlink, Rmdir, Rename, StatOf, LstatOf, Readdir, Fsync, Sync, Clean, Space, Version, ListTree, Answer, Done, Data, Text, Status, Entries, leaves_state}
 use Rattle.lfs_model.specs.Step.{Step, checked, reached, outcome, when, bad_handle, file_bytes, the_node, file_at, is_link, head_of, stat_of, entry_of, reads_link, lists}
 use Rattle.lfs_model.specs.Run.{Point, Run, final, IsPending}
 
@@ -53,6 +53,7 @@ reads_same N s (Fsync h) e f is = same_checked s (bad_handle s h ∷ []) Done
 reads_same N s Sync e f is = refl
 reads_same N s Clean e f is = refl
 reads_same N s Space e f is = refl
+reads_same N s Version e f is = refl
 reads_same N s ListTree e f is = refl
 reads_same N s (Open p) e f is = absurd (cc is)
 reads_same N s (Create p) e f is = absurd (cc is)

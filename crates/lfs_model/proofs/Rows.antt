@@ -4,15 +4,22 @@ use Rattle.std.proofs.Common.{◌≡◌, refl, ℕ, List, [], ◌∷◌, ◌++�
 use Rattle.std.specs.Prelude.{codes, option_and_then, map, decimal}
 use Rattle.std.specs.List.{range_with_len}
 use Rattle.std.specs.Fmt.{digits}
-use Rattle.lfs_model.specs.Tree.{drop_nameless}
+use Rattle.lfs_model.specs.Tree.{Dir, State, drop_nameless}
 use Rattle.lfs_model.specs.Refusal.{Inval, NotEmpty, NotDir, IsDir, Loop, Perm, Busy, Exist, NoEntry, NameTooLong, TooManyOpen, BadHandle}
 use Rattle.lfs_model.specs.Need.{data_of, meta_of}
-use Rattle.lfs_model.specs.Call.{Call, Create, Open, Close, Pwrite, Pread, Truncate, Rename, LinkTo, StatOf, LstatOf, Readdir, Readlink, Mkdir, Rmdir, Symlink, Unlink, Sync, Space, ListTree, DirectoryEntry, Answer, Handle, Count, Data, Text, Done, Refuse, Status, Room, Rows, Entries}
+use Rattle.lfs_model.specs.Call.{Call, Create, Open, Close, Pwrite, Pread, Truncate, Rename, LinkTo, StatOf, LstatOf, Readdir, Readlink, Mkdir, Rmdir, Symlink, Unlink, Sync, Space, Version, ListTree, DirectoryEntry, Answer, Handle, Count, Data, Text, Done, Refuse, Status, Room, FormatVersion, Rows, Entries}
 use Rattle.lfs_model.specs.Plain.{run_to, fresh, answers_to}
 use Rattle.lfs_model.specs.declared.Kind.TheVariants as kinds
 
 answers : List Call → Option (List Answer)
 answers calls = answers_to 64 fresh calls
+
+-- a new volume of version 2
+fresh_2 : State
+fresh_2 = record { tree = (1, Dir 1 []) ∷ []; handles = []; version = 2 }
+
+answers_2 : List Call → Option (List Answer)
+answers_2 calls = answers_to 64 fresh_2 calls
 
 -- what a stat, and a line of readdir, tell
 file : ℕ → ℕ → ℕ → Answer
@@ -123,6 +130,28 @@ names_made_and_taken = refl
 long_names : answers (Mkdir (47 ∷ replicate 59 97) ∷ Mkdir (47 ∷ replicate 60 97) ∷ []) ≡ Some (Done ∷ Refuse NameTooLong ∷ [])
 unfolding answers data_of meta_of
 long_names = refl
+
+-- ---- the versions of the layout
+
+versions : (answers (Space ∷ Version ∷ []) ≡ Some (Room 0 1 727 3008 ∷ FormatVersion 1 ∷ [])) × (answers_2 (Space ∷ Version ∷ []) ≡ Some (Room 0 1 727 3008 ∷ FormatVersion 2 ∷ []))
+unfolding answers answers_2 fresh_2 data_of meta_of
+versions = (refl, refl)
+
+longer_names : answers_2 (Mkdir (47 ∷ replicate 123 97) ∷ Mkdir (47 ∷ replicate 124 97) ∷ []) ≡ Some (Done ∷ Refuse NameTooLong ∷ [])
+unfolding answers_2 fresh_2 data_of meta_of
+longer_names = refl
+
+five_names : List Call
+five_names = Create (codes "/1") ∷ Create (codes "/2") ∷ Create (codes "/3") ∷ Create (codes "/4") ∷ Create (codes "/5") ∷ Space ∷ StatOf (codes "/") ∷ []
+
+-- a name takes twice as many bytes in a directory of form 1
+five_short : answers five_names ≡ Some (Handle 0 ∷ Handle 1 ∷ Handle 2 ∷ Handle 3 ∷ Handle 4 ∷ Room 1 6 763 3008 ∷ dir 1 2 320 ∷ [])
+unfolding answers five_names dir data_of meta_of
+five_short = refl
+
+five_wide : answers_2 five_names ≡ Some (Handle 0 ∷ Handle 1 ∷ Handle 2 ∷ Handle 3 ∷ Handle 4 ∷ Room 2 6 764 3008 ∷ dir 1 2 640 ∷ [])
+unfolding answers_2 fresh_2 five_names dir data_of meta_of
+five_wide = refl
 
 -- ---- the walk
 

@@ -1,5 +1,6 @@
 -- The calls of a volume and their answers (POSIX.1-2017: open, close, pread, pwrite, ftruncate, mkdir, link, symlink, readlink,
--- unlink, rmdir, rename, stat, lstat, readdir, fsync, sync). A path is a list of bytes; clean, space and tree are own choices.
+-- unlink, rmdir, rename, stat, lstat, readdir, fsync, sync). A path is a list of bytes; clean, space, version and tree are own
+-- choices.
 use Rattle.std.specs.Prelude.{ℕ, ◌<◌, ◌^◌, Bool, true, false, ◌||◌, List}
 use Rattle.lfs_model.specs.Bytes.{AreBytes}
 use Rattle.lfs_model.specs.Refusal.{Refusal}
@@ -34,6 +35,7 @@ pub data Call : Type 0 where
   Sync : Call
   Clean : Call
   Space : Call
+  Version : Call
   ListTree : Call
 
 -- What the arguments of a call can be: handles and lengths of pread are numbers of 32 bits, offsets and lengths of truncate of 64,
@@ -59,6 +61,7 @@ AreArguments (Fsync h) = h < 2 ^ 32
 AreArguments Sync = Unit {0}
 AreArguments Clean = Unit {0}
 AreArguments Space = Unit {0}
+AreArguments Version = Unit {0}
 AreArguments ListTree = Unit {0}
 
 -- the calls that may change the tree
@@ -83,6 +86,7 @@ changes (Fsync h) = false
 changes Sync = false
 changes Clean = false
 changes Space = false
+changes Version = false
 changes ListTree = false
 
 -- the calls that leave the state as it is
@@ -107,6 +111,7 @@ leaves_state (Fsync h) = true
 leaves_state Sync = true
 leaves_state Clean = true
 leaves_state Space = true
+leaves_state Version = true
 leaves_state ListTree = true
 
 -- the calls that commit: after their Ok a stop loses nothing of what was before (POSIX.1-2017: fsync, sync)
@@ -131,6 +136,7 @@ commits (Fsync h) = true
 commits Sync = true
 commits Clean = false
 commits Space = false
+commits Version = false
 commits ListTree = false
 
 -- the call that cleans (the 1992 LFS paper: segment cleaning)
@@ -155,6 +161,7 @@ cleans (Fsync h) = false
 cleans Sync = false
 cleans Clean = true
 cleans Space = false
+cleans Version = false
 cleans ListTree = false
 
 -- the calls that may write to the device
@@ -183,7 +190,33 @@ takes_no_memory (Fsync h) = true
 takes_no_memory Sync = true
 takes_no_memory Clean = false
 takes_no_memory Space = true
+takes_no_memory Version = true
 takes_no_memory ListTree = false
+
+-- the calls that are never refused because a call of the device failed: those that commit are halted then
+abbrev pub never_for_device : Call → Bool
+never_for_device (Open p) = false
+never_for_device (Create p) = false
+never_for_device (Close h) = false
+never_for_device (Pread h off n) = false
+never_for_device (Pwrite h off w) = false
+never_for_device (Truncate h n) = false
+never_for_device (Mkdir p) = false
+never_for_device (LinkTo p q) = false
+never_for_device (Symlink text p) = false
+never_for_device (Readlink p) = false
+never_for_device (Unlink p) = false
+never_for_device (Rmdir p) = false
+never_for_device (Rename p q) = false
+never_for_device (StatOf p) = false
+never_for_device (LstatOf p) = false
+never_for_device (Readdir p) = false
+never_for_device (Fsync h) = true
+never_for_device Sync = true
+never_for_device Clean = false
+never_for_device Space = false
+never_for_device Version = true
+never_for_device ListTree = false
 
 -- what stat tells (POSIX.1-2017, stat: st_ino, the file type, st_nlink, st_size)
 pub record Stat : Type 0 where
@@ -220,6 +253,8 @@ pub data Answer : Type 0 where
   Entries : List DirectoryEntry → Answer
   -- data blocks, meta blocks, need and limit
   Room : ℕ → ℕ → ℕ → ℕ → Answer
+  -- the version of the layout
+  FormatVersion : ℕ → Answer
   Rows : List TreeRow → Answer
 
 -- it isn't refused

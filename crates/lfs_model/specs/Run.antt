@@ -2,7 +2,7 @@
 use Rattle.std.specs.Prelude.{ℕ, ◌<◌, ◌≤◌, ◌+◌, ◌/◌, ◌^◌, ◌≡◌, ◌⊎◌, Bool, true, false, ◌&&◌, IsTrue, Some, List, [], ◌∷◌, drop, slice_get}
 use Rattle.lfs_model.specs.Tree.{State}
 use Rattle.lfs_model.specs.Refusal.{Refusal, NoMemory, Device, Halted, Stuck, Worn}
-use Rattle.lfs_model.specs.Call.{Call, Open, Create, Close, Pread, Pwrite, Truncate, Mkdir, LinkTo, Symlink, Readlink, Unlink, Rmdir, Rename, StatOf, LstatOf, Readdir, Fsync, Sync, Clean, Space, ListTree, Answer, Refuse, is_ok, changes, cleans, commits, may_write, takes_no_memory}
+use Rattle.lfs_model.specs.Call.{Call, Open, Create, Close, Pread, Pwrite, Truncate, Mkdir, LinkTo, Symlink, Readlink, Unlink, Rmdir, Rename, StatOf, LstatOf, Readdir, Fsync, Sync, Clean, Space, Version, ListTree, Answer, Refuse, is_ok, changes, cleans, commits, may_write, takes_no_memory, never_for_device}
 use Rattle.lfs_model.specs.Step.{Step}
 use Rattle.lfs_model.specs.Script.{Line, Plain, Fill, call_of}
 
@@ -27,7 +27,7 @@ IsPastLast N call old = (2 ^ 62 ≤ old.number) × (IsTrue (cleans call) ⊎ (Is
 -- Which refusal may stand in the place of a call's answer, and its cause.
 abbrev pub IsExcused : ℕ → Call → Point → Point → Refusal → Type 0
 IsExcused N call old new NoMemory = takes_no_memory call ≡ false
-IsExcused N call old new Device = (commits call ≡ false) × (old.failures < new.failures)
+IsExcused N call old new Device = (never_for_device call ≡ false) × (old.failures < new.failures)
 IsExcused N call old new Halted = IsTrue old.halted ⊎ (old.failures < new.failures)
 IsExcused N call old new Stuck = IsTrue (changes call) ⊎ IsTrue (cleans call)
 IsExcused N call old new Worn = IsPastLast N call old
@@ -76,6 +76,7 @@ has_word (Plain (Fsync h)) = false
 has_word (Plain Sync) = false
 has_word (Plain Clean) = false
 has_word (Plain Space) = false
+has_word (Plain Version) = false
 has_word (Plain ListTree) = false
 
 -- What one line of a script does: its call; or nothing, where memory for its word was refused.

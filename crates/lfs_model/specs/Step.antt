@@ -10,7 +10,7 @@ use Rattle.lfs_model.specs.PathText.{comps, slash, last, text_refusal}
 use Rattle.lfs_model.specs.Refusal.{Refusal, NoEntry, NotDir, IsDir, Exist, NotEmpty, Inval, NameTooLong, Perm, Busy, BadHandle, TooManyOpen, TooManyLinks, FileTooBig, NoSpace, NoNumber, DirFull}
 use Rattle.lfs_model.specs.Walk.{End, At, Refused, dot, dot_dot, Resolve, Parent}
 use Rattle.lfs_model.specs.Need.{need, data_blocks, meta_blocks}
-use Rattle.lfs_model.specs.Call.{Call, Open, Create, Close, Pread, Pwrite, Truncate, Mkdir, LinkTo, Symlink, Readlink, Unlink, Rmdir, Rename, StatOf, LstatOf, Readdir, Fsync, Sync, Clean, Space, ListTree, Stat, DirectoryEntry, TreeRow, Answer, Refuse, Done, Handle, Count, Data, Text, Status, Entries, Room, Rows}
+use Rattle.lfs_model.specs.Call.{Call, Open, Create, Close, Pread, Pwrite, Truncate, Mkdir, LinkTo, Symlink, Readlink, Unlink, Rmdir, Rename, StatOf, LstatOf, Readdir, Fsync, Sync, Clean, Space, Version, ListTree, Stat, DirectoryEntry, TreeRow, Answer, Refuse, Done, Handle, Count, Data, Text, Status, Entries, Room, FormatVersion, Rows}
 use Rattle.lfs_model.specs.declared.Kind.{Kind}
 use Rattle.lfs_model.specs.declared.Kind.TheVariants as kinds
 
@@ -289,6 +289,7 @@ path_of (Fsync h) = NoPath
 path_of Sync = NoPath
 path_of Clean = NoPath
 path_of Space = NoPath
+path_of Version = NoPath
 path_of ListTree = NoPath
 
 -- the walk of its second path
@@ -313,6 +314,7 @@ second_path_of (Fsync h) = NoPath
 second_path_of Sync = NoPath
 second_path_of Clean = NoPath
 second_path_of Space = NoPath
+second_path_of Version = NoPath
 second_path_of ListTree = NoPath
 
 -- the answer and the state after a call whose paths end at e and f
@@ -337,6 +339,7 @@ outcome N s (Fsync h) e f = checked s (bad_handle s h ∷ []) (Done, s)
 outcome N s Sync e f = (Done, s)
 outcome N s Clean e f = (Done, s)
 outcome N s Space e f = (room N s.tree, s)
+outcome N s Version e f = (FormatVersion s.version, s)
 outcome N s ListTree e f = (Rows (rows_of s.tree), s)
 
 -- From s the call has this answer and leaves this state.
