@@ -5,7 +5,7 @@ ghost use Rattle.lfs_format.specs.Faults.{format_fault_name};
 /// Why a device isn't formatted.
 #[derive(Clone, Copy, Debug, PartialEq, Eq)]
 pub enum FormatFault {
-    /// No volume has so many segments.
+    /// No volume has so many segments, or no layout has this version.
     Inval,
     /// The device has too few sectors.
     TooSmall,

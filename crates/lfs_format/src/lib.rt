@@ -6,4 +6,4 @@ mod image;
 mod making;
 
 pub use fault::FormatFault;
-pub use making::format;
+pub use making::{format, format_version};

@@ -3,7 +3,7 @@ ghost use Rattle.std.specs.Prelude.{◌≡◌, ◌≤◌, ◌<◌, ◌+◌, ◌*
 ghost use Rattle.lfs_model.specs.Checkpoint.{IsSegmentCount, IsVersion};
 ghost use Rattle.lfs_model.specs.Content.{Content, newest};
 ghost use Rattle.lfs_model.specs.Device.{Only, AllLeft, Carries, LeavesOnly, ComesFrom, SameOutside};
-ghost use Rattle.lfs_model.specs.Image.{first_checkpoint, usage_blocks, IsNew};
+ghost use Rattle.lfs_model.specs.Image.{first_checkpoint, new_form, usage_blocks, IsNew};
 ghost use Rattle.lfs_model.specs.Tree.{Dir};
 ghost use Rattle.lfs_model.specs.TreeOf.{Stands};
 ghost use Rattle.lfs_model.specs.Volume.{mounted};
@@ -14,13 +14,10 @@ use crate::image::{
     INODE, MAP, USAGE, checkpoint, map_block, root_block, summary_block, usage_block, usage_count,
 };
 use lfs_device::{DeviceFault, SectorDevice};
-use lfs_layout::is_segment_count;
+use lfs_layout::{is_segment_count, is_version};
 use lfs_root::replace;
 
-/// Makes the device an empty volume of so many segments. It takes no memory and writes the two
-/// checkpoint slots and the first chunk alone. A stop at any moment leaves what stood there, with
-/// slots that may be cleared, or no checkpoint, or the empty volume, and after `Ok` this alone,
-/// laid out as FORMAT.md has it.
+/// Makes the device an empty volume of version 1 and of so many segments, as `format_version` does.
 ///
 /// # Errors
 ///
@@ -55,13 +52,59 @@ pub fn format<D: SectorDevice>(device: &mut D, segments: u32) -> Result<(), Form
         (ComesFrom (D.state device.old) (SameOutside 0 (5 + usage_blocks segments))) }
     ensures carries { Carries (D.state device.old) (D.state device.new) }
 {
-    if !is_segment_count(segments) {
+    format_version(device, segments, 1)
+}
+
+/// Makes the device an empty volume of so many segments, in this version of the layout. It takes no
+/// memory and writes the two checkpoint slots and the first chunk alone. A stop at any moment leaves what stood there, with
+/// slots that may be cleared, or no checkpoint, or the empty volume, and after `Ok` this alone,
+/// laid out as FORMAT.md has it.
+///
+/// # Errors
+///
+/// In this order: `Inval` where the count is no multiple of 8 in 64..=1,024 or the version isn't 1
+/// or 2, `TooSmall` where the device has fewer than 2 + 64 sectors a segment, both with the device
+/// as it was, `Device` where a call of the device failed.
+pub fn format_version<D: SectorDevice>(
+    device: &mut D,
+    segments: u32,
+    version: u32,
+) -> Result<(), FormatFault>
+    ensures inval { IsErrOf result FormatFault.Inval
+        ↔ ¬ (IsSegmentCount segments × IsVersion version) }
+    ensures too_small { IsErrOf result FormatFault.TooSmall ↔ IsSegmentCount segments
+        × IsVersion version × ((D.state device.old).size < 2 + 64 * segments) }
+    ensures refused { IsErrOf result FormatFault.Inval ⊎ IsErrOf result FormatFault.TooSmall
+        → device.new ≡ device.old }
+    ensures failed { IsErrOf result FormatFault.Device
+        → (D.state device.old).failures < (D.state device.new).failures }
+    ensures no_failure { OnOk result
+        ((D.state device.new).failures ≡ (D.state device.old).failures) }
+    ensures image { OnOk result ((D.state device.new).keeps_model
+        → IsNew version segments (D.state device.new).content) }
+    ensures volume { OnOk result ((D.state device.new).keeps_model
+        → Stands (D.state device.new).content (mounted version ((1, Dir (new_form version) []) ∷ []))) }
+    ensures checkpoint { OnOk result ((D.state device.new).keeps_model
+        → newest (D.state device.new).content ≡ Some (first_checkpoint version segments)) }
+    ensures durable { OnOk result ((D.state device.new).keeps_model
+        → Only (D.state device.new).content (D.state device.new)) }
+    ensures others { OnOk result ((D.state device.new).keeps_model
+        → SameOutside 0 (5 + usage_blocks segments) (D.state device.old).content
+        (D.state device.new).content) }
+    ensures any_moment { (D.state device.new).keeps_model
+        → LeavesOnly (D.state device.old) (D.state device.new)
+        (MayStand version segments (D.state device.old)) }
+    ensures touched { LeavesOnly (D.state device.old) (D.state device.new)
+        (ComesFrom (D.state device.old) (SameOutside 0 (5 + usage_blocks segments))) }
+    ensures carries { Carries (D.state device.old) (D.state device.new) }
+{
+    if !is_segment_count(segments) || !is_version(version) {
         return Err(FormatFault::Inval);
     }
     if device.sectors() < 2 + 64 * segments {
         return Err(FormatFault::TooSmall);
     }
-    match write_volume(device, 1, segments) {
+    match write_volume(device, version, segments) {
         Ok(()) => Ok(()),
         Err(DeviceFault) => Err(FormatFault::Device),
     }
