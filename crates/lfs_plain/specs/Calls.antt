@@ -2,9 +2,9 @@
 use Rattle.std.specs.Prelude.{map}
 use Rattle.lfs_model.specs.Call as model
 use Rattle.lfs_plain.specs.declared.call.Call.{Call}
-use Rattle.lfs_plain.specs.declared.call.Call.TheVariants.{Open, Create, Close, Pread, Pwrite, Truncate, Mkdir, Link, Symlink, Readlink, Unlink, Rmdir, Rename, Stat as StatAt, Lstat, Readdir, Fsync, Sync, Clean, Space, Tree}
+use Rattle.lfs_plain.specs.declared.call.Call.TheVariants.{Open, Create, Close, Pread, Pwrite, Truncate, Mkdir, Link, Symlink, Readlink, Unlink, Rmdir, Rename, Stat as StatAt, Lstat, Readdir, Fsync, Sync, Clean, Space, Version, Tree}
 use Rattle.lfs_plain.specs.declared.call.Answer.{Answer}
-use Rattle.lfs_plain.specs.declared.call.Answer.TheVariants.{Refuse, Done, Handle, Count, Data, Text, Status, Entries, Room, Rows}
+use Rattle.lfs_plain.specs.declared.call.Answer.TheVariants.{Refuse, Done, Handle, Count, Data, Text, Status, Entries, Room, FormatVersion, Rows}
 use Rattle.lfs_plain.specs.declared.call.Stat.{Stat}
 use Rattle.lfs_plain.specs.declared.call.Entry.{Entry}
 use Rattle.lfs_plain.specs.declared.call.TreeRow.{TreeRow}
@@ -34,6 +34,7 @@ call_of (Fsync h) = model.Fsync h
 call_of Sync = model.Sync
 call_of Clean = model.Clean
 call_of Space = model.Space
+call_of Version = model.Version
 call_of Tree = model.ListTree
 
 abbrev pub stat_of : Stat → model.Stat
@@ -55,6 +56,7 @@ answer_of (Text b) = model.Text b.items
 answer_of (Status s) = model.Status (stat_of s)
 answer_of (Entries es) = model.Entries (map entry_of es.items)
 answer_of (Room room) = model.Room room.data_blocks room.meta_blocks room.need room.limit
+answer_of (FormatVersion n) = model.FormatVersion n
 answer_of (Rows rows) = model.Rows (map row_of rows.items)
 
 abbrev pub path_of : Path → step.Path

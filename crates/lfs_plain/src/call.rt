@@ -9,7 +9,7 @@ use lfs_model::Kind;
 
 /// A call, with its arguments (POSIX.1-2017: open, close, pread, pwrite, ftruncate, mkdir, link,
 /// symlink, readlink, unlink, rmdir, rename, stat, lstat, readdir, fsync, sync). A path is a list
-/// of bytes; clean, space and tree are own choices.
+/// of bytes; clean, space, version and tree are own choices.
 #[derive(Clone, Copy)]
 pub enum Call<'a> {
     /// The path.
@@ -40,6 +40,7 @@ pub enum Call<'a> {
     Sync,
     Clean,
     Space,
+    Version,
     Tree,
 }
 
@@ -118,5 +119,7 @@ pub enum Answer {
     Status(Stat),
     Entries(Vec<Entry>),
     Room(Room),
+    /// The version of the layout.
+    FormatVersion(u8),
     Rows(Vec<TreeRow>),
 }

@@ -1,7 +1,10 @@
 //! A plain volume between two calls.
-ghost use Rattle.std.specs.Prelude.{◌≡◌, IfOk, IfErr, IsSomeAnd, MatchResult};
+ghost use Rattle.std.specs.Prelude.{◌≡◌, [], ◌∷◌, IfOk, IfErr, IsSomeAnd, MatchResult};
+ghost use Rattle.lfs_model.specs.Image.{new_form};
 ghost use Rattle.lfs_model.specs.Sound.{NamesGive};
 ghost use Rattle.lfs_model.specs.Step as step;
+ghost use Rattle.lfs_model.specs.Tree.{Dir};
+ghost use Rattle.lfs_model.specs.Volume.{mounted};
 ghost use Rattle.lfs_plain.specs.Answered.{IsAnswered};
 ghost use Rattle.lfs_plain.specs.Calls.{answer_of, call_of};
 ghost use Rattle.lfs_plain.specs.Ends.{step_end};
@@ -45,14 +48,14 @@ impl Model for PlainState {
 }
 
 impl PlainState {
-    /// A volume as `format` makes it.
-    pub fn new(alloc: Global) -> Result<PlainState, AllocError>
-        ensures { IfOk result (λ s. s ≡ plain.fresh) }
+    /// A volume as `format_version` makes it, in this version.
+    pub fn new(alloc: Global, version: u8) -> Result<PlainState, AllocError>
+        ensures { IfOk result (λ s. s ≡ mounted version ((1, Dir (new_form version) []) ∷ [])) }
     {
         Ok(PlainState {
-            tree: PlainTree::new(alloc)?,
+            tree: PlainTree::new(alloc, version.saturating_sub(1))?,
             handles: Vec::new(alloc),
-            version: 1,
+            version,
         })
     }
 
@@ -90,6 +93,7 @@ impl PlainState {
             Call::Fsync(handle) => Ok(self.syncs(handle)),
             Call::Sync | Call::Clean => Ok(Answer::Done),
             Call::Space => self.room(alloc, segments),
+            Call::Version => Ok(Answer::FormatVersion(self.version)),
             Call::Tree => self.rows(alloc),
         }
     }

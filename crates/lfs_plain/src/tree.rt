@@ -1,5 +1,5 @@
 //! A tree as a list of nodes, which contracts see as the model's tree.
-ghost use Rattle.std.specs.Prelude.{◌≡◌, Option, Some, None, MatchOption, IfOk, length, unwrap_or, option_map, ◌==◌, find as first_that};
+ghost use Rattle.std.specs.Prelude.{◌≡◌, Option, Some, None, MatchOption, IfOk, [], ◌∷◌, length, unwrap_or, option_map, ◌==◌, find as first_that};
 ghost use Rattle.std.specs.List.{list_any};
 ghost use Rattle.lfs_model.specs.Tree as model;
 ghost use Rattle.lfs_model.specs.Plain as plain;
@@ -7,7 +7,7 @@ ghost use Rattle.lfs_model.specs.Step as step;
 ghost use Rattle.lfs_model.specs.Need as need;
 ghost use Rattle.lfs_model.specs.Walk.{dot, dot_dot};
 ghost use Rattle.lfs_plain.specs.Pieces.{seen_of};
-ghost use Rattle.lfs_model.specs.Tree.{node, entry, names_in, byte_cmp};
+ghost use Rattle.lfs_model.specs.Tree.{Dir, node, entry, names_in, byte_cmp};
 ghost use Rattle.std.specs.FinMap.{find};
 ghost use Rattle.std.specs.Ordering.{nat_cmp};
 ghost use Rattle.lfs_plain.specs.Meaning.{node_of, tree_of, names_of};
@@ -65,13 +65,13 @@ impl Model for PlainTree {
 }
 
 impl PlainTree {
-    /// An empty root, number 1.
-    pub fn new(alloc: Global) -> Result<PlainTree, AllocError>
-        ensures { IfOk result (λ t. t ≡ plain.fresh.tree) }
+    /// An empty root of this form, number 1.
+    pub fn new(alloc: Global, form: u8) -> Result<PlainTree, AllocError>
+        ensures { IfOk result (λ t. t ≡ (1, Dir form []) ∷ []) }
     {
         let mut nodes = Vec::new(alloc);
         let names = Vec::new(alloc);
-        let node = Node::Dir(Directory { form: 0, names });
+        let node = Node::Dir(Directory { form, names });
         nodes.push(Numbered { number: 1, node })?;
         Ok(PlainTree { nodes })
     }
