@@ -2,7 +2,7 @@
 use Rattle.std.proofs.Common.{◌≡◌, ◌≤◌, ◌+◌, ℕ, Bool, true, false, ◌||◌, List, length, refl, sym, ◌∙◌, ap, subst, inl, inr, arith}
 use Rattle.std.specs.Prelude.{IsTrue}
 use Rattle.lfs_model.specs.declared.Order.{Order}
-use Rattle.lfs_model.specs.Call.{Answer, Call, Open, Create, Close, Pread, Pwrite, Truncate, Mkdir, LinkTo, Symlink, Readlink, Unlink, Rmdir, Rename, StatOf, LstatOf, Readdir, Fsync, Sync, Clean, Space, ListTree, Refuse, changes, cleans, commits, is_ok, may_write, takes_no_memory}
+use Rattle.lfs_model.specs.Call.{Answer, Call, Open, Create, Close, Pread, Pwrite, Truncate, Mkdir, LinkTo, Symlink, Readlink, Unlink, Rmdir, Rename, StatOf, LstatOf, Readdir, Fsync, Sync, Clean, Space, Version, ListTree, Refuse, changes, cleans, commits, is_ok, may_write, takes_no_memory, never_for_device}
 use Rattle.lfs_model.specs.Device.{DeviceState}
 use Rattle.lfs_model.specs.Refusal.{Refusal, NoMemory, Halted, Stuck}
 use Rattle.lfs_store.specs.log.Held.{Held, Reads}
@@ -63,7 +63,33 @@ change_orders (Fsync h) segments change = absurd (cc)
 change_orders Sync segments change = absurd (cc)
 change_orders Clean segments change = absurd (cc)
 change_orders Space segments change = absurd (cc)
+change_orders Version segments change = absurd (cc)
 change_orders ListTree segments change = absurd (cc)
+
+-- a call that may be refused because a call of the device failed commits nothing
+pub commits_none : (call : Call) → never_for_device call ≡ false → commits call ≡ false
+commits_none (Open p) free = refl
+commits_none (Create p) free = refl
+commits_none (Close h) free = refl
+commits_none (Pread h off n) free = refl
+commits_none (Pwrite h off w) free = refl
+commits_none (Truncate h n) free = refl
+commits_none (Mkdir p) free = refl
+commits_none (LinkTo p q) free = refl
+commits_none (Symlink text p) free = refl
+commits_none (Readlink p) free = refl
+commits_none (Unlink p) free = refl
+commits_none (Rmdir p) free = refl
+commits_none (Rename p q) free = refl
+commits_none (StatOf p) free = refl
+commits_none (LstatOf p) free = refl
+commits_none (Readdir p) free = refl
+commits_none (Fsync h) free = absurd (cc)
+commits_none Sync free = absurd (cc)
+commits_none Clean free = refl
+commits_none Space free = refl
+commits_none Version free = refl
+commits_none ListTree free = refl
 
 -- ---- calls
 

@@ -1,6 +1,6 @@
 -- A sync that is done, and drafts that were to be staged and weren't, as steps of the model.
 use Rattle.std.proofs.Common.{◌≡◌, ◌≤◌, ◌^◌, ◌<◌, ◌+◌, ◌/◌, ℕ, Bool, true, false, refl, sym, subst, inl, inr, cond, arith}
-use Rattle.lfs_model.specs.Call.{Call, Done, Refuse, Sync, changes, commits, takes_no_memory}
+use Rattle.lfs_model.specs.Call.{Call, Done, Refuse, Sync, changes, takes_no_memory, never_for_device}
 use Rattle.lfs_model.specs.Device.{DeviceState, IsLawful}
 use Rattle.lfs_model.specs.Refusal.{Device, NoMemory}
 use Rattle.lfs_store.specs.memory.declared.changes.Changes.{Changes}
@@ -48,7 +48,7 @@ module _ {D : Type 0} (state : D → DeviceState) (old new : Mounted D) (call : 
       (fits k m0 m p.state (declines.carries.kept_before keeps) is, inr (NoMemory, refl, takes, refl)))
 
   -- a call of the device failed
-  pub accept_fault_serves : changes call ≡ true → commits call ≡ false → IsAcceptFault state old.log old.saved new.log c → Serves state old new call (Refuse Device)
+  pub accept_fault_serves : changes call ≡ true → never_for_device call ≡ false → IsAcceptFault state old.log old.saved new.log c → Serves state old new call (Refuse Device)
   accept_fault_serves change free fault = declines_by state old new call lawful after declines.carries declines.segments was later c rest declines low Device (λ e. cc)
       (write_behaves state old new call (Refuse Device) (change_writes call change) rest.table (λ e. cc) (λ never e. absurd (cc)) bounded) (λ p keeps at k m0 m is. (
       let fit = fits k m0 m p.state (declines.carries.kept_before keeps) is in

@@ -5,7 +5,7 @@ use Rattle.std.specs.Ordering.{nat_cmp}
 use Rattle.std.specs.FinMap.{put}
 use Rattle.lfs_model.specs.declared.Kind.TheVariants as kinds
 use Rattle.lfs_model.specs.Bytes.{AreBytes}
-use Rattle.lfs_model.specs.Call.{Answer, AreArguments, Call, Create, Done, Handle, Mkdir, Refuse, Symlink, changes, cleans, commits, is_ok, takes_no_memory}
+use Rattle.lfs_model.specs.Call.{Answer, AreArguments, Call, Create, Done, Handle, Mkdir, Refuse, Symlink, changes, cleans, is_ok, takes_no_memory, never_for_device}
 use Rattle.lfs_model.specs.Checkpoint.{IsVersion}
 use Rattle.lfs_model.specs.Image.{new_form}
 use Rattle.lfs_model.specs.Inode.{IsForm, IsSize}
@@ -94,7 +94,7 @@ pub record NewCall (version N : ℕ) (p : List ℕ) (d : ℕ) : Type 0 where
   pub sized : IsVersion version → FitsHeader (kind_of_new kind) (form_of_new kind) (first_links (kind_of_new kind)) (length (text_of_new kind))
   pub short : length (text_of_new kind) ≤ 1023
   pub changing : changes call ≡ true
-  pub uncommitted : commits call ≡ false
+  pub uncommitted : never_for_device call ≡ false
   pub unclean : cleans call ≡ false
   pub remembering : takes_no_memory call ≡ false
 

@@ -1,7 +1,7 @@
 -- A path that a call walks after it has read.
 use Rattle.std.proofs.Common.{◌≡◌, ◌<◌, ℕ, true, false, List, Option, sym, ◌∙◌, subst, arith}
 use Rattle.lfs_model.specs.Bytes.{AreBytes}
-use Rattle.lfs_model.specs.Call.{Call, Refuse, cleans, commits, takes_no_memory}
+use Rattle.lfs_model.specs.Call.{Call, Refuse, cleans, takes_no_memory, never_for_device}
 use Rattle.lfs_model.specs.Checkpoint.{CheckpointValue}
 use Rattle.lfs_model.specs.Device.{DeviceState, IsLawful}
 use Rattle.lfs_model.specs.Refusal as model
@@ -83,7 +83,7 @@ module _ {D : Type 0} (state : D → DeviceState) (lawful : (d : D) → IsLawful
   }
 
   -- a path that isn't walked to its end
-  pub later_refused : (W : Tree → End → Type 0) (call : Call) → commits call ≡ false
+  pub later_refused : (W : Tree → End → Type 0) (call : Call) → never_for_device call ≡ false
       → cleans call ≡ false → takes_no_memory call ≡ false
       → ((k : CheckpointValue) (m0 m : LogMap) (s : State)
       → (state next.store.log.device).keeps_model → IsIn state v k m0 m s → (r : Refusal)

@@ -1,6 +1,6 @@
 -- The refusals of the rule of a new entry, for any call that asks for one.
 use Rattle.std.proofs.Common.{not, ◌&&◌, ◌≡◌, ◌<◌, ◌≤◌, ◌*◌, ◌||◌, ℕ, Bool, true, false, List, length, Option, Some, None, sym, ◌∙◌, ap, subst, ⊎_elim, arith}
-use Rattle.lfs_model.specs.Call.{Call, Refuse, cleans, commits}
+use Rattle.lfs_model.specs.Call.{Call, Refuse, cleans, never_for_device}
 use Rattle.lfs_model.specs.Checkpoint.{CheckpointValue}
 use Rattle.lfs_model.specs.Device.{DeviceState, IsLawful}
 use Rattle.lfs_model.specs.PathText.{slash}
@@ -39,7 +39,7 @@ pub record NewEntryCall {D : Type 0} (state : D → DeviceState) (v : Mounted D)
   pub checks : (k : CheckpointValue) (m0 m : LogMap) (s : State)
       → (state old.store.log.device).keeps_model → IsIn state v k m0 m s
       → Parent s.tree p (At d) → ChecksNew (segments_of v) s p d call is_mkdir
-  pub uncommitted : commits call ≡ false
+  pub uncommitted : never_for_device call ≡ false
   pub unclean : cleans call ≡ false
 
 module _ {D : Type 0} (state : D → DeviceState) (lawful : (d : D) → IsLawful (state d))

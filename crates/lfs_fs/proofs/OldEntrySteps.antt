@@ -1,6 +1,6 @@
 -- The calls that take an entry that a directory has, exit by exit of the rule of an old entry.
 use Rattle.std.proofs.Common.{◌≡◌, ℕ, Bool, true, false, not, ◌&&◌, ◌||◌, List, [], ◌∷◌, refl, ◌∙◌, ap}
-use Rattle.lfs_model.specs.Call.{Answer, Call, Refuse, cleans, commits}
+use Rattle.lfs_model.specs.Call.{Answer, Call, Refuse, cleans, never_for_device}
 use Rattle.lfs_model.specs.PathText.{slash}
 use Rattle.lfs_model.specs.Refusal.{NameTooLong, NoEntry, NotDir, Perm}
 use Rattle.lfs_model.specs.Sound.{Sound}
@@ -21,7 +21,7 @@ pub record ChecksOld (N : ℕ) (s : State) (p : List ℕ) (d : ℕ) (call : Call
 -- The same in each state of a volume.
 pub record OldCall (N : ℕ) (p : List ℕ) (d : ℕ) (call : Call) : Type 0 where
   pub checks : (s : State) → Sound N s → Parent s.tree p (At d) → ChecksOld N s p d call
-  pub uncommitted : commits call ≡ false
+  pub uncommitted : never_for_device call ≡ false
   pub unclean : cleans call ≡ false
 
 module _ (N : ℕ) (s : State) (p : List ℕ) (d : ℕ) (call : Call) (e : ChecksOld N s p d call) where

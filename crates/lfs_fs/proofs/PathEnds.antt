@@ -2,7 +2,7 @@
 use Rattle.std.proofs.Common.{◌≡◌, ◌≢◌, ◌≤◌, ℕ, Bool, true, false, List, map, None, Result, Ok, Err, Vec, Global, refl, sym, ◌∙◌, ap, subst, inl, inr, ⊎_elim, arith}
 use Rattle.std.specs.Prelude.{IfErr, IfOk}
 use Rattle.lfs_model.specs.Call as call
-use Rattle.lfs_model.specs.Call.{Call, Entries, Readdir, Readlink, Refuse, Status, Text, cleans, commits, takes_no_memory}
+use Rattle.lfs_model.specs.Call.{Call, Entries, Readdir, Readlink, Refuse, Status, Text, cleans, takes_no_memory, never_for_device}
 use Rattle.lfs_model.specs.Checkpoint.{CheckpointValue}
 use Rattle.lfs_model.specs.Device.{DeviceState, IsLawful}
 use Rattle.lfs_model.specs.Refusal.{Refusal, Inval, NotDir}
@@ -34,7 +34,7 @@ use Rattle.lfs_fs.specs.Volume.{IsIn, Serves, segments_of}
 use Rattle.lfs_fs.proofs.CallSteps.{stat_step}
 use Rattle.lfs_fs.proofs.Files.{no_header_none, resolved_there}
 use Rattle.lfs_fs.proofs.Holding.{headers_of_volume, map_of_volume}
-use Rattle.lfs_fs.proofs.PathSteps.{readdir_done, readdir_no_directory, readlink_done, readlink_no_link, stat_changes, stat_cleans, stat_commits}
+use Rattle.lfs_fs.proofs.PathSteps.{readdir_done, readdir_no_directory, readlink_done, readlink_no_link, stat_changes, stat_cleans, stat_commits, stat_may_fail}
 use Rattle.lfs_fs.proofs.ReadingEnds.{failed_serves, header_there, lacks_memory, lacks_object, step_serves}
 use Rattle.lfs_fs.proofs.Serving.{still_in}
 use Rattle.lfs_fs.proofs.Told.{memory_serves}
@@ -99,7 +99,7 @@ empty_again first empty = subst (λ d. IsNoChange d.changes) (sym first.draft) e
 module _ {D : Type 0} (state : D → DeviceState) (old mid : Fs D) (lawful : IsLawful (state old.store.log.device)) (was : old.store.log.halted ≡ false) (empty : IsNoChange old.store.draft.changes)
     (first : OnlyReads state old mid) where
   -- a path that isn't walked to its end
-  pub path_without : (W : Tree → End → Type 0) (call : Call) → commits call ≡ false → cleans call ≡ false → takes_no_memory call ≡ false
+  pub path_without : (W : Tree → End → Type 0) (call : Call) → never_for_device call ≡ false → cleans call ≡ false → takes_no_memory call ≡ false
       → ((N : ℕ) (s : State) (r : Refusal) → W s.tree (Refused r) → Step N s call (Refuse r) s)
       → (fault : WalkFault) (e : FsError) → e ≡ error_of_walk fault → EndsRefused state old.store.log mid.store.log old.store.draft.changes W fault
       → (fault ≡ walk.Log log.Halted → old.store.log.halted ≡ true) → (fault ≡ walk.Log log.Full → ⊥) → Serves state (seen old) (seen mid) call (Refuse (refusal_of e))
@@ -124,7 +124,7 @@ module _ {D : Type 0} (state : D → DeviceState) (old mid : Fs D) (lawful : IsL
         → IfOk r (λ stat. TellsStat state mid new n stat) → IfErr r (λ fault. LacksObject state mid new n fault) → Serves state (seen old) (seen new) (stat_call follow p) (answer_by (λ stat. Status (status_of stat)) r)
     stat_ends new next (Ok stat) tells missing =
         step_serves state (seen old) (seen new) (stat_call follow p) lawful both.still was (Status (status_of stat)) tt (stat_changes follow p) (stat_cleans follow p) (stat_commits follow p) (λ k m0 m s keeps is. (
-        let here = header_there state old new (stat_call follow p) lawful was empty both (stat_commits follow p) n told.head told.there k m0 m s keeps is in
+        let here = header_there state old new (stat_call follow p) lawful was empty both (stat_may_fail follow p) n told.head told.there k m0 m s keeps is in
         subst (λ (x : call.Stat). Step (segments_of (seen old)) s (stat_call follow p) (Status x) s) (λ i. record { number = sym told.number i; kind = sym told.kind i; links = sym told.links i; size = sym told.size i })
         (stat_step (segments_of (seen old)) m s (map_of_volume state (seen old) k m0 m s is) p follow n (walks_in p follow n walk k m0 m s (next.still.reads.looks.carries.kept_before keeps) is) (as_header told.head) here
         (headers_of_volume state (seen old) k m0 m s is n (as_header told.head) here))))
@@ -135,7 +135,7 @@ module _ {D : Type 0} (state : D → DeviceState) (old mid : Fs D) (lawful : IsL
         told : TellsStat state old new n stat
         told = tells_again state old mid new first n stat tells
     stat_ends new next (Err fault) tells missing =
-        lacks_object state old new (stat_call follow p) lawful was empty (reads_again state old mid new first lawful next) (stat_commits follow p) n fault
+        lacks_object state old new (stat_call follow p) lawful was empty (reads_again state old mid new first lawful next) (stat_may_fail follow p) n fault
         (λ k m0 m s keeps is. walked_has p follow n walk k m0 m s (next.still.reads.looks.carries.kept_before keeps) is) (lacks_object_again state old mid new first n fault missing)
 
   -- ---- readlink

@@ -4,7 +4,7 @@ use Rattle.std.specs.Prelude.{if◌then◌else◌, option_map, unwrap_or}
 use Rattle.std.specs.List.{list_any}
 use Rattle.std.specs.Ordering.{nat_cmp}
 use Rattle.std.specs.FinMap.{put}
-use Rattle.lfs_model.specs.Call.{Open, Create, Mkdir, Symlink, Readlink, Readdir, Clean, Sync, Space, ListTree, Answer, Refuse, Handle, Status, Text, Entries, Done, Rows, changes, cleans, commits, takes_no_memory}
+use Rattle.lfs_model.specs.Call.{Open, Create, Mkdir, Symlink, Readlink, Readdir, Clean, Sync, Space, Version, ListTree, Answer, Refuse, Handle, Status, Text, Entries, Done, FormatVersion, Rows, changes, cleans, commits, takes_no_memory, never_for_device}
 use Rattle.lfs_model.specs.Refusal.{Refusal, Inval, IsDir, NameTooLong, NoEntry, NotDir, TooManyOpen}
 use Rattle.lfs_model.specs.PathText.{text_refusal}
 use Rattle.lfs_model.specs.Sound.{NamesGive}
@@ -27,6 +27,9 @@ clean_done N s = record { first_end = At 1; second_end = At 1; first = refl; sec
 pub space_done : (N : ℕ) (s : State) → Step N s Space (room N s.tree) s
 space_done N s = record { first_end = At 1; second_end = At 1; first = refl; second = refl; answer = refl; state = refl }
 
+pub version_done : (N : ℕ) (s : State) → Step N s Version (FormatVersion s.version) s
+version_done N s = record { first_end = At 1; second_end = At 1; first = refl; second = refl; answer = refl; state = refl }
+
 pub tree_done : (N : ℕ) (s : State) → Step N s ListTree (Rows (rows_of s.tree)) s
 tree_done N s = record { first_end = At 1; second_end = At 1; first = refl; second = refl; answer = refl; state = refl }
 
@@ -42,6 +45,10 @@ stat_cleans false p = refl
 pub stat_commits : (follow : Bool) (p : List ℕ) → commits (stat_call follow p) ≡ false
 stat_commits true p = refl
 stat_commits false p = refl
+
+pub stat_may_fail : (follow : Bool) (p : List ℕ) → never_for_device (stat_call follow p) ≡ false
+stat_may_fail true p = refl
+stat_may_fail false p = refl
 
 pub stat_memory : (follow : Bool) (p : List ℕ) → takes_no_memory (stat_call follow p) ≡ false
 stat_memory true p = refl

@@ -1,6 +1,6 @@
 -- The ends of the calls that read, and what a call that begins makes of its end.
 use Rattle.std.proofs.Common.{◌≡◌, ◌≢◌, ◌<◌, ◌≤◌, ◌+◌, ◌-◌, ◌*◌, ℕ, Bool, true, false, ◌&&◌, List, length, Some, None, Result, Ok, Err, Vec, Global, refl, sym, ◌∙◌, ap, subst, inl, inr, ⊎_elim, arith, ◌⊎◌}
-use Rattle.lfs_model.specs.Call.{Answer, Call, Data, Pread, Refuse, Room, Space, changes, cleans, commits, is_ok, takes_no_memory}
+use Rattle.lfs_model.specs.Call.{Answer, Call, Data, FormatVersion, Pread, Refuse, Room, Space, Version, changes, cleans, commits, is_ok, takes_no_memory, never_for_device}
 use Rattle.lfs_model.specs.Checkpoint.{CheckpointValue}
 use Rattle.lfs_model.specs.Device.{DeviceState, IsLawful}
 use Rattle.lfs_model.specs.Refusal.{BadHandle, Device, Halted, Inval}
@@ -42,9 +42,10 @@ use Rattle.lfs_fs.proofs.CallSteps.{never_worn, pread_clipped}
 use Rattle.lfs_fs.proofs.Ending.{not_acknowledged}
 use Rattle.lfs_fs.proofs.Files.{opened_file}
 use Rattle.lfs_fs.proofs.HandleSteps.{read_bad_handle, read_too_much}
-use Rattle.lfs_fs.proofs.Holding.{map_of_volume}
+use Rattle.lfs_fs.proofs.Holding.{map_of_volume, version_of_volume}
+use Rattle.lfs_fs.proofs.PathSteps.{version_done}
 use Rattle.lfs_fs.proofs.Serving.{served_halted, served_still}
-use Rattle.lfs_fs.proofs.Told.{memory_serves, space_serves}
+use Rattle.lfs_fs.proofs.Told.{memory_serves, space_serves, told_serves}
 
 module _ {D : Type 0} (state : D → DeviceState) where
   -- a volume is still where nothing is read
@@ -87,6 +88,11 @@ module _ {D : Type 0} (state : D → DeviceState) where
       need_is : mid.store.log.totals.data_blocks + 7 * mid.store.log.totals.meta_blocks + 720 ≡ r.need
       need_is = omega (arith, need, blocks, others)
 
+  pub begun_version : (old mid : Fs D) → IsLawful (state mid.store.log.device) → Begins old mid → (version : ℕ) → version ≡ mid.store.log.version → Serves state (seen old) (seen mid) Version (FormatVersion version)
+  begun_version old mid lawful begun version told = begun_serves old mid (seen mid) Version (FormatVersion version) begun
+      (told_serves state (seen mid) (seen mid) Version lawful (still_none (seen mid)) (begun_running old mid begun) (FormatVersion version) tt refl refl refl (λ k m0 m s keeps is.
+      subst (λ (n : ℕ). Step (segments_of (seen mid)) s Version (FormatVersion n) s) (version_of_volume state (seen mid) k m0 m s is ∙ sym told) (version_done (segments_of (seen mid)) s)))
+
   -- ---- bytes of an object
 
   module _ (old mid new : Fs D) (first : OnlyReads state old mid) (n : ℕ) where
@@ -126,14 +132,14 @@ module _ {D : Type 0} (state : D → DeviceState) (old new : Mounted D) (call : 
       none false off e = cc
 
   -- a call of the device failed
-  pub failed_serves : commits call ≡ false → AfterEach (λ m s. (state old.log.device).failures < (state new.log.device).failures) → Serves state old new call (Refuse Device)
+  pub failed_serves : never_for_device call ≡ false → AfterEach (λ m s. (state old.log.device).failures < (state new.log.device).failures) → Serves state old new call (Refuse Device)
   failed_serves free rises = served_still state old new call (Refuse Device) lawful still was tt (λ p keeps here k m0 m is. (
       let rose = rises k m0 m p.state keeps is in
       inr (Device, refl, (free, (let f = here.failures in omega (arith, f, rose))), refl)))
       (not_acknowledged call Device)
 
   -- memory was refused, or a call of the device failed
-  pub fails_serves : commits call ≡ false → takes_no_memory call ≡ false → (fault : FsError)
+  pub fails_serves : never_for_device call ≡ false → takes_no_memory call ≡ false → (fault : FsError)
       → (fault ≡ error.NoMemory) ⊎ ((fault ≡ error.Device) × AfterEach
       (λ m s. (state old.log.device).failures < (state new.log.device).failures))
       → Serves state old new call (Refuse (refusal_of fault))
@@ -144,7 +150,7 @@ module _ {D : Type 0} (state : D → DeviceState) (old new : Mounted D) (call : 
       (sym failed.0) (failed_serves free failed.1))
       why
 
-  pub none_serves : commits call ≡ false → takes_no_memory call ≡ false → (fault : FsError)
+  pub none_serves : never_for_device call ≡ false → takes_no_memory call ≡ false → (fault : FsError)
       → (fault ≡ error.NoMemory) ⊎ ((fault ≡ error.Device) × IsReadFault state old.log new.log)
       → Serves state old new call (Refuse (refusal_of fault))
   none_serves free takes fault why = fails_serves free takes fault (⊎_elim inl
@@ -153,7 +159,7 @@ module _ {D : Type 0} (state : D → DeviceState) (old new : Mounted D) (call : 
 -- ---- where an object is there
 
 module _ {D : Type 0} (state : D → DeviceState) (old new : Fs D) (call : Call) (lawful : IsLawful (state old.store.log.device)) (was : old.store.log.halted ≡ false) (empty : IsNoChange old.store.draft.changes)
-    (reads : OnlyReads state old new) (free : commits call ≡ false) where
+    (reads : OnlyReads state old new) (free : never_for_device call ≡ false) where
   abbrev pub InEnd : (LogMap → State → Type 0) → Type 0
   InEnd P = AfterEach state (seen old) (seen new) call lawful reads.still was P
 

@@ -1,6 +1,6 @@
 -- Calls that only read, a call that opens a file, and calls that a fault ends, as steps of the model.
 use Rattle.std.proofs.Common.{◌≡◌, ◌+◌, ◌*◌, Bool, true, false, ◌&&◌, refl, inl, inr, arith}
-use Rattle.lfs_model.specs.Call.{Answer, Call, Refuse, Room, Space, changes, cleans, commits, is_ok, takes_no_memory}
+use Rattle.lfs_model.specs.Call.{Answer, Call, Refuse, Room, Space, changes, cleans, commits, is_ok, takes_no_memory, never_for_device}
 use Rattle.lfs_model.specs.Device.{DeviceState, IsLawful}
 use Rattle.lfs_model.specs.Refusal.{Device, NoMemory, Refusal}
 use Rattle.lfs_model.specs.Step.{Step}
@@ -17,7 +17,7 @@ use Rattle.lfs_fs.proofs.Serving.{served_by, served_still}
 
 module _ {D : Type 0} (state : D → DeviceState) (old new : Mounted D) (call : Call) (lawful : IsLawful (state old.log.device)) (still : IsStill state old new) (was : old.log.halted ≡ false) where
   -- a call of the device failed
-  pub fault_serves : commits call ≡ false → IsReadFault state old.log new.log → Serves state old new call (Refuse Device)
+  pub fault_serves : never_for_device call ≡ false → IsReadFault state old.log new.log → Serves state old new call (Refuse Device)
   fault_serves free fault = served_still state old new call (Refuse Device) lawful still was tt (λ p keeps here k m0 m is. (
       let rose = fault k m0 m keeps is.stores.holds in
       inr (Device, refl, (free, (let f = here.failures in omega (arith, f, rose))), refl)))

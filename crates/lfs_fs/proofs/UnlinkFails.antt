@@ -1,7 +1,7 @@
 -- A name that wasn't drafted out of its directory: memory was refused, or a call of the device failed.
 use Rattle.std.proofs.Common.{◌≡◌, ◌≢◌, ◌<◌, ℕ, true, false, List, Option, Some, None, sym, ◌∙◌, ap, subst, ⊎_elim, arith, inl, inr}
 use Rattle.std.specs.FinMap.{find}
-use Rattle.lfs_model.specs.Call.{Call, Refuse, commits, takes_no_memory}
+use Rattle.lfs_model.specs.Call.{Call, Refuse, takes_no_memory, never_for_device}
 use Rattle.lfs_model.specs.Checkpoint.{CheckpointValue}
 use Rattle.lfs_model.specs.Device.{DeviceState, IsLawful}
 use Rattle.lfs_model.specs.Stands.{LogMap}
@@ -80,7 +80,7 @@ module _ {D : Type 0} (state : D → DeviceState) (lawful : (d : D) → IsLawful
         omega (arith, rose, before)
 
   -- nothing was drafted
-  pub undrafted_serves : (call : Call) → commits call ≡ false → takes_no_memory call ≡ false
+  pub undrafted_serves : (call : Call) → never_for_device call ≡ false → takes_no_memory call ≡ false
       → (new : Fs D) → seen new ≡ seen failed → (fault : FsError)
       → FailsUnlink state mid failed d head n l.name.now fault
       → Serves state v (seen new) call (Refuse (refusal_of fault))

@@ -1,6 +1,6 @@
 -- Walks of a path over a volume's tree, and the ends of calls that they end.
 use Rattle.std.proofs.Common.{◌≡◌, true, false, refl, sym, ◌∙◌, ap, subst, inl, inr, arith}
-use Rattle.lfs_model.specs.Call.{Call, Refuse, cleans, commits, takes_no_memory}
+use Rattle.lfs_model.specs.Call.{Call, Refuse, cleans, takes_no_memory, never_for_device}
 use Rattle.lfs_model.specs.Checkpoint.{CheckpointValue}
 use Rattle.lfs_model.specs.Device.{DeviceState, IsLawful}
 use Rattle.lfs_model.specs.Refusal as refusals
@@ -48,7 +48,7 @@ module _ {D : Type 0} (state : D → DeviceState) (old new : Mounted D) (lawful 
   walked e walks k m0 m s keeps is = subst (λ (t : Tree). W t e) (tree_drafted state old k m0 m s is c none) (walks k m0 m keeps is.stores.holds (walked_drafted state old k m0 m s is c none))
 
   -- a walk without an end refuses the call
-  module _ (call : Call) (free : commits call ≡ false) (unclean : cleans call ≡ false) (memory : takes_no_memory call ≡ false)
+  module _ (call : Call) (free : never_for_device call ≡ false) (unclean : cleans call ≡ false) (memory : takes_no_memory call ≡ false)
       (steps : (k : CheckpointValue) (m0 m : LogMap) (s : State) → (state new.log.device).keeps_model → IsIn state old k m0 m s
       → (r : Refusal) → W s.tree (Refused r) → Step (segments_of old) s call (Refuse r) s) where
     walk_refused : (r : Refusal) → IsOrdinary (Refuse r) → WalksTo state old.log new.log c W (Refused r) → Serves state old new call (Refuse r)

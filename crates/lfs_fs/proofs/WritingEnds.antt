@@ -3,7 +3,7 @@ use Rattle.std.proofs.Common.{◌≡◌, ◌<◌, ◌≤◌, ◌+◌, ◌/◌, �
 use Rattle.std.specs.Prelude.{IsTrue, Result, OnOk, IfErr}
 use Rattle.std.specs.Ordering.{nat_cmp}
 use Rattle.std.specs.FinMap.{find}
-use Rattle.lfs_model.specs.Call.{Call, Answer, Refuse, changes, commits, is_ok, may_write, takes_no_memory, cleans}
+use Rattle.lfs_model.specs.Call.{Call, Answer, Refuse, changes, is_ok, may_write, takes_no_memory, cleans, never_for_device}
 use Rattle.lfs_model.specs.Checkpoint.{CheckpointValue}
 use Rattle.lfs_model.specs.Crash.{StandsForOn}
 use Rattle.lfs_model.specs.Device.{AllLeft, Carries, DeviceState, IsLawful, LeavesOnly}
@@ -39,7 +39,7 @@ use Rattle.lfs_fs.specs.Handles.{handles_of}
 use Rattle.lfs_fs.specs.Refusals.{refusal_of}
 use Rattle.lfs_fs.specs.Seen.{LacksHeader, answer_by, seen, OnlyReads}
 use Rattle.lfs_fs.specs.Volume.{Behaves, CommitsFew, IsIn, IsStill, Mounted, Serves, TellsAtMost, segments_of}
-use Rattle.lfs_fs.proofs.Behaving.{IsBounded, IsOrdinary, change_bounded, change_writes, not_both, not_halted, ok_refuses_none, still_behaves, write_behaves}
+use Rattle.lfs_fs.proofs.Behaving.{IsBounded, IsOrdinary, change_bounded, change_writes, commits_none, not_both, not_halted, ok_refuses_none, still_behaves, write_behaves}
 use Rattle.lfs_fs.proofs.Declined.{accept_fault_serves, no_room_serves}
 use Rattle.lfs_fs.proofs.Ending.{InEach, IsRest, not_acknowledged, accepts_by}
 use Rattle.lfs_fs.proofs.Files.{IsFileOf, opened_file, IsMapOf}
@@ -224,7 +224,7 @@ module _ {D : Type 0} (state : D → DeviceState) (lawful : (d : D) → IsLawful
       subst (λ (t : BlockTotals). AreTotals m t) (sym (only.drafted ∙ drafted)) before
 
   -- no draft is made: memory was refused, or a call of the device failed
-  pub undrafted_serves : (old new : Mounted D) (call : Call) → old.log.halted ≡ false → IsStill state old new → commits call ≡ false → takes_no_memory call ≡ false
+  pub undrafted_serves : (old new : Mounted D) (call : Call) → old.log.halted ≡ false → IsStill state old new → never_for_device call ≡ false → takes_no_memory call ≡ false
       → (fault : StoreFault) → ((fault ≡ store.NoMemory → ⊥) → IsReadFault state old.log new.log) → (fault ≡ store.Log log.Halted → old.log.halted ≡ true) → (fault ≡ store.Log log.Full → ⊥)
       → Serves state old new call (Refuse (refusal_of (error_of_store fault)))
   undrafted_serves old new call was still free takes store.NoMemory failed halted other = memory_serves state old new call (lawful old.log.device) still was takes
@@ -244,7 +244,7 @@ module _ {D : Type 0} (state : D → DeviceState) (lawful : (d : D) → IsLawful
       table = refl;
     }
 
-    pub given_up_serves : commits call ≡ false → takes_no_memory call ≡ false → (fault : StoreFault) → ((fault ≡ store.NoMemory → ⊥) → IsReadFault state mid.store.log tried.log)
+    pub given_up_serves : never_for_device call ≡ false → takes_no_memory call ≡ false → (fault : StoreFault) → ((fault ≡ store.NoMemory → ⊥) → IsReadFault state mid.store.log tried.log)
         → (fault ≡ store.Log log.Halted → mid.store.log.halted ≡ true) → (fault ≡ store.Log log.Full → ⊥) → (e : FsError) → e ≡ error_of_store fault
         → Serves state (seen old) (seen record { alloc = mid.alloc; store = gone; handles = mid.handles }) call (Refuse (refusal_of e))
     given_up_serves free takes fault failed halted other e is =
@@ -256,7 +256,7 @@ module _ {D : Type 0} (state : D → DeviceState) (lawful : (d : D) → IsLawful
 
   -- an open file has a header, unless a call of the device failed
   pub headerless_serves : (old mid : Fs D) (call : Call) (h n : ℕ) → find nat_cmp h (handles_of old.handles.numbers.items) ≡ Some n → old.store.log.halted ≡ false → IsNoChange old.store.draft.changes
-      → IsStill state (seen old) (seen mid) → commits call ≡ false → (fault : FsError) → LacksHeader state old mid n fault → Serves state (seen old) (seen mid) call (Refuse (refusal_of fault))
+      → IsStill state (seen old) (seen mid) → never_for_device call ≡ false → (fault : FsError) → LacksHeader state old mid n fault → Serves state (seen old) (seen mid) call (Refuse (refusal_of fault))
   headerless_serves old mid call h n opens was empty still free fault lacks = ⊎_elim
       (λ halted. absurd (let is = halted.1 in cc))
       (λ failed. subst (λ (e : FsError). Serves state (seen old) (seen mid) call (Refuse (refusal_of e))) (sym failed.0)
@@ -322,7 +322,7 @@ module _ {D : Type 0} (state : D → DeviceState) (lawful : (d : D) → IsLawful
     abbrev pub InState : Answer → Type 0
     InState x = Kept → (k : CheckpointValue) (m0 m : LogMap) (s : State) → IsIn state v k m0 m s → Serves state v (seen new) call x
 
-    module _ (change : changes call ≡ true) (free : commits call ≡ false) (takes : takes_no_memory call ≡ false)
+    module _ (change : changes call ≡ true) (free : never_for_device call ≡ false) (takes : takes_no_memory call ≡ false)
         (fits : Kept → (k : CheckpointValue) (m0 m : LogMap) (s : State) → IsIn state v k m0 m s → InEach state v (λ m s. FitsBatch m c))
         (lacks_ends : IsStill state v (seen new) → limit_of ready < need_of ready → InState (Refuse refusal.NoSpace))
         (worn_ends : IsStill state v (seen new) → 2 ^ 62 ≤ v.log.number → need_of ready ≤ limit_of ready → InState (Refuse refusal.Worn)) where
@@ -404,7 +404,7 @@ module _ {D : Type 0} (state : D → DeviceState) (lawful : (d : D) → IsLawful
         × ((drafts keeps k m0 m s is).next.handles ≡ handles_of table)
 
     -- it is staged
-    pub accepted_serves : changes call ≡ true → commits call ≡ false → (drafts : AreDrafts) (x : Answer)
+    pub accepted_serves : changes call ≡ true → never_for_device call ≡ false → (drafts : AreDrafts) (x : Answer)
         → is_ok x ≡ true → (table : List ℕ) → EndIn drafts x table
         → (IsBounded state v (with_table table) call → Behaves state v (with_table table) call x) → StagesDraft state ready new
         → Serves state v (with_table table) call x
@@ -414,7 +414,7 @@ module _ {D : Type 0} (state : D → DeviceState) (lawful : (d : D) → IsLawful
         accepts_by state v (with_table table) call (lawful v.log.device)
         (lawful new.store.log.device) accepts.carries accepts.segments was accepts.saves.number c
         accepts low x (ok_refuses_none x refusal.Halted ok)
-        (λ e. let no : acknowledges call x ≡ false = ap (λ (b : Bool). b && is_ok x) free in cc)
+        (λ e. let no : acknowledges call x ≡ false = ap (λ (b : Bool). b && is_ok x) (commits_none call free) in cc)
         (behaves (change_bounded state v (with_table table) call change accepts.saves.few
         (tells_old stages.tells)))
         (λ p keeps here k m0 m is. (
@@ -437,7 +437,7 @@ module _ {D : Type 0} (state : D → DeviceState) (lawful : (d : D) → IsLawful
           );
         }))
 
-    module _ (change : changes call ≡ true) (free : commits call ≡ false)
+    module _ (change : changes call ≡ true) (free : never_for_device call ≡ false)
         (takes : takes_no_memory call ≡ false) (unclean : cleans call ≡ false)
         (drafts : AreDrafts) where
       fits_each : Kept → (k : CheckpointValue) (m0 m : LogMap) (s : State) → IsIn state v k m0 m s

@@ -1,7 +1,7 @@
 -- What contracts see of a mounted volume, the state that it is in, and what its calls do.
 -- The calls are those of POSIX.1-2017; which refusals are excused and what a stop leaves is an own choice.
 use Rattle.std.specs.Prelude.{◌≡◌, ◌⊎◌, ◌≤◌, ◌+◌, ◌/◌, ◌^◌, ℕ, Bool, true, false, IsTrue, List, [], ◌∷◌, length}
-use Rattle.lfs_model.specs.Call.{Call, Open, Create, Close, Pread, Pwrite, Truncate, Mkdir, LinkTo, Symlink, Readlink, Unlink, Rmdir, Rename, StatOf, LstatOf, Readdir, Fsync, Sync, Clean, Space, ListTree, Answer, Refuse, cleans, may_write, takes_no_memory}
+use Rattle.lfs_model.specs.Call.{Call, Open, Create, Close, Pread, Pwrite, Truncate, Mkdir, LinkTo, Symlink, Readlink, Unlink, Rmdir, Rename, StatOf, LstatOf, Readdir, Fsync, Sync, Clean, Space, Version, ListTree, Answer, Refuse, cleans, may_write, takes_no_memory}
 use Rattle.lfs_model.specs.Checkpoint.{CheckpointValue, layout_version}
 use Rattle.lfs_model.specs.Device.{DeviceState, Carries, AllLeft, IsUntouched}
 use Rattle.lfs_model.specs.Encodes.{IsLogMap}
@@ -57,6 +57,7 @@ most_orders (Fsync h) segments = commit_orders
 most_orders Sync segments = commit_orders
 most_orders Clean segments = room_orders segments
 most_orders Space segments = 0
+most_orders Version segments = 0
 most_orders ListTree segments = 0
 
 -- the calls that may change which files are open
@@ -81,6 +82,7 @@ changes_handles (Fsync h) = false
 changes_handles Sync = false
 changes_handles Clean = false
 changes_handles Space = false
+changes_handles Version = false
 changes_handles ListTree = false
 
 module _ {D : Type 0} (state : D → DeviceState) where
@@ -139,7 +141,7 @@ module _ {D : Type 0} (state : D → DeviceState) where
     pub number : may_write call ≡ false → new.log.number ≡ old.log.number
     -- one that may write commits at most once for each eighth of the segments, and once more
     pub few : CommitsFew old new
-    -- close, fsync, sync and space are never refused for memory
+    -- close, fsync, sync, space and version are never refused for memory
     pub memory : takes_no_memory call ≡ true → answer ≡ Refuse NoMemory → ⊥
     -- no call is stuck
     pub stuck : answer ≡ Refuse Stuck → ⊥

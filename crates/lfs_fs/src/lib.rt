@@ -24,7 +24,7 @@ mod writing;
 
 pub use error::FsError;
 pub use fs::Fs;
-pub use lfs_format::{FormatFault, format};
+pub use lfs_format::{FormatFault, format, format_version};
 pub use lfs_path as path;
 pub use lfs_store as store;
 pub use lfs_store::MountFault;

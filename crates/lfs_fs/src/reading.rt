@@ -1,7 +1,7 @@
 //! Calls that read: bytes of a file, what is told of an object, of the volume, and of each entry.
 ghost use Rattle.std.specs.Prelude.{◌≡◌, ◌≤◌, ◌<◌, ◌++◌, ◌∷◌, List, [], map, IfOk, IfErr, OnOk, OnErr};
 ghost use Rattle.lfs_model.specs.Call as call;
-ghost use Rattle.lfs_model.specs.Call.{Pread, StatOf, LstatOf, Readlink, ListTree, Data, Status, Text, Rows};
+ghost use Rattle.lfs_model.specs.Call.{Pread, StatOf, LstatOf, Readlink, ListTree, Data, Status, Text, FormatVersion, Rows};
 ghost use Rattle.lfs_fs.specs.Volume.{Serves};
 ghost use Rattle.lfs_fs.specs.Seen.{seen, answer_by, OnlyReads};
 ghost use Rattle.lfs_fs.specs.Reading.{LacksBytes, LacksDirectory, LacksNames, LacksObject, LacksRow, LacksRows, LacksText, ReadsFile, ReadsHead, TellsDirectory, TellsNames, TellsRow, TellsRows, TellsStat, TellsText, TellsTree, stat_call};
@@ -194,6 +194,22 @@ impl<D: SectorDevice> Fs<D> {
             Err(fault) => return Err(fault),
         }
         Ok(self.space_of(self.store.drafted))
+    }
+
+    /// The version of the volume's layout: 1 or 2.
+    ///
+    /// # Errors
+    ///
+    /// `Halted` alone.
+    pub fn version(&mut self) -> Result<u32, FsError>
+        ensures { Serves D.SectorDevice.state (seen self.old) (seen self.new) call.Version
+            (answer_by FormatVersion result) }
+    {
+        match self.begin() {
+            Ok(()) => {}
+            Err(fault) => return Err(fault),
+        }
+        Ok(self.store.log.version())
     }
 
     /// Each entry of each directory, ordered by the directory's number and then by the name's

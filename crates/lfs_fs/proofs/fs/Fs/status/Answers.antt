@@ -7,7 +7,7 @@ use Rattle.lfs_fs.specs.Reading.{stat_call}
 use Rattle.lfs_fs.specs.Refusals.{refusal_of}
 use Rattle.lfs_fs.specs.Seen.{answer_by, seen}
 use Rattle.lfs_fs.proofs.PathEnds.{path_without, stat_ends, store_reads}
-use Rattle.lfs_fs.proofs.PathSteps.{stat_cleans, stat_commits, stat_memory, stat_refused}
+use Rattle.lfs_fs.proofs.PathSteps.{stat_cleans, stat_may_fail, stat_memory, stat_refused}
 use Rattle.lfs_fs.proofs.ReadingEnds.{begun_running, begun_serves, halted_serves}
 use Rattle.lfs_fs.proofs.StoreCalls.{each_drafted, ends_refused, log_reads, same_drafted, same_totals}
 use Rattle.lfs_fs.proofs.fs.Fs.status.Goals as goal
@@ -37,6 +37,6 @@ returns-in-Err-resolve g c =
     let first = store_reads state c.begin.new.self mid (log_reads state c.begin.new.self.store c.resolve.new.files walk.reads) walk.reads.draft walk.reads.saved (same_totals state c.begin.new.self.store c.resolve.new.files walk.reads) (same_drafted state c.begin.new.self.store c.resolve.new.files walk.reads) refl in
     begun_serves state c.args.self.now c.begin.new.self (seen mid) (stat_call c.args.follow c.args.path.now) (Refuse (refusal_of c.from.result)) begun
     (path_without state c.begin.new.self mid (g.met.D.SectorDevice.lawful c.begin.new.self.store.log.device) (begun_running state c.args.self.now c.begin.new.self begun) begun.empty first
-    (EndsResolve c.args.path.now c.args.follow) (stat_call c.args.follow c.args.path.now) (stat_commits c.args.follow c.args.path.now) (stat_cleans c.args.follow c.args.path.now)
+    (EndsResolve c.args.path.now c.args.follow) (stat_call c.args.follow c.args.path.now) (stat_may_fail c.args.follow c.args.path.now) (stat_cleans c.args.follow c.args.path.now)
     (stat_memory c.args.follow c.args.path.now) (λ N s r w. stat_refused N s c.args.path.now c.args.follow r w)
     c.in-Err-resolve.fault c.from.result c.from.ensures (ends_refused state c.begin.new.self.store c.resolve.new.files (EndsResolve c.args.path.now c.args.follow) c.in-Err-resolve.fault walk.refused) (λ e. walk.halted (ap Err e)) (λ e. walk.other (ap Err e)))
