@@ -161,6 +161,7 @@ solid-line (Plain (call.Fsync handle)) fits = rw (solid-decimal handle (omega (a
 solid-line (Plain call.Sync) fits = refl
 solid-line (Plain call.Clean) fits = refl
 solid-line (Plain call.Space) fits = refl
+solid-line (Plain call.Version) fits = refl
 solid-line (Plain call.ListTree) fits = refl
 
 -- its text is its words'
@@ -186,6 +187,7 @@ text_is (Plain (call.Fsync handle)) = refl
 text_is (Plain call.Sync) = refl
 text_is (Plain call.Clean) = refl
 text_is (Plain call.Space) = refl
+text_is (Plain call.Version) = refl
 text_is (Plain call.ListTree) = refl
 
 -- it begins with a command's word
@@ -211,6 +213,7 @@ command_of_line (Plain (call.Fsync handle)) = (commands.Fsync, _, refl)
 command_of_line (Plain call.Sync) = (commands.Sync, _, refl)
 command_of_line (Plain call.Clean) = (commands.Clean, _, refl)
 command_of_line (Plain call.Space) = (commands.Space, _, refl)
+command_of_line (Plain call.Version) = (commands.Version, _, refl)
 command_of_line (Plain call.ListTree) = (commands.Tree, _, refl)
 
 line-cut : (line : Line) → InRange line → cut (text_of line) ≡ words_of line

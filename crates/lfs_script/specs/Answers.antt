@@ -5,7 +5,7 @@ use Rattle.lfs_fs.specs.declared.error.FsError.{FsError}
 use Rattle.lfs_fs.specs.Answers.{entry_of, room_of, row_of, status_of}
 use Rattle.lfs_fs.specs.Refusals.{refusal_of}
 use Rattle.lfs_script.specs.declared.answer.Answer.{Answer}
-use Rattle.lfs_script.specs.declared.answer.Answer.TheVariants.{Done, Handle, Count, Bytes, Text, Stat, Entries, Space, Tree}
+use Rattle.lfs_script.specs.declared.answer.Answer.TheVariants.{Done, Handle, Count, Bytes, Text, Stat, Entries, Space, Version, Tree}
 
 abbrev pub answer_of : Answer → call.Answer
 answer_of Done = call.Done
@@ -16,6 +16,7 @@ answer_of (Text text) = call.Text text.items
 answer_of (Stat stat) = call.Status (status_of stat)
 answer_of (Entries entries) = call.Entries (map entry_of entries.items)
 answer_of (Space space) = room_of space
+answer_of (Version version) = call.FormatVersion version
 answer_of (Tree rows) = call.Rows (map row_of rows.items)
 
 abbrev pub result_of : Result Answer FsError → call.Answer

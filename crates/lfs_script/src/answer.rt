@@ -24,6 +24,8 @@ pub enum Answer {
     Stat(Stat),
     Entries(Vec<Entry>),
     Space(Space),
+    /// The version of the volume's layout.
+    Version(u32),
     Tree(Vec<TreeRow>),
 }
 
@@ -108,6 +110,7 @@ pub fn make<D: SectorDevice>(alloc: Global, fs: &mut Fs<D>, call: &Call) -> Resu
         Call::Sync => fs.sync().map(|()| Answer::Done),
         Call::Clean => fs.clean().map(|()| Answer::Done),
         Call::Space => fs.space().map(Answer::Space),
+        Call::Version => fs.version().map(Answer::Version),
         Call::Tree => fs.tree().map(Answer::Tree),
     }
 }

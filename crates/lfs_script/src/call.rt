@@ -64,6 +64,7 @@ pub enum Call {
     Sync,
     Clean,
     Space,
+    Version,
     Tree,
 }
 
@@ -291,6 +292,7 @@ fn call_of(alloc: Global, command: Command, words: Words<'_>) -> Result<Call, Wo
         Command::Sync => words.none().map(|()| Call::Sync),
         Command::Clean => words.none().map(|()| Call::Clean),
         Command::Space => words.none().map(|()| Call::Space),
+        Command::Version => words.none().map(|()| Call::Version),
         Command::Tree => words.none().map(|()| Call::Tree),
     }
 }

@@ -27,11 +27,12 @@ pub enum Command {
     Sync,
     Clean,
     Space,
+    Version,
     Tree,
 }
 
 /// The word of each command.
-const WORDS: [(Command, &[u8]); 22] = [
+const WORDS: [(Command, &[u8]); 23] = [
     (Command::Create, b"create"),
     (Command::Open, b"open"),
     (Command::Close, b"close"),
@@ -53,6 +54,7 @@ const WORDS: [(Command, &[u8]); 22] = [
     (Command::Sync, b"sync"),
     (Command::Clean, b"clean"),
     (Command::Space, b"space"),
+    (Command::Version, b"version"),
     (Command::Tree, b"tree"),
 ];
 

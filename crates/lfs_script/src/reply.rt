@@ -201,6 +201,7 @@ fn put_answer<W: Write>(writer: &mut W, answer: &Answer) -> Result<(), Stopped>
         Answer::Stat(stat) => put_stat(writer, *stat),
         Answer::Entries(entries) => put_entries(writer, entries.as_slice()),
         Answer::Space(space) => put_space(writer, *space),
+        Answer::Version(version) => put_number_line(writer, u64::from(*version)),
         Answer::Tree(rows) => put_tree(writer, rows.as_slice()),
     }
 }

@@ -1,4 +1,4 @@
-//! Calls on a new plain volume of 64 segments, with the replies that a script shows.
+//! Calls on new plain volumes of 64 segments, with the replies that a script shows.
 use crate::replies::put_reply_to;
 use lfs_plain::call::Call;
 use lfs_plain::state::PlainState;
@@ -57,9 +57,9 @@ fn is_well(alloc: Global, state: &mut PlainState, step: Step<'_>) -> Result<bool
     }
 }
 
-// The place of the first step on a new volume whose reply is another.
-fn first_wrong(alloc: Global, steps: &[Step<'_>]) -> Result<Option<usize>, Fail> {
-    let mut state = PlainState::new(alloc)?;
+// The place of the first step on a new volume of this version whose reply is another.
+fn first_wrong(alloc: Global, version: u8, steps: &[Step<'_>]) -> Result<Option<usize>, Fail> {
+    let mut state = PlainState::new(alloc, version)?;
     for (place, step) in steps.iter().enumerate() {
         if !is_well(alloc, &mut state, *step)? {
             return Ok(Some(place));
@@ -95,8 +95,9 @@ fn each_call_answers(rt: HostRuntime) -> Result<(), Fail> {
         Step::Make(Call::Sync, b"ok\n"),
         Step::Make(Call::Clean, b"ok\n"),
         Step::Make(Call::Space, b"ok 3 3 744 3008\n"),
+        Step::Make(Call::Version, b"ok 1\n"),
     ];
-    let wrong = first_wrong(rt.alloc(), &steps)?;
+    let wrong = first_wrong(rt.alloc(), 1, &steps)?;
     assert_eq!(rt; wrong, None);
     Ok(())
 }
@@ -112,7 +113,7 @@ fn the_last_byte_of_a_file(rt: HostRuntime) -> Result<(), Fail> {
         Step::Make(Call::Pread(0, u64::MAX, 5), b"ok -\n"),
         Step::Make(Call::Space, b"ok 2 4 750 3008\n"),
     ];
-    let wrong = first_wrong(rt.alloc(), &steps)?;
+    let wrong = first_wrong(rt.alloc(), 1, &steps)?;
     assert_eq!(rt; wrong, None);
     Ok(())
 }
@@ -127,24 +128,48 @@ fn a_bad_handle_comes_before_a_long_write(rt: HostRuntime) -> Result<(), Fail> {
         Step::Write(1, 65_536, b"ok 65536\n"),
         Step::Make(Call::Space, b"ok 130 3 871 3008\n"),
     ];
-    let wrong = first_wrong(rt.alloc(), &steps)?;
+    let wrong = first_wrong(rt.alloc(), 1, &steps)?;
     assert_eq!(rt; wrong, None);
     Ok(())
 }
 
 #[test]
 fn a_thousand_links_and_a_full_directory(rt: HostRuntime) -> Result<(), Fail> {
+    let room: [(u8, &[u8]); 2] = [(1, b"ok 128 4 876 3008\n"), (2, b"ok 256 6 1018 3008\n")];
+    for (version, room) in room {
+        let steps = [
+            Step::Make(Call::Create(b"/a"), b"ok 0\n"),
+            Step::Link(b"/a", 999),
+            Step::Make(Call::Link(b"/a", b"/x"), b"err TooManyLinks\n"),
+            Step::Make(Call::Create(b"/b"), b"ok 1\n"),
+            Step::Link(b"/b", 23),
+            Step::Make(Call::Link(b"/b", b"/x"), b"err DirFull\n"),
+            Step::Make(Call::Rename(b"/b", b"/y"), b"ok\n"),
+            Step::Make(Call::Space, room),
+        ];
+        let wrong = first_wrong(rt.alloc(), version, &steps)?;
+        assert_eq!(rt; wrong, None);
+    }
+    Ok(())
+}
+
+#[test]
+fn names_in_version_2(rt: HostRuntime) -> Result<(), Fail> {
     let steps = [
-        Step::Make(Call::Create(b"/a"), b"ok 0\n"),
-        Step::Link(b"/a", 999),
-        Step::Make(Call::Link(b"/a", b"/x"), b"err TooManyLinks\n"),
-        Step::Make(Call::Create(b"/b"), b"ok 1\n"),
-        Step::Link(b"/b", 23),
-        Step::Make(Call::Link(b"/b", b"/x"), b"err DirFull\n"),
-        Step::Make(Call::Rename(b"/b", b"/y"), b"ok\n"),
-        Step::Make(Call::Space, b"ok 128 4 876 3008\n"),
+        Step::Make(Call::Space, b"ok 0 1 727 3008\n"),
+        Step::Make(Call::Version, b"ok 2\n"),
+        Step::Make(Call::Mkdir(&[b'a'; 123]), b"ok\n"),
+        Step::Make(Call::Mkdir(&[b'a'; 124]), b"err NameTooLong\n"),
+        Step::Make(Call::Rmdir(&[b'a'; 123]), b"ok\n"),
+        Step::Make(Call::Create(b"/1"), b"ok 0\n"),
+        Step::Make(Call::Create(b"/2"), b"ok 1\n"),
+        Step::Make(Call::Create(b"/3"), b"ok 2\n"),
+        Step::Make(Call::Create(b"/4"), b"ok 3\n"),
+        Step::Make(Call::Create(b"/5"), b"ok 4\n"),
+        Step::Make(Call::Space, b"ok 2 6 764 3008\n"),
+        Step::Make(Call::Stat(b"/"), b"ok 1 dir 2 640\n"),
     ];
-    let wrong = first_wrong(rt.alloc(), &steps)?;
+    let wrong = first_wrong(rt.alloc(), 2, &steps)?;
     assert_eq!(rt; wrong, None);
     Ok(())
 }

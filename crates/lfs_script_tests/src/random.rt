@@ -25,7 +25,7 @@ impl Dice {
 }
 
 /// The lines of a script, but for paths (P), handles (H), offsets (O) and values (B).
-const FORMS: [&str; 32] = [
+const FORMS: [&str; 33] = [
     "create P",
     "create P",
     "create P",
@@ -58,9 +58,10 @@ const FORMS: [&str; 32] = [
     "sync",
     "clean",
     "space",
+    "version",
 ];
 
-const PATHS: [&str; 16] = [
+const PATHS: [&str; 17] = [
     "/a",
     "/b",
     "/c",
@@ -77,6 +78,7 @@ const PATHS: [&str; 16] = [
     "/d/e/../b",
     "/",
     "/g/",
+    "/d/a_name_that_is_longer_than_the_fifty_nine_bytes_of_the_first_version",
 ];
 
 const HANDLES: [&str; 4] = ["0", "1", "2", "3"];
@@ -89,14 +91,14 @@ const VALUES: [&str; 4] = ["0", "7", "9", "255"];
 
 // A line of a form, without its newline.
 fn rolled_line(alloc: Global, dice: &mut Dice) -> Result<String, AllocError> {
-    let form = FORMS[dice.roll(32) as usize];
+    let form = FORMS[dice.roll(33) as usize];
     let mut line = String::new(alloc);
     for word in form.split(' ') {
         if !line.is_empty() {
             line.push_str(" ")?;
         }
         let text = match word {
-            "P" => PATHS[dice.roll(16) as usize],
+            "P" => PATHS[dice.roll(17) as usize],
             "H" => HANDLES[dice.roll(4) as usize],
             "O" => OFFSETS[dice.roll(8) as usize],
             "B" => VALUES[dice.roll(4) as usize],
@@ -115,8 +117,9 @@ fn rolled_lines(alloc: Global, dice: &mut Dice, count: u32) -> Result<Vec<String
     Ok(lines)
 }
 
-// A random script without a stop, and with stops within four of its writes.
-fn trials(alloc: Global, seed: u64) -> Result<(), Fail> {
+// A random script on a volume of this version: without a stop, and with stops within four of its
+// writes.
+fn trials(alloc: Global, version: u8, seed: u64) -> Result<(), Fail> {
     let mut dice = Dice {
         generator: Pcg32::new(seed, 1),
     };
@@ -125,7 +128,7 @@ fn trials(alloc: Global, seed: u64) -> Result<(), Fail> {
     for line in &rolled {
         lines.push(line.as_str())?;
     }
-    let plain = plain_run(alloc, lines.as_slice())?;
+    let plain = plain_run(alloc, version, lines.as_slice())?;
     let writes = trial(alloc, lines.as_slice(), &plain, u64::MAX, None)?.writes;
     for left in [Some(Left::Old), Some(Left::New), Some(Left::Bad), None] {
         let write = u64::from(dice.roll(1_000)) % writes.saturating_add(1);
@@ -137,7 +140,10 @@ fn trials(alloc: Global, seed: u64) -> Result<(), Fail> {
 #[test]
 fn random_scripts_with_stops(rt: HostRuntime) -> Result<(), Fail> {
     for seed in 1..9u64 {
-        trials(rt.alloc(), seed)?;
+        trials(rt.alloc(), 1, seed)?;
+    }
+    for seed in 9..13u64 {
+        trials(rt.alloc(), 2, seed)?;
     }
     Ok(())
 }

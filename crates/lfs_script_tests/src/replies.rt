@@ -95,6 +95,7 @@ fn answer_of(alloc: Global, answer: PlainAnswer) -> Result<Result<Answer, FsErro
             need: as_u64(room.need),
             limit: room.limit,
         }),
+        PlainAnswer::FormatVersion(version) => Answer::Version(u32::from(version)),
         PlainAnswer::Rows(rows) => Answer::Tree(rows_of(alloc, rows)?),
     };
     Ok(Ok(answer))
@@ -160,6 +161,7 @@ fn plain_call<'a>(call: &'a Call, bytes: &'a [u8]) -> PlainCall<'a> {
         Call::Sync => PlainCall::Sync,
         Call::Clean => PlainCall::Clean,
         Call::Space => PlainCall::Space,
+        Call::Version => PlainCall::Version,
         Call::Tree => PlainCall::Tree,
     }
 }

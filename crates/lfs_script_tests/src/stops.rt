@@ -86,7 +86,7 @@ fn look(alloc: Global, state: &mut PlainState) -> Result<Vec<u8>, Fail> {
 
 // The plain program's replies to all lines, and what it shows after each number of them.
 fn plain_run(alloc: Global) -> Result<(Vec<u8>, Vec<Vec<u8>>), Fail> {
-    let mut state = PlainState::new(alloc)?;
+    let mut state = PlainState::new(alloc, 1)?;
     let mut replies = Vec::new(alloc);
     let mut looks = Vec::new(alloc);
     looks.push(look(alloc, &mut state)?)?;

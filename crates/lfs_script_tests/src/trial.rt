@@ -1,6 +1,6 @@
 //! A script beside the plain program, and what a stop leaves of it.
 use crate::replies::put_line;
-use crate::volume::{leave, new_device};
+use crate::volume::{device_of_version, leave};
 use lfs_device::{Left, MemDevice};
 use lfs_plain::state::PlainState;
 use lfs_script::fs::Fs;
@@ -11,6 +11,7 @@ use std::test::Fail;
 /// What the plain program replies to each line, and its tree before the first and after each.
 #[derive(Drop)]
 pub struct PlainRun {
+    version: u8,
     pub replies: Vec<Vec<u8>>,
     trees: Vec<Vec<u8>>,
 }
@@ -21,8 +22,9 @@ fn plain_reply(alloc: Global, state: &mut PlainState, line: &str) -> Result<Vec<
     Ok(reply)
 }
 
-pub fn plain_run(alloc: Global, lines: &[&str]) -> Result<PlainRun, Fail> {
-    let mut state = PlainState::new(alloc)?;
+/// The plain program's run of these lines, on a new volume of this version.
+pub fn plain_run(alloc: Global, version: u8, lines: &[&str]) -> Result<PlainRun, Fail> {
+    let mut state = PlainState::new(alloc, version)?;
     let mut replies = Vec::new(alloc);
     let mut trees = Vec::new(alloc);
     trees.push(plain_reply(alloc, &mut state, "tree")?)?;
@@ -30,7 +32,11 @@ pub fn plain_run(alloc: Global, lines: &[&str]) -> Result<PlainRun, Fail> {
         replies.push(plain_reply(alloc, &mut state, line)?)?;
         trees.push(plain_reply(alloc, &mut state, "tree")?)?;
     }
-    Ok(PlainRun { replies, trees })
+    Ok(PlainRun {
+        version,
+        replies,
+        trees,
+    })
 }
 
 // The reply of a volume to a line.
@@ -85,7 +91,8 @@ pub struct TrialEnd {
     pub is_newer: bool,
 }
 
-/// Runs the lines on a new volume whose device stops within this write, and then mounts what the
+/// Runs the lines on a new volume, of the version of the plain program's run, whose device stops
+/// within this write, and then mounts what the
 /// stop leaves: the tree has to be one that the plain program had, behind the calls that an
 /// acknowledged sync saved and no later than the first that was halted.
 pub fn trial(
@@ -95,7 +102,7 @@ pub fn trial(
     write: u64,
     left: Option<Left>,
 ) -> Result<TrialEnd, Fail> {
-    let mut device = new_device(alloc)?;
+    let mut device = device_of_version(alloc, plain.version)?;
     device.stop_at(write);
     let Ok(mut fs) = Fs::mount(alloc, device) else {
         return Err(Fail::from("no mount"));

@@ -1,6 +1,6 @@
 //! Volumes of 64 segments in memory.
 use lfs_device::{Left, MemDevice};
-use lfs_script::fs::{Fs, format};
+use lfs_script::fs::{Fs, format_version};
 use lfs_script::{ScriptEnd, run};
 use std::alloc::Global;
 use std::io::Read;
@@ -9,11 +9,16 @@ use std::test::Fail;
 /// The sectors of a volume of 64 segments.
 pub const SECTORS: u32 = 2 + 64 * 64;
 
+/// A device with an empty volume of this version.
+pub fn device_of_version(alloc: Global, version: u8) -> Result<MemDevice, Fail> {
+    let mut device = MemDevice::new(alloc, SECTORS)?;
+    format_version(&mut device, 64, u32::from(version))?;
+    Ok(device)
+}
+
 /// A device with an empty volume.
 pub fn new_device(alloc: Global) -> Result<MemDevice, Fail> {
-    let mut device = MemDevice::new(alloc, SECTORS)?;
-    format(&mut device, 64)?;
-    Ok(device)
+    device_of_version(alloc, 1)
 }
 
 /// An empty volume, on the heap, where each end of a function drops it by one call.
