@@ -92,7 +92,8 @@ fn arguments_of(command: Command) -> &'static [Argument] {
         Command::Truncate => &[H, LONG_LEN],
         Command::Link | Command::Rename => &[A, B],
         Command::Symlink => &[TEXT, P],
-        Command::Sync | Command::Clean | Command::Space | Command::Tree => &[],
+        Command::Sync | Command::Clean => &[],
+        Command::Space | Command::Version | Command::Tree => &[],
     }
 }
 

@@ -33,23 +33,17 @@ use std::time::Clock;
 /// What a command is about that has no image.
 const IN_MEMORY: &str = "a volume in memory";
 
-fn mkfs<Here: World, R: Files<File = File> + Clock, W: Write>(
-    rt: &R,
-    alloc: Global,
-    image: &str,
-    segments: &str,
-    (force, reserve): (bool, bool),
-    output: &mut W,
-) -> Result<Ending, Fault> {
+// How a volume is made that has so many segments, as a word still.
+fn making_of(segments: &str, version: u32, force: bool, reserve: bool) -> Result<Making, Fault> {
     let Some(segments) = read_u32(segments.as_bytes()) else {
         return Err(Fault::Segments);
     };
-    let making = Making {
+    Ok(Making {
         segments,
+        version,
         force,
         reserve,
-    };
-    making::mkfs::<Here, R, W>(rt, alloc, image, making, output)
+    })
 }
 
 // How a command ends whose script ended so.
@@ -295,9 +289,13 @@ fn act<Here: World, R: Files<File = File> + Clock, I: Read, W: Write>(
     match action {
         Action::Mkfs {
             segments,
+            version,
             force,
             reserve,
-        } => mkfs::<Here, R, W>(rt, alloc, image, segments, (force, reserve), output),
+        } => {
+            let making = making_of(segments, version, force, reserve)?;
+            making::mkfs::<Here, R, W>(rt, alloc, image, making, output)
+        }
         Action::Look(asked) => look::<Here, R, W>(rt, alloc, image, asked, output),
         Action::Change(asked) => change_volume::<Here, R, W>(rt, alloc, image, asked, output),
         Action::Run => run::<Here, R, I, W>(rt, alloc, image, input, output),
@@ -356,9 +354,10 @@ fn answer<'a, R: Files<File = File> + Clock, I: Read, W: Write>(
         }
         Request::Sim {
             segments,
+            version,
             stop,
             left,
-        } => match read_plan(segments, stop, left) {
+        } => match read_plan(segments, version, stop, left) {
             Ok(plan) => told(IN_MEMORY, None, sim(alloc, plan, input, output)),
             Err(fault) => Err(fault),
         },

@@ -36,6 +36,8 @@ enum Form<'a> {
     Value,
     /// An option with one of these values, which has to be given.
     Choice(&'a [&'a str]),
+    /// An option with one of these values, which may be left out.
+    OptionalChoice(&'a [&'a str]),
     /// An option without a value.
     Switch,
     /// An option without a value that has a letter too, and isn't given beside another one.
@@ -78,6 +80,12 @@ pub const TO: &str = "TO";
 
 pub const SEGMENTS: &str = "segments";
 
+pub const FORMAT: &str = "format";
+
+pub const FIRST_FORMAT: &str = "1";
+
+pub const SECOND_FORMAT: &str = "2";
+
 pub const FORCE: &str = "force";
 
 pub const RESERVE: &str = "reserve";
@@ -91,6 +99,9 @@ pub const NULL: &str = "null";
 pub const STOP: &str = "stop";
 
 pub const LEFT: &str = "left";
+
+/// The words of the versions of the layout.
+const FORMATS: &[&str] = &[FIRST_FORMAT, SECOND_FORMAT];
 
 const VERSION: &str = "0.1.0";
 
@@ -173,6 +184,13 @@ const THE_SEGMENTS: Parameter = Parameter {
     help: "How many segments of 32 KiB: 64 to 1024, a multiple of 8",
 };
 
+const THE_FORMAT: Parameter = Parameter {
+    name: FORMAT,
+    form: Form::OptionalChoice(FORMATS),
+    value: "F",
+    help: "The version of its layout, or else 1; in 2 names have up to 123 bytes",
+};
+
 const BY_FORCE: Parameter = Parameter {
     name: FORCE,
     form: Form::Switch,
@@ -217,7 +235,7 @@ const USAGES: &[Usage] = &[
             block device keeps its length, and is formatted only with --force, and only\n\
             while it isn't mounted. An image in a file is sparse without --reserve, so that\n\
             a full disk shows only as the image is written.",
-        parameters: &[THE_IMAGE, THE_SEGMENTS, BY_FORCE, WITH_ROOM],
+        parameters: &[THE_IMAGE, THE_SEGMENTS, THE_FORMAT, BY_FORCE, WITH_ROOM],
     },
     Usage {
         verb: Verb::Check,
@@ -251,7 +269,7 @@ const USAGES: &[Usage] = &[
         details: "Run the script on standard input on a new volume in memory, whose device stops\n\
             within write K, and print the number of writes and the tree that a mount finds\n\
             then.",
-        parameters: &[THE_SEGMENTS, THE_STOP, WHAT_IS_LEFT],
+        parameters: &[THE_SEGMENTS, THE_FORMAT, THE_STOP, WHAT_IS_LEFT],
     },
     Usage {
         verb: Verb::Ls,
@@ -378,6 +396,13 @@ fn argument<'a>(alloc: Global, parameter: Parameter<'a>) -> Result<Arg<'a>, Allo
                 .value_name(parameter.value)
                 .value_parser(ValueParser::Names(values))
                 .required(true)
+                .action(ArgAction::Set),
+        ),
+        Form::OptionalChoice(values) => Ok(
+            argument
+                .long(parameter.name)
+                .value_name(parameter.value)
+                .value_parser(ValueParser::Names(values))
                 .action(ArgAction::Set),
         ),
         Form::Switch => Ok(argument.long(parameter.name).action(ArgAction::SetTrue)),

@@ -5,7 +5,7 @@ ghost use Rattle.lfs_command.specs.Asking.{HasWord, IsStrict};
 
 use crate::changing::Change;
 use crate::grammar::{
-    FILE, FOLDER, FORCE, FROM, IMAGE, LEFT, LONG, NULL, PATH, RESERVE, SEGMENTS, STOP, STRICT, TO,
+    FILE, FIRST_FORMAT, FOLDER, FORCE, FORMAT, FROM, IMAGE, LEFT, LONG, NULL, PATH, RESERVE, SECOND_FORMAT, SEGMENTS, STOP, STRICT, TO,
     Verb, program, verb_of,
 };
 use crate::putting::Source;
@@ -25,6 +25,8 @@ const ROOT: &str = "/";
 pub enum Action<'a> {
     Mkfs {
         segments: &'a str,
+        /// Of the layout.
+        version: u32,
         force: bool,
         reserve: bool,
     },
@@ -61,6 +63,8 @@ pub enum Request<'a> {
     },
     Sim {
         segments: &'a str,
+        /// Of the layout.
+        version: u32,
         stop: &'a str,
         left: Left,
     },
@@ -75,9 +79,19 @@ fn left_of(word: &str) -> Option<Left> {
     }
 }
 
+// The version of the layout that is asked for: the first where none is.
+fn version_of(found: &ArgMatches<'_>) -> Option<u32> {
+    match found.get_str(FORMAT).unwrap_or(FIRST_FORMAT) {
+        FIRST_FORMAT => Some(1),
+        SECOND_FORMAT => Some(2),
+        _ => None,
+    }
+}
+
 fn read_sim<'a>(found: &ArgMatches<'a>) -> Option<Request<'a>> {
     Some(Request::Sim {
         segments: found.get_str(SEGMENTS)?,
+        version: version_of(found)?,
         stop: found.get_str(STOP)?,
         left: left_of(found.get_str(LEFT)?)?,
     })
@@ -86,6 +100,7 @@ fn read_sim<'a>(found: &ArgMatches<'a>) -> Option<Request<'a>> {
 fn read_mkfs<'a>(found: &ArgMatches<'a>) -> Option<Action<'a>> {
     Some(Action::Mkfs {
         segments: found.get_str(SEGMENTS)?,
+        version: version_of(found)?,
         force: found.get_flag(FORCE),
         reserve: found.get_flag(RESERVE),
     })

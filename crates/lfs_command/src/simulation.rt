@@ -7,7 +7,7 @@ ghost use Rattle.lfs_device.specs.MemoryDevice.{device_state};
 use lfs_device::{Left, MemDevice};
 use lfs_image::fault::{Fault, Refusal};
 use lfs_layout::is_segment_count;
-use lfs_script::fs::{Fs, FsError, format};
+use lfs_script::fs::{Fs, FsError, format_version};
 use lfs_script::{read_u32, read_u64};
 use std::alloc::Global;
 
@@ -15,6 +15,8 @@ use std::alloc::Global;
 #[derive(Clone, Copy)]
 pub struct Plan {
     pub segments: u32,
+    /// Of the layout.
+    pub version: u32,
     /// The write that doesn't go through, counted from 0 behind the format, and with which the
     /// device stops.
     pub stop: u64,
@@ -22,8 +24,8 @@ pub struct Plan {
     pub left: Left,
 }
 
-/// Reads the words of a plan.
-pub fn read_plan(segments: &str, stop: &str, left: Left) -> Result<Plan, Fault> {
+/// Reads the words of a plan, for a volume of this version.
+pub fn read_plan(segments: &str, version: u32, stop: &str, left: Left) -> Result<Plan, Fault> {
     let Some(segments) = read_u32(segments.as_bytes()) else {
         return Err(Fault::Segments);
     };
@@ -32,6 +34,7 @@ pub fn read_plan(segments: &str, stop: &str, left: Left) -> Result<Plan, Fault> 
     };
     Ok(Plan {
         segments,
+        version,
         stop,
         left,
     })
@@ -39,7 +42,7 @@ pub fn read_plan(segments: &str, stop: &str, left: Left) -> Result<Plan, Fault> 
 
 /// The device of a new volume, which is to stop.
 pub fn start(alloc: Global, plan: Plan) -> Result<MemDevice, Refusal>
-    ensures new { IfOk result (λ d. IsNew 1 plan.segments (device_state d).content) }
+    ensures new { IfOk result (λ d. IsNew plan.version plan.segments (device_state d).content) }
     ensures alone { IfOk result (λ d. Only (device_state d).content (device_state d)) }
 {
     if !is_segment_count(plan.segments) {
@@ -48,7 +51,7 @@ pub fn start(alloc: Global, plan: Plan) -> Result<MemDevice, Refusal>
     let Ok(mut device) = MemDevice::new(alloc, 2 + 64 * plan.segments) else {
         return Err(Refusal::Call(FsError::NoMemory));
     };
-    if let Err(refusal) = format(&mut device, plan.segments) {
+    if let Err(refusal) = format_version(&mut device, plan.segments, plan.version) {
         return Err(Refusal::Format(refusal));
     }
     device.stop_at(plan.stop);

@@ -4,8 +4,8 @@ ghost use Rattle.std.specs.Prelude.{◌<◌, ◌^◌};
 use crate::fault::{ImageFault, Refusal};
 use crate::foreign::explained;
 use lfs_device::{FileDeviceIn, World};
-use lfs_layout::is_segment_count;
-use lfs_script::fs::{Fs, format};
+use lfs_layout::{is_segment_count, is_version};
+use lfs_script::fs::{Fs, format_version};
 use std::alloc::Global;
 use std::fs::{File, Metadata, OpenOptions, TryLockError};
 use std::io::ErrorKind;
@@ -38,6 +38,8 @@ const LOCK_PAUSE_MILLIS: u64 = 1;
 #[derive(Clone, Copy)]
 pub struct Making {
     pub segments: u32,
+    /// Of the layout.
+    pub version: u32,
     /// Also on a block device.
     pub force: bool,
     /// With room for each sector.
@@ -284,9 +286,10 @@ fn open_to_make<R: Files<File = File> + Clock>(
     Ok(file)
 }
 
-fn format_file<Here: World>(file: File, segments: u32) -> Result<(), Refusal> {
+fn format_file<Here: World>(file: File, making: Making) -> Result<(), Refusal> {
     match device_of::<Here>(file) {
-        Ok(mut device) => format(&mut device, segments).map_err(Refusal::Format),
+        Ok(mut device) => format_version(&mut device, making.segments, making.version)
+            .map_err(Refusal::Format),
         Err(fault) => Err(Refusal::Image(fault)),
     }
 }
@@ -298,7 +301,7 @@ fn make_in<Here: World, R: Files<File = File> + Clock>(
     making: Making,
 ) -> Result<(), Refusal> {
     match open_to_make(rt, image, making) {
-        Ok(file) => format_file::<Here>(file, making.segments),
+        Ok(file) => format_file::<Here>(file, making),
         Err(fault) => Err(Refusal::Image(fault)),
     }
 }
@@ -342,13 +345,14 @@ fn make_new<Here: World, R: Files<File = File> + Clock>(
 
 /// Makes a volume. A regular file is made, or emptied, and gets the volume's length; a block device
 /// keeps its own, which has to be enough, and is formatted only by force. Where that is asked for,
-/// each sector is written first. A wrong number of segments is refused with no file touched.
+/// each sector is written first. A wrong number of segments, or a wrong version, is refused with no
+/// file touched.
 pub fn make<Here: World, R: Files<File = File> + Clock>(
     rt: &R,
     image: &str,
     making: Making,
 ) -> Result<(), Refusal> {
-    if !is_segment_count(making.segments) {
+    if !is_segment_count(making.segments) || !is_version(making.version) {
         return Err(Refusal::Inval);
     }
     check_name(rt, image, making.force)?;

@@ -22,9 +22,6 @@ pub const UNFINISHED: &[u8] = b".lfs-put";
 /// The most bytes that are read and written at once.
 const MOST_BYTES: usize = 65_536;
 
-/// The most bytes of a name.
-const LONGEST_NAME: usize = 59;
-
 /// Why a file isn't put into a volume.
 #[derive(Debug, Drop, Error)]
 pub enum PutFault {
@@ -62,7 +59,8 @@ fn above_len(path: &[u8]) -> usize
     }
 }
 
-// Refuses what no file is renamed to, by its text alone and in the order of `rename`.
+// Refuses what no file is renamed to, by its text alone and in the order of `rename`. How long a name
+// may be is its directory's to say.
 fn check_name(name: &[u8], slash_end: bool) -> Result<(), PutFault>
     ensures other { OnOk result (name.now ≢ codes ".lfs-put") }
     ensures ends { OnOk result (slash_end ≡ false) }
@@ -72,9 +70,6 @@ fn check_name(name: &[u8], slash_end: bool) -> Result<(), PutFault>
     }
     if name == UNFINISHED {
         return Err(PutFault::Unfinished);
-    }
-    if name.len() > LONGEST_NAME {
-        return Err(PutFault::Call(FsError::NameTooLong));
     }
     if slash_end {
         return Err(PutFault::Call(FsError::NotDir));
@@ -328,9 +323,9 @@ fn put_by<D: SectorDevice, I: Read>(
 ///
 /// `Memory` where memory for a buffer or for a path is refused. Of the path's text, in this order:
 /// `NoEntry`, `NameTooLong` and `Inval` as of any path; `Busy` where it has no piece; `Inval` where
-/// the last one is dot or dot-dot; `Unfinished`; `NameTooLong`; `NotDir` where a slash ends it.
-/// `IsDir` of a directory. Then what `unlink`, `create`, `pwrite`, `sync` and `rename` refuse, and
-/// `Input`. What stood at the path stands there still, but where the last sync fails: then a stop
+/// the last one is dot or dot-dot; `Unfinished`; `NotDir` where a slash ends it. What `lstat` refuses,
+/// but for `NoEntry`, and `IsDir` of a directory. Then what `unlink`, `create`, `pwrite`, `sync` and
+/// `rename` refuse, and `Input`. What stood at the path stands there still, but where the last sync fails: then a stop
 /// leaves that or the new file.
 pub fn put<D: SectorDevice, I: Read>(
     alloc: Global,
