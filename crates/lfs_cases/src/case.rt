@@ -1,14 +1,14 @@
 //! Scripts and what they are to write.
-use crate::volume::{end_of, new_device, used};
+use crate::volume::{VolumeKind, end_of, new_device, used};
 use anyhow::Result;
 use lfs_device::MemDevice;
 use lfs_script::ScriptEnd;
 
-/// A script on a new volume of so many segments, and what it is to write.
+/// A script on a new volume, and what it is to write.
 #[derive(Drop)]
 pub struct Case<'a> {
     pub name: &'a str,
-    pub segments: u16,
+    pub kind: VolumeKind,
     pub script: &'a str,
     pub replies: &'a str,
     /// The reply of `tree` once the volume has stopped and is mounted again.
@@ -72,7 +72,7 @@ fn has_tree<R: Print + AllocGlobal>(rt: &R, case: &Case<'_>, device: MemDevice) 
 /// Whether the product writes what the case wants.
 fn is_well<R: Print + AllocGlobal>(rt: &R, case: &Case<'_>) -> Result<bool> {
     let alloc = rt.alloc();
-    let device = new_device(alloc, case.segments)?;
+    let device = new_device(alloc, case.kind)?;
     let (end, output, device) = used(alloc, device, case.script)?;
     Ok(
         is_same(rt, case.name, case.replies, output.as_slice())?

@@ -1,17 +1,32 @@
 //! The files of the folder.
 use crate::case::{Case, Tally, check};
+use crate::volume::VolumeKind;
 use anyhow::{Context, Result, bail};
 use std::rt::Files;
 use std::{fs, io};
 
-/// The number of segments that a case's name tells.
-fn segments_of(name: &str) -> Result<u16> {
-    match name.rsplit_once('.') {
+/// The volume of a case whose name tells nothing of it.
+const PLAIN: VolumeKind = VolumeKind {
+    segments: 64,
+    version: 1,
+};
+
+/// How a case's name ends whose volume is of version 2.
+const OF_VERSION_2: &str = ".v2";
+
+/// The volume that a case's name tells.
+fn kind_of(name: &str) -> Result<VolumeKind> {
+    let (name, version) = match name.strip_suffix(OF_VERSION_2) {
+        Some(name) => (name, 2),
+        None => (name, PLAIN.version),
+    };
+    let segments = match name.rsplit_once('.') {
         Some((_, count)) => count
             .parse::<u16>()
-            .context(format_args!("segments of {name}")),
-        None => Ok(64),
-    }
+            .context(format_args!("segments of {name}"))?,
+        None => PLAIN.segments,
+    };
+    Ok(VolumeKind { segments, version })
 }
 
 /// The text of a file, or none where it isn't there.
@@ -34,7 +49,7 @@ fn check_script<R: Files + Print + AllocGlobal>(
     let tree = text_of(rt, name, "tree")?;
     let case = Case {
         name,
-        segments: segments_of(name)?,
+        kind: kind_of(name)?,
         script: script.as_str(),
         replies: replies.as_str(),
         tree,
@@ -51,7 +66,7 @@ fn check_bad_lines<R: Files + Print + AllocGlobal>(
     for line in lines.split_terminator('\n') {
         let case = Case {
             name: line,
-            segments: 64,
+            kind: PLAIN,
             script: line,
             replies: "bad 1\n",
             tree: None,

@@ -2,9 +2,10 @@
 //! are known.
 //!
 //! `NAME.script` is a script, and `NAME.replies` has what it writes, on a volume of 64 segments or,
-//! as `NAME.72.script`, of as many as the name tells. Where `NAME.tree` is there, it has the reply
-//! of `tree` once the volume has stopped and is mounted again. Each line of `NAME.bad` is a script
-//! of its own, which is one bad line.
+//! as `NAME.72.script`, of as many as the name tells. The volume is of version 1 or, as
+//! `NAME.v2.script` and `NAME.72.v2.script`, of version 2. Where `NAME.tree` is there, it has the
+//! reply of `tree` once the volume has stopped and is mounted again. Each line of `NAME.bad` is a
+//! script of its own, which is one bad line.
 #![tactic(auto)]
 
 mod case;

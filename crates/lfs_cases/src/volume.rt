@@ -1,17 +1,25 @@
 //! Volumes in memory.
 use anyhow::{Context, Result};
 use lfs_device::{Left, MemDevice};
-use lfs_script::fs::format;
+use lfs_script::fs::format_version;
 use lfs_script::{ScriptEnd, read_u64, use_and_stop};
 use std::alloc::Global;
 
-/// A device with an empty volume of so many segments.
-pub fn new_device(alloc: Global, segments: u16) -> Result<MemDevice> {
-    let segments = u32::from(segments);
+/// Of what kind the new volume is.
+#[derive(Clone, Copy)]
+pub struct VolumeKind {
+    pub segments: u16,
+    /// Of the layout.
+    pub version: u32,
+}
+
+/// A device with an empty volume of this kind.
+pub fn new_device(alloc: Global, kind: VolumeKind) -> Result<MemDevice> {
+    let segments = u32::from(kind.segments);
     let mut device = MemDevice::new(alloc, 2 + 64 * segments)
         .ok()
         .context("no memory for a device")?;
-    format(&mut device, segments)
+    format_version(&mut device, segments, kind.version)
         .ok()
         .context(format_args!("no volume of {segments} segments"))?;
     Ok(device)
