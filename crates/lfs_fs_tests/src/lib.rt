@@ -10,6 +10,8 @@ mod dirs;
 #[cfg(test)]
 mod fs;
 #[cfg(test)]
+mod long_names;
+#[cfg(test)]
 mod path;
 #[cfg(test)]
 mod steps;

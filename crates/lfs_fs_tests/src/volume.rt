@@ -6,7 +6,7 @@ use lfs_device::MemDevice;
 use lfs_fs::path::WalkFault;
 use lfs_fs::path::dirs::add;
 use lfs_fs::store::{Header, Store};
-use lfs_fs::{Fs, format};
+use lfs_fs::{Fs, format_version};
 use lfs_layout::is_name;
 use lfs_model::{FileNumber, Kind};
 use std::alloc::Global;
@@ -15,13 +15,20 @@ use std::test::Fail;
 /// The sectors of a volume of 64 segments.
 pub const SECTORS: u32 = 4_098;
 
-/// A device that holds an empty volume of so many segments.
-pub fn formatted(alloc: Global, segments: u32) -> Result<MemDevice, Fail>
+/// A device that holds an empty volume of so many segments, in this version.
+pub fn formatted_version(alloc: Global, segments: u32, version: u32) -> Result<MemDevice, Fail>
     requires { segments ≤ 1024 }
 {
     let mut device = MemDevice::new(alloc, 2 + 64 * segments)?;
-    format(&mut device, segments)?;
+    format_version(&mut device, segments, version)?;
     Ok(device)
+}
+
+/// A device that holds an empty volume of version 1 and of so many segments.
+pub fn formatted(alloc: Global, segments: u32) -> Result<MemDevice, Fail>
+    requires { segments ≤ 1024 }
+{
+    formatted_version(alloc, segments, 1)
 }
 
 /// The volume of a device, on the heap, where each end of a test drops it by one call.
