@@ -29,6 +29,9 @@ enum Step<'a> {
     TakesAt(u64, u32, u32, &'a [Run]),
     /// With so many there are none.
     TakesNone(u32, u32),
+    /// Whether a segment of so many blocks, written for the checkpoint of this number, is better to
+    /// clean than another, where the acknowledged one has this number.
+    Before((u16, u32), (u16, u32), u64, bool),
 }
 
 /// A segment is in use, with so many blocks: whether there is such a segment.
@@ -137,6 +140,7 @@ impl Row<Usage> for Step<'_> {
             Step::TakesNone(meta, most) if most <= 129 => {
                 victims(usage, meta, most, NOW).is_none()
             }
+            Step::Before(a, b, now, want) if a.0 <= 63 && b.0 <= 63 => before(a, b, now) == want,
             _ => false,
         }
     }
@@ -294,15 +298,19 @@ fn victims_by_benefit_and_cost(rt: HostRuntime) {
 }
 
 #[test]
-fn quotients_of_benefit_and_cost() {
-    // 1,840 * 73 is 134,320, and 265 * 103 is 27,295.
-    assert!(before((40, 20), (10, 95), 100));
-    assert!(!before((10, 95), (40, 20), 100));
-    // Of an age past the checkpoint, and without room, both are worth nothing.
-    assert!(!before((10, 200), (63, 0), 100));
-    assert!(!before((63, 0), (10, 200), 100));
-    assert!(before((20, 50), (20, 60), 100));
-    assert!(!before((20, 60), (20, 50), 100));
-    // Products that 64 bits don't hold.
-    assert!(before((0, 0), (1, 0), u64::MAX));
+fn quotients_of_benefit_and_cost(rt: HostRuntime) {
+    let rows = [
+        // 1,840 * 73 is 134,320, and 265 * 103 is 27,295.
+        Step::Before((40, 20), (10, 95), 100, true),
+        Step::Before((10, 95), (40, 20), 100, false),
+        // Of an age past the checkpoint, and without room, both are worth nothing.
+        Step::Before((10, 200), (63, 0), 100, false),
+        Step::Before((63, 0), (10, 200), 100, false),
+        Step::Before((20, 50), (20, 60), 100, true),
+        Step::Before((20, 60), (20, 50), 100, false),
+        // Products that 64 bits don't hold.
+        Step::Before((0, 0), (1, 0), 18_446_744_073_709_551_615, true),
+        Step::Before((1, 0), (0, 0), 18_446_744_073_709_551_615, false),
+    ];
+    all_well(&rt, Usage::new(rt.alloc(), 64), &rows);
 }
