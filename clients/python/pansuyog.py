@@ -174,9 +174,10 @@ def _cause(errors, reply):
     return errors.decode(errors="replace").strip().removeprefix("lfs: ") or reply
 
 
-def make(image, segments, lfs="lfs"):
-    """Makes an empty volume in an image file: a multiple of 8 segments of 32 KiB, from 64 to 1,024. An earlier content is gone."""
-    with _started(lfs, ["mkfs", os.fspath(image), "--segments", str(segments)]) as child:
+def make(image, segments, lfs="lfs", format=1):
+    """Makes an empty volume in an image file: a multiple of 8 segments of 32 KiB, from 64 to 1,024. An earlier content is gone. A name in it has
+    up to 59 bytes in format 1, and up to 123 in format 2."""
+    with _started(lfs, ["mkfs", os.fspath(image), "--segments", str(segments), "--format", str(format)]) as child:
         output, errors = child.communicate()
     reply = output.decode(errors="replace").strip()
     if reply.startswith("err "):
@@ -281,6 +282,10 @@ class Calls:
         """The blocks that the files take, and the need and its limit."""
         return Space(*map(int, self._call("space")))
 
+    def version(self):
+        """The version of the volume's layout, 1 or 2: the format that it was made in."""
+        return int(self._call("version")[0])
+
     def tree(self):
         """Each entry of each directory."""
         count = int(self._call("tree")[0])
@@ -301,7 +306,6 @@ class Calls:
 
 # The name under which a file stands until it is whole, in the directory that is to have it. `lfs put` has the same.
 _UNFINISHED = b".lfs-put"
-_LONGEST_NAME = 59
 _LONGEST_PATH = 1_023
 _LONGEST_TRANSFER = 65_536
 
@@ -317,7 +321,7 @@ def _check_text(path):
 
 
 def _beside(path):
-    """The path of the unfinished file of a path. What no file is put at is refused, as `lfs put` does."""
+    """The path of the unfinished file of a path. What no file is put at is refused by its text, as `lfs put` does."""
     _check_text(path)
     trimmed = path.rstrip(b"/")
     shown = _escape(path)
@@ -326,8 +330,6 @@ def _beside(path):
     above, slash, name = trimmed.rpartition(b"/")
     if name in (b".", b"..", _UNFINISHED):
         raise _refusal("Inval", f"{shown}: no file is put under this name")
-    if len(name) > _LONGEST_NAME:
-        raise _refusal("NameTooLong", f"{shown}: {_CALL_TEXTS['NameTooLong']}")
     if trimmed != path:
         raise _refusal("NotDir", f"{shown}: {_CALL_TEXTS['NotDir']}")
     return above + slash + _UNFINISHED

@@ -106,6 +106,20 @@ class Calls(OnAVolume):
         self.assertRaises(pansuyog.BadHandle, volume.pwrite, 9, 0, bytes(80_000))
         self.assertEqual(volume.pwrite(handle, 0, b"x"), 1)
 
+    def test_names_are_as_long_as_the_format_has_them(self):
+        volume = self.mounted()
+        self.assertEqual(volume.version(), 1)
+        with self.assertRaises(pansuyog.NameTooLong):
+            volume.mkdir("/" + "n" * 60)
+        volume.close()
+        pansuyog.make(self.image, 64, LFS, format=2)
+        volume = self.mounted()
+        self.assertEqual(volume.version(), 2)
+        volume.write_file("/" + "n" * 123, b"one")
+        self.assertEqual(volume.readdir("/"), [pansuyog.Entry(b"n" * 123, 2, "file")])
+        with self.assertRaises(pansuyog.NameTooLong):
+            volume.write_file("/" + "n" * 124, b"one")
+
     def test_space_is_four_numbers(self):
         space = self.mounted().space()
         self.assertEqual((space.data, space.need, space.limit), (0, 7 * space.meta + 720, 47 * 64))

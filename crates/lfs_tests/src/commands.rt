@@ -436,6 +436,66 @@ fn new_images(rt: HostRuntime) {
     want(&rt, NEW_IMAGES);
 }
 
+// What an image of version 2 has in the place of one of version 1: its version, and the form of its
+// root.
+const OF_VERSION_2: &[Piece] = &[(1, 20, &[2]), (3, 1, &[1])];
+
+// Names of 123 and of 124 bytes, and of 59 and of 60.
+const FORMATS: &[Step] = &[
+    Step::Says(&["lfs mkfs v.img --segments 64 --format 1"], b"", 0, OK),
+    Step::Change("v.want", 0, &[]),
+    Step::Change("v.want", LEN, NEW),
+    Step::Same("v.img", "v.want"),
+    Step::Says(
+        &["lfs put v.img /01234567890123456789012345678901234567890123456789012345678"],
+        b"a",
+        0,
+        Said::Reply(b"ok 1\n"),
+    ),
+    Step::Says(&["lfs put v.img /012345678901234567890123456789012345678901234567890123456789"], b"a", 1, TOO_LONG),
+    Step::Says(&["lfs mkdir v.img /012345678901234567890123456789012345678901234567890123456789"], b"", 1, TOO_LONG),
+    Step::Says(&["lfs check v.img"], b"", 0, FILE_SPACE),
+    Step::Says(&["lfs mkfs v.img --format=2 --segments 64"], b"", 0, OK),
+    Step::Change("v.want", LEN, OF_VERSION_2),
+    Step::Same("v.img", "v.want"),
+    Step::Says(&["lfs mount v.img"], b"", 0, EMPTY),
+    Step::Says(
+        &["lfs run v.img"],
+        b"space\nversion\n",
+        0,
+        Said::Reply(b"ok 0 1 727 3008\nok 2\n"),
+    ),
+    Step::Says(
+        &["lfs put v.img /012345678901234567890123456789012345678901234567890123456789012345678901234567890123456789012345678901234567890123456789012"],
+        b"a",
+        0,
+        Said::Reply(b"ok 1\n"),
+    ),
+    Step::Says(&["lfs put v.img /0123456789012345678901234567890123456789012345678901234567890123456789012345678901234567890123456789012345678901234567890123"], b"a", 1, TOO_LONG),
+    Step::Says(&["lfs mkdir v.img /0123456789012345678901234567890123456789012345678901234567890123456789012345678901234567890123456789012345678901234567890123"], b"", 1, TOO_LONG),
+    Step::Says(&["lfs ls v.img"], b"", 0, Said::Reply(b"012345678901234567890123456789012345678901234567890123456789012345678901234567890123456789012345678901234567890123456789012\n")),
+    Step::Says(&["lfs check v.img"], b"", 0, FILE_SPACE),
+    Step::Says(
+        &["lfs sim --segments 64 --format 2 --stop 1000000 --left old"],
+        b"create /a\nsync\nversion\nstat /\n",
+        0,
+        Said::Reply(b"ok 0\nok\nok 2\nok 1 dir 2 128\nwrites 7\nok 1\n1 a file 2 1 0 -\n"),
+    ),
+    Step::Says(
+        &["lfs sim --format 1 --segments 64 --stop 1000000 --left old"],
+        b"create /a\nsync\nversion\nstat /\n",
+        0,
+        Said::Reply(b"ok 0\nok\nok 1\nok 1 dir 2 64\nwrites 7\nok 1\n1 a file 2 1 0 -\n"),
+    ),
+    Step::Remove("v.img"),
+    Step::Remove("v.want"),
+];
+
+#[test]
+fn volumes_of_either_version(rt: HostRuntime) {
+    want(&rt, FORMATS);
+}
+
 // The tree of an empty volume.
 const EMPTY: Said = Said::Reply(b"ok 0\n");
 
@@ -735,6 +795,7 @@ const LINES: &[Step] = &[
             "lfs mkfs kept.img --segments 65",
             "lfs mkfs kept.img --segments 1032",
             "lfs mkfs kept.img --segments 4294967295",
+            "lfs mkfs kept.img --segments 65 --format 2",
             "lfs mkfs new.img --segments 0",
             "lfs mkfs new.img --segments 8",
             "lfs mkfs new.img --segments 63",
@@ -745,6 +806,7 @@ const LINES: &[Step] = &[
             "lfs sim --segments 8 --stop 0 --left old",
             "lfs sim --segments 63 --stop 0 --left old",
             "lfs sim --segments 65 --stop 0 --left old",
+            "lfs sim --segments 65 --format 2 --stop 0 --left old",
             "lfs sim --segments 1032 --stop 0 --left old",
             "lfs sim --segments 4294967295 --stop 0 --left old",
         ],
@@ -765,9 +827,16 @@ const LINES: &[Step] = &[
             "lfs mkfs kept.img --segments 64x",
             "lfs mkfs kept.img --segments 4294967296",
             "lfs mkfs kept.img --segments 64 --segments 64",
+            "lfs mkfs kept.img --segments 64 --format 0",
+            "lfs mkfs kept.img --segments 64 --format 3",
+            "lfs mkfs kept.img --segments 64 --format 01",
+            "lfs mkfs kept.img --segments 64 --format=",
+            "lfs mkfs kept.img --segments 64 --format 1 --format 2",
+            "lfs mkfs kept.img --format 2",
             "lfs mkfs kept.img new.img --segments 64",
             "lfs mount",
             "lfs mount kept.img --segments 64",
+            "lfs mount kept.img --format 2",
             "lfs run",
             "lfs run kept.img new.img",
             "lfs sim --segments 64 --stop 0",
@@ -781,6 +850,7 @@ const LINES: &[Step] = &[
             "lfs sim --segments 64 --stop 0 --left Old",
             "lfs sim --segments 64 --stop 0 --left other",
             "lfs sim --segments 64 --stop 0 --left=",
+            "lfs sim --segments 64 --format two --stop 0 --left old",
             "lfs sim --segments 63 --stop 0 --left other",
             "lfs check",
             "lfs check kept.img /f",
