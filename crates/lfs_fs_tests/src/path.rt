@@ -12,8 +12,8 @@ use std::test::Fail;
 
 /// Drafts the two files that the root names.
 fn make_files(store: &mut Store<MemDevice>) -> Result<(), Fail> {
-    store.create(file(2)?, Kind::File)?;
-    store.create(file(3)?, Kind::File)?;
+    store.create(file(2)?, Kind::File, 0)?;
+    store.create(file(3)?, Kind::File, 0)?;
     Ok(())
 }
 

@@ -22,8 +22,8 @@ enum Object<'a> {
 /// Drafts a new object.
 fn make(store: &mut Store<MemDevice>, number: FileNumber, object: Object) -> Result<(), Fail> {
     match object {
-        Object::Directory => store.create(number, Kind::Directory)?,
-        Object::File => store.create(number, Kind::File)?,
+        Object::Directory => store.create(number, Kind::Directory, 0)?,
+        Object::File => store.create(number, Kind::File, 0)?,
         Object::Link(text) => make_link(store, number, text)?,
     }
     Ok(())
