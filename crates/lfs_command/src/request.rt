@@ -5,8 +5,8 @@ ghost use Rattle.lfs_command.specs.Asking.{HasWord, IsStrict};
 
 use crate::changing::Change;
 use crate::grammar::{
-    FILE, FIRST_FORMAT, FOLDER, FORCE, FORMAT, FROM, IMAGE, LEFT, LONG, NULL, PATH, RESERVE, SECOND_FORMAT, SEGMENTS, STOP, STRICT, TO,
-    Verb, program, verb_of,
+    FILE, FIRST_FORMAT, FOLDER, FORCE, FORMAT, FROM, IMAGE, LEFT, LONG, NULL, PATH, RESERVE,
+    SECOND_FORMAT, SEGMENTS, STOP, STRICT, TO, Verb, program, verb_of,
 };
 use crate::putting::Source;
 use clap::error::ErrorKind;

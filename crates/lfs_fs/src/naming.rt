@@ -329,12 +329,7 @@ impl<D: SectorDevice> Fs<D> {
     }
 
     /// Drafts a file or a directory of this form, without a byte.
-    fn draft_empty(
-        &mut self,
-        number: FileNumber,
-        kind: Kind,
-        form: u8,
-    ) -> Result<(), FsError>
+    fn draft_empty(&mut self, number: FileNumber, kind: Kind, form: u8) -> Result<(), FsError>
         ensures still { IsStill D.SectorDevice.state (seen self.old) (seen self.new) }
         ensures drafted { OnOk result (DraftsEmpty self.old.store.draft.changes
             self.new.store.draft.changes self.old.store.drafted self.new.store.drafted number.value

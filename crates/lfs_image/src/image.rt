@@ -288,8 +288,9 @@ fn open_to_make<R: Files<File = File> + Clock>(
 
 fn format_file<Here: World>(file: File, making: Making) -> Result<(), Refusal> {
     match device_of::<Here>(file) {
-        Ok(mut device) => format_version(&mut device, making.segments, making.version)
-            .map_err(Refusal::Format),
+        Ok(mut device) => format_version(&mut device, making.segments, making.version).map_err(
+            Refusal::Format,
+        ),
         Err(fault) => Err(Refusal::Image(fault)),
     }
 }

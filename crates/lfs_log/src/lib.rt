@@ -12,11 +12,11 @@ pub mod publishing;
 pub mod relocating;
 pub mod settling;
 
+pub use layout_version::LayoutVersion;
 pub use lfs_memory as memory;
 pub use lfs_memory::{
     BlockEdit, Changes, Cut, Header, HeaderEdit, LastLink, LogFault, Loss, Removal,
 };
 pub use lfs_verify as verify;
 pub use lfs_verify::{BlockTotals, MountFault};
-pub use layout_version::LayoutVersion;
 pub use log::Log;

@@ -474,7 +474,12 @@ impl<D: SectorDevice> Log<D> {
         if self.is_full() {
             return Err(LogFault::Full);
         }
-        match save(&mut self.device, &mut self.memory, self.version, self.number) {
+        match save(
+            &mut self.device,
+            &mut self.memory,
+            self.version,
+            self.number,
+        ) {
             Ok(()) => {
                 self.number += 1;
                 Ok(())
@@ -538,7 +543,12 @@ impl<D: SectorDevice> Log<D> {
             Err(LiftFault::Full) => return Err(LogFault::Full),
             Err(LiftFault::Device) => return Err(LogFault::Device),
         }
-        let Ok(()) = save(&mut self.device, &mut self.memory, self.version, self.number) else {
+        let Ok(()) = save(
+            &mut self.device,
+            &mut self.memory,
+            self.version,
+            self.number,
+        ) else {
             self.halted = true;
             return Err(LogFault::Halted);
         };

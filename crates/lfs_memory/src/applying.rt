@@ -24,13 +24,27 @@ pub fn apply_header(memory: &mut LogMemory, edit: &HeaderEdit) -> Result<(), Dev
     let number = edit.number;
     let header = edit.header;
     if memory.map.address(number) == 0 {
-        create(memory, number, header.kind, header.form, header.links, header.size);
+        create(
+            memory,
+            number,
+            header.kind,
+            header.form,
+            header.links,
+            header.size,
+        );
         return Ok(());
     }
     if !has_block(memory, BlockKey::inode(number)) {
         return Err(DeviceFault);
     }
-    change_header(memory, number, header.kind, header.form, header.links, header.size);
+    change_header(
+        memory,
+        number,
+        header.kind,
+        header.form,
+        header.links,
+        header.size,
+    );
     Ok(())
 }
 

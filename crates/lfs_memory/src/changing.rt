@@ -145,14 +145,7 @@ pub fn change_block(
 }
 
 /// The inode of a file, which is in memory, has this kind, form, number of links and size in bytes.
-pub fn change_header(
-    memory: &mut LogMemory,
-    file: u16,
-    kind: Kind,
-    form: u8,
-    links: u32,
-    size: u32,
-)
+pub fn change_header(memory: &mut LogMemory, file: u16, kind: Kind, form: u8, links: u32, size: u32)
     requires some { 1 ≤ file }
     requires file { file ≤ 4095 }
     requires there { (bytes : List ℕ) × (blocks_of memory.old.dirty (Inode file) ≡ Some bytes) }

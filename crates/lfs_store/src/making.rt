@@ -57,12 +57,7 @@ impl<D: SectorDevice> Store<D> {
     /// # Errors
     ///
     /// `NoMemory` where memory runs out. What the draft holds then is of no use.
-    pub fn create(
-        &mut self,
-        number: FileNumber,
-        kind: Kind,
-        form: u8,
-    ) -> Result<(), StoreFault>
+    pub fn create(&mut self, number: FileNumber, kind: Kind, form: u8) -> Result<(), StoreFault>
         ensures log { self.new.log ≡ self.old.log }
         ensures saved { self.new.saved ≡ self.old.saved }
         ensures done { OnOk result (Makes self.old.draft.changes self.new.draft.changes number.value
