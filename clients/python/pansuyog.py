@@ -283,8 +283,16 @@ class Calls:
         return Space(*map(int, self._call("space")))
 
     def version(self):
-        """The version of the volume's layout, 1 or 2: the format that it was made in."""
+        """The version of the volume's layout, 1 or 2: the format that it has."""
         return int(self._call("version")[0])
+
+    def upgrade(self):
+        """Gives the volume format 2. Directories that are made from then on take names of up to 123 bytes."""
+        self._call("upgrade")
+
+    def widen(self, path):
+        """Lets a directory of a volume of format 2 take such names too. It then has twice as many bytes."""
+        self._call("widen", _escape(path))
 
     def tree(self):
         """Each entry of each directory."""

@@ -120,6 +120,29 @@ class Calls(OnAVolume):
         with self.assertRaises(pansuyog.NameTooLong):
             volume.write_file("/" + "n" * 124, b"one")
 
+    def test_an_old_volume_moves_over(self):
+        volume = self.mounted()
+        volume.mkdir("/d")
+        volume.write_file("/d/f", b"kept")
+        with self.assertRaises(pansuyog.Inval):
+            volume.widen("/d")
+        volume.upgrade()
+        self.assertEqual(volume.version(), 2)
+        with self.assertRaises(pansuyog.NameTooLong):
+            volume.mkdir("/d/" + "n" * 60)
+        self.assertEqual(volume.stat("/d").size, 64)
+        volume.widen("/d")
+        self.assertEqual(volume.stat("/d").size, 128)
+        volume.mkdir("/d/" + "n" * 123)
+        with self.assertRaises(pansuyog.NotDir):
+            volume.widen("/d/f")
+        volume.sync()
+        volume.close()
+        volume = self.mounted()
+        self.assertEqual(volume.version(), 2)
+        self.assertEqual(volume.read("/d/f"), b"kept")
+        self.assertEqual([entry.name for entry in volume.readdir("/d")], [b"f", b"n" * 123])
+
     def test_space_is_four_numbers(self):
         space = self.mounted().space()
         self.assertEqual((space.data, space.need, space.limit), (0, 7 * space.meta + 720, 47 * 64))

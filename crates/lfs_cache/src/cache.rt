@@ -9,6 +9,9 @@ use std::marker::Model;
 /// How many sectors a cache may be asked to keep.
 pub const MOST_SECTORS: u32 = 65_536;
 
+/// How many sectors the cache of a mounted volume keeps, where no other number is asked for.
+pub const DEFAULT_SECTORS: u32 = 256;
+
 /// A device in front of which some sectors are kept: the last that were lent or written. Contracts
 /// see it as its device, of which what is kept changes no answer.
 #[derive(Drop)]

@@ -5,4 +5,4 @@ mod cache;
 mod kept;
 mod sectors;
 
-pub use cache::{CachedDevice, MOST_SECTORS};
+pub use cache::{CachedDevice, DEFAULT_SECTORS, MOST_SECTORS};

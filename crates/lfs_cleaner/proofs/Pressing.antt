@@ -79,10 +79,10 @@ carried P t u a b m n x y vs ws table meta most now same is =
 -- ---- so a pass isn't refused
 module _ {D : Type 0} (state : D → DeviceState) (h h' : Held D) (k : CheckpointValue) (m0 m : LogMap) (can : CanPass state h k m0 m) where
   pub pressed_there : (meta : ℕ) → meta ≡ h.totals.meta_blocks → IsMemory h.memory → IsMap h.memory.map → IsPressed h.memory.usage meta
-  pressed_there meta is memory maps = pressed_here (state h.device) h.memory k m0 m can.holds.log can.nothing meta memory maps can.map can.few (is ∙ can.counted) can.need
+  pressed_there meta is memory maps = pressed_here (state h.device) h.memory k m0 m can.holds.log can.nothing.blocks meta memory maps can.map can.few (is ∙ can.counted) can.need
 
   pub not_refused : (state h'.device).keeps_model → (meta most : ℕ) (vs : List ℕ) → meta ≡ h.totals.meta_blocks → most ≡ length h.memory.usage.segments / 8 + 1 → AreVictims h.memory.usage meta most vs
       → (MayClean h.memory vs → h.number < 2 ^ 64 - 1 → Overfills (state h.device) (state h'.device) h.memory vs (most_brought (length vs))) → ⊥
   not_refused keeps meta most vs is is_most are lacks =
-      fits (state h.device) (state h'.device) h.memory k m0 m meta vs keeps can.holds.log can.map can.nothing (is ∙ can.counted) are.gain
-      (lacks (may_clean h.memory meta most vs can.nothing can.many can.untaken is_most are) can.number)
+      fits (state h.device) (state h'.device) h.memory k m0 m meta vs keeps can.holds.log can.map can.nothing.blocks (is ∙ can.counted) are.gain
+      (lacks (may_clean h.memory meta most vs can.nothing.blocks can.many can.untaken is_most are) can.number)

@@ -11,17 +11,13 @@ use Rattle.lfs_model.proofs.Newest.{newest_fits}
 use Rattle.lfs_log.specs.memory.segments.Table.{clean_in}
 use Rattle.lfs_log.specs.verify.declared.totals.BlockTotals.{BlockTotals}
 use Rattle.lfs_log.specs.Publishing.{AreUntaken}
-use Rattle.lfs_log.specs.Held.{AreAllSaved, Held, Halts, Holds, IsFull, Saves}
+use Rattle.lfs_log.specs.Held.{AreAllSaved, Held, Halts, Holds, IsFull, Saves, unsaved_in}
+use Rattle.lfs_log.proofs.Unsaved.{all_saved, none_unsaved}
 use Rattle.lfs_cleaner.specs.Passing.{CanPass}
 use Rattle.lfs_log.specs.Saving.{commit_orders, pass_orders}
 use Rattle.std.proofs.Math.Nat.{add-mul, mul-le-mul_right, one-mul}
 use Rattle.lfs_cleaner.specs.Room.{CleansQuarter, HaltsLater, HasQuarter, IsReadied, IsRoomFault, IsWithin, KeepsMap, MayMakeRoom, MayNotMakeRoom, PassesDone, PassesInNeed, Repeats, most_checkpoints, passes_orders, room_orders}
 use Rattle.lfs_cleaner.proofs.Rooms.{fault_then, halts_at_once, halts_then, halts_weaker, keeps_then, keeps_weaker, repeats_none, repeats_passes, repeats_saves, repeats_then, repeats_weaker}
-
--- a list without length is empty
-pub none_left : {T : Type 0} (xs : List T) → length xs ≤ 0 → xs ≡ []
-none_left [] le = refl
-none_left (x ∷ xs) le = absurd (omega (arith, le))
 
 -- what two facts of a success give, holds of it
 pub on_success : {T E : Type 0} (r : Result T E) (P Q R : Type 0) → (P → Q → R) → OnOk r P → OnOk r Q → OnOk r R
@@ -97,7 +93,7 @@ module _ {D : Type 0} (state : D → DeviceState) where
   pub nothing_between : (h now : Held D) (count : ℕ) → AreAllSaved h → PassesDone state h now count → AreAllSaved now
   nothing_between h now count nothing done = ⊎_elim (λ (same : now ≡ h). subst (λ (x : Held D). AreAllSaved x) (sym same) nothing) (λ all. all.empty) done.repeats.saved
 
-  module _ (h now : Held D) (count : ℕ) (nothing : h.memory.dirty.blocks ≡ []) (done : PassesDone state h now count) (few : 4 * clean_in now.memory.usage.segments < length now.memory.usage.segments)
+  module _ (h now : Held D) (count : ℕ) (nothing : AreAllSaved h) (done : PassesDone state h now count) (few : 4 * clean_in now.memory.usage.segments < length now.memory.usage.segments)
       (k : CheckpointValue) (m0 m : LogMap) (keeps : (state now.device).keeps_model) (may : MayMakeRoom state h k m0 m) where
     -- the next pass may begin
     pub may_pass : count < length h.memory.usage.segments / 8 → (next : CheckpointValue) × (m1 : LogMap) × CanPass state now next m1 m
@@ -117,7 +113,7 @@ module _ {D : Type 0} (state : D → DeviceState) where
           record {
             holds = over.holds;
             map = may.map;
-            nothing = ⊎_elim (λ (same : now ≡ h). subst (λ (x : Held D). x.memory.dirty.blocks ≡ []) (sym same) nothing) (λ all. all.empty) done.repeats.saved;
+            nothing = ⊎_elim (λ (same : now ≡ h). subst (λ (x : Held D). AreAllSaved x) (sym same) nothing) (λ all. all.empty) done.repeats.saved;
             untaken = ⊎_elim (λ (same : now ≡ h). subst (λ (x : Held D). AreUntaken x.memory.usage) (sym same) (may.untaken nothing)) (λ all. all.untaken) done.repeats.saved;
             few = few;
             many = omega (arith, size, gains, many);
@@ -137,11 +133,11 @@ module _ {D : Type 0} (state : D → DeviceState) where
         omega (arith, all, size, gains, many, few, eighths)
 
   -- what is unsaved is saved, and room can be made still
-  pub room_saved : (h now : Held D) (k : CheckpointValue) (m0 m : LogMap) → Saves state h now → now.totals ≡ h.totals → 0 < length h.memory.dirty.blocks
+  pub room_saved : (h now : Held D) (k : CheckpointValue) (m0 m : LogMap) → Saves state h now → now.totals ≡ h.totals → 0 < unsaved_in h
       → (state now.device).keeps_model → MayMakeRoom state h k m0 m → (next : CheckpointValue) × MayMakeRoom state now next (dropped m) m
   room_saved h now k m0 m s totals some keeps may =
       let next = s.holds k m0 m keeps may.holds may.shown in
-      let none : length now.memory.dirty.blocks ≡ 0 = ap length s.empty in
+      let none = all_saved now s.empty in
       let size = s.segments in
       let rose = s.number in
       let most = may.number in (
@@ -153,14 +149,14 @@ module _ {D : Type 0} (state : D → DeviceState) where
           counted = subst (λ (t : BlockTotals). IsCounted m t.data_blocks t.meta_blocks) (sym totals) may.counted;
           need = same_need h now totals size may.need;
           many = s.many;
-          enough = λ (lt : 0 < length now.memory.dirty.blocks). absurd (omega (arith, lt, none));
+          enough = λ (lt : 0 < unsaved_in now). absurd (omega (arith, lt, none));
           untaken = λ e. s.untaken;
           number = omega (arith, none, size, rose, most, some);
         },
       )
 
   -- where room can be made a commit finds enough clean segments
-  pub commit_fits : (h : Held D) (k : CheckpointValue) (m0 m : LogMap) → IsLawful (state h.device) → 0 < length h.memory.dirty.blocks → IsFull h → MayMakeRoom state h k m0 m → ⊥
+  pub commit_fits : (h : Held D) (k : CheckpointValue) (m0 m : LogMap) → IsLawful (state h.device) → 0 < unsaved_in h → IsFull h → MayMakeRoom state h k m0 m → ⊥
   commit_fits h k m0 m lawful some full may =
       let enough = may.enough some in
       let most = may.number in
@@ -171,22 +167,22 @@ module _ {D : Type 0} (state : D → DeviceState) where
       full
 
   -- ---- what is unsaved is saved first
-  pub readied_none : (h : Held D) → IsLawful (state h.device) → h.halted ≡ false → length h.memory.dirty.blocks ≡ 0 → IsReadied state h h
+  pub readied_none : (h : Held D) → IsLawful (state h.device) → h.halted ≡ false → unsaved_in h ≡ 0 → IsReadied state h h
   readied_none h lawful running none = record {
-    repeats = repeats_weaker state h h 0 (min 1 (length h.memory.dirty.blocks)) (repeats_none state h lawful running) (omega arith);
-    nothing = none_left h.memory.dirty.blocks (omega (arith, none));
+    repeats = repeats_weaker state h h 0 (min 1 (unsaved_in h)) (repeats_none state h lawful running) (omega arith);
+    nothing = none_unsaved h (omega (arith, none));
     room = λ k m0 m keeps may. (k, m0, may);
   }
 
-  pub readied_saves : (h now : Held D) → Saves state h now → now.totals ≡ h.totals → 0 < length h.memory.dirty.blocks → IsReadied state h now
+  pub readied_saves : (h now : Held D) → Saves state h now → now.totals ≡ h.totals → 0 < unsaved_in h → IsReadied state h now
   readied_saves h now s totals some = record {
-    repeats = repeats_weaker state h now 1 (min 1 (length h.memory.dirty.blocks)) (repeats_saves state h now some s totals) (omega (arith, some));
+    repeats = repeats_weaker state h now 1 (min 1 (unsaved_in h)) (repeats_saves state h now some s totals) (omega (arith, some));
     nothing = s.empty;
     room = λ k m0 m keeps may. let next = room_saved h now k m0 m s totals some keeps may in (next.0, dropped m, next.1);
   }
 
   module _ (a b c : Held D) (ready : IsReadied state a b) where
-    few_more : min 1 (length a.memory.dirty.blocks) + length b.memory.usage.segments / 8 ≤ most_checkpoints a
+    few_more : min 1 (unsaved_in a) + length b.memory.usage.segments / 8 ≤ most_checkpoints a
     few_more = let size = ready.repeats.keeps.segments in omega (arith, size)
 
     pub quarter_after : Repeats state b c (length b.memory.usage.segments / 8) → HasQuarter c → CleansQuarter state a c

@@ -1,5 +1,5 @@
 -- Commits and passes, one after the other: the log map stays, and what a stop leaves is the one or the other.
-use Rattle.std.proofs.Common.{◌≡◌, ◌<◌, ◌≤◌, ◌+◌, ◌*◌, inl, inr, ⊎_elim, ℕ, zero, suc, false, List, [], length, refl, sym, ◌∙◌, subst, arith}
+use Rattle.std.proofs.Common.{◌≡◌, ◌<◌, ◌≤◌, ◌+◌, ◌*◌, inl, inr, ⊎_elim, ℕ, zero, suc, false, List, [], length, refl, sym, ◌∙◌, ap, subst, arith}
 use Rattle.std.specs.Prelude.{◌⊎◌}
 use Rattle.lfs_model.specs.Checkpoint.{CheckpointValue}
 use Rattle.lfs_model.specs.Content.{Content}
@@ -10,6 +10,7 @@ use Rattle.lfs_model.specs.Stands.{LogMap}
 use Rattle.lfs_model.specs.TreeOf.{dropped}
 use Rattle.lfs_model.proofs.Moments.{carries_none, carries_then, started, joined, weaker}
 use Rattle.lfs_model.proofs.Settled.{settled_stands}
+use Rattle.lfs_log.proofs.Unsaved.{kept_saved}
 use Rattle.lfs_log.specs.memory.declared.memory.LogMemory.{LogMemory}
 use Rattle.lfs_log.specs.memory.segments.Table.{clean_in}
 use Rattle.lfs_log.specs.memory.Memory.{IsLog}
@@ -53,7 +54,7 @@ module _ {D : Type 0} (state : D → DeviceState) where
   -- memory is as it was
   pub rest_reads : (a b : Held D) → Reads state a b → IsAtRest a → IsAtRest b
   rest_reads a b reads rest = record {
-    nothing = subst (λ (v : LogMemory). v.dirty.blocks ≡ []) (sym reads.memory) rest.nothing;
+    nothing = kept_saved a b rest.nothing (let same = ap (λ (v : LogMemory). length v.dirty.blocks) reads.memory in omega (arith, same)) reads.upgraded;
     untaken = subst (λ (v : LogMemory). AreUntaken v.usage) (sym reads.memory) rest.untaken;
     many = subst (λ (v : LogMemory). length v.usage.segments ≤ 8 * clean_in v.usage.segments) (sym reads.memory) rest.many;
   }

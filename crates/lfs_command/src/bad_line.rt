@@ -84,7 +84,7 @@ fn arguments_of(command: Command) -> &'static [Argument] {
     match command {
         Command::Create | Command::Open | Command::Mkdir | Command::Rmdir => &[P],
         Command::Readlink | Command::Unlink | Command::Readdir => &[P],
-        Command::Stat | Command::Lstat => &[P],
+        Command::Stat | Command::Lstat | Command::Widen => &[P],
         Command::Close | Command::Fsync => &[H],
         Command::Pread => &[H, OFF, LEN],
         Command::Pwrite => &[H, OFF, HEX],
@@ -92,7 +92,7 @@ fn arguments_of(command: Command) -> &'static [Argument] {
         Command::Truncate => &[H, LONG_LEN],
         Command::Link | Command::Rename => &[A, B],
         Command::Symlink => &[TEXT, P],
-        Command::Sync | Command::Clean => &[],
+        Command::Sync | Command::Clean | Command::Upgrade => &[],
         Command::Space | Command::Version | Command::Tree => &[],
     }
 }

@@ -5,7 +5,7 @@ use lfs_image::image;
 use lfs_image::looking::read_path;
 use lfs_image::printing::{print, refuse};
 use lfs_image::room::refusal_of;
-use lfs_put::{clean, make_directory, remove, rename};
+use lfs_put::{clean, make_directory, remove, rename, upgrade};
 use lfs_script::fs::{Fs, FsError};
 use std::alloc::Global;
 use std::fs::File;
@@ -23,6 +23,8 @@ pub enum Change<'a> {
     MakeDirectory(&'a str),
     /// Segments are cleaned.
     Clean,
+    /// The version of the layout becomes 2.
+    Upgrade,
 }
 
 impl<'a> Change<'a> {
@@ -32,7 +34,7 @@ impl<'a> Change<'a> {
             Change::Remove(path) | Change::Rename(path, _) | Change::MakeDirectory(path) => {
                 Some(path)
             }
-            Change::Clean => None,
+            Change::Clean | Change::Upgrade => None,
         }
     }
 }
@@ -47,7 +49,7 @@ fn paths_of(alloc: Global, change: Change<'_>) -> Result<(Vec<u8>, Vec<u8>), Fau
             let from = read_path(alloc, from)?;
             Ok((from, read_path(alloc, to)?))
         }
-        Change::Clean => Ok((Vec::new(alloc), Vec::new(alloc))),
+        Change::Clean | Change::Upgrade => Ok((Vec::new(alloc), Vec::new(alloc))),
     }
 }
 
@@ -63,6 +65,7 @@ fn change_by<D: SectorDevice>(
         Change::Rename(..) => rename(fs, path, to),
         Change::MakeDirectory(_) => make_directory(fs, path),
         Change::Clean => clean(fs),
+        Change::Upgrade => upgrade(fs),
     }
 }
 

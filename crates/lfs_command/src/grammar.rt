@@ -20,6 +20,7 @@ pub enum Verb {
     Mv,
     Mkdir,
     Clean,
+    Upgrade,
     Df,
     Info,
     Export,
@@ -347,6 +348,16 @@ const USAGES: &[Usage] = &[
         about: "Clean segments until a quarter of them is clean",
         details: "Clean segments until a quarter of them is clean, and print `ok`. The tree stays\n\
             as it is, and so does the space that is free.",
+        parameters: &[THE_IMAGE],
+    },
+    Usage {
+        verb: Verb::Upgrade,
+        name: "upgrade",
+        about: "Give the volume the layout of format 2",
+        details: "Give the volume the layout of format 2, and print `ok` once that is synced. Its\n\
+            tree stays as it is. In directories that are made from then on names have up to\n\
+            123 bytes; the line `widen` of a script lets an older one have them. A volume of\n\
+            format 2 stays as it is. No command makes one of format 1 of it again.",
         parameters: &[THE_IMAGE],
     },
     Usage {

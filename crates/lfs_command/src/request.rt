@@ -172,6 +172,7 @@ fn asked<'a>(verb: Verb, found: &ArgMatches<'a>) -> Option<Request<'a>> {
         Verb::Mv => changes(read_rename(found), found),
         Verb::Mkdir => changes(Some(Change::MakeDirectory(found.get_str(PATH)?)), found),
         Verb::Clean => changes(Some(Change::Clean), found),
+        Verb::Upgrade => changes(Some(Change::Upgrade), found),
         Verb::Run if found.get_flag(STRICT) => Some(Request::Strict {
             image: found.get_str(IMAGE)?,
         }),

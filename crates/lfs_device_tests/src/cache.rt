@@ -1,6 +1,6 @@
 ghost use Rattle.std.specs.Prelude.{◌≤◌};
 
-use crate::helpers::{BAD, Row, all_well, filled, lose, only_byte, put};
+use crate::helpers::{BAD, Row, all_well, filled, first_wrong, lose, only_byte, put};
 use lfs_cache::{CachedDevice, MOST_SECTORS};
 use lfs_device::{DeviceCall, MemDevice, NoMemory, ReadFault, SectorDevice};
 use std::alloc::Global;
@@ -129,4 +129,31 @@ fn an_unreadable_sector_is_not_kept(rt: HostRuntime) {
         Step::Reads(3, Ok(4)),
     ];
     all_well(&rt, cached(rt.alloc(), 2, &[(DeviceCall::Read, 1)]), &steps);
+}
+
+/// What is seen is the same where memory to keep a sector is refused. Where memory for the cache is,
+/// the device comes back as it was. `rt try --test --fail-alloc` refuses an allocation.
+#[test]
+fn refused_memory_changes_no_answer(rt: HostRuntime) {
+    let steps = [
+        Step::Lends(1, Ok(1)),
+        Step::Lends(2, Ok(2)),
+        Step::Lends(1, Ok(1)),
+        Step::Reads(2, Ok(2)),
+        Step::Fill(0, 5, true),
+        Step::Lends(0, Ok(5)),
+        Step::Fill(0, 6, true),
+        Step::Reads(0, Ok(6)),
+        Step::Lends(0, Ok(6)),
+        Step::Lends(3, BAD),
+        Step::Lends(2, Ok(2)),
+        Step::Lends(1, Ok(1)),
+    ];
+    let Ok(device) = four_sectors(rt.alloc(), &[]) else {
+        return;
+    };
+    match CachedDevice::new(rt.alloc(), device, 4) {
+        Ok(mut cache) => assert_eq!(rt; first_wrong(&mut cache, &steps), None),
+        Err((_, mut device)) => assert_eq!(rt; filled(&mut device, 1), Ok(1)),
+    }
 }

@@ -1,4 +1,5 @@
 use crate::helpers::{Row, Words, all_well, block, put_blocks, put_dirty, put_word};
+use lfs_cache::{CachedDevice, DEFAULT_SECTORS};
 use lfs_device::{DeviceCall, MemDevice, NoMemory, ReadFault};
 use lfs_layout::{BlockName, PointerView};
 use lfs_memory::inodes::{
@@ -313,11 +314,14 @@ fn blocks_of_a_file_from_one_on(rt: HostRuntime) {
     all_well(&rt, DirtyTable::new(rt.alloc(), 22, 22), &steps);
 }
 
+type Cached = CachedDevice<MemDevice>;
+
+/// No read fails.
+const NONE: u64 = u64::MAX;
+
 /// A way through an inode's pointers, and where it leads.
 #[derive(Clone, Copy)]
 enum Way {
-    /// The tree of an inode is put on the device.
-    Put,
     /// The address of a block on the device.
     To(u32, Result<u32, ReadFault>),
     /// The same where an inode, a leaf and a double root in memory come first.
@@ -326,7 +330,6 @@ enum Way {
     Points(u32, u32, Result<bool, ReadFault>),
     /// An inode of zeros doesn't point to a block at address 0.
     PointsNowhere,
-    FailRead(u64),
 }
 
 /// Puts a single leaf in sector 2 and a double root in sector 3, which has leaves in sectors 4 and
@@ -341,22 +344,27 @@ fn put_tree(device: &mut MemDevice) -> bool {
     put_blocks(device, &blocks)
 }
 
-/// A device of zeros, and a table with a leaf and the double root of file 9.
-fn volume(alloc: Global) -> Result<(MemDevice, DirtyTable), NoMemory> {
-    let device = MemDevice::new(alloc, 6)?;
+/// A device with the tree of an inode, behind a cache, and a table with a leaf and the double root of
+/// file 9. One read of the device fails, before which so many come.
+fn volume(alloc: Global, read: u64) -> Result<(Cached, DirtyTable), NoMemory> {
+    let mut device = MemDevice::new(alloc, 6)?;
+    put_tree(&mut device);
+    device.fail(DeviceCall::Read, read);
     let mut table = DirtyTable::new(alloc, 2, 2)?;
     let root = [(0, IN_MEMORY), (2, 6), (3, IN_MEMORY), (127, 5)];
     let leaf = [(0, 30), (127, IN_MEMORY)];
     put_dirty(&mut table, BlockKey::leaf(9, 1), &leaf);
     put_dirty(&mut table, BlockKey::double(9), &root);
-    Ok((device, table))
+    match CachedDevice::new(alloc, device, DEFAULT_SECTORS) {
+        Ok(device) => Ok((device, table)),
+        Err(refused) => Err(refused.0),
+    }
 }
 
-impl Row<(MemDevice, DirtyTable)> for Way {
-    fn is_well(self, (device, table): &mut (MemDevice, DirtyTable)) -> bool {
+impl Row<(Cached, DirtyTable)> for Way {
+    fn is_well(self, (device, table): &mut (Cached, DirtyTable)) -> bool {
         let inode = block(&[(8, 20), (119, 21), (120, 2), (121, 3)]);
         match self {
-            Way::Put => put_tree(device),
             Way::To(index, want) => locate(device, &inode, index) == want,
             Way::Through(index, want) => {
                 let inode = block(&[(8, 20), (119, IN_MEMORY), (120, 2), (121, IN_MEMORY)]);
@@ -368,10 +376,6 @@ impl Row<(MemDevice, DirtyTable)> for Way {
             Way::PointsNowhere => {
                 owner_points(device, &[0; 512], nth_key(0, true), 0) == Ok(false)
             }
-            Way::FailRead(nth) => {
-                device.fail(DeviceCall::Read, nth);
-                true
-            }
         }
     }
 }
@@ -379,7 +383,6 @@ impl Row<(MemDevice, DirtyTable)> for Way {
 #[test]
 fn the_way_to_a_block(rt: HostRuntime) {
     let rows = [
-        Way::Put,
         Way::To(0, Ok(20)),
         Way::To(1, Ok(0)),
         Way::To(111, Ok(21)),
@@ -394,21 +397,30 @@ fn the_way_to_a_block(rt: HostRuntime) {
         Way::To(16_623, Ok(27)),
         Way::To(16_624, Ok(0)),
         Way::To(u32::MAX, Ok(0)),
-        // A block that the inode points to is found with no read.
-        Way::FailRead(0),
-        Way::To(111, Ok(21)),
-        Way::FailRead(0),
-        Way::To(112, Err(ReadFault::Failed)),
-        Way::FailRead(1),
-        Way::To(240, Err(ReadFault::Failed)),
     ];
-    all_well(&rt, volume(rt.alloc()), &rows);
+    all_well(&rt, volume(rt.alloc(), NONE), &rows);
+    let first = [
+        // A block that the inode points to is found with no read.
+        Way::To(111, Ok(21)),
+        Way::To(112, Err(ReadFault::Failed)),
+        Way::To(112, Ok(22)),
+    ];
+    all_well(&rt, volume(rt.alloc(), 0), &first);
+    let third = [
+        // The double root and leaf 1, and then nothing more for blocks below that.
+        Way::To(240, Ok(24)),
+        Way::To(367, Ok(25)),
+        Way::To(241, Ok(0)),
+        // Of leaf 128 only itself.
+        Way::To(16_496, Err(ReadFault::Failed)),
+        Way::To(16_496, Ok(26)),
+    ];
+    all_well(&rt, volume(rt.alloc(), 2), &third);
 }
 
 #[test]
 fn the_way_through_memory(rt: HostRuntime) {
     let rows = [
-        Way::Put,
         Way::Through(0, Ok(20)),
         Way::Through(111, Ok(IN_MEMORY)),
         Way::Through(112, Ok(22)),
@@ -420,13 +432,12 @@ fn the_way_through_memory(rt: HostRuntime) {
         Way::Through(624, Ok(0)),
         Way::Through(16_623, Ok(27)),
     ];
-    all_well(&rt, volume(rt.alloc()), &rows);
+    all_well(&rt, volume(rt.alloc(), NONE), &rows);
 }
 
 #[test]
 fn what_an_inode_points_to(rt: HostRuntime) {
     let rows = [
-        Way::Put,
         Way::Points(0, 20, Ok(true)),
         Way::Points(0, 21, Ok(false)),
         Way::Points(1, 21, Ok(true)),
@@ -443,7 +454,7 @@ fn what_an_inode_points_to(rt: HostRuntime) {
         Way::Points(10, 0, Ok(false)),
         Way::PointsNowhere,
     ];
-    all_well(&rt, volume(rt.alloc()), &rows);
+    all_well(&rt, volume(rt.alloc(), NONE), &rows);
 }
 
 /// What is done with a map of inodes, and what is seen.

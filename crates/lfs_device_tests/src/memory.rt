@@ -1,4 +1,5 @@
 use crate::helpers::{Row, Words, all_well, lose, put_blocks, put_dirty};
+use lfs_cache::{CachedDevice, DEFAULT_SECTORS};
 use lfs_device::{DeviceCall, DeviceFault, MemDevice, NoMemory};
 use lfs_layout::word;
 use lfs_memory::inodes::{BlockKey, DirtyTable, IN_MEMORY, InodeMap};
@@ -8,18 +9,16 @@ use lfs_memory::{Header, LogMemory};
 use lfs_model::Kind;
 use std::alloc::Global;
 
-/// A read through memory and what it gives, or what is chosen for the device.
+/// A read through memory and what it gives.
 #[derive(Clone, Copy)]
 enum Step {
-    /// Files 9 and 10 are put, the one on the device and the other in memory too.
-    Put,
-    /// Of a file's number and an index: whether the block is stored, and its first number.
+    /// Of a file's number and an index: whether the block is stored, and its first number, if it can
+    /// be read.
     Block(u16, u32, Result<bool, DeviceFault>, u32),
     /// Of a file's number: what its inode says.
     Header(u16, Result<Option<Header>, DeviceFault>),
     /// Of a file's number and a leaf: the pointer to it.
     Leaf(u16, u32, Result<u32, DeviceFault>),
-    FailRead(u64),
 }
 
 /// Puts file 9 on the device, with blocks 0, 112 and 240, two of which file 10 has too.
@@ -59,40 +58,45 @@ fn put_in_memory(memory: &mut LogMemory) -> bool {
         && put_dirty(dirty, BlockKey::data(10, 112), &[(0, 800)])
 }
 
-/// A device of zeros, and a log in memory with no file.
-fn volume(alloc: Global) -> Result<(MemDevice, LogMemory), NoMemory> {
-    let device = MemDevice::new(alloc, 40)?;
+type Cached = CachedDevice<MemDevice>;
+
+/// No read fails.
+const NONE: u64 = u64::MAX;
+
+/// Files 9 and 10, the one on a device, behind a cache, and the other in memory too. One read of the
+/// device fails, before which so many come.
+fn volume(alloc: Global, read: u64) -> Result<(Cached, LogMemory), NoMemory> {
+    let mut device = MemDevice::new(alloc, 40)?;
+    put_files(&mut device);
+    lose(&mut device, 30);
+    device.fail(DeviceCall::Read, read);
     let map = InodeMap::new(alloc)?;
     let usage = Usage::new(alloc, 64)?;
     let dirty = DirtyTable::new(alloc, 4, 4)?;
-    let chunk = ChunkWriter::new();
-    Ok((
-        device,
-        LogMemory {
-            map,
-            usage,
-            dirty,
-            chunk,
-        },
-    ))
+    let mut memory = LogMemory {
+        map,
+        usage,
+        dirty,
+        chunk: ChunkWriter::new(),
+    };
+    put_in_memory(&mut memory);
+    match CachedDevice::new(alloc, device, DEFAULT_SECTORS) {
+        Ok(device) => Ok((device, memory)),
+        Err(refused) => Err(refused.0),
+    }
 }
 
-impl Row<(MemDevice, LogMemory)> for Step {
-    fn is_well(self, (device, memory): &mut (MemDevice, LogMemory)) -> bool {
+impl Row<(Cached, LogMemory)> for Step {
+    fn is_well(self, (device, memory): &mut (Cached, LogMemory)) -> bool {
         match self {
-            Step::Put => put_files(device) && lose(device, 30) && put_in_memory(memory),
             Step::Block(number, index, want, first) => {
                 let mut out = [9; 512];
-                read_block(device, memory, number % 4_096, index, &mut out) == want
-                    && word(&out, 0) == first
+                let stored = read_block(device, memory, number % 4_096, index, &mut out);
+                stored == want && (stored.is_err() || word(&out, 0) == first)
             }
             Step::Header(number, want) => read_header(device, memory, number % 4_096) == want,
             Step::Leaf(number, leaf, want) => {
                 locate_leaf(device, memory, number % 4_096, leaf % 129) == want
-            }
-            Step::FailRead(nth) => {
-                device.fail(DeviceCall::Read, nth);
-                true
             }
         }
     }
@@ -102,7 +106,6 @@ impl Row<(MemDevice, LogMemory)> for Step {
 fn blocks_that_are_read(rt: HostRuntime) {
     let fault = Err(DeviceFault);
     let steps = [
-        Step::Put,
         Step::Block(9, 0, Ok(true), 700),
         Step::Block(9, 1, Ok(false), 0),
         Step::Block(9, 112, Ok(true), 701),
@@ -121,7 +124,7 @@ fn blocks_that_are_read(rt: HostRuntime) {
         Step::Block(0, 0, Ok(false), 0),
         Step::Block(14, 0, Ok(false), 0),
     ];
-    all_well(&rt, volume(rt.alloc()), &steps);
+    all_well(&rt, volume(rt.alloc(), NONE), &steps);
 }
 
 #[test]
@@ -139,22 +142,24 @@ fn headers_that_are_read(rt: HostRuntime) {
         size: 64,
     };
     let steps = [
-        Step::Put,
         Step::Header(9, Ok(Some(file))),
         Step::Header(10, Ok(Some(directory))),
         Step::Header(11, Err(DeviceFault)),
         Step::Header(13, Err(DeviceFault)),
         Step::Header(14, Ok(None)),
-        Step::FailRead(0),
-        Step::Header(9, Err(DeviceFault)),
     ];
-    all_well(&rt, volume(rt.alloc()), &steps);
+    all_well(&rt, volume(rt.alloc(), NONE), &steps);
+    let fails = [
+        Step::Header(10, Ok(Some(directory))),
+        Step::Header(9, Err(DeviceFault)),
+        Step::Header(9, Ok(Some(file))),
+    ];
+    all_well(&rt, volume(rt.alloc(), 0), &fails);
 }
 
 #[test]
 fn leaves_that_are_located(rt: HostRuntime) {
     let steps = [
-        Step::Put,
         Step::Leaf(9, 0, Ok(21)),
         Step::Leaf(9, 1, Ok(23)),
         Step::Leaf(9, 2, Ok(0)),
@@ -165,5 +170,5 @@ fn leaves_that_are_located(rt: HostRuntime) {
         Step::Leaf(0, 0, Ok(0)),
         Step::Leaf(14, 1, Ok(0)),
     ];
-    all_well(&rt, volume(rt.alloc()), &steps);
+    all_well(&rt, volume(rt.alloc(), NONE), &steps);
 }

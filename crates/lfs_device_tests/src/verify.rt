@@ -1,7 +1,8 @@
 ghost use Rattle.std.specs.Prelude.{◌≤◌, ℕ, get_or};
 
 use crate::helpers::{Row, Words, all_well, lose, name, put, put_blocks};
-use lfs_device::{DeviceCall, DeviceFault, MemDevice, SectorDevice};
+use lfs_cache::CachedDevice;
+use lfs_device::{DeviceCall, DeviceFault, MemDevice, NoMemory, SectorDevice};
 use lfs_layout::{BlockName, encode_summary, is_summary};
 use lfs_model::BlockKind;
 use lfs_verify::WalkFault;
@@ -11,6 +12,7 @@ use lfs_verify::counts::stage_counts;
 use lfs_verify::labels::stage_labels;
 use lfs_verify::rows::stage_rows;
 use lfs_verify::walk::walk_pointers;
+use std::alloc::Global;
 
 /// Where file 5 has its blocks.
 #[derive(Clone, Copy)]
@@ -36,29 +38,59 @@ const BARE: Tree = Tree {
     data: [0, 20, 21],
 };
 
-/// What is done with a volume of two segments, and what is seen.
+/// What is seen of a volume of two segments.
 #[derive(Clone, Copy)]
 enum Step {
-    Lose(u32),
-    /// The file is put, with its inode in sector 10.
-    Put(Tree),
     /// What the walk over the pointers gives, and the marks of sectors 11, 12 and 13.
     Walks(Result<(), WalkFault>, [u32; 3]),
-    /// The nth read from here on fails, and so does the walk.
-    FailsToWalk(u64),
+    /// A read fails, and so does the walk.
+    FailsToWalk,
     /// Whether the stage of data holds, and the marks of sectors 20, 21 and 22.
     Takes(bool, [u32; 3]),
-    /// The nth read from here on fails, and so does the stage of data.
-    FailsToTake(u64),
-    /// The chunks are put.
-    Chunks,
+    /// A read fails, and so does the stage of data.
+    FailsToTake,
     /// Of so many sectors that the first segment uses, and the second: whether the chunks fill
     /// them; nothing where a read failed.
     Rows([u16; 2], Option<bool>),
     /// Of the same, and a sector whose mark is another: whether the marks are as the summaries say.
     Labels([u16; 2], Option<(usize, u32)>, Option<bool>),
-    FailRead(u64),
 }
+
+type Cached = CachedDevice<MemDevice>;
+
+/// What a device holds, and what is wrong with it.
+#[derive(Clone, Copy)]
+enum Held {
+    /// The file, with its inode in sector 10. Sector 15 is lost.
+    File(Tree),
+    /// The chunks. Sector 6 may be lost.
+    Chunks { lost: bool },
+}
+
+/// A device of two segments that holds this, behind a cache. One read fails, before which so many
+/// come.
+fn volume(alloc: Global, held: Held, read: u64) -> Result<Cached, NoMemory> {
+    let mut device = MemDevice::new(alloc, 130)?;
+    let put = match held {
+        Held::File(tree) => put_tree(&mut device, tree) && lose(&mut device, 15),
+        Held::Chunks { lost: false } => put_chunks(&mut device),
+        Held::Chunks { lost: true } => put_chunks(&mut device) && lose(&mut device, 6),
+    };
+    if !put {
+        return Err(NoMemory);
+    }
+    device.fail(DeviceCall::Read, read);
+    match CachedDevice::new(alloc, device, 1) {
+        Ok(device) => Ok(device),
+        Err(refused) => Err(refused.0),
+    }
+}
+
+/// The chunks, with no sector lost.
+const CHUNKS: Held = Held::Chunks { lost: false };
+
+/// No read fails.
+const NONE: u64 = u64::MAX;
 
 /// Puts file 5 with its inode in sector 10, blocks of addresses in 11, 12 and 13, and data in 20,
 /// 21 and 22. Sector 14 stays zero, and 23 has bytes past its first one.
@@ -96,7 +128,7 @@ fn map_of(address: u32) -> [u32; 4096]
 }
 
 /// What the walk over the pointers gives, and the marks of sectors 11, 12 and 13.
-fn walk(device: &mut MemDevice) -> (Result<(), WalkFault>, [u32; 3]) {
+fn walk(device: &mut Cached) -> (Result<(), WalkFault>, [u32; 3]) {
     let map = map_of(10);
     let mut marks = [0; 130];
     if device.sectors() < 130 {
@@ -109,7 +141,7 @@ fn walk(device: &mut MemDevice) -> (Result<(), WalkFault>, [u32; 3]) {
 }
 
 /// What the stage of data gives, and the marks of sectors 20, 21 and 22.
-fn take(device: &mut MemDevice) -> (Result<bool, DeviceFault>, [u32; 3]) {
+fn take(device: &mut Cached) -> (Result<bool, DeviceFault>, [u32; 3]) {
     let map = map_of(10);
     let mut marks = [0; 130];
     if device.sectors() < 130 {
@@ -146,7 +178,7 @@ fn put_chunks(device: &mut MemDevice) -> bool {
     put_summary(device, 2, &first) && put_summary(device, 6, &second)
 }
 
-fn rows(device: &mut MemDevice, used: [u16; 2]) -> Option<bool> {
+fn rows(device: &mut Cached, used: [u16; 2]) -> Option<bool> {
     let mut sector = [0; 512];
     if device.sectors() < 130 {
         return None;
@@ -154,7 +186,7 @@ fn rows(device: &mut MemDevice, used: [u16; 2]) -> Option<bool> {
     stage_rows(device, &used, &mut sector).ok()
 }
 
-fn labels(device: &mut MemDevice, used: [u16; 2], change: Option<(usize, u32)>) -> Option<bool> {
+fn labels(device: &mut Cached, used: [u16; 2], change: Option<(usize, u32)>) -> Option<bool> {
     let mut marks = [0; 130];
     marks[3] = 619_748;
     marks[4] = 12_977;
@@ -171,28 +203,15 @@ fn labels(device: &mut MemDevice, used: [u16; 2], change: Option<(usize, u32)>) 
     stage_labels(device, &used, &marks, &mut sector).ok()
 }
 
-impl Row<MemDevice> for Step {
-    fn is_well(self, device: &mut MemDevice) -> bool {
+impl Row<Cached> for Step {
+    fn is_well(self, device: &mut Cached) -> bool {
         match self {
-            Step::Lose(sector) => lose(device, sector),
-            Step::Put(tree) => put_tree(device, tree),
             Step::Walks(end, marks) => walk(device) == (end, marks),
-            Step::FailsToWalk(nth) => {
-                device.fail(DeviceCall::Read, nth);
-                walk(device).0 == Err(WalkFault::Device)
-            }
+            Step::FailsToWalk => walk(device).0 == Err(WalkFault::Device),
             Step::Takes(holds, marks) => take(device) == (Ok(holds), marks),
-            Step::FailsToTake(nth) => {
-                device.fail(DeviceCall::Read, nth);
-                take(device).0 == Err(DeviceFault)
-            }
-            Step::Chunks => put_chunks(device),
+            Step::FailsToTake => take(device).0 == Err(DeviceFault),
             Step::Rows(used, holds) => rows(device, used) == holds,
             Step::Labels(used, change, holds) => labels(device, used, change) == holds,
-            Step::FailRead(nth) => {
-                device.fail(DeviceCall::Read, nth);
-                true
-            }
         }
     }
 }
@@ -215,9 +234,9 @@ fn pointers_of_one_file(rt: HostRuntime) {
         ([11, 12, 15], leaf, [4_155, 4_156, 0]),
     ];
     for (pointers, end, marks) in rows {
-        let tree = Tree { pointers, ..BARE };
-        let steps = [Step::Lose(15), Step::Put(tree), Step::Walks(end, marks)];
-        all_well(&rt, MemDevice::new(rt.alloc(), 130), &steps);
+        let held = Held::File(Tree { pointers, ..BARE });
+        let steps = [Step::Walks(end, marks)];
+        all_well(&rt, volume(rt.alloc(), held, NONE), &steps);
     }
 }
 
@@ -242,13 +261,13 @@ fn data_of_one_file(rt: HostRuntime) {
         (319_488, [20, 21, 22], false, all),
     ];
     for (size, data, holds, marks) in rows {
-        let tree = Tree {
+        let held = Held::File(Tree {
             size,
             data,
             ..WHOLE
-        };
-        let steps = [Step::Lose(15), Step::Put(tree), Step::Takes(holds, marks)];
-        all_well(&rt, MemDevice::new(rt.alloc(), 130), &steps);
+        });
+        let steps = [Step::Takes(holds, marks)];
+        all_well(&rt, volume(rt.alloc(), held, NONE), &steps);
     }
 }
 
@@ -266,38 +285,27 @@ fn leaves_of_one_file(rt: HostRuntime) {
         ([11, 15, 13], false, two),
     ];
     for (pointers, holds, marks) in rows {
-        let tree = Tree { pointers, ..WHOLE };
-        let steps = [Step::Lose(15), Step::Put(tree), Step::Takes(holds, marks)];
-        all_well(&rt, MemDevice::new(rt.alloc(), 130), &steps);
+        let held = Held::File(Tree { pointers, ..WHOLE });
+        let steps = [Step::Takes(holds, marks)];
+        all_well(&rt, volume(rt.alloc(), held, NONE), &steps);
     }
 }
 
 #[test]
 fn reads_that_fail(rt: HostRuntime) {
-    let steps = [
-        Step::Put(BARE),
-        Step::FailsToWalk(0),
-        Step::FailsToWalk(1),
-        Step::FailsToWalk(2),
-        Step::FailsToWalk(3),
-        Step::FailsToWalk(4),
-        Step::FailsToWalk(5),
-        Step::Put(WHOLE),
-        Step::FailsToTake(0),
-        Step::FailsToTake(1),
-        Step::FailsToTake(2),
-        Step::FailsToTake(3),
-        Step::FailsToTake(4),
-        Step::FailsToTake(5),
-        Step::FailsToTake(6),
-    ];
-    all_well(&rt, MemDevice::new(rt.alloc(), 130), &steps);
+    for read in 0..6 {
+        let volume = volume(rt.alloc(), Held::File(BARE), read);
+        all_well(&rt, volume, &[Step::FailsToWalk]);
+    }
+    for read in 0..7 {
+        let volume = volume(rt.alloc(), Held::File(WHOLE), read);
+        all_well(&rt, volume, &[Step::FailsToTake]);
+    }
 }
 
 #[test]
 fn chunks_of_a_segment(rt: HostRuntime) {
     let steps = [
-        Step::Chunks,
         Step::Rows([7, 0], Some(true)),
         Step::Rows([4, 0], Some(true)),
         Step::Rows([0, 0], Some(true)),
@@ -309,19 +317,21 @@ fn chunks_of_a_segment(rt: HostRuntime) {
         Step::Rows([64, 0], Some(false)),
         Step::Rows([65, 0], Some(false)),
         Step::Rows([7, 1], Some(false)),
-        Step::Lose(6),
+    ];
+    all_well(&rt, volume(rt.alloc(), CHUNKS, NONE), &steps);
+    let short = [
         Step::Rows([4, 0], Some(true)),
         Step::Rows([7, 0], Some(false)),
-        Step::FailRead(0),
-        Step::Rows([7, 0], None),
     ];
-    all_well(&rt, MemDevice::new(rt.alloc(), 130), &steps);
+    let lost = Held::Chunks { lost: true };
+    all_well(&rt, volume(rt.alloc(), lost, NONE), &short);
+    let fails = [Step::Rows([7, 0], None)];
+    all_well(&rt, volume(rt.alloc(), CHUNKS, 0), &fails);
 }
 
 #[test]
 fn labels_of_a_segment(rt: HostRuntime) {
     let steps = [
-        Step::Chunks,
         Step::Labels([7, 0], None, Some(true)),
         // A block may have no mark, but not another one.
         Step::Labels([7, 0], Some((3, 0)), Some(true)),
@@ -342,10 +352,10 @@ fn labels_of_a_segment(rt: HostRuntime) {
         Step::Labels([7, 0], Some((66, 1)), Some(false)),
         Step::Labels([7, 0], Some((129, 1)), Some(false)),
         Step::Labels([4, 0], None, Some(false)),
-        Step::FailRead(1),
-        Step::Labels([7, 0], None, None),
     ];
-    all_well(&rt, MemDevice::new(rt.alloc(), 130), &steps);
+    all_well(&rt, volume(rt.alloc(), CHUNKS, NONE), &steps);
+    let fails = [Step::Labels([7, 0], None, None)];
+    all_well(&rt, volume(rt.alloc(), CHUNKS, 1), &fails);
 }
 
 #[test]

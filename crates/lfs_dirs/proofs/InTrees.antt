@@ -10,7 +10,8 @@ use Rattle.lfs_model.proofs.ObjectTrees.{node_of_header, tree_with}
 use Rattle.lfs_files.specs.declared.header.Header.{Header}
 use Rattle.lfs_files.specs.Headers.{as_header}
 use Rattle.lfs_dirs.specs.Directory.{names_at}
-use Rattle.lfs_dirs.specs.InTree.{ChangesDirectory, DirectoryMade, DirectoryNode, NameInTree, NameOffTree}
+use Rattle.lfs_dirs.specs.InTree.{ChangesDirectory, DirectoryMade, DirectoryNode, DirectoryWidened, NameInTree, NameOffTree}
+use Rattle.lfs_dirs.specs.Widening.{wide}
 use Rattle.lfs_dirs.proofs.SlotsKept.{empty_directory}
 
 pub directory_node : DirectoryNode
@@ -30,6 +31,12 @@ name_in_tree m m' d head head' name n is names = changed_tree m m' d head head' 
 
 pub name_off_tree : NameOffTree
 name_off_tree m m' d head head' name is names = changed_tree m m' d head head' is (without byte_cmp name) names
+
+pub directory_widened : DirectoryWidened
+directory_widened m m' d head only before after names =
+    tree_with m m' d (Dir 1 (names_at m' d (wide head))) only (directory_node m' d (wide head) after)
+    ∙ ap (λ (ns : Names). with_node (tree_in m) d (Dir 1 ns)) names
+    ∙ sym (ap (λ (o : Option Node). with_node (tree_in m) d (Dir 1 (names_of (unwrap_or o (File []))))) (directory_node m d head before))
 
 pub directory_made : DirectoryMade
 directory_made m m' d head only is empty =

@@ -14,3 +14,5 @@ pub mod PlacesOfNames
 pub mod Lists
 pub mod InTrees
 pub mod Widths
+pub mod Widenings
+pub mod WideDrafts

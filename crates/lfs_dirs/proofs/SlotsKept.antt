@@ -1,6 +1,6 @@
 -- Slots that stay, and none.
 use Rattle.std.specs.Prelude.{slice_index}
-use Rattle.std.proofs.Common.{◌≡◌, ◌≢◌, ◌*◌, ◌/◌, ◌%◌, ℕ, zero, suc, List, [], length, map, take, drop, None, refl, sym, ◌∙◌, ap, ap₂, subst, arith}
+use Rattle.std.proofs.Common.{◌≡◌, ◌≢◌, ◌*◌, ◌/◌, ◌%◌, ℕ, zero, suc, List, [], length, map, take, drop, None, refl, sym, ◌∙◌, ap, ap₂, subst}
 use Rattle.std.proofs.lemmas.List.{nil_from_length}
 use Rattle.std.specs.List.{AllByRecursion, range_with_len}
 use Rattle.lfs_model.specs.Objects.{IsDirectory}

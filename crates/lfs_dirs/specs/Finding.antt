@@ -1,5 +1,5 @@
 -- What a search for a name in a directory answers.
-use Rattle.std.specs.Prelude.{◌≡◌, ◌<◌, ◌≤◌, ◌+◌, ◌*◌, ◌/◌, ℕ, List, Option, Some, None}
+use Rattle.std.specs.Prelude.{◌≡◌, ◌<◌, ◌≤◌, ◌+◌, ◌*◌, ℕ, List, Option, Some, None}
 use Rattle.std.specs.FinMap.{find}
 use Rattle.lfs_model.specs.Fields.{part}
 use Rattle.lfs_model.specs.Objects.{IsDirectory}

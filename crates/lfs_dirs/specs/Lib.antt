@@ -6,5 +6,6 @@ pub mod Listing
 pub mod Searching
 pub mod Repointing
 pub mod Taking
+pub mod Widening
 pub mod Keeping
 pub mod InTree

@@ -1,5 +1,5 @@
 -- The names of a directory, listed in the order of their bytes.
-use Rattle.std.specs.Prelude.{◌≡◌, ◌≢◌, ◌<◌, ◌≤◌, ◌+◌, ◌*◌, ◌/◌, ℕ, List, ◌++◌, ◌∷◌, length, map, take, drop, get_or, Result, Ok, Err, None}
+use Rattle.std.specs.Prelude.{◌≡◌, ◌≢◌, ◌<◌, ◌≤◌, ◌+◌, ◌*◌, ℕ, List, ◌++◌, ◌∷◌, length, map, take, drop, get_or, Result, Ok, Err, None}
 use Rattle.std.specs.List.{AllByRecursion}
 use Rattle.std.specs.FinMap.{put}
 use Rattle.lfs_model.specs.Slot.{slot_in}

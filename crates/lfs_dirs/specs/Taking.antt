@@ -1,5 +1,5 @@
 -- A name drafted out of a directory: the last slot comes into the place of its own, and the directory is a slot shorter.
-use Rattle.std.specs.Prelude.{◌≡◌, ◌≢◌, ◌<◌, ◌≤◌, ◌+◌, ◌-◌, ◌/◌, ℕ, List, [], get_or, Some, None}
+use Rattle.std.specs.Prelude.{◌≡◌, ◌≢◌, ◌<◌, ◌≤◌, ◌+◌, ◌-◌, ℕ, List, [], get_or, Some, None}
 use Rattle.std.specs.FinMap.{find}
 use Rattle.std.specs.List.{swap_remove}
 use Rattle.lfs_model.specs.Encodes.{IsLogMap}

@@ -3,7 +3,7 @@
 ghost use Rattle.lfs_dirs.specs.Directory.{SlotsOfBlock, SlotInBlock, NamesMany, SlotGives, FirstGives, SlotAppended, SlotReplaced, LastSlotTaken, SlotTaken};
 ghost use Rattle.lfs_dirs.specs.Adding.{SlotWritten};
 ghost use Rattle.lfs_dirs.specs.Keeping.{SlotsStay, DirectoryStays, EmptyDirectory};
-ghost use Rattle.lfs_dirs.specs.InTree.{DirectoryMade, DirectoryNode, NameInTree, NameOffTree};
+ghost use Rattle.lfs_dirs.specs.InTree.{DirectoryMade, DirectoryNode, DirectoryWidened, NameInTree, NameOffTree};
 
 /// A directory's slots are those of its blocks, eight a block in form 0, else four.
 pub fn slots_of_block()
@@ -62,6 +62,7 @@ pub fn empty_directory()
 pub fn directory_in_tree()
     ensures node { DirectoryNode }
     ensures made { DirectoryMade }
+    ensures widened { DirectoryWidened }
 {}
 
 /// With one name more, one that gives another number, or one less, the tree is what the calls make

@@ -11,6 +11,7 @@ mod repointing;
 mod searching;
 mod slots;
 mod taking;
+mod widening;
 
 pub use adding::add;
 pub use entry::Entry;
@@ -20,3 +21,4 @@ pub use repointing::repoint;
 pub use searching::Found;
 pub use slots::{longest_name, slots_in_block, slots_of};
 pub use taking::take;
+pub use widening::widen;

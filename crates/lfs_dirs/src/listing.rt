@@ -139,8 +139,8 @@ fn list_block<F: Files>(
     }
 }
 
-/// Why slots aren't listed.
-enum SlotFault {
+/// Why slots aren't taken.
+pub enum SlotFault {
     /// Memory was refused.
     NoMemory,
     /// Bytes of a directory are no slot.

@@ -1,10 +1,8 @@
 -- Calls on files, one after the other.
-use Rattle.std.proofs.Common.{◌≡◌, ◌<◌, ◌≤◌, ◌+◌, ℕ, List, refl, sym, ◌∙◌, arith}
+use Rattle.std.proofs.Common.{ℕ, List, refl, ◌∙◌, arith}
 use Rattle.lfs_model.specs.Device.{IsLawful}
-use Rattle.lfs_model.specs.Entry.{Entry}
-use Rattle.lfs_model.specs.Stands.{LogMap}
 use Rattle.lfs_files.specs.declared.header.Header.{Header}
-use Rattle.lfs_files.specs.Files.{FilesState, HasWritten, IsApart, IsFault, Reads, Redrafts, TakesWrite, Writes}
+use Rattle.lfs_files.specs.Files.{FilesState, IsApart, IsFault, Reads, Redrafts, Writes}
 use Rattle.lfs_files.proofs.LooksCompose.{looks_none, looks_then}
 
 module _ {S D : Type 0} where
@@ -19,6 +17,7 @@ module _ {S D : Type 0} where
     drafted = refl;
     headers = refl;
     blocks = refl;
+    asked = refl;
     empty = λ is. is;
     lost = λ x. refl;
     has = λ m m' is. is;
@@ -36,6 +35,7 @@ module _ {S D : Type 0} where
     drafted = two.drafted ∙ one.drafted;
     headers = two.headers ∙ one.headers;
     blocks = two.blocks ∙ one.blocks;
+    asked = two.asked ∙ one.asked;
     empty = λ is. two.empty (one.empty is);
     lost = λ x. two.lost x ∙ one.lost x;
     has = λ m m' is. two.has m m' (one.has m m' is);

@@ -1,6 +1,7 @@
 -- What the layers above see of the files of a volume, with the draft of one call's changes.
-use Rattle.std.specs.Prelude.{◌≡◌, ◌⊎◌, ◌<◌, ◌≤◌, ◌+◌, ◌-◌, ◌/◌, ℕ, max, Bool, false, List, length, slice_index, Option, Some, None}
+use Rattle.std.specs.Prelude.{◌≡◌, ◌⊎◌, ◌<◌, ◌≤◌, ◌+◌, ◌-◌, ◌*◌, ◌/◌, ℕ, max, Bool, false, List, length, slice_index, Option, Some, None}
 use Rattle.std.specs.Int.{div_ceil}
+use Rattle.lfs_model.specs.Changing.{IsWithHeader}
 use Rattle.lfs_model.specs.Cutting.{is_past}
 use Rattle.lfs_model.specs.Device.{DeviceState}
 use Rattle.lfs_model.specs.Encodes.{IsLogMap}
@@ -9,8 +10,9 @@ use Rattle.lfs_model.specs.Memory.{parent}
 use Rattle.lfs_model.specs.Objects.{IsChangedAt, AreStoredWhole, WritesBytes, CutsBytes}
 use Rattle.lfs_model.specs.Stands.{LogMap}
 use Rattle.lfs_model.specs.Totals.{IsCounted}
+use Rattle.lfs_model.specs.Tree.{slot_len}
 use Rattle.lfs_files.specs.declared.header.Header.{Header}
-use Rattle.lfs_files.specs.Headers.{FitsHeader, HeaderAnswer, as_header, resized}
+use Rattle.lfs_files.specs.Headers.{FitsHeader, HeaderAnswer, as_header, reformed, resized}
 use Rattle.lfs_files.specs.Looking.{Looks}
 
 -- how many data blocks all files have, and how many others
@@ -33,6 +35,8 @@ pub record FilesState (S D : Type 0) : Type 1 where
   -- how many headers and blocks the draft changes
   pub headers : ℕ
   pub blocks : ℕ
+  -- how many blocks of memory it asks for, with those of pointers and the inodes on the way to them
+  pub asked : ℕ
   -- it changes nothing
   pub empty : Type 0
   -- what files lose by it, before headers and blocks change
@@ -74,6 +78,14 @@ pub record HasFile (m : LogMap) (n : ℕ) (h : Header) : Type 0 where
 abbrev pub AreCounted : LogMap → Counted → Type 0
 AreCounted m t = IsCounted m t.data_blocks t.meta_blocks
 
+-- how many blocks of memory a header asks for, and one with as many bytes as a full directory of form 1 has: 257 blocks at most, a leaf of
+-- pointers and what is above it for each 128 of them, and room for the map
+abbrev pub asked_by_header : ℕ
+asked_by_header = 6
+
+abbrev pub asked_by_directory : ℕ
+asked_by_directory = 274
+
 -- What is lost is apart from file n: from its inode, and from each block that may be above one of its data blocks.
 pub record IsApart (lost : Entry → Bool) (n : ℕ) : Type 0 where
   pub inode : lost (Inode n) ≡ false
@@ -93,6 +105,7 @@ module _ {S D : Type 0} (s s' : FilesState S D) where
     pub drafted : s'.drafted ≡ s.drafted
     pub headers : s'.headers ≡ s.headers
     pub blocks : s'.blocks ≡ s.blocks
+    pub asked : s'.asked ≡ s.asked
     pub empty : s.empty → s'.empty
     pub lost : (x : Entry) → s'.lost x ≡ s.lost x
     pub has : (m m' : LogMap) → s.has m m' → s'.has m m'
@@ -149,6 +162,39 @@ module _ {S D : Type 0} where
     pub fits : (m m' : LogMap) → s.has m m' → s.fits m → TakesWrite s m m' n head at w → s'.fits m
     pub file : (m m' : LogMap) → s'.device.keeps_model → s.has m m'
         → HasWritten s' m m' n head (resized head (max head.size (at + length w))) at w
+
+  -- Bytes that come alone into a draft: it changes no block yet, and one header at most; and they are no more than a full directory's of form 1.
+  pub record IsLoneWrite (s : FilesState S D) (w : List ℕ) : Type 0 where
+    pub headers : s.headers ≤ 1
+    pub blocks : s.blocks ≡ 0
+    pub few : length w ≤ 1024 * slot_len 1
+
+  -- ---- another form
+
+  -- The log map may be changed so: the file is there, and apart from what is lost.
+  pub record TakesReform (s : FilesState S D) (m' : LogMap) (n : ℕ) (h h' : Header) : Type 0 where
+    pub there : m'.header n ≡ Some (as_header h)
+    pub apart : IsApart s.lost n
+    pub header : FitsHeader h'.kind h'.form h'.links h'.size
+
+  -- With the draft there is another log map, where the file has another header and the blocks that it had.
+  pub record HasReformed (s' : FilesState S D) (m m' : LogMap) (n : ℕ) (h' : Header) : Type 0 where
+    pub map : LogMap
+    pub has : s'.has m map
+    pub file : IsWithHeader m' n (Some (as_header h')) map
+
+  -- A draft that gives a file another form and another size. Behind an empty one it asks for no more than a header does.
+  pub record Reforms (s s' : FilesState S D) (n : ℕ) (head : Header) (form size : ℕ) : Type 0 where
+    pub lost : (x : Entry) → s'.lost x ≡ s.lost x
+    pub headers : s'.headers ≤ s.headers + 1
+    pub blocks : s'.blocks ≡ s.blocks
+    pub asked : s.headers ≡ 0 → s.blocks ≡ 0 → s'.asked ≤ asked_by_header
+    pub fits : (m m' : LogMap) → s.has m m' → s.fits m → TakesReform s m' n head (reformed head form size) → s'.fits m
+    pub file : (m m' : LogMap) → s.has m m' → HasReformed s' m m' n (reformed head form size)
+
+  -- The totals with the draft stay those of the log map with it, where the file was there.
+  abbrev pub CountsReformed : FilesState S D → FilesState S D → ℕ → Header → Type 0
+  CountsReformed s s' n head = (m a b : LogMap) → s.has m a → s'.has m b → a.header n ≡ Some (as_header head) → AreCounted a s.drafted → AreCounted b s'.drafted
 
   -- ---- cutting
 

@@ -14,6 +14,10 @@ as_header h = record { kind = h.kind; form = h.form; links = h.links; size = h.s
 abbrev pub resized : Header → ℕ → Header
 resized h size = record { kind = h.kind; form = h.form; links = h.links; size = size }
 
+-- the header of a directory that has another form, and another size
+abbrev pub reformed : Header → ℕ → ℕ → Header
+reformed h form size = record { kind = h.kind; form = form; links = h.links; size = size }
+
 -- whether file n is there, and what its inode says of it
 abbrev pub HeaderAnswer : LogMap → ℕ → Option Header → Type 0
 HeaderAnswer m n None = m.header n ≡ None

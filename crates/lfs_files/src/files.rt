@@ -1,7 +1,7 @@
 //! Files by number, with the changes of one call before they are staged.
 ghost use Rattle.std.specs.Prelude.{◌≡◌, ◌<◌, ◌≤◌, ◌+◌, ◌*◌, ◌/◌, true, length, IfOk, IfErr, OnOk, OnErr, IsErrOf, IsFalse};
 ghost use Rattle.lfs_model.specs.Device.{IsLawful};
-ghost use Rattle.lfs_files.specs.Files.{Counts, FilesState, IsFault, Reads, Redrafts, SetsLen, Shrinks, TellsBlock, TellsHeader, Writes};
+ghost use Rattle.lfs_files.specs.Files.{Counts, FilesState, CountsReformed, IsFault, IsLoneWrite, Reads, Redrafts, Reforms, SetsLen, Shrinks, TellsBlock, TellsHeader, Writes, asked_by_directory};
 
 use crate::fault::{LogFault, StoreFault};
 use crate::header::Header;
@@ -64,12 +64,34 @@ pub trait Files {
         ensures redrafts { Redrafts (state self.old) (state self.new) }
         ensures done { OnOk result
             (Writes (state self.old) (state self.new) number.value header at bytes.now) }
+        ensures asked { OnOk result (IsLoneWrite (state self.old) bytes.now
+            → (state self.new).asked ≤ asked_by_directory) }
         ensures counted { OnOk result (Counts (state self.old) (state self.new)) }
         ensures failed { IfErr result (λ fault. (fault ≡ StoreFault.NoMemory → ⊥)
             → IsFault (state self.old) (state self.new)) }
         ensures halted { IsErrOf result (StoreFault.Log LogFault.Halted)
             → (state self.old).halted ≡ true }
         ensures other { IsErrOf result (StoreFault.Log LogFault.Full) → ⊥ };
+
+    /// Gives a file of this header another form and another size. Its blocks stay as they are, so
+    /// its caller writes what they are to be. It calls the device for nothing.
+    ///
+    /// # Errors
+    ///
+    /// `NoMemory` where memory runs out. What the draft holds then is of no use.
+    fn reform(
+        &mut self,
+        number: FileNumber,
+        header: Header,
+        form: u8,
+        size: u32,
+    ) -> Result<(), StoreFault>
+        ensures redrafts { Redrafts (state self.old) (state self.new) }
+        ensures done { OnOk result
+            (Reforms (state self.old) (state self.new) number.value header form size) }
+        ensures counted { OnOk result
+            (CountsReformed (state self.old) (state self.new) number.value header) }
+        ensures failed { IfErr result (λ fault. fault ≡ StoreFault.NoMemory) };
 
     /// Cuts a file of this header, or makes it longer with zeros. The draft was empty.
     ///

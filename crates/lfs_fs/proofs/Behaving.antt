@@ -2,7 +2,7 @@
 use Rattle.std.proofs.Common.{◌≡◌, ◌≤◌, ◌+◌, ℕ, Bool, true, false, ◌||◌, List, length, refl, sym, ◌∙◌, ap, subst, inl, inr, arith}
 use Rattle.std.specs.Prelude.{IsTrue}
 use Rattle.lfs_model.specs.declared.Order.{Order}
-use Rattle.lfs_model.specs.Call.{Answer, Call, Open, Create, Close, Pread, Pwrite, Truncate, Mkdir, LinkTo, Symlink, Readlink, Unlink, Rmdir, Rename, StatOf, LstatOf, Readdir, Fsync, Sync, Clean, Space, Version, ListTree, Refuse, changes, cleans, commits, is_ok, may_write, takes_no_memory, never_for_device}
+use Rattle.lfs_model.specs.Call.{Answer, Call, Open, Create, Close, Pread, Pwrite, Truncate, Mkdir, LinkTo, Symlink, Readlink, Unlink, Rmdir, Rename, StatOf, LstatOf, Readdir, Fsync, Sync, Clean, Space, Version, Upgrade, Widen, ListTree, Refuse, changes, cleans, commits, is_ok, may_write, takes_no_memory, never_for_device}
 use Rattle.lfs_model.specs.Device.{DeviceState}
 use Rattle.lfs_model.specs.Refusal.{Refusal, NoMemory, Halted, Stuck}
 use Rattle.lfs_store.specs.log.Held.{Held, Reads}
@@ -64,6 +64,8 @@ change_orders Sync segments change = absurd (cc)
 change_orders Clean segments change = absurd (cc)
 change_orders Space segments change = absurd (cc)
 change_orders Version segments change = absurd (cc)
+change_orders Upgrade segments change = refl
+change_orders (Widen p) segments change = refl
 change_orders ListTree segments change = absurd (cc)
 
 -- a call that may be refused because a call of the device failed commits nothing
@@ -89,6 +91,8 @@ commits_none Sync free = absurd (cc)
 commits_none Clean free = refl
 commits_none Space free = refl
 commits_none Version free = refl
+commits_none Upgrade free = refl
+commits_none (Widen p) free = refl
 commits_none ListTree free = refl
 
 -- ---- calls

@@ -56,7 +56,7 @@ module _ {D : Type 0} (state : D → DeviceState) (lawful : (d : D) → IsLawful
           let log = map_dropped state old new keeps (lawful old.log.device) (lawful new.log.device) room.keeps.carries k m0 m p.state is in record {
             next = p.state;
             runs = runs_over state old new k m0 m p.state is m p.state (room_stores state old.log old.saved new.log new.saved room k m0 m keeps is.stores log) room.keeps.segments
-                (map_of_volume state old k m0 m p.state is) refl (is.handles ∙ ap handles_of (sym rest.table)) (counted_still state old new m rest is.counted) (λ e. ready e is.ready);
+                (map_of_volume state old k m0 m p.state is) (is.handles ∙ ap handles_of (sym rest.table)) (counted_still state old new m rest is.counted) (λ e. ready e is.ready);
             steps = steps p keeps at k m0 m is;
             moment = room.keeps.moment k m0 m keeps is.stores.holds log;
             saves = λ e. absurd (cc);

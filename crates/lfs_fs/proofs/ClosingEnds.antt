@@ -30,7 +30,7 @@ use Rattle.lfs_store.specs.Accepting.{Forgets, HasClean, Stores}
 use Rattle.lfs_store.specs.Recounting.{CountsGone}
 use Rattle.lfs_store.specs.log.Saving.{commit_orders}
 use Rattle.lfs_store.specs.cleaner.Room.{IsAtRest}
-use Rattle.lfs_store.proofs.of_cleaner.RoomBounds.{none_left}
+use Rattle.lfs_store.proofs.of_cleaner.of_log.Unsaved.{kept_saved}
 use Rattle.lfs_store.proofs.Forgotten.{forgets}
 use Rattle.lfs_store.proofs.LogReads.{fault_more, held_still, reads_none}
 use Rattle.lfs_store.proofs.Recounted.{kept_more, removed_more}
@@ -136,14 +136,13 @@ module _ {D : Type 0} (state : D → DeviceState) (old new : Mounted D) (was : o
 
 -- ---- calls that change no more than memory
 
-module _ {D : Type 0} (state : D → DeviceState) (lawful : (d : D) → IsLawful (state d)) (old new : Mounted D) (was : old.log.halted ≡ false) (alters : Alters state old.log new.log 0) (saved : new.saved ≡ old.saved) (call : Call) (a : Answer) where
+module _ {D : Type 0} (state : D → DeviceState) (lawful : (d : D) → IsLawful (state d)) (old new : Mounted D) (was : old.log.halted ≡ false) (alters : Alters state old.log new.log 0 false) (saved : new.saved ≡ old.saved) (call : Call) (a : Answer) where
   -- What such a call makes of a state that the volume is in.
   pub record Alterations (p : Point) (k : CheckpointValue) (m0 : LogMap) : Type 0 where
     pub next : State
     pub present : LogMap
     pub stores : Stores state new.log new.saved k m0 present
     pub map : IsMapOf (segments_of old) present next
-    pub version : next.version ≡ p.state.version
     pub handles : next.handles ≡ handles_of new.table
     pub counted : IsCounted present new.blocks new.others
     pub steps : StepsOr (segments_of old) call p a (point_of state new next)
@@ -167,7 +166,6 @@ module _ {D : Type 0} (state : D → DeviceState) (lawful : (d : D) → IsLawful
             stores = does.stores;
             map = does.map.map;
             log = (subst (λ (l : ℕ). IsMapOf l does.present does.next) (sym alters.segments) does.map).log;
-            version = does.version ∙ is.version;
             handles = does.handles;
             counted = does.counted;
             acknowledged = subst (λ (l : ℕ). IsTree l m0) (sym alters.segments) is.acknowledged;
@@ -217,13 +215,12 @@ module _ {D : Type 0} (state : D → DeviceState) (lawful : (d : D) → IsLawful
 -- what is at rest stays so where nothing is gone
 still_at_rest : {D : Type 0} (state : D → DeviceState) (h h' : Held D) → IsKept state h h' → IsAtRest h → IsAtRest h'
 still_at_rest state h h' kept rest =
-    let none : length h.memory.dirty.blocks ≡ 0 = ap length rest.nothing in
     let few = kept.alters.few in
     let many = rest.many in
     let segments = kept.alters.segments in
     let clean = kept.alters.clean in
     record {
-      nothing = none_left h'.memory.dirty.blocks (omega (arith, none, few));
+      nothing = kept_saved h h' rest.nothing (omega (arith, few)) kept.alters.upgraded;
       untaken = kept.untaken rest.untaken;
       many = omega (arith, many, segments, clean);
     }
@@ -254,7 +251,6 @@ module _ {D : Type 0} (state : D → DeviceState) (lawful : (d : D) → IsLawful
           table_serves state old new (lawful old.log.device) (lawful new.log.device) was (Close h) Done reads saved blocks others refl refl (λ e. cc) (λ p keeps here k m0 m is. record {
             next = closed (segments_of old) p.state h p.state.tree;
             map = closed_map (segments_of old) m p.state (map_of_volume state old k m0 m p.state is) h n (opened_in p.state is.handles) (stays k m0 m p.state keeps is);
-            version = refl;
             handles = closed_handles p.state is.handles;
             steps = inl (close_stays (segments_of old) p.state h n (opened_in p.state is.handles) (stays k m0 m p.state keeps is), never_worn (segments_of old) (Close h) p refl refl);
           })
@@ -280,7 +276,6 @@ module _ {D : Type 0} (state : D → DeviceState) (lawful : (d : D) → IsLawful
               present = without_file n m;
               stores = subst (λ (b : Bool). Stores state new.log b k m0 (without_file n m)) (sym saved) (forgets k m0 m keeps is.stores hidden);
               map = next_map;
-              version = refl;
               handles = closed_handles p.state is.handles;
               counted = counted k m0 m keeps is.stores.holds is.map next_map.map is.counted;
               steps = inl (close_goes (segments_of old) p.state h n open_is no_name no_other, never_worn (segments_of old) (Close h) p refl refl);
@@ -298,7 +293,6 @@ module _ {D : Type 0} (state : D → DeviceState) (lawful : (d : D) → IsLawful
             rest = λ e. still_at_rest state old.log new.log kept (is.stores.rest (sym saved ∙ e));
           };
           map = map_of_volume state old k m0 m p.state is;
-          version = refl;
           handles = is.handles ∙ ap handles_of (sym table);
           counted = record { stored = blocks ∙ is.counted.stored; above = others ∙ is.counted.above };
           steps = (let rose = fault k m0 m keeps is.stores.holds in inr (Device, refl, (refl, (let f = here.failures in omega (arith, f, rose))), refl));

@@ -301,7 +301,6 @@ module _ {D : Type 0} (state : D → DeviceState) (lawful : (d : D) → IsLawful
           ok = makes.ok;
           fits = fits_here keeps k m0 m s is;
           counted = counted;
-          version = refl;
           map = ends.2 of.arguments;
           done = ends.1;
           lacks = ends.0;

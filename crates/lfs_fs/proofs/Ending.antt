@@ -79,7 +79,6 @@ module _ {D : Type 0} (state : D → DeviceState) where
         pub next : State
         pub fits : FitsBatch m c
         pub map : IsMapOf (segments_of old) (staged c m) next
-        pub version : next.version ≡ p.state.version
         pub handles : next.handles ≡ handles_of new.table
         pub counted : IsCounted (staged c m) new.blocks new.others
         pub steps : StepsOr (segments_of old) call p a (point_of state new next)
@@ -89,7 +88,7 @@ module _ {D : Type 0} (state : D → DeviceState) where
           let drafts = each p keeps at k m0 m is in
           let log = map_dropped state old new keeps lawful after carries k m0 m p.state is in record {
             next = drafts.next;
-            runs = runs_over state old new k m0 m p.state is (staged c m) drafts.next (done.stores k m0 m keeps is.stores drafts.fits log) segments drafts.map drafts.version drafts.handles drafts.counted (λ e. (done.enough, (let o = done.saves.few in let size = segments in omega (arith, o, low, size))));
+            runs = runs_over state old new k m0 m p.state is (staged c m) drafts.next (done.stores k m0 m keeps is.stores drafts.fits log) segments drafts.map drafts.handles drafts.counted (λ e. (done.enough, (let o = done.saves.few in let size = segments in omega (arith, o, low, size))));
             steps = drafts.steps;
             moment = done.moment k m0 m keeps is.stores log;
             saves = λ e. absurd (none e);
@@ -118,7 +117,7 @@ module _ {D : Type 0} (state : D → DeviceState) where
       commits_by a fine behaves each = runs_on a fine behaves done.running (λ p keeps at k m0 m is. (
           let log = map_dropped state old new keeps lawful after carries k m0 m p.state is in record {
             next = p.state;
-            runs = runs_over state old new k m0 m p.state is m p.state (over k m0 m keeps is.stores log) segments (map_of_volume state old k m0 m p.state is) refl
+            runs = runs_over state old new k m0 m p.state is m p.state (over k m0 m keeps is.stores log) segments (map_of_volume state old k m0 m p.state is)
                 (is.handles ∙ ap handles_of (sym rest.table)) (counted_still old new m rest is.counted) (λ e. absurd (let s = saved in cc));
             steps = each p keeps at;
             moment = done.moment k m0 m keeps is.stores log;
@@ -136,7 +135,7 @@ module _ {D : Type 0} (state : D → DeviceState) where
           let both = each p keeps at k m0 m is in
           let log = map_dropped state old new keeps lawful after carries k m0 m p.state is in record {
             next = p.state;
-            runs = runs_over state old new k m0 m p.state is m p.state (declines.stores k m0 m keeps is.stores both.0 log) segments (map_of_volume state old k m0 m p.state is) refl
+            runs = runs_over state old new k m0 m p.state is m p.state (declines.stores k m0 m keeps is.stores both.0 log) segments (map_of_volume state old k m0 m p.state is)
                 (is.handles ∙ ap handles_of (sym rest.table)) (counted_still old new m rest is.counted)
                 (λ e. (declines.saves.ready (λ f. (is.ready f).0) e, (let o = declines.saves.few in let size = segments in omega (arith, o, low, size))));
             steps = both.1;

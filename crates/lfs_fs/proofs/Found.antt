@@ -41,7 +41,6 @@ module _ {D : Type 0} (state : D → DeviceState) (d : D) (v : Mounted D) (mount
     stores = found_stores;
     map = found_map;
     log = subst (λ (n : ℕ). IsLogOf n is.log s) (sym same_segments) (mounted_log (state d).content all s is);
-    version = is.version;
     handles = is.closed ∙ sym closed;
     counted = counted;
     acknowledged = subst (λ (n : ℕ). IsTree n is.log) (sym same_segments) is.tree.tree;

@@ -54,16 +54,9 @@ module _ {D : Type 0} (state : D → DeviceState) (old new : Mounted D) (k : Che
       (λ (e : next ≡ dropped m). subst (IsTree (segments_of old)) (sym e) (dropped_tree (segments_of old) m s is.log).tree)
       either
 
-  -- and has the version of the state
-  saved_version : (next : LogMap) → (next ≡ m0) ⊎ (next ≡ dropped m) → next.version ≡ s.version
-  saved_version next either = ⊎_elim
-      (λ (e : next ≡ m0). ap (λ (x : LogMap). x.version) e ∙ is.stores.holds.log.running.settled.stands.holds.version ∙ sym is.version)
-      (λ (e : next ≡ dropped m). ap (λ (x : LogMap). x.version) e ∙ sym is.log.version)
-      either
-
   pub runs_over : (m' : LogMap) (next : State) → StoresOver state k.segments m0 m new.log new.saved m' → segments_of new ≡ segments_of old → IsMapOf (segments_of old) m' next
-      → next.version ≡ s.version → next.handles ≡ handles_of new.table → IsCounted m' new.blocks new.others → (new.saved ≡ false → HasClean new.log × (new.log.number ≤ 2 ^ 62 + segments_of new / 8)) → Runs state new next
-  runs_over m' next over same map version handles counted ready = record {
+      → next.handles ≡ handles_of new.table → IsCounted m' new.blocks new.others → (new.saved ≡ false → HasClean new.log × (new.log.number ≤ 2 ^ 62 + segments_of new / 8)) → Runs state new next
+  runs_over m' next over same map handles counted ready = record {
     checkpoint = over.checkpoint;
     saved = over.acknowledged;
     present = m';
@@ -71,7 +64,6 @@ module _ {D : Type 0} (state : D → DeviceState) (old new : Mounted D) (k : Che
       stores = over.stores;
       map = map.map;
       log = (subst (λ (n : ℕ). IsMapOf n m' next) (sym same) map).log;
-      version = version ∙ sym (saved_version over.acknowledged over.either) ∙ over.stores.holds.log.running.settled.stands.holds.version;
       handles = handles;
       counted = counted;
       acknowledged = subst (λ (n : ℕ). IsTree n over.acknowledged) (sym same) (saved_tree over.acknowledged over.either);

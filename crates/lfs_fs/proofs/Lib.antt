@@ -100,3 +100,6 @@ mod LineSteps
 pub mod ScriptRuns
 pub mod Sessions
 mod MountEnds
+pub mod WideSteps
+pub mod UpgradeEnds
+pub mod WideEnds

@@ -286,7 +286,6 @@ module _ {D : Type 0} (state : D → DeviceState) (lawful : (d : D) → IsLawful
             ok = refl;
             fits = fits_here keeps k m0 m s is;
             counted = counted_here keeps k m0 m s is;
-            version = refl;
             map = after keeps k m0 m s is;
             done = done keeps k m0 m s is;
             lacks = no_space keeps k m0 m s is;

@@ -89,7 +89,7 @@ shifts_as m m' less more less' more' same shifts k g' at =
 -- one directory's links
 module _ (m m' : LogMap) (d : ℕ) (head : Header) (l : ℕ) (kept : IsShaped m)
     (has : HasHolder m d head) (relinks : Relinks m m' d head l) where
-  made : IsWithHeader m d (Some (as_header (relinked head l))) m'
+  pub made : IsWithHeader m d (Some (as_header (relinked head l))) m'
   made = ⊎_elim
       (λ (same : (l ≡ head.links) × (m' ≡ m)). subst
       (λ (x : LogMap). IsWithHeader m d (Some (as_header (relinked head l))) x) (sym same.1)
@@ -164,6 +164,15 @@ module _ {m1 m2 m3 m4 : LogMap} {da db : ℕ} {a b : Header} {la lb : ℕ} {na :
       ))
       drafts.second
 
+  relinked_version : m3.version ≡ m1.version
+  relinked_version =
+      let first = (made m1 m2 da a la kept has_a drafts.first).version in
+      ⊎_elim
+      (λ (apart : (da ≢ db) × Relinks m2 m3 db b lb).
+      (made m2 m3 db b lb kept_2 (b_2 apart.0) apart.1).version ∙ first)
+      (λ (one : (da ≡ db) × (m3 ≡ m2)). ap (λ (x : LogMap). x.version) one.1 ∙ first)
+      drafts.second
+
   pub linked_shifts_3 : (x y : ℕ) → la + x ≡ a.links → (da ≢ db → lb ≡ b.links + y)
       → (da ≡ db → y ≡ 0) → Shifts m1 m3 (only_at da x) (only_at db y)
   linked_shifts_3 x y less more none =
@@ -203,6 +212,9 @@ module _ {m1 m2 m3 m4 : LogMap} {da db : ℕ} {a b : Header} {la lb : ℕ} {na :
 
   pub moved_kept : IsShaped m4
   moved_kept = taken_kept m3 m4 da (relinked a la) na relinked_maps.0 a_3 cut takes
+
+  moved_version : m4.version ≡ m1.version
+  moved_version = cut.only.version ∙ relinked_version
 
   pub moved_tree : tree_in m4 ≡ without_name (tree_in m1) da na
   moved_tree = taken_tree m3 m4 da (relinked a la) na relinked_maps.0 a_3 cut takes
@@ -295,6 +307,9 @@ module _ {m1 m2 m3 m4 : LogMap} {da db : ℕ} {a b : Header} {la lb : ℕ} {na :
     pub named_kept : IsShaped m5
     named_kept = written_kept m4 m5 db n b4 named.after named.at named.slot nb moved_kept
         second_holder named.kind named.form named.links named.small named.writes named.directory named.names
+
+    pub named_version : m5.version ≡ m1.version
+    named_version = named.writes.only.version ∙ moved_version
 
     pub named_tree : tree_in m5 ≡ with_name (without_name (tree_in m1) da na) db nb n
     named_tree =

@@ -74,7 +74,6 @@ module _ {D : Type 0} (state : D → DeviceState) (lawful : (d : D) → IsLawful
         let opened = table (λ e. omega (arith, e, low)) in record {
           next = with_handle (segments_of old) q.state p n walk;
           map = opened_map (segments_of old) m q.state map p n walk file few;
-          version = refl;
           handles = ap (λ (x : ℕ). put nat_cmp x n q.state.handles) first_is ∙ ap (put nat_cmp h n) is.handles ∙ sym opened;
           steps = inl (
             subst (λ (x : ℕ). Step (segments_of old) q.state (Open p) (Handle x) (with_handle (segments_of old) q.state p n walk)) first_is (open_file (segments_of old) q.state p n walk file few),

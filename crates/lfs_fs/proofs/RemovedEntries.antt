@@ -23,7 +23,7 @@ use Rattle.lfs_path.specs.dirs.Taking.{CutsSlot, TakesName}
 use Rattle.lfs_fs.proofs.Files.{IsMapOf, IsShaped, dir_there}
 use Rattle.lfs_fs.proofs.InDirectories.{directory_kind}
 use Rattle.lfs_fs.proofs.KeptMaps.{HasHolder, map_by, taken_kept, taken_tree, taken_shifts}
-use Rattle.lfs_fs.proofs.MovedMaps.{Relinks, linked_kept, linked_holder, linked_tree, linked_shifts}
+use Rattle.lfs_fs.proofs.MovedMaps.{Relinks, linked_kept, linked_holder, linked_tree, linked_shifts, made}
 use Rattle.lfs_fs.proofs.MovedNames.{link_of, nothing_at, once, only_at}
 use Rattle.lfs_fs.proofs.LostNames.{LosesName, LosesOne, IsLoss, lost, names_plain as plain_names}
 use Rattle.lfs_fs.proofs.RenameViews.{two_links}
@@ -198,12 +198,15 @@ module _ {N : ℕ} {m : LogMap} {s : State} {p : List ℕ} {d n : ℕ} {head : H
               same ∙ loss.links_of k second.0 second.1
 
           -- the log map is that of a state with the tree without both
-          pub removed_map : {s' : State} → m'.version ≡ m.version → s'.version ≡ s.version
+          removed_version : m'.version ≡ m.version
+          removed_version = cut.only.version ∙ (made m1 m2 d head l loss.shape holder_1 links).version ∙ loss.changed.version
+
+          pub removed_map : {s' : State} → s'.version ≡ s.version
               → s'.tree ≡ let_go left s.handles (target s.tree d p) → Sound N s' → IsMapOf N m' s'
-          removed_map {s'} version same_version is' sound =
+          removed_map {s'} same_version is' sound =
               let tree : let_go left s.handles n ≡ s'.tree
               = ap (let_go left s.handles)
               (sym (ap (λ (o : Option ℕ). unwrap_or o 0) gives)) ∙ sym is' in
-              map_by removed_shape sound (same_version ∙ is.log.version ∙ sym version)
+              map_by removed_shape sound (same_version ∙ is.log.version ∙ sym removed_version)
               (removed_tree ∙ tree)
               (λ k f at. removed_links k f at ∙ ap (λ (t : Tree). links_in t k) tree)

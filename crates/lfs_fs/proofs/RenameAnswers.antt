@@ -130,7 +130,6 @@ module _ {D : Type 0} (state : D → DeviceState) (lawful : (d : D) → IsLawful
               ok = refl;
               fits = draft_fits begun move.drafts keeps;
               counted = counted_here keeps k m0 m s is;
-              version = refl;
               map = λ room. (moved keeps k m0 m s is).map (reached.bytes, reached.other_bytes)
                   (done keeps k m0 m s is room);
               done = done keeps k m0 m s is;

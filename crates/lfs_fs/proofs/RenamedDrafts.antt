@@ -16,7 +16,6 @@ use Rattle.lfs_store.specs.memory.Present.{as_header}
 use Rattle.lfs_store.specs.log.Held.{Holds}
 use Rattle.lfs_store.specs.log.verify.declared.totals.BlockTotals.{BlockTotals}
 use Rattle.lfs_store.specs.Recounting.{AreTotals, Counts}
-use Rattle.lfs_store.proofs.of_memory.Versions.{staged_version}
 use Rattle.lfs_store.proofs.Apart.{no_change}
 use Rattle.lfs_fs.specs.declared.fs.Fs.{Fs}
 use Rattle.lfs_fs.specs.declared.moving.Object.{Object}
@@ -339,7 +338,6 @@ module _ {D : Type 0} {state : D → DeviceState} {v : Mounted D} {old : Fs D} {
           writes = names.file k m0 m keeps holds_taken;
           adds = names.more k m0 m keeps holds_taken;
         }
-        (staged_version new.store.draft.changes m)
     moved_by (Some o) some drops names = over_moved g o some
         (name_lost old drafts.takes.links.lost s handles empty m o drops)
         (moving drafts.takes kept_taken).drafts
@@ -349,7 +347,6 @@ module _ {D : Type 0} {state : D → DeviceState} {v : Mounted D} {old : Fs D} {
           writes = names.file k m0 m keeps holds_taken;
           repoints = names.names k m0 m keeps holds_taken;
         }
-        (staged_version new.store.draft.changes m)
 
     pub draft_moved : IsMoved (segments_of v) m5 s a b source.directory.value dest.directory.value
     draft_moved = moved_by dest.replaced refl drafts.takes.links.drops

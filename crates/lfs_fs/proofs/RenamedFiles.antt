@@ -26,7 +26,7 @@ use Rattle.lfs_files.specs.declared.header.Header.{Header}
 use Rattle.lfs_files.specs.Headers.{as_header}
 use Rattle.lfs_fs.proofs.Files.{IsMapOf, IsShaped, shape_of}
 use Rattle.lfs_fs.proofs.KeptMaps.{HasHolder, map_by}
-use Rattle.lfs_fs.proofs.MovedMaps.{DraftsMove, DraftsName, DraftsOver, IsMoving, IsNamed, named_kept, named_new, named_over, named_shifts, named_tree, second_after}
+use Rattle.lfs_fs.proofs.MovedMaps.{DraftsMove, DraftsName, DraftsOver, IsMoving, IsNamed, named_kept, named_new, named_over, named_shifts, named_tree, named_version, second_after}
 use Rattle.lfs_fs.proofs.MovedNames as trees
 use Rattle.lfs_fs.proofs.MovedNames.{nothing_at, only_at}
 use Rattle.lfs_fs.specs.Renaming.{FitsFound, FitsReplaced, GivesName, FitsTarget, LooksAt, fewer_links, is_directory, more_links}
@@ -220,8 +220,7 @@ module _ {N : ℕ} {m : LogMap} {s : State} {a b : List ℕ} {source : Source} {
   -- ---- the second name is free
   module _ (none : dest.replaced ≡ None) {m2 m3 m4 m5 : LogMap}
       (drafts : DraftsMove m m2 m3 m4 da db head_a head_b la lb (name a))
-      (new : DraftsName m4 m5 db n (second_after da db head_a head_b la lb) (name b))
-      (version : m5.version ≡ m.version) where
+      (new : DraftsName m4 m5 db n (second_after da db head_a head_b la lb) (name b)) where
     pub free_moving : IsMoving m m2 m3 m4 da db head_a head_b la lb (name a)
     free_moving = record { kept = shaped; has_a = holder_a; has_b = holder_b; drafts = drafts }
 
@@ -272,7 +271,8 @@ module _ {N : ℕ} {m : LogMap} {s : State} {a b : List ℕ} {source : Source} {
         same ∙ ap (λ (t : Tree). links t k) (sym free_after)
 
     pub free_moved : IsMoved N m5 s a b da db
-    free_moved = moved_by version (named_kept free_moving free_named) tree_is free_links
+    free_moved = moved_by (named_version free_moving free_named)
+        (named_kept free_moving free_named) tree_is free_links
 
   -- ---- it gives another object of the same sort, no directory with names
   module _ (o : Object) (some : dest.replaced ≡ Some o) where
@@ -386,8 +386,7 @@ module _ {N : ℕ} {m : LogMap} {s : State} {a b : List ℕ} {source : Source} {
 
       module _ {m2 m3 m4 m5 : LogMap}
           (drafts : DraftsMove m1 m2 m3 m4 da db head_a head_b la lb (name a))
-          (over : DraftsOver m4 m5 db n (second_after da db head_a head_b la lb) (name b))
-          (version : m5.version ≡ m.version) where
+          (over : DraftsOver m4 m5 db n (second_after da db head_a head_b la lb) (name b)) where
         pub over_moving : IsMoving m1 m2 m3 m4 da db head_a head_b la lb (name a)
         over_moving = record { kept = lost_shape; has_a = lost_a; has_b = lost_b; drafts = drafts }
 
@@ -422,5 +421,7 @@ module _ {N : ℕ} {m : LogMap} {s : State} {a b : List ℕ} {source : Source} {
             ∙ ap (λ (t : Tree). links t k) after_is
 
         pub over_moved : IsMoved N m5 s a b da db
-        over_moved = moved_by version (named_kept over_moving over_named)
+        over_moved = moved_by
+            (named_version over_moving over_named ∙ loss.changed.version)
+            (named_kept over_moving over_named)
             (named_tree over_moving over_named ∙ loss.tree ∙ after_is) over_links

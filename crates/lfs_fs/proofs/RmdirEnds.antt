@@ -23,7 +23,6 @@ use Rattle.lfs_store.specs.memory.Present.{as_header}
 use Rattle.lfs_store.specs.log.Held.{Holds}
 use Rattle.lfs_store.specs.Drafting.{IsApart}
 use Rattle.lfs_store.specs.Recounting.{AreTotals}
-use Rattle.lfs_store.proofs.of_memory.Versions.{staged_version}
 use Rattle.lfs_store.proofs.Apart.{draft_empty}
 use Rattle.lfs_store.proofs.LogReads.{held_still}
 use Rattle.lfs_store.proofs.TreeTotals.{totals_of_tree}
@@ -213,7 +212,7 @@ module _ {D : Type 0} (state : D → DeviceState) (lawful : (d : D) → IsLawful
 
       after : IsMapOf (segments_of v) (staged c m) (removed s path d)
       after = removed_map placed_here (head.links - 1) loses links less cut takes_it
-          (staged_version c m) refl refl
+          refl refl
           (rmdir_keeps (segments_of v) s (removed s path d) path Done is.log.sound
           (done (kept keeps) k m0 m s is))
 
@@ -274,7 +273,6 @@ module _ {D : Type 0} (state : D → DeviceState) (lawful : (d : D) → IsLawful
               ok = refl;
               fits = fits_here keeps k m0 m s is;
               counted = counted_here keeps k m0 m s is;
-              version = refl;
               map = λ has_room. after keeps k m0 m s is;
               done = λ has_room. done (kept keeps) k m0 m s is;
               lacks = λ more. absurd

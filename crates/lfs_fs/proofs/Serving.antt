@@ -41,7 +41,6 @@ module _ {D : Type 0} (state : D → DeviceState) where
     stores = subst (λ (b : Bool). Stores state new.log b k m0 m) (sym still.saved) (stores_still state old.log new.log old.saved k m0 m still.reads is.stores);
     map = is.map;
     log = subst (λ (n : ℕ). IsLogOf n m s) same is.log;
-    version = is.version;
     handles = is.handles ∙ ap handles_of (sym still.table);
     counted = record { stored = still.blocks ∙ is.counted.stored; above = still.others ∙ is.counted.above };
     acknowledged = subst (λ (n : ℕ). IsTree n m0) same is.acknowledged;

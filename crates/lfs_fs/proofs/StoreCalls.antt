@@ -55,6 +55,7 @@ module _ {D : Type 0} (state : D → DeviceState) (a b : Store D) where
       memory = ap (λ (s : StagedLog). s.memory) reads.staged;
       number = ap (λ (s : StagedLog). s.number) reads.staged;
       version = ap (λ (s : StagedLog). s.version) reads.staged;
+      upgraded = ap (λ (s : StagedLog). s.upgraded) reads.staged;
       halted = reads.halted;
       totals = ap totals_of reads.totals;
     }
@@ -93,6 +94,7 @@ module _ {D : Type 0} (state : D → DeviceState) (a b : Store D) where
       memory = ap (λ (s : StagedLog). s.memory) redrafts.staged;
       number = ap (λ (s : StagedLog). s.number) redrafts.staged;
       version = ap (λ (s : StagedLog). s.version) redrafts.staged;
+      upgraded = ap (λ (s : StagedLog). s.upgraded) redrafts.staged;
       halted = redrafts.halted;
       totals = ap totals_of redrafts.totals;
     }

@@ -46,7 +46,6 @@ module _ {D : Type 0} (state : D → DeviceState) (old new : Mounted D) (lawful 
     pub record Turns (p : Point) (m : LogMap) : Type 0 where
       pub next : State
       pub map : IsMapOf (segments_of old) m next
-      pub version : next.version ≡ p.state.version
       pub handles : next.handles ≡ handles_of new.table
       pub steps : StepsOr (segments_of old) call p a (point_of state new next)
 
@@ -65,7 +64,6 @@ module _ {D : Type 0} (state : D → DeviceState) (old new : Mounted D) (lawful 
               stores = now.stores;
               map = now.map;
               log = (subst (λ (l : ℕ). IsMapOf l m turns.next) (sym segments_same) turns.map).log;
-              version = turns.version ∙ is.version;
               handles = turns.handles;
               counted = now.counted;
               acknowledged = now.acknowledged;

@@ -20,7 +20,6 @@ use Rattle.lfs_store.specs.memory.Batch.{FitsBatch, IsNoChange, staged}
 use Rattle.lfs_store.specs.memory.Present.{as_header}
 use Rattle.lfs_store.specs.log.Held.{Holds}
 use Rattle.lfs_store.specs.Recounting.{AreTotals}
-use Rattle.lfs_store.proofs.of_memory.Versions.{staged_version}
 use Rattle.lfs_store.proofs.Apart.{draft_empty}
 use Rattle.lfs_store.proofs.LogReads.{held_still}
 use Rattle.lfs_store.proofs.TreeTotals.{totals_of_tree}
@@ -192,7 +191,7 @@ module _ {D : Type 0} (state : D → DeviceState) (lawful : (d : D) → IsLawful
 
     after : IsMapOf (segments_of v) (staged c m) (unlinked s path d)
     after = removed_map placed head.links loses links less cut takes_it
-        (staged_version c m) refl refl
+        refl refl
         (unlink_keeps (segments_of v) s (unlinked s path d) path Done is.log.sound done)
 
     fits_here : FitsBatch m c
@@ -232,7 +231,6 @@ module _ {D : Type 0} (state : D → DeviceState) (lawful : (d : D) → IsLawful
             ok = refl;
             fits = fits_here keeps k m0 m s is;
             counted = counted_here keeps k m0 m s is;
-            version = refl;
             map = λ has_room. after keeps k m0 m s is;
             done = λ has_room. done keeps k m0 m s is;
             lacks = λ more. absurd

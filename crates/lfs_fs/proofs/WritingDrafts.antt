@@ -147,7 +147,6 @@ module _ {D : Type 0} (state : D → DeviceState) (lawful : (d : D) → IsLawful
                     (let most = (header_fits keeps k m0 m s is).most in omega (arith, most, end));
               };
               counted = counted;
-              version = refl;
               map = ends.2 bytes;
               done = ends.1;
               lacks = ends.0;
@@ -183,7 +182,6 @@ module _ {D : Type 0} (state : D → DeviceState) (lawful : (d : D) → IsLawful
             fits = sets.fits m there (file_fits n head (header_fits keeps k m0 m s is)
                 (is_file keeps k m0 m s is) len end);
             counted = counted;
-            version = refl;
             map = λ has_room. after;
             done = λ has_room. cut_all_done (segments_of (seen old)) s h len n
                 (file keeps k m0 m s is) end;

@@ -387,7 +387,6 @@ module _ {D : Type 0} (state : D → DeviceState) (lawful : (d : D) → IsLawful
       pub fits : FitsBatch m c
       pub counted : IsCounted (staged c m) ready.store.drafted.data_blocks
           ready.store.drafted.meta_blocks
-      pub version : next.version ≡ s.version
       pub map : HasRoom → IsMapOf (segments_of v) (staged c m) next
       pub done : HasRoom → Step (segments_of v) s call answer next
       pub lacks : 47 * segments_of v < need_of ready
@@ -426,7 +425,6 @@ module _ {D : Type 0} (state : D → DeviceState) (lawful : (d : D) → IsLawful
           next = draft.next;
           fits = draft.fits;
           map = draft.map room;
-          version = draft.version;
           handles = end.1;
           counted = subst (λ (t : BlockTotals). IsCounted (staged c m) t.data_blocks t.meta_blocks)
               (sym stages.totals) draft.counted;

@@ -14,4 +14,5 @@ pub mod Unlinking
 pub mod Renaming
 pub mod Removing
 pub mod HardLinks
+pub mod Upgrading
 pub use Rattle.lfs_store.specs.log

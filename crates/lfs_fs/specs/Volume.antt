@@ -1,8 +1,8 @@
 -- What contracts see of a mounted volume, the state that it is in, and what its calls do.
 -- The calls are those of POSIX.1-2017; which refusals are excused and what a stop leaves is an own choice.
 use Rattle.std.specs.Prelude.{◌≡◌, ◌⊎◌, ◌≤◌, ◌+◌, ◌/◌, ◌^◌, ℕ, Bool, true, false, IsTrue, List, [], ◌∷◌, length}
-use Rattle.lfs_model.specs.Call.{Call, Open, Create, Close, Pread, Pwrite, Truncate, Mkdir, LinkTo, Symlink, Readlink, Unlink, Rmdir, Rename, StatOf, LstatOf, Readdir, Fsync, Sync, Clean, Space, Version, ListTree, Answer, Refuse, cleans, may_write, takes_no_memory}
-use Rattle.lfs_model.specs.Checkpoint.{CheckpointValue, layout_version}
+use Rattle.lfs_model.specs.Call.{Call, Open, Create, Close, Pread, Pwrite, Truncate, Mkdir, LinkTo, Symlink, Readlink, Unlink, Rmdir, Rename, StatOf, LstatOf, Readdir, Fsync, Sync, Clean, Space, Version, Upgrade, Widen, ListTree, Answer, Refuse, cleans, may_write, takes_no_memory}
+use Rattle.lfs_model.specs.Checkpoint.{CheckpointValue}
 use Rattle.lfs_model.specs.Device.{DeviceState, Carries, AllLeft, IsUntouched}
 use Rattle.lfs_model.specs.Encodes.{IsLogMap}
 use Rattle.lfs_model.specs.Refusal.{Refusal, NoMemory, Halted, Stuck}
@@ -58,6 +58,8 @@ most_orders Sync segments = commit_orders
 most_orders Clean segments = room_orders segments
 most_orders Space segments = 0
 most_orders Version segments = 0
+most_orders Upgrade segments = room_orders segments
+most_orders (Widen p) segments = room_orders segments
 most_orders ListTree segments = 0
 
 -- the calls that may change which files are open
@@ -83,6 +85,8 @@ changes_handles Sync = false
 changes_handles Clean = false
 changes_handles Space = false
 changes_handles Version = false
+changes_handles Upgrade = false
+changes_handles (Widen p) = false
 changes_handles ListTree = false
 
 module _ {D : Type 0} (state : D → DeviceState) where
@@ -95,7 +99,6 @@ module _ {D : Type 0} (state : D → DeviceState) where
     pub stores : Stores state v.log v.saved k m0 m
     pub map : IsLogMap m
     pub log : IsLogOf (segments_of v) m s
-    pub version : s.version ≡ layout_version k
     pub handles : s.handles ≡ handles_of v.table
     pub counted : IsCounted m v.blocks v.others
     pub acknowledged : IsTree (segments_of v) m0

@@ -20,6 +20,7 @@ mod rows;
 mod saving;
 mod sizes;
 mod unlinking;
+mod upgrading;
 mod writing;
 
 pub use error::FsError;

@@ -6,10 +6,33 @@ ghost use Rattle.lfs_fs.specs.Mounting.{MountsFs, FindsState, IsMountFault, IsRe
 
 use crate::fs::Fs;
 use crate::handles::Handles;
+use lfs_cache::{CachedDevice, DEFAULT_SECTORS};
 use lfs_device::SectorDevice;
 use lfs_store::{MountFault, Store};
-use lfs_tree::verify_tree;
+use lfs_tree::{LEAST_SECTORS, verify_tree};
 use std::alloc::Global;
+
+/// The device behind a cache, where it isn't smaller than any volume.
+///
+/// # Errors
+///
+/// With the device: `TooSmall` below 4,098 sectors, `NoMemory` where memory is refused.
+fn cached<D: SectorDevice>(alloc: Global, device: D) -> Result<CachedDevice<D>, (MountFault, D)>
+    ensures same { MatchResult result (λ cache. cache ≡ device) (λ e. e.1 ≡ device) }
+    ensures cause { IfErr result (λ e. (e.0 ≡ MountFault.NoMemory → ⊥)
+        → IsMountFault (D.state device) (D.state device) e.0) }
+    ensures reason { IfErr result (λ e. IsRefused (D.state device) (D.state device) e.0) }
+    ensures below_all { IsBelowAll (D.state device)
+        → result ≡ Err (record { 0 = MountFault.TooSmall; 1 = device }) }
+{
+    if device.sectors() < LEAST_SECTORS {
+        return Err((MountFault::TooSmall, device));
+    }
+    match CachedDevice::new(alloc, device, DEFAULT_SECTORS) {
+        Ok(device) => Ok(device),
+        Err(refused) => Err((MountFault::NoMemory, refused.1)),
+    }
+}
 
 impl<D: SectorDevice> Fs<D> {
     /// Mounts the device's volume, without open handles, once its log and its tree were walked
@@ -44,10 +67,13 @@ impl<D: SectorDevice> Fs<D> {
             (D.state device).may_leave) (λ e. LeavesOnly (D.state device) (D.state e.1)
             (D.state device).may_leave) }
     {
-        let mut device = device;
+        let mut device = match cached(alloc, device) {
+            Ok(device) => device,
+            Err(fault) => return Err(fault),
+        };
         let tables = match verify_tree(alloc, &mut device) {
             Ok(tables) => tables,
-            Err(fault) => return Err((fault, device)),
+            Err(fault) => return Err((fault, device.into_inner())),
         };
         match Store::with_tables(alloc, device, tables) {
             Ok(store) => Ok(Fs {

@@ -45,6 +45,26 @@ fn a_mount_over_failing_calls(rt: HostRuntime) -> Result<(), Fail> {
     Ok(())
 }
 
+/// The device of a mount, also where memory is refused to it.
+fn behind_mount(alloc: Global, device: MemDevice) -> Result<MemDevice, Fail> {
+    match Fs::mount(alloc, device) {
+        Ok(fs) => Ok(fs.into_device()),
+        Err((MountFault::NoMemory, device)) => Ok(device),
+        Err((fault, _)) => Err(Fail::from(fault)),
+    }
+}
+
+/// Where memory is refused to a mount, for its cache or for more, the device comes back as it was.
+/// `rt try --test --fail-alloc` refuses an allocation: the first is the device's own, and those behind
+/// the mount's are of the second mount.
+#[test]
+fn a_device_comes_back_without_memory(rt: HostRuntime) -> Result<(), Fail> {
+    let device = behind_mount(rt.alloc(), formatted(rt.alloc(), 64)?)?;
+    let entries = mounted(rt.alloc(), device)?.tree()?;
+    assert!(rt; entries.is_empty());
+    Ok(())
+}
+
 #[test]
 fn a_read_that_failed_before_the_format(rt: HostRuntime) -> Result<(), Fail> {
     let mut device = MemDevice::new(rt.alloc(), SECTORS)?;

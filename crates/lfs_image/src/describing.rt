@@ -2,9 +2,10 @@
 use crate::fault::{Fault, Refusal};
 use crate::looking::Looked;
 use crate::printing::{print, put, put_count};
+use lfs_cache::{CachedDevice, DEFAULT_SECTORS};
 use lfs_device::SectorDevice;
 use lfs_put::largest_new_file;
-use lfs_script::fs::{Fs, FsError, Space};
+use lfs_script::fs::{Fs, FsError, MountFault, Space};
 use lfs_verify::Tables;
 use lfs_verify::verify::verify;
 use std::alloc::Global;
@@ -68,13 +69,16 @@ fn put_numbers<W: Write>(tables: &Tables, room: &Room, output: &mut W) -> Result
     )
 }
 
-fn put_description<D: SectorDevice, W: Write>(
+fn put_description<D: SectorDevice + Drop, W: Write>(
     alloc: Global,
-    device: &mut D,
+    device: D,
     room: &Room,
     output: &mut W,
 ) -> Result<Looked, Fault> {
-    match verify(alloc, device) {
+    let Ok(mut device) = CachedDevice::new(alloc, device, DEFAULT_SECTORS) else {
+        return Ok(Looked::Refused(Refusal::from(MountFault::NoMemory)));
+    };
+    match verify(alloc, &mut device) {
         Ok(tables) => {
             put_numbers(&tables, room, output)?;
             put_picture(&tables, output)?;
@@ -103,10 +107,7 @@ pub fn describe<D: SectorDevice + Drop, W: Write>(
 ) -> Result<Looked, Fault> {
     let mut fs = fs;
     match room_of(&mut fs) {
-        Ok(room) => {
-            let mut device = fs.into_device();
-            put_description(alloc, &mut device, &room, output)
-        }
+        Ok(room) => put_description(alloc, fs.into_device(), &room, output),
         Err(refusal) => Ok(Looked::Refused(Refusal::Call(refusal))),
     }
 }

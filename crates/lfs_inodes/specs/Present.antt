@@ -22,6 +22,14 @@ data_now content dirty n inode i =
     cond (nat_lt i 112) (word inode (8 + i))
     (word (present content dirty (Leaf n ((i - 112) / 128)) (leaf_now content dirty n inode ((i - 112) / 128))) ((i - 112) % 128))
 
+-- the place in an inode of the pointer with which the way to a leaf, and to a data block, begins
+abbrev pub leaf_first : ℕ → ℕ
+leaf_first zero = 120
+leaf_first (suc q) = 121
+
+abbrev pub data_first : ℕ → ℕ
+data_first i = cond (nat_lt i 112) (8 + i) (leaf_first ((i - 112) / 128))
+
 -- a block of pointers on the way, which isn't in memory, is lost
 pub record IsAway (content : Content) (address : ℕ) : Type 0 where
   pub outside : address ≡ 1 → ⊥

@@ -11,5 +11,5 @@ mod table;
 pub use key::{BlockKey, DIRECT, IN_MEMORY, POINTERS};
 pub use map::InodeMap;
 pub use pointers::{locate, owner_points};
-pub use present::locate_present;
+pub use present::{first_pointer, locate_behind, locate_present};
 pub use table::DirtyTable;

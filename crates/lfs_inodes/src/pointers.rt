@@ -7,6 +7,7 @@ ghost use Rattle.lfs_inodes.specs.Key.{entry_of};
 ghost use Rattle.lfs_inodes.specs.Pointed.{leaf_in, data_in, pointed, IsLost, IsLeafLost, IsDataLost, IsWayLost};
 
 use crate::key::{BlockKey, DIRECT, DOUBLE, FIRST, POINTERS, SINGLE};
+use lfs_cache::CachedDevice;
 use lfs_device::{ReadFault, SectorDevice};
 use lfs_layout::word;
 use lfs_model::BlockKind;
@@ -15,7 +16,7 @@ use lfs_model::BlockKind;
 /// place past the block.
 #[tactic(auto, unfolding(lfs_model::specs::Entry::word), using(crate::proofs::Places::places))]
 pub(crate) fn pointer_at<D: SectorDevice>(
-    device: &mut D,
+    device: &mut CachedDevice<D>,
     address: u32,
     place: u32,
 ) -> Result<u32, ReadFault>
@@ -40,18 +41,25 @@ pub(crate) fn pointer_at<D: SectorDevice>(
     if address >= device.sectors() {
         return Err(ReadFault::Unreadable);
     }
-    let mut block = [0; 512];
-    device.read(address, &mut block)?;
+    let block = device.read_ref(address)?;
+    Ok(word_or_none(block, place))
+}
+
+/// The number at a place of 4 bytes of a block; 0 past its end.
+#[tactic(auto, unfolding(lfs_model::specs::Entry::word), using(crate::proofs::Places::places))]
+fn word_or_none(block: &[u8; 512], place: u32) -> u32
+    ensures { result ≡ word block.now place }
+{
     if place >= POINTERS {
-        return Ok(0);
+        return 0;
     }
-    Ok(word(&block, place as usize))
+    word(block, place as usize)
 }
 
 /// The address of a leaf of pointers: the single one at 0, those under the double root from 1 on.
 #[tactic(auto, unfolding(lfs_model::specs::Entry::word))]
 fn locate_leaf<D: SectorDevice>(
-    device: &mut D,
+    device: &mut CachedDevice<D>,
     inode: &[u8; 512],
     index: u32,
 ) -> Result<u32, ReadFault>
@@ -85,7 +93,7 @@ fn locate_leaf<D: SectorDevice>(
 /// where a call of the device failed.
 #[tactic(auto, unfolding(lfs_model::specs::Entry::word))]
 pub fn locate<D: SectorDevice>(
-    device: &mut D,
+    device: &mut CachedDevice<D>,
     inode: &[u8; 512],
     index: u32,
 ) -> Result<u32, ReadFault>
@@ -115,7 +123,7 @@ pub fn locate<D: SectorDevice>(
 /// The address of any block of the file of an inode.
 #[tactic(auto, unfolding(lfs_model::specs::Entry::word))]
 fn locate_block<D: SectorDevice>(
-    device: &mut D,
+    device: &mut CachedDevice<D>,
     inode: &[u8; 512],
     key: BlockKey,
 ) -> Result<u32, ReadFault>
@@ -149,7 +157,7 @@ fn locate_block<D: SectorDevice>(
 ///
 /// As those of `locate`.
 pub fn owner_points<D: SectorDevice>(
-    device: &mut D,
+    device: &mut CachedDevice<D>,
     inode: &[u8; 512],
     key: BlockKey,
     address: u32,

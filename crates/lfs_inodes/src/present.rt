@@ -1,14 +1,15 @@
 //! The way from an inode to the blocks of its file, where some of them are in memory.
-ghost use Rattle.std.specs.Prelude.{◌≡◌, ◌<◌, ◌≤◌, ◌==◌, cond, IfOk, OnOk, IsErrOf};
+ghost use Rattle.std.specs.Prelude.{◌≡◌, ◌<◌, ◌≤◌, ◌==◌, ℕ, List, cond, IfOk, OnOk, IsErrOf};
 ghost use Rattle.lfs_model.specs.Device.{Carries, Elapses, IsUntouched};
 ghost use Rattle.lfs_model.specs.Entry.{word};
 ghost use Rattle.lfs_inodes.specs.Key.{entry_of};
 ghost use Rattle.lfs_inodes.specs.Blocks.{blocks_of};
-ghost use Rattle.lfs_inodes.specs.Present.{present, leaf_now, data_now, IsAway, IsLeafAway, IsDataAway};
+ghost use Rattle.lfs_inodes.specs.Present.{present, leaf_now, data_now, IsAway, IsLeafAway, IsDataAway, leaf_first, data_first};
 
 use crate::key::{BlockKey, DIRECT, DOUBLE, FIRST, IN_MEMORY, POINTERS, SINGLE};
 use crate::pointers::pointer_at;
 use crate::table::DirtyTable;
+use lfs_cache::CachedDevice;
 use lfs_device::{ReadFault, SectorDevice};
 use lfs_layout::word;
 
@@ -16,7 +17,7 @@ use lfs_layout::word;
 /// is none.
 #[tactic(auto, unfolding(lfs_model::specs::Entry::word), using(crate::proofs::Places::places))]
 fn present_pointer<D: SectorDevice>(
-    device: &mut D,
+    device: &mut CachedDevice<D>,
     table: &DirtyTable,
     key: BlockKey,
     address: u32,
@@ -48,23 +49,25 @@ fn present_pointer<D: SectorDevice>(
     }
 }
 
-/// The pointer to a leaf of pointers: the single one at 0, those under the double root from 1 on.
-#[tactic(auto, unfolding(lfs_model::specs::Entry::word))]
-fn present_leaf<D: SectorDevice>(
-    device: &mut D,
+/// The pointer to a leaf of pointers, the single one at 0, those under the double root from 1 on,
+/// where the inode's pointer with which the way begins is `first`.
+fn leaf_behind<D: SectorDevice>(
+    device: &mut CachedDevice<D>,
     table: &DirtyTable,
     file: u16,
-    inode: &[u8; 512],
+    first: u32,
     index: u32,
 ) -> Result<u32, ReadFault>
     requires some { 1 ≤ file }
     requires file { file ≤ 4095 }
     requires index { index ≤ 128 }
-    ensures value { IfOk result (λ pointer. (D.state device.new).keeps_model
-        → pointer ≡ leaf_now (D.state device.old).content
-        (blocks_of table.now) file inode.now index) }
-    ensures unreadable { IsErrOf result ReadFault.Unreadable → (D.state device.new).keeps_model
-        → IsLeafAway (D.state device.old).content inode.now index }
+    ensures value { IfOk result (λ pointer. (inode : List ℕ) → first ≡ word inode (leaf_first index)
+        → (D.state device.new).keeps_model → pointer ≡ leaf_now (D.state device.old).content
+        (blocks_of table.now) file inode index) }
+    ensures unreadable { IsErrOf result ReadFault.Unreadable
+        → (inode : List ℕ) → first ≡ word inode (leaf_first index)
+        → (D.state device.new).keeps_model
+        → IsLeafAway (D.state device.old).content inode index }
     ensures failed { IsErrOf result ReadFault.Failed
         → (D.state device.old).failures < (D.state device.new).failures }
     ensures no_failure { OnOk result
@@ -77,10 +80,68 @@ fn present_leaf<D: SectorDevice>(
     ensures told { (D.state device.new).told ≡ (D.state device.old).told }
 {
     if index == 0 {
-        return Ok(word(inode, SINGLE));
+        return Ok(first);
     }
     let root = BlockKey::double(file);
-    present_pointer(device, table, root, word(inode, DOUBLE), index - 1)
+    present_pointer(device, table, root, first, index - 1)
+}
+
+/// The place of 4 bytes of an inode at which the pointer stands with which the way to a data block
+/// begins.
+pub fn first_pointer(index: u32) -> usize
+    ensures value { result ≡ data_first index }
+    ensures within { result < 128 }
+{
+    if index < DIRECT {
+        return (FIRST + index) as usize;
+    }
+    if index < DIRECT + POINTERS {
+        return SINGLE;
+    }
+    DOUBLE
+}
+
+/// The pointer to a data block of a file, as `locate_present` gives it, where the inode's pointer at
+/// `first_pointer` is `first`.
+///
+/// # Errors
+///
+/// As those of `locate`.
+pub fn locate_behind<D: SectorDevice>(
+    device: &mut CachedDevice<D>,
+    table: &DirtyTable,
+    file: u16,
+    first: u32,
+    index: u32,
+) -> Result<u32, ReadFault>
+    requires some { 1 ≤ file }
+    requires file { file ≤ 4095 }
+    requires index { index ≤ 16623 }
+    ensures value { IfOk result (λ pointer. (inode : List ℕ) → first ≡ word inode (data_first index)
+        → (D.state device.new).keeps_model → pointer ≡ data_now (D.state device.old).content
+        (blocks_of table.now) file inode index) }
+    ensures unreadable { IsErrOf result ReadFault.Unreadable
+        → (inode : List ℕ) → first ≡ word inode (data_first index)
+        → (D.state device.new).keeps_model
+        → IsDataAway (D.state device.old).content (blocks_of table.now) file inode index }
+    ensures failed { IsErrOf result ReadFault.Failed
+        → (D.state device.old).failures < (D.state device.new).failures }
+    ensures no_failure { OnOk result
+        ((D.state device.new).failures ≡ (D.state device.old).failures) }
+    ensures no_failure_unreadable { IsErrOf result ReadFault.Unreadable
+        → (D.state device.new).failures ≡ (D.state device.old).failures }
+    ensures untouched { IsUntouched (D.state device.old) (D.state device.new) }
+    ensures carries { Carries (D.state device.old) (D.state device.new) }
+    ensures time { Elapses (D.state device.old) (D.state device.new) }
+    ensures told { (D.state device.new).told ≡ (D.state device.old).told }
+{
+    if index < DIRECT {
+        return Ok(first);
+    }
+    let place = index - DIRECT;
+    let pointer = leaf_behind(device, table, file, first, place / POINTERS)?;
+    let leaf = BlockKey::leaf(file, place / POINTERS);
+    present_pointer(device, table, leaf, pointer, place % POINTERS)
 }
 
 /// The pointer to a data block of a file: 0 where none is stored, `IN_MEMORY` for one in the table,
@@ -92,7 +153,7 @@ fn present_leaf<D: SectorDevice>(
 /// As those of `locate`.
 #[tactic(auto, unfolding(lfs_model::specs::Entry::word))]
 pub fn locate_present<D: SectorDevice>(
-    device: &mut D,
+    device: &mut CachedDevice<D>,
     table: &DirtyTable,
     file: u16,
     inode: &[u8; 512],
@@ -117,11 +178,6 @@ pub fn locate_present<D: SectorDevice>(
     ensures time { Elapses (D.state device.old) (D.state device.new) }
     ensures told { (D.state device.new).told ≡ (D.state device.old).told }
 {
-    if index < DIRECT {
-        return Ok(word(inode, (FIRST + index) as usize));
-    }
-    let place = index - DIRECT;
-    let pointer = present_leaf(device, table, file, inode, place / POINTERS)?;
-    let leaf = BlockKey::leaf(file, place / POINTERS);
-    present_pointer(device, table, leaf, pointer, place % POINTERS)
+    let first = word(inode, first_pointer(index));
+    locate_behind(device, table, file, first, index)
 }

@@ -1,5 +1,5 @@
 //! The blocks of files that are in memory.
-ghost use Rattle.std.specs.Prelude.{◌≡◌, ◌≢◌, true, ◌<◌, ◌≤◌, ◌+◌, cond, ℕ, T, List, [], length, is_some, Some, None, IfOk, IfErr, IfSome, IfNone, IsSome, MatchOption, vec_len, vec_capacity};
+ghost use Rattle.std.specs.Prelude.{◌≡◌, ◌≢◌, true, ◌<◌, ◌≤◌, ◌+◌, ◌^◌, cond, ℕ, T, List, [], length, is_some, Some, None, IfOk, IfErr, IfSome, IfNone, IsSome, MatchOption, vec_len, vec_capacity};
 ghost use Rattle.std.specs.Ordering.{nat_cmp};
 ghost use Rattle.std.specs.Option.{option_map};
 ghost use Rattle.std.specs.FinMap.{find, put, is_sorted};
@@ -105,6 +105,7 @@ impl DirtyTable {
     pub fn capacity(&self) -> usize
         ensures limit { result ≡ self.now.capacity.limit }
         ensures room { result ≤ self.now.capacity.room }
+        ensures most { result < 2 ^ 32 }
     {
         self.limit as usize
     }

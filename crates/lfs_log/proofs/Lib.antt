@@ -19,5 +19,6 @@ pub mod TableEntries
 pub mod CameIn
 pub mod Fitting
 pub mod Tells
+pub mod Unsaved
 pub use Rattle.lfs_memory.proofs as of_memory
 pub use Rattle.lfs_verify.proofs as of_verify

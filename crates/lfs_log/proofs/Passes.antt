@@ -65,8 +65,8 @@ pass_victims v vs memory may = let most = may.most in let count = memory.count.m
 
 -- ---- the whole pass
 module _ {D : Type 0} (state : D → DeviceState) where
-  pub reads_looks : (h h' : Held D) → Looks (state h.device) (state h'.device) → h'.memory ≡ h.memory → h'.number ≡ h.number → h'.version ≡ h.version → h'.halted ≡ h.halted → h'.totals ≡ h.totals → Reads state h h'
-  reads_looks h h' looks memory number version halted totals = record { looks = looks; memory = memory; number = number; version = version; halted = halted; totals = totals }
+  pub reads_looks : (h h' : Held D) → Looks (state h.device) (state h'.device) → h'.memory ≡ h.memory → h'.number ≡ h.number → h'.version ≡ h.version → h'.upgraded ≡ h.upgraded → h'.halted ≡ h.halted → h'.totals ≡ h.totals → Reads state h h'
+  reads_looks h h' looks memory number version upgraded halted totals = record { looks = looks; memory = memory; number = number; version = version; upgraded = upgraded; halted = halted; totals = totals }
 
   module _ (h : Held D) (middle : DeviceState) (v : LogMemory) (vs : List ℕ) (lawful : IsLawful (state h.device)) (one : Empties (state h.device) middle h.memory v vs) where
     acknowledged : (k : CheckpointValue) (m0 m : LogMap) → middle.keeps_model → Holds state h k m0 m → IsLogMap (dropped m) → IsAcknowledged middle v h.version h.number k m0 m
@@ -80,7 +80,7 @@ module _ {D : Type 0} (state : D → DeviceState) where
         joined (state h.device) middle d P Q Q (looks_quiet (state h.device) middle h.memory k m0 m lawful one.looks (loose (state h.device) h.memory k m0 m is.log)) moment (λ x s. inl s) (λ x s. s)
 
     pub pass_halts : (device : D) (after : LogMemory) → middle.failures ≡ (state h.device).failures → CommitFails middle (state device) v h.version h.number
-        → Halts state h (record { device = device; memory = after; number = h.number; version = h.version; halted = true; totals = h.totals })
+        → Halts state h (record { device = device; memory = after; number = h.number; version = h.version; upgraded = h.upgraded; halted = true; totals = h.totals })
     pass_halts device after unfailed fails = record {
       carries = carries_then (state h.device) middle (state device) one.looks.carries fails.carries;
       halted = refl;
@@ -94,7 +94,7 @@ module _ {D : Type 0} (state : D → DeviceState) where
 
     pub pass_done : MayClean h.memory vs → AreApart vs → length v.dirty.blocks ≤ most_brought (length vs) → (device : D) (w : LogMemory) (t : TableValue) (halted : Bool) → halted ≡ false → t.blocks ≡ w.dirty.blocks
         → middle.failures ≡ (state h.device).failures → CommitsAll middle (state device) v w h.version h.number
-        → Cleans state h (record { device = device; memory = record { map = w.map; usage = w.usage; dirty = t; chunk = w.chunk }; number = h.number + 1; version = h.version; halted = halted; totals = h.totals }) vs
+        → Cleans state h (record { device = device; memory = record { map = w.map; usage = w.usage; dirty = t; chunk = w.chunk }; number = h.number + 1; version = h.version; upgraded = false; halted = halted; totals = h.totals }) vs
     pass_done may apart few device w t halted on same unfailed done = record {
       carries = carries_then (state h.device) middle (state device) one.looks.carries done.carries;
       running = on;
@@ -109,7 +109,7 @@ module _ {D : Type 0} (state : D → DeviceState) where
           let clean = one.clean in
           omega (arith, gained, gone, taken, least, clean);
       many = done.many;
-      empty = same ∙ done.dirty;
+      empty = record { blocks = same ∙ done.dirty; version = refl };
       untaken = done.untaken;
       no_failure = done.no_failure ∙ unfailed;
       holds = holds;
@@ -125,7 +125,7 @@ module _ {D : Type 0} (state : D → DeviceState) where
     }
       where
         holds : (k : CheckpointValue) (m0 m : LogMap) → (state device).keeps_model → Holds state h k m0 m → IsLogMap (dropped m)
-            → (next : CheckpointValue) × Holds state (record { device = device; memory = record { map = w.map; usage = w.usage; dirty = t; chunk = w.chunk }; number = h.number + 1; version = h.version; halted = halted; totals = h.totals }) next (dropped m) m
+            → (next : CheckpointValue) × Holds state (record { device = device; memory = record { map = w.map; usage = w.usage; dirty = t; chunk = w.chunk }; number = h.number + 1; version = h.version; upgraded = false; halted = halted; totals = h.totals }) next (dropped m) m
         holds k m0 m keeps is map =
             let n = done.log k m0 m keeps (acknowledged k m0 m (done.carries.kept_before keeps) is map) in
             (n.0, record { log = limited_log w t same (state device) n.0 (dropped m) m n.2; number = n.1; version = is.version; running = on })

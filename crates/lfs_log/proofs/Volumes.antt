@@ -1,5 +1,5 @@
 -- The log over its device: what its calls do, from what is done to device and memory.
-use Rattle.std.proofs.Common.{◌≡◌, ◌<◌, ◌≤◌, ◌+◌, ℕ, Bool, true, false, List, Option, length, refl, sym, ◌∙◌, ap, subst, arith}
+use Rattle.std.proofs.Common.{◌≡◌, ◌<◌, ◌≤◌, ◌+◌, ◌||◌, cond, ℕ, Bool, true, false, List, Option, length, refl, sym, ◌∙◌, ap, subst, arith}
 use Rattle.lfs_model.specs.Checkpoint.{CheckpointValue}
 use Rattle.lfs_model.specs.Crash.{StandsOn}
 use Rattle.lfs_model.specs.Device.{DeviceState, AllLeft}
@@ -23,7 +23,7 @@ use Rattle.lfs_memory.specs.Memory.{IsLoose}
 use Rattle.lfs_memory.specs.Lifting.{Prepares}
 use Rattle.lfs_memory.specs.Changing.{Tightens}
 use Rattle.lfs_memory.specs.Removing.{RemovesFile}
-use Rattle.lfs_memory.specs.Batch.{room_for}
+use Rattle.lfs_memory.specs.Batch.{raises, room_for, version_after}
 use Rattle.lfs_memory.specs.Staging.{StandsWithBatch, TakesBatch, RefusesBatch, IsBatchExcused}
 use Rattle.lfs_memory.proofs.Applied.{has_inode}
 use Rattle.lfs_memory.proofs.BlockSteps.{tightened_log}
@@ -40,8 +40,8 @@ module _ {D : Type 0} (state : D → DeviceState) where
       → Holds state h k m0 m → Holds state h' next m0' m' → next.segments ≡ k.segments
   same_segments h h' k next m0 m m0' m' same is is' = sym is'.log.segments ∙ same ∙ is.log.segments
 
-  pub saves : (h h' : Held D) → length h.memory.dirty.blocks ≤ 456 → CommitsAll (state h.device) (state h'.device) h.memory h'.memory h.version h.number → h'.number ≡ h.number + 1 → h'.version ≡ h.version → h'.halted ≡ false → Saves state h h'
-  saves h h' few c number version running = record {
+  pub saves : (h h' : Held D) → length h.memory.dirty.blocks ≤ 456 → CommitsAll (state h.device) (state h'.device) h.memory h'.memory h.version h.number → h'.number ≡ h.number + 1 → h'.version ≡ h.version → h'.upgraded ≡ false → h'.halted ≡ false → Saves state h h'
+  saves h h' few c number version upgraded running = record {
     carries = c.carries;
     running = running;
     number = number;
@@ -49,7 +49,7 @@ module _ {D : Type 0} (state : D → DeviceState) where
     gains = let more = c.gains in omega (arith, more, few);
     clean = let more = c.gains in omega (arith, more, few);
     many = c.many;
-    empty = c.dirty;
+    empty = record { blocks = c.dirty; version = upgraded };
     untaken = c.untaken;
     no_failure = c.no_failure;
     holds = holds;
@@ -88,17 +88,19 @@ module _ {D : Type 0} (state : D → DeviceState) where
   read_fault h h' excused k m0 m keeps is = excused k m0 m keeps (loose (state h.device) h.memory k m0 m is.log)
 
   -- ---- memory changes, and then blocks of pointers that lead nowhere leave it
-  held_tight : (h h' : Held D) (v : LogMemory) (k : CheckpointValue) (m0 m w : LogMap) → Holds state h k m0 m → h'.number ≡ h.number → h'.version ≡ h.version → w.version ≡ m.version → h'.halted ≡ h.halted → Tightens v h'.memory
+  held_tight : (h h' : Held D) (v : LogMemory) (k : CheckpointValue) (m0 m w : LogMap) → Holds state h k m0 m → h'.number ≡ h.number → (raised : Bool) → h'.version ≡ cond raised 2 h.version → w.version ≡ cond raised 2 m.version → h'.halted ≡ h.halted → Tightens v h'.memory
       → IsLoose (state h'.device) v k m0 w → Holds state h' k m0 w
-  held_tight h h' v k m0 m w is number version same halted tight loose = record { log = tightened_log (state h'.device) v h'.memory k m0 w tight loose; number = is.number ∙ sym number; version = same ∙ is.version ∙ sym version; running = halted ∙ is.running }
+  held_tight h h' v k m0 m w is number raised version same halted tight loose = record { log = tightened_log (state h'.device) v h'.memory k m0 w tight loose; number = is.number ∙ sym number; version = same ∙ ap (λ (n : ℕ). cond raised 2 n) is.version ∙ sym version; running = halted ∙ is.running }
 
-  module _ (h h' : Held D) (v : LogMemory) (number : h'.number ≡ h.number) (version : h'.version ≡ h.version) (halted : h'.halted ≡ h.halted) (tight : Tightens v h'.memory) where
+  module _ (h h' : Held D) (v : LogMemory) (number : h'.number ≡ h.number) (halted : h'.halted ≡ h.halted) (tight : Tightens v h'.memory) where
     module _ (c : Changes) where
-      stood : StandsWithBatch (state h.device) (state h'.device) h.memory v c.headers.items c.blocks.items → Alters state h h' (room_for c)
-      stood s = record {
+      stood : (raised : Bool) → h'.version ≡ cond raised 2 h.version → h'.upgraded ≡ (raised || h.upgraded) → StandsWithBatch (state h.device) (state h'.device) h.memory v c.headers.items c.blocks.items
+          → Alters state h h' (room_for c) raised
+      stood raised version upgraded s = record {
         looks = s.looks;
         number = number;
         version = version;
+        upgraded = upgraded;
         halted = halted;
         segments = tight.stays.segments ∙ s.segments;
         clean = tight.stays.clean ∙ s.clean;
@@ -106,18 +108,20 @@ module _ {D : Type 0} (state : D → DeviceState) where
         few = let x = s.few in let y = tight.stays.blocks in omega (arith, x, y);
       }
 
-      pub is_staged : TakesBatch (state h.device) (state h'.device) h.memory v c.loss c.headers.items c.blocks.items → IsStaged state h h' c
-      is_staged s = record { alters = stood s.stands; holds = λ k m0 m keeps is fits. held_tight h h' v k m0 m _ is number version (staged_version c m) halted tight (s.log k m0 m keeps (loose (state h.device) h.memory k m0 m is.log) fits) }
+      pub is_staged : h'.version ≡ version_after c.loss h.version → h'.upgraded ≡ (raises c.loss || h.upgraded) → TakesBatch (state h.device) (state h'.device) h.memory v c.loss c.headers.items c.blocks.items
+          → IsStaged state h h' c
+      is_staged version upgraded s = record { alters = stood (raises c.loss) version upgraded s.stands; holds = λ k m0 m keeps is fits. held_tight h h' v k m0 m _ is number (raises c.loss) version (staged_version c m) halted tight (s.log k m0 m keeps (loose (state h.device) h.memory k m0 m is.log) fits) }
 
-      pub is_refused : RefusesBatch (state h.device) (state h'.device) h.memory v c.loss c.headers.items c.blocks.items → IsRefused state h h' c
-      is_refused s = record { alters = stood s.stands; holds = λ k m0 m keeps is fits. held_tight h h' v k m0 m m is number version refl halted tight (s.log k m0 m keeps (loose (state h.device) h.memory k m0 m is.log) fits) }
+      pub is_refused : h'.version ≡ h.version → h'.upgraded ≡ h.upgraded → RefusesBatch (state h.device) (state h'.device) h.memory v c.loss c.headers.items c.blocks.items → IsRefused state h h' c
+      is_refused version upgraded s = record { alters = stood false version upgraded s.stands; holds = λ k m0 m keeps is fits. held_tight h h' v k m0 m m is number false version refl halted tight (s.log k m0 m keeps (loose (state h.device) h.memory k m0 m is.log) fits) }
 
-    pub is_removed : (n : ℕ) → RemovesFile (state h.device) (state h'.device) h.memory v n → IsRemoved state h h' n
-    is_removed n s = record {
+    pub is_removed : h'.version ≡ h.version → h'.upgraded ≡ h.upgraded → (n : ℕ) → RemovesFile (state h.device) (state h'.device) h.memory v n → IsRemoved state h h' n
+    is_removed version upgraded n s = record {
       alters = record {
         looks = s.looks;
         number = number;
         version = version;
+        upgraded = upgraded;
         halted = halted;
         segments = tight.stays.segments ∙ s.segments;
         clean = tight.stays.clean ∙ s.clean;
@@ -125,15 +129,16 @@ module _ {D : Type 0} (state : D → DeviceState) where
         few = let x = s.few in let y = tight.stays.blocks in omega (arith, x, y);
       };
       untaken = λ before segment. subst (λ (u : UsageTable). kept_of u segment ≡ used_of u segment) (sym tight.usage) (s.kept segment ∙ before segment ∙ sym (s.used segment));
-      holds = λ k m0 m keeps is. held_tight h h' v k m0 m _ is number version refl halted tight (s.log k m0 m keeps (loose (state h.device) h.memory k m0 m is.log));
+      holds = λ k m0 m keeps is. held_tight h h' v k m0 m _ is number false version refl halted tight (s.log k m0 m keeps (loose (state h.device) h.memory k m0 m is.log));
     }
 
-    pub is_kept : Prepares (state h.device) (state h'.device) h.memory v 0 → IsKept state h h'
-    is_kept s = record {
+    pub is_kept : h'.version ≡ h.version → h'.upgraded ≡ h.upgraded → Prepares (state h.device) (state h'.device) h.memory v 0 → IsKept state h h'
+    is_kept version upgraded s = record {
       alters = record {
         looks = s.looks;
         number = number;
         version = version;
+        upgraded = upgraded;
         halted = halted;
         segments = tight.stays.segments ∙ s.segments;
         clean = tight.stays.clean ∙ s.clean;
@@ -141,15 +146,15 @@ module _ {D : Type 0} (state : D → DeviceState) where
         few = let x = s.few in let y = tight.stays.blocks in omega (arith, x, y);
       };
       untaken = λ before segment. subst (λ (u : UsageTable). kept_of u segment ≡ used_of u segment) (sym tight.usage) (s.kept segment ∙ before segment ∙ sym (s.used segment));
-      holds = λ k m0 m keeps is. held_tight h h' v k m0 m m is number version refl halted tight (s.log k m0 m keeps (loose (state h.device) h.memory k m0 m is.log));
+      holds = λ k m0 m keeps is. held_tight h h' v k m0 m m is number false version refl halted tight (s.log k m0 m keeps (loose (state h.device) h.memory k m0 m is.log));
     }
 
   pub is_stage_fault : (h h' : Held D) (c : Changes) → IsBatchExcused (state h.device) (state h'.device) h.memory c.loss c.headers.items c.blocks.items → IsStageFault state h h' c
   is_stage_fault h h' c failed k m0 m keeps is fits = failed k m0 m keeps (loose (state h.device) h.memory k m0 m is.log) fits
 
   -- nothing happened
-  pub alters_none : (h : Held D) (more : ℕ) → Alters state h h more
-  alters_none h more = record { looks = looks_none (state h.device); number = refl; version = refl; halted = refl; segments = refl; clean = refl; capacity = refl; few = omega arith }
+  pub alters_none : (h : Held D) (more : ℕ) → Alters state h h more false
+  alters_none h more = record { looks = looks_none (state h.device); number = refl; version = refl; upgraded = refl; halted = refl; segments = refl; clean = refl; capacity = refl; few = omega arith }
 
   -- ---- numbers that no file has
   has_there : (h : Held D) (k : CheckpointValue) (m0 m : LogMap) → Holds state h k m0 m → (l : ℕ) → 0 < address_in h.memory.map l → HasInode m l

@@ -1,6 +1,6 @@
--- What contracts see of a log: its device, what memory holds, the number of the acknowledged checkpoint, the version of the layout, whether a commit failed, and
--- the blocks of all files.
-use Rattle.std.specs.Prelude.{◌≡◌, ◌⊎◌, ◌<◌, ◌≤◌, ◌+◌, ◌-◌, ◌*◌, ◌/◌, ◌^◌, ℕ, zero, suc, Bool, true, false, List, [], length, refl, Option, None}
+-- What contracts see of a log: its device, what memory holds, the number of the acknowledged checkpoint, the version of the layout, whether it was raised since,
+-- whether a commit failed, and the blocks of all files.
+use Rattle.std.specs.Prelude.{◌≡◌, ◌⊎◌, ◌<◌, ◌≤◌, ◌+◌, ◌-◌, ◌*◌, ◌/◌, ◌^◌, ◌||◌, cond, ℕ, zero, suc, Bool, true, false, List, [], length, refl, Option, None}
 use Rattle.std.specs.Coded.{Coded, code_by, coded×, coded_ℕ, coded_bool, coded_list, coded_option}
 use Rattle.lfs_model.specs.declared.BlockKind.{BlockKind}
 use Rattle.lfs_model.specs.declared.BlockKind.TheVariants as kind
@@ -24,7 +24,7 @@ use Rattle.lfs_memory.specs.declared.memory.LogMemory.{LogMemory}
 use Rattle.lfs_memory.specs.Memory.{IsMemory, HasRoom, IsLog}
 use Rattle.lfs_memory.specs.Present.{Looks, HeaderAnswer, BlockAnswer}
 use Rattle.lfs_memory.specs.Removing.{without_file}
-use Rattle.lfs_memory.specs.Batch.{room_for, staged, FitsBatch}
+use Rattle.lfs_memory.specs.Batch.{room_for, staged, raises, FitsBatch}
 use Rattle.lfs_verify.specs.declared.totals.BlockTotals.{BlockTotals}
 use Rattle.lfs_log.specs.Publishing.{AreUntaken}
 
@@ -33,6 +33,7 @@ pub record Held (D : Type 0) : Type 0 where
   pub memory : LogMemory
   pub number : ℕ
   pub version : ℕ
+  pub upgraded : Bool
   pub halted : Bool
   pub totals : BlockTotals
 
@@ -112,9 +113,9 @@ totals_code = code_by (ℕ × ℕ) (coded× coded_ℕ coded_ℕ) (λ t. (t.data_
 
 abbrev pub held_code : {D : Type 0} → Coded D → Coded (Held D)
 held_code {D} device =
-    code_by (D × (LogMemory × (ℕ × (ℕ × (Bool × BlockTotals))))) (coded× device (coded× memory_code (coded× coded_ℕ (coded× coded_ℕ (coded× coded_bool totals_code)))))
-    (λ h. (h.device, (h.memory, (h.number, (h.version, (h.halted, h.totals))))))
-    (λ p. record { device = p.0; memory = p.1.0; number = p.1.1.0; version = p.1.1.1.0; halted = p.1.1.1.1.0; totals = p.1.1.1.1.1 })
+    code_by (D × (LogMemory × (ℕ × (ℕ × (Bool × (Bool × BlockTotals)))))) (coded× device (coded× memory_code (coded× coded_ℕ (coded× coded_ℕ (coded× coded_bool (coded× coded_bool totals_code))))))
+    (λ h. (h.device, (h.memory, (h.number, (h.version, (h.upgraded, (h.halted, h.totals)))))))
+    (λ p. record { device = p.0; memory = p.1.0; number = p.1.1.0; version = p.1.1.1.0; upgraded = p.1.1.1.1.0; halted = p.1.1.1.1.1.0; totals = p.1.1.1.1.1.1 })
     (λ _. refl)
 
 -- What a log keeps true over any device, until a commit failed. Its memory takes as many blocks as one commit may write.
@@ -135,14 +136,15 @@ pub record IsReadyToPass (d : DeviceState) (v : LogMemory) (before : UsageTable)
 abbrev pub HoldsUnlessHalted : DeviceState → LogMemory → UsageTable → Bool → Type 0
 HoldsUnlessHalted d v before halted = halted ≡ false → IsReadyToPass d v before
 
--- How many blocks of files no checkpoint leads to yet. They are those in memory, for none is written
--- before its commit.
+-- How many blocks no checkpoint leads to yet. Those of files are the ones in memory, for none is written before its commit; and a version that
+-- was raised counts as one, the checkpoint's.
 abbrev pub unsaved_in : {D : Type 0} → Held D → ℕ
-unsaved_in h = length h.memory.dirty.blocks
+unsaved_in h = length h.memory.dirty.blocks + cond h.upgraded 1 0
 
--- no block is unsaved
-abbrev pub AreAllSaved : {D : Type 0} → Held D → Type 0
-AreAllSaved h = h.memory.dirty.blocks ≡ []
+-- no block is unsaved, nor the version
+pub record AreAllSaved {D : Type 0} (h : Held D) : Type 0 where
+  pub blocks : h.memory.dirty.blocks ≡ []
+  pub version : h.upgraded ≡ false
 
 module _ {D : Type 0} (state : D → DeviceState) where
   -- The log holds log map m, and the acknowledged checkpoint k, whose number it knows, stands for m0.
@@ -196,6 +198,7 @@ module _ {D : Type 0} (state : D → DeviceState) where
     pub memory : h'.memory ≡ h.memory
     pub number : h'.number ≡ h.number
     pub version : h'.version ≡ h.version
+    pub upgraded : h'.upgraded ≡ h.upgraded
     pub halted : h'.halted ≡ h.halted
     pub totals : h'.totals ≡ h.totals
 
@@ -217,11 +220,12 @@ module _ {D : Type 0} (state : D → DeviceState) where
   abbrev pub TellsLeaf : Held D → Held D → ℕ → ℕ → Bool → Type 0
   TellsLeaf h h' n q found = (k : CheckpointValue) (m0 m : LogMap) → (state h'.device).keeps_model → Holds h k m0 m → has_leaf m n q ≡ found
 
-  -- A call that changes no more than memory, where so many blocks may come.
-  pub record Alters (h h' : Held D) (more : ℕ) : Type 0 where
+  -- A call that changes no more than memory, where so many blocks may come, and the version where it raises it.
+  pub record Alters (h h' : Held D) (more : ℕ) (raised : Bool) : Type 0 where
     pub looks : Looks (state h.device) (state h'.device)
     pub number : h'.number ≡ h.number
-    pub version : h'.version ≡ h.version
+    pub version : h'.version ≡ cond raised 2 h.version
+    pub upgraded : h'.upgraded ≡ (raised || h.upgraded)
     pub halted : h'.halted ≡ h.halted
     pub segments : length h'.memory.usage.segments ≡ length h.memory.usage.segments
     pub clean : clean_in h'.memory.usage.segments ≡ clean_in h.memory.usage.segments
@@ -230,12 +234,12 @@ module _ {D : Type 0} (state : D → DeviceState) where
 
   -- A batch of changes is staged: the present log map is the one with all of them.
   pub record IsStaged (h h' : Held D) (c : Changes) : Type 0 where
-    pub alters : Alters h h' (room_for c)
+    pub alters : Alters h h' (room_for c) (raises c.loss)
     pub holds : (k : CheckpointValue) (m0 m : LogMap) → (state h'.device).keeps_model → Holds h k m0 m → FitsBatch m c → Holds h' k m0 (staged c m)
 
   -- Or none is made.
   pub record IsRefused (h h' : Held D) (c : Changes) : Type 0 where
-    pub alters : Alters h h' (room_for c)
+    pub alters : Alters h h' (room_for c) false
     pub holds : (k : CheckpointValue) (m0 m : LogMap) → (state h'.device).keeps_model → Holds h k m0 m → FitsBatch m c → Holds h' k m0 m
 
   -- a call of the device failed, where the log holds a map that the batch fits
@@ -244,13 +248,13 @@ module _ {D : Type 0} (state : D → DeviceState) where
 
   -- A file is gone.
   pub record IsRemoved (h h' : Held D) (n : ℕ) : Type 0 where
-    pub alters : Alters h h' 0
+    pub alters : Alters h h' 0 false
     pub untaken : AreUntaken h.memory.usage → AreUntaken h'.memory.usage
     pub holds : (k : CheckpointValue) (m0 m : LogMap) → (state h'.device).keeps_model → Holds h k m0 m → Holds h' k m0 (without_file n m)
 
   -- Or nothing is.
   pub record IsKept (h h' : Held D) : Type 0 where
-    pub alters : Alters h h' 0
+    pub alters : Alters h h' 0 false
     pub untaken : AreUntaken h.memory.usage → AreUntaken h'.memory.usage
     pub holds : (k : CheckpointValue) (m0 m : LogMap) → (state h'.device).keeps_model → Holds h k m0 m → Holds h' k m0 m
 

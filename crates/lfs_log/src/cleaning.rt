@@ -8,6 +8,7 @@ ghost use Rattle.lfs_log.specs.Cleaning.{AreCleanable, AreEmptied, Crowds, Empti
 ghost use Rattle.lfs_log.specs.Relocating.{CameFrom, IsAmong, Misses, Relocates, VacatesAll};
 
 use crate::relocating::{are_in_order, relocate_segment};
+use lfs_cache::CachedDevice;
 use lfs_device::SectorDevice;
 use lfs_memory::LogMemory;
 use lfs_memory::changing::tighten;
@@ -45,7 +46,7 @@ impl SavedTables {
 ///
 /// As those of `relocate_segment`.
 fn relocate_all<D: SectorDevice>(
-    device: &mut D,
+    device: &mut CachedDevice<D>,
     memory: &mut LogMemory,
     victims: &[u16],
 ) -> Result<(), LiftFault>
@@ -119,7 +120,7 @@ fn are_emptied(usage: &Usage, victims: &[u16]) -> bool
 ///
 /// As those of `relocate_all`.
 fn empty_segments<D: SectorDevice>(
-    device: &mut D,
+    device: &mut CachedDevice<D>,
     memory: &mut LogMemory,
     victims: &[u16],
 ) -> Result<(), LiftFault>
@@ -162,7 +163,7 @@ fn empty_segments<D: SectorDevice>(
 /// With memory as it was: `Full` where more blocks would come, `Device` where a call of the device
 /// failed.
 pub fn relocate<D: SectorDevice>(
-    device: &mut D,
+    device: &mut CachedDevice<D>,
     memory: &mut LogMemory,
     before: &mut SavedTables,
     victims: &[u16],

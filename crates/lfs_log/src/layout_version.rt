@@ -1,7 +1,10 @@
 //! The version of a volume's layout.
-ghost use Rattle.std.specs.Prelude.{◌≡◌};
+ghost use Rattle.std.specs.Prelude.{◌≡◌, ◌≤◌, ◌||◌, cond};
 ghost use Rattle.lfs_model.specs.Checkpoint.{IsVersion};
+ghost use Rattle.lfs_memory.specs.Batch.{raises, version_after};
 ghost use Rattle.lfs_log.specs.Versions.{number_of};
+
+use lfs_memory::Loss;
 
 /// The version of a volume's layout.
 #[derive(Clone, Copy, Debug, PartialEq, Eq)]
@@ -35,4 +38,32 @@ impl LayoutVersion {
             LayoutVersion::Second => 2,
         }
     }
+}
+
+/// The version of the layout after what goes in a batch.
+pub fn version_after(loss: &Loss, version: LayoutVersion) -> LayoutVersion
+    ensures { number_of result ≡ version_after loss.now (number_of version) }
+{
+    match loss {
+        Loss::FirstVersion => LayoutVersion::Second,
+        _ => version,
+    }
+}
+
+/// Whether the version was raised since the acknowledged checkpoint, after what goes in a batch.
+pub fn is_raised_after(loss: &Loss, before: bool) -> bool
+    ensures { result ≡ (raises loss.now || before) }
+{
+    match loss {
+        Loss::FirstVersion => true,
+        _ => before,
+    }
+}
+
+/// How many blocks are unsaved by a version that was raised: the checkpoint's.
+pub fn unsaved_by(raised: bool) -> usize
+    ensures value { result ≡ cond raised 1 0 }
+    ensures most { result ≤ 1 }
+{
+    if raised { 1 } else { 0 }
 }

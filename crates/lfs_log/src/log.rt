@@ -17,8 +17,9 @@ ghost use Rattle.lfs_log.specs.Publishing.{AreUntaken};
 
 use crate::cleaning::{SavedTables, may_clean, most_of, relocate};
 use crate::committing::save;
-use crate::layout_version::LayoutVersion;
+use crate::layout_version::{LayoutVersion, is_raised_after, unsaved_by, version_after};
 use crate::opening::{MOST_DIRTY, open_memory};
+use lfs_cache::{CachedDevice, DEFAULT_SECTORS, MOST_SECTORS};
 use lfs_device::SectorDevice;
 use lfs_memory::counting::SegmentCounts;
 use lfs_memory::lifting::LiftFault;
@@ -35,10 +36,12 @@ use std::marker::Model;
 /// checkpoint, else on the device.
 #[derive(Drop)]
 pub struct Log<D: SectorDevice> {
-    device: D,
+    device: CachedDevice<D>,
     memory: LogMemory,
     number: u64,
     version: LayoutVersion,
+    /// The version was raised, and the acknowledged checkpoint has the first one.
+    upgraded: bool,
     halted: bool,
     /// The blocks of all files, as they are staged.
     totals: BlockTotals,
@@ -61,6 +64,7 @@ impl<D: SectorDevice> Model for Log<D> {
       memory = l.memory;
       number = l.number;
       version = number_of l.version;
+      upgraded = l.upgraded;
       halted = l.halted;
       totals = l.totals;
     } };
@@ -107,10 +111,50 @@ impl<D: SectorDevice> Log<D> {
             (λ log. LeavesOnly (D.state device) (D.state log.device) (D.state device).may_leave)
             (λ e. LeavesOnly (D.state device) (D.state e.1) (D.state device).may_leave) }
     {
-        let mut device = device;
+        match Log::open_with(alloc, device, DEFAULT_SECTORS) {
+            Ok(log) => Ok(log),
+            Err(fault) => Err(fault),
+        }
+    }
+
+    /// The volume as `open` finds it, with a cache of so many sectors.
+    ///
+    /// # Errors
+    ///
+    /// As those of `open`.
+    pub fn open_with(alloc: Global, device: D, capacity: u32) -> Result<Log<D>, (MountFault, D)>
+        requires some { 1 ≤ capacity }
+        requires most { capacity ≤ MOST_SECTORS }
+        ensures holds { IfOk result (λ log. Mounts D.SectorDevice.state device log) }
+        ensures counts { IfOk result (λ log. CountsOpened (D.state device) (D.state log.device)
+            log.totals) }
+        ensures found { IfOk result (λ log. HasLogMap (D.state device) (D.state log.device)) }
+        ensures empty { IfOk result AreAllSaved }
+        ensures untaken { IfOk result (λ log. (D.state log.device).keeps_model
+            → AreUntaken log.memory.usage) }
+        ensures many { IfOk result (λ log. (D.state log.device).keeps_model
+            → length log.memory.usage.segments ≤ 8 * clean_in log.memory.usage.segments) }
+        ensures durable { IfOk result (λ log. (D.state log.device).keeps_model
+            → Only (D.state device).content (D.state log.device)) }
+        ensures cause { IfErr result (λ e. (e.0 ≡ MountFault.NoMemory → ⊥)
+            → IsOpenFault (D.state device) (D.state e.1) e.0) }
+        ensures reason { IfErr result (λ e. IsRefusedLog (D.state device) (D.state e.1) e.0) }
+        ensures untouched { MatchResult result
+            (λ log. IsUntouched (D.state device) (D.state log.device))
+            (λ e. IsUntouched (D.state device) (D.state e.1)) }
+        ensures carries { MatchResult result (λ log. Carries (D.state device) (D.state log.device))
+            (λ e. Carries (D.state device) (D.state e.1)) }
+        ensures any_moment { MatchResult result
+            (λ log. LeavesOnly (D.state device) (D.state log.device) (D.state device).may_leave)
+            (λ e. LeavesOnly (D.state device) (D.state e.1) (D.state device).may_leave) }
+    {
+        let mut device = match CachedDevice::new(alloc, device, capacity) {
+            Ok(device) => device,
+            Err(refused) => return Err((MountFault::NoMemory, refused.1)),
+        };
         let tables = match verify(alloc, &mut device) {
             Ok(tables) => tables,
-            Err(fault) => return Err((fault, device)),
+            Err(fault) => return Err((fault, device.into_inner())),
         };
         match Log::with_tables(alloc, device, tables) {
             Ok(log) => Ok(log),
@@ -124,7 +168,11 @@ impl<D: SectorDevice> Log<D> {
     /// # Errors
     ///
     /// `NoMemory` where memory is refused, with the device.
-    pub fn with_tables(alloc: Global, device: D, tables: Tables) -> Result<Log<D>, (MountFault, D)>
+    pub fn with_tables(
+        alloc: Global,
+        device: CachedDevice<D>,
+        tables: Tables,
+    ) -> Result<Log<D>, (MountFault, D)>
         requires loaded { IsLoaded tables (D.state device).size }
         requires found { (D.state device).keeps_model
             → HasTables (D.state device).content tables }
@@ -142,7 +190,7 @@ impl<D: SectorDevice> Log<D> {
         ensures same { MatchResult result (λ log. log.device ≡ device) (λ e. e.1 ≡ device) }
     {
         let Ok(counts) = SegmentCounts::new(alloc) else {
-            return Err((MountFault::NoMemory, device));
+            return Err((MountFault::NoMemory, device.into_inner()));
         };
         let version = LayoutVersion::new(tables.version);
         match open_memory(alloc, tables) {
@@ -151,12 +199,13 @@ impl<D: SectorDevice> Log<D> {
                 memory: opened.memory,
                 number: opened.number,
                 version,
+                upgraded: false,
                 halted: false,
                 totals: opened.totals,
                 counts,
                 before: opened.before,
             }),
-            Err(_) => Err((MountFault::NoMemory, device)),
+            Err(_) => Err((MountFault::NoMemory, device.into_inner())),
         }
     }
 
@@ -178,14 +227,14 @@ impl<D: SectorDevice> Log<D> {
     pub fn into_device(self) -> D
         ensures { result ≡ self.device }
     {
-        self.device
+        self.device.into_inner()
     }
 
     /// The device as it is, to look at.
     pub fn device(&self) -> &D
         ensures { result.now ≡ self.now.device }
     {
-        &self.device
+        self.device.device()
     }
 
     /// Whether a commit failed.
@@ -224,11 +273,14 @@ impl<D: SectorDevice> Log<D> {
         self.memory.usage.clean()
     }
 
-    /// How many blocks of files are unsaved: changed since the acknowledged checkpoint.
+    /// How many blocks are unsaved: those of files that changed since the acknowledged checkpoint,
+    /// and the checkpoint's own where the version was raised.
     pub fn unsaved(&self) -> usize
         ensures { result ≡ unsaved_in self.now }
     {
-        self.memory.dirty.len()
+        let _most = self.memory.dirty.capacity();
+        let version = unsaved_by(self.upgraded);
+        self.memory.dirty.len() + version
     }
 
     /// The blocks of all files, as they are staged: what the last change said of them, or the mount
@@ -371,7 +423,7 @@ impl<D: SectorDevice> Log<D> {
     }
 
     /// Changes files in memory, whole or not at all: first what is lost, then headers, then blocks.
-    /// All files have these totals then.
+    /// All files have these totals then. Where the first version is lost, the volume has the second.
     ///
     /// # Errors
     ///
@@ -403,6 +455,8 @@ impl<D: SectorDevice> Log<D> {
         ) {
             Ok(()) => {
                 self.totals = totals;
+                self.version = version_after(&changes.loss, self.version);
+                self.upgraded = is_raised_after(&changes.loss, self.upgraded);
                 Ok(())
             }
             Err(fault) => Err(fault),
@@ -482,6 +536,7 @@ impl<D: SectorDevice> Log<D> {
         ) {
             Ok(()) => {
                 self.number += 1;
+                self.upgraded = false;
                 Ok(())
             }
             Err(_) => {
@@ -554,6 +609,7 @@ impl<D: SectorDevice> Log<D> {
         };
         self.memory.dirty.set_limit(MOST_DIRTY);
         self.number += 1;
+        self.upgraded = false;
         Ok(())
     }
 }

@@ -13,12 +13,13 @@ ghost use Rattle.lfs_memory.specs.inodes.MapValue.{block_in};
 ghost use Rattle.lfs_memory.specs.segments.Table.{address_of};
 ghost use Rattle.lfs_log.specs.Relocating.{BringsOne, BringsWay, CameFrom, HasLeft, IsBetween, IsInOrder, IsNoBlock, IsUsageLost, LacksOnWay, LeavesNames, Misses, Relocates, UsageLeaves, UsageLeavesIn, Vacates};
 
+use lfs_cache::CachedDevice;
 use lfs_device::{DeviceFault, SectorDevice};
-use lfs_layout::{BlockName, SummaryView, word};
+use lfs_layout::{BlockName, SummaryView};
 use lfs_memory::LogMemory;
 use lfs_memory::inodes::{BlockKey, IN_MEMORY};
 use lfs_memory::lifting::{LiftFault, has_block, is_counted, lift_child, lift_inode, lift_map};
-use lfs_memory::present::read_present;
+use lfs_memory::present::present_word;
 use lfs_memory::segments::Usage;
 use lfs_model::BlockKind;
 
@@ -29,7 +30,7 @@ use lfs_model::BlockKind;
 ///
 /// Where a block above it can't be read.
 fn locate<D: SectorDevice>(
-    device: &mut D,
+    device: &mut CachedDevice<D>,
     memory: &LogMemory,
     key: BlockKey,
 ) -> Result<u32, DeviceFault>
@@ -51,9 +52,8 @@ fn locate<D: SectorDevice>(
     if address == 0 {
         return Ok(0);
     }
-    let mut bytes = [0; 512];
-    match read_present(device, memory, above, address, &mut bytes) {
-        Ok(()) => Ok(word(&bytes, key.pointer())),
+    match present_word(device, memory, above, address, key.pointer()) {
+        Ok(pointer) => Ok(pointer),
         Err(fault) => Err(fault),
     }
 }
@@ -71,7 +71,7 @@ pub fn are_in_order(memory: &LogMemory)
 ///
 /// As those of `lift`.
 fn bring_inode<D: SectorDevice>(
-    device: &mut D,
+    device: &mut CachedDevice<D>,
     memory: &mut LogMemory,
     key: BlockKey,
 ) -> Result<bool, LiftFault>
@@ -111,7 +111,7 @@ fn bring_inode<D: SectorDevice>(
 ///
 /// As those of `lift`.
 fn bring_child<D: SectorDevice>(
-    device: &mut D,
+    device: &mut CachedDevice<D>,
     memory: &mut LogMemory,
     key: BlockKey,
 ) -> Result<bool, LiftFault>
@@ -152,7 +152,7 @@ fn bring_child<D: SectorDevice>(
 ///
 /// As those of `lift`.
 fn bring_block<D: SectorDevice>(
-    device: &mut D,
+    device: &mut CachedDevice<D>,
     memory: &mut LogMemory,
     key: BlockKey,
 ) -> Result<bool, LiftFault>
@@ -187,7 +187,7 @@ fn bring_block<D: SectorDevice>(
 ///
 /// As those of `lift`.
 fn relocate_file_block<D: SectorDevice>(
-    device: &mut D,
+    device: &mut CachedDevice<D>,
     memory: &mut LogMemory,
     key: BlockKey,
     address: u32,
@@ -307,7 +307,7 @@ fn key_of(name: BlockName) -> BlockKey
 /// As those of `lift`, and where the block isn't counted there.
 #[tactic(auto, unfolding(lfs_model::specs::Summary::IsPlaced))]
 fn relocate_block<D: SectorDevice>(
-    device: &mut D,
+    device: &mut CachedDevice<D>,
     memory: &mut LogMemory,
     name: BlockName,
     address: u32,
@@ -349,7 +349,7 @@ fn relocate_block<D: SectorDevice>(
 ///
 /// As those of `relocate_block`.
 fn relocate_chunk<D: SectorDevice>(
-    device: &mut D,
+    device: &mut CachedDevice<D>,
     memory: &mut LogMemory,
     names: &SummaryView<'_>,
     first: u32,
@@ -388,7 +388,7 @@ fn relocate_chunk<D: SectorDevice>(
 ///
 /// Where it can't be read, or a call of the device failed.
 fn read_sector<D: SectorDevice>(
-    device: &mut D,
+    device: &mut CachedDevice<D>,
     address: u32,
     out: &mut [u8; 512],
 ) -> Result<(), DeviceFault>
@@ -415,7 +415,7 @@ fn read_sector<D: SectorDevice>(
 ///
 /// As those of `relocate_block`, and where the segment's used part isn't whole chunks.
 pub fn relocate_segment<D: SectorDevice>(
-    device: &mut D,
+    device: &mut CachedDevice<D>,
     memory: &mut LogMemory,
     segment: u32,
 ) -> Result<(), LiftFault>

@@ -3,7 +3,7 @@ use crate::devices::Probe::{Fail, Stop};
 use crate::log_steps::Act::{Commit, Empty, Fill, FillTo, Hide, Make};
 use crate::log_steps::Look::{Clean, Is, Number, Reads, Root, Unsaved};
 use crate::log_steps::Step::{Done, On, Refused, Sees};
-use crate::log_steps::{Step, check};
+use crate::log_steps::{CAPACITIES, Step, check, prepared, run};
 use crate::volume::Wrong;
 use lfs_device::{DeviceCall, Left};
 use lfs_store::volume_log::LogFault;
@@ -80,7 +80,7 @@ fn a_pass_takes_files_without_links(rt: HostRuntime) -> Result<(), Wrong> {
 
 /// What comes of it where a read fails before which so many come, the mount's too: 0 where the
 /// mount fails, 1 where the pass does, and changes nothing, and 2 where neither does.
-fn fate_of(alloc: Global, read: u64) -> Result<u8, Wrong> {
+fn fate_of(alloc: Global, capacity: u32, read: u64) -> Result<u8, Wrong> {
     let fails = [
         On(Fail(DeviceCall::Read, read)),
         Refused(Empty(1, 2), LogFault::Device),
@@ -95,8 +95,9 @@ fn fate_of(alloc: Global, read: u64) -> Result<u8, Wrong> {
         Sees(Reads(2, 2, 9)),
         Sees(Root),
     ];
-    match check(alloc, 64, &FIVE_SEGMENTS, &fails) {
-        Ok(()) => Ok(1),
+    let device = prepared(alloc, 64, &FIVE_SEGMENTS)?;
+    match run(alloc, capacity, device, &fails) {
+        Ok(_) => Ok(1),
         Err(Wrong::Step(0)) => Ok(0),
         Err(Wrong::Step(1)) => Ok(2),
         Err(wrong) => Err(wrong),
@@ -104,11 +105,11 @@ fn fate_of(alloc: Global, read: u64) -> Result<u8, Wrong> {
 }
 
 /// The first read behind those of a mount, of 256 at most.
-fn first_behind_mount(alloc: Global) -> Result<u64, Wrong> {
+fn first_behind_mount(alloc: Global, capacity: u32) -> Result<u64, Wrong> {
     let mut low = 0u64;
     let mut step = 128u64;
     for _ in 0..8u32 {
-        if fate_of(alloc, low.saturating_add(step))? == 0 {
+        if fate_of(alloc, capacity, low.saturating_add(step))? == 0 {
             low = low.saturating_add(step);
         }
         step /= 2;
@@ -118,14 +119,17 @@ fn first_behind_mount(alloc: Global) -> Result<u64, Wrong> {
 
 #[test]
 fn a_failed_read_ends_a_pass(rt: HostRuntime) -> Result<(), Wrong> {
-    let first = first_behind_mount(rt.alloc())?;
-    let mut failed = 0u32;
-    for read in 0..12u64 {
-        if fate_of(rt.alloc(), first.saturating_add(read))? == 1 {
-            failed = failed.saturating_add(1);
+    for capacity in CAPACITIES {
+        let first = first_behind_mount(rt.alloc(), capacity)?;
+        let mut failed = 0u32;
+        for read in 0..12u64 {
+            if fate_of(rt.alloc(), capacity, first.saturating_add(read))? == 1 {
+                failed = failed.saturating_add(1);
+            }
         }
+        // Two summaries, two blocks, and the inode, which is looked up and comes in from where it
+        // is kept.
+        assert!(rt; failed == 5);
     }
-    // Two summaries, two blocks, and the inode twice: to find the first block, and as it comes in.
-    assert!(rt; failed == 6);
     Ok(())
 }

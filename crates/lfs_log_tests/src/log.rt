@@ -5,7 +5,7 @@ use crate::log_steps::Look::{
     Clean, Halted, HasBlock, HasLeaf, Is, IsCut, Lacks, Number, Reads, ReadsTo, Root, Unsaved,
 };
 use crate::log_steps::Step::{Done, On, Refused, Sees};
-use crate::log_steps::{EDGES, Step, check, prepared, run};
+use crate::log_steps::{CAPACITIES, EDGES, Step, check, prepared, run};
 use crate::volume::Wrong;
 use lfs_device::{DeviceCall, Left, MemDevice};
 use lfs_store::volume_log::LogFault;
@@ -221,61 +221,65 @@ fn blocks_under_all_pointers_are_saved(rt: HostRuntime) -> Result<(), Wrong> {
 
 #[test]
 fn a_block_under_pointers_changes(rt: HostRuntime) -> Result<(), Wrong> {
-    let mut device = prepared(rt.alloc(), 64, &LONG_FILE)?;
-    // What comes into memory: the block, the inode, and the blocks of pointers on the way.
-    for (index, unsaved) in [
-        (111, 2),
-        (112, 3),
-        (239, 3),
-        (240, 4),
-        (368, 4),
-        (16_623, 4),
-    ] {
+    for capacity in CAPACITIES {
+        let mut device = prepared(rt.alloc(), 64, &LONG_FILE)?;
+        // What comes into memory: the block, the inode, and the blocks of pointers on the way.
+        for (index, unsaved) in [
+            (111, 2),
+            (112, 3),
+            (239, 3),
+            (240, 4),
+            (368, 4),
+            (16_623, 4),
+        ] {
+            let steps = [
+                On(Stop(Left::New)),
+                Done(Fill(2, index, 9)),
+                Sees(Unsaved(unsaved)),
+                Done(Commit),
+            ];
+            device = run(rt.alloc(), capacity, device, &steps)?;
+        }
         let steps = [
-            On(Stop(Left::New)),
-            Done(Fill(2, index, 9)),
-            Sees(Unsaved(unsaved)),
-            Done(Commit),
+            On(Stop(Left::Old)),
+            Sees(Reads(2, 111, 9)),
+            Sees(Reads(2, 112, 9)),
+            Sees(Reads(2, 239, 9)),
+            Sees(Reads(2, 240, 9)),
+            Sees(Reads(2, 367, 7)),
+            Sees(Reads(2, 368, 9)),
+            Sees(Reads(2, 16_623, 9)),
         ];
-        device = run(rt.alloc(), device, &steps)?;
+        run(rt.alloc(), capacity, device, &steps)?;
     }
-    let steps = [
-        On(Stop(Left::Old)),
-        Sees(Reads(2, 111, 9)),
-        Sees(Reads(2, 112, 9)),
-        Sees(Reads(2, 239, 9)),
-        Sees(Reads(2, 240, 9)),
-        Sees(Reads(2, 367, 7)),
-        Sees(Reads(2, 368, 9)),
-        Sees(Reads(2, 16_623, 9)),
-    ];
-    run(rt.alloc(), device, &steps)?;
     Ok(())
 }
 
 #[test]
 fn zeros_are_not_stored(rt: HostRuntime) -> Result<(), Wrong> {
-    let mut device = prepared(rt.alloc(), 64, &LONG_FILE)?;
-    // The block, how many blocks live then, and whether the inode points to a leaf and to a double
-    // root. The two inodes, a block of the map and one of the usage table are among them.
-    for (index, blocks, leaf, double) in [
-        (111, 15, true, true),
-        (239, 14, true, true),
-        (16_623, 12, true, true),
-        (367, 11, true, true),
-        (240, 9, true, true),
-        (368, 6, true, false),
-        (112, 4, false, false),
-    ] {
-        let steps = [
-            Done(Fill(2, index, 0)),
-            Done(Commit),
-            On(Stop(Left::New)),
-            On(Points(leaf, double)),
-            On(Live(blocks)),
-            Sees(Reads(2, index, 0)),
-        ];
-        device = run(rt.alloc(), device, &steps)?;
+    for capacity in CAPACITIES {
+        let mut device = prepared(rt.alloc(), 64, &LONG_FILE)?;
+        // The block, how many blocks live then, and whether the inode points to a leaf and to a double
+        // root. The two inodes, a block of the map and one of the usage table are among them.
+        for (index, blocks, leaf, double) in [
+            (111, 15, true, true),
+            (239, 14, true, true),
+            (16_623, 12, true, true),
+            (367, 11, true, true),
+            (240, 9, true, true),
+            (368, 6, true, false),
+            (112, 4, false, false),
+        ] {
+            let steps = [
+                Done(Fill(2, index, 0)),
+                Done(Commit),
+                On(Stop(Left::New)),
+                On(Points(leaf, double)),
+                On(Live(blocks)),
+                Sees(Reads(2, index, 0)),
+            ];
+            device = run(rt.alloc(), capacity, device, &steps)?;
+        }
     }
     Ok(())
 }
@@ -289,35 +293,37 @@ fn a_file_is_cut(rt: HostRuntime) -> Result<(), Wrong> {
         Done(Commit),
         On(Stop(Left::New)),
     ];
-    let mut device = prepared(alloc, 64, &edges)?;
-    // Where it is cut, how many blocks live after the commit, and how many are in memory before it.
-    // The two inodes, a block of the map and one of the usage table are among those that live.
-    for (first, blocks, unsaved) in [
-        (16_624, 20, 2),
-        (368, 16, 2),
-        (300, 15, 3),
-        (241, 14, 3),
-        (240, 11, 1),
-        (239, 10, 2),
-        (113, 9, 2),
-        (112, 7, 1),
-        (111, 6, 1),
-        (5, 5, 1),
-        (0, 4, 1),
-        (0, 4, 1),
-    ] {
-        let steps = [
-            Done(Cut(2, first)),
-            Sees(Unsaved(unsaved)),
-            Sees(Is(2, 1, 8_511_488)),
-            Sees(IsCut(first)),
-            Done(Commit),
-            On(Live(blocks)),
-            Sees(Is(2, 1, 8_511_488)),
-            Sees(IsCut(first)),
-            On(Stop(Left::Old)),
-        ];
-        device = run(alloc, device, &steps)?;
+    for capacity in CAPACITIES {
+        let mut device = prepared(alloc, 64, &edges)?;
+        // Where it is cut, how many blocks live after the commit, and how many are in memory before it.
+        // The two inodes, a block of the map and one of the usage table are among those that live.
+        for (first, blocks, unsaved) in [
+            (16_624, 20, 2),
+            (368, 16, 2),
+            (300, 15, 3),
+            (241, 14, 3),
+            (240, 11, 1),
+            (239, 10, 2),
+            (113, 9, 2),
+            (112, 7, 1),
+            (111, 6, 1),
+            (5, 5, 1),
+            (0, 4, 1),
+            (0, 4, 1),
+        ] {
+            let steps = [
+                Done(Cut(2, first)),
+                Sees(Unsaved(unsaved)),
+                Sees(Is(2, 1, 8_511_488)),
+                Sees(IsCut(first)),
+                Done(Commit),
+                On(Live(blocks)),
+                Sees(Is(2, 1, 8_511_488)),
+                Sees(IsCut(first)),
+                On(Stop(Left::Old)),
+            ];
+            device = run(alloc, capacity, device, &steps)?;
+        }
     }
     Ok(())
 }
@@ -364,24 +370,26 @@ fn segments_run_out_without_a_cleaner(rt: HostRuntime) -> Result<(), Wrong> {
 #[test]
 fn a_commit_takes_eight_segments(rt: HostRuntime) -> Result<(), Wrong> {
     let alloc = rt.alloc();
-    let mut device = prepared(alloc, 64, &NOTHING)?;
-    for byte in [7, 9] {
-        let steps = [
-            On(StopAt(u64::MAX)),
-            Done(Make(2, 225_280)),
-            Done(FillTo(440, byte)),
-            // The blocks, the inode, the double root and three leaves.
-            Sees(Unsaved(445)),
-            Done(Commit),
-            // With a block of the map and one of the usage table these are seven chunks of 63
-            // blocks and one of 6.
-            Sees(Clean(55)),
-            On(Stop(Left::New)),
-            Sees(Clean(55)),
-            Sees(ReadsTo(440, byte)),
-            On(Writes(456)),
-        ];
-        device = run(alloc, device, &steps)?;
+    for capacity in CAPACITIES {
+        let mut device = prepared(alloc, 64, &NOTHING)?;
+        for byte in [7, 9] {
+            let steps = [
+                On(StopAt(u64::MAX)),
+                Done(Make(2, 225_280)),
+                Done(FillTo(440, byte)),
+                // The blocks, the inode, the double root and three leaves.
+                Sees(Unsaved(445)),
+                Done(Commit),
+                // With a block of the map and one of the usage table these are seven chunks of 63
+                // blocks and one of 6.
+                Sees(Clean(55)),
+                On(Stop(Left::New)),
+                Sees(Clean(55)),
+                Sees(ReadsTo(440, byte)),
+                On(Writes(456)),
+            ];
+            device = run(alloc, capacity, device, &steps)?;
+        }
     }
     Ok(())
 }
@@ -447,14 +455,14 @@ fn failing(alloc: Global, read: u64) -> Result<MemDevice, Wrong> {
 
 /// Whether a failed read is one of those of `hide`, which then leaves the link. Where the log isn't
 /// opened, it is one before.
-fn is_read_as_file_is_hidden(alloc: Global, read: u64) -> Result<bool, Wrong> {
+fn is_read_as_file_is_hidden(alloc: Global, capacity: u32, read: u64) -> Result<bool, Wrong> {
     let hides = [
         Done(Hide(2, 8_511_488)),
         Sees(Is(2, 0, 8_511_488)),
         Done(Commit),
         On(Live(3)),
     ];
-    match run(alloc, failing(alloc, read)?, &hides) {
+    match run(alloc, capacity, failing(alloc, read)?, &hides) {
         Ok(_) | Err(Wrong::NotOpened) => return Ok(false),
         Err(_) => {}
     }
@@ -466,20 +474,22 @@ fn is_read_as_file_is_hidden(alloc: Global, read: u64) -> Result<bool, Wrong> {
         Done(Commit),
         On(Live(3)),
     ];
-    run(alloc, failing(alloc, read)?, &refuses)?;
+    run(alloc, capacity, failing(alloc, read)?, &refuses)?;
     Ok(true)
 }
 
 #[test]
 fn a_failed_read_leaves_the_link(rt: HostRuntime) -> Result<(), Wrong> {
-    let mut failed = 0u32;
-    for read in 0..64u64 {
-        if is_read_as_file_is_hidden(rt.alloc(), read)? {
-            failed = failed.saturating_add(1);
+    for capacity in CAPACITIES {
+        let mut failed = 0u32;
+        for read in 0..64u64 {
+            if is_read_as_file_is_hidden(rt.alloc(), capacity, read)? {
+                failed = failed.saturating_add(1);
+            }
         }
+        // The inode, leaf 0, the double root, and leaves 1, 2 and 128.
+        assert!(rt; failed == 6);
     }
-    // The inode, leaf 0, the double root, and leaves 1, 2 and 128.
-    assert!(rt; failed == 6);
     Ok(())
 }
 

@@ -3,6 +3,7 @@ ghost use Rattle.std.specs.Prelude.{◌≡◌, ◌<◌, ◌≤◌};
 
 use crate::devices::{Probe, is_probe_well};
 use crate::volume::{Wrong, new_volume};
+use lfs_cache::{DEFAULT_SECTORS, MOST_SECTORS};
 use lfs_device::{MemDevice, SectorDevice};
 use lfs_model::Kind;
 use lfs_store::volume_log::{Changes, Cut, Header, LastLink, Log, LogFault, Loss};
@@ -71,6 +72,9 @@ pub enum Step {
     /// The log is left for this, and opened again.
     On(Probe),
 }
+
+/// How many sectors the log's cache keeps: what is seen is the same with each.
+pub const CAPACITIES: [u32; 3] = [1, 2, DEFAULT_SECTORS];
 
 /// Blocks of file 2 beside the places at which it is cut.
 pub const EDGES: [u32; 11] = [0, 5, 111, 112, 113, 239, 240, 241, 300, 368, 16_623];
@@ -223,9 +227,13 @@ fn is_seen(log: &mut Log<MemDevice>, look: Look) -> bool {
     }
 }
 
-/// The log on the heap, where each end drops it by one call.
-pub fn mounted<D: SectorDevice + Drop>(alloc: Global, device: D) -> Result<Box<Log<D>>, Wrong> {
-    let Ok(log) = Log::open(alloc, device) else {
+/// The log on the heap, where each end drops it by one call. Its cache keeps so many sectors.
+pub fn mounted<D: SectorDevice + Drop>(
+    alloc: Global,
+    capacity: u32,
+    device: D,
+) -> Result<Box<Log<D>>, Wrong> {
+    let Ok(log) = Log::open_with(alloc, device, capacity.clamp(1, MOST_SECTORS)) else {
         return Err(Wrong::NotOpened);
     };
     match Box::new(alloc, log) {
@@ -235,32 +243,48 @@ pub fn mounted<D: SectorDevice + Drop>(alloc: Global, device: D) -> Result<Box<L
 }
 
 /// Carries out a step while no log holds the device.
-fn between(alloc: Global, log: Box<Log<MemDevice>>, probe: Probe) -> Option<Box<Log<MemDevice>>> {
+fn between(
+    alloc: Global,
+    capacity: u32,
+    log: Box<Log<MemDevice>>,
+    probe: Probe,
+) -> Option<Box<Log<MemDevice>>> {
     let slot = (log.number() % 2) as u32;
     let mut device = Box::into_inner(log).into_device();
     if !is_probe_well(&mut device, slot, probe) {
         return None;
     }
-    mounted(alloc, device).ok()
+    mounted(alloc, capacity, device).ok()
 }
 
 /// The log after a step, where it saw what it should.
-fn after(alloc: Global, log: Box<Log<MemDevice>>, step: Step) -> Option<Box<Log<MemDevice>>> {
+fn after(
+    alloc: Global,
+    capacity: u32,
+    log: Box<Log<MemDevice>>,
+    step: Step,
+) -> Option<Box<Log<MemDevice>>> {
     let mut log = log;
     let well = match step {
         Step::Done(act) => carry_out(&mut log, alloc, act) == Ok(()),
         Step::Refused(act, fault) => carry_out(&mut log, alloc, act) == Err(fault),
         Step::Sees(look) => is_seen(&mut log, look),
-        Step::On(probe) => return between(alloc, log, probe),
+        Step::On(probe) => return between(alloc, capacity, log, probe),
     };
     if well { Some(log) } else { None }
 }
 
-/// Opens the log of a device, carries out the steps, and leaves the log.
-pub fn run(alloc: Global, device: MemDevice, steps: &[Step]) -> Result<MemDevice, Wrong> {
-    let mut log = mounted(alloc, device)?;
+/// Opens the log of a device, carries out the steps, and leaves the log. Its cache keeps so many
+/// sectors.
+pub fn run(
+    alloc: Global,
+    capacity: u32,
+    device: MemDevice,
+    steps: &[Step],
+) -> Result<MemDevice, Wrong> {
+    let mut log = mounted(alloc, capacity, device)?;
     for (place, step) in steps.iter().enumerate() {
-        let Some(next) = after(alloc, log, *step) else {
+        let Some(next) = after(alloc, capacity, log, *step) else {
             return Err(Wrong::Step(place));
         };
         log = next;
@@ -270,14 +294,14 @@ pub fn run(alloc: Global, device: MemDevice, steps: &[Step]) -> Result<MemDevice
 
 /// The device after these steps over an empty volume.
 pub fn prepared(alloc: Global, segments: u32, steps: &[Step]) -> Result<MemDevice, Wrong> {
-    run(alloc, new_volume(alloc, segments)?, steps)
+    run(alloc, DEFAULT_SECTORS, new_volume(alloc, segments)?, steps)
 }
 
-/// Carries out steps over an empty volume, and then others after a mount.
+/// Carries out steps over an empty volume, and then others after a mount, with each capacity.
 pub fn check(alloc: Global, segments: u32, before: &[Step], steps: &[Step]) -> Result<(), Wrong> {
-    let device = prepared(alloc, segments, before)?;
-    match run(alloc, device, steps) {
-        Ok(_) => Ok(()),
-        Err(wrong) => Err(wrong),
+    for capacity in CAPACITIES {
+        let device = prepared(alloc, segments, before)?;
+        run(alloc, capacity, device, steps)?;
     }
+    Ok(())
 }

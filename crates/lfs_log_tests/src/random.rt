@@ -3,7 +3,7 @@ ghost use Rattle.std.specs.Prelude.{◌<◌, ◌≤◌};
 
 use crate::devices::live;
 use crate::drafts::{Batch, Dice};
-use crate::log_steps::mounted;
+use crate::log_steps::{CAPACITIES, mounted};
 use crate::plain::{NO_FILE, PlainMap, number_of};
 use crate::volume::{Flaw, Wrong, new_volume};
 use crate::wired::{Faults, NO_FAULT, WiredDevice};
@@ -35,6 +35,8 @@ enum Next {
 struct Trial<'a> {
     dice: Dice,
     wire: &'a Cell<Option<Faults>>,
+    /// How many sectors the log's cache keeps.
+    capacity: u32,
     /// The number of the acknowledged checkpoint.
     number: u64,
     /// What it leads to.
@@ -258,8 +260,10 @@ impl<'a> Trial<'a> {
     ) -> Result<Held<'a>, Flaw> {
         let segments = log.segments();
         let mut wired = Box::into_inner(log).into_device();
+        // What is kept is read without a call, so faults that were chosen may still wait for one.
+        wired.take_faults();
         self.stop(&mut wired.device, segments, within_commit)?;
-        let Ok(mut log) = mounted(alloc, wired) else {
+        let Ok(mut log) = mounted(alloc, self.capacity, wired) else {
             return Err(Flaw::NotOpened);
         };
         match self.resume(&mut log, within_commit) {
@@ -297,19 +301,20 @@ impl<'a> Trial<'a> {
 }
 
 /// A run over an empty volume.
-fn run(alloc: Global, segments: u32, seed: u32, steps: u32) -> Result<(), Wrong> {
+fn run(alloc: Global, capacity: u32, segments: u32, seed: u32, steps: u32) -> Result<(), Wrong> {
     let wire = Cell::new(None);
     let wired = WiredDevice {
         device: new_volume(alloc, segments)?,
         wire: &wire,
     };
-    let log = mounted(alloc, wired)?;
+    let log = mounted(alloc, capacity, wired)?;
     let none = PlainMap {
         files: [NO_FILE; 6],
     };
     let mut trial = Trial {
         dice: Dice::new(seed),
         wire: &wire,
+        capacity,
         number: 1,
         saved: none,
         present: none,
@@ -328,7 +333,9 @@ fn run(alloc: Global, segments: u32, seed: u32, steps: u32) -> Result<(), Wrong>
 fn random_changes_beside_a_plain_map(rt: HostRuntime) -> Result<(), Wrong> {
     for (segments, steps, seeds) in [(64, 200, 4), (72, 200, 3), (1_024, 40, 2)] {
         for seed in 0..seeds {
-            run(rt.alloc(), segments, seed, steps)?;
+            for capacity in CAPACITIES {
+                run(rt.alloc(), capacity, segments, seed, steps)?;
+            }
         }
     }
     Ok(())

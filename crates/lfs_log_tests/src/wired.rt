@@ -31,7 +31,7 @@ impl WiredDevice<'_> {
     ghost use Rattle.lfs_device.specs.MemoryDevice.{bench_of, with_bench};
 
     /// The faults that were chosen since the last call are now those of the device.
-    fn take_faults(&mut self)
+    pub fn take_faults(&mut self)
         ensures { self.new.device ≡ with_bench (bench_of self.new.device) self.old.device }
     {
         if let Some(faults) = self.wire.take() {

@@ -228,9 +228,11 @@ pub header_read : (d d' : DeviceState) (v : LogMemory) (n : ℕ) (out : List ℕ
 header_read d d' v n out true h answer yes_found is k m0 m keeps log = (answer k m0 m keeps log).1 ∙ ap Some is
 header_read d d' v n out false h answer yes_found is k m0 m keeps log = absurd (cc)
 
-pub header_none : (d d' : DeviceState) (v : LogMemory) (n : ℕ) (out : List ℕ) (found : Bool) → AnswersInode d d' v n out found → found ≡ false → AnswersHeader d d' v n None
-header_none d d' v n out false answer not_found k m0 m keeps log = answer k m0 m keeps log
-header_none d d' v n out true answer not_found k m0 m keeps log = absurd (cc)
+pub header_absent : (d : DeviceState) (v : LogMemory) (n : ℕ) → (n ≡ 0) ⊎ (address_in v.map n ≡ 0) → AnswersHeader d d v n None
+header_absent d v n none k m0 m keeps is = ⊎_elim
+    (λ (first : n ≡ 0). ap m.header first ∙ nobody d v k m0 m is)
+    (λ (absent : address_in v.map n ≡ 0). no_inode d v k m0 m is n absent)
+    none
 
 -- ---- memory and device hold one log map
 module _ (d : DeviceState) (v : LogMemory) (k k' : CheckpointValue) (m0 m m0' m' : LogMap) (is : IsLoose d v k m0 m) (is' : IsLoose d v k' m0' m') (version : m.version ≡ m'.version) where

@@ -7,6 +7,7 @@ use Rattle.lfs_model.specs.Entry.{Data, Inode}
 use Rattle.lfs_model.specs.Memory.{parent}
 use Rattle.lfs_model.specs.Stands.{LogMap}
 use Rattle.lfs_model.proofs.Detaching.{is_of_yes}
+use Rattle.lfs_model.proofs.Raising.{raised_runs}
 use Rattle.lfs_inodes.specs.Blocks.{Capacity, blocks_of}
 use Rattle.lfs_inodes.specs.MapValue.{address_in}
 use Rattle.lfs_memory.specs.declared.batch.BlockEdit.{BlockEdit}
@@ -19,7 +20,7 @@ use Rattle.lfs_memory.specs.declared.batch.Removal.{Removal}
 use Rattle.lfs_memory.specs.declared.lifting.LiftFault.{LiftFault}
 use Rattle.lfs_memory.specs.declared.lifting.LiftFault.TheVariants as fault
 use Rattle.lfs_memory.specs.declared.memory.LogMemory.{LogMemory}
-use Rattle.lfs_memory.specs.Memory.{IsMemory, IsLoose}
+use Rattle.lfs_memory.specs.Memory.{IsMemory, IsLoose, chunk_in, segment_in, tables_of}
 use Rattle.lfs_memory.specs.Present.{Looks, FailsFromDevice}
 use Rattle.lfs_memory.specs.Lifting.{IsInMemory, Prepares}
 use Rattle.lfs_memory.specs.Changing.{HasAbove, Stays}
@@ -48,6 +49,26 @@ nothing_lost d v memory = record {
   mapped = λ j is. is;
   absent = λ l none. none;
   log = λ k m0 m keeps is fits. is;
+}
+
+-- the version of the layout is raised, and memory is as it was
+pub version_lost : (d : DeviceState) (v : LogMemory) → IsMemory v → Loses d d v v loss.FirstVersion
+version_lost d v memory = record {
+  looks = looks_none d;
+  memory = memory;
+  segments = refl;
+  clean = refl;
+  chunk = refl;
+  capacity = refl;
+  few = omega arith;
+  stay = λ x kept has. has;
+  mapped = λ j is. is;
+  absent = λ l none. none;
+  log = λ k m0 m keeps is fits. record {
+    running = raised_runs d (blocks_of v.dirty) (tables_of v) k m0 m (segment_in v.chunk) (chunk_in v.chunk) true is.running;
+    hidden = is.hidden;
+    segments = is.segments;
+  };
 }
 
 pub blocks_lost : (d d' : DeviceState) (v v' : LogMemory) (c : Cut) → Cuts d d' v v' c.number c.first → Loses d d' v v' (loss.Blocks c)

@@ -1,17 +1,18 @@
 -- A batch of changes: what it asks for, and the log map after it.
-use Rattle.std.specs.Prelude.{◌≡◌, ◌+◌, ◌*◌, ℕ, Bool, false, List, [], ◌∷◌, ◌++◌, length, Some}
+use Rattle.std.specs.Prelude.{cond, ◌≡◌, ◌+◌, ◌*◌, ℕ, Bool, true, false, List, [], ◌∷◌, ◌++◌, length, Some}
 use Rattle.std.specs.List.{AllByRecursion}
 use Rattle.lfs_model.specs.Cutting.{is_past}
 use Rattle.lfs_model.specs.Detaching.{is_of}
 use Rattle.lfs_model.specs.Encodes.{HasInode}
 use Rattle.lfs_model.specs.Entry.{Entry, Data, Inode}
 use Rattle.lfs_model.specs.Memory.{parent, is_nameless}
+use Rattle.lfs_model.specs.Raising.{raised}
 use Rattle.lfs_model.specs.Stands.{LogMap}
 use Rattle.lfs_memory.specs.declared.batch.BlockEdit.{BlockEdit}
 use Rattle.lfs_memory.specs.declared.batch.HeaderEdit.{HeaderEdit}
 use Rattle.lfs_memory.specs.declared.changes.Changes.{Changes}
 use Rattle.lfs_memory.specs.declared.batch.Loss.{Loss}
-use Rattle.lfs_memory.specs.declared.batch.Loss.TheVariants.{Nothing, Blocks, Link, File}
+use Rattle.lfs_memory.specs.declared.batch.Loss.TheVariants.{Nothing, Blocks, Link, File, FirstVersion}
 use Rattle.lfs_files.specs.declared.header.Header.{Header}
 use Rattle.lfs_memory.specs.Changing.{FitsHeader, header_with, with_header}
 use Rattle.lfs_memory.specs.Removing.{without_file}
@@ -19,7 +20,7 @@ use Rattle.lfs_memory.specs.Cutting.{cut_from}
 use Rattle.lfs_memory.specs.Preparing.{ways, AreWithin}
 use Rattle.lfs_memory.specs.Applying.{after_headers, after_batch, AreHeadersFit, AreBlocksFit}
 
--- ---- what a file loses
+-- ---- what goes
 
 -- the log map without it
 abbrev pub lost : Loss → LogMap → LogMap
@@ -27,6 +28,7 @@ lost Nothing m = m
 lost (Blocks c) m = cut_from c.number c.first m
 lost (Link l) m = with_header m l.number (Some (header_with l.kind l.form 0 l.size))
 lost (File r) m = without_file r.number m
+lost FirstVersion m = raised true m
 
 -- the blocks of files that may leave memory
 abbrev pub is_lost : Loss → Entry → Bool
@@ -34,6 +36,7 @@ is_lost Nothing x = false
 is_lost (Blocks c) x = is_past c.number c.first x
 is_lost (Link l) x = false
 is_lost (File r) x = is_of r.number x
+is_lost FirstVersion x = false
 
 -- a file that loses its last link is there and has a name
 abbrev pub FitsLoss : LogMap → Loss → Type 0
@@ -41,6 +44,18 @@ FitsLoss m Nothing = Unit {0}
 FitsLoss m (Blocks c) = Unit {0}
 FitsLoss m (Link l) = FitsHeader l.kind l.form 0 l.size × HasInode m l.number × (is_nameless m l.number ≡ false)
 FitsLoss m (File r) = Unit {0}
+FitsLoss m FirstVersion = Unit {0}
+
+-- whether the version of the layout is raised, and the version then
+abbrev pub raises : Loss → Bool
+raises Nothing = false
+raises (Blocks c) = false
+raises (Link l) = false
+raises (File r) = false
+raises FirstVersion = true
+
+abbrev pub version_after : Loss → ℕ → ℕ
+version_after loss version = cond (raises loss) 2 version
 
 -- ---- a whole batch
 

@@ -3,13 +3,15 @@ use Rattle.std.specs.Prelude.{◌≡◌, ◌<◌, ℕ, Bool, true, false, List, 
 use Rattle.lfs_model.specs.Checkpoint.{CheckpointValue}
 use Rattle.lfs_model.specs.Content.{Content}
 use Rattle.lfs_model.specs.Device.{DeviceState, cell_at}
-use Rattle.lfs_model.specs.Entry.{Entry, header}
+use Rattle.lfs_model.specs.Entry.{Entry, header, word}
 use Rattle.lfs_model.specs.Laid.{HoldsInode}
 use Rattle.lfs_model.specs.Running.{Dirty}
 use Rattle.lfs_model.specs.Stands.{LogMap}
 use Rattle.lfs_files.specs.declared.header.Header.{Header}
 pub use Rattle.lfs_files.specs.Headers.{HeaderAnswer, as_header}
 pub use Rattle.lfs_files.specs.Looking.{Looks}
+use Rattle.lfs_inodes.specs.Blocks.{blocks_of}
+use Rattle.lfs_inodes.specs.Present.{present}
 use Rattle.lfs_memory.specs.declared.memory.LogMemory.{LogMemory}
 use Rattle.lfs_memory.specs.Memory.{IsLoose}
 
@@ -21,6 +23,18 @@ FailsFromDevice d d' v = (k : CheckpointValue) (m0 m : LogMap) → d'.keeps_mode
 pub record IsMissing (content : Content) (dirty : Dirty) (x : Entry) (address : ℕ) : Type 0 where
   pub inside : address ≡ 1 → dirty x ≡ None
   pub outside : (address ≡ 1 → ⊥) → cell_at content address ≡ None
+
+-- of the block of a pointer, in memory or on the device: the number at a place
+pub record ShowsWord (d d' : DeviceState) (v : LogMemory) (x : Entry) (address place found : ℕ) : Type 0 where
+  pub shown : List ℕ
+  pub value : d'.keeps_model → shown ≡ present d.content (blocks_of v.dirty) x address
+  pub is : found ≡ word shown place
+
+-- and what it says as an inode
+pub record ShowsHeader (d d' : DeviceState) (v : LogMemory) (x : Entry) (address : ℕ) (found : Header) : Type 0 where
+  pub shown : List ℕ
+  pub value : d'.keeps_model → shown ≡ present d.content (blocks_of v.dirty) x address
+  pub is : header shown ≡ as_header found
 
 -- whether a file is there, and its inode
 abbrev pub InodeAnswer : LogMap → ℕ → List ℕ → Bool → Type 0

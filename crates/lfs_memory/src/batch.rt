@@ -54,11 +54,13 @@ pub struct Removal {
     ghost few: { number ≤ 4095 },
 }
 
-/// What a file loses in a batch, before headers and blocks change.
+/// What goes in a batch, before headers and blocks change.
 #[derive(Clone, Copy)]
 pub enum Loss {
     Nothing,
     Blocks(Cut),
     Link(LastLink),
     File(Removal),
+    /// The volume has the second version of the layout in the place of the first.
+    FirstVersion,
 }

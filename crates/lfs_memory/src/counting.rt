@@ -5,6 +5,7 @@ ghost use Rattle.lfs_memory.specs.Counting.{IsBefore, CountsOne, IsOver, CountsW
 
 use crate::memory::LogMemory;
 use crate::present::{read_inode, read_present};
+use lfs_cache::CachedDevice;
 use lfs_device::{DeviceFault, SectorDevice};
 use lfs_inodes::{BlockKey, DIRECT, POINTERS};
 use lfs_layout::word;
@@ -142,7 +143,7 @@ fn count_words(
 /// Counts a leaf of pointers and the blocks below it, from block `first` of the file on. A leaf
 /// that lies before isn't read.
 fn count_leaf<D: SectorDevice>(
-    device: &mut D,
+    device: &mut CachedDevice<D>,
     memory: &LogMemory,
     number: u16,
     index: u32,
@@ -182,7 +183,7 @@ fn count_leaf<D: SectorDevice>(
 /// Counts the leaves below a double root, and the blocks below them, from block `first` of the file
 /// on.
 fn count_leaves<D: SectorDevice>(
-    device: &mut D,
+    device: &mut CachedDevice<D>,
     memory: &LogMemory,
     number: u16,
     root: &[u8; 512],
@@ -208,7 +209,7 @@ fn count_leaves<D: SectorDevice>(
 
 /// Counts all that is below the double root of a file, from block `first` on.
 fn count_double<D: SectorDevice>(
-    device: &mut D,
+    device: &mut CachedDevice<D>,
     memory: &LogMemory,
     number: u16,
     address: u32,
@@ -238,7 +239,7 @@ fn count_double<D: SectorDevice>(
 
 /// Counts the blocks below an inode, from block `first` of the file on.
 fn count_inode<D: SectorDevice>(
-    device: &mut D,
+    device: &mut CachedDevice<D>,
     memory: &LogMemory,
     number: u16,
     inode: &[u8; 512],
@@ -280,7 +281,7 @@ fn count_inode<D: SectorDevice>(
 ///
 /// Where a block of pointers can't be read, or the addresses are those of no volume.
 pub fn count_past<D: SectorDevice>(
-    device: &mut D,
+    device: &mut CachedDevice<D>,
     memory: &LogMemory,
     number: u16,
     first: u32,
@@ -309,7 +310,7 @@ pub fn count_past<D: SectorDevice>(
 ///
 /// As those of `count_past`.
 pub fn count_file<D: SectorDevice>(
-    device: &mut D,
+    device: &mut CachedDevice<D>,
     memory: &LogMemory,
     number: u16,
     counts: &mut SegmentCounts,

@@ -15,6 +15,7 @@ use crate::counting::{FIRST, SegmentCounts, count_past};
 use crate::lifting::{LiftFault, lift_child, lift_inode};
 use crate::memory::LogMemory;
 use crate::removing::{are_covered, take_counts};
+use lfs_cache::CachedDevice;
 use lfs_device::{DeviceFault, SectorDevice};
 use lfs_inodes::{BlockKey, DIRECT, DirtyTable, POINTERS};
 
@@ -28,7 +29,7 @@ const ALL: u32 = DIRECT + 2;
 ///
 /// As those of `lift_child`.
 fn lift_part<D: SectorDevice>(
-    device: &mut D,
+    device: &mut CachedDevice<D>,
     memory: &mut LogMemory,
     number: u16,
     first: u32,
@@ -68,7 +69,7 @@ fn lift_part<D: SectorDevice>(
 ///
 /// As those of `lift_child`.
 fn lift_edge<D: SectorDevice>(
-    device: &mut D,
+    device: &mut CachedDevice<D>,
     memory: &mut LogMemory,
     number: u16,
     first: u32,
@@ -181,7 +182,7 @@ fn drop_past(memory: &mut LogMemory, number: u16, first: u32, lives: bool, count
 ///
 /// Where they can't be counted, or aren't counted where they stand. Memory stays as it was.
 fn drop_counted<D: SectorDevice>(
-    device: &mut D,
+    device: &mut CachedDevice<D>,
     memory: &mut LogMemory,
     number: u16,
     first: u32,
@@ -221,7 +222,7 @@ fn drop_counted<D: SectorDevice>(
 ///
 /// As those of `lift`, or where the blocks can't be counted. The log map stays as it was.
 pub fn cut_file<D: SectorDevice>(
-    device: &mut D,
+    device: &mut CachedDevice<D>,
     memory: &mut LogMemory,
     number: u16,
     first: u32,

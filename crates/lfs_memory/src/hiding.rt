@@ -11,6 +11,7 @@ use crate::counting::{SegmentCounts, count_file};
 use crate::lifting::{LiftFault, lift_inode};
 use crate::memory::LogMemory;
 use crate::removing::are_covered;
+use lfs_cache::CachedDevice;
 use lfs_device::SectorDevice;
 use lfs_model::Kind;
 use lfs_segments::Usage;
@@ -58,7 +59,7 @@ fn drop_links(
 /// that isn't there or has lost its last link before. The inode may be in memory then, and the
 /// inode map's block one that will be written.
 pub fn hide_file<D: SectorDevice>(
-    device: &mut D,
+    device: &mut CachedDevice<D>,
     memory: &mut LogMemory,
     number: u16,
     kind: Kind,

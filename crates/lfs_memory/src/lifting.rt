@@ -13,6 +13,7 @@ ghost use Rattle.lfs_memory.specs.Lifting.{IsInMemory, Prepares, Gathers, IsCoun
 
 use crate::memory::LogMemory;
 use crate::present::read_present;
+use lfs_cache::CachedDevice;
 use lfs_device::{DeviceFault, SectorDevice};
 use lfs_inodes::{BlockKey, DIRECT, IN_MEMORY, InodeMap, POINTERS};
 use lfs_layout::word;
@@ -128,7 +129,7 @@ pub enum LiftFault {
 ///
 /// Then memory is as it was.
 pub fn lift<D: SectorDevice>(
-    device: &mut D,
+    device: &mut CachedDevice<D>,
     memory: &mut LogMemory,
     key: BlockKey,
     address: u32,
@@ -180,7 +181,7 @@ pub fn has_block(memory: &LogMemory, key: BlockKey) -> bool
 ///
 /// As those of `lift`; the inode map's block may be one that will be written then.
 pub fn lift_inode<D: SectorDevice>(
-    device: &mut D,
+    device: &mut CachedDevice<D>,
     memory: &mut LogMemory,
     number: u16,
 ) -> Result<bool, LiftFault>
@@ -245,7 +246,7 @@ pub fn pointer_to(memory: &LogMemory, key: BlockKey) -> u32
 ///
 /// As those of `lift`: then memory is as it was.
 pub fn lift_child<D: SectorDevice>(
-    device: &mut D,
+    device: &mut CachedDevice<D>,
     memory: &mut LogMemory,
     key: BlockKey,
 ) -> Result<bool, LiftFault>
@@ -289,7 +290,7 @@ pub fn lift_child<D: SectorDevice>(
 ///
 /// As those of `lift`.
 pub fn lift_leaf<D: SectorDevice>(
-    device: &mut D,
+    device: &mut CachedDevice<D>,
     memory: &mut LogMemory,
     number: u16,
     index: u32,
@@ -331,7 +332,7 @@ pub fn lift_leaf<D: SectorDevice>(
 ///
 /// As those of `lift`.
 pub fn lift_way<D: SectorDevice>(
-    device: &mut D,
+    device: &mut CachedDevice<D>,
     memory: &mut LogMemory,
     number: u16,
     index: u32,

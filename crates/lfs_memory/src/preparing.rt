@@ -13,6 +13,7 @@ use crate::batch::{BlockEdit, HeaderEdit};
 use crate::changing::{grow, pointer_to};
 use crate::lifting::{LiftFault, lift_child, lift_inode, lift_map};
 use crate::memory::LogMemory;
+use lfs_cache::CachedDevice;
 use lfs_device::{DeviceFault, SectorDevice};
 use lfs_inodes::{BlockKey, DIRECT, POINTERS};
 
@@ -23,7 +24,7 @@ use lfs_inodes::{BlockKey, DIRECT, POINTERS};
 ///
 /// As those of `lift_child`.
 fn prepare_pointers<D: SectorDevice>(
-    device: &mut D,
+    device: &mut CachedDevice<D>,
     memory: &mut LogMemory,
     key: BlockKey,
 ) -> Result<(), LiftFault>
@@ -59,7 +60,7 @@ fn prepare_pointers<D: SectorDevice>(
 ///
 /// As those of `lift_child`.
 fn prepare_leaf<D: SectorDevice>(
-    device: &mut D,
+    device: &mut CachedDevice<D>,
     memory: &mut LogMemory,
     number: u16,
     index: u32,
@@ -97,7 +98,7 @@ fn prepare_leaf<D: SectorDevice>(
 /// As those of `lift_inode`; and where the file isn't there, for a block that its inode doesn't
 /// point to.
 fn prepare_way<D: SectorDevice>(
-    device: &mut D,
+    device: &mut CachedDevice<D>,
     memory: &mut LogMemory,
     number: u16,
     index: u32,
@@ -152,7 +153,7 @@ fn is_ready(memory: &LogMemory, number: u16, index: u32) -> bool
 /// As those of `lift_inode`; and where the file isn't there, for a block that its inode doesn't
 /// point to.
 pub fn prepare_block<D: SectorDevice>(
-    device: &mut D,
+    device: &mut CachedDevice<D>,
     memory: &mut LogMemory,
     number: u16,
     index: u32,
@@ -203,7 +204,7 @@ fn prepare_name(memory: &mut LogMemory, number: u16, links: u32) -> Result<(), D
 ///
 /// As those of `lift_inode` and `lift_map`.
 pub fn prepare_header<D: SectorDevice>(
-    device: &mut D,
+    device: &mut CachedDevice<D>,
     memory: &mut LogMemory,
     number: u16,
     links: u32,
@@ -237,7 +238,7 @@ pub fn prepare_header<D: SectorDevice>(
 ///
 /// As those of `prepare_header`.
 pub fn prepare_headers<D: SectorDevice>(
-    device: &mut D,
+    device: &mut CachedDevice<D>,
     memory: &mut LogMemory,
     edits: &[HeaderEdit],
 ) -> Result<(), LiftFault>
@@ -266,7 +267,7 @@ pub fn prepare_headers<D: SectorDevice>(
 ///
 /// As those of `prepare_block`.
 pub fn prepare_blocks<D: SectorDevice>(
-    device: &mut D,
+    device: &mut CachedDevice<D>,
     memory: &mut LogMemory,
     edits: &[BlockEdit],
 ) -> Result<(), LiftFault>
@@ -295,7 +296,7 @@ pub fn prepare_blocks<D: SectorDevice>(
 ///
 /// As those of `prepare_headers` and `prepare_blocks`.
 pub fn prepare_batch<D: SectorDevice>(
-    device: &mut D,
+    device: &mut CachedDevice<D>,
     memory: &mut LogMemory,
     headers: &[HeaderEdit],
     blocks: &[BlockEdit],

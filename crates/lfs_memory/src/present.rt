@@ -1,5 +1,5 @@
 //! What the log answers to reads.
-ghost use Rattle.std.specs.Prelude.{◌≡◌, ◌<◌, ◌≤◌, ◌⊎◌, OnOk, OnErr, IfOk, IsTrue, IsFalse};
+ghost use Rattle.std.specs.Prelude.{◌≡◌, ◌<◌, ◌≤◌, ◌⊎◌, OnOk, OnErr, IfOk, IfSome, IfNone, IsTrue, IsFalse};
 ghost use Rattle.lfs_model.specs.Entry.{Inode, Data, Leaf, header};
 ghost use Rattle.lfs_model.specs.Inode.{kind_of};
 ghost use Rattle.lfs_model.specs.Fields.{zeros};
@@ -8,13 +8,14 @@ ghost use Rattle.lfs_inodes.specs.Blocks.{blocks_of};
 ghost use Rattle.lfs_inodes.specs.MapValue.{address_in};
 ghost use Rattle.lfs_inodes.specs.Present.{present};
 ghost use Rattle.lfs_memory.specs.Memory.{IsMemory};
-ghost use Rattle.lfs_memory.specs.Present.{Looks, FailsFromDevice, IsMissing, AnswersInode, AnswersHeader, AnswersBlock, as_header, AnswersAddress};
+ghost use Rattle.lfs_memory.specs.Present.{Looks, FailsFromDevice, IsMissing, AnswersInode, AnswersHeader, AnswersBlock, as_header, AnswersAddress, ShowsHeader, ShowsWord};
 
 use crate::counting::{DOUBLE, SINGLE};
 use crate::memory::LogMemory;
+use lfs_cache::CachedDevice;
 use lfs_device::{DeviceFault, SectorDevice};
 use lfs_files::Header;
-use lfs_inodes::{BlockKey, IN_MEMORY, locate_present};
+use lfs_inodes::{BlockKey, IN_MEMORY, first_pointer, locate_behind};
 use lfs_layout::word;
 use lfs_model::Kind;
 
@@ -27,7 +28,7 @@ const MOST_INDEX: u32 = 16_623;
 ///
 /// Where neither has it, or a call of the device failed.
 pub fn read_present<D: SectorDevice>(
-    device: &mut D,
+    device: &mut CachedDevice<D>,
     memory: &LogMemory,
     key: BlockKey,
     address: u32,
@@ -61,13 +62,134 @@ pub fn read_present<D: SectorDevice>(
     }
 }
 
+/// The number at a place of 4 bytes of the block of this key, as `read_present` finds it, where it
+/// stands: nothing is copied, and what the device had is kept.
+///
+/// # Errors
+///
+/// As those of `read_present`.
+#[tactic(auto, unfolding(lfs_model::specs::Entry::word))]
+pub fn present_word<D: SectorDevice>(
+    device: &mut CachedDevice<D>,
+    memory: &LogMemory,
+    key: BlockKey,
+    address: u32,
+    place: usize,
+) -> Result<u32, DeviceFault>
+    requires stored { 1 ≤ address }
+    requires place { place < 128 }
+    ensures read { IfOk result (ShowsWord (D.state device.old) (D.state device.new) memory.now
+        (entry_of key) address place) }
+    ensures unread { OnErr result ((D.state device.new).keeps_model
+        → (D.state device.old).failures < (D.state device.new).failures
+        ⊎ IsMissing (D.state device.old).content (blocks_of memory.now.dirty) (entry_of key)
+        address) }
+    ensures no_failure { OnOk result ((D.state device.new).failures
+        ≡ (D.state device.old).failures) }
+    ensures looks { Looks (D.state device.old) (D.state device.new) }
+{
+    if address == IN_MEMORY {
+        return match memory.dirty.block(key) {
+            Some(block) => Ok(word(block, place)),
+            None => Err(DeviceFault),
+        };
+    }
+    if address >= device.sectors() {
+        return Err(DeviceFault);
+    }
+    match device.read_ref(address) {
+        Ok(block) => Ok(word(block, place)),
+        Err(_) => Err(DeviceFault),
+    }
+}
+
+/// What the inode of this key says of its file, as `present_word` finds it.
+///
+/// # Errors
+///
+/// As those of `read_present`.
+fn present_header<D: SectorDevice>(
+    device: &mut CachedDevice<D>,
+    memory: &LogMemory,
+    key: BlockKey,
+    address: u32,
+) -> Result<Header, DeviceFault>
+    requires stored { 1 ≤ address }
+    ensures read { IfOk result (ShowsHeader (D.state device.old) (D.state device.new) memory.now
+        (entry_of key) address) }
+    ensures unread { OnErr result ((D.state device.new).keeps_model
+        → (D.state device.old).failures < (D.state device.new).failures
+        ⊎ IsMissing (D.state device.old).content (blocks_of memory.now.dirty) (entry_of key)
+        address) }
+    ensures no_failure { OnOk result ((D.state device.new).failures
+        ≡ (D.state device.old).failures) }
+    ensures looks { Looks (D.state device.old) (D.state device.new) }
+{
+    if address == IN_MEMORY {
+        return match memory.dirty.block(key) {
+            Some(inode) => Ok(header_of(inode)),
+            None => Err(DeviceFault),
+        };
+    }
+    if address >= device.sectors() {
+        return Err(DeviceFault);
+    }
+    match device.read_ref(address) {
+        Ok(inode) => Ok(header_of(inode)),
+        Err(_) => Err(DeviceFault),
+    }
+}
+
+/// As `read_present`, but what the device had is kept.
+///
+/// # Errors
+///
+/// As those of `read_present`.
+fn copy_present<D: SectorDevice>(
+    device: &mut CachedDevice<D>,
+    memory: &LogMemory,
+    key: BlockKey,
+    address: u32,
+    out: &mut [u8; 512],
+) -> Result<(), DeviceFault>
+    requires stored { 1 ≤ address }
+    ensures read { OnOk result ((D.state device.new).keeps_model
+        → out.new ≡ present (D.state device.old).content (blocks_of memory.now.dirty) (entry_of key)
+        address) }
+    ensures unread { OnErr result ((D.state device.new).keeps_model
+        → (D.state device.old).failures < (D.state device.new).failures
+        ⊎ IsMissing (D.state device.old).content (blocks_of memory.now.dirty) (entry_of key)
+        address) }
+    ensures no_failure { OnOk result ((D.state device.new).failures
+        ≡ (D.state device.old).failures) }
+    ensures looks { Looks (D.state device.old) (D.state device.new) }
+{
+    if address == IN_MEMORY {
+        let Some(block) = memory.dirty.block(key) else {
+            return Err(DeviceFault);
+        };
+        *out = *block;
+        return Ok(());
+    }
+    if address >= device.sectors() {
+        return Err(DeviceFault);
+    }
+    match device.read_ref(address) {
+        Ok(block) => {
+            *out = *block;
+            Ok(())
+        }
+        Err(_) => Err(DeviceFault),
+    }
+}
+
 /// Whether a file is there, and its inode then.
 ///
 /// # Errors
 ///
 /// As those of `read_present`.
 pub fn read_inode<D: SectorDevice>(
-    device: &mut D,
+    device: &mut CachedDevice<D>,
     memory: &LogMemory,
     number: u16,
     out: &mut [u8; 512],
@@ -108,7 +230,7 @@ pub fn read_inode<D: SectorDevice>(
 ///
 /// As those of `read_present`.
 pub fn read_header<D: SectorDevice>(
-    device: &mut D,
+    device: &mut CachedDevice<D>,
     memory: &LogMemory,
     number: u16,
 ) -> Result<Option<Header>, DeviceFault>
@@ -121,10 +243,59 @@ pub fn read_header<D: SectorDevice>(
         ≡ (D.state device.old).failures) }
     ensures looks { Looks (D.state device.old) (D.state device.new) }
 {
-    let mut inode = [0; 512];
-    match read_inode(device, memory, number, &mut inode) {
-        Ok(true) => Ok(Some(header_of(&inode))),
-        Ok(false) => Ok(None),
+    let address = inode_pointer(memory, number);
+    if address == 0 {
+        return Ok(None);
+    }
+    match present_header(device, memory, BlockKey::inode(number), address) {
+        Ok(header) => Ok(Some(header)),
+        Err(fault) => Err(fault),
+    }
+}
+
+/// The pointer to the inode of a file, or 0 where the file isn't there.
+fn inode_pointer(memory: &LogMemory, number: u16) -> u32
+    requires number { number < 4096 }
+    ensures none { result ≡ 0 → (number ≡ 0) ⊎ (address_in memory.now.map number ≡ 0) }
+    ensures some { (result ≡ 0 → ⊥) → (1 ≤ number) × (result ≡ address_in memory.now.map number) }
+{
+    if number == 0 {
+        return 0;
+    }
+    memory.map.address(number)
+}
+
+/// Whether a file is there, and the number at a place of 4 bytes of its inode then.
+///
+/// # Errors
+///
+/// As those of `read_present`.
+fn inode_word<D: SectorDevice>(
+    device: &mut CachedDevice<D>,
+    memory: &LogMemory,
+    number: u16,
+    place: usize,
+) -> Result<Option<u32>, DeviceFault>
+    requires number { number < 4096 }
+    requires place { place < 128 }
+    ensures some { IfOk result (λ found. IfSome found (λ n.
+        (1 ≤ number) × (1 ≤ address_in memory.now.map number))) }
+    ensures none { IfOk result (λ found. IfNone found
+        ((number ≡ 0) ⊎ (address_in memory.now.map number ≡ 0))) }
+    ensures read { IfOk result (λ found. IfSome found (ShowsWord (D.state device.old)
+        (D.state device.new) memory.now (Inode number) (address_in memory.now.map number) place)) }
+    ensures failed { OnErr result (FailsFromDevice (D.state device.old)
+        (D.state device.new) memory.now) }
+    ensures no_failure { OnOk result ((D.state device.new).failures
+        ≡ (D.state device.old).failures) }
+    ensures looks { Looks (D.state device.old) (D.state device.new) }
+{
+    let address = inode_pointer(memory, number);
+    if address == 0 {
+        return Ok(None);
+    }
+    match present_word(device, memory, BlockKey::inode(number), address, place) {
+        Ok(word) => Ok(Some(word)),
         Err(fault) => Err(fault),
     }
 }
@@ -159,7 +330,7 @@ fn kind_of(byte: u8) -> Kind
 ///
 /// Where a block on the way can't be read.
 pub fn locate_block<D: SectorDevice>(
-    device: &mut D,
+    device: &mut CachedDevice<D>,
     memory: &LogMemory,
     number: u16,
     index: u32,
@@ -177,11 +348,12 @@ pub fn locate_block<D: SectorDevice>(
     if index > MOST_INDEX {
         return Ok(0);
     }
-    let mut inode = [0; 512];
-    if !read_inode(device, memory, number, &mut inode)? {
-        return Ok(0);
-    }
-    match locate_present(device, &memory.dirty, number, &inode, index) {
+    let first = match inode_word(device, memory, number, first_pointer(index)) {
+        Ok(Some(first)) => first,
+        Ok(None) => return Ok(0),
+        Err(fault) => return Err(fault),
+    };
+    match locate_behind(device, &memory.dirty, number, first, index) {
         Ok(address) => Ok(address),
         Err(_) => Err(DeviceFault),
     }
@@ -194,7 +366,7 @@ pub fn locate_block<D: SectorDevice>(
 ///
 /// Where the inode or the double root can't be read.
 pub fn locate_leaf<D: SectorDevice>(
-    device: &mut D,
+    device: &mut CachedDevice<D>,
     memory: &LogMemory,
     number: u16,
     leaf: u32,
@@ -209,21 +381,18 @@ pub fn locate_leaf<D: SectorDevice>(
         ≡ (D.state device.old).failures) }
     ensures looks { Looks (D.state device.old) (D.state device.new) }
 {
-    let mut inode = [0; 512];
-    if !read_inode(device, memory, number, &mut inode)? {
-        return Ok(0);
+    let place = if leaf == 0 { SINGLE } else { DOUBLE };
+    let first = match inode_word(device, memory, number, place) {
+        Ok(Some(first)) => first,
+        Ok(None) => return Ok(0),
+        Err(fault) => return Err(fault),
+    };
+    if leaf == 0 || first == 0 {
+        return Ok(first);
     }
-    if leaf == 0 {
-        return Ok(word(&inode, SINGLE));
-    }
-    let address = word(&inode, DOUBLE);
-    if address == 0 {
-        return Ok(0);
-    }
-    let mut root = [0; 512];
-    let key = BlockKey::double(number);
-    match read_present(device, memory, key, address, &mut root) {
-        Ok(()) => Ok(word(&root, leaf as usize - 1)),
+    let root = BlockKey::double(number);
+    match present_word(device, memory, root, first, leaf as usize - 1) {
+        Ok(pointer) => Ok(pointer),
         Err(fault) => Err(fault),
     }
 }
@@ -234,7 +403,7 @@ pub fn locate_leaf<D: SectorDevice>(
 ///
 /// Where the block, or one on the way to it, can't be read.
 pub fn read_block<D: SectorDevice>(
-    device: &mut D,
+    device: &mut CachedDevice<D>,
     memory: &LogMemory,
     number: u16,
     index: u32,
@@ -250,13 +419,13 @@ pub fn read_block<D: SectorDevice>(
         ≡ (D.state device.old).failures) }
     ensures looks { Looks (D.state device.old) (D.state device.new) }
 {
-    clear(out);
     let address = locate_block(device, memory, number, index)?;
     if address == 0 {
+        clear(out);
         return Ok(false);
     }
     let key = BlockKey::data(number, index);
-    match read_present(device, memory, key, address, out) {
+    match copy_present(device, memory, key, address, out) {
         Ok(()) => Ok(true),
         Err(fault) => Err(fault),
     }

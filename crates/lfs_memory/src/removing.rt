@@ -9,6 +9,7 @@ ghost use Rattle.lfs_memory.specs.Removing.{AreCovered, AreUncovered, TakesCount
 use crate::counting::{SegmentCounts, count_file};
 use crate::lifting::lift_map_of;
 use crate::memory::LogMemory;
+use lfs_cache::CachedDevice;
 use lfs_device::{DeviceFault, SectorDevice};
 use lfs_segments::Usage;
 
@@ -68,7 +69,7 @@ fn drop_file(memory: &mut LogMemory, number: u16, lives: bool, counts: &SegmentC
 ///
 /// Where its blocks can't be counted; the inode map's block may be one that will be written then.
 pub fn remove_file<D: SectorDevice>(
-    device: &mut D,
+    device: &mut CachedDevice<D>,
     memory: &mut LogMemory,
     number: u16,
     counts: &mut SegmentCounts,

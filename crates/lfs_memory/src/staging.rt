@@ -19,6 +19,7 @@ use crate::lifting::LiftFault;
 use crate::memory::LogMemory;
 use crate::preparing::prepare_batch;
 use crate::removing::remove_file;
+use lfs_cache::CachedDevice;
 use lfs_device::{DeviceFault, SectorDevice};
 use lfs_files::LogFault;
 
@@ -43,7 +44,7 @@ pub fn has_room(memory: &LogMemory, changes: &Changes) -> bool
 
 /// What a file loses goes.
 fn lose<D: SectorDevice>(
-    device: &mut D,
+    device: &mut CachedDevice<D>,
     memory: &mut LogMemory,
     loss: Loss,
     counts: &mut SegmentCounts,
@@ -62,6 +63,7 @@ fn lose<D: SectorDevice>(
 {
     match loss {
         Loss::Nothing => Ok(()),
+        Loss::FirstVersion => Ok(()),
         Loss::Blocks(cut) => cut_file(device, memory, cut.number, cut.first, counts),
         Loss::Link(link) => hide_file(
             device,
@@ -86,7 +88,7 @@ fn lose<D: SectorDevice>(
 ///
 /// Where a block can't be read, or isn't counted at its address.
 fn stage_edits<D: SectorDevice>(
-    device: &mut D,
+    device: &mut CachedDevice<D>,
     memory: &mut LogMemory,
     loss: Loss,
     headers: &[HeaderEdit],
@@ -124,7 +126,7 @@ fn stage_edits<D: SectorDevice>(
 ///
 /// `Full` where memory has no room for the batch, `Device` where a block can't be read.
 fn stage_batch<D: SectorDevice>(
-    device: &mut D,
+    device: &mut CachedDevice<D>,
     memory: &mut LogMemory,
     changes: &Changes,
     counts: &mut SegmentCounts,
@@ -160,7 +162,7 @@ fn stage_batch<D: SectorDevice>(
 ///
 /// As those of `stage_batch`.
 pub fn stage_tight<D: SectorDevice>(
-    device: &mut D,
+    device: &mut CachedDevice<D>,
     memory: &mut LogMemory,
     changes: &Changes,
     counts: &mut SegmentCounts,
@@ -191,7 +193,7 @@ pub fn stage_tight<D: SectorDevice>(
 ///
 /// As those of `remove_file`.
 pub fn remove_tight<D: SectorDevice>(
-    device: &mut D,
+    device: &mut CachedDevice<D>,
     memory: &mut LogMemory,
     number: u16,
     counts: &mut SegmentCounts,

@@ -1,7 +1,7 @@
 -- Every call keeps a state sound, and so does every run of calls.
 use Rattle.std.proofs.Common.{◌≡◌, ◌<◌, replicate, refl, sym, subst, ℕ, zero, suc, Some, slice_get, true, List, [], ◌∷◌, inl, inr}
 use Rattle.std.specs.List.{AllByRecursion}
-use Rattle.lfs_model.specs.Call.{Call, Open, Create, Close, Pread, Pwrite, Truncate, Mkdir, LinkTo, Symlink, Readlink, Unlink, Rmdir, Rename, StatOf, LstatOf, Readdir, Fsync, Sync, Clean, Space, Version, ListTree, Answer, AreArguments, leaves_state}
+use Rattle.lfs_model.specs.Call.{Call, Open, Create, Close, Pread, Pwrite, Truncate, Mkdir, LinkTo, Symlink, Readlink, Unlink, Rmdir, Rename, StatOf, LstatOf, Readdir, Fsync, Sync, Clean, Space, Version, Upgrade, Widen, ListTree, Answer, AreArguments, leaves_state}
 use Rattle.lfs_model.specs.Tree.{State, drop_nameless}
 use Rattle.lfs_model.specs.Sound.{Sound}
 use Rattle.lfs_model.specs.Laws.{KeepsSound}
@@ -10,6 +10,7 @@ use Rattle.lfs_model.specs.Bytes.{AreBytes}
 use Rattle.lfs_model.specs.Script.{Line, Plain, Fill, InRange, call_of}
 use Rattle.lfs_model.proofs.Keeps.{create_keeps, symlink_keeps, link_keeps, unlink_keeps, open_keeps, close_keeps, pwrite_keeps, truncate_keeps}
 use Rattle.lfs_model.proofs.KeepsNames.{mkdir_keeps, rmdir_keeps, rename_keeps}
+use Rattle.lfs_model.proofs.Widening.{upgrade_keeps, widen_keeps}
 use Rattle.lfs_model.proofs.Pendings.{reads_leave}
 use Rattle.lfs_model.proofs.Forgetting.{dropped_sound}
 use Rattle.lfs_model.proofs.Walks.{Some-injective}
@@ -39,6 +40,8 @@ call_keeps Sync N s s' a sound args st = read_keeps Sync refl N s s' a sound arg
 call_keeps Clean N s s' a sound args st = read_keeps Clean refl N s s' a sound args st
 call_keeps Space N s s' a sound args st = read_keeps Space refl N s s' a sound args st
 call_keeps Version N s s' a sound args st = read_keeps Version refl N s s' a sound args st
+call_keeps Upgrade N s s' a sound args st = upgrade_keeps N s s' a sound st
+call_keeps (Widen p) N s s' a sound args st = widen_keeps N s s' p a sound st
 call_keeps ListTree N s s' a sound args st = read_keeps ListTree refl N s s' a sound args st
 
 -- an excused refusal leaves the state

@@ -46,6 +46,7 @@ pub mod BlockMoves
 pub mod Overwrites
 pub mod Unlinks
 pub mod Writes
+pub mod Widening
 pub mod Closes
 pub mod Renames
 pub mod Rows
@@ -118,3 +119,4 @@ pub mod FileEntries
 pub mod StoredCounted
 pub mod MetasCounted
 pub mod Marking
+pub mod Raising

@@ -8,7 +8,7 @@ use Rattle.std.proofs.lemmas.List.Elements.{recursion_from_All}
 use Rattle.std.proofs.lemmas.Fmt.{decimal_injective}
 use Rattle.lfs_model.specs.Tree.{same_name}
 use Rattle.lfs_model.proofs.Walks.{same_name-refl}
-use Rattle.lfs_model.specs.Call.{Call, Open, Create, Close, Pread, Pwrite, Truncate, Mkdir, LinkTo, Symlink, Readlink, Unlink, Rmdir, Rename, StatOf, LstatOf, Readdir, Fsync, Sync, Clean, Space, Version, ListTree}
+use Rattle.lfs_model.specs.Call.{Call, Open, Create, Close, Pread, Pwrite, Truncate, Mkdir, LinkTo, Symlink, Readlink, Unlink, Rmdir, Rename, StatOf, LstatOf, Readdir, Fsync, Sync, Clean, Space, Version, Upgrade, Widen, ListTree}
 use Rattle.lfs_model.specs.Laws.{OneLine, LinesInTurn}
 use Rattle.lfs_model.specs.Script.{before_lines, lines, Line, Plain, Fill, InRange, hex, line_of, text_of, word}
 use Rattle.lfs_model.proofs.WordTexts.{all_solid, same_words, solid-decimal, solid-hex, solid-word, hex_once, word_once}
@@ -36,6 +36,8 @@ first_of (Plain Sync) = codes "sync"
 first_of (Plain Clean) = codes "clean"
 first_of (Plain Space) = codes "space"
 first_of (Plain Version) = codes "version"
+first_of (Plain Upgrade) = codes "upgrade"
+first_of (Plain (Widen p)) = codes "widen"
 first_of (Plain ListTree) = codes "tree"
 first_of (Fill h off n byte) = codes "fill"
 
@@ -61,6 +63,8 @@ others_of (Plain Sync) = []
 others_of (Plain Clean) = []
 others_of (Plain Space) = []
 others_of (Plain Version) = []
+others_of (Plain Upgrade) = []
+others_of (Plain (Widen p)) = word p ∷ []
 others_of (Plain ListTree) = []
 others_of (Fill h off n byte) = decimal h ∷ decimal off ∷ decimal n ∷ decimal byte ∷ []
 
@@ -86,6 +90,8 @@ text_is (Plain Sync) = refl
 text_is (Plain Clean) = refl
 text_is (Plain Space) = refl
 text_is (Plain Version) = refl
+text_is (Plain Upgrade) = refl
+text_is (Plain (Widen p)) = refl
 text_is (Plain ListTree) = refl
 text_is (Fill h off n byte) = refl
 
@@ -111,6 +117,8 @@ solid (Plain Sync) fits = refl
 solid (Plain Clean) fits = refl
 solid (Plain Space) fits = refl
 solid (Plain Version) fits = refl
+solid (Plain Upgrade) fits = refl
+solid (Plain (Widen p)) fits = rw (solid-word p) refl
 solid (Plain ListTree) fits = refl
 solid (Fill h off n byte) fits = rw (solid-decimal h (let a = fits.0 in omega arith), solid-decimal off fits.1, solid-decimal n (let a = fits.2 in omega arith), solid-decimal byte (let a = fits.3 in omega arith)) refl
 
@@ -162,6 +170,8 @@ same (Plain Sync) (Plain Sync) fa fb e f = refl
 same (Plain Clean) (Plain Clean) fa fb e f = refl
 same (Plain Space) (Plain Space) fa fb e f = refl
 same (Plain Version) (Plain Version) fa fb e f = refl
+same (Plain Upgrade) (Plain Upgrade) fa fb e f = refl
+same (Plain (Widen p)) (Plain (Widen q)) fa fb e f = ap (λ x. Plain (Widen x)) (path_is p q f)
 same (Plain ListTree) (Plain ListTree) fa fb e f = refl
 same (Fill h off n byte) (Fill g at m b) fa fb e f =
     let x : h ≡ g = decimal_injective h g (let a = fa.0 in omega arith) (let a = fb.0 in omega arith) (cc) in

@@ -3,12 +3,12 @@ use Rattle.std.proofs.Common.{◌≡◌, ◌+◌, ◌-◌, ◌==◌, ℕ, Bool, 
 use Rattle.std.specs.Prelude.{if◌then◌else◌, not, nat_lt, nat_le, MatchOption, option_map, unwrap_or}
 use Rattle.std.specs.List.{AllByRecursion, list_any}
 use Rattle.lfs_model.specs.Bytes as bytes
-use Rattle.lfs_model.specs.Tree.{File, Dir, Link, Tree, State, node, with_node, is_dir, names_in, with_name, without_name, links, least_handle}
+use Rattle.lfs_model.specs.Tree.{File, Dir, Link, Tree, State, node, with_node, is_dir, form_of, names_in, with_name, without_name, links, least_handle}
 use Rattle.lfs_model.specs.PathText.{comps, slash, but_last, text_refusal}
 use Rattle.lfs_model.specs.Refusal.{Refusal, NoEntry, NotDir, IsDir, NotEmpty, Inval, NameTooLong, Busy, TooManyLinks, FileTooBig, Halted}
 use Rattle.lfs_model.specs.Walk.{Walk, no_piece, stays, goes_up, too_long, not_there, directory, file, not_dir, link, loops, followed, End, At, Refused, Ends}
-use Rattle.lfs_model.specs.Call.{Call, Open, Create, Close, Pread, Pwrite, Truncate, Mkdir, LinkTo, Symlink, Readlink, Unlink, Rmdir, Rename, StatOf, LstatOf, Readdir, Fsync, Sync, Clean, Space, Version, ListTree, Answer, Refuse, Done, Handle, Count, Data, Text, Status, Entries}
-use Rattle.lfs_model.specs.Step.{Path, Whole, Holder, NoPath, PathEnds, Step, bad_handle, checked, closes, creates, file_at, file_bytes, gives_dir, is_link, is_long, is_there, last_dots, let_go, links_to, lists, makes_dir, makes_link, name, new_entry, no_handle, no_last, no_number, no_space, old_entry, opens, outcome, path_of, reached, reads, reads_link, removes_dir, rename_list, renames, second_path_of, stat_of, target, text_check, the_node, truncates, unlinks, when, with_new, with_tree, writes}
+use Rattle.lfs_model.specs.Call.{Call, Open, Create, Close, Pread, Pwrite, Truncate, Mkdir, LinkTo, Symlink, Readlink, Unlink, Rmdir, Rename, StatOf, LstatOf, Readdir, Fsync, Sync, Clean, Space, Version, Upgrade, Widen, ListTree, Answer, Refuse, Done, Handle, Count, Data, Text, Status, Entries}
+use Rattle.lfs_model.specs.Step.{Path, Whole, Holder, NoPath, PathEnds, Step, bad_handle, checked, closes, creates, file_at, file_bytes, gives_dir, is_link, is_long, is_there, last_dots, let_go, links_to, lists, makes_dir, makes_link, name, new_entry, no_handle, no_last, no_number, no_space, old_entry, opens, outcome, path_of, reached, reads, reads_link, removes_dir, rename_list, renames, second_path_of, stat_of, target, text_check, the_node, truncates, unlinks, when, widened, widens, with_new, with_tree, writes}
 use Rattle.lfs_model.proofs.Walks.{Some-injective}
 
 -- the answer isn't Halted
@@ -147,6 +147,11 @@ renames_own N s a b da db =
 lists_own : (s : State) (n : ℕ) → IsOwn (lists s n).0
 lists_own s n = checked_own s (when (not (is_dir (node s.tree n))) NotDir ∷ []) (Entries _, s) (refl, tt) refl
 
+widens_own : (N : ℕ) (s : State) (n : ℕ) → IsOwn (widens N s n).0
+widens_own N s n =
+    let t' : Tree = widened s.tree n in
+    checked_own s (when (not (is_dir (node s.tree n))) NotDir ∷ when (s.version == 1) Inval ∷ (form_of (node s.tree n) == 1, Done) ∷ no_space N t' ∷ []) (Done, with_tree s t') (refl, (refl, (refl, (refl, tt)))) refl
+
 outcome_own : (N : ℕ) (s : State) (call : Call) (e f : End) → IsOwnEnd e → IsOwnEnd f → IsOwn (outcome N s call e f).0
 outcome_own N s (Open p) e f first second = reached_own s e (opens s) first (opens_own s)
 outcome_own N s (Create p) e f first second = reached_own s e (creates N s p) first (creates_own N s p)
@@ -169,6 +174,8 @@ outcome_own N s Sync e f first second = refl
 outcome_own N s Clean e f first second = refl
 outcome_own N s Space e f first second = refl
 outcome_own N s Version e f first second = refl
+outcome_own N s Upgrade e f first second = refl
+outcome_own N s (Widen p) e f first second = reached_own s e (widens N s) first (widens_own N s)
 outcome_own N s ListTree e f first second = refl
 
 pub steps_never_halt : (N : ℕ) (s s' : State) (call : Call) (a : Answer) → Step N s call a s' → a ≡ Refuse Halted → ⊥

@@ -6,7 +6,7 @@ use Rattle.lfs_model.specs.Tree.{State, node, is_dir, names_in}
 use Rattle.lfs_model.specs.Bytes as bytes
 use Rattle.lfs_model.specs.Refusal.{Inval, NotDir}
 use Rattle.lfs_model.specs.Walk.{End, At, Refused}
-use Rattle.lfs_model.specs.Call.{Call, Open, Create, Close, Pread, Pwrite, Truncate, Mkdir, LinkTo, Symlink, Readlink, Unlink, Rmdir, Rename, StatOf, LstatOf, Readdir, Fsync, Sync, Clean, Space, Version, ListTree, Answer, Done, Data, Text, Status, Entries, leaves_state}
+use Rattle.lfs_model.specs.Call.{Call, Open, Create, Close, Pread, Pwrite, Truncate, Mkdir, LinkTo, Symlink, Readlink, Unlink, Rmdir, Rename, StatOf, LstatOf, Readdir, Fsync, Sync, Clean, Space, Version, Upgrade, Widen, ListTree, Answer, Done, Data, Text, Status, Entries, leaves_state}
 use Rattle.lfs_model.specs.Step.{Step, checked, reached, outcome, when, bad_handle, file_bytes, the_node, file_at, is_link, head_of, stat_of, entry_of, reads_link, lists}
 use Rattle.lfs_model.specs.Run.{Point, Run, final, IsPending}
 
@@ -66,6 +66,8 @@ reads_same N s (Symlink text p) e f is = absurd (cc is)
 reads_same N s (Unlink p) e f is = absurd (cc is)
 reads_same N s (Rmdir p) e f is = absurd (cc is)
 reads_same N s (Rename p q) e f is = absurd (cc is)
+reads_same N s Upgrade e f is = absurd (cc is)
+reads_same N s (Widen p) e f is = absurd (cc is)
 
 pub reads_leave : (N : ℕ) (s s' : State) (call : Call) (a : Answer) → leaves_state call ≡ true → Step N s call a s' → s' ≡ s
 reads_leave N s s' call a is st = sym st.state ∙ reads_same N s call st.first_end st.second_end is

@@ -7,7 +7,7 @@ use Rattle.std.specs.Fmt.{digits}
 use Rattle.lfs_model.specs.Tree.{Dir, State, drop_nameless}
 use Rattle.lfs_model.specs.Refusal.{Inval, NotEmpty, NotDir, IsDir, Loop, Perm, Busy, Exist, NoEntry, NameTooLong, TooManyOpen, BadHandle}
 use Rattle.lfs_model.specs.Need.{data_of, meta_of}
-use Rattle.lfs_model.specs.Call.{Call, Create, Open, Close, Pwrite, Pread, Truncate, Rename, LinkTo, StatOf, LstatOf, Readdir, Readlink, Mkdir, Rmdir, Symlink, Unlink, Sync, Space, Version, ListTree, DirectoryEntry, Answer, Handle, Count, Data, Text, Done, Refuse, Status, Room, FormatVersion, Rows, Entries}
+use Rattle.lfs_model.specs.Call.{Call, Create, Open, Close, Pwrite, Pread, Truncate, Rename, LinkTo, StatOf, LstatOf, Readdir, Readlink, Mkdir, Rmdir, Symlink, Unlink, Sync, Space, Version, Upgrade, Widen, ListTree, DirectoryEntry, Answer, Handle, Count, Data, Text, Done, Refuse, Status, Room, FormatVersion, Rows, Entries}
 use Rattle.lfs_model.specs.Plain.{run_to, fresh, answers_to}
 use Rattle.lfs_model.specs.declared.Kind.TheVariants as kinds
 
@@ -152,6 +152,29 @@ five_short = refl
 five_wide : answers_2 five_names ≡ Some (Handle 0 ∷ Handle 1 ∷ Handle 2 ∷ Handle 3 ∷ Handle 4 ∷ Room 2 6 764 3008 ∷ dir 1 2 640 ∷ [])
 unfolding answers_2 fresh_2 five_names dir data_of meta_of
 five_wide = refl
+
+-- widen asks for version 2, and then the directory is as one of form 1 with these names
+widened : answers (Create (codes "/1") ∷ Create (codes "/2") ∷ Create (codes "/3") ∷ Create (codes "/4") ∷ Create (codes "/5")
+    ∷ Widen (codes "/") ∷ Upgrade ∷ Widen (codes "/") ∷ Space ∷ StatOf (codes "/") ∷ Version ∷ [])
+    ≡ Some (Handle 0 ∷ Handle 1 ∷ Handle 2 ∷ Handle 3 ∷ Handle 4 ∷ Refuse Inval ∷ Done ∷ Done ∷ Room 2 6 764 3008 ∷ dir 1 2 640 ∷ FormatVersion 2 ∷ [])
+unfolding answers dir data_of meta_of
+widened = refl
+
+-- a second upgrade and a second widen change nothing; a new directory is of form 1, and the old one takes longer names only once it is widened
+moved_over : answers (Create (codes "/f") ∷ Symlink (codes "/") (codes "/s") ∷ Upgrade ∷ Mkdir (codes "/d") ∷ Widen (codes "/d") ∷ Mkdir (47 ∷ replicate 60 97)
+    ∷ Widen (codes "/f") ∷ Widen (codes "/x") ∷ Widen (codes "/s") ∷ Mkdir (47 ∷ replicate 60 97) ∷ Widen (codes "/") ∷ Upgrade ∷ Version ∷ Readdir (codes "/d") ∷ StatOf (codes "/") ∷ [])
+    ≡ Some (Handle 0 ∷ Done ∷ Done ∷ Done ∷ Done ∷ Refuse NameTooLong
+    ∷ Refuse NotDir ∷ Refuse NoEntry ∷ Done ∷ Done ∷ Done ∷ Done ∷ FormatVersion 2 ∷ Entries [] ∷ dir 1 4 512 ∷ [])
+unfolding answers dir data_of meta_of
+moved_over = refl
+
+-- what a stop leaves of it is of the new version and the new form
+moved_over_and_stopped : option_and_then (λ r. answers_to 64 (drop_nameless r.1) (Version ∷ ListTree ∷ []))
+    (run_to 64 fresh (Mkdir (codes "/d") ∷ Create (codes "/d/x") ∷ Upgrade ∷ Widen (codes "/d") ∷ Sync ∷ []))
+    ≡ Some (FormatVersion 2 ∷ Rows (record { directory = 1; name = codes "d"; stat = record { number = 2; kind = kinds.Directory; links = 2; size = 128 }; head = [] }
+    ∷ record { directory = 2; name = codes "x"; stat = record { number = 3; kind = kinds.File; links = 1; size = 0 }; head = [] } ∷ []) ∷ [])
+unfolding data_of meta_of
+moved_over_and_stopped = refl
 
 -- ---- the walk
 

@@ -1,7 +1,7 @@
 -- What a use of a volume can't be: where no call of the device failed, each answer is the model's, but for want of memory.
 use Rattle.std.proofs.Common.{◌≡◌, ◌<◌, ◌≤◌, ◌^◌, ℕ, Bool, true, false, List, [], ◌∷◌, refl, sym, ◌∙◌, ap, subst, inl, inr, ⊎_elim, arith}
 use Rattle.std.specs.Prelude.{IsTrue}
-use Rattle.lfs_model.specs.Call.{Answer, Call, Open, Create, Close, Pread, Pwrite, Truncate, Mkdir, LinkTo, Symlink, Readlink, Unlink, Rmdir, Rename, StatOf, LstatOf, Readdir, Fsync, Sync, Clean, Space, Version, ListTree, Refuse, takes_no_memory}
+use Rattle.lfs_model.specs.Call.{Answer, Call, Open, Create, Close, Pread, Pwrite, Truncate, Mkdir, LinkTo, Symlink, Readlink, Unlink, Rmdir, Rename, StatOf, LstatOf, Readdir, Fsync, Sync, Clean, Space, Version, Upgrade, Widen, ListTree, Refuse, takes_no_memory}
 use Rattle.lfs_model.specs.Refusal.{Refusal, NoEntry, NotDir, IsDir, Exist, NotEmpty, Inval, NameTooLong, Loop, Perm, Busy, BadHandle, TooManyOpen, TooManyLinks, FileTooBig, NoSpace, NoNumber, DirFull, NoMemory, Device, Halted, Stuck, Worn}
 use Rattle.lfs_model.specs.Run.{Answers, IsExcused, LineAnswers, LineRun, Point, final, has_word}
 use Rattle.lfs_model.specs.Script.{Line, Plain, Fill, call_of}
@@ -30,6 +30,8 @@ word_takes (Plain Sync) is = absurd (cc)
 word_takes (Plain Clean) is = refl
 word_takes (Plain Space) is = absurd (cc)
 word_takes (Plain Version) is = absurd (cc)
+word_takes (Plain Upgrade) is = absurd (cc)
+word_takes (Plain (Widen p)) is = refl
 word_takes (Plain ListTree) is = refl
 word_takes (Plain (Open p)) is = refl
 word_takes (Plain (Create p)) is = refl

@@ -1,6 +1,6 @@
 -- The calls of a volume and their answers (POSIX.1-2017: open, close, pread, pwrite, ftruncate, mkdir, link, symlink, readlink,
--- unlink, rmdir, rename, stat, lstat, readdir, fsync, sync). A path is a list of bytes; clean, space, version and tree are own
--- choices.
+-- unlink, rmdir, rename, stat, lstat, readdir, fsync, sync). A path is a list of bytes; clean, space, version, upgrade, widen and
+-- tree are own choices.
 use Rattle.std.specs.Prelude.{ℕ, ◌<◌, ◌^◌, Bool, true, false, ◌||◌, List}
 use Rattle.lfs_model.specs.Bytes.{AreBytes}
 use Rattle.lfs_model.specs.Refusal.{Refusal}
@@ -36,6 +36,8 @@ pub data Call : Type 0 where
   Clean : Call
   Space : Call
   Version : Call
+  Upgrade : Call
+  Widen : List ℕ → Call
   ListTree : Call
 
 -- What the arguments of a call can be: handles and lengths of pread are numbers of 32 bits, offsets and lengths of truncate of 64,
@@ -62,9 +64,11 @@ AreArguments Sync = Unit {0}
 AreArguments Clean = Unit {0}
 AreArguments Space = Unit {0}
 AreArguments Version = Unit {0}
+AreArguments Upgrade = Unit {0}
+AreArguments (Widen p) = AreBytes p
 AreArguments ListTree = Unit {0}
 
--- the calls that may change the tree
+-- the calls that may change the tree, or the version of its layout
 abbrev pub changes : Call → Bool
 changes (Open p) = false
 changes (Create p) = true
@@ -87,6 +91,8 @@ changes Sync = false
 changes Clean = false
 changes Space = false
 changes Version = false
+changes Upgrade = true
+changes (Widen p) = true
 changes ListTree = false
 
 -- the calls that leave the state as it is
@@ -112,6 +118,8 @@ leaves_state Sync = true
 leaves_state Clean = true
 leaves_state Space = true
 leaves_state Version = true
+leaves_state Upgrade = false
+leaves_state (Widen p) = false
 leaves_state ListTree = true
 
 -- the calls that commit: after their Ok a stop loses nothing of what was before (POSIX.1-2017: fsync, sync)
@@ -137,6 +145,8 @@ commits Sync = true
 commits Clean = false
 commits Space = false
 commits Version = false
+commits Upgrade = false
+commits (Widen p) = false
 commits ListTree = false
 
 -- the call that cleans (the 1992 LFS paper: segment cleaning)
@@ -162,6 +172,8 @@ cleans Sync = false
 cleans Clean = true
 cleans Space = false
 cleans Version = false
+cleans Upgrade = false
+cleans (Widen p) = false
 cleans ListTree = false
 
 -- the calls that may write to the device
@@ -191,6 +203,8 @@ takes_no_memory Sync = true
 takes_no_memory Clean = false
 takes_no_memory Space = true
 takes_no_memory Version = true
+takes_no_memory Upgrade = false
+takes_no_memory (Widen p) = false
 takes_no_memory ListTree = false
 
 -- the calls that are never refused because a call of the device failed: those that commit are halted then
@@ -216,6 +230,8 @@ never_for_device Sync = true
 never_for_device Clean = false
 never_for_device Space = false
 never_for_device Version = true
+never_for_device Upgrade = false
+never_for_device (Widen p) = false
 never_for_device ListTree = false
 
 -- what stat tells (POSIX.1-2017, stat: st_ino, the file type, st_nlink, st_size)

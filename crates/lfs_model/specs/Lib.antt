@@ -47,6 +47,7 @@ pub mod Running
 pub mod Committing
 pub mod Staging
 pub mod Replacing
+pub mod Raising
 pub mod Detaching
 pub mod Cutting
 pub mod Tight

@@ -2,7 +2,7 @@
 use Rattle.std.specs.Prelude.{ℕ, ◌<◌, ◌≤◌, ◌+◌, ◌/◌, ◌^◌, ◌≡◌, ◌⊎◌, Bool, true, false, ◌&&◌, IsTrue, Some, List, [], ◌∷◌, drop, slice_get}
 use Rattle.lfs_model.specs.Tree.{State}
 use Rattle.lfs_model.specs.Refusal.{Refusal, NoMemory, Device, Halted, Stuck, Worn}
-use Rattle.lfs_model.specs.Call.{Call, Open, Create, Close, Pread, Pwrite, Truncate, Mkdir, LinkTo, Symlink, Readlink, Unlink, Rmdir, Rename, StatOf, LstatOf, Readdir, Fsync, Sync, Clean, Space, Version, ListTree, Answer, Refuse, is_ok, changes, cleans, commits, may_write, takes_no_memory, never_for_device}
+use Rattle.lfs_model.specs.Call.{Call, Open, Create, Close, Pread, Pwrite, Truncate, Mkdir, LinkTo, Symlink, Readlink, Unlink, Rmdir, Rename, StatOf, LstatOf, Readdir, Fsync, Sync, Clean, Space, Version, Upgrade, Widen, ListTree, Answer, Refuse, is_ok, changes, cleans, commits, may_write, takes_no_memory, never_for_device}
 use Rattle.lfs_model.specs.Step.{Step}
 use Rattle.lfs_model.specs.Script.{Line, Plain, Fill, call_of}
 
@@ -77,6 +77,8 @@ has_word (Plain Sync) = false
 has_word (Plain Clean) = false
 has_word (Plain Space) = false
 has_word (Plain Version) = false
+has_word (Plain Upgrade) = false
+has_word (Plain (Widen p)) = true
 has_word (Plain ListTree) = false
 
 -- What one line of a script does: its call; or nothing, where memory for its word was refused.

@@ -1,7 +1,7 @@
 -- The text of a script: its lines, the call that a line is, and the reply to an answer. All of it is an own choice.
 use Rattle.std.specs.Prelude.{ℕ, ◌+◌, ◌/◌, ◌%◌, ◌<◌, ◌≤◌, ◌≡◌, ◌^◌, ◌&&◌, not, List, [], ◌∷◌, ◌++◌, length, ◌==◌, if◌then◌else◌, nat_lt, nat_le, replicate, codes, decimal, flat_map}
 use Rattle.lfs_model.specs.Refusal.{Refusal, NoEntry, NotDir, IsDir, Exist, NotEmpty, Inval, NameTooLong, Loop, Perm, Busy, BadHandle, TooManyOpen, TooManyLinks, FileTooBig, NoSpace, NoNumber, DirFull, NoMemory, Device, Halted, Stuck, Worn}
-use Rattle.lfs_model.specs.Call.{Call, Open, Create, Close, Pread, Pwrite, Truncate, Mkdir, LinkTo, Symlink, Readlink, Unlink, Rmdir, Rename, StatOf, LstatOf, Readdir, Fsync, Sync, Clean, Space, Version, ListTree, AreArguments, DirectoryEntry, TreeRow, Answer, Refuse, Done, Handle, Count, Data, Text, Status, Entries, Room, FormatVersion, Rows}
+use Rattle.lfs_model.specs.Call.{Call, Open, Create, Close, Pread, Pwrite, Truncate, Mkdir, LinkTo, Symlink, Readlink, Unlink, Rmdir, Rename, StatOf, LstatOf, Readdir, Fsync, Sync, Clean, Space, Version, Upgrade, Widen, ListTree, AreArguments, DirectoryEntry, TreeRow, Answer, Refuse, Done, Handle, Count, Data, Text, Status, Entries, Room, FormatVersion, Rows}
 use Rattle.lfs_model.specs.declared.Kind.{Kind}
 use Rattle.lfs_model.specs.declared.Kind.TheVariants as kinds
 
@@ -75,6 +75,8 @@ text_of_call Sync = codes "sync"
 text_of_call Clean = codes "clean"
 text_of_call Space = codes "space"
 text_of_call Version = codes "version"
+text_of_call Upgrade = codes "upgrade"
+text_of_call (Widen p) = line_of (codes "widen") (word p ∷ [])
 text_of_call ListTree = codes "tree"
 
 -- a line's one text

@@ -5,12 +5,12 @@ use Rattle.std.specs.List.{list_any}
 use Rattle.std.specs.Ordering.{nat_cmp}
 use Rattle.std.specs.FinMap.{find, put}
 use Rattle.lfs_model.specs.Bytes as bytes
-use Rattle.lfs_model.specs.Tree.{Node, File, Dir, Link, Tree, Handles, State, node, with_node, without, is_dir, names_of, names_in, entry, with_name, without_name, same_name, names, links, up, least, least_handle, opened, slot_len, name_limit}
+use Rattle.lfs_model.specs.Tree.{Node, File, Dir, Link, Tree, Handles, State, node, with_node, without, is_dir, names_of, names_in, entry, with_name, without_name, same_name, names, links, up, least, least_handle, opened, slot_len, form_of, name_limit}
 use Rattle.lfs_model.specs.PathText.{comps, slash, last, text_refusal}
 use Rattle.lfs_model.specs.Refusal.{Refusal, NoEntry, NotDir, IsDir, Exist, NotEmpty, Inval, NameTooLong, Perm, Busy, BadHandle, TooManyOpen, TooManyLinks, FileTooBig, NoSpace, NoNumber, DirFull}
 use Rattle.lfs_model.specs.Walk.{End, At, Refused, dot, dot_dot, Resolve, Parent}
 use Rattle.lfs_model.specs.Need.{need, data_blocks, meta_blocks}
-use Rattle.lfs_model.specs.Call.{Call, Open, Create, Close, Pread, Pwrite, Truncate, Mkdir, LinkTo, Symlink, Readlink, Unlink, Rmdir, Rename, StatOf, LstatOf, Readdir, Fsync, Sync, Clean, Space, Version, ListTree, Stat, DirectoryEntry, TreeRow, Answer, Refuse, Done, Handle, Count, Data, Text, Status, Entries, Room, FormatVersion, Rows}
+use Rattle.lfs_model.specs.Call.{Call, Open, Create, Close, Pread, Pwrite, Truncate, Mkdir, LinkTo, Symlink, Readlink, Unlink, Rmdir, Rename, StatOf, LstatOf, Readdir, Fsync, Sync, Clean, Space, Version, Upgrade, Widen, ListTree, Stat, DirectoryEntry, TreeRow, Answer, Refuse, Done, Handle, Count, Data, Text, Status, Entries, Room, FormatVersion, Rows}
 use Rattle.lfs_model.specs.declared.Kind.{Kind}
 use Rattle.lfs_model.specs.declared.Kind.TheVariants as kinds
 
@@ -251,6 +251,20 @@ renames N s a b da db = let t = s.tree in let n = target t da a in let old = tar
 abbrev pub lists : State → ℕ → Answer × State
 lists s n = checked s (when (not (is_dir (node s.tree n))) NotDir ∷ []) (Entries (map (entry_of s.tree) (names_in s.tree n)), s)
 
+-- upgrade: the version of the layout becomes 2
+abbrev pub upgrades : State → Answer × State
+upgrades s = (Done, record s { version = 2 })
+
+-- the tree with directory n in form 1: its names and their numbers stay
+abbrev pub widened : Tree → ℕ → Tree
+widened t n = with_node t n (Dir 1 (names_in t n))
+
+-- widen, at node n: version 1 has no form 1, and a directory of form 1 stays as it is
+abbrev pub widens : ℕ → State → ℕ → Answer × State
+widens N s n = let t' = widened s.tree n in
+    checked s (when (not (is_dir (node s.tree n))) NotDir ∷ when (s.version == 1) Inval ∷ (form_of (node s.tree n) == 1, Done) ∷ no_space N t' ∷ [])
+    (Done, with_tree s t')
+
 -- space
 abbrev pub room : ℕ → Tree → Answer
 room N t = Room (data_blocks t) (meta_blocks t) (need t) (47 * N)
@@ -281,6 +295,7 @@ path_of (Rename p q) = Holder p
 path_of (StatOf p) = Whole p true
 path_of (LstatOf p) = Whole p false
 path_of (Readdir p) = Whole p true
+path_of (Widen p) = Whole p true
 path_of (Close h) = NoPath
 path_of (Pread h off n) = NoPath
 path_of (Pwrite h off w) = NoPath
@@ -290,6 +305,7 @@ path_of Sync = NoPath
 path_of Clean = NoPath
 path_of Space = NoPath
 path_of Version = NoPath
+path_of Upgrade = NoPath
 path_of ListTree = NoPath
 
 -- the walk of its second path
@@ -315,6 +331,8 @@ second_path_of Sync = NoPath
 second_path_of Clean = NoPath
 second_path_of Space = NoPath
 second_path_of Version = NoPath
+second_path_of Upgrade = NoPath
+second_path_of (Widen p) = NoPath
 second_path_of ListTree = NoPath
 
 -- the answer and the state after a call whose paths end at e and f
@@ -340,6 +358,8 @@ outcome N s Sync e f = (Done, s)
 outcome N s Clean e f = (Done, s)
 outcome N s Space e f = (room N s.tree, s)
 outcome N s Version e f = (FormatVersion s.version, s)
+outcome N s Upgrade e f = upgrades s
+outcome N s (Widen p) e f = reached s e (widens N s)
 outcome N s ListTree e f = (Rows (rows_of s.tree), s)
 
 -- From s the call has this answer and leaves this state.

@@ -6,6 +6,7 @@ ghost use Rattle.lfs_model.specs.Changing.{Rewriting, Adding, Removing, Growing,
 ghost use Rattle.lfs_model.specs.Detaching.{Detaching, DetachedCounts, DetachedLive};
 ghost use Rattle.lfs_model.specs.Counting.{MovedCounts, TakenCounts, UnplacedCounts, OneMoreCounted};
 ghost use Rattle.lfs_model.specs.Finishing.{Finishing, Releasing, ReleasedFree, Mounting};
+ghost use Rattle.lfs_model.specs.Raising.{RaisedKept, RaisedLaid, RaisedTree};
 
 /// A block of a file goes to the next sector of the open segment, and the block above it points
 /// there: memory and device are laid out as before.
@@ -161,4 +162,12 @@ pub fn released_free()
 /// What a mount finds is laid out for its log map.
 pub fn mounting()
     ensures { Mounting }
+{}
+
+/// Where a log map's version of the layout is raised, memory and device are laid out as before. A
+/// volume may keep the log map if it might before, and its tree is the same.
+pub fn raising()
+    ensures laid { RaisedLaid }
+    ensures kept { RaisedKept }
+    ensures tree { RaisedTree }
 {}

@@ -2,7 +2,7 @@
 use Rattle.std.specs.Prelude.{map}
 use Rattle.lfs_model.specs.Call as model
 use Rattle.lfs_plain.specs.declared.call.Call.{Call}
-use Rattle.lfs_plain.specs.declared.call.Call.TheVariants.{Open, Create, Close, Pread, Pwrite, Truncate, Mkdir, Link, Symlink, Readlink, Unlink, Rmdir, Rename, Stat as StatAt, Lstat, Readdir, Fsync, Sync, Clean, Space, Version, Tree}
+use Rattle.lfs_plain.specs.declared.call.Call.TheVariants.{Open, Create, Close, Pread, Pwrite, Truncate, Mkdir, Link, Symlink, Readlink, Unlink, Rmdir, Rename, Stat as StatAt, Lstat, Readdir, Fsync, Sync, Clean, Space, Version, Upgrade, Widen, Tree}
 use Rattle.lfs_plain.specs.declared.call.Answer.{Answer}
 use Rattle.lfs_plain.specs.declared.call.Answer.TheVariants.{Refuse, Done, Handle, Count, Data, Text, Status, Entries, Room, FormatVersion, Rows}
 use Rattle.lfs_plain.specs.declared.call.Stat.{Stat}
@@ -35,6 +35,8 @@ call_of Sync = model.Sync
 call_of Clean = model.Clean
 call_of Space = model.Space
 call_of Version = model.Version
+call_of Upgrade = model.Upgrade
+call_of (Widen p) = model.Widen p.now
 call_of Tree = model.ListTree
 
 abbrev pub stat_of : Stat → model.Stat

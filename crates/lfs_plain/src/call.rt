@@ -9,7 +9,7 @@ use lfs_model::Kind;
 
 /// A call, with its arguments (POSIX.1-2017: open, close, pread, pwrite, ftruncate, mkdir, link,
 /// symlink, readlink, unlink, rmdir, rename, stat, lstat, readdir, fsync, sync). A path is a list
-/// of bytes; clean, space, version and tree are own choices.
+/// of bytes; clean, space, version, upgrade, widen and tree are own choices.
 #[derive(Clone, Copy)]
 pub enum Call<'a> {
     /// The path.
@@ -41,6 +41,9 @@ pub enum Call<'a> {
     Clean,
     Space,
     Version,
+    Upgrade,
+    /// The directory's path.
+    Widen(&'a [u8]),
     Tree,
 }
 
@@ -49,7 +52,7 @@ pub fn first_path<'a>(call: &Call<'a>) -> Path<'a>
     ensures { path_of result ≡ step.path_of (call_of call.now) }
 {
     match *call {
-        Call::Open(p) | Call::Stat(p) | Call::Readdir(p) => Path::Whole(p, true),
+        Call::Open(p) | Call::Stat(p) | Call::Readdir(p) | Call::Widen(p) => Path::Whole(p, true),
         Call::Readlink(p) | Call::Lstat(p) => Path::Whole(p, false),
         Call::Create(p) | Call::Mkdir(p) | Call::Unlink(p) | Call::Rmdir(p) => Path::Holder(p),
         Call::Link(p, _) | Call::Rename(p, _) | Call::Symlink(_, p) => Path::Holder(p),

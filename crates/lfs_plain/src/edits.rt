@@ -27,7 +27,7 @@ pub fn copy_of_node(alloc: Global, node: &Node) -> Result<Node, AllocError>
 }
 
 /// The names once more, behind those that are there.
-fn append_names(alloc: Global, to: &mut Vec<Name>, names: &[Name]) -> Result<(), AllocError>
+pub fn append_names(alloc: Global, to: &mut Vec<Name>, names: &[Name]) -> Result<(), AllocError>
     ensures { OnOk result (names_of to.new.items ≡ names_of to.old.items ++ names_of names.now) }
 {
     for one in names {

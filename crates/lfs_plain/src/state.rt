@@ -12,6 +12,7 @@ ghost use Rattle.lfs_plain.specs.Pieces.{reached_of};
 ghost use Rattle.lfs_model.specs.Plain as plain;
 
 mod files;
+mod forms;
 mod looks;
 mod names;
 mod renames;
@@ -94,6 +95,8 @@ impl PlainState {
             Call::Sync | Call::Clean => Ok(Answer::Done),
             Call::Space => self.room(alloc, segments),
             Call::Version => Ok(Answer::FormatVersion(self.version)),
+            Call::Upgrade => Ok(self.upgrades()),
+            Call::Widen(_) => self.widens(alloc, segments, first),
             Call::Tree => self.rows(alloc),
         }
     }

@@ -13,7 +13,9 @@ ghost use Rattle.std.specs.Ordering.{nat_cmp};
 ghost use Rattle.lfs_plain.specs.Meaning.{node_of, tree_of, names_of};
 
 use crate::counts::names_giving;
-use crate::edits::{append_nodes, names_with, names_without, nodes_with, nodes_without};
+use crate::edits::{
+    append_names, append_nodes, names_with, names_without, nodes_with, nodes_without,
+};
 use crate::need::{Blocks, blocks_of_nodes};
 use crate::walk::Seen;
 use std::alloc::{AllocError, Global};
@@ -248,6 +250,16 @@ impl PlainTree {
     {
         let names = names_without(alloc, self.names_in(d), name)?;
         let form = self.form(d);
+        self.with_node(alloc, d, Node::Dir(Directory { form, names }))
+    }
+
+    /// The tree with directory `d` in this form: its names and their numbers stay.
+    pub fn with_form(&self, alloc: Global, d: u32, form: u8) -> Result<PlainTree, AllocError>
+        ensures { IfOk result (λ t. t ≡ model.with_node self.now d
+            (Dir form (names_in self.now d))) }
+    {
+        let mut names = Vec::new(alloc);
+        append_names(alloc, &mut names, self.names_in(d))?;
         self.with_node(alloc, d, Node::Dir(Directory { form, names }))
     }
 

@@ -1,6 +1,6 @@
 //! Changes that are saved at once: each is a call, and then one sync where the call was done.
 ghost use Rattle.std.specs.Prelude.{[], ◌∷◌};
-ghost use Rattle.lfs_model.specs.Call.{Clean, Done, Mkdir, Rename, Sync};
+ghost use Rattle.lfs_model.specs.Call.{Clean, Done, Mkdir, Rename, Sync, Upgrade};
 ghost use Rattle.lfs_fs.specs.Seen.{answer_by, seen};
 ghost use Rattle.lfs_fs.specs.Volume.{Serves};
 ghost use Rattle.lfs_put.specs.Changing.{MakesInOrder, Removes, SavesBehind, removal};
@@ -92,4 +92,17 @@ pub fn clean<D: SectorDevice>(fs: &mut Fs<D>) -> Result<(), FsError>
 {
     let cleaned = fs.clean();
     save(fs, cleaned)
+}
+
+/// Makes the version of the volume's layout 2, and saves that.
+///
+/// # Errors
+///
+/// Those of `upgrade` and of `sync`.
+pub fn upgrade<D: SectorDevice>(fs: &mut Fs<D>) -> Result<(), FsError>
+    ensures { MakesInOrder D.SectorDevice.state (seen fs.old) (seen fs.new)
+        (Upgrade ∷ Sync ∷ []) result }
+{
+    let upgraded = fs.upgrade();
+    save(fs, upgraded)
 }

@@ -162,6 +162,8 @@ solid-line (Plain call.Sync) fits = refl
 solid-line (Plain call.Clean) fits = refl
 solid-line (Plain call.Space) fits = refl
 solid-line (Plain call.Version) fits = refl
+solid-line (Plain call.Upgrade) fits = refl
+solid-line (Plain (call.Widen path)) fits = rw (solid-word path) refl
 solid-line (Plain call.ListTree) fits = refl
 
 -- its text is its words'
@@ -188,6 +190,8 @@ text_is (Plain call.Sync) = refl
 text_is (Plain call.Clean) = refl
 text_is (Plain call.Space) = refl
 text_is (Plain call.Version) = refl
+text_is (Plain call.Upgrade) = refl
+text_is (Plain (call.Widen path)) = refl
 text_is (Plain call.ListTree) = refl
 
 -- it begins with a command's word
@@ -214,6 +218,8 @@ command_of_line (Plain call.Sync) = (commands.Sync, _, refl)
 command_of_line (Plain call.Clean) = (commands.Clean, _, refl)
 command_of_line (Plain call.Space) = (commands.Space, _, refl)
 command_of_line (Plain call.Version) = (commands.Version, _, refl)
+command_of_line (Plain call.Upgrade) = (commands.Upgrade, _, refl)
+command_of_line (Plain (call.Widen path)) = (commands.Widen, _, refl)
 command_of_line (Plain call.ListTree) = (commands.Tree, _, refl)
 
 line-cut : (line : Line) → InRange line → cut (text_of line) ≡ words_of line

@@ -30,6 +30,8 @@ line_for made.Sync = Plain call.Sync
 line_for made.Clean = Plain call.Clean
 line_for made.Space = Plain call.Space
 line_for made.Version = Plain call.Version
+line_for made.Upgrade = Plain call.Upgrade
+line_for (made.Widen path) = Plain (call.Widen path.items)
 line_for made.Tree = Plain call.ListTree
 
 -- Two words that are read, or why they aren't: a wrong spelling of either, else memory that was refused for one.

@@ -2,7 +2,7 @@
 use Rattle.std.specs.Prelude.{ℕ, List, [], ◌∷◌, Option, Some, None, codes, if◌then◌else◌}
 use Rattle.std.specs.Str.{bytes_eq}
 use Rattle.lfs_script.specs.declared.command.Command.{Command}
-use Rattle.lfs_script.specs.declared.command.Command.TheVariants.{Create, Open, Close, Pread, Pwrite, Fill, Truncate, Mkdir, Link, Symlink, Readlink, Unlink, Rmdir, Rename, Stat, Lstat, Readdir, Fsync, Sync, Clean, Space, Version, Tree}
+use Rattle.lfs_script.specs.declared.command.Command.TheVariants.{Create, Open, Close, Pread, Pwrite, Fill, Truncate, Mkdir, Link, Symlink, Readlink, Unlink, Rmdir, Rename, Stat, Lstat, Readdir, Fsync, Sync, Clean, Space, Version, Upgrade, Widen, Tree}
 
 abbrev pub command_word : Command → List ℕ
 command_word Create = codes "create"
@@ -27,6 +27,8 @@ command_word Sync = codes "sync"
 command_word Clean = codes "clean"
 command_word Space = codes "space"
 command_word Version = codes "version"
+command_word Upgrade = codes "upgrade"
+command_word Widen = codes "widen"
 command_word Tree = codes "tree"
 
 -- the command of the first of these rows that has this word

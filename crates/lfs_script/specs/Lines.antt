@@ -1,6 +1,6 @@
 -- The lines of a script, and how they are cut into words. What a line is, and its one text, is the model's.
 use Rattle.std.specs.Prelude.{◌≢◌, ℕ, ◌==◌, if◌then◌else◌, List, [], ◌∷◌, Option, Some, None, codes, decimal}
-use Rattle.lfs_model.specs.Call.{Create, Open, Close, Pread, Pwrite, Truncate, Mkdir, LinkTo, Symlink, Readlink, Unlink, Rmdir, Rename, StatOf, LstatOf, Readdir, Fsync, Sync, Clean, Space, Version, ListTree}
+use Rattle.lfs_model.specs.Call.{Create, Open, Close, Pread, Pwrite, Truncate, Mkdir, LinkTo, Symlink, Readlink, Unlink, Rmdir, Rename, StatOf, LstatOf, Readdir, Fsync, Sync, Clean, Space, Version, Upgrade, Widen, ListTree}
 use Rattle.lfs_model.specs.Script.{Line, Plain, Fill, InRange, hex, line_of, text_of, word}
 
 -- no line has this text
@@ -31,6 +31,8 @@ words_of (Plain Sync) = codes "sync" ∷ []
 words_of (Plain Clean) = codes "clean" ∷ []
 words_of (Plain Space) = codes "space" ∷ []
 words_of (Plain Version) = codes "version" ∷ []
+words_of (Plain Upgrade) = codes "upgrade" ∷ []
+words_of (Plain (Widen path)) = codes "widen" ∷ word path ∷ []
 words_of (Plain ListTree) = codes "tree" ∷ []
 
 -- words with one space between two

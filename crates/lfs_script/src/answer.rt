@@ -111,6 +111,8 @@ pub fn make<D: SectorDevice>(alloc: Global, fs: &mut Fs<D>, call: &Call) -> Resu
         Call::Clean => fs.clean().map(|()| Answer::Done),
         Call::Space => fs.space().map(Answer::Space),
         Call::Version => fs.version().map(Answer::Version),
+        Call::Upgrade => fs.upgrade().map(|()| Answer::Done),
+        Call::Widen(path) => fs.widen(path.as_slice()).map(|()| Answer::Done),
         Call::Tree => fs.tree().map(Answer::Tree),
     }
 }

@@ -65,6 +65,8 @@ pub enum Call {
     Clean,
     Space,
     Version,
+    Upgrade,
+    Widen(Vec<u8>),
     Tree,
 }
 
@@ -293,6 +295,8 @@ fn call_of(alloc: Global, command: Command, words: Words<'_>) -> Result<Call, Wo
         Command::Clean => words.none().map(|()| Call::Clean),
         Command::Space => words.none().map(|()| Call::Space),
         Command::Version => words.none().map(|()| Call::Version),
+        Command::Upgrade => words.none().map(|()| Call::Upgrade),
+        Command::Widen => Ok(Call::Widen(path(alloc, words)?)),
         Command::Tree => words.none().map(|()| Call::Tree),
     }
 }

@@ -28,11 +28,13 @@ pub enum Command {
     Clean,
     Space,
     Version,
+    Upgrade,
+    Widen,
     Tree,
 }
 
 /// The word of each command.
-const WORDS: [(Command, &[u8]); 23] = [
+const WORDS: [(Command, &[u8]); 25] = [
     (Command::Create, b"create"),
     (Command::Open, b"open"),
     (Command::Close, b"close"),
@@ -55,6 +57,8 @@ const WORDS: [(Command, &[u8]); 23] = [
     (Command::Clean, b"clean"),
     (Command::Space, b"space"),
     (Command::Version, b"version"),
+    (Command::Upgrade, b"upgrade"),
+    (Command::Widen, b"widen"),
     (Command::Tree, b"tree"),
 ];
 

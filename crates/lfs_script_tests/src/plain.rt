@@ -173,3 +173,23 @@ fn names_in_version_2(rt: HostRuntime) -> Result<(), Fail> {
     assert_eq!(rt; wrong, None);
     Ok(())
 }
+
+#[test]
+fn an_old_volume_moves_over(rt: HostRuntime) -> Result<(), Fail> {
+    let steps = [
+        Step::Make(Call::Create(b"/1"), b"ok 0\n"),
+        Step::Make(Call::Create(b"/2"), b"ok 1\n"),
+        Step::Make(Call::Create(b"/3"), b"ok 2\n"),
+        Step::Make(Call::Create(b"/4"), b"ok 3\n"),
+        Step::Make(Call::Create(b"/5"), b"ok 4\n"),
+        Step::Make(Call::Widen(b"/"), b"err Inval\n"),
+        Step::Make(Call::Upgrade, b"ok\n"),
+        Step::Make(Call::Widen(b"/"), b"ok\n"),
+        Step::Make(Call::Space, b"ok 2 6 764 3008\n"),
+        Step::Make(Call::Stat(b"/"), b"ok 1 dir 2 640\n"),
+        Step::Make(Call::Version, b"ok 2\n"),
+    ];
+    let wrong = first_wrong(rt.alloc(), 1, &steps)?;
+    assert_eq!(rt; wrong, None);
+    Ok(())
+}

@@ -25,7 +25,7 @@ impl Dice {
 }
 
 /// The lines of a script, but for paths (P), handles (H), offsets (O) and values (B).
-const FORMS: [&str; 33] = [
+const FORMS: [&str; 35] = [
     "create P",
     "create P",
     "create P",
@@ -59,6 +59,8 @@ const FORMS: [&str; 33] = [
     "clean",
     "space",
     "version",
+    "upgrade",
+    "widen P",
 ];
 
 const PATHS: [&str; 17] = [
@@ -91,7 +93,7 @@ const VALUES: [&str; 4] = ["0", "7", "9", "255"];
 
 // A line of a form, without its newline.
 fn rolled_line(alloc: Global, dice: &mut Dice) -> Result<String, AllocError> {
-    let form = FORMS[dice.roll(33) as usize];
+    let form = FORMS[dice.roll(35) as usize];
     let mut line = String::new(alloc);
     for word in form.split(' ') {
         if !line.is_empty() {

@@ -162,6 +162,8 @@ fn plain_call<'a>(call: &'a Call, bytes: &'a [u8]) -> PlainCall<'a> {
         Call::Clean => PlainCall::Clean,
         Call::Space => PlainCall::Space,
         Call::Version => PlainCall::Version,
+        Call::Upgrade => PlainCall::Upgrade,
+        Call::Widen(path) => PlainCall::Widen(path.as_slice()),
         Call::Tree => PlainCall::Tree,
     }
 }

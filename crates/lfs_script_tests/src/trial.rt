@@ -8,13 +8,17 @@ use lfs_script::run;
 use std::alloc::Global;
 use std::test::Fail;
 
-/// What the plain program replies to each line, and its tree before the first and after each.
+/// What the plain program replies to each line, and its version and tree before the first and after
+/// each.
 #[derive(Drop)]
 pub struct PlainRun {
     version: u8,
     pub replies: Vec<Vec<u8>>,
-    trees: Vec<Vec<u8>>,
+    looks: Vec<Vec<u8>>,
 }
+
+/// What is looked at after a stop.
+const LOOK: &str = "version\ntree";
 
 fn plain_reply(alloc: Global, state: &mut PlainState, line: &str) -> Result<Vec<u8>, Fail> {
     let mut reply = Vec::new(alloc);
@@ -22,24 +26,32 @@ fn plain_reply(alloc: Global, state: &mut PlainState, line: &str) -> Result<Vec<
     Ok(reply)
 }
 
+fn plain_look(alloc: Global, state: &mut PlainState) -> Result<Vec<u8>, Fail> {
+    let mut look = Vec::new(alloc);
+    for line in LOOK.split('\n') {
+        put_line(alloc, state, line, &mut look)?;
+    }
+    Ok(look)
+}
+
 /// The plain program's run of these lines, on a new volume of this version.
 pub fn plain_run(alloc: Global, version: u8, lines: &[&str]) -> Result<PlainRun, Fail> {
     let mut state = PlainState::new(alloc, version)?;
     let mut replies = Vec::new(alloc);
-    let mut trees = Vec::new(alloc);
-    trees.push(plain_reply(alloc, &mut state, "tree")?)?;
+    let mut looks = Vec::new(alloc);
+    looks.push(plain_look(alloc, &mut state)?)?;
     for line in lines {
         replies.push(plain_reply(alloc, &mut state, line)?)?;
-        trees.push(plain_reply(alloc, &mut state, "tree")?)?;
+        looks.push(plain_look(alloc, &mut state)?)?;
     }
     Ok(PlainRun {
         version,
         replies,
-        trees,
+        looks,
     })
 }
 
-// The reply of a volume to a line.
+// The replies of a volume to lines.
 fn reply_of(alloc: Global, fs: &mut Fs<MemDevice>, line: &str) -> Vec<u8> {
     let mut input = line.as_bytes();
     let mut reply = Vec::new(alloc);
@@ -47,7 +59,7 @@ fn reply_of(alloc: Global, fs: &mut Fs<MemDevice>, line: &str) -> Vec<u8> {
     reply
 }
 
-/// The least and the greatest number of calls that the tree after a stop may have.
+/// The least and the greatest number of calls that version and tree after a stop may have.
 #[derive(Clone, Copy, PartialEq, Eq)]
 struct Bounds {
     least: usize,
@@ -91,10 +103,10 @@ pub struct TrialEnd {
     pub is_newer: bool,
 }
 
-/// Runs the lines on a new volume, of the version of the plain program's run, whose device stops
-/// within this write, and then mounts what the
-/// stop leaves: the tree has to be one that the plain program had, behind the calls that an
-/// acknowledged sync saved and no later than the first that was halted.
+/// Runs the lines on a new volume, of the version with which the plain program's run began, whose
+/// device stops within this write, and then mounts what the stop leaves. Version and tree have to be
+/// such as the plain program had, behind the calls that an acknowledged sync saved and no later than
+/// the first that was halted.
 pub fn trial(
     alloc: Global,
     lines: &[&str],
@@ -114,12 +126,12 @@ pub fn trial(
     let Ok(mut fs) = Fs::mount(alloc, device) else {
         return Err(Fail::from("no mount after the stop"));
     };
-    let tree = reply_of(alloc, &mut fs, "tree");
-    for (calls, shown) in plain.trees.iter().enumerate() {
-        if bounds.least <= calls && calls <= bounds.greatest && *shown == tree {
+    let look = reply_of(alloc, &mut fs, LOOK);
+    for (calls, shown) in plain.looks.iter().enumerate() {
+        if bounds.least <= calls && calls <= bounds.greatest && *shown == look {
             let is_newer = calls > bounds.least;
             return Ok(TrialEnd { writes, is_newer });
         }
     }
-    Err(Fail::from("another tree after the stop"))
+    Err(Fail::from("another version or another tree after the stop"))
 }

@@ -18,7 +18,8 @@ use Rattle.lfs_cleaner.proofs.of_log.of_memory.Looses.{loose}
 use Rattle.lfs_cleaner.proofs.of_log.of_memory.Presents.{looks_quiet}
 use Rattle.lfs_cleaner.proofs.of_log.Volumes.{same_segments}
 use Rattle.lfs_cleaner.specs.log.verify.declared.totals.BlockTotals.{BlockTotals}
-use Rattle.lfs_cleaner.specs.log.Held.{Held, Halts, Holds, IsFull, IsSaved, Saves, Alters, IsStaged, IsRefused, IsStageFault}
+use Rattle.lfs_cleaner.specs.log.Held.{Held, Halts, Holds, IsFull, IsSaved, Saves, Alters, IsStaged, IsRefused, IsStageFault, unsaved_in}
+use Rattle.lfs_cleaner.proofs.of_log.Unsaved.{all_saved}
 use Rattle.lfs_cleaner.specs.Room.{HaltsLater, HasQuarter, IsAtRest, IsRoomFault, KeepsMap, MayNotMakeRoom, most_checkpoints}
 use Rattle.lfs_cleaner.proofs.RoomBounds.{same_need, segment_count}
 use Rattle.lfs_cleaner.proofs.Rooms.{fault_then, halts_at_once, halts_then, halts_weaker, keeps_none, keeps_saves, keeps_then, keeps_weaker, rest_saves}
@@ -26,11 +27,11 @@ use Rattle.lfs_store.specs.Accepting.{HasClean, Stores, StoresOver, LeavesEither
 
 -- where anything isn't saved a checkpoint is written
 pub written_most : (D : Type 0) (h : Held D) (saved : Bool) → most_written h saved ≤ length h.memory.usage.segments / 8 + 1
-written_most D h true = let le : length h.memory.usage.segments / 8 + min 1 (length h.memory.dirty.blocks) ≤ length h.memory.usage.segments / 8 + 1 = omega arith in le
+written_most D h true = let le : length h.memory.usage.segments / 8 + min 1 (unsaved_in h) ≤ length h.memory.usage.segments / 8 + 1 = omega arith in le
 written_most D h false = let le : length h.memory.usage.segments / 8 + 1 ≤ length h.memory.usage.segments / 8 + 1 = omega arith in le
 
 written_least : (D : Type 0) (h : Held D) (saved : Bool) → length h.memory.usage.segments / 8 ≤ most_written h saved
-written_least D h true = let le : length h.memory.usage.segments / 8 ≤ length h.memory.usage.segments / 8 + min 1 (length h.memory.dirty.blocks) = omega arith in le
+written_least D h true = let le : length h.memory.usage.segments / 8 ≤ length h.memory.usage.segments / 8 + min 1 (unsaved_in h) = omega arith in le
 written_least D h false = let le : length h.memory.usage.segments / 8 ≤ length h.memory.usage.segments / 8 + 1 = omega arith in le
 
 module _ {D : Type 0} (state : D → DeviceState) where
@@ -91,7 +92,7 @@ module _ {D : Type 0} (state : D → DeviceState) where
 
   pub readies_saves : (h h' : Held D) → Saves state h h' → h'.totals ≡ h.totals → Readies state h false h' true
   readies_saves h h' s totals =
-      let none : length h'.memory.dirty.blocks ≡ 0 = ap length s.empty in
+      let none = all_saved h' s.empty in
       let size = s.segments in
       let rose = s.number in
       record {
@@ -101,7 +102,7 @@ module _ {D : Type 0} (state : D → DeviceState) where
           all = λ e. inr s.holds;
           rest = λ e rest. rest_saves state h h' s;
         };
-        spent = (let spent : h'.number + (length h'.memory.usage.segments / 8 + min 1 (length h'.memory.dirty.blocks)) ≤ h.number + (length h.memory.usage.segments / 8 + 1) = omega (arith, none, size, rose) in spent);
+        spent = (let spent : h'.number + (length h'.memory.usage.segments / 8 + min 1 (unsaved_in h')) ≤ h.number + (length h.memory.usage.segments / 8 + 1) = omega (arith, none, size, rose) in spent);
         able = λ k m0 m keeps can.
             let next = s.holds k m0 m keeps can.stores.holds can.shown in
             let most : h.number + (length h.memory.usage.segments / 8 + 1) ≤ 2 ^ 64 - 1 = can.number in (
@@ -114,7 +115,7 @@ module _ {D : Type 0} (state : D → DeviceState) where
                 counted = subst (λ (t : BlockTotals). IsCounted m t.data_blocks t.meta_blocks) (sym totals) can.counted;
                 need = same_need state h h' totals size can.need;
                 enough = λ never. absurd (cc);
-                number = (let fits : h'.number + (length h'.memory.usage.segments / 8 + min 1 (length h'.memory.dirty.blocks)) ≤ 2 ^ 64 - 1 = omega (arith, none, size, rose, most) in fits);
+                number = (let fits : h'.number + (length h'.memory.usage.segments / 8 + min 1 (unsaved_in h')) ≤ 2 ^ 64 - 1 = omega (arith, none, size, rose, most) in fits);
               },
             );
       }
@@ -191,7 +192,7 @@ module _ {D : Type 0} (state : D → DeviceState) where
   pub cannot_pass : (b c : Held D) → MayNotMakeRoom state b c → CannotMakeRoom state b true c
   cannot_pass b c lacks k m0 m keeps can =
       let rest = can.stores.rest refl in
-      let none : length b.memory.dirty.blocks ≡ 0 = ap length rest.nothing in
+      let none = all_saved b rest.nothing in
       lacks k m0 m keeps (record {
         holds = can.stores.holds;
         map = can.map;
@@ -199,7 +200,7 @@ module _ {D : Type 0} (state : D → DeviceState) where
         counted = can.counted;
         need = can.need;
         many = rest.many;
-        enough = λ (lt : 0 < length b.memory.dirty.blocks). absurd (omega (arith, lt, none));
+        enough = λ (lt : 0 < unsaved_in b). absurd (omega (arith, lt, none));
         untaken = λ e. rest.untaken;
         number = can.number;
       })
@@ -289,7 +290,7 @@ module _ {D : Type 0} (state : D → DeviceState) where
     room_moment k m0 m keeps is map = room.keeps.moment k m0 m keeps is.holds map
 
   -- ---- the draft is staged, or refused
-  module _ (h mid h' : Held D) (saved kept : Bool) (c : Changes) (lawful : IsLawful (state mid.device)) (running : h.halted ≡ false) (room : MakesRoom state h saved mid kept) (alters : Alters state mid h' (room_for c)) where
+  module _ (h mid h' : Held D) (saved kept : Bool) (c : Changes) (lawful : IsLawful (state mid.device)) (running : h.halted ≡ false) (room : MakesRoom state h saved mid kept) {raised : Bool} (alters : Alters state mid h' (room_for c) raised) where
     before : (state h'.device).keeps_model → (state mid.device).keeps_model
     before = alters.looks.carries.kept_before
 
@@ -394,7 +395,7 @@ module _ {D : Type 0} (state : D → DeviceState) where
       → (saved' ≡ false → length h'.memory.dirty.blocks + room_for c ≤ h'.memory.dirty.capacity.limit)
       → LacksRoom h'.memory (room_for c) → 456 < length h'.memory.dirty.blocks + room_for c → 456 < room_for c
   asks_much h h' saved true c makes rest room lacks narrow =
-      let none = ap length (makes.rest refl rest).nothing in
+      let none = ap length (makes.rest refl rest).nothing.blocks in
       omega (arith, none, narrow)
   asks_much h h' saved false c makes rest room lacks narrow =
       let le = room refl in

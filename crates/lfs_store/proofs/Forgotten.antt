@@ -9,7 +9,7 @@ use Rattle.lfs_model.specs.Stands.{LogMap}
 use Rattle.lfs_model.specs.TreeOf.{dropped, kept}
 use Rattle.lfs_cleaner.specs.log.memory.Removing.{without_file}
 use Rattle.lfs_cleaner.specs.log.Held.{Held, IsRemoved}
-use Rattle.lfs_cleaner.proofs.RoomBounds.{none_left}
+use Rattle.lfs_cleaner.proofs.of_log.Unsaved.{kept_saved}
 use Rattle.lfs_store.specs.Accepting.{Forgets}
 
 not_kept : {X : Type 0} (o : Option Header) (some none : X) → is_unlinked o ≡ true → kept o some none ≡ none
@@ -38,13 +38,12 @@ forgets state h h' saved n gone k m0 m keeps is off = record {
   nothing_new = λ on. is.nothing_new on ∙ sym (same_dropped m n off);
   rest = λ on.
       let rest = is.rest on in
-      let none : length h.memory.dirty.blocks ≡ 0 = ap length rest.nothing in
       let few = gone.alters.few in
       let many = rest.many in
       let segments = gone.alters.segments in
       let clean = gone.alters.clean in
       record {
-        nothing = none_left h'.memory.dirty.blocks (omega (arith, none, few));
+        nothing = kept_saved h h' rest.nothing (omega (arith, few)) gone.alters.upgraded;
         untaken = gone.untaken rest.untaken;
         many = omega (arith, many, segments, clean);
       };

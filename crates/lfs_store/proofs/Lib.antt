@@ -28,6 +28,7 @@ pub mod Recounted
 pub mod Forgotten
 pub mod TreeTotals
 pub mod Shrunken
+pub mod Upgrades
 pub mod StoreSeen
 pub use Rattle.lfs_cleaner.proofs.of_log as of_log
 pub use Rattle.lfs_cleaner.proofs as of_cleaner

@@ -30,7 +30,7 @@ module _ {D : Type 0} (state : D → DeviceState) where
   }
 
   pub reads_none : (a : Held D) → Reads state a a
-  reads_none a = record { looks = looks_none (state a.device); memory = refl; number = refl; version = refl; halted = refl; totals = refl }
+  reads_none a = record { looks = looks_none (state a.device); memory = refl; number = refl; version = refl; upgraded = refl; halted = refl; totals = refl }
 
   pub reads_more : (a b c : Held D) → IsLawful (state a.device) → Reads state a b → Reads state b c → Reads state a c
   reads_more a b c lawful one two = record {
@@ -38,6 +38,7 @@ module _ {D : Type 0} (state : D → DeviceState) where
     memory = two.memory ∙ one.memory;
     number = two.number ∙ one.number;
     version = two.version ∙ one.version;
+    upgraded = two.upgraded ∙ one.upgraded;
     halted = two.halted ∙ one.halted;
     totals = two.totals ∙ one.totals;
   }

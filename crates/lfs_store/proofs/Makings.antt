@@ -22,7 +22,6 @@ use Rattle.lfs_cleaner.specs.log.memory.Changing.{FitsHeader, header_with, with_
 use Rattle.lfs_cleaner.specs.log.memory.Present.{as_header}
 use Rattle.lfs_cleaner.specs.log.memory.Removing.{without_file}
 use Rattle.lfs_cleaner.proofs.of_log.of_memory.LogMaps.{is_with_header}
-use Rattle.lfs_cleaner.proofs.of_log.of_memory.Versions.{staged_version}
 use Rattle.lfs_store.specs.Drafting.{IsApart, PutsHeader, LosesOnly}
 use Rattle.lfs_store.specs.Making.{Makes, SetsLinks, DraftsRemoval, relinked}
 use Rattle.lfs_store.proofs.Apart.{file_apart, link_apart, no_change}
@@ -72,7 +71,7 @@ makes c c' n h some few puts = record {
     name = λ has. (let never : None ≡ Some has.0 = sym none ∙ has.1 in absurd (cc));
     apart = apart;
   });
-  keeps = λ m is none form. subst IsLogMap (sym (puts.map m)) (made_map (staged c m) n (as_header h) is none some few (subst (λ (v : ℕ). IsForm v h.kind h.form) (sym (staged_version c m)) form));
+  keeps = λ m is none form. subst IsLogMap (sym (puts.map m)) (made_map (staged c m) n (as_header h) is none some few form);
   few = puts.few;
   blocks = puts.blocks;
   loss = puts.loss;

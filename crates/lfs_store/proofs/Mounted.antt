@@ -14,7 +14,7 @@ use Rattle.lfs_model.specs.Stands.{LogMap, StandsAt, StandsLog}
 use Rattle.lfs_model.specs.TreeOf.{dropped, kept}
 use Rattle.lfs_model.proofs.Decodes.{are_sized, decoding}
 use Rattle.lfs_model.proofs.Decoding.{value_found}
-use Rattle.lfs_cleaner.specs.log.Held.{Held, Mounts}
+use Rattle.lfs_cleaner.specs.log.Held.{AreAllSaved, Held, Mounts}
 use Rattle.lfs_cleaner.specs.log.Publishing.{AreUntaken}
 use Rattle.lfs_cleaner.specs.log.segments.Table.{clean_in}
 use Rattle.lfs_cleaner.specs.log.verify.declared.fault.MountFault.{MountFault}
@@ -79,7 +79,7 @@ module _ (c : Content) (k : CheckpointValue) (m : LogMap) (sized : IsSized c) (s
   all_linked =
       ap₂ (λ (hs : ℕ → Option Header) (bs : ℕ → ℕ → List ℕ). record { header = hs; block = bs; version = m.version }) (fun_ext header_same) (fun_ext (λ n. fun_ext (λ i. block_same n i)))
 
-module _ {D : Type 0} (state : D → DeviceState) (d : D) (h : Held D) (lawful : IsLawful (state d)) (mounts : Mounts state d h) (nothing : h.memory.dirty.blocks ≡ [])
+module _ {D : Type 0} (state : D → DeviceState) (d : D) (h : Held D) (lawful : IsLawful (state d)) (mounts : Mounts state d h) (nothing : AreAllSaved h)
     (untaken : (state h.device).keeps_model → AreUntaken h.memory.usage) (many : (state h.device).keeps_model → length h.memory.usage.segments ≤ 8 * clean_in h.memory.usage.segments) where
   pub mounts_store : MountsStore state d h true
   mounts_store m keeps is = record {

@@ -54,6 +54,7 @@ module _ {D : Type 0} (state : D → DeviceState) where
     memory = two.memory ∙ one.memory;
     number = two.number ∙ one.number;
     version = two.version ∙ one.version;
+    upgraded = two.upgraded ∙ one.upgraded;
     halted = two.halted ∙ one.halted;
     totals = two.totals ∙ one.totals;
   }

@@ -86,7 +86,7 @@ same_list : (m : LogMap) (n : ℕ) (h : Option Header) (end : ℕ) → stored_be
 unfolding stored_below
 same_list m n h end = refl
 
-relinked_totals : (m : LogMap) (n : ℕ) (h h' : Header) (t : BlockTotals) → 1 ≤ n → n ≤ 4095 → m.header n ≡ Some h → AreTotals m t → AreTotals (with_header m n (Some h')) t
+pub relinked_totals : (m : LogMap) (n : ℕ) (h h' : Header) (t : BlockTotals) → 1 ≤ n → n ≤ 4095 → m.header n ≡ Some h → AreTotals m t → AreTotals (with_header m n (Some h')) t
 relinked_totals m n h h' t some few there are =
     let law = totals_of_change m (with_header m n (Some h')) n 0 0 (changed_header m n (Some h')) some few (omega arith) (omega arith) (λ i out. refl) in
     let none = stored_nothing m n 0 0 (λ i le lt. absurd (omega (arith, lt))) in
@@ -142,7 +142,7 @@ module _ {D : Type 0} (state : D → DeviceState) (h a b h' : Held D) (c c' : Ch
 
 module _ {D : Type 0} (state : D → DeviceState) where
   -- ---- a file goes at once
-  pub gone_counts : (h a h' : Held D) (c : Changes) (n : ℕ) (before : Measure) (old new : BlockTotals) → 1 ≤ n → n ≤ 4095 → IsNoChange c → Reads state h a → Measures state h a c n 0 16624 before → Alters state a h' 0
+  pub gone_counts : (h a h' : Held D) (c : Changes) (n : ℕ) (before : Measure) (old new : BlockTotals) → 1 ≤ n → n ≤ 4095 → IsNoChange c → Reads state h a → Measures state h a c n 0 16624 before → Alters state a h' 0 false
       → Recounts old new before (record { data_blocks = 0; meta_blocks = 0 }) → CountsGone state h h' n old new
   gone_counts h a h' c n before old new some few none first measured alters recounts k m0 m keeps is map map' are =
       let same = no_change c m none in
@@ -154,11 +154,12 @@ module _ {D : Type 0} (state : D → DeviceState) where
       (no_measure (without_file n m) n 0 16624 (nothing_stored (without_file n m) n map' gone) gone) recounts are
 
   -- a log that was only read
-  pub alters_read : (h a : Held D) → Reads state h a → Alters state h a 0
+  pub alters_read : (h a : Held D) → Reads state h a → Alters state h a 0 false
   alters_read h a reads = record {
     looks = reads.looks;
     number = reads.number;
     version = reads.version;
+    upgraded = reads.upgraded;
     halted = reads.halted;
     segments = ap (λ v. length v.usage.segments) reads.memory;
     clean = ap (λ v. clean_in v.usage.segments) reads.memory;
@@ -166,11 +167,12 @@ module _ {D : Type 0} (state : D → DeviceState) where
     few = let same = ap (λ v. length v.dirty.blocks) reads.memory in omega (arith, same);
   }
 
-  alters_more : (h a h' : Held D) → IsLawful (state h.device) → Reads state h a → Alters state a h' 0 → Alters state h h' 0
+  alters_more : (h a h' : Held D) → IsLawful (state h.device) → Reads state h a → Alters state a h' 0 false → Alters state h h' 0 false
   alters_more h a h' lawful reads alters = record {
     looks = looks_then (state h.device) (state a.device) (state h'.device) lawful reads.looks alters.looks;
     number = alters.number ∙ reads.number;
     version = alters.version ∙ reads.version;
+    upgraded = alters.upgraded ∙ reads.upgraded;
     halted = alters.halted ∙ reads.halted;
     segments = alters.segments ∙ ap (λ v. length v.usage.segments) reads.memory;
     clean = alters.clean ∙ ap (λ v. clean_in v.usage.segments) reads.memory;

@@ -9,7 +9,7 @@ use Rattle.lfs_cleaner.specs.log.memory.Batch.{IsNoChange, room_for}
 use Rattle.lfs_cleaner.specs.log.memory.Batch as batch
 use Rattle.lfs_cleaner.specs.log.memory.Preparing.{is_beside, row_of, way_from, ways, ways_from}
 use Rattle.lfs_store.specs.Drafting.{IsBlock, LastBlock, NoBlock, PutsHeader}
-use Rattle.lfs_store.specs.Growing.{IsRun, PlacesBlock}
+use Rattle.lfs_store.specs.Growing.{IsLone, IsRun, PlacesBlock}
 use Rattle.lfs_store.proofs.Growths.{way_most}
 
 -- ---- a block that is put
@@ -130,3 +130,34 @@ written_room c c' c'' n from to head none headers run few puts =
 -- as long as 65,536 bytes are, at most
 pub blocks_few : (at len : ℕ) → len ≤ 65536 → div_ceil (at + len) 512 ≤ at / 512 + 129
 blocks_few at len few = omega (arith, few)
+
+-- ---- as long as a full directory of form 1 is, at most
+
+-- a block that is 256 blocks later at most has the second next above it at most
+row_far : (i j : ℕ) → j ≤ i + 256 → row_of j ≤ row_of i + 2
+row_far i j near =
+    let half = row_near i (i + 128) (omega arith) in
+    let rest = row_near (i + 128) (i + 256) (omega arith) in
+    let up = row_up j (i + 256) near in
+    omega (arith, half, rest, up)
+
+ways_far : (n from to : ℕ) (es : List BlockEdit) → to ≤ from + 257 → IsRun n from to es → ways es ≤ 9
+ways_far n from to [] few run = let le : 0 ≤ 9 = omega arith in le
+ways_far n from to (e ∷ es) few run =
+    let rest = ways_behind n from to e es run.0 run.1 in
+    let near = row_far from (to - 1) (omega (arith, few)) in
+    omega (arith, rest, near)
+
+pub lone_room : (c c' c'' : Changes) (n from to : ℕ) (head : Header) → IsLone c → c'.headers ≡ c.headers → IsRun n from to c'.blocks.items → to ≤ from + 257 → PutsHeader c' c'' n head → room_for c'' ≤ 274
+lone_room c c' c'' n from to head lone headers run few puts =
+    let a = lone.headers in
+    let b = ap length (ap (λ v. v.items) headers) in
+    let x = puts.few in
+    let same = ap (λ v. v.items) puts.blocks in
+    let long = run_long n from to c'.blocks.items run in
+    let longer = ap length same in
+    let most : ways c''.blocks.items ≤ 9 = subst (λ (es : List BlockEdit). ways es ≤ 9) (sym same) (ways_far n from to c'.blocks.items few run) in
+    omega (arith, a, b, x, long, longer, few, most)
+
+pub blocks_most : (at len : ℕ) → len ≤ 131072 → div_ceil (at + len) 512 ≤ at / 512 + 257
+blocks_most at len few = omega (arith, few)

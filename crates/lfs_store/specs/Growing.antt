@@ -9,6 +9,11 @@ pub record GrowsBy (c c' : Changes) (more_headers more_blocks : ℕ) : Type 0 wh
   pub headers : length c'.headers.items ≤ length c.headers.items + more_headers
   pub blocks : length c'.blocks.items ≤ length c.blocks.items + more_blocks
 
+-- A draft that changes no block yet, and one header at most.
+pub record IsLone (c : Changes) : Type 0 where
+  pub headers : length c.headers.items ≤ 1
+  pub blocks : c.blocks.items ≡ []
+
 -- Block i of file n comes behind the blocks that the draft has.
 pub record AppendsBlock (c c' : Changes) (n i : ℕ) : Type 0 where
   pub edit : BlockEdit

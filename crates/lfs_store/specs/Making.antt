@@ -1,10 +1,11 @@
 -- Files made in a draft, their links, and files that go.
-use Rattle.std.specs.Prelude.{◌≡◌, ◌≢◌, ◌<◌, ◌≤◌, ◌+◌, ℕ, false, [], length, Some, None}
+use Rattle.std.specs.Prelude.{◌≡◌, ◌≢◌, ◌<◌, ◌≤◌, ◌+◌, ℕ, true, false, [], length, Some, None}
 use Rattle.lfs_model.specs.declared.Kind.{Kind}
 use Rattle.lfs_model.specs.declared.Kind.TheVariants as kind
 use Rattle.lfs_model.specs.Encodes.{IsLogMap}
 use Rattle.lfs_model.specs.Entry.{Inode}
 use Rattle.lfs_model.specs.Inode.{IsForm}
+use Rattle.lfs_model.specs.Raising.{raised}
 use Rattle.lfs_model.specs.Stands.{LogMap}
 use Rattle.lfs_cleaner.specs.log.memory.declared.changes.Changes.{Changes}
 use Rattle.lfs_cleaner.specs.log.memory.files.declared.header.Header.{Header}
@@ -32,7 +33,7 @@ relinked h links = record { kind = h.kind; form = h.form; links = links; size = 
 pub record Makes (c c' : Changes) (n : ℕ) (h : Header) : Type 0 where
   pub map : (m : LogMap) → staged c' m ≡ with_header (staged c m) n (Some (as_header h))
   pub fits : (m : LogMap) → FitsBatch m c → (staged c m).header n ≡ None → is_lost c.loss (Inode n) ≡ false → FitsHeader h.kind h.form h.links h.size → FitsBatch m c'
-  pub keeps : (m : LogMap) → IsLogMap (staged c m) → (staged c m).header n ≡ None → IsForm m.version h.kind h.form → IsLogMap (staged c' m)
+  pub keeps : (m : LogMap) → IsLogMap (staged c m) → (staged c m).header n ≡ None → IsForm (staged c m).version h.kind h.form → IsLogMap (staged c' m)
   pub few : length c'.headers.items ≤ length c.headers.items + 1
   pub blocks : c'.blocks ≡ c.blocks
   pub loss : c'.loss ≡ c.loss
@@ -46,6 +47,13 @@ pub record SetsLinks (c c' : Changes) (n : ℕ) (h : Header) (links : ℕ) : Typ
   pub blocks : c'.blocks.items ≡ c.blocks.items
   pub loss : 0 < links → c'.loss ≡ c.loss
   pub apart : (k : ℕ) → IsApart c.loss k → IsApart c'.loss k
+
+-- The version of the layout is raised, and nothing else changes.
+pub record DraftsUpgrade (c : Changes) : Type 0 where
+  pub map : (m : LogMap) → staged c m ≡ raised true m
+  pub fits : (m : LogMap) → FitsBatch m c
+  pub headers : c.headers.items ≡ []
+  pub blocks : c.blocks.items ≡ []
 
 -- File n goes with all its blocks, and nothing else changes.
 pub record DraftsRemoval (c : Changes) (n : ℕ) : Type 0 where

@@ -36,6 +36,10 @@ CountsMade c c' n old new = (m : LogMap) → IsLogMap (staged c m) → (staged c
 abbrev pub CountsRelinked : Changes → Changes → ℕ → Header → BlockTotals → Type 0
 CountsRelinked c c' n h t = (m : LogMap) → (staged c m).header n ≡ Some (as_header h) → AreTotals (staged c m) t → AreTotals (staged c' m) t
 
+-- The version of the layout is raised: the totals stay.
+abbrev pub CountsUpgraded : Changes → Type 0
+CountsUpgraded c = (m : LogMap) (t : BlockTotals) → AreTotals m t → AreTotals (staged c m) t
+
 module _ {D : Type 0} (state : D → DeviceState) where
   -- The measure of file n takes the place of what it was before.
   pub record Remeasures (h h' : Held D) (c : Changes) (n from to : ℕ) (before : Measure) (old new : BlockTotals) : Type 0 where

@@ -10,6 +10,7 @@ ghost use Rattle.lfs_cleaner.specs.log.memory.Batch.{IsNoChange, room_for};
 
 use crate::draft::Draft;
 use crate::store::Store;
+use lfs_cache::CachedDevice;
 use lfs_cleaner::volume_log::verify::Tables;
 use lfs_cleaner::volume_log::{Log, LogFault, MountFault};
 use lfs_cleaner::{has_quarter, make_room};
@@ -20,8 +21,8 @@ use std::alloc::Global;
 /// The most headers that one call changes.
 const MOST_HEADERS: usize = 4;
 
-/// The most blocks that one call changes: those of a write of 65,536 bytes, and of directories.
-const MOST_BLOCKS: usize = 140;
+/// The most blocks that one call changes: those of a full directory that gets the second form.
+const MOST_BLOCKS: usize = 256;
 
 impl<D: SectorDevice> Store<D> {
     ghost use Rattle.lfs_cleaner.specs.log.Held.{Halts, IsFull};
@@ -86,7 +87,7 @@ impl<D: SectorDevice> Store<D> {
     /// `NoMemory` where memory is refused, with the device.
     pub fn with_tables(
         alloc: Global,
-        device: D,
+        device: CachedDevice<D>,
         tables: Tables,
     ) -> Result<Store<D>, (MountFault, D)>
         requires loaded { IsLoaded tables (D.state device).size }
@@ -104,7 +105,7 @@ impl<D: SectorDevice> Store<D> {
         ensures same { MatchResult result (λ s. s.log.device ≡ device) (λ e. e.1 ≡ device) }
     {
         let Ok(draft) = Draft::new(alloc, MOST_HEADERS, MOST_BLOCKS) else {
-            return Err((MountFault::NoMemory, device));
+            return Err((MountFault::NoMemory, device.into_inner()));
         };
         let log = match Log::with_tables(alloc, device, tables) {
             Ok(log) => log,

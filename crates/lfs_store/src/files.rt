@@ -37,6 +37,16 @@ impl<D: SectorDevice> Files for Store<D> {
         Store::write_at(self, number, header, at, bytes)
     }
 
+    fn reform(
+        &mut self,
+        number: FileNumber,
+        header: Header,
+        form: u8,
+        size: u32,
+    ) -> Result<(), StoreFault> {
+        Store::reform(self, number, header, form, size)
+    }
+
     fn set_len(&mut self, number: FileNumber, header: Header, len: u32) -> Result<(), StoreFault> {
         Store::set_len(self, number, header, len)
     }

@@ -11,6 +11,7 @@ pub fn header_after(loss: &Loss, number: u16) -> Option<Option<Header>>
 {
     match loss {
         Loss::Nothing => None,
+        Loss::FirstVersion => None,
         Loss::Blocks(_) => None,
         Loss::Link(link) => {
             if link.number != number {
@@ -39,6 +40,7 @@ pub fn takes_block(loss: &Loss, number: u16, index: u32) -> bool
 {
     match loss {
         Loss::Nothing => false,
+        Loss::FirstVersion => false,
         Loss::Blocks(cut) => cut.number == number && cut.first <= index,
         Loss::Link(_) => false,
         Loss::File(removal) => removal.number == number,

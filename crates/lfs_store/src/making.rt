@@ -2,8 +2,8 @@
 ghost use Rattle.std.specs.Prelude.{◌≡◌, ◌≤◌, true, IfSome, IfNone, IfErr, OnOk, OnErr, IsErrOf};
 ghost use Rattle.lfs_model.specs.Image.{new_form};
 ghost use Rattle.lfs_cleaner.specs.log.memory.Batch.{IsNoChange};
-ghost use Rattle.lfs_store.specs.Recounting.{CountsMade, CountsRelinked};
-ghost use Rattle.lfs_store.specs.Making.{Makes, SetsLinks, DraftsRemoval, first_links, first_header};
+ghost use Rattle.lfs_store.specs.Recounting.{CountsMade, CountsRelinked, CountsUpgraded};
+ghost use Rattle.lfs_store.specs.Making.{Makes, SetsLinks, DraftsRemoval, DraftsUpgrade, first_links, first_header};
 
 use crate::measuring::BLOCKS;
 use crate::recounting::recounted;
@@ -187,6 +187,18 @@ impl<D: SectorDevice> Store<D> {
             return Err(StoreFault::NoMemory);
         };
         Ok(())
+    }
+
+    /// Drafts that the volume has the second version of the layout. The draft was empty.
+    pub fn upgrade(&mut self)
+        requires empty { IsNoChange self.old.draft.changes }
+        ensures log { self.new.log ≡ self.old.log }
+        ensures saved { self.new.saved ≡ self.old.saved }
+        ensures drafted { self.new.drafted ≡ self.old.drafted }
+        ensures done { DraftsUpgrade self.new.draft.changes }
+        ensures counted { CountsUpgraded self.new.draft.changes }
+    {
+        self.draft.lose(Loss::FirstVersion);
     }
 
     /// Drafts that a file goes with all its blocks. The draft was empty.

@@ -321,6 +321,7 @@ fn takes_below(loss: &Loss, number: u16, leaf: u32) -> bool
 {
     match loss {
         Loss::Nothing => false,
+        Loss::FirstVersion => false,
         Loss::Blocks(cut) => cut.number == number && cut.first < DIRECT + POINTERS * (leaf + 1),
         Loss::Link(_) => false,
         Loss::File(removal) => removal.number == number,

@@ -1,9 +1,12 @@
 //! Bytes written to a file and cut off it, into the draft.
-ghost use Rattle.std.specs.Prelude.{◌≡◌, ◌<◌, ◌≤◌, ◌+◌, ◌%◌, true, length, IfErr, OnOk, OnErr, IsErrOf, IsTrue};
+ghost use Rattle.std.specs.Prelude.{◌≡◌, ◌<◌, ◌≤◌, ◌+◌, ◌*◌, ◌%◌, true, length, IfErr, OnOk, OnErr, IsErrOf, IsTrue};
 ghost use Rattle.lfs_cleaner.specs.log.memory.Batch.{IsNoChange, room_for};
 ghost use Rattle.lfs_cleaner.specs.log.Held.{Reads, IsReadFault};
 ghost use Rattle.lfs_store.specs.Drafting.{PutsHeader};
-ghost use Rattle.lfs_store.specs.Growing.{PlacesBlock};
+ghost use Rattle.lfs_files.specs.Files.{asked_by_directory};
+ghost use Rattle.lfs_files.specs.Headers.{reformed};
+ghost use Rattle.lfs_model.specs.Tree.{slot_len};
+ghost use Rattle.lfs_store.specs.Growing.{IsLone, PlacesBlock};
 ghost use Rattle.lfs_store.specs.Pieces.{Covers};
 ghost use Rattle.lfs_store.specs.Writing.{ReadsBeneath};
 
@@ -81,6 +84,9 @@ impl<D: SectorDevice> Store<D> {
             self.old.draft.changes self.new.draft.changes number.value header at bytes.now) }
         ensures room { OnOk result (IsNoChange self.old.draft.changes → length bytes.now ≤ 65536
             → room_for self.new.draft.changes ≤ 144) }
+        ensures asked { OnOk result (IsLone self.old.draft.changes
+            → length bytes.now ≤ 1024 * slot_len 1
+            → room_for self.new.draft.changes ≤ asked_by_directory) }
         ensures counted { OnOk result (Counts D.SectorDevice.state self.old.log self.new.log
             self.old.draft.changes self.new.draft.changes self.old.drafted self.new.drafted) }
         ensures failed { IfErr result (λ fault. (fault ≡ StoreFault.NoMemory → ⊥)
@@ -122,6 +128,9 @@ impl<D: SectorDevice> Store<D> {
             self.old.draft.changes self.new.draft.changes number.value header at bytes.now) }
         ensures room { OnOk result (IsNoChange self.old.draft.changes → length bytes.now ≤ 65536
             → room_for self.new.draft.changes ≤ 144) }
+        ensures asked { OnOk result (IsLone self.old.draft.changes
+            → length bytes.now ≤ 1024 * slot_len 1
+            → room_for self.new.draft.changes ≤ asked_by_directory) }
         ensures failed { IfErr result (λ fault. (fault ≡ StoreFault.NoMemory → ⊥)
             → IsReadFault D.SectorDevice.state self.old.log self.new.log) }
         ensures halted { IsErrOf result (StoreFault.Log LogFault.Halted)
@@ -321,9 +330,31 @@ impl<D: SectorDevice> Store<D> {
             number.value (resized header size)) }
         ensures failed { IfErr result (λ fault. fault ≡ StoreFault.NoMemory) }
     {
+        self.reform(number, header, header.form, size)
+    }
+
+    /// A file of this header has another form and another size. Its blocks stay as they are.
+    ///
+    /// # Errors
+    ///
+    /// `NoMemory` where memory runs out. What the draft holds then is of no use.
+    pub fn reform(
+        &mut self,
+        number: FileNumber,
+        header: Header,
+        form: u8,
+        size: u32,
+    ) -> Result<(), StoreFault>
+        ensures log { self.new.log ≡ self.old.log }
+        ensures saved { self.new.saved ≡ self.old.saved }
+        ensures drafted { self.new.drafted ≡ self.old.drafted }
+        ensures done { OnOk result (PutsHeader self.old.draft.changes self.new.draft.changes
+            number.value (reformed header form size)) }
+        ensures failed { IfErr result (λ fault. fault ≡ StoreFault.NoMemory) }
+    {
         let header = Header {
             kind: header.kind,
-            form: header.form,
+            form,
             links: header.links,
             size,
         };

@@ -529,6 +529,54 @@ fn volumes_of_either_version(rt: HostRuntime) {
     want(&rt, FORMATS);
 }
 
+// A name of 60 bytes, which the root takes once it is widened.
+const UPGRADES: &[Step] = &[
+    Step::Says(&["lfs mkfs u.img --segments 64"], b"", 0, OK),
+    Step::Says(
+        &["lfs run u.img"],
+        b"mkdir /d\ncreate /d/x\nsync\nwiden /d\n",
+        0,
+        Said::Reply(b"ok\nok 0\nok\nerr Inval\n"),
+    ),
+    Step::Says(&["lfs upgrade u.img", "lfs upgrade u.img"], b"", 0, OK),
+    Step::Says(
+        &["lfs mount u.img"],
+        b"",
+        0,
+        Said::Reply(b"ok 2\n1 d dir 2 2 64 -\n2 x file 3 1 0 -\n"),
+    ),
+    Step::Says(
+        &["lfs mkdir u.img /012345678901234567890123456789012345678901234567890123456789"],
+        b"",
+        1,
+        TOO_LONG,
+    ),
+    Step::Says(
+        &["lfs run u.img"],
+        b"version\nwiden /\nwiden /d/x\nsync\n",
+        0,
+        Said::Reply(b"ok 2\nok\nerr NotDir\nok\n"),
+    ),
+    Step::Says(
+        &["lfs mkdir u.img /012345678901234567890123456789012345678901234567890123456789"],
+        b"",
+        0,
+        OK,
+    ),
+    Step::Says(
+        &["lfs check u.img"],
+        b"",
+        0,
+        Said::Reply(b"ok 64 2 4 750 3008\n"),
+    ),
+    Step::Remove("u.img"),
+];
+
+#[test]
+fn an_old_volume_moves_over(rt: HostRuntime) {
+    want(&rt, UPGRADES);
+}
+
 // The tree of an empty volume.
 const EMPTY: Said = Said::Reply(b"ok 0\n");
 
@@ -637,21 +685,32 @@ fn fifty_files_with_a_mount_between(rt: HostRuntime) {
     want(&rt, MANY_FILES);
 }
 
+const WORN_OUT: Said = Said::Reply(b"err Worn\n");
+
 // The checkpoint's number is one below 2^62: one commit more, and no change is taken.
 const WORN: &[Step] = &[
     Step::Says(&["lfs mkfs w.img --segments 64"], b"", 0, OK),
     Step::Change("w.img", LEN, &[(1, 8, b"\xff\xff\xff\xff\xff\xff\xff\x3f")]),
     Step::Says(
         &["lfs run w.img"],
-        b"create /a\nsync\ncreate /b\nsync\nclean\n",
+        b"create /a\nsync\ncreate /b\nsync\nclean\nupgrade\nwiden /\nversion\n",
         0,
-        Said::Reply(b"ok 0\nok\nerr Worn\nok\nerr Worn\n"),
+        Said::Reply(b"ok 0\nok\nerr Worn\nok\nerr Worn\nerr Worn\nerr Inval\nok 1\n"),
     ),
     Step::Says(
         &["lfs mount w.img"],
         b"",
         0,
         Said::Reply(b"ok 1\n1 a file 2 1 0 -\n"),
+    ),
+    Step::Says(&["lfs upgrade w.img"], b"", 1, WORN_OUT),
+    Step::Says(&["lfs mkfs w.img --segments 64 --format 2"], b"", 0, OK),
+    Step::Change("w.img", LEN, &[(1, 8, b"\xff\xff\xff\xff\xff\xff\xff\x3f")]),
+    Step::Says(
+        &["lfs run w.img"],
+        b"create /a\nsync\nupgrade\nwiden /\nwiden /a\nversion\n",
+        0,
+        Said::Reply(b"ok 0\nok\nerr Worn\nerr Worn\nerr NotDir\nok 2\n"),
     ),
     Step::Remove("w.img"),
 ];
@@ -918,6 +977,9 @@ const LINES: &[Step] = &[
             "lfs mkdir kept.img",
             "lfs mkdir kept.img \\2f",
             "lfs clean kept.img /f",
+            "lfs upgrade",
+            "lfs upgrade kept.img /f",
+            "lfs upgrade kept.img --format 2",
             "lfs df",
         ],
         ONE_FILE,
@@ -976,6 +1038,7 @@ const MEDIA: &[Step] = &[
             "lfs put e.img /f",
             "lfs put e.img /f none",
             "lfs mkdir e.img /d",
+            "lfs upgrade e.img",
             "lfs mkfs e.img --segments 72",
         ],
         1,
@@ -1155,6 +1218,7 @@ const LOOKS: &[Step] = &[
             "lfs mv none.img / /",
             "lfs mkdir none.img /",
             "lfs clean none.img",
+            "lfs upgrade none.img",
             "lfs df none.img",
         ],
         b"",
@@ -1506,6 +1570,18 @@ const BAD_LINES: &[Step] = &[
         b"open /a /b\n",
         2,
         Said::Tells(BAD, b"lfs: line 1: 'open' takes 1 argument, 2 given\n"),
+    ),
+    Step::Says(
+        &["lfs run r.img"],
+        b"widen\n",
+        2,
+        Said::Tells(BAD, b"lfs: line 1: 'widen' takes 1 argument, 0 given\n"),
+    ),
+    Step::Says(
+        &["lfs run r.img"],
+        b"upgrade 2\n",
+        2,
+        Said::Tells(BAD, b"lfs: line 1: 'upgrade' takes 0 arguments, 1 given\n"),
     ),
     Step::Says(
         &["lfs run r.img"],

@@ -18,6 +18,7 @@ use crate::reached::stage_reached;
 use crate::slot_stage::stage_slots;
 use crate::tables::NameTables;
 use crate::texts::stage_texts;
+use lfs_cache::CachedDevice;
 use lfs_device::SectorDevice;
 use lfs_inodes::InodeMap;
 use lfs_verify::{MountFault, Tables};
@@ -42,7 +43,7 @@ const ROOM: u8 = 14;
 /// stage that fails.
 fn check_objects<D: SectorDevice>(
     alloc: Global,
-    device: &mut D,
+    device: &mut CachedDevice<D>,
     map: &InodeMap,
     headers: &Headers,
     names: &mut NameTables,
@@ -111,7 +112,7 @@ fn check_names(
 /// As those of `check_tree`.
 fn check_stages<D: SectorDevice>(
     alloc: Global,
-    device: &mut D,
+    device: &mut CachedDevice<D>,
     tables: &Tables,
     headers: &mut Headers,
     names: &mut NameTables,
@@ -152,7 +153,7 @@ fn check_stages<D: SectorDevice>(
 /// fails.
 pub fn check_tree<D: SectorDevice>(
     alloc: Global,
-    device: &mut D,
+    device: &mut CachedDevice<D>,
     tables: &Tables,
 ) -> Result<(), MountFault>
     ensures tree { OnOk result ((D.state device.new).keeps_model

@@ -12,6 +12,7 @@ use crate::headers::Headers;
 use crate::reading::{read_block, read_inode};
 use crate::slots::{is_directory, take_slots};
 use crate::tables::NameTables;
+use lfs_cache::CachedDevice;
 use lfs_device::SectorDevice;
 use lfs_dirs::{slots_in_block, slots_of};
 use lfs_files::Header;
@@ -27,7 +28,7 @@ use std::collections::BTreeSet;
 /// `NoMemory` where memory runs out, `Device` where a block can't be read.
 fn take_blocks<D: SectorDevice>(
     alloc: Global,
-    device: &mut D,
+    device: &mut CachedDevice<D>,
     inode: &[u8; 512],
     header: Header,
     headers: &Headers,
@@ -84,7 +85,7 @@ fn take_blocks<D: SectorDevice>(
 /// As those of `take_blocks`.
 pub(crate) fn take_directory<D: SectorDevice>(
     alloc: Global,
-    device: &mut D,
+    device: &mut CachedDevice<D>,
     map: &InodeMap,
     headers: &Headers,
     directory: FileNumber,

@@ -8,6 +8,7 @@ ghost use Rattle.lfs_verify.specs.Take.{Looks};
 ghost use Rattle.lfs_tree.specs.Reading.{FailsToRead, OfLog, TellsHeaders};
 
 use crate::reading::read_inode;
+use lfs_cache::CachedDevice;
 use lfs_device::{DeviceFault, SectorDevice};
 use lfs_files::Header;
 use lfs_inodes::InodeMap;
@@ -97,7 +98,7 @@ pub fn header_of(inode: &[u8; 512]) -> Header
 ///
 /// The fault where a call of the device failed, or the inode can't be read.
 fn read_header<D: SectorDevice>(
-    device: &mut D,
+    device: &mut CachedDevice<D>,
     map: &InodeMap,
     number: u16,
     inode: &mut [u8; 512],
@@ -124,7 +125,7 @@ fn read_header<D: SectorDevice>(
 ///
 /// The fault where a call of the device failed, or an inode can't be read.
 pub fn read_headers<D: SectorDevice>(
-    device: &mut D,
+    device: &mut CachedDevice<D>,
     map: &InodeMap,
     headers: &mut Headers,
 ) -> Result<(), DeviceFault>

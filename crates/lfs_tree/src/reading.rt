@@ -6,6 +6,7 @@ ghost use Rattle.lfs_files.specs.Files.{HoldsBlock};
 ghost use Rattle.lfs_verify.specs.Take.{Looks, ReadsContent};
 ghost use Rattle.lfs_tree.specs.Reading.{FailsToRead, InodeAnswer, OfInode, OfLog};
 
+use lfs_cache::CachedDevice;
 use lfs_device::{DeviceFault, ReadFault, SectorDevice};
 use lfs_inodes::{InodeMap, locate};
 
@@ -15,7 +16,7 @@ use lfs_inodes::{InodeMap, locate};
 ///
 /// The fault where the block isn't on the device, can't be read, or the call failed.
 fn read_sector<D: SectorDevice>(
-    device: &mut D,
+    device: &mut CachedDevice<D>,
     address: u32,
     out: &mut [u8; 512],
 ) -> Result<(), DeviceFault>
@@ -46,7 +47,7 @@ fn read_sector<D: SectorDevice>(
 ///
 /// The fault where a call of the device failed, or the inode can't be read.
 pub fn read_inode<D: SectorDevice>(
-    device: &mut D,
+    device: &mut CachedDevice<D>,
     map: &InodeMap,
     number: u16,
     out: &mut [u8; 512],
@@ -76,7 +77,7 @@ pub fn read_inode<D: SectorDevice>(
 ///
 /// The fault where a call of the device failed, or a block can't be read.
 pub fn read_block<D: SectorDevice>(
-    device: &mut D,
+    device: &mut CachedDevice<D>,
     inode: &[u8; 512],
     index: u32,
     out: &mut [u8; 512],

@@ -10,6 +10,7 @@ use crate::fault::CheckFault;
 use crate::headers::{Headers, NUMBERS};
 use crate::slots::is_directory;
 use crate::tables::NameTables;
+use lfs_cache::CachedDevice;
 use lfs_device::SectorDevice;
 use lfs_inodes::InodeMap;
 use lfs_model::FileNumber;
@@ -22,7 +23,7 @@ use std::alloc::Global;
 /// `NoMemory` where memory runs out, `Device` where a block can't be read.
 fn take_object<D: SectorDevice>(
     alloc: Global,
-    device: &mut D,
+    device: &mut CachedDevice<D>,
     map: &InodeMap,
     headers: &Headers,
     number: FileNumber,
@@ -59,7 +60,7 @@ fn take_object<D: SectorDevice>(
 /// `NoMemory` where memory runs out, `Device` where a block can't be read.
 pub fn stage_slots<D: SectorDevice>(
     alloc: Global,
-    device: &mut D,
+    device: &mut CachedDevice<D>,
     map: &InodeMap,
     headers: &Headers,
     tables: &mut NameTables,

@@ -9,6 +9,7 @@ ghost use Rattle.lfs_tree.specs.Texts.{Decides, HasNoZero, IsGoodText};
 
 use crate::headers::{Headers, NUMBERS};
 use crate::reading::{read_block, read_inode};
+use lfs_cache::CachedDevice;
 use lfs_device::{DeviceFault, SectorDevice};
 use lfs_files::Header;
 use lfs_inodes::InodeMap;
@@ -36,7 +37,7 @@ fn is_nonzero(block: &[u8; 512], count: usize) -> bool
 ///
 /// The fault where a block can't be read.
 fn check_bytes<D: SectorDevice>(
-    device: &mut D,
+    device: &mut CachedDevice<D>,
     inode: &[u8; 512],
     size: u32,
 ) -> Result<bool, DeviceFault>
@@ -69,7 +70,7 @@ fn check_bytes<D: SectorDevice>(
 ///
 /// The fault where a block can't be read.
 fn check_text<D: SectorDevice>(
-    device: &mut D,
+    device: &mut CachedDevice<D>,
     map: &InodeMap,
     number: FileNumber,
     header: Header,
@@ -112,7 +113,7 @@ fn is_link(header: Header) -> bool
 ///
 /// The fault where a block can't be read.
 fn check_object<D: SectorDevice>(
-    device: &mut D,
+    device: &mut CachedDevice<D>,
     map: &InodeMap,
     headers: &Headers,
     number: FileNumber,
@@ -145,7 +146,7 @@ fn check_object<D: SectorDevice>(
 ///
 /// The fault where a block can't be read.
 pub fn stage_texts<D: SectorDevice>(
-    device: &mut D,
+    device: &mut CachedDevice<D>,
     map: &InodeMap,
     headers: &Headers,
 ) -> Result<bool, DeviceFault>

@@ -8,6 +8,7 @@ ghost use Rattle.lfs_verify.specs.Take.{Looks};
 ghost use Rattle.lfs_tree.specs.Checking.{HasTree, IsRefusedVolume, IsTreeFault};
 
 use crate::check::check_tree;
+use lfs_cache::CachedDevice;
 use lfs_device::SectorDevice;
 use lfs_verify::verify::{FEW_CLEAN, verify_log};
 use lfs_verify::{MountFault, Tables};
@@ -22,7 +23,10 @@ use std::alloc::Global;
 /// `NoMemory` where memory is refused, `Device` where a call of the device failed; else the device
 /// holds no volume: it is too small, holds no checkpoint, or the first of the stages 1 to 15 that
 /// fails is named: 10 to 14 are those of the tree, and with 15 too few segments are clean.
-pub fn verify_tree<D: SectorDevice>(alloc: Global, device: &mut D) -> Result<Tables, MountFault>
+pub fn verify_tree<D: SectorDevice>(
+    alloc: Global,
+    device: &mut CachedDevice<D>,
+) -> Result<Tables, MountFault>
     ensures loaded { IfOk result (λ t. IsLoaded t (D.state device.new).size) }
     ensures found { IfOk result (λ t. (D.state device.new).keeps_model
         → HasTree (D.state device.old).content t) }

@@ -10,6 +10,7 @@ ghost use Rattle.lfs_verify.specs.Take.{Looks, ReadsContent, Advances, Lists};
 use crate::reading::fetch;
 use crate::runs::{data_of_leaf, data_run};
 use crate::values::word_at;
+use lfs_cache::CachedDevice;
 use lfs_device::{DeviceFault, SectorDevice};
 
 /// How many bytes the file of an inode has.
@@ -26,7 +27,7 @@ pub fn size_of(inode: &[u8; 512]) -> u32
 ///
 /// The fault where a call of the device failed.
 pub fn data_of_inode<D: SectorDevice>(
-    device: &mut D,
+    device: &mut CachedDevice<D>,
     inode: &[u8; 512],
     file: u32,
     marks: &mut [u32],
@@ -58,7 +59,7 @@ pub fn data_of_inode<D: SectorDevice>(
 ///
 /// The fault where a call of the device failed.
 pub fn data_of_leaves<D: SectorDevice>(
-    device: &mut D,
+    device: &mut CachedDevice<D>,
     root: &[u8; 512],
     file: u32,
     size: u32,
@@ -95,7 +96,7 @@ pub fn data_of_leaves<D: SectorDevice>(
 ///
 /// The fault where a call of the device failed.
 pub fn data_of_double<D: SectorDevice>(
-    device: &mut D,
+    device: &mut CachedDevice<D>,
     address: u32,
     file: u32,
     size: u32,
@@ -139,7 +140,7 @@ pub fn data_of_double<D: SectorDevice>(
 ///
 /// The fault where a call of the device failed.
 pub fn data_of_file<D: SectorDevice>(
-    device: &mut D,
+    device: &mut CachedDevice<D>,
     address: u32,
     file: u32,
     marks: &mut [u32],
@@ -188,7 +189,7 @@ pub fn data_of_file<D: SectorDevice>(
 ///
 /// The fault where a call of the device failed.
 pub fn stage_data<D: SectorDevice>(
-    device: &mut D,
+    device: &mut CachedDevice<D>,
     map: &[u32],
     marks: &mut [u32],
     upper: &mut [u8; 512],

@@ -7,6 +7,7 @@ ghost use Rattle.lfs_verify.specs.Walk.{IsDataBytes};
 use crate::marks::claim;
 use crate::reading::fetch;
 use crate::values::is_data;
+use lfs_cache::CachedDevice;
 use lfs_device::{DeviceFault, SectorDevice};
 
 /// Takes the data block at an address, where there is one.
@@ -15,7 +16,7 @@ use lfs_device::{DeviceFault, SectorDevice};
 ///
 /// The fault where a call of the device failed.
 pub fn take_data<D: SectorDevice>(
-    device: &mut D,
+    device: &mut CachedDevice<D>,
     marks: &mut [u32],
     address: u32,
     step: u32,

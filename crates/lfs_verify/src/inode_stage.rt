@@ -10,6 +10,7 @@ ghost use Rattle.lfs_verify.specs.Walk.{Walked, IsBounded};
 
 use crate::inodes::take_inode;
 use crate::reading::fetch;
+use lfs_cache::CachedDevice;
 use lfs_device::{DeviceFault, SectorDevice};
 use lfs_layout::InodeView;
 use lfs_model::Kind;
@@ -34,7 +35,7 @@ pub fn is_directory(block: &[u8; 512]) -> bool
 ///
 /// The fault where a call of the device failed.
 pub fn all_inodes<D: SectorDevice>(
-    device: &mut D,
+    device: &mut CachedDevice<D>,
     version: u32,
     map: &[u32],
     marks: &mut [u32],
@@ -70,7 +71,7 @@ pub fn all_inodes<D: SectorDevice>(
 ///
 /// The fault where a call of the device failed.
 pub fn stage_inodes<D: SectorDevice>(
-    device: &mut D,
+    device: &mut CachedDevice<D>,
     version: u32,
     map: &[u32],
     marks: &mut [u32],

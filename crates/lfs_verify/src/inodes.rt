@@ -8,6 +8,7 @@ ghost use Rattle.lfs_verify.specs.Take.{Looks, ReadsContent, TakesAddress};
 use crate::marks::claim;
 use crate::reading::fetch;
 use crate::values::is_inode;
+use lfs_cache::CachedDevice;
 use lfs_device::{DeviceFault, SectorDevice};
 
 /// Takes the inode at an address in a volume of this version, where there is one.
@@ -16,7 +17,7 @@ use lfs_device::{DeviceFault, SectorDevice};
 ///
 /// The fault where a call of the device failed.
 pub fn take_inode<D: SectorDevice>(
-    device: &mut D,
+    device: &mut CachedDevice<D>,
     marks: &mut [u32],
     version: u32,
     address: u32,

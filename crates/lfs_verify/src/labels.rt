@@ -13,6 +13,7 @@ ghost use Rattle.lfs_verify.specs.Take.{Looks, ReadsContent};
 ghost use Rattle.lfs_verify.specs.Walk.{Walked, IsBounded, step_of};
 
 use crate::reading::fetch;
+use lfs_cache::CachedDevice;
 use lfs_device::{DeviceFault, SectorDevice};
 use lfs_layout::{BlockName, SummaryView};
 use lfs_model::BlockKind;
@@ -82,7 +83,7 @@ fn is_unmarked(marks: &[u32], from: usize, to: usize) -> bool
 ///
 /// The fault where a call of the device failed.
 fn is_segment_named<D: SectorDevice>(
-    device: &mut D,
+    device: &mut CachedDevice<D>,
     used: u32,
     segment: u32,
     marks: &[u32],
@@ -129,7 +130,7 @@ fn is_segment_named<D: SectorDevice>(
 ///
 /// The fault where a call of the device failed.
 pub fn stage_labels<D: SectorDevice>(
-    device: &mut D,
+    device: &mut CachedDevice<D>,
     used: &[u16],
     marks: &[u32],
     sector: &mut [u8; 512],

@@ -10,6 +10,7 @@ ghost use Rattle.lfs_verify.specs.Take.{Looks, ReadsContent, Advances, Lists};
 use crate::pointers::take_pointers;
 use crate::reading::fetch;
 use crate::values::word_at;
+use lfs_cache::CachedDevice;
 use lfs_device::{DeviceFault, SectorDevice};
 
 /// Takes the leaves to which a double root leads.
@@ -18,7 +19,7 @@ use lfs_device::{DeviceFault, SectorDevice};
 ///
 /// The fault where a call of the device failed.
 pub fn leaf_blocks<D: SectorDevice>(
-    device: &mut D,
+    device: &mut CachedDevice<D>,
     root: &[u8; 512],
     file: u32,
     marks: &mut [u32],
@@ -52,7 +53,7 @@ pub fn leaf_blocks<D: SectorDevice>(
 ///
 /// The fault where a call of the device failed.
 pub fn leaves_of_file<D: SectorDevice>(
-    device: &mut D,
+    device: &mut CachedDevice<D>,
     address: u32,
     file: u32,
     marks: &mut [u32],
@@ -101,7 +102,7 @@ pub fn leaves_of_file<D: SectorDevice>(
 ///
 /// The fault where a call of the device failed.
 pub fn stage_leaves<D: SectorDevice>(
-    device: &mut D,
+    device: &mut CachedDevice<D>,
     map: &[u32],
     marks: &mut [u32],
     upper: &mut [u8; 512],

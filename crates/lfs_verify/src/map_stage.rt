@@ -10,6 +10,7 @@ ghost use Rattle.lfs_verify.specs.Walk.{Walked, IsBounded};
 use crate::marks::claim;
 use crate::reading::fetch;
 use crate::values::{has_word, word_at};
+use lfs_cache::CachedDevice;
 use lfs_device::{DeviceFault, SectorDevice};
 use lfs_layout::Checkpoint;
 
@@ -37,7 +38,7 @@ fn copy_words(block: &[u8; 512], index: u32, map: &mut [u32])
 ///
 /// The fault where a call of the device failed.
 pub fn take_map<D: SectorDevice>(
-    device: &mut D,
+    device: &mut CachedDevice<D>,
     checkpoint: &Checkpoint,
     index: u32,
     map: &mut [u32],
@@ -88,7 +89,7 @@ pub fn take_map<D: SectorDevice>(
 ///
 /// The fault where a call of the device failed.
 pub fn stage_maps<D: SectorDevice>(
-    device: &mut D,
+    device: &mut CachedDevice<D>,
     checkpoint: &Checkpoint,
     map: &mut [u32],
     marks: &mut [u32],

@@ -6,6 +6,7 @@ ghost use Rattle.lfs_verify.specs.Take.{Looks, ReadsContent, TakesAddress, SomeW
 use crate::marks::claim;
 use crate::reading::fetch;
 use crate::values::has_word;
+use lfs_cache::CachedDevice;
 use lfs_device::{DeviceFault, SectorDevice};
 
 /// Takes the block of addresses at an address, where there is one.
@@ -14,7 +15,7 @@ use lfs_device::{DeviceFault, SectorDevice};
 ///
 /// The fault where a call of the device failed.
 pub fn take_pointers<D: SectorDevice>(
-    device: &mut D,
+    device: &mut CachedDevice<D>,
     marks: &mut [u32],
     address: u32,
     step: u32,

@@ -3,6 +3,7 @@ ghost use Rattle.std.specs.Prelude.{◌≡◌, ◌<◌, IfOk, OnOk, OnErr, cond,
 ghost use Rattle.lfs_model.specs.Content.{Content, block};
 ghost use Rattle.lfs_verify.specs.Take.{Looks, ReadsContent};
 
+use lfs_cache::CachedDevice;
 use lfs_device::{DeviceFault, ReadFault, SectorDevice};
 
 /// Reads the block at an address: true where it can be read. One that can't be read counts as
@@ -12,7 +13,7 @@ use lfs_device::{DeviceFault, ReadFault, SectorDevice};
 ///
 /// The fault where the call of the device failed.
 pub fn fetch<D: SectorDevice>(
-    device: &mut D,
+    device: &mut CachedDevice<D>,
     address: u32,
     out: &mut [u8; 512],
 ) -> Result<bool, DeviceFault>

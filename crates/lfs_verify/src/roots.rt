@@ -10,6 +10,7 @@ ghost use Rattle.lfs_verify.specs.Take.{Looks, ReadsContent, Advances, Lists};
 use crate::pointers::take_pointers;
 use crate::reading::fetch;
 use crate::values::word_at;
+use lfs_cache::CachedDevice;
 use lfs_device::{DeviceFault, SectorDevice};
 
 /// Takes the two blocks of addresses to which a file's inode leads.
@@ -18,7 +19,7 @@ use lfs_device::{DeviceFault, SectorDevice};
 ///
 /// The fault where a call of the device failed.
 pub fn root_blocks<D: SectorDevice>(
-    device: &mut D,
+    device: &mut CachedDevice<D>,
     address: u32,
     file: u32,
     marks: &mut [u32],
@@ -61,7 +62,7 @@ pub fn root_blocks<D: SectorDevice>(
 ///
 /// The fault where a call of the device failed.
 pub fn stage_roots<D: SectorDevice>(
-    device: &mut D,
+    device: &mut CachedDevice<D>,
     map: &[u32],
     marks: &mut [u32],
     sector: &mut [u8; 512],

@@ -10,6 +10,7 @@ ghost use Rattle.lfs_verify.specs.Tables.{IsUsedTable};
 ghost use Rattle.lfs_verify.specs.Take.{Looks, ReadsContent};
 
 use crate::reading::fetch;
+use lfs_cache::CachedDevice;
 use lfs_device::{DeviceFault, SectorDevice};
 use lfs_layout::SummaryView;
 
@@ -29,7 +30,7 @@ fn count_names(sector: &[u8; 512]) -> Option<u32>
 ///
 /// The fault where a call of the device failed.
 fn is_row<D: SectorDevice>(
-    device: &mut D,
+    device: &mut CachedDevice<D>,
     used: u32,
     segment: u32,
     sector: &mut [u8; 512],
@@ -66,7 +67,7 @@ fn is_row<D: SectorDevice>(
 ///
 /// The fault where a call of the device failed.
 pub fn stage_rows<D: SectorDevice>(
-    device: &mut D,
+    device: &mut CachedDevice<D>,
     used: &[u16],
     sector: &mut [u8; 512],
 ) -> Result<bool, DeviceFault>

@@ -10,6 +10,7 @@ ghost use Rattle.lfs_verify.specs.Take.{Looks, ReadsContent, Advances};
 use crate::data::take_data;
 use crate::reading::fetch;
 use crate::values::word_at;
+use lfs_cache::CachedDevice;
 use lfs_device::{DeviceFault, SectorDevice};
 
 /// Takes a row of data blocks, the addresses of which stand in a block from a place on.
@@ -18,7 +19,7 @@ use lfs_device::{DeviceFault, SectorDevice};
 ///
 /// The fault where a call of the device failed.
 pub fn data_run<D: SectorDevice>(
-    device: &mut D,
+    device: &mut CachedDevice<D>,
     words: &[u8; 512],
     first: u32,
     count: u32,
@@ -62,7 +63,7 @@ pub fn data_run<D: SectorDevice>(
 ///
 /// The fault where a call of the device failed.
 pub fn data_of_leaf<D: SectorDevice>(
-    device: &mut D,
+    device: &mut CachedDevice<D>,
     address: u32,
     leaf: u32,
     file: u32,

@@ -11,6 +11,7 @@ use crate::fault::MountFault;
 use crate::map_stage::map_address;
 use crate::totals::BlockTotals;
 use crate::usage_stage::{segments_of, usage_address};
+use lfs_cache::CachedDevice;
 use lfs_device::{ReadFault, SectorDevice};
 use lfs_inodes::InodeMap;
 use lfs_layout::{Checkpoint, PointerView, UsageView};
@@ -38,7 +39,7 @@ pub struct Tables {
 /// Reads a block of a table; where it can't stand there or can't be read, this stage of a mount
 /// fails.
 fn read_table<D: SectorDevice>(
-    device: &mut D,
+    device: &mut CachedDevice<D>,
     segments: u32,
     address: u32,
     stage: u8,
@@ -110,7 +111,7 @@ fn take_entries(usage: &mut Usage, index: u32, block: &UsageView<'_>)
 
 /// Takes in a block of the usage table.
 fn load_usage_block<D: SectorDevice>(
-    device: &mut D,
+    device: &mut CachedDevice<D>,
     checkpoint: &Checkpoint,
     index: u32,
     usage: &mut Usage,
@@ -144,7 +145,7 @@ fn load_usage_block<D: SectorDevice>(
 
 /// Takes in the usage table.
 fn load_usage<D: SectorDevice>(
-    device: &mut D,
+    device: &mut CachedDevice<D>,
     checkpoint: &Checkpoint,
     usage: &mut Usage,
 ) -> Result<(), MountFault>
@@ -170,7 +171,7 @@ fn load_usage<D: SectorDevice>(
 
 /// Takes in a block of the inode map, if it is stored.
 fn load_map_block<D: SectorDevice>(
-    device: &mut D,
+    device: &mut CachedDevice<D>,
     checkpoint: &Checkpoint,
     index: u32,
     map: &mut InodeMap,
@@ -202,7 +203,7 @@ fn load_map_block<D: SectorDevice>(
 
 /// Takes in the inode map.
 fn load_map<D: SectorDevice>(
-    device: &mut D,
+    device: &mut CachedDevice<D>,
     checkpoint: &Checkpoint,
     map: &mut InodeMap,
 ) -> Result<(), MountFault>
@@ -244,7 +245,7 @@ pub fn version_of(checkpoint: &Checkpoint) -> u32
 /// a table can't be read.
 pub fn load_tables<D: SectorDevice>(
     alloc: Global,
-    device: &mut D,
+    device: &mut CachedDevice<D>,
     checkpoint: &Checkpoint,
     totals: BlockTotals,
 ) -> Result<Tables, MountFault>

@@ -9,6 +9,7 @@ ghost use Rattle.lfs_verify.specs.Walk.{Walked, IsBounded};
 
 use crate::marks::claim;
 use crate::reading::fetch;
+use lfs_cache::CachedDevice;
 use lfs_device::{DeviceFault, SectorDevice};
 use lfs_layout::{Checkpoint, UsageView};
 
@@ -47,7 +48,7 @@ fn copy_uses(block: &UsageView<'_>, index: u32, used: &mut [u16], live: &mut [u1
 ///
 /// The fault where a call of the device failed.
 pub fn take_usage<D: SectorDevice>(
-    device: &mut D,
+    device: &mut CachedDevice<D>,
     checkpoint: &Checkpoint,
     index: u32,
     used: &mut [u16],
@@ -108,7 +109,7 @@ pub fn take_usage<D: SectorDevice>(
 ///
 /// The fault where a call of the device failed.
 pub fn stage_usages<D: SectorDevice>(
-    device: &mut D,
+    device: &mut CachedDevice<D>,
     checkpoint: &Checkpoint,
     used: &mut [u16],
     live: &mut [u16],

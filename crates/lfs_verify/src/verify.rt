@@ -13,10 +13,14 @@ use crate::tables::{Tables, load_tables};
 use crate::totals::BlockTotals;
 use crate::usage_stage::segments_of;
 use crate::walk::walk;
+use lfs_cache::CachedDevice;
 use lfs_device::SectorDevice;
 use lfs_layout::Checkpoint;
 use lfs_root::{RootFault, newest};
 use std::alloc::Global;
+
+/// How many sectors the smallest volume has.
+pub const LEAST_SECTORS: u32 = 4_098;
 
 /// The code of damage of a volume with too few clean segments, which is told where all other stages
 /// hold.
@@ -31,7 +35,7 @@ pub struct FoundLog {
 }
 
 /// The newest checkpoint, where the device has all of its segments.
-fn find_checkpoint<D: SectorDevice>(device: &mut D) -> Result<Checkpoint, MountFault>
+fn find_checkpoint<D: SectorDevice>(device: &mut CachedDevice<D>) -> Result<Checkpoint, MountFault>
     ensures fits { IfOk result FitsCheckpoint }
     ensures size { IfOk result (λ k. 2 + 64 * k.segments ≤ (D.state device.new).size) }
     ensures found { IfOk result (λ k. (D.state device.new).keeps_model
@@ -45,7 +49,7 @@ fn find_checkpoint<D: SectorDevice>(device: &mut D) -> Result<Checkpoint, MountF
         ((D.state device.new).failures ≡ (D.state device.old).failures) }
     ensures looks { Looks (D.state device.old) (D.state device.new) }
 {
-    if device.sectors() < 4_098 {
+    if device.sectors() < LEAST_SECTORS {
         return Err(MountFault::TooSmall);
     }
     let checkpoint = match newest(device) {
@@ -63,7 +67,7 @@ fn find_checkpoint<D: SectorDevice>(device: &mut D) -> Result<Checkpoint, MountF
 /// leads, where it is a log map.
 fn check<D: SectorDevice>(
     alloc: Global,
-    device: &mut D,
+    device: &mut CachedDevice<D>,
     checkpoint: &Checkpoint,
 ) -> Result<(bool, BlockTotals), MountFault>
     requires fits { FitsCheckpoint checkpoint.now }
@@ -95,7 +99,10 @@ fn check<D: SectorDevice>(
 /// `NoMemory` where memory is refused, `Device` where a call of the device failed; else the device
 /// holds no log map: it is too small, holds no checkpoint, or the first of the stages 1 to 9 that
 /// fails is named.
-pub fn verify_log<D: SectorDevice>(alloc: Global, device: &mut D) -> Result<FoundLog, MountFault>
+pub fn verify_log<D: SectorDevice>(
+    alloc: Global,
+    device: &mut CachedDevice<D>,
+) -> Result<FoundLog, MountFault>
     ensures loaded { IfOk result (λ f. IsLoaded f.tables (D.state device.new).size) }
     ensures found { IfOk result (λ f. (D.state device.new).keeps_model
         → IsFound (D.state device.old).content f) }
@@ -132,7 +139,10 @@ pub fn verify_log<D: SectorDevice>(alloc: Global, device: &mut D) -> Result<Foun
 ///
 /// As those of `verify_log`, and `Damaged` with 15 where too few segments are clean: the device
 /// stands for no log map.
-pub fn verify<D: SectorDevice>(alloc: Global, device: &mut D) -> Result<Tables, MountFault>
+pub fn verify<D: SectorDevice>(
+    alloc: Global,
+    device: &mut CachedDevice<D>,
+) -> Result<Tables, MountFault>
     ensures loaded { IfOk result (λ t. IsLoaded t (D.state device.new).size) }
     ensures found { IfOk result (λ t. (D.state device.new).keeps_model
         → HasTables (D.state device.old).content t) }

@@ -24,6 +24,7 @@ use crate::rows::stage_rows;
 use crate::tables::version_of;
 use crate::totals::{BlockTotals, count_totals};
 use crate::usage_stage::{segments_of, stage_usages};
+use lfs_cache::CachedDevice;
 use lfs_device::{DeviceFault, SectorDevice};
 use lfs_layout::Checkpoint;
 use std::alloc::{AllocError, Global};
@@ -34,7 +35,7 @@ use std::alloc::{AllocError, Global};
 ///
 /// `Damaged` with the first stage that fails, `Device` where a call of the device failed.
 fn walk_usages<D: SectorDevice>(
-    device: &mut D,
+    device: &mut CachedDevice<D>,
     checkpoint: &Checkpoint,
     used: &mut [u16],
     live: &mut [u16],
@@ -86,7 +87,7 @@ fn walk_usages<D: SectorDevice>(
 ///
 /// `Damaged` with the first stage that fails, `Device` where a call of the device failed.
 fn walk_inodes<D: SectorDevice>(
-    device: &mut D,
+    device: &mut CachedDevice<D>,
     checkpoint: &Checkpoint,
     map: &mut [u32],
     marks: &mut [u32],
@@ -134,7 +135,7 @@ fn walk_inodes<D: SectorDevice>(
 ///
 /// `Damaged` with the first stage that fails, `Device` where a call of the device failed.
 pub fn walk_pointers<D: SectorDevice>(
-    device: &mut D,
+    device: &mut CachedDevice<D>,
     map: &[u32],
     marks: &mut [u32],
     upper: &mut [u8; 512],
@@ -180,7 +181,7 @@ pub fn walk_pointers<D: SectorDevice>(
 ///
 /// `Damaged` with the first stage that fails, `Device` where a call of the device failed.
 fn walk_files<D: SectorDevice>(
-    device: &mut D,
+    device: &mut CachedDevice<D>,
     map: &[u32],
     marks: &mut [u32],
 ) -> Result<(), WalkFault>
@@ -223,7 +224,7 @@ fn walk_files<D: SectorDevice>(
 ///
 /// `Damaged` with the first stage that fails, `Device` where a call of the device failed.
 fn walk_segments<D: SectorDevice>(
-    device: &mut D,
+    device: &mut CachedDevice<D>,
     used: &[u16],
     live: &[u16],
     marks: &[u32],
@@ -265,7 +266,7 @@ fn walk_segments<D: SectorDevice>(
 ///
 /// `Damaged` with the first stage that fails, `Device` where a call of the device failed.
 fn walk_all<D: SectorDevice>(
-    device: &mut D,
+    device: &mut CachedDevice<D>,
     checkpoint: &Checkpoint,
     used: &mut [u16],
     live: &mut [u16],
@@ -335,7 +336,7 @@ fn zeros(alloc: Global, count: usize) -> Result<Vec<u32>, AllocError>
 /// call of the device failed.
 pub fn walk<D: SectorDevice>(
     alloc: Global,
-    device: &mut D,
+    device: &mut CachedDevice<D>,
     checkpoint: &Checkpoint,
 ) -> Result<(bool, BlockTotals), WalkFault>
     requires fits { FitsCheckpoint checkpoint.now }

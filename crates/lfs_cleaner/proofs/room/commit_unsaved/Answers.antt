@@ -1,4 +1,5 @@
-use Rattle.std.proofs.Common.{rules, ◌<◌, length, arith}
+use Rattle.std.proofs.Common.{rules, ◌<◌, arith}
+use Rattle.lfs_log.specs.Held.{unsaved_in}
 use Rattle.lfs_cleaner.proofs.RoomBounds.{readied_none, readied_saves}
 use Rattle.lfs_cleaner.proofs.room.commit_unsaved.Goals as goal
 
@@ -8,5 +9,5 @@ returns-then-unsaved-eq0-clause-done g c =
 
 pub returns-in-Ok-clause-done : goal.returns-in-Ok-clause-done
 returns-in-Ok-clause-done g c =
-    let some : 0 < length c.args.log.now.memory.dirty.blocks = search (rules, arith) in
+    let some : 0 < unsaved_in c.args.log.now = search (rules, arith) in
     readied_saves g.D.SectorDevice.state c.args.log.now c.commit.new.self c.in-Ok.ensures.done c.in-Ok.ensures.totals some

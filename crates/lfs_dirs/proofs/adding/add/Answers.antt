@@ -1,4 +1,4 @@
-use Rattle.std.proofs.Common.{rules, ◌≡◌, ℕ, List, length, ap, sym, ◌∙◌, subst}
+use Rattle.std.proofs.Common.{◌≡◌, ℕ, List, length, ap, sym, ◌∙◌, subst}
 use Rattle.std.proofs.lemmas.Result.{on_ok_weaker}
 use Rattle.lfs_files.specs.Files.{Writes}
 use Rattle.lfs_model.specs.Tree.{slot_len}

@@ -1,11 +1,9 @@
-use Rattle.std.proofs.Common.{◌≡◌, ℕ, List, Option, Some, None, sym}
-use Rattle.lfs_model.specs.Stands.{LogMap}
+use Rattle.std.proofs.Common.{ℕ, List, Option, Some, None, sym}
 use Rattle.lfs_files.specs.declared.header.Header.{Header}
 use Rattle.lfs_files.specs.Files.{FilesState}
 use Rattle.lfs_dirs.specs.declared.searching.Found.{Found}
 use Rattle.lfs_dirs.specs.Finding.{Finds}
 use Rattle.lfs_dirs.specs.Searching.{FindsSlot}
-use Rattle.lfs_dirs.proofs.finding.find.Goals as goal
 
 -- what a name gives by its slot
 pub finds : {S D : Type 0} (s s' : FilesState S D) (d : ℕ) (head : Header) (name : List ℕ) (found : Option Found) → FindsSlot s s' d head name found → Finds s s' d head name found

@@ -1,4 +1,4 @@
-use Rattle.std.proofs.Common.{◌≡◌, ◌<◌, ◌*◌, ◌-◌, ◌/◌, refl, arith, ap, ℕ}
+use Rattle.std.proofs.Common.{◌≡◌, ◌<◌, ◌*◌, ◌-◌, refl, arith, ap, ℕ}
 use Rattle.std.specs.Prelude.{min}
 use Rattle.lfs_dirs.specs.Directory.{per_block, slot_count}
 use Rattle.lfs_files.specs.declared.fault.LogFault.TheVariants as LogFault

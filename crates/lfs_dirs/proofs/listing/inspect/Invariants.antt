@@ -1,4 +1,4 @@
-use Rattle.std.proofs.Common.{◌<◌, ◌*◌, ◌+◌, ◌/◌}
+use Rattle.std.proofs.Common.{◌<◌, ◌*◌, ◌+◌}
 use Rattle.lfs_dirs.specs.Directory.{per_block, slot_count}
 use Rattle.lfs_dirs.proofs.Lists.{ListedFrom}
 use Rattle.lfs_dirs.proofs.listing.inspect.Given as goal

@@ -1,8 +1,8 @@
-use Rattle.std.proofs.Common.{◌≡◌, Option, subst, arith}
+use Rattle.std.proofs.Common.{Option, subst, arith}
 use Rattle.lfs_dirs.specs.declared.searching.Found.{Found}
 use Rattle.lfs_dirs.specs.Searching.{FindsInNth}
 use Rattle.lfs_dirs.proofs.Searches.{search_goes_on, search_hits, search_ends, search_fails}
-use Rattle.lfs_dirs.proofs.Widths.{blocks_low, blocks_past}
+use Rattle.lfs_dirs.proofs.Widths.{blocks_past}
 use Rattle.lfs_dirs.proofs.searching.search.Goals as goal
 
 pub returns-in-Ok-Some-clause-answer : goal.returns-in-Ok-Some-clause-answer

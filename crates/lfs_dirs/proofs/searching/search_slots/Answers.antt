@@ -1,9 +1,8 @@
-use Rattle.std.proofs.Common.{◌≡◌, ◌≢◌, ◌≤◌, ◌*◌, ℕ, zero, suc, length, true, false, Some, sym, ap, ◌∙◌, subst, arith}
+use Rattle.std.proofs.Common.{◌≡◌, ◌≢◌, ◌*◌, Some, sym, ap, ◌∙◌}
 use Rattle.lfs_model.specs.Fields.{part}
 use Rattle.lfs_model.specs.Slot.{SlotValue, slot_in}
 use Rattle.lfs_model.specs.Tree.{slot_len}
 use Rattle.lfs_dirs.proofs.Scans.{scan_hit, scan_miss, scan_end}
-use Rattle.lfs_dirs.proofs.Widths.{slot_some}
 use Rattle.lfs_dirs.proofs.searching.search_slots.Goals as goal
 
 pub returns-then-has_name-clause-found : goal.returns-then-has_name-clause-found

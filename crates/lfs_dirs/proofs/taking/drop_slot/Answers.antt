@@ -1,4 +1,4 @@
-use Rattle.std.proofs.Common.{rules, ◌≡◌, ◌-◌, ◌/◌, ◌*◌, ◌%◌, ℕ, length, subst, arith}
+use Rattle.std.proofs.Common.{◌≡◌, ◌-◌, ◌/◌, ◌*◌, ◌%◌, ℕ, subst, arith}
 use Rattle.std.proofs.lemmas.Result.{on_ok_weaker}
 use Rattle.lfs_files.proofs.FilesCompose.{fault_more, redrafts_more, redrafts_read}
 use Rattle.lfs_dirs.specs.Taking.{ReadsSlot}

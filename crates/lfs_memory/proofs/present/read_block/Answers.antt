@@ -10,13 +10,13 @@ returns-then-address-eq0-clause-answer g c k m0 m keeps is =
 -- src/present.rt:123:1
 pub returns-in-Ok-clause-answer : goal.returns-in-Ok-clause-answer
 returns-in-Ok-clause-answer g c =
-    block_answered (g.D.SectorDevice.state c.args.device.now) (g.D.SectorDevice.state c.locate_block.new.device) (g.D.SectorDevice.state c.read_present.new.device) c.args.memory.now
-    c.args.number c.args.index c.in_ok-address.address _ c.in_ok-address.ensures.looks c.read_present.ensures.looks c.data-key.ensures c.in_ok-address.ensures.answer
-    c.read_present.new.out c.if-address-eq0.false c.in-Ok.ensures.read
+    block_answered (g.D.SectorDevice.state c.args.device.now) (g.D.SectorDevice.state c.locate_block.new.device) (g.D.SectorDevice.state c.copy_present.new.device) c.args.memory.now
+    c.args.number c.args.index c.in_ok-address.address _ c.in_ok-address.ensures.looks c.copy_present.ensures.looks c.data-key.ensures c.in_ok-address.ensures.answer
+    c.copy_present.new.out c.if-address-eq0.false c.in-Ok.ensures.read
 
 -- src/present.rt:123:1
 pub returns-in-Err-clause-failed : goal.returns-in-Err-clause-failed
 returns-in-Err-clause-failed g c =
-    block_failed (g.D.SectorDevice.state c.args.device.now) (g.D.SectorDevice.state c.locate_block.new.device) (g.D.SectorDevice.state c.read_present.new.device) c.args.memory.now
-    c.args.number c.args.index c.in_ok-address.address _ c.in_ok-address.ensures.looks c.read_present.ensures.looks c.data-key.ensures c.in_ok-address.ensures.answer
+    block_failed (g.D.SectorDevice.state c.args.device.now) (g.D.SectorDevice.state c.locate_block.new.device) (g.D.SectorDevice.state c.copy_present.new.device) c.args.memory.now
+    c.args.number c.args.index c.in_ok-address.address _ c.in_ok-address.ensures.looks c.copy_present.ensures.looks c.data-key.ensures c.in_ok-address.ensures.answer
     c.if-address-eq0.false c.in-Err.ensures.unread

@@ -1,11 +1,21 @@
-use Rattle.std.proofs.Common.{rules}
-use Rattle.lfs_memory.proofs.Presents.{header_read, header_none}
+use Rattle.std.proofs.Common.{refl, true}
+use Rattle.lfs_memory.proofs.Presents.{header_absent, header_read, inode_answered, inode_failed}
 use Rattle.lfs_memory.proofs.present.read_header.Goals as goal
 
-pub returns-in-Ok-true-clause-answer : goal.returns-in-Ok-true-clause-answer
-returns-in-Ok-true-clause-answer g c =
-    header_read (g.D.SectorDevice.state c.args.device.now) (g.D.SectorDevice.state c.read_inode.new.device) c.args.memory.now c.args.number c.read_inode.new.out c.in-Ok-true.field-0 c.header_of.result c.in-Ok-true.ensures.answer (search rules) c.header_of.ensures
+pub returns-then-address-eq0-clause-answer : goal.returns-then-address-eq0-clause-answer
+returns-then-address-eq0-clause-answer g c =
+    header_absent (g.D.SectorDevice.state c.args.device.now) c.args.memory.now c.args.number (c.inode_pointer-address.ensures.none c.if-address-eq0.true)
 
-pub returns-in-Ok-false-clause-answer : goal.returns-in-Ok-false-clause-answer
-returns-in-Ok-false-clause-answer g c =
-    header_none (g.D.SectorDevice.state c.args.device.now) (g.D.SectorDevice.state c.read_inode.new.device) c.args.memory.now c.args.number c.read_inode.new.out c.in-Ok-false.field-0 c.in-Ok-false.ensures.answer (search rules)
+pub returns-in-Ok-clause-answer : goal.returns-in-Ok-clause-answer
+returns-in-Ok-clause-answer g c =
+    let old = g.D.SectorDevice.state c.args.device.now in
+    let new = g.D.SectorDevice.state c.present_header.new.device in
+    let read = c.in-Ok.ensures.read in
+    header_read old new c.args.memory.now c.args.number read.shown true c.in-Ok.header
+    (inode_answered old new c.args.memory.now c.args.number c.inode_pointer-address.result _
+    (c.inode_pointer-address.ensures.some c.if-address-eq0.false).1 c.inode.ensures c.if-address-eq0.false read.shown read.value) refl read.is
+
+pub returns-in-Err-clause-failed : goal.returns-in-Err-clause-failed
+returns-in-Err-clause-failed g c =
+    inode_failed (g.D.SectorDevice.state c.args.device.now) (g.D.SectorDevice.state c.present_header.new.device) c.args.memory.now c.args.number c.inode_pointer-address.result _
+    (c.inode_pointer-address.ensures.some c.if-address-eq0.false).1 c.inode.ensures c.if-address-eq0.false c.in-Err.ensures.unread

@@ -2,7 +2,7 @@ use Rattle.std.proofs.Common.{sym, subst}
 use Rattle.lfs_memory.specs.declared.batch.Loss.{Loss}
 use Rattle.lfs_memory.specs.Staging.{Loses, IsLossExcused}
 use Rattle.lfs_memory.proofs.Going.{ok_then}
-use Rattle.lfs_memory.proofs.Staged.{blocks_lost, link_lost, file_lost, link_excused, loss_excused}
+use Rattle.lfs_memory.proofs.Staged.{blocks_lost, link_lost, file_lost, link_excused, loss_excused, version_lost}
 use Rattle.lfs_memory.proofs.staging.lose.Goals as goal
 
 pub returns-in-Blocks-clause-done : goal.returns-in-Blocks-clause-done
@@ -38,3 +38,8 @@ returns-in-Ok-clause-done g c =
 pub returns-in-Err-clause-failed : goal.returns-in-Err-clause-failed
 returns-in-Err-clause-failed g c is =
     loss_excused (g.D.SectorDevice.state c.args.device.now) (g.D.SectorDevice.state c.remove_file.new.device) c.args.memory.now c.args.loss c.in-Err.ensures.failed
+
+pub returns-in-FirstVersion-clause-done : goal.returns-in-FirstVersion-clause-done
+returns-in-FirstVersion-clause-done g c =
+    let d = g.D.SectorDevice.state c.args.device.now in
+    subst (λ (x : Loss). Loses d d c.args.memory.now c.args.memory.now x) (sym c.in-FirstVersion.is) (version_lost d c.args.memory.now c.requires.memory)

@@ -76,5 +76,11 @@ returns-in-Space g c = served g.D.SectorDevice.state _ _ _ _ _ _ _ c.in-Space.is
 pub returns-in-Version : goal.returns-in-Version
 returns-in-Version g c = served g.D.SectorDevice.state _ _ _ _ _ _ _ c.in-Version.is c.version.ensures (search rules) (search rules)
 
+pub returns-in-Upgrade : goal.returns-in-Upgrade
+returns-in-Upgrade g c = served g.D.SectorDevice.state _ _ _ _ _ _ _ c.in-Upgrade.is c.upgrade.ensures (search rules) (search rules)
+
+pub returns-in-Widen : goal.returns-in-Widen
+returns-in-Widen g c = served g.D.SectorDevice.state _ _ _ _ _ _ _ c.in-Widen.is c.widen.ensures (search rules) (search rules)
+
 pub returns-in-Tree : goal.returns-in-Tree
 returns-in-Tree g c = served g.D.SectorDevice.state _ _ _ _ _ _ _ c.in-Tree.is c.tree.ensures (search rules) (search rules)

@@ -1,6 +1,6 @@
 use Rattle.std.proofs.Common.{rules, ◌≡◌, Err, ◌∷◌, codes, ap, refl}
 use Rattle.lfs_script.specs.declared.word.WordFault.TheVariants.{Memory}
-use Rattle.lfs_model.specs.Call.{Create, LinkTo, LstatOf, Mkdir, Open, Pwrite, Readdir, Readlink, Rename, Rmdir, StatOf, Symlink, Unlink}
+use Rattle.lfs_model.specs.Call.{Create, LinkTo, LstatOf, Mkdir, Open, Pwrite, Readdir, Readlink, Rename, Rmdir, StatOf, Symlink, Unlink, Widen}
 use Rattle.lfs_model.specs.Script.{Plain}
 use Rattle.lfs_script.proofs.call.call_of.Goals as goal
 
@@ -51,6 +51,12 @@ returns-in_err-path-in-Readdir-clause-memory c = λ e.
     let refused : c.path-in-Readdir.result ≡ Err Memory = search rules in
     let found = c.path-in-Readdir.ensures.memory refused in
     (Plain (Readdir found.0), found.1, refl, rw c.in-Readdir.is (ap (λ words. codes "readdir" ∷ words) found.2))
+
+pub returns-in_err-path-in-Widen-clause-memory : goal.returns-in_err-path-in-Widen-clause-memory
+returns-in_err-path-in-Widen-clause-memory c = λ e.
+    let refused : c.path-in-Widen.result ≡ Err Memory = search rules in
+    let found = c.path-in-Widen.ensures.memory refused in
+    (Plain (Widen found.0), found.1, refl, rw c.in-Widen.is (ap (λ words. codes "widen" ∷ words) found.2))
 
 pub returns-in_err-text-in-Symlink-clause-memory : goal.returns-in_err-text-in-Symlink-clause-memory
 returns-in_err-text-in-Symlink-clause-memory c = λ e.

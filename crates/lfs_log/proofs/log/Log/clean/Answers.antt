@@ -1,4 +1,4 @@
-use Rattle.std.proofs.Common.{rules, ◌≡◌, ◌≤◌, ◌+◌, true, refl, subst, length, arith}
+use Rattle.std.proofs.Common.{rules, ◌≡◌, ◌≤◌, ◌+◌, true, false, refl, subst, length, arith}
 use Rattle.lfs_memory.specs.declared.memory.LogMemory.{LogMemory}
 use Rattle.lfs_log.specs.Versions.{number_of}
 use Rattle.lfs_log.specs.Cleaning.{Cleans, MayClean, most_brought}
@@ -9,8 +9,8 @@ use Rattle.lfs_log.proofs.log.Log.clean.Goals as goal
 
 pub returns-in-Err-Device-clause-failed : goal.returns-in-Err-Device-clause-failed
 returns-in-Err-Device-clause-failed g c is =
-    let before : Held g.row.D.Denot = record { device = c.self.inside.device; memory = c.self.inside.memory; number = c.self.inside.number; version = number_of c.self.inside.version; halted = c.self.inside.halted; totals = c.self.inside.totals } in
-    let after : Held g.row.D.Denot = record { device = c.relocate.new.device; memory = c.relocate.new.memory; number = c.self.inside.number; version = number_of c.self.inside.version; halted = c.self.inside.halted; totals = c.self.inside.totals } in
+    let before : Held g.row.D.Denot = record { device = c.self.inside.device; memory = c.self.inside.memory; number = c.self.inside.number; version = number_of c.self.inside.version; upgraded = c.self.inside.upgraded; halted = c.self.inside.halted; totals = c.self.inside.totals } in
+    let after : Held g.row.D.Denot = record { device = c.relocate.new.device; memory = c.relocate.new.memory; number = c.self.inside.number; version = number_of c.self.inside.version; upgraded = c.self.inside.upgraded; halted = c.self.inside.halted; totals = c.self.inside.totals } in
     subst (λ (h : Held g.row.D.Denot). IsReadFault g.D.SectorDevice.state h after) c.self.view_is
     (read_fault g.D.SectorDevice.state before after (c.in-Err-Device.ensures.failed (search rules)))
 
@@ -22,9 +22,9 @@ save-requires-clause-spare g c =
 
 pub returns-clause-done : goal.returns-clause-done
 returns-clause-done g c =
-    let before : Held g.row.D.Denot = record { device = c.self.inside.device; memory = c.self.inside.memory; number = c.self.inside.number; version = number_of c.self.inside.version; halted = c.self.inside.halted; totals = c.self.inside.totals } in
+    let before : Held g.row.D.Denot = record { device = c.self.inside.device; memory = c.self.inside.memory; number = c.self.inside.number; version = number_of c.self.inside.version; upgraded = c.self.inside.upgraded; halted = c.self.inside.halted; totals = c.self.inside.totals } in
     let memory : LogMemory = record { map = c.save.new.memory.map; usage = c.save.new.memory.usage; dirty = c.set_limit.new.self; chunk = c.save.new.memory.chunk } in
-    let after : Held g.row.D.Denot = record { device = c.save.new.device; memory = memory; number = c.self.inside.number + 1; version = number_of c.self.inside.version; halted = c.self.inside.halted; totals = c.self.inside.totals } in
+    let after : Held g.row.D.Denot = record { device = c.save.new.device; memory = memory; number = c.self.inside.number + 1; version = number_of c.self.inside.version; upgraded = false; halted = c.self.inside.halted; totals = c.self.inside.totals } in
     let few : length c.relocate.new.memory.dirty.blocks ≤ most_brought (length c.args.victims.now) = let f = c.in-Ok.ensures.few in let most = c.most_of-most.ensures in omega (arith, f, most) in
     subst (λ (h : Held g.row.D.Denot). Cleans g.D.SectorDevice.state h after c.args.victims.now) c.self.view_is
     (pass_done g.D.SectorDevice.state before (g.D.SectorDevice.state c.relocate.new.device) c.relocate.new.memory c.args.victims.now (g.met.D.SectorDevice.lawful c.self.inside.device) c.in-Ok.ensures.done
@@ -33,8 +33,8 @@ returns-clause-done g c =
 
 pub returns-in_default-clause-halted : goal.returns-in_default-clause-halted
 returns-in_default-clause-halted g c is ne =
-    let before : Held g.row.D.Denot = record { device = c.self.inside.device; memory = c.self.inside.memory; number = c.self.inside.number; version = number_of c.self.inside.version; halted = c.self.inside.halted; totals = c.self.inside.totals } in
-    let after : Held g.row.D.Denot = record { device = c.save.new.device; memory = c.save.new.memory; number = c.self.inside.number; version = number_of c.self.inside.version; halted = true; totals = c.self.inside.totals } in
+    let before : Held g.row.D.Denot = record { device = c.self.inside.device; memory = c.self.inside.memory; number = c.self.inside.number; version = number_of c.self.inside.version; upgraded = c.self.inside.upgraded; halted = c.self.inside.halted; totals = c.self.inside.totals } in
+    let after : Held g.row.D.Denot = record { device = c.save.new.device; memory = c.save.new.memory; number = c.self.inside.number; version = number_of c.self.inside.version; upgraded = c.self.inside.upgraded; halted = true; totals = c.self.inside.totals } in
     subst (λ (h : Held g.row.D.Denot). Halts g.D.SectorDevice.state h after) c.self.view_is
     (pass_halts g.D.SectorDevice.state before (g.D.SectorDevice.state c.relocate.new.device) c.relocate.new.memory c.args.victims.now (g.met.D.SectorDevice.lawful c.self.inside.device) c.in-Ok.ensures.done
     c.save.new.device c.save.new.memory c.in-Ok.ensures.no_failure c.in_default.ensures.stopped)

@@ -14,7 +14,7 @@ returns-in-Ok-open_memory-clause-holds g c =
     let opened = c.in-Ok-open_memory.opened in
     let told = c.in-Ok-open_memory.ensures in
     let is = told.opened d.size c.requires.loaded in
-    let after : Held g.row.D.Denot = record { device = c.args.device; memory = opened.memory; number = opened.number; version = number_of c.new-version.result; halted = false; totals = opened.totals } in
+    let after : Held g.row.D.Denot = record { device = c.args.device; memory = opened.memory; number = opened.number; version = number_of c.new-version.result; upgraded = false; halted = false; totals = opened.totals } in
     mounts g.D.SectorDevice.state c.args.device after
     (subst (λ (v : ℕ). Opens d d opened.memory v opened.number) (sym c.new-version.ensures) (subst (Opens d d opened.memory c.args.tables.version) (sym told.number) (opens d d lawful lawful c.requires.durable (looks_none d lawful) c.args.tables c.requires.loaded c.requires.found opened.memory is.chunk is.dirty told.usage told.map))) refl
 
@@ -54,4 +54,4 @@ invariant_of-result g c on =
     ready d opened.memory opened.before.usage (told.opened d.size c.requires.loaded) told.saved
 
 pub returns-in-Ok-open_memory-clause-empty : goal.returns-in-Ok-open_memory-clause-empty
-returns-in-Ok-open_memory-clause-empty g c = (c.in-Ok-open_memory.ensures.opened (g.D.SectorDevice.state c.args.device).size c.requires.loaded).dirty
+returns-in-Ok-open_memory-clause-empty g c = record { blocks = (c.in-Ok-open_memory.ensures.opened (g.D.SectorDevice.state c.args.device).size c.requires.loaded).dirty; version = refl }

@@ -1,5 +1,5 @@
 use Rattle.lfs_cleaner.proofs.of_log.of_memory.Going.{ok_then}
-use Rattle.lfs_store.proofs.StoreSeen.{seen_counts, seen_fault_by, seen_redraft, seen_written}
+use Rattle.lfs_store.proofs.StoreSeen.{seen_asked, seen_counts, seen_fault_by, seen_redraft, seen_written}
 use Rattle.lfs_store.proofs.files.StoreFiles.write_at.Goals as goal
 
 pub returns-clause-redrafts : goal.returns-clause-redrafts
@@ -27,3 +27,9 @@ returns-clause-failed g c =
     seen_fault_by g.D.SectorDevice.state c.args.self.now.log c.write_at.new.self.log c.args.self.now.draft c.write_at.new.self.draft
     c.args.self.now.saved c.write_at.new.self.saved c.args.self.now.drafted c.write_at.new.self.drafted
     _ c.write_at.result c.write_at.ensures.failed
+
+pub returns-clause-asked : goal.returns-clause-asked
+returns-clause-asked g c =
+    ok_then c.write_at.result _ _
+    (seen_asked g.D.SectorDevice.state c.args.self.now.log c.write_at.new.self.log c.args.self.now.draft c.write_at.new.self.draft
+    c.args.self.now.saved c.write_at.new.self.saved c.args.self.now.drafted c.write_at.new.self.drafted c.args.bytes.now) c.write_at.ensures.asked

@@ -10,7 +10,7 @@ use Rattle.lfs_store.specs.Growing.{IsRun}
 use Rattle.lfs_store.specs.Writing.{Writes, resized}
 use Rattle.lfs_store.proofs.LogReads.{reads_none, fault_more}
 use Rattle.lfs_store.proofs.Writings.{written_none, written_more, written}
-use Rattle.lfs_store.proofs.Runs.{blocks_few, run_goes_on, written_room}
+use Rattle.lfs_store.proofs.Runs.{blocks_few, blocks_most, lone_room, run_goes_on, written_room}
 use Rattle.lfs_store.proofs.store.Store.draft_write.Goals as goal
 
 pub loop-index-init : goal.loop-index-init
@@ -18,7 +18,7 @@ loop-index-init g c = (
   written_none g.D.SectorDevice.state c.args.self.now.log c.args.self.now.draft.changes c.args.number.value c.args.at c.args.bytes.now (reads_none g.D.SectorDevice.state c.args.self.now.log),
   refl,
   refl,
-  λ none. subst (IsRun c.args.number.value (c.args.at / 512) (c.args.at / 512)) (sym none.blocks) refl,
+  λ none. subst (IsRun c.args.number.value (c.args.at / 512) (c.args.at / 512)) (sym none) refl,
 )
 
 pub returns-in_err-write_block-clause-failed : goal.returns-in_err-write_block-clause-failed
@@ -63,5 +63,13 @@ returns-clause-room g c =
     let end : c.loop-index.index ≡ div_ceil (c.args.at + length c.args.bytes.now) 512 = search rules in
     ok_then c.resize.result _ _
     (λ puts none few. written_room c.args.self.now.draft.changes c.loop-index.self.draft.changes c.resize.new.self.draft.changes c.args.number.value (c.args.at / 512) c.loop-index.index _ none
-    c.loop-index.invariant.0.headers (c.loop-index.invariant.3 none)
+    c.loop-index.invariant.0.headers (c.loop-index.invariant.3 none.blocks)
     (subst (λ (i : ℕ). i ≤ c.args.at / 512 + 129) (sym end) (blocks_few c.args.at (length c.args.bytes.now) few)) puts) c.resize.ensures.done
+
+pub returns-clause-asked : goal.returns-clause-asked
+returns-clause-asked g c =
+    let end : c.loop-index.index ≡ div_ceil (c.args.at + length c.args.bytes.now) 512 = search rules in
+    ok_then c.resize.result _ _
+    (λ puts lone few. lone_room c.args.self.now.draft.changes c.loop-index.self.draft.changes c.resize.new.self.draft.changes c.args.number.value (c.args.at / 512) c.loop-index.index _ lone
+    c.loop-index.invariant.0.headers (c.loop-index.invariant.3 lone.blocks)
+    (subst (λ (i : ℕ). i ≤ c.args.at / 512 + 257) (sym end) (blocks_most c.args.at (length c.args.bytes.now) few)) puts) c.resize.ensures.done

@@ -2,6 +2,7 @@ use Rattle.std.proofs.Common.{◌≤◌, ◌/◌, ◌∙◌, sym, subst}
 use Rattle.lfs_store.specs.declared.draft.Draft.{Draft}
 use Rattle.lfs_cleaner.specs.log.verify.declared.totals.BlockTotals.{BlockTotals}
 use Rattle.lfs_cleaner.specs.log.memory.Batch.{IsNoChange, room_for}
+use Rattle.lfs_store.specs.Growing.{IsLone}
 use Rattle.lfs_store.specs.Recounting.{Remeasures, Counts}
 use Rattle.lfs_store.specs.Writing.{Writes}
 use Rattle.lfs_store.proofs.LogReads.{fault_more, reads_more}
@@ -42,3 +43,8 @@ pub returns-in-Ok-recount-clause-room : goal.returns-in-Ok-recount-clause-room
 returns-in-Ok-recount-clause-room g c none few =
     subst (λ (d : Draft). room_for d.changes ≤ 144) (sym c.recount.ensures.draft)
     (c.in-Ok-draft_write.ensures.room (subst (λ (d : Draft). IsNoChange d.changes) (sym c.measure.ensures.reads.draft) none) few)
+
+pub returns-in-Ok-recount-clause-asked : goal.returns-in-Ok-recount-clause-asked
+returns-in-Ok-recount-clause-asked g c lone few =
+    subst (λ (d : Draft). room_for d.changes ≤ 274) (sym c.recount.ensures.draft)
+    (c.in-Ok-draft_write.ensures.asked (subst (λ (d : Draft). IsLone d.changes) (sym c.measure.ensures.reads.draft) lone) few)

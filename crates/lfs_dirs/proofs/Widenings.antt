@@ -1,0 +1,257 @@
+-- A directory's slots in form 1.
+use Rattle.std.specs.Prelude.{min}
+use Rattle.std.proofs.Common.{◌≡◌, ◌≢◌, ◌<◌, ◌≤◌, ◌+◌, ◌*◌, ◌-◌, ◌/◌, ◌%◌, ℕ, zero, suc, List, [], ◌∷◌, ◌++◌, length, map, take, drop, get_or, Option, Some, None, refl, sym, ◌∙◌, ap, ap₂, subst, arith}
+use Rattle.std.proofs.lemmas.Grind.{flat_map-append}
+use Rattle.std.proofs.lemmas.List.{append_assoc, append-nil, drop_all, ext_get_or, get_or_append_left, get_or-append-add, get_or-map, length-append, length-map}
+use Rattle.lfs_model.specs.Device.{IsLawful}
+use Rattle.lfs_model.specs.Fields.{part}
+use Rattle.lfs_model.specs.Objects.{IsDirectory, byte_in}
+use Rattle.lfs_model.specs.Slot.{FitsSlot, IsName, SlotValue, slot_bytes, slot_in}
+use Rattle.lfs_model.specs.Stands.{LogMap}
+use Rattle.lfs_model.specs.Tree.{name_len, slot_len}
+use Rattle.lfs_model.specs.TreeOf.{map_of, with_slot}
+use Rattle.lfs_model.proofs.Decoding.{slot_found, slot_some}
+use Rattle.lfs_model.proofs.SlotPlaces.{length-slot}
+use Rattle.lfs_files.specs.declared.header.Header.{Header}
+use Rattle.lfs_files.specs.Headers.{as_header}
+use Rattle.lfs_files.specs.Files.{FilesState, Reads, TellsBlock}
+use Rattle.lfs_files.proofs.FilesCompose.{reads_more, reads_none}
+use Rattle.lfs_dirs.specs.Directory.{first_slots, per_block, slot_count, slots_at, slots_in}
+use Rattle.lfs_dirs.specs.Finding.{IsBlockFault, IsDirectoryFault}
+use Rattle.lfs_dirs.specs.Listing.{AreSlots}
+use Rattle.lfs_dirs.specs.Widening.{AppendsWide, TellsWide, WidensBlock, WidensNames, wide, wide_bytes, wide_slot, wide_slot_of}
+use Rattle.lfs_dirs.proofs.Scans.{next_slot, no_slots}
+use Rattle.lfs_dirs.proofs.Searches.{block_and_rest}
+use Rattle.lfs_dirs.proofs.SlotPlaces.{slot_is, slots_many, slots_of_block}
+use Rattle.lfs_dirs.proofs.Widths.{next_block}
+
+-- ---- one slot
+-- a name of a directory of any form is one of a directory of form 1
+longer : (form : ℕ) (name : List ℕ) → IsName (name_len form) name → IsName (name_len 1) name
+longer form name is = record { long = is.long; short = at_most form is.short; bytes = is.bytes; dot = is.dot; dotdot = is.dotdot }
+  where
+    at_most : (form : ℕ) → length name ≤ name_len form → length name ≤ name_len 1
+    at_most zero short = omega (arith, short)
+    at_most (suc form) short = short
+
+pub fits_wide : (form : ℕ) (s : SlotValue) → FitsSlot form s → FitsSlot 1 s
+fits_wide form s fits = record { number = fits.number; name = longer form s.name fits.name }
+
+module _ (form : ℕ) where
+  -- a slot says in form 1 what it said
+  says_by : (o : Option SlotValue) (x : List ℕ) → slot_in form x ≡ o → o ≢ None → slot_in 1 (wide_slot_of o) ≡ o
+  says_by None x is some = absurd (some refl)
+  says_by (Some s) x is some = slot_some 1 (slot_bytes 1 s) s (fits_wide form s (slot_found form x s is).0) refl
+
+  says : (x : List ℕ) → slot_in form x ≢ None → slot_in 1 (wide_slot form x) ≡ slot_in form x
+  says x some = says_by (slot_in form x) x refl some
+
+  long_by : (o : Option SlotValue) (x : List ℕ) → slot_in form x ≡ o → o ≢ None → length (wide_slot_of o) ≡ slot_len 1
+  long_by None x is some = absurd (some refl)
+  long_by (Some s) x is some = length-slot 1 s (fits_wide form s (slot_found form x s is).0)
+
+  pub wide_long : (x : List ℕ) → slot_in form x ≢ None → length (wide_slot form x) ≡ slot_len 1
+  wide_long x some = long_by (slot_in form x) x refl some
+
+  -- ---- slots
+  abbrev wide_slots : List (List ℕ) → List (List ℕ)
+  wide_slots a = map (wide_slot form) a
+
+  wide_formed : (a : List (List ℕ)) → AreSlots form a → AreSlots 1 (wide_slots a)
+  wide_formed [] formed = tt
+  wide_formed (x ∷ a) formed = (λ none. formed.0 (sym (says x formed.0) ∙ none), wide_formed a formed.1)
+
+  wide_names : (a : List (List ℕ)) → AreSlots form a → map_of 1 (wide_slots a) ≡ map_of form a
+  wide_names [] formed = refl
+  wide_names (x ∷ a) formed = ap₂ with_slot (says x formed.0) (wide_names a formed.1)
+
+  bytes_many : (a : List (List ℕ)) → AreSlots form a → length (wide_bytes form a) ≡ slot_len 1 * length a
+  bytes_many [] formed = refl
+  bytes_many (x ∷ a) formed =
+      let all = length-append (wide_slot form x) (wide_bytes form a) in
+      let one = wide_long x formed.0 in
+      let rest = bytes_many a formed.1 in
+      omega (arith, all, one, rest)
+
+  -- a byte of one of them
+  wide_byte : (a : List (List ℕ)) (j b : ℕ) → AreSlots form a → j < length a → b < slot_len 1 → get_or (wide_bytes form a) (slot_len 1 * j + b) 0 ≡ get_or (wide_slot form (get_or a j [])) b 0
+  wide_byte [] j b formed low inside = absurd (omega (arith, low))
+  wide_byte (x ∷ a) zero b formed low inside = let one = wide_long x formed.0 in
+      let place : slot_len 1 * 0 + b ≡ b = omega arith in
+      ap (λ (p : ℕ). get_or (wide_slot form x ++ wide_bytes form a) p 0) place ∙ get_or_append_left (wide_slot form x) (wide_bytes form a) 0 b (omega (arith, one, inside))
+  wide_byte (x ∷ a) (suc j) b formed low inside =
+      let one = wide_long x formed.0 in
+      let place : slot_len 1 * suc j + b ≡ length (wide_slot form x) + (slot_len 1 * j + b) = omega (arith, one) in
+      ap (λ (p : ℕ). get_or (wide_slot form x ++ wide_bytes form a) p 0) place
+      ∙ get_or-append-add (wide_slot form x) (wide_bytes form a) (slot_len 1 * j + b) 0
+      ∙ wide_byte a j b formed.1 (omega (arith, low)) inside
+
+-- ---- the directory
+pub few_slots : (form size : ℕ) → size ≤ 1024 * slot_len form → size / slot_len form ≤ 1024
+few_slots zero size few = omega (arith, few)
+few_slots (suc form) size few = omega (arith, few)
+
+count_wide : (n : ℕ) → slot_len 1 * n / slot_len 1 ≡ n
+count_wide n = omega arith
+
+whole_wide : (n : ℕ) → slot_len 1 * n % slot_len 1 ≡ 0
+whole_wide n = omega arith
+
+get_slot : (a : List (List ℕ)) (form j : ℕ) → j < length a → get_or (map (wide_slot form) a) j [] ≡ wide_slot form (get_or a j [])
+get_slot a form j low = get_or-map (wide_slot form) a j [] [] low
+
+module _ (m m' : LogMap) (d : ℕ) (head : Header) (bytes : List ℕ) (is : AppendsWide head.form (slots_at m d head) [] bytes) (each : (p : ℕ) → p < length bytes → byte_in m' d p ≡ get_or bytes p 0) where
+  slots_wide : slots_at m' d (wide head) ≡ map (wide_slot head.form) (slots_at m d head)
+  slots_wide =
+      let many = slots_many m d head in
+      let many' = slots_many m' d (wide head) in
+      let count = count_wide (slot_count head) in
+      let mapped = length-map (slots_at m d head) (wide_slot head.form) in
+      let formed = is.formed in
+      let all : length bytes ≡ slot_len 1 * slot_count head = ap length is.bytes ∙ bytes_many head.form (slots_at m d head) formed ∙ ap (λ (n : ℕ). slot_len 1 * n) many in
+      ext_get_or [] (slots_at m' d (wide head)) (map (wide_slot head.form) (slots_at m d head)) (omega (arith, many, many', count, mapped))
+      (λ j low.
+      let within : j < slot_count head = omega (arith, low, many', count) in
+      let here : j < length (slots_at m d head) = omega (arith, within, many) in
+      slot_is m' d (wide head) j (get_or (map (wide_slot head.form) (slots_at m d head)) j []) (omega (arith, within, count))
+      (ap length (get_slot (slots_at m d head) head.form j here) ∙ wide_long head.form (get_or (slots_at m d head) j []) (at_slot (slots_at m d head) j formed here))
+      (λ b small.
+      ap (λ (s : List ℕ). get_or s b 0) (get_slot (slots_at m d head) head.form j here)
+      ∙ sym (wide_byte head.form (slots_at m d head) j b formed here small)
+      ∙ sym (ap (λ (w : List ℕ). get_or w (slot_len 1 * j + b) 0) is.bytes)
+      ∙ sym (each (slot_len 1 * j + b) (omega (arith, all, within, small)))))
+    where
+      at_slot : (a : List (List ℕ)) (j : ℕ) → AreSlots head.form a → j < length a → slot_in head.form (get_or a j []) ≢ None
+      at_slot [] j formed low = absurd (omega (arith, low))
+      at_slot (x ∷ a) zero formed low = formed.0
+      at_slot (x ∷ a) (suc j) formed low = at_slot a j formed.1 (omega (arith, low))
+
+  pub names_wide : IsDirectory m d (as_header head) → WidensNames m m' d head
+  names_wide dir = record {
+    directory = record {
+      whole = whole_wide (slot_count head);
+      formed = subst (AreSlots 1) (sym slots_wide) (wide_formed head.form (slots_at m d head) is.formed);
+      apart =
+          ap (λ (a : List (List ℕ)). length (map_of 1 a)) slots_wide
+          ∙ ap length (wide_names head.form (slots_at m d head) is.formed)
+          ∙ dir.apart
+          ∙ sym (length-map (slots_at m d head) (wide_slot head.form))
+          ∙ sym (ap length slots_wide);
+    };
+    names = ap (map_of 1) slots_wide ∙ wide_names head.form (slots_at m d head) is.formed;
+  }
+
+-- ---- slots of a block
+module _ (form : ℕ) (block : List ℕ) (count : ℕ) where
+  -- the slots before this place stand behind the bytes
+  pub record WideTo (old : List ℕ) (place : ℕ) (now : List ℕ) : Type 0 where
+    pub bytes : now ++ wide_bytes form (slots_in form block place (count - place)) ≡ old ++ wide_bytes form (first_slots form block count)
+    pub formed : AreSlots form (slots_in form block place (count - place)) → AreSlots form (first_slots form block count)
+
+  pub wide_begins : (old : List ℕ) → WideTo old 0 old
+  wide_begins old =
+      let all : count - 0 ≡ count = omega arith in
+      record {
+        bytes = ap (λ (k : ℕ). old ++ wide_bytes form (slots_in form block 0 k)) all;
+        formed = λ is. subst (λ (k : ℕ). AreSlots form (slots_in form block 0 k)) all is;
+      }
+
+  pub wide_goes_on : (old now next slot : List ℕ) (place : ℕ) → place < count → slot ≡ part (slot_len form * place) (slot_len form) block → WideTo old place now → next ≡ now ++ wide_slot form slot → slot_in form slot ≢ None → WideTo old (place + 1) next
+  wide_goes_on old now next slot place low own was more formed =
+      let rest : List (List ℕ) = slots_in form block (place + 1) (count - (place + 1)) in
+      let split : slots_in form block place (count - place) ≡ slot ∷ rest = next_slot form block place count low ∙ ap (λ (s : List ℕ). s ∷ rest) (sym own) in
+      record {
+        bytes =
+            ap (λ (w : List ℕ). w ++ wide_bytes form rest) more
+            ∙ append_assoc now (wide_slot form slot) (wide_bytes form rest)
+            ∙ sym (ap (λ (a : List (List ℕ)). now ++ wide_bytes form a) split)
+            ∙ was.bytes;
+        formed = λ behind. was.formed (subst (AreSlots form) (sym split) (formed, behind));
+      }
+
+  pub wide_ends : (old now : List ℕ) (place : ℕ) → count ≤ place → WideTo old place now → AppendsWide form (first_slots form block count) old now
+  wide_ends old now place past was =
+      let none = no_slots form block place count past in
+      record {
+        bytes = sym (append-nil now) ∙ sym (ap (λ (a : List (List ℕ)). now ++ wide_bytes form a) none) ∙ was.bytes;
+        formed = was.formed (subst (AreSlots form) (sym none) tt);
+      }
+
+module _ {S D : Type 0} (s s' : FilesState S D) (form d index count : ℕ) (few : count ≤ per_block form) (block : List ℕ) (told : TellsBlock s s' d index block) where
+  pub block_widened : (old new : List ℕ) → AppendsWide form (first_slots form block count) old new → WidensBlock s s' form d index count old new
+  block_widened old new is m m' keeps has head same room =
+      by (subst (λ (f : ℕ). count ≤ per_block f) (sym same) few)
+      (subst (λ (f : ℕ). per_block f * index + count ≤ slot_count head) (sym same) room) (subst (λ (f : ℕ). AppendsWide f (first_slots f block count) old new) (sym same) is)
+    where
+      by : count ≤ per_block head.form → per_block head.form * index + count ≤ slot_count head → AppendsWide head.form (first_slots head.form block count) old new
+          → AppendsWide form (take count (drop (per_block form * index) (slots_at m' d head))) old new
+      by few room is = subst (λ (f : ℕ). AppendsWide f (take count (drop (per_block f * index) (slots_at m' d head))) old new) same
+          (subst (λ (a : List (List ℕ)). AppendsWide head.form a old new) (sym (slots_of_block m' d head index count block (told m m' keeps has) few room)) is)
+
+-- ---- the blocks before one of this index
+module _ {S D : Type 0} (d : ℕ) (head : Header) where
+  pub record WidenedTo (s s' : FilesState S D) (index : ℕ) (bytes : List ℕ) : Type 0 where
+    pub reads : Reads s s'
+    pub long : length bytes ≡ slot_len 1 * min (slot_count head) (per_block head.form * index)
+    pub all : (m m' : LogMap) → s'.device.keeps_model → s.has m m' → bytes ++ wide_bytes head.form (drop (per_block head.form * index) (slots_at m' d head)) ≡ wide_bytes head.form (slots_at m' d head)
+    pub formed : (m m' : LogMap) → s'.device.keeps_model → s.has m m' → AreSlots head.form (drop (per_block head.form * index) (slots_at m' d head)) → AreSlots head.form (slots_at m' d head)
+
+  pub widening_begins : (s : FilesState S D) (bytes : List ℕ) → bytes ≡ [] → WidenedTo s s 0 bytes
+  widening_begins s bytes none =
+      let first : per_block head.form * 0 ≡ 0 = omega arith in
+      record {
+        reads = reads_none s;
+        long = ap length none ∙ sym (ap (λ (k : ℕ). slot_len 1 * min (slot_count head) k) first ∙ omega arith);
+        all = λ m m' keeps has. ap (λ (w : List ℕ). w ++ wide_bytes head.form (drop (per_block head.form * 0) (slots_at m' d head))) none ∙ ap (λ (k : ℕ). wide_bytes head.form (drop k (slots_at m' d head))) first;
+        formed = λ m m' keeps has is. subst (λ (k : ℕ). AreSlots head.form (drop k (slots_at m' d head))) first is;
+      }
+
+  module _ (s a b : FilesState S D) (index count : ℕ) (old : List ℕ) (is : count ≡ min (slot_count head - per_block head.form * index) (per_block head.form)) (low : per_block head.form * index < slot_count head) (was : WidenedTo s a index old) where
+    pub widening_goes_on : (new : List ℕ) → IsLawful s.device → Reads a b → length new ≡ length old + slot_len 1 * count → WidensBlock a b head.form d index count old new → WidenedTo s b (index + 1) new
+    widening_goes_on new lawful reads long more = record {
+      reads = reads_more s a b lawful was.reads reads;
+      long = (let before = was.long in let next = next_block head.form index in omega (arith, before, long, is, low, next));
+      all = λ m m' keeps has.
+          let slots = slots_at m' d head in
+          let here = more m m' keeps (was.reads.has m m' has) head refl (omega (arith, is, low)) in
+          let split = block_and_rest head.form slots index count (slot_count head) (slots_many m' d head) is in
+          let some : List (List ℕ) = take count (drop (per_block head.form * index) slots) in
+          let rest : List (List ℕ) = drop (per_block head.form * (index + 1)) slots in
+          ap (λ (w : List ℕ). w ++ wide_bytes head.form rest) here.bytes
+          ∙ append_assoc old (wide_bytes head.form some) (wide_bytes head.form rest)
+          ∙ ap (λ (w : List ℕ). old ++ w) (sym (flat_map-append (wide_slot head.form) some rest))
+          ∙ sym (ap (λ (x : List (List ℕ)). old ++ wide_bytes head.form x) split)
+          ∙ was.all m m' (reads.looks.carries.kept_before keeps) has;
+      formed = λ m m' keeps has behind.
+          let slots = slots_at m' d head in
+          let here = more m m' keeps (was.reads.has m m' has) head refl (omega (arith, is, low)) in
+          let split = block_and_rest head.form slots index count (slot_count head) (slots_many m' d head) is in
+          was.formed m m' (reads.looks.carries.kept_before keeps) has
+          (subst (AreSlots head.form) (sym split) (both (take count (drop (per_block head.form * index) slots)) (drop (per_block head.form * (index + 1)) slots) here.formed behind));
+    }
+      where
+        both : (x y : List (List ℕ)) → AreSlots head.form x → AreSlots head.form y → AreSlots head.form (x ++ y)
+        both [] y first second = second
+        both (z ∷ x) y first second = (first.0, both x y first.1 second)
+
+    pub widening_fails : IsBlockFault a b head.form d index count → IsDirectoryFault s b d head
+    widening_fails failed m m' keeps has dir =
+        let rose = failed m m' keeps (was.reads.has m m' has) head refl (omega (arith, is, low)) dir in
+        let before = was.reads.looks.carries.failures in
+        omega (arith, rose, before)
+
+  pub widening_ends : (s a : FilesState S D) (index : ℕ) (bytes : List ℕ) → slot_count head ≤ per_block head.form * index → WidenedTo s a index bytes → TellsWide s a d head bytes
+  widening_ends s a index bytes past was m m' keeps has =
+      let slots = slots_at m' d head in
+      let many = slots_many m' d head in
+      let none = drop_all (per_block head.form * index) slots (omega (arith, many, past)) in
+      record {
+        bytes = sym (append-nil bytes) ∙ sym (ap (λ (x : List (List ℕ)). bytes ++ wide_bytes head.form x) none) ∙ was.all m m' keeps has;
+        formed = was.formed m m' keeps has (subst (AreSlots head.form) (sym none) tt);
+      }
+
+  pub widening_long : (s a : FilesState S D) (index : ℕ) (bytes : List ℕ) → slot_count head ≤ per_block head.form * index → WidenedTo s a index bytes → length bytes ≡ slot_len 1 * slot_count head
+  widening_long s a index bytes past was = let long = was.long in omega (arith, long, past)
+
+  pub widening_few : (s a : FilesState S D) (index : ℕ) (bytes : List ℕ) → head.size ≤ 1024 * slot_len head.form → slot_count head ≤ per_block head.form * index → WidenedTo s a index bytes → length bytes ≤ 1024 * slot_len 1
+  widening_few s a index bytes few past was = let long = widening_long s a index bytes past was in let slots = few_slots head.form head.size few in omega (arith, long, slots)

@@ -1,0 +1,109 @@
+//! Calls by which an old volume moves over: its version is raised, and its directories take longer
+//! names.
+ghost use Rattle.std.specs.Prelude.{◌≡◌, ℕ, List, false};
+ghost use Rattle.lfs_model.specs.Call.{Done, Upgrade, Widen};
+ghost use Rattle.lfs_store.specs.memory.Batch.{IsNoChange};
+ghost use Rattle.lfs_fs.specs.Seen.{seen, answer_by};
+ghost use Rattle.lfs_fs.specs.Upgrading.{ReachesNarrow, ReachesWhole};
+ghost use Rattle.lfs_fs.specs.Volume.{Mounted, Serves};
+
+use crate::error::FsError;
+use crate::fs::Fs;
+use crate::old_entry::is_directory;
+use crate::sizes::is_too_large;
+use lfs_device::SectorDevice;
+use lfs_files::FIRST_FORM;
+use lfs_model::FileNumber;
+use lfs_path::dirs::widen;
+use lfs_path::tree::resolve;
+use lfs_store::Header;
+
+impl<D: SectorDevice> Fs<D> {
+    /// Raises the version of the volume's layout to 2: directories that are made then take names of
+    /// up to 123 bytes. Those that are there stay as they are. Nothing changes where it is 2.
+    ///
+    /// # Errors
+    ///
+    /// Those alone that every change has: `NoMemory`, `Device`, `Halted`, `Worn`.
+    pub fn upgrade(&mut self) -> Result<(), FsError>
+        ensures { Serves D.SectorDevice.state (seen self.old) (seen self.new) Upgrade
+            (answer_by (λ _. Done) result) }
+    {
+        match self.begin() {
+            Ok(()) => {}
+            Err(fault) => return Err(fault),
+        }
+        if self.store.log.version() == 2 {
+            return self.check_worn();
+        }
+        self.store.upgrade();
+        self.accept()
+    }
+
+    /// Gives a directory the form whose names have up to 123 bytes, with its names and the numbers
+    /// that they give. Nothing changes where it has that form.
+    ///
+    /// # Errors
+    ///
+    /// In this order: those of the path; `NotDir`; `Inval` where the volume's version is 1;
+    /// `NoSpace`.
+    pub fn widen(&mut self, path: &[u8]) -> Result<(), FsError>
+        ensures { Serves D.SectorDevice.state (seen self.old) (seen self.new) (Widen path.now)
+            (answer_by (λ _. Done) result) }
+    {
+        match self.begin() {
+            Ok(()) => {}
+            Err(fault) => return Err(fault),
+        }
+        match resolve(self.alloc, &mut self.store, path, true) {
+            Ok(number) => self.widen_at(number),
+            Err(fault) => Err(FsError::from(fault)),
+        }
+    }
+
+    /// Gives the directory of a number that form, where one stands there.
+    fn widen_at(&mut self, number: FileNumber) -> Result<(), FsError>
+        requires running { self.old.store.log.halted ≡ false }
+        requires empty { IsNoChange self.old.store.draft.changes }
+        ensures { (v : Mounted D) (path : List ℕ)
+            → ReachesWhole D.SectorDevice.state v self.old path number.value
+            → Serves D.SectorDevice.state v (seen self.new) (Widen path)
+            (answer_by (λ _. Done) result) }
+    {
+        let header = match self.header(number) {
+            Ok(header) => header,
+            Err(fault) => return Err(fault),
+        };
+        if !is_directory(header.kind) {
+            return Err(FsError::NotDir);
+        }
+        if self.store.log.version() == 1 {
+            return Err(FsError::Inval);
+        }
+        if header.form != FIRST_FORM {
+            return self.check_worn();
+        }
+        self.widen_directory(number, header)
+    }
+
+    /// Gives a directory of the first form the second.
+    fn widen_directory(&mut self, number: FileNumber, header: Header) -> Result<(), FsError>
+        requires running { self.old.store.log.halted ≡ false }
+        requires empty { IsNoChange self.old.store.draft.changes }
+        ensures { (v : Mounted D) (path : List ℕ)
+            → ReachesNarrow D.SectorDevice.state v self.old path number.value header
+            → Serves D.SectorDevice.state v (seen self.new) (Widen path)
+            (answer_by (λ _. Done) result) }
+    {
+        if is_too_large(header) {
+            return Err(FsError::Device);
+        }
+        match widen(self.alloc, &mut self.store, number, header) {
+            Ok(()) => self.accept(),
+            Err(fault) => {
+                self.store.give_up();
+                Err(FsError::from(fault))
+            }
+        }
+    }
+}

@@ -1,0 +1,37 @@
+-- A draft that raises the version of the layout, and the totals behind it.
+use Rattle.std.proofs.Common.{◌≡◌, ◌+◌, ℕ, true, List, [], length, Option, Some, None, refl, sym, ◌∙◌, ap, subst}
+use Rattle.std.proofs.Math.Path.{fun_ext}
+use Rattle.lfs_model.specs.Need.{pointers}
+use Rattle.lfs_model.specs.Objects.{stored_below}
+use Rattle.lfs_model.specs.Raising.{raised}
+use Rattle.lfs_model.specs.Stands.{LogMap}
+use Rattle.lfs_model.specs.Totals.{data_in, meta_in, sum_upto}
+use Rattle.lfs_cleaner.specs.log.memory.declared.changes.Changes.{Changes}
+use Rattle.lfs_cleaner.specs.log.memory.declared.batch.Loss.TheVariants.{FirstVersion}
+use Rattle.lfs_cleaner.specs.log.memory.Batch.{IsNoChange, staged}
+use Rattle.lfs_cleaner.specs.log.verify.declared.totals.BlockTotals.{BlockTotals}
+use Rattle.lfs_store.specs.Drafting.{LosesOnly}
+use Rattle.lfs_store.specs.Making.{DraftsUpgrade}
+use Rattle.lfs_store.specs.Recounting.{AreTotals, CountsUpgraded}
+
+pub upgrades : (c c' : Changes) → IsNoChange c → c'.headers ≡ c.headers → c'.blocks ≡ c.blocks → LosesOnly c' FirstVersion → DraftsUpgrade c'
+upgrades c c' none headers blocks only = record {
+  map = only.map;
+  fits = λ m. only.fits m tt;
+  headers = ap (λ v. v.items) headers ∙ none.headers;
+  blocks = ap (λ v. v.items) blocks ∙ none.blocks;
+}
+
+-- ---- the totals
+raised_list : (m : LogMap) (n end : ℕ) → stored_below (raised true m) n end ≡ stored_below m n end
+unfolding stored_below
+raised_list m n end = refl
+
+data_raised : (m : LogMap) → data_in (raised true m) ≡ data_in m
+data_raised m = ap (λ (f : ℕ → ℕ). sum_upto f 4095) (fun_ext (λ n. ap length (raised_list m n 16624)))
+
+meta_raised : (m : LogMap) → meta_in (raised true m) ≡ meta_in m
+meta_raised m = ap (λ (f : ℕ → ℕ). sum_upto f 4095) (fun_ext (λ n. ap (λ (is : List ℕ). elim (m.header n) [ None ↦ 0 | Some h ↦ 1 + pointers is ]) (raised_list m n 16624)))
+
+pub counts_upgraded : (c : Changes) → DraftsUpgrade c → CountsUpgraded c
+counts_upgraded c is m t are = subst (λ (x : LogMap). AreTotals x t) (sym (is.map m)) record { stored = are.stored ∙ sym (data_raised m); above = are.above ∙ sym (meta_raised m) }
