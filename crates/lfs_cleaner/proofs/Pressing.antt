@@ -19,7 +19,7 @@ use Rattle.lfs_log.specs.segments.Table.{UsageTable, clean_in}
 use Rattle.lfs_log.specs.segments.Victims.{AreVictims, MayBeVictim, IsPressed, load_of}
 use Rattle.lfs_log.specs.Cleaning.{MayClean, Overfills, most_brought}
 use Rattle.lfs_log.specs.Held.{Held}
-use Rattle.lfs_log.specs.Publishing.{AreUntaken}
+use Rattle.lfs_log.specs.segments.Early.{AreUntaken}
 use Rattle.lfs_log.proofs.Fitting.{fits}
 use Rattle.lfs_log.proofs.of_memory.of_segments.LoadsBelow.{loads_below}
 use Rattle.lfs_cleaner.specs.Passing.{CanPass}

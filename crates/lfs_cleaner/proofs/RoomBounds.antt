@@ -10,9 +10,9 @@ use Rattle.lfs_model.specs.TreeOf.{dropped}
 use Rattle.lfs_model.proofs.Newest.{newest_fits}
 use Rattle.lfs_log.specs.memory.segments.Table.{clean_in}
 use Rattle.lfs_log.specs.verify.declared.totals.BlockTotals.{BlockTotals}
-use Rattle.lfs_log.specs.Publishing.{AreUntaken}
-use Rattle.lfs_log.specs.Held.{AreAllSaved, Held, Halts, Holds, IsFull, Saves, unsaved_in}
-use Rattle.lfs_log.proofs.Unsaved.{all_saved, none_unsaved}
+use Rattle.lfs_log.specs.segments.Early.{AreUntaken}
+use Rattle.lfs_log.specs.Held.{AreAllSaved, Held, Halts, Holds, IsFull, Saves, waiting_in}
+use Rattle.lfs_log.proofs.Unsaved.{all_saved}
 use Rattle.lfs_cleaner.specs.Passing.{CanPass}
 use Rattle.lfs_log.specs.Saving.{commit_orders, pass_orders}
 use Rattle.std.proofs.Math.Nat.{add-mul, mul-le-mul_right, one-mul}
@@ -133,7 +133,7 @@ module _ {D : Type 0} (state : D → DeviceState) where
         omega (arith, all, size, gains, many, few, eighths)
 
   -- what is unsaved is saved, and room can be made still
-  pub room_saved : (h now : Held D) (k : CheckpointValue) (m0 m : LogMap) → Saves state h now → now.totals ≡ h.totals → 0 < unsaved_in h
+  pub room_saved : (h now : Held D) (k : CheckpointValue) (m0 m : LogMap) → Saves state h now → now.totals ≡ h.totals → 0 < waiting_in h
       → (state now.device).keeps_model → MayMakeRoom state h k m0 m → (next : CheckpointValue) × MayMakeRoom state now next (dropped m) m
   room_saved h now k m0 m s totals some keeps may =
       let next = s.holds k m0 m keeps may.holds may.shown in
@@ -149,14 +149,14 @@ module _ {D : Type 0} (state : D → DeviceState) where
           counted = subst (λ (t : BlockTotals). IsCounted m t.data_blocks t.meta_blocks) (sym totals) may.counted;
           need = same_need h now totals size may.need;
           many = s.many;
-          enough = λ (lt : 0 < unsaved_in now). absurd (omega (arith, lt, none));
+          enough = λ (lt : 0 < waiting_in now). absurd (omega (arith, lt, none));
           untaken = λ e. s.untaken;
           number = omega (arith, none, size, rose, most, some);
         },
       )
 
   -- where room can be made a commit finds enough clean segments
-  pub commit_fits : (h : Held D) (k : CheckpointValue) (m0 m : LogMap) → IsLawful (state h.device) → 0 < unsaved_in h → IsFull h → MayMakeRoom state h k m0 m → ⊥
+  pub commit_fits : (h : Held D) (k : CheckpointValue) (m0 m : LogMap) → IsLawful (state h.device) → 0 < waiting_in h → IsFull h → MayMakeRoom state h k m0 m → ⊥
   commit_fits h k m0 m lawful some full may =
       let enough = may.enough some in
       let most = may.number in
@@ -167,22 +167,22 @@ module _ {D : Type 0} (state : D → DeviceState) where
       full
 
   -- ---- what is unsaved is saved first
-  pub readied_none : (h : Held D) → IsLawful (state h.device) → h.halted ≡ false → unsaved_in h ≡ 0 → IsReadied state h h
-  readied_none h lawful running none = record {
-    repeats = repeats_weaker state h h 0 (min 1 (unsaved_in h)) (repeats_none state h lawful running) (omega arith);
-    nothing = none_unsaved h (omega (arith, none));
+  pub readied_none : (h : Held D) → IsLawful (state h.device) → h.halted ≡ false → AreAllSaved h → IsReadied state h h
+  readied_none h lawful running nothing = record {
+    repeats = repeats_weaker state h h 0 (min 1 (waiting_in h)) (repeats_none state h lawful running) (omega arith);
+    nothing = nothing;
     room = λ k m0 m keeps may. (k, m0, may);
   }
 
-  pub readied_saves : (h now : Held D) → Saves state h now → now.totals ≡ h.totals → 0 < unsaved_in h → IsReadied state h now
+  pub readied_saves : (h now : Held D) → Saves state h now → now.totals ≡ h.totals → 0 < waiting_in h → IsReadied state h now
   readied_saves h now s totals some = record {
-    repeats = repeats_weaker state h now 1 (min 1 (unsaved_in h)) (repeats_saves state h now some s totals) (omega (arith, some));
+    repeats = repeats_weaker state h now 1 (min 1 (waiting_in h)) (repeats_saves state h now some s totals) (omega (arith, some));
     nothing = s.empty;
     room = λ k m0 m keeps may. let next = room_saved h now k m0 m s totals some keeps may in (next.0, dropped m, next.1);
   }
 
   module _ (a b c : Held D) (ready : IsReadied state a b) where
-    few_more : min 1 (unsaved_in a) + length b.memory.usage.segments / 8 ≤ most_checkpoints a
+    few_more : min 1 (waiting_in a) + length b.memory.usage.segments / 8 ≤ most_checkpoints a
     few_more = let size = ready.repeats.keeps.segments in omega (arith, size)
 
     pub quarter_after : Repeats state b c (length b.memory.usage.segments / 8) → HasQuarter c → CleansQuarter state a c

@@ -18,8 +18,8 @@ use Rattle.lfs_log.proofs.of_memory.Looses.{loose, tight_again}
 use Rattle.lfs_log.proofs.of_memory.Presents.{looks_quiet, still_log}
 use Rattle.lfs_log.proofs.Volumes.{same_segments}
 use Rattle.lfs_log.specs.Cleaning.{Cleans}
-use Rattle.lfs_log.specs.Held.{Held, Halts, Holds, IsReadFault, IsSaved, LeavesSaved, Reads, Saves, unsaved_in}
-use Rattle.lfs_log.specs.Publishing.{AreUntaken}
+use Rattle.lfs_log.specs.Held.{Held, Halts, Holds, IsReadFault, IsSaved, LeavesSaved, Reads, Saves, waiting_in}
+use Rattle.lfs_log.specs.segments.Early.{AreUntaken}
 use Rattle.lfs_cleaner.specs.Room.{HaltsLater, HoldsOver, IsAtRest, IsRoomFault, KeepsMap, PassesInNeed, Repeats, SavesAll, WorksOn}
 
 module _ {D : Type 0} (state : D → DeviceState) where
@@ -54,7 +54,7 @@ module _ {D : Type 0} (state : D → DeviceState) where
   -- memory is as it was
   pub rest_reads : (a b : Held D) → Reads state a b → IsAtRest a → IsAtRest b
   rest_reads a b reads rest = record {
-    nothing = kept_saved a b rest.nothing (let same = ap (λ (v : LogMemory). length v.dirty.blocks) reads.memory in omega (arith, same)) reads.upgraded;
+    nothing = kept_saved a b rest.nothing (let same = ap (λ (v : LogMemory). length v.dirty.blocks) reads.memory in omega (arith, same)) reads.upgraded (subst (λ (v : LogMemory). AreUntaken v.usage) (sym reads.memory) rest.untaken);
     untaken = subst (λ (v : LogMemory). AreUntaken v.usage) (sym reads.memory) rest.untaken;
     many = subst (λ (v : LogMemory). length v.usage.segments ≤ 8 * clean_in v.usage.segments) (sym reads.memory) rest.many;
   }
@@ -247,7 +247,7 @@ module _ {D : Type 0} (state : D → DeviceState) where
   pub repeats_none : (h : Held D) → IsLawful (state h.device) → h.halted ≡ false → Repeats state h h 0
   repeats_none h lawful running = record { works = (0, omega arith, refl); keeps = keeps_none h lawful running; no_failure = refl; saved = inl refl }
 
-  pub repeats_saves : (h h' : Held D) → 0 < unsaved_in h → Saves state h h' → h'.totals ≡ h.totals → Repeats state h h' 1
+  pub repeats_saves : (h h' : Held D) → 0 < waiting_in h → Saves state h h' → h'.totals ≡ h.totals → Repeats state h h' 1
   repeats_saves h h' some s totals = record { works = (1, omega arith, (h, refl, inl (some, s))); keeps = keeps_saves h h' s totals; no_failure = s.no_failure; saved = inr (saves_all h h' s) }
 
   pub repeats_passes : (h h' : Held D) → PassesInNeed state h h' → h'.totals ≡ h.totals → Repeats state h h' 1

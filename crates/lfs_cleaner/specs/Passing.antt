@@ -9,7 +9,7 @@ use Rattle.lfs_log.specs.segments.Table.{clean_in}
 use Rattle.lfs_log.specs.segments.Victims.{AreVictims, IsChosen, pass_limit}
 use Rattle.lfs_log.specs.Cleaning.{Cleans}
 use Rattle.lfs_log.specs.Held.{Held, Holds, AreAllSaved}
-use Rattle.lfs_log.specs.Publishing.{AreUntaken}
+use Rattle.lfs_log.specs.segments.Early.{AreUntaken}
 
 module _ {D : Type 0} (state : D → DeviceState) where
   -- A pass over victims that were chosen: an eighth of the segments and one at most, by which a

@@ -7,8 +7,8 @@ use Rattle.lfs_model.specs.Stands.{LogMap}
 use Rattle.lfs_model.specs.Totals.{IsCounted}
 use Rattle.lfs_model.specs.TreeOf.{dropped}
 use Rattle.lfs_log.specs.memory.segments.Table.{clean_in}
-use Rattle.lfs_log.specs.Held.{Held, Holds, IsSaved, LeavesSaved, AreAllSaved, Saves, unsaved_in}
-use Rattle.lfs_log.specs.Publishing.{AreUntaken}
+use Rattle.lfs_log.specs.Held.{Held, Holds, IsSaved, LeavesSaved, AreAllSaved, Saves, waiting_in}
+use Rattle.lfs_log.specs.segments.Early.{AreUntaken}
 use Rattle.lfs_log.specs.Saving.{commit_orders, pass_orders}
 use Rattle.lfs_cleaner.specs.Passing.{Passes}
 
@@ -36,9 +36,9 @@ passes_orders segments = segments / 8 * pass_orders segments
 abbrev pub room_orders : ℕ → ℕ
 room_orders segments = commit_orders + passes_orders segments
 
--- how many checkpoints are written at most: one where anything is unsaved, and one for each pass
+-- how many checkpoints are written at most: one where anything waits for one, and one for each pass
 abbrev pub most_checkpoints : {D : Type 0} → Held D → ℕ
-most_checkpoints h = length h.memory.usage.segments / 8 + min 1 (unsaved_in h)
+most_checkpoints h = length h.memory.usage.segments / 8 + min 1 (waiting_in h)
 
 module _ {D : Type 0} (state : D → DeviceState) where
   -- The log has log map m, over what was acknowledged before, m0, or over m without its files of no links. It has so many segments.
@@ -78,9 +78,9 @@ module _ {D : Type 0} (state : D → DeviceState) where
     pub few : 4 * clean_in h.memory.usage.segments < length h.memory.usage.segments
     pub passes : Passes state h h'
 
-  -- a commit, where anything was unsaved, or such a pass
+  -- a commit, where anything waited for a checkpoint, or such a pass
   abbrev pub Works : Held D → Held D → Type 0
-  Works h h' = ((0 < unsaved_in h) × Saves state h h') ⊎ PassesInNeed h h'
+  Works h h' = ((0 < waiting_in h) × Saves state h h') ⊎ PassesInNeed h h'
 
   -- so many of them, one after the other
   abbrev pub WorksOn : ℕ → Held D → Held D → Type 0
@@ -126,7 +126,7 @@ module _ {D : Type 0} (state : D → DeviceState) where
       → (state h.device).failures < (state h'.device).failures
 
   -- Where room can be made: the need of log map m is within the volume, an eighth of the segments is clean, so many that a commit may come
-  -- where anything is unsaved, and numbers are left for the checkpoints.
+  -- where anything waits for a checkpoint, and numbers are left for the checkpoints.
   pub record MayMakeRoom (h : Held D) (k : CheckpointValue) (m0 m : LogMap) : Type 0 where
     pub holds : Holds state h k m0 m
     pub map : IsLogMap m
@@ -134,7 +134,7 @@ module _ {D : Type 0} (state : D → DeviceState) where
     pub counted : IsCounted m h.totals.data_blocks h.totals.meta_blocks
     pub need : IsWithin h
     pub many : length h.memory.usage.segments ≤ 8 * clean_in h.memory.usage.segments
-    pub enough : 0 < unsaved_in h
+    pub enough : 0 < waiting_in h
         → length h.memory.usage.segments / 8 + 8 ≤ clean_in h.memory.usage.segments
     pub untaken : AreAllSaved h → AreUntaken h.memory.usage
     pub number : h.number + most_checkpoints h ≤ 2 ^ 64 - 1
@@ -146,7 +146,7 @@ module _ {D : Type 0} (state : D → DeviceState) where
 
   -- What was unsaved is saved, and room can be made still.
   pub record IsReadied (h h' : Held D) : Type 0 where
-    pub repeats : Repeats h h' (min 1 (unsaved_in h))
+    pub repeats : Repeats h h' (min 1 (waiting_in h))
     pub nothing : AreAllSaved h'
     pub room : (k : CheckpointValue) (m0 m : LogMap) → (state h'.device).keeps_model
         → MayMakeRoom h k m0 m → (next : CheckpointValue) × (m1 : LogMap) × MayMakeRoom h' next m1 m

@@ -2,7 +2,7 @@
 //! of the segments is clean.
 ghost use Rattle.std.specs.Prelude.{◌≡◌, ◌≢◌, ◌<◌, ◌≤◌, ◌+◌, ◌*◌, ◌/◌, true, false, [], length, OnOk, IsErrOf, IsTrue, IsFalse};
 ghost use Rattle.lfs_log.specs.memory.segments.Table.{clean_in};
-ghost use Rattle.lfs_log.specs.Held.{Halts, IsFull, AreAllSaved, unsaved_in};
+ghost use Rattle.lfs_log.specs.Held.{Halts, IsFull, AreAllSaved, waiting_in};
 ghost use Rattle.lfs_cleaner.specs.Room.{CleansQuarter, HaltsLater, HasQuarter, IsReadied, IsRoomFault, KeepsMap, MayNotMakeRoom, Repeats, most_checkpoints, passes_orders, room_orders};
 ghost use Rattle.lfs_log.specs.Saving.{commit_orders};
 
@@ -63,7 +63,7 @@ fn pass_until_quarter<D: SectorDevice>(log: &mut Log<D>) -> Result<(), LogFault>
     Err(LogFault::Full)
 }
 
-/// Commits what is unsaved, where anything is.
+/// Commits what waits for a checkpoint, where anything does.
 ///
 /// # Errors
 ///
@@ -73,7 +73,7 @@ fn commit_unsaved<D: SectorDevice>(log: &mut Log<D>) -> Result<(), LogFault>
     ensures done { OnOk result (IsReadied D.SectorDevice.state log.old log.new) }
     ensures totals { log.new.totals ≡ log.old.totals }
     ensures full { IsErrOf result LogFault.Full → (log.new ≡ log.old) × IsFull log.old }
-    ensures unsaved { IsErrOf result LogFault.Full → 0 < unsaved_in log.old }
+    ensures waiting { IsErrOf result LogFault.Full → 0 < waiting_in log.old }
     ensures halted { IsErrOf result LogFault.Halted → Halts D.SectorDevice.state log.old log.new }
     ensures other { IsErrOf result LogFault.Device → ⊥ }
     ensures told { length (D.state log.new.device).told
@@ -81,7 +81,7 @@ fn commit_unsaved<D: SectorDevice>(log: &mut Log<D>) -> Result<(), LogFault>
     ensures quiet { AreAllSaved log.old
         → (D.state log.new.device).told ≡ (D.state log.old.device).told }
 {
-    if log.unsaved() == 0 {
+    if log.is_saved() {
         return Ok(());
     }
     match log.commit() {

@@ -44,7 +44,13 @@ module _ {D : Type 0} (state : D → DeviceState) (lawful : (d : D) → IsLawful
     -- the log map is as it was, and what isn't saved after it wasn't before
     module _ (room : MakesRoom state old.log old.saved new.log new.saved) where
       ready : new.saved ≡ false → (old.saved ≡ false → HasClean old.log × (old.log.number ≤ 2 ^ 62 + segments_of old / 8)) → HasClean new.log × (new.log.number ≤ 2 ^ 62 + segments_of new / 8)
-      ready e before = let none = room.unsaved e in subst (λ (h : Held D). HasClean h × (h.number ≤ 2 ^ 62 + length h.memory.usage.segments / 8)) (sym none.1) (before none.0)
+      ready e before =
+          let none = room.unsaved e in
+          let was = before none.0 in
+          let low = was.1 in
+          let number = none.1.number in
+          let size = room.keeps.segments in
+          (none.1.clean was.0, omega (arith, low, number, size))
 
       ends_by : (a : Answer) → (a ≡ Refuse Halted → ⊥) → (a ≡ Refuse Stuck → ⊥)
           → ((p : Point) → (state new.log.device).keeps_model → IsAt state old p → (k : CheckpointValue) (m0 m : LogMap) → IsIn state old k m0 m p.state → StepsOr (segments_of old) Clean p a (point_of state new p.state))

@@ -220,7 +220,7 @@ still_at_rest state h h' kept rest =
     let segments = kept.alters.segments in
     let clean = kept.alters.clean in
     record {
-      nothing = kept_saved h h' rest.nothing (omega (arith, few)) kept.alters.upgraded;
+      nothing = kept_saved h h' rest.nothing (omega (arith, few)) kept.alters.upgraded (kept.untaken rest.untaken);
       untaken = kept.untaken rest.untaken;
       many = omega (arith, many, segments, clean);
     }

@@ -2,6 +2,7 @@ pub mod Codes
 pub mod Places
 pub mod Maps
 pub mod Blocks
+pub mod Data
 pub mod Held
 pub mod Moving
 pub mod Searching

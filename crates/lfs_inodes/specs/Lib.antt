@@ -1,3 +1,4 @@
+pub mod Data
 pub mod Blocks
 pub mod Clearing
 pub mod Code

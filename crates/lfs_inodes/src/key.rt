@@ -5,6 +5,7 @@ ghost use Rattle.lfs_model.specs.Cutting.{is_past};
 ghost use Rattle.lfs_model.specs.Memory.{parent, pointer, IsPointers};
 ghost use Rattle.lfs_model.specs.Summary.{IsPlaced};
 ghost use Rattle.lfs_inodes.specs.Code.{IsCode, kind_by, entry_at};
+ghost use Rattle.lfs_inodes.specs.Data.{is_data_code};
 
 use lfs_layout::BlockName;
 use lfs_model::BlockKind;
@@ -95,6 +96,13 @@ impl BlockKey {
             2 => BlockKind::Double,
             _ => BlockKind::Inode,
         }
+    }
+
+    /// Whether the block is one of data.
+    pub fn is_data(self) -> bool
+        ensures { result ≡ is_data_code self.code }
+    {
+        self.code < KIND
     }
 
     /// Whether the block is one of pointers.

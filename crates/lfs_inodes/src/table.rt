@@ -1,5 +1,5 @@
 //! The blocks of files that are in memory.
-ghost use Rattle.std.specs.Prelude.{◌≡◌, ◌≢◌, true, ◌<◌, ◌≤◌, ◌+◌, ◌^◌, cond, ℕ, T, List, [], length, is_some, Some, None, IfOk, IfErr, IfSome, IfNone, IsSome, MatchOption, vec_len, vec_capacity};
+ghost use Rattle.std.specs.Prelude.{◌≡◌, ◌≢◌, true, ◌<◌, ◌≤◌, ◌+◌, ◌^◌, cond, ℕ, T, List, [], length, is_some, Some, None, IfOk, IfErr, IfSome, IfNone, IsSome, IsTrue, IsFalse, MatchOption, vec_len, vec_capacity};
 ghost use Rattle.std.specs.Ordering.{nat_cmp};
 ghost use Rattle.std.specs.Option.{option_map};
 ghost use Rattle.std.specs.FinMap.{find, put, is_sorted};
@@ -15,6 +15,7 @@ ghost use Rattle.lfs_inodes.specs.Blocks.{blocks_of, altered, number_at, HasNumb
 ghost use Rattle.lfs_inodes.specs.Code.{IsCode};
 ghost use Rattle.lfs_inodes.specs.Clearing.{LeavesPast, zeroed};
 ghost use Rattle.lfs_inodes.specs.Held.{times, one_below};
+ghost use Rattle.lfs_inodes.specs.Data.{data_in};
 
 use crate::key::{BlockKey, IN_MEMORY};
 use lfs_layout::{set_word, word};
@@ -119,6 +120,16 @@ impl DirtyTable {
     {
         let place = self.places.first()?;
         Some(place.key)
+    }
+
+    /// Whether there are so many data blocks.
+    pub fn has_data(&self, count: usize) -> bool
+        requires { 1 ≤ count }
+        ensures yes { IsTrue result → count ≤ data_in self.now }
+        ensures many { IsTrue result → count ≤ length self.now.blocks }
+        ensures no { IsFalse result → data_in self.now < count }
+    {
+        count <= self.len() && self.key_at(count - 1).is_data()
     }
 
     /// The key at a place of the index.

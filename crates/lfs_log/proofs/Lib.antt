@@ -22,3 +22,5 @@ pub mod Tells
 pub mod Unsaved
 pub use Rattle.lfs_memory.proofs as of_memory
 pub use Rattle.lfs_verify.proofs as of_verify
+pub mod EarlyBlocks
+pub mod EarlyWrites

@@ -36,7 +36,7 @@ use Rattle.lfs_verify.specs.Take.{Looks}
 use Rattle.lfs_verify.specs.Verified.{HasLogMap}
 use Rattle.lfs_log.specs.Held.{Held, Holds, IsReadyToPass, Mounts}
 use Rattle.lfs_log.specs.Opening.{CountsOpened, IsOpened, Opens}
-use Rattle.lfs_log.specs.Publishing.{AreUntaken}
+use Rattle.lfs_memory.specs.segments.Early.{AreUntaken}
 use Rattle.lfs_memory.proofs.Opened.{closed_segment, closed_chunk, as_chunk}
 
 -- ---- the newest checkpoint

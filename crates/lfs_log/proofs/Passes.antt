@@ -109,7 +109,7 @@ module _ {D : Type 0} (state : D → DeviceState) where
           let clean = one.clean in
           omega (arith, gained, gone, taken, least, clean);
       many = done.many;
-      empty = record { blocks = same ∙ done.dirty; version = refl };
+      empty = record { blocks = same ∙ done.dirty; version = refl; sectors = done.untaken };
       untaken = done.untaken;
       no_failure = done.no_failure ∙ unfailed;
       holds = holds;

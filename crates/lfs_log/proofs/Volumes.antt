@@ -47,9 +47,10 @@ module _ {D : Type 0} (state : D → DeviceState) where
     number = number;
     segments = c.segments;
     gains = let more = c.gains in omega (arith, more, few);
+    taken = c.gains;
     clean = let more = c.gains in omega (arith, more, few);
     many = c.many;
-    empty = record { blocks = c.dirty; version = upgraded };
+    empty = record { blocks = c.dirty; version = upgraded; sectors = c.untaken };
     untaken = c.untaken;
     no_failure = c.no_failure;
     holds = holds;

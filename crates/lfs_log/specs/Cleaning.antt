@@ -13,7 +13,7 @@ use Rattle.lfs_memory.specs.declared.memory.LogMemory.{LogMemory}
 use Rattle.lfs_memory.specs.Memory.{IsLog, IsMemory}
 use Rattle.lfs_memory.specs.Present.{Looks}
 use Rattle.lfs_log.specs.Held.{Held, Holds, LeavesSaved, AreAllSaved}
-use Rattle.lfs_log.specs.Publishing.{AreUntaken}
+use Rattle.lfs_memory.specs.segments.Early.{AreUntaken}
 use Rattle.lfs_log.specs.Relocating.{CameFrom, IsAmong, IsInOrder, Misses, Relocates}
 
 -- a segment in use, of which no sector was taken since the acknowledged checkpoint, and in which the last chunk doesn't stand

@@ -19,6 +19,7 @@ use Rattle.lfs_memory.specs.segments.Table.{SegmentNumbers, PlaceInSegment, Usag
 use Rattle.lfs_memory.specs.segments.Chunk.{Chunk}
 use Rattle.lfs_memory.specs.segments.Spare.{emptied_in}
 use Rattle.lfs_memory.specs.inodes.Blocks.{Capacity, TableValue}
+use Rattle.lfs_memory.specs.inodes.Data.{data_in}
 use Rattle.lfs_memory.specs.inodes.MapValue.{MapValue}
 use Rattle.lfs_memory.specs.declared.memory.LogMemory.{LogMemory}
 use Rattle.lfs_memory.specs.Memory.{IsMemory, HasRoom, IsLog}
@@ -26,7 +27,9 @@ use Rattle.lfs_memory.specs.Present.{Looks, HeaderAnswer, BlockAnswer}
 use Rattle.lfs_memory.specs.Removing.{without_file}
 use Rattle.lfs_memory.specs.Batch.{room_for, staged, raises, FitsBatch}
 use Rattle.lfs_verify.specs.declared.totals.BlockTotals.{BlockTotals}
-use Rattle.lfs_log.specs.Publishing.{AreUntaken}
+use Rattle.lfs_memory.specs.segments.Early.{AreUntaken, early_in, taken_in}
+use Rattle.lfs_log.specs.Early.{full_chunk, reserve_of}
+use Rattle.lfs_log.specs.Saving.{orders_for, segments_for}
 
 pub record Held (D : Type 0) : Type 0 where
   pub device : D
@@ -136,15 +139,23 @@ pub record IsReadyToPass (d : DeviceState) (v : LogMemory) (before : UsageTable)
 abbrev pub HoldsUnlessHalted : DeviceState → LogMemory → UsageTable → Bool → Type 0
 HoldsUnlessHalted d v before halted = halted ≡ false → IsReadyToPass d v before
 
--- How many blocks no checkpoint leads to yet. Those of files are the ones in memory, for none is written before its commit; and a version that
--- was raised counts as one, the checkpoint's.
+-- How many blocks no checkpoint leads to yet: those of files in memory, those that were written between commits, and one for a version that
+-- was raised, the checkpoint's.
 abbrev pub unsaved_in : {D : Type 0} → Held D → ℕ
-unsaved_in h = length h.memory.dirty.blocks + cond h.upgraded 1 0
+unsaved_in h =
+    length h.memory.dirty.blocks + early_in h.memory.usage.segments + cond h.upgraded 1 0
 
--- no block is unsaved, nor the version
+-- How much waits for a checkpoint: blocks in memory, sectors that were taken, and a version that was raised. Something may wait where no
+-- block is unsaved: the sectors of blocks that were written between commits, and lost before the next.
+abbrev pub waiting_in : {D : Type 0} → Held D → ℕ
+waiting_in h =
+    length h.memory.dirty.blocks + taken_in h.memory.usage.segments + cond h.upgraded 1 0
+
+-- nothing waits for a checkpoint: no block, no version, and no sector
 pub record AreAllSaved {D : Type 0} (h : Held D) : Type 0 where
   pub blocks : h.memory.dirty.blocks ≡ []
   pub version : h.upgraded ≡ false
+  pub sectors : AreUntaken h.memory.usage
 
 module _ {D : Type 0} (state : D → DeviceState) where
   -- The log holds log map m, and the acknowledged checkpoint k, whose number it knows, stands for m0.
@@ -174,6 +185,9 @@ module _ {D : Type 0} (state : D → DeviceState) where
     pub segments : length h'.memory.usage.segments ≡ length h.memory.usage.segments
     -- at most eight segments were taken for it, those that were emptied are clean too, and so is an eighth at least
     pub gains : clean_in h.memory.usage.segments + emptied_in h.memory.usage.segments ≤ clean_in h'.memory.usage.segments + 8
+    -- no more of them than its blocks want
+    pub taken : clean_in h.memory.usage.segments + emptied_in h.memory.usage.segments
+        ≤ clean_in h'.memory.usage.segments + segments_for (length h.memory.dirty.blocks)
     pub clean : clean_in h.memory.usage.segments ≤ clean_in h'.memory.usage.segments + 8
     pub many : length h'.memory.usage.segments ≤ 8 * clean_in h'.memory.usage.segments
     pub empty : AreAllSaved h'
@@ -191,6 +205,30 @@ module _ {D : Type 0} (state : D → DeviceState) where
     pub cause : (k : CheckpointValue) (m0 m : LogMap) → (state h'.device).keeps_model → Holds h k m0 m → (state h.device).failures < (state h'.device).failures
     pub left : (k : CheckpointValue) (m0 m : LogMap) → (state h'.device).keeps_model → Holds h k m0 m → IsLogMap (dropped m) → AllLeft (state h'.device) (IsSaved k.segments m0 m)
     pub moment : LeavesSaved h h'
+
+  -- Full chunks of data blocks went to segments that the acknowledged checkpoint doesn't reach. What the log holds stays, what is
+  -- acknowledged and what a stop leaves, and as many blocks are unsaved.
+  pub record WritesEarly (h h' : Held D) : Type 0 where
+    pub carries : Carries (state h.device) (state h'.device)
+    pub running : h'.halted ≡ false
+    pub number : h'.number ≡ h.number
+    pub upgraded : h'.upgraded ≡ h.upgraded
+    pub segments : length h'.memory.usage.segments ≡ length h.memory.usage.segments
+    pub capacity : h'.memory.dirty.capacity ≡ h.memory.dirty.capacity
+    pub fewer : length h'.memory.dirty.blocks ≤ length h.memory.dirty.blocks
+    pub unsaved : unsaved_in h' ≡ unsaved_in h
+    -- nothing was written, or what the next commit asks for is clean still
+    pub reserve : (h' ≡ h) ⊎ (reserve_of (length h.memory.usage.segments) ≤ clean_in h'.memory.usage.segments)
+    pub idle : data_in h.memory.dirty < full_chunk → h' ≡ h
+    -- the next commit takes fewer segments and gives fewer orders, by those that were taken and given here
+    pub taken : clean_in h.memory.usage.segments + segments_for (length h'.memory.dirty.blocks)
+        ≤ clean_in h'.memory.usage.segments + segments_for (length h.memory.dirty.blocks)
+    pub emptied : emptied_in h.memory.usage.segments ≤ emptied_in h'.memory.usage.segments
+    pub told : length (state h'.device).told + orders_for (length h'.memory.dirty.blocks)
+        ≤ length (state h.device).told + orders_for (length h.memory.dirty.blocks)
+    pub no_failure : (state h'.device).failures ≡ (state h.device).failures
+    pub holds : (k : CheckpointValue) (m0 m : LogMap) → (state h'.device).keeps_model → Holds h k m0 m → Holds h' k m0 m
+    pub moment : (k : CheckpointValue) (m0 m : LogMap) → (state h'.device).keeps_model → Holds h k m0 m → LeavesOnly (state h.device) (state h'.device) (λ c. StandsOn k.segments c m0)
 
   -- A call that only reads: memory is as it was.
   pub record Reads (h h' : Held D) : Type 0 where

@@ -6,6 +6,7 @@ pub mod Held
 pub mod Relocating
 pub mod Cleaning
 pub mod Telling
+pub mod Early
 pub mod Versions
 pub use Rattle.lfs_memory.specs as memory
 pub use Rattle.lfs_memory.specs.files

@@ -6,7 +6,7 @@ use Rattle.lfs_model.specs.Device.{DeviceState, Carries, Elapses, IsUntouched, L
 use Rattle.lfs_model.specs.Encodes.{IsLogMap}
 use Rattle.lfs_model.specs.Stands.{LogMap}
 use Rattle.lfs_model.specs.TreeOf.{dropped}
-use Rattle.lfs_memory.specs.segments.Table.{UsageTable, used_of, kept_of, address_of, stale_of}
+use Rattle.lfs_memory.specs.segments.Table.{address_of, stale_of}
 use Rattle.lfs_memory.specs.segments.Steps.{Releases}
 use Rattle.lfs_memory.specs.segments.Spare.{spare_in}
 use Rattle.lfs_memory.specs.inodes.MapValue.{block_in}
@@ -20,10 +20,6 @@ pub record Syncs (d d' : DeviceState) : Type 0 where
   pub carries : Carries d d'
   pub time : Elapses d d'
   pub told : length d'.told ≤ length d.told + 1
-
--- no sector was taken since the acknowledged checkpoint
-abbrev pub AreUntaken : UsageTable → Type 0
-AreUntaken t = (s : ℕ) → kept_of t s ≡ used_of t s
 
 -- all blocks are out, and in many segments nothing lives: the checkpoint has them as clean
 pub record IsAllOut (v : LogMemory) : Type 0 where

@@ -10,7 +10,8 @@ use Rattle.lfs_memory.specs.segments.Table.{used_of, clean_in}
 use Rattle.lfs_memory.specs.segments.Spare.{emptied_in}
 use Rattle.lfs_memory.specs.declared.memory.LogMemory.{LogMemory}
 use Rattle.lfs_memory.specs.Memory.{IsMemory, IsLog}
-use Rattle.lfs_log.specs.Publishing.{AreUntaken, IsAcknowledged, LeavesEither}
+use Rattle.lfs_memory.specs.segments.Early.{AreUntaken}
+use Rattle.lfs_log.specs.Publishing.{IsAcknowledged, LeavesEither}
 
 -- how many segments a commit takes at most that places so many blocks of files, and all blocks of the tables
 abbrev pub segments_for : ℕ → ℕ

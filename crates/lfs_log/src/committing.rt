@@ -47,7 +47,7 @@ fn place_all<D: SectorDevice>(
 }
 
 /// Ends the chunk that is being written, if there is one.
-fn seal_rest<D: SectorDevice>(device: &mut D, memory: &mut LogMemory) -> Result<(), DeviceFault>
+pub fn seal_rest<D: SectorDevice>(device: &mut D, memory: &mut LogMemory) -> Result<(), DeviceFault>
     requires memory { IsMemory memory.old }
     requires size { HasRoom (D.state device.old) memory.old }
     ensures done { OnOk result (Goes (D.state device.old) (D.state device.new) memory.old memory.new

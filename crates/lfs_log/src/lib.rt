@@ -3,6 +3,7 @@
 
 pub mod cleaning;
 pub mod committing;
+pub mod early;
 mod layout_version;
 mod log;
 pub mod mapping;

@@ -1,5 +1,5 @@
 //! The log of a volume, over its device.
-ghost use Rattle.std.specs.Prelude.{[], ◌≡◌, ◌≢◌, ◌<◌, ◌≤◌, ◌+◌, ◌-◌, ◌*◌, ◌^◌, true, false, length, IfSome, IfNone, IfOk, IfErr, OnOk, OnErr, IsErrOf, MatchResult, IsTrue, IsFalse};
+ghost use Rattle.std.specs.Prelude.{[], ◌≡◌, ◌≢◌, ◌⊎◌, ◌<◌, ◌≤◌, ◌+◌, ◌-◌, ◌*◌, ◌^◌, true, false, length, IfSome, IfNone, IfOk, IfErr, OnOk, OnErr, IsErrOf, MatchResult, IsTrue, IsFalse};
 ghost use Rattle.lfs_model.specs.Checkpoint.{IsVersion};
 ghost use Rattle.lfs_model.specs.Device.{Only, IsUntouched, Carries, LeavesOnly};
 ghost use Rattle.lfs_model.specs.Fields.{zeros};
@@ -12,11 +12,13 @@ ghost use Rattle.lfs_log.specs.Opening.{CountsOpened};
 ghost use Rattle.lfs_memory.specs.Preparing.{LacksRoom};
 ghost use Rattle.lfs_memory.specs.Batch.{room_for};
 ghost use Rattle.lfs_memory.specs.Memory.{IsMemory};
+ghost use Rattle.lfs_memory.specs.inodes.Data.{data_in};
 ghost use Rattle.lfs_memory.specs.inodes.MapValue.{IsMap};
-ghost use Rattle.lfs_log.specs.Publishing.{AreUntaken};
+ghost use Rattle.lfs_memory.specs.segments.Early.{AreUntaken};
 
 use crate::cleaning::{SavedTables, may_clean, most_of, relocate};
 use crate::committing::save;
+use crate::early::{age_after, write_chunks};
 use crate::layout_version::{LayoutVersion, is_raised_after, unsaved_by, version_after};
 use crate::opening::{MOST_DIRTY, open_memory};
 use lfs_cache::{CachedDevice, DEFAULT_SECTORS, MOST_SECTORS};
@@ -74,8 +76,9 @@ impl<D: SectorDevice> Model for Log<D> {
 
 impl<D: SectorDevice> Log<D> {
     ghost use Rattle.lfs_log.specs.Cleaning.{Cleans, MayClean, Overfills, most_brought};
-    ghost use Rattle.lfs_log.specs.Saving.{commit_orders, pass_orders};
-    ghost use Rattle.lfs_log.specs.Held.{Mounts, Saves, Halts, Reads, ReadsHeader, ReadsBlock, TellsBlock, TellsLeaf, IsReadFault, IsFull, IsVacant, HasAll, IsStaged, IsRefused, IsStageFault, IsRemoved, IsKept, HoldsOne, AreAllSaved, unsaved_in};
+    ghost use Rattle.lfs_log.specs.Saving.{commit_orders, orders_for, pass_orders};
+    ghost use Rattle.lfs_log.specs.Early.{full_chunk, reserve_of};
+    ghost use Rattle.lfs_log.specs.Held.{Mounts, Saves, Halts, Reads, ReadsHeader, ReadsBlock, TellsBlock, TellsLeaf, IsReadFault, IsFull, IsVacant, HasAll, IsStaged, IsRefused, IsStageFault, IsRemoved, IsKept, HoldsOne, AreAllSaved, WritesEarly, unsaved_in, waiting_in};
 
     /// The volume that the newest checkpoint of the device leads to, with the totals of its files;
     /// else why there is none, and the device. All that the checkpoint leads to is walked over
@@ -219,6 +222,7 @@ impl<D: SectorDevice> Log<D> {
     pub fn are_tables_whole(&self)
         ensures map { IsMap self.now.memory.map }
         ensures memory { self.now.halted ≡ false → IsMemory self.now.memory }
+        ensures few { self.now.halted ≡ false → length self.now.memory.dirty.blocks ≤ 456 }
     {
         let _first = self.memory.map.block_address(0);
     }
@@ -274,13 +278,24 @@ impl<D: SectorDevice> Log<D> {
     }
 
     /// How many blocks are unsaved: those of files that changed since the acknowledged checkpoint,
-    /// and the checkpoint's own where the version was raised.
+    /// in memory or written where it doesn't reach, and the checkpoint's own where the version was
+    /// raised.
     pub fn unsaved(&self) -> usize
         ensures { result ≡ unsaved_in self.now }
     {
         let _most = self.memory.dirty.capacity();
         let version = unsaved_by(self.upgraded);
-        self.memory.dirty.len() + version
+        let early = self.memory.usage.early() as usize;
+        self.memory.dirty.len() + early + version
+    }
+
+    /// Whether nothing waits for a checkpoint: no block is in memory, no version was raised, and no
+    /// sector was taken.
+    pub fn is_saved(&self) -> bool
+        ensures yes { IsTrue result → AreAllSaved self.now }
+        ensures no { IsFalse result → 0 < waiting_in self.now }
+    {
+        self.memory.dirty.len() == 0 && !self.upgraded && self.memory.usage.is_untaken()
     }
 
     /// The blocks of all files, as they are staged: what the last change said of them, or the mount
@@ -503,6 +518,42 @@ impl<D: SectorDevice> Log<D> {
         self.number == u64::MAX || 8 * clean < segments + 64
     }
 
+    /// Writes full chunks of data blocks to segments that are clean, as long as memory has one and
+    /// more than the next commit asks for is clean. They are unsaved still, for no acknowledged
+    /// checkpoint reaches them. It takes no memory.
+    ///
+    /// # Errors
+    ///
+    /// `Halted` where a call of the device failed, here or in a commit before.
+    pub fn write_early(&mut self) -> Result<(), LogFault>
+        ensures done { OnOk result (WritesEarly D.SectorDevice.state self.old self.new) }
+        ensures left { OnOk result ((data_in self.new.memory.dirty < full_chunk)
+            ⊎ (clean_in self.new.memory.usage.segments
+            ≤ reserve_of (length self.new.memory.usage.segments))) }
+        ensures totals { self.new.totals ≡ self.old.totals }
+        ensures halted { IsErrOf result LogFault.Halted → self.old.halted ≢ true
+            → Halts D.SectorDevice.state self.old self.new }
+        ensures still { self.old.halted ≡ true
+            → (self.new ≡ self.old) × IsErrOf result LogFault.Halted }
+        ensures full { IsErrOf result LogFault.Full → ⊥ }
+        ensures other { IsErrOf result LogFault.Device → ⊥ }
+        ensures told { length (D.state self.new.device).told
+            ≤ length (D.state self.old.device).told
+            + orders_for (length self.old.memory.dirty.blocks) }
+    {
+        if self.halted {
+            return Err(LogFault::Halted);
+        }
+        let age = age_after(self.number);
+        match write_chunks(&mut self.device, &mut self.memory, age) {
+            Ok(()) => Ok(()),
+            Err(_) => {
+                self.halted = true;
+                Err(LogFault::Halted)
+            }
+        }
+    }
+
     /// Saves all that changed, but for files without a name: blocks to segments that are clean, at
     /// most eight of them, a sync, the next checkpoint, a sync. It takes no memory.
     ///
@@ -521,6 +572,9 @@ impl<D: SectorDevice> Log<D> {
         ensures other { IsErrOf result LogFault.Device → ⊥ }
         ensures told { length (D.state self.new.device).told
             ≤ length (D.state self.old.device).told + commit_orders }
+        ensures tells { length (D.state self.new.device).told
+            ≤ length (D.state self.old.device).told
+            + orders_for (length self.old.memory.dirty.blocks) }
     {
         if self.halted {
             return Err(LogFault::Halted);

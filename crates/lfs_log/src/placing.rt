@@ -6,6 +6,8 @@ ghost use Rattle.lfs_memory.specs.inodes.Blocks.{blocks_of};
 ghost use Rattle.lfs_memory.specs.inodes.Key.{entry_of};
 ghost use Rattle.lfs_memory.specs.Memory.{IsMemory, IsMemoryUpTo, HasRoom, Goes, GoesUpTo, Stops, room_of};
 ghost use Rattle.lfs_memory.specs.segments.Chunk.{room_in};
+ghost use Rattle.lfs_memory.specs.segments.Early.{early_in};
+ghost use Rattle.lfs_log.specs.Early.{GoesEarly, IsBegunFresh, IsFresh};
 ghost use Rattle.lfs_log.specs.Telling.{orders_due};
 
 use lfs_device::{DeviceFault, SectorDevice};
@@ -48,6 +50,7 @@ pub fn seal_full<D: SectorDevice>(device: &mut D, memory: &mut LogMemory) -> Res
         ≤ orders_due (D.state device.old) memory.old) }
     ensures most { orders_due (D.state device.new) memory.new
         ≤ orders_due (D.state device.old) memory.old + 1 }
+    ensures fresh { OnOk result (IsBegunFresh memory.old → IsFresh memory.new) }
 {
     if memory.chunk.is_full() {
         seal(device, memory)?;
@@ -76,6 +79,9 @@ fn write_block<D: SectorDevice>(
     ensures room { room_of memory.old ≤ room_of memory.new + 1 }
     ensures tells { orders_due (D.state device.new) memory.new
         ≤ orders_due (D.state device.old) memory.old + 1 }
+    ensures fresh { OnOk result (IsFresh memory.old → IsBegunFresh memory.new) }
+    ensures early { OnOk result (IsFresh memory.old
+        → early_in memory.new.usage.segments ≡ early_in memory.old.usage.segments + 1) }
 {
     let bytes = *memory.dirty.block(key).unwrap();
     let lives = !memory.map.is_hidden(key.file());
@@ -87,7 +93,7 @@ fn write_block<D: SectorDevice>(
 }
 
 /// Saves a block of a file: it goes to the next place, and a chunk that is full with it is sealed.
-fn save_block<D: SectorDevice>(
+pub fn save_block<D: SectorDevice>(
     device: &mut D,
     memory: &mut LogMemory,
     key: BlockKey,
@@ -108,6 +114,7 @@ fn save_block<D: SectorDevice>(
         ≤ orders_due (D.state device.old) memory.old + 1) }
     ensures most { orders_due (D.state device.new) memory.new
         ≤ orders_due (D.state device.old) memory.old + 2 }
+    ensures early { OnOk result (IsFresh memory.old → GoesEarly memory.old memory.new 1) }
 {
     write_block(device, memory, key, age)?;
     seal_full(device, memory)?;

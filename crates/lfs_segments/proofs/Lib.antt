@@ -1,4 +1,5 @@
 pub mod Numbers
+pub mod Early
 pub mod Steps
 pub mod Saving
 pub mod Entries

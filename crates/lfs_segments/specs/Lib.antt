@@ -1,4 +1,5 @@
 pub mod Table
+pub mod Early
 pub mod Steps
 pub mod Chunk
 pub mod Victims

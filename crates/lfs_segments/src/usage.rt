@@ -1,11 +1,12 @@
 //! What is known of each segment, after the segment usage table of the Sprite LFS paper (1992,
 //! section 3.6).
-ghost use Rattle.std.specs.Prelude.{◌≡◌, ◌≢◌, ◌<◌, ◌≤◌, ◌+◌, ◌-◌, ◌*◌, ◌/◌, ◌==◌, ℕ, suc, Bool, true, false, cond, not, length, get_or, replicate, slice_set, IfOk, IfSome, IfNone, None, Some};
+ghost use Rattle.std.specs.Prelude.{◌≡◌, ◌≢◌, ◌<◌, ◌≤◌, ◌+◌, ◌-◌, ◌*◌, ◌/◌, ◌^◌, ◌==◌, ℕ, suc, Bool, true, false, cond, not, length, get_or, replicate, slice_set, IfOk, IfSome, IfNone, IsTrue, IsFalse, None, Some};
 ghost use Rattle.lfs_segments.specs.Steps.{Notes, Lifts, TakesAway, HidesBlocks, TakesSegment, GoesOn, PutsPlace, Releases, SpellsBlock, saved};
 ghost use Rattle.lfs_segments.specs.Steps as steps;
 ghost use Rattle.lfs_model.specs.Usage.{IsUse, no_use};
 ghost use Rattle.lfs_segments.specs.Table.{SegmentNumbers, PlaceInSegment, no_segment, no_place, used_of, live_of, held_of, age_of, kept_of, address_of, stale_of, clean_in, FitsSegment, FitsTable};
 ghost use Rattle.lfs_segments.specs.Chunk.{TakesChunk};
+ghost use Rattle.lfs_segments.specs.Early.{AreUntaken, early_of, taken_of, early_in, taken_in};
 
 use crate::state::{SegmentState, UsageBlock};
 use lfs_layout::{SegmentUsage, encode_usage};
@@ -38,19 +39,22 @@ pub struct Usage {
     states: Vec<SegmentState>,
     blocks: Vec<UsageBlock>,
     clean: u32,
+    early: u32,
+    taken: u32,
     /// The segment in which the last chunk begun stands.
     last: Option<u32>,
 }
 
 impl Model for Usage {
     ghost use Rattle.std.specs.Prelude.{◌≡◌};
-    ghost use Rattle.lfs_segments.specs.Table.{UsageTable, FitsTable, clean_in};
+    ghost use Rattle.lfs_segments.specs.Table.{UsageTable, FitsTable};
+    ghost use Rattle.lfs_segments.specs.Early.{AreTotals};
 
     ghost Value = { UsageTable };
 
     ghost view = { λ u. record { segments = u.states.items; blocks = u.blocks.items; last = u.last } };
 
-    ghost invariant = { λ u. FitsTable (record { segments = u.states.items; blocks = u.blocks.items; last = u.last }) × (u.clean ≡ clean_in u.states.items) };
+    ghost invariant = { λ u. FitsTable (record { segments = u.states.items; blocks = u.blocks.items; last = u.last }) × AreTotals u.states.items u.clean u.early u.taken };
 }
 
 impl Usage {
@@ -67,6 +71,8 @@ impl Usage {
             states,
             blocks,
             clean: segments,
+            early: 0,
+            taken: 0,
             last: None,
         })
     }
@@ -79,6 +85,8 @@ impl Usage {
         self.states.copy_from_slice(other.states.as_slice());
         self.blocks.copy_from_slice(other.blocks.as_slice());
         self.clean = other.clean;
+        self.early = other.early;
+        self.taken = other.taken;
         self.last = other.last;
     }
 
@@ -96,6 +104,23 @@ impl Usage {
         ensures { result ≡ clean_in self.now.segments }
     {
         self.clean
+    }
+
+    /// How many blocks of files stand where no acknowledged checkpoint reaches: they were written
+    /// between commits, and live there or hold their segment.
+    pub fn early(&self) -> u32
+        ensures value { result ≡ early_in self.now.segments }
+        ensures most { result ≤ 64 * 1024 }
+    {
+        self.early
+    }
+
+    /// Whether no sector was taken since the acknowledged checkpoint.
+    pub fn is_untaken(&self) -> bool
+        ensures yes { IsTrue result → AreUntaken self.now }
+        ensures no { IsFalse result → 0 < taken_in self.now.segments }
+    {
+        self.taken == 0
     }
 
     /// What is known of a segment.
@@ -148,6 +173,13 @@ impl Usage {
         self.last = Some(segment);
     }
 
+    /// The next chunk begins in a clean segment, wherever the last one stands.
+    pub fn end_last(&mut self)
+        ensures { self.new ≡ record self.old { last = None } }
+    {
+        self.last = None;
+    }
+
     /// The segment in which the last chunk begun stands.
     pub fn last(&self) -> Option<u32>
         ensures { result ≡ self.now.last }
@@ -174,8 +206,10 @@ impl Usage {
         ensures last { self.new.last ≡ self.old.last }
         ensures table { FitsTable self.old }
     {
-        let was = one_if_clean(self.state(segment));
-        self.clean = self.clean + one_if_clean(state) - was;
+        let was = self.state(segment);
+        self.clean = exchanged(self.clean, one_if_clean(was), one_if_clean(state));
+        self.early = exchanged(self.early, early_blocks(was), early_blocks(state));
+        self.taken = exchanged(self.taken, taken_sectors(was), taken_sectors(state));
         self.states[segment as usize] = state;
     }
 
@@ -439,6 +473,37 @@ fn one_if_clean(state: SegmentState) -> u32
     ensures most { result ≤ 1 }
 {
     if state.used == 0 { 1 } else { 0 }
+}
+
+/// The blocks of a segment that no acknowledged checkpoint reaches.
+fn early_blocks(state: SegmentState) -> u32
+    requires { FitsSegment state }
+    ensures value { result ≡ early_of state }
+    ensures most { result ≤ 64 }
+{
+    if state.kept == 0 {
+        u32::from(state.live) + u32::from(state.held)
+    } else {
+        0
+    }
+}
+
+/// The sectors of a segment that were taken since the acknowledged checkpoint.
+fn taken_sectors(state: SegmentState) -> u32
+    requires { FitsSegment state }
+    ensures value { result ≡ taken_of state }
+    ensures most { result ≤ 64 }
+{
+    u32::from(state.used) - u32::from(state.kept)
+}
+
+/// A sum after one of its terms, this one, became another.
+fn exchanged(sum: u32, was: u32, is: u32) -> u32
+    requires inside { was ≤ sum }
+    requires few { sum + is < 2 ^ 32 }
+    ensures { result + was ≡ sum + is }
+{
+    sum + is - was
 }
 
 /// The first segment that is clean.

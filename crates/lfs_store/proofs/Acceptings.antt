@@ -18,21 +18,31 @@ use Rattle.lfs_cleaner.proofs.of_log.of_memory.Looses.{loose}
 use Rattle.lfs_cleaner.proofs.of_log.of_memory.Presents.{looks_quiet}
 use Rattle.lfs_cleaner.proofs.of_log.Volumes.{same_segments}
 use Rattle.lfs_cleaner.specs.log.verify.declared.totals.BlockTotals.{BlockTotals}
-use Rattle.lfs_cleaner.specs.log.Held.{Held, Halts, Holds, IsFull, IsSaved, Saves, Alters, IsStaged, IsRefused, IsStageFault, unsaved_in}
+use Rattle.lfs_cleaner.specs.log.Held.{Held, Halts, Holds, IsFull, IsSaved, Saves, Alters, IsStaged, IsRefused, IsStageFault, waiting_in}
 use Rattle.lfs_cleaner.proofs.of_log.Unsaved.{all_saved}
 use Rattle.lfs_cleaner.specs.Room.{HaltsLater, HasQuarter, IsAtRest, IsRoomFault, KeepsMap, MayNotMakeRoom, most_checkpoints}
 use Rattle.lfs_cleaner.proofs.RoomBounds.{same_need, segment_count}
 use Rattle.lfs_cleaner.proofs.Rooms.{fault_then, halts_at_once, halts_then, halts_weaker, keeps_none, keeps_saves, keeps_then, keeps_weaker, rest_saves}
-use Rattle.lfs_store.specs.Accepting.{HasClean, Stores, StoresOver, LeavesEither, Commits, Acknowledges, CannotMakeRoom, MakesRoom, Readies, SavesFew, Accepts, Declines, IsAcceptFault, most_written}
+use Rattle.lfs_store.specs.Accepting.{HasClean, Stores, StoresOver, LeavesEither, Commits, Acknowledges, CannotMakeRoom, MakesRoom, Readies, SavesFew, StaysUnsaved, Accepts, Declines, IsAcceptFault, most_written}
 
 -- where anything isn't saved a checkpoint is written
 pub written_most : (D : Type 0) (h : Held D) (saved : Bool) → most_written h saved ≤ length h.memory.usage.segments / 8 + 1
-written_most D h true = let le : length h.memory.usage.segments / 8 + min 1 (unsaved_in h) ≤ length h.memory.usage.segments / 8 + 1 = omega arith in le
+written_most D h true = let le : length h.memory.usage.segments / 8 + min 1 (waiting_in h) ≤ length h.memory.usage.segments / 8 + 1 = omega arith in le
 written_most D h false = let le : length h.memory.usage.segments / 8 + 1 ≤ length h.memory.usage.segments / 8 + 1 = omega arith in le
 
 written_least : (D : Type 0) (h : Held D) (saved : Bool) → length h.memory.usage.segments / 8 ≤ most_written h saved
-written_least D h true = let le : length h.memory.usage.segments / 8 ≤ length h.memory.usage.segments / 8 + min 1 (unsaved_in h) = omega arith in le
+written_least D h true = let le : length h.memory.usage.segments / 8 ≤ length h.memory.usage.segments / 8 + min 1 (waiting_in h) = omega arith in le
 written_least D h false = let le : length h.memory.usage.segments / 8 ≤ length h.memory.usage.segments / 8 + 1 = omega arith in le
+
+-- what isn't saved stays so
+stays_unsaved : (D : Type 0) (h : Held D) → StaysUnsaved h h
+stays_unsaved D h = record { number = refl; fewer = omega arith; capacity = refl; clean = λ enough. enough }
+
+stays_then : (D : Type 0) (a b c : Held D) → StaysUnsaved a b → StaysUnsaved b c → StaysUnsaved a c
+stays_then D a b c one two =
+    let first = one.fewer in
+    let second = two.fewer in
+    record { number = two.number ∙ one.number; fewer = omega (arith, first, second); capacity = two.capacity ∙ one.capacity; clean = λ enough. two.clean (one.clean enough) }
 
 module _ {D : Type 0} (state : D → DeviceState) where
   -- what is left now stands for what is acknowledged
@@ -78,7 +88,7 @@ module _ {D : Type 0} (state : D → DeviceState) where
   pub room_none : (h : Held D) (saved : Bool) → IsLawful (state h.device) → h.halted ≡ false → MakesRoom state h saved h saved
   room_none h saved lawful running = record {
     keeps = keeps_weaker state h h 0 (most_written h saved) (keeps_none state h lawful running) (omega arith);
-    unsaved = λ e. (e, refl);
+    unsaved = λ e. (e, stays_unsaved D h);
     all = λ e. inl e;
     rest = λ e rest. rest e;
   }
@@ -102,7 +112,7 @@ module _ {D : Type 0} (state : D → DeviceState) where
           all = λ e. inr s.holds;
           rest = λ e rest. rest_saves state h h' s;
         };
-        spent = (let spent : h'.number + (length h'.memory.usage.segments / 8 + min 1 (unsaved_in h')) ≤ h.number + (length h.memory.usage.segments / 8 + 1) = omega (arith, none, size, rose) in spent);
+        spent = (let spent : h'.number + (length h'.memory.usage.segments / 8 + min 1 (waiting_in h')) ≤ h.number + (length h.memory.usage.segments / 8 + 1) = omega (arith, none, size, rose) in spent);
         able = λ k m0 m keeps can.
             let next = s.holds k m0 m keeps can.stores.holds can.shown in
             let most : h.number + (length h.memory.usage.segments / 8 + 1) ≤ 2 ^ 64 - 1 = can.number in (
@@ -115,7 +125,7 @@ module _ {D : Type 0} (state : D → DeviceState) where
                 counted = subst (λ (t : BlockTotals). IsCounted m t.data_blocks t.meta_blocks) (sym totals) can.counted;
                 need = same_need state h h' totals size can.need;
                 enough = λ never. absurd (cc);
-                number = (let fits : h'.number + (length h'.memory.usage.segments / 8 + min 1 (unsaved_in h')) ≤ 2 ^ 64 - 1 = omega (arith, none, size, rose, most) in fits);
+                number = (let fits : h'.number + (length h'.memory.usage.segments / 8 + min 1 (waiting_in h')) ≤ 2 ^ 64 - 1 = omega (arith, none, size, rose, most) in fits);
               },
             );
       }
@@ -165,7 +175,7 @@ module _ {D : Type 0} (state : D → DeviceState) where
         let spent = ready.spent in
         record {
           keeps = keeps_numbered a c _ (most_written a saved) (keeps_then state a b c _ ready.room.keeps _ two.keeps) (omega (arith, number, spent));
-          unsaved = λ e. (let second = two.unsaved e in let first = ready.room.unsaved second.0 in (first.0, second.1 ∙ first.1));
+          unsaved = λ e. (let second = two.unsaved e in let first = ready.room.unsaved second.0 in (first.0, stays_then D a b c first.1 second.1));
           all = λ e. ⊎_elim
               (λ (was : kept ≡ true). ⊎_elim (λ (first : saved ≡ true). inl first) (λ (acks : Acknowledges state a b). inr (acks_then a b c _ acks two.keeps)) (ready.room.all was))
               (λ (acks : Acknowledges state b c). inr (acks_before a b c _ ready.room.keeps two.keeps.carries acks))
@@ -200,7 +210,7 @@ module _ {D : Type 0} (state : D → DeviceState) where
         counted = can.counted;
         need = can.need;
         many = rest.many;
-        enough = λ (lt : 0 < unsaved_in b). absurd (omega (arith, lt, none));
+        enough = λ (lt : 0 < waiting_in b). absurd (omega (arith, lt, none));
         untaken = λ e. rest.untaken;
         number = can.number;
       })
@@ -256,7 +266,7 @@ module _ {D : Type 0} (state : D → DeviceState) where
     saves_few = record {
       number = room.keeps.later;
       few = (let number = room.keeps.number in let most = written_most D h saved in omega (arith, number, most));
-      ready = λ ready e. (let none = room.unsaved e in subst (λ (x : Held D). HasClean x) (sym none.1) (ready none.0));
+      ready = λ ready e. (let none = room.unsaved e in none.1.clean (ready none.0));
     }
 
     pub room_stores : (k : CheckpointValue) (m0 m : LogMap) → (state h'.device).keeps_model → Stores state h saved k m0 m → IsLogMap (dropped m) → StoresOver state k.segments m0 m h' saved' m

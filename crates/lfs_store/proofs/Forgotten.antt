@@ -43,7 +43,7 @@ forgets state h h' saved n gone k m0 m keeps is off = record {
       let segments = gone.alters.segments in
       let clean = gone.alters.clean in
       record {
-        nothing = kept_saved h h' rest.nothing (omega (arith, few)) gone.alters.upgraded;
+        nothing = kept_saved h h' rest.nothing (omega (arith, few)) gone.alters.upgraded (gone.untaken rest.untaken);
         untaken = gone.untaken rest.untaken;
         many = omega (arith, many, segments, clean);
       };

@@ -3,6 +3,7 @@ pub mod DraftedBlocks
 pub mod Readings
 pub mod Mounted
 pub mod Acceptings
+pub mod EarlyRoom
 pub mod PiecesLaid
 pub mod PiecesRead
 pub mod PiecesStored

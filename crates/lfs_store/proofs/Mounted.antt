@@ -15,7 +15,7 @@ use Rattle.lfs_model.specs.TreeOf.{dropped, kept}
 use Rattle.lfs_model.proofs.Decodes.{are_sized, decoding}
 use Rattle.lfs_model.proofs.Decoding.{value_found}
 use Rattle.lfs_cleaner.specs.log.Held.{AreAllSaved, Held, Mounts}
-use Rattle.lfs_cleaner.specs.log.Publishing.{AreUntaken}
+use Rattle.lfs_cleaner.specs.log.segments.Early.{AreUntaken}
 use Rattle.lfs_cleaner.specs.log.segments.Table.{clean_in}
 use Rattle.lfs_cleaner.specs.log.verify.declared.fault.MountFault.{MountFault}
 use Rattle.lfs_cleaner.specs.log.verify.Faults.{IsOpenFault, LacksLog}

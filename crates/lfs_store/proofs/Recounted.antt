@@ -18,7 +18,7 @@ use Rattle.lfs_cleaner.proofs.of_log.of_memory.Presents.{looks_then}
 use Rattle.lfs_cleaner.specs.log.segments.Table.{clean_in}
 use Rattle.lfs_cleaner.specs.log.memory.declared.memory.LogMemory.{LogMemory}
 use Rattle.lfs_cleaner.specs.log.Held.{Held, Reads, Alters, IsKept, IsRemoved}
-use Rattle.lfs_cleaner.specs.log.Publishing.{AreUntaken}
+use Rattle.lfs_cleaner.specs.log.segments.Early.{AreUntaken}
 use Rattle.lfs_store.specs.declared.totals.Measure.{Measure}
 use Rattle.lfs_cleaner.specs.log.verify.declared.totals.BlockTotals.{BlockTotals}
 use Rattle.lfs_store.specs.Measuring.{Measures}

@@ -13,7 +13,7 @@ use Rattle.lfs_cleaner.specs.log.memory.declared.changes.Changes.{Changes}
 use Rattle.lfs_cleaner.specs.log.memory.Batch.{room_for, staged, FitsBatch}
 use Rattle.lfs_cleaner.specs.log.memory.Removing.{without_file}
 use Rattle.lfs_cleaner.specs.log.segments.Table.{clean_in}
-use Rattle.lfs_cleaner.specs.log.Held.{Held, Holds, IsSaved, unsaved_in}
+use Rattle.lfs_cleaner.specs.log.Held.{Held, Holds, IsSaved, waiting_in}
 use Rattle.lfs_model.specs.Totals.{IsCounted}
 use Rattle.lfs_cleaner.specs.Room.{IsAtRest, IsWithin, KeepsMap}
 
@@ -37,7 +37,15 @@ HasRoomFor h c = (h.halted ≡ false) × (length h.memory.dirty.blocks + room_fo
 -- how many checkpoints are written at most as room is made: one where anything isn't saved, and one for each pass of the cleaner
 abbrev pub most_written : {D : Type 0} → Held D → Bool → ℕ
 most_written h saved =
-    length h.memory.usage.segments / 8 + cond saved (min 1 (unsaved_in h)) 1
+    length h.memory.usage.segments / 8 + cond saved (min 1 (waiting_in h)) 1
+
+-- What isn't saved stays so: no checkpoint was written, memory has no more blocks and takes as many, and enough segments are clean where
+-- enough were.
+pub record StaysUnsaved {D : Type 0} (h h' : Held D) : Type 0 where
+  pub number : h'.number ≡ h.number
+  pub fewer : length h'.memory.dirty.blocks ≤ length h.memory.dirty.blocks
+  pub capacity : h'.memory.dirty.capacity ≡ h.memory.dirty.capacity
+  pub clean : HasClean h → HasClean h'
 
 -- At most so many checkpoints are written, and where there was room for what isn't saved there still is.
 pub record SavesFew {D : Type 0} (h : Held D) (saved : Bool) (h' : Held D) (saved' : Bool) : Type 0 where
@@ -89,10 +97,10 @@ module _ {D : Type 0} (state : D → DeviceState) where
       → Holds state h k m0 m → IsLogMap (dropped m)
       → (next : CheckpointValue) × Holds state h' next (dropped m) m
 
-  -- Room is made by a commit and by passes of the cleaner, or nothing is done. What isn't saved after it wasn't before.
+  -- Room is made by early writes, by a commit and by passes of the cleaner, or nothing is done. What isn't saved after it wasn't before.
   pub record MakesRoom (h : Held D) (saved : Bool) (h' : Held D) (saved' : Bool) : Type 0 where
     pub keeps : KeepsMap state h h' (most_written h saved)
-    pub unsaved : saved' ≡ false → (saved ≡ false) × (h' ≡ h)
+    pub unsaved : saved' ≡ false → (saved ≡ false) × StaysUnsaved h h'
     pub all : saved' ≡ true → (saved ≡ true) ⊎ Acknowledges h h'
     pub rest : saved' ≡ true → (saved ≡ true → IsAtRest h) → IsAtRest h'
 
@@ -112,7 +120,7 @@ module _ {D : Type 0} (state : D → DeviceState) where
   CannotMakeRoom h saved h' = (k : CheckpointValue) (m0 m : LogMap) → (state h'.device).keeps_model
       → CanMakeRoom h saved k m0 m → ⊥
 
-  -- What isn't saved is committed, or nothing is done: room can be made still.
+  -- What isn't saved is committed, or a part of it written early, or nothing is done: room can be made still.
   pub record Readies (h : Held D) (saved : Bool) (h' : Held D) (saved' : Bool) : Type 0 where
     pub room : MakesRoom h saved h' saved'
     pub spent : h'.number + most_written h' saved' ≤ h.number + most_written h saved

@@ -25,9 +25,8 @@ const MOST_HEADERS: usize = 4;
 const MOST_BLOCKS: usize = 256;
 
 impl<D: SectorDevice> Store<D> {
-    ghost use Rattle.lfs_cleaner.specs.log.Held.{Halts, IsFull};
-    ghost use Rattle.lfs_cleaner.specs.log.Held.{AreAllSaved};
-    ghost use Rattle.lfs_cleaner.specs.log.Saving.{commit_orders};
+    ghost use Rattle.lfs_cleaner.specs.log.Held.{AreAllSaved, Halts, IsFull, Saves, WritesEarly};
+    ghost use Rattle.lfs_cleaner.specs.log.Saving.{commit_orders, orders_for};
     ghost use Rattle.lfs_cleaner.specs.Room.{HaltsLater, HasQuarter, IsAtRest, IsRoomFault, passes_orders, room_orders};
     ghost use Rattle.lfs_store.specs.Recounting.{MountsTotals};
     ghost use Rattle.lfs_store.specs.Accepting.{MountsStore, Commits, MakesRoom, Readies, CannotMakeRoom, Accepts, Declines, IsAcceptFault, HasClean, HasCleanForTwo, HasRoomFor, most_written};
@@ -154,6 +153,11 @@ impl<D: SectorDevice> Store<D> {
         ensures quiet { self.old.saved ≡ true → self.new.log ≡ self.old.log }
         ensures told { length (D.state self.new.log.device).told
             ≤ length (D.state self.old.log.device).told + commit_orders }
+        ensures saves { OnOk result (self.old.saved ≡ false
+            → Saves D.SectorDevice.state self.old.log self.new.log) }
+        ensures tells { length (D.state self.new.log.device).told
+            ≤ length (D.state self.old.log.device).told
+            + orders_for (length self.old.log.memory.dirty.blocks) }
     {
         if self.log.is_halted() {
             return Err(LogFault::Halted);
@@ -243,7 +247,37 @@ impl<D: SectorDevice> Store<D> {
         self.log.clean_segments() < self.log.segments() / 8 + 8
     }
 
-    /// Commits where memory has no room for the draft, and only there.
+    /// Writes full chunks of what isn't saved to segments that are clean, while more of them are
+    /// than a commit asks for.
+    fn write_early(&mut self) -> Result<(), LogFault>
+        requires { self.old.log.halted ≡ false }
+        ensures done { OnOk result (Readies D.SectorDevice.state self.old.log self.old.saved
+            self.new.log self.new.saved) }
+        ensures early { OnOk result (WritesEarly D.SectorDevice.state self.old.log self.new.log) }
+        ensures quiet { self.old.saved ≡ true → self.new.log ≡ self.old.log }
+        ensures same { self.new.saved ≡ self.old.saved }
+        ensures draft { self.new.draft ≡ self.old.draft }
+        ensures drafted { self.new.drafted ≡ self.old.drafted }
+        ensures totals { self.new.log.totals ≡ self.old.log.totals }
+        ensures halted { IsErrOf result LogFault.Halted →
+            Halts D.SectorDevice.state self.old.log self.new.log }
+        ensures full { IsErrOf result LogFault.Full → ⊥ }
+        ensures other { IsErrOf result LogFault.Device → ⊥ }
+        ensures told { length (D.state self.new.log.device).told
+            ≤ length (D.state self.old.log.device).told
+            + orders_for (length self.old.log.memory.dirty.blocks) }
+    {
+        if self.saved {
+            return Ok(());
+        }
+        match self.log.write_early() {
+            Ok(()) => Ok(()),
+            Err(fault) => Err(fault),
+        }
+    }
+
+    /// Makes room in memory for the draft where it has none, and only there: by early writes, and by
+    /// a commit where these don't suffice.
     fn find_room(&mut self) -> Result<(), LogFault>
         requires { self.old.log.halted ≡ false }
         ensures done { OnOk result (Readies D.SectorDevice.state self.old.log self.old.saved
@@ -255,21 +289,31 @@ impl<D: SectorDevice> Store<D> {
             → self.new.log ≡ self.old.log }
         ensures draft { self.new.draft ≡ self.old.draft }
         ensures drafted { self.new.drafted ≡ self.old.drafted }
-        ensures full { IsErrOf result LogFault.Full → (self.new.log ≡ self.old.log)
-            × (self.new.saved ≡ self.old.saved) }
-        ensures lacks { IsErrOf result LogFault.Full → IsFull self.old.log }
-        ensures unsaved { IsErrOf result LogFault.Full → self.old.saved ≡ false }
-        ensures halted { IsErrOf result LogFault.Halted →
-            Halts D.SectorDevice.state self.old.log self.new.log }
+        ensures full { IsErrOf result LogFault.Full →
+            MakesRoom D.SectorDevice.state self.old.log self.old.saved self.new.log self.new.saved }
+        ensures lacks { IsErrOf result LogFault.Full → IsFull self.new.log }
+        ensures never { IsErrOf result LogFault.Full
+            → CannotMakeRoom D.SectorDevice.state self.old.log self.old.saved self.new.log }
+        ensures halted { IsErrOf result LogFault.Halted
+            → HaltsLater D.SectorDevice.state self.old.log self.new.log
+            (most_written self.old.log self.old.saved) }
         ensures totals { self.new.log.totals ≡ self.old.log.totals }
         ensures other { IsErrOf result LogFault.Device → ⊥ }
-        ensures once { OnOk result ((self.new.log ≡ self.old.log)
-            ⊎ ((self.new.saved ≡ true) × AreAllSaved self.new.log)) }
+        ensures once { OnOk result ((self.new.log ≡ self.old.log) ⊎ (HasClean self.new.log
+            ⊎ ((self.new.saved ≡ true) × AreAllSaved self.new.log))) }
         ensures clean { OnOk result (clean_in self.old.log.memory.usage.segments
             ≤ clean_in self.new.log.memory.usage.segments + 8) }
         ensures told { length (D.state self.new.log.device).told
             ≤ length (D.state self.old.log.device).told + commit_orders }
     {
+        self.log.are_tables_whole();
+        if self.log.has_room(&self.draft.changes) {
+            return Ok(());
+        }
+        match self.write_early() {
+            Ok(()) => {}
+            Err(fault) => return Err(fault),
+        }
         if self.log.has_room(&self.draft.changes) {
             return Ok(());
         }
@@ -332,8 +376,8 @@ impl<D: SectorDevice> Store<D> {
     }
 
     /// Readies the log for a change, the only place that knows when one may begin: memory has room
-    /// for the draft, else a commit makes it; and enough segments are clean for the commit that
-    /// saves it, else the cleaner makes them so.
+    /// for the draft, else early writes or a commit make it; and enough segments are clean for the
+    /// commit that saves it, else the cleaner makes them so.
     fn prepare_change(&mut self) -> Result<(), LogFault>
         requires { self.old.log.halted ≡ false }
         ensures done { OnOk result (MakesRoom D.SectorDevice.state self.old.log self.old.saved
@@ -439,9 +483,9 @@ impl<D: SectorDevice> Store<D> {
         }
     }
 
-    /// Stages the draft whole, or not at all. A commit comes before it where memory has no room for
-    /// it, and passes of the cleaner where too few segments are clean, and only there. The draft is
-    /// empty afterwards.
+    /// Stages the draft whole, or not at all. Where memory has no room for it, full chunks of what
+    /// isn't saved are written before it, and a commit comes where that doesn't suffice; passes of
+    /// the cleaner come where too few segments are clean. The draft is empty afterwards.
     ///
     /// # Errors
     ///

@@ -15,6 +15,7 @@ use Rattle.lfs_model.proofs.Numbers.{IsBytes}
 use Rattle.lfs_model.proofs.UsageStage.{usage_block_of}
 use Rattle.lfs_model.proofs.Words.{IsUsageBlock, uses_are, usage_block_some}
 use Rattle.lfs_segments.specs.Table.{SegmentNumbers, UsageTable, PlaceInSegment, no_segment, no_place, address_of, stale_of}
+use Rattle.lfs_segments.specs.Early.{AreUntaken}
 use Rattle.lfs_segments.specs.Steps.{PutsPlace}
 use Rattle.std.proofs.lemmas.List.{get_or-replicate, length-replicate, get_or_past}
 use Rattle.lfs_verify.specs.Take.{Looks}
@@ -98,6 +99,28 @@ module _ (old mid new : UsageTable) (uses : List SegmentUse) (j segments at : �
   new_size : length new.segments ≡ length old.segments
   new_size = ap length puts.segments ∙ taken.size
 
+  -- a segment of which all is kept
+  abbrev IsWhole : SegmentNumbers → Type 0
+  IsWhole n = n.kept ≡ n.used
+
+  whole_entry : (i : ℕ) → i < 64 → IsWhole (get_or mid.segments (64 * j + i) no_segment)
+  whole_entry i low = ⊎_elim
+      (λ (within : 64 * j + i < length old.segments). subst IsWhole (sym (taken.own i low within)) refl)
+      (λ (past : length old.segments ≤ 64 * j + i). subst IsWhole (sym (get_or_past mid.segments (64 * j + i) no_segment (let size = taken.size in omega (arith, size, past)))) refl)
+      (cases_lt (64 * j + i) (length old.segments))
+
+  whole_mid : (s : ℕ) → IsWhole (get_or mid.segments s no_segment)
+  whole_mid s = ⊎_elim
+      (λ (low : s < 64 * j). subst IsWhole (sym (taken.before s low)) (is.untaken s))
+      (λ (high : 64 * j ≤ s). ⊎_elim
+      (λ (own : s < 64 * j + 64). let here : 64 * j + (s - 64 * j) ≡ s = omega (arith, high) in subst (λ (l : ℕ). IsWhole (get_or mid.segments l no_segment)) here (whole_entry (s - 64 * j) (omega (arith, high, own))))
+      (λ (after : 64 * j + 64 ≤ s). subst IsWhole (sym (taken.after s after)) (is.untaken s))
+      (cases_lt s (64 * j + 64)))
+      (cases_lt s (64 * j))
+
+  more_untaken : AreUntaken new
+  more_untaken s = subst IsWhole (sym (same_numbers s)) (whole_mid s)
+
   pub usage_more : 2 ≤ at → IsUsageUpTo (j + 1) segments new
   usage_more above = record {
     size = new_size ∙ is.size;
@@ -108,6 +131,7 @@ module _ (old mid new : UsageTable) (uses : List SegmentUse) (j segments at : �
     none = λ i le. (let ne : i ≡ j → ⊥ = λ h. omega (arith, h, le) in same_address i ne ∙ is.none i (omega (arith, le)));
     past = λ s le. same_numbers s ∙ taken.after s (omega (arith, le)) ∙ is.past s (omega (arith, le));
     last = puts.last ∙ taken.last ∙ is.last;
+    untaken = more_untaken;
   }
 
   module _ (c : Content) (k : CheckpointValue) (says : SaysUsage c k j old) (bytes : List ℕ) (count : ℕ) (there : block c at ≡ bytes) (points : get_or k.usage j 0 ≡ at)
@@ -210,6 +234,8 @@ usage_start segments t numbers places last = record {
   none = λ i le. ap (λ (l : List PlaceInSegment). (get_or l i no_place).address) places ∙ ap (λ (p : PlaceInSegment). p.address) (all_alike 16 no_place i);
   past = λ s le. ap (λ (l : List SegmentNumbers). get_or l s no_segment) numbers ∙ all_alike segments no_segment s;
   last = last;
+  untaken = λ s. (let is : get_or t.segments s no_segment ≡ no_segment = ap (λ (l : List SegmentNumbers). get_or l s no_segment) numbers ∙ all_alike segments no_segment s in
+      ap (λ (n : SegmentNumbers). n.kept) is ∙ sym (ap (λ (n : SegmentNumbers). n.used) is));
 }
 
 pub says_nothing : (c : Content) (k : CheckpointValue) (t : UsageTable) → SaysUsage c k 0 t

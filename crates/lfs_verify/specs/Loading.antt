@@ -9,6 +9,7 @@ use Rattle.lfs_model.specs.Stands.{LogMap, HoldsAt, StandsAt, used_in, live_in, 
 use Rattle.lfs_model.specs.Totals.{IsCounted}
 use Rattle.lfs_model.specs.Usage.{SegmentUse, no_use}
 use Rattle.lfs_inodes.specs.MapValue.{MapValue, address_in, is_hidden_in, block_in}
+use Rattle.lfs_segments.specs.Early.{AreUntaken}
 use Rattle.lfs_segments.specs.Table.{SegmentNumbers, UsageTable, no_segment, address_of, stale_of}
 use Rattle.lfs_verify.specs.declared.tables.Tables.{Tables}
 
@@ -39,8 +40,9 @@ pub record IsUsageUpTo (j : ℕ) (segments : ℕ) (t : UsageTable) : Type 0 wher
   pub own : (i : ℕ) → i < j → 2 ≤ address_of t i
   pub none : (i : ℕ) → j ≤ i → address_of t i ≡ 0
   pub past : (s : ℕ) → 64 * j ≤ s → get_or t.segments s no_segment ≡ no_segment
-  -- no chunk was begun since
+  -- no chunk was begun since, and no sector taken
   pub last : t.last ≡ None
+  pub untaken : AreUntaken t
 
 pub record SaysUsage (c : Content) (k : CheckpointValue) (j : ℕ) (t : UsageTable) : Type 0 where
   pub numbers : (s : ℕ) → s < 64 * j → s < length t.segments → get_or t.segments s no_segment ≡ numbers_in c k s

@@ -24,7 +24,7 @@ returns-in-Err-clause-full g c is =
 pub returns-in-Err-clause-lacks : goal.returns-in-Err-clause-lacks
 returns-in-Err-clause-lacks g c is k m0 m keeps may =
     let full = c.in-Err.ensures.full (search rules) in
-    commit_fits g.D.SectorDevice.state c.args.log.now k m0 m (g.met.D.SectorDevice.lawful c.args.log.now.device) (c.in-Err.ensures.unsaved (search rules)) full.1 may
+    commit_fits g.D.SectorDevice.state c.args.log.now k m0 m (g.met.D.SectorDevice.lawful c.args.log.now.device) (c.in-Err.ensures.waiting (search rules)) full.1 may
 
 pub returns-in-Err-clause-halted : goal.returns-in-Err-clause-halted
 returns-in-Err-clause-halted g c is ne = halts_first g.D.SectorDevice.state c.args.log.now c.commit_unsaved.new.log (c.in-Err.ensures.halted (search rules))

@@ -1,5 +1,6 @@
 use Rattle.lfs_memory.specs.Memory.{Stops}
 use Rattle.lfs_log.proofs.placing.save_block.Goals as goal
+use Rattle.lfs_log.proofs.EarlyBlocks.{goes_early}
 use Rattle.lfs_memory.proofs.Going.{on_err, goes_then, stops_then}
 
 -- src/placing.rt:86:5
@@ -15,3 +16,9 @@ pub returns-clause-done : goal.returns-clause-done
 returns-clause-done g c =
     goes_then 63 62 (g.D.SectorDevice.state c.args.device.now) (g.D.SectorDevice.state c.write_block.new.device) (g.D.SectorDevice.state c.seal_full.new.device)
     c.args.memory.now c.write_block.new.memory c.seal_full.new.memory 1 0 c.in_ok-write_block.ensures.done c.in_ok-seal_full.ensures.done
+
+pub returns-clause-early : goal.returns-clause-early
+returns-clause-early g c fresh =
+    goes_early c.args.memory.now c.write_block.new.memory c.seal_full.new.memory
+    (c.in_ok-seal_full.ensures.fresh (c.in_ok-write_block.ensures.fresh fresh)) c.in_ok-write_block.ensures.fewer
+    c.seal_full.ensures.dirty c.seal_full.ensures.usage (c.in_ok-write_block.ensures.early fresh)

@@ -1,6 +1,7 @@
 use Rattle.std.proofs.Common.{◌≡◌, true, false, sym, ◌∙◌}
 use Rattle.lfs_log.proofs.placing.seal_full.Goals as goal
 use Rattle.lfs_memory.proofs.Going.{goes_none}
+use Rattle.lfs_log.proofs.EarlyBlocks.{begun_fresh, sealed_fresh}
 use Rattle.lfs_log.proofs.Sealed.{not_full}
 
 -- src/placing.rt:24:1
@@ -9,3 +10,10 @@ returns-else-is_full-clause-done g c =
     goes_none (g.D.SectorDevice.state c.args.device.now) c.args.memory.now (g.met.D.SectorDevice.lawful c.args.device.now)
     (not_full c.args.memory.now c.requires.memory
     (c.is_full.ensures.no (λ yes. let bad : true ≡ false = sym yes ∙ c.if-is_full.false in absurd (cc))))
+
+pub returns-in_ok-seal-clause-fresh : goal.returns-in_ok-seal-clause-fresh
+returns-in_ok-seal-clause-fresh g c is =
+    sealed_fresh c.args.memory.now c.seal.new.memory c.requires.memory is.0 (c.is_full.ensures.yes c.if-is_full.true) c.seal.ensures.usage c.in_ok-seal.ensures.ended
+
+pub returns-else-is_full-clause-fresh : goal.returns-else-is_full-clause-fresh
+returns-else-is_full-clause-fresh g c is = begun_fresh c.args.memory.now is

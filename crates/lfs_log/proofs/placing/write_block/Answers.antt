@@ -1,6 +1,9 @@
 use Rattle.std.proofs.Common.{rules, ◌≡◌, ◌∙◌, ◌/◌, ◌%◌, ap, sym, subst, arith, not, Some}
 use Rattle.lfs_model.specs.Memory.{file_of}
 use Rattle.lfs_model.specs.Running.{Moves}
+use Rattle.lfs_memory.specs.segments.Table.{UsageTable}
+use Rattle.lfs_memory.specs.segments.Early.{early_in}
+use Rattle.lfs_log.proofs.EarlyBlocks.{begun_same, placed_early, placed_fresh}
 use Rattle.lfs_memory.specs.inodes.MapValue.{MapValue}
 use Rattle.lfs_memory.specs.inodes.Blocks.{TableValue, blocks_of}
 use Rattle.lfs_memory.specs.inodes.Key.{entry_of}
@@ -34,3 +37,13 @@ returns-clause-done g c =
     c.in_ok-write.ensures.written c.name.ensures.entry c.requires.lowest there
     (subst (λ (t : TableValue). Moves (blocks_of t) (blocks_of c.moved.new.self) x c.next_place-address.result) c.next_place-address.ensures.placed.dirty c.moved.ensures.moves)
     (omega (arith, few)) (ap not c.is_hidden-lives.ensures) (c.moved.ensures.capacity ∙ ap (λ (t : TableValue). t.capacity) c.next_place-address.ensures.placed.dirty) c.in_ok-write.ensures.no_failure)
+
+pub returns-clause-fresh : goal.returns-clause-fresh
+returns-clause-fresh g c fresh =
+    begun_same c.next_place-address.new.self c.point.new.self c.point.ensures.usage c.point.ensures.chunk
+    (placed_fresh c.args.memory.now c.next_place-address.new.self c.name.result (not c.is_hidden-lives.result) c.args.age c.next_place-address.result fresh c.next_place-address.ensures.placed)
+
+pub returns-clause-early : goal.returns-clause-early
+returns-clause-early g c fresh =
+    ap (λ (u : UsageTable). early_in u.segments) c.point.ensures.usage
+    ∙ placed_early c.args.memory.now c.next_place-address.new.self c.name.result (not c.is_hidden-lives.result) c.args.age c.next_place-address.result fresh c.next_place-address.ensures.placed

@@ -2,7 +2,7 @@ use Rattle.std.proofs.Common.{◌<◌, ◌*◌, ◌-◌, ◌∙◌, sym, ℕ, su
 use Rattle.lfs_verify.specs.Faults.{IsTableFault, LacksBlock, LacksTables}
 use Rattle.lfs_verify.proofs.tables.load_usage_block.Goals as goal
 use Rattle.lfs_verify.proofs.FaultCases.{as_given, fault_on}
-use Rattle.lfs_verify.proofs.UsageLoads.{usage_fault, usage_undecoded, says_more}
+use Rattle.lfs_verify.proofs.UsageLoads.{usage_fault, usage_more, usage_undecoded, says_more}
 
 -- src/opening.rt:112:5
 pub returns-in_err-read_table-clause-cause : goal.returns-in_err-read_table-clause-cause
@@ -34,3 +34,8 @@ returns-clause-says g c keeps says =
     (c.segments_of-segments.result - 64 * c.args.index)
     (c.in_ok-read_table.ensures.block keeps) (sym c.usage_address-address.ensures) (g.met.D.SectorDevice.lawful c.args.device.now).now c.read_table.array_long
     (sym c.decode.ensures.exact ∙ c.in-Some.is) c.has_dead_age.ensures
+
+pub returns-clause-after : goal.returns-clause-after
+returns-clause-after g c =
+    usage_more c.args.usage.now c.take_entries.new.usage c.set_block.new.self c.in-Some.block c.args.index c.args.checkpoint.now.segments c.usage_address-address.result c.has_dead_age.result
+    c.requires.before c.take_entries.ensures c.set_block.ensures c.in_ok-read_table.ensures.above

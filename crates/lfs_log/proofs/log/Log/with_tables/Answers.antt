@@ -1,4 +1,5 @@
 use Rattle.std.proofs.Common.{ℕ, false, refl, sym, subst}
+use Rattle.lfs_memory.specs.segments.Early.{AreUntaken}
 use Rattle.lfs_verify.proofs.Takes.{looks_none}
 use Rattle.lfs_log.specs.Versions.{number_of}
 use Rattle.lfs_log.specs.Held.{Held}
@@ -54,4 +55,4 @@ invariant_of-result g c on =
     ready d opened.memory opened.before.usage (told.opened d.size c.requires.loaded) told.saved
 
 pub returns-in-Ok-open_memory-clause-empty : goal.returns-in-Ok-open_memory-clause-empty
-returns-in-Ok-open_memory-clause-empty g c = record { blocks = (c.in-Ok-open_memory.ensures.opened (g.D.SectorDevice.state c.args.device).size c.requires.loaded).dirty; version = refl }
+returns-in-Ok-open_memory-clause-empty g c = record { blocks = (c.in-Ok-open_memory.ensures.opened (g.D.SectorDevice.state c.args.device).size c.requires.loaded).dirty; version = refl; sectors = subst AreUntaken (sym c.in-Ok-open_memory.ensures.usage) c.requires.loaded.usage.untaken }

@@ -1,30 +1,63 @@
-use Rattle.std.proofs.Common.{rules, ◌≡◌, ◌<◌, ◌==◌, cond, arith, length, get_or}
-use Rattle.lfs_segments.specs.Table.{no_segment}
+use Rattle.std.proofs.Common.{rules, ◌≡◌, ◌<◌, ◌≤◌, ◌==◌, ◌+◌, ◌*◌, ◌^◌, cond, arith, length, get_or}
+use Rattle.lfs_segments.specs.Table.{no_segment, clean_in}
+use Rattle.lfs_segments.specs.Early.{early_of, early_in, taken_of, taken_in}
 use Rattle.lfs_segments.proofs.Numbers.{set_fits, clean_change, clean_most}
+use Rattle.lfs_segments.proofs.Early.{early_has, early_total, taken_has, taken_total, totals_change}
 use Rattle.lfs_segments.proofs.usage.Usage.put.Goals as goal
 
-pub overflow_add-self : goal.overflow_add-self
-overflow_add-self c =
-    let few = c.self.invariant.0.few in
-    let total = c.self.invariant.1 in
-    let most = clean_most c.self.inside.states.items in
-    let one = c.one_if_clean.ensures.most in
-    search rules
-
-pub overflow_sub-self : goal.overflow_sub-self
-overflow_sub-self c =
+pub exchanged-self-inside-requires-clause-inside : goal.exchanged-self-inside-requires-clause-inside
+exchanged-self-inside-requires-clause-inside c =
     let inside : c.args.segment < length c.self.inside.states.items = search rules in
-    let was : c.one_if_clean-was.result ≡ cond ((get_or c.self.inside.states.items c.args.segment no_segment).used == 0) 1 0 = search rules in
-    let is : c.one_if_clean.result ≡ cond (c.args.state.used == 0) 1 0 = search rules in
-    let change = clean_change c.self.inside.states.items c.args.segment c.args.state inside in
-    let total = c.self.invariant.1 in
+    let was : c.one_if_clean.result ≡ cond ((get_or c.self.inside.states.items c.args.segment no_segment).used == 0) 1 0 = search rules in
+    let change = clean_change c.self.inside.states.items c.args.segment (record { used = 1; live = 0; held = 0; age = 0; kept = 0 }) inside in
+    let total = c.self.invariant.1.clean_ones in
+    omega arith
+
+pub exchanged-self-inside-requires-clause-few : goal.exchanged-self-inside-requires-clause-few
+exchanged-self-inside-requires-clause-few c =
+    let few = c.self.invariant.0.few in
+    let total = c.self.invariant.1.clean_ones in
+    let most = clean_most c.self.inside.states.items in
+    let one = c.one_if_clean-2.ensures.most in
+    omega arith
+
+pub exchanged-self-inside-requires-2-clause-inside : goal.exchanged-self-inside-requires-2-clause-inside
+exchanged-self-inside-requires-2-clause-inside c =
+    let inside : c.args.segment < length c.self.inside.states.items = search rules in
+    let was : c.early_blocks.result ≡ early_of (get_or c.self.inside.states.items c.args.segment no_segment) = search rules in
+    let has = early_has c.self.inside.states.items c.args.segment inside in
+    let total = c.self.invariant.1.early_ones in
+    omega arith
+
+pub exchanged-self-inside-requires-2-clause-few : goal.exchanged-self-inside-requires-2-clause-few
+exchanged-self-inside-requires-2-clause-few c =
+    let few = c.self.invariant.0.few in
+    let total = c.self.invariant.1.early_ones in
+    let most = early_total c.self.inside.states.items c.self.invariant.0.each in
+    let one = c.early_blocks-2.ensures.most in
+    omega arith
+
+pub exchanged-self-inside-requires-3-clause-inside : goal.exchanged-self-inside-requires-3-clause-inside
+exchanged-self-inside-requires-3-clause-inside c =
+    let inside : c.args.segment < length c.self.inside.states.items = search rules in
+    let was : c.taken_sectors.result ≡ taken_of (get_or c.self.inside.states.items c.args.segment no_segment) = search rules in
+    let has = taken_has c.self.inside.states.items c.args.segment inside in
+    let total = c.self.invariant.1.taken_ones in
+    omega arith
+
+pub exchanged-self-inside-requires-3-clause-few : goal.exchanged-self-inside-requires-3-clause-few
+exchanged-self-inside-requires-3-clause-few c =
+    let few = c.self.invariant.0.few in
+    let total = c.self.invariant.1.taken_ones in
+    let most = taken_total c.self.inside.states.items c.self.invariant.0.each in
+    let one = c.taken_sectors-2.ensures.most in
     omega arith
 
 pub invariant_of-self : goal.invariant_of-self
 invariant_of-self c =
     let inside : c.args.segment < length c.self.inside.states.items = search rules in
-    let was : c.one_if_clean-was.result ≡ cond ((get_or c.self.inside.states.items c.args.segment no_segment).used == 0) 1 0 = search rules in
-    let is : c.one_if_clean.result ≡ cond (c.args.state.used == 0) 1 0 = search rules in
-    let change = clean_change c.self.inside.states.items c.args.segment c.args.state inside in
-    let total = c.self.invariant.1 in
-    (set_fits c.self.inside.last c.self.inside.states.items c.self.inside.blocks.items c.args.segment c.args.state c.self.invariant.0 inside c.requires.fits, omega arith)
+    let cleans : c.exchanged-self-inside.result + cond ((get_or c.self.inside.states.items c.args.segment no_segment).used == 0) 1 0 ≡ c.self.inside.clean + cond (c.args.state.used == 0) 1 0 = search rules in
+    let earlies : c.exchanged-self-inside-2.result + early_of (get_or c.self.inside.states.items c.args.segment no_segment) ≡ c.self.inside.early + early_of c.args.state = search rules in
+    let takens : c.exchanged-self-inside-3.result + taken_of (get_or c.self.inside.states.items c.args.segment no_segment) ≡ c.self.inside.taken + taken_of c.args.state = search rules in
+    (set_fits c.self.inside.last c.self.inside.states.items c.self.inside.blocks.items c.args.segment c.args.state c.self.invariant.0 inside c.requires.fits,
+     totals_change c.self.inside.states.items c.args.segment c.args.state c.self.inside.clean c.self.inside.early c.self.inside.taken c.exchanged-self-inside.result c.exchanged-self-inside-2.result c.exchanged-self-inside-3.result inside c.self.invariant.1 cleans earlies takens)

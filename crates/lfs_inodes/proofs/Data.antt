@@ -1,0 +1,81 @@
+-- Data blocks in memory, counted by the keys' order.
+use Rattle.std.proofs.Common.{◌≡◌, ◌<◌, ◌≤◌, ◌+◌, cond, ℕ, zero, suc, Bool, T, true, false, List, [], ◌∷◌, length, refl, ap, arith, rules, sym, subst}
+use Rattle.std.specs.Prelude.{sum_by}
+use Rattle.std.specs.Ordering.{nat_cmp}
+use Rattle.std.specs.FinMap.{is_sorted}
+use Rattle.std.proofs.lemmas.List.Sums.{sum_by-cons}
+use Rattle.lfs_inodes.specs.Blocks.{Blocks, TableValue, number_at}
+use Rattle.lfs_inodes.specs.Data.{is_data_code, data_in}
+use Rattle.lfs_inodes.proofs.Blocks.{rises}
+
+abbrev one : ℕ × List ℕ → ℕ
+one e = cond (is_data_code e.0) 1 0
+
+abbrev Rising : Blocks → Type 0
+Rising es = (i j : ℕ) → i < j → j < length es → number_at es i < number_at es j
+
+rising_rest : (e : ℕ × List ℕ) (es : Blocks) → Rising (e ∷ es) → Rising es
+rising_rest e es up i j lt room = up (suc i) (suc j) (omega (arith, lt)) (omega (arith, room))
+
+below : (c : ℕ) → is_data_code c ≡ true → c < 134217728
+below c is = search (rules, arith)
+
+from_below : (c : ℕ) → c < 134217728 → is_data_code c ≡ true
+from_below c lt = search (rules, arith)
+
+above : (c : ℕ) → is_data_code c ≡ false → 134217728 ≤ c
+above c is = search (rules, arith)
+
+from_above : (c : ℕ) → 134217728 ≤ c → is_data_code c ≡ false
+from_above c le = search (rules, arith)
+
+-- behind a key that isn't of data there is none
+none_past : (es : Blocks) → ((j : ℕ) → j < length es → 134217728 ≤ number_at es j) → sum_by one es ≡ 0
+none_past [] far = refl
+none_past (e ∷ es) far =
+    let rest = none_past es (λ j lt. far (suc j) (omega (arith, lt))) in
+    let first = ap {B = ℕ} (λ (b : Bool). cond {A = ℕ} b 1 0) (from_above e.0 (far 0 (omega arith))) in
+    omega (arith, rest, first, sum_by-cons one e es)
+
+-- up to one that is there are as many as keys
+all_before : (es : Blocks) → Rising es → (i : ℕ) → i < length es → number_at es i < 134217728 → i < sum_by one es
+all_before [] up i lt low = absurd (omega (arith, lt))
+all_before (e ∷ es) up zero lt low =
+    let first = ap {B = ℕ} (λ (b : Bool). cond {A = ℕ} b 1 0) (from_below e.0 low) in
+    omega (arith, first, sum_by-cons one e es)
+all_before (e ∷ es) up (suc i) lt low =
+    let rest = all_before es (rising_rest e es up) i (omega (arith, lt)) low in
+    let less = up 0 (suc i) (omega arith) lt in
+    let first = ap {B = ℕ} (λ (b : Bool). cond {A = ℕ} b 1 0) (from_below e.0 (omega (arith, less, low))) in
+    omega (arith, rest, first, sum_by-cons one e es)
+
+few_before : (es : Blocks) → Rising es → (i : ℕ) → (i < length es → 134217728 ≤ number_at es i) → sum_by one es ≤ i
+few_before [] up i far = omega arith
+few_before (e ∷ es) up zero far =
+    let first = far (omega arith) in
+    let none = none_past (e ∷ es) (λ j lt. from_first j lt first) in
+    omega (arith, none)
+  where
+    from_first : (j : ℕ) → j < length (e ∷ es) → 134217728 ≤ e.0 → 134217728 ≤ number_at (e ∷ es) j
+    from_first zero lt le = le
+    from_first (suc j) lt le = let less = up 0 (suc j) (omega arith) lt in omega (arith, less, le)
+few_before (e ∷ es) up (suc i) far =
+    let rest = few_before es (rising_rest e es up) i (λ lt. far (omega (arith, lt))) in
+    let first = at_most (is_data_code e.0) in
+    omega (arith, rest, first, sum_by-cons one e es)
+  where
+    at_most : (b : Bool) → cond b 1 0 ≤ 1
+    at_most true = omega arith
+    at_most false = omega arith
+
+pub has_data : (t : TableValue) → T (is_sorted nat_cmp t.blocks) → (i : ℕ) → i < length t.blocks → is_data_code (number_at t.blocks i) ≡ true → i < data_in t
+unfolding data_in
+has_data t sorted i lt is = all_before t.blocks (rises t.blocks sorted) i lt (below _ is)
+
+pub lacks_data : (t : TableValue) → T (is_sorted nat_cmp t.blocks) → (i : ℕ) → (i < length t.blocks → is_data_code (number_at t.blocks i) ≡ false) → data_in t ≤ i
+unfolding data_in
+lacks_data t sorted i far = few_before t.blocks (rises t.blocks sorted) i (λ lt. above _ (far lt))
+
+pub no_data : (t : TableValue) → t.blocks ≡ [] → data_in t ≡ 0
+unfolding data_in
+no_data t none = ap (sum_by one) none

@@ -1,0 +1,63 @@
+-- The log over its device, as full chunks of data blocks are written between commits.
+use Rattle.std.proofs.Common.{◌≡◌, ◌<◌, ◌≤◌, ◌⊎◌, inl, ◌+◌, ◌*◌, ◌/◌, cond, ℕ, Bool, true, false, [], length, refl, sym, ◌∙◌, ap, ap₂, subst, arith}
+use Rattle.lfs_model.specs.Crash.{StandsOn, StandsForOn}
+use Rattle.lfs_model.specs.Device.{DeviceState}
+use Rattle.lfs_model.specs.TreeOf.{dropped}
+use Rattle.lfs_model.proofs.Moments.{weaker}
+use Rattle.lfs_model.proofs.Settled.{settled_stands}
+use Rattle.lfs_memory.specs.segments.Table.{UsageTable, clean_in}
+use Rattle.lfs_memory.proofs.of_segments.Spare.{emptied_stay}
+use Rattle.lfs_memory.specs.inodes.Blocks.{Capacity}
+use Rattle.lfs_memory.specs.inodes.Data.{data_in}
+use Rattle.lfs_memory.specs.declared.memory.LogMemory.{LogMemory}
+use Rattle.lfs_memory.specs.Memory.{Stops}
+use Rattle.lfs_memory.proofs.Going.{has_room_still}
+use Rattle.lfs_log.specs.Early.{WritesChunks, full_chunk, reserve_of}
+use Rattle.lfs_log.specs.Held.{Held, Halts, IsReadyToPass, WritesEarly}
+
+module _ {D : Type 0} (state : D → DeviceState) where
+  pub writes_early : (h h' : Held D) → WritesChunks (state h.device) (state h'.device) h.memory h'.memory → h'.number ≡ h.number → h'.version ≡ h.version → h'.upgraded ≡ h.upgraded → h'.halted ≡ false
+      → (h' ≡ h) ⊎ (reserve_of (length h'.memory.usage.segments) ≤ clean_in h'.memory.usage.segments) → (data_in h.memory.dirty < full_chunk → h' ≡ h) → WritesEarly state h h'
+  writes_early h h' c number version upgraded running reserve idle = record {
+    carries = c.goes.1.carries;
+    running = running;
+    number = number;
+    upgraded = upgraded;
+    segments = c.goes.1.segments;
+    capacity = c.capacity;
+    fewer = c.fewer;
+    unsaved = ap₂ (λ (n : ℕ) (raised : Bool). n + cond raised 1 0) c.due upgraded;
+    reserve = subst (λ (n : ℕ). (h' ≡ h) ⊎ (reserve_of n ≤ clean_in h'.memory.usage.segments)) c.goes.1.segments reserve;
+    idle = idle;
+    taken = c.taken;
+    emptied = emptied_stay h.memory.usage h'.memory.usage c.goes.1.segments c.goes.1.emptied;
+    told = c.told;
+    no_failure = c.goes.1.no_failure;
+    holds = λ k m0 m keeps is. record { log = c.goes.1.log k m0 m keeps is.log; number = is.number ∙ sym number; version = is.version ∙ sym version; running = running };
+    moment = λ k m0 m keeps is. c.goes.1.quiet k m0 m keeps is.log;
+  }
+
+  -- a write that failed: what is acknowledged stays
+  pub early_halts : (h h' : Held D) → Stops (state h.device) (state h'.device) h.memory → h'.halted ≡ true → h'.number ≡ h.number → Halts state h h'
+  early_halts h h' stops halted number = record {
+    carries = stops.carries;
+    halted = halted;
+    number = number;
+    cause = λ k m0 m keeps is. stops.cause k m0 m keeps is.log;
+    left = λ k m0 m keeps is map c left. inl (settled_stands (state h'.device) k m0 (stops.settled k m0 m keeps is.log) c left);
+    moment = λ k m0 m keeps is map. weaker (state h.device) (state h'.device) (λ x. StandsOn k.segments x m0) (StandsForOn k.segments m0 (dropped m)) (λ x h. inl h) (stops.quiet k m0 m keeps is.log);
+  }
+
+-- the log can go on, and pass, as before
+pub early_ready : (d d' : DeviceState) (v v' : LogMemory) (before : UsageTable) → WritesChunks d d' v v' → IsReadyToPass d v before → IsReadyToPass d' v' before
+early_ready d d' v v' before c ready = record {
+  running = record {
+    memory = c.goes.1.memory;
+    room = has_room_still 62 d d' v v' c.goes.0 c.goes.1 ready.running.room;
+    closed = c.closed;
+    few = let few = ready.running.few in let fewer = c.fewer in omega (arith, few, fewer);
+    wide = ap (λ (x : Capacity). x.limit) c.capacity ∙ ready.running.wide;
+    reserved = subst (λ (n : ℕ). v'.dirty.capacity.room + 48 ≡ 63 * (n / 8)) (sym c.goes.1.segments) (ap (λ (x : Capacity). x.room + 48) c.capacity ∙ ready.running.reserved);
+  };
+  saved = ready.saved ∙ sym c.goes.1.segments;
+}

@@ -1,0 +1,50 @@
+use Rattle.std.proofs.Common.{rules, ◌≡◌, ◌<◌, ◌≤◌, ◌⊎◌, inl, inr, ◌+◌, ◌∙◌, length, refl, sym, ap, subst, arith}
+use Rattle.lfs_memory.specs.segments.Table.{clean_in}
+use Rattle.lfs_memory.specs.inodes.Data.{data_in}
+use Rattle.lfs_memory.specs.declared.memory.LogMemory.{LogMemory}
+use Rattle.lfs_memory.specs.Memory.{Stops}
+use Rattle.lfs_memory.proofs.Going.{on_err, stops_then, has_room_still}
+use Rattle.lfs_log.specs.Early.{full_chunk, reserve_of}
+use Rattle.lfs_log.proofs.EarlyBlocks.{chunks_none, chunks_more}
+use Rattle.lfs_log.proofs.early.write_chunks.Goals as goal
+
+pub loop-memory-init : goal.loop-memory-init
+loop-memory-init g c = record {
+  chunks = chunks_none (g.D.SectorDevice.state c.args.device.now) c.args.memory.now (g.met.D.SectorDevice.lawful c.args.device.now) c.requires.memory c.requires.closed;
+  reserve = inl (refl, refl);
+  idle = λ few. (refl, refl);
+}
+
+pub write_chunk-requires-clause-memory : goal.write_chunk-requires-clause-memory
+write_chunk-requires-clause-memory g c = c.loop-memory.invariant.chunks.goes.1.memory
+
+pub write_chunk-requires-clause-size : goal.write_chunk-requires-clause-size
+write_chunk-requires-clause-size g c =
+    has_room_still 62 (g.D.SectorDevice.state c.args.device.now) (g.D.SectorDevice.state c.loop-memory.device) c.args.memory.now c.loop-memory.memory _ c.loop-memory.invariant.chunks.goes.1 c.requires.size
+
+pub write_chunk-requires-clause-closed : goal.write_chunk-requires-clause-closed
+write_chunk-requires-clause-closed g c = c.loop-memory.invariant.chunks.closed
+
+pub returns-in_err-write_chunk-clause-stopped : goal.returns-in_err-write_chunk-clause-stopped
+returns-in_err-write_chunk-clause-stopped g c =
+    on_err c.from_residual.result (Stops (g.D.SectorDevice.state c.args.device.now) (g.D.SectorDevice.state c.write_chunk.new.device) c.args.memory.now)
+    (stops_then 62 (g.D.SectorDevice.state c.args.device.now) (g.D.SectorDevice.state c.loop-memory.device) (g.D.SectorDevice.state c.write_chunk.new.device)
+    c.args.memory.now c.loop-memory.memory _ c.loop-memory.invariant.chunks.goes.1 c.in_err-write_chunk.ensures.stopped)
+
+pub loop-memory-preserved : goal.loop-memory-preserved
+loop-memory-preserved g c =
+    let done = c.in_ok-write_chunk.ensures in
+    let goes = done.done in
+    let above : reserve_of (length c.loop-memory.memory.usage.segments) < clean_in c.loop-memory.memory.usage.segments = c.is_above_reserve.ensures.yes (search rules) in
+    let full : full_chunk ≤ data_in c.loop-memory.memory.dirty = c.has_data.ensures.yes (search rules) in
+    let taken = done.taken in
+    let size = goes.segments in
+    record {
+      chunks = chunks_more (g.D.SectorDevice.state c.args.device.now) (g.D.SectorDevice.state c.loop-memory.device) (g.D.SectorDevice.state c.write_chunk.new.device)
+          c.args.memory.now c.loop-memory.memory c.write_chunk.new.memory 125 c.loop-memory.invariant.chunks goes done.closed done.capacity done.fewer done.due taken (let told = done.told in omega (arith, told));
+      reserve = inr (omega (arith, above, taken, size));
+      idle = λ few.
+          let still = c.loop-memory.invariant.idle few in
+          let same = ap (λ (v : LogMemory). data_in v.dirty) still.1 in
+          absurd (omega (arith, same, few, full));
+    }

@@ -1,0 +1,127 @@
+//! Blocks that are written between commits: full chunks of data blocks go to clean segments, where no
+//! acknowledged checkpoint reaches them, and leave memory. An early write is a commit's beginning
+//! that stops.
+ghost use Rattle.std.specs.Prelude.{◌≡◌, ◌<◌, ◌≤◌, ◌+◌, ◌⊎◌, [], length, OnOk, OnErr, IsTrue, IsFalse};
+ghost use Rattle.lfs_memory.specs.segments.Table.{clean_in};
+ghost use Rattle.lfs_memory.specs.inodes.Data.{data_in};
+ghost use Rattle.lfs_memory.specs.Memory.{IsMemory, HasRoom, Goes, Stops, room_of};
+ghost use Rattle.lfs_log.specs.Early.{GoesEarly, IsFresh, WritesChunks, blocks_due, reserve_of};
+ghost use Rattle.lfs_log.specs.Saving.{orders_for};
+ghost use Rattle.lfs_log.specs.Telling.{orders_due};
+
+use crate::committing::seal_rest;
+use crate::placing::save_block;
+use lfs_device::{DeviceFault, SectorDevice};
+use lfs_memory::LogMemory;
+use lfs_memory::segments::Usage;
+
+/// How many blocks a chunk has that fills a segment.
+const FULL_CHUNK: usize = 63;
+
+/// The age of blocks that are written after the checkpoint of this number: the next one's.
+pub fn age_after(number: u64) -> u32 {
+    u32::try_from(number.saturating_add(1)).unwrap_or(u32::MAX)
+}
+
+/// Saves as many blocks as a chunk has, those of the least keys.
+fn save_chunk<D: SectorDevice>(
+    device: &mut D,
+    memory: &mut LogMemory,
+    age: u32,
+) -> Result<(), DeviceFault>
+    requires memory { IsMemory memory.old }
+    requires size { HasRoom (D.state device.old) memory.old }
+    requires room { FULL_CHUNK ≤ room_of memory.old }
+    requires many { FULL_CHUNK ≤ length memory.old.dirty.blocks }
+    requires fresh { IsFresh memory.old }
+    ensures done { OnOk result (Goes (D.state device.old) (D.state device.new) memory.old memory.new
+        FULL_CHUNK) }
+    ensures stopped { OnErr result (Stops (D.state device.old) (D.state device.new) memory.old) }
+    ensures early { OnOk result (GoesEarly memory.old memory.new FULL_CHUNK) }
+    ensures capacity { OnOk result (memory.new.dirty.capacity ≡ memory.old.dirty.capacity) }
+    ensures room { room_of memory.old ≤ room_of memory.new + FULL_CHUNK }
+    ensures tells { OnOk result (orders_due (D.state device.new) memory.new
+        ≤ orders_due (D.state device.old) memory.old + FULL_CHUNK) }
+    ensures most { orders_due (D.state device.new) memory.new
+        ≤ orders_due (D.state device.old) memory.old + FULL_CHUNK + 1 }
+{
+    for _ in 0..FULL_CHUNK {
+        let key = memory.dirty.next().unwrap();
+        save_block(device, memory, key, age)?;
+    }
+    Ok(())
+}
+
+/// Writes a chunk of data blocks to a clean segment, and its summary.
+fn write_chunk<D: SectorDevice>(
+    device: &mut D,
+    memory: &mut LogMemory,
+    age: u32,
+) -> Result<(), DeviceFault>
+    requires memory { IsMemory memory.old }
+    requires size { HasRoom (D.state device.old) memory.old }
+    requires closed { memory.old.chunk.names ≡ [] }
+    requires clean { 0 < clean_in memory.old.usage.segments }
+    requires many { FULL_CHUNK ≤ length memory.old.dirty.blocks }
+    ensures done { OnOk result (Goes (D.state device.old) (D.state device.new) memory.old memory.new
+        (FULL_CHUNK + 62)) }
+    ensures stopped { OnErr result (Stops (D.state device.old) (D.state device.new) memory.old) }
+    ensures closed { OnOk result (memory.new.chunk.names ≡ []) }
+    ensures fewer { OnOk result (length memory.new.dirty.blocks + FULL_CHUNK
+        ≡ length memory.old.dirty.blocks) }
+    ensures due { OnOk result (blocks_due memory.new ≡ blocks_due memory.old) }
+    ensures capacity { OnOk result (memory.new.dirty.capacity ≡ memory.old.dirty.capacity) }
+    ensures taken { OnOk result (clean_in memory.old.usage.segments
+        ≤ clean_in memory.new.usage.segments + 1) }
+    ensures told { OnOk result (length (D.state device.new).told
+        ≤ length (D.state device.old).told + FULL_CHUNK + 1) }
+    ensures most { length (D.state device.new).told
+        ≤ length (D.state device.old).told + FULL_CHUNK + 2 }
+{
+    memory.usage.end_last();
+    save_chunk(device, memory, age)?;
+    seal_rest(device, memory)?;
+    Ok(())
+}
+
+/// Whether more segments are clean than the next commit asks for.
+fn is_above_reserve(usage: &Usage) -> bool
+    ensures yes { IsTrue result
+        → reserve_of (length usage.now.segments) < clean_in usage.now.segments }
+    ensures no { IsFalse result
+        → clean_in usage.now.segments ≤ reserve_of (length usage.now.segments) }
+{
+    usage.segments() / 8 + 8 < usage.clean()
+}
+
+/// Writes full chunks of data blocks to clean segments, as long as memory has one and more than
+/// the reserve of the next commit is clean.
+///
+/// # Errors
+///
+/// The device's fault: a stop leaves what was acknowledged.
+pub fn write_chunks<D: SectorDevice>(
+    device: &mut D,
+    memory: &mut LogMemory,
+    age: u32,
+) -> Result<(), DeviceFault>
+    requires memory { IsMemory memory.old }
+    requires size { HasRoom (D.state device.old) memory.old }
+    requires closed { memory.old.chunk.names ≡ [] }
+    ensures done { OnOk result (WritesChunks (D.state device.old) (D.state device.new)
+        memory.old memory.new) }
+    ensures left { OnOk result ((data_in memory.new.dirty < FULL_CHUNK)
+        ⊎ (clean_in memory.new.usage.segments ≤ reserve_of (length memory.new.usage.segments))) }
+    ensures reserve { OnOk result (((device.new ≡ device.old) × (memory.new ≡ memory.old))
+        ⊎ (reserve_of (length memory.new.usage.segments) ≤ clean_in memory.new.usage.segments)) }
+    ensures idle { data_in memory.old.dirty < FULL_CHUNK
+        → (device.new ≡ device.old) × (memory.new ≡ memory.old) }
+    ensures stopped { OnErr result (Stops (D.state device.old) (D.state device.new) memory.old) }
+    ensures told { length (D.state device.new).told
+        ≤ length (D.state device.old).told + orders_for (length memory.old.dirty.blocks) }
+{
+    while memory.dirty.has_data(FULL_CHUNK) && is_above_reserve(&memory.usage) {
+        write_chunk(device, memory, age)?;
+    }
+    Ok(())
+}

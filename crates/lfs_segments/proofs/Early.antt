@@ -1,0 +1,183 @@
+-- The totals that are kept beside a usage table, as one segment changes.
+use Rattle.std.proofs.Common.{◌≡◌, ◌<◌, ◌≤◌, ◌+◌, ◌-◌, ◌*◌, ◌==◌, cond, ℕ, zero, suc, Bool, true, false, List, [], ◌∷◌, length, get_or, replicate, refl, sym, ap, ◌∙◌, arith, rules, eq-eqb, eqb-true, not}
+use Rattle.std.specs.Prelude.{slice_set, sum_by}
+use Rattle.std.proofs.lemmas.List.Sums.{sum_by-cons}
+use Rattle.lfs_segments.specs.Table.{SegmentNumbers, UsageTable, no_segment, used_of, live_of, held_of, kept_of, FitsSegment, FitsTable}
+use Rattle.lfs_segments.specs.Early.{AreTotals, AreUntaken, early_of, early_in, taken_of, taken_in}
+use Rattle.lfs_segments.specs.Steps.{Notes, TakesSegment}
+use Rattle.lfs_segments.specs.Table.{clean_in}
+use Rattle.lfs_model.specs.Running.{CountsUp, IsSet}
+use Rattle.lfs_segments.proofs.Numbers.{clean_change, clean_most, all_clean}
+
+-- a sum of which one term changes
+sum_change : (f : SegmentNumbers → ℕ) (segments : List SegmentNumbers) (s : ℕ) (x : SegmentNumbers) → s < length segments
+    → sum_by f (slice_set segments s x) + f (get_or segments s no_segment) ≡ sum_by f segments + f x
+sum_change f [] s x lt = absurd (omega (arith, lt))
+sum_change f (n ∷ rest) zero x lt = omega (arith, sum_by-cons f x rest, sum_by-cons f n rest)
+sum_change f (n ∷ rest) (suc s) x lt =
+    let below = sum_change f rest s x (omega (arith, lt)) in
+    omega (arith, below, sum_by-cons f n (slice_set rest s x), sum_by-cons f n rest)
+
+-- a term of a sum isn't above it
+sum_has : (f : SegmentNumbers → ℕ) (segments : List SegmentNumbers) (s : ℕ) → s < length segments → f (get_or segments s no_segment) ≤ sum_by f segments
+sum_has f [] s lt = absurd (omega (arith, lt))
+sum_has f (n ∷ rest) zero lt = omega (arith, sum_by-cons f n rest)
+sum_has f (n ∷ rest) (suc s) lt = let below = sum_has f rest s (omega (arith, lt)) in omega (arith, below, sum_by-cons f n rest)
+
+-- nor is a sum above as many of the largest term
+sum_most : (f : SegmentNumbers → ℕ) (most : ℕ) (segments : List SegmentNumbers) → ((s : ℕ) → f (get_or segments s no_segment) ≤ most) → sum_by f segments ≤ most * length segments
+sum_most f most [] each = omega arith
+sum_most f most (n ∷ rest) each =
+    let below = sum_most f most rest (λ s. each (suc s)) in
+    let first = each 0 in
+    omega (arith, below, first, sum_by-cons f n rest)
+
+-- two lists with the same terms
+sum_same : (f : SegmentNumbers → ℕ) (old new : List SegmentNumbers) → length new ≡ length old → ((i : ℕ) → f (get_or new i no_segment) ≡ f (get_or old i no_segment)) → sum_by f new ≡ sum_by f old
+sum_same f [] [] size same = refl
+sum_same f [] (b ∷ new) size same = absurd (omega (arith, size))
+sum_same f (a ∷ old) [] size same = absurd (omega (arith, size))
+sum_same f (a ∷ old) (b ∷ new) size same =
+    let rest = sum_same f old new (omega (arith, size)) (λ i. same (suc i)) in
+    let first = same 0 in
+    omega (arith, rest, first, sum_by-cons f a old, sum_by-cons f b new)
+
+-- where none of them has any, it is none
+sum_none : (f : SegmentNumbers → ℕ) (segments : List SegmentNumbers) → ((s : ℕ) → f (get_or segments s no_segment) ≡ 0) → sum_by f segments ≡ 0
+sum_none f [] each = refl
+sum_none f (n ∷ rest) each =
+    let below = sum_none f rest (λ s. each (suc s)) in
+    let first = each 0 in
+    omega (arith, below, first, sum_by-cons f n rest)
+
+pub early_change : (segments : List SegmentNumbers) (s : ℕ) (x : SegmentNumbers) → s < length segments
+    → early_in (slice_set segments s x) + early_of (get_or segments s no_segment) ≡ early_in segments + early_of x
+unfolding early_in
+early_change segments s x lt = sum_change early_of segments s x lt
+
+pub taken_change : (segments : List SegmentNumbers) (s : ℕ) (x : SegmentNumbers) → s < length segments
+    → taken_in (slice_set segments s x) + taken_of (get_or segments s no_segment) ≡ taken_in segments + taken_of x
+unfolding taken_in
+taken_change segments s x lt = sum_change taken_of segments s x lt
+
+early_most : (n : SegmentNumbers) → FitsSegment n → early_of n ≤ 64
+early_most n fits = by_kept (n.kept == 0)
+  where
+    by_kept : (b : Bool) → cond b (n.live + n.held) 0 ≤ 64
+    by_kept true = let fewer = fits.fewer in let used = fits.used in omega (arith, fewer, used)
+    by_kept false = omega arith
+
+pub early_total : (segments : List SegmentNumbers) → ((s : ℕ) → FitsSegment (get_or segments s no_segment)) → early_in segments ≤ 64 * length segments
+unfolding early_in
+early_total segments each = sum_most early_of 64 segments (λ s. early_most (get_or segments s no_segment) (each s))
+
+pub taken_total : (segments : List SegmentNumbers) → ((s : ℕ) → FitsSegment (get_or segments s no_segment)) → taken_in segments ≤ 64 * length segments
+unfolding taken_in
+taken_total segments each = sum_most taken_of 64 segments (λ s. let used = (each s).used in omega (arith, used))
+
+pub none_early : (n : ℕ) → early_in (replicate n no_segment) ≡ 0
+unfolding early_in
+none_early zero = refl
+none_early (suc n) = let rest = none_early n in omega (arith, rest, sum_by-cons early_of no_segment (replicate n no_segment))
+
+pub none_taken : (n : ℕ) → taken_in (replicate n no_segment) ≡ 0
+unfolding taken_in
+none_taken zero = refl
+none_taken (suc n) = let rest = none_taken n in omega (arith, rest, sum_by-cons taken_of no_segment (replicate n no_segment))
+
+pub early_has : (segments : List SegmentNumbers) (s : ℕ) → s < length segments → early_of (get_or segments s no_segment) ≤ early_in segments
+unfolding early_in
+early_has segments s lt = sum_has early_of segments s lt
+
+pub taken_has : (segments : List SegmentNumbers) (s : ℕ) → s < length segments → taken_of (get_or segments s no_segment) ≤ taken_in segments
+unfolding taken_in
+taken_has segments s lt = sum_has taken_of segments s lt
+
+-- The totals, as each loses the term of a segment and gains that of its new numbers.
+pub totals_change : (segments : List SegmentNumbers) (s : ℕ) (x : SegmentNumbers) (clean early taken clean' early' taken' : ℕ) → s < length segments → AreTotals segments clean early taken
+    → clean' + cond ((get_or segments s no_segment).used == 0) 1 0 ≡ clean + cond (x.used == 0) 1 0
+    → early' + early_of (get_or segments s no_segment) ≡ early + early_of x
+    → taken' + taken_of (get_or segments s no_segment) ≡ taken + taken_of x
+    → AreTotals (slice_set segments s x) clean' early' taken'
+totals_change segments s x clean early taken clean' early' taken' lt totals cleans earlies takens = record {
+  clean_ones = let change = clean_change segments s x lt in let is = totals.clean_ones in omega (arith, change, is, cleans);
+  early_ones = let change = early_change segments s x lt in let is = totals.early_ones in omega (arith, change, is, earlies);
+  taken_ones = let change = taken_change segments s x lt in let is = totals.taken_ones in omega (arith, change, is, takens);
+}
+
+pub totals_new : (segments : List SegmentNumbers) (n : ℕ) → segments ≡ replicate n no_segment → AreTotals segments n 0 0
+totals_new segments n is = record {
+  clean_ones = sym (ap clean_in is ∙ all_clean n);
+  early_ones = sym (ap early_in is ∙ none_early n);
+  taken_ones = sym (ap taken_in is ∙ none_taken n);
+}
+
+-- A term that is none in a sum that is none.
+sum_zero : (f : SegmentNumbers → ℕ) (segments : List SegmentNumbers) → f no_segment ≡ 0 → sum_by f segments ≡ 0 → (s : ℕ) → f (get_or segments s no_segment) ≡ 0
+sum_zero f [] past none s = past
+sum_zero f (n ∷ rest) past none zero = omega (arith, none, sum_by-cons f n rest)
+sum_zero f (n ∷ rest) past none (suc s) = sum_zero f rest past (omega (arith, none, sum_by-cons f n rest)) s
+
+-- no sector is counted as taken: none was
+pub untaken_of : (t : UsageTable) → FitsTable t → taken_in t.segments ≡ 0 → AreUntaken t
+unfolding taken_in
+untaken_of t fits none s =
+    let rest = sum_zero taken_of t.segments refl none s in
+    let kept = (fits.each s).kept in
+    omega (arith, rest, kept)
+
+pub taken_of_untaken : (t : UsageTable) → AreUntaken t → taken_in t.segments ≡ 0
+unfolding taken_in
+taken_of_untaken t un = sum_none taken_of t.segments (λ s. let same = un s in omega (arith, same))
+
+-- and then no block is early, for none stands in a segment that isn't in use
+pub early_of_untaken : (t : UsageTable) → FitsTable t → AreUntaken t → early_in t.segments ≡ 0
+unfolding early_in
+early_of_untaken t fits un = sum_none early_of t.segments each
+  where
+    own : (n : SegmentNumbers) → FitsSegment n → n.kept ≡ n.used → (b : Bool) → (n.kept == 0) ≡ b → cond b (n.live + n.held) 0 ≡ 0
+    own n is same true here = let fewer = is.fewer in let zeros = eqb-true n.kept 0 here in omega (arith, fewer, same, zeros)
+    own n is same false here = refl
+    each : (s : ℕ) → early_of (get_or t.segments s no_segment) ≡ 0
+    each s = own (get_or t.segments s no_segment) (fits.each s) (un s) ((get_or t.segments s no_segment).kept == 0) refl
+
+-- two lists that differ in one term
+sum_moved : (f : SegmentNumbers → ℕ) (old new : List SegmentNumbers) (s : ℕ) → length new ≡ length old → s < length old
+    → ((i : ℕ) → (i ≡ s → ⊥) → f (get_or new i no_segment) ≡ f (get_or old i no_segment))
+    → sum_by f new + f (get_or old s no_segment) ≡ sum_by f old + f (get_or new s no_segment)
+sum_moved f [] new s size lt same = absurd (omega (arith, lt))
+sum_moved f (a ∷ old) [] s size lt same = absurd (omega (arith, size))
+sum_moved f (a ∷ old) (b ∷ new) zero size lt same =
+    let rest = sum_same f old new (omega (arith, size)) (λ i. same (suc i) (λ h. omega (arith, h))) in
+    omega (arith, rest, sum_by-cons f a old, sum_by-cons f b new)
+sum_moved f (a ∷ old) (b ∷ new) (suc s) size lt same =
+    let rest = sum_moved f old new s (omega (arith, size)) (omega (arith, lt)) (λ i ne. same (suc i) (λ h. ne (omega (arith, h)))) in
+    let first = same 0 (λ h. omega (arith, h)) in
+    omega (arith, rest, first, sum_by-cons f a old, sum_by-cons f b new)
+
+-- A block that is noted in a segment of which nothing is kept is early.
+pub early_noted : (old new : UsageTable) (s : ℕ) (lives : Bool) → s < length old.segments → kept_of old s ≡ 0 → Notes old new s lives → early_in new.segments ≡ early_in old.segments + 1
+unfolding early_in
+early_noted old new s lives lt kept notes =
+    let moved = sum_moved early_of old.segments new.segments s notes.size lt away in
+    let before : early_of (get_or old.segments s no_segment) ≡ live_of old s + held_of old s = ap {B = ℕ} (λ (b : Bool). cond {A = ℕ} b (live_of old s + held_of old s) 0) (eq-eqb (kept_of old s) 0 kept) in
+    let now : early_of (get_or new.segments s no_segment) ≡ live_of new s + held_of new s = ap {B = ℕ} (λ (b : Bool). cond {A = ℕ} b (live_of new s + held_of new s) 0) (eq-eqb (kept_of new s) 0 (notes.kept s ∙ kept)) in
+    let one = one_more lives notes.live notes.held in
+    omega (arith, moved, before, now, one)
+  where
+    away : (i : ℕ) → (i ≡ s → ⊥) → early_of (get_or new.segments i no_segment) ≡ early_of (get_or old.segments i no_segment)
+    away i ne = search rules
+    one_more : (l : Bool) → CountsUp l (live_of old) (live_of new) s → CountsUp (not l) (held_of old) (held_of new) s → live_of new s + held_of new s ≡ live_of old s + held_of old s + 1
+    one_more l live held = search rules
+
+-- Where live, held and kept are the same, as many blocks are early.
+pub early_same : (old new : UsageTable) → length new.segments ≡ length old.segments → ((i : ℕ) → live_of new i ≡ live_of old i) → ((i : ℕ) → held_of new i ≡ held_of old i) → ((i : ℕ) → kept_of new i ≡ kept_of old i)
+    → early_in new.segments ≡ early_in old.segments
+unfolding early_in
+early_same old new size live held kept = sum_same early_of old.segments new.segments size each
+  where
+    each : (i : ℕ) → early_of (get_or new.segments i no_segment) ≡ early_of (get_or old.segments i no_segment)
+    each i = search (rules, live i, held i, kept i)
+
+pub early_taken : (old new : UsageTable) (s number : ℕ) → TakesSegment old new s number → early_in new.segments ≡ early_in old.segments
+early_taken old new s number takes = early_same old new takes.size takes.live takes.held takes.kept
