@@ -12,6 +12,7 @@ use Rattle.lfs_model.specs.Stands.{LogMap, HoldsAt}
 use Rattle.lfs_model.specs.Usage.{SegmentUse, no_use, usage_in, usage_of}
 use Rattle.lfs_model.proofs.Cells.{sector_at}
 use Rattle.lfs_model.proofs.Numbers.{IsBytes}
+use Rattle.lfs_model.proofs.Tables.{block_at}
 use Rattle.lfs_model.proofs.UsageStage.{usage_block_of}
 use Rattle.lfs_model.proofs.Words.{IsUsageBlock, uses_are, usage_block_some}
 use Rattle.lfs_segments.specs.Table.{SegmentNumbers, UsageTable, PlaceInSegment, no_segment, no_place, address_of, stale_of}
@@ -32,6 +33,14 @@ block_bytes c all (suc at) = go (cell_at c (suc at)) (sector_at c (suc at) all)
     go : (x : Cell) → IsSector x → IsBytes (bytes_of x)
     go None is = λ i. omega arith
     go (Some bytes) is = is.each
+
+-- a sector that is lent as the device holds it
+module _ (c : Content) (at : ℕ) (bytes : List ℕ) (there : cell_at c at ≡ Some bytes) where
+  pub lent_block : 2 ≤ at → block c at ≡ bytes
+  lent_block above = block_at c at (omega (arith, above)) ∙ ap bytes_of there
+
+  pub lent_long : AllByRecursion IsSector c → length bytes ≡ 512
+  lent_long all = (subst IsSector there (sector_at c at all)).size
 
 pub taken_none : (t : UsageTable) (uses : List SegmentUse) (j : ℕ) → IsTakenIn t t uses j 0
 taken_none t uses j = record {
@@ -213,10 +222,10 @@ usage_fault d d' k j at low points lacks m keeps st =
     (subst (λ (a : ℕ). length (block d.content a) ≡ 512) points (usage_long d.content k m st j low))
 
 pub usage_undecoded : (d d' : DeviceState) (k : CheckpointValue) (j at : ℕ) (bytes : List ℕ) → j < (k.segments + 63) / 64 → get_or k.usage j 0 ≡ at
-    → (d'.keeps_model → block d.content at ≡ bytes) → AllByRecursion IsSector d.content → length bytes ≡ 512 → (count : ℕ) → count ≡ k.segments - 64 * j → usage_in count bytes ≡ None → LacksTables d d' k
+    → (d'.keeps_model → block d.content at ≡ bytes) → AllByRecursion IsSector d.content → (d'.keeps_model → length bytes ≡ 512) → (count : ℕ) → count ≡ k.segments - 64 * j → usage_in count bytes ≡ None → LacksTables d d' k
 usage_undecoded d d' k j at bytes low points there all long count is none m keeps st =
     let are = subst IsBytes (there keeps) (block_bytes d.content all at) in
-    let some = usage_spelt d.content k m st j low bytes (ap (block d.content) points ∙ there keeps) are long in
+    let some = usage_spelt d.content k m st j low bytes (ap (block d.content) points ∙ there keeps) are (long keeps) in
     let nothing : usage_in (k.segments - 64 * j) bytes ≡ None = subst (λ (n : ℕ). usage_in n bytes ≡ None) is none in
     cc
 

@@ -9,5 +9,6 @@ pub mod MapTables
 pub mod UsageTables
 pub mod Totals
 pub mod Faults
+pub mod Lending
 pub mod Loading
 pub mod Verified

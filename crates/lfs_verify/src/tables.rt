@@ -1,9 +1,12 @@
 //! The usage table and the inode map to which a checkpoint leads, taken into memory.
 ghost use Rattle.std.specs.Prelude.{◌≡◌, ◌<◌, ◌≤◌, ◌+◌, ◌*◌, ◌/◌, ℕ, length, get_or, slice_set, OnOk, IfOk, IfErr, IsFalse};
+ghost use Rattle.std.specs.Borrow.{sem};
+ghost use Rattle.std.specs.Io.BufRead.{Rests};
+ghost use Rattle.lfs_cache.specs.contracts.cache.CachedDevice.{the_row};
 ghost use Rattle.lfs_model.specs.Checkpoint.{FitsCheckpoint, layout_version};
-ghost use Rattle.lfs_model.specs.Content.{block};
 ghost use Rattle.lfs_model.specs.Usage.{IsUse, no_use};
-ghost use Rattle.lfs_verify.specs.Faults.{IsBlockFault, IsTableFault};
+ghost use Rattle.lfs_verify.specs.Faults.{IsTableFault};
+ghost use Rattle.lfs_verify.specs.Lending.{LendsTable};
 ghost use Rattle.lfs_verify.specs.Loading.{IsTakenIn, loaded, IsUsageUpTo, SaysUsage, IsMapUpTo, SaysMap, IsLoaded, SaysTables};
 ghost use Rattle.lfs_verify.specs.Take.{Looks};
 
@@ -36,30 +39,23 @@ pub struct Tables {
     pub meta_blocks: u32,
 }
 
-/// Reads a block of a table; where it can't stand there or can't be read, this stage of a mount
+/// Lends a block of a table; where it can't stand there or can't be read, this stage of a mount
 /// fails.
 fn read_table<D: SectorDevice>(
     device: &mut CachedDevice<D>,
     segments: u32,
     address: u32,
     stage: u8,
-    out: &mut [u8; 512],
-) -> Result<(), MountFault>
+) -> Result<&[u8; 512], MountFault>
     requires size { 2 + 64 * segments ≤ (D.state device.old).size }
-    ensures block { OnOk result ((D.state device.new).keeps_model
-        → block (D.state device.old).content address ≡ out.new) }
-    ensures above { OnOk result (2 ≤ address) }
-    ensures cause { IfErr result (IsBlockFault (D.state device.old) (D.state device.new)
-        segments address) }
-    ensures no_failure { OnOk result
-        ((D.state device.new).failures ≡ (D.state device.old).failures) }
-    ensures looks { Looks (D.state device.old) (D.state device.new) }
+    ensures* lends { sem 𝓛 (Rests (the_row D.row D.SectorDevice) device.entry
+        (λ n. LendsTable (D.state device.old) (D.state n) segments address result)) }
 {
     if address < 2 || address >= 2 + 64 * segments {
         return Err(MountFault::Damaged(stage));
     }
-    match device.read(address, out) {
-        Ok(()) => Ok(()),
+    match device.read_ref(address) {
+        Ok(block) => Ok(block),
         Err(ReadFault::Unreadable) => Err(MountFault::Damaged(stage)),
         Err(ReadFault::Failed) => Err(MountFault::Device),
     }
@@ -130,12 +126,11 @@ fn load_usage_block<D: SectorDevice>(
         ((D.state device.new).failures ≡ (D.state device.old).failures) }
     ensures looks { Looks (D.state device.old) (D.state device.new) }
 {
-    let mut bytes = [0; 512];
     let segments = segments_of(checkpoint);
     let address = usage_address(checkpoint, index);
-    read_table(device, segments, address, 1, &mut bytes)?;
+    let bytes = read_table(device, segments, address, 1)?;
     let count = segments - 64 * index;
-    let Some(block) = UsageView::decode(&bytes, count as usize) else {
+    let Some(block) = UsageView::decode(bytes, count as usize) else {
         return Err(MountFault::Damaged(1));
     };
     take_entries(usage, index, &block);
@@ -189,14 +184,13 @@ fn load_map_block<D: SectorDevice>(
         ((D.state device.new).failures ≡ (D.state device.old).failures) }
     ensures looks { Looks (D.state device.old) (D.state device.new) }
 {
-    let mut bytes = [0; 512];
     let segments = segments_of(checkpoint);
     let address = map_address(checkpoint, index);
     if address == 0 {
         return Ok(());
     }
-    read_table(device, segments, address, 3, &mut bytes)?;
-    map.load(index as usize, &PointerView::new(&bytes));
+    let bytes = read_table(device, segments, address, 3)?;
+    map.load(index as usize, &PointerView::new(bytes));
     map.set_block_address(index as usize, address);
     Ok(())
 }
