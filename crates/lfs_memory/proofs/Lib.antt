@@ -7,6 +7,7 @@ pub mod FileSteps
 pub mod Presents
 pub mod LeafPresents
 pub mod Lifted
+pub mod Lent
 pub mod LiftedKeys
 pub mod LiftedWays
 pub mod Gathered

@@ -12,7 +12,6 @@ ghost use Rattle.lfs_memory.specs.Present.{FailsFromDevice, AnswersBlock};
 ghost use Rattle.lfs_memory.specs.Lifting.{IsInMemory, Prepares, Gathers, IsCountedAbove, Brings, MapLifts, IsMapLost, IsAbsent, IsLeafAbsent};
 
 use crate::memory::LogMemory;
-use crate::present::read_present;
 use lfs_cache::CachedDevice;
 use lfs_device::{DeviceFault, SectorDevice};
 use lfs_inodes::{BlockKey, DIRECT, IN_MEMORY, InodeMap, POINTERS};
@@ -158,13 +157,16 @@ pub fn lift<D: SectorDevice>(
     if !is_counted(&memory.usage, address, lives) {
         return Err(LiftFault::Device);
     }
-    let mut bytes = [0; 512];
-    match read_present(device, memory, key, address, &mut bytes) {
-        Ok(()) => {}
-        Err(_) => return Err(LiftFault::Device),
+    if address >= device.sectors() {
+        return Err(LiftFault::Device);
     }
-    bring(memory, key, address, lives, &bytes);
-    Ok(())
+    match device.read_ref(address) {
+        Ok(block) => {
+            bring(memory, key, address, lives, block);
+            Ok(())
+        }
+        Err(_) => Err(LiftFault::Device),
+    }
 }
 
 /// Whether a block is in memory.
