@@ -5,7 +5,7 @@ use Rattle.std.specs.Ordering.{nat_cmp}
 use Rattle.std.specs.FinMap.{is_sorted}
 use Rattle.std.proofs.lemmas.List.Sums.{sum_by-cons}
 use Rattle.lfs_inodes.specs.Blocks.{Blocks, TableValue, number_at}
-use Rattle.lfs_inodes.specs.Data.{is_data_code, data_in}
+use Rattle.lfs_inodes.specs.Data.{is_data_code, data_count}
 use Rattle.lfs_inodes.proofs.Blocks.{rises}
 
 abbrev one : ℕ × List ℕ → ℕ
@@ -68,14 +68,14 @@ few_before (e ∷ es) up (suc i) far =
     at_most true = omega arith
     at_most false = omega arith
 
-pub has_data : (t : TableValue) → T (is_sorted nat_cmp t.blocks) → (i : ℕ) → i < length t.blocks → is_data_code (number_at t.blocks i) ≡ true → i < data_in t
-unfolding data_in
+pub has_data : (t : TableValue) → T (is_sorted nat_cmp t.blocks) → (i : ℕ) → i < length t.blocks → is_data_code (number_at t.blocks i) ≡ true → i < data_count t
+unfolding data_count
 has_data t sorted i lt is = all_before t.blocks (rises t.blocks sorted) i lt (below _ is)
 
-pub lacks_data : (t : TableValue) → T (is_sorted nat_cmp t.blocks) → (i : ℕ) → (i < length t.blocks → is_data_code (number_at t.blocks i) ≡ false) → data_in t ≤ i
-unfolding data_in
+pub lacks_data : (t : TableValue) → T (is_sorted nat_cmp t.blocks) → (i : ℕ) → (i < length t.blocks → is_data_code (number_at t.blocks i) ≡ false) → data_count t ≤ i
+unfolding data_count
 lacks_data t sorted i far = few_before t.blocks (rises t.blocks sorted) i (λ lt. above _ (far lt))
 
-pub no_data : (t : TableValue) → t.blocks ≡ [] → data_in t ≡ 0
-unfolding data_in
+pub no_data : (t : TableValue) → t.blocks ≡ [] → data_count t ≡ 0
+unfolding data_count
 no_data t none = ap (sum_by one) none

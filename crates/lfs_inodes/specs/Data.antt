@@ -6,5 +6,5 @@ use Rattle.lfs_inodes.specs.Blocks.{TableValue}
 abbrev pub is_data_code : ℕ → Bool
 is_data_code c = nat_lt c 134217728
 
-unfoldable pub data_in : TableValue → ℕ
-data_in t = sum_by (λ e. cond (is_data_code e.0) 1 0) t.blocks
+unfoldable pub data_count : TableValue → ℕ
+data_count t = sum_by (λ e. cond (is_data_code e.0) 1 0) t.blocks

@@ -15,7 +15,7 @@ ghost use Rattle.lfs_inodes.specs.Blocks.{blocks_of, altered, number_at, HasNumb
 ghost use Rattle.lfs_inodes.specs.Code.{IsCode};
 ghost use Rattle.lfs_inodes.specs.Clearing.{LeavesPast, zeroed};
 ghost use Rattle.lfs_inodes.specs.Held.{times, one_below};
-ghost use Rattle.lfs_inodes.specs.Data.{data_in};
+ghost use Rattle.lfs_inodes.specs.Data.{data_count};
 
 use crate::key::{BlockKey, IN_MEMORY};
 use lfs_layout::{set_word, word};
@@ -125,9 +125,9 @@ impl DirtyTable {
     /// Whether there are so many data blocks.
     pub fn has_data(&self, count: usize) -> bool
         requires { 1 ≤ count }
-        ensures yes { IsTrue result → count ≤ data_in self.now }
+        ensures yes { IsTrue result → count ≤ data_count self.now }
         ensures many { IsTrue result → count ≤ length self.now.blocks }
-        ensures no { IsFalse result → data_in self.now < count }
+        ensures no { IsFalse result → data_count self.now < count }
     {
         count <= self.len() && self.key_at(count - 1).is_data()
     }

@@ -36,7 +36,7 @@ module _ (v v' : LogMemory) (name : BlockNameValue) (lives : Bool) (age place : 
   taken none = ⊎_elim
       (λ (takes : TakesSegment v.usage p.middle v'.chunk.segment age). takes)
       (λ (goes : GoesOn v.usage p.middle v'.chunk.segment age). absurd (some_behind v.usage v'.chunk.segment
-          (sym (p.noted.last ∙ goes.last) ∙ p.opened.last) goes.room (fresh.closed (no_names v.chunk.names none))))
+      (sym (p.noted.last ∙ goes.last) ∙ p.opened.last) goes.room (fresh.closed (no_names v.chunk.names none))))
       (p.begun none)
 
   kept_middle : kept_of p.middle v'.chunk.segment ≡ 0
@@ -57,6 +57,7 @@ module _ (v v' : LogMemory) (name : BlockNameValue) (lives : Bool) (age place : 
       longer : (xs : List BlockNameValue) → 0 < length (xs ++ name ∷ [])
       longer [] = omega arith
       longer (x ∷ xs) = omega arith
+
       some_names : (xs : List BlockNameValue) → v'.chunk.names ≡ xs ++ name ∷ [] → 0 < length v'.chunk.names
       some_names xs is = subst (λ (ys : List BlockNameValue). 0 < length ys) (sym is) (longer xs)
 
@@ -88,9 +89,10 @@ begun_fresh v is = record {
 
 -- the same chunk and table
 pub begun_same : (v v' : LogMemory) → v'.usage ≡ v.usage → v'.chunk ≡ v.chunk → IsBegunFresh v → IsBegunFresh v'
-begun_same v v' usage chunk is =
-    (subst (λ (c : Chunk). 0 < length c.names) (sym chunk) is.0,
-     ap (λ (u : UsageTable). kept_of u v'.chunk.segment) usage ∙ ap (λ (c : Chunk). kept_of v.usage c.segment) chunk ∙ is.1)
+begun_same v v' usage chunk is = (
+  subst (λ (c : Chunk). 0 < length c.names) (sym chunk) is.0,
+  ap (λ (u : UsageTable). kept_of u v'.chunk.segment) usage ∙ ap (λ (c : Chunk). kept_of v.usage c.segment) chunk ∙ is.1,
+)
 
 -- A block went out, and perhaps the summary of its chunk.
 pub goes_early : (v v' v'' : LogMemory) → IsFresh v'' → length v'.dirty.blocks + 1 ≡ length v.dirty.blocks → v''.dirty ≡ v'.dirty → v''.usage ≡ v'.usage

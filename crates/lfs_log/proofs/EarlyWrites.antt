@@ -8,7 +8,7 @@ use Rattle.lfs_model.proofs.Settled.{settled_stands}
 use Rattle.lfs_memory.specs.segments.Table.{UsageTable, clean_in}
 use Rattle.lfs_memory.proofs.of_segments.Spare.{emptied_stay}
 use Rattle.lfs_memory.specs.inodes.Blocks.{Capacity}
-use Rattle.lfs_memory.specs.inodes.Data.{data_in}
+use Rattle.lfs_memory.specs.inodes.Data.{data_count}
 use Rattle.lfs_memory.specs.declared.memory.LogMemory.{LogMemory}
 use Rattle.lfs_memory.specs.Memory.{Stops}
 use Rattle.lfs_memory.proofs.Going.{has_room_still}
@@ -17,7 +17,7 @@ use Rattle.lfs_log.specs.Held.{Held, Halts, IsReadyToPass, WritesEarly}
 
 module _ {D : Type 0} (state : D → DeviceState) where
   pub writes_early : (h h' : Held D) → WritesChunks (state h.device) (state h'.device) h.memory h'.memory → h'.number ≡ h.number → h'.version ≡ h.version → h'.upgraded ≡ h.upgraded → h'.halted ≡ false
-      → (h' ≡ h) ⊎ (reserve_of (length h'.memory.usage.segments) ≤ clean_in h'.memory.usage.segments) → (data_in h.memory.dirty < full_chunk → h' ≡ h) → WritesEarly state h h'
+      → (h' ≡ h) ⊎ (reserve_of (length h'.memory.usage.segments) ≤ clean_in h'.memory.usage.segments) → (data_count h.memory.dirty < full_chunk → h' ≡ h) → WritesEarly state h h'
   writes_early h h' c number version upgraded running reserve idle = record {
     carries = c.goes.1.carries;
     running = running;

@@ -19,7 +19,7 @@ use Rattle.lfs_memory.specs.segments.Table.{SegmentNumbers, PlaceInSegment, Usag
 use Rattle.lfs_memory.specs.segments.Chunk.{Chunk}
 use Rattle.lfs_memory.specs.segments.Spare.{emptied_in}
 use Rattle.lfs_memory.specs.inodes.Blocks.{Capacity, TableValue}
-use Rattle.lfs_memory.specs.inodes.Data.{data_in}
+use Rattle.lfs_memory.specs.inodes.Data.{data_count}
 use Rattle.lfs_memory.specs.inodes.MapValue.{MapValue}
 use Rattle.lfs_memory.specs.declared.memory.LogMemory.{LogMemory}
 use Rattle.lfs_memory.specs.Memory.{IsMemory, HasRoom, IsLog}
@@ -219,7 +219,7 @@ module _ {D : Type 0} (state : D → DeviceState) where
     pub unsaved : unsaved_in h' ≡ unsaved_in h
     -- nothing was written, or what the next commit asks for is clean still
     pub reserve : (h' ≡ h) ⊎ (reserve_of (length h.memory.usage.segments) ≤ clean_in h'.memory.usage.segments)
-    pub idle : data_in h.memory.dirty < full_chunk → h' ≡ h
+    pub idle : data_count h.memory.dirty < full_chunk → h' ≡ h
     -- the next commit takes fewer segments and gives fewer orders, by those that were taken and given here
     pub taken : clean_in h.memory.usage.segments + segments_for (length h'.memory.dirty.blocks)
         ≤ clean_in h'.memory.usage.segments + segments_for (length h.memory.dirty.blocks)

@@ -3,7 +3,7 @@
 //! that stops.
 ghost use Rattle.std.specs.Prelude.{◌≡◌, ◌<◌, ◌≤◌, ◌+◌, ◌⊎◌, [], length, OnOk, OnErr, IsTrue, IsFalse};
 ghost use Rattle.lfs_memory.specs.segments.Table.{clean_in};
-ghost use Rattle.lfs_memory.specs.inodes.Data.{data_in};
+ghost use Rattle.lfs_memory.specs.inodes.Data.{data_count};
 ghost use Rattle.lfs_memory.specs.Memory.{IsMemory, HasRoom, Goes, Stops, room_of};
 ghost use Rattle.lfs_log.specs.Early.{GoesEarly, IsFresh, WritesChunks, blocks_due, reserve_of};
 ghost use Rattle.lfs_log.specs.Saving.{orders_for};
@@ -110,11 +110,11 @@ pub fn write_chunks<D: SectorDevice>(
     requires closed { memory.old.chunk.names ≡ [] }
     ensures done { OnOk result (WritesChunks (D.state device.old) (D.state device.new)
         memory.old memory.new) }
-    ensures left { OnOk result ((data_in memory.new.dirty < FULL_CHUNK)
+    ensures left { OnOk result ((data_count memory.new.dirty < FULL_CHUNK)
         ⊎ (clean_in memory.new.usage.segments ≤ reserve_of (length memory.new.usage.segments))) }
     ensures reserve { OnOk result (((device.new ≡ device.old) × (memory.new ≡ memory.old))
         ⊎ (reserve_of (length memory.new.usage.segments) ≤ clean_in memory.new.usage.segments)) }
-    ensures idle { data_in memory.old.dirty < FULL_CHUNK
+    ensures idle { data_count memory.old.dirty < FULL_CHUNK
         → (device.new ≡ device.old) × (memory.new ≡ memory.old) }
     ensures stopped { OnErr result (Stops (D.state device.old) (D.state device.new) memory.old) }
     ensures told { length (D.state device.new).told

@@ -12,7 +12,7 @@ ghost use Rattle.lfs_log.specs.Opening.{CountsOpened};
 ghost use Rattle.lfs_memory.specs.Preparing.{LacksRoom};
 ghost use Rattle.lfs_memory.specs.Batch.{room_for};
 ghost use Rattle.lfs_memory.specs.Memory.{IsMemory};
-ghost use Rattle.lfs_memory.specs.inodes.Data.{data_in};
+ghost use Rattle.lfs_memory.specs.inodes.Data.{data_count};
 ghost use Rattle.lfs_memory.specs.inodes.MapValue.{IsMap};
 ghost use Rattle.lfs_memory.specs.segments.Early.{AreUntaken};
 
@@ -527,7 +527,7 @@ impl<D: SectorDevice> Log<D> {
     /// `Halted` where a call of the device failed, here or in a commit before.
     pub fn write_early(&mut self) -> Result<(), LogFault>
         ensures done { OnOk result (WritesEarly D.SectorDevice.state self.old self.new) }
-        ensures left { OnOk result ((data_in self.new.memory.dirty < full_chunk)
+        ensures left { OnOk result ((data_count self.new.memory.dirty < full_chunk)
             ⊎ (clean_in self.new.memory.usage.segments
             ≤ reserve_of (length self.new.memory.usage.segments))) }
         ensures totals { self.new.totals ≡ self.old.totals }

@@ -138,6 +138,7 @@ early_of_untaken t fits un = sum_none early_of t.segments each
     own : (n : SegmentNumbers) → FitsSegment n → n.kept ≡ n.used → (b : Bool) → (n.kept == 0) ≡ b → cond b (n.live + n.held) 0 ≡ 0
     own n is same true here = let fewer = is.fewer in let zeros = eqb-true n.kept 0 here in omega (arith, fewer, same, zeros)
     own n is same false here = refl
+
     each : (s : ℕ) → early_of (get_or t.segments s no_segment) ≡ 0
     each s = own (get_or t.segments s no_segment) (fits.each s) (un s) ((get_or t.segments s no_segment).kept == 0) refl
 
@@ -167,6 +168,7 @@ early_noted old new s lives lt kept notes =
   where
     away : (i : ℕ) → (i ≡ s → ⊥) → early_of (get_or new.segments i no_segment) ≡ early_of (get_or old.segments i no_segment)
     away i ne = search rules
+
     one_more : (l : Bool) → CountsUp l (live_of old) (live_of new) s → CountsUp (not l) (held_of old) (held_of new) s → live_of new s + held_of new s ≡ live_of old s + held_of old s + 1
     one_more l live held = search rules
 

@@ -8,7 +8,7 @@ use Rattle.lfs_model.specs.Totals.{IsCounted}
 use Rattle.lfs_model.proofs.Moments.{carries_none, started, weaker}
 use Rattle.lfs_model.proofs.Settled.{settled_stands}
 use Rattle.lfs_cleaner.specs.log.verify.declared.totals.BlockTotals.{BlockTotals}
-use Rattle.lfs_cleaner.specs.log.inodes.Data.{data_in}
+use Rattle.lfs_cleaner.specs.log.inodes.Data.{data_count}
 use Rattle.lfs_cleaner.specs.log.segments.Table.{clean_in}
 use Rattle.lfs_cleaner.specs.log.Early.{full_chunk}
 use Rattle.lfs_cleaner.specs.log.Held.{AreAllSaved, Held, IsSaved, Saves, WritesEarly}
@@ -53,7 +53,7 @@ module _ {D : Type 0} (state : D → DeviceState) where
     rest_early : IsAtRest h → IsAtRest h'
     rest_early rest =
         let none = no_data h.memory.dirty rest.nothing.blocks in
-        let few : data_in h.memory.dirty < full_chunk = omega (arith, none) in
+        let few : data_count h.memory.dirty < full_chunk = omega (arith, none) in
         subst (λ (x : Held D). IsAtRest x) (sym (w.idle few)) rest
 
     keeps_early : KeepsMap state h h' 0

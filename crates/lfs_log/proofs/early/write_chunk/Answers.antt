@@ -35,7 +35,7 @@ returns-in_err-save_chunk-clause-most g c =
     let same = ap (λ (u : UsageTable). clean_in u.segments) c.end_last.ensures in
     let room = c.save_chunk.ensures.room in
     let le = chunk_told c.args.memory.now c.save_chunk.new.memory c.end_last.new.self (length (g.D.SectorDevice.state c.args.device.now).told) (length (g.D.SectorDevice.state c.save_chunk.new.device).told) 64
-            c.end_last.ensures c.requires.closed (omega (arith, same, room)) (omega (arith, most)) in
+    c.end_last.ensures c.requires.closed (omega (arith, same, room)) (omega (arith, most)) in
     omega (arith, le)
 
 pub returns-in_err-seal_rest-clause-stopped : goal.returns-in_err-seal_rest-clause-stopped
@@ -57,7 +57,7 @@ returns-in_err-seal_rest-clause-most g c =
     let after = ap (λ (u : UsageTable). clean_in u.segments) c.seal_rest.ensures.usage in
     let room = c.save_chunk.ensures.room in
     let le = chunk_told c.args.memory.now c.save_chunk.new.memory c.end_last.new.self (length (g.D.SectorDevice.state c.args.device.now).told) (length (g.D.SectorDevice.state c.seal_rest.new.device).told) 63
-            c.end_last.ensures c.requires.closed (omega (arith, before, room)) (omega (arith, tells, told, after)) in
+    c.end_last.ensures c.requires.closed (omega (arith, before, room)) (omega (arith, tells, told, after)) in
     omega (arith, le)
 
 pub returns-clause-done : goal.returns-clause-done

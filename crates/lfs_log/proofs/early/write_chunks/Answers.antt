@@ -1,6 +1,6 @@
 use Rattle.std.proofs.Common.{rules, ◌≡◌, ◌<◌, ◌≤◌, ◌⊎◌, inl, inr, ◌+◌, ◌∙◌, length, refl, sym, ap, subst, arith}
 use Rattle.lfs_memory.specs.segments.Table.{clean_in}
-use Rattle.lfs_memory.specs.inodes.Data.{data_in}
+use Rattle.lfs_memory.specs.inodes.Data.{data_count}
 use Rattle.lfs_memory.specs.declared.memory.LogMemory.{LogMemory}
 use Rattle.lfs_memory.specs.Memory.{Stops}
 use Rattle.lfs_memory.proofs.Going.{on_err, stops_then, has_room_still}
@@ -36,7 +36,7 @@ loop-memory-preserved g c =
     let done = c.in_ok-write_chunk.ensures in
     let goes = done.done in
     let above : reserve_of (length c.loop-memory.memory.usage.segments) < clean_in c.loop-memory.memory.usage.segments = c.is_above_reserve.ensures.yes (search rules) in
-    let full : full_chunk ≤ data_in c.loop-memory.memory.dirty = c.has_data.ensures.yes (search rules) in
+    let full : full_chunk ≤ data_count c.loop-memory.memory.dirty = c.has_data.ensures.yes (search rules) in
     let taken = done.taken in
     let size = goes.segments in
     record {
@@ -45,6 +45,6 @@ loop-memory-preserved g c =
       reserve = inr (omega (arith, above, taken, size));
       idle = λ few.
           let still = c.loop-memory.invariant.idle few in
-          let same = ap (λ (v : LogMemory). data_in v.dirty) still.1 in
+          let same = ap (λ (v : LogMemory). data_count v.dirty) still.1 in
           absurd (omega (arith, same, few, full));
     }

@@ -58,6 +58,7 @@ invariant_of-self c =
     let inside : c.args.segment < length c.self.inside.states.items = search rules in
     let cleans : c.exchanged-self-inside.result + cond ((get_or c.self.inside.states.items c.args.segment no_segment).used == 0) 1 0 ≡ c.self.inside.clean + cond (c.args.state.used == 0) 1 0 = search rules in
     let earlies : c.exchanged-self-inside-2.result + early_of (get_or c.self.inside.states.items c.args.segment no_segment) ≡ c.self.inside.early + early_of c.args.state = search rules in
-    let takens : c.exchanged-self-inside-3.result + taken_of (get_or c.self.inside.states.items c.args.segment no_segment) ≡ c.self.inside.taken + taken_of c.args.state = search rules in
-    (set_fits c.self.inside.last c.self.inside.states.items c.self.inside.blocks.items c.args.segment c.args.state c.self.invariant.0 inside c.requires.fits,
-     totals_change c.self.inside.states.items c.args.segment c.args.state c.self.inside.clean c.self.inside.early c.self.inside.taken c.exchanged-self-inside.result c.exchanged-self-inside-2.result c.exchanged-self-inside-3.result inside c.self.invariant.1 cleans earlies takens)
+    let takens : c.exchanged-self-inside-3.result + taken_of (get_or c.self.inside.states.items c.args.segment no_segment) ≡ c.self.inside.taken + taken_of c.args.state = search rules in (
+      set_fits c.self.inside.last c.self.inside.states.items c.self.inside.blocks.items c.args.segment c.args.state c.self.invariant.0 inside c.requires.fits,
+      totals_change c.self.inside.states.items c.args.segment c.args.state c.self.inside.clean c.self.inside.early c.self.inside.taken c.exchanged-self-inside.result c.exchanged-self-inside-2.result c.exchanged-self-inside-3.result inside c.self.invariant.1 cleans earlies takens,
+    )

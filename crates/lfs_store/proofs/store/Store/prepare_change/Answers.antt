@@ -32,7 +32,7 @@ returns-in-Ok-find_segments-clause-room g c e =
     let fewer = none.1.fewer in
     let same = ap (λ (k : Capacity). k.limit) none.1.capacity in
     let room : length c.find_room.new.self.log.memory.dirty.blocks + room_for c.find_segments.new.self.draft.changes ≤ c.find_room.new.self.log.memory.dirty.capacity.limit =
-        subst (λ (d : Draft). length c.find_room.new.self.log.memory.dirty.blocks + room_for d.changes ≤ c.find_room.new.self.log.memory.dirty.capacity.limit) (sym c.in-Ok-find_segments.ensures.draft) (c.in-Ok.ensures.room none.0) in
+    subst (λ (d : Draft). length c.find_room.new.self.log.memory.dirty.blocks + room_for d.changes ≤ c.find_room.new.self.log.memory.dirty.capacity.limit) (sym c.in-Ok-find_segments.ensures.draft) (c.in-Ok.ensures.room none.0) in
     omega (arith, fewer, room, same)
 
 pub returns-in-Ok-find_segments-clause-quiet : goal.returns-in-Ok-find_segments-clause-quiet
