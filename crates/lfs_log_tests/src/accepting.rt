@@ -2,12 +2,13 @@
 use crate::devices::Probe::{Fail, Stop};
 use crate::store_steps::Call::{FilesTo, GiveUp};
 use crate::store_steps::Count::{Clean, Drafted, Number, Saved};
-use crate::store_steps::Edit::File;
-use crate::store_steps::Look::{Holds, HoldsTo, Lacks};
+use crate::store_steps::Edit::{File, Header};
+use crate::store_steps::Look::{Holds, HoldsTo, Is, Lacks};
 use crate::store_steps::Step::{Accepts, Calls, Commits, Counts, Drafts, On, Sees};
 use crate::store_steps::check;
 use crate::volume::Wrong;
 use lfs_device::{DeviceCall, Left};
+use lfs_model::Kind;
 use lfs_store::StoreFault;
 use lfs_store::volume_log::LogFault;
 
@@ -79,29 +80,65 @@ fn too_few_clean_segments_are_made_more(rt: HostRuntime) -> Result<(), Wrong> {
     check(rt.alloc(), &steps)
 }
 
+// Five files of 100 blocks and their inodes are more than memory has room for.
+#[test]
+fn early_writes_make_room_in_memory(rt: HostRuntime) -> Result<(), Wrong> {
+    for left in [Left::Old, Left::New, Left::Bad] {
+        let steps = [
+            Drafts(File(2, 100)),
+            Accepts(Ok(())),
+            Drafts(File(3, 100)),
+            Accepts(Ok(())),
+            Drafts(File(4, 100)),
+            Accepts(Ok(())),
+            Drafts(File(5, 100)),
+            Accepts(Ok(())),
+            Drafts(File(6, 100)),
+            Accepts(Ok(())),
+            Counts(Saved(false)),
+            Counts(Number(1)),
+            Sees(HoldsTo(7)),
+            On(Stop(left)),
+            Counts(Saved(true)),
+            Counts(Number(1)),
+            Sees(Lacks(2)),
+            Sees(Lacks(6)),
+        ];
+        check(rt.alloc(), &steps)?;
+    }
+    Ok(())
+}
+
+// With 16 clean segments nothing may be written early.
 #[test]
 fn a_commit_makes_room_in_memory(rt: HostRuntime) -> Result<(), Wrong> {
     let steps = [
-        Drafts(File(2, 100)),
+        Calls(FilesTo(49)),
+        Counts(Clean(16)),
+        Counts(Number(48)),
+        Drafts(File(50, 100)),
+        Drafts(Header(50, 51_200)),
+        Accepts(Ok(())),
+        Drafts(File(51, 100)),
+        Drafts(Header(51, 51_200)),
+        Accepts(Ok(())),
+        Drafts(File(52, 100)),
+        Drafts(Header(52, 51_200)),
+        Accepts(Ok(())),
+        Counts(Number(48)),
+        Drafts(File(53, 100)),
+        Drafts(Header(53, 51_200)),
+        Accepts(Ok(())),
+        Drafts(File(54, 100)),
+        Drafts(Header(54, 51_200)),
         Accepts(Ok(())),
         Counts(Saved(false)),
-        Drafts(File(3, 100)),
-        Accepts(Ok(())),
-        Counts(Saved(false)),
-        Drafts(File(4, 100)),
-        Accepts(Ok(())),
-        Counts(Saved(false)),
-        Drafts(File(5, 100)),
-        Accepts(Ok(())),
-        Counts(Saved(false)),
-        Drafts(File(6, 100)),
-        Accepts(Ok(())),
-        Counts(Saved(false)),
-        Drafts(File(7, 100)),
-        Accepts(Ok(())),
-        Counts(Saved(false)),
-        Counts(Number(2)),
-        Sees(HoldsTo(8)),
+        Sees(Is(54, Kind::File, 1, 51_200)),
+        On(Stop(Left::Old)),
+        Sees(HoldsTo(49)),
+        Sees(Is(50, Kind::File, 1, 51_200)),
+        Sees(Is(52, Kind::File, 1, 51_200)),
+        Sees(Lacks(54)),
     ];
     check(rt.alloc(), &steps)
 }

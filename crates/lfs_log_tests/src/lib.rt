@@ -10,6 +10,8 @@ mod devices;
 #[cfg(test)]
 mod drafts;
 #[cfg(test)]
+mod early;
+#[cfg(test)]
 mod log;
 #[cfg(test)]
 mod log_steps;

@@ -28,6 +28,8 @@ pub enum Act {
     /// Files of 60 blocks from number 2 to before this one are made, each with a commit of its own,
     /// which fills a segment: with an inode and two blocks of the tables it has 63.
     MakeTo(u16),
+    /// Full chunks of data blocks are written without a commit.
+    WriteEarly,
     Commit,
     /// A pass of the cleaner over two segments.
     Empty(u16, u16),
@@ -40,7 +42,7 @@ pub enum Look {
     Number(u64),
     /// How many segments are clean.
     Clean(u32),
-    /// How many blocks are in memory.
+    /// How many blocks no acknowledged checkpoint leads to.
     Unsaved(usize),
     /// Whether a commit failed.
     Halted(bool),
@@ -172,6 +174,7 @@ fn carry_out(log: &mut Log<MemDevice>, alloc: Global, act: Act) -> Result<(), Lo
     let totals = log.totals();
     match act {
         Act::Remove(file) => log.remove(file % 4_096, totals),
+        Act::WriteEarly => log.write_early(),
         Act::Commit => log.commit(),
         Act::FillTo(end, byte) => fill_to(log, alloc, end, byte),
         Act::FillEdges => fill_edges(log, alloc),

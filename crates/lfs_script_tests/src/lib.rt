@@ -4,6 +4,8 @@
 #[cfg(test)]
 mod cleaning;
 #[cfg(test)]
+mod early;
+#[cfg(test)]
 mod moving;
 #[cfg(test)]
 mod names;

@@ -20,7 +20,7 @@ const LINES: [&str; 7] = [
 
 // How many stops left more than the last acknowledged sync holds.
 fn newer_stops(alloc: Global, left: Option<Left>) -> Result<u32, Fail> {
-    let plain = plain_run(alloc, 1, &LINES)?;
+    let plain = plain_run(alloc, 1, &LINES, &[])?;
     let writes = trial(alloc, &LINES, &plain, u64::MAX, left)?.writes;
     let mut newer = 0u32;
     for write in 0..writes.saturating_add(1) {

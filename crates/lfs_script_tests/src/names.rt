@@ -92,7 +92,7 @@ struct Tally {
 
 // Tally within each write, and behind the last.
 fn stops(alloc: Global, left: Option<Left>) -> Result<Tally, Fail> {
-    let plain = plain_run(alloc, 1, &LINES)?;
+    let plain = plain_run(alloc, 1, &LINES, &[])?;
     let writes = trial(alloc, &LINES, &plain, u64::MAX, left)?.writes;
     let mut newer = 0u32;
     for write in 0..writes.saturating_add(1) {
@@ -104,7 +104,7 @@ fn stops(alloc: Global, left: Option<Left>) -> Result<Tally, Fail> {
 
 #[test]
 fn no_call_is_refused(rt: HostRuntime) -> Result<(), Fail> {
-    for reply in &plain_run(rt.alloc(), 1, &LINES)?.replies {
+    for reply in &plain_run(rt.alloc(), 1, &LINES, &[])?.replies {
         assert!(rt; reply.as_slice().starts_with(b"ok"));
     }
     Ok(())

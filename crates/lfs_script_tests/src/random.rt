@@ -10,13 +10,19 @@ use std::test::Fail;
 
 /// What chooses the calls and the stops.
 #[derive(Drop)]
-struct Dice {
+pub struct Dice {
     generator: Pcg32,
 }
 
 impl Dice {
+    pub fn new(seed: u64) -> Dice {
+        Dice {
+            generator: Pcg32::new(seed, 1),
+        }
+    }
+
     /// A number below the count of sides.
-    fn roll(&mut self, sides: u32) -> u32
+    pub fn roll(&mut self, sides: u32) -> u32
         requires { 0 < sides }
         ensures { result < sides }
     {
@@ -122,15 +128,13 @@ fn rolled_lines(alloc: Global, dice: &mut Dice, count: u32) -> Result<Vec<String
 // A random script on a volume of this version: without a stop, and with stops within four of its
 // writes.
 fn trials(alloc: Global, version: u8, seed: u64) -> Result<(), Fail> {
-    let mut dice = Dice {
-        generator: Pcg32::new(seed, 1),
-    };
+    let mut dice = Dice::new(seed);
     let rolled = rolled_lines(alloc, &mut dice, 100)?;
     let mut lines = Vec::new(alloc);
     for line in &rolled {
         lines.push(line.as_str())?;
     }
-    let plain = plain_run(alloc, version, lines.as_slice())?;
+    let plain = plain_run(alloc, version, lines.as_slice(), &[])?;
     let writes = trial(alloc, lines.as_slice(), &plain, u64::MAX, None)?.writes;
     for left in [Some(Left::Old), Some(Left::New), Some(Left::Bad), None] {
         let write = u64::from(dice.roll(1_000)) % writes.saturating_add(1);

@@ -5,7 +5,7 @@ use crate::volume::{SECTORS, answered, new_device};
 use lfs_device::{Left, MemDevice};
 use lfs_script::fs::MountFault;
 use lfs_script::{ScriptEnd, StoppedScript, use_and_stop, use_each};
-use std::alloc::Global;
+use std::alloc::{AllocError, Global};
 use std::test::Fail;
 
 // Whether a write of so many hexadecimal zeros, with this behind them, has these replies.
@@ -72,6 +72,33 @@ fn uses_in_turn(rt: HostRuntime) -> Result<(), Fail> {
             let output = used_in_turn(rt.alloc(), first, second, left)?.ok_or("not mounted")?;
             assert!(rt; output.as_slice() == replies);
         }
+    }
+    Ok(())
+}
+
+// A script that writes a file of 2,154 blocks and doesn't save it, and its replies.
+fn large_file(alloc: Global) -> Result<(String, String), AllocError> {
+    let mut script = "create /f\n".to_string(alloc)?;
+    let mut replies = "ok 0\n".to_string(alloc)?;
+    for piece in 0..16u32 {
+        let line = format!(in alloc; "fill 0 {} 65536 255\n", 65_536 * piece)?;
+        script.push_str(line.as_str())?;
+        replies.push_str("ok 65536\n")?;
+    }
+    script.push_str("fill 0 1048576 54272 255\n")?;
+    replies.push_str("ok 54272\n")?;
+    Ok((script, replies))
+}
+
+// No commit is made as the file is written: a stop leaves an empty tree.
+#[test]
+fn a_large_file_that_is_not_saved(rt: HostRuntime) -> Result<(), Fail> {
+    let alloc = rt.alloc();
+    let (script, mut replies) = large_file(alloc)?;
+    replies.push_str("ok 0\n")?;
+    for left in [Left::Old, Left::New, Left::Bad] {
+        let output = used_in_turn(alloc, script.as_bytes(), b"tree\n", left)?.ok_or("not mounted")?;
+        assert!(rt; output.as_slice() == replies.as_bytes());
     }
     Ok(())
 }
