@@ -16,7 +16,8 @@ use lfs_log::{Log, LogFault};
 /// `Full` where no list of an eighth of the segments and one at most gains one, or where
 /// `Log::clean` refuses it: nothing changed. Where the log holds a log map for which a pass may be
 /// made (`CanPass`), it never answers so. `Device` where a call of the device failed before
-/// anything was written: nothing changed. `Halted` where one failed later, or in a commit before.
+/// anything was written: nothing changed. `Halted` where one failed later, or as the log was
+/// written before.
 pub fn pass<D: SectorDevice>(log: &mut Log<D>) -> Result<(), LogFault>
     ensures done { OnOk result (Passes D.SectorDevice.state log.old log.new) }
     ensures totals { log.new.totals ≡ log.old.totals }

@@ -98,7 +98,7 @@ fn commit_unsaved<D: SectorDevice>(log: &mut Log<D>) -> Result<(), LogFault>
 ///
 /// With the log map as it was: `Full` where a commit finds too few clean segments, or no pass gains
 /// one, `Device` where a call of the device failed before anything more was written. `Halted` where
-/// one failed later, or in a commit before.
+/// one failed later, or as the log was written before.
 pub fn make_room<D: SectorDevice>(log: &mut Log<D>) -> Result<(), LogFault>
     ensures done { OnOk result (CleansQuarter D.SectorDevice.state log.old log.new) }
     ensures totals { log.new.totals ≡ log.old.totals }

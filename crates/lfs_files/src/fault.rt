@@ -6,7 +6,7 @@ ghost use Rattle.std.specs.Prelude.{◌≡◌};
 pub enum LogFault {
     /// A read failed, or gave what no volume holds. Nothing changed.
     Device,
-    /// A commit failed, in this call or before.
+    /// A write of the log failed, in this call or before.
     Halted,
     /// Too few segments are clean, or the changes need more room in memory than there is before the
     /// next commit. Nothing changed.

@@ -19,7 +19,7 @@ pub trait Files {
     ///
     /// # Errors
     ///
-    /// `Halted` once a commit failed, `Device` where a call of the device failed.
+    /// `Halted` once a write of the log failed, `Device` where a call of the device failed.
     fn header(&mut self, number: FileNumber) -> Result<Option<Header>, LogFault>
         ensures reads { Reads (state self.old) (state self.new) }
         ensures answer { IfOk result (TellsHeader (state self.old) (state self.new) number.value) }

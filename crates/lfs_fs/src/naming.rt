@@ -173,7 +173,8 @@ impl<D: SectorDevice> Fs<D> {
     ///
     /// # Errors
     ///
-    /// `NameTooLong`. `Halted` once a commit failed, `Device` where a call of the device failed.
+    /// `NameTooLong`. `Halted` once a write of the log failed, `Device` where a call of the device
+    /// failed.
     pub(crate) fn look_in(
         &mut self,
         directory: FileNumber,

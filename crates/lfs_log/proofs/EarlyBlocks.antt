@@ -6,6 +6,7 @@ use Rattle.lfs_memory.specs.segments.Chunk.{Chunk, due_in, room_behind, room_in}
 use Rattle.lfs_memory.specs.segments.Early.{early_in}
 use Rattle.lfs_memory.specs.segments.Steps.{Begins, GoesOn, TakesSegment}
 use Rattle.lfs_memory.specs.inodes.Blocks.{TableValue}
+use Rattle.lfs_memory.specs.inodes.Data.{data_count}
 use Rattle.lfs_memory.specs.declared.memory.LogMemory.{LogMemory}
 use Rattle.lfs_model.specs.Device.{DeviceState, IsLawful}
 use Rattle.lfs_memory.specs.Memory.{Goes, IsMemory, IsMemoryUpTo, Places, room_of}
@@ -187,15 +188,17 @@ chunks_none d v lawful memory closed = record {
   closed = closed;
   capacity = refl;
   fewer = omega arith;
+  data = refl;
   due = refl;
   taken = omega arith;
   told = omega arith;
 }
 
 pub chunks_more : (a b c : DeviceState) (u v w : LogMemory) (n : ℕ) → WritesChunks a b u v → Goes b c v w n → w.chunk.names ≡ [] → w.dirty.capacity ≡ v.dirty.capacity
-    → length w.dirty.blocks + 63 ≡ length v.dirty.blocks → blocks_due w ≡ blocks_due v → clean_in v.usage.segments ≤ clean_in w.usage.segments + 1 → length c.told ≤ length b.told + 64 → WritesChunks a c u w
-chunks_more a b c u v w n before goes closed capacity fewer due taken told =
+    → length w.dirty.blocks + 63 ≡ length v.dirty.blocks → data_count w.dirty + 63 ≡ data_count v.dirty → blocks_due w ≡ blocks_due v → clean_in v.usage.segments ≤ clean_in w.usage.segments + 1 → length c.told ≤ length b.told + 64 → WritesChunks a c u w
+chunks_more a b c u v w n before goes closed capacity fewer data due taken told =
     let more = before.fewer in
+    let alone = before.data in
     let took = before.taken in
     let gave = before.told in
     record {
@@ -203,6 +206,7 @@ chunks_more a b c u v w n before goes closed capacity fewer due taken told =
       closed = closed;
       capacity = capacity ∙ before.capacity;
       fewer = omega (arith, more, fewer);
+      data = omega (arith, alone, fewer, data);
       due = due ∙ before.due;
       taken = omega (arith, fewer, taken, took);
       told = omega (arith, fewer, told, gave);

@@ -4,6 +4,7 @@ use Rattle.lfs_model.specs.Device.{DeviceState}
 use Rattle.lfs_memory.specs.segments.Table.{kept_of, clean_in}
 use Rattle.lfs_memory.specs.segments.Chunk.{room_behind}
 use Rattle.lfs_memory.specs.segments.Early.{early_in}
+use Rattle.lfs_memory.specs.inodes.Data.{data_count}
 use Rattle.lfs_memory.specs.declared.memory.LogMemory.{LogMemory}
 use Rattle.lfs_memory.specs.Memory.{Goes}
 use Rattle.lfs_log.specs.Saving.{orders_for, segments_for}
@@ -36,13 +37,14 @@ pub record GoesEarly (v v' : LogMemory) (placed : ℕ) : Type 0 where
   pub fewer : length v'.dirty.blocks + placed ≡ length v.dirty.blocks
   pub due : blocks_due v' ≡ blocks_due v
 
--- Full chunks of data blocks went out. As many blocks are unsaved, and the next commit takes fewer segments and gives fewer orders, by
+-- Full chunks of data blocks went out: as many data blocks left memory as blocks. As many blocks are unsaved, and the next commit takes fewer segments and gives fewer orders, by
 -- those that were taken and given here.
 pub record WritesChunks (d d' : DeviceState) (v v' : LogMemory) : Type 0 where
   pub goes : (placed : ℕ) × Goes d d' v v' placed
   pub closed : v'.chunk.names ≡ []
   pub capacity : v'.dirty.capacity ≡ v.dirty.capacity
   pub fewer : length v'.dirty.blocks ≤ length v.dirty.blocks
+  pub data : length v'.dirty.blocks + data_count v.dirty ≡ length v.dirty.blocks + data_count v'.dirty
   pub due : blocks_due v' ≡ blocks_due v
   pub taken : clean_in v.usage.segments + segments_for (length v'.dirty.blocks)
       ≤ clean_in v'.usage.segments + segments_for (length v.dirty.blocks)

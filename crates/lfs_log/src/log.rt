@@ -241,7 +241,7 @@ impl<D: SectorDevice> Log<D> {
         self.device.device()
     }
 
-    /// Whether a commit failed.
+    /// Whether a write of the log failed.
     pub fn is_halted(&self) -> bool
         ensures { result ≡ self.now.halted }
     {
@@ -347,7 +347,7 @@ impl<D: SectorDevice> Log<D> {
     ///
     /// # Errors
     ///
-    /// `Halted` once a commit failed, `Device` where a call of the device failed.
+    /// `Halted` once a write of the log failed, `Device` where a call of the device failed.
     pub fn header(&mut self, number: u16) -> Result<Option<Header>, LogFault>
         requires { number < 4096 }
         ensures reads { Reads D.SectorDevice.state self.old self.new }
@@ -443,7 +443,7 @@ impl<D: SectorDevice> Log<D> {
     /// # Errors
     ///
     /// With the files as they were: `Full` where memory has no room, `Device` where a call of the
-    /// device failed. `Halted` once a commit failed.
+    /// device failed. `Halted` once a write of the log failed.
     pub fn stage(&mut self, changes: &Changes, totals: BlockTotals) -> Result<(), LogFault>
         ensures done { OnOk result (IsStaged D.SectorDevice.state self.old self.new changes.now) }
         ensures counted { OnOk result (self.new.totals ≡ totals) }
@@ -483,7 +483,7 @@ impl<D: SectorDevice> Log<D> {
     /// # Errors
     ///
     /// With the files as they were: `Device` where a call of the device failed. `Halted` once a
-    /// commit failed.
+    /// write of the log failed.
     pub fn remove(&mut self, number: u16, totals: BlockTotals) -> Result<(), LogFault>
         requires { number < 4096 }
         ensures done { OnOk result (IsRemoved D.SectorDevice.state self.old self.new number) }
@@ -524,7 +524,7 @@ impl<D: SectorDevice> Log<D> {
     ///
     /// # Errors
     ///
-    /// `Halted` where a call of the device failed, here or in a commit before.
+    /// `Halted` where a call of the device failed, here or as the log was written before.
     pub fn write_early(&mut self) -> Result<(), LogFault>
         ensures done { OnOk result (WritesEarly D.SectorDevice.state self.old self.new) }
         ensures left { OnOk result ((data_count self.new.memory.dirty < full_chunk)
@@ -560,7 +560,7 @@ impl<D: SectorDevice> Log<D> {
     /// # Errors
     ///
     /// `Full` where too few segments are clean: nothing changed. `Halted` where a call of the
-    /// device failed, here or in a commit before.
+    /// device failed, here or as the log was written before.
     pub fn commit(&mut self) -> Result<(), LogFault>
         ensures done { OnOk result (Saves D.SectorDevice.state self.old self.new) }
         ensures totals { self.new.totals ≡ self.old.totals }
@@ -611,8 +611,8 @@ impl<D: SectorDevice> Log<D> {
     /// these is clean, wasn't there before the acknowledged checkpoint or is that of the last chunk,
     /// no number is left, or their blocks, with the inodes and blocks of pointers above them and the
     /// 48 of the tables, fill as many segments: nothing changed. `Device` where a call of the device failed before
-    /// anything was written: nothing changed. `Halted` where one failed later, or in a commit
-    /// before.
+    /// anything was written: nothing changed. `Halted` where one failed later, or as the log was
+    /// written before.
     pub fn clean(&mut self, victims: &[u16]) -> Result<(), LogFault>
         requires { AreApart victims.now }
         ensures done { OnOk result (Cleans D.SectorDevice.state self.old self.new victims.now) }

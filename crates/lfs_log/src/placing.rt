@@ -1,8 +1,9 @@
 //! How blocks of files and of the inode map go to the log.
-ghost use Rattle.std.specs.Prelude.{◌≡◌, ◌≢◌, ◌<◌, ◌≤◌, ◌+◌, ◌*◌, [], length, None, OnOk, OnErr};
+ghost use Rattle.std.specs.Prelude.{◌≡◌, ◌≢◌, ◌<◌, ◌≤◌, ◌+◌, ◌*◌, [], true, length, None, OnOk, OnErr};
 ghost use Rattle.lfs_model.specs.Entry.{Entry};
 ghost use Rattle.lfs_model.specs.Running.{IsLowest};
 ghost use Rattle.lfs_memory.specs.inodes.Blocks.{blocks_of};
+ghost use Rattle.lfs_memory.specs.inodes.Data.{data_count, is_data_code};
 ghost use Rattle.lfs_memory.specs.inodes.Key.{entry_of};
 ghost use Rattle.lfs_memory.specs.Memory.{IsMemory, IsMemoryUpTo, HasRoom, Goes, GoesUpTo, Stops, room_of};
 ghost use Rattle.lfs_memory.specs.segments.Chunk.{room_in};
@@ -82,6 +83,8 @@ fn write_block<D: SectorDevice>(
     ensures fresh { OnOk result (IsFresh memory.old → IsBegunFresh memory.new) }
     ensures early { OnOk result (IsFresh memory.old
         → early_in memory.new.usage.segments ≡ early_in memory.old.usage.segments + 1) }
+    ensures data { OnOk result (is_data_code key.code ≡ true
+        → data_count memory.new.dirty + 1 ≡ data_count memory.old.dirty) }
 {
     let bytes = *memory.dirty.block(key).unwrap();
     let lives = !memory.map.is_hidden(key.file());
@@ -115,6 +118,8 @@ pub fn save_block<D: SectorDevice>(
     ensures most { orders_due (D.state device.new) memory.new
         ≤ orders_due (D.state device.old) memory.old + 2 }
     ensures early { OnOk result (IsFresh memory.old → GoesEarly memory.old memory.new 1) }
+    ensures data { OnOk result (is_data_code key.code ≡ true
+        → data_count memory.new.dirty + 1 ≡ data_count memory.old.dirty) }
 {
     write_block(device, memory, key, age)?;
     seal_full(device, memory)?;

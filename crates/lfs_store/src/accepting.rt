@@ -131,7 +131,7 @@ impl<D: SectorDevice> Store<D> {
     /// # Errors
     ///
     /// As those of `Log::commit`: `Full` where too few segments are clean: nothing changed.
-    /// `Halted` where a call of the device failed, here or in a commit before.
+    /// `Halted` where a call of the device failed, here or as the log was written before.
     pub fn commit(&mut self) -> Result<(), LogFault>
         ensures done { OnOk result (Commits D.SectorDevice.state self.old.log self.old.saved
             self.new.log) }
@@ -189,7 +189,7 @@ impl<D: SectorDevice> Store<D> {
     ///
     /// With the files as they were: `Full` where too few segments are clean for the commit or a
     /// pass, `Device` where a call of the device failed before anything more was written. `Halted`
-    /// where one failed later, or in a commit before.
+    /// where one failed later, or as the log was written before.
     pub fn clean(&mut self) -> Result<(), LogFault>
         ensures done { OnOk result (MakesRoom D.SectorDevice.state self.old.log self.old.saved
             self.new.log self.new.saved) }
@@ -219,6 +219,8 @@ impl<D: SectorDevice> Store<D> {
             + passes_orders (length self.old.log.memory.usage.segments) }
         ensures quiet { HasQuarter self.old.log → (self.new.log ≡ self.old.log)
             × (self.new.saved ≡ self.old.saved) }
+        ensures unsaved { (IsErrOf result LogFault.Halted → ⊥) → self.new.saved ≡ false
+            → self.new.log ≡ self.old.log }
     {
         if self.log.is_halted() {
             return Err(LogFault::Halted);
@@ -491,7 +493,8 @@ impl<D: SectorDevice> Store<D> {
     ///
     /// With the files as they were: `Full` where too few segments are clean even so, `NoMemory`
     /// where memory has no room though all is saved (then the next call commits first), `Device`
-    /// where a call of the device failed. `Halted` once a commit failed, in this call or before.
+    /// where a call of the device failed. `Halted` once a write of the log failed, in this call or
+    /// before.
     pub fn accept(&mut self) -> Result<(), StoreFault>
         ensures counted { OnOk result (self.new.log.totals ≡ self.old.drafted) }
         ensures kept { OnErr result (self.new.log.totals ≡ self.old.log.totals) }

@@ -246,7 +246,7 @@ impl<D: SectorDevice> Store<D> {
     /// # Errors
     ///
     /// With the files as they were: `Device` where a call of the device failed. `Halted` once a
-    /// commit failed.
+    /// write of the log failed.
     pub fn forget(&mut self, number: FileNumber) -> Result<(), LogFault>
         requires empty { IsNoChange self.old.draft.changes }
         ensures done { OnOk result (IsRemoved D.SectorDevice.state self.old.log self.new.log

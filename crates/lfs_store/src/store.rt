@@ -27,7 +27,7 @@ impl<D: SectorDevice> Store<D> {
     ///
     /// # Errors
     ///
-    /// `Halted` once a commit failed, `Device` where a call of the device failed.
+    /// `Halted` once a write of the log failed, `Device` where a call of the device failed.
     pub fn header(&mut self, number: FileNumber) -> Result<Option<Header>, LogFault>
         ensures reads { ReadsStore D.SectorDevice.state self.old self.new }
         ensures answer { IfOk result (ReadsHeader D.SectorDevice.state self.old.log self.new.log

@@ -2,6 +2,7 @@ use Rattle.std.proofs.Common.{◌≡◌, ◌≤◌, ◌+◌, ◌∙◌, length, 
 use Rattle.lfs_memory.specs.segments.Table.{UsageTable, clean_in}
 use Rattle.lfs_memory.specs.segments.Early.{early_in}
 use Rattle.lfs_memory.specs.inodes.Blocks.{TableValue}
+use Rattle.lfs_memory.specs.inodes.Data.{data_count}
 use Rattle.lfs_memory.specs.declared.memory.LogMemory.{LogMemory}
 use Rattle.lfs_memory.specs.Memory.{Goes, Stops}
 use Rattle.lfs_memory.proofs.Going.{on_err, goes_then, stops_then}
@@ -100,3 +101,6 @@ returns-clause-told g c =
 
 pub returns-clause-most : goal.returns-clause-most
 returns-clause-most g c = let told = returns-clause-told g c in omega (arith, told)
+
+pub returns-clause-data : goal.returns-clause-data
+returns-clause-data g c = ap (λ (t : TableValue). data_count t + 63) c.seal_rest.ensures.dirty ∙ c.in_ok-save_chunk.ensures.data

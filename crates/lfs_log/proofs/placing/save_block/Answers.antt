@@ -1,3 +1,6 @@
+use Rattle.std.proofs.Common.{◌+◌, ◌∙◌, ap}
+use Rattle.lfs_memory.specs.inodes.Blocks.{TableValue}
+use Rattle.lfs_memory.specs.inodes.Data.{data_count}
 use Rattle.lfs_memory.specs.Memory.{Stops}
 use Rattle.lfs_log.proofs.placing.save_block.Goals as goal
 use Rattle.lfs_log.proofs.EarlyBlocks.{goes_early}
@@ -22,3 +25,7 @@ returns-clause-early g c fresh =
     goes_early c.args.memory.now c.write_block.new.memory c.seal_full.new.memory
     (c.in_ok-seal_full.ensures.fresh (c.in_ok-write_block.ensures.fresh fresh)) c.in_ok-write_block.ensures.fewer
     c.seal_full.ensures.dirty c.seal_full.ensures.usage (c.in_ok-write_block.ensures.early fresh)
+
+pub returns-clause-data : goal.returns-clause-data
+returns-clause-data g c data =
+    ap (λ (t : TableValue). data_count t + 1) c.seal_full.ensures.dirty ∙ c.in_ok-write_block.ensures.data data

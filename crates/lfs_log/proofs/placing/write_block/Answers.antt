@@ -6,6 +6,7 @@ use Rattle.lfs_memory.specs.segments.Early.{early_in}
 use Rattle.lfs_log.proofs.EarlyBlocks.{begun_same, placed_early, placed_fresh}
 use Rattle.lfs_memory.specs.inodes.MapValue.{MapValue}
 use Rattle.lfs_memory.specs.inodes.Blocks.{TableValue, blocks_of}
+use Rattle.lfs_memory.specs.inodes.Data.{data_count}
 use Rattle.lfs_memory.specs.inodes.Key.{entry_of}
 use Rattle.lfs_memory.specs.Memory.{IsPointedAt, Stops}
 use Rattle.lfs_log.proofs.placing.write_block.Goals as goal
@@ -47,3 +48,11 @@ pub returns-clause-early : goal.returns-clause-early
 returns-clause-early g c fresh =
     ap (λ (u : UsageTable). early_in u.segments) c.point.ensures.usage
     ∙ placed_early c.args.memory.now c.next_place-address.new.self c.name.result (not c.is_hidden-lives.result) c.args.age c.next_place-address.result fresh c.next_place-address.ensures.placed
+
+pub returns-clause-data : goal.returns-clause-data
+returns-clause-data g c data =
+    let there : blocks_of c.args.memory.now.dirty (entry_of c.args.key) ≡ Some c.unwrap.result.now = search rules in
+    let same = c.next_place-address.ensures.placed.dirty in
+    ap (λ (t : TableValue). data_count t + 1) c.point.ensures.dirty
+    ∙ c.moved.ensures.data c.unwrap.result.now (ap (λ (t : TableValue). blocks_of t (entry_of c.args.key)) same ∙ there) data
+    ∙ ap data_count same

@@ -3,6 +3,7 @@ use Rattle.std.specs.Ordering.{nat_cmp}
 use Rattle.std.specs.FinMap.{find}
 use Rattle.lfs_inodes.specs.Key.{entry_of}
 use Rattle.lfs_inodes.specs.Blocks.{TableValue, blocks_of}
+use Rattle.lfs_inodes.specs.Data.{data_count}
 use Rattle.lfs_inodes.proofs.Blocks.{entry_found}
 use Rattle.lfs_inodes.proofs.Moving.{differ, one_less}
 use Rattle.lfs_inodes.proofs.table.DirtyTable.moved.Goals as goal
@@ -20,4 +21,19 @@ returns-clause-length c bytes there =
           ∙ there)) c.remove.ensures.length (ap (λ (t : TableValue). length t.blocks) w.self-is ∙ w.patch.ensures.length)
       | in_default w ↦ one_less c.match-parent.self.blocks c.remove.new.self.blocks c.args.key.code _ bytes
           (found c.match-parent.self (ap (λ (t : TableValue). blocks_of t (entry_of c.args.key)) w.self-is ∙ there)) c.remove.ensures.length (ap (λ (t : TableValue). length t.blocks) w.self-is)
+    ]
+
+pub returns-clause-data : goal.returns-clause-data
+returns-clause-data c bytes there data =
+    let found : (t : TableValue) → blocks_of t (entry_of c.args.key) ≡ Some bytes → find nat_cmp c.args.key.code t.blocks ≡ Some bytes =
+    λ t is. sym (entry_found t.blocks c.args.key.code c.args.key.formed) ∙ is in
+    elim c.match-parent.branch [
+      | in-Some w ↦ c.remove.ensures.data bytes
+          (found c.match-parent.self
+          (ap (λ (t : TableValue). blocks_of t (entry_of c.args.key)) w.self-is
+          ∙ w.patch.ensures.changed.others (entry_of c.args.key) (differ c.args.key.code w.in-Some.above.code c.args.key.formed w.in-Some.above.formed w.in-Some.ensures.some.1)
+          ∙ there)) data ∙ ap data_count w.self-is ∙ w.patch.ensures.data
+      | in_default w ↦ c.remove.ensures.data bytes
+          (found c.match-parent.self (ap (λ (t : TableValue). blocks_of t (entry_of c.args.key)) w.self-is ∙ there)) data
+          ∙ ap data_count w.self-is
     ]

@@ -2,6 +2,7 @@ use Rattle.std.proofs.Common.{◌≡◌, sym, ◌∙◌, ap, Some, List, slice_g
 use Rattle.std.proofs.lemmas.Option.{slice_get_within, get_or_from_slice_get}
 use Rattle.lfs_inodes.specs.declared.table.Place.{Place}
 use Rattle.lfs_inodes.proofs.Held.{sorted_value, small_value, at_value}
+use Rattle.lfs_inodes.proofs.Data.{first_data}
 use Rattle.lfs_inodes.proofs.Moving.{lowest_value}
 use Rattle.lfs_inodes.proofs.table.DirtyTable.next.Goals as goal
 
@@ -16,3 +17,9 @@ returns-clause-lowest c =
     (sorted_value c.self.inside.places.items c.self.inside.arena.items c.self.inside.spare.items _ _ _ c.self.invariant c.args.self.now c.self.view_is)
     (small_value _ c.self.inside.places.items c.self.inside.arena.items c.args.self.now c.self.view_is)
     c.in_ok-place.place.now.key.code c.in_ok-place.place.now.key.formed (returns-clause-first c)
+
+pub returns-clause-data : goal.returns-clause-data
+returns-clause-data c some =
+    first_data c.args.self.now
+    (sorted_value c.self.inside.places.items c.self.inside.arena.items c.self.inside.spare.items _ _ _ c.self.invariant c.args.self.now c.self.view_is)
+    c.in_ok-place.place.now.key.code (returns-clause-first c) some

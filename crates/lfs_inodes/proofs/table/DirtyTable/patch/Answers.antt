@@ -6,6 +6,7 @@ use Rattle.lfs_model.specs.Staging.{ChangesTo}
 use Rattle.lfs_inodes.specs.Key.{entry_of}
 use Rattle.lfs_inodes.specs.Blocks.{TableValue, altered_as, blocks_of}
 use Rattle.lfs_inodes.proofs.Blocks.{find_gap, changed_altered, count_altered}
+use Rattle.lfs_inodes.proofs.Data.{data_patched}
 use Rattle.lfs_inodes.proofs.Held.{low_at, held_at, altered_value, sorted_value}
 use Rattle.lfs_inodes.proofs.table.DirtyTable.patch.Goals as goal
 
@@ -46,3 +47,8 @@ pub returns-clause-length : goal.returns-clause-length
 returns-clause-length c =
     ap (λ (t : TableValue). length t.blocks) (returns-clause-patched c)
     ∙ count_altered c.args.self.now.blocks c.args.key.code (patched c.args.place c.args.number) (sorted_value c.self.inside.places.items c.self.inside.arena.items c.self.inside.spare.items _ _ _ c.self.invariant c.args.self.now c.self.view_is)
+
+pub returns-clause-data : goal.returns-clause-data
+returns-clause-data c =
+    data_patched c.args.self.now _ (sorted_value c.self.inside.places.items c.self.inside.arena.items c.self.inside.spare.items _ _ _ c.self.invariant c.args.self.now c.self.view_is)
+    c.args.key.code c.in-Ok.at (patched c.args.place c.args.number) c.in-Ok.ensures.found (returns-clause-patched c)

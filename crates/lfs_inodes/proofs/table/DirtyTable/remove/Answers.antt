@@ -6,6 +6,7 @@ use Rattle.lfs_model.specs.Staging.{ChangesTo}
 use Rattle.lfs_inodes.specs.Key.{entry_of}
 use Rattle.lfs_inodes.specs.Blocks.{TableValue, blocks_of}
 use Rattle.lfs_inodes.proofs.Blocks.{find_gap, without_gap, changed_none, changed_without, count_without}
+use Rattle.lfs_inodes.proofs.Data.{data_removed}
 use Rattle.lfs_inodes.proofs.Held.{held_left, removed_value, sorted_value, wider, value_of}
 use Rattle.lfs_inodes.specs.declared.table.Place.{Place}
 use Rattle.lfs_inodes.specs.Held.{IsTableOf}
@@ -46,3 +47,13 @@ pub returns-clause-length : goal.returns-clause-length
 returns-clause-length c =
     ap (λ (t : TableValue). cond (is_some (find nat_cmp c.args.key.code c.args.self.now.blocks)) 1 0 + length t.blocks) (returns-clause-removed c)
     ∙ count_without c.args.self.now.blocks c.args.key.code (sorted_value c.self.inside.places.items c.self.inside.arena.items c.self.inside.spare.items _ _ _ c.self.invariant c.args.self.now c.self.view_is)
+
+pub returns-in_default-clause-data : goal.returns-in_default-clause-data
+returns-in_default-clause-data c bytes there data =
+    let none = find_gap c.args.self.now.blocks c.args.key.code c.in_default.field-0 c.in_default.ensures.missing in
+    absurd (cc)
+
+pub returns-clause-data : goal.returns-clause-data
+returns-clause-data c bytes there data =
+    data_removed c.args.self.now _ (sorted_value c.self.inside.places.items c.self.inside.arena.items c.self.inside.spare.items _ _ _ c.self.invariant c.args.self.now c.self.view_is)
+    c.args.key.code c.in-Ok.at c.in-Ok.ensures.found (returns-clause-removed c) data
