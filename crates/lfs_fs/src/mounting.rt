@@ -7,7 +7,7 @@ ghost use Rattle.lfs_fs.specs.Mounting.{MountsFs, FindsState, IsMountFault, IsRe
 use crate::fs::Fs;
 use crate::handles::Handles;
 use lfs_cache::{CachedDevice, DEFAULT_SECTORS};
-use lfs_device::SectorDevice;
+use lfs_device::{SectorDevice, TendedDevice};
 use lfs_store::{MountFault, Store};
 use lfs_tree::{LEAST_SECTORS, verify_tree};
 use std::alloc::Global;
@@ -97,5 +97,18 @@ impl<D: SectorDevice> Fs<D> {
         ensures { result ≡ self.store.log.device }
     {
         self.store.into_device()
+    }
+}
+
+impl<D: TendedDevice> Fs<D> {
+    ghost use Rattle.lfs_fs.specs.Volume.{IsStill};
+    ghost use Rattle.lfs_fs.specs.Seen.{seen};
+
+    /// Tends to the device, of which the volume sees nothing.
+    pub fn tend(&mut self)
+        ensures tended { D.tends self.old.store.log.device self.new.store.log.device }
+        ensures still { IsStill D.SectorDevice.state (seen self.old) (seen self.new) }
+    {
+        self.store.log.tend();
     }
 }

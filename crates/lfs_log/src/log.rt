@@ -22,7 +22,7 @@ use crate::early::{age_after, write_chunks};
 use crate::layout_version::{LayoutVersion, is_raised_after, unsaved_by, version_after};
 use crate::opening::{MOST_DIRTY, open_memory};
 use lfs_cache::{CachedDevice, DEFAULT_SECTORS, MOST_SECTORS};
-use lfs_device::SectorDevice;
+use lfs_device::{SectorDevice, TendedDevice};
 use lfs_memory::counting::SegmentCounts;
 use lfs_memory::lifting::LiftFault;
 use lfs_memory::present::{locate_block, locate_leaf, read_block, read_header};
@@ -665,5 +665,17 @@ impl<D: SectorDevice> Log<D> {
         self.number += 1;
         self.upgraded = false;
         Ok(())
+    }
+}
+
+impl<D: TendedDevice> Log<D> {
+    ghost use Rattle.lfs_log.specs.Held.{Reads};
+
+    /// Tends to the device, of which the log sees nothing.
+    pub fn tend(&mut self)
+        ensures tended { D.tends self.old.device self.new.device }
+        ensures reads { Reads D.SectorDevice.state self.old self.new }
+    {
+        self.device.tend();
     }
 }

@@ -29,8 +29,8 @@ pub struct Place<'a> {
 ///
 /// # Errors
 ///
-/// The path's refusal. `NoMemory`; `Log` where the log gives no answer: `Halted` once a commit
-/// failed, `Device` where a call of the device failed.
+/// The path's refusal. `NoMemory`; `Log` where the log gives no answer: `Halted` once a write of
+/// the log failed, `Device` where a call of the device failed.
 pub fn resolve<F: Files>(
     alloc: Global,
     files: &mut F,
