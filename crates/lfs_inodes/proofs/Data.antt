@@ -2,7 +2,8 @@
 use Rattle.std.proofs.Common.{◌≡◌, ◌<◌, ◌≤◌, ◌+◌, ◌∙◌, cond, get_or, remove, set, ℕ, zero, suc, Bool, T, true, false, List, [], ◌∷◌, length, Option, refl, ap, arith, rules, sym, subst}
 use Rattle.std.specs.Prelude.{sum_by}
 use Rattle.std.specs.Ordering.{nat_cmp}
-use Rattle.std.specs.FinMap.{find, is_sorted, put, without}
+use Rattle.std.specs.FinMap.{is_sorted, put}
+use Rattle.lfs_model.specs.Tree.{without}
 use Rattle.std.proofs.lemmas.List.Sums.{sum_by-cons, sum_by-remove, sum_by-set}
 use Rattle.lfs_inodes.specs.Blocks.{Blocks, TableValue, HasNumberAt, altered, altered_as, number_at}
 use Rattle.lfs_inodes.specs.Data.{is_data_code, data_count}
@@ -110,10 +111,10 @@ data_patched t t' sorted c i f at is =
 
 pub data_removed : (t t' : TableValue) → T (is_sorted nat_cmp t.blocks) → (c i : ℕ) → HasNumberAt t.blocks c i → t' ≡ record t { blocks = without nat_cmp c t.blocks } → is_data_code c ≡ true → data_count t' + 1 ≡ data_count t
 unfolding data_count
-data_removed t t' sorted c i at is data =
+data_removed t t' sorted c i at is kind =
     let now = ap (λ (u : TableValue). sum_by one u.blocks) is in
     let left = ap (sum_by one) (without_at t.blocks sorted c i at) in
     let gone = sum_by-remove one t.blocks i (0, []) at.within in
     let number = at.number in
-    let counted : one (get_or t.blocks i (0, [])) ≡ 1 = ap (λ (n : ℕ). cond {A = ℕ} (is_data_code n) 1 0) number ∙ ap (λ (b : Bool). cond {A = ℕ} b 1 0) data in
+    let counted : one (get_or t.blocks i (0, [])) ≡ 1 = ap (λ (n : ℕ). cond {A = ℕ} (is_data_code n) 1 0) number ∙ ap (λ (b : Bool). cond {A = ℕ} b 1 0) kind in
     omega (arith, now, left, gone, counted)

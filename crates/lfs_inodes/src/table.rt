@@ -116,7 +116,7 @@ impl DirtyTable {
         ensures first { IfSome result (λ key. HasNumberAt self.now.blocks key.code 0) }
         ensures none { IfNone result (self.now.blocks ≡ []) }
         ensures lowest { IfSome result (λ key. IsLowest (blocks_of self.now) (entry_of key)) }
-        ensures data { IfSome result (λ key. 1 ≤ data_count self.now
+        ensures data_blocks { IfSome result (λ key. 1 ≤ data_count self.now
             → is_data_code key.code ≡ true) }
         ensures empty { IfNone result ((x : Entry) → blocks_of self.now x ≡ None) }
     {
@@ -227,7 +227,7 @@ impl DirtyTable {
         ensures changed { ChangesTo (blocks_of self.old) (blocks_of self.new) (entry_of key)
             (option_map (patched place number) (blocks_of self.old (entry_of key))) }
         ensures length { length self.new.blocks ≡ length self.old.blocks }
-        ensures data { data_count self.new ≡ data_count self.old }
+        ensures data_blocks { data_count self.new ≡ data_count self.old }
     {
         let Ok(at) = self.search(key) else {
             return;
@@ -243,7 +243,7 @@ impl DirtyTable {
         ensures changed { ChangesTo (blocks_of self.old) (blocks_of self.new) (entry_of key) None }
         ensures length { cond (is_some (find nat_cmp key.code self.old.blocks)) 1 0 + length
             self.new.blocks ≡ length self.old.blocks }
-        ensures data { (bytes : List ℕ)
+        ensures data_blocks { (bytes : List ℕ)
             → find nat_cmp key.code self.old.blocks ≡ Some bytes
             → is_data_code key.code ≡ true → data_count self.new + 1 ≡ data_count self.old }
     {
@@ -353,7 +353,7 @@ impl DirtyTable {
         ensures moves { Moves (blocks_of self.old) (blocks_of self.new) (entry_of key) address }
         ensures length { (bytes : List ℕ) → blocks_of self.old (entry_of key) ≡ Some bytes
             → length self.new.blocks + 1 ≡ length self.old.blocks }
-        ensures data { (bytes : List ℕ) → blocks_of self.old (entry_of key) ≡ Some bytes
+        ensures data_blocks { (bytes : List ℕ) → blocks_of self.old (entry_of key) ≡ Some bytes
             → is_data_code key.code ≡ true → data_count self.new + 1 ≡ data_count self.old }
         ensures no_more { length self.new.blocks ≤ length self.old.blocks }
         ensures capacity { self.new.capacity ≡ self.old.capacity }

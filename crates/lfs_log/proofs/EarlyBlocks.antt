@@ -188,7 +188,7 @@ chunks_none d v lawful memory closed = record {
   closed = closed;
   capacity = refl;
   fewer = omega arith;
-  data = refl;
+  only_data = refl;
   due = refl;
   taken = omega arith;
   told = omega arith;
@@ -196,9 +196,9 @@ chunks_none d v lawful memory closed = record {
 
 pub chunks_more : (a b c : DeviceState) (u v w : LogMemory) (n : ℕ) → WritesChunks a b u v → Goes b c v w n → w.chunk.names ≡ [] → w.dirty.capacity ≡ v.dirty.capacity
     → length w.dirty.blocks + 63 ≡ length v.dirty.blocks → data_count w.dirty + 63 ≡ data_count v.dirty → blocks_due w ≡ blocks_due v → clean_in v.usage.segments ≤ clean_in w.usage.segments + 1 → length c.told ≤ length b.told + 64 → WritesChunks a c u w
-chunks_more a b c u v w n before goes closed capacity fewer data due taken told =
+chunks_more a b c u v w n before goes closed capacity fewer gone due taken told =
     let more = before.fewer in
-    let alone = before.data in
+    let alone = before.only_data in
     let took = before.taken in
     let gave = before.told in
     record {
@@ -206,7 +206,7 @@ chunks_more a b c u v w n before goes closed capacity fewer data due taken told 
       closed = closed;
       capacity = capacity ∙ before.capacity;
       fewer = omega (arith, more, fewer);
-      data = omega (arith, alone, fewer, data);
+      only_data = omega (arith, alone, fewer, gone);
       due = due ∙ before.due;
       taken = omega (arith, fewer, taken, took);
       told = omega (arith, fewer, told, gave);

@@ -26,7 +26,7 @@ module _ {D : Type 0} (state : D → DeviceState) where
     segments = c.goes.1.segments;
     capacity = c.capacity;
     fewer = c.fewer;
-    data = c.data;
+    only_data = c.only_data;
     unsaved = ap₂ (λ (n : ℕ) (raised : Bool). n + cond raised 1 0) c.due upgraded;
     reserve = subst (λ (n : ℕ). (h' ≡ h) ⊎ (reserve_of n ≤ clean_in h'.memory.usage.segments)) c.goes.1.segments reserve;
     idle = idle;

@@ -44,7 +44,7 @@ pub record WritesChunks (d d' : DeviceState) (v v' : LogMemory) : Type 0 where
   pub closed : v'.chunk.names ≡ []
   pub capacity : v'.dirty.capacity ≡ v.dirty.capacity
   pub fewer : length v'.dirty.blocks ≤ length v.dirty.blocks
-  pub data : length v'.dirty.blocks + data_count v.dirty ≡ length v.dirty.blocks + data_count v'.dirty
+  pub only_data : length v'.dirty.blocks + data_count v.dirty ≡ length v.dirty.blocks + data_count v'.dirty
   pub due : blocks_due v' ≡ blocks_due v
   pub taken : clean_in v.usage.segments + segments_for (length v'.dirty.blocks)
       ≤ clean_in v'.usage.segments + segments_for (length v.dirty.blocks)

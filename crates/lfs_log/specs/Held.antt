@@ -217,7 +217,7 @@ module _ {D : Type 0} (state : D → DeviceState) where
     pub capacity : h'.memory.dirty.capacity ≡ h.memory.dirty.capacity
     pub fewer : length h'.memory.dirty.blocks ≤ length h.memory.dirty.blocks
     -- what left memory are data blocks alone
-    pub data : length h'.memory.dirty.blocks + data_count h.memory.dirty ≡ length h.memory.dirty.blocks + data_count h'.memory.dirty
+    pub only_data : length h'.memory.dirty.blocks + data_count h.memory.dirty ≡ length h.memory.dirty.blocks + data_count h'.memory.dirty
     pub unsaved : unsaved_in h' ≡ unsaved_in h
     -- nothing was written, or what the next commit asks for is clean still
     pub reserve : (h' ≡ h) ⊎ (reserve_of (length h.memory.usage.segments) ≤ clean_in h'.memory.usage.segments)

@@ -33,13 +33,13 @@ fn save_chunk<D: SectorDevice>(
     requires size { HasRoom (D.state device.old) memory.old }
     requires room { FULL_CHUNK ≤ room_of memory.old }
     requires many { FULL_CHUNK ≤ length memory.old.dirty.blocks }
-    requires data { FULL_CHUNK ≤ data_count memory.old.dirty }
+    requires data_blocks { FULL_CHUNK ≤ data_count memory.old.dirty }
     requires fresh { IsFresh memory.old }
     ensures done { OnOk result (Goes (D.state device.old) (D.state device.new) memory.old memory.new
         FULL_CHUNK) }
     ensures stopped { OnErr result (Stops (D.state device.old) (D.state device.new) memory.old) }
     ensures early { OnOk result (GoesEarly memory.old memory.new FULL_CHUNK) }
-    ensures data { OnOk result (data_count memory.new.dirty + FULL_CHUNK
+    ensures data_blocks { OnOk result (data_count memory.new.dirty + FULL_CHUNK
         ≡ data_count memory.old.dirty) }
     ensures capacity { OnOk result (memory.new.dirty.capacity ≡ memory.old.dirty.capacity) }
     ensures room { room_of memory.old ≤ room_of memory.new + FULL_CHUNK }
@@ -66,14 +66,14 @@ fn write_chunk<D: SectorDevice>(
     requires closed { memory.old.chunk.names ≡ [] }
     requires clean { 0 < clean_in memory.old.usage.segments }
     requires many { FULL_CHUNK ≤ length memory.old.dirty.blocks }
-    requires data { FULL_CHUNK ≤ data_count memory.old.dirty }
+    requires data_blocks { FULL_CHUNK ≤ data_count memory.old.dirty }
     ensures done { OnOk result (Goes (D.state device.old) (D.state device.new) memory.old memory.new
         (FULL_CHUNK + 62)) }
     ensures stopped { OnErr result (Stops (D.state device.old) (D.state device.new) memory.old) }
     ensures closed { OnOk result (memory.new.chunk.names ≡ []) }
     ensures fewer { OnOk result (length memory.new.dirty.blocks + FULL_CHUNK
         ≡ length memory.old.dirty.blocks) }
-    ensures data { OnOk result (data_count memory.new.dirty + FULL_CHUNK
+    ensures data_blocks { OnOk result (data_count memory.new.dirty + FULL_CHUNK
         ≡ data_count memory.old.dirty) }
     ensures due { OnOk result (blocks_due memory.new ≡ blocks_due memory.old) }
     ensures capacity { OnOk result (memory.new.dirty.capacity ≡ memory.old.dirty.capacity) }

@@ -83,7 +83,7 @@ fn write_block<D: SectorDevice>(
     ensures fresh { OnOk result (IsFresh memory.old → IsBegunFresh memory.new) }
     ensures early { OnOk result (IsFresh memory.old
         → early_in memory.new.usage.segments ≡ early_in memory.old.usage.segments + 1) }
-    ensures data { OnOk result (is_data_code key.code ≡ true
+    ensures data_blocks { OnOk result (is_data_code key.code ≡ true
         → data_count memory.new.dirty + 1 ≡ data_count memory.old.dirty) }
 {
     let bytes = *memory.dirty.block(key).unwrap();
@@ -118,7 +118,7 @@ pub fn save_block<D: SectorDevice>(
     ensures most { orders_due (D.state device.new) memory.new
         ≤ orders_due (D.state device.old) memory.old + 2 }
     ensures early { OnOk result (IsFresh memory.old → GoesEarly memory.old memory.new 1) }
-    ensures data { OnOk result (is_data_code key.code ≡ true
+    ensures data_blocks { OnOk result (is_data_code key.code ≡ true
         → data_count memory.new.dirty + 1 ≡ data_count memory.old.dirty) }
 {
     write_block(device, memory, key, age)?;

@@ -37,7 +37,7 @@ module _ {D : Type 0} (state : D → DeviceState) where
     segments = refl;
     capacity = refl;
     fewer = omega arith;
-    data = refl;
+    only_data = refl;
     unsaved = refl;
     reserve = inl refl;
     idle = λ few. refl;

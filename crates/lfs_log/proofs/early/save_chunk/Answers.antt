@@ -9,7 +9,7 @@ pub loop-init : goal.loop-init
 loop-init g c = record {
   goes = goes_none (g.D.SectorDevice.state c.args.device.now) c.args.memory.now (g.met.D.SectorDevice.lawful c.args.device.now) c.requires.memory;
   early = early_none c.args.memory.now c.requires.fresh;
-  data = omega arith;
+  left = omega arith;
   capacity = refl;
   tells = omega arith;
 }
@@ -18,16 +18,16 @@ pub loop-preserved : goal.loop-preserved
 loop-preserved g c =
     let told = c.loop.invariant.tells in
     let more = c.in_ok-save_block.ensures.tells in
-    let left = c.loop.invariant.data in
-    let many = c.requires.data in
+    let left = c.loop.invariant.left in
+    let many = c.requires.data_blocks in
     let lt = c.loop-test.true in
     let kind : is_data_code c.unwrap-key.result.code ≡ true = (let some : 1 ≤ data_count c.loop.memory.dirty = omega (arith, left, many, lt) in search rules) in
-    let one = c.in_ok-save_block.ensures.data kind in
+    let one = c.in_ok-save_block.ensures.data_blocks kind in
     record {
       goes = goes_then 62 62 (g.D.SectorDevice.state c.args.device.now) (g.D.SectorDevice.state c.loop.device) (g.D.SectorDevice.state c.save_block.new.device)
           c.args.memory.now c.loop.memory c.save_block.new.memory _ 1 c.loop.invariant.goes c.in_ok-save_block.ensures.done;
       early = early_then c.args.memory.now c.loop.memory c.save_block.new.memory _ 1 c.loop.invariant.early (c.in_ok-save_block.ensures.early c.loop.invariant.early.fresh);
-      data = omega (arith, left, one);
+      left = omega (arith, left, one);
       capacity = c.in_ok-save_block.ensures.capacity ∙ c.loop.invariant.capacity;
       tells = omega (arith, told, more);
     }

@@ -9,7 +9,7 @@ abbrev pub invariant-loop : goal.invariant-loop
 invariant-loop g l = record {
   goes : Goes (g.D.SectorDevice.state l.initial.device) (g.D.SectorDevice.state l.device) l.initial.memory l.memory l.counter;
   early : GoesEarly l.initial.memory l.memory l.counter;
-  data : data_count l.memory.dirty + l.counter ≡ data_count l.initial.memory.dirty;
+  left : data_count l.memory.dirty + l.counter ≡ data_count l.initial.memory.dirty;
   capacity : l.memory.dirty.capacity ≡ l.initial.memory.dirty.capacity;
   tells : orders_due (g.D.SectorDevice.state l.device) l.memory ≤ orders_due (g.D.SectorDevice.state l.initial.device) l.initial.memory + l.counter;
 }

@@ -102,5 +102,5 @@ returns-clause-told g c =
 pub returns-clause-most : goal.returns-clause-most
 returns-clause-most g c = let told = returns-clause-told g c in omega (arith, told)
 
-pub returns-clause-data : goal.returns-clause-data
-returns-clause-data g c = ap (λ (t : TableValue). data_count t + 63) c.seal_rest.ensures.dirty ∙ c.in_ok-save_chunk.ensures.data
+pub returns-clause-data_blocks : goal.returns-clause-data_blocks
+returns-clause-data_blocks g c = ap (λ (t : TableValue). data_count t + 63) c.seal_rest.ensures.dirty ∙ c.in_ok-save_chunk.ensures.data_blocks

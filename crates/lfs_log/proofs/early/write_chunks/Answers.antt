@@ -41,7 +41,7 @@ loop-memory-preserved g c =
     let size = goes.segments in
     record {
       chunks = chunks_more (g.D.SectorDevice.state c.args.device.now) (g.D.SectorDevice.state c.loop-memory.device) (g.D.SectorDevice.state c.write_chunk.new.device)
-          c.args.memory.now c.loop-memory.memory c.write_chunk.new.memory 125 c.loop-memory.invariant.chunks goes done.closed done.capacity done.fewer done.data done.due taken (let told = done.told in omega (arith, told));
+          c.args.memory.now c.loop-memory.memory c.write_chunk.new.memory 125 c.loop-memory.invariant.chunks goes done.closed done.capacity done.fewer done.data_blocks done.due taken (let told = done.told in omega (arith, told));
       reserve = inr (omega (arith, above, taken, size));
       idle = λ few.
           let still = c.loop-memory.invariant.idle few in

@@ -26,6 +26,6 @@ returns-clause-early g c fresh =
     (c.in_ok-seal_full.ensures.fresh (c.in_ok-write_block.ensures.fresh fresh)) c.in_ok-write_block.ensures.fewer
     c.seal_full.ensures.dirty c.seal_full.ensures.usage (c.in_ok-write_block.ensures.early fresh)
 
-pub returns-clause-data : goal.returns-clause-data
-returns-clause-data g c data =
-    ap (λ (t : TableValue). data_count t + 1) c.seal_full.ensures.dirty ∙ c.in_ok-write_block.ensures.data data
+pub returns-clause-data_blocks : goal.returns-clause-data_blocks
+returns-clause-data_blocks g c kind =
+    ap (λ (t : TableValue). data_count t + 1) c.seal_full.ensures.dirty ∙ c.in_ok-write_block.ensures.data_blocks kind

@@ -1,4 +1,4 @@
-use Rattle.std.proofs.Common.{rules, ◌≡◌, ◌∙◌, ◌/◌, ◌%◌, ap, sym, subst, arith, not, Some}
+use Rattle.std.proofs.Common.{rules, ◌≡◌, ◌∙◌, ◌+◌, ◌/◌, ◌%◌, ap, sym, subst, arith, not, Some}
 use Rattle.lfs_model.specs.Memory.{file_of}
 use Rattle.lfs_model.specs.Running.{Moves}
 use Rattle.lfs_memory.specs.segments.Table.{UsageTable}
@@ -49,10 +49,10 @@ returns-clause-early g c fresh =
     ap (λ (u : UsageTable). early_in u.segments) c.point.ensures.usage
     ∙ placed_early c.args.memory.now c.next_place-address.new.self c.name.result (not c.is_hidden-lives.result) c.args.age c.next_place-address.result fresh c.next_place-address.ensures.placed
 
-pub returns-clause-data : goal.returns-clause-data
-returns-clause-data g c data =
+pub returns-clause-data_blocks : goal.returns-clause-data_blocks
+returns-clause-data_blocks g c kind =
     let there : blocks_of c.args.memory.now.dirty (entry_of c.args.key) ≡ Some c.unwrap.result.now = search rules in
     let same = c.next_place-address.ensures.placed.dirty in
     ap (λ (t : TableValue). data_count t + 1) c.point.ensures.dirty
-    ∙ c.moved.ensures.data c.unwrap.result.now (ap (λ (t : TableValue). blocks_of t (entry_of c.args.key)) same ∙ there) data
+    ∙ c.moved.ensures.data_blocks c.unwrap.result.now (ap (λ (t : TableValue). blocks_of t (entry_of c.args.key)) same ∙ there) kind
     ∙ ap data_count same

@@ -23,17 +23,17 @@ returns-clause-length c bytes there =
           (found c.match-parent.self (ap (λ (t : TableValue). blocks_of t (entry_of c.args.key)) w.self-is ∙ there)) c.remove.ensures.length (ap (λ (t : TableValue). length t.blocks) w.self-is)
     ]
 
-pub returns-clause-data : goal.returns-clause-data
-returns-clause-data c bytes there data =
+pub returns-clause-data_blocks : goal.returns-clause-data_blocks
+returns-clause-data_blocks c bytes there kind =
     let found : (t : TableValue) → blocks_of t (entry_of c.args.key) ≡ Some bytes → find nat_cmp c.args.key.code t.blocks ≡ Some bytes =
     λ t is. sym (entry_found t.blocks c.args.key.code c.args.key.formed) ∙ is in
     elim c.match-parent.branch [
-      | in-Some w ↦ c.remove.ensures.data bytes
+      | in-Some w ↦ c.remove.ensures.data_blocks bytes
           (found c.match-parent.self
           (ap (λ (t : TableValue). blocks_of t (entry_of c.args.key)) w.self-is
           ∙ w.patch.ensures.changed.others (entry_of c.args.key) (differ c.args.key.code w.in-Some.above.code c.args.key.formed w.in-Some.above.formed w.in-Some.ensures.some.1)
-          ∙ there)) data ∙ ap data_count w.self-is ∙ w.patch.ensures.data
-      | in_default w ↦ c.remove.ensures.data bytes
-          (found c.match-parent.self (ap (λ (t : TableValue). blocks_of t (entry_of c.args.key)) w.self-is ∙ there)) data
+          ∙ there)) kind ∙ ap data_count w.self-is ∙ w.patch.ensures.data_blocks
+      | in_default w ↦ c.remove.ensures.data_blocks bytes
+          (found c.match-parent.self (ap (λ (t : TableValue). blocks_of t (entry_of c.args.key)) w.self-is ∙ there)) kind
           ∙ ap data_count w.self-is
     ]

@@ -48,7 +48,7 @@ returns-clause-length c =
     ap (λ (t : TableValue). length t.blocks) (returns-clause-patched c)
     ∙ count_altered c.args.self.now.blocks c.args.key.code (patched c.args.place c.args.number) (sorted_value c.self.inside.places.items c.self.inside.arena.items c.self.inside.spare.items _ _ _ c.self.invariant c.args.self.now c.self.view_is)
 
-pub returns-clause-data : goal.returns-clause-data
-returns-clause-data c =
+pub returns-clause-data_blocks : goal.returns-clause-data_blocks
+returns-clause-data_blocks c =
     data_patched c.args.self.now _ (sorted_value c.self.inside.places.items c.self.inside.arena.items c.self.inside.spare.items _ _ _ c.self.invariant c.args.self.now c.self.view_is)
     c.args.key.code c.in-Ok.at (patched c.args.place c.args.number) c.in-Ok.ensures.found (returns-clause-patched c)

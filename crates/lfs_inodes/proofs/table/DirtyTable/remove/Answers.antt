@@ -48,12 +48,12 @@ returns-clause-length c =
     ap (λ (t : TableValue). cond (is_some (find nat_cmp c.args.key.code c.args.self.now.blocks)) 1 0 + length t.blocks) (returns-clause-removed c)
     ∙ count_without c.args.self.now.blocks c.args.key.code (sorted_value c.self.inside.places.items c.self.inside.arena.items c.self.inside.spare.items _ _ _ c.self.invariant c.args.self.now c.self.view_is)
 
-pub returns-in_default-clause-data : goal.returns-in_default-clause-data
-returns-in_default-clause-data c bytes there data =
+pub returns-in_default-clause-data_blocks : goal.returns-in_default-clause-data_blocks
+returns-in_default-clause-data_blocks c bytes there kind =
     let none = find_gap c.args.self.now.blocks c.args.key.code c.in_default.field-0 c.in_default.ensures.missing in
     absurd (cc)
 
-pub returns-clause-data : goal.returns-clause-data
-returns-clause-data c bytes there data =
+pub returns-clause-data_blocks : goal.returns-clause-data_blocks
+returns-clause-data_blocks c bytes there kind =
     data_removed c.args.self.now _ (sorted_value c.self.inside.places.items c.self.inside.arena.items c.self.inside.spare.items _ _ _ c.self.invariant c.args.self.now c.self.view_is)
-    c.args.key.code c.in-Ok.at c.in-Ok.ensures.found (returns-clause-removed c) data
+    c.args.key.code c.in-Ok.at c.in-Ok.ensures.found (returns-clause-removed c) kind
