@@ -7,3 +7,4 @@ pub mod Memory
 pub mod MemoryDevice
 pub mod Rows
 pub mod Told
+pub mod Unsynced

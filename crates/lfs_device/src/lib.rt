@@ -9,6 +9,7 @@ mod memory;
 mod rows;
 mod tended;
 mod told;
+mod unsynced;
 mod world;
 
 pub use bench::DeviceCall;

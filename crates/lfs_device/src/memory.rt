@@ -1,14 +1,16 @@
 // A device in memory, whose stops and faults are chosen.
-ghost use Rattle.std.specs.Prelude.{◌≡◌, ◌<◌, ◌^◌, length, replicate, List, [], IfOk, Some, None, false};
+ghost use Rattle.std.specs.Prelude.{◌≡◌, ◌<◌, ◌≤◌, ◌^◌, length, replicate, List, [], IfOk, Some, None, false, vec_capacity};
 ghost use Rattle.lfs_model.specs.Device.{Cell, Only, Carries, Elapses};
 ghost use Rattle.lfs_device.specs.Memory.{AreWhole-prop, AreAllWhole-prop, memory_lawful};
 ghost use Rattle.lfs_device.specs.Rows.{AreSectorRows, states_of};
 ghost use Rattle.lfs_device.specs.Told.{orders_of};
+ghost use Rattle.lfs_device.specs.Unsynced.{IsUnsyncedList, IsUnsyncedList-prop};
 ghost use Rattle.std.specs.List.{AllByRecursion};
 
 use crate::bench::{Bench, DeviceCall};
-use crate::rows::{Count, Left, Past, Row, add_one, note, settle, stands, stop_rows};
+use crate::rows::{Count, Left, Past, Row, add_one, note, stands, stop_rows};
 use crate::told::{Told, tell_sync, tell_write};
+use crate::unsynced::{let_go, list_sector, settle};
 use crate::{DeviceFault, ReadFault, SectorDevice};
 use std::alloc::{AllocError, Global};
 use std::snapshot::Snapshot;
@@ -32,10 +34,14 @@ impl From<AllocError> for NoMemory {
 #[derive(Drop)]
 pub struct MemDevice {
     rows: Vec<Row>,
+    /// The sectors that were written since the last sync, each once.
+    unsynced: Vec<u32>,
     sectors: u32,
     ghost sized: { sectors ≡ length rows.items },
     ghost fits: { length rows.items < 2 ^ 32 },
     ghost whole: { AreSectorRows rows.items } by { AreWhole-prop rows.items },
+    ghost listed: { IsUnsyncedList unsynced.items rows.items } by { IsUnsyncedList-prop unsynced.items rows.items },
+    ghost room: { length rows.items ≤ vec_capacity unsynced },
     bench: Bench,
     past: Snapshot<Past>,
     ghost were_whole: { AllByRecursion AreSectorRows (states_of past.value) } by { AreAllWhole-prop (states_of past.value) },
@@ -63,6 +69,7 @@ impl MemDevice {
         let zeros = Some([0; 512]);
         Ok(MemDevice {
             rows: Vec::from_elem(alloc, stands(zeros), sectors as usize)?,
+            unsynced: Vec::with_capacity(alloc, sectors as usize)?,
             sectors,
             bench: Bench::new(),
             past: Snapshot::of(&Past::Start),
@@ -115,6 +122,7 @@ impl MemDevice {
     {
         note(&self.rows, &mut self.past);
         stop_rows(&mut self.rows, choices, rest);
+        self.unsynced.clear();
         self.bench.stop = None;
         self.bench.stopped = false;
     }
@@ -167,6 +175,7 @@ impl MemDevice {
         ensures keeps { (device_state self.new).keeps_model }
     {
         note(&self.rows, &mut self.past);
+        let_go(sector, &mut self.unsynced);
         self.rows[sector as usize] = stands(None);
     }
 }
@@ -253,6 +262,7 @@ impl SectorDevice for MemDevice {
         let fails = self.bench.call(DeviceCall::Write);
         note(&self.rows, &mut self.past);
         tell_write(sector, bytes, &mut self.told);
+        list_sector(sector, &self.rows, &mut self.unsynced);
         let row = &mut self.rows[sector as usize];
         row.written = Some(*bytes);
         if fails {
@@ -288,7 +298,7 @@ impl SectorDevice for MemDevice {
         }
         note(&self.rows, &mut self.past);
         tell_sync(&mut self.told);
-        settle(&mut self.rows);
+        settle(&mut self.rows, &mut self.unsynced);
         Ok(())
     }
 }

@@ -1,7 +1,7 @@
 // What a memory device keeps of each sector, and what only clauses see.
-ghost use Rattle.std.specs.Prelude.{◌≡◌, ◌+◌, ◌∷◌, List, map, None};
+ghost use Rattle.std.specs.Prelude.{◌≡◌, ◌+◌, ◌∷◌, List, None};
 ghost use Rattle.lfs_device.specs.declared.rows.Row.{Row};
-ghost use Rattle.lfs_device.specs.Rows.{settled, states_of, count, stopped, chosen, stands_at};
+ghost use Rattle.lfs_device.specs.Rows.{states_of, count, stopped, chosen, stands_at};
 
 use std::mem;
 use std::snapshot::Snapshot;
@@ -48,15 +48,6 @@ pub(crate) fn add_one(number: &mut Snapshot<Count>)
 {
     let before = mem::replace(number, Snapshot::of(&Count::Zero));
     *number = Snapshot::of(&Count::Next(before));
-}
-
-pub(crate) fn settle(rows: &mut Vec<Row>)
-    ensures { rows.new.items ≡ map settled rows.old.items }
-{
-    for row in rows.iter_mut() {
-        row.synced = row.present;
-        row.written = None;
-    }
 }
 
 /// What a stop leaves of an unsynced sector.

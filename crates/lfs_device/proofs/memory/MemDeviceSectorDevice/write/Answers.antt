@@ -3,6 +3,7 @@ use Rattle.lfs_model.proofs.Moments.{grows_one}
 use Rattle.lfs_device.proofs.Carried.{change_carries}
 use Rattle.lfs_model.specs.Device.{AreSectorBytes, left_old}
 use Rattle.lfs_device.proofs.Stops.{crash_write, crash_spreads, were_whole, present_set, present_same}
+use Rattle.lfs_device.proofs.UnsyncedLists.{room_set}
 use Rattle.lfs_device.proofs.Whole.{whole_row, whole_set, fits_set}
 use Rattle.lfs_device.proofs.memory.MemDeviceSectorDevice.write.Goals as goal
 
@@ -61,3 +62,15 @@ returns-then-fails-clause-carries c =
 pub returns-clause-carries : goal.returns-clause-carries
 returns-clause-carries c =
     change_carries _ _ _ _ _ _ _ _ (length-set c.args.self.now.rows.items c.args.sector _) c.note.ensures (omega arith) (grows_one _ _ _ c.tell_write.ensures)
+
+pub invariant_of-self-clause-listed : goal.invariant_of-self-clause-listed
+invariant_of-self-clause-listed c = c.list_sector.ensures.listed _ refl
+
+pub invariant_of-self-2-clause-listed : goal.invariant_of-self-2-clause-listed
+invariant_of-self-2-clause-listed c = c.list_sector.ensures.listed _ refl
+
+pub invariant_of-self-clause-room : goal.invariant_of-self-clause-room
+invariant_of-self-clause-room c = room_set _ _ _ _ c.list_sector.ensures.room
+
+pub invariant_of-self-2-clause-room : goal.invariant_of-self-2-clause-room
+invariant_of-self-2-clause-room c = room_set _ _ _ _ c.list_sector.ensures.room
