@@ -10,7 +10,7 @@ pub mod SlotsGive
 pub mod SlotsKept
 pub mod SlotsTaken
 pub mod Takings
-pub mod PlacesOfNames
+pub mod NamesInOrder
 pub mod Lists
 pub mod InTrees
 pub mod Widths

@@ -1,5 +1,5 @@
 -- The names of a directory, listed in the order of their bytes.
-use Rattle.std.specs.Prelude.{◌≡◌, ◌≢◌, ◌<◌, ◌≤◌, ◌+◌, ◌*◌, ℕ, List, ◌++◌, ◌∷◌, length, map, take, drop, get_or, Result, Ok, Err, None}
+use Rattle.std.specs.Prelude.{◌≡◌, ◌≢◌, ◌≤◌, ◌+◌, ◌*◌, ℕ, List, [], ◌++◌, ◌∷◌, map, reverse, take, drop, None}
 use Rattle.std.specs.List.{AllByRecursion}
 use Rattle.std.specs.FinMap.{put}
 use Rattle.lfs_model.specs.Slot.{slot_in}
@@ -20,10 +20,14 @@ pair e = (e.name.items, e.number.value)
 abbrev pub pairs : List Entry → Names
 pairs es = map pair es
 
--- where a name is among entries, or else the place at which it comes in
-abbrev pub IsPlace : List Entry → List ℕ → Result ℕ ℕ → Type 0
-IsPlace es name (Ok i) = (i < length es) × ((n : ℕ) (e : Entry) → e ≡ get_or es i e → put byte_cmp name n (pairs es) ≡ take i (pairs es) ++ (e.name.items, n) ∷ drop (i + 1) (pairs es))
-IsPlace es name (Err i) = (i ≤ length es) × ((n : ℕ) → put byte_cmp name n (pairs es) ≡ take i (pairs es) ++ (name, n) ∷ drop i (pairs es))
+-- the map that names with numbers give, where of one name the first counts
+abbrev pub first_of_each : List (List ℕ × ℕ) → Names
+first_of_each [] = []
+first_of_each (p ∷ ps) = put byte_cmp p.0 p.1 (first_of_each ps)
+
+-- the map that entries give which were gathered from the last slot on
+abbrev pub gathered : List Entry → Names
+gathered es = first_of_each (pairs (reverse es))
 
 -- bytes that are slots, each of them
 abbrev pub AreSlots : ℕ → List (List ℕ) → Type 0
@@ -34,9 +38,14 @@ pub record IsListOf (form : ℕ) (slots : List (List ℕ)) (es : List Entry) : T
   pub names : pairs es ≡ map_of form slots
   pub formed : AreSlots form slots
 
+-- Entries were gathered from these slots, from the last on.
+pub record IsGatheredOf (form : ℕ) (slots : List (List ℕ)) (es : List Entry) : Type 0 where
+  pub names : gathered es ≡ map_of form slots
+  pub formed : AreSlots form slots
+
 -- The names of slots become those of more slots, which stand before them.
 abbrev pub PutsSlots : ℕ → List (List ℕ) → List Entry → List Entry → Type 0
-PutsSlots form more es es' = (behind : List (List ℕ)) → IsListOf form behind es → IsListOf form (more ++ behind) es'
+PutsSlots form more es es' = (behind : List (List ℕ)) → IsGatheredOf form behind es → IsGatheredOf form (more ++ behind) es'
 
 -- ---- a directory
 module _ {S D : Type 0} (s s' : FilesState S D) where

@@ -6,9 +6,9 @@ ghost use Rattle.lfs_files.specs.Files.{IsFault, Reads};
 ghost use Rattle.lfs_model.specs.Tree.{slot_len};
 ghost use Rattle.lfs_dirs.specs.Directory.{first_slots, per_block};
 ghost use Rattle.lfs_dirs.specs.Finding.{HasNoSlot, IsDirectoryFault, IsBlockFault};
-ghost use Rattle.lfs_dirs.specs.Listing.{PutsSlots, ListsBlock, Lists, Inspects, LacksSlot, LacksBlockSlot, pairs};
+ghost use Rattle.lfs_dirs.specs.Listing.{PutsSlots, ListsBlock, Lists, Inspects, LacksSlot, LacksBlockSlot, gathered};
 
-use crate::entry::{Entry, put_entry};
+use crate::entry::{Entry, push_entry, put_in_order};
 use crate::slots::{slots_in_block, slots_of};
 use lfs_files::{Files, Header, LogFault, StoreFault};
 use lfs_layout::{SlotView, nth_slot};
@@ -99,11 +99,14 @@ pub fn inspect<F: Files>(
             Err(fault) => return Err(fault),
         }
     }
-    Ok(entries)
+    match put_in_order(&mut entries) {
+        Ok(()) => Ok(entries),
+        Err(_) => Err(ListFault::NoMemory),
+    }
 }
 
-/// Lists the names of one block of a directory, whose first slots are the directory's, among those
-/// of the blocks behind it.
+/// Gathers the names of one block of a directory, whose first slots are the directory's, behind
+/// those of the blocks that follow it.
 fn list_block<F: Files>(
     alloc: Global,
     files: &mut F,
@@ -147,7 +150,7 @@ pub enum SlotFault {
     NoSlot,
 }
 
-/// The names of the first slots of a block come in, from the last on.
+/// The names of the first slots of a block are gathered, from the last on.
 fn put_slots(
     alloc: Global,
     block: &[u8; 512],
@@ -171,11 +174,11 @@ fn put_slots(
     Ok(())
 }
 
-/// The name of a slot comes in.
+/// The name of a slot is gathered.
 fn put_slot(alloc: Global, form: u8, slot: &[u8], entries: &mut Vec<Entry>) -> Result<(), SlotFault>
     requires { length slot.now ≡ slot_len form }
-    ensures done { OnOk result (pairs entries.new.items ≡ with_slot (slot_in form slot.now)
-        (pairs entries.old.items)) }
+    ensures done { OnOk result (gathered entries.new.items ≡ with_slot (slot_in form slot.now)
+        (gathered entries.old.items)) }
     ensures formed { OnOk result (slot_in form slot.now ≢ None) }
     ensures broken { IfErr result (λ fault. fault ≡ SlotFault.NoSlot
         → slot_in form slot.now ≡ None) }
@@ -186,7 +189,7 @@ fn put_slot(alloc: Global, form: u8, slot: &[u8], entries: &mut Vec<Entry>) -> R
     let number = FileNumber {
         value: view.number() as u16,
     };
-    match put_entry(alloc, entries, view.name(), number) {
+    match push_entry(alloc, entries, view.name(), number) {
         Ok(()) => Ok(()),
         Err(_) => Err(SlotFault::NoMemory),
     }

@@ -67,7 +67,8 @@ returns-in-Err-clause-device g c same =
     fault_more (g.F.Files.state c.args.files.now) (g.F.Files.state c.loop-index.files) (g.F.Files.state c.list_block.new.files)
     c.loop-index.invariant.1.reads (c.in-Err.ensures.device (other_result c.in-Err.fault (ListFault.Log LogFault.Device) same))
 
-pub returns-clause-answer : goal.returns-clause-answer
-returns-clause-answer g c =
+pub returns-in-Ok-put_in_order-clause-answer : goal.returns-in-Ok-put_in_order-clause-answer
+returns-in-Ok-put_in_order-clause-answer g c =
     let t = c.loop-index-test.false in
-    list_ends c.args.directory.value c.args.header (g.F.Files.state c.args.files.now) (g.F.Files.state c.loop-index.files) c.loop-index.index c.loop-index.entries.items (omega (arith, t)) c.loop-index.invariant.1
+    list_ends c.args.directory.value c.args.header (g.F.Files.state c.args.files.now) (g.F.Files.state c.loop-index.files) c.loop-index.index c.loop-index.entries.items c.put_in_order.new.entries.items
+    (omega (arith, t)) c.loop-index.invariant.1 c.in-Ok-put_in_order.ensures

@@ -1,0 +1,14 @@
+use Rattle.std.proofs.Common.{◌≡◌, ◌++◌, ◌∷◌, [], ◌∙◌, ℕ, List, ap}
+use Rattle.std.specs.FinMap.{put}
+use Rattle.lfs_model.specs.Tree.{byte_cmp}
+use Rattle.lfs_dirs.specs.Listing.{gathered}
+use Rattle.lfs_dirs.specs.declared.entry.Entry.{Entry}
+use Rattle.lfs_dirs.proofs.NamesInOrder.{gathered_push}
+use Rattle.lfs_dirs.proofs.entry.push_entry.Goals as goal
+
+pub returns : goal.returns
+returns c =
+    let e : Entry = record { name = c.in_ok-name.name; number = c.args.number } in
+    let name = c.in_ok-name.ensures.items_if_clones_equal (λ x y same. same) in
+    let came : c.push.new.self.items ≡ c.args.entries.now.items ++ e ∷ [] = c.in-Ok.ensures.items in
+    ap gathered came ∙ gathered_push c.args.entries.now.items e ∙ ap (λ (x : List ℕ). put byte_cmp x c.args.number.value (gathered c.args.entries.now.items)) name

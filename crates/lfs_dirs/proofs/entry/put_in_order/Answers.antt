@@ -1,0 +1,17 @@
+use Rattle.std.proofs.Common.{◌∙◌, rules, List, ap}
+use Rattle.std.proofs.lemmas.Fn.{dedup_same}
+use Rattle.std.proofs.lemmas.List.Sorted.{answers_always, ranks_by}
+use Rattle.std.specs.Cmp.Lexicographic.{nat_list_cmp_total}
+use Rattle.lfs_dirs.specs.declared.entry.Entry.{Entry}
+use Rattle.lfs_dirs.specs.Listing.{first_of_each, pairs}
+use Rattle.lfs_dirs.proofs.NamesInOrder.{comes_before, ordered, same_name}
+use Rattle.lfs_dirs.proofs.entry.put_in_order.Goals as goal
+
+pub returns : goal.returns
+returns c =
+    let order = ranks_by nat_list_cmp_total (λ (e : Entry). e.name.items) in
+    let stable = c.sort_by.ensures.stable comes_before order (answers_always _ _ _ (λ f a r g k. search rules)) in
+    let sorted = c.in_ok-sort_by.ensures.sorted comes_before order (answers_always _ _ _ (λ f a r g k. search rules)) in
+    let once = dedup_same _ same_name _ (λ x y b f' x' y' k. search rules) _ _ c.dedup_by.ensures.filtered in
+    ordered c.reverse.new.self.items c.sort_by.new.self.items c.dedup_by.new.self.items c.sort_by.ensures.permutation stable sorted once
+    ∙ ap (λ (l : List Entry). first_of_each (pairs l)) c.reverse.ensures.items
