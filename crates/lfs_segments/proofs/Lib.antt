@@ -1,6 +1,7 @@
 pub mod Numbers
 pub mod Early
 pub mod Steps
+pub mod Listed
 pub mod Saving
 pub mod Entries
 pub mod LeastSums

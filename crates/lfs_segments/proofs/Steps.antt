@@ -266,26 +266,13 @@ release_begins old = record {
   clean = omega arith;
 }
 
-pub release_goes_on : (old now new : UsageTable) (k : ℕ) → ReleasedTo old now k → k < length now.segments → new.segments ≡ slice_set now.segments k (released (get_or now.segments k no_segment)) → new.blocks ≡ now.blocks
-    → new.last ≡ now.last → ReleasedTo old new (k + 1)
-release_goes_on old now new k so lt segments blocks last = record {
-  size = ap length segments ∙ length-set now.segments k (released (get_or now.segments k no_segment)) ∙ so.size;
-  blocks = blocks ∙ so.blocks;
-  last = last ∙ so.last;
-  before = λ s low. ap (λ (l : List SegmentNumbers). get_or l s no_segment) segments ∙ ⊎_elim
-      (λ (here : s ≡ k).
-      ap (λ (s : ℕ). get_or (slice_set now.segments k (released (get_or now.segments k no_segment))) s no_segment) here
-      ∙ set_own now.segments k (released (get_or now.segments k no_segment)) lt ∙ ap released (so.after k (omega arith)) ∙ ap (λ (s : ℕ). released (get_or old.segments s no_segment)) (sym here))
-      (λ (away : s ≡ k → ⊥). set_other now.segments k (released (get_or now.segments k no_segment)) s away ∙ so.before s (omega arith))
-      (cases_eq s k);
-  after = λ s high. ap (λ (l : List SegmentNumbers). get_or l s no_segment) segments ∙ set_other now.segments k (released (get_or now.segments k no_segment)) s (λ h. omega arith) ∙ so.after s (omega arith);
-  clean =
-      let change = clean_change now.segments k (released (get_or now.segments k no_segment)) lt in
-      let was = so.clean in
-      let same = ap clean_in segments in
-      let more = never_less (get_or now.segments k no_segment) in
-      omega arith;
-}
+-- no segment that was clean is in use once the numbers of one are released
+pub never_fewer : (now new : UsageTable) (s : ℕ) → s < length now.segments → new.segments ≡ slice_set now.segments s (released (get_or now.segments s no_segment)) → clean_in now.segments ≤ clean_in new.segments
+never_fewer now new s lt segments =
+    let change = clean_change now.segments s (released (get_or now.segments s no_segment)) lt in
+    let same = ap clean_in segments in
+    let more = never_less (get_or now.segments s no_segment) in
+    omega (arith, change, same, more)
   where
     never_less : (n : SegmentNumbers) → cond (n.used == 0) 1 0 ≤ cond ((released n).used == 0) 1 0
     never_less n = ⊎_elim
@@ -300,6 +287,22 @@ release_goes_on old now new k so lt segments blocks last = record {
         at_most : (b : Bool) → cond b 1 0 ≤ 1
         at_most true = omega arith
         at_most false = omega arith
+
+pub release_goes_on : (old now new : UsageTable) (k : ℕ) → ReleasedTo old now k → k < length now.segments → new.segments ≡ slice_set now.segments k (released (get_or now.segments k no_segment)) → new.blocks ≡ now.blocks
+    → new.last ≡ now.last → ReleasedTo old new (k + 1)
+release_goes_on old now new k so lt segments blocks last = record {
+  size = ap length segments ∙ length-set now.segments k (released (get_or now.segments k no_segment)) ∙ so.size;
+  blocks = blocks ∙ so.blocks;
+  last = last ∙ so.last;
+  before = λ s low. ap (λ (l : List SegmentNumbers). get_or l s no_segment) segments ∙ ⊎_elim
+      (λ (here : s ≡ k).
+      ap (λ (s : ℕ). get_or (slice_set now.segments k (released (get_or now.segments k no_segment))) s no_segment) here
+      ∙ set_own now.segments k (released (get_or now.segments k no_segment)) lt ∙ ap released (so.after k (omega arith)) ∙ ap (λ (s : ℕ). released (get_or old.segments s no_segment)) (sym here))
+      (λ (away : s ≡ k → ⊥). set_other now.segments k (released (get_or now.segments k no_segment)) s away ∙ so.before s (omega arith))
+      (cases_eq s k);
+  after = λ s high. ap (λ (l : List SegmentNumbers). get_or l s no_segment) segments ∙ set_other now.segments k (released (get_or now.segments k no_segment)) s (λ h. omega arith) ∙ so.after s (omega arith);
+  clean = let more = never_fewer now new k lt segments in let was = so.clean in omega (arith, more, was);
+}
 
 pub release_ends : (old now : UsageTable) (k : ℕ) → ReleasedTo old now k → length old.segments ≤ k → Releases old now
 release_ends old now k so le = record {

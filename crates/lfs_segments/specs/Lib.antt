@@ -1,6 +1,7 @@
 pub mod Table
 pub mod Early
 pub mod Steps
+pub mod Settled
 pub mod Chunk
 pub mod Victims
 pub mod Choosing

@@ -6,6 +6,7 @@ mod benefit;
 mod candidate;
 mod chunk;
 mod order;
+mod releasing;
 mod state;
 mod usage;
 pub mod victims;

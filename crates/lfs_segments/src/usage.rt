@@ -2,12 +2,13 @@
 //! section 3.6).
 ghost use Rattle.std.specs.Prelude.{◌≡◌, ◌≢◌, ◌<◌, ◌≤◌, ◌+◌, ◌-◌, ◌*◌, ◌/◌, ◌^◌, ◌==◌, ℕ, suc, Bool, true, false, cond, not, length, get_or, replicate, slice_set, IfOk, IfSome, IfNone, IsTrue, IsFalse, None, Some};
 ghost use Rattle.lfs_segments.specs.Steps.{Notes, Lifts, TakesAway, HidesBlocks, TakesSegment, GoesOn, PutsPlace, Releases, SpellsBlock, saved};
-ghost use Rattle.lfs_segments.specs.Steps as steps;
 ghost use Rattle.lfs_model.specs.Usage.{IsUse, no_use};
 ghost use Rattle.lfs_segments.specs.Table.{SegmentNumbers, PlaceInSegment, no_segment, no_place, used_of, live_of, held_of, age_of, kept_of, address_of, stale_of, clean_in, FitsSegment, FitsTable};
 ghost use Rattle.lfs_segments.specs.Chunk.{TakesChunk};
 ghost use Rattle.lfs_segments.specs.Early.{AreUntaken, early_of, taken_of, early_in, taken_in};
+ghost use Rattle.lfs_segments.specs.Settled.{ListsUnsettled};
 
+use crate::releasing::{Unsettled, released};
 use crate::state::{SegmentState, UsageBlock};
 use lfs_layout::{SegmentUsage, encode_usage};
 use std::alloc::{AllocError, Global};
@@ -43,6 +44,8 @@ pub struct Usage {
     taken: u32,
     /// The segment in which the last chunk begun stands.
     last: Option<u32>,
+    /// The segments whose numbers change as the next checkpoint is acknowledged.
+    unsettled: Unsettled,
 }
 
 impl Model for Usage {
@@ -54,7 +57,9 @@ impl Model for Usage {
 
     ghost view = { λ u. record { segments = u.states.items; blocks = u.blocks.items; last = u.last } };
 
-    ghost invariant = { λ u. FitsTable (record { segments = u.states.items; blocks = u.blocks.items; last = u.last }) × AreTotals u.states.items u.clean u.early u.taken };
+    ghost use Rattle.lfs_segments.specs.Settled.{ListsUnsettled};
+
+    ghost invariant = { λ u. FitsTable (record { segments = u.states.items; blocks = u.blocks.items; last = u.last }) × AreTotals u.states.items u.clean u.early u.taken × ListsUnsettled u.unsettled u.states.items };
 }
 
 impl Usage {
@@ -74,6 +79,7 @@ impl Usage {
             early: 0,
             taken: 0,
             last: None,
+            unsettled: Unsettled::new(),
         })
     }
 
@@ -88,6 +94,7 @@ impl Usage {
         self.early = other.early;
         self.taken = other.taken;
         self.last = other.last;
+        self.unsettled = other.unsettled;
     }
 
     /// How many segments there are.
@@ -211,6 +218,7 @@ impl Usage {
         self.early = exchanged(self.early, early_blocks(was), early_blocks(state));
         self.taken = exchanged(self.taken, taken_sectors(was), taken_sectors(state));
         self.states[segment as usize] = state;
+        self.unsettled.note(segment, was, state);
     }
 
     /// One sector more of a segment is in use, for a block that lives there, or one of a file
@@ -294,7 +302,40 @@ impl Usage {
     pub fn release(&mut self)
         ensures { Releases self.old self.new }
     {
+        self.release_numbers();
+        self.unsettled = Unsettled::new();
+    }
+
+    /// The numbers of all segments become those after a checkpoint is acknowledged.
+    fn release_numbers(&mut self)
+        ensures { Releases self.old self.new }
+    {
+        let unsettled = self.unsettled;
+        if unsettled.is_full() {
+            self.release_all();
+            return;
+        }
+        self.release_listed(&unsettled);
+    }
+
+    /// The same, by a look at each segment.
+    fn release_all(&mut self)
+        ensures { Releases self.old self.new }
+    {
         for segment in 0..self.segments() {
+            let state = released(self.state(segment));
+            self.put(segment, state);
+        }
+    }
+
+    /// The same, where the list has all segments whose numbers change.
+    fn release_listed(&mut self, list: &Unsettled)
+        requires listed { ListsUnsettled list.now self.old.segments }
+        requires all { list.now.count < 64 }
+        ensures { Releases self.old self.new }
+    {
+        for at in 0..list.len() {
+            let segment = list.get(at);
             let state = released(self.state(segment));
             self.put(segment, state);
         }
@@ -451,21 +492,6 @@ fn hidden(mut state: SegmentState, count: u16) -> SegmentState
     state.live -= count;
     state.held += count;
     state
-}
-
-/// The numbers after a checkpoint is acknowledged.
-fn released(state: SegmentState) -> SegmentState
-    requires { FitsSegment state }
-    ensures value { result ≡ steps.released state }
-    ensures fits { FitsSegment result }
-{
-    let empty = state.live == 0 && state.held == 0;
-    let left = if empty { 0 } else { state.used };
-    SegmentState {
-        used: left,
-        kept: left,
-        ..state
-    }
 }
 
 fn one_if_clean(state: SegmentState) -> u32

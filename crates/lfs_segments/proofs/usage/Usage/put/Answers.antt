@@ -1,6 +1,6 @@
-use Rattle.std.proofs.Common.{rules, ◌≡◌, ◌<◌, ◌≤◌, ◌==◌, ◌+◌, ◌*◌, ◌^◌, cond, arith, length, get_or}
-use Rattle.lfs_segments.specs.Table.{no_segment, clean_in}
-use Rattle.lfs_segments.specs.Early.{early_of, early_in, taken_of, taken_in}
+use Rattle.std.proofs.Common.{rules, ◌≡◌, ◌<◌, ◌==◌, ◌+◌, cond, arith, length, get_or}
+use Rattle.lfs_segments.specs.Table.{no_segment}
+use Rattle.lfs_segments.specs.Early.{early_of, taken_of}
 use Rattle.lfs_segments.proofs.Numbers.{set_fits, clean_change, clean_most}
 use Rattle.lfs_segments.proofs.Early.{early_has, early_total, taken_has, taken_total, totals_change}
 use Rattle.lfs_segments.proofs.usage.Usage.put.Goals as goal
@@ -61,4 +61,5 @@ invariant_of-self c =
     let takens : c.exchanged-self-inside-3.result + taken_of (get_or c.self.inside.states.items c.args.segment no_segment) ≡ c.self.inside.taken + taken_of c.args.state = search rules in (
       set_fits c.self.inside.last c.self.inside.states.items c.self.inside.blocks.items c.args.segment c.args.state c.self.invariant.0 inside c.requires.fits,
       totals_change c.self.inside.states.items c.args.segment c.args.state c.self.inside.clean c.self.inside.early c.self.inside.taken c.exchanged-self-inside.result c.exchanged-self-inside-2.result c.exchanged-self-inside-3.result inside c.self.invariant.1 cleans earlies takens,
+      c.note.ensures c.self.inside.states.items inside (search rules) c.self.invariant.2,
     )
