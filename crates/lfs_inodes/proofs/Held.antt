@@ -1,5 +1,5 @@
 -- An index over an arena of blocks: what a change of one leaves of the list of blocks.
-use Rattle.std.proofs.Common.{◌≡◌, ◌<◌, ◌≤◌, ◌+◌, ◌==◌, cond, ℕ, zero, suc, List, [], ◌∷◌, ◌++◌, map, length, get_or, set, refl, sym, ◌∙◌, ap, ap₂, subst, arith, Some, None, length-set, length-append, get_or-set_other, get_or-set_same}
+use Rattle.std.proofs.Common.{◌≡◌, ◌<◌, ◌≤◌, ◌+◌, ◌==◌, ◌||◌, cond, ℕ, zero, suc, Bool, true, false, List, [], ◌∷◌, ◌++◌, map, length, get_or, set, refl, sym, ◌∙◌, ap, ap₂, subst, arith, Option, Some, None, ⊎_elim, length-set, length-append, get_or-set_other, get_or-set_same}
 use Rattle.std.specs.Prelude.{T}
 use Rattle.std.specs.List.{insert, remove}
 use Rattle.std.specs.Ordering.{nat_cmp}
@@ -7,12 +7,17 @@ use Rattle.std.specs.FinMap.{find, put, is_sorted}
 use Rattle.std.proofs.lemmas.Bool.{cond-true, lt-ltb}
 use Rattle.std.proofs.lemmas.Bool.Decides.{nat_tests}
 use Rattle.std.proofs.lemmas.List.Edits.{length-insert, length-remove}
+use Rattle.lfs_model.specs.Entry.{Entry}
+use Rattle.lfs_model.specs.Memory.{IsPointers, HasPointer}
+use Rattle.lfs_model.specs.Running.{Dirty, IsTight}
+use Rattle.lfs_model.specs.Staging.{ChangesTo}
 use Rattle.lfs_model.specs.Tree.{without}
+use Rattle.lfs_model.proofs.Entries.{same_entry}
 use Rattle.lfs_inodes.specs.declared.table.Place.{Place}
-use Rattle.lfs_inodes.specs.Code.{IsCode}
-use Rattle.lfs_inodes.specs.Blocks.{Blocks, TableValue, number_at, altered_as, altered, HasNumberAt, IsGapFor}
+use Rattle.lfs_inodes.specs.Code.{IsCode, entry_at}
+use Rattle.lfs_inodes.specs.Blocks.{Blocks, TableValue, blocks_in, number_at, altered_as, altered, HasNumberAt, IsGapFor}
 use Rattle.lfs_inodes.specs.Held.{entry_in, entries_in, spots, times, one_below, IsTableOf}
-use Rattle.lfs_inodes.proofs.Blocks.{put_at, put_gap, without_at, sorted_put, sorted_without, find_at, find_gap}
+use Rattle.lfs_inodes.proofs.Blocks.{put_at, put_gap, without_at, sorted_put, sorted_without, find_at, find_gap, changed_put, changed_without}
 
 -- ---- how often a number stands in a list
 abbrev mark : ℕ → ℕ → ℕ
@@ -90,6 +95,24 @@ number_is (q ∷ ps) bs (suc i) p lt is = number_is ps bs i p (omega arith) is
 
 low_if : (n s : ℕ) → 1 ≤ one_below n s → s < n
 low_if n s some = grind (arith, nat_tests)
+
+-- ---- each block of pointers leads somewhere, as one block changes
+pub neither : (a b : Bool) → (a || b) ≡ false → (a ≡ false) × (b ≡ false)
+neither false false none = (refl, refl)
+neither false true none = absurd cc
+neither true b none = absurd cc
+
+tight_changed : (old new : Dirty) (x : Entry) (value : Option (List ℕ)) → ChangesTo old new x value → ((v : List ℕ) → value ≡ Some v → IsPointers x → HasPointer v) → IsTight old → IsTight new
+tight_changed old new x value change leads tight y v there is = ⊎_elim
+    (λ (here : y ≡ x). leads v (sym (ap new here ∙ change.own) ∙ there) (subst IsPointers here is))
+    (λ (away : y ≡ x → ⊥). tight y v (sym (change.others y away) ∙ there) is)
+    (same_entry y x)
+
+tight_put : (es : Blocks) (c : ℕ) (v : List ℕ) → IsCode c → (IsPointers (entry_at c) → HasPointer v) → IsTight (blocks_in es) → IsTight (blocks_in (put nat_cmp c v es))
+tight_put es c v is leads = tight_changed _ _ (entry_at c) (Some v) (changed_put es c is v) (λ w same on. let e : v ≡ w = cc in subst HasPointer e (leads on))
+
+tight_without : (es : Blocks) (c : ℕ) → IsCode c → IsTight (blocks_in es) → IsTight (blocks_in (without nat_cmp c es))
+tight_without es c is = tight_changed _ _ (entry_at c) None (changed_without es c is) (λ w none on. absurd cc)
 
 module _ (ps : List Place) (bs : List (List ℕ)) (spare : List ℕ) (most a b : ℕ) (h : IsTableOf ps bs spare most a b) where
   pub few : length (entries_in ps bs) ≤ length bs
@@ -277,6 +300,12 @@ module _ (ps : List Place) (bs : List (List ℕ)) (spare : List ℕ) (most a b :
         ∙ ap (λ (w : List ℕ). record t { blocks = put nat_cmp c w t.blocks }) now
         ∙ ap (λ o. record t { blocks = altered_as o f c t.blocks }) (sym found_at)
 
+    pub tight_at : IsCode c → (v : List ℕ) → (IsPointers (entry_at c) → HasPointer v) → IsTight (blocks_in (entries_in ps bs)) → IsTight (blocks_in (entries_in ps (set bs p.spot v)))
+    tight_at formed v leads tight = subst (λ (es : Blocks). IsTight (blocks_in es)) (sym (written_is ps bs spare most a b h i p inside is c here v)) (tight_put (entries_in ps bs) c v formed leads tight)
+
+    pub tight_left : IsCode c → IsTight (blocks_in (entries_in ps bs)) → IsTight (blocks_in (entries_in (remove ps i) bs))
+    tight_left formed tight = subst (λ (es : Blocks). IsTight (blocks_in es)) (sym (removed_is ps bs spare most a b h i p inside is c here)) (tight_without (entries_in ps bs) c formed tight)
+
     pub held_left : (spare' : List ℕ) → spare' ≡ spare ++ p.spot ∷ [] → IsTableOf (remove ps i) bs spare' most a b
     held_left = held_removed ps bs spare most a b h i p inside is c here
 
@@ -308,6 +337,11 @@ module _ (ps : List Place) (bs : List (List ℕ)) (spare : List ℕ) (most a b :
 
       pub held_put : (find nat_cmp c t.blocks ≡ None → length t.blocks < t.capacity.limit) → (v : List ℕ) → IsTableOf (insert ps i p) (set bs p.spot v) spare' most a b
       held_put room v = held_inserted ps bs spare most a b h spare' p was i gap_key v (place_left room)
+
+      pub tight_more : (v : List ℕ) → (IsPointers (entry_at c) → HasPointer v) → IsTight (blocks_in (entries_in ps bs)) → IsTight (blocks_in (entries_in (insert ps i p) (set bs p.spot v)))
+      tight_more v leads tight =
+          subst (λ (es : Blocks). IsTight (blocks_in es)) (sym (inserted_is ps bs spare most a b h spare' p was i gap_key v))
+          (tight_put (entries_in ps bs) p.key.code v p.key.formed (subst (λ (n : ℕ). IsPointers (entry_at n) → HasPointer v) (sym key) leads) tight)
 
       pub inserted_value : (v : List ℕ) → value_of most (insert ps i p) (set bs p.spot v) ≡ record t { blocks = put nat_cmp c v t.blocks }
       inserted_value v =

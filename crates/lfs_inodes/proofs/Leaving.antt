@@ -1,19 +1,15 @@
--- The blocks of one file leave the table, one by one.
-use Rattle.std.proofs.Common.{◌≡◌, ◌<◌, ◌≤◌, ⊎_elim, ◌+◌, ◌/◌, ◌%◌, cond, ℕ, zero, suc, Bool, true, List, length, Option, Some, None, refl, sym, ◌∙◌, ap, arith}
-use Rattle.std.specs.Prelude.{T, is_some}
-use Rattle.std.specs.Ordering.{nat_cmp}
-use Rattle.std.specs.FinMap.{find, is_sorted}
+-- Blocks leave the table, from the last place of the index to the first.
+use Rattle.std.proofs.Common.{◌≡◌, ◌<◌, ◌≤◌, ⊎_elim, ◌+◌, ◌/◌, ◌%◌, ℕ, zero, suc, List, [], length, Some, None, refl, sym, ◌∙◌, ap, subst, arith}
+use Rattle.std.specs.List.{remove}
 use Rattle.std.proofs.lemmas.Bool.{cases_eq}
-use Rattle.lfs_model.specs.Cutting.{LeavesOut}
+use Rattle.std.proofs.lemmas.List.Edits.{get_or-remove_above, length-remove}
 use Rattle.lfs_model.specs.Entry.{Entry, entry_by}
 use Rattle.lfs_model.specs.Memory.{file_of}
 use Rattle.lfs_model.specs.Staging.{ChangesTo}
-use Rattle.lfs_model.proofs.Entries.{same_entry}
-use Rattle.lfs_inodes.specs.Code.{code, entry_at, kind_by}
-use Rattle.lfs_inodes.specs.Blocks.{Blocks, TableValue, blocks_in, blocks_of, number_at, HasNumberAt}
-use Rattle.lfs_inodes.proofs.Blocks.{find_at, find_none}
+use Rattle.lfs_inodes.specs.Code.{IsCode, code, entry_at, kind_by}
+use Rattle.lfs_inodes.specs.Blocks.{TableValue, blocks_of, number_at}
+use Rattle.lfs_inodes.proofs.Blocks.{find_none}
 use Rattle.lfs_inodes.proofs.Codes.{entry_code}
-use Rattle.lfs_inodes.proofs.Moving.{AreSmall}
 
 file_by : (r f i : ℕ) → file_of (entry_by (kind_by r) f i) ≡ Some f
 file_by zero f i = refl
@@ -24,58 +20,72 @@ file_by (suc (suc (suc r))) f i = refl
 pub file_at : (c : ℕ) → file_of (entry_at c) ≡ Some (c / 32768 % 4096)
 file_at c = file_by (c / 134217728) (c / 32768 % 4096) (c % 32768)
 
--- no block of the table is one of the file
-pub none_there : (es : Blocks) → AreSmall es → (n : ℕ) → ((j : ℕ) → j < length es → number_at es j / 32768 % 4096 ≡ n → ⊥) → (x : Entry) → file_of x ≡ Some n → blocks_in es x ≡ None
-none_there es small n away x file = find_none es (code x) (λ j lt same.
-    let low = small j lt in
-    let named : entry_at (code x) ≡ x = entry_code x (omega (arith, low, same)) in
-    let e : Some (code x / 32768 % 4096) ≡ Some n = sym (file_at (code x)) ∙ ap file_of named ∙ file in
-    let f : code x / 32768 % 4096 ≡ n = cc in
-    away j lt (ap (λ (c : ℕ). c / 32768 % 4096) same ∙ f))
-
-pub is_there : (es : Blocks) → T (is_sorted nat_cmp es) → (c i : ℕ) → HasNumberAt es c i → is_some (find nat_cmp c es) ≡ true
-is_there es sorted c i at = ap (λ (o : Option (List ℕ)). is_some o) (find_at es sorted c i at)
-
 pub file_named : (c n : ℕ) → c / 32768 % 4096 ≡ n → file_of (entry_at c) ≡ Some n
 file_named c n is = file_at c ∙ ap Some is
 
--- the blocks that are left, after so many calls
-pub record LeavesSome (old new : TableValue) (n steps : ℕ) : Type 0 where
-  pub none : (x : Entry) → blocks_of old x ≡ None → blocks_of new x ≡ None
-  pub kept : (x : Entry) → (file_of x ≡ Some n → ⊥) → blocks_of new x ≡ blocks_of old x
-  pub few : length new.blocks + steps ≤ length old.blocks
+pub is_file : (c n : ℕ) → file_of (entry_at c) ≡ Some n → c / 32768 % 4096 ≡ n
+is_file c n file = let e : Some (c / 32768 % 4096) ≡ Some n = sym (file_at c) ∙ file in cc
+
+-- From place at on there is no block any more that goes. Those that stay are as they were.
+pub record LeavesFrom (old new : TableValue) (goes stays : Entry → Type 0) (at : ℕ) : Type 0 where
+  pub kept : (x : Entry) → stays x → blocks_of new x ≡ blocks_of old x
+  pub away : (j : ℕ) → at ≤ j → j < length new.blocks → goes (entry_at (number_at new.blocks j)) → ⊥
+  pub codes : (j : ℕ) → j < length new.blocks → IsCode (number_at new.blocks j)
+  pub low : at ≤ length new.blocks
+  pub few : length new.blocks ≤ length old.blocks
   pub capacity : new.capacity ≡ old.capacity
 
-pub leaves_first : (old : TableValue) (n : ℕ) → LeavesSome old old n 0
-leaves_first old n = record { none = λ x none. none; kept = λ x out. refl; few = omega arith; capacity = refl }
+module _ (goes stays : Entry → Type 0) where
+  pub leaves_begins : (t : TableValue) (at : ℕ) → at ≡ length t.blocks → ((j : ℕ) → j < length t.blocks → IsCode (number_at t.blocks j)) → LeavesFrom t t goes stays at
+  leaves_begins t at all codes = record {
+    kept = λ x is. refl;
+    away = λ j le lt on. absurd (omega (arith, le, lt, all));
+    codes = codes;
+    low = omega (arith, all);
+    few = omega arith;
+    capacity = refl;
+  }
 
-pub leaves_next : (old mid new : TableValue) (n steps c : ℕ) → LeavesSome old mid n steps → file_of (entry_at c) ≡ Some n → is_some (find nat_cmp c mid.blocks) ≡ true
-    → ChangesTo (blocks_of mid) (blocks_of new) (entry_at c) None → cond (is_some (find nat_cmp c mid.blocks)) 1 0 + length new.blocks ≡ length mid.blocks → new.capacity ≡ mid.capacity
-    → LeavesSome old new n (steps + 1)
-leaves_next old mid new n steps c was file at change less capacity = record {
-  none = λ x none. ⊎_elim
-      (λ (here : x ≡ entry_at c). ap (blocks_of new) here ∙ change.own)
-      (λ (away : x ≡ entry_at c → ⊥). change.others x away ∙ was.none x none)
-      (same_entry x (entry_at c));
-  kept = λ x out. change.others x (λ here. out (ap file_of here ∙ file)) ∙ was.kept x out;
-  few =
-      let one : cond {A = ℕ} (is_some (find nat_cmp c mid.blocks)) 1 0 ≡ 1 = ap (λ (b : Bool). cond {A = ℕ} b 1 0) at in
-      let few = was.few in
-      omega (arith, one, few, less);
-  capacity = capacity ∙ was.capacity;
-}
+  -- the block at a place stays
+  pub leaves_over : (old mid : TableValue) (at a : ℕ) → suc a ≡ at → LeavesFrom old mid goes stays at → (goes (entry_at (number_at mid.blocks a)) → ⊥) → LeavesFrom old mid goes stays a
+  leaves_over old mid at a next was off = record {
+    kept = was.kept;
+    away = λ j le lt on. ⊎_elim
+        (λ (here : j ≡ a). off (subst (λ (i : ℕ). goes (entry_at (number_at mid.blocks i))) here on))
+        (λ (ne : j ≡ a → ⊥). was.away j (omega (arith, le, ne, next)) lt on)
+        (cases_eq j a);
+    codes = was.codes;
+    low = let low = was.low in omega (arith, low, next);
+    few = was.few;
+    capacity = was.capacity;
+  }
 
-pub no_blocks : (es : Blocks) → length es ≡ 0 → (x : Entry) → blocks_in es x ≡ None
-no_blocks es none x = find_none es (code x) (λ j lt same. omega (arith, lt, none))
+  -- it goes
+  pub leaves_out : ((x : Entry) → goes x → stays x → ⊥) → (old mid new : TableValue) (at a : ℕ) → suc a ≡ at → LeavesFrom old mid goes stays at → goes (entry_at (number_at mid.blocks a))
+      → new ≡ record mid { blocks = remove mid.blocks a } → ChangesTo (blocks_of mid) (blocks_of new) (entry_at (number_at mid.blocks a)) None
+      → ((j : ℕ) → j < length new.blocks → IsCode (number_at new.blocks j)) → LeavesFrom old new goes stays a
+  leaves_out apart old mid new at a next was on is change codes = record {
+    kept = λ x st. change.others x (λ here. apart x (subst goes (sym here) on) st) ∙ was.kept x st;
+    away = λ j le lt now. was.away (j + 1) (omega (arith, le, next)) (omega (arith, lt, less)) (subst (λ (n : ℕ). goes (entry_at n)) (above j le) now);
+    codes = codes;
+    low = let low = was.low in omega (arith, low, next, less);
+    few = let few = was.few in omega (arith, few, less);
+    capacity = ap (λ (t : TableValue). t.capacity) is ∙ was.capacity;
+  }
+    where
+      inside : a < length mid.blocks
+      inside = let low = was.low in omega (arith, low, next)
 
-pub leaves_done : (old new : TableValue) (n steps : ℕ) → LeavesSome old new n steps → ((x : Entry) → file_of x ≡ Some n → blocks_of new x ≡ None) → LeavesOut (blocks_of old) (blocks_of new) n
-leaves_done old new n steps was gone = record { none = gone; kept = was.kept }
+      less : length new.blocks + 1 ≡ length mid.blocks
+      less = let size = ap (λ (t : TableValue). length t.blocks) is in let left = length-remove mid.blocks a inside in omega (arith, size, left)
 
-pub leaves_all : (old new : TableValue) (n steps : ℕ) → LeavesSome old new n steps → length old.blocks ≤ steps → LeavesOut (blocks_of old) (blocks_of new) n
-leaves_all old new n steps was all = leaves_done old new n steps was (λ x file. no_blocks new.blocks (let few = was.few in omega (arith, few, all)) x)
+      above : (j : ℕ) → a ≤ j → number_at new.blocks j ≡ number_at mid.blocks (j + 1)
+      above j le = ap (λ (t : TableValue). number_at t.blocks j) is ∙ ap (λ (e : ℕ × List ℕ). e.0) (get_or-remove_above mid.blocks a (0, []) j le inside)
 
-pub away_next : (es : Blocks) (n i c : ℕ) → ((j : ℕ) → j < i → number_at es j / 32768 % 4096 ≡ n → ⊥) → HasNumberAt es c i → (c / 32768 % 4096 ≡ n → ⊥) → (j : ℕ) → j < i + 1 → number_at es j / 32768 % 4096 ≡ n → ⊥
-away_next es n i c before at ne j lt same = ⊎_elim
-    (λ (here : j ≡ i). ne (ap (λ (c : ℕ). c / 32768 % 4096) (sym (ap (number_at es) here ∙ at.number)) ∙ same))
-    (λ (away : j ≡ i → ⊥). before j (omega (arith, lt, away)) same)
-    (cases_eq j i)
+  -- at the first place none is left
+  pub leaves_ends : (old new : TableValue) (at : ℕ) → at ≤ 0 → LeavesFrom old new goes stays at → (x : Entry) → goes x → blocks_of new x ≡ None
+  leaves_ends old new at first was x on = find_none new.blocks (code x) (λ j lt same.
+      let is = was.codes j lt in
+      let small = is.small in
+      let named : entry_at (code x) ≡ x = entry_code x (omega (arith, small, same)) in
+      was.away j (omega (arith, first)) lt (subst goes (sym (ap entry_at same ∙ named)) on))

@@ -10,4 +10,3 @@ pub mod PresentPointers
 pub mod Empties
 pub mod Leaving
 pub mod Zeroed
-pub mod Past

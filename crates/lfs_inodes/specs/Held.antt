@@ -1,9 +1,10 @@
 -- How the table holds its blocks: an index in the order of keys over an arena of blocks.
-use Rattle.std.specs.Prelude.{◌≡◌, ◌<◌, ◌≤◌, ◌+◌, ◌==◌, nat_lt, cond, ℕ, T, List, [], ◌∷◌, map, length, get_or}
+use Rattle.std.specs.Prelude.{◌≡◌, ◌<◌, ◌≤◌, ◌+◌, ◌==◌, nat_lt, cond, ℕ, Bool, false, T, List, [], ◌∷◌, map, length, get_or}
 use Rattle.std.specs.Ordering.{nat_cmp}
 use Rattle.std.specs.FinMap.{is_sorted}
+use Rattle.lfs_model.specs.Running.{IsTight}
 use Rattle.lfs_inodes.specs.declared.table.Place.{Place}
-use Rattle.lfs_inodes.specs.Blocks.{Blocks}
+use Rattle.lfs_inodes.specs.Blocks.{Blocks, blocks_in}
 
 -- a place of the index, and the block there
 abbrev pub entry_in : List (List ℕ) → Place → ℕ × List ℕ
@@ -36,3 +37,7 @@ pub record IsTableOf (places : List Place) (arena : List (List ℕ)) (spare : Li
   -- memory is reserved for the whole of it
   pub room : length arena ≤ capacity
   pub room_for_spare : length arena ≤ capacity_for_spare
+
+-- each block of pointers leads somewhere, unless one may lead nowhere
+abbrev pub IsTightUnless : Bool → List Place → List (List ℕ) → Type 0
+IsTightUnless loose places arena = loose ≡ false → IsTight (blocks_in (entries_in places arena))

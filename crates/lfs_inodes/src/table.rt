@@ -2,6 +2,7 @@
 ghost use Rattle.std.specs.Prelude.{◌≡◌, ◌≢◌, true, ◌<◌, ◌≤◌, ◌+◌, ◌^◌, cond, ℕ, T, List, [], length, is_some, Some, None, IfOk, IfErr, IfSome, IfNone, IsSome, IsTrue, IsFalse, MatchOption, vec_len, vec_capacity};
 ghost use Rattle.std.specs.Ordering.{nat_cmp};
 ghost use Rattle.std.specs.Option.{option_map};
+ghost use Rattle.std.specs.List.{remove};
 ghost use Rattle.std.specs.FinMap.{find, put, is_sorted};
 ghost use Rattle.lfs_model.specs.Entry.{Entry, word};
 ghost use Rattle.lfs_model.specs.Tree.{without};
@@ -12,7 +13,7 @@ ghost use Rattle.lfs_model.specs.Staging.{ChangesTo, Fetches};
 ghost use Rattle.lfs_inodes.specs.Key.{entry_of};
 ghost use Rattle.lfs_inodes.specs.Empty.{IsEmptyBlock};
 ghost use Rattle.lfs_inodes.specs.Blocks.{blocks_of, altered, number_at, HasNumberAt, IsGapFor};
-ghost use Rattle.lfs_inodes.specs.Code.{IsCode};
+ghost use Rattle.lfs_inodes.specs.Code.{IsCode, entry_at};
 ghost use Rattle.lfs_inodes.specs.Clearing.{LeavesPast, zeroed};
 ghost use Rattle.lfs_inodes.specs.Held.{times, one_below};
 ghost use Rattle.lfs_inodes.specs.Data.{data_count, is_data_code};
@@ -38,6 +39,8 @@ pub struct DirtyTable {
     arena: Vec<[u8; 512]>,
     spare: Vec<u32>,
     limit: u32,
+    /// Whether a block of pointers here may lead nowhere.
+    loose: bool,
 }
 
 impl Model for DirtyTable {
@@ -46,11 +49,11 @@ impl Model for DirtyTable {
 
     ghost Value = { TableValue };
 
-    ghost use Rattle.lfs_inodes.specs.Held.{entries_in, IsTableOf};
+    ghost use Rattle.lfs_inodes.specs.Held.{entries_in, IsTableOf, IsTightUnless};
 
     ghost view = { λ t. record { blocks = entries_in t.places.items t.arena.items; capacity = record { limit = t.limit; room = length t.arena.items } } };
 
-    ghost invariant = { λ t. IsTableOf t.places.items t.arena.items t.spare.items t.limit (vec_capacity t.places) (vec_capacity t.spare) };
+    ghost invariant = { λ t. IsTableOf t.places.items t.arena.items t.spare.items t.limit (vec_capacity t.places) (vec_capacity t.spare) × IsTightUnless t.loose t.places.items t.arena.items };
 }
 
 impl DirtyTable {
@@ -75,6 +78,7 @@ impl DirtyTable {
             arena,
             spare,
             limit,
+            loose: false,
         })
     }
 
@@ -158,11 +162,15 @@ impl DirtyTable {
         has_no_pointer(block)
     }
 
-    /// The first block of pointers that leads nowhere.
+    /// The first block of pointers that leads nowhere. Where none can have come to that since
+    /// `set_tight`, no block is looked at.
     pub fn first_empty(&self) -> Option<BlockKey>
         ensures empty { IfSome result (λ key. IsEmptyBlock (blocks_of self.now) (entry_of key)) }
         ensures none { IfNone result (IsTight (blocks_of self.now)) }
     {
+        if !self.loose {
+            return None;
+        }
         for at in 0..self.len() {
             let key = self.key_at(at);
             if self.is_empty(key) {
@@ -170,6 +178,14 @@ impl DirtyTable {
             }
         }
         None
+    }
+
+    /// The caller knows that each block of pointers here leads somewhere.
+    pub fn set_tight(&mut self)
+        requires { IsTight (blocks_of self.old) }
+        ensures { self.new ≡ self.old }
+    {
+        self.loose = false;
     }
 
     /// Where a key stands in the index, or where it would go.
@@ -206,15 +222,18 @@ impl DirtyTable {
             (is_some (find nat_cmp key.code self.old.blocks)) (length self.old.blocks)
             (length self.old.blocks + 1) }
     {
+        let empty = leads_nowhere(key, bytes);
         match self.search(key) {
             Ok(at) => {
                 let spot = self.places[at].spot;
                 self.arena[spot as usize] = *bytes;
+                self.loose |= empty;
             }
             Err(at) => {
                 let spot = self.spare.pop().unwrap();
                 self.arena[spot as usize] = *bytes;
                 self.places.insert(at, Place { key, spot }).unwrap();
+                self.loose |= empty;
             }
         }
     }
@@ -233,7 +252,8 @@ impl DirtyTable {
             return;
         };
         let spot = self.places[at].spot as usize;
-        set_word(&mut self.arena[spot], place, number);
+        point(&mut self.arena[spot], place, number);
+        self.loose |= may_empty(key, number);
     }
 
     /// Takes a block out, if it is here.
@@ -250,24 +270,26 @@ impl DirtyTable {
         let Ok(at) = self.search(key) else {
             return;
         };
-        let place = self.places.remove(at);
-        self.spare.push(place.spot).unwrap();
+        self.remove_at(at);
     }
 
-    /// A block of a file, if there is one.
-    fn any_of(&self, file: u16) -> Option<BlockKey>
-        ensures some { IfSome result (λ key. (file_of (entry_of key) ≡ Some file)
-            × (is_some (find nat_cmp key.code self.now.blocks) ≡ true)) }
-        ensures none { IfNone result ((x : Entry) → file_of x ≡ Some file
-            → blocks_of self.now x ≡ None) }
+    /// Takes the block at a place of the index out.
+    fn remove_at(&mut self, at: usize)
+        requires { at < length self.old.blocks }
+        ensures removed { self.new ≡ record self.old { blocks = remove self.old.blocks at } }
+        ensures others { remove self.old.blocks at
+            ≡ without nat_cmp (number_at self.old.blocks at) self.old.blocks }
+        ensures changed { ChangesTo (blocks_of self.old) (blocks_of self.new)
+            (entry_at (number_at self.old.blocks at)) None }
+        ensures length { cond (is_some (find nat_cmp (number_at self.old.blocks at)
+            self.old.blocks)) 1 0 + length self.new.blocks ≡ length self.old.blocks }
+        ensures codes { (i : ℕ) → i < length self.new.blocks
+            → IsCode (number_at self.new.blocks i) }
+        ensures data_blocks { is_data_code (number_at self.old.blocks at) ≡ true
+            → data_count self.new + 1 ≡ data_count self.old }
     {
-        for at in 0..self.places.len() {
-            let key = self.places[at].key;
-            if key.file() == file {
-                return Some(key);
-            }
-        }
-        None
+        let place = self.places.remove(at);
+        self.spare.push(place.spot).unwrap();
     }
 
     /// Takes every block of a file out.
@@ -276,29 +298,13 @@ impl DirtyTable {
         ensures few { length self.new.blocks ≤ length self.old.blocks }
         ensures capacity { self.new.capacity ≡ self.old.capacity }
     {
-        for _ in 0..self.len() {
-            match self.any_of(file) {
-                Some(key) => self.remove(key),
-                None => return,
+        let mut at = self.len();
+        while at > 0 {
+            at -= 1;
+            if self.key_at(at).file() == file {
+                self.remove_at(at);
             }
         }
-    }
-
-    /// A data block of a file from block `first` on, or a block of pointers with only those below
-    /// it, if there is one.
-    fn any_past(&self, file: u16, first: u32) -> Option<BlockKey>
-        ensures some { IfSome result (λ key. (is_past file first (entry_of key) ≡ true)
-            × (is_some (find nat_cmp key.code self.now.blocks) ≡ true)) }
-        ensures none { IfNone result ((x : Entry) → is_past file first x ≡ true
-            → blocks_of self.now x ≡ None) }
-    {
-        for at in 0..self.places.len() {
-            let key = self.places[at].key;
-            if key.is_past(file, first) {
-                return Some(key);
-            }
-        }
-        None
     }
 
     /// Takes every data block of a file from block `first` on out, and the blocks of pointers with
@@ -308,10 +314,11 @@ impl DirtyTable {
         ensures few { length self.new.blocks ≤ length self.old.blocks }
         ensures capacity { self.new.capacity ≡ self.old.capacity }
     {
-        for _ in 0..self.len() {
-            match self.any_past(file, first) {
-                Some(key) => self.remove(key),
-                None => return,
+        let mut at = self.len();
+        while at > 0 {
+            at -= 1;
+            if self.key_at(at).is_past(file, first) {
+                self.remove_at(at);
             }
         }
     }
@@ -372,6 +379,7 @@ impl DirtyTable {
         self.places.clear();
         self.spare.clear();
         fill(&mut self.spare, self.arena.len() as u32);
+        self.loose = false;
     }
 }
 
@@ -387,6 +395,31 @@ fn has_no_pointer(block: &[u8; 512]) -> bool
         }
     }
     true
+}
+
+/// Puts a number at a place of 4 bytes of a block. As a block of pointers it leads somewhere then,
+/// unless the number is 0.
+#[tactic(auto, unfolding(lfs_model::specs::Memory::patched))]
+fn point(block: &mut [u8; 512], place: usize, number: u32)
+    requires { place < 128 }
+    ensures patched { block.new ≡ patched place number block.old }
+    ensures leads { 0 < number → HasPointer block.new }
+{
+    set_word(block, place, number);
+}
+
+/// Whether the block is one of pointers that leads nowhere.
+fn leads_nowhere(key: BlockKey, block: &[u8; 512]) -> bool
+    ensures { result ≢ true → IsPointers (entry_of key) → HasPointer block.now }
+{
+    key.is_pointers() && has_no_pointer(block)
+}
+
+/// Whether a block of pointers may lead nowhere once this number stands in it.
+fn may_empty(key: BlockKey, number: u32) -> bool
+    ensures { result ≢ true → IsPointers (entry_of key) → 0 < number }
+{
+    number == 0 && key.is_pointers()
 }
 
 /// Puts the numbers below this one into an empty list.

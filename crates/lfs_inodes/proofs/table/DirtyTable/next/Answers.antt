@@ -14,12 +14,12 @@ returns-clause-first c =
 pub returns-clause-lowest : goal.returns-clause-lowest
 returns-clause-lowest c =
     lowest_value c.args.self.now
-    (sorted_value c.self.inside.places.items c.self.inside.arena.items c.self.inside.spare.items _ _ _ c.self.invariant c.args.self.now c.self.view_is)
+    (sorted_value c.self.inside.places.items c.self.inside.arena.items c.self.inside.spare.items _ _ _ c.self.invariant.0 c.args.self.now c.self.view_is)
     (small_value _ c.self.inside.places.items c.self.inside.arena.items c.args.self.now c.self.view_is)
     c.in_ok-place.place.now.key.code c.in_ok-place.place.now.key.formed (returns-clause-first c)
 
 pub returns-clause-data_blocks : goal.returns-clause-data_blocks
 returns-clause-data_blocks c some =
     first_data c.args.self.now
-    (sorted_value c.self.inside.places.items c.self.inside.arena.items c.self.inside.spare.items _ _ _ c.self.invariant c.args.self.now c.self.view_is)
+    (sorted_value c.self.inside.places.items c.self.inside.arena.items c.self.inside.spare.items _ _ _ c.self.invariant.0 c.args.self.now c.self.view_is)
     c.in_ok-place.place.now.key.code (returns-clause-first c) some
