@@ -1,5 +1,5 @@
 -- Stages by number.
-use Rattle.std.proofs.Common.{◌≡◌, ◌<◌, ◌↔◌, ◌+◌, ◌*◌, ⊎_elim, ℕ, suc, Bool, true, false, List, length, get_or, sym, ◌∙◌, subst, arith}
+use Rattle.std.proofs.Common.{◌≡◌, ◌↔◌, ◌+◌, ◌*◌, ⊎_elim, ℕ, suc, Bool, true, false, List, length, get_or, sym, ◌∙◌, subst, arith}
 use Rattle.std.proofs.lemmas.Bool.{cases_eq}
 use Rattle.lfs_model.specs.Damage.{stage, IsDamaged}
 use Rattle.lfs_model.specs.Reach.{View}
@@ -118,12 +118,5 @@ used_says v used live usages size says = used_table v used usages size (λ s lt.
 pub live_says : (v : View) (used live : List ℕ) → length live ≡ v.checkpoint.segments → SaysAll v used live → IsLiveTable v live
 live_says v used live size says = record { size = size; each = λ s lt. (says s lt).1 }
 
--- the marks are as many as before
-pub inside_then : (map old new : List ℕ) → length new ≡ length old → ((i : ℕ) → i < 4096 → get_or map i 0 < length new) → (i : ℕ) → i < 4096 → get_or map i 0 < length old
-inside_then map old new same at i lt = let h = at i lt in omega (arith, h, same)
-
 pub passed_pointers : (v : View) (marks : List ℕ) → IsBounded v → HoldsBelow v 7 × Walked v marks 536624 → Passed v marks 536624 7
 passed_pointers v marks bounded both = record { bounded = bounded; below = both.0; walked = both.1 }
-
-pub rows_before : (v : View) (marks : List ℕ) (r : ℕ) → Passed v marks r 8 → IsRows v
-rows_before v marks r passed = (stage_2 v).0 (passed.below 2 (omega arith))

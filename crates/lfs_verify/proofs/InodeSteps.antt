@@ -1,13 +1,13 @@
 -- The inode of a file.
-use Rattle.std.proofs.Common.{◌≡◌, ◌<◌, ◌⊎◌, ⊎_elim, inl, inr, length, ◌+◌, ℕ, Bool, true, false, List, [], ◌∙◌, sym, ap, refl, subst, arith}
+use Rattle.std.proofs.Common.{◌≡◌, ◌<◌, ◌⊎◌, ⊎_elim, inl, inr, length, ◌+◌, ℕ, Bool, true, false, List, sym, ap, refl, subst, arith}
 use Rattle.lfs_model.specs.Entry.{Inode, IsInode}
 use Rattle.lfs_model.specs.Checkpoint.{CheckpointValue, layout_version}
 use Rattle.lfs_model.specs.Content.{Content, block}
 use Rattle.lfs_model.specs.Reach.{address, view}
-use Rattle.lfs_model.specs.Stands.{Inodes, Reached}
+use Rattle.lfs_model.specs.Stands.{Inodes}
 use Rattle.lfs_verify.specs.Walk.{Walked}
 use Rattle.lfs_verify.specs.Take.{TakesAddress}
-use Rattle.lfs_verify.proofs.Takes.{took, refused, no_inode}
+use Rattle.lfs_verify.proofs.Takes.{took, refused}
 
 module _ (c : Content) (k : CheckpointValue) (n : ℕ) (low : n < 4096) (m m1 : List ℕ) (p : ℕ) (at : p ≡ address c k (Inode n)) (x : Bool)
     (version : ℕ) (same : layout_version k ≡ version) (takes : TakesAddress (IsInode version n) c m m1 p (48 + n) x) (w : Walked (view c k) m (48 + n)) where
@@ -24,13 +24,6 @@ module _ (c : Content) (k : CheckpointValue) (n : ℕ) (low : n < 4096) (m m1 : 
       subst (Walked (view c k) m1) (omega arith)
       (took (view c k) m m1 (48 + n) w (Inode n) refl low p at c (IsInode (layout_version k) n)
       (subst (IsInode (layout_version k) n) (ap (block c) at), subst (IsInode (layout_version k) n) (sym (ap (block c) at))) x holds t)
-
--- an inode that was taken can be read
-pub inode_readable : (c : Content) (k : CheckpointValue) (n : ℕ) → n < 4096 → (m : List ℕ) (r : ℕ) → 48 + n < r → Walked (view c k) m r
-    → (p : ℕ) → p ≡ address c k (Inode n) → (p ≡ 0 → ⊥) → block c p ≡ [] → ⊥
-inode_readable c k n low m r past w p at some none =
-    let reached : Reached (view c k) (Inode n) = omega arith in
-    no_inode (layout_version k) n (block c (address c k (Inode n))) (ap (block c) (sym at) ∙ none) (w.good (Inode n) past low reached)
 
 pub in_marks : (at : ℕ) (old new : List ℕ) → length new ≡ length old → (at ≡ 0) ⊎ (at < length new) → (at ≡ 0) ⊎ (at < length old)
 in_marks at old new same h = ⊎_elim (λ (x : at ≡ 0). inl x) (λ (x : at < length new). inr (omega arith)) h

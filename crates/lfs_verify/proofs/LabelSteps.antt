@@ -1,5 +1,5 @@
 -- Labels of a row against the marks, one chunk at a time.
-use Rattle.std.proofs.Common.{◌≡◌, ◌<◌, ◌≤◌, ◌↔◌, ⊎_elim, ◌+◌, ◌-◌, ◌*◌, ◌==◌, ℕ, zero, suc, true, List, [], ◌∷◌, length, get_or, drop, map, Option, Some, None, refl, sym, ◌∙◌, ap, subst, arith, zero-add, eq-eqb, eqb-true}
+use Rattle.std.proofs.Common.{◌≡◌, ◌<◌, ◌≤◌, ⊎_elim, ◌+◌, ◌-◌, ◌*◌, ℕ, zero, suc, List, [], ◌∷◌, length, get_or, drop, map, Option, Some, None, refl, sym, ◌∙◌, ap, subst, arith, zero-add, ◌⊎◌, ◌/◌, ◌%◌, inl, inr, pred, set, length-set, get_or-set_other, get_or-set_same}
 use Rattle.std.proofs.lemmas.Bool.{cases_eq, cases_lt}
 use Rattle.std.proofs.lemmas.List.{get_or-map, get_or_past, length-map}
 use Rattle.lfs_model.specs.declared.BlockKind.{BlockKind}
@@ -8,14 +8,15 @@ use Rattle.lfs_model.specs.Checkpoint.{CheckpointValue}
 use Rattle.lfs_model.specs.Content.{Content, bytes_of, block}
 use Rattle.lfs_model.specs.Device.{Cell}
 use Rattle.lfs_model.specs.Entry.{Entry, entry_by, entry_of, entries_in}
-use Rattle.lfs_model.specs.Reach.{Row, after, opened, chunks, row_by, place_in, view}
-use Rattle.lfs_model.specs.Stands.{IsRows}
+use Rattle.lfs_model.specs.Reach.{Row, after, opened, chunks, row_by, place_in, view, View}
+use Rattle.lfs_model.specs.Stands.{AreNamed}
 use Rattle.lfs_model.specs.Summary.{BlockNameValue, FitsSummary, IsPlaced, no_block, summary_in}
-use Rattle.lfs_verify.specs.Labels.{IsNamedIn, IsSectorNamed, HasStep}
+use Rattle.lfs_verify.specs.Labels.{IsNamedIn, HasStep, Agrees, HasLabels, HasAllLabels, PutsLabels}
 use Rattle.lfs_verify.specs.Rows.{HasRow, IsSummaryOf, part, from}
 use Rattle.lfs_verify.specs.Tables.{IsUsedTable}
-use Rattle.lfs_verify.specs.Walk.{InBounds, step_of}
-use Rattle.lfs_verify.proofs.RowSteps.{here, behind, opens, opens_names, entries_some, end_is, enough_behind, rest_is, next_chunk, from_start, no_sectors, row_is}
+use Rattle.lfs_verify.specs.Walk.{InBounds, step_of, Walked, IsBounded}
+use Rattle.lfs_verify.proofs.Sectors.{named_by_marks}
+use Rattle.lfs_verify.proofs.RowSteps.{here, behind, opens, opens_names, entries_some, end_is, enough_behind, rest_is, next_chunk, from_start, row_is}
 
 -- what a summary may name is in bounds
 bounds_of : (k : BlockKind) (file index : ℕ) → IsPlaced k file index → InBounds (entry_by k file index)
@@ -27,15 +28,6 @@ bounds_of kind.Double file index p = let x = p.0 in omega arith
 bounds_of kind.Inode file index p = let x = p.0 in omega arith
 bounds_of kind.Map file index p = let x = p.1 in omega arith
 bounds_of kind.Usage file index p = let x = p.1 in omega arith
-
-pub no_step : (mark : ℕ) (e : Entry) → mark ≡ 0 → HasStep mark e
-no_step mark e none p is = absurd (omega arith)
-
-pub step_is : (mark step : ℕ) (e : Entry) → step ≡ step_of e → (mark ≡ 0 → ⊥) → ((mark == step + 1) ≡ true) ↔ HasStep mark e
-step_is mark step e is some = (
-  λ on p there. let h = eqb-true mark (step + 1) on in omega arith,
-  λ has. eq-eqb mark (step + 1) (let h = has (mark - 1) (omega arith) in omega arith),
-)
 
 -- ---- places of a row
 after_first : (x : Option Row) → place_in (after None x) 0 ≡ None
@@ -203,21 +195,133 @@ module _ (c : Content) (used segment : ℕ) (marks : List ℕ) (long : 2 + 64 * 
       unlabelled (row_by c used segment) marks segment (i - (2 + 64 * segment)) (get_or marks i 0) (ap (λ (x : ℕ). get_or marks x 0) (sym e)) none (all (i - (2 + 64 * segment)) (omega arith))
 
 -- ---- the rows of all segments
-module _ (c : Content) (k : CheckpointValue) (used marks : List ℕ) (table : IsUsedTable (view c k) used) (s : ℕ) (lt : s < length used) where
+module _ (c : Content) (k : CheckpointValue) (used : List ℕ) (table : IsUsedTable (view c k) used) (s : ℕ) (lt : s < length used) where
   same_row : row_by c (get_or used s 0) s ≡ (view c k).row s
   same_row = ap (λ (u : ℕ). row_by c u s) (table.each s (let n = table.size in omega arith)) ∙ sym (row_is c k s)
 
-  pub row_has : IsRows (view c k) → HasRow (row_by c (get_or used s 0) s)
-  row_has rows = ⊎_elim
-      (λ (clean : get_or used s 0 ≡ 0). no_sectors c s (get_or used s 0) clean)
-      (λ (some : get_or used s 0 ≡ 0 → ⊥).
-      let e = table.each s (let n = table.size in omega arith) in
-      let h = rows s (omega arith) in
-      (h.0, same_row ∙ h.1))
-      (cases_eq (get_or used s 0) 0)
+  pub labels_there : (labels : List ℕ) → HasLabels (row_by c (get_or used s 0) s) labels s → HasLabels ((view c k).row s) labels s
+  labels_there labels = subst (λ (r : Option Row). HasLabels r labels s) same_row
 
-  pub named_here : AllNamed c (get_or used s 0) s marks → (o : ℕ) → o < 64 → IsSectorNamed (view c k) marks s o
-  named_here all o small = subst (λ (r : Option Row). IsNamedIn r marks s o) same_row (all o small)
+-- ---- the marks that labels give
+-- Up to a place of a row that begins a chunk.
+pub record LabelledTo (c : Content) (used segment : ℕ) (labels : List ℕ) (at : ℕ) : Type 0 where
+  pub named : NamedTo c used segment labels at
+  pub agree : (marks : List ℕ) → AllNamed c used segment marks → (o : ℕ) → o < at → Agrees marks labels (2 + 64 * segment + o)
 
-  pub named_there : ((o : ℕ) → o < 64 → IsSectorNamed (view c k) marks s o) → AllNamed c (get_or used s 0) s marks
-  named_there each o small = subst (λ (r : Option Row). IsNamedIn r marks s o) (sym same_row) (each o small)
+pub labelled_start : (c : Content) (used segment : ℕ) (labels : List ℕ) → HasRow (row_by c used segment) → LabelledTo c used segment labels 0
+labelled_start c used segment labels h = record { named = named_start c used segment labels h; agree = λ marks all o lt. absurd (omega (arith, lt)) }
+
+-- a place of a row is one of any marks
+named_as : (c : Content) (used segment : ℕ) (old new : List ℕ) (at : ℕ) → NamedTo c used segment old at → ((o : ℕ) → o < at → IsNamedIn (row_by c used segment) new segment o) → NamedTo c used segment new at
+named_as c used segment old new at to named = record { rest = to.rest; places = to.places; named = named }
+
+-- a mark that has the step of a label is the one that the label gives
+step_label : (mark label step : ℕ) → label ≡ suc step → ((p : ℕ) → mark ≡ suc p → step ≡ p) → (mark ≡ 0) ⊎ (mark ≡ label)
+step_label zero label step is has = inl refl
+step_label (suc p) label step is has = inr (ap suc (sym (has p refl)) ∙ sym is)
+
+module _ (c : Content) (used segment at : ℕ) (old new : List ℕ) (long : 2 + 64 * segment + used ≤ length c) (few : used ≤ 64) (lt : at < used) (to : LabelledTo c used segment old at)
+    (bytes : List ℕ) (there : block c (2 + 64 * segment + at) ≡ bytes) (bs : List BlockNameValue) (is : Some bs ≡ summary_in bytes) (room : at + length bs < used)
+    (first next : ℕ) (is_first : first ≡ 2 + 64 * segment + at + 1) (is_next : next ≡ at + 1 + length bs)
+    (labelled : (i : ℕ) → i < length bs → get_or new (first + i) 0 ≡ suc (step_of (entry_of (get_or bs i no_block))))
+    (before : (i : ℕ) → i < first → get_or new i 0 ≡ get_or old i 0) (empty : get_or old (2 + 64 * segment + at) 0 ≡ 0) where
+  same : (o : ℕ) → o < at → get_or new (2 + 64 * segment + o) 0 ≡ get_or old (2 + 64 * segment + o) 0
+  same o small = before (2 + 64 * segment + o) (omega (arith, small, is_first))
+
+  so_far : NamedTo c used segment new at
+  so_far = named_as c used segment old new at to.named (λ o small p marked. to.named.named o small p (sym (same o small) ∙ marked))
+
+  steps : (i : ℕ) → i < length bs → HasStep (get_or new (first + i) 0) (entry_of (get_or bs i no_block))
+  steps i small p marked = ap pred (sym (labelled i small) ∙ marked)
+
+  agree_next : (marks : List ℕ) → AllNamed c used segment marks → (o : ℕ) → o < next → Agrees marks new (2 + 64 * segment + o)
+  agree_next marks all o small = ⊎_elim
+      (λ (low : o < at). ⊎_elim
+      (λ (none : get_or marks (2 + 64 * segment + o) 0 ≡ 0). inl none)
+      (λ (mark : get_or marks (2 + 64 * segment + o) 0 ≡ get_or old (2 + 64 * segment + o) 0). inr (mark ∙ sym (same o low)))
+      (to.agree marks all o low))
+      (λ (later : at ≤ o). ⊎_elim
+      (λ (here : o ≡ at).
+      inl (unlabelled (row_by c used segment) marks segment o (get_or marks (2 + 64 * segment + o) 0) refl (ap (place_in (row_by c used segment)) here ∙ summary_place c used segment at new long few lt so_far) (all o (omega (arith, small, is_next, room, few)))))
+      (λ (other : o ≡ at → ⊥).
+      let i = o - (at + 1) in
+      let e : first + (o - (at + 1)) ≡ 2 + 64 * segment + o = omega (arith, is_first, later, other) in
+      let low : o - (at + 1) < length bs = omega (arith, small, is_next, later, other) in
+      let own = named_as c used segment old marks at to.named (λ x lower. all x (omega (arith, lower, lt, few))) in
+      let has = steps_of c used segment at marks long few lt own bytes there bs is room first is_first all (o - (at + 1)) low in
+      subst (Agrees marks new) e (step_label (get_or marks (first + (o - (at + 1))) 0) (get_or new (first + (o - (at + 1))) 0) (step_of (entry_of (get_or bs (o - (at + 1)) no_block))) (labelled (o - (at + 1)) low) has))
+      (cases_eq o at))
+      (cases_lt o at)
+
+  pub chunk_labelled : FitsSummary bs → LabelledTo c used segment new next
+  chunk_labelled fits = record {
+    named =
+        chunk_taken c used segment at new long few lt so_far bytes there bs is room fits (before (2 + 64 * segment + at) (omega (arith, is_first)) ∙ empty) first next is_first is_next steps;
+    agree = agree_next;
+  }
+
+-- at the end
+pub row_labelled : (c : Content) (used segment : ℕ) (labels : List ℕ) → 2 + 64 * segment + used ≤ length c → used ≤ 64 → LabelledTo c used segment labels used → ((i : ℕ) → 2 + 64 * segment + used ≤ i → get_or labels i 0 ≡ 0)
+    → HasLabels (row_by c used segment) labels segment
+row_labelled c used segment labels long few to empty = record {
+  named = all_named c used segment labels long few to.named (2 + 64 * segment + used) (2 + 64 * segment + 64) refl refl (λ i le lt. empty i le);
+  all = λ marks all o small. ⊎_elim
+      (λ (before : o < used). to.agree marks all o before)
+      (λ (later : used ≤ o).
+      let own = named_as c used segment labels marks used to.named (λ x lower. all x (omega (arith, lower, few))) in
+      inl (all_clear c used segment marks long few own (2 + 64 * segment + used) (2 + 64 * segment + 64) refl refl all (2 + 64 * segment + o) (omega (arith, later)) (omega (arith, small))))
+      (cases_lt o used);
+}
+
+-- labels of a segment stay where those of others are put in
+pub labels_stay : (row : Option Row) (old new : List ℕ) (s : ℕ) → ((o : ℕ) → o < 64 → get_or new (2 + 64 * s + o) 0 ≡ get_or old (2 + 64 * s + o) 0) → HasLabels row old s → HasLabels row new s
+labels_stay row old new s same has = record {
+  named = λ o small p is. has.named o small p (sym (same o small) ∙ is);
+  all = λ marks each o small. ⊎_elim
+      (λ (none : get_or marks (2 + 64 * s + o) 0 ≡ 0). inl none)
+      (λ (mark : get_or marks (2 + 64 * s + o) 0 ≡ get_or old (2 + 64 * s + o) 0). inr (mark ∙ sym (same o small)))
+      (has.all marks each o small);
+}
+
+-- ---- the labels of all segments against the marks of the walk
+module _ (v : View) (labels marks : List ℕ) (has : HasAllLabels v labels) (w : Walked v marks 68628528) (bounded : IsBounded v) where
+  pub all_agree : ((i : ℕ) → i < length marks → Agrees marks labels i) → AreNamed v
+  all_agree agree = (named_by_marks v marks w bounded).1 (λ s o lt small p is. ⊎_elim
+      (λ (none : get_or marks (2 + 64 * s + o) 0 ≡ 0). absurd (omega (arith, none, is)))
+      (λ (same : get_or marks (2 + 64 * s + o) 0 ≡ get_or labels (2 + 64 * s + o) 0). (has.each s lt).named o small p (sym same ∙ is))
+      (agree (2 + 64 * s + o) (let n = w.size in omega (arith, n, lt, small))))
+
+  -- no checkpoint slot is marked
+  slot_unmarked : (i m : ℕ) → i < 2 → get_or marks i 0 ≡ m → m ≡ 0
+  slot_unmarked i zero low is = refl
+  slot_unmarked i (suc p) low is =
+      let h = w.held i p is in
+      let two = w.low h.0 (omega (arith, h.1, h.2)) h.3 h.4 in
+      let e = h.5 in
+      absurd (omega (arith, two, e, low))
+
+  pub each_agrees : AreNamed v → (i : ℕ) → i < length marks → Agrees marks labels i
+  each_agrees named i lt = ⊎_elim
+      (λ (low : i < 2). inl (slot_unmarked i (get_or marks i 0) low refl))
+      (λ (le : 2 ≤ i).
+      let n = w.size in
+      let e : 2 + 64 * ((i - 2) / 64) + (i - 2) % 64 ≡ i = omega (arith, le) in
+      let inside : (i - 2) / 64 < v.checkpoint.segments = omega (arith, n, lt, le) in
+      let small : (i - 2) % 64 < 64 = omega arith in
+      subst (Agrees marks labels) e ((has.each ((i - 2) / 64) inside).all marks (λ o few. (named_by_marks v marks w bounded).0 named ((i - 2) / 64) o inside few) ((i - 2) % 64) small))
+      (cases_lt i 2)
+
+-- ---- the labels of a chunk put into a table
+pub puts_none : (names : List BlockNameValue) (labels : List ℕ) (at : ℕ) → PutsLabels names labels labels at 0
+puts_none names labels at = record { own = λ i lt. absurd (omega (arith, lt)); before = λ j lt. refl; after = λ j le. refl; size = refl }
+
+pub puts_more : (names : List BlockNameValue) (old mid : List ℕ) (at n x : ℕ) → at + n < length mid → x ≡ suc (step_of (entry_of (get_or names n no_block))) → PutsLabels names old mid at n → PutsLabels names old (set mid (at + n) x) at (n + 1)
+puts_more names old mid at n x inside is was = record {
+  own = λ i lt. ⊎_elim
+      (λ (here : i ≡ n). ap (λ (a : ℕ). get_or (set mid (at + n) x) (at + a) 0) here ∙ get_or-set_same mid (at + n) x 0 inside ∙ is ∙ ap (λ (a : ℕ). suc (step_of (entry_of (get_or names a no_block)))) (sym here))
+      (λ (ne : i ≡ n → ⊥). get_or-set_other mid (at + n) (at + i) x 0 (λ h. ne (omega (arith, h))) ∙ was.own i (omega (arith, lt, ne)))
+      (cases_eq i n);
+  before = λ j lt. get_or-set_other mid (at + n) j x 0 (λ h. omega (arith, h, lt)) ∙ was.before j lt;
+  after = λ j le. get_or-set_other mid (at + n) j x 0 (λ h. omega (arith, h, le)) ∙ was.after j (omega (arith, le));
+  size = length-set mid (at + n) x ∙ was.size;
+}

@@ -19,6 +19,7 @@ pub mod UsageSteps
 pub mod WholeSteps
 pub mod VerifySteps
 pub mod Occurrences
+pub mod KeptSteps
 pub mod MarkTotals
 pub mod FaultCases
 pub mod UsageLoads

@@ -55,7 +55,7 @@ pub above_start : (xs : List ℕ) (h : ℕ) → above_count xs h 0 ≡ 0
 unfolding above_count
 above_start xs h = count_up_none (is_above xs h)
 
-above_step : (xs : List ℕ) (h n : ℕ) → above_count xs h (suc n) ≡ above_count xs h n + one_if (is_above xs h n)
+pub above_step : (xs : List ℕ) (h n : ℕ) → above_count xs h (suc n) ≡ above_count xs h n + one_if (is_above xs h n)
 unfolding above_count
 above_step xs h n = count_up_more (is_above xs h) n
 

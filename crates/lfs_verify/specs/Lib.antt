@@ -1,5 +1,6 @@
 pub mod Walk
 pub mod Take
+pub mod Kept
 pub mod Labels
 pub mod Rows
 pub mod Codes

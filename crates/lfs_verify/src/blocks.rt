@@ -5,8 +5,10 @@ ghost use Rattle.lfs_model.specs.Content.{Content, block};
 ghost use Rattle.lfs_model.specs.Entry.{Double, Inode, header};
 ghost use Rattle.lfs_model.specs.Reach.{view};
 ghost use Rattle.lfs_model.specs.Stands.{Blocks};
+ghost use Rattle.lfs_verify.specs.Kept.{KeepsAt, KeepsInodes};
 ghost use Rattle.lfs_verify.specs.Take.{Looks, ReadsContent, Advances, Lists};
 
+use crate::inodes::{inode_at, inodes_at};
 use crate::reading::fetch;
 use crate::runs::{data_of_leaf, data_run};
 use crate::values::word_at;
@@ -134,7 +136,8 @@ pub fn data_of_double<D: SectorDevice>(
     Ok(true)
 }
 
-/// Takes the data blocks of a file, the inode and blocks of addresses of which were taken before.
+/// Takes the data blocks of a file, the inode and blocks of addresses of which were taken before. The
+/// inode at this address stands at this place of those that were kept.
 ///
 /// # Errors
 ///
@@ -142,6 +145,8 @@ pub fn data_of_double<D: SectorDevice>(
 pub fn data_of_file<D: SectorDevice>(
     device: &mut CachedDevice<D>,
     address: u32,
+    inodes: &[[u8; 512]],
+    place: usize,
     file: u32,
     marks: &mut [u32],
     upper: &mut [u8; 512],
@@ -149,11 +154,10 @@ pub fn data_of_file<D: SectorDevice>(
     sector: &mut [u8; 512],
 ) -> Result<bool, DeviceFault>
     requires file { file < 4096 }
-    requires at { address < length marks.old }
     requires inside { length marks.old ≤ (D.state device.old).size }
     ensures goes { IfOk result (λ r. (c : Content) (k : CheckpointValue)
         → ReadsContent (D.state device.old) (D.state device.new) c
-        → address ≡ (view c k).address (Inode file)
+        → address ≡ (view c k).address (Inode file) → KeepsAt c address inodes.now place
         → Advances (view c k) marks.old marks.new (536624 + 16624 * file)
         (536624 + 16624 * (file + 1)) (Blocks (view c k)) r) }
     ensures len { length marks.new ≡ length marks.old }
@@ -165,13 +169,13 @@ pub fn data_of_file<D: SectorDevice>(
     if address == 0 {
         return Ok(true);
     }
-    if !fetch(device, address, upper)? {
+    let Some(inode) = inode_at(inodes, place) else {
         return Ok(false);
-    }
-    let size = size_of(upper);
-    let single = word_at(upper, 120);
-    let double = word_at(upper, 121);
-    if !data_of_inode(device, upper, file, marks, sector)? {
+    };
+    let size = size_of(inode);
+    let single = word_at(inode, 120);
+    let double = word_at(inode, 121);
+    if !data_of_inode(device, inode, file, marks, sector)? {
         return Ok(false);
     }
     if !data_of_leaf(device, single, 0, file, size, marks, words, sector)? {
@@ -191,16 +195,17 @@ pub fn data_of_file<D: SectorDevice>(
 pub fn stage_data<D: SectorDevice>(
     device: &mut CachedDevice<D>,
     map: &[u32],
+    inodes: &[[u8; 512]],
     marks: &mut [u32],
     upper: &mut [u8; 512],
     words: &mut [u8; 512],
     sector: &mut [u8; 512],
 ) -> Result<bool, DeviceFault>
     requires files { length map.now ≡ 4096 }
-    requires at { (i : ℕ) → i < 4096 → get_or map.now i 0 < length marks.old }
     requires inside { length marks.old ≤ (D.state device.old).size }
     ensures goes { IfOk result (λ r. (c : Content) (k : CheckpointValue)
         → ReadsContent (D.state device.old) (D.state device.new) c → Lists (view c k) map.now
+        → KeepsInodes c map.now inodes.now
         → Advances (view c k) marks.old marks.new 536624 68628528 (Blocks (view c k)) r) }
     ensures len { length marks.new ≡ length marks.old }
     ensures failed { OnErr result ((D.state device.old).failures < (D.state device.new).failures) }
@@ -208,18 +213,15 @@ pub fn stage_data<D: SectorDevice>(
         ((D.state device.new).failures ≡ (D.state device.old).failures) }
     ensures looks { Looks (D.state device.old) (D.state device.new) }
 {
+    let mut place = 0;
     for file in 0..4096u32 {
+        let address = map[file as usize];
         if !data_of_file(
-            device,
-            map[file as usize],
-            file,
-            marks,
-            upper,
-            words,
-            sector,
+            device, address, inodes, place, file, marks, upper, words, sector,
         )? {
             return Ok(false);
         }
+        place += inodes_at(address);
     }
     Ok(true)
 }

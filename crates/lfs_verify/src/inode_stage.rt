@@ -1,14 +1,15 @@
 //! The inodes of all files, and the kind of the root.
-ghost use Rattle.std.specs.Prelude.{◌≡◌, ◌<◌, ◌≤◌, ◌↔◌, ◌⊎◌, ℕ, length, get_or, IsTrue, IfOk, OnOk, OnErr};
+ghost use Rattle.std.specs.Prelude.{◌≡◌, ◌<◌, ◌≤◌, ◌↔◌, ◌⊎◌, ℕ, length, get_or, IsTrue, IfOk, OnOk, OnErr, vec_len, vec_capacity};
 ghost use Rattle.lfs_model.specs.Checkpoint.{CheckpointValue, IsVersion, layout_version};
 ghost use Rattle.lfs_model.specs.Content.{Content};
 ghost use Rattle.lfs_model.specs.Reach.{view};
 ghost use Rattle.lfs_model.specs.Stands.{Inodes};
 ghost use Rattle.lfs_verify.specs.Directories.{IsDirectoryInode};
+ghost use Rattle.lfs_verify.specs.Kept.{KeepsInodes, there_below};
 ghost use Rattle.lfs_verify.specs.Take.{Looks, ReadsContent, Advances, Lists};
 ghost use Rattle.lfs_verify.specs.Walk.{Walked, IsBounded};
 
-use crate::inodes::take_inode;
+use crate::inodes::{keep_inode, take_inode};
 use crate::reading::fetch;
 use lfs_cache::CachedDevice;
 use lfs_device::{DeviceFault, SectorDevice};
@@ -29,7 +30,7 @@ pub fn is_directory(block: &[u8; 512]) -> bool
     }
 }
 
-/// Takes the inodes of all files of a volume of this version.
+/// Takes the inodes of all files of a volume of this version, and keeps them.
 ///
 /// # Errors
 ///
@@ -38,11 +39,14 @@ pub fn all_inodes<D: SectorDevice>(
     device: &mut CachedDevice<D>,
     version: u32,
     map: &[u32],
+    inodes: &mut Vec<[u8; 512]>,
     marks: &mut [u32],
     sector: &mut [u8; 512],
 ) -> Result<bool, DeviceFault>
     requires known { IsVersion version }
     requires files { length map.now ≡ 4096 }
+    requires none { vec_len inodes.old ≡ 0 }
+    requires room { there_below map.now 4096 ≤ vec_capacity inodes.old }
     requires inside { length marks.old ≤ (D.state device.old).size }
     ensures goes { IfOk result (λ r. (c : Content) (k : CheckpointValue)
         → layout_version k ≡ version
@@ -50,6 +54,9 @@ pub fn all_inodes<D: SectorDevice>(
         → Advances (view c k) marks.old marks.new 48 4144 (Inodes (view c k)) r) }
     ensures at { IfOk result (λ r. IsTrue r → (i : ℕ) → i < 4096 → (get_or map.now i 0 ≡ 0)
         ⊎ (get_or map.now i 0 < length marks.old)) }
+    ensures kept { IfOk result (λ r. IsTrue r → (c : Content)
+        → ReadsContent (D.state device.old) (D.state device.new) c
+        → KeepsInodes c map.now inodes.new.items) }
     ensures len { length marks.new ≡ length marks.old }
     ensures failed { OnErr result ((D.state device.old).failures < (D.state device.new).failures) }
     ensures no_failure { OnOk result
@@ -57,15 +64,17 @@ pub fn all_inodes<D: SectorDevice>(
     ensures looks { Looks (D.state device.old) (D.state device.new) }
 {
     for file in 0..4096u32 {
-        if !take_inode(device, marks, version, map[file as usize], file, sector)? {
+        let address = map[file as usize];
+        if !take_inode(device, marks, version, address, file, sector)? {
             return Ok(false);
         }
+        keep_inode(inodes, address, sector);
     }
     Ok(true)
 }
 
 /// Stage 4: takes the inodes of all files of a volume of this version, where the root is a
-/// directory. False where the stage fails.
+/// directory, and keeps them. False where the stage fails.
 ///
 /// # Errors
 ///
@@ -74,11 +83,14 @@ pub fn stage_inodes<D: SectorDevice>(
     device: &mut CachedDevice<D>,
     version: u32,
     map: &[u32],
+    inodes: &mut Vec<[u8; 512]>,
     marks: &mut [u32],
     sector: &mut [u8; 512],
 ) -> Result<bool, DeviceFault>
     requires known { IsVersion version }
     requires files { length map.now ≡ 4096 }
+    requires none { vec_len inodes.old ≡ 0 }
+    requires room { there_below map.now 4096 ≤ vec_capacity inodes.old }
     requires inside { length marks.old ≤ (D.state device.old).size }
     ensures goes { IfOk result (λ r. (c : Content) (k : CheckpointValue)
         → layout_version k ≡ version
@@ -90,13 +102,16 @@ pub fn stage_inodes<D: SectorDevice>(
         → IsBounded (view c k) → Walked (view c k) marks.old 48 → Inodes (view c k)) }
     ensures at { IfOk result (λ r. IsTrue r → (i : ℕ) → i < 4096
         → get_or map.now i 0 < length marks.old) }
+    ensures kept { IfOk result (λ r. IsTrue r → (c : Content)
+        → ReadsContent (D.state device.old) (D.state device.new) c
+        → KeepsInodes c map.now inodes.new.items) }
     ensures len { length marks.new ≡ length marks.old }
     ensures failed { OnErr result ((D.state device.old).failures < (D.state device.new).failures) }
     ensures no_failure { OnOk result
         ((D.state device.new).failures ≡ (D.state device.old).failures) }
     ensures looks { Looks (D.state device.old) (D.state device.new) }
 {
-    if !all_inodes(device, version, map, marks, sector)? {
+    if !all_inodes(device, version, map, inodes, marks, sector)? {
         return Ok(false);
     }
     let root = map[1];

@@ -1,15 +1,68 @@
-//! The inodes of all files.
-ghost use Rattle.std.specs.Prelude.{◌≡◌, ◌<◌, ◌≤◌, ◌+◌, ◌⊎◌, length, IsTrue, IfOk, OnOk, OnErr};
+//! The inodes of all files, which a walk looks at once and keeps.
+ghost use Rattle.std.specs.Prelude.{◌≡◌, ◌<◌, ◌≤◌, ◌+◌, ◌⊎◌, ◌++◌, ◌∷◌, [], nat_lt, length, get_or, IsTrue, IfOk, OnOk, OnErr, MatchOption, vec_len, vec_capacity};
 ghost use Rattle.lfs_model.specs.Checkpoint.{IsVersion};
-ghost use Rattle.lfs_model.specs.Content.{Content};
+ghost use Rattle.lfs_model.specs.Content.{Content, block};
 ghost use Rattle.lfs_model.specs.Entry.{IsInode};
+ghost use Rattle.lfs_model.specs.Objects.{one_if};
+ghost use Rattle.lfs_verify.specs.Kept.{there_below};
 ghost use Rattle.lfs_verify.specs.Take.{Looks, ReadsContent, TakesAddress};
 
 use crate::marks::claim;
 use crate::reading::fetch;
+use crate::totals::count_above;
 use crate::values::is_inode;
 use lfs_cache::CachedDevice;
 use lfs_device::{DeviceFault, SectorDevice};
+use std::alloc::{AllocError, Global};
+
+/// Memory for the inodes of all files, by the table of their addresses.
+///
+/// # Errors
+///
+/// Where memory runs out.
+pub fn room_for_inodes(alloc: Global, map: &[u32]) -> Result<Vec<[u8; 512]>, AllocError>
+    requires files { length map.now ≡ 4096 }
+    ensures none { IfOk result (λ inodes. vec_len inodes ≡ 0) }
+    ensures room { IfOk result (λ inodes. there_below map.now 4096 ≤ vec_capacity inodes) }
+{
+    let inodes = Vec::with_capacity(alloc, count_above(map, 0) as usize)?;
+    Ok(inodes)
+}
+
+/// Keeps the inode at an address behind the others; none at the address 0.
+pub fn keep_inode(inodes: &mut Vec<[u8; 512]>, address: u32, inode: &[u8; 512])
+    requires room { 0 < address → vec_len inodes.old < vec_capacity inodes.old }
+    ensures kept { 0 < address → inodes.new.items ≡ inodes.old.items ++ inode.now ∷ [] }
+    ensures none { address ≡ 0 → inodes.new.items ≡ inodes.old.items }
+    ensures room { vec_capacity inodes.old ≤ vec_capacity inodes.new }
+{
+    if address == 0 {
+        return;
+    }
+    inodes.push(*inode).unwrap();
+}
+
+/// The inode at a place of those that were kept.
+pub(crate) fn inode_at(inodes: &[[u8; 512]], place: usize) -> Option<&[u8; 512]>
+    ensures { MatchOption result (length inodes.now ≤ place)
+        (λ inode. inode.now ≡ get_or inodes.now place []) }
+{
+    if place >= inodes.len() {
+        return None;
+    }
+    Some(&inodes[place])
+}
+
+/// How many inodes are at an address: none at 0, else one.
+pub(crate) fn inodes_at(address: u32) -> usize
+    ensures number { result ≡ one_if (nat_lt 0 address) }
+    ensures few { result ≤ 1 }
+{
+    if address == 0 {
+        return 0;
+    }
+    1
+}
 
 /// Takes the inode at an address in a volume of this version, where there is one.
 ///
@@ -31,6 +84,8 @@ pub fn take_inode<D: SectorDevice>(
         → ReadsContent (D.state device.old) (D.state device.new) c
         → TakesAddress (IsInode version file) c marks.old marks.new address (48 + file) r) }
     ensures at { IfOk result (λ r. IsTrue r → address ≡ 0 ⊎ (address < length marks.old)) }
+    ensures read { IfOk result (λ r. IsTrue r → 0 < address → (c : Content)
+        → ReadsContent (D.state device.old) (D.state device.new) c → block c address ≡ out.new) }
     ensures len { length marks.new ≡ length marks.old }
     ensures failed { OnErr result ((D.state device.old).failures < (D.state device.new).failures) }
     ensures no_failure { OnOk result

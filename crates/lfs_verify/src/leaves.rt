@@ -5,8 +5,10 @@ ghost use Rattle.lfs_model.specs.Content.{Content, block};
 ghost use Rattle.lfs_model.specs.Entry.{Inode, Double};
 ghost use Rattle.lfs_model.specs.Reach.{view};
 ghost use Rattle.lfs_model.specs.Stands.{Leaves};
+ghost use Rattle.lfs_verify.specs.Kept.{KeepsAt, KeepsInodes};
 ghost use Rattle.lfs_verify.specs.Take.{Looks, ReadsContent, Advances, Lists};
 
+use crate::inodes::{inode_at, inodes_at};
 use crate::pointers::take_pointers;
 use crate::reading::fetch;
 use crate::values::word_at;
@@ -47,7 +49,8 @@ pub fn leaf_blocks<D: SectorDevice>(
     Ok(true)
 }
 
-/// Takes the leaves under a file's double root, which was taken before.
+/// Takes the leaves under a file's double root, which was taken before. The inode at this address
+/// stands at this place of those that were kept.
 ///
 /// # Errors
 ///
@@ -55,17 +58,18 @@ pub fn leaf_blocks<D: SectorDevice>(
 pub fn leaves_of_file<D: SectorDevice>(
     device: &mut CachedDevice<D>,
     address: u32,
+    inodes: &[[u8; 512]],
+    place: usize,
     file: u32,
     marks: &mut [u32],
     upper: &mut [u8; 512],
     sector: &mut [u8; 512],
 ) -> Result<bool, DeviceFault>
     requires file { file < 4096 }
-    requires at { address < length marks.old }
     requires inside { length marks.old ≤ (D.state device.old).size }
     ensures goes { IfOk result (λ r. (c : Content) (k : CheckpointValue)
         → ReadsContent (D.state device.old) (D.state device.new) c
-        → address ≡ (view c k).address (Inode file)
+        → address ≡ (view c k).address (Inode file) → KeepsAt c address inodes.now place
         → Advances (view c k) marks.old marks.new (12336 + 128 * file)
         (12336 + 128 * (file + 1)) (Leaves (view c k)) r) }
     ensures len { length marks.new ≡ length marks.old }
@@ -77,10 +81,10 @@ pub fn leaves_of_file<D: SectorDevice>(
     if address == 0 {
         return Ok(true);
     }
-    if !fetch(device, address, upper)? {
+    let Some(inode) = inode_at(inodes, place) else {
         return Ok(false);
-    }
-    let double = word_at(upper, 121);
+    };
+    let double = word_at(inode, 121);
     if double == 0 {
         return Ok(true);
     }
@@ -104,15 +108,16 @@ pub fn leaves_of_file<D: SectorDevice>(
 pub fn stage_leaves<D: SectorDevice>(
     device: &mut CachedDevice<D>,
     map: &[u32],
+    inodes: &[[u8; 512]],
     marks: &mut [u32],
     upper: &mut [u8; 512],
     sector: &mut [u8; 512],
 ) -> Result<bool, DeviceFault>
     requires files { length map.now ≡ 4096 }
-    requires at { (i : ℕ) → i < 4096 → get_or map.now i 0 < length marks.old }
     requires inside { length marks.old ≤ (D.state device.old).size }
     ensures goes { IfOk result (λ r. (c : Content) (k : CheckpointValue)
         → ReadsContent (D.state device.old) (D.state device.new) c → Lists (view c k) map.now
+        → KeepsInodes c map.now inodes.now
         → Advances (view c k) marks.old marks.new 12336 536624 (Leaves (view c k)) r) }
     ensures len { length marks.new ≡ length marks.old }
     ensures failed { OnErr result ((D.state device.old).failures < (D.state device.new).failures) }
@@ -120,10 +125,13 @@ pub fn stage_leaves<D: SectorDevice>(
         ((D.state device.new).failures ≡ (D.state device.old).failures) }
     ensures looks { Looks (D.state device.old) (D.state device.new) }
 {
+    let mut place = 0;
     for file in 0..4096u32 {
-        if !leaves_of_file(device, map[file as usize], file, marks, upper, sector)? {
+        let address = map[file as usize];
+        if !leaves_of_file(device, address, inodes, place, file, marks, upper, sector)? {
             return Ok(false);
         }
+        place += inodes_at(address);
     }
     Ok(true)
 }

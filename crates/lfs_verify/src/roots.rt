@@ -5,15 +5,17 @@ ghost use Rattle.lfs_model.specs.Content.{Content};
 ghost use Rattle.lfs_model.specs.Entry.{Inode};
 ghost use Rattle.lfs_model.specs.Reach.{view};
 ghost use Rattle.lfs_model.specs.Stands.{Roots};
+ghost use Rattle.lfs_verify.specs.Kept.{KeepsAt, KeepsInodes};
 ghost use Rattle.lfs_verify.specs.Take.{Looks, ReadsContent, Advances, Lists};
 
+use crate::inodes::{inode_at, inodes_at};
 use crate::pointers::take_pointers;
-use crate::reading::fetch;
 use crate::values::word_at;
 use lfs_cache::CachedDevice;
 use lfs_device::{DeviceFault, SectorDevice};
 
-/// Takes the two blocks of addresses to which a file's inode leads.
+/// Takes the two blocks of addresses to which a file's inode leads. The one at this address stands at
+/// this place of those that were kept.
 ///
 /// # Errors
 ///
@@ -21,16 +23,17 @@ use lfs_device::{DeviceFault, SectorDevice};
 pub fn root_blocks<D: SectorDevice>(
     device: &mut CachedDevice<D>,
     address: u32,
+    inodes: &[[u8; 512]],
+    place: usize,
     file: u32,
     marks: &mut [u32],
     sector: &mut [u8; 512],
 ) -> Result<bool, DeviceFault>
     requires file { file < 4096 }
-    requires at { address < length marks.old }
     requires inside { length marks.old ≤ (D.state device.old).size }
     ensures goes { IfOk result (λ r. (c : Content) (k : CheckpointValue)
         → ReadsContent (D.state device.old) (D.state device.new) c
-        → address ≡ (view c k).address (Inode file)
+        → address ≡ (view c k).address (Inode file) → KeepsAt c address inodes.now place
         → Advances (view c k) marks.old marks.new (4144 + 2 * file)
         (4144 + 2 * (file + 1)) (Roots (view c k)) r) }
     ensures len { length marks.new ≡ length marks.old }
@@ -42,11 +45,11 @@ pub fn root_blocks<D: SectorDevice>(
     if address == 0 {
         return Ok(true);
     }
-    if !fetch(device, address, sector)? {
+    let Some(inode) = inode_at(inodes, place) else {
         return Ok(false);
-    }
-    let single = word_at(sector, 120);
-    let double = word_at(sector, 121);
+    };
+    let single = word_at(inode, 120);
+    let double = word_at(inode, 121);
     if !take_pointers(device, marks, single, 4144 + 2 * file, sector)? {
         return Ok(false);
     }
@@ -64,14 +67,15 @@ pub fn root_blocks<D: SectorDevice>(
 pub fn stage_roots<D: SectorDevice>(
     device: &mut CachedDevice<D>,
     map: &[u32],
+    inodes: &[[u8; 512]],
     marks: &mut [u32],
     sector: &mut [u8; 512],
 ) -> Result<bool, DeviceFault>
     requires files { length map.now ≡ 4096 }
-    requires at { (i : ℕ) → i < 4096 → get_or map.now i 0 < length marks.old }
     requires inside { length marks.old ≤ (D.state device.old).size }
     ensures goes { IfOk result (λ r. (c : Content) (k : CheckpointValue)
         → ReadsContent (D.state device.old) (D.state device.new) c → Lists (view c k) map.now
+        → KeepsInodes c map.now inodes.now
         → Advances (view c k) marks.old marks.new 4144 12336 (Roots (view c k)) r) }
     ensures len { length marks.new ≡ length marks.old }
     ensures failed { OnErr result ((D.state device.old).failures < (D.state device.new).failures) }
@@ -79,10 +83,13 @@ pub fn stage_roots<D: SectorDevice>(
         ((D.state device.new).failures ≡ (D.state device.old).failures) }
     ensures looks { Looks (D.state device.old) (D.state device.new) }
 {
+    let mut place = 0;
     for file in 0..4096u32 {
-        if !root_blocks(device, map[file as usize], file, marks, sector)? {
+        let address = map[file as usize];
+        if !root_blocks(device, address, inodes, place, file, marks, sector)? {
             return Ok(false);
         }
+        place += inodes_at(address);
     }
     Ok(true)
 }

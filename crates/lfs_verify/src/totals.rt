@@ -18,7 +18,7 @@ pub struct BlockTotals {
 }
 
 /// How many sectors have a mark above this one.
-fn count_above(marks: &[u32], mark: u32) -> u32
+pub(crate) fn count_above(marks: &[u32], mark: u32) -> u32
     requires { length marks.now < 4294967296 }
     ensures { result ≡ above_count marks.now mark (length marks.now) }
 {

@@ -3,9 +3,11 @@ ghost use Rattle.std.specs.Prelude.{◌≡◌, ◌<◌, ◌≤◌, ◌↔◌, �
 ghost use Rattle.lfs_model.specs.Checkpoint.{CheckpointValue, FitsCheckpoint};
 ghost use Rattle.lfs_model.specs.Content.{Content};
 ghost use Rattle.lfs_model.specs.Damage.{IsDamaged};
-ghost use Rattle.lfs_model.specs.Reach.{view};
+ghost use Rattle.lfs_model.specs.Reach.{View, view};
 ghost use Rattle.lfs_model.specs.Stands.{EnoughClean, Stages};
 ghost use Rattle.lfs_verify.specs.Codes.{HoldsBelow, FaultIs, Passed};
+ghost use Rattle.lfs_verify.specs.Kept.{KeepsInodes};
+ghost use Rattle.lfs_verify.specs.Labels.{HasAllLabels};
 ghost use Rattle.lfs_verify.specs.Tables.{IsUsedTable, IsLiveTable};
 ghost use Rattle.lfs_verify.specs.Take.{Looks, ReadsContent, Lists};
 ghost use Rattle.lfs_verify.specs.Totals.{CountsLog};
@@ -16,6 +18,7 @@ use crate::clean::stage_clean;
 use crate::counts::stage_counts;
 use crate::fault::WalkFault;
 use crate::inode_stage::stage_inodes;
+use crate::inodes::room_for_inodes;
 use crate::labels::stage_labels;
 use crate::leaves::stage_leaves;
 use crate::map_stage::stage_maps;
@@ -39,11 +42,14 @@ fn walk_usages<D: SectorDevice>(
     checkpoint: &Checkpoint,
     used: &mut [u16],
     live: &mut [u16],
+    labels: &mut [u32],
     marks: &mut [u32],
 ) -> Result<(), WalkFault>
     requires few { checkpoint.now.segments ≤ 1024 }
     requires used { length used.old ≡ checkpoint.now.segments }
     requires live { length live.old ≡ checkpoint.now.segments }
+    requires labels { length labels.old ≡ 2 + 64 * checkpoint.now.segments }
+    requires unlabelled { (i : ℕ) → get_or labels.old i 0 ≡ 0 }
     requires marks { length marks.old ≡ 2 + 64 * checkpoint.now.segments }
     requires inside { length marks.old ≤ (D.state device.old).size }
     ensures holds { OnOk result ((c : Content)
@@ -59,6 +65,11 @@ fn walk_usages<D: SectorDevice>(
         → Passed (view c checkpoint.now) marks.old 0 1
         → IsUsedTable (view c checkpoint.now) used.new
         × IsLiveTable (view c checkpoint.now) live.new) }
+    ensures labels { OnOk result ((c : Content)
+        → ReadsContent (D.state device.old) (D.state device.new) c
+        → Passed (view c checkpoint.now) marks.old 0 1
+        → HasAllLabels (view c checkpoint.now) labels.new) }
+    ensures labelled { length labels.new ≡ length labels.old }
     ensures used { length used.new ≡ length used.old }
     ensures live { length live.new ≡ length live.old }
     ensures len { length marks.new ≡ length marks.old }
@@ -74,24 +85,27 @@ fn walk_usages<D: SectorDevice>(
         Ok(false) => return Err(WalkFault::Damaged(1)),
         Err(DeviceFault) => return Err(WalkFault::Device),
     }
-    match stage_rows(device, used, &mut sector) {
+    match stage_rows(device, used, labels, &mut sector) {
         Ok(true) => Ok(()),
         Ok(false) => Err(WalkFault::Damaged(2)),
         Err(DeviceFault) => Err(WalkFault::Device),
     }
 }
 
-/// Stages 3 and 4, where the stages before hold.
+/// Stages 3 and 4, where the stages before hold: the inodes of all files, in the order of their
+/// numbers.
 ///
 /// # Errors
 ///
-/// `Damaged` with the first stage that fails, `Device` where a call of the device failed.
+/// `NoMemory` where memory is refused, `Damaged` with the first stage that fails, `Device` where a
+/// call of the device failed.
 fn walk_inodes<D: SectorDevice>(
+    alloc: Global,
     device: &mut CachedDevice<D>,
     checkpoint: &Checkpoint,
     map: &mut [u32],
     marks: &mut [u32],
-) -> Result<(), WalkFault>
+) -> Result<Vec<[u8; 512]>, WalkFault>
     requires fits { FitsCheckpoint checkpoint.now }
     requires files { length map.old ≡ 4096 }
     requires empty { (n : ℕ) → get_or map.old n 0 ≡ 0 }
@@ -107,7 +121,9 @@ fn walk_inodes<D: SectorDevice>(
     ensures lists { OnOk result ((c : Content)
         → ReadsContent (D.state device.old) (D.state device.new) c
         → Lists (view c checkpoint.now) map.new) }
-    ensures at { OnOk result ((i : ℕ) → i < 4096 → get_or map.new i 0 < length marks.old) }
+    ensures kept { IfOk result (λ inodes. (c : Content)
+        → ReadsContent (D.state device.old) (D.state device.new) c
+        → KeepsInodes c map.new inodes.items) }
     ensures files { length map.new ≡ length map.old }
     ensures len { length marks.new ≡ length marks.old }
     ensures failed { IsErrOf result WalkFault.Device
@@ -122,8 +138,12 @@ fn walk_inodes<D: SectorDevice>(
         Ok(false) => return Err(WalkFault::Damaged(3)),
         Err(DeviceFault) => return Err(WalkFault::Device),
     }
-    match stage_inodes(device, version_of(checkpoint), map, marks, &mut sector) {
-        Ok(true) => Ok(()),
+    let Ok(mut inodes) = room_for_inodes(alloc, map) else {
+        return Err(WalkFault::NoMemory);
+    };
+    let version = version_of(checkpoint);
+    match stage_inodes(device, version, map, &mut inodes, marks, &mut sector) {
+        Ok(true) => Ok(inodes),
         Ok(false) => Err(WalkFault::Damaged(4)),
         Err(DeviceFault) => Err(WalkFault::Device),
     }
@@ -137,23 +157,24 @@ fn walk_inodes<D: SectorDevice>(
 pub fn walk_pointers<D: SectorDevice>(
     device: &mut CachedDevice<D>,
     map: &[u32],
+    inodes: &[[u8; 512]],
     marks: &mut [u32],
     upper: &mut [u8; 512],
     sector: &mut [u8; 512],
 ) -> Result<(), WalkFault>
     requires files { length map.now ≡ 4096 }
-    requires at { (i : ℕ) → i < 4096 → get_or map.now i 0 < length marks.old }
     requires inside { length marks.old ≤ (D.state device.old).size }
     ensures holds { OnOk result ((c : Content) (k : CheckpointValue)
         → ReadsContent (D.state device.old) (D.state device.new) c → IsBounded (view c k)
-        → Lists (view c k) map.now
+        → Lists (view c k) map.now → KeepsInodes c map.now inodes.now
         → HoldsBelow (view c k) 5 → Walked (view c k) marks.old 4144 → HoldsBelow (view c k) 7
         × Walked (view c k) marks.new 536624) }
     ensures damaged { IfErr result (λ e. (code : ℕ) → FaultIs e code
         → (c : Content) (k : CheckpointValue)
         → ReadsContent (D.state device.old) (D.state device.new) c
         → IsBounded (view c k)
-        → Lists (view c k) map.now → HoldsBelow (view c k) 5 → Walked (view c k) marks.old 4144
+        → Lists (view c k) map.now → KeepsInodes c map.now inodes.now
+        → HoldsBelow (view c k) 5 → Walked (view c k) marks.old 4144
         → IsDamaged (view c k) code) }
     ensures low { IfErr result (λ e. (code : ℕ) → FaultIs e code → code < 10) }
     ensures len { length marks.new ≡ length marks.old }
@@ -163,12 +184,12 @@ pub fn walk_pointers<D: SectorDevice>(
         ((D.state device.new).failures ≡ (D.state device.old).failures) }
     ensures looks { Looks (D.state device.old) (D.state device.new) }
 {
-    match stage_roots(device, map, marks, sector) {
+    match stage_roots(device, map, inodes, marks, sector) {
         Ok(true) => (),
         Ok(false) => return Err(WalkFault::Damaged(5)),
         Err(DeviceFault) => return Err(WalkFault::Device),
     }
-    match stage_leaves(device, map, marks, upper, sector) {
+    match stage_leaves(device, map, inodes, marks, upper, sector) {
         Ok(true) => Ok(()),
         Ok(false) => Err(WalkFault::Damaged(6)),
         Err(DeviceFault) => Err(WalkFault::Device),
@@ -183,18 +204,19 @@ pub fn walk_pointers<D: SectorDevice>(
 fn walk_files<D: SectorDevice>(
     device: &mut CachedDevice<D>,
     map: &[u32],
+    inodes: &[[u8; 512]],
     marks: &mut [u32],
 ) -> Result<(), WalkFault>
     requires files { length map.now ≡ 4096 }
-    requires at { (i : ℕ) → i < 4096 → get_or map.now i 0 < length marks.old }
     requires inside { length marks.old ≤ (D.state device.old).size }
     ensures holds { OnOk result ((c : Content) (k : CheckpointValue)
         → ReadsContent (D.state device.old) (D.state device.new) c → Lists (view c k) map.now
+        → KeepsInodes c map.now inodes.now
         → Passed (view c k) marks.old 4144 5 → Passed (view c k) marks.new 68628528 8) }
     ensures damaged { IfErr result (λ e. (code : ℕ) → FaultIs e code
         → (c : Content) (k : CheckpointValue)
         → ReadsContent (D.state device.old) (D.state device.new) c
-        → Lists (view c k) map.now
+        → Lists (view c k) map.now → KeepsInodes c map.now inodes.now
         → Passed (view c k) marks.old 4144 5 → IsDamaged (view c k) code) }
     ensures low { IfErr result (λ e. (code : ℕ) → FaultIs e code → code < 10) }
     ensures len { length marks.new ≡ length marks.old }
@@ -207,11 +229,19 @@ fn walk_files<D: SectorDevice>(
     let mut upper = [0; 512];
     let mut words = [0; 512];
     let mut sector = [0; 512];
-    match walk_pointers(device, map, marks, &mut upper, &mut sector) {
+    match walk_pointers(device, map, inodes, marks, &mut upper, &mut sector) {
         Ok(()) => (),
         Err(fault) => return Err(fault),
     }
-    match stage_data(device, map, marks, &mut upper, &mut words, &mut sector) {
+    match stage_data(
+        device,
+        map,
+        inodes,
+        marks,
+        &mut upper,
+        &mut words,
+        &mut sector,
+    ) {
         Ok(true) => Ok(()),
         Ok(false) => Err(WalkFault::Damaged(7)),
         Err(DeviceFault) => Err(WalkFault::Device),
@@ -222,37 +252,20 @@ fn walk_files<D: SectorDevice>(
 ///
 /// # Errors
 ///
-/// `Damaged` with the first stage that fails, `Device` where a call of the device failed.
-fn walk_segments<D: SectorDevice>(
-    device: &mut CachedDevice<D>,
-    used: &[u16],
-    live: &[u16],
-    marks: &[u32],
-) -> Result<(), WalkFault>
-    requires live { length live.now ≡ length used.now }
-    requires marks { length marks.now ≡ 2 + 64 * length used.now }
-    requires inside { length marks.now ≤ (D.state device.old).size }
-    ensures holds { OnOk result ((c : Content) (k : CheckpointValue)
-        → ReadsContent (D.state device.old) (D.state device.new) c → IsUsedTable (view c k) used.now
-        → IsLiveTable (view c k) live.now
-        → Passed (view c k) marks.now 68628528 8 → Passed (view c k) marks.now 68628528 10) }
-    ensures damaged { IfErr result (λ e. (code : ℕ) → FaultIs e code
-        → (c : Content) (k : CheckpointValue)
-        → ReadsContent (D.state device.old) (D.state device.new) c
-        → IsUsedTable (view c k) used.now → IsLiveTable (view c k) live.now
-        → Passed (view c k) marks.now 68628528 8 → IsDamaged (view c k) code) }
+/// `Damaged` with the first stage that fails.
+fn walk_segments(labels: &[u32], live: &[u16], marks: &[u32]) -> Result<(), WalkFault>
+    requires labels { length marks.now ≡ length labels.now }
+    requires marks { length marks.now ≡ 2 + 64 * length live.now }
+    ensures holds { OnOk result ((v : View) → HasAllLabels v labels.now → IsLiveTable v live.now
+        → Passed v marks.now 68628528 8 → Passed v marks.now 68628528 10) }
+    ensures damaged { IfErr result (λ e. (code : ℕ) → FaultIs e code → (v : View)
+        → HasAllLabels v labels.now → IsLiveTable v live.now
+        → Passed v marks.now 68628528 8 → IsDamaged v code) }
     ensures low { IfErr result (λ e. (code : ℕ) → FaultIs e code → code < 10) }
-    ensures failed { IsErrOf result WalkFault.Device
-        → (D.state device.old).failures < (D.state device.new).failures }
-    ensures no_failure { OnOk result
-        ((D.state device.new).failures ≡ (D.state device.old).failures) }
-    ensures looks { Looks (D.state device.old) (D.state device.new) }
+    ensures no_call { IsErrOf result WalkFault.Device → ⊥ }
 {
-    let mut sector = [0; 512];
-    match stage_labels(device, used, marks, &mut sector) {
-        Ok(true) => (),
-        Ok(false) => return Err(WalkFault::Damaged(8)),
-        Err(DeviceFault) => return Err(WalkFault::Device),
+    if !stage_labels(labels, marks) {
+        return Err(WalkFault::Damaged(8));
     }
     if !stage_counts(live, marks) {
         return Err(WalkFault::Damaged(9));
@@ -264,13 +277,16 @@ fn walk_segments<D: SectorDevice>(
 ///
 /// # Errors
 ///
-/// `Damaged` with the first stage that fails, `Device` where a call of the device failed.
+/// `NoMemory` where memory is refused, `Damaged` with the first stage that fails, `Device` where a
+/// call of the device failed.
 fn walk_all<D: SectorDevice>(
+    alloc: Global,
     device: &mut CachedDevice<D>,
     checkpoint: &Checkpoint,
     used: &mut [u16],
     live: &mut [u16],
     map: &mut [u32],
+    labels: &mut [u32],
     marks: &mut [u32],
 ) -> Result<(bool, BlockTotals), WalkFault>
     requires fits { FitsCheckpoint checkpoint.now }
@@ -278,6 +294,8 @@ fn walk_all<D: SectorDevice>(
     requires live { length live.old ≡ checkpoint.now.segments }
     requires files { length map.old ≡ 4096 }
     requires empty { (n : ℕ) → get_or map.old n 0 ≡ 0 }
+    requires labels { length labels.old ≡ 2 + 64 * checkpoint.now.segments }
+    requires unlabelled { (i : ℕ) → get_or labels.old i 0 ≡ 0 }
     requires marks { length marks.old ≡ 2 + 64 * checkpoint.now.segments }
     requires unmarked { (a : ℕ) → get_or marks.old a 0 ≡ 0 }
     requires inside { length marks.old ≤ (D.state device.old).size }
@@ -298,19 +316,19 @@ fn walk_all<D: SectorDevice>(
         ((D.state device.new).failures ≡ (D.state device.old).failures) }
     ensures looks { Looks (D.state device.old) (D.state device.new) }
 {
-    match walk_usages(device, checkpoint, used, live, marks) {
+    match walk_usages(device, checkpoint, used, live, labels, marks) {
         Ok(()) => (),
         Err(fault) => return Err(fault),
     }
-    match walk_inodes(device, checkpoint, map, marks) {
+    let inodes = match walk_inodes(alloc, device, checkpoint, map, marks) {
+        Ok(inodes) => inodes,
+        Err(fault) => return Err(fault),
+    };
+    match walk_files(device, map, &inodes, marks) {
         Ok(()) => (),
         Err(fault) => return Err(fault),
     }
-    match walk_files(device, map, marks) {
-        Ok(()) => (),
-        Err(fault) => return Err(fault),
-    }
-    match walk_segments(device, used, live, marks) {
+    match walk_segments(labels, live, marks) {
         Ok(()) => (),
         Err(fault) => return Err(fault),
     }
@@ -362,6 +380,9 @@ pub fn walk<D: SectorDevice>(
     let Ok(mut marks) = zeros(alloc, 2 + 64 * segments) else {
         return Err(WalkFault::NoMemory);
     };
+    let Ok(mut labels) = zeros(alloc, 2 + 64 * segments) else {
+        return Err(WalkFault::NoMemory);
+    };
     let Ok(mut map) = zeros(alloc, 4096) else {
         return Err(WalkFault::NoMemory);
     };
@@ -372,6 +393,13 @@ pub fn walk<D: SectorDevice>(
         return Err(WalkFault::NoMemory);
     };
     walk_all(
-        device, checkpoint, &mut used, &mut live, &mut map, &mut marks,
+        alloc,
+        device,
+        checkpoint,
+        &mut used,
+        &mut live,
+        &mut map,
+        &mut labels,
+        &mut marks,
     )
 }

@@ -2,74 +2,58 @@ use Rattle.std.proofs.Common.{◌≡◌, ◌+◌, ◌*◌, sym, ◌∙◌, subst
 use Rattle.lfs_model.specs.Reach.{view}
 use Rattle.lfs_model.specs.Stands.{Blocks}
 use Rattle.lfs_verify.specs.Walk.{Walked}
-use Rattle.lfs_verify.proofs.InodeSteps.{inode_readable}
-use Rattle.lfs_verify.proofs.Takes.{reads_first, reads_then, looks_then, read_in, unread, goes_true, goes_false}
+use Rattle.lfs_verify.proofs.Takes.{reads_first, reads_then, looks_then, goes_true, goes_false}
 use Rattle.lfs_verify.proofs.BlockSteps.{goes_as, file_passed, size_there, inode_word, first_leaf_at, root_at}
 use Rattle.lfs_verify.proofs.blocks.data_of_file.Goals as goal
 
 pub returns-then-address-eq0-clause-goes : goal.returns-then-address-eq0-clause-goes
-returns-then-address-eq0-clause-goes g c = λ d k reads is w. file_passed d k c.args.file c.requires.file (sym is ∙ c.if-address-eq0.true) c.args.marks.now w
+returns-then-address-eq0-clause-goes g c = λ d k reads is keeps w. file_passed d k c.args.file c.requires.file (sym is ∙ c.if-address-eq0.true) c.args.marks.now w
+
+pub returns-in_default-clause-goes : goal.returns-in_default-clause-goes
+returns-in_default-clause-goes g c = λ d k reads is keeps w blocks. let there = keeps (omega arith) in omega (arith, there.0, c.in_default.ensures)
 
 pub returns-then-not-branch-clause-goes : goal.returns-then-not-branch-clause-goes
-returns-then-not-branch-clause-goes g c = λ d k reads is w blocks.
-    inode_readable d k c.args.file c.requires.file c.args.marks.now (536624 + 16624 * c.args.file) (omega arith) w c.args.address is c.if-address-eq0.false
-    (unread d c.args.address _ _ (c.in_ok-fetch.ensures.block d reads) c.if-not-branch.true)
+returns-then-not-branch-clause-goes g c = λ d k reads is keeps w.
+    let inode = inode_word d k c.args.file c.args.address is _ ((keeps (omega arith)).1 ∙ sym c.in-Some.ensures) in
+    goes_false (view d k) _ _ _ _ (Blocks (view d k)) _ c.if-not-branch.true (c.in_ok-data_of_inode.ensures.goes d k reads inode) w
 
 pub returns-then-not-branch-2-clause-goes : goal.returns-then-not-branch-2-clause-goes
-returns-then-not-branch-2-clause-goes g c = λ d k reads is w.
+returns-then-not-branch-2-clause-goes g c = λ d k reads is keeps w.
     let s0 = g.D.SectorDevice.state c.args.device.now in
-    let s1 = g.D.SectorDevice.state c.fetch.new.device in
-    let s2 = g.D.SectorDevice.state c.data_of_inode.new.device in
-    let reads1 = reads_first s0 s1 s2 d reads c.data_of_inode.ensures.looks in
-    let inode = inode_word d k c.args.file c.args.address is _ (read_in d c.args.address _ _ (c.in_ok-fetch.ensures.block d reads1) c.if-not-branch.false) in
-    goes_false (view d k) _ _ _ _ (Blocks (view d k)) _ c.if-not-branch-2.true (c.in_ok-data_of_inode.ensures.goes d k (reads_then s0 s1 s2 d reads c.fetch.ensures.looks) inode) w
+    let s1 = g.D.SectorDevice.state c.data_of_inode.new.device in
+    let s2 = g.D.SectorDevice.state c.data_of_leaf.new.device in
+    let inode = inode_word d k c.args.file c.args.address is _ ((keeps (omega arith)).1 ∙ sym c.in-Some.ensures) in
+    let sized = size_there d k c.args.file _ inode _ c.size_of-size.ensures in
+    let w1 = goes_true (view d k) _ _ _ _ (Blocks (view d k)) _ c.if-not-branch.false (c.in_ok-data_of_inode.ensures.goes d k (reads_first s0 s1 s2 d reads c.data_of_leaf.ensures.looks) inode) w in
+    goes_false (view d k) _ _ _ _ (Blocks (view d k)) _ c.if-not-branch-2.true (goes_as (view d k) _ _ _ (536624 + 16624 * c.args.file + 112) _ (536624 + 16624 * c.args.file + 240) (Blocks (view d k)) _ (omega arith) (omega arith)
+    (c.in_ok-data_of_leaf.ensures.goes d k (reads_then s0 s1 s2 d reads c.data_of_inode.ensures.looks) (first_leaf_at d k c.args.file _ inode _ c.word_at-single.ensures) sized)) w1
 
 pub returns-then-not-branch-3-clause-goes : goal.returns-then-not-branch-3-clause-goes
-returns-then-not-branch-3-clause-goes g c = λ d k reads is w.
+returns-then-not-branch-3-clause-goes g c = λ d k reads is keeps w.
     let s0 = g.D.SectorDevice.state c.args.device.now in
-    let s1 = g.D.SectorDevice.state c.fetch.new.device in
-    let s2 = g.D.SectorDevice.state c.data_of_inode.new.device in
-    let s3 = g.D.SectorDevice.state c.data_of_leaf.new.device in
-    let reads2 = reads_first s0 s2 s3 d reads c.data_of_leaf.ensures.looks in
-    let reads1 = reads_first s0 s1 s2 d reads2 c.data_of_inode.ensures.looks in
-    let inode = inode_word d k c.args.file c.args.address is _ (read_in d c.args.address _ _ (c.in_ok-fetch.ensures.block d reads1) c.if-not-branch.false) in
+    let s1 = g.D.SectorDevice.state c.data_of_inode.new.device in
+    let s2 = g.D.SectorDevice.state c.data_of_leaf.new.device in
+    let s3 = g.D.SectorDevice.state c.data_of_double.new.device in
+    let reads2 = reads_first s0 s2 s3 d reads c.data_of_double.ensures.looks in
+    let inode = inode_word d k c.args.file c.args.address is _ ((keeps (omega arith)).1 ∙ sym c.in-Some.ensures) in
     let sized = size_there d k c.args.file _ inode _ c.size_of-size.ensures in
-    let w1 = goes_true (view d k) _ _ _ _ (Blocks (view d k)) _ c.if-not-branch-2.false (c.in_ok-data_of_inode.ensures.goes d k (reads_then s0 s1 s2 d reads2 c.fetch.ensures.looks) inode) w in
-    goes_false (view d k) _ _ _ _ (Blocks (view d k)) _ c.if-not-branch-3.true (goes_as (view d k) _ _ _ (536624 + 16624 * c.args.file + 112) _ (536624 + 16624 * c.args.file + 240) (Blocks (view d k)) _ (omega arith) (omega arith)
-    (c.in_ok-data_of_leaf.ensures.goes d k (reads_then s0 s2 s3 d reads (looks_then s0 s1 s2 c.fetch.ensures.looks c.data_of_inode.ensures.looks)) (first_leaf_at d k c.args.file _ inode _ c.word_at-single.ensures) sized)) w1
-
-pub returns-then-not-branch-4-clause-goes : goal.returns-then-not-branch-4-clause-goes
-returns-then-not-branch-4-clause-goes g c = λ d k reads is w.
-    let s0 = g.D.SectorDevice.state c.args.device.now in
-    let s1 = g.D.SectorDevice.state c.fetch.new.device in
-    let s2 = g.D.SectorDevice.state c.data_of_inode.new.device in
-    let s3 = g.D.SectorDevice.state c.data_of_leaf.new.device in
-    let s4 = g.D.SectorDevice.state c.data_of_double.new.device in
-    let reads3 = reads_first s0 s3 s4 d reads c.data_of_double.ensures.looks in
-    let reads2 = reads_first s0 s2 s3 d reads3 c.data_of_leaf.ensures.looks in
-    let reads1 = reads_first s0 s1 s2 d reads2 c.data_of_inode.ensures.looks in
-    let inode = inode_word d k c.args.file c.args.address is _ (read_in d c.args.address _ _ (c.in_ok-fetch.ensures.block d reads1) c.if-not-branch.false) in
-    let sized = size_there d k c.args.file _ inode _ c.size_of-size.ensures in
-    let w1 = goes_true (view d k) _ _ _ _ (Blocks (view d k)) _ c.if-not-branch-2.false (c.in_ok-data_of_inode.ensures.goes d k (reads_then s0 s1 s2 d reads2 c.fetch.ensures.looks) inode) w in
-    let w2 = goes_true (view d k) _ _ _ _ (Blocks (view d k)) _ c.if-not-branch-3.false (goes_as (view d k) _ _ _ (536624 + 16624 * c.args.file + 112) _ (536624 + 16624 * c.args.file + 240) (Blocks (view d k)) _ (omega arith) (omega arith)
-    (c.in_ok-data_of_leaf.ensures.goes d k (reads_then s0 s2 s3 d reads3 (looks_then s0 s1 s2 c.fetch.ensures.looks c.data_of_inode.ensures.looks)) (first_leaf_at d k c.args.file _ inode _ c.word_at-single.ensures) sized)) w1 in
-    goes_false (view d k) _ _ _ _ (Blocks (view d k)) _ c.if-not-branch-4.true (c.in_ok-data_of_double.ensures.goes d k (reads_then s0 s3 s4 d reads (looks_then s0 s2 s3 (looks_then s0 s1 s2 c.fetch.ensures.looks c.data_of_inode.ensures.looks) c.data_of_leaf.ensures.looks)) (root_at d k c.args.file _ inode _ c.word_at-double.ensures) sized) w2
+    let w1 = goes_true (view d k) _ _ _ _ (Blocks (view d k)) _ c.if-not-branch.false (c.in_ok-data_of_inode.ensures.goes d k (reads_first s0 s1 s2 d reads2 c.data_of_leaf.ensures.looks) inode) w in
+    let w2 = goes_true (view d k) _ _ _ _ (Blocks (view d k)) _ c.if-not-branch-2.false (goes_as (view d k) _ _ _ (536624 + 16624 * c.args.file + 112) _ (536624 + 16624 * c.args.file + 240) (Blocks (view d k)) _ (omega arith) (omega arith)
+    (c.in_ok-data_of_leaf.ensures.goes d k (reads_then s0 s1 s2 d reads2 c.data_of_inode.ensures.looks) (first_leaf_at d k c.args.file _ inode _ c.word_at-single.ensures) sized)) w1 in
+    goes_false (view d k) _ _ _ _ (Blocks (view d k)) _ c.if-not-branch-3.true (c.in_ok-data_of_double.ensures.goes d k (reads_then s0 s2 s3 d reads (looks_then s0 s1 s2 c.data_of_inode.ensures.looks c.data_of_leaf.ensures.looks)) (root_at d k c.args.file _ inode _ c.word_at-double.ensures) sized) w2
 
 pub returns-clause-goes : goal.returns-clause-goes
-returns-clause-goes g c = λ d k reads is w.
+returns-clause-goes g c = λ d k reads is keeps w.
     let s0 = g.D.SectorDevice.state c.args.device.now in
-    let s1 = g.D.SectorDevice.state c.fetch.new.device in
-    let s2 = g.D.SectorDevice.state c.data_of_inode.new.device in
-    let s3 = g.D.SectorDevice.state c.data_of_leaf.new.device in
-    let s4 = g.D.SectorDevice.state c.data_of_double.new.device in
-    let reads3 = reads_first s0 s3 s4 d reads c.data_of_double.ensures.looks in
-    let reads2 = reads_first s0 s2 s3 d reads3 c.data_of_leaf.ensures.looks in
-    let reads1 = reads_first s0 s1 s2 d reads2 c.data_of_inode.ensures.looks in
-    let inode = inode_word d k c.args.file c.args.address is _ (read_in d c.args.address _ _ (c.in_ok-fetch.ensures.block d reads1) c.if-not-branch.false) in
+    let s1 = g.D.SectorDevice.state c.data_of_inode.new.device in
+    let s2 = g.D.SectorDevice.state c.data_of_leaf.new.device in
+    let s3 = g.D.SectorDevice.state c.data_of_double.new.device in
+    let reads2 = reads_first s0 s2 s3 d reads c.data_of_double.ensures.looks in
+    let inode = inode_word d k c.args.file c.args.address is _ ((keeps (omega arith)).1 ∙ sym c.in-Some.ensures) in
     let sized = size_there d k c.args.file _ inode _ c.size_of-size.ensures in
-    let w1 = goes_true (view d k) _ _ _ _ (Blocks (view d k)) _ c.if-not-branch-2.false (c.in_ok-data_of_inode.ensures.goes d k (reads_then s0 s1 s2 d reads2 c.fetch.ensures.looks) inode) w in
-    let w2 = goes_true (view d k) _ _ _ _ (Blocks (view d k)) _ c.if-not-branch-3.false (goes_as (view d k) _ _ _ (536624 + 16624 * c.args.file + 112) _ (536624 + 16624 * c.args.file + 240) (Blocks (view d k)) _ (omega arith) (omega arith)
-    (c.in_ok-data_of_leaf.ensures.goes d k (reads_then s0 s2 s3 d reads3 (looks_then s0 s1 s2 c.fetch.ensures.looks c.data_of_inode.ensures.looks)) (first_leaf_at d k c.args.file _ inode _ c.word_at-single.ensures) sized)) w1 in
-    let w3 = goes_true (view d k) _ _ _ _ (Blocks (view d k)) _ c.if-not-branch-4.false (c.in_ok-data_of_double.ensures.goes d k (reads_then s0 s3 s4 d reads (looks_then s0 s2 s3 (looks_then s0 s1 s2 c.fetch.ensures.looks c.data_of_inode.ensures.looks) c.data_of_leaf.ensures.looks)) (root_at d k c.args.file _ inode _ c.word_at-double.ensures) sized) w2 in
+    let w1 = goes_true (view d k) _ _ _ _ (Blocks (view d k)) _ c.if-not-branch.false (c.in_ok-data_of_inode.ensures.goes d k (reads_first s0 s1 s2 d reads2 c.data_of_leaf.ensures.looks) inode) w in
+    let w2 = goes_true (view d k) _ _ _ _ (Blocks (view d k)) _ c.if-not-branch-2.false (goes_as (view d k) _ _ _ (536624 + 16624 * c.args.file + 112) _ (536624 + 16624 * c.args.file + 240) (Blocks (view d k)) _ (omega arith) (omega arith)
+    (c.in_ok-data_of_leaf.ensures.goes d k (reads_then s0 s1 s2 d reads2 c.data_of_inode.ensures.looks) (first_leaf_at d k c.args.file _ inode _ c.word_at-single.ensures) sized)) w1 in
+    let w3 = goes_true (view d k) _ _ _ _ (Blocks (view d k)) _ c.if-not-branch-3.false (c.in_ok-data_of_double.ensures.goes d k (reads_then s0 s2 s3 d reads (looks_then s0 s1 s2 c.data_of_inode.ensures.looks c.data_of_leaf.ensures.looks)) (root_at d k c.args.file _ inode _ c.word_at-double.ensures) sized) w2 in
     let e : 536624 + 16624 * c.args.file + 16624 ≡ 536624 + 16624 * (c.args.file + 1) = omega arith in
     subst (Walked (view d k) c.data_of_double.new.marks) e w3

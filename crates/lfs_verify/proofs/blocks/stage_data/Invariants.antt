@@ -1,7 +1,8 @@
-use Rattle.std.proofs.Common.{◌≡◌, ◌+◌, ◌*◌, length}
+use Rattle.std.proofs.Common.{◌≡◌, ◌≤◌, ◌+◌, ◌*◌, length}
 use Rattle.lfs_model.specs.Checkpoint.{CheckpointValue}
 use Rattle.lfs_model.specs.Content.{Content}
 use Rattle.lfs_model.specs.Reach.{view}
+use Rattle.lfs_verify.specs.Kept.{there_below, KeepsInodes}
 use Rattle.lfs_verify.specs.Walk.{Walked}
 use Rattle.lfs_verify.specs.Take.{Looks, ReadsContent, Lists}
 use Rattle.lfs_verify.proofs.blocks.stage_data.Given as goal
@@ -14,6 +15,8 @@ invariant-loop-file g l =
       looks : Looks old now;
       no_failure : now.failures ≡ old.failures;
       len : length l.marks ≡ length l.initial.marks;
-      walked : (c : Content) (k : CheckpointValue) → ReadsContent old now c → Lists (view c k) l.map
+      few : l.place ≤ l.file;
+      place : l.place ≡ there_below l.map l.file;
+      walked : (c : Content) (k : CheckpointValue) → ReadsContent old now c → Lists (view c k) l.map → KeepsInodes c l.map l.inodes
           → Walked (view c k) l.initial.marks 536624 → Walked (view c k) l.marks (536624 + 16624 * l.file);
     }

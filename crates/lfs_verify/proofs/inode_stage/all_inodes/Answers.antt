@@ -1,8 +1,10 @@
-use Rattle.std.proofs.Common.{◌≡◌, ◌+◌, ◌∙◌, refl, below_more, subst, arith}
+use Rattle.std.proofs.Common.{◌≡◌, ◌+◌, ◌∙◌, refl, sym, below_more, subst, arith}
 use Rattle.lfs_model.specs.Reach.{view}
+use Rattle.lfs_verify.specs.Kept.{KeepsBelow}
 use Rattle.lfs_verify.specs.Walk.{Walked}
 use Rattle.lfs_verify.proofs.Takes.{reads_first, reads_then, looks_none, looks_then}
 use Rattle.lfs_verify.proofs.InodeSteps.{inode_refused, inode_took, in_marks}
+use Rattle.lfs_verify.proofs.KeptSteps.{there_start, there_past, count_next, keeps_next}
 use Rattle.lfs_verify.proofs.inode_stage.all_inodes.Goals as goal
 
 pub loop-file-init : goal.loop-file-init
@@ -11,6 +13,9 @@ loop-file-init g c = record {
   no_failure = refl;
   len = refl;
   at = λ i lt. absurd (omega (arith, lt));
+  room = c.requires.room;
+  count = sym c.args.inodes.now.ok.0 ∙ c.requires.none ∙ sym (there_start c.args.map.now);
+  kept = λ d reads i lt. absurd (omega (arith, lt));
   walked = λ d k same reads lists w. w;
 }
 
@@ -24,6 +29,15 @@ returns-then-not-branch-clause-goes g c = λ d k same reads lists w inodes.
     inode_refused d k c.loop-file.file (omega arith) _ _ _ (lists c.loop-file.file (omega arith)) _ _ same
     (step.takes d (reads_then old mid new d reads here.looks)) (here.walked d k same (reads_first old mid new d reads step.looks) lists w) c.if-not-branch.true inodes
 
+pub keep_inode-requires : goal.keep_inode-requires
+keep_inode-requires g c = record {
+  room = λ some.
+      let here = c.loop-file.invariant in
+      let past = there_past c.args.map.now c.loop-file.file 4096 (omega arith) some in
+      let len = c.loop-file.inodes.ok.0 in
+      omega (arith, here.room, here.count, past, len);
+}
+
 pub loop-file-preserved : goal.loop-file-preserved
 loop-file-preserved g c =
     let old = g.D.SectorDevice.state c.args.device.now in
@@ -36,6 +50,11 @@ loop-file-preserved g c =
       no_failure = step.no_failure ∙ here.no_failure;
       len = step.len ∙ here.len;
       at = below_more _ _ here.at (in_marks _ _ _ here.len (step.at c.if-not-branch.false));
+      room = omega (arith, here.room, c.keep_inode.ensures.room);
+      count = count_next c.args.map.now c.loop-file.file c.loop-file.inodes.items c.keep_inode.new.inodes.items here.count _ c.keep_inode.ensures.kept c.keep_inode.ensures.none;
+      kept = λ d reads.
+          keeps_next c.args.map.now c.loop-file.file c.loop-file.inodes.items c.keep_inode.new.inodes.items here.count _ c.keep_inode.ensures.kept c.keep_inode.ensures.none
+          d (λ some. step.read c.if-not-branch.false some d (reads_then old mid new d reads here.looks)) (here.kept d (reads_first old mid new d reads step.looks));
       walked = λ d k same reads lists w.
           inode_took d k c.loop-file.file (omega arith) _ _ _ (lists c.loop-file.file (omega arith)) _ _ same
           (step.takes d (reads_then old mid new d reads here.looks)) (here.walked d k same (reads_first old mid new d reads step.looks) lists w) c.if-not-branch.false;
@@ -45,3 +64,8 @@ pub returns-clause-goes : goal.returns-clause-goes
 returns-clause-goes g c = λ d k same reads lists w.
     let e : 48 + c.loop-file.file ≡ 4144 = omega arith in
     subst (Walked (view d k) c.loop-file.marks) e (c.loop-file.invariant.walked d k same reads lists w)
+
+pub returns-clause-kept : goal.returns-clause-kept
+returns-clause-kept g c = λ is d reads.
+    let e : c.loop-file.file ≡ 4096 = omega arith in
+    subst (KeepsBelow d c.args.map.now c.loop-file.inodes.items) e (c.loop-file.invariant.kept d reads)

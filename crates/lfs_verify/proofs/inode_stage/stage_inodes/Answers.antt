@@ -51,3 +51,10 @@ pub returns-clause-at : goal.returns-clause-at
 returns-clause-at g c = λ is i lt.
     let at = c.in_ok-all_inodes.ensures.at c.if-not-branch.false in
     ⊎_elim (λ none. ⊎_elim (λ e. absurd (c.if-root-eq0.false e)) (λ some. omega (arith, none, some)) (at 1 (omega arith))) (λ some. some) (at i lt)
+
+pub returns-clause-kept : goal.returns-clause-kept
+returns-clause-kept g c = λ is d reads.
+    let s0 = g.D.SectorDevice.state c.args.device.now in
+    let s1 = g.D.SectorDevice.state c.all_inodes.new.device in
+    let s2 = g.D.SectorDevice.state c.fetch.new.device in
+    c.in_ok-all_inodes.ensures.kept c.if-not-branch.false d (reads_first s0 s1 s2 d reads c.fetch.ensures.looks)

@@ -1,7 +1,8 @@
-use Rattle.std.proofs.Common.{◌≡◌, ◌+◌, ◌*◌, ◌∙◌, refl, subst, arith}
+use Rattle.std.proofs.Common.{◌≡◌, ◌+◌, ◌*◌, ◌∙◌, refl, sym, subst, arith}
 use Rattle.lfs_model.specs.Reach.{view}
 use Rattle.lfs_model.specs.Stands.{Roots}
 use Rattle.lfs_verify.specs.Walk.{Walked}
+use Rattle.lfs_verify.proofs.KeptSteps.{there_start, there_next, keeps_here}
 use Rattle.lfs_verify.proofs.Takes.{reads_first, reads_then, looks_none, looks_then, goes_true, goes_false}
 use Rattle.lfs_verify.proofs.roots.stage_roots.Goals as goal
 
@@ -10,19 +11,21 @@ loop-file-init g c = record {
   looks = looks_none (g.D.SectorDevice.state c.args.device.now) (g.met.D.SectorDevice.lawful c.args.device.now);
   no_failure = refl;
   len = refl;
-  walked = λ d k reads lists w. w;
+  few = omega arith;
+  place = sym (there_start c.args.map.now);
+  walked = λ d k reads lists keeps w. w;
 }
 
 pub returns-then-not-branch-clause-goes : goal.returns-then-not-branch-clause-goes
-returns-then-not-branch-clause-goes g c = λ d k reads lists w.
+returns-then-not-branch-clause-goes g c = λ d k reads lists keeps w.
     let old = g.D.SectorDevice.state c.args.device.now in
     let mid = g.D.SectorDevice.state c.loop-file.device in
     let new = g.D.SectorDevice.state c.root_blocks.new.device in
     let here = c.loop-file.invariant in
     let step = c.in_ok-root_blocks.ensures in
     goes_false (view d k) _ _ _ _ (Roots (view d k)) _ c.if-not-branch.true
-    (step.goes d k (reads_then old mid new d reads here.looks) (lists c.loop-file.file (omega arith)))
-    (here.walked d k (reads_first old mid new d reads step.looks) lists w)
+    (step.goes d k (reads_then old mid new d reads here.looks) (lists c.loop-file.file (omega arith)) (keeps_here d c.args.map.now c.args.inodes.now keeps c.loop-file.file (omega arith) c.loop-file.place here.place))
+    (here.walked d k (reads_first old mid new d reads step.looks) lists keeps w)
 
 pub loop-file-preserved : goal.loop-file-preserved
 loop-file-preserved g c =
@@ -35,13 +38,15 @@ loop-file-preserved g c =
       looks = looks_then old mid new here.looks step.looks;
       no_failure = step.no_failure ∙ here.no_failure;
       len = step.len ∙ here.len;
-      walked = λ d k reads lists w.
+      few = omega (arith, here.few, c.inodes_at.ensures.few);
+      place = let next = there_next c.args.map.now c.loop-file.file in omega (arith, next, here.place, c.inodes_at.ensures.number);
+      walked = λ d k reads lists keeps w.
           goes_true (view d k) _ _ _ _ (Roots (view d k)) _ c.if-not-branch.false
-          (step.goes d k (reads_then old mid new d reads here.looks) (lists c.loop-file.file (omega arith)))
-          (here.walked d k (reads_first old mid new d reads step.looks) lists w);
+          (step.goes d k (reads_then old mid new d reads here.looks) (lists c.loop-file.file (omega arith)) (keeps_here d c.args.map.now c.args.inodes.now keeps c.loop-file.file (omega arith) c.loop-file.place here.place))
+          (here.walked d k (reads_first old mid new d reads step.looks) lists keeps w);
     }
 
 pub returns-clause-goes : goal.returns-clause-goes
-returns-clause-goes g c = λ d k reads lists w.
+returns-clause-goes g c = λ d k reads lists keeps w.
     let e : 4144 + 2 * c.loop-file.file ≡ 12336 = omega arith in
-    subst (Walked (view d k) c.loop-file.marks) e (c.loop-file.invariant.walked d k reads lists w)
+    subst (Walked (view d k) c.loop-file.marks) e (c.loop-file.invariant.walked d k reads lists keeps w)

@@ -1,7 +1,10 @@
-use Rattle.std.proofs.Common.{◌≡◌, ◌<◌, ℕ, get_or}
+use Rattle.std.proofs.Common.{◌≡◌, ◌<◌, ◌≤◌, ◌+◌, ◌*◌, ℕ, length, get_or}
+use Rattle.lfs_model.specs.Checkpoint.{CheckpointValue}
 use Rattle.lfs_model.specs.Content.{Content}
-use Rattle.lfs_model.specs.Reach.{row_by}
+use Rattle.lfs_model.specs.Reach.{row_by, view}
+use Rattle.lfs_verify.specs.Labels.{HasLabels}
 use Rattle.lfs_verify.specs.Rows.{HasRow}
+use Rattle.lfs_verify.specs.Tables.{IsUsedTable}
 use Rattle.lfs_verify.specs.Take.{Looks, ReadsContent}
 use Rattle.lfs_verify.proofs.rows.stage_rows.Given as goal
 
@@ -12,5 +15,8 @@ invariant-loop-segment g l =
     record {
       looks : Looks old now;
       no_failure : now.failures ≡ old.failures;
+      len : length l.labels ≡ length l.initial.labels;
+      empty : (i : ℕ) → 2 + 64 * l.segment ≤ i → get_or l.labels i 0 ≡ 0;
+      labels : (c : Content) (k : CheckpointValue) → ReadsContent old now c → IsUsedTable (view c k) l.used → (s : ℕ) → s < l.segment → HasLabels ((view c k).row s) l.labels s;
       rows : (c : Content) → ReadsContent old now c → (s : ℕ) → s < l.segment → HasRow (row_by c (get_or l.used s 0) s);
     }

@@ -1,4 +1,6 @@
+use Rattle.std.proofs.Common.{sym, subst}
 use Rattle.lfs_model.specs.Reach.{view}
+use Rattle.lfs_verify.specs.Kept.{KeepsInodes}
 use Rattle.lfs_verify.proofs.Takes.{reads_first, reads_then, looks_then}
 use Rattle.lfs_verify.proofs.WholeSteps.{passed_start, sized_content}
 use Rattle.lfs_verify.proofs.walk.walk_all.Goals as goal
@@ -23,6 +25,7 @@ returns-in-Err-walk_inodes-clause-damaged g c = λ code is d reads.
     let p0 = passed_start _ _ (g.met.D.SectorDevice.lawful c.args.device.now) d reads c.args.checkpoint.now c.requires.fits c.args.marks.now c.requires.marks c.requires.unmarked in
     let p1 = c.in-Ok.ensures.holds d r1 p0 in
     let tables = c.in-Ok.ensures.tables d r1 p0 in
+    let labels = c.in-Ok.ensures.labels d r1 p0 in
     c.in-Err-walk_inodes.ensures.damaged code is d q2 p1
 
 pub returns-in-Err-walk_files-clause-damaged : goal.returns-in-Err-walk_files-clause-damaged
@@ -45,9 +48,11 @@ returns-in-Err-walk_files-clause-damaged g c = λ code is d reads.
     let p0 = passed_start _ _ (g.met.D.SectorDevice.lawful c.args.device.now) d reads c.args.checkpoint.now c.requires.fits c.args.marks.now c.requires.marks c.requires.unmarked in
     let p1 = c.in-Ok.ensures.holds d r1 p0 in
     let tables = c.in-Ok.ensures.tables d r1 p0 in
+    let labels = c.in-Ok.ensures.labels d r1 p0 in
     let p2 = c.in-Ok-walk_inodes.ensures.holds d q2 p1 in
     let lists = c.in-Ok-walk_inodes.ensures.lists d q2 in
-    c.in-Err-walk_files.ensures.damaged code is d c.args.checkpoint.now q3 lists p2
+    let keeps = subst (KeepsInodes d c.walk_inodes.new.map) (sym c.deref.ensures.value) (c.in-Ok-walk_inodes.ensures.kept d q2) in
+    c.in-Err-walk_files.ensures.damaged code is d c.args.checkpoint.now q3 lists keeps p2
 
 pub returns-in-Err-walk_segments-clause-damaged : goal.returns-in-Err-walk_segments-clause-damaged
 returns-in-Err-walk_segments-clause-damaged g c = λ code is d reads.
@@ -55,29 +60,26 @@ returns-in-Err-walk_segments-clause-damaged g c = λ code is d reads.
     let s1 = g.D.SectorDevice.state c.walk_usages.new.device in
     let s2 = g.D.SectorDevice.state c.walk_inodes.new.device in
     let s3 = g.D.SectorDevice.state c.walk_files.new.device in
-    let s4 = g.D.SectorDevice.state c.walk_segments.new.device in
     let v = view d c.args.checkpoint.now in
     let l1 = c.walk_usages.ensures.looks in
     let l2 = c.walk_inodes.ensures.looks in
     let l3 = c.walk_files.ensures.looks in
-    let l4 = c.walk_segments.ensures.looks in
     let m1 = l1 in
     let m2 = looks_then s0 s1 s2 m1 l2 in
-    let m3 = looks_then s0 s2 s3 m2 l3 in
-    let r4 = reads in
-    let r3 = reads_first s0 s3 s4 d r4 l4 in
+    let r3 = reads in
     let r2 = reads_first s0 s2 s3 d r3 l3 in
     let r1 = reads_first s0 s1 s2 d r2 l2 in
     let q2 = reads_then s0 s1 s2 d r2 m1 in
     let q3 = reads_then s0 s2 s3 d r3 m2 in
-    let q4 = reads_then s0 s3 s4 d r4 m3 in
     let p0 = passed_start _ _ (g.met.D.SectorDevice.lawful c.args.device.now) d reads c.args.checkpoint.now c.requires.fits c.args.marks.now c.requires.marks c.requires.unmarked in
     let p1 = c.in-Ok.ensures.holds d r1 p0 in
     let tables = c.in-Ok.ensures.tables d r1 p0 in
+    let labels = c.in-Ok.ensures.labels d r1 p0 in
     let p2 = c.in-Ok-walk_inodes.ensures.holds d q2 p1 in
     let lists = c.in-Ok-walk_inodes.ensures.lists d q2 in
-    let p3 = c.in-Ok-walk_files.ensures.holds d c.args.checkpoint.now q3 lists p2 in
-    c.in-Err-walk_segments.ensures.damaged code is d c.args.checkpoint.now q4 tables.0 tables.1 p3
+    let keeps = subst (KeepsInodes d c.walk_inodes.new.map) (sym c.deref.ensures.value) (c.in-Ok-walk_inodes.ensures.kept d q2) in
+    let p3 = c.in-Ok-walk_files.ensures.holds d c.args.checkpoint.now q3 lists keeps p2 in
+    c.in-Err-walk_segments.ensures.damaged code is v labels tables.1 p3
 
 pub returns-clause-holds : goal.returns-clause-holds
 returns-clause-holds g c = λ d reads.
@@ -85,29 +87,26 @@ returns-clause-holds g c = λ d reads.
     let s1 = g.D.SectorDevice.state c.walk_usages.new.device in
     let s2 = g.D.SectorDevice.state c.walk_inodes.new.device in
     let s3 = g.D.SectorDevice.state c.walk_files.new.device in
-    let s4 = g.D.SectorDevice.state c.walk_segments.new.device in
     let v = view d c.args.checkpoint.now in
     let l1 = c.walk_usages.ensures.looks in
     let l2 = c.walk_inodes.ensures.looks in
     let l3 = c.walk_files.ensures.looks in
-    let l4 = c.walk_segments.ensures.looks in
     let m1 = l1 in
     let m2 = looks_then s0 s1 s2 m1 l2 in
-    let m3 = looks_then s0 s2 s3 m2 l3 in
-    let r4 = reads in
-    let r3 = reads_first s0 s3 s4 d r4 l4 in
+    let r3 = reads in
     let r2 = reads_first s0 s2 s3 d r3 l3 in
     let r1 = reads_first s0 s1 s2 d r2 l2 in
     let q2 = reads_then s0 s1 s2 d r2 m1 in
     let q3 = reads_then s0 s2 s3 d r3 m2 in
-    let q4 = reads_then s0 s3 s4 d r4 m3 in
     let p0 = passed_start _ _ (g.met.D.SectorDevice.lawful c.args.device.now) d reads c.args.checkpoint.now c.requires.fits c.args.marks.now c.requires.marks c.requires.unmarked in
     let p1 = c.in-Ok.ensures.holds d r1 p0 in
     let tables = c.in-Ok.ensures.tables d r1 p0 in
+    let labels = c.in-Ok.ensures.labels d r1 p0 in
     let p2 = c.in-Ok-walk_inodes.ensures.holds d q2 p1 in
     let lists = c.in-Ok-walk_inodes.ensures.lists d q2 in
-    let p3 = c.in-Ok-walk_files.ensures.holds d c.args.checkpoint.now q3 lists p2 in
-    let p4 = c.in-Ok-walk_segments.ensures.holds d c.args.checkpoint.now q4 tables.0 tables.1 p3 in
+    let keeps = subst (KeepsInodes d c.walk_inodes.new.map) (sym c.deref.ensures.value) (c.in-Ok-walk_inodes.ensures.kept d q2) in
+    let p3 = c.in-Ok-walk_files.ensures.holds d c.args.checkpoint.now q3 lists keeps p2 in
+    let p4 = c.in-Ok-walk_segments.ensures.holds v labels tables.1 p3 in
     (p4.below, c.stage_clean.ensures v tables.0)
 
 pub returns-clause-counts : goal.returns-clause-counts
@@ -116,26 +115,23 @@ returns-clause-counts g c = λ d reads.
     let s1 = g.D.SectorDevice.state c.walk_usages.new.device in
     let s2 = g.D.SectorDevice.state c.walk_inodes.new.device in
     let s3 = g.D.SectorDevice.state c.walk_files.new.device in
-    let s4 = g.D.SectorDevice.state c.walk_segments.new.device in
     let v = view d c.args.checkpoint.now in
     let l1 = c.walk_usages.ensures.looks in
     let l2 = c.walk_inodes.ensures.looks in
     let l3 = c.walk_files.ensures.looks in
-    let l4 = c.walk_segments.ensures.looks in
     let m1 = l1 in
     let m2 = looks_then s0 s1 s2 m1 l2 in
-    let m3 = looks_then s0 s2 s3 m2 l3 in
-    let r4 = reads in
-    let r3 = reads_first s0 s3 s4 d r4 l4 in
+    let r3 = reads in
     let r2 = reads_first s0 s2 s3 d r3 l3 in
     let r1 = reads_first s0 s1 s2 d r2 l2 in
     let q2 = reads_then s0 s1 s2 d r2 m1 in
     let q3 = reads_then s0 s2 s3 d r3 m2 in
-    let q4 = reads_then s0 s3 s4 d r4 m3 in
     let p0 = passed_start _ _ (g.met.D.SectorDevice.lawful c.args.device.now) d reads c.args.checkpoint.now c.requires.fits c.args.marks.now c.requires.marks c.requires.unmarked in
     let p1 = c.in-Ok.ensures.holds d r1 p0 in
     let tables = c.in-Ok.ensures.tables d r1 p0 in
+    let labels = c.in-Ok.ensures.labels d r1 p0 in
     let p2 = c.in-Ok-walk_inodes.ensures.holds d q2 p1 in
     let lists = c.in-Ok-walk_inodes.ensures.lists d q2 in
-    let p3 = c.in-Ok-walk_files.ensures.holds d c.args.checkpoint.now q3 lists p2 in
-    λ m st. c.count_totals-totals.ensures d c.args.checkpoint.now (sized_content s0 s4 (g.met.D.SectorDevice.lawful c.args.device.now) d reads) m st p3.walked
+    let keeps = subst (KeepsInodes d c.walk_inodes.new.map) (sym c.deref.ensures.value) (c.in-Ok-walk_inodes.ensures.kept d q2) in
+    let p3 = c.in-Ok-walk_files.ensures.holds d c.args.checkpoint.now q3 lists keeps p2 in
+    λ m st. c.count_totals-totals.ensures d c.args.checkpoint.now (sized_content s0 s3 (g.met.D.SectorDevice.lawful c.args.device.now) d reads) m st p3.walked

@@ -2,7 +2,7 @@ use Rattle.std.proofs.Common.{sym}
 use Rattle.lfs_model.specs.Reach.{view}
 use Rattle.lfs_model.specs.Stands.{Maps, Inodes}
 use Rattle.lfs_verify.proofs.Takes.{reads_first, reads_then}
-use Rattle.lfs_verify.proofs.CodeSteps.{stage_3, stage_4, walk_pass, walk_fails, inside_then}
+use Rattle.lfs_verify.proofs.CodeSteps.{stage_3, stage_4, walk_pass, walk_fails}
 use Rattle.lfs_verify.proofs.walk.walk_inodes.Goals as goal
 
 pub returns-in-Ok-false-clause-damaged : goal.returns-in-Ok-false-clause-damaged
@@ -22,7 +22,7 @@ returns-in-Ok-false-stage_inodes-clause-damaged g c = λ code is d reads passed.
     let one = walk_pass v 3 (Maps v) (stage_3 v) _ _ passed _ _ _ c.in-Ok-true.field-0-test (c.in-Ok-true.ensures.goes d reads1)
     (λ w bounded. c.in-Ok-true.ensures.holds c.in-Ok-true.field-0-test d reads1 bounded passed.walked) in
     walk_fails v 4 (Inodes v) (stage_4 v) _ _ one _ _ _ c.in-Ok-false-stage_inodes.field-0-test
-    (c.in-Ok-false-stage_inodes.ensures.goes d c.args.checkpoint.now (sym c.version_of.ensures) reads2 lists) code is
+    (c.in-Ok-false-stage_inodes.ensures.goes d c.args.checkpoint.now (sym c.version_of-version.ensures) reads2 lists) code is
 
 pub returns-in-Ok-true-stage_inodes-clause-holds : goal.returns-in-Ok-true-stage_inodes-clause-holds
 returns-in-Ok-true-stage_inodes-clause-holds g c = λ d reads passed.
@@ -36,8 +36,8 @@ returns-in-Ok-true-stage_inodes-clause-holds g c = λ d reads passed.
     let one = walk_pass v 3 (Maps v) (stage_3 v) _ _ passed _ _ _ c.in-Ok-true.field-0-test (c.in-Ok-true.ensures.goes d reads1)
     (λ w bounded. c.in-Ok-true.ensures.holds c.in-Ok-true.field-0-test d reads1 bounded passed.walked) in
     walk_pass v 4 (Inodes v) (stage_4 v) _ _ one _ _ _ c.in-Ok-true-stage_inodes.field-0-test
-    (c.in-Ok-true-stage_inodes.ensures.goes d c.args.checkpoint.now (sym c.version_of.ensures) reads2 lists)
-    (λ w bounded. c.in-Ok-true-stage_inodes.ensures.holds c.in-Ok-true-stage_inodes.field-0-test d c.args.checkpoint.now (sym c.version_of.ensures) reads2 lists bounded one.walked)
+    (c.in-Ok-true-stage_inodes.ensures.goes d c.args.checkpoint.now (sym c.version_of-version.ensures) reads2 lists)
+    (λ w bounded. c.in-Ok-true-stage_inodes.ensures.holds c.in-Ok-true-stage_inodes.field-0-test d c.args.checkpoint.now (sym c.version_of-version.ensures) reads2 lists bounded one.walked)
 
 pub returns-in-Ok-true-stage_inodes-clause-lists : goal.returns-in-Ok-true-stage_inodes-clause-lists
 returns-in-Ok-true-stage_inodes-clause-lists g c = λ d reads.
@@ -46,5 +46,9 @@ returns-in-Ok-true-stage_inodes-clause-lists g c = λ d reads.
     let s2 = g.D.SectorDevice.state c.stage_inodes.new.device in
     c.in-Ok-true.ensures.lists c.in-Ok-true.field-0-test d (reads_first s0 s1 s2 d reads c.stage_inodes.ensures.looks)
 
-pub returns-in-Ok-true-stage_inodes-clause-at : goal.returns-in-Ok-true-stage_inodes-clause-at
-returns-in-Ok-true-stage_inodes-clause-at g c = inside_then _ _ _ c.stage_maps.ensures.len (c.in-Ok-true-stage_inodes.ensures.at c.in-Ok-true-stage_inodes.field-0-test)
+pub returns-in-Ok-true-stage_inodes-clause-kept : goal.returns-in-Ok-true-stage_inodes-clause-kept
+returns-in-Ok-true-stage_inodes-clause-kept g c = λ d reads.
+    let s0 = g.D.SectorDevice.state c.args.device.now in
+    let s1 = g.D.SectorDevice.state c.stage_maps.new.device in
+    let s2 = g.D.SectorDevice.state c.stage_inodes.new.device in
+    c.in-Ok-true-stage_inodes.ensures.kept c.in-Ok-true-stage_inodes.field-0-test d (reads_then s0 s1 s2 d reads c.stage_maps.ensures.looks)

@@ -49,3 +49,15 @@ returns-in-Ok-true-stage_rows-clause-tables g c = λ d reads passed.
     let says = c.in-Ok-true.ensures.says c.in-Ok-true.field-0-test d reads1 in
     let used = used_says v _ _ usages (c.stage_usages.ensures.used ∙ c.requires.used) says in
     (used, live_says v _ _ (c.stage_usages.ensures.live ∙ c.requires.live) says)
+
+pub returns-in-Ok-true-stage_rows-clause-labels : goal.returns-in-Ok-true-stage_rows-clause-labels
+returns-in-Ok-true-stage_rows-clause-labels g c = λ d reads passed.
+    let s0 = g.D.SectorDevice.state c.args.device.now in
+    let s1 = g.D.SectorDevice.state c.stage_usages.new.device in
+    let s2 = g.D.SectorDevice.state c.stage_rows.new.device in
+    let v = view d c.args.checkpoint.now in
+    let reads1 = reads_first s0 s1 s2 d reads c.stage_rows.ensures.looks in
+    let usages = c.in-Ok-true.ensures.holds c.in-Ok-true.field-0-test d reads1 passed.bounded passed.walked in
+    let says = c.in-Ok-true.ensures.says c.in-Ok-true.field-0-test d reads1 in
+    let used = used_says v _ _ usages (c.stage_usages.ensures.used ∙ c.requires.used) says in
+    c.in-Ok-true-stage_rows.ensures.labels c.in-Ok-true-stage_rows.field-0-test d c.args.checkpoint.now (reads_then s0 s1 s2 d reads c.stage_usages.ensures.looks) used

@@ -1,9 +1,10 @@
-use Rattle.std.proofs.Common.{◌≡◌, ◌≤◌, ◌-◌, ◌↔◌}
+use Rattle.std.proofs.Common.{◌≡◌, ◌<◌, ◌≤◌, ◌+◌, ◌-◌, ◌*◌, ◌↔◌, ℕ, length, get_or}
 use Rattle.lfs_model.specs.Content.{Content}
 use Rattle.lfs_model.specs.Reach.{row_by}
 use Rattle.lfs_verify.specs.Rows.{HasRow, from}
 use Rattle.lfs_verify.specs.Take.{Looks, ReadsContent}
-use Rattle.lfs_verify.proofs.rows.is_row.Given as goal
+use Rattle.lfs_verify.proofs.LabelSteps.{LabelledTo}
+use Rattle.lfs_verify.proofs.rows.label_row.Given as goal
 
 abbrev pub invariant-loop-at : goal.invariant-loop-at
 invariant-loop-at g l =
@@ -13,7 +14,11 @@ invariant-loop-at g l =
       looks : Looks old now;
       no_failure : now.failures ≡ old.failures;
       within : l.at ≤ l.used;
+      len : length l.labels ≡ length l.initial.labels;
+      before : (i : ℕ) → i < 2 + 64 * l.segment → get_or l.labels i 0 ≡ get_or l.initial.labels i 0;
+      behind : (i : ℕ) → 2 + 64 * l.segment + l.at ≤ i → get_or l.labels i 0 ≡ 0;
       rest : (c : Content) → ReadsContent old now c → HasRow (from c l.used l.segment l.at) ↔ HasRow (row_by c l.used l.segment);
+      so_far : (c : Content) → ReadsContent old now c → HasRow (row_by c l.used l.segment) → LabelledTo c l.used l.segment l.labels l.at;
     }
 
 abbrev pub decreases-loop-at : goal.decreases-loop-at
