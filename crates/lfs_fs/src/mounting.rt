@@ -8,6 +8,7 @@ use crate::fs::Fs;
 use crate::handles::Handles;
 use lfs_cache::{CachedDevice, DEFAULT_SECTORS};
 use lfs_device::{SectorDevice, TendedDevice};
+use lfs_store::volume_log::memory::segments::Usage;
 use lfs_store::{MountFault, Store};
 use lfs_tree::{LEAST_SECTORS, verify_tree};
 use std::alloc::Global;
@@ -90,6 +91,20 @@ impl<D: SectorDevice> Fs<D> {
         ensures { result.now ≡ self.now.store.log.device }
     {
         self.store.log.device()
+    }
+
+    /// The acknowledged checkpoint's number.
+    pub fn checkpoint(&self) -> u64
+        ensures { result ≡ self.now.store.log.number }
+    {
+        self.store.log.number()
+    }
+
+    /// How many blocks live in each segment, and hold it.
+    pub fn usage(&self) -> &Usage
+        ensures { result.now ≡ self.now.store.log.memory.usage }
+    {
+        self.store.log.usage()
     }
 
     /// The device as it is. What wasn't saved is gone.

@@ -1,14 +1,10 @@
-//! What a volume is, for people: its space, and what a walk over it finds of its segments.
+//! What a volume is, for people: its space, and what lives in its segments.
 use crate::fault::{Fault, Refusal};
 use crate::looking::Looked;
 use crate::printing::{print, put, put_count};
-use lfs_cache::{CachedDevice, DEFAULT_SECTORS};
 use lfs_device::SectorDevice;
 use lfs_put::largest_new_file;
-use lfs_script::fs::{Fs, FsError, MountFault, Space};
-use lfs_verify::Tables;
-use lfs_verify::verify::verify;
-use std::alloc::Global;
+use lfs_script::fs::{Fs, FsError, Space};
 use std::io::Write;
 
 /// How many segments a line of the picture has.
@@ -29,12 +25,13 @@ fn sign(live: u16) -> u8 {
 }
 
 // Writes a sign for each segment.
-fn put_picture<W: Write>(tables: &Tables, output: &mut W) -> Result<(), Fault> {
-    for segment in 0..tables.usage.segments() {
+fn put_picture<D: SectorDevice, W: Write>(fs: &Fs<D>, output: &mut W) -> Result<(), Fault> {
+    let usage = fs.usage();
+    for segment in 0..usage.segments() {
         if segment % ROW == 0 {
             put(output, b"\n")?;
         }
-        put(output, &[sign(tables.usage.state(segment).live)])?;
+        put(output, &[sign(usage.state(segment).live)])?;
     }
     print(output, "\n")
 }
@@ -48,12 +45,17 @@ struct Room {
 }
 
 // Writes what there is to say in numbers.
-fn put_numbers<W: Write>(tables: &Tables, room: &Room, output: &mut W) -> Result<(), Fault> {
+fn put_numbers<D: SectorDevice, W: Write>(
+    fs: &Fs<D>,
+    room: &Room,
+    output: &mut W,
+) -> Result<(), Fault> {
     let space = &room.space;
+    let usage = fs.usage();
     let counts = [
-        (b"checkpoint ".as_slice(), tables.number),
-        (b"\nsegments ", u64::from(tables.segments)),
-        (b"\nclean ", u64::from(tables.usage.clean())),
+        (b"checkpoint ".as_slice(), fs.checkpoint()),
+        (b"\nsegments ", u64::from(usage.segments())),
+        (b"\nclean ", u64::from(usage.clean())),
         (b"\ndata blocks ", space.data_blocks),
         (b"\nmeta blocks ", space.meta_blocks),
         (b"\nneed ", space.need),
@@ -69,25 +71,6 @@ fn put_numbers<W: Write>(tables: &Tables, room: &Room, output: &mut W) -> Result
     )
 }
 
-fn put_description<D: SectorDevice + Drop, W: Write>(
-    alloc: Global,
-    device: D,
-    room: &Room,
-    output: &mut W,
-) -> Result<Looked, Fault> {
-    let Ok(mut device) = CachedDevice::new(alloc, device, DEFAULT_SECTORS) else {
-        return Ok(Looked::Refused(Refusal::from(MountFault::NoMemory)));
-    };
-    match verify(alloc, &mut device) {
-        Ok(tables) => {
-            put_numbers(&tables, room, output)?;
-            put_picture(&tables, output)?;
-            Ok(Looked::Done)
-        }
-        Err(fault) => Ok(Looked::Refused(Refusal::from(fault))),
-    }
-}
-
 fn room_of<D: SectorDevice>(fs: &mut Fs<D>) -> Result<Room, FsError> {
     let space = match fs.space() {
         Ok(space) => space,
@@ -100,14 +83,16 @@ fn room_of<D: SectorDevice>(fs: &mut Fs<D>) -> Result<Room, FsError> {
 }
 
 /// Describes a mounted volume.
-pub fn describe<D: SectorDevice + Drop, W: Write>(
-    alloc: Global,
-    fs: Fs<D>,
+pub fn describe<D: SectorDevice, W: Write>(
+    fs: &mut Fs<D>,
     output: &mut W,
 ) -> Result<Looked, Fault> {
-    let mut fs = fs;
-    match room_of(&mut fs) {
-        Ok(room) => put_description(alloc, fs.into_device(), &room, output),
+    match room_of(fs) {
+        Ok(room) => {
+            put_numbers(fs, &room, output)?;
+            put_picture(fs, output)?;
+            Ok(Looked::Done)
+        }
         Err(refusal) => Ok(Looked::Refused(Refusal::Call(refusal))),
     }
 }

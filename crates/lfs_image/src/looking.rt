@@ -183,7 +183,7 @@ pub fn look_at<D: SectorDevice + Drop, R: Files<File = File>, W: Write>(
         Look::Cat(_) => cat(&mut fs, path, output),
         Look::Get(_, name) => get_file(rt, alloc, &mut fs, path, name, output),
         Look::Export(folder) => export(rt, alloc, &mut fs, folder, output),
-        Look::Info => describe(alloc, fs, output),
+        Look::Info => describe(&mut fs, output),
         Look::Free => put_free(&mut fs, output),
     }
 }
