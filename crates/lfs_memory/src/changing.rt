@@ -194,4 +194,5 @@ pub fn tighten(memory: &mut LogMemory)
     while let Some(key) = memory.dirty.first_empty() {
         memory.dirty.moved(key, 0);
     }
+    memory.dirty.set_tight();
 }
