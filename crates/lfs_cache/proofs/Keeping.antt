@@ -1,9 +1,9 @@
 -- What is kept of a device through changes of either.
 use Rattle.std.proofs.Common.{◌≡◌, ◌≢◌, ◌⊎◌, ◌<◌, ◌-◌, ℕ, zero, suc, List, [], ◌∷◌, Option, Some, None, nat_eq, true, false, cond, take, refl, sym, ap, ◌∙◌, subst, inl, inr, Bool, is_some, Result, Ok, Err, OnErr, length, get_or-set_same, get_or-set_other}
 use Rattle.std.specs.Option.{option_map, option_map_or}
-use Rattle.std.specs.Map.{lookup, lookup_entry, remove_entry}
+use Rattle.std.specs.Map.{lookup, lookup_entry, remove_entry, set_value}
 use Rattle.std.proofs.lemmas.Bool.{eqb-true, eq-eqb}
-use Rattle.lru.specs.LruCache.{lru_cache}
+use Rattle.lru.specs.LruCache.{lru_cache, promoted, put_entries}
 use Rattle.lru.proofs.CallerLemmas.{Contains-lookup_entry}
 use Rattle.lru.proofs.Pairs.{lookup-lookup_entry}
 use Rattle.lfs_model.specs.Device.{Cell, DeviceState, cell_at, put, MayWrite, left_old, left_new, left_bad, IsUntouched, Carries}
@@ -81,6 +81,17 @@ put_or_other kept s t v w (Some e) found h =
           let apart : t ≢ s = λ same. let is = eq-eqb t e.0 (same ∙ at.0) in cc in
           inr (apart, sym (lookup-remove_other s t kept.entries apart) ∙ was)
     ]) refl h
+
+overwritten_at : (s n : ℕ) (v w : List ℕ) (es : Entries) (o : Option (ℕ × List ℕ)) → lookup_entry (nat_eq s) es ≡ o → lookup (nat_eq s) es ≡ Some w
+    → set_value (nat_eq s) (option_map_or (λ e. e ∷ remove_entry (nat_eq s) es) o es) v ≡ option_map_or (λ e. (e.0, v) ∷ remove_entry (nat_eq s) es) o ((s, v) ∷ take n es)
+overwritten_at s n v w es None found is =
+    let none : lookup (nat_eq s) es ≡ None = sym (lookup-lookup_entry (nat_eq s) es) ∙ ap (option_map (λ f. f.1)) found in
+    cc
+overwritten_at s n v w es (Some e) found is = rw (Contains-lookup_entry (nat_eq s) es e found).1 refl
+
+-- other bytes in the place of those that are kept of a sector, once it is used, are what would have been put
+pub overwritten : (kept : Kept) (s : ℕ) (v w : List ℕ) → kept_at kept s ≡ Some w → set_value (nat_eq s) (promoted (nat_eq s) kept.entries) v ≡ put_entries nat_eq kept s v
+overwritten kept s v w is = overwritten_at s (kept.cap - 1) v w kept.entries (lookup_entry (nat_eq s) kept.entries) refl is
 
 -- a use leaves the agreement
 pub agrees-promoted_at : (kept : Kept) (s : ℕ) (d : DeviceState) → Agrees kept d → Agrees (promoted_at kept s) d

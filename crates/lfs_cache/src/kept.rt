@@ -1,19 +1,35 @@
 // Sectors that are kept, the last that was used first.
-ghost use Rattle.std.specs.Prelude.{◌≡◌, None};
+ghost use Rattle.std.specs.Prelude.{◌≡◌, None, IsSome};
 ghost use Rattle.lfs_cache.specs.Kept.{KeepsAlso, kept_at, without};
 
+use crate::row::Row;
 use lru::LruCache;
 
 /// Sectors by number, each with its bytes.
-pub(crate) type Kept = LruCache<u32, [u8; 512]>;
+pub(crate) type Kept = LruCache<u32, Row>;
 
 /// Keeps a sector with these bytes, unless memory is refused. Where something was kept of it,
-/// memory isn't asked for.
-pub(crate) fn keep(kept: &mut Kept, sector: u32, bytes: &[u8; 512])
+/// memory isn't asked for. The row that went for it is spare then, and the next sector takes it.
+pub(crate) fn keep(kept: &mut Kept, spare: &mut Option<Row>, sector: u32, bytes: &[u8; 512])
     ensures { KeepsAlso sector bytes.now kept.old kept.new }
 {
-    // `push` hands back what has to go, where `put` would drop it byte by byte.
-    let _ = kept.push(sector, *bytes);
+    let Ok(row) = Row::of(spare.take(), *kept.allocator(), bytes) else {
+        overwrite(kept, sector, bytes);
+        return;
+    };
+    *spare = match kept.push(sector, row) {
+        Ok(gone) => gone.map(|(_, row)| row),
+        Err(refused) => Some(refused.value.1),
+    };
+}
+
+/// Puts other bytes in the place of what is kept of a sector. It takes no memory.
+fn overwrite(kept: &mut Kept, sector: u32, bytes: &[u8; 512])
+    ensures { KeepsAlso sector bytes.now kept.old kept.new }
+{
+    if let Some(row) = kept.get_mut(&sector) {
+        row.fill(bytes);
+    }
 }
 
 /// Keeps nothing of a sector.

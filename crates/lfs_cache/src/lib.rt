@@ -3,6 +3,7 @@
 
 mod cache;
 mod kept;
+mod row;
 mod sectors;
 
 pub use cache::{CachedDevice, DEFAULT_SECTORS, MOST_SECTORS};

@@ -7,6 +7,7 @@ ghost use Rattle.lfs_cache.specs.Kept.{Agrees, KeepsAlso, OnlyReads, kept_at, pr
 
 use crate::cache::MOST_SECTORS;
 use crate::kept::{Kept, forget, keep};
+use crate::row::Row;
 use lfs_device::{DeviceFault, NoMemory, ReadFault, SectorDevice, TendedDevice};
 use lru::LruCache;
 use std::alloc::Global;
@@ -17,6 +18,8 @@ use std::num::NonZeroUsize;
 pub(crate) struct Sectors<D: SectorDevice> {
     pub(crate) device: D,
     pub(crate) kept: Kept,
+    /// The row of a sector that isn't kept any more, for the next that comes to be kept.
+    spare: Option<Row>,
     /// The last sector that the device read to be lent.
     pub(crate) shown: [u8; 512],
 }
@@ -39,6 +42,7 @@ impl<D: SectorDevice> Sectors<D> {
             Ok(kept) => Ok(Sectors {
                 device,
                 kept,
+                spare: None,
                 shown: [0; 512],
             }),
             Err(_) => Err((NoMemory, device)),
@@ -51,9 +55,11 @@ impl<D: SectorDevice> Sectors<D> {
         let Sectors {
             device,
             kept,
+            spare,
             shown: _,
         } = self;
         drop(kept);
+        drop(spare);
         device
     }
 
@@ -80,7 +86,7 @@ impl<D: SectorDevice> Sectors<D> {
             return Ok(());
         }
         self.device.read(sector, &mut self.shown)?;
-        keep(&mut self.kept, sector, &self.shown);
+        keep(&mut self.kept, &mut self.spare, sector, &self.shown);
         Ok(())
     }
 
@@ -90,7 +96,7 @@ impl<D: SectorDevice> Sectors<D> {
             (result.now ≡ self.now.shown) (λ bytes. result.now ≡ bytes) }
     {
         match self.kept.peek(&sector) {
-            Some(bytes) => bytes,
+            Some(row) => row.bytes(),
             None => &self.shown,
         }
     }
@@ -109,8 +115,8 @@ impl<D: SectorDevice> Sectors<D> {
         ensures reads { OnlyReads
             (D.state self.old.device) (D.state self.new.device) sector result }
     {
-        if let Some(bytes) = self.kept.peek(&sector) {
-            *out = *bytes;
+        if let Some(row) = self.kept.peek(&sector) {
+            *out = *row.bytes();
             return Ok(());
         }
         self.device.read(sector, out)
@@ -145,7 +151,7 @@ impl<D: SectorDevice> Sectors<D> {
     {
         match self.device.write(sector, bytes) {
             Ok(()) => {
-                keep(&mut self.kept, sector, bytes);
+                keep(&mut self.kept, &mut self.spare, sector, bytes);
                 Ok(())
             }
             Err(fault) => {
