@@ -27,8 +27,8 @@ promoted_at kept sector = lru_cache (promoted (nat_eq sector) kept.entries) kept
 abbrev pub without : Kept → ℕ → Kept
 without kept sector = lru_cache (remove_entry (nat_eq sector) kept.entries) kept.cap
 
--- The sector is kept with these bytes, as the last that was used, or memory is refused and nothing is kept of it. Memory
--- isn't refused to a sector of which something was kept.
+-- The sector is kept with these bytes, as the last that was used, or memory is refused and nothing is kept of it. One of
+-- which something was kept is kept with them also where memory is refused.
 abbrev pub KeepsAlso : ℕ → List ℕ → Kept → Kept → Type 0
 KeepsAlso sector bytes old new = (new ≡ lru_cache (put_entries nat_eq old sector bytes) old.cap) ⊎ ((new ≡ old) × (kept_at old sector ≡ None))
 

@@ -1,5 +1,5 @@
 // Sectors that are kept, the last that was used first.
-ghost use Rattle.std.specs.Prelude.{◌≡◌, None, IsSome};
+ghost use Rattle.std.specs.Prelude.{◌≡◌, None};
 ghost use Rattle.lfs_cache.specs.Kept.{KeepsAlso, kept_at, without};
 
 use crate::row::Row;
@@ -8,8 +8,8 @@ use lru::LruCache;
 /// Sectors by number, each with its bytes.
 pub(crate) type Kept = LruCache<u32, Row>;
 
-/// Keeps a sector with these bytes, unless memory is refused. Where something was kept of it,
-/// memory isn't asked for. The row that went for it is spare then, and the next sector takes it.
+/// Keeps a sector with these bytes, unless memory is refused: then only one of which something was
+/// kept takes them. The row that goes for it is spare behind this, and serves the next sector.
 pub(crate) fn keep(kept: &mut Kept, spare: &mut Option<Row>, sector: u32, bytes: &[u8; 512])
     ensures { KeepsAlso sector bytes.now kept.old kept.new }
 {
@@ -23,7 +23,8 @@ pub(crate) fn keep(kept: &mut Kept, spare: &mut Option<Row>, sector: u32, bytes:
     };
 }
 
-/// Puts other bytes in the place of what is kept of a sector. It takes no memory.
+/// Puts other bytes in the place of what is kept of a sector, which is used by that. It takes no
+/// memory, and keeps nothing of a sector of which nothing is kept.
 fn overwrite(kept: &mut Kept, sector: u32, bytes: &[u8; 512])
     ensures { KeepsAlso sector bytes.now kept.old kept.new }
 {

@@ -1,11 +1,11 @@
 // The bytes of one sector, in memory of their own.
-ghost use Rattle.std.specs.Prelude.{◌≡◌, IfOk, OnSome, IfSome};
+ghost use Rattle.std.specs.Prelude.{◌≡◌, IfOk};
 
 use std::alloc::{AllocError, Global};
 use std::marker::Model;
 
-/// The bytes of a sector on the heap, so that a move takes none of them along. Contracts see it as
-/// its bytes.
+/// The bytes of a sector on the heap, so that a move of the row moves none of them. Contracts see
+/// it as its bytes.
 #[derive(Drop)]
 pub(crate) struct Row {
     bytes: Box<[u8; 512]>,
@@ -20,11 +20,12 @@ impl Model for Row {
 }
 
 impl Row {
-    /// A row of these bytes, in memory that was had before where there is some.
+    /// A row of these bytes: the one that was had, filled with them, or one in memory that is asked
+    /// for.
     ///
     /// # Errors
     ///
-    /// Where there is none, and memory is refused.
+    /// Where none was had, and memory is refused.
     pub(crate) fn of(had: Option<Row>, alloc: Global, bytes: &[u8; 512]) -> Result<Row, AllocError>
         ensures { IfOk result (λ row. row ≡ bytes.now) }
     {
