@@ -1,3 +1,5 @@
+ghost use Rattle.std.specs.Prelude.{◌≡◌, ℕ, get_or};
+
 use crate::helpers::{Row, Words, all_well, lose, name, put, put_blocks};
 use lfs_cache::CachedDevice;
 use lfs_device::{DeviceCall, DeviceFault, MemDevice, NoMemory, SectorDevice};
@@ -193,8 +195,15 @@ fn put_chunks(device: &mut MemDevice) -> bool {
     put_summary(device, 2, &first) && put_summary(device, 6, &second)
 }
 
+/// Marks of 130 sectors, none of which has one.
+fn no_labels() -> [u32; 130]
+    ensures { (i : ℕ) → get_or result i 0 ≡ 0 }
+{
+    [0; 130]
+}
+
 fn rows(device: &mut Cached, used: [u16; 2]) -> Option<bool> {
-    let mut labels = [0; 130];
+    let mut labels = no_labels();
     let mut sector = [0; 512];
     if device.sectors() < 130 {
         return None;
@@ -212,7 +221,7 @@ fn labels(device: &mut Cached, used: [u16; 2], change: Option<(usize, u32)>) -> 
     if let Some((at, mark)) = change {
         marks[at % 130] = mark;
     }
-    let mut labels = [0; 130];
+    let mut labels = no_labels();
     let mut sector = [0; 512];
     if device.sectors() < 130 {
         return None;
