@@ -1,5 +1,5 @@
 -- What is kept of a device through changes of either.
-use Rattle.std.proofs.Common.{◌≡◌, ◌≢◌, ◌⊎◌, ◌<◌, ◌-◌, ℕ, zero, suc, List, [], ◌∷◌, Option, Some, None, nat_eq, true, false, cond, take, refl, sym, ap, ◌∙◌, subst, inl, inr, Bool, is_some, Result, Ok, Err, OnErr, length, get_or-set_same, get_or-set_other}
+use Rattle.std.proofs.Common.{◌≡◌, ◌≢◌, ◌⊎◌, ◌<◌, ◌-◌, ℕ, zero, suc, List, [], ◌∷◌, Option, Some, None, nat_eq, true, false, cond, take, refl, sym, ap, ◌∙◌, subst, inl, inr, Bool, is_some, Result, Ok, Err, OnErr, length, get_or-set_same, get_or-set_other, slice_get}
 use Rattle.std.specs.Option.{option_map, option_map_or}
 use Rattle.std.specs.Map.{lookup, lookup_entry, remove_entry, set_value}
 use Rattle.std.proofs.lemmas.Bool.{eqb-true, eq-eqb}
@@ -7,7 +7,7 @@ use Rattle.lru.specs.LruCache.{lru_cache, promoted, put_entries}
 use Rattle.lru.proofs.CallerLemmas.{Contains-lookup_entry}
 use Rattle.lru.proofs.Pairs.{lookup-lookup_entry}
 use Rattle.lfs_model.specs.Device.{Cell, DeviceState, cell_at, put, MayWrite, left_old, left_new, left_bad, IsUntouched, Carries}
-use Rattle.lfs_cache.specs.Kept.{Kept, Agrees, KeepsAlso, kept_at, promoted_at, without}
+use Rattle.lfs_cache.specs.Kept.{Kept, Agrees, IsLastUsed, KeepsAlso, kept_at, promoted_at, without}
 
 abbrev Entries : Type 0
 Entries = List (ℕ × List ℕ)
@@ -152,3 +152,18 @@ missed kept looked s found is was missing = is ∙ found_or_none kept s (kept_at
 pub at_err : {A E : Type 0} (r : Result A E) (P : Type 0) → P → OnErr r P
 at_err (Ok x) P p = tt
 at_err (Err e) P p = p
+
+-- the first of the entries is the last that was used
+pub first_entry : (s n cap : ℕ) (v : List ℕ) (es : Entries) → n ≡ s → IsLastUsed (lru_cache ((n, v) ∷ es) cap) s v
+first_entry s n cap v es same =
+    let on : nat_eq s n ≡ true = eq-eqb s n (sym same) in
+    record { kept_so = rw on refl; stays = rw on refl }
+
+pub last_used : (kept : Kept) (s n : ℕ) (v : List ℕ) → slice_get kept.entries 0 ≡ Some (n, v) → n ≡ s → IsLastUsed kept s v
+last_used kept s n v first same = by_entries kept.entries refl first
+  where
+    by_entries : (es : Entries) → kept.entries ≡ es → slice_get es 0 ≡ Some (n, v) → IsLastUsed kept s v
+    by_entries [] is found = absurd cc
+    by_entries (e ∷ es) is found =
+        let head : e ≡ (n, v) = cc in
+        subst (λ (k : Kept). IsLastUsed k s v) (ap (λ (l : Entries). lru_cache l kept.cap) (sym (is ∙ ap (λ (f : ℕ × List ℕ). f ∷ es) head))) (first_entry s n kept.cap v es same)

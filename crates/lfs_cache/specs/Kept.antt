@@ -23,6 +23,11 @@ Agrees kept d = d.keeps_model → (sector : ℕ) (bytes : List ℕ) → kept_at 
 abbrev pub promoted_at : Kept → ℕ → Kept
 promoted_at kept sector = lru_cache (promoted (nat_eq sector) kept.entries) kept.cap
 
+-- it is the last that was used, with these bytes
+pub record IsLastUsed (kept : Kept) (sector : ℕ) (bytes : List ℕ) : Type 0 where
+  pub kept_so : kept_at kept sector ≡ Some bytes
+  pub stays : promoted_at kept sector ≡ kept
+
 -- with nothing of the sector
 abbrev pub without : Kept → ℕ → Kept
 without kept sector = lru_cache (remove_entry (nat_eq sector) kept.entries) kept.cap

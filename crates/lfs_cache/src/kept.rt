@@ -1,12 +1,24 @@
 // Sectors that are kept, the last that was used first.
-ghost use Rattle.std.specs.Prelude.{◌≡◌, None};
-ghost use Rattle.lfs_cache.specs.Kept.{KeepsAlso, kept_at, without};
+ghost use Rattle.std.specs.Prelude.{◌≡◌, None, IfSome};
+ghost use Rattle.lfs_cache.specs.Kept.{IsLastUsed, KeepsAlso, kept_at, without};
 
 use crate::row::Row;
 use lru::LruCache;
 
 /// Sectors by number, each with its bytes.
 pub(crate) type Kept = LruCache<u32, Row>;
+
+/// The bytes of a sector, if it is the one that was used last: that one is found by a look at its
+/// number alone.
+pub(crate) fn last_used(kept: &Kept, sector: u32) -> Option<&Row>
+    ensures { IfSome result (λ row. IsLastUsed kept.now sector row.now) }
+{
+    let (number, row) = kept.peek_mru()?;
+    if *number == sector {
+        return Some(row);
+    }
+    None
+}
 
 /// Keeps a sector with these bytes, unless memory is refused: then only one of which something was
 /// kept takes them. The row that goes for it is spare behind this, and serves the next sector.

@@ -6,7 +6,7 @@ ghost use Rattle.lfs_model.specs.declared.Order.TheVariants as order;
 ghost use Rattle.lfs_cache.specs.Kept.{Agrees, KeepsAlso, OnlyReads, kept_at, promoted_at, without};
 
 use crate::cache::MOST_SECTORS;
-use crate::kept::{Kept, forget, keep};
+use crate::kept::{Kept, forget, keep, last_used};
 use crate::row::Row;
 use lfs_device::{DeviceFault, NoMemory, ReadFault, SectorDevice, TendedDevice};
 use lru::LruCache;
@@ -82,6 +82,9 @@ impl<D: SectorDevice> Sectors<D> {
         ensures reads { OnlyReads
             (D.state self.old.device) (D.state self.new.device) sector result }
     {
+        if last_used(&self.kept, sector).is_some() {
+            return Ok(());
+        }
         if self.kept.promote(&sector) {
             return Ok(());
         }
@@ -95,6 +98,9 @@ impl<D: SectorDevice> Sectors<D> {
         ensures { MatchOption (kept_at self.now.kept sector)
             (result.now ≡ self.now.shown) (λ bytes. result.now ≡ bytes) }
     {
+        if let Some(row) = last_used(&self.kept, sector) {
+            return row.bytes();
+        }
         match self.kept.peek(&sector) {
             Some(row) => row.bytes(),
             None => &self.shown,

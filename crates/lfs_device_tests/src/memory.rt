@@ -3,7 +3,8 @@ use lfs_cache::{CachedDevice, DEFAULT_SECTORS};
 use lfs_device::{DeviceCall, DeviceFault, MemDevice, NoMemory};
 use lfs_layout::word;
 use lfs_memory::inodes::{BlockKey, DirtyTable, IN_MEMORY, InodeMap};
-use lfs_memory::present::{locate_leaf, read_block, read_header};
+use lfs_memory::pointers::read_block;
+use lfs_memory::present::{locate_leaf, read_header};
 use lfs_memory::segments::{ChunkWriter, Usage};
 use lfs_memory::{Header, LogMemory};
 use lfs_model::Kind;
@@ -91,7 +92,8 @@ impl Row<(Cached, LogMemory)> for Step {
         match self {
             Step::Block(number, index, want, first) => {
                 let mut out = [9; 512];
-                let stored = read_block(device, memory, number % 4_096, index, &mut out);
+                let number = number % 4_096;
+                let stored = read_block(device, memory, &mut None, number, index, &mut out);
                 stored == want && (stored.is_err() || word(&out, 0) == first)
             }
             Step::Header(number, want) => read_header(device, memory, number % 4_096) == want,

@@ -1,5 +1,5 @@
 -- Data blocks in memory, counted by the keys' order.
-use Rattle.std.proofs.Common.{◌≡◌, ◌<◌, ◌≤◌, ◌+◌, ◌∙◌, cond, get_or, remove, set, ℕ, zero, suc, Bool, T, true, false, List, [], ◌∷◌, length, Option, refl, ap, arith, rules, sym, subst}
+use Rattle.std.proofs.Common.{◌≡◌, ◌<◌, ◌≤◌, ◌+◌, ◌∙◌, cond, get_or, ℕ, zero, suc, Bool, T, true, false, List, [], ◌∷◌, length, Option, refl, ap, arith, rules}
 use Rattle.std.specs.Prelude.{sum_by}
 use Rattle.std.specs.Ordering.{nat_cmp}
 use Rattle.std.specs.FinMap.{is_sorted, put}

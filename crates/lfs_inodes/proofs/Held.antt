@@ -4,8 +4,9 @@ use Rattle.std.specs.Prelude.{T}
 use Rattle.std.specs.List.{insert, remove}
 use Rattle.std.specs.Ordering.{nat_cmp}
 use Rattle.std.specs.FinMap.{find, put, is_sorted}
-use Rattle.std.proofs.lemmas.Bool.{cond-true, lt-ltb}
+use Rattle.std.proofs.lemmas.Bool.{cases_lt, cond-true, lt-ltb}
 use Rattle.std.proofs.lemmas.Bool.Decides.{nat_tests}
+use Rattle.std.proofs.lemmas.List.{get_or_append_left, get_or_push, length_push}
 use Rattle.std.proofs.lemmas.List.Edits.{length-insert, length-remove}
 use Rattle.lfs_model.specs.Entry.{Entry}
 use Rattle.lfs_model.specs.Memory.{IsPointers, HasPointer}
@@ -15,8 +16,8 @@ use Rattle.lfs_model.specs.Tree.{without}
 use Rattle.lfs_model.proofs.Entries.{same_entry}
 use Rattle.lfs_inodes.specs.declared.table.Place.{Place}
 use Rattle.lfs_inodes.specs.Code.{IsCode, entry_at}
-use Rattle.lfs_inodes.specs.Blocks.{Blocks, TableValue, blocks_in, number_at, altered_as, altered, HasNumberAt, IsGapFor}
-use Rattle.lfs_inodes.specs.Held.{entry_in, entries_in, spots, times, one_below, IsTableOf}
+use Rattle.lfs_inodes.specs.Blocks.{Blocks, TableValue, blocks_in, number_at, altered_as, altered, HasNumberAt, IsGapFor, Capacity}
+use Rattle.lfs_inodes.specs.Held.{entry_in, entries_in, spots, times, one_below, IsTableOf, Capacities, Stores}
 use Rattle.lfs_inodes.proofs.Blocks.{put_at, put_gap, without_at, sorted_put, sorted_without, find_at, find_gap, changed_put, changed_without}
 
 -- ---- how often a number stands in a list
@@ -40,6 +41,9 @@ times-insert : (n x : ℕ) (xs : List ℕ) (i : ℕ) → times n (insert xs i x)
 times-insert n x xs zero = refl
 times-insert n x [] (suc i) = refl
 times-insert n x (y ∷ xs) (suc i) = let r = times-insert n x xs i in omega arith
+
+pub times_last : (xs ys : List ℕ) (x : ℕ) → xs ≡ ys ++ x ∷ [] → 1 ≤ times x xs
+times_last xs ys x is = let e = ap (times x) is ∙ times-append x ys (x ∷ []) in let one = hit x x refl in omega arith
 
 map-insert : {X Y : Type 0} (f : X → Y) (xs : List X) (i : ℕ) (x : X) → map f (insert xs i x) ≡ insert (map f xs) i (f x)
 map-insert f xs zero x = refl
@@ -93,6 +97,24 @@ number_is [] bs i p lt is = absurd (omega arith)
 number_is (q ∷ ps) bs zero p lt is = ap (entry_in bs) (sym is)
 number_is (q ∷ ps) bs (suc i) p lt is = number_is ps bs i p (omega arith) is
 
+none_if : (n s : ℕ) → n ≤ s → one_below n s ≡ 0
+none_if n s le = grind (arith, nat_tests)
+
+below_more : (n s : ℕ) → one_below (n + 1) s ≡ one_below n s + mark n s
+below_more n s = grind (arith, nat_tests)
+
+-- blocks that come behind all others
+kept_below : (ps : List Place) (bs : List (List ℕ)) (v : List ℕ) → ((n : ℕ) → length bs ≤ n → times n (spots ps) ≡ 0) → entries_in ps (bs ++ v ∷ []) ≡ entries_in ps bs
+kept_below [] bs v none = refl
+kept_below (q ∷ ps) bs v none =
+    let low : q.spot < length bs = ⊎_elim
+    (λ (lt : q.spot < length bs). lt)
+    (λ (le : length bs ≤ q.spot). let z = none q.spot le in let one = hit q.spot q.spot refl in absurd (omega arith))
+    (cases_lt q.spot (length bs)) in
+    ap₂ (λ (e : ℕ × List ℕ) (es : Blocks). e ∷ es)
+    (ap (λ (b : List ℕ). (q.key.code, b)) (get_or_append_left bs (v ∷ []) [] q.spot low))
+    (kept_below ps bs v (λ n le. let z = none n le in omega arith))
+
 low_if : (n s : ℕ) → 1 ≤ one_below n s → s < n
 low_if n s some = grind (arith, nat_tests)
 
@@ -114,7 +136,7 @@ tight_put es c v is leads = tight_changed _ _ (entry_at c) (Some v) (changed_put
 tight_without : (es : Blocks) (c : ℕ) → IsCode c → IsTight (blocks_in es) → IsTight (blocks_in (without nat_cmp c es))
 tight_without es c is = tight_changed _ _ (entry_at c) None (changed_without es c is) (λ w none on. absurd cc)
 
-module _ (ps : List Place) (bs : List (List ℕ)) (spare : List ℕ) (most a b : ℕ) (h : IsTableOf ps bs spare most a b) where
+module _ (ps : List Place) (bs : List (List ℕ)) (spare : List ℕ) (most room : ℕ) (caps : Capacities) (h : IsTableOf ps bs spare most room caps) where
   pub few : length (entries_in ps bs) ≤ length bs
   few = let l = length-entries ps bs in let s = h.shared in omega arith
 
@@ -143,25 +165,27 @@ module _ (ps : List Place) (bs : List (List ℕ)) (spare : List ℕ) (most a b :
           ∙ ap (λ (k : ℕ). set (entries_in ps bs) i (k, v)) key_is
           ∙ sym (put_at (entries_in ps bs) h.sorted c v i at)
 
-      pub held_written : (v : List ℕ) → IsTableOf ps (set bs p.spot v) spare most a b
+      pub held_written : (v : List ℕ) → IsTableOf ps (set bs p.spot v) spare most room caps
       held_written v =
           let l = length-set bs p.spot v in
           record {
             sorted = subst (λ (es : Blocks). T (is_sorted nat_cmp es)) (sym (written_is v)) (sorted_put (entries_in ps bs) c v h.sorted);
             once = λ s. h.once s ∙ ap (λ (n : ℕ). one_below n s) (sym l);
             shared = h.shared ∙ sym l;
-            small = subst (λ (n : ℕ). n < 4294967296) (sym l) h.small;
+            small = h.small;
             few = h.few;
-            within = subst (λ (n : ℕ). most ≤ n) (sym l) h.within;
-            room = subst (λ (n : ℕ). n ≤ a) (sym l) h.room;
-            room_for_spare = subst (λ (n : ℕ). n ≤ b) (sym l) h.room_for_spare;
+            within = h.within;
+            grown = subst (λ (n : ℕ). n ≤ room) (sym l) h.grown;
+            room_for_places = h.room_for_places;
+            room_for_arena = h.room_for_arena;
+            room_for_spare = h.room_for_spare;
           }
 
       -- it goes, and its spot is spare
       pub removed_is : entries_in (remove ps i) bs ≡ without nat_cmp c (entries_in ps bs)
       removed_is = map-remove (entry_in bs) ps i ∙ sym (without_at (entries_in ps bs) h.sorted c i at)
 
-      pub held_removed : (spare' : List ℕ) → spare' ≡ spare ++ p.spot ∷ [] → IsTableOf (remove ps i) bs spare' most a b
+      pub held_removed : (spare' : List ℕ) → spare' ≡ spare ++ p.spot ∷ [] → IsTableOf (remove ps i) bs spare' most room caps
       held_removed spare' now =
           let lr = length-remove ps i lt in
           let ls = ap length now ∙ length-append spare (p.spot ∷ []) in
@@ -178,7 +202,9 @@ module _ (ps : List Place) (bs : List (List ℕ)) (spare : List ℕ) (most a b :
             small = h.small;
             few = omega arith;
             within = h.within;
-            room = h.room;
+            grown = h.grown;
+            room_for_places = h.room_for_places;
+            room_for_arena = h.room_for_arena;
             room_for_spare = h.room_for_spare;
           }
 
@@ -209,7 +235,7 @@ module _ (ps : List Place) (bs : List (List ℕ)) (spare : List ℕ) (most a b :
           ∙ ap₂ (λ (es : Blocks) (x : List ℕ). insert es i (p.key.code, x)) (kept ps bs p.spot v unused) (get_or-set_same bs p.spot v [] spare_low)
           ∙ sym (put_gap (entries_in ps bs) p.key.code v i gap)
 
-      pub held_inserted : length ps < most → IsTableOf (insert ps i p) (set bs p.spot v) spare' most a b
+      pub held_inserted : length ps < most → IsTableOf (insert ps i p) (set bs p.spot v) spare' most room caps
       held_inserted more =
           let l = length-set bs p.spot v in
           let le = length-entries ps bs in
@@ -226,18 +252,77 @@ module _ (ps : List Place) (bs : List (List ℕ)) (spare : List ℕ) (most a b :
                 let same : one_below (length bs) n ≡ one_below (length (set bs p.spot v)) n = ap (λ (k : ℕ). one_below k n) (sym l) in
                 omega arith;
             shared = omega arith;
-            small = subst (λ (n : ℕ). n < 4294967296) (sym l) h.small;
+            small = h.small;
             few = omega arith;
-            within = subst (λ (n : ℕ). most ≤ n) (sym l) h.within;
-            room = subst (λ (n : ℕ). n ≤ a) (sym l) h.room;
-            room_for_spare = subst (λ (n : ℕ). n ≤ b) (sym l) h.room_for_spare;
+            within = h.within;
+            grown = subst (λ (n : ℕ). n ≤ room) (sym l) h.grown;
+            room_for_places = h.room_for_places;
+            room_for_arena = h.room_for_arena;
+            room_for_spare = h.room_for_spare;
           }
 
-pub wider : (ps : List Place) (bs : List (List ℕ)) (spare : List ℕ) (most a b a' b' : ℕ) → IsTableOf ps bs spare most a b → a ≤ a' → b ≤ b' → IsTableOf ps bs spare most a' b'
-wider ps bs spare most a b a' b' h more more_spare =
-    let r = h.room in
+  -- ---- a block that comes behind all others gets a place
+  pub spare_below : (s : ℕ) → 1 ≤ times s spare → s < length bs
+  spare_below s some = let o = h.once s in low_if (length bs) s (omega arith)
+
+  module _ (none : spare ≡ []) (p : Place) (last : p.spot ≡ length bs) (v : List ℕ) where
+    high : (n : ℕ) → length bs ≤ n → times n (spots ps) ≡ 0
+    high n le = let o = h.once n in let z = none_if (length bs) n le in omega arith
+
+    module _ (i : ℕ) (gap : IsGapFor (entries_in ps bs) p.key.code i) where
+      pub added_is : entries_in (insert ps i p) (bs ++ v ∷ []) ≡ put nat_cmp p.key.code v (entries_in ps bs)
+      added_is =
+          map-insert (entry_in (bs ++ v ∷ [])) ps i p
+          ∙ ap₂ (λ (es : Blocks) (x : List ℕ). insert es i (p.key.code, x)) (kept_below ps bs v high) (get_or_push bs v [] p.spot (sym last))
+          ∙ sym (put_gap (entries_in ps bs) p.key.code v i gap)
+
+      pub held_added : length ps < most → IsTableOf (insert ps i p) (bs ++ v ∷ []) [] most room caps
+      held_added more =
+          let l = length_push bs v in
+          let le = length-entries ps bs in
+          let g = gap.within in
+          let li = length-insert ps i p (omega arith) in
+          let ls = ap length none in
+          let s = h.shared in
+          let w = h.within in
+          record {
+            sorted = subst (λ (es : Blocks). T (is_sorted nat_cmp es)) (sym added_is) (sorted_put (entries_in ps bs) p.key.code v h.sorted);
+            once = λ n.
+                let o = h.once n in
+                let z = ap (times n) none in
+                let t = ap (times n) (map-insert (λ (q : Place). q.spot) ps i p) ∙ times-insert n p.spot (spots ps) i in
+                let here : cond (p.spot == n) 1 0 ≡ mark (length bs) n = ap (λ (k : ℕ). mark k n) last in
+                let one : one_below (length bs + 1) n ≡ one_below (length bs) n + mark (length bs) n = below_more (length bs) n in
+                let same : one_below (length bs + 1) n ≡ one_below (length (bs ++ v ∷ [])) n = ap (λ (k : ℕ). one_below k n) (sym l) in
+                omega arith;
+            shared = omega arith;
+            small = h.small;
+            few = omega arith;
+            within = h.within;
+            grown = omega arith;
+            room_for_places = h.room_for_places;
+            room_for_arena = h.room_for_arena;
+            room_for_spare = h.room_for_spare;
+          }
+
+pub wider : (ps : List Place) (bs : List (List ℕ)) (spare : List ℕ) (most room : ℕ) (caps caps' : Capacities) → IsTableOf ps bs spare most room caps
+    → caps.for_places ≤ caps'.for_places → caps.for_arena ≤ caps'.for_arena → caps.for_spare ≤ caps'.for_spare → IsTableOf ps bs spare most room caps'
+wider ps bs spare most room caps caps' h places arena spots =
+    let p = h.room_for_places in
+    let a = h.room_for_arena in
     let s = h.room_for_spare in
-    record { sorted = h.sorted; once = h.once; shared = h.shared; small = h.small; few = h.few; within = h.within; room = omega arith; room_for_spare = omega arith }
+    record {
+      sorted = h.sorted;
+      once = h.once;
+      shared = h.shared;
+      small = h.small;
+      few = h.few;
+      within = h.within;
+      grown = h.grown;
+      room_for_places = omega arith;
+      room_for_arena = omega arith;
+      room_for_spare = omega arith;
+    }
 
 -- ---- numbers of keys are small
 pub numbers_small : (ps : List Place) (bs : List (List ℕ)) (j : ℕ) → j < length (entries_in ps bs) → number_at (entries_in ps bs) j < 4294967296
@@ -252,22 +337,22 @@ numbers_of_keys (p ∷ ps) bs zero lt = p.key.formed
 numbers_of_keys (p ∷ ps) bs (suc j) lt = numbers_of_keys ps bs j (omega arith)
 
 -- ---- the same of the table's value
-abbrev pub value_of : ℕ → List Place → List (List ℕ) → TableValue
-value_of most ps bs = record { blocks = entries_in ps bs; capacity = record { limit = most; room = length bs } }
+abbrev pub value_of : Capacity → List Place → List (List ℕ) → TableValue
+value_of most ps bs = record { blocks = entries_in ps bs; capacity = most }
 
-pub small_value : (most : ℕ) (ps : List Place) (bs : List (List ℕ)) (t : TableValue) → value_of most ps bs ≡ t → (j : ℕ) → j < length t.blocks → number_at t.blocks j < 4294967296
+pub small_value : (most : Capacity) (ps : List Place) (bs : List (List ℕ)) (t : TableValue) → value_of most ps bs ≡ t → (j : ℕ) → j < length t.blocks → number_at t.blocks j < 4294967296
 small_value most ps bs t view = subst (λ (u : TableValue). (j : ℕ) → j < length u.blocks → number_at u.blocks j < 4294967296) view (numbers_small ps bs)
 
-pub codes_value : (most : ℕ) (ps : List Place) (bs : List (List ℕ)) (t : TableValue) → value_of most ps bs ≡ t → (j : ℕ) → j < length t.blocks → IsCode (number_at t.blocks j)
+pub codes_value : (most : Capacity) (ps : List Place) (bs : List (List ℕ)) (t : TableValue) → value_of most ps bs ≡ t → (j : ℕ) → j < length t.blocks → IsCode (number_at t.blocks j)
 codes_value most ps bs t view = subst (λ (u : TableValue). (j : ℕ) → j < length u.blocks → IsCode (number_at u.blocks j)) view (numbers_of_keys ps bs)
 
-pub at_value : (most : ℕ) (ps : List Place) (bs : List (List ℕ)) (t : TableValue) → value_of most ps bs ≡ t → (i : ℕ) (p : Place) → i < length ps → p ≡ get_or ps i p → HasNumberAt t.blocks p.key.code i
+pub at_value : (most : Capacity) (ps : List Place) (bs : List (List ℕ)) (t : TableValue) → value_of most ps bs ≡ t → (i : ℕ) (p : Place) → i < length ps → p ≡ get_or ps i p → HasNumberAt t.blocks p.key.code i
 at_value most ps bs t view i p lt is =
     let l = length-entries ps bs in
     subst (λ (u : TableValue). HasNumberAt u.blocks p.key.code i) view
     (record { within = omega arith; number = ap (λ (e : ℕ × List ℕ). e.0) (number_is ps bs i p lt is) })
 
-module _ (ps : List Place) (bs : List (List ℕ)) (spare : List ℕ) (most a b : ℕ) (h : IsTableOf ps bs spare most a b) (t : TableValue) (view : value_of most ps bs ≡ t) where
+module _ (ps : List Place) (bs : List (List ℕ)) (spare : List ℕ) (most room : ℕ) (caps : Capacities) (h : IsTableOf ps bs spare most room caps) (t : TableValue) (view : value_of (record { limit = most; room = room }) ps bs ≡ t) where
   pub sorted_value : T (is_sorted nat_cmp t.blocks)
   sorted_value = subst (λ (u : TableValue). T (is_sorted nat_cmp u.blocks)) view h.sorted
 
@@ -279,91 +364,87 @@ module _ (ps : List Place) (bs : List (List ℕ)) (spare : List ℕ) (most a b :
     inside = let l = length-entries ps bs in let w = here.within in omega arith
 
     pub low_at : p.spot < length bs
-    low_at = spot_low ps bs spare most a b h i p inside is
+    low_at = spot_low ps bs spare most room caps h i p inside is
 
     pub found_at : find nat_cmp c t.blocks ≡ Some (get_or bs p.spot [])
     found_at =
         subst (λ (u : TableValue). find nat_cmp c u.blocks ≡ Some (get_or bs p.spot [])) view
-        (find_at (entries_in ps bs) h.sorted c i here ∙ ap (λ (e : ℕ × List ℕ). Some e.1) (place_is ps bs spare most a b h i p inside is))
+        (find_at (entries_in ps bs) h.sorted c i here ∙ ap (λ (e : ℕ × List ℕ). Some e.1) (place_is ps bs spare most room caps h i p inside is))
 
-    pub held_at : (v : List ℕ) → IsTableOf ps (set bs p.spot v) spare most a b
-    held_at v = held_written ps bs spare most a b h i p inside is c here v
+    pub held_at : (v : List ℕ) → IsTableOf ps (set bs p.spot v) spare most room caps
+    held_at v = held_written ps bs spare most room caps h i p inside is c here v
 
-    pub put_value : (v : List ℕ) → value_of most ps (set bs p.spot v) ≡ record t { blocks = put nat_cmp c v t.blocks }
+    pub put_value : (v : List ℕ) → value_of (record { limit = most; room = room }) ps (set bs p.spot v) ≡ record t { blocks = put nat_cmp c v t.blocks }
     put_value v =
-        subst (λ (u : TableValue). value_of most ps (set bs p.spot v) ≡ record u { blocks = put nat_cmp c v u.blocks }) view
-        (λ k. record { blocks = written_is ps bs spare most a b h i p inside is c here v k; capacity = record { limit = most; room = length-set bs p.spot v k } })
+        subst (λ (u : TableValue). value_of (record { limit = most; room = room }) ps (set bs p.spot v) ≡ record u { blocks = put nat_cmp c v u.blocks }) view
+        (λ k. record { blocks = written_is ps bs spare most room caps h i p inside is c here v k; capacity = record { limit = most; room = room } })
 
-    pub altered_value : (f : List ℕ → List ℕ) (v : List ℕ) → v ≡ f (get_or bs p.spot []) → value_of most ps (set bs p.spot v) ≡ record t { blocks = altered f c t.blocks }
+    pub altered_value : (f : List ℕ → List ℕ) (v : List ℕ) → v ≡ f (get_or bs p.spot []) → value_of (record { limit = most; room = room }) ps (set bs p.spot v) ≡ record t { blocks = altered f c t.blocks }
     altered_value f v now =
         put_value v
         ∙ ap (λ (w : List ℕ). record t { blocks = put nat_cmp c w t.blocks }) now
         ∙ ap (λ o. record t { blocks = altered_as o f c t.blocks }) (sym found_at)
 
     pub tight_at : IsCode c → (v : List ℕ) → (IsPointers (entry_at c) → HasPointer v) → IsTight (blocks_in (entries_in ps bs)) → IsTight (blocks_in (entries_in ps (set bs p.spot v)))
-    tight_at formed v leads tight = subst (λ (es : Blocks). IsTight (blocks_in es)) (sym (written_is ps bs spare most a b h i p inside is c here v)) (tight_put (entries_in ps bs) c v formed leads tight)
+    tight_at formed v leads tight = subst (λ (es : Blocks). IsTight (blocks_in es)) (sym (written_is ps bs spare most room caps h i p inside is c here v)) (tight_put (entries_in ps bs) c v formed leads tight)
 
     pub tight_left : IsCode c → IsTight (blocks_in (entries_in ps bs)) → IsTight (blocks_in (entries_in (remove ps i) bs))
-    tight_left formed tight = subst (λ (es : Blocks). IsTight (blocks_in es)) (sym (removed_is ps bs spare most a b h i p inside is c here)) (tight_without (entries_in ps bs) c formed tight)
+    tight_left formed tight = subst (λ (es : Blocks). IsTight (blocks_in es)) (sym (removed_is ps bs spare most room caps h i p inside is c here)) (tight_without (entries_in ps bs) c formed tight)
 
-    pub held_left : (spare' : List ℕ) → spare' ≡ spare ++ p.spot ∷ [] → IsTableOf (remove ps i) bs spare' most a b
-    held_left = held_removed ps bs spare most a b h i p inside is c here
+    pub held_left : (spare' : List ℕ) → spare' ≡ spare ++ p.spot ∷ [] → IsTableOf (remove ps i) bs spare' most room caps
+    held_left = held_removed ps bs spare most room caps h i p inside is c here
 
-    pub removed_value : value_of most (remove ps i) bs ≡ record t { blocks = without nat_cmp c t.blocks }
+    pub removed_value : value_of (record { limit = most; room = room }) (remove ps i) bs ≡ record t { blocks = without nat_cmp c t.blocks }
     removed_value =
-        subst (λ (u : TableValue). value_of most (remove ps i) bs ≡ record u { blocks = without nat_cmp c u.blocks }) view
-        (λ k. record { blocks = removed_is ps bs spare most a b h i p inside is c here k; capacity = record { limit = most; room = length bs } })
+        subst (λ (u : TableValue). value_of (record { limit = most; room = room }) (remove ps i) bs ≡ record u { blocks = without nat_cmp c u.blocks }) view
+        (λ k. record { blocks = removed_is ps bs spare most room caps h i p inside is c here k; capacity = record { limit = most; room = room } })
 
   module _ (c i : ℕ) (gap : IsGapFor t.blocks c i) where
     gap_here : IsGapFor (entries_in ps bs) c i
     gap_here = subst (λ (u : TableValue). IsGapFor u.blocks c i) (sym view) gap
 
-    module _ (room : find nat_cmp c t.blocks ≡ None → length t.blocks < t.capacity.limit) where
+    module _ (left : find nat_cmp c t.blocks ≡ None → length t.blocks < t.capacity.limit) where
       place_left : length ps < most
       place_left =
-          let r : length (entries_in ps bs) < most = subst (λ (u : TableValue). length u.blocks < u.capacity.limit) (sym view) (room (find_gap t.blocks c i gap)) in
+          let r : length (entries_in ps bs) < most = subst (λ (u : TableValue). length u.blocks < u.capacity.limit) (sym view) (left (find_gap t.blocks c i gap)) in
           let l = length-entries ps bs in
           omega arith
 
-      pub spare_some : 0 < length spare
-      spare_some = let l = place_left in let w = h.within in let s = h.shared in omega arith
+      pub places_left : length ps < caps.for_places
+      places_left = let l = place_left in let w = h.within in let r = h.room_for_places in omega arith
 
-    module _ (p : Place) (key : p.key.code ≡ c) (spare' : List ℕ) (was : spare ≡ spare' ++ p.spot ∷ []) where
+      pub arena_left : length spare ≡ 0 → length bs < caps.for_arena
+      arena_left none = let l = place_left in let w = h.within in let s = h.shared in let r = h.room_for_arena in omega arith
+
+    module _ (p : Place) (key : p.key.code ≡ c) (bs' : List (List ℕ)) (spare' : List ℕ) (v : List ℕ) (stores : Stores bs spare bs' spare' v p.spot) where
       gap_key : IsGapFor (entries_in ps bs) p.key.code i
       gap_key = subst (λ (n : ℕ). IsGapFor (entries_in ps bs) n i) (sym key) gap_here
 
-      pub low_spare : p.spot < length bs
-      low_spare = spare_low ps bs spare most a b h spare' p was
+      pub held_put : (find nat_cmp c t.blocks ≡ None → length t.blocks < t.capacity.limit) → IsTableOf (insert ps i p) bs' spare' most room caps
+      held_put left = ⊎_elim
+          (λ (old : (spare ≡ spare' ++ p.spot ∷ []) × (bs' ≡ set bs p.spot v)).
+          subst (λ (b : List (List ℕ)). IsTableOf (insert ps i p) b spare' most room caps) (sym old.1)
+          (held_inserted ps bs spare most room caps h spare' p old.0 i gap_key v (place_left left)))
+          (λ (new : (spare ≡ []) × (spare' ≡ []) × (p.spot ≡ length bs) × (bs' ≡ bs ++ v ∷ [])).
+          subst (λ (b : List (List ℕ)). IsTableOf (insert ps i p) b spare' most room caps) (sym new.3)
+          (subst (λ (x : List ℕ). IsTableOf (insert ps i p) (bs ++ v ∷ []) x most room caps) (sym new.1)
+          (held_added ps bs spare most room caps h new.0 p new.2 v i gap_key (place_left left))))
+          stores
 
-      pub held_put : (find nat_cmp c t.blocks ≡ None → length t.blocks < t.capacity.limit) → (v : List ℕ) → IsTableOf (insert ps i p) (set bs p.spot v) spare' most a b
-      held_put room v = held_inserted ps bs spare most a b h spare' p was i gap_key v (place_left room)
+      stored_is : entries_in (insert ps i p) bs' ≡ put nat_cmp p.key.code v (entries_in ps bs)
+      stored_is = ⊎_elim
+          (λ (old : (spare ≡ spare' ++ p.spot ∷ []) × (bs' ≡ set bs p.spot v)).
+          ap (entries_in (insert ps i p)) old.1 ∙ inserted_is ps bs spare most room caps h spare' p old.0 i gap_key v)
+          (λ (new : (spare ≡ []) × (spare' ≡ []) × (p.spot ≡ length bs) × (bs' ≡ bs ++ v ∷ [])).
+          ap (entries_in (insert ps i p)) new.3 ∙ added_is ps bs spare most room caps h new.0 p new.2 v i gap_key)
+          stores
 
-      pub tight_more : (v : List ℕ) → (IsPointers (entry_at c) → HasPointer v) → IsTight (blocks_in (entries_in ps bs)) → IsTight (blocks_in (entries_in (insert ps i p) (set bs p.spot v)))
-      tight_more v leads tight =
-          subst (λ (es : Blocks). IsTight (blocks_in es)) (sym (inserted_is ps bs spare most a b h spare' p was i gap_key v))
+      pub tight_more : (IsPointers (entry_at c) → HasPointer v) → IsTight (blocks_in (entries_in ps bs)) → IsTight (blocks_in (entries_in (insert ps i p) bs'))
+      tight_more leads tight =
+          subst (λ (es : Blocks). IsTight (blocks_in es)) (sym stored_is)
           (tight_put (entries_in ps bs) p.key.code v p.key.formed (subst (λ (n : ℕ). IsPointers (entry_at n) → HasPointer v) (sym key) leads) tight)
 
-      pub inserted_value : (v : List ℕ) → value_of most (insert ps i p) (set bs p.spot v) ≡ record t { blocks = put nat_cmp c v t.blocks }
-      inserted_value v =
-          subst (λ (u : TableValue). value_of most (insert ps i p) (set bs p.spot v) ≡ record u { blocks = put nat_cmp c v u.blocks }) view
-          (λ k. record { blocks = (inserted_is ps bs spare most a b h spare' p was i gap_key v ∙ ap (λ (n : ℕ). put nat_cmp n v (entries_in ps bs)) key) k; capacity = record { limit = most; room = length-set bs p.spot v k } })
-
--- ---- an empty table
-pub once_more : (xs : List ℕ) (n : ℕ) → ((s : ℕ) → times s xs ≡ one_below n s) → (s : ℕ) → times s (xs ++ n ∷ []) ≡ one_below (n + 1) s
-once_more xs n once s =
-    let o = once s in
-    let t = times-append s xs (n ∷ []) in
-    let m : one_below (n + 1) s ≡ one_below n s + mark n s = grind (arith, nat_tests) in
-    omega arith
-
-pub held_empty : (bs : List (List ℕ)) (spare : List ℕ) (most a b : ℕ) → most ≤ length bs → length spare ≡ length bs → length bs < 4294967296 → ((s : ℕ) → times s spare ≡ one_below (length bs) s) → length bs ≤ a → length bs ≤ b → IsTableOf [] bs spare most a b
-held_empty bs spare most a b within same few once room room_for_spare = record {
-  sorted = tt;
-  once = λ s. let o = once s in omega arith;
-  shared = omega arith;
-  small = few;
-  few = omega arith;
-  within = within;
-  room = room;
-  room_for_spare = room_for_spare;
-}
+      pub inserted_value : value_of (record { limit = most; room = room }) (insert ps i p) bs' ≡ record t { blocks = put nat_cmp c v t.blocks }
+      inserted_value =
+          subst (λ (u : TableValue). value_of (record { limit = most; room = room }) (insert ps i p) bs' ≡ record u { blocks = put nat_cmp c v u.blocks }) view
+          (λ k. record { blocks = (stored_is ∙ ap (λ (n : ℕ). put nat_cmp n v (entries_in ps bs)) key) k; capacity = record { limit = most; room = room } })

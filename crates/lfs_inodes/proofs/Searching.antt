@@ -9,7 +9,7 @@ use Rattle.std.proofs.lemmas.Bool.{cases_eq}
 use Rattle.std.proofs.lemmas.Bool.Decides.{nat_tests}
 use Rattle.lfs_inodes.specs.declared.table.Place.{Place}
 use Rattle.lfs_inodes.specs.Code.{IsCode}
-use Rattle.lfs_inodes.specs.Blocks.{TableValue, number_at, HasNumberAt, IsGapFor}
+use Rattle.lfs_inodes.specs.Blocks.{Capacity, TableValue, number_at, HasNumberAt, IsGapFor}
 use Rattle.lfs_inodes.specs.Held.{entries_in}
 use Rattle.lfs_inodes.proofs.Blocks.{rises}
 use Rattle.lfs_inodes.proofs.Held.{length-entries, value_of}
@@ -63,7 +63,7 @@ module _ (ps : List Place) (bs : List (List ℕ)) (sorted : T (is_sorted nat_cmp
 abbrev pub IsFoundIn : TableValue → ℕ → Result ℕ ℕ → Type 0
 IsFoundIn t k r = record { found : IfOk r (HasNumberAt t.blocks k); missing : IfErr r (IsGapFor t.blocks k) }
 
-module _ (ps : List Place) (bs : List (List ℕ)) (sorted : T (is_sorted nat_cmp (entries_in ps bs))) (most : ℕ) (t : TableValue) (view : value_of most ps bs ≡ t) where
+module _ (ps : List Place) (bs : List (List ℕ)) (sorted : T (is_sorted nat_cmp (entries_in ps bs))) (most : Capacity) (t : TableValue) (view : value_of most ps bs ≡ t) where
   pub found_in : (xs : List Place) → xs ≡ ps → (n k : ℕ) → n ≡ k → (r : Result ℕ ℕ) → IsSearchInRange r (length xs) → IsBinarySearchResult (λ (p : Place). nat_cmp p.key.code n) xs r → IsFoundIn t k r
   found_in xs same n k is r within answer =
       let P : List Place → ℕ → Type 0 = λ ys m. IsSearchInRange r (length ys) → IsBinarySearchResult (λ (p : Place). nat_cmp p.key.code m) ys r → IsFoundIn t k r in

@@ -1,8 +1,12 @@
 -- What the pointers of one inode lead to, as in the tree of pointers that a checkpoint reaches.
-use Rattle.std.specs.Prelude.{◌≡◌, ◌<◌, ◌≤◌, ◌⊎◌, ◌+◌, ◌-◌, ◌/◌, ◌%◌, ℕ, zero, suc, nat_lt, cond, List, None}
+use Rattle.std.specs.Prelude.{◌≡◌, ◌<◌, ◌≤◌, ◌⊎◌, ◌+◌, ◌-◌, ◌/◌, ◌%◌, ℕ, zero, suc, nat_lt, cond, List, get_or, None}
 use Rattle.lfs_model.specs.Device.{cell_at}
 use Rattle.lfs_model.specs.Content.{Content, block}
 use Rattle.lfs_model.specs.Entry.{Entry, Data, Leaf, Double, Inode, Map, Usage, word}
+
+-- these are the numbers of a block of pointers
+abbrev pub ArePointers : List ℕ → List ℕ → Type 0
+ArePointers numbers b = (j : ℕ) → j < 128 → get_or numbers j 0 ≡ word b j
 
 -- the address of a leaf
 abbrev pub leaf_in : Content → List ℕ → ℕ → ℕ

@@ -8,8 +8,10 @@ mod pointers;
 mod present;
 mod table;
 
-pub use key::{BlockKey, DIRECT, IN_MEMORY, POINTERS};
+pub use key::{BlockKey, DIRECT, FIRST, IN_MEMORY, POINTERS};
 pub use map::InodeMap;
-pub use pointers::{locate, owner_points};
-pub use present::{first_pointer, locate_behind, locate_present};
+pub use pointers::{Pointers, locate, owner_points};
+pub use present::{
+    first_of_leaf, first_pointer, leaf_pointers, locate_behind, locate_present, present_pointers,
+};
 pub use table::DirtyTable;

@@ -1,16 +1,19 @@
 //! The way from an inode to the blocks of its file.
-ghost use Rattle.std.specs.Prelude.{◌≡◌, ◌<◌, ◌≤◌, ◌↔◌, IsTrue, IfOk, OnOk, IsErrOf};
+ghost use Rattle.std.specs.Prelude.{[], ◌≡◌, ◌<◌, ◌≤◌, ◌↔◌, IsTrue, IfOk, OnOk, IsErrOf};
 ghost use Rattle.lfs_model.specs.Device.{Carries, Elapses, IsUntouched};
 ghost use Rattle.lfs_model.specs.Content.{block};
 ghost use Rattle.lfs_model.specs.Entry.{word};
 ghost use Rattle.lfs_inodes.specs.Key.{entry_of};
-ghost use Rattle.lfs_inodes.specs.Pointed.{leaf_in, data_in, pointed, IsLost, IsLeafLost, IsDataLost, IsWayLost};
+ghost use Rattle.lfs_inodes.specs.Pointed.{ArePointers, leaf_in, data_in, pointed, IsLost, IsLeafLost, IsDataLost, IsWayLost};
 
 use crate::key::{BlockKey, DIRECT, DOUBLE, FIRST, POINTERS, SINGLE};
 use lfs_cache::CachedDevice;
 use lfs_device::{ReadFault, SectorDevice};
-use lfs_layout::word;
+use lfs_layout::{PointerView, word};
 use lfs_model::BlockKind;
+
+/// The numbers of a block of pointers, each at its place of 4 bytes.
+pub type Pointers = [u32; 128];
 
 /// The number at a place of 4 bytes of the block at an address; 0 where the address is 0, or the
 /// place past the block.
@@ -43,6 +46,50 @@ pub(crate) fn pointer_at<D: SectorDevice>(
     }
     let block = device.read_ref(address)?;
     Ok(word_or_none(block, place))
+}
+
+/// All numbers of the block at an address; zeros where the address is 0.
+pub(crate) fn pointers_at<D: SectorDevice>(
+    device: &mut CachedDevice<D>,
+    address: u32,
+) -> Result<Pointers, ReadFault>
+    ensures value { IfOk result (λ found. (D.state device.new).keeps_model
+        → ArePointers found (block (D.state device.old).content address)) }
+    ensures unreadable { IsErrOf result ReadFault.Unreadable → (D.state device.new).keeps_model
+        → IsLost (D.state device.old).content address }
+    ensures failed { IsErrOf result ReadFault.Failed
+        → (D.state device.old).failures < (D.state device.new).failures }
+    ensures no_failure { OnOk result
+        ((D.state device.new).failures ≡ (D.state device.old).failures) }
+    ensures no_failure_unreadable { IsErrOf result ReadFault.Unreadable
+        → (D.state device.new).failures ≡ (D.state device.old).failures }
+    ensures untouched { IsUntouched (D.state device.old) (D.state device.new) }
+    ensures carries { Carries (D.state device.old) (D.state device.new) }
+    ensures time { Elapses (D.state device.old) (D.state device.new) }
+    ensures told { (D.state device.new).told ≡ (D.state device.old).told }
+{
+    if address == 0 {
+        return Ok(no_pointers());
+    }
+    if address >= device.sectors() {
+        return Err(ReadFault::Unreadable);
+    }
+    let block = device.read_ref(address)?;
+    Ok(all_pointers(block))
+}
+
+/// All numbers of a block.
+pub(crate) fn all_pointers(block: &[u8; 512]) -> Pointers
+    ensures { ArePointers result block.now }
+{
+    PointerView::new(block).to_array()
+}
+
+/// The numbers where there is no block.
+pub(crate) fn no_pointers() -> Pointers
+    ensures { ArePointers result [] }
+{
+    [0; 128]
 }
 
 /// The number at a place of 4 bytes of a block; 0 past its end.

@@ -1,13 +1,14 @@
 //! The way from an inode to the blocks of its file, where some of them are in memory.
-ghost use Rattle.std.specs.Prelude.{◌≡◌, ◌<◌, ◌≤◌, ◌==◌, ℕ, List, cond, IfOk, OnOk, IsErrOf};
+ghost use Rattle.std.specs.Prelude.{◌≡◌, ◌<◌, ◌≤◌, ◌⊎◌, ◌==◌, ℕ, List, cond, IfOk, OnOk, IsErrOf};
 ghost use Rattle.lfs_model.specs.Device.{Carries, Elapses, IsUntouched};
-ghost use Rattle.lfs_model.specs.Entry.{word};
+ghost use Rattle.lfs_model.specs.Entry.{Leaf, word};
 ghost use Rattle.lfs_inodes.specs.Key.{entry_of};
 ghost use Rattle.lfs_inodes.specs.Blocks.{blocks_of};
+ghost use Rattle.lfs_inodes.specs.Pointed.{ArePointers};
 ghost use Rattle.lfs_inodes.specs.Present.{present, leaf_now, data_now, IsAway, IsLeafAway, IsDataAway, leaf_first, data_first};
 
 use crate::key::{BlockKey, DIRECT, DOUBLE, FIRST, IN_MEMORY, POINTERS, SINGLE};
-use crate::pointers::pointer_at;
+use crate::pointers::{Pointers, all_pointers, no_pointers, pointer_at, pointers_at};
 use crate::table::DirtyTable;
 use lfs_cache::CachedDevice;
 use lfs_device::{ReadFault, SectorDevice};
@@ -46,6 +47,42 @@ fn present_pointer<D: SectorDevice>(
     match table.block(key) {
         Some(block) => Ok(word(block, place as usize)),
         None => Ok(0),
+    }
+}
+
+/// All numbers of the block of this key, whose pointer is known; zeros where there is none.
+///
+/// # Errors
+///
+/// As those of `locate`.
+pub fn present_pointers<D: SectorDevice>(
+    device: &mut CachedDevice<D>,
+    table: &DirtyTable,
+    key: BlockKey,
+    address: u32,
+) -> Result<Pointers, ReadFault>
+    ensures value { IfOk result (λ found. (D.state device.new).keeps_model
+        → ArePointers found (present (D.state device.old).content (blocks_of table.now)
+        (entry_of key) address)) }
+    ensures unreadable { IsErrOf result ReadFault.Unreadable → (D.state device.new).keeps_model
+        → IsAway (D.state device.old).content address }
+    ensures failed { IsErrOf result ReadFault.Failed
+        → (D.state device.old).failures < (D.state device.new).failures }
+    ensures no_failure { OnOk result
+        ((D.state device.new).failures ≡ (D.state device.old).failures) }
+    ensures no_failure_unreadable { IsErrOf result ReadFault.Unreadable
+        → (D.state device.new).failures ≡ (D.state device.old).failures }
+    ensures untouched { IsUntouched (D.state device.old) (D.state device.new) }
+    ensures carries { Carries (D.state device.old) (D.state device.new) }
+    ensures time { Elapses (D.state device.old) (D.state device.new) }
+    ensures told { (D.state device.new).told ≡ (D.state device.old).told }
+{
+    if address != IN_MEMORY {
+        return pointers_at(device, address);
+    }
+    match table.block(key) {
+        Some(block) => Ok(all_pointers(block)),
+        None => Ok(no_pointers()),
     }
 }
 
@@ -99,6 +136,57 @@ pub fn first_pointer(index: u32) -> usize
         return SINGLE;
     }
     DOUBLE
+}
+
+/// The place of 4 bytes of an inode at which the pointer stands with which the way to a leaf begins.
+pub fn first_of_leaf(index: u32) -> usize
+    requires { index ≤ 128 }
+    ensures value { result ≡ leaf_first index }
+    ensures within { result < 128 }
+{
+    if index == 0 { SINGLE } else { DOUBLE }
+}
+
+/// The pointers to the data blocks below a leaf of pointers of a file, the single one at 0, those
+/// under the double root from 1 on, where the inode's pointer at `first_of_leaf` is `first`. Zeros
+/// where there is no leaf.
+///
+/// # Errors
+///
+/// As those of `locate`.
+pub fn leaf_pointers<D: SectorDevice>(
+    device: &mut CachedDevice<D>,
+    table: &DirtyTable,
+    file: u16,
+    first: u32,
+    index: u32,
+) -> Result<Pointers, ReadFault>
+    requires some { 1 ≤ file }
+    requires file { file ≤ 4095 }
+    requires index { index ≤ 128 }
+    ensures value { IfOk result (λ found. (inode : List ℕ) → first ≡ word inode (leaf_first index)
+        → (D.state device.new).keeps_model → ArePointers found
+        (present (D.state device.old).content (blocks_of table.now) (Leaf file index)
+        (leaf_now (D.state device.old).content (blocks_of table.now) file inode index))) }
+    ensures unreadable { IsErrOf result ReadFault.Unreadable
+        → (inode : List ℕ) → first ≡ word inode (leaf_first index)
+        → (D.state device.new).keeps_model
+        → IsLeafAway (D.state device.old).content inode index
+        ⊎ IsAway (D.state device.old).content
+        (leaf_now (D.state device.old).content (blocks_of table.now) file inode index) }
+    ensures failed { IsErrOf result ReadFault.Failed
+        → (D.state device.old).failures < (D.state device.new).failures }
+    ensures no_failure { OnOk result
+        ((D.state device.new).failures ≡ (D.state device.old).failures) }
+    ensures no_failure_unreadable { IsErrOf result ReadFault.Unreadable
+        → (D.state device.new).failures ≡ (D.state device.old).failures }
+    ensures untouched { IsUntouched (D.state device.old) (D.state device.new) }
+    ensures carries { Carries (D.state device.old) (D.state device.new) }
+    ensures time { Elapses (D.state device.old) (D.state device.new) }
+    ensures told { (D.state device.new).told ≡ (D.state device.old).told }
+{
+    let pointer = leaf_behind(device, table, file, first, index)?;
+    present_pointers(device, table, BlockKey::leaf(file, index), pointer)
 }
 
 /// The pointer to a data block of a file, as `locate_present` gives it, where the inode's pointer at

@@ -15,7 +15,7 @@ ghost use Rattle.lfs_inodes.specs.Empty.{IsEmptyBlock};
 ghost use Rattle.lfs_inodes.specs.Blocks.{blocks_of, altered, number_at, HasNumberAt, IsGapFor};
 ghost use Rattle.lfs_inodes.specs.Code.{IsCode, entry_at};
 ghost use Rattle.lfs_inodes.specs.Clearing.{LeavesPast, zeroed};
-ghost use Rattle.lfs_inodes.specs.Held.{times, one_below};
+ghost use Rattle.lfs_inodes.specs.Held.{times, Stores};
 ghost use Rattle.lfs_inodes.specs.Data.{data_count, is_data_code};
 
 use crate::key::{BlockKey, IN_MEMORY};
@@ -30,7 +30,8 @@ struct Place {
     spot: u32,
 }
 
-/// The blocks of files in memory, by their keys. All memory is taken as the table is made.
+/// The blocks of files in memory, by their keys. All memory is taken as the table is made, and is
+/// written as blocks come.
 /// Contracts see the list of the keys' numbers and the blocks, how many blocks there may be at
 /// present (`limit`), and for how many there is memory (`room`).
 #[derive(Drop)]
@@ -39,21 +40,22 @@ pub struct DirtyTable {
     arena: Vec<[u8; 512]>,
     spare: Vec<u32>,
     limit: u32,
+    room: u32,
     /// Whether a block of pointers here may lead nowhere.
     loose: bool,
 }
 
 impl Model for DirtyTable {
-    ghost use Rattle.std.specs.Prelude.{length, vec_capacity};
+    ghost use Rattle.std.specs.Prelude.{vec_capacity};
     ghost use Rattle.lfs_inodes.specs.Blocks.{TableValue};
 
     ghost Value = { TableValue };
 
     ghost use Rattle.lfs_inodes.specs.Held.{entries_in, IsTableOf, IsTightUnless};
 
-    ghost view = { λ t. record { blocks = entries_in t.places.items t.arena.items; capacity = record { limit = t.limit; room = length t.arena.items } } };
+    ghost view = { λ t. record { blocks = entries_in t.places.items t.arena.items; capacity = record { limit = t.limit; room = t.room } } };
 
-    ghost invariant = { λ t. IsTableOf t.places.items t.arena.items t.spare.items t.limit (vec_capacity t.places) (vec_capacity t.spare) × IsTightUnless t.loose t.places.items t.arena.items };
+    ghost invariant = { λ t. IsTableOf t.places.items t.arena.items t.spare.items t.limit t.room (record { for_places = vec_capacity t.places; for_arena = vec_capacity t.arena; for_spare = vec_capacity t.spare }) × IsTightUnless t.loose t.places.items t.arena.items };
 }
 
 impl DirtyTable {
@@ -70,14 +72,14 @@ impl DirtyTable {
         ensures room { IfOk result (λ t. t.capacity.room ≡ room) }
     {
         let places = Vec::with_capacity(alloc, room as usize)?;
-        let arena = Vec::from_elem(alloc, [0; 512], room as usize)?;
-        let mut spare = Vec::with_capacity(alloc, room as usize)?;
-        fill(&mut spare, room);
+        let arena = Vec::with_capacity(alloc, room as usize)?;
+        let spare = Vec::with_capacity(alloc, room as usize)?;
         Ok(DirtyTable {
             places,
             arena,
             spare,
             limit,
+            room,
             loose: false,
         })
     }
@@ -230,8 +232,7 @@ impl DirtyTable {
                 self.loose |= empty;
             }
             Err(at) => {
-                let spot = self.spare.pop().unwrap();
-                self.arena[spot as usize] = *bytes;
+                let spot = store(&mut self.arena, &mut self.spare, bytes);
                 self.places.insert(at, Place { key, spot }).unwrap();
                 self.loose |= empty;
             }
@@ -378,7 +379,7 @@ impl DirtyTable {
     {
         self.places.clear();
         self.spare.clear();
-        fill(&mut self.spare, self.arena.len() as u32);
+        self.arena.clear();
         self.loose = false;
     }
 }
@@ -422,15 +423,25 @@ fn may_empty(key: BlockKey, number: u32) -> bool
     number == 0 && key.is_pointers()
 }
 
-/// Puts the numbers below this one into an empty list.
-fn fill(spots: &mut Vec<u32>, capacity: u32)
-    requires empty { vec_len spots.old ≡ 0 }
-    requires room { capacity ≤ vec_capacity spots.old }
-    ensures once { (s : ℕ) → times s spots.new.items ≡ one_below capacity s }
-    ensures len { vec_len spots.new ≡ capacity }
-    ensures room { vec_capacity spots.old ≤ vec_capacity spots.new }
+/// Stores a block at a spot that is spare, or behind all others where none is: the spot.
+fn store(arena: &mut Vec<[u8; 512]>, spare: &mut Vec<u32>, bytes: &[u8; 512]) -> u32
+    requires low { (s : ℕ) → 1 ≤ times s spare.old.items → s < vec_len arena.old }
+    requires room { vec_len spare.old ≡ 0 → vec_len arena.old < vec_capacity arena.old }
+    requires small { vec_len arena.old < 4294967296 }
+    ensures stored { Stores arena.old.items spare.old.items arena.new.items spare.new.items
+        bytes.now result }
+    ensures blocks { vec_capacity arena.old ≤ vec_capacity arena.new }
+    ensures spots { vec_capacity spare.old ≤ vec_capacity spare.new }
 {
-    for spot in 0..capacity {
-        spots.push(spot).unwrap();
+    match spare.pop() {
+        Some(spot) => {
+            arena[spot as usize] = *bytes;
+            spot
+        }
+        None => {
+            let spot = arena.len() as u32;
+            arena.push(*bytes).unwrap();
+            spot
+        }
     }
 }

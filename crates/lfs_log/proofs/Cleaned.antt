@@ -1,22 +1,19 @@
 -- Segments whose blocks came into memory: nothing lives there, and a commit makes them clean.
-use Rattle.std.proofs.Common.{◌≡◌, ◌<◌, ◌≤◌, ⊎_elim, inl, inr, ◌+◌, ◌-◌, ◌*◌, ◌/◌, ℕ, zero, suc, Bool, true, false, List, [], ◌∷◌, length, get_or, refl, sym, ◌∙◌, ap, ap₂, subst, arith, ◌==◌, ◌&&◌, cond, eq-eqb}
+use Rattle.std.proofs.Common.{◌≡◌, ◌<◌, ◌≤◌, ⊎_elim, ◌+◌, ◌*◌, ◌/◌, ℕ, zero, suc, Bool, true, false, List, [], ◌∷◌, length, get_or, refl, sym, ◌∙◌, ap, ap₂, subst, arith, ◌&&◌, eq-eqb}
 use Rattle.std.specs.List.{AllByRecursion}
 use Rattle.std.proofs.lemmas.Bool.{cond-true}
-use Rattle.lfs_model.specs.Checkpoint.{CheckpointValue, IsSegmentCount}
-use Rattle.lfs_model.specs.Counting.{segment_of}
+use Rattle.lfs_model.specs.Checkpoint.{CheckpointValue}
 use Rattle.lfs_model.specs.Device.{DeviceState}
-use Rattle.lfs_model.specs.Entry.{Entry}
 use Rattle.lfs_model.specs.Members.{IsIn, AreApart}
-use Rattle.lfs_model.specs.Memory.{live_of, held_of}
 use Rattle.lfs_model.specs.Running.{Running, IsTight}
 use Rattle.lfs_model.specs.Stands.{LogMap, count_up}
 use Rattle.lfs_model.proofs.EmptySegment.{empty_segment}
 use Rattle.lfs_model.proofs.Live.{count_up_none, count_up_more}
 use Rattle.lfs_memory.specs.segments.Emptied.{IsEmptied}
 use Rattle.lfs_memory.specs.segments.Spare.{is_emptied, emptied_in}
-use Rattle.lfs_memory.specs.segments.Steps.{Releases, released, is_empty}
-use Rattle.lfs_memory.specs.segments.Table.{SegmentNumbers, UsageTable, no_segment, used_of, clean_in}
-use Rattle.lfs_memory.specs.inodes.Blocks.{Blocks, Capacity, TableValue, blocks_in, blocks_of}
+use Rattle.lfs_memory.specs.segments.Steps.{Releases, is_empty}
+use Rattle.lfs_memory.specs.segments.Table.{SegmentNumbers, UsageTable, no_segment, used_of}
+use Rattle.lfs_memory.specs.inodes.Blocks.{Blocks, TableValue, blocks_in}
 use Rattle.lfs_memory.specs.declared.memory.LogMemory.{LogMemory}
 use Rattle.lfs_memory.specs.Changing.{Tightens}
 use Rattle.lfs_memory.specs.Memory.{IsLog, IsLoose, IsMemory, tables_of, segment_in, chunk_in}

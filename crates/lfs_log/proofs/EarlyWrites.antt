@@ -1,5 +1,5 @@
 -- The log over its device, as full chunks of data blocks are written between commits.
-use Rattle.std.proofs.Common.{◌≡◌, ◌<◌, ◌≤◌, ◌⊎◌, inl, ◌+◌, ◌*◌, ◌/◌, cond, ℕ, Bool, true, false, [], length, refl, sym, ◌∙◌, ap, ap₂, subst, arith}
+use Rattle.std.proofs.Common.{◌≡◌, ◌<◌, ◌≤◌, ◌⊎◌, inl, ◌+◌, ◌*◌, ◌/◌, cond, ℕ, Bool, true, false, length, sym, ◌∙◌, ap, ap₂, subst, arith}
 use Rattle.lfs_model.specs.Crash.{StandsOn, StandsForOn}
 use Rattle.lfs_model.specs.Device.{DeviceState}
 use Rattle.lfs_model.specs.TreeOf.{dropped}

@@ -24,3 +24,4 @@ pub use Rattle.lfs_memory.proofs as of_memory
 pub use Rattle.lfs_verify.proofs as of_verify
 pub mod EarlyBlocks
 pub mod EarlyWrites
+pub mod KeptRuns

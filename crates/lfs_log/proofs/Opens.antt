@@ -6,20 +6,18 @@ use Rattle.lfs_model.specs.Checkpoint.{CheckpointValue, FitsCheckpoint, layout_v
 use Rattle.lfs_model.specs.Content.{Content, block, newest}
 use Rattle.lfs_model.specs.Committing.{IsMountedTables}
 use Rattle.lfs_model.specs.Crash.{Keeps}
-use Rattle.lfs_model.specs.Device.{DeviceState, IsLawful, IsUntouched, Carries, Only}
+use Rattle.lfs_model.specs.Device.{DeviceState, IsLawful, Only}
 use Rattle.lfs_model.specs.Entry.{Entry, Data, Leaf, Double, Inode, Map, Usage, word}
 use Rattle.lfs_model.specs.Memory.{parent}
 use Rattle.lfs_model.specs.Reach.{address, view, map_block, inode_address}
 use Rattle.lfs_model.specs.Running.{Running}
 use Rattle.lfs_model.specs.Settled.{IsSettled}
-use Rattle.lfs_model.specs.Slots.{IsNewest, HasNoCheckpoint}
 use Rattle.lfs_model.specs.Stands.{LogMap, StandsAt, StandsLog, count_up, is_clean, used_in, live_in, age_in}
 use Rattle.lfs_model.proofs.Decodes.{are_sized}
 use Rattle.lfs_model.proofs.Encodes.{word_nil}
 use Rattle.lfs_model.proofs.Entries.{data_below, leaf_below, double_below}
 use Rattle.lfs_model.proofs.Live.{count_up_same}
 use Rattle.lfs_model.proofs.Mounting.{mounting}
-use Rattle.lfs_model.proofs.Newest.{newest_fits}
 use Rattle.lfs_model.proofs.Settled.{keeps_itself}
 use Rattle.lfs_model.proofs.Starting.{starting}
 use Rattle.lfs_memory.specs.inodes.Blocks.{Blocks, blocks_of, blocks_in}

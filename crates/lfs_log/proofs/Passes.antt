@@ -1,5 +1,5 @@
 -- A pass of the cleaner: what came into memory fits, and its commit makes the segments clean.
-use Rattle.std.proofs.Common.{◌≡◌, ◌<◌, ◌≤◌, inl, ◌+◌, ◌-◌, ◌*◌, ◌/◌, ℕ, Bool, true, false, List, length, get_or, refl, sym, ◌∙◌, ap, subst, arith}
+use Rattle.std.proofs.Common.{◌≡◌, ◌≤◌, inl, ◌+◌, ◌-◌, ◌*◌, ◌/◌, ℕ, Bool, true, false, List, length, get_or, refl, ◌∙◌, subst, arith}
 use Rattle.lfs_model.specs.Checkpoint.{CheckpointValue}
 use Rattle.lfs_model.specs.Content.{Content}
 use Rattle.lfs_model.specs.Crash.{StandsOn, StandsForOn}
@@ -17,7 +17,7 @@ use Rattle.lfs_memory.specs.declared.memory.LogMemory.{LogMemory}
 use Rattle.lfs_memory.specs.Memory.{HasRoom, IsMemory}
 use Rattle.lfs_memory.specs.Present.{Looks}
 use Rattle.lfs_memory.proofs.Looses.{loose}
-use Rattle.lfs_memory.proofs.Presents.{looks_none, looks_quiet}
+use Rattle.lfs_memory.proofs.Presents.{looks_quiet}
 use Rattle.lfs_log.specs.Cleaning.{Cleans, Empties, MayClean, most_brought}
 use Rattle.lfs_log.specs.Held.{Held, Halts, Holds, Reads}
 use Rattle.lfs_log.specs.Publishing.{IsAcknowledged}

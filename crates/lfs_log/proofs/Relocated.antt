@@ -1,12 +1,10 @@
 -- Blocks that come into memory from where they stand: what calls one after the other do.
-use Rattle.std.proofs.Common.{◌≡◌, ◌<◌, ◌≤◌, ◌⊎◌, ⊎_elim, ◌+◌, ◌*◌, ◌/◌, ◌%◌, ℕ, List, Some, None, refl, sym, ◌∙◌, ap, subst, arith}
-use Rattle.lfs_model.specs.Checkpoint.{CheckpointValue}
+use Rattle.std.proofs.Common.{◌≡◌, ◌<◌, ◌≤◌, ◌⊎◌, ⊎_elim, ℕ, List, Some, refl, sym, ◌∙◌, ap, subst, arith}
 use Rattle.lfs_model.specs.Content.{Content}
 use Rattle.lfs_model.specs.Device.{DeviceState, IsLawful}
 use Rattle.lfs_model.specs.Entry.{Entry, Data, Leaf, Double, Inode, Map, Usage, word}
-use Rattle.lfs_model.specs.Memory.{Memory, parent, pointer, file_of, IsOfFile}
+use Rattle.lfs_model.specs.Memory.{parent, pointer, file_of, IsOfFile}
 use Rattle.lfs_model.specs.Staging.{IsAtAddress}
-use Rattle.lfs_model.specs.Stands.{LogMap}
 use Rattle.lfs_model.proofs.Entries.{data_below, leaf_below, double_below}
 use Rattle.lfs_model.proofs.Reading.{reading}
 use Rattle.lfs_model.proofs.Replacing.{address_at}
@@ -15,8 +13,8 @@ use Rattle.lfs_memory.specs.inodes.Code.{IsCode, entry_at}
 use Rattle.lfs_memory.specs.inodes.MapValue.{address_in}
 use Rattle.lfs_memory.specs.inodes.Present.{present}
 use Rattle.lfs_memory.specs.declared.memory.LogMemory.{LogMemory}
-use Rattle.lfs_memory.specs.Lifting.{Gathers, HasTraces, IsInMemory, Prepares}
-use Rattle.lfs_memory.specs.Memory.{IsLoose, IsMemory, tables_of, segment_in, chunk_in}
+use Rattle.lfs_memory.specs.Lifting.{Gathers, IsInMemory, Prepares}
+use Rattle.lfs_memory.specs.Memory.{IsMemory, tables_of, segment_in, chunk_in}
 use Rattle.lfs_memory.specs.Present.{AnswersAddress, FailsFromDevice, IsMissing, Looks}
 use Rattle.lfs_memory.proofs.Gathered.{gathers_looks, gathers_then}
 use Rattle.lfs_memory.proofs.Presents.{excused_then, inode_at, is_there, looks_then, not_missing}

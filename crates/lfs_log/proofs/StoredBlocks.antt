@@ -1,14 +1,14 @@
 -- A block is stored exactly where it has an address, and so is one below a leaf of pointers, where no block of pointers is empty.
-use Rattle.std.proofs.Common.{◌≡◌, ◌<◌, ⊎_elim, ◌+◌, ◌*◌, ◌-◌, ◌/◌, ◌==◌, ℕ, true, length, refl, sym, ◌∙◌, ap, subst, arith, eq-eqb, eqb-true}
+use Rattle.std.proofs.Common.{◌≡◌, ◌<◌, ⊎_elim, ◌+◌, ◌*◌, ◌-◌, ◌/◌, ◌==◌, ℕ, suc, refl, sym, ◌∙◌, ap, subst, arith}
 use Rattle.std.specs.Prelude.{not}
-use Rattle.std.proofs.lemmas.Bool.{cases_eq, false_from_ne_true, lt-ltb, ltb-true}
+use Rattle.std.proofs.lemmas.Bool.{cases_eq}
 use Rattle.lfs_model.specs.Checkpoint.{CheckpointValue}
 use Rattle.lfs_model.specs.Device.{DeviceState}
-use Rattle.lfs_model.specs.Encodes.{HasLeaf}
-use Rattle.lfs_model.specs.Entry.{Entry, Data, Leaf}
+use Rattle.lfs_model.specs.Encodes.{HasDouble, HasLeaf}
+use Rattle.lfs_model.specs.Entry.{Entry, Data, Leaf, Double}
 use Rattle.lfs_model.specs.Memory.{Memory, HasPointer, parent}
 use Rattle.lfs_model.specs.Laid.{IsLaid}
-use Rattle.lfs_model.specs.Objects.{is_stored, has_leaf}
+use Rattle.lfs_model.specs.Objects.{has_leaf, has_double}
 use Rattle.lfs_model.specs.Running.{IsTight}
 use Rattle.lfs_model.specs.Stands.{LogMap}
 use Rattle.lfs_model.proofs.Entries.{data_parent_high}
@@ -17,19 +17,11 @@ use Rattle.lfs_model.proofs.ObjectPointers.{leaf_tests}
 use Rattle.lfs_memory.specs.inodes.Blocks.{blocks_of}
 use Rattle.lfs_memory.specs.declared.memory.LogMemory.{LogMemory}
 use Rattle.lfs_memory.specs.Memory.{IsLoose, segment_in}
+use Rattle.lfs_memory.specs.Pointers.{AnswersCount}
 use Rattle.lfs_memory.specs.Present.{AnswersAddress}
 use Rattle.lfs_memory.proofs.Looses.{loose}
-use Rattle.lfs_log.specs.Held.{Held, TellsBlock, TellsLeaf}
-
--- ---- tests of addresses
-test_some : (a : ℕ) → 0 < a → not (a == 0) ≡ true
-test_some a some = ap not (false_from_ne_true (a == 0) (λ h. let none = eqb-true a 0 h in absurd (omega (arith, none, some))))
-
-some_test : (a : ℕ) → not (a == 0) ≡ true → 0 < a
-some_test a on = ⊎_elim
-    (λ (none : a ≡ 0). let off = ap not (eq-eqb a 0 none) in absurd (cc))
-    (λ (some : a ≡ 0 → ⊥). omega (arith, some))
-    (cases_eq a 0)
+use Rattle.lfs_memory.proofs.PointerRuns.{block_test, some_test, test_some}
+use Rattle.lfs_log.specs.Held.{Held, TellsBlock, TellsLeaf, TellsDouble, CountsBlocks}
 
 -- ---- where memory and device hold a log map
 module _ (d : DeviceState) (v : LogMemory) (k : CheckpointValue) (m0 m : LogMap) (is : IsLoose d v k m0 m) where
@@ -38,11 +30,6 @@ module _ (d : DeviceState) (v : LogMemory) (k : CheckpointValue) (m0 m : LogMap)
 
   laid : IsLaid d.content m M (segment_in v.chunk)
   laid = is.running.laid
-
-  pub block_test : (n i a : ℕ) → M.at (Data n i) ≡ a → is_stored m n i ≡ not (a == 0)
-  block_test n i a at = same_tests (is_stored m n i) (not (a == 0))
-      (λ on. let has = (laid.blocks n i).0 (ltb-true 0 (length (m.block n i)) on) in test_some a (omega (arith, has, at)))
-      (λ on. let some = some_test a on in lt-ltb 0 (length (m.block n i)) ((laid.blocks n i).1 (omega (arith, some, at))))
 
   -- a leaf that has an address has a pointer
   leaf_full : IsTight (blocks_of v.dirty) → (n q : ℕ) → 0 < M.at (Leaf n q) → HasPointer (M.bytes (Leaf n q))
@@ -75,6 +62,33 @@ module _ (d : DeviceState) (v : LogMemory) (k : CheckpointValue) (m0 m : LogMap)
       (λ on. let some = has_leaf_at n q (test.0 on) in test_some a (omega (arith, some, at)))
       (λ on. let some = some_test a on in test.1 (leaf_has tight n q (omega (arith, some, at))))
 
+  -- a double root that has an address has a pointer
+  double_full : IsTight (blocks_of v.dirty) → (n : ℕ) → 0 < M.at (Double n) → HasPointer (M.bytes (Double n))
+  double_full tight n some = ⊎_elim
+      (λ (one : M.at (Double n) ≡ 1).
+      let f = is.running.cached.found (Double n) (n, refl) one in
+      let held = is.running.cached.cached (Double n) f.0 f.1 in
+      subst HasPointer (sym held.2) (tight (Double n) f.0 f.1 tt))
+      (λ (away : M.at (Double n) ≡ 1 → ⊥). laid.some (Double n) tt (omega (arith, away, some)))
+      (cases_eq (M.at (Double n)) 1)
+
+  double_has : IsTight (blocks_of v.dirty) → (n : ℕ) → 0 < M.at (Double n) → HasDouble m n
+  double_has tight n some =
+      let w = double_full tight n some in
+      let v = laid.spells (Double n) some w.0 w.1 in
+      let lt = w.2 in
+      (w.0, w.1, leaf_has tight n (suc w.0) (omega (arith, lt, v)))
+
+  has_double_at : (n : ℕ) → HasDouble m n → 0 < M.at (Double n)
+  has_double_at n has = laid.down (Leaf n (suc has.0)) (has_leaf_at n (suc has.0) has.2)
+
+  pub double_test : IsTight (blocks_of v.dirty) → (n a : ℕ) → M.at (Double n) ≡ a → has_double m n ≡ not (a == 0)
+  double_test tight n a at =
+      let test = (leaf_tests m n).1 in
+      same_tests (has_double m n) (not (a == 0))
+      (λ on. let some = has_double_at n (test.0 on) in test_some a (omega (arith, some, at)))
+      (λ on. let some = some_test a on in test.1 (double_has tight n (omega (arith, some, at))))
+
 -- ---- what calls tell
 module _ {D : Type 0} (state : D → DeviceState) where
   pub tells_block : (h h' : Held D) (n i address : ℕ) → AnswersAddress (state h.device) (state h'.device) h.memory (Data n i) address → TellsBlock state h h' n i (not (address == 0))
@@ -82,3 +96,9 @@ module _ {D : Type 0} (state : D → DeviceState) where
 
   pub tells_leaf : (h h' : Held D) (n q address : ℕ) → AnswersAddress (state h.device) (state h'.device) h.memory (Leaf n q) address → TellsLeaf state h h' n q (not (address == 0))
   tells_leaf h h' n q address answers k m0 m keeps is = leaf_test (state h.device) h.memory k m0 m (loose (state h.device) h.memory k m0 m is.log) is.log.tight n q address (answers k m0 m keeps (loose (state h.device) h.memory k m0 m is.log))
+
+  pub tells_double : (h h' : Held D) (n address : ℕ) → AnswersAddress (state h.device) (state h'.device) h.memory (Double n) address → TellsDouble state h h' n (not (address == 0))
+  tells_double h h' n address answers k m0 m keeps is = double_test (state h.device) h.memory k m0 m (loose (state h.device) h.memory k m0 m is.log) is.log.tight n address (answers k m0 m keeps (loose (state h.device) h.memory k m0 m is.log))
+
+  pub counts_blocks : (h h' : Held D) (n from to count : ℕ) → AnswersCount (state h.device) (state h'.device) h.memory n from to count → CountsBlocks state h h' n from to count
+  counts_blocks h h' n from to count answers k m0 m keeps is = answers k m0 m keeps (loose (state h.device) h.memory k m0 m is.log)

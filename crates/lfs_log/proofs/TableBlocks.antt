@@ -1,11 +1,11 @@
 -- Blocks of the tables that leave their addresses, to be written by the next commit.
-use Rattle.std.proofs.Common.{◌≡◌, ◌<◌, ◌≤◌, ◌⊎◌, ⊎_elim, ◌+◌, ◌*◌, ◌/◌, ℕ, Bool, true, false, List, length, get_or, Option, Some, None, refl, sym, ◌∙◌, ap, subst, suc, arith}
+use Rattle.std.proofs.Common.{◌≡◌, ◌<◌, ◌≤◌, ◌⊎◌, ⊎_elim, ◌+◌, ◌/◌, ℕ, true, false, List, length, get_or, Some, refl, sym, ◌∙◌, ap, subst, suc, arith}
 use Rattle.std.proofs.lemmas.Bool.{cases_eq}
 use Rattle.lfs_model.specs.Checkpoint.{CheckpointValue, IsSegmentCount}
 use Rattle.lfs_model.specs.Counting.{segment_of}
 use Rattle.lfs_model.specs.Device.{DeviceState, IsLawful}
 use Rattle.lfs_model.specs.Entry.{Entry, Data, Leaf, Double, Inode, Map, Usage}
-use Rattle.lfs_model.specs.Memory.{Memory, is_shown, count_of}
+use Rattle.lfs_model.specs.Memory.{is_shown, count_of}
 use Rattle.lfs_model.specs.Running.{Tables, Running, IsSet, IsLifted, IsTables, SpellsUsage, CountsDown}
 use Rattle.lfs_model.specs.Stands.{LogMap}
 use Rattle.lfs_model.proofs.Counting.{taken_counts}
@@ -18,14 +18,14 @@ use Rattle.lfs_memory.specs.segments.Table.{SegmentNumbers, UsageTable, no_segme
 use Rattle.lfs_memory.specs.inodes.Blocks.{TableValue, blocks_of}
 use Rattle.lfs_memory.specs.inodes.MapValue.{MapValue, address_in, block_in}
 use Rattle.lfs_memory.specs.declared.memory.LogMemory.{LogMemory}
-use Rattle.lfs_memory.specs.Lifting.{Gathers, HasTraces, IsCountedAbove, MapLifts}
-use Rattle.lfs_memory.specs.Memory.{AreHidden, IsLoose, IsMemory, table_at, tables_of, segment_in, chunk_in}
+use Rattle.lfs_memory.specs.Lifting.{HasTraces, MapLifts}
+use Rattle.lfs_memory.specs.Memory.{IsLoose, IsMemory, table_at, tables_of, segment_in, chunk_in}
 use Rattle.lfs_memory.specs.Present.{FailsFromDevice}
-use Rattle.lfs_memory.proofs.Gathered.{gathers_looks, loose_traced, map_of_gathers, taken_traced, TracedIn}
+use Rattle.lfs_memory.proofs.Gathered.{loose_traced, map_of_gathers, taken_traced, TracedIn}
 use Rattle.lfs_memory.proofs.Lifted.{map_of_prepares}
 use Rattle.lfs_memory.proofs.Presents.{looks_none}
 use Rattle.lfs_memory.proofs.Stales.{stays_stale}
-use Rattle.lfs_log.specs.Relocating.{HasLeft, IsUsageLost, Relocates, UsageLeaves, UsageLeavesIn}
+use Rattle.lfs_log.specs.Relocating.{HasLeft, IsUsageLost, Relocates, UsageLeavesIn}
 use Rattle.lfs_log.proofs.Relocated.{relocates_looks, relocates_of}
 
 pub map_relocates : (d : DeviceState) (v v' : LogMemory) (j : ℕ) → IsLawful d → IsMemory v → (v' ≡ v) ⊎ MapLifts v v' j → Relocates d d v v'

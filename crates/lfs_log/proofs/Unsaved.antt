@@ -1,6 +1,6 @@
 -- How much waits for a checkpoint, where all is saved.
-use Rattle.std.proofs.Common.{◌≡◌, ◌<◌, ◌≤◌, ◌+◌, cond, ℕ, Bool, true, false, List, [], ◌∷◌, length, refl, ◌∙◌, ap, arith}
-use Rattle.lfs_memory.specs.segments.Early.{AreUntaken, taken_in}
+use Rattle.std.proofs.Common.{◌≡◌, ◌≤◌, cond, ℕ, Bool, List, [], ◌∷◌, length, refl, ◌∙◌, ap, arith}
+use Rattle.lfs_memory.specs.segments.Early.{AreUntaken}
 use Rattle.lfs_memory.proofs.of_segments.Early.{taken_of_untaken}
 use Rattle.lfs_log.specs.Held.{AreAllSaved, Held, waiting_in}
 

@@ -9,7 +9,7 @@ use Rattle.lfs_model.specs.Stands.{LogMap}
 use Rattle.lfs_model.specs.Counting.{segment_of}
 use Rattle.lfs_model.specs.Running.{SpellsUsage, IsFresh}
 use Rattle.lfs_model.proofs.Leaving.{usage_filling}
-use Rattle.lfs_memory.specs.segments.Table.{SegmentNumbers, UsageTable, no_segment, kept_of, address_of, stale_of, clean_in}
+use Rattle.lfs_memory.specs.segments.Table.{SegmentNumbers, UsageTable, no_segment, address_of, stale_of, clean_in}
 use Rattle.lfs_memory.specs.segments.Chunk.{IsUnkeptBy}
 use Rattle.lfs_memory.specs.segments.Steps.{PutsPlace, SpellsBlock}
 use Rattle.lfs_memory.proofs.of_segments.StaysEmptied.{stays_emptied}

@@ -1,5 +1,5 @@
 -- The blocks of a segment come into memory chunk by chunk: none is left there in the end.
-use Rattle.std.proofs.Common.{◌≡◌, ◌<◌, ◌≤◌, ⊎_elim, ◌⊎◌, ◌+◌, ◌-◌, ◌*◌, ◌/◌, ◌%◌, ℕ, suc, List, [], length, get_or, Option, Some, None, refl, sym, ◌∙◌, ap, subst, arith}
+use Rattle.std.proofs.Common.{◌≡◌, ◌<◌, ◌≤◌, ⊎_elim, ◌⊎◌, ◌+◌, ◌-◌, ◌*◌, ◌/◌, ◌%◌, ℕ, List, [], length, get_or, Option, Some, None, sym, ◌∙◌, ap, subst, arith}
 use Rattle.std.proofs.lemmas.Bool.{cases_eq, cases_lt}
 use Rattle.lfs_model.specs.Checkpoint.{CheckpointValue}
 use Rattle.lfs_model.specs.Content.{Content, block, bytes_of}
@@ -10,15 +10,13 @@ use Rattle.lfs_model.specs.Reach.{Row, row_by, place_in}
 use Rattle.lfs_model.specs.Stands.{LogMap}
 use Rattle.lfs_model.specs.Summary.{BlockNameValue, no_block, summary_in}
 use Rattle.lfs_model.proofs.Tables.{block_at}
-use Rattle.lfs_memory.specs.segments.Chunk.{Chunk}
 use Rattle.lfs_memory.specs.segments.Table.{used_of}
 use Rattle.lfs_memory.specs.declared.memory.LogMemory.{LogMemory}
-use Rattle.lfs_memory.specs.Lifting.{HasTraces}
-use Rattle.lfs_memory.specs.Memory.{HasRoom, IsLoose, segment_in}
+use Rattle.lfs_memory.specs.Memory.{HasRoom, IsLoose}
 use Rattle.lfs_memory.specs.Present.{FailsFromDevice, Looks}
 use Rattle.lfs_memory.proofs.Gathered.{still_traced, traces_none, traces_then}
 use Rattle.lfs_memory.proofs.Opened.{closed_segment}
-use Rattle.lfs_log.specs.Relocating.{AreVacant, HasLeft, IsVacantTo, LeavesNames, NamesLeft, Relocates, Traced, Vacates, VacatesAll}
+use Rattle.lfs_log.specs.Relocating.{HasLeft, IsVacantTo, LeavesNames, Relocates, Traced, Vacates, VacatesAll}
 use Rattle.lfs_log.specs.verify.Rows.{HasRow}
 use Rattle.lfs_log.proofs.of_verify.RowSteps.{cut_chunk, entries_none, names_of, no_chunk, no_entries}
 use Rattle.lfs_log.proofs.RowLabels.{IsRowFrom, label_is, row_end, row_next, row_start, summary_place}

@@ -9,7 +9,8 @@ use Rattle.lfs_model.specs.Content.{Content}
 use Rattle.lfs_model.specs.Crash.{StandsOn, StandsForOn}
 use Rattle.lfs_model.specs.Device.{DeviceState, Carries, LeavesOnly, AllLeft}
 use Rattle.lfs_model.specs.Encodes.{IsLogMap, HasInode}
-use Rattle.lfs_model.specs.Objects.{is_stored, has_leaf}
+use Rattle.lfs_model.specs.Objects.{is_stored, has_leaf, has_double}
+use Rattle.lfs_model.specs.Totals.{stored_in}
 use Rattle.lfs_memory.specs.declared.changes.Changes.{Changes}
 use Rattle.lfs_memory.specs.files.declared.header.Header.{Header}
 use Rattle.lfs_model.specs.TreeOf.{dropped}
@@ -259,6 +260,14 @@ module _ {D : Type 0} (state : D → DeviceState) where
 
   abbrev pub TellsLeaf : Held D → Held D → ℕ → ℕ → Bool → Type 0
   TellsLeaf h h' n q found = (k : CheckpointValue) (m0 m : LogMap) → (state h'.device).keeps_model → Holds h k m0 m → has_leaf m n q ≡ found
+
+  -- and whether one is below its double root
+  abbrev pub TellsDouble : Held D → Held D → ℕ → Bool → Type 0
+  TellsDouble h h' n found = (k : CheckpointValue) (m0 m : LogMap) → (state h'.device).keeps_model → Holds h k m0 m → has_double m n ≡ found
+
+  -- how many of its blocks from..to are stored
+  abbrev pub CountsBlocks : Held D → Held D → ℕ → ℕ → ℕ → ℕ → Type 0
+  CountsBlocks h h' n from to count = (k : CheckpointValue) (m0 m : LogMap) → (state h'.device).keeps_model → Holds h k m0 m → stored_in m n from to ≡ count
 
   -- A call that changes no more than memory, where so many blocks may come, and the version where it raises it.
   pub record Alters (h h' : Held D) (more : ℕ) (raised : Bool) : Type 0 where

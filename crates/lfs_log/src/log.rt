@@ -25,10 +25,11 @@ use lfs_cache::{CachedDevice, DEFAULT_SECTORS, MOST_SECTORS};
 use lfs_device::{SectorDevice, TendedDevice};
 use lfs_memory::counting::SegmentCounts;
 use lfs_memory::lifting::LiftFault;
-use lfs_memory::present::{locate_block, locate_leaf, read_block, read_header};
+use lfs_memory::pointers::{count_blocks, find_block, read_block};
+use lfs_memory::present::{locate_double, locate_leaf, read_header};
 use lfs_memory::segments::Usage;
 use lfs_memory::staging::{has_room, remove_tight, stage_tight};
-use lfs_memory::{Changes, Header, LogFault, LogMemory};
+use lfs_memory::{Changes, Header, LogFault, LogMemory, PointerRun};
 use lfs_verify::verify::verify;
 use lfs_verify::{BlockTotals, MountFault, Tables};
 use std::alloc::Global;
@@ -51,9 +52,12 @@ pub struct Log<D: SectorDevice> {
     counts: SegmentCounts,
     /// A cleaning pass keeps the tables that it found here.
     before: SavedTables,
+    /// The pointers that the last read of a block found, until something changes.
+    pointers: Option<PointerRun>,
 }
 
 impl<D: SectorDevice> Model for Log<D> {
+    ghost use Rattle.lfs_memory.specs.Pointers.{KeepsRun};
     ghost use Rattle.lfs_log.specs.Held.{Held, held_code, HoldsUnlessHalted};
     ghost use Rattle.lfs_log.specs.Versions.{number_of};
 
@@ -71,14 +75,16 @@ impl<D: SectorDevice> Model for Log<D> {
       totals = l.totals;
     } };
 
-    ghost invariant = { λ l. HoldsUnlessHalted (D.SectorDevice.state l.device) l.memory l.before.usage l.halted };
+    ghost invariant = { λ l.
+        HoldsUnlessHalted (D.SectorDevice.state l.device) l.memory l.before.usage l.halted
+        × KeepsRun (D.SectorDevice.state l.device) l.memory l.pointers };
 }
 
 impl<D: SectorDevice> Log<D> {
     ghost use Rattle.lfs_log.specs.Cleaning.{Cleans, MayClean, Overfills, most_brought};
     ghost use Rattle.lfs_log.specs.Saving.{commit_orders, orders_for, pass_orders};
     ghost use Rattle.lfs_log.specs.Early.{full_chunk, reserve_of};
-    ghost use Rattle.lfs_log.specs.Held.{Mounts, Saves, Halts, Reads, ReadsHeader, ReadsBlock, TellsBlock, TellsLeaf, IsReadFault, IsFull, IsVacant, HasAll, IsStaged, IsRefused, IsStageFault, IsRemoved, IsKept, HoldsOne, AreAllSaved, WritesEarly, unsaved_in, waiting_in};
+    ghost use Rattle.lfs_log.specs.Held.{Mounts, Saves, Halts, Reads, ReadsHeader, ReadsBlock, TellsBlock, TellsLeaf, TellsDouble, CountsBlocks, IsReadFault, IsFull, IsVacant, HasAll, IsStaged, IsRefused, IsStageFault, IsRemoved, IsKept, HoldsOne, AreAllSaved, WritesEarly, unsaved_in, waiting_in};
 
     /// The volume that the newest checkpoint of the device leads to, with the totals of its files;
     /// else why there is none, and the device. All that the checkpoint leads to is walked over
@@ -207,6 +213,7 @@ impl<D: SectorDevice> Log<D> {
                 totals: opened.totals,
                 counts,
                 before: opened.before,
+                pointers: None,
             }),
             Err(_) => Err((MountFault::NoMemory, device.into_inner())),
         }
@@ -383,7 +390,14 @@ impl<D: SectorDevice> Log<D> {
         if self.halted {
             return Err(LogFault::Halted);
         }
-        let Ok(stored) = read_block(&mut self.device, &self.memory, number, index, out) else {
+        let Ok(stored) = read_block(
+            &mut self.device,
+            &self.memory,
+            &mut self.pointers,
+            number,
+            index,
+            out,
+        ) else {
             return Err(LogFault::Device);
         };
         Ok(stored)
@@ -406,10 +420,49 @@ impl<D: SectorDevice> Log<D> {
         if self.halted {
             return Err(LogFault::Halted);
         }
-        let Ok(address) = locate_block(&mut self.device, &self.memory, number, index) else {
+        let Ok(address) = find_block(
+            &mut self.device,
+            &self.memory,
+            &self.pointers,
+            number,
+            index,
+        ) else {
             return Err(LogFault::Device);
         };
         Ok(address != 0)
+    }
+
+    /// How many blocks of a file are stored at the indices from one on to another. It looks at each
+    /// block of pointers above them once, and reads none of data.
+    ///
+    /// # Errors
+    ///
+    /// As those of `header`.
+    pub fn count_blocks(&mut self, number: u16, from: u32, to: u32) -> Result<u32, LogFault>
+        requires number { number < 4096 }
+        requires order { from ≤ to }
+        ensures reads { Reads D.SectorDevice.state self.old self.new }
+        ensures few { IfOk result (λ count. count ≤ to - from) }
+        ensures answer { IfOk result (CountsBlocks D.SectorDevice.state self.old self.new number
+            from to) }
+        ensures halted { IsErrOf result LogFault.Halted → self.old.halted ≡ true }
+        ensures other { IsErrOf result LogFault.Full → ⊥ }
+        ensures failed { OnErr result (IsReadFault D.SectorDevice.state self.old self.new) }
+    {
+        if self.halted {
+            return Err(LogFault::Halted);
+        }
+        let Ok(count) = count_blocks(
+            &mut self.device,
+            &self.memory,
+            &mut self.pointers,
+            number,
+            from,
+            to,
+        ) else {
+            return Err(LogFault::Device);
+        };
+        Ok(count)
     }
 
     /// Whether a block is stored below a leaf of pointers of a file: those from 112 on at leaf 0,
@@ -432,6 +485,28 @@ impl<D: SectorDevice> Log<D> {
             return Err(LogFault::Halted);
         }
         let Ok(address) = locate_leaf(&mut self.device, &self.memory, number, leaf) else {
+            return Err(LogFault::Device);
+        };
+        Ok(address != 0)
+    }
+
+    /// Whether a block is stored below the double root of a file: at an index from 240 on.
+    ///
+    /// # Errors
+    ///
+    /// As those of `header`.
+    pub fn has_double(&mut self, number: u16) -> Result<bool, LogFault>
+        requires number { number < 4096 }
+        ensures reads { Reads D.SectorDevice.state self.old self.new }
+        ensures answer { IfOk result (TellsDouble D.SectorDevice.state self.old self.new number) }
+        ensures halted { IsErrOf result LogFault.Halted → self.old.halted ≡ true }
+        ensures other { IsErrOf result LogFault.Full → ⊥ }
+        ensures failed { OnErr result (IsReadFault D.SectorDevice.state self.old self.new) }
+    {
+        if self.halted {
+            return Err(LogFault::Halted);
+        }
+        let Ok(address) = locate_double(&mut self.device, &self.memory, number) else {
             return Err(LogFault::Device);
         };
         Ok(address != 0)
@@ -462,6 +537,7 @@ impl<D: SectorDevice> Log<D> {
         if self.halted {
             return Err(LogFault::Halted);
         }
+        self.pointers = None;
         match stage_tight(
             &mut self.device,
             &mut self.memory,
@@ -497,6 +573,7 @@ impl<D: SectorDevice> Log<D> {
         if self.halted {
             return Err(LogFault::Halted);
         }
+        self.pointers = None;
         let Ok(()) = remove_tight(&mut self.device, &mut self.memory, number, &mut self.counts)
         else {
             return Err(LogFault::Device);
@@ -544,6 +621,7 @@ impl<D: SectorDevice> Log<D> {
         if self.halted {
             return Err(LogFault::Halted);
         }
+        self.pointers = None;
         let age = age_after(self.number);
         match write_chunks(&mut self.device, &mut self.memory, age) {
             Ok(()) => Ok(()),
@@ -582,6 +660,7 @@ impl<D: SectorDevice> Log<D> {
         if self.is_full() {
             return Err(LogFault::Full);
         }
+        self.pointers = None;
         match save(
             &mut self.device,
             &mut self.memory,
@@ -640,6 +719,7 @@ impl<D: SectorDevice> Log<D> {
         if self.number == u64::MAX || !may_clean(&self.memory, victims) {
             return Err(LogFault::Full);
         }
+        self.pointers = None;
         let most = most_of(victims.len());
         match relocate(
             &mut self.device,

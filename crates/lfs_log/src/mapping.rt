@@ -55,8 +55,43 @@ fn write_map_block<D: SectorDevice>(
     Ok(())
 }
 
-/// Saves a block of the inode map, if it is to be written. One that would show no inode isn't
-/// stored.
+/// Saves a block of the inode map that is to be written. One that would show no inode isn't stored.
+fn save_waiting_block<D: SectorDevice>(
+    device: &mut D,
+    memory: &mut LogMemory,
+    index: u32,
+    age: u32,
+) -> Result<(), DeviceFault>
+    requires memory { IsMemory memory.old }
+    requires size { HasRoom (D.state device.old) memory.old }
+    requires room { 0 < room_of memory.old }
+    requires index { index < 32 }
+    requires waits { block_in memory.old.map index ≡ 1 }
+    requires empty { (x : Entry) → blocks_of memory.old.dirty x ≡ None }
+    ensures done { OnOk result (Goes (D.state device.old) (D.state device.new) memory.old memory.new
+        1) }
+    ensures stopped { OnErr result (Stops (D.state device.old) (D.state device.new) memory.old) }
+    ensures others { OnOk result ((j : ℕ) → (j ≡ index → ⊥)
+        → block_in memory.new.map j ≡ block_in memory.old.map j) }
+    ensures known { OnOk result (block_in memory.new.map index ≢ 1) }
+    ensures long { OnOk result (IsMap memory.new.map) }
+    ensures dirty { memory.new.dirty ≡ memory.old.dirty }
+    ensures room { room_of memory.old ≤ room_of memory.new + 1 }
+    ensures tells { OnOk result (orders_due (D.state device.new) memory.new
+        ≤ orders_due (D.state device.old) memory.old + 1) }
+    ensures most { orders_due (D.state device.new) memory.new
+        ≤ orders_due (D.state device.old) memory.old + 2 }
+{
+    let Some(bytes) = memory.map.encode(index as usize) else {
+        memory.map.set_block_address(index as usize, 0);
+        return Ok(());
+    };
+    write_map_block(device, memory, index, &bytes, age)?;
+    seal_full(device, memory)?;
+    Ok(())
+}
+
+/// Saves a block of the inode map, if it is to be written.
 fn save_map_block<D: SectorDevice>(
     device: &mut D,
     memory: &mut LogMemory,
@@ -85,13 +120,7 @@ fn save_map_block<D: SectorDevice>(
     if memory.map.block_address(index as usize) != 1 {
         return Ok(());
     }
-    let Some(bytes) = memory.map.encode(index as usize) else {
-        memory.map.set_block_address(index as usize, 0);
-        return Ok(());
-    };
-    write_map_block(device, memory, index, &bytes, age)?;
-    seal_full(device, memory)?;
-    Ok(())
+    save_waiting_block(device, memory, index, age)
 }
 
 /// Saves the blocks of the inode map that are to be written.

@@ -86,10 +86,10 @@ fn write_block<D: SectorDevice>(
     ensures data_blocks { OnOk result (is_data_code key.code ≡ true
         → data_count memory.new.dirty + 1 ≡ data_count memory.old.dirty) }
 {
-    let bytes = *memory.dirty.block(key).unwrap();
     let lives = !memory.map.is_hidden(key.file());
     let address = memory.next_place(key.name(), lives, age);
-    write(device, &memory.usage, address, &bytes)?;
+    let bytes = memory.dirty.block(key).unwrap();
+    write(device, &memory.usage, address, bytes)?;
     memory.dirty.moved(key, address);
     memory.point(key, address);
     Ok(())

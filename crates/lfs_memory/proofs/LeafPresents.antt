@@ -103,3 +103,15 @@ module _ (a b c : DeviceState) (v : LogMemory) (n q : ℕ) (inode : List ℕ) (r
       (ap is.running.memory.at named ∙ double_at a v k m0 m is n inode some (bytes_are a b v n q inode some read k m0 m (two.carries.kept_before keeps) is) ∙ sym at) (omega (arith, later))
       (subst (λ (e : Content). IsMissing e (blocks_of v.dirty) x root) one.untouched.content missing)))
       (unread keeps)
+
+-- ---- the double root
+pub root_none : (d d' : DeviceState) (v : LogMemory) (n : ℕ) → (n ≡ 0) ⊎ (address_in v.map n ≡ 0) → AnswersAddress d d' v (Double n) 0
+root_none d d' v n none k m0 m keeps is = below_none d v k m0 m is (Double n) (⊎_elim
+    (λ (nobody : n ≡ 0). ap (λ (n : ℕ). is.running.memory.at (Inode n)) nobody ∙ nobody_at d v k m0 m is)
+    (λ (absent : address_in v.map n ≡ 0). inode_at d v k m0 m is n ∙ absent)
+    none)
+
+pub root_found : (a b : DeviceState) (v : LogMemory) (n : ℕ) (inode : List ℕ) (address : ℕ) → 0 < address_in v.map n
+    → (b.keeps_model → inode ≡ present a.content (blocks_of v.dirty) (Inode n) (address_in v.map n)) → address ≡ word inode 121 → AnswersAddress a b v (Double n) address
+root_found a b v n inode address some read found k m0 m keeps is =
+    double_at a v k m0 m is n inode some (inode_bytes a v k m0 m is n inode some (read keeps)) ∙ sym found

@@ -34,3 +34,5 @@ pub mod Pressed
 pub use Rattle.lfs_segments.proofs as of_segments
 pub use Rattle.lfs_inodes.proofs as of_inodes
 pub mod Versions
+pub mod Ranges
+pub mod PointerRuns

@@ -1,5 +1,6 @@
 pub mod Memory
 pub mod Present
+pub mod Pointers
 pub mod Lifting
 pub mod Changing
 pub mod Counting

@@ -1,14 +1,13 @@
 //! What the log answers to reads.
 ghost use Rattle.std.specs.Prelude.{◌≡◌, ◌<◌, ◌≤◌, ◌⊎◌, OnOk, OnErr, IfOk, IfSome, IfNone, IsTrue, IsFalse};
-ghost use Rattle.lfs_model.specs.Entry.{Inode, Data, Leaf, header};
+ghost use Rattle.lfs_model.specs.Entry.{Inode, Data, Leaf, Double, header};
 ghost use Rattle.lfs_model.specs.Inode.{kind_of};
-ghost use Rattle.lfs_model.specs.Fields.{zeros};
 ghost use Rattle.lfs_inodes.specs.Key.{entry_of};
 ghost use Rattle.lfs_inodes.specs.Blocks.{blocks_of};
 ghost use Rattle.lfs_inodes.specs.MapValue.{address_in};
 ghost use Rattle.lfs_inodes.specs.Present.{present};
 ghost use Rattle.lfs_memory.specs.Memory.{IsMemory};
-ghost use Rattle.lfs_memory.specs.Present.{Looks, FailsFromDevice, IsMissing, AnswersInode, AnswersHeader, AnswersBlock, as_header, AnswersAddress, ShowsHeader, ShowsWord};
+ghost use Rattle.lfs_memory.specs.Present.{Looks, FailsFromDevice, IsMissing, AnswersInode, AnswersHeader, as_header, AnswersAddress, ShowsHeader, ShowsWord};
 
 use crate::counting::{DOUBLE, SINGLE};
 use crate::memory::LogMemory;
@@ -20,7 +19,7 @@ use lfs_layout::word;
 use lfs_model::Kind;
 
 /// The greatest index of a block of a file.
-const MOST_INDEX: u32 = 16_623;
+pub(crate) const MOST_INDEX: u32 = 16_623;
 
 /// The block of this key, whose pointer is known: in memory, or at its address on the device.
 ///
@@ -145,7 +144,7 @@ fn present_header<D: SectorDevice>(
 /// # Errors
 ///
 /// As those of `read_present`.
-fn copy_present<D: SectorDevice>(
+pub(crate) fn copy_present<D: SectorDevice>(
     device: &mut CachedDevice<D>,
     memory: &LogMemory,
     key: BlockKey,
@@ -254,7 +253,7 @@ pub fn read_header<D: SectorDevice>(
 }
 
 /// The pointer to the inode of a file, or 0 where the file isn't there.
-fn inode_pointer(memory: &LogMemory, number: u16) -> u32
+pub(crate) fn inode_pointer(memory: &LogMemory, number: u16) -> u32
     requires number { number < 4096 }
     ensures none { result ≡ 0 → (number ≡ 0) ⊎ (address_in memory.now.map number ≡ 0) }
     ensures some { (result ≡ 0 → ⊥) → (1 ≤ number) × (result ≡ address_in memory.now.map number) }
@@ -329,7 +328,7 @@ fn kind_of(byte: u8) -> Kind
 /// # Errors
 ///
 /// Where a block on the way can't be read.
-pub fn locate_block<D: SectorDevice>(
+pub(crate) fn locate_block<D: SectorDevice>(
     device: &mut CachedDevice<D>,
     memory: &LogMemory,
     number: u16,
@@ -356,6 +355,33 @@ pub fn locate_block<D: SectorDevice>(
     match locate_behind(device, &memory.dirty, number, first, index) {
         Ok(address) => Ok(address),
         Err(_) => Err(DeviceFault),
+    }
+}
+
+/// The pointer to the double root of a file: 0 where none is stored, `IN_MEMORY` for one in memory,
+/// else its address.
+///
+/// # Errors
+///
+/// Where the inode can't be read.
+pub fn locate_double<D: SectorDevice>(
+    device: &mut CachedDevice<D>,
+    memory: &LogMemory,
+    number: u16,
+) -> Result<u32, DeviceFault>
+    requires number { number < 4096 }
+    ensures answer { IfOk result (AnswersAddress (D.state device.old) (D.state device.new)
+        memory.now (Double number)) }
+    ensures failed { OnErr result (FailsFromDevice (D.state device.old)
+        (D.state device.new) memory.now) }
+    ensures no_failure { OnOk result ((D.state device.new).failures
+        ≡ (D.state device.old).failures) }
+    ensures looks { Looks (D.state device.old) (D.state device.new) }
+{
+    match inode_word(device, memory, number, DOUBLE) {
+        Ok(Some(pointer)) => Ok(pointer),
+        Ok(None) => Ok(0),
+        Err(fault) => Err(fault),
     }
 }
 
@@ -395,45 +421,4 @@ pub fn locate_leaf<D: SectorDevice>(
         Ok(pointer) => Ok(pointer),
         Err(fault) => Err(fault),
     }
-}
-
-/// Whether a block of a file is stored, and its bytes; zeros where it isn't.
-///
-/// # Errors
-///
-/// Where the block, or one on the way to it, can't be read.
-pub fn read_block<D: SectorDevice>(
-    device: &mut CachedDevice<D>,
-    memory: &LogMemory,
-    number: u16,
-    index: u32,
-    out: &mut [u8; 512],
-) -> Result<bool, DeviceFault>
-    requires number { number < 4096 }
-    ensures answer { IfOk result (AnswersBlock (D.state device.old) (D.state device.new) memory.now
-        number index out.new) }
-    ensures zeros { IfOk result (λ found. IsFalse found → out.new ≡ zeros 512) }
-    ensures failed { OnErr result (FailsFromDevice (D.state device.old)
-        (D.state device.new) memory.now) }
-    ensures no_failure { OnOk result ((D.state device.new).failures
-        ≡ (D.state device.old).failures) }
-    ensures looks { Looks (D.state device.old) (D.state device.new) }
-{
-    let address = locate_block(device, memory, number, index)?;
-    if address == 0 {
-        clear(out);
-        return Ok(false);
-    }
-    let key = BlockKey::data(number, index);
-    match copy_present(device, memory, key, address, out) {
-        Ok(()) => Ok(true),
-        Err(fault) => Err(fault),
-    }
-}
-
-#[tactic(auto, unfolding(lfs_model::specs::Fields::zeros))]
-fn clear(out: &mut [u8; 512])
-    ensures { out.new ≡ zeros 512 }
-{
-    *out = [0; 512];
 }

@@ -8,8 +8,7 @@ use Rattle.lfs_model.proofs.ObjectPointers.{leaf_tests}
 use Rattle.lfs_store.specs.Measuring.{EndsBy}
 use Rattle.lfs_model.specs.Totals.{leaf_from, leaf_to, leaves_beside, leaves_in}
 use Rattle.lfs_store.proofs.Measured.{same_leaf}
-use Rattle.lfs_store.proofs.Pointers.{empty, leaves_none, leaves_split}
-use Rattle.lfs_store.proofs.Ranges.{passing_same}
+use Rattle.lfs_store.proofs.Pointers.{empty, leaves_none, leaves_same, leaves_split}
 
 -- ---- those beside
 pub beside_split : (m : LogMap) (n from to : ℕ) → from ≤ to → to ≤ 16624 → leaves_in m n 0 129 ≡ leaves_in m n (leaf_from from) (leaf_to to) + leaves_beside m n from to
@@ -40,10 +39,6 @@ beside_none m n none from to =
     omega (arith, first, next)
 
 -- where only blocks of a range change, those beside it are as they were
-leaves_same : (m m' : LogMap) (n a b : ℕ) → ((q : ℕ) → a ≤ q → q < b → has_leaf m' n q ≡ has_leaf m n q) → leaves_in m' n a b ≡ leaves_in m n a b
-unfolding leaves_in
-leaves_same m m' n a b same = passing_same (has_leaf m' n) (has_leaf m n) a (b - a) (λ q le lt. same q le (omega (arith, le, lt)))
-
 pub beside_same : (m m' : LogMap) (n from to : ℕ) → ((i : ℕ) → (i < from) ⊎ (to ≤ i) → m'.block n i ≡ m.block n i) → leaves_beside m' n from to ≡ leaves_beside m n from to
 beside_same m m' n from to same =
     let first = leaves_same m m' n 0 (leaf_from from) (λ q le lt. same_leaf m m' n q (λ i inside. (let high = inside.1 in same i (inl (omega (arith, high, lt)))))) in

@@ -18,7 +18,6 @@ pub mod LogReads
 pub mod Writings
 pub mod Cuttings
 pub mod Makings
-pub mod Ranges
 pub mod Summing
 pub mod Measured
 pub mod Pointers

@@ -1,5 +1,5 @@
 -- How many blocks a file has with a draft, from what the draft says and what the log tells.
-use Rattle.std.specs.Prelude.{Some, Result, Ok, Err, IfOk, IsTrue, ◌↔◌}
+use Rattle.std.specs.Prelude.{min, Some, Result, Ok, Err, IfOk, IsTrue, ◌↔◌}
 use Rattle.std.proofs.Common.{◌≡◌, ◌<◌, ◌≤◌, ⊎_elim, ◌+◌, ◌-◌, ◌*◌, ℕ, Bool, true, false, not, List, [], ◌∷◌, length, nat_lt, refl, sym, ◌∙◌, ap, subst, arith}
 use mir.Val.{bool_byte}
 use Rattle.std.specs.List.{AllByRecursion}
@@ -20,11 +20,12 @@ use Rattle.lfs_cleaner.proofs.of_log.of_memory.LogMaps.{stored_none, stored_some
 use Rattle.lfs_cleaner.specs.log.Held as held
 use Rattle.lfs_cleaner.specs.log.Held.{Held, Holds, Reads}
 use Rattle.lfs_store.specs.Drafting.{NoBlock}
-use Rattle.lfs_store.specs.Measuring.{SaysStored, IsInLeaf, IsOffLeaf, KeepsLeaf, LeavesLeaf, StoresLeaf, TellsStored, TellsLeaf, CountsStored, CountsLeaves}
+use Rattle.lfs_store.specs.Measuring.{SaysStored, IsBetween, IsOff, KeepsBefore, LeavesBlocks, StoresLeaf, TellsStored, TellsLeaf, TellsDouble, CountsStored, CountsLeaves}
 use Rattle.lfs_model.specs.Totals.{leaves_in, stored_in}
 use Rattle.lfs_store.proofs.DraftedBlocks.{says_no_block}
 use Rattle.lfs_store.proofs.LogReads.{held_still, reads_none, reads_more}
-use Rattle.lfs_store.proofs.Ranges.{passing, passing_none, passing_more}
+use Rattle.lfs_cleaner.proofs.of_log.of_memory.Ranges.{passing, passing_none, passing_more, passing_same}
+use Rattle.lfs_store.proofs.Pointers.{double_is, leaves_same}
 
 -- ---- a draft
 
@@ -137,31 +138,45 @@ module _ {D : Type 0} (state : D → DeviceState) (n : ℕ) where
       absurd (cc))
 
 -- the leaf of a draft that changes none of its blocks
-same_leaf_one : (m m' : LogMap) (n q : ℕ) → ((i : ℕ) → IsInLeaf q i → m'.block n i ≡ m.block n i) → HasLeaf m n q → HasLeaf m' n q
+same_leaf_one : (m m' : LogMap) (n q : ℕ) → ((i : ℕ) → IsBetween (112 + 128 * q) (240 + 128 * q) i → m'.block n i ≡ m.block n i) → HasLeaf m n q → HasLeaf m' n q
 same_leaf_one m m' n q same has =
     let low = has.1 in
     (has.0, low, subst (λ (b : List ℕ). 0 < length b) (sym (same (112 + 128 * q + has.0) (omega arith, omega (arith, low)))) has.2)
 
-pub same_leaf : (m m' : LogMap) (n q : ℕ) → ((i : ℕ) → IsInLeaf q i → m'.block n i ≡ m.block n i) → has_leaf m' n q ≡ has_leaf m n q
+pub same_leaf : (m m' : LogMap) (n q : ℕ) → ((i : ℕ) → IsBetween (112 + 128 * q) (240 + 128 * q) i → m'.block n i ≡ m.block n i) → has_leaf m' n q ≡ has_leaf m n q
 same_leaf m m' n q same = same_tests (has_leaf m' n q) (has_leaf m n q)
     (λ on. ((leaf_tests m n).0 q).1 (same_leaf_one m' m n q (λ i inside. sym (same i inside)) (((leaf_tests m' n).0 q).0 on)))
     (λ on. ((leaf_tests m' n).0 q).1 (same_leaf_one m m' n q same (((leaf_tests m n).0 q).0 on)))
 
 module _ {D : Type 0} (state : D → DeviceState) (h h' : Held D) (c : Changes) (n : ℕ) where
-  pub log_leaf : {E : Type 0} (q : ℕ) (r : Result Bool E) → LeavesLeaf c n q → IfOk r (held.TellsLeaf state h h' n q) → IfOk r (TellsLeaf state h h' c n q)
-  log_leaf q (Ok found) left tells = λ k m0 m keeps is. same_leaf m (staged c m) n q (λ i inside. left i inside m) ∙ tells k m0 m keeps is
+  pub log_leaf : {E : Type 0} (q : ℕ) (r : Result Bool E) → LeavesBlocks c n (112 + 128 * q) (112 + 128 * q + 128) → IfOk r (held.TellsLeaf state h h' n q) → IfOk r (TellsLeaf state h h' c n q)
+  log_leaf q (Ok found) left tells = λ k m0 m keeps is. same_leaf m (staged c m) n q (λ i inside. (let high = inside.1 in left i (inside.0, omega (arith, high)) m)) ∙ tells k m0 m keeps is
   log_leaf q (Err e) left tells = tt
 
--- edits of no block of a leaf are edits of none of its blocks
-off_leaf : (n q i : ℕ) (edits : List BlockEdit) → IsInLeaf q i → AllByRecursion (IsOffLeaf n q) edits → NoBlock n i edits
-off_leaf n q i [] inside off = tt
-off_leaf n q i (e ∷ edits) inside off = ((λ is. off.0 is.0 (subst (IsInLeaf q) (sym is.1) inside)), off_leaf n q i edits inside off.1)
+-- edits of none of some blocks are edits of no one of them
+off_blocks : (n from to i : ℕ) (edits : List BlockEdit) → IsBetween from to i → AllByRecursion (IsOff n from to) edits → NoBlock n i edits
+off_blocks n from to i [] inside off = tt
+off_blocks n from to i (e ∷ edits) inside off = ((λ is. off.0 is.0 (subst (IsBetween from to) (sym is.1) inside)), off_blocks n from to i edits inside off.1)
 
-pub leaves_leaf : (c : Changes) (n q : ℕ) → KeepsLeaf c.loss n q → AllByRecursion (IsOffLeaf n q) c.blocks.items → LeavesLeaf c n q
-leaves_leaf c n q keeps off i inside m = (says_no_block c n i (off_leaf n q i c.blocks.items inside off)).1 m ∙ keeps i inside m
+pub leaves_blocks : (c : Changes) (n from to : ℕ) → KeepsBefore c.loss n to → AllByRecursion (IsOff n from to) c.blocks.items → LeavesBlocks c n from to
+leaves_blocks c n from to keeps off i inside m = (says_no_block c n i (off_blocks n from to i c.blocks.items inside off)).1 m ∙ keeps i inside.1 m
+
+-- and they are as many
+module _ {D : Type 0} (state : D → DeviceState) (h h' : Held D) (c : Changes) (n : ℕ) where
+  pub log_count : {E : Type 0} (from to : ℕ) (r : Result ℕ E) → LeavesBlocks c n from to → IfOk r (held.CountsBlocks state h h' n from to) → IfOk r (CountsStored state h h' c n from to)
+  unfolding stored_in
+  log_count from to (Ok count) left tells = λ k m0 m keeps is.
+      passing_same (is_stored (staged c m) n) (is_stored m n) from (to - from) (λ i le lt. test_same ((staged c m).block n i) (m.block n i) (left i (le, omega (arith, lt)) m)) ∙ tells k m0 m keeps is
+  log_count from to (Err e) left tells = tt
+
+  pub log_double : {E : Type 0} (size : ℕ) (r : Result Bool E) → LeavesBlocks c n 240 16624 → IfOk r (held.TellsDouble state h h' n) → IfOk r (TellsDouble state h h' c n size)
+  log_double size (Ok found) left tells = λ k m0 m keeps is ends.
+      ap one_if (sym (tells k m0 m keeps is)) ∙ double_is m n
+      ∙ ap (λ (l : ℕ). min l 1) (sym (leaves_same m (staged c m) n 1 129 (λ q le lt. same_leaf m (staged c m) n q (λ i inside. (let low = inside.0 in let high = inside.1 in left i (omega (arith, low, le), omega (arith, high, lt)) m)))))
+  log_double size (Err e) left tells = tt
 
 -- a draft that stores a block of a leaf
-pub stores_leaf : (c : Changes) (n q i : ℕ) → IsInLeaf q i → SaysStored c n i (Some true) → StoresLeaf c n q
+pub stores_leaf : (c : Changes) (n q i : ℕ) → IsBetween (112 + 128 * q) (112 + 128 * q + 128) i → SaysStored c n i (Some true) → StoresLeaf c n q
 stores_leaf c n q i inside says m =
     let low = inside.0 in
     let high = inside.1 in

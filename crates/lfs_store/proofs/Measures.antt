@@ -22,7 +22,7 @@ use Rattle.lfs_store.proofs.LogReads.{held_still}
 use Rattle.lfs_store.proofs.Leaves.{beside_none, beside_split, leaves_to_end}
 use Rattle.lfs_store.proofs.Measured.{CountedUpTo, Tells, counts_leaves}
 use Rattle.lfs_store.proofs.Pointers.{double_beside, double_found, double_none, pointers_all}
-use Rattle.lfs_store.proofs.Ranges.{passing_nothing}
+use Rattle.lfs_cleaner.proofs.of_log.of_memory.Ranges.{passing_nothing}
 use Rattle.lfs_store.proofs.Summing.{stored_split}
 
 -- ---- the end of a file

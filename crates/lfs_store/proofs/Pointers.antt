@@ -11,7 +11,7 @@ use Rattle.lfs_model.specs.Stands.{LogMap, count_up}
 use Rattle.lfs_model.proofs.ObjectPointers.{leaf_tests, pointer_count}
 use Rattle.lfs_store.specs.Measuring.{EndsBy}
 use Rattle.lfs_model.specs.Totals.{leaves_in}
-use Rattle.lfs_store.proofs.Ranges.{passing, passing_none, passing_first, passing_split, passing_nothing}
+use Rattle.lfs_cleaner.proofs.of_log.of_memory.Ranges.{passing, passing_none, passing_first, passing_split, passing_nothing, passing_same}
 
 -- ---- ranges
 any_first : (p : ℕ → Bool) (a n : ℕ) → one_if (list_any p (range_with_len a (suc n))) ≡ one_if (p a || list_any p (range_with_len (a + 1) n))
@@ -62,6 +62,13 @@ module _ (m : LogMap) (n : ℕ) where
       let up = by_leaves (one_if (has_leaf m n 0)) (passing (has_leaf m n) 1 below) refl (ap (passing (has_leaf m n) 1) (sym is)) in
       let first = ap (passing (has_leaf m n) 0) next ∙ passing_first (has_leaf m n) 0 below in
       omega (arith, up, first)
+
+  double_of : (below : ℕ) → below ≡ 128 → one_if (has_double m n) ≡ min (passing (has_leaf m n) 1 below) 1
+  double_of below is = double_count ∙ ap (λ (k : ℕ). min k 1) (below_count ∙ ap (passing (has_leaf m n) 1) (sym is))
+
+  pub double_is : one_if (has_double m n) ≡ min (leaves_in m n 1 129) 1
+  unfolding leaves_in
+  double_is = double_of (129 - 1) (omega arith)
 
   pub pointers_all : pointers (stored_blocks m n) ≡ leaves_in m n 0 129 + min (leaves_in m n 1 129) 1
   unfolding leaves_in
@@ -117,6 +124,11 @@ module _ (m : LogMap) (n : ℕ) where
         let split = leaves_split 1 (max end 1) 129 (omega arith) (omega (arith, few)) in
         let rest = leaves_none (max end 1) 129 (λ q le lt. empty q (omega (arith, le)) (omega (arith, lt))) in
         omega (arith, split, none, rest)
+
+-- the same leaves are as many
+pub leaves_same : (m m' : LogMap) (n a b : ℕ) → ((q : ℕ) → a ≤ q → q < b → has_leaf m' n q ≡ has_leaf m n q) → leaves_in m' n a b ≡ leaves_in m n a b
+unfolding leaves_in
+leaves_same m m' n a b same = passing_same (has_leaf m' n) (has_leaf m n) a (b - a) (λ q le lt. same q le (omega (arith, le, lt)))
 
 -- as many leaves as the blocks of a size need, or all
 pub leaves_cover : (size blocks leaves end : ℕ) → blocks ≡ div_ceil size 512 → leaves ≡ div_ceil (blocks - 112) 128 → end ≡ min leaves 129 → (size ≤ 512 * (112 + 128 * end)) ⊎ (129 ≤ end)

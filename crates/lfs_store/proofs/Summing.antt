@@ -7,7 +7,7 @@ use Rattle.lfs_model.specs.Objects.{IsChangedAt, is_stored, stored_below}
 use Rattle.lfs_model.specs.Stands.{LogMap}
 use Rattle.lfs_model.proofs.ObjectNeeds.{filter_same}
 use Rattle.lfs_model.specs.Totals.{stored_in, meta_of_file, sum_upto, TotalsOfChange}
-use Rattle.lfs_store.proofs.Ranges.{passing, passing_split, passing_same}
+use Rattle.lfs_cleaner.proofs.of_log.of_memory.Ranges.{passing, passing_split, passing_same}
 
 -- ---- sums
 sum_same : (f g : ℕ → ℕ) (k : ℕ) → ((j : ℕ) → j ≤ k → g j ≡ f j) → sum_upto g k ≡ sum_upto f k

@@ -23,23 +23,23 @@ abbrev pub SaysStored : Changes → ℕ → ℕ → Option Bool → Type 0
 SaysStored c n i None = (m : LogMap) → (staged c m).block n i ≡ m.block n i
 SaysStored c n i (Some found) = (m : LogMap) → is_stored (staged c m) n i ≡ found
 
--- an index is one of leaf q: 112 to 239 are those of leaf 0, and so on
-abbrev pub IsInLeaf : ℕ → ℕ → Type 0
-IsInLeaf q i = (112 + 128 * q ≤ i) × (i < 240 + 128 * q)
+-- an index is one from one on to another
+abbrev pub IsBetween : ℕ → ℕ → ℕ → Type 0
+IsBetween from to i = (from ≤ i) × (i < to)
 
--- an edit is none of a block of leaf q of file n
-abbrev pub IsOffLeaf : ℕ → ℕ → BlockEdit → Type 0
-IsOffLeaf n q e = e.number ≡ n → IsInLeaf q e.index → ⊥
+-- an edit is none of such a block of file n
+abbrev pub IsOff : ℕ → ℕ → ℕ → BlockEdit → Type 0
+IsOff n from to e = e.number ≡ n → IsBetween from to e.index → ⊥
 
--- a loss takes none of the blocks of leaf q of file n
-abbrev pub KeepsLeaf : Loss → ℕ → ℕ → Type 0
-KeepsLeaf x n q = (i : ℕ) → IsInLeaf q i → KeepsBlock x n i
+-- a loss takes none of its blocks before an index
+abbrev pub KeepsBefore : Loss → ℕ → ℕ → Type 0
+KeepsBefore x n to = (i : ℕ) → i < to → KeepsBlock x n i
 
--- after a draft they are as they were
-abbrev pub LeavesLeaf : Changes → ℕ → ℕ → Type 0
-LeavesLeaf c n q = (i : ℕ) → IsInLeaf q i → (m : LogMap) → (staged c m).block n i ≡ m.block n i
+-- after a draft those from one on to another are as they were
+abbrev pub LeavesBlocks : Changes → ℕ → ℕ → ℕ → Type 0
+LeavesBlocks c n from to = (i : ℕ) → IsBetween from to i → (m : LogMap) → (staged c m).block n i ≡ m.block n i
 
--- it stores one of them
+-- it stores one of leaf q: those from 112 to 239 are of leaf 0, and so on
 abbrev pub StoresLeaf : Changes → ℕ → ℕ → Type 0
 StoresLeaf c n q = (m : LogMap) → has_leaf (staged c m) n q ≡ true
 

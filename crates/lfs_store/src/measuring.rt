@@ -2,7 +2,7 @@
 ghost use Rattle.std.specs.Prelude.{◌≡◌, ◌<◌, ◌≤◌, ◌-◌, true, IfSome, IfNone, IfOk, OnErr, IsErrOf, IsTrue, IsFalse};
 ghost use Rattle.std.specs.List.{AllByRecursion};
 ghost use Rattle.lfs_cleaner.specs.log.Held.{Reads, IsReadFault};
-ghost use Rattle.lfs_store.specs.Measuring.{SaysStored, IsInLeaf, IsOffLeaf, KeepsLeaf, LeavesLeaf, StoresLeaf, IsLeafRange, TellsStored, TellsLeaf, TellsDouble, CountsStored, CountsLeaves, CountsPointers};
+ghost use Rattle.lfs_store.specs.Measuring.{SaysStored, IsBetween, IsOff, KeepsBefore, LeavesBlocks, StoresLeaf, IsLeafRange, TellsStored, TellsLeaf, TellsDouble, CountsStored, CountsLeaves, CountsPointers};
 
 use crate::draft::Draft;
 use crate::losing::takes_block;
@@ -113,7 +113,8 @@ fn has_leaf<D: SectorDevice>(
     if stores_leaf(draft, number, leaf) {
         return Ok(true);
     }
-    if changes_leaf(draft, number, leaf) {
+    let first = DIRECT + POINTERS * leaf;
+    if changes_blocks(draft, number, first, first + POINTERS) {
         return search_leaf(log, draft, number, leaf);
     }
     log.has_leaf(number.value, leaf)
@@ -145,8 +146,35 @@ fn search_leaf<D: SectorDevice>(
     Ok(false)
 }
 
-/// How many blocks of a file are stored at the indices from one on to another.
+/// How many blocks of a file are stored at the indices from one on to another. Where they are more
+/// than one, and the draft changes none of them, they are counted by their blocks of pointers.
 fn count_stored<D: SectorDevice>(
+    log: &mut Log<D>,
+    draft: &Draft,
+    number: FileNumber,
+    from: u32,
+    to: u32,
+) -> Result<u32, LogFault>
+    requires order { from ≤ to }
+    ensures reads { Reads D.state log.old log.new }
+    ensures few { IfOk result (λ count. count ≤ to - from) }
+    ensures answer { IfOk result
+        (CountsStored D.state log.old log.new draft.now.changes number.value from to) }
+    ensures failed { OnErr result (IsReadFault D.state log.old log.new) }
+    ensures halted { IsErrOf result LogFault.Halted → log.old.halted ≡ true }
+    ensures other { IsErrOf result LogFault.Full → ⊥ }
+{
+    if to - from < 2 {
+        return count_each(log, draft, number, from, to);
+    }
+    if changes_blocks(draft, number, from, to) {
+        return count_each(log, draft, number, from, to);
+    }
+    log.count_blocks(number.value, from, to)
+}
+
+/// Looks at each block of a file from one index on to another, and counts those that are stored.
+fn count_each<D: SectorDevice>(
     log: &mut Log<D>,
     draft: &Draft,
     number: FileNumber,
@@ -202,6 +230,26 @@ fn count_leaves<D: SectorDevice>(
 
 /// Whether the double root of pointers of a file of this size is stored, since a leaf below it is.
 fn has_double<D: SectorDevice>(
+    log: &mut Log<D>,
+    draft: &Draft,
+    number: FileNumber,
+    size: u32,
+) -> Result<bool, LogFault>
+    ensures reads { Reads D.state log.old log.new }
+    ensures answer { IfOk result
+        (TellsDouble D.state log.old log.new draft.now.changes number.value size) }
+    ensures failed { OnErr result (IsReadFault D.state log.old log.new) }
+    ensures halted { IsErrOf result LogFault.Halted → log.old.halted ≡ true }
+    ensures other { IsErrOf result LogFault.Full → ⊥ }
+{
+    if changes_blocks(draft, number, DIRECT + POINTERS, BLOCKS) {
+        return search_double(log, draft, number, size);
+    }
+    log.has_double(number.value)
+}
+
+/// Looks at each leaf of pointers below the double root of a file of this size, until one is stored.
+fn search_double<D: SectorDevice>(
     log: &mut Log<D>,
     draft: &Draft,
     number: FileNumber,
@@ -294,7 +342,9 @@ fn stores_leaf(draft: &Draft, number: FileNumber, leaf: u32) -> bool
     requires { leaf ≤ 128 }
     ensures { IsTrue result → StoresLeaf draft.now.changes number.value leaf }
 {
-    let Some(index) = index_below(&draft.changes.blocks, number.value, leaf) else {
+    let first = DIRECT + POINTERS * leaf;
+    let edits = &draft.changes.blocks;
+    let Some(index) = index_between(edits, number.value, first, first + POINTERS) else {
         return false;
     };
     match stored_after(draft, number, index) {
@@ -303,53 +353,49 @@ fn stores_leaf(draft: &Draft, number: FileNumber, leaf: u32) -> bool
     }
 }
 
-/// Whether a draft changes a block below a leaf of pointers of a file.
-fn changes_leaf(draft: &Draft, number: FileNumber, leaf: u32) -> bool
-    requires { leaf ≤ 128 }
-    ensures { IsFalse result → LeavesLeaf draft.now.changes number.value leaf }
+/// Whether a draft changes a block of a file at the indices from one on to another.
+fn changes_blocks(draft: &Draft, number: FileNumber, from: u32, to: u32) -> bool
+    ensures { IsFalse result → LeavesBlocks draft.now.changes number.value from to }
 {
-    match index_below(&draft.changes.blocks, number.value, leaf) {
+    match index_between(&draft.changes.blocks, number.value, from, to) {
         Some(_) => true,
-        None => takes_below(&draft.changes.loss, number.value, leaf),
+        None => takes_before(&draft.changes.loss, number.value, to),
     }
 }
 
-/// Whether a loss takes a block below a leaf of pointers of a file.
-fn takes_below(loss: &Loss, number: u16, leaf: u32) -> bool
-    requires { leaf ≤ 128 }
-    ensures { IsFalse result → KeepsLeaf loss.now number leaf }
+/// Whether a loss takes a block of a file before an index.
+fn takes_before(loss: &Loss, number: u16, to: u32) -> bool
+    ensures { IsFalse result → KeepsBefore loss.now number to }
 {
     match loss {
         Loss::Nothing => false,
         Loss::FirstVersion => false,
-        Loss::Blocks(cut) => cut.number == number && cut.first < DIRECT + POINTERS * (leaf + 1),
+        Loss::Blocks(cut) => cut.number == number && cut.first < to,
         Loss::Link(_) => false,
         Loss::File(removal) => removal.number == number,
     }
 }
 
-/// The index of the last of these blocks that is below a leaf of pointers of a file.
-fn index_below(edits: &[BlockEdit], number: u16, leaf: u32) -> Option<u32>
-    requires { leaf ≤ 128 }
-    ensures some { IfSome result (IsInLeaf leaf) }
-    ensures none { IfNone result (AllByRecursion (IsOffLeaf number leaf) edits.now) }
+/// The index of the last of these blocks that is one of a file at the indices from one on to
+/// another.
+fn index_between(edits: &[BlockEdit], number: u16, from: u32, to: u32) -> Option<u32>
+    ensures some { IfSome result (IsBetween from to) }
+    ensures none { IfNone result (AllByRecursion (IsOff number from to) edits.now) }
 {
     let mut place = edits.len();
     while place > 0 {
         place -= 1;
-        if is_below(&edits[place], number, leaf) {
+        if is_between(&edits[place], number, from, to) {
             return Some(edits[place].index);
         }
     }
     None
 }
 
-/// Whether this is a block below a leaf of pointers of a file.
-fn is_below(edit: &BlockEdit, number: u16, leaf: u32) -> bool
-    requires { leaf ≤ 128 }
-    ensures inside { IsTrue result → IsInLeaf leaf edit.now.index }
-    ensures off { IsFalse result → IsOffLeaf number leaf edit.now }
+/// Whether this is a block of a file at the indices from one on to another.
+fn is_between(edit: &BlockEdit, number: u16, from: u32, to: u32) -> bool
+    ensures inside { IsTrue result → IsBetween from to edit.now.index }
+    ensures off { IsFalse result → IsOff number from to edit.now }
 {
-    let first = DIRECT + POINTERS * leaf;
-    edit.number == number && first <= edit.index && edit.index < first + POINTERS
+    edit.number == number && from <= edit.index && edit.index < to
 }

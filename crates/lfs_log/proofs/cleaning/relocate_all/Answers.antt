@@ -1,7 +1,6 @@
-use Rattle.std.proofs.Common.{rules, ◌≡◌, refl, subst, ◌∙◌, sym, ap, length, arith}
-use Rattle.lfs_memory.specs.declared.memory.LogMemory.{LogMemory}
+use Rattle.std.proofs.Common.{rules, refl, ◌∙◌, arith}
 use Rattle.lfs_memory.proofs.Presents.{looks_none}
-use Rattle.lfs_log.specs.Relocating.{IsAmong, VacatesAll}
+use Rattle.lfs_log.specs.Relocating.{IsAmong}
 use Rattle.lfs_log.proofs.CameIn.{came_among, came_none, came_then, misses_among, misses_then}
 use Rattle.lfs_log.proofs.Relocated.{relocated_excused, relocates_looks, relocates_then}
 use Rattle.lfs_log.proofs.Vacated.{vacates_more, vacates_none}

@@ -1,8 +1,7 @@
-use Rattle.std.proofs.Common.{◌≤◌, ◌+◌, ◌∙◌, [], ◌≡◌, length, sym, subst, ap, arith}
+use Rattle.std.proofs.Common.{◌+◌, ◌∙◌, length, sym, subst, ap, arith}
 use Rattle.lfs_memory.specs.segments.Chunk.{Chunk}
 use Rattle.lfs_memory.specs.segments.Table.{UsageTable, clean_in}
 use Rattle.lfs_memory.specs.inodes.Blocks.{TableValue}
-use Rattle.lfs_memory.specs.inodes.MapValue.{MapValue}
 use Rattle.lfs_memory.specs.Memory.{Stops, AreMapsOut}
 use Rattle.lfs_log.proofs.Saves.{segments_taken, room_there, many_spare}
 use Rattle.lfs_log.proofs.committing.write_out.Goals as goal

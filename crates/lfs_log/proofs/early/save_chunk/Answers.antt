@@ -1,4 +1,4 @@
-use Rattle.std.proofs.Common.{rules, ◌≡◌, ◌≤◌, ◌+◌, ◌∙◌, true, length, refl, arith}
+use Rattle.std.proofs.Common.{rules, ◌≡◌, ◌≤◌, ◌∙◌, true, refl, arith}
 use Rattle.lfs_memory.specs.inodes.Data.{data_count, is_data_code}
 use Rattle.lfs_memory.specs.Memory.{Stops}
 use Rattle.lfs_memory.proofs.Going.{on_err, goes_none, goes_then, stops_then, has_room_still}

@@ -1,10 +1,8 @@
-use Rattle.std.proofs.Common.{◌≡◌, ◌≤◌, ◌+◌, ◌∙◌, length, sym, ap, arith}
+use Rattle.std.proofs.Common.{◌+◌, ◌∙◌, length, ap, arith}
 use Rattle.lfs_memory.specs.segments.Table.{UsageTable, clean_in}
-use Rattle.lfs_memory.specs.segments.Early.{early_in}
 use Rattle.lfs_memory.specs.inodes.Blocks.{TableValue}
 use Rattle.lfs_memory.specs.inodes.Data.{data_count}
-use Rattle.lfs_memory.specs.declared.memory.LogMemory.{LogMemory}
-use Rattle.lfs_memory.specs.Memory.{Goes, Stops}
+use Rattle.lfs_memory.specs.Memory.{Stops}
 use Rattle.lfs_memory.proofs.Going.{on_err, goes_then, stops_then}
 use Rattle.lfs_log.proofs.EarlyBlocks.{ended_fresh, ended_goes, one_segment, chunk_due, chunk_told}
 use Rattle.lfs_log.proofs.early.write_chunk.Goals as goal

@@ -1,4 +1,4 @@
-use Rattle.std.proofs.Common.{rules, ◌≡◌, ◌<◌, ◌≤◌, ◌⊎◌, inl, inr, ◌+◌, ◌∙◌, length, refl, sym, ap, subst, arith}
+use Rattle.std.proofs.Common.{rules, ◌<◌, ◌≤◌, inl, inr, length, refl, ap, arith}
 use Rattle.lfs_memory.specs.segments.Table.{clean_in}
 use Rattle.lfs_memory.specs.inodes.Data.{data_count}
 use Rattle.lfs_memory.specs.declared.memory.LogMemory.{LogMemory}

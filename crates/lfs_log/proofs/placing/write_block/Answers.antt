@@ -19,7 +19,7 @@ returns-in_err-write-clause-stopped g c =
     on_err c.from_residual.result
     (Stops (g.D.SectorDevice.state c.args.device.now) (g.D.SectorDevice.state c.write.new.device) c.args.memory.now)
     (place_stops c.args.memory.now c.next_place-address.new.self c.name.result (not c.is_hidden-lives.result) c.args.age c.next_place-address.result c.requires.memory c.next_place-address.ensures.placed
-    (g.D.SectorDevice.state c.args.device.now) (g.D.SectorDevice.state c.write.new.device) c.unwrap.result.now
+    (g.D.SectorDevice.state c.args.device.now) (g.D.SectorDevice.state c.write.new.device) c.unwrap-bytes.result.now
     c.in_err-write.ensures.crash c.in_err-write.ensures.carries c.in_err-write.ensures.time (g.met.D.SectorDevice.lawful c.args.device.now)
     c.in_err-write.ensures.failed_write c.in_err-write.ensures.failed)
 
@@ -28,12 +28,13 @@ pub returns-clause-done : goal.returns-clause-done
 returns-clause-done g c =
     let x = entry_of c.args.key in
     let file : file_of x ≡ Some c.file.result = file_by (c.args.key.code / 134217728) (c.args.key.code / 32768 % 4096) (c.args.key.code % 32768) ∙ ap Some (sym c.file.ensures.file) in
-    let there : blocks_of c.args.memory.now.dirty x ≡ Some c.unwrap.result.now = search rules in
+    let shown : blocks_of c.next_place-address.new.self.dirty x ≡ Some c.unwrap-bytes.result.now = search rules in
+    let there = sym (ap (λ (t : TableValue). blocks_of t x) c.next_place-address.ensures.placed.dirty) ∙ shown in
     let few = c.file.ensures.few in
     goes_to 63 (g.D.SectorDevice.state c.args.device.now) (g.D.SectorDevice.state c.write.new.device) c.args.memory.now c.point.new.self
     c.next_place-address.new.self.usage c.moved.new.self c.next_place-address.new.self.chunk 1 c.point.ensures.usage c.point.ensures.dirty c.point.ensures.chunk
     (file_goes c.args.memory.now c.next_place-address.new.self c.name.result (not c.is_hidden-lives.result) c.args.age c.next_place-address.result c.requires.memory c.next_place-address.ensures.placed
-    x c.file.result file c.point.new.self.map (subst (λ (a : MapValue). IsPointedAt a c.point.new.self.map x c.next_place-address.result) c.next_place-address.ensures.placed.map c.point.ensures.points) (g.D.SectorDevice.state c.args.device.now) (g.D.SectorDevice.state c.write.new.device) c.unwrap.result.now c.moved.new.self
+    x c.file.result file c.point.new.self.map (subst (λ (a : MapValue). IsPointedAt a c.point.new.self.map x c.next_place-address.result) c.next_place-address.ensures.placed.map c.point.ensures.points) (g.D.SectorDevice.state c.args.device.now) (g.D.SectorDevice.state c.write.new.device) c.unwrap-bytes.result.now c.moved.new.self
     c.in_ok-write.ensures.crash c.in_ok-write.ensures.carries c.in_ok-write.ensures.time (g.met.D.SectorDevice.lawful c.args.device.now)
     c.in_ok-write.ensures.written c.name.ensures.entry c.requires.lowest there
     (subst (λ (t : TableValue). Moves (blocks_of t) (blocks_of c.moved.new.self) x c.next_place-address.result) c.next_place-address.ensures.placed.dirty c.moved.ensures.moves)
@@ -51,8 +52,7 @@ returns-clause-early g c fresh =
 
 pub returns-clause-data_blocks : goal.returns-clause-data_blocks
 returns-clause-data_blocks g c kind =
-    let there : blocks_of c.args.memory.now.dirty (entry_of c.args.key) ≡ Some c.unwrap.result.now = search rules in
-    let same = c.next_place-address.ensures.placed.dirty in
+    let shown : blocks_of c.next_place-address.new.self.dirty (entry_of c.args.key) ≡ Some c.unwrap-bytes.result.now = search rules in
     ap (λ (t : TableValue). data_count t + 1) c.point.ensures.dirty
-    ∙ c.moved.ensures.data_blocks c.unwrap.result.now (ap (λ (t : TableValue). blocks_of t (entry_of c.args.key)) same ∙ there) kind
-    ∙ ap data_count same
+    ∙ c.moved.ensures.data_blocks c.unwrap-bytes.result.now shown kind
+    ∙ ap data_count c.next_place-address.ensures.placed.dirty

@@ -2,7 +2,7 @@ use Rattle.std.proofs.Common.{rules, arith, ⊎_elim, ◌≡◌, ◌∙◌, ap, 
 use Rattle.std.specs.Prelude.{None}
 use Rattle.lfs_model.specs.Entry.{Inode}
 use Rattle.lfs_memory.specs.declared.memory.LogMemory.{LogMemory}
-use Rattle.lfs_memory.specs.inodes.Blocks.{TableValue, blocks_of}
+use Rattle.lfs_memory.specs.inodes.Blocks.{blocks_of}
 use Rattle.lfs_memory.specs.inodes.Key.{entry_of}
 use Rattle.lfs_memory.specs.inodes.MapValue.{address_in}
 use Rattle.lfs_memory.specs.Lifting.{IsInMemory}

@@ -1,4 +1,4 @@
-use Rattle.std.proofs.Common.{rules, ◌≡◌, ◌<◌, ◌≤◌, ◌+◌, ◌*◌, refl, sym, ◌∙◌, ap, subst, length, arith}
+use Rattle.std.proofs.Common.{rules, ◌≡◌, ◌≤◌, ◌+◌, ◌*◌, refl, sym, ◌∙◌, ap, subst, length, arith}
 use Rattle.lfs_memory.specs.segments.Table.{used_of}
 use Rattle.lfs_memory.proofs.Presents.{looks_none}
 use Rattle.lfs_log.specs.Relocating.{IsBetween}

@@ -1,8 +1,8 @@
-use Rattle.std.proofs.Common.{rules, ◌≡◌, ◌<◌, ◌≤◌, ◌-◌, arith, true, false, T, length}
+use Rattle.std.proofs.Common.{rules, ◌≡◌, ◌<◌, ◌-◌, arith, true, false, T, length}
 use Rattle.std.specs.Ordering.{nat_cmp}
 use Rattle.std.specs.FinMap.{is_sorted}
 use Rattle.lfs_inodes.specs.Blocks.{number_at}
-use Rattle.lfs_inodes.specs.Data.{is_data_code, data_count}
+use Rattle.lfs_inodes.specs.Data.{is_data_code}
 use Rattle.lfs_inodes.proofs.Data.{has_data, lacks_data}
 use Rattle.lfs_inodes.proofs.table.DirtyTable.has_data.Goals as goal
 

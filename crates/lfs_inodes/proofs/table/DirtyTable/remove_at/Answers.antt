@@ -18,8 +18,8 @@ invariant_of-self c =
     let formed : IsCode (number_at c.args.self.now.blocks c.args.at) = codes_value _ c.self.inside.places.items c.self.inside.arena.items c.args.self.now c.self.view_is c.args.at c.requires in
     let items : c.push.new.self.items ≡ c.self.inside.spare.items ++ c.remove-place.result.spot ∷ [] = rw c.unwrap.ensures at c.push.ensures.items in
     let less = c.remove-place.ensures.capacity in (
-      subst (λ (ps : List Place). IsTableOf ps c.self.inside.arena.items c.push.new.self.items c.self.inside.limit (vec_capacity c.remove-place.new.self) (vec_capacity c.push.new.self)) (sym c.remove-place.ensures.items)
-          (wider _ _ _ _ _ _ _ _ (held_left c.self.inside.places.items c.self.inside.arena.items c.self.inside.spare.items _ _ _ c.self.invariant.0 c.args.self.now c.self.view_is _ c.args.at at c.remove-place.result c.remove-place.ensures.value c.push.new.self.items items) (omega arith) c.push.ensures.capacity),
+      subst (λ (ps : List Place). IsTableOf ps c.self.inside.arena.items c.push.new.self.items c.self.inside.limit c.self.inside.room (record { for_places = vec_capacity c.remove-place.new.self; for_arena = vec_capacity c.self.inside.arena; for_spare = vec_capacity c.push.new.self })) (sym c.remove-place.ensures.items)
+          (wider _ _ _ _ _ _ _ (held_left c.self.inside.places.items c.self.inside.arena.items c.self.inside.spare.items _ _ _ c.self.invariant.0 c.args.self.now c.self.view_is _ c.args.at at c.remove-place.result c.remove-place.ensures.value c.push.new.self.items items) (omega arith) (omega arith) c.push.ensures.capacity),
       λ h. subst (λ (ps : List Place). IsTightUnless c.self.inside.loose ps c.self.inside.arena.items) (sym c.remove-place.ensures.items)
           (λ h. tight_left c.self.inside.places.items c.self.inside.arena.items c.self.inside.spare.items _ _ _ c.self.invariant.0 c.args.self.now c.self.view_is _ c.args.at at c.remove-place.result c.remove-place.ensures.value formed (c.self.invariant.1 h)) h,
     )
@@ -32,7 +32,7 @@ returns-clause-others c = sym (without_at c.args.self.now.blocks
 pub returns-clause-removed : goal.returns-clause-removed
 returns-clause-removed c =
     let at : HasNumberAt c.args.self.now.blocks (number_at c.args.self.now.blocks c.args.at) c.args.at = record { within = c.requires; number = refl } in
-    ap (λ (ps : List Place). value_of c.self.inside.limit ps c.self.inside.arena.items) c.remove-place.ensures.items
+    ap (λ (ps : List Place). value_of (record { limit = c.self.inside.limit; room = c.self.inside.room }) ps c.self.inside.arena.items) c.remove-place.ensures.items
     ∙ removed_value c.self.inside.places.items c.self.inside.arena.items c.self.inside.spare.items _ _ _ c.self.invariant.0 c.args.self.now c.self.view_is _ c.args.at at c.remove-place.result c.remove-place.ensures.value
     ∙ ap (λ (es : Blocks). record c.args.self.now { blocks = es }) (sym (returns-clause-others c))
 
@@ -44,7 +44,7 @@ returns-clause-changed c =
     (changed_without c.args.self.now.blocks (number_at c.args.self.now.blocks c.args.at) formed)
 
 pub returns-clause-codes : goal.returns-clause-codes
-returns-clause-codes c = codes_value c.self.inside.limit c.remove-place.new.self.items c.self.inside.arena.items _ refl
+returns-clause-codes c = codes_value (record { limit = c.self.inside.limit; room = c.self.inside.room }) c.remove-place.new.self.items c.self.inside.arena.items _ refl
 
 pub returns-clause-length : goal.returns-clause-length
 returns-clause-length c =

@@ -1,7 +1,7 @@
-use Rattle.std.proofs.Common.{rules, ◌≡◌, ◌≤◌, ◌+◌, true, false, refl, subst, length, arith}
+use Rattle.std.proofs.Common.{rules, ◌≤◌, ◌+◌, true, false, subst, length, arith}
 use Rattle.lfs_memory.specs.declared.memory.LogMemory.{LogMemory}
 use Rattle.lfs_log.specs.Versions.{number_of}
-use Rattle.lfs_log.specs.Cleaning.{Cleans, MayClean, most_brought}
+use Rattle.lfs_log.specs.Cleaning.{Cleans, most_brought}
 use Rattle.lfs_log.specs.Held.{Held, Halts, IsReadFault}
 use Rattle.lfs_log.proofs.Passes.{pass_done, pass_halts, pass_spared}
 use Rattle.lfs_log.proofs.Volumes.{read_fault}

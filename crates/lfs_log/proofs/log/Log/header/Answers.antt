@@ -1,6 +1,7 @@
 use Rattle.std.proofs.Common.{subst}
 use Rattle.lfs_log.specs.Versions.{number_of}
 use Rattle.lfs_log.specs.Held.{Held, ReadsHeader, IsReadFault}
+use Rattle.lfs_log.proofs.KeptRuns.{kept_still}
 use Rattle.lfs_log.proofs.log.Log.header.Goals as goal
 use Rattle.lfs_log.proofs.Volumes.{reads_header, read_fault}
 
@@ -17,3 +18,13 @@ returns-clause-answer g c =
     let after : Held g.row.D.Denot = record { device = c.read_header.new.device; memory = c.self.inside.memory; number = c.self.inside.number; version = number_of c.self.inside.version; upgraded = c.self.inside.upgraded; halted = c.self.inside.halted; totals = c.self.inside.totals } in
     subst (λ (h : Held g.row.D.Denot). ReadsHeader g.D.SectorDevice.state h after c.args.number c.in-Ok.header) c.self.view_is
     (reads_header g.D.SectorDevice.state before after c.args.number c.in-Ok.header c.in-Ok.ensures.answer)
+
+pub invariant_of-self : goal.invariant_of-self
+invariant_of-self g c =
+    kept_still (g.D.SectorDevice.state c.self.inside.device) (g.D.SectorDevice.state c.read_header.new.device) c.self.inside.memory c.self.inside.before.usage c.self.inside.halted c.self.inside.pointers
+    c.read_header.ensures.looks c.self.invariant
+
+pub invariant_of-self-2 : goal.invariant_of-self-2
+invariant_of-self-2 g c =
+    kept_still (g.D.SectorDevice.state c.self.inside.device) (g.D.SectorDevice.state c.read_header.new.device) c.self.inside.memory c.self.inside.before.usage c.self.inside.halted c.self.inside.pointers
+    c.read_header.ensures.looks c.self.invariant

@@ -48,11 +48,11 @@ returns-in-Ok-open_memory-clause-many g c =
     many d d lawful lawful c.requires.durable (looks_none d lawful) c.args.tables c.requires.loaded c.requires.found opened.memory is.chunk is.dirty told.usage told.map
 
 pub invariant_of-result : goal.invariant_of-result
-invariant_of-result g c on =
+invariant_of-result g c =
     let d = g.D.SectorDevice.state c.args.device in
     let opened = c.in-Ok-open_memory.opened in
     let told = c.in-Ok-open_memory.ensures in
-    ready d opened.memory opened.before.usage (told.opened d.size c.requires.loaded) told.saved
+    ((λ on. ready d opened.memory opened.before.usage (told.opened d.size c.requires.loaded) told.saved), tt)
 
 pub returns-in-Ok-open_memory-clause-empty : goal.returns-in-Ok-open_memory-clause-empty
 returns-in-Ok-open_memory-clause-empty g c = record { blocks = (c.in-Ok-open_memory.ensures.opened (g.D.SectorDevice.state c.args.device).size c.requires.loaded).dirty; version = refl; sectors = subst AreUntaken (sym c.in-Ok-open_memory.ensures.usage) c.requires.loaded.usage.untaken }

@@ -1,10 +1,10 @@
-use Rattle.std.proofs.Common.{◌≡◌, ◌<◌, ◌≤◌, ◌⊎◌, ⊎_elim, inl, inr, true, false, length, refl, ap₂, subst}
+use Rattle.std.proofs.Common.{◌≡◌, ◌≤◌, ⊎_elim, inl, inr, true, length, refl, ap₂, subst}
 use Rattle.lfs_memory.specs.segments.Table.{clean_in}
 use Rattle.lfs_memory.specs.declared.memory.LogMemory.{LogMemory}
 use Rattle.lfs_log.specs.Versions.{number_of}
 use Rattle.lfs_log.specs.Early.{reserve_of}
 use Rattle.lfs_log.specs.Held.{Held, Halts, WritesEarly}
-use Rattle.lfs_log.proofs.EarlyWrites.{early_halts, early_ready, writes_early}
+use Rattle.lfs_log.proofs.EarlyWrites.{early_halts, writes_early}
 use Rattle.lfs_log.proofs.log.Log.write_early.Goals as goal
 
 pub returns-in-Ok-clause-done : goal.returns-in-Ok-clause-done

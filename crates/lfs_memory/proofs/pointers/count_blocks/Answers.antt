@@ -1,0 +1,37 @@
+use Rattle.std.proofs.Common.{◌≡◌, arith}
+use Rattle.lfs_memory.proofs.PointerRuns.{counted_none, counted_more, counted_fault, counted_all}
+use Rattle.lfs_memory.proofs.pointers.count_blocks.Goals as goal
+
+pub loop-at-init : goal.loop-at-init
+loop-at-init g c = record {
+  most = c.requires.order;
+  kept = c.requires.kept;
+  counted = counted_none (g.D.SectorDevice.state c.args.device.now) c.args.memory.now c.args.number c.args.from;
+}
+
+pub loop-at-preserved : goal.loop-at-preserved
+loop-at-preserved g c =
+    let old = g.D.SectorDevice.state c.args.device.now in
+    let mid = g.D.SectorDevice.state c.loop-at.device in
+    let new = g.D.SectorDevice.state c.count_part.new.device in
+    let was = c.loop-at.invariant in
+    let part = c.in-Ok.ensures in
+    record {
+      most = part.further.1;
+      kept = c.count_part.ensures.kept;
+      counted = counted_more old mid new c.args.memory.now c.args.number c.args.from c.loop-at.at c.in-Ok.part.1 c.loop-at.count c.in-Ok.part.0
+          (g.met.D.SectorDevice.lawful c.args.device.now) was.counted c.count_part.ensures.looks part.no_failure part.further.0 part.few part.answer;
+    }
+
+pub returns-in-Err-clause-failed : goal.returns-in-Err-clause-failed
+returns-in-Err-clause-failed g c =
+    counted_fault (g.D.SectorDevice.state c.args.device.now) (g.D.SectorDevice.state c.loop-at.device) (g.D.SectorDevice.state c.count_part.new.device) c.args.memory.now c.args.number
+    c.args.from c.loop-at.at c.loop-at.count c.loop-at.invariant.counted c.in-Err.ensures.failed
+
+pub returns-clause-answer : goal.returns-clause-answer
+returns-clause-answer g c =
+    let most = c.loop-at.invariant.most in
+    let ended = c.loop-at-test.false in
+    let end : c.loop-at.at ≡ c.args.to = omega (arith, most, ended) in
+    counted_all (g.D.SectorDevice.state c.args.device.now) (g.D.SectorDevice.state c.loop-at.device) c.args.memory.now c.args.number c.args.from c.loop-at.at c.args.to c.loop-at.count end
+    c.loop-at.invariant.counted
