@@ -21,6 +21,7 @@ ghost use Rattle.lfs_inodes.specs.Data.{data_count, is_data_code};
 use crate::key::{BlockKey, IN_MEMORY};
 use lfs_layout::{set_word, word};
 use std::alloc::{AllocError, Global};
+use std::cell::Cell;
 use std::marker::Model;
 
 /// Where the block of a key stands in memory.
@@ -43,6 +44,8 @@ pub struct DirtyTable {
     room: u32,
     /// Whether a block of pointers here may lead nowhere.
     loose: bool,
+    /// Where the last search found its key. The next one looks there first, and rests nothing on it.
+    found: Cell<usize>,
 }
 
 impl Model for DirtyTable {
@@ -81,6 +84,7 @@ impl DirtyTable {
             limit,
             room,
             loose: false,
+            found: Cell::new(0),
         })
     }
 
@@ -190,13 +194,42 @@ impl DirtyTable {
         self.loose = false;
     }
 
-    /// Where a key stands in the index, or where it would go.
+    /// Where a key stands in the index, or where it would go. The place where the last search found
+    /// its key is looked at first.
     fn search(&self, key: BlockKey) -> Result<usize, usize>
+        ensures found { IfOk result (HasNumberAt self.now.blocks key.code) }
+        ensures missing { IfErr result (IsGapFor self.now.blocks key.code) }
+    {
+        let last = self.found.get();
+        if self.stands_at(key, last) {
+            return Ok(last);
+        }
+        match self.search_all(key) {
+            Ok(at) => {
+                self.found.set(at);
+                Ok(at)
+            }
+            Err(at) => Err(at),
+        }
+    }
+
+    /// As `search`, but no place is looked at first.
+    fn search_all(&self, key: BlockKey) -> Result<usize, usize>
         ensures found { IfOk result (HasNumberAt self.now.blocks key.code) }
         ensures missing { IfErr result (IsGapFor self.now.blocks key.code) }
     {
         self.places
             .binary_search_by_key(&key.number(), |place| place.key.number())
+    }
+
+    /// Whether a key stands at a place of the index.
+    fn stands_at(&self, key: BlockKey, at: usize) -> bool
+        ensures { IsTrue result → HasNumberAt self.now.blocks key.code at }
+    {
+        match self.places.get(at) {
+            Some(place) => place.key.number() == key.number(),
+            None => false,
+        }
     }
 
     /// The block of a key, if it is here.

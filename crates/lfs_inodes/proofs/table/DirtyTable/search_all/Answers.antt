@@ -2,7 +2,7 @@ use Rattle.std.proofs.Common.{rules}
 use Rattle.std.proofs.lemmas.List.Sorted.{answers_always}
 use Rattle.lfs_inodes.specs.declared.table.Place.{Place}
 use Rattle.lfs_inodes.proofs.Searching.{found_in}
-use Rattle.lfs_inodes.proofs.table.DirtyTable.search.Goals as goal
+use Rattle.lfs_inodes.proofs.table.DirtyTable.search_all.Goals as goal
 
 pub returns : goal.returns
 returns c =
