@@ -64,7 +64,7 @@ class Block(NamedTuple):
 
 
 class Volume(NamedTuple):
-    """What a mount finds: names has the number for each name of each directory."""
+    """What a mount finds. The bytes of a file are its first ones alone; names has the number for each name of each directory."""
 
     checkpoint: Checkpoint
     inodes: dict
@@ -97,7 +97,7 @@ class Volume(NamedTuple):
     def head(self, inode):
         if inode.kind == DIRECTORY:
             return "-"
-        return word_of(self.bytes_of[inode.number]) if inode.kind == LINK else self.bytes_of[inode.number][:HEAD].hex() or "-"
+        return word_of(self.bytes_of[inode.number]) if inode.kind == LINK else self.bytes_of[inode.number].hex() or "-"
 
 
 def word_of(name):
@@ -121,6 +121,11 @@ def is_zero(block):
 
 def blocks_of(size):
     return -(-size // SECTOR)
+
+
+def first_bytes(blocks, count):
+    """So many bytes of an object, of which these blocks are stored."""
+    return b"".join(blocks.get(place, bytes(SECTOR)) for place in range(blocks_of(count)))[:count]
 
 
 def checkpoint_of(slot, block):
@@ -293,13 +298,13 @@ class Walk:
 
     def data_blocks(self):
         for number, inode in self.inodes.items():
-            found = bytearray(SECTOR * blocks_of(inode.size))
+            blocks = {}
             for place, address in self.addresses(number):
-                block = self.reach(address, number, DATA, place)
-                self.ask(not is_zero(block) and place < blocks_of(inode.size))
-                found[SECTOR * place : SECTOR * (place + 1)] = block
-            self.ask(is_zero(found[inode.size :]))
-            self.bytes_of[number] = bytes(found[: inode.size])
+                blocks[place] = self.reach(address, number, DATA, place)
+                self.ask(not is_zero(blocks[place]) and place < blocks_of(inode.size))
+            whole, rest = divmod(inode.size, SECTOR)
+            self.ask(rest == 0 or whole not in blocks or is_zero(blocks[whole][rest:]))
+            self.bytes_of[number] = first_bytes(blocks, HEAD if inode.kind == FILE else inode.size)[: inode.size]
 
     def labels_of_blocks(self):
         for address, block in self.reached.items():
