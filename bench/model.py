@@ -1,12 +1,20 @@
+#!/usr/bin/env python3
 """A plain model of a volume: what each line of a script answers, and the state behind it.
 
-It is written from what docs/CALLS.md and docs/SCRIPT.md say, and shares nothing with the product: no segment, no block, no commit. A
-state is never changed. `step` answers the reply to a line as a list of lines, and the state behind it; `dropped` is what of a state
-a mount may find.
+    bench/model.py   compares its answers with the replies of crates/lfs_cases, but for the scripts with a bad line
+
+Else it is imported. It is written from what docs/CALLS.md and docs/SCRIPT.md say, and shares nothing with the product: no segment, no
+block, no commit. A state is never changed. `step` answers the reply to a line as a list of lines, and the state behind it; `dropped`
+is what of a state a mount may find.
 """
 import functools
+import glob
+import os
+import re
+import sys
 from typing import NamedTuple, Optional, Union
 
+CASES = os.path.join(os.path.dirname(os.path.dirname(os.path.realpath(__file__))), "crates/lfs_cases/data")
 MOST_BYTES = 8_511_488
 MOST_MOVED = 65_536
 MOST_ENTRIES = 1_024
@@ -555,3 +563,35 @@ def dropped(state):
     there = {it for node in state.nodes.values() if node.kind == "dir" for it in node.body.values()}
     lost = {number: None for number in state.nodes if number != ROOT and number not in there}
     return put(state._replace(handles={}), lost)
+
+
+def texts_of(path):
+    """The lines of a script, and of its replies."""
+    with open(f"{path}.script", encoding="ascii") as script, open(f"{path}.replies", encoding="ascii") as replies:
+        return script.read().splitlines(), replies.read().splitlines()
+
+
+def answers_as_wanted(path):
+    """How many lines a script has, and whether the model answers them as its replies say; nothing of a script with a bad line."""
+    lines, wanted = texts_of(path)
+    if wanted and wanted[-1].startswith("bad "):
+        return None
+    segments = re.search(r"\.(\d+)(\.v2)?$", path)
+    state, found = new(int(segments[1]) if segments else 64, 2 if path.endswith(".v2") else 1), []
+    for line in lines:
+        reply, state = step(state, line)
+        found += reply
+    return len(lines), found == wanted
+
+
+def main():
+    paths = sorted(it.removesuffix(".script") for it in glob.glob(f"{CASES}/*.script"))
+    outcomes = {path: outcome for path in paths if (outcome := answers_as_wanted(path))}
+    differ = [os.path.basename(path) for path, (_, is_same) in outcomes.items() if not is_same]
+    print("".join(f"{name} differs\n" for name in differ), end="")
+    print(f"{len(outcomes)} scripts, {sum(count for count, _ in outcomes.values())} lines, {len(differ)} differ")
+    sys.exit(bool(differ))
+
+
+if __name__ == "__main__":
+    main()
