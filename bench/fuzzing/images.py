@@ -38,13 +38,19 @@ class Images:
     def __init__(self, volumes: Volumes, chance: random.Random):
         self.volumes, self.chance = volumes, chance
         self.corpus: Corpus[Image] = Corpus(chance)
+        # Those without a change.
+        self.whole: list[Image] = []
 
     def seeds(self) -> Iterator[Image]:
         return (Image(at, {}) for at, kind in enumerate(KINDS) if kind.of_images)
 
+    def next(self) -> Image:
+        """A changed image. Where the one that it is made from is damaged already, a stage behind that damage isn't reached."""
+        return self.change(self.chance.choice(self.whole) if self.chance.random() < 0.4 else self.corpus.pick())
+
     def change(self, tried: Image) -> Image:
         changes = dict(tried.changes)
-        for _ in range(self.chance.choice((1, 1, 1, 2, 3))):
+        for _ in range(self.chance.choice((1, 1, 1, 1, 2, 3))):
             sector = self.sector(tried)
             content = changes.get(sector, self.volumes.sector(tried.base, sector))
             changes[sector] = self.changed(tried, content)
@@ -133,7 +139,10 @@ class Images:
     def attempt(self, tried: Image) -> None:
         """Tries an image, and keeps it where it shows something new."""
         ran = self.look(tried)
-        if self.corpus.offer(tried._replace(reads=ran.reads), [ran.output], ran.reads):
+        seen = tried._replace(reads=ran.reads)
+        if not tried.changes:
+            self.whole.append(seen)
+        if self.corpus.offer(seen, [ran.output], ran.reads):
             self.look_further(tried)
 
     def smaller(self, tried: Image) -> Iterator[Image]:

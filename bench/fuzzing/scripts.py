@@ -52,6 +52,9 @@ class Scripts:
                 yield Script(at, (b"tree", b"space"))
                 yield Script(at, tuple(self.line(at, []) for _ in range(8)))
 
+    def next(self) -> Script:
+        return self.change(self.corpus.pick())
+
     def change(self, tried: Script) -> Script:
         base, lines = tried.base, list(tried.lines)
         if self.chance.random() < 0.1:
