@@ -1,3 +1,4 @@
 pub mod Carried
+pub mod Numbering
 pub mod Queues
 pub mod Syncs

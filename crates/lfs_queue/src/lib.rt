@@ -3,6 +3,7 @@
 
 mod carrying;
 mod image;
+pub mod numbers;
 mod order;
 mod queue;
 

@@ -3,6 +3,7 @@ ghost use Rattle.std.specs.Prelude.{◌≡◌, ◌<◌, ◌≤◌, ◌^◌, List
 ghost use Rattle.std.specs.List.{AllByRecursion, AllByRecursion-prop};
 ghost use Rattle.lfs_model.specs.Device.{IsSector};
 ghost use Rattle.lfs_model.proofs.Cells.{sector_prop};
+ghost use Rattle.lfs_queue.specs.Numbered.{as_told};
 ghost use Rattle.lfs_queue.specs.Orders.{onto, done_of, count, content_after, AreWhole, AreWhole-prop, queue_lawful};
 ghost use Rattle.lfs_model.specs.declared.Order.{Order};
 
@@ -30,6 +31,9 @@ pub struct QueueDevice {
     ghost started: { length start.value.items ≡ sectors },
     ghost starts: { AllByRecursion IsSector start.value.items } by { AllByRecursion-prop IsSector sector_prop start.value.items },
     done: Snapshot<Done>,
+    /// How many orders were carried out, as far as 64 bits tell it.
+    carried: u64,
+    ghost counted: { carried ≡ as_told (length (done_of done.value)) },
     failed: Snapshot<Count>,
     ghost whole: { AreWhole (onto queue.items (done_of done.value)) } by { AreWhole-prop (onto queue.items (done_of done.value)) },
     ghost agrees: { cells.items ≡ content_after start.value.items (onto queue.items (done_of done.value)) },
@@ -37,6 +41,8 @@ pub struct QueueDevice {
 
 impl QueueDevice {
     ghost use Rattle.lfs_queue.specs.Images.{cells_of};
+    ghost use Rattle.std.specs.Prelude.{◌-◌, IfSome, IfNone};
+    ghost use Rattle.lfs_queue.specs.Numbered.{HasNumber, IsNoneWaiting};
     ghost use Rattle.lfs_queue.specs.Queue.{queue_state, start_of, due_of, carried_of, told_of, room_of};
 
     /// A device that holds an image and was told nothing, with room for so many orders.
@@ -59,6 +65,7 @@ impl QueueDevice {
             sectors,
             queue,
             done: Snapshot::of(&Done::Nothing),
+            carried: 0,
             failed: Snapshot::of(&Count::Zero),
         })
     }
@@ -68,6 +75,40 @@ impl QueueDevice {
         ensures { result.now.items ≡ due_of self.now }
     {
         &self.queue
+    }
+
+    /// The number of the first order that waits, or is to come: how many were carried out before.
+    /// From 2^64 - 1 on it is this.
+    pub fn carried(&self) -> u64
+        ensures { result ≡ as_told (length (carried_of self.now)) }
+    {
+        self.carried
+    }
+
+    /// How many orders it was told. From 2^64 - 1 on it is this.
+    #[tactic(auto, using(crate::proofs::Numbering::counted_on))]
+    pub fn told(&self) -> u64
+        ensures { result ≡ as_told (length (told_of self.now)) }
+    {
+        self.carried.saturating_add(self.queue.len() as u64)
+    }
+
+    /// The order of a number, counted from 0 over all that it was told, if it waits. None is given
+    /// by the number 2^64 - 1.
+    #[tactic(auto, using(crate::proofs::Numbering::length_onto))]
+    pub fn order(&self, number: u64) -> Option<&Order>
+        ensures waits { IfSome result (λ order. HasNumber (told_of self.now) number order.now) }
+        ensures none { IfNone result (number < 2 ^ 64 - 1
+            → IsNoneWaiting (carried_of self.now) (told_of self.now) number) }
+    {
+        if number == u64::MAX || number < self.carried {
+            return None;
+        }
+        let place = number - self.carried;
+        if place >= self.queue.len() as u64 {
+            return None;
+        }
+        Some(&self.queue[place as usize])
     }
 
     /// All orders were carried out.
@@ -80,8 +121,10 @@ impl QueueDevice {
         ensures failures { (queue_state self.new).failures ≡ (queue_state self.old).failures }
         ensures room { room_of self.new ≡ room_of self.old }
     {
+        let waiting = self.queue.len() as u64;
         note(&self.queue, &mut self.done);
         self.queue.clear();
+        self.carried = self.carried.saturating_add(waiting);
     }
 }
 
