@@ -64,10 +64,15 @@ class Block(NamedTuple):
 
 
 class Volume(NamedTuple):
-    """What a mount finds. The bytes of a file are its first ones alone; names has the number for each name of each directory."""
+    """What a mount finds.
+
+    blocks has the data blocks of each object that are stored, by their places; the bytes of a file are its first ones alone; names has the
+    number for each name of each directory.
+    """
 
     checkpoint: Checkpoint
     inodes: dict
+    blocks: dict
     bytes_of: dict
     names: dict
     data: int
@@ -93,6 +98,10 @@ class Volume(NamedTuple):
                 texts = [directory, word_of(name), KINDS[inode.kind], number, inode.links, inode.size, self.head(inode)]
                 found[directory, name] = " ".join(map(str, texts))
         return found
+
+    def content(self, number):
+        """All bytes of an object."""
+        return first_bytes(self.blocks[number], self.inodes[number].size)
 
     def head(self, inode):
         if inode.kind == DIRECTORY:
@@ -192,7 +201,7 @@ class Walk:
         if len(image) // SECTOR < self.first_behind:
             raise Refused("TooSmall")
         self.code, self.reached, self.usage, self.labels = 0, {}, [], {}
-        self.map, self.inodes, self.bytes_of, self.names = {}, {}, {}, {}
+        self.map, self.inodes, self.blocks, self.bytes_of, self.names = {}, {}, {}, {}, {}
         # Of each object that has one: the addresses in its single leaf and its double root, and in each leaf of that.
         self.singles, self.doubles, self.leaves = {}, {}, {}
 
@@ -228,7 +237,7 @@ class Walk:
     def found(self):
         data = sum(it.kind == DATA for it in self.reached.values())
         meta = sum(it.kind in (INODE, POINTERS, DOUBLE) for it in self.reached.values())
-        return Volume(self.checkpoint, self.inodes, self.bytes_of, self.names, data, meta)
+        return Volume(self.checkpoint, self.inodes, self.blocks, self.bytes_of, self.names, data, meta)
 
     def usage_blocks(self):
         count = -(-self.checkpoint.segments // USAGE_ENTRIES)
@@ -298,7 +307,7 @@ class Walk:
 
     def data_blocks(self):
         for number, inode in self.inodes.items():
-            blocks = {}
+            blocks = self.blocks[number] = {}
             for place, address in self.addresses(number):
                 blocks[place] = self.reach(address, number, DATA, place)
                 self.ask(not is_zero(blocks[place]) and place < blocks_of(inode.size))

@@ -165,9 +165,9 @@ def state_of(found: format_checker.Volume) -> model.State:
 
 
 def node_of(found: format_checker.Volume, number: int) -> model.Node:
-    inode, content = found.inodes[number], found.bytes_of[number]
+    inode = found.inodes[number]
     if inode.kind == format_checker.DIRECTORY:
         return model.Node("dir", found.names[number], inode.form)
     if inode.kind == format_checker.LINK:
-        return model.Node("link", content)
-    return model.Node("file", model.put_bytes(model.Body(), 0, content))
+        return model.Node("link", found.content(number))
+    return model.Node("file", model.put_bytes(model.Body(), 0, found.content(number)))
