@@ -1,0 +1,194 @@
+/* A volume of Pansuyog for a program in C. The library reads and writes nothing by itself: the program reads a device and gives its
+ * sectors, and carries out the writes and syncs that wait. pansuyog_fd.h does this for a file or a block device on a descriptor.
+ *
+ * In this order:
+ *   1. Sync the device, read all of it, and give what was read: pansuyog_begin, pansuyog_give.
+ *   2. Mount it: pansuyog_mount. Or make an empty volume, carry out its orders, and mount that: pansuyog_format.
+ *   3. Make calls: pansuyog_create, pansuyog_pwrite and the others below.
+ *   4. At any time between calls, carry out the orders that wait, from the least number on: pansuyog_carried, pansuyog_told,
+ *      pansuyog_order or pansuyog_run. Then say that it was done: pansuyog_done.
+ *
+ * An order is a write of 512 bytes to a sector, or a sync. Each has a number: the first that the library gives since pansuyog_begin has
+ * number 0. It keeps its number, and no other order gets it.
+ *
+ * The promise. Let the power go when the device has carried out the orders below any number. A mount of what it holds then finds a state
+ * that the volume was in. Once all orders that wait behind a pansuyog_sync or pansuyog_fsync that answered 0 are carried out, every call
+ * before it survives. So take that 0 as told to others only when its orders are carried out.
+ *
+ * What the device owes. After a sync it keeps all that was written before. A sector that was written since holds its old bytes or its new
+ * ones, or can't be read, and no other sector changes. Between two syncs writes may be carried out in any order; of two to one sector
+ * the last is enough.
+ *
+ * What the program owes, and nothing checks:
+ *  - A pansuyog is begun by pansuyog_new. Its bytes are never copied or written, it goes to one call at a time, and never to a signal
+ *    handler or to a child that was forked.
+ *  - A pointer with a length points to that many bytes. It isn't null, also where the length is 0. Nobody else writes them during the
+ *    call, and they overlap no other argument.
+ *  - Nobody else writes to the device while the volume is mounted.
+ *  - malloc, realloc and free are of one allocator, whose blocks are aligned to 16 bytes.
+ *
+ * Where a write or a sync of the device fails, call pansuyog_abandon, and begin anew with 1: the device holds what a loss of power may
+ * leave. A write may be tried again before; a sync that failed may not.
+ *
+ * Memory. The library keeps the sectors, of 514 bytes each, the orders that wait, of 520 each, and 0.4 to 4.4 MB besides. Where memory
+ * for an order is refused the volume is halted, as by a device that failed: unmount it, and begin anew. pansuyog_mount takes memory for
+ * `room` orders before; 1,100 are enough, where orders are carried out after each call, unless the cleaner has to make much room at once
+ * on a large volume that is nearly full. Then more memory is asked for. */
+#ifndef PANSUYOG_H
+#define PANSUYOG_H
+
+#include <stddef.h>
+#include <stdint.h>
+
+#ifdef __cplusplus
+extern "C" {
+#endif
+
+typedef struct pansuyog {
+    void *inside;
+} pansuyog;
+
+/* A call answers a number from 0 on, or one of these. After all refusals but HALTED the tree and the handles are as before. */
+enum pansuyog_code {
+    PANSUYOG_OK = 0,
+    PANSUYOG_NO_ENTRY = -1,        /* a name isn't there, or a path is empty */
+    PANSUYOG_NOT_DIR = -2,         /* a directory is needed here */
+    PANSUYOG_IS_DIR = -3,          /* a directory isn't taken here */
+    PANSUYOG_EXIST = -4,           /* the entry is there already */
+    PANSUYOG_NOT_EMPTY = -5,       /* the directory has entries */
+    PANSUYOG_INVAL = -6,           /* an argument isn't taken */
+    PANSUYOG_NAME_TOO_LONG = -7,   /* a name, a path or a link's text is too long */
+    PANSUYOG_LOOP = -8,            /* more than 40 links were to be followed */
+    PANSUYOG_PERM = -9,            /* a directory isn't linked or unlinked */
+    PANSUYOG_BUSY = -10,           /* the root can't be removed or renamed */
+    PANSUYOG_BAD_HANDLE = -11,     /* no such handle is open */
+    PANSUYOG_TOO_MANY_OPEN = -12,  /* 64 handles are open */
+    PANSUYOG_TOO_MANY_LINKS = -13, /* the object has 1,000 links */
+    PANSUYOG_FILE_TOO_BIG = -14,   /* past the greatest file size, 8,511,488 bytes */
+    PANSUYOG_NO_SPACE = -15,       /* the tree would need more than the volume has */
+    PANSUYOG_NO_NUMBER = -16,      /* all 4,095 numbers are taken */
+    PANSUYOG_DIR_FULL = -17,       /* the directory has 1,024 entries */
+    PANSUYOG_NO_MEMORY = -18,      /* memory was refused */
+    PANSUYOG_DEVICE = -19,         /* a sector that is needed couldn't be read */
+    PANSUYOG_HALTED = -20,         /* memory for an order was refused: every call answers this until the volume is mounted anew */
+    PANSUYOG_STUCK = -21,          /* never comes */
+    PANSUYOG_WORN = -22,           /* the volume has had 2^62 checkpoints */
+    PANSUYOG_TOO_SMALL = -30,      /* the device has too few sectors */
+    PANSUYOG_NO_CHECKPOINT = -31,  /* the device holds no volume */
+    PANSUYOG_NOT_MOUNTED = -40,    /* no volume is mounted */
+    PANSUYOG_ALREADY_MOUNTED = -41,
+    PANSUYOG_NO_ORDER = -42,       /* no order of this number waits */
+    PANSUYOG_DAMAGED = -100        /* with the stage that a mount found fault with: -101 to -115 */
+};
+
+/* What a mount answers where the volume is damaged: the stage that failed, 1 to 15; else 0. */
+static inline int32_t pansuyog_damage(int32_t code) {
+    return code < PANSUYOG_DAMAGED ? PANSUYOG_DAMAGED - code : 0;
+}
+
+enum pansuyog_kind { PANSUYOG_FILE = 1, PANSUYOG_DIRECTORY = 2, PANSUYOG_LINK = 3 };
+
+typedef struct pansuyog_stat_t {
+    uint64_t size; /* in bytes */
+    uint32_t number;
+    uint32_t kind;
+    uint32_t links;
+} pansuyog_stat_t;
+
+typedef struct pansuyog_space_t {
+    uint64_t data_blocks; /* blocks of 512 bytes that have a nonzero byte */
+    uint64_t meta_blocks; /* inodes and pointer blocks */
+    uint64_t need;        /* of the tree */
+    uint64_t limit;       /* the most that it may need */
+} pansuyog_space_t;
+
+typedef struct pansuyog_entry_t {
+    uint32_t number;
+    uint32_t kind;
+} pansuyog_entry_t;
+
+/* The volume */
+
+/* A volume that holds nothing. NO_MEMORY, and then nothing is to be freed. */
+int32_t pansuyog_new(pansuyog *volume);
+/* All that it holds is gone: no volume is mounted, and no order waits. So too where the device failed. */
+void pansuyog_abandon(pansuyog *volume);
+/* Its memory is given back. It is gone with all that it holds. */
+void pansuyog_free(pansuyog volume);
+
+/* A device of so many sectors is being read: none is given yet, and one that isn't given counts as unreadable. What was held is gone.
+ * NO_MEMORY. */
+int32_t pansuyog_begin(pansuyog *volume, uint32_t sectors);
+/* These sectors were read: length / 512 of them, from the first on. INVAL where one is past the end, with none given, and where no
+ * device is being read. */
+int32_t pansuyog_give(pansuyog *volume, uint32_t first, const void *bytes, size_t length);
+
+/* Makes an empty volume of 64 to 1,024 segments, a multiple of 8, in version 1 or 2 of the layout. It takes 2 + 64 * segments sectors.
+ * Memory for `room` orders is taken. INVAL, TOO_SMALL, NO_MEMORY (what was given is gone then), ALREADY_MOUNTED. */
+int32_t pansuyog_format(pansuyog *volume, uint32_t segments, uint32_t version, uint32_t room);
+/* Mounts the volume that the sectors hold, with no open handles. It writes nothing. INVAL where no sectors were given; NO_MEMORY,
+ * DEVICE, TOO_SMALL, NO_CHECKPOINT, DAMAGED, ALREADY_MOUNTED. */
+int32_t pansuyog_mount(pansuyog *volume, uint32_t room);
+/* Saves nothing: call pansuyog_sync before. Orders that wait stay. It can be mounted again without reading the device. NOT_MOUNTED. */
+int32_t pansuyog_unmount(pansuyog *volume);
+
+/* Orders */
+
+/* How many were carried out: the number of the first that waits. */
+uint64_t pansuyog_carried(pansuyog *volume);
+/* How many there were: the number that the next will have. */
+uint64_t pansuyog_told(pansuyog *volume);
+/* The order of this number: 1 for a write, with its sector and its 512 bytes; 0 for a sync. NO_ORDER where none of this number waits;
+ * INVAL where length is below 512 for a write. */
+int32_t pansuyog_order(pansuyog *volume, uint64_t number, uint32_t *sector, void *bytes, size_t length);
+/* How many orders from this number on are writes to sectors that follow one another, at most `count`, with the first sector and their
+ * bytes, 512 for each; 0 for a sync. NO_ORDER; INVAL where count is 0 for a write. */
+int32_t pansuyog_run(pansuyog *volume, uint64_t number, uint32_t *first, void *sectors, size_t count);
+/* All orders that waited were carried out. NOT_MOUNTED where there is no device. */
+int32_t pansuyog_done(pansuyog *volume);
+
+/* Calls. A path has a length, and no zero byte at its end. docs/CALLS.md has each call with its refusals in their order. Each answers
+ * NOT_MOUNTED where no volume is mounted. */
+
+/* A handle, 0 to 63. */
+int32_t pansuyog_open(pansuyog *volume, const char *path, size_t length);
+int32_t pansuyog_create(pansuyog *volume, const char *path, size_t length);
+int32_t pansuyog_close(pansuyog *volume, uint32_t handle);
+/* How many bytes were read: fewer than length where the file ends, none past it. INVAL where length is above 65,536. */
+int32_t pansuyog_pread(pansuyog *volume, uint32_t handle, uint64_t offset, void *bytes, size_t length);
+/* All bytes or none: their number. INVAL above 65,536. */
+int32_t pansuyog_pwrite(pansuyog *volume, uint32_t handle, uint64_t offset, const void *bytes, size_t length);
+int32_t pansuyog_truncate(pansuyog *volume, uint32_t handle, uint64_t size);
+
+int32_t pansuyog_mkdir(pansuyog *volume, const char *path, size_t length);
+int32_t pansuyog_rmdir(pansuyog *volume, const char *path, size_t length);
+int32_t pansuyog_unlink(pansuyog *volume, const char *path, size_t length);
+int32_t pansuyog_link(pansuyog *volume, const char *from, size_t from_length, const char *to, size_t to_length);
+int32_t pansuyog_rename(pansuyog *volume, const char *from, size_t from_length, const char *to, size_t to_length);
+int32_t pansuyog_symlink(pansuyog *volume, const char *text, size_t text_length, const char *path, size_t length);
+/* The length of the text, of which as much is put into memory as there is room for. */
+int32_t pansuyog_readlink(pansuyog *volume, const char *path, size_t length, void *text, size_t room);
+
+int32_t pansuyog_stat(pansuyog *volume, const char *path, size_t length, pansuyog_stat_t *stat);
+int32_t pansuyog_lstat(pansuyog *volume, const char *path, size_t length, pansuyog_stat_t *stat);
+/* How many names a directory has, without dot and dot-dot. They are kept until the next directory is listed. */
+int32_t pansuyog_list(pansuyog *volume, const char *path, size_t length);
+/* The name at this place of those that were listed last, 0 for the first: its length, 1 to 123, of which as much is put into memory as
+ * there is room for. 0 where there is none. They are ordered by their bytes. */
+int32_t pansuyog_entry(pansuyog *volume, size_t place, pansuyog_entry_t *entry, void *name, size_t room);
+
+/* After 0, and once the orders that wait are carried out, every call before this one survives a loss of power. */
+int32_t pansuyog_fsync(pansuyog *volume, uint32_t handle);
+int32_t pansuyog_sync(pansuyog *volume);
+/* Cleans segments until a quarter of them is clean. */
+int32_t pansuyog_clean(pansuyog *volume);
+int32_t pansuyog_space(pansuyog *volume, pansuyog_space_t *space);
+/* 1 or 2. */
+int32_t pansuyog_version(pansuyog *volume);
+int32_t pansuyog_upgrade(pansuyog *volume);
+int32_t pansuyog_widen(pansuyog *volume, const char *path, size_t length);
+
+#ifdef __cplusplus
+}
+#endif
+#endif

@@ -1,0 +1,7 @@
+pub mod Filled
+pub mod Given
+pub mod Places
+pub mod Runs
+pub mod Tells
+pub mod Tried
+pub mod Values

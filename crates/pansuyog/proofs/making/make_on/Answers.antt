@@ -1,0 +1,14 @@
+use Rattle.std.proofs.Common.{refl}
+use Rattle.std.specs.Prelude.{Ok}
+use Rattle.pansuyog.proofs.making.make_on.Goals as goal
+
+pub returns-in-Ok : goal.returns-in-Ok
+returns-in-Ok c =
+    let ensured = c.in-Ok.ensures in
+    record {
+      outcome = Ok tt;
+      number = refl;
+      made = (ensured.image tt, ensured.durable tt, ensured.volume tt);
+      carries = ensured.carries;
+      any_moment = ensured.any_moment tt;
+    }

@@ -1,0 +1,102 @@
+-- What a mount and the making of a volume are of.
+use Rattle.std.specs.Prelude.{◌≡◌, ◌≢◌, ◌<◌, ◌≤◌, ◌+◌, ◌*◌, ℕ, ℤ, pos, List, [], ◌∷◌, Option, Some, None, Result, Ok, Err}
+use Rattle.lfs_model.specs.Checkpoint.{IsSegmentCount, IsVersion}
+use Rattle.lfs_model.specs.Device.{Carries, IsUntouched, LeavesOnly, Only}
+use Rattle.lfs_model.specs.Image.{IsNew, new_form}
+use Rattle.lfs_model.specs.Tree.{Dir}
+use Rattle.lfs_model.specs.TreeOf.{Stands}
+use Rattle.lfs_model.specs.Volume.{mounted}
+use Rattle.lfs_format.specs.Making.{MayStand}
+use Rattle.lfs_format.specs.declared.fault.FormatFault.{FormatFault}
+use Rattle.lfs_format.specs.declared.fault.FormatFault.TheVariants as format_fault
+use Rattle.lfs_fs.specs.Mounting.{FindsState, IsRefused, MountsFs}
+use Rattle.lfs_fs.specs.declared.fs.Fs.{Fs}
+use Rattle.lfs_queue.specs.Images.{cells_of}
+use Rattle.lfs_queue.specs.Queue.{queue_state, room_of, start_of, told_of}
+use Rattle.lfs_queue.specs.declared.image.Image.{Image as Given}
+use Rattle.lfs_queue.specs.declared.queue.QueueDevice.{QueueDevice}
+use Rattle.lfs_store.specs.log.verify.declared.fault.MountFault.{MountFault}
+use Rattle.pansuyog.specs.Codes.{already_mounted, code_of_format_fault, code_of_mount_fault, inval, no_memory, not_mounted}
+use Rattle.pansuyog.specs.declared.handle.Source.{Source}
+use Rattle.pansuyog.specs.declared.handle.Source.TheVariants.{Nothing, Image, Device}
+use Rattle.pansuyog.specs.declared.handle.Volume.{Volume}
+
+-- A device that holds the sectors that were given, and was told nothing, with room for so many orders.
+pub record IsNewDevice (image : Given) (room : ℕ) (device : QueueDevice) : Type 0 where
+  pub start : start_of device ≡ cells_of image
+  pub told : told_of device ≡ []
+  pub reserved : room ≤ room_of device
+
+-- the device that is taken from a source
+abbrev pub IsTaken : Source → ℕ → QueueDevice → Type 0
+IsTaken Nothing room device = ⊥
+IsTaken (Image image) room device = IsNewDevice image room device
+IsTaken (Device was) room device = device ≡ was
+
+-- Why none is: a volume is mounted, nothing was given, or memory is refused, and then what was given is gone.
+pub data IsNotTaken (old new : Volume) (code : ℤ) : Type 0 where
+  is_mounted : old.fs ≢ None → code ≡ already_mounted → new ≡ old → IsNotTaken old new code
+  is_nothing : old.source ≡ Nothing → code ≡ inval → new ≡ old → IsNotTaken old new code
+  is_refused : old.fs ≡ None → code ≡ no_memory → new.fs ≡ None → new.source ≡ Nothing → new.listing ≡ old.listing → IsNotTaken old new code
+
+-- The device's volume is mounted, over the device that is in it then.
+pub record Mounts (device : QueueDevice) (fs : Fs QueueDevice) : Type 0 where
+  pub mounts : MountsFs queue_state device fs
+  pub only : FindsState queue_state device fs
+  pub durable : Only (queue_state device).content (queue_state fs.store.log.device)
+  pub no_failure : (queue_state fs.store.log.device).failures ≡ (queue_state device).failures
+  pub untouched : IsUntouched (queue_state device) (queue_state fs.store.log.device)
+  pub carries : Carries (queue_state device) (queue_state fs.store.log.device)
+  pub any_moment : LeavesOnly (queue_state device) (queue_state fs.store.log.device) (queue_state device).may_leave
+
+-- It isn't, for this fault.
+pub record IsNotMounted (old new : QueueDevice) (fault : MountFault) : Type 0 where
+  pub reason : IsRefused (queue_state old) (queue_state new) fault
+  pub untouched : IsUntouched (queue_state old) (queue_state new)
+  pub carries : Carries (queue_state old) (queue_state new)
+  pub any_moment : LeavesOnly (queue_state old) (queue_state new) (queue_state old).may_leave
+
+abbrev pub MountsOn : QueueDevice → Option (Fs QueueDevice) → Source → ℤ → Type 0
+MountsOn device (Some fs) Nothing code = (code ≡ pos 0) × Mounts device fs
+MountsOn device None (Device after) code = (fault : MountFault) × (code ≡ code_of_mount_fault fault) × IsNotMounted device after fault
+MountsOn device fs source code = ⊥
+
+-- A mount from what a volume holds: it was done or refused on a device that was taken, or none was taken.
+pub data MountsFrom (old new : Volume) (room : ℕ) (code : ℤ) : Type 0 where
+  is_tried : (device : QueueDevice) → old.fs ≡ None → IsTaken old.source room device → MountsOn device new.fs new.source code → new.listing ≡ old.listing → MountsFrom old new room code
+  is_not_tried : IsNotTaken old new code → MountsFrom old new room code
+
+-- What an empty volume of so many segments was to be made on, by what came of it.
+abbrev pub IsMade : ℕ → ℕ → QueueDevice → QueueDevice → Result (Unit {0}) FormatFault → Type 0
+IsMade segments version old new (Ok done) =
+    IsNew version segments (queue_state new).content × Only (queue_state new).content (queue_state new)
+    × Stands (queue_state new).content (mounted version ((1, Dir (new_form version) []) ∷ []))
+IsMade segments version old new (Err format_fault.Inval) = ¬ (IsSegmentCount segments × IsVersion version) × (new ≡ old)
+IsMade segments version old new (Err format_fault.TooSmall) =
+    IsSegmentCount segments × IsVersion version × ((queue_state old).size < 2 + 64 * segments) × (new ≡ old)
+IsMade segments version old new (Err format_fault.Device) = (queue_state old).failures < (queue_state new).failures
+
+abbrev pub code_of_making : Result (Unit {0}) FormatFault → ℤ
+code_of_making (Ok done) = pos 0
+code_of_making (Err fault) = code_of_format_fault fault
+
+-- An empty volume was to be made on a device.
+pub record Makes (segments version : ℕ) (old new : QueueDevice) (code : ℤ) : Type 0 where
+  pub outcome : Result (Unit {0}) FormatFault
+  pub number : code ≡ code_of_making outcome
+  pub made : IsMade segments version old new outcome
+  pub carries : Carries (queue_state old) (queue_state new)
+  pub any_moment : LeavesOnly (queue_state old) (queue_state new) (MayStand version segments (queue_state old))
+
+abbrev pub MakesOn : ℕ → ℕ → QueueDevice → Option (Fs QueueDevice) → Source → ℤ → Type 0
+MakesOn segments version device None (Device after) code = Makes segments version device after code
+MakesOn segments version device fs source code = ⊥
+
+pub data MakesFrom (old new : Volume) (room segments version : ℕ) (code : ℤ) : Type 0 where
+  was_tried : (device : QueueDevice) → old.fs ≡ None → IsTaken old.source room device → MakesOn segments version device new.fs new.source code → new.listing ≡ old.listing → MakesFrom old new room segments version code
+  was_not_tried : IsNotTaken old new code → MakesFrom old new room segments version code
+
+-- What an unmounting leaves: the device that was in the volume.
+abbrev pub Unmounts : Option (Fs QueueDevice) → Source → Source → ℤ → Type 0
+Unmounts (Some fs) old new code = (code ≡ pos 0) × (new ≡ Device fs.store.log.device)
+Unmounts None old new code = (code ≡ not_mounted) × (new ≡ old)

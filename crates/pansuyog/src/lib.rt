@@ -1,0 +1,16 @@
+//! Volumes for C: a library that calls no device. The caller reads the sectors of a device and
+//! gives them, and carries out the writes and syncs that wait.
+#![tactic(auto)]
+
+mod bytes;
+mod codes;
+mod files;
+mod handle;
+mod listing;
+mod loose;
+mod making;
+mod names;
+mod orders;
+mod saving;
+mod source;
+mod status;

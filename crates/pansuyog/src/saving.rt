@@ -1,0 +1,67 @@
+//! Calls on the whole volume (POSIX.1-2017: fsync, sync), and those that the volume has besides.
+ghost use Rattle.lfs_model.specs.Call.{Fsync, Sync, Clean, Version, Upgrade};
+ghost use Rattle.pansuyog.specs.Serving.{KeepsRest, ServesCall};
+
+use crate::codes::{NOT_MOUNTED, counted, done};
+use crate::handle::Handle;
+
+/// Saves the whole volume, with the file of a handle.
+#[unsafe(no_mangle)]
+pub extern "C" fn pansuyog_fsync(volume: &mut Handle, file: u32) -> i32
+    ensures serves { ServesCall volume.old.value volume.new.value (Fsync file) result }
+    ensures rest { KeepsRest volume.old.value volume.new.value }
+{
+    match &mut volume.volume().fs {
+        Some(fs) => done(fs.fsync(file)),
+        None => NOT_MOUNTED,
+    }
+}
+
+/// Saves the whole volume: once the orders that wait behind `0` are carried out, every call before
+/// survives a stop.
+#[unsafe(no_mangle)]
+pub extern "C" fn pansuyog_sync(volume: &mut Handle) -> i32
+    ensures serves { ServesCall volume.old.value volume.new.value Sync result }
+    ensures rest { KeepsRest volume.old.value volume.new.value }
+{
+    match &mut volume.volume().fs {
+        Some(fs) => done(fs.sync()),
+        None => NOT_MOUNTED,
+    }
+}
+
+/// Cleans segments until a quarter of them is clean.
+#[unsafe(no_mangle)]
+pub extern "C" fn pansuyog_clean(volume: &mut Handle) -> i32
+    ensures serves { ServesCall volume.old.value volume.new.value Clean result }
+    ensures rest { KeepsRest volume.old.value volume.new.value }
+{
+    match &mut volume.volume().fs {
+        Some(fs) => done(fs.clean()),
+        None => NOT_MOUNTED,
+    }
+}
+
+/// The version of the volume's layout: 1 or 2.
+#[unsafe(no_mangle)]
+pub extern "C" fn pansuyog_version(volume: &mut Handle) -> i32
+    ensures serves { ServesCall volume.old.value volume.new.value Version result }
+    ensures rest { KeepsRest volume.old.value volume.new.value }
+{
+    match &mut volume.volume().fs {
+        Some(fs) => counted(fs.version()),
+        None => NOT_MOUNTED,
+    }
+}
+
+/// Raises the version of the volume's layout to 2.
+#[unsafe(no_mangle)]
+pub extern "C" fn pansuyog_upgrade(volume: &mut Handle) -> i32
+    ensures serves { ServesCall volume.old.value volume.new.value Upgrade result }
+    ensures rest { KeepsRest volume.old.value volume.new.value }
+{
+    match &mut volume.volume().fs {
+        Some(fs) => done(fs.upgrade()),
+        None => NOT_MOUNTED,
+    }
+}
