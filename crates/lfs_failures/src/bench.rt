@@ -35,12 +35,14 @@ fn new_device(alloc: Global, segments: u16, version: u32) -> Result<MemDevice> {
     Ok(device)
 }
 
-/// Whether one call of this kind goes well. A write is of zeros, to the first sector.
+/// Whether one call of this kind goes well. A write is of zeros, to the first sector; a device that
+/// has none reads and writes nothing.
 fn goes(device: &mut MemDevice, call: DeviceCall) -> bool {
     let mut bytes = [0; 512];
+    let some = device.sectors() > 0;
     match call {
-        DeviceCall::Read => device.read(0, &mut bytes).is_ok(),
-        DeviceCall::Write => device.write(0, &bytes).is_ok(),
+        DeviceCall::Read => some && device.read(0, &mut bytes).is_ok(),
+        DeviceCall::Write => some && device.write(0, &bytes).is_ok(),
         DeviceCall::Sync => device.sync().is_ok(),
     }
 }
