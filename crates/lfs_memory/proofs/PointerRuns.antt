@@ -58,6 +58,12 @@ module _ (a b : DeviceState) (v : LogMemory) (n address : ℕ) (x : Entry) (look
       (record { inside = λ one. absurd (gone.outside one); outside = λ ne. gone.lost.lost }))
   inode_run_failed kind.Failed away failed k m0 m keeps is = failed refl
 
+  -- an inode that should be in memory, and isn't
+  pub inode_lacks : address ≡ 1 → blocks_of v.dirty x ≡ None → FailsFromDevice a b v
+  inode_lacks one none k m0 m keeps is =
+      absurd (not_missing a v k m0 m is (Inode n) address (n, refl) (inode_at a v k m0 m is n ∙ sym at) there
+      (record { inside = λ e. subst (λ (y : Entry). blocks_of v.dirty y ≡ None) named none; outside = λ ne. absurd (ne one) }))
+
 -- those of a leaf
 module _ (a b c : DeviceState) (v : LogMemory) (n q address first : ℕ) (x : Entry) (shown : List ℕ) (one : Looks a b) (two : Looks b c) (some : 1 ≤ n) (at : address ≡ address_in v.map n) (there : 0 < address) (named : x ≡ Inode n)
     (below : q ≤ 128) (read : b.keeps_model → shown ≡ present a.content (blocks_of v.dirty) x address) (begins : first ≡ word shown (leaf_first q)) where

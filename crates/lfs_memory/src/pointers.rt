@@ -1,6 +1,8 @@
 //! The pointers to data blocks that one block above them has, read once for all of them.
-ghost use Rattle.std.specs.Prelude.{◌≡◌, ◌<◌, ◌≤◌, ◌+◌, ◌*◌, ◌-◌, ℕ, min, OnOk, OnErr, IfOk, IfSome, IfNone, IsTrue, IsFalse};
+ghost use Rattle.std.specs.Prelude.{◌≡◌, ◌<◌, ◌≤◌, ◌+◌, ◌*◌, ◌-◌, ℕ, min, None, OnOk, OnErr, IfOk, IfSome, IfNone, IsTrue, IsFalse};
 ghost use Rattle.lfs_model.specs.Entry.{Data};
+ghost use Rattle.lfs_inodes.specs.Blocks.{blocks_of};
+ghost use Rattle.lfs_inodes.specs.Key.{entry_of};
 ghost use Rattle.lfs_inodes.specs.MapValue.{address_in};
 ghost use Rattle.lfs_model.specs.Fields.{zeros};
 ghost use Rattle.lfs_memory.specs.Present.{Looks, FailsFromDevice, AnswersAddress, AnswersBlock};
@@ -11,7 +13,8 @@ use crate::present::{MOST_INDEX, copy_present, inode_pointer, locate_block, pres
 use lfs_cache::CachedDevice;
 use lfs_device::{DeviceFault, SectorDevice};
 use lfs_inodes::{
-    BlockKey, DIRECT, FIRST, POINTERS, Pointers, first_of_leaf, leaf_pointers, present_pointers,
+    BlockKey, DIRECT, FIRST, IN_MEMORY, POINTERS, Pointers, first_of_leaf, leaf_pointers,
+    present_pointers,
 };
 
 /// The pointers of one block of a file to the data blocks below it: those of its inode, or those of
@@ -72,6 +75,20 @@ impl PointerRun {
     }
 }
 
+/// Whether a block should be in memory, and isn't.
+fn is_lacking(memory: &LogMemory, key: BlockKey, address: u32) -> bool
+    ensures inside { IsTrue result → address ≡ 1 }
+    ensures none { IsTrue result → blocks_of memory.now.dirty (entry_of key) ≡ None }
+{
+    if address != IN_MEMORY {
+        return false;
+    }
+    match memory.dirty.block(key) {
+        Some(_) => false,
+        None => true,
+    }
+}
+
 /// The pointers of the inode of a file that is there.
 fn read_inode_run<D: SectorDevice>(
     device: &mut CachedDevice<D>,
@@ -92,7 +109,11 @@ fn read_inode_run<D: SectorDevice>(
         ≡ (D.state device.old).failures) }
     ensures looks { Looks (D.state device.old) (D.state device.new) }
 {
-    match present_pointers(device, &memory.dirty, BlockKey::inode(number), address) {
+    let inode = BlockKey::inode(number);
+    if is_lacking(memory, inode, address) {
+        return Err(DeviceFault);
+    }
+    match present_pointers(device, &memory.dirty, inode, address) {
         Ok(pointers) => Ok(PointerRun {
             number,
             first: 0,
